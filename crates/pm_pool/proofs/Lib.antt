@@ -1,0 +1,2 @@
+pub mod RootBlock
+pub mod Whole

@@ -1,0 +1,4 @@
+pub mod Created
+pub use Rattle.pm_layout.specs.Layout
+pub use Rattle.pm_layout.specs.Sizes
+pub use Rattle.pm_header.specs.Name

@@ -1,0 +1,86 @@
+//! The files of the system as a shelf.
+ghost use Rattle.std.specs.Prelude.{◌≡◌, ◌+◌, ◌≤◌, [], None, OnOk, vec_len};
+ghost use Rattle.pm_shelf.specs.Plan.{one_more};
+
+use crate::{Shelf, ShelfFault};
+use std::fs::File;
+use std::io;
+use std::io::{ErrorKind, Read, Write};
+use std::rt::Files;
+
+/// The files of the system, each named by its path. It tells nothing of what they hold, and never
+/// answers `Missing` or `Exists`: each error of the file system is `Failed`, and raises the count
+/// of faults by one, up to the largest `u64`. Only want of memory in a read is `Memory`. A write
+/// makes a new file and touches none that is there; it doesn't wait until the disk has the bytes.
+#[derive(Drop)]
+pub struct FileShelf<R> {
+    rt: R,
+    faults: u64,
+}
+
+impl<R> FileShelf<R> {
+    ghost use Rattle.pm_shelf.specs.FileShelf.{shelf_faults};
+
+    /// A shelf over the files of a runtime, or of a `&` to one.
+    pub fn new(rt: R) -> Self
+        ensures { shelf_faults result ≡ 0 }
+    {
+        FileShelf { rt, faults: 0 }
+    }
+
+    /// How many calls failed.
+    pub fn faults(&self) -> u64
+        ensures { result ≡ shelf_faults self.now }
+    {
+        self.faults
+    }
+
+    fn count_fault(&mut self) -> ShelfFault
+        ensures fault { result ≡ ShelfFault.Failed }
+        ensures counted { shelf_faults self.new ≡ one_more (shelf_faults self.old) }
+        ensures no_fewer { shelf_faults self.old ≤ shelf_faults self.new }
+    {
+        self.faults = self.faults.saturating_add(1);
+        ShelfFault::Failed
+    }
+}
+
+/// Reads the bytes of a file, or its first, one more than the limit.
+fn read_front<R: Files>(rt: &R, path: &str, limit: u64, into: &mut Vec<u8>) -> io::Result<()>
+    requires { into.old.items ≡ [] }
+    ensures { OnOk result (vec_len into.new ≤ limit + 1) }
+{
+    let most = limit.saturating_add(1);
+    File::open(rt, path)?.take(most).read_to_end(into)?;
+    // `take` lets no more through already, which its contract doesn't say.
+    into.truncate(most as usize);
+    Ok(())
+}
+
+fn write_new<R: Files>(rt: &R, path: &str, bytes: &[u8]) -> io::Result<()> {
+    File::create_new(rt, path)?.write_all(bytes)
+}
+
+impl<R: Files> Shelf for FileShelf<R> {
+    ghost use Rattle.pm_shelf.specs.FileShelf.{shelf_faults};
+
+    ghost content = { λ _. None };
+
+    ghost faults = { shelf_faults };
+
+    fn read(&mut self, name: &str, limit: u64, into: &mut Vec<u8>) -> Result<(), ShelfFault> {
+        match read_front(&self.rt, name, limit, into) {
+            Ok(()) if into.len() as u64 <= limit => Ok(()),
+            Ok(()) => Err(ShelfFault::TooLong),
+            Err(error) if error.kind() == ErrorKind::OutOfMemory => Err(ShelfFault::Memory),
+            Err(_) => Err(self.count_fault()),
+        }
+    }
+
+    fn write(&mut self, name: &str, bytes: &[u8]) -> Result<(), ShelfFault> {
+        match write_new(&self.rt, name, bytes) {
+            Ok(()) => Ok(()),
+            Err(_) => Err(self.count_fault()),
+        }
+    }
+}
