@@ -1,0 +1,53 @@
+-- The lines that commands print, each with its line feed: docs/COMMANDS.md.
+use Rattle.std.specs.Prelude.{ℕ, ◌==◌, if◌then◌else◌, List, ◌++◌, codes}
+use Rattle.std.specs.Fmt.{decimal}
+use Rattle.pm_layout.specs.Layout.{pool_size}
+use Rattle.pm_pool.specs.Created.{Wanted, root_offset}
+use Rattle.pmempool.specs.declared.failure.Refusal.{Refusal}
+use Rattle.pmempool.specs.declared.failure.Refusal.TheVariants.{BadShape, BadId, BadLayout, BadSize}
+use Rattle.pmempool.specs.declared.failure.Failure.{Failure}
+use Rattle.pmempool.specs.declared.failure.Failure.TheVariants.{Usage, Refused, NotWritten, NoMemory}
+use Rattle.pmempool.specs.declared.status.Status.{Status}
+use Rattle.pmempool.specs.declared.status.Status.TheVariants as status
+
+abbrev pub refusal_text : Refusal → List ℕ
+refusal_text BadShape = codes "BadShape"
+refusal_text BadId = codes "BadId"
+refusal_text BadLayout = codes "BadLayout"
+refusal_text BadSize = codes "BadSize"
+
+abbrev pub usage_line : List ℕ
+usage_line = codes "usage\n"
+
+abbrev pub refused_line : Refusal → List ℕ
+refused_line refusal = codes "refused " ++ refusal_text refusal ++ codes "\n"
+
+abbrev pub write_fault_line : List ℕ → List ℕ
+write_fault_line name = codes "write fault " ++ name ++ codes "\n"
+
+abbrev pub no_memory_line : List ℕ
+no_memory_line = codes "no memory\n"
+
+-- what is printed where a command ends without its answer
+abbrev pub failure_line : Failure → List ℕ
+failure_line Usage = usage_line
+failure_line (Refused refusal) = refused_line refusal
+failure_line (NotWritten name) = write_fault_line name.now
+failure_line NoMemory = no_memory_line
+
+-- the status that goes with it
+abbrev pub failure_status : Failure → Status
+failure_status Usage = status.Usage
+failure_status (Refused refusal) = status.Refused
+failure_status (NotWritten name) = status.WriteFault
+failure_status NoMemory = status.NoMemory
+
+abbrev pub root_text : ℕ → ℕ → List ℕ
+root_text lanes root = if root == 0 then codes "none" else decimal (root_offset lanes root)
+
+abbrev pub created_line_of : ℕ → ℕ → ℕ → List ℕ
+created_line_of lanes zones root = codes "created " ++ (decimal (pool_size lanes zones) ++ (codes " root " ++ (root_text lanes root ++ codes "\n")))
+
+-- what `create` prints
+abbrev pub created_line : Wanted → List ℕ
+created_line w = created_line_of w.lanes w.zones w.root

@@ -1,0 +1,26 @@
+ghost use Rattle.std.specs.Prelude.{◌≡◌, ◌%◌, length, IfOk};
+ghost use Rattle.pm_words.specs.Words.{bytes_of};
+
+use pm_raw::RawImage;
+use pm_words::bytes_of;
+use std::alloc::{AllocError, Global};
+
+/// Words of a line.
+const LINE_WORDS: u64 = 8;
+
+/// Bytes of a line.
+const LINE_BYTES: usize = 64;
+
+/// The bytes of the image, as a pool file has them.
+pub fn image_bytes(alloc: Global, image: &RawImage) -> Result<Vec<u8>, AllocError>
+    requires { length image.now % 8 ≡ 0 }
+    ensures { IfOk result (λ bytes. bytes.items ≡ bytes_of image.now) }
+{
+    let mut bytes = Vec::new(alloc);
+    for line in 0..image.len() / LINE_WORDS {
+        let mut part = [0; LINE_BYTES];
+        bytes_of(image.line(line), &mut part);
+        bytes.extend_from_slice(&part)?;
+    }
+    Ok(bytes)
+}

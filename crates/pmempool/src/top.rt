@@ -1,0 +1,83 @@
+ghost use Rattle.std.specs.Prelude.{◌≡◌, ◌⊎◌, IfOk, IfErr, string_bytes};
+ghost use Rattle.pm_shelf.specs.Outside.{Rose, IsThere, MayAddPart};
+ghost use Rattle.pmempool.specs.Words.{Create, IsCreate, IsNoCommand, texts};
+ghost use Rattle.pmempool.specs.Refusals.{IsGood};
+ghost use Rattle.pmempool.specs.Lines.{failure_line, failure_status, no_memory_line};
+ghost use Rattle.pmempool.specs.Answers.{pool_bytes, IsDone, IsRefused, IsUsage, IsNotWritten, IsNotPrinted, IsNoMemory, DidCommand, DidFail};
+ghost use Rattle.pmempool.specs.Saying.{Said};
+
+use crate::create_command::run_create;
+use crate::failure::{Failure, failure_line, failure_status};
+use crate::options::create_of;
+use crate::status::Status;
+use pm_shelf::{Shelf, Sink, SinkFault};
+use std::alloc::{AllocError, Global};
+
+/// The line that is printed where there is no memory for another.
+const NO_MEMORY_LINE: &[u8] = b"no memory\n";
+
+/// Does what the words of the command line say, the first of which is the program's name: docs/COMMANDS.md.
+pub fn top<S: Shelf, K: Sink>(alloc: Global, words: &[String], shelf: &mut S, out: &mut K) -> Status
+    ensures done { result ≡ Status.Done → IsDone (texts words.now) (S.content shelf.old) (S.content shelf.new) (K.told out.old) (K.told out.new) }
+    ensures refused { result ≡ Status.Refused → IsRefused (texts words.now) (S.content shelf.old) (S.content shelf.new) (K.told out.old) (K.told out.new) }
+    ensures usage { result ≡ Status.Usage → IsUsage (texts words.now) (S.content shelf.old) (S.content shelf.new) (K.told out.old) (K.told out.new) }
+    ensures read_fault { result ≡ Status.ReadFault → ⊥ }
+    ensures write_fault { result ≡ Status.WriteFault →
+        IsNotWritten (texts words.now) (S.content shelf.old) (S.faults shelf.old) (S.faults shelf.new) (K.told out.old) (K.told out.new)
+        ⊎ IsNotPrinted (texts words.now) (K.faults out.old) (K.faults out.new) (K.told out.old) (K.told out.new) }
+    ensures no_memory { result ≡ Status.NoMemory → IsNoMemory (K.told out.old) (K.told out.new) }
+    ensures bad_script { result ≡ Status.BadScript → ⊥ }
+
+    // Whatever the status: no name but the pool's changes, and that is as it was, or new with a front of the pool.
+    ensures one_name { (c : Create) → IsCreate (texts words.now) c → MayAddPart (S.content shelf.old) (S.content shelf.new) c.pool (pool_bytes c) }
+    ensures no_name { IsNoCommand (texts words.now) → S.content shelf.new ≡ S.content shelf.old }
+
+    // Values in range, a new name and no fault: done, or want of memory.
+    ensures complete { (c : Create) → IsCreate (texts words.now) c → IsGood c.wanted → ¬ IsThere (S.content shelf.old) c.pool
+        → ¬ Rose (S.faults shelf.old) (S.faults shelf.new) → ¬ Rose (K.faults out.old) (K.faults out.new)
+        → (result ≡ Status.Done) ⊎ (result ≡ Status.NoMemory) }
+{
+    match run(alloc, words, shelf) {
+        Ok(line) => say(out, line.as_bytes(), Status::Done),
+        Err(failure) => say_failure(alloc, failure, out),
+    }
+}
+
+/// Does what the words say; the answer is the line to print.
+fn run<'a, S: Shelf>(
+    alloc: Global,
+    words: &'a [String],
+    shelf: &mut S,
+) -> Result<String, Failure<'a>>
+    ensures did { IfOk result (λ line. DidCommand (texts words.now) (S.content shelf.old) (S.content shelf.new) (string_bytes line)) }
+    ensures failed { IfErr result (DidFail (texts words.now) (S.content shelf.old) (S.content shelf.new) (S.faults shelf.old) (S.faults shelf.new)) }
+    ensures one_name { (c : Create) → IsCreate (texts words.now) c → MayAddPart (S.content shelf.old) (S.content shelf.new) c.pool (pool_bytes c) }
+    ensures no_name { IsNoCommand (texts words.now) → S.content shelf.new ≡ S.content shelf.old }
+{
+    match create_of(words) {
+        Some(create) => run_create(alloc, &create, shelf),
+        None => Err(Failure::Usage),
+    }
+}
+
+/// Prints the line of a failure, or the one for want of memory.
+pub fn say_failure<K: Sink>(alloc: Global, failure: Failure<'_>, out: &mut K) -> Status
+    ensures { Said (K.told out.old) (K.told out.new) (K.faults out.old) (K.faults out.new) (failure_line failure.entry) (failure_status failure.entry) result
+        ⊎ Said (K.told out.old) (K.told out.new) (K.faults out.old) (K.faults out.new) no_memory_line Status.NoMemory result }
+{
+    match failure_line(alloc, failure) {
+        Ok(line) => say(out, line.as_bytes(), failure_status(failure)),
+        Err(AllocError) => say(out, NO_MEMORY_LINE, Status::NoMemory),
+    }
+}
+
+/// Prints one line; the status stands unless the sink refuses it.
+fn say<K: Sink>(out: &mut K, line: &[u8], status: Status) -> Status
+    ensures { Said (K.told out.old) (K.told out.new) (K.faults out.old) (K.faults out.new) line.now status result }
+{
+    match out.put(line) {
+        Ok(()) => status,
+        Err(SinkFault::Failed) => Status::WriteFault,
+        Err(SinkFault::Memory) => Status::NoMemory,
+    }
+}
