@@ -5,30 +5,33 @@ POOL := build/demo.pool
 
 # The proved program, at build/pmempool. With no words it prints its usage and ends with status 2.
 build:
-	mkdir -p build
+	@mkdir -p build
 	cd crates/pmempool && { rt run > ../../build/log 2>&1 || test $$? -eq 2; }
-	cp crates/pmempool/out/pmempool build/pmempool
+	@cp crates/pmempool/out/pmempool build/pmempool
 
-# A pool is made and shown, and neither overwritten nor made of bad values.
+# A pool is made and shown, and neither overwritten nor made of values out of range.
 demo: build
-	rm -f $(POOL)
+	@rm -f $(POOL)
 	build/pmempool create $(POOL) --lanes 1 --zones 1 --id 7 --layout demo --root 64
-	od -A d -t x8 -w64 $(POOL)
-	-build/pmempool create $(POOL) --lanes 1 --zones 1 --id 7 --layout demo --root 64
-	-build/pmempool create build/other.pool --lanes 33 --zones 1 --id 7 --layout demo --root 64
+	od -A d -t x8 -w32 $(POOL)
+	build/pmempool create $(POOL) --lanes 1 --zones 1 --id 7 --layout demo --root 64; echo "status $$?"
+	build/pmempool create build/other.pool --lanes 33 --zones 1 --id 7 --layout demo --root 64; echo "status $$?"
 
 # The gate: each proof, each edit that must fail, each test, the program.
 test:
 	rt ci
 
-# The tests with each allocation refused in turn, outside the gate. A test that ends by its own want of memory is as it should be:
-# what counts is a fault, a hang, or another answer in the place of it.
+# The tests with each allocation refused in turn, outside the gate: allocation n of each test, for n up to ALLOCS. A test then ends by its own
+# want of memory, or sees it where it asked for another answer; what was told in its place is printed, to be read. A fault ends it all.
+ALLOCS := 24
+
 refuse:
-	for crate in crates/*/; do \
-	  echo "== $$crate"; \
-	  (cd $$crate && rt try --test --fail-alloc 1..) || status=$$?; \
-	  case $${status:-0} in 4|5) exit 1;; esac; status=0; \
-	done
+	@mkdir -p build
+	@for crate in pm_raw pm_shelf pm_objects pm_image pm_pool pmempool; do for n in $$(seq 1 $(ALLOCS)); do \
+	  status=0; (cd crates/$$crate && rt try --test --fail-alloc $$n) > build/refuse.log 2>&1 || status=$$?; \
+	  echo "$$crate $$n: status $$status"; grep -E 'left:|error:' build/refuse.log | sort | uniq -c; \
+	  if test $$status -eq 4; then cat build/refuse.log; exit 1; fi; \
+	done; done
 
 clean:
 	rm -rf build

@@ -1,0 +1,4 @@
+pub mod Redoing
+pub mod Finding
+pub mod Words
+pub mod Local

@@ -1,0 +1,104 @@
+ghost use Rattle.std.specs.Prelude.{◌≡◌, ◌+◌, ◌*◌, ◌<◌, ◌≤◌};
+ghost use Rattle.pm_image.specs.Logs.{seal_word, is_sealed, generation, entry_pair, covers, old_word};
+ghost use Rattle.pm_image.specs.Steps.{HasLanes, valid_record};
+ghost use Rattle.pm_record.specs.Redo.{redo_of};
+
+use pm_raw::RawImage;
+use pm_record::{Redo, Undo};
+
+/// Words of a lane's area.
+const AREA_WORDS: u64 = 1024;
+
+/// The word at which the first lane's area begins.
+const FIRST_AREA: u64 = 512;
+
+/// The word of an area at which its entries begin.
+const ENTRIES_AT: u64 = 8;
+
+/// The line of an area at which its undo slots begin.
+const SLOTS_AT: u64 = 17;
+
+/// Words of a line.
+const LINE_WORDS: u64 = 8;
+
+/// Bytes of a word.
+const WORD_BYTES: u64 = 8;
+
+/// The most words that a record has.
+const RECORD_WORDS: u64 = 4;
+
+/// The most entries that a lane seals, and the number of its undo slots.
+pub const LOG_LENGTH: u64 = 64;
+
+/// How many entries the lane sealed; 0 where it sealed none.
+pub fn seal(image: &RawImage, lane: u64) -> u64
+    requires { HasLanes image.now (lane + 1) }
+    ensures { result ≡ seal_word image.now lane }
+{
+    image.word(area(lane) + 1)
+}
+
+/// Whether the lane sealed 1 to 64 entries.
+pub fn is_sealed(image: &RawImage, lane: u64) -> bool
+    requires { HasLanes image.now (lane + 1) }
+    ensures { result ≡ is_sealed image.now lane }
+{
+    let seal = seal(image, lane);
+    1 <= seal && seal <= LOG_LENGTH
+}
+
+/// The lane's generation: what its last entry sets where it is sealed, else its generation word.
+pub fn generation(image: &RawImage, lane: u64) -> u64
+    requires { HasLanes image.now (lane + 1) }
+    ensures { result ≡ generation image.now lane }
+{
+    if is_sealed(image, lane) {
+        image.word(area(lane) + 7 + 2 * seal(image, lane))
+    } else {
+        image.word(area(lane))
+    }
+}
+
+/// The redo entry of this number, if its words are one.
+pub fn entry(image: &RawImage, lane: u64, i: u64) -> Option<Redo>
+    requires lanes { HasLanes image.now (lane + 1) }
+    requires number { i < 64 }
+    ensures { result ≡ redo_of (entry_pair image.now lane i) }
+{
+    let at = area(lane) + ENTRIES_AT + 2 * i;
+    let pair = [image.word(at), image.word(at + 1)];
+    Redo::decode(&pair)
+}
+
+/// The undo record of the slot, if it is a valid one: of the lane's generation.
+pub fn valid_record(image: &RawImage, lane: u64, i: u64) -> Option<Undo>
+    requires lanes { HasLanes image.now (lane + 1) }
+    requires number { i < 64 }
+    ensures { result ≡ valid_record image.now lane i }
+{
+    let line = (area(lane) / LINE_WORDS) + SLOTS_AT + i;
+    let record = Undo::decode(image.line(line))?;
+    if record.generation == generation(image, lane) {
+        Some(record)
+    } else {
+        None
+    }
+}
+
+/// Whether the record covers the word at this place.
+pub fn covers(record: &Undo, place: u64) -> bool
+    ensures { result ≡ covers record.now place }
+{
+    record.place <= place
+        && (place - record.place) / WORD_BYTES < record.count
+        && (place - record.place) / WORD_BYTES < RECORD_WORDS
+        && (place - record.place) % WORD_BYTES == 0
+}
+
+/// The word at which the lane's area begins.
+fn area(lane: u64) -> u64
+    requires { lane ≤ 32 }
+    ensures { result ≡ 512 + 1024 * lane }
+{
+    FIRST_AREA + AREA_WORDS * lane
+}
