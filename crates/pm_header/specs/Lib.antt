@@ -1,2 +1,4 @@
+pub mod Faults
 pub mod Name
+pub mod Pairs
 pub mod Spelling

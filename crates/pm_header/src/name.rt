@@ -1,4 +1,4 @@
-ghost use Rattle.std.specs.Prelude.{◌≡◌, ◌+◌, ◌-◌, ◌<◌, ◌≤◌, ◌↔◌, ℕ, List, ◌++◌, length, take, drop, replicate, IsSome, IfSome, IsTrue};
+ghost use Rattle.std.specs.Prelude.{◌≡◌, ◌≢◌, ◌<◌, ◌≤◌, ◌↔◌, ℕ, List, length, slice_index, IsSome, IfSome, IsTrue};
 ghost use Rattle.pm_header.specs.Name.{IsName, IsNameByte, name_bytes};
 
 use std::marker::Model;
@@ -7,7 +7,7 @@ use std::marker::Model;
 pub const MAX_NAME: usize = 63;
 
 /// Bytes of the line that a name stands in.
-const LINE_BYTES: usize = 64;
+pub(crate) const LINE_BYTES: usize = 64;
 
 /// A layout name: 1 to 63 bytes of 0x21 to 0x7E, so that a zero always follows it in its line. Contracts
 /// see the list of its bytes.
@@ -44,6 +44,21 @@ impl Name {
         })
     }
 
+    /// The name in a name line: its bytes up to the first zero, where zeros alone follow it. `None` where
+    /// the line is that of no name.
+    pub(crate) fn of_line(line: &[u8]) -> Option<Name>
+        ensures spelled { IfSome result (λ name. line.now ≡ name_bytes name) }
+        ensures names { IfSome result IsName }
+        ensures again { (name : List ℕ) → IsName name → line.now ≡ name_bytes name → result ≡ Some name }
+    {
+        let name = Name::new(&line[..front_length(line)])?;
+        if name.line() == line {
+            Some(name)
+        } else {
+            None
+        }
+    }
+
     /// The bytes of the name.
     pub fn as_bytes(&self) -> &[u8]
         ensures value { result.now ≡ self.now }
@@ -59,6 +74,20 @@ impl Name {
     {
         &self.line
     }
+}
+
+/// The number of bytes before the first zero; of all of them where there is none.
+fn front_length(line: &[u8]) -> usize
+    ensures within { result ≤ length line.now }
+    ensures before { (k : ℕ) → k < result → slice_index line.now k ≢ 0 }
+    ensures zero { result < length line.now → slice_index line.now result ≡ 0 }
+{
+    for (i, byte) in line.iter().enumerate() {
+        if *byte == 0 {
+            return i;
+        }
+    }
+    line.len()
 }
 
 /// The line that begins with these bytes.

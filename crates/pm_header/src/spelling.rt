@@ -11,16 +11,16 @@ pub const PAGE_WORDS: usize = 512;
 pub const VERSION: u64 = 1;
 
 /// The bytes `PMOBPOOL`, as a word.
-const MAGIC: u64 = 0x4c4f_4f50_424f_4d50;
+pub(crate) const MAGIC: u64 = 0x4c4f_4f50_424f_4d50;
 
 /// Words of a line.
-const LINE_WORDS: usize = 8;
+pub(crate) const LINE_WORDS: usize = 8;
 
 /// Words of a header and its name.
-const PAIR_WORDS: usize = 16;
+pub(crate) const PAIR_WORDS: usize = 16;
 
 /// The word at which the copy begins: line 32 of the page.
-const COPY_WORD: usize = 256;
+pub(crate) const COPY_WORD: usize = 256;
 
 /// Writes the header and its copy into the header page: lines 0 and 1, and lines 32 and 33. The other words of
 /// the page stay.

@@ -1,0 +1,34 @@
+use std::error::Error;
+use std::fmt;
+
+/// What is wrong with a header page: the first of these that applies.
+#[derive(Clone, Copy, Debug, PartialEq, Eq)]
+pub enum HeaderFault {
+    /// Neither pair begins with the magic: the file is no pool.
+    NotPool,
+    /// The main pair is damaged, and the copy is good.
+    HeaderMain,
+    /// The copy is damaged, and the main pair is good.
+    HeaderCopy,
+    /// Both pairs are damaged, and at least one begins with the magic.
+    HeaderBoth,
+    /// Both pairs are good, and they differ.
+    HeaderDiffer,
+    /// The pairs are good and the same, and have this version in place of 1.
+    Version(u64),
+}
+
+impl fmt::Display for HeaderFault {
+    fn fmt<W: fmt::Write>(&self, f: &mut fmt::Formatter<W>) -> fmt::Result {
+        match self {
+            HeaderFault::NotPool => write!(f, "NotPool"),
+            HeaderFault::HeaderMain => write!(f, "HeaderMain"),
+            HeaderFault::HeaderCopy => write!(f, "HeaderCopy"),
+            HeaderFault::HeaderBoth => write!(f, "HeaderBoth"),
+            HeaderFault::HeaderDiffer => write!(f, "HeaderDiffer"),
+            HeaderFault::Version(version) => write!(f, "Version {version}"),
+        }
+    }
+}
+
+impl Error for HeaderFault {}
