@@ -1,6 +1,26 @@
 use super::*;
 use std::test::Fail;
 
+/// A page with the header of the pool with one lane, one zone, id 7 and layout demo, and the words of `damage` put over it.
+fn damaged(damage: &[(usize, u64)]) -> Result<[u64; PAGE_WORDS], Fail> {
+    let header = Header {
+        version: VERSION,
+        id: 7,
+        lanes: 1,
+        zones: 1,
+        bytes: 278_528,
+        name: Name::new(b"demo").ok_or("demo is a name")?,
+    };
+    let mut page = [9; PAGE_WORDS];
+    encode(&header, &mut page);
+    for (word, value) in damage {
+        if let Some(place) = page.get_mut(*word) {
+            *place = *value;
+        }
+    }
+    Ok(page)
+}
+
 /// Names, and whether they are layout names.
 #[test]
 fn names(rt: HostRuntime) {
@@ -20,21 +40,10 @@ fn names(rt: HostRuntime) {
     }
 }
 
-/// The header page of the pool with one lane, one zone, id 7 and layout demo, worked by hand from docs/FORMAT.md.
+/// The header page of that pool, worked by hand from docs/FORMAT.md.
 #[test]
 fn page_by_hand(rt: HostRuntime) -> Result<(), Fail> {
-    let name = Name::new(b"demo").ok_or("demo is a name")?;
-    assert_eq!(rt; name.as_bytes(), b"demo".as_slice());
-    let header = Header {
-        version: VERSION,
-        id: 7,
-        lanes: 1,
-        zones: 1,
-        bytes: 278_528,
-        name,
-    };
-    let mut page = [9; PAGE_WORDS];
-    encode(&header, &mut page);
+    let page = damaged(&[])?;
     let pair = [
         0x4c4f_4f50_424f_4d50,
         1,
@@ -65,26 +74,6 @@ fn page_by_hand(rt: HostRuntime) -> Result<(), Fail> {
     assert_eq!(rt; page[7], page[263]);
     assert_eq!(rt; (page[16], page[255], page[272], page[511]), (9, 9, 9, 9));
     Ok(())
-}
-
-/// A page with the header of the pool above, and the words of `damage` put over it.
-fn damaged(damage: &[(usize, u64)]) -> Result<[u64; PAGE_WORDS], Fail> {
-    let header = Header {
-        version: VERSION,
-        id: 7,
-        lanes: 1,
-        zones: 1,
-        bytes: 278_528,
-        name: Name::new(b"demo").ok_or("demo is a name")?,
-    };
-    let mut page = [9; PAGE_WORDS];
-    encode(&header, &mut page);
-    for (word, value) in damage {
-        if let Some(place) = page.get_mut(*word) {
-            *place = *value;
-        }
-    }
-    Ok(page)
 }
 
 /// Pages with damaged words, the fault that each has, and its text.
