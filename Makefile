@@ -1,7 +1,7 @@
 # `make demo` tells the story of the program; `make test` is the gate.
 POOL := build/demo.pool
 
-.PHONY: build demo test refuse clean
+.PHONY: build demo test bench refuse clean
 
 # The proved program, at build/pmempool. With no words it prints its usage and ends with status 2.
 build:
@@ -9,13 +9,20 @@ build:
 	cd crates/pmempool && { rt run > ../../build/log 2>&1 || test $$? -eq 2; }
 	@cp crates/pmempool/out/pmempool build/pmempool
 
-# A pool is made and shown, and neither overwritten nor made of values out of range.
+# A pool is made and shown, and neither overwritten nor made of values out of range; a damaged one is told by its fault.
 demo: build
-	@rm -f $(POOL)
+	@rm -f $(POOL) build/damaged.pool
 	build/pmempool create $(POOL) --lanes 1 --zones 1 --id 7 --layout demo --root 64
+	build/pmempool dump $(POOL)
 	od -A d -t x8 -w32 $(POOL)
 	build/pmempool create $(POOL) --lanes 1 --zones 1 --id 7 --layout demo --root 64; echo "status $$?"
 	build/pmempool create build/other.pool --lanes 33 --zones 1 --id 7 --layout demo --root 64; echo "status $$?"
+	@cp $(POOL) build/damaged.pool && printf '\101' | dd of=build/damaged.pool bs=1 seek=16456 conv=notrunc status=none
+	build/pmempool dump build/damaged.pool; echo "status $$?"
+
+# Times beside `cp` of the same file.
+bench: build
+	bench/run.sh
 
 # The gate: each proof, each edit that must fail, each test, the program.
 test:
@@ -27,7 +34,7 @@ ALLOCS := 24
 
 refuse:
 	@mkdir -p build
-	@for crate in pm_raw pm_shelf pm_objects pm_image pm_pool pmempool; do for n in $$(seq 1 $(ALLOCS)); do \
+	@for crate in pm_raw pm_shelf pm_objects pm_image pm_text pm_pool pmempool; do for n in $$(seq 1 $(ALLOCS)); do \
 	  status=0; (cd crates/$$crate && rt try --test --fail-alloc $$n) > build/refuse.log 2>&1 || status=$$?; \
 	  echo "$$crate $$n: status $$status"; grep -E 'left:|error:' build/refuse.log | sort | uniq -c; \
 	  if test $$status -eq 4; then cat build/refuse.log; exit 1; fi; \

@@ -10,7 +10,7 @@ use Rattle.pm_record.specs.declared.undo.Undo.{Undo}
 use Rattle.pm_image.specs.Logs.{records, undo_slot, generation}
 use Rattle.pm_image.specs.Steps.{valid_record}
 
-range_split : (a m r : ℕ) → range_with_len a (m + r) ≡ range_with_len a m ++ range_with_len (a + m) r
+pub range_split : (a m r : ℕ) → range_with_len a (m + r) ≡ range_with_len a m ++ range_with_len (a + m) r
 range_split a zero r =
     let none : 0 + r ≡ r = omega arith in
     let same : a ≡ a + 0 = omega arith in

@@ -15,7 +15,7 @@ filter_map_same f g a zero same = refl
 filter_map_same {X = X} f g a (suc n) same =
     (λ k. cons_option (same a (omega arith) (omega arith) k) (filter_map_same f g (a + 1) n (λ i from to. same i (omega arith) (omega arith)) k))
 
-flat_map_same : {X : Type 0} (f g : ℕ → List X) (a n : ℕ) → ((i : ℕ) → a ≤ i → i < a + n → f i ≡ g i) → flat_map f (range_with_len a n) ≡ flat_map g (range_with_len a n)
+pub flat_map_same : {X : Type 0} (f g : ℕ → List X) (a n : ℕ) → ((i : ℕ) → a ≤ i → i < a + n → f i ≡ g i) → flat_map f (range_with_len a n) ≡ flat_map g (range_with_len a n)
 flat_map_same f g a zero same = refl
 flat_map_same {X = X} f g a (suc n) same =
     (λ k. same a (omega arith) (omega arith) k ++ flat_map_same f g (a + 1) n (λ i from to. same i (omega arith) (omega arith)) k)

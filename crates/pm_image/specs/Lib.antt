@@ -1,3 +1,11 @@
 pub mod Logs
 pub mod Steps
 pub mod Locality
+pub mod Blocks
+pub mod Contents
+pub mod Narrowings
+pub mod LogFaults
+pub mod HeapFaults
+pub mod Means
+pub mod Reads
+pub mod Texts

@@ -1,5 +1,5 @@
 -- What the logs of an image say, and the word that recovery gives for a word: docs/FORMAT.md, "Lane areas". Words go by their number, 8 bytes each.
-use Rattle.std.specs.Prelude.{ℕ, ◌+◌, ◌-◌, ◌*◌, ◌/◌, ◌%◌, Bool, ◌&&◌, ◌==◌, nat_lt, nat_le, if◌then◌else◌, List, [], ◌∷◌, Option, None, Some, slice_index, slice_range, filter, find}
+use Rattle.std.specs.Prelude.{ℕ, ◌+◌, ◌-◌, ◌*◌, ◌/◌, ◌%◌, Bool, ◌&&◌, ◌==◌, nat_lt, nat_le, if◌then◌else◌, List, [], ◌∷◌, Option, None, Some, length, map, slice_index, slice_range, filter, find}
 use Rattle.std.specs.List.{flat_map, filter_map, range_with_len}
 use Rattle.pm_record.specs.Redo.{redo_of, applied}
 use Rattle.pm_record.specs.Undo.{undo_of}
@@ -81,3 +81,11 @@ recovered_by (e ∷ es) record_there place word = all_applied (e ∷ es) word
 -- word of a valid undo record that covers it; else the image's
 unfoldable pub recovered : List ℕ → ℕ → ℕ → ℕ
 recovered image lanes i = recovered_by (entries_for image lanes (8 * i)) (record_for image lanes (8 * i)) (8 * i) (slice_index image i)
+
+-- the recovered words of an image
+unfoldable pub recovered_words : List ℕ → ℕ → List ℕ
+recovered_words image lanes = map (recovered image lanes) (range_with_len 0 (length image))
+
+-- the recovered word of a place that is in the image; 0 elsewhere
+abbrev pub recovered_at : List ℕ → ℕ → ℕ → ℕ
+recovered_at image lanes = slice_index (recovered_words image lanes)

@@ -1,5 +1,5 @@
-ghost use Rattle.std.specs.Prelude.{◌≡◌, ◌+◌, ◌*◌, ◌<◌, ◌≤◌};
-ghost use Rattle.pm_image.specs.Logs.{seal_word, is_sealed, generation, entry_pair, covers, old_word};
+ghost use Rattle.std.specs.Prelude.{◌≡◌, ◌+◌, ◌*◌, ◌<◌, ◌≤◌, IsTrue};
+ghost use Rattle.pm_image.specs.Logs.{generation_word, seal_word, is_sealed, generation, entry_pair, covers, old_word};
 ghost use Rattle.pm_image.specs.Steps.{HasLanes, valid_record};
 ghost use Rattle.pm_record.specs.Redo.{redo_of};
 
@@ -47,6 +47,14 @@ pub fn is_sealed(image: &RawImage, lane: u64) -> bool
     1 <= seal && seal <= LOG_LENGTH
 }
 
+/// The generation as it stands in the lane's area.
+pub fn generation_word(image: &RawImage, lane: u64) -> u64
+    requires { HasLanes image.now (lane + 1) }
+    ensures { result ≡ generation_word image.now lane }
+{
+    image.word(area(lane))
+}
+
 /// The lane's generation: what its last entry sets where it is sealed, else its generation word.
 pub fn generation(image: &RawImage, lane: u64) -> u64
     requires { HasLanes image.now (lane + 1) }
@@ -55,7 +63,7 @@ pub fn generation(image: &RawImage, lane: u64) -> u64
     if is_sealed(image, lane) {
         image.word(area(lane) + 7 + 2 * seal(image, lane))
     } else {
-        image.word(area(lane))
+        generation_word(image, lane)
     }
 }
 
@@ -86,13 +94,21 @@ pub fn valid_record(image: &RawImage, lane: u64, i: u64) -> Option<Undo>
 }
 
 /// Whether the record covers the word at this place.
-pub fn covers(record: &Undo, place: u64) -> bool
-    ensures { result ≡ covers record.now place }
+pub fn covers(undo: &Undo, place: u64) -> bool
+    ensures { result ≡ covers undo.now place }
 {
-    record.place <= place
-        && (place - record.place) / WORD_BYTES < record.count
-        && (place - record.place) / WORD_BYTES < RECORD_WORDS
-        && (place - record.place) % WORD_BYTES == 0
+    undo.place <= place
+        && (place - undo.place) / WORD_BYTES < undo.count
+        && (place - undo.place) / WORD_BYTES < RECORD_WORDS
+        && (place - undo.place) % WORD_BYTES == 0
+}
+
+/// The old word that a record has for a word that it covers.
+pub fn old_word(undo: &Undo, place: u64) -> u64
+    requires { IsTrue (covers undo.now place) }
+    ensures { result ≡ old_word undo.now place }
+{
+    undo.old[((place - undo.place) / WORD_BYTES) as usize]
 }
 
 /// The word at which the lane's area begins.

@@ -6,11 +6,27 @@
 //! logs' spelling and `pm_layout` for the shape; the definitions are in specs/Logs.antt.
 #![tactic(auto)]
 
+mod block;
+mod chunks;
+mod fault;
+mod fault_text;
 mod lanes;
 mod laws;
+mod log_faults;
+mod meaning;
+mod objects;
 mod recovering;
+mod restoring;
 
-pub use laws::recovered_words_are_local;
+pub use block::Block;
+pub use fault::{ImageFault, MeansFault};
+pub use fault_text::text_of_fault;
+pub use laws::{
+    agreement_goes_back, contents_are_local, heaps_are_local, meanings_are_local,
+    meanings_read_the_heap, one_meaning_per_image, recovered_words_are_local,
+    recovered_words_in_place,
+};
+pub use meaning::{blocks, means};
 pub use recovering::recovered;
 
 #[cfg(test)]

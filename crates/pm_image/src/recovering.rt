@@ -1,13 +1,13 @@
-ghost use Rattle.std.specs.Prelude.{◌≡◌, ◌≢◌, ◌==◌, ℕ, ◌+◌, ◌*◌, ◌<◌, ◌≤◌, None, find, filter, length, slice_index, IsTrue};
+ghost use Rattle.std.specs.Prelude.{◌≡◌, ◌≢◌, ◌==◌, ℕ, ◌+◌, ◌*◌, ◌<◌, ◌≤◌, None, find, filter, length, slice_index};
 ghost use Rattle.std.specs.Option.{option_map};
 ghost use Rattle.pm_layout.specs.Layout.{IsShape, pool_size};
 ghost use Rattle.pm_image.specs.Logs.{entries, records, entries_for, record_for, covers, old_word, recovered};
 ghost use Rattle.pm_image.specs.Steps.{HasLanes, made, entry_for};
 
-use crate::lanes::{LOG_LENGTH, covers, entry, is_sealed, seal, valid_record};
+use crate::lanes::{LOG_LENGTH, covers, entry, is_sealed, old_word, seal, valid_record};
 use pm_layout::Shape;
 use pm_raw::RawImage;
-use pm_record::{Undo, apply};
+use pm_record::apply;
 
 /// Bytes of a word.
 const WORD_BYTES: u64 = 8;
@@ -116,12 +116,4 @@ fn undone_by(image: &RawImage, lane: u64, word: u64) -> Option<u64>
         }
     }
     None
-}
-
-/// The old word that a record has for a word that it covers.
-fn old_word(record: &Undo, place: u64) -> u64
-    requires { IsTrue (covers record.now place) }
-    ensures { result ≡ old_word record.now place }
-{
-    record.old[((place - record.place) / WORD_BYTES) as usize]
 }

@@ -43,6 +43,22 @@ impl RawImage {
         })
     }
 
+    /// An image of these words. The error says that memory is lacking, and leaves nothing behind.
+    pub fn from_words(alloc: Global, words: &[u64]) -> Result<RawImage, AllocError>
+        ensures { IfOk result (λ image. image ≡ words.now) }
+    {
+        Ok(RawImage {
+            words: Vec::from_slice(alloc, words)?,
+        })
+    }
+
+    /// A further image with the same words. The error says that memory is lacking, and leaves nothing behind.
+    pub fn copy(&self, alloc: Global) -> Result<RawImage, AllocError>
+        ensures { IfOk result (λ image. image ≡ self.now) }
+    {
+        RawImage::from_words(alloc, &self.words)
+    }
+
     /// How many words there are.
     pub fn len(&self) -> u64
         ensures { result ≡ length self.now }
@@ -82,6 +98,16 @@ impl RawImage {
         let words = &self.words;
         let start = LINE_WORDS * i as usize;
         &words[start..start + LINE_WORDS]
+    }
+
+    /// The `count` words from place `from` on, both counted in words; all of them below `len`.
+    pub fn words(&self, from: u64, count: u64) -> &[u64]
+        requires { from + count ≤ length self.now }
+        ensures { result.now ≡ slice_range self.now from (from + count) }
+    {
+        let words = &self.words;
+        let start = from as usize;
+        &words[start..start + count as usize]
     }
 
     /// The eight words of line `i`, as `line` gives them, to be written. What the caller leaves in

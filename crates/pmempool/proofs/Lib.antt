@@ -1,3 +1,4 @@
 pub mod Texts
 pub mod FileBytes
 pub mod Printing
+mod Completeness

@@ -1,44 +1,140 @@
--- What a status says where the sink failed in the middle of a line.
+-- What a status says of what was printed.
 use Rattle.std.proofs.Common.{◌≡◌, ◌⊎◌, ℕ, List, Option, inl, inr, sym, ◌∙◌, ap, subst}
 use Rattle.pm_shelf.specs.Outside.{Held, gained}
 use Rattle.pmempool.specs.Lines.{failure_line, failure_status, no_memory_line, write_fault_line}
-use Rattle.pmempool.specs.Answers.{MayPrint, IsNotWritten, IsNotPrinted, DidCommand, DidFail}
-use Rattle.pmempool.specs.Answers.MayPrint.{created_it, refused_it, no_command, not_written, no_memory}
+use Rattle.pmempool.specs.Answers.{MayPrint, IsDone, IsDumped, IsRefused, IsShownFaulty, IsNotWritten, IsNotPrinted, IsCutShort, IsNoMemory, DidCommand, DidFail}
+use Rattle.pmempool.specs.Answers.MayPrint.{created_it, dumped_it, refused_it, faulty_it, no_command, not_read, too_long, not_written, no_memory}
 use Rattle.pmempool.specs.Saying.{Said}
 use Rattle.pmempool.specs.declared.failure.Failure.{Failure}
-use Rattle.pmempool.specs.declared.failure.Failure.TheVariants.{Usage, Refused, NotWritten, NoMemory}
+use Rattle.pmempool.specs.declared.failure.Failure.TheVariants.{Usage, Refused, Faulty, NotRead, TooLong, NotWritten, NoMemory}
 use Rattle.pmempool.specs.declared.status.Status.{Status}
 use Rattle.pmempool.specs.declared.status.Status.TheVariants as status
 
--- the sink failed in this line
-cut_short : (words : List (List ℕ)) (told after : Option (List ℕ)) (faults faults_after : ℕ) (line : List ℕ) (wanted result : Status) → MayPrint words line → (wanted ≡ status.WriteFault → ⊥)
-    → Said told after faults faults_after line wanted result → result ≡ status.WriteFault → IsNotPrinted words faults faults_after told after
-cut_short words told after faults faults_after line wanted result may other (inl said) is = absurd (other (sym said.0 ∙ is))
-cut_short words told after faults faults_after line wanted result may other (inr (inl failed)) is = record { cause = failed.1; line = line; of_command = may; part = failed.2 }
-cut_short words told after faults faults_after line wanted result may other (inr (inr full)) is = absurd (let clash : status.NoMemory ≡ status.WriteFault = sym full.0 ∙ is in cc)
+-- what a command that was done may print
+may_done : (words : List (List ℕ)) (held after : Option Held) (text : List ℕ) → DidCommand words held after text → MayPrint words held text
+may_done words held after text (inl did) = subst (MayPrint words held) (sym did.told) (created_it did.asked did.command did.good)
+may_done words held after text (inr did) = dumped_it did.name text did.command did.is_text
 
-pub write_fault_done : (words : List (List ℕ)) (held after : Option Held) (shelf shelf_after : ℕ) (told told_after : Option (List ℕ)) (faults faults_after : ℕ) (text line : List ℕ) (result : Status)
-    → DidCommand words held after text → line ≡ text → Said told told_after faults faults_after line status.Done result → result ≡ status.WriteFault
-    → IsNotWritten words held shelf shelf_after told told_after ⊎ IsNotPrinted words faults faults_after told told_after
-write_fault_done words held after shelf shelf_after told told_after faults faults_after text line result did same said is =
-    let may : MayPrint words line = subst (MayPrint words) (sym (same ∙ did.told)) (created_it did.asked did.command did.good) in
-    inr (cut_short words told told_after faults faults_after line status.Done result may (λ clash. cc) said is)
+-- what one that failed may print
+may_fail : (words : List (List ℕ)) (held after : Option Held) (shelf shelf_after : ℕ) (failure : Failure) → DidFail words held after shelf shelf_after failure → MayPrint words held (failure_line failure)
+may_fail words held after shelf shelf_after Usage did = no_command did.0
+may_fail words held after shelf shelf_after (Refused refusal) did = refused_it did.0 refusal did.1 did.2
+may_fail words held after shelf shelf_after (Faulty found) did = faulty_it did.0 found did.1 did.2
+may_fail words held after shelf shelf_after (NotRead name) did = not_read name.now did.0
+may_fail words held after shelf shelf_after (TooLong name) did = too_long name.now did.0 did.1
+may_fail words held after shelf shelf_after (NotWritten name) did = subst (λ (n : List ℕ). MayPrint words held (write_fault_line n)) (sym did.3) (not_written did.0 did.1 did.2)
+may_fail words held after shelf shelf_after NoMemory did = no_memory
+
+-- the sink failed in this text
+cut_short : (words : List (List ℕ)) (held : Option Held) (told after : Option (List ℕ)) (faults faults_after : ℕ) (text : List ℕ) (wanted result : Status) → MayPrint words held text → (wanted ≡ status.WriteFault → ⊥)
+    → Said told after faults faults_after text wanted result → result ≡ status.WriteFault → IsNotPrinted words held faults faults_after told after
+cut_short words held told after faults faults_after text wanted result may other (inl said) is = absurd (other (sym said.0 ∙ is))
+cut_short words held told after faults faults_after text wanted result may other (inr (inl failed)) is = record { cause = failed.1; text = text; of_command = may; part = failed.2 }
+cut_short words held told after faults faults_after text wanted result may other (inr (inr full)) is = absurd (let clash : status.NoMemory ≡ status.WriteFault = sym full.0 ∙ is in cc)
+
+-- it had no memory in this text
+cut_at_line : (words : List (List ℕ)) (held : Option Held) (told after : Option (List ℕ)) (faults faults_after : ℕ) (text : List ℕ) (wanted result : Status) → MayPrint words held text → (wanted ≡ status.NoMemory → ⊥)
+    → Said told after faults faults_after text wanted result → result ≡ status.NoMemory → IsCutShort words held told after
+cut_at_line words held told after faults faults_after text wanted result may other (inl said) is = absurd (other (sym said.0 ∙ is))
+cut_at_line words held told after faults faults_after text wanted result may other (inr (inl failed)) is = absurd (let clash : status.WriteFault ≡ status.NoMemory = sym failed.0 ∙ is in cc)
+cut_at_line words held told after faults faults_after text wanted result may other (inr (inr full)) is = record { text = text; of_command = may; lines = full.1 }
+
+-- the line for want of memory was printed, or cut short
+no_memory_said : (words : List (List ℕ)) (held : Option Held) (told after : Option (List ℕ)) (faults faults_after : ℕ) (result : Status)
+    → Said told after faults faults_after no_memory_line status.NoMemory result → result ≡ status.NoMemory → IsNoMemory words held told after
+no_memory_said words held told after faults faults_after result (inl said) is = inl said.1
+no_memory_said words held told after faults faults_after result (inr (inl failed)) is = absurd (let clash : status.WriteFault ≡ status.NoMemory = sym failed.0 ∙ is in cc)
+no_memory_said words held told after faults faults_after result (inr (inr full)) is = inr (record { text = no_memory_line; of_command = no_memory; lines = full.1 })
+
+-- the status is the wanted one, and the text was printed
+whole : (told after : Option (List ℕ)) (faults faults_after : ℕ) (text : List ℕ) (wanted result : Status) → (result ≡ status.WriteFault → ⊥) → (result ≡ status.NoMemory → ⊥)
+    → Said told after faults faults_after text wanted result → (result ≡ wanted) × (after ≡ gained told text)
+whole told after faults faults_after text wanted result failed full (inl said) = said
+whole told after faults faults_after text wanted result failed full (inr (inl is)) = absurd (failed is.0)
+whole told after faults faults_after text wanted result failed full (inr (inr is)) = absurd (full is.0)
+
+pub done_done : (words : List (List ℕ)) (held after : Option Held) (told told_after : Option (List ℕ)) (faults faults_after : ℕ) (text said_text : List ℕ) (result : Status)
+    → DidCommand words held after text → said_text ≡ text → Said told told_after faults faults_after said_text status.Done result → result ≡ status.Done
+    → IsDone words held after told told_after ⊎ IsDumped words held after told told_after
+done_done words held after told told_after faults faults_after text said_text result did same said is =
+    let printed : told_after ≡ gained told text = (whole told told_after faults faults_after said_text status.Done result (λ (w : result ≡ status.WriteFault). let clash : status.Done ≡ status.WriteFault = sym is ∙ w in absurd cc) (λ (w : result ≡ status.NoMemory). let clash : status.Done ≡ status.NoMemory = sym is ∙ w in absurd cc) said).1 ∙ ap (gained told) same in
+    go did printed where
+      go : DidCommand words held after text → told_after ≡ gained told text → IsDone words held after told told_after ⊎ IsDumped words held after told told_after
+      go (inl one) printed = inl (record { asked = one.asked; command = one.command; good = one.good; added = one.added; printed = printed ∙ ap (gained told) one.told })
+      go (inr one) printed = inr (record { name = one.name; text = text; command = one.command; is_text = one.is_text; kept = one.kept; printed = printed })
+
+pub write_fault_done : (words : List (List ℕ)) (held after : Option Held) (shelf shelf_after : ℕ) (told told_after : Option (List ℕ)) (faults faults_after : ℕ) (text said_text : List ℕ) (result : Status)
+    → DidCommand words held after text → said_text ≡ text → Said told told_after faults faults_after said_text status.Done result → result ≡ status.WriteFault
+    → IsNotWritten words held shelf shelf_after told told_after ⊎ IsNotPrinted words held faults faults_after told told_after
+write_fault_done words held after shelf shelf_after told told_after faults faults_after text said_text result did same said is =
+    inr (cut_short words held told told_after faults faults_after said_text status.Done result (subst (MayPrint words held) (sym same) (may_done words held after text did)) (λ clash. cc) said is)
+
+pub no_memory_done : (words : List (List ℕ)) (held after : Option Held) (told told_after : Option (List ℕ)) (faults faults_after : ℕ) (text said_text : List ℕ) (result : Status)
+    → DidCommand words held after text → said_text ≡ text → Said told told_after faults faults_after said_text status.Done result → result ≡ status.NoMemory → IsNoMemory words held told told_after
+no_memory_done words held after told told_after faults faults_after text said_text result did same said is =
+    inr (cut_at_line words held told told_after faults faults_after said_text status.Done result (subst (MayPrint words held) (sym same) (may_done words held after text did)) (λ clash. cc) said is)
+
+pub refused_failed : (words : List (List ℕ)) (held after : Option Held) (shelf shelf_after : ℕ) (told told_after : Option (List ℕ)) (faults faults_after : ℕ) (failure : Failure) (result : Status)
+    → DidFail words held after shelf shelf_after failure
+    → Said told told_after faults faults_after (failure_line failure) (failure_status failure) result ⊎ Said told told_after faults faults_after no_memory_line status.NoMemory result
+    → result ≡ status.Refused → IsRefused words held after told told_after ⊎ IsShownFaulty words held after told told_after
+refused_failed words held after shelf shelf_after told told_after faults faults_after failure result did said is = go failure did (spoken said) where
+  spoken : Said told told_after faults faults_after (failure_line failure) (failure_status failure) result ⊎ Said told told_after faults faults_after no_memory_line status.NoMemory result
+      → (result ≡ failure_status failure) × (told_after ≡ gained told (failure_line failure))
+  spoken (inl one) = whole told told_after faults faults_after (failure_line failure) (failure_status failure) result (λ (w : result ≡ status.WriteFault). let clash : status.Refused ≡ status.WriteFault = sym is ∙ w in absurd cc) (λ (w : result ≡ status.NoMemory). let clash : status.Refused ≡ status.NoMemory = sym is ∙ w in absurd cc) one
+  spoken (inr (inl one)) = absurd (let clash : status.NoMemory ≡ status.Refused = sym one.0 ∙ is in cc)
+  spoken (inr (inr (inl one))) = absurd (let clash : status.WriteFault ≡ status.Refused = sym one.0 ∙ is in cc)
+  spoken (inr (inr (inr one))) = absurd (let clash : status.NoMemory ≡ status.Refused = sym one.0 ∙ is in cc)
+
+  go : (f : Failure) → DidFail words held after shelf shelf_after f → (result ≡ failure_status f) × (told_after ≡ gained told (failure_line f)) → IsRefused words held after told told_after ⊎ IsShownFaulty words held after told told_after
+  go Usage did one = absurd (let clash : status.Usage ≡ status.Refused = sym one.0 ∙ is in cc)
+  go (Refused refusal) did one = inl (record { asked = did.0; refusal = refusal; command = did.1; cause = did.2; kept = did.3; printed = one.1 })
+  go (Faulty found) did one = inr (record { name = did.0; found = found; command = did.1; cause = did.2; kept = did.3; printed = one.1 })
+  go (NotRead name) did one = absurd (let clash : status.ReadFault ≡ status.Refused = sym one.0 ∙ is in cc)
+  go (TooLong name) did one = absurd (let clash : status.ReadFault ≡ status.Refused = sym one.0 ∙ is in cc)
+  go (NotWritten name) did one = absurd (let clash : status.WriteFault ≡ status.Refused = sym one.0 ∙ is in cc)
+  go NoMemory did one = absurd (let clash : status.NoMemory ≡ status.Refused = sym one.0 ∙ is in cc)
 
 pub write_fault_failed : (words : List (List ℕ)) (held after : Option Held) (shelf shelf_after : ℕ) (told told_after : Option (List ℕ)) (faults faults_after : ℕ) (failure : Failure) (result : Status)
     → DidFail words held after shelf shelf_after failure
     → Said told told_after faults faults_after (failure_line failure) (failure_status failure) result ⊎ Said told told_after faults faults_after no_memory_line status.NoMemory result
-    → result ≡ status.WriteFault → IsNotWritten words held shelf shelf_after told told_after ⊎ IsNotPrinted words faults faults_after told told_after
+    → result ≡ status.WriteFault → IsNotWritten words held shelf shelf_after told told_after ⊎ IsNotPrinted words held faults faults_after told told_after
 write_fault_failed words held after shelf shelf_after told told_after faults faults_after failure result did (inr said) is =
-    inr (cut_short words told told_after faults faults_after no_memory_line status.NoMemory result no_memory (λ clash. cc) said is)
-write_fault_failed words held after shelf shelf_after told told_after faults faults_after Usage result did (inl said) is =
-    inr (cut_short words told told_after faults faults_after _ status.Usage result (no_command did.0) (λ clash. cc) said is)
-write_fault_failed words held after shelf shelf_after told told_after faults faults_after (Refused refusal) result did (inl said) is =
-    inr (cut_short words told told_after faults faults_after _ status.Refused result (refused_it did.0 refusal did.1 did.2) (λ clash. cc) said is)
-write_fault_failed words held after shelf shelf_after told told_after faults faults_after NoMemory result did (inl said) is =
-    inr (cut_short words told told_after faults faults_after _ status.NoMemory result no_memory (λ clash. cc) said is)
+    inr (cut_short words held told told_after faults faults_after no_memory_line status.NoMemory result no_memory (λ clash. cc) said is)
 write_fault_failed words held after shelf shelf_after told told_after faults faults_after (NotWritten name) result did (inl (inl said)) is =
     inl (record { asked = did.0; command = did.1; good = did.2; cause = did.4; printed = said.1 ∙ ap (λ (n : List ℕ). gained told (write_fault_line n)) did.3 })
 write_fault_failed words held after shelf shelf_after told told_after faults faults_after (NotWritten name) result did (inl (inr (inl failed))) is =
-    inr (record { cause = failed.1; line = write_fault_line name.now; of_command = subst (λ (n : List ℕ). MayPrint words (write_fault_line n)) (sym did.3) (not_written did.0 did.1 did.2); part = failed.2 })
+    inr (record { cause = failed.1; text = write_fault_line name.now; of_command = may_fail words held after shelf shelf_after (NotWritten name) did; part = failed.2 })
 write_fault_failed words held after shelf shelf_after told told_after faults faults_after (NotWritten name) result did (inl (inr (inr full))) is =
     absurd (let clash : status.NoMemory ≡ status.WriteFault = sym full.0 ∙ is in cc)
+write_fault_failed words held after shelf shelf_after told told_after faults faults_after Usage result did (inl said) is =
+    inr (cut_short words held told told_after faults faults_after _ status.Usage result (may_fail words held after shelf shelf_after Usage did) (λ clash. cc) said is)
+write_fault_failed words held after shelf shelf_after told told_after faults faults_after (Refused refusal) result did (inl said) is =
+    inr (cut_short words held told told_after faults faults_after _ status.Refused result (may_fail words held after shelf shelf_after (Refused refusal) did) (λ clash. cc) said is)
+write_fault_failed words held after shelf shelf_after told told_after faults faults_after (Faulty found) result did (inl said) is =
+    inr (cut_short words held told told_after faults faults_after _ status.Refused result (may_fail words held after shelf shelf_after (Faulty found) did) (λ clash. cc) said is)
+write_fault_failed words held after shelf shelf_after told told_after faults faults_after (NotRead name) result did (inl said) is =
+    inr (cut_short words held told told_after faults faults_after _ status.ReadFault result (may_fail words held after shelf shelf_after (NotRead name) did) (λ clash. cc) said is)
+write_fault_failed words held after shelf shelf_after told told_after faults faults_after (TooLong name) result did (inl said) is =
+    inr (cut_short words held told told_after faults faults_after _ status.ReadFault result (may_fail words held after shelf shelf_after (TooLong name) did) (λ clash. cc) said is)
+write_fault_failed words held after shelf shelf_after told told_after faults faults_after NoMemory result did (inl said) is =
+    inr (cut_short words held told told_after faults faults_after _ status.NoMemory result no_memory (λ clash. cc) said is)
+
+pub no_memory_failed : (words : List (List ℕ)) (held after : Option Held) (shelf shelf_after : ℕ) (told told_after : Option (List ℕ)) (faults faults_after : ℕ) (failure : Failure) (result : Status)
+    → DidFail words held after shelf shelf_after failure
+    → Said told told_after faults faults_after (failure_line failure) (failure_status failure) result ⊎ Said told told_after faults faults_after no_memory_line status.NoMemory result
+    → result ≡ status.NoMemory → IsNoMemory words held told told_after
+no_memory_failed words held after shelf shelf_after told told_after faults faults_after failure result did (inr said) is = no_memory_said words held told told_after faults faults_after result said is
+no_memory_failed words held after shelf shelf_after told told_after faults faults_after NoMemory result did (inl said) is = no_memory_said words held told told_after faults faults_after result said is
+no_memory_failed words held after shelf shelf_after told told_after faults faults_after Usage result did (inl said) is =
+    inr (cut_at_line words held told told_after faults faults_after _ status.Usage result (may_fail words held after shelf shelf_after Usage did) (λ clash. cc) said is)
+no_memory_failed words held after shelf shelf_after told told_after faults faults_after (Refused refusal) result did (inl said) is =
+    inr (cut_at_line words held told told_after faults faults_after _ status.Refused result (may_fail words held after shelf shelf_after (Refused refusal) did) (λ clash. cc) said is)
+no_memory_failed words held after shelf shelf_after told told_after faults faults_after (Faulty found) result did (inl said) is =
+    inr (cut_at_line words held told told_after faults faults_after _ status.Refused result (may_fail words held after shelf shelf_after (Faulty found) did) (λ clash. cc) said is)
+no_memory_failed words held after shelf shelf_after told told_after faults faults_after (NotRead name) result did (inl said) is =
+    inr (cut_at_line words held told told_after faults faults_after _ status.ReadFault result (may_fail words held after shelf shelf_after (NotRead name) did) (λ clash. cc) said is)
+no_memory_failed words held after shelf shelf_after told told_after faults faults_after (TooLong name) result did (inl said) is =
+    inr (cut_at_line words held told told_after faults faults_after _ status.ReadFault result (may_fail words held after shelf shelf_after (TooLong name) did) (λ clash. cc) said is)
+no_memory_failed words held after shelf shelf_after told told_after faults faults_after (NotWritten name) result did (inl said) is =
+    inr (cut_at_line words held told told_after faults faults_after _ status.WriteFault result (may_fail words held after shelf shelf_after (NotWritten name) did) (λ clash. cc) said is)

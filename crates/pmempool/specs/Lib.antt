@@ -1,5 +1,6 @@
 pub mod Words
 pub mod Refusals
+pub mod PoolFiles
 pub mod Lines
 pub mod Asked
 pub mod Statuses

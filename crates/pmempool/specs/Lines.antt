@@ -3,10 +3,12 @@ use Rattle.std.specs.Prelude.{ℕ, ◌==◌, if◌then◌else◌, List, ◌++◌
 use Rattle.std.specs.Fmt.{decimal}
 use Rattle.pm_layout.specs.Layout.{pool_size}
 use Rattle.pm_pool.specs.Created.{Wanted, root_offset}
+use Rattle.pm_image.specs.Texts.{fault_text}
+use Rattle.pm_image.specs.declared.fault.ImageFault.{ImageFault}
 use Rattle.pmempool.specs.declared.failure.Refusal.{Refusal}
 use Rattle.pmempool.specs.declared.failure.Refusal.TheVariants.{BadShape, BadId, BadLayout, BadSize}
 use Rattle.pmempool.specs.declared.failure.Failure.{Failure}
-use Rattle.pmempool.specs.declared.failure.Failure.TheVariants.{Usage, Refused, NotWritten, NoMemory}
+use Rattle.pmempool.specs.declared.failure.Failure.TheVariants.{Usage, Refused, Faulty, NotRead, TooLong, NotWritten, NoMemory}
 use Rattle.pmempool.specs.declared.status.Status.{Status}
 use Rattle.pmempool.specs.declared.status.Status.TheVariants as status
 
@@ -22,6 +24,16 @@ usage_line = codes "usage\n"
 abbrev pub refused_line : Refusal → List ℕ
 refused_line refusal = codes "refused " ++ refusal_text refusal ++ codes "\n"
 
+-- the image's fault
+abbrev pub faulty_line : ImageFault → List ℕ
+faulty_line found = codes "refused " ++ fault_text found ++ codes "\n"
+
+abbrev pub read_fault_line : List ℕ → List ℕ
+read_fault_line name = codes "read fault " ++ name ++ codes "\n"
+
+abbrev pub too_long_line : List ℕ → List ℕ
+too_long_line name = codes "too long " ++ name ++ codes "\n"
+
 abbrev pub write_fault_line : List ℕ → List ℕ
 write_fault_line name = codes "write fault " ++ name ++ codes "\n"
 
@@ -32,6 +44,9 @@ no_memory_line = codes "no memory\n"
 abbrev pub failure_line : Failure → List ℕ
 failure_line Usage = usage_line
 failure_line (Refused refusal) = refused_line refusal
+failure_line (Faulty found) = faulty_line found
+failure_line (NotRead name) = read_fault_line name.now
+failure_line (TooLong name) = too_long_line name.now
 failure_line (NotWritten name) = write_fault_line name.now
 failure_line NoMemory = no_memory_line
 
@@ -39,6 +54,9 @@ failure_line NoMemory = no_memory_line
 abbrev pub failure_status : Failure → Status
 failure_status Usage = status.Usage
 failure_status (Refused refusal) = status.Refused
+failure_status (Faulty found) = status.Refused
+failure_status (NotRead name) = status.ReadFault
+failure_status (TooLong name) = status.ReadFault
 failure_status (NotWritten name) = status.WriteFault
 failure_status NoMemory = status.NoMemory
 

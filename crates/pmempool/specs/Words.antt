@@ -33,6 +33,13 @@ pub record IsCreate (words : List (List ℕ)) (c : Create) : Type 0 where
   pub root_option : word words 11 ≡ codes "--root"
   pub root : number_of (word words 12) ≡ Some c.wanted.root
 
+-- behind the program's name the words are `dump POOL`
+pub record IsDump (words : List (List ℕ)) (name : List ℕ) : Type 0 where
+  pub count : length words ≡ 3
+  pub command : word words 1 ≡ codes "dump"
+  pub pool : word words 2 ≡ name
+
 -- the words are no command
-abbrev pub IsNoCommand : List (List ℕ) → Type 0
-IsNoCommand words = (c : Create) → ¬ IsCreate words c
+pub record IsNoCommand (words : List (List ℕ)) : Type 0 where
+  pub no_create : (c : Create) → ¬ IsCreate words c
+  pub no_dump : (name : List ℕ) → ¬ IsDump words name

@@ -7,6 +7,7 @@
 #![tactic(auto)]
 
 mod create_command;
+mod dump_command;
 mod failure;
 mod image_bytes;
 mod options;
@@ -20,6 +21,8 @@ use std::io::{self, ErrorKind};
 use std::process::ExitCode;
 use top::{say_failure, top};
 
+#[cfg(test)]
+mod image_tests;
 #[cfg(test)]
 mod tests;
 

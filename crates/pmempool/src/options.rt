@@ -1,7 +1,7 @@
-ghost use Rattle.std.specs.Prelude.{◌≡◌, ◌≢◌, ℕ, ◌+◌, ◌<◌, length, Some, IfSome, IfNone};
+ghost use Rattle.std.specs.Prelude.{◌≡◌, ◌≢◌, ℕ, ◌+◌, ◌<◌, List, length, Some, IfSome, IfNone};
 ghost use Rattle.pm_script.specs.Numbers.{number_of};
-ghost use Rattle.pmempool.specs.Words.{texts, word, IsCreate, IsNoCommand};
-ghost use Rattle.pmempool.specs.Asked.{asked};
+ghost use Rattle.pmempool.specs.Words.{texts, word, Create, IsCreate, IsDump, IsNoCommand};
+ghost use Rattle.pmempool.specs.Asked.{asked, IsCommand};
 
 use pm_script::number;
 
@@ -18,14 +18,52 @@ pub struct CreateWords<'a> {
     pub root: u64,
 }
 
+/// A command and what it is asked for.
+#[derive(Clone, Copy, Debug)]
+pub enum Command<'a> {
+    /// Makes a pool.
+    Create(CreateWords<'a>),
+    /// Shows the pool with this name.
+    Dump(&'a str),
+}
+
+/// The command that the words are, behind the program's name.
+pub fn command_of(words: &[String]) -> Option<Command<'_>>
+    ensures some { IfSome result (IsCommand (texts words.now)) }
+    ensures none { IfNone result (IsNoCommand (texts words.now)) }
+{
+    if let Some(create) = create_of(words) {
+        return Some(Command::Create(create));
+    }
+    match dump_of(words) {
+        Some(name) => Some(Command::Dump(name)),
+        None => None,
+    }
+}
+
+/// Reads `dump POOL`, behind the program's name.
+#[tactic(auto, using(crate::proofs::Texts::texts_at))]
+fn dump_of(words: &[String]) -> Option<&str>
+    ensures some { IfSome result (λ name. IsDump (texts words.now) name.now) }
+    ensures none { IfNone result ((name : List ℕ) → ¬ IsDump (texts words.now) name) }
+{
+    if words.len() != DUMP_WORDS || words[1].as_str() != "dump" {
+        return None;
+    }
+    Some(words[2].as_str())
+}
+
+/// Words of a `dump` with the program's name.
+const DUMP_WORDS: usize = 3;
+
 /// Words of a `create` with the program's name.
 const CREATE_WORDS: usize = 13;
 
 /// Reads `create POOL --lanes L --zones Z --id N --layout NAME --root SIZE`, behind the program's name.
 #[tactic(auto, using(crate::proofs::Texts::texts_at))]
-pub fn create_of(words: &[String]) -> Option<CreateWords<'_>>
+fn create_of(words: &[String]) -> Option<CreateWords<'_>>
     ensures some { IfSome result (λ c. IsCreate (texts words.now) (asked c)) }
-    ensures none { IfNone result (IsNoCommand (texts words.now)) }
+    ensures none { IfNone result ((c : Create) → ¬ IsCreate (texts words.now) c) }
 {
     if words.len() != CREATE_WORDS || words[1].as_str() != "create" {
         return None;

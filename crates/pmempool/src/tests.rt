@@ -14,7 +14,7 @@ fn words_of(alloc: Global, line: &str) -> Result<Vec<String>, AllocError> {
     Ok(words)
 }
 
-fn run<S: Shelf, K: Sink>(
+pub fn run<S: Shelf, K: Sink>(
     alloc: Global,
     line: &str,
     shelf: &mut S,
@@ -129,6 +129,9 @@ fn answers(rt: HostRuntime) -> Result<(), Fail> {
             "usage\n",
         ),
         ("create", 2, "usage\n"),
+        ("dump", 2, "usage\n"),
+        ("dump a b", 2, "usage\n"),
+        ("dump a", 3, "read fault a\n"),
         ("--help", 2, "usage\n"),
         ("--version", 2, "usage\n"),
     ];

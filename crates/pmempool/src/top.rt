@@ -1,16 +1,20 @@
-ghost use Rattle.std.specs.Prelude.{◌≡◌, ◌⊎◌, IfOk, IfErr, string_bytes};
-ghost use Rattle.pm_shelf.specs.Outside.{Rose, IsThere, MayAddPart};
-ghost use Rattle.pmempool.specs.Words.{Create, IsCreate, IsNoCommand, texts};
+ghost use Rattle.std.specs.Prelude.{◌≡◌, ◌⊎◌, ℕ, List, Some, IfOk, IfErr};
+ghost use Rattle.pm_objects.specs.declared.pool.PoolView.{PoolView};
+ghost use Rattle.pm_shelf.specs.Outside.{Held, Rose, IsThere, MayAddPart};
+ghost use Rattle.pmempool.specs.Words.{Create, IsCreate, IsDump, IsNoCommand, texts};
 ghost use Rattle.pmempool.specs.Refusals.{IsGood};
+ghost use Rattle.pmempool.specs.PoolFiles.{BytesMean};
 ghost use Rattle.pmempool.specs.Lines.{failure_line, failure_status, no_memory_line};
-ghost use Rattle.pmempool.specs.Answers.{pool_bytes, IsDone, IsRefused, IsUsage, IsNotWritten, IsNotPrinted, IsNoMemory, DidCommand, DidFail};
+ghost use Rattle.pmempool.specs.Answers.{pool_bytes, IsDone, IsDumped, IsRefused, IsShownFaulty, IsUsage, IsNotRead, IsNotWritten, IsNotPrinted, IsNoMemory, DidCommand, DidFail};
 ghost use Rattle.pmempool.specs.Saying.{Said};
 
 use crate::create_command::run_create;
+use crate::dump_command::run_dump;
 use crate::failure::{Failure, failure_line, failure_status};
-use crate::options::create_of;
+use crate::options::{Command, command_of};
 use crate::status::Status;
 use pm_shelf::{Shelf, Sink, SinkFault};
+use pm_text::put_lines;
 use std::alloc::{AllocError, Global};
 
 /// The line that is printed where there is no memory for another.
@@ -18,44 +22,84 @@ const NO_MEMORY_LINE: &[u8] = b"no memory\n";
 
 /// Does what the words of the command line say, the first of which is the program's name: docs/COMMANDS.md.
 pub fn top<S: Shelf, K: Sink>(alloc: Global, words: &[String], shelf: &mut S, out: &mut K) -> Status
-    ensures done { result ≡ Status.Done → IsDone (texts words.now) (S.content shelf.old) (S.content shelf.new) (K.told out.old) (K.told out.new) }
-    ensures refused { result ≡ Status.Refused → IsRefused (texts words.now) (S.content shelf.old) (S.content shelf.new) (K.told out.old) (K.told out.new) }
+    ensures done { result ≡ Status.Done →
+        IsDone (texts words.now) (S.content shelf.old) (S.content shelf.new) (K.told out.old) (K.told out.new)
+        ⊎ IsDumped (texts words.now) (S.content shelf.old) (S.content shelf.new) (K.told out.old) (K.told out.new) }
+    ensures refused { result ≡ Status.Refused →
+        IsRefused (texts words.now) (S.content shelf.old) (S.content shelf.new) (K.told out.old) (K.told out.new)
+        ⊎ IsShownFaulty (texts words.now) (S.content shelf.old) (S.content shelf.new) (K.told out.old) (K.told out.new) }
     ensures usage { result ≡ Status.Usage → IsUsage (texts words.now) (S.content shelf.old) (S.content shelf.new) (K.told out.old) (K.told out.new) }
-    ensures read_fault { result ≡ Status.ReadFault → ⊥ }
+    ensures read_fault { result ≡ Status.ReadFault →
+        IsNotRead (texts words.now) (S.content shelf.old) (S.content shelf.new) (S.faults shelf.old) (S.faults shelf.new) (K.told out.old) (K.told out.new) }
     ensures write_fault { result ≡ Status.WriteFault →
         IsNotWritten (texts words.now) (S.content shelf.old) (S.faults shelf.old) (S.faults shelf.new) (K.told out.old) (K.told out.new)
-        ⊎ IsNotPrinted (texts words.now) (K.faults out.old) (K.faults out.new) (K.told out.old) (K.told out.new) }
-    ensures no_memory { result ≡ Status.NoMemory → IsNoMemory (K.told out.old) (K.told out.new) }
+        ⊎ IsNotPrinted (texts words.now) (S.content shelf.old) (K.faults out.old) (K.faults out.new) (K.told out.old) (K.told out.new) }
+    ensures no_memory { result ≡ Status.NoMemory → IsNoMemory (texts words.now) (S.content shelf.old) (K.told out.old) (K.told out.new) }
     ensures bad_script { result ≡ Status.BadScript → ⊥ }
 
-    // Whatever the status: no name but the pool's changes, and that is as it was, or new with a front of the pool.
+    // Whatever the status: no name but the new pool's changes, and that is as it was, or new with a front of the pool.
     ensures one_name { (c : Create) → IsCreate (texts words.now) c → MayAddPart (S.content shelf.old) (S.content shelf.new) c.pool (pool_bytes c) }
+    ensures dump_writes_none { (name : List ℕ) → IsDump (texts words.now) name → S.content shelf.new ≡ S.content shelf.old }
     ensures no_name { IsNoCommand (texts words.now) → S.content shelf.new ≡ S.content shelf.old }
 
     // Values in range, a new name and no fault: done, or want of memory.
     ensures complete { (c : Create) → IsCreate (texts words.now) c → IsGood c.wanted → ¬ IsThere (S.content shelf.old) c.pool
         → ¬ Rose (S.faults shelf.old) (S.faults shelf.new) → ¬ Rose (K.faults out.old) (K.faults out.new)
         → (result ≡ Status.Done) ⊎ (result ≡ Status.NoMemory) }
+
+    // A pool under the name and no fault: done, or want of memory.
+    ensures dump_complete { (name bytes : List ℕ) (pool : PoolView) (held : Held) → IsDump (texts words.now) name → S.content shelf.old ≡ Some held
+        → held name ≡ Some bytes → BytesMean bytes pool
+        → ¬ Rose (S.faults shelf.old) (S.faults shelf.new) → ¬ Rose (K.faults out.old) (K.faults out.new)
+        → (result ≡ Status.Done) ⊎ (result ≡ Status.NoMemory) }
+{
+    answer(alloc, words, shelf, out)
+}
+
+/// The same, without what follows from the other clauses.
+fn answer<S: Shelf, K: Sink>(alloc: Global, words: &[String], shelf: &mut S, out: &mut K) -> Status
+    ensures done { result ≡ Status.Done →
+        IsDone (texts words.now) (S.content shelf.old) (S.content shelf.new) (K.told out.old) (K.told out.new)
+        ⊎ IsDumped (texts words.now) (S.content shelf.old) (S.content shelf.new) (K.told out.old) (K.told out.new) }
+    ensures refused { result ≡ Status.Refused →
+        IsRefused (texts words.now) (S.content shelf.old) (S.content shelf.new) (K.told out.old) (K.told out.new)
+        ⊎ IsShownFaulty (texts words.now) (S.content shelf.old) (S.content shelf.new) (K.told out.old) (K.told out.new) }
+    ensures usage { result ≡ Status.Usage → IsUsage (texts words.now) (S.content shelf.old) (S.content shelf.new) (K.told out.old) (K.told out.new) }
+    ensures read_fault { result ≡ Status.ReadFault →
+        IsNotRead (texts words.now) (S.content shelf.old) (S.content shelf.new) (S.faults shelf.old) (S.faults shelf.new) (K.told out.old) (K.told out.new) }
+    ensures write_fault { result ≡ Status.WriteFault →
+        IsNotWritten (texts words.now) (S.content shelf.old) (S.faults shelf.old) (S.faults shelf.new) (K.told out.old) (K.told out.new)
+        ⊎ IsNotPrinted (texts words.now) (S.content shelf.old) (K.faults out.old) (K.faults out.new) (K.told out.old) (K.told out.new) }
+    ensures no_memory { result ≡ Status.NoMemory → IsNoMemory (texts words.now) (S.content shelf.old) (K.told out.old) (K.told out.new) }
+    ensures bad_script { result ≡ Status.BadScript → ⊥ }
+    ensures one_name { (c : Create) → IsCreate (texts words.now) c → MayAddPart (S.content shelf.old) (S.content shelf.new) c.pool (pool_bytes c) }
+    ensures dump_writes_none { (name : List ℕ) → IsDump (texts words.now) name → S.content shelf.new ≡ S.content shelf.old }
+    ensures no_name { IsNoCommand (texts words.now) → S.content shelf.new ≡ S.content shelf.old }
 {
     match run(alloc, words, shelf) {
-        Ok(line) => say(out, line.as_bytes(), Status::Done),
+        Ok(text) => say(out, &text, Status::Done),
         Err(failure) => say_failure(alloc, failure, out),
     }
 }
 
-/// Does what the words say; the answer is the line to print.
+/// Does what the words say; the answer is the text to print.
 fn run<'a, S: Shelf>(
     alloc: Global,
     words: &'a [String],
     shelf: &mut S,
-) -> Result<String, Failure<'a>>
-    ensures did { IfOk result (λ line. DidCommand (texts words.now) (S.content shelf.old) (S.content shelf.new) (string_bytes line)) }
+) -> Result<Vec<u8>, Failure<'a>>
+    ensures did { IfOk result (λ text. DidCommand (texts words.now) (S.content shelf.old) (S.content shelf.new) text.items) }
     ensures failed { IfErr result (DidFail (texts words.now) (S.content shelf.old) (S.content shelf.new) (S.faults shelf.old) (S.faults shelf.new)) }
     ensures one_name { (c : Create) → IsCreate (texts words.now) c → MayAddPart (S.content shelf.old) (S.content shelf.new) c.pool (pool_bytes c) }
+    ensures dump_writes_none { (name : List ℕ) → IsDump (texts words.now) name → S.content shelf.new ≡ S.content shelf.old }
     ensures no_name { IsNoCommand (texts words.now) → S.content shelf.new ≡ S.content shelf.old }
 {
-    match create_of(words) {
-        Some(create) => run_create(alloc, &create, shelf),
+    match command_of(words) {
+        Some(Command::Create(create)) => match run_create(alloc, &create, shelf) {
+            Ok(line) => Ok(line.into_bytes()),
+            Err(failure) => Err(failure),
+        },
+        Some(Command::Dump(name)) => run_dump(alloc, name, shelf),
         None => Err(Failure::Usage),
     }
 }
@@ -71,11 +115,11 @@ pub fn say_failure<K: Sink>(alloc: Global, failure: Failure<'_>, out: &mut K) ->
     }
 }
 
-/// Prints one line; the status stands unless the sink refuses it.
-fn say<K: Sink>(out: &mut K, line: &[u8], status: Status) -> Status
-    ensures { Said (K.told out.old) (K.told out.new) (K.faults out.old) (K.faults out.new) line.now status result }
+/// Prints a text line by line; the status stands unless the sink refuses a line.
+fn say<K: Sink>(out: &mut K, text: &[u8], status: Status) -> Status
+    ensures { Said (K.told out.old) (K.told out.new) (K.faults out.old) (K.faults out.new) text.now status result }
 {
-    match out.put(line) {
+    match put_lines(text, out) {
         Ok(()) => status,
         Err(SinkFault::Failed) => Status::WriteFault,
         Err(SinkFault::Memory) => Status::NoMemory,

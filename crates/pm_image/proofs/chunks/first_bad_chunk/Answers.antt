@@ -1,0 +1,16 @@
+use Rattle.std.proofs.Common.{◌*◌, get_or, refl, sym, ◌∙◌, arith}
+use Rattle.pm_image.specs.HeapFaults.{bad_chunk}
+use Rattle.pm_image.proofs.Firsts.{none_more, first_there, none_at_end}
+use Rattle.pm_image.proofs.chunks.first_bad_chunk.Goals as goal
+
+pub loop-chunk-init : goal.loop-chunk-init
+loop-chunk-init c = refl
+
+pub loop-chunk-preserved : goal.loop-chunk-preserved
+loop-chunk-preserved c = none_more (bad_chunk (λ i. get_or c.args.words.now i 0) c.args.shape.lanes) c.loop-chunk.chunk c.loop-chunk.invariant (sym c.is_bad_chunk.ensures ∙ c.if-is_bad_chunk.false)
+
+pub returns-then-is_bad_chunk : goal.returns-then-is_bad_chunk
+returns-then-is_bad_chunk c = sym (first_there (bad_chunk (λ i. get_or c.args.words.now i 0) c.args.shape.lanes) (64 * c.args.shape.zones) c.loop-chunk.chunk (omega arith) c.loop-chunk.invariant (sym c.is_bad_chunk.ensures ∙ c.if-is_bad_chunk.true))
+
+pub returns : goal.returns
+returns c = sym (none_at_end (bad_chunk (λ i. get_or c.args.words.now i 0) c.args.shape.lanes) (64 * c.args.shape.zones) c.loop-chunk.chunk (omega arith) c.loop-chunk.invariant)

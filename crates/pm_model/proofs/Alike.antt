@@ -1,0 +1,187 @@
+-- A transaction runs alike over other objects that are the same wherever it takes a lock.
+use Rattle.std.proofs.Common.{◌≡◌, ⊎_elim, ℕ, List, [], ◌∷◌, ◌++◌, get_or, Option, Some, None, MatchOption, Bool, true, false, not, cond, eqb, leb, ◌&&◌, ◌||◌, refl, sym, ◌∙◌, ap, subst}
+use Rattle.std.specs.Prelude.{IsSome}
+use Rattle.std.specs.List.{list_any}
+use Rattle.std.specs.Option.{option_map}
+use Rattle.std.proofs.lemmas.Bool.{false≢true, eq-eqb, and_from, or_left, or_right}
+use Rattle.std.proofs.lemmas.List.Folds.{list_any-append, list_any_at}
+use Rattle.pm_objects.specs.Pool.{Objects, object_at}
+use Rattle.pm_objects.specs.declared.calls.Operation.{Operation}
+use Rattle.pm_objects.specs.declared.calls.Operation.TheVariants.{Begin, AddRange, Write, Read, Commit, Abort}
+use Rattle.pm_objects.specs.declared.calls.Want.{Want}
+use Rattle.pm_objects.specs.declared.history.TxErr.{TxErr}
+use Rattle.pm_objects.specs.declared.history.TxErr.TheVariants as error
+use Rattle.pm_objects.specs.declared.history.Value.{Value}
+use Rattle.pm_objects.specs.declared.history.Value.TheVariants.{Bytes, Refused}
+use Rattle.pm_objects.specs.declared.pool.Object.{Object}
+use Rattle.pm_objects.specs.declared.refusal.Refusal.{Refusal}
+use Rattle.pm_model.specs.Transaction.{Transaction, at_rest, aborted, ended_inner, committed, is_working, is_locked}
+use Rattle.pm_model.specs.Bytes.{bytes_at, put_object, with_bytes}
+use Rattle.pm_model.specs.Checks.{Range, wants_of, is_not_locked, first_refusal}
+use Rattle.pm_model.specs.Answers.{Told, value_of, error_for, performed, after_reply, after, IsDone, IsRefused, Answers}
+use Rattle.pm_model.specs.Step.{RunsOn}
+use Rattle.pm_model.specs.Names.{is_refusal, wants_taken, is_wanted}
+use Rattle.pm_model.proofs.Objects.{object_at-put}
+use Rattle.pm_model.proofs.Locking.{locked_all_from}
+use Rattle.pm_model.proofs.Asked.{over, range_held, same_bytes, same_refusal, passed_lock}
+
+-- what an operation that is done answers is no refusal
+no_refusal : (tx : Transaction) (op : Operation) → is_refusal (value_of tx op) ≡ false
+no_refusal tx (Read id off len) = refl
+no_refusal tx op = refl
+
+-- so it leaves what it performs
+pub after_value : (op : Operation) (reply : Option Value) (tx : Transaction) → is_refusal reply ≡ false → after_reply op reply tx ≡ performed op tx
+after_value op None tx plain = refl
+after_value op (Some (Refused r)) tx plain = absurd (false≢true (sym plain))
+after_value op (Some value) tx plain = refl
+
+pub done_is_plain : (tx : Transaction) (op : Operation) (reply : Option Value) → reply ≡ value_of tx op → is_refusal reply ≡ false
+done_is_plain tx op reply value = ap is_refusal value ∙ no_refusal tx op
+
+-- a refusal that leaves a trace aborts
+pub after_refused : (op : Operation) (reply : Option Value) (tx : Transaction) (r : Refusal) → IsRefused r reply → after_reply op reply tx ≡ aborted (error.Refused r) tx
+after_refused op reply tx r is =
+    ap (λ (x : Option Value). after_reply op x tx) is.told ∙ ap (λ (b : Bool). cond b tx (aborted (error.Refused r) tx)) is.traced
+
+-- every lock that these operations take is in T, for writing if so asked
+abbrev pub TakesWithin : (ℕ → Bool) → Bool → List Told → Type 0
+TakesWithin T write told = (off : ℕ) → is_wanted (wants_taken told) off write ≡ true → T off ≡ true
+
+pub takes_first : (T : ℕ → Bool) (write : Bool) (t : Told) (told : List Told) → TakesWithin T write (t ∷ told) → is_refusal t.reply ≡ false
+    → (off : ℕ) → is_wanted (wants_of t.operation) off write ≡ true → T off ≡ true
+unfolding wants_taken
+takes_first T write t told within plain off wanted =
+    let asks : Want → Bool = λ want. eqb want.id.off off && (want.write || not write) in
+    within off (ap (λ (b : Bool). list_any asks (cond b [] (wants_of t.operation) ++ wants_taken told)) plain
+    ∙ (list_any-append asks (wants_of t.operation) (wants_taken told) ∙ or_left (list_any asks (wants_of t.operation)) (list_any asks (wants_taken told)) wanted))
+
+pub takes_rest : (T : ℕ → Bool) (write : Bool) (t : Told) (told : List Told) → TakesWithin T write (t ∷ told) → TakesWithin T write told
+unfolding wants_taken
+takes_rest T write t told within off wanted =
+    let asks : Want → Bool = λ want. eqb want.id.off off && (want.write || not write) in
+    let front : List Want = cond (is_refusal t.reply) [] (wants_of t.operation) in
+    within off (list_any-append asks front (wants_taken told) ∙ or_right (list_any asks front) (list_any asks (wants_taken told)) wanted)
+
+-- the other transaction is this one over other objects, which are the same in T, where all its locks are
+pub record Alike (T : ℕ → Bool) (root : Option ℕ) (tx other : Transaction) : Type 0 where
+  pub objects : Objects
+  pub before : Objects
+  pub is : other ≡ over tx objects before root
+  pub now : (off : ℕ) → T off ≡ true → object_at objects off ≡ object_at tx.pool.objects off
+  pub at_start : (off : ℕ) → T off ≡ true → object_at before off ≡ object_at tx.before.objects off
+  pub held : (off : ℕ) → is_locked tx.locks off false ≡ true → T off ≡ true
+
+alike_along : (T : ℕ → Bool) (root : Option ℕ) (tx tx' other other' : Transaction) → tx ≡ tx' → other ≡ other' → Alike T root tx other → Alike T root tx' other'
+alike_along T root tx tx' other other' e f h = subst (λ (o : Transaction). Alike T root tx' o) f (subst (λ (t : Transaction). Alike T root t other) e h)
+
+module _ (T : ℕ → Bool) (root : Option ℕ) (tx : Transaction) (objects before : Objects)
+    (now : (off : ℕ) → T off ≡ true → object_at objects off ≡ object_at tx.pool.objects off)
+    (at_start : (off : ℕ) → T off ≡ true → object_at before off ≡ object_at tx.before.objects off)
+    (held : (off : ℕ) → is_locked tx.locks off false ≡ true → T off ≡ true) where
+  same_value : (op : Operation) → is_not_locked tx op ≡ false → value_of (over tx objects before root) op ≡ value_of tx op
+  same_value (Read id off len) locked =
+      let range : Range = record { id = id; off = off; len = len } in
+      ap (λ (bytes : List ℕ). Some (Bytes (bytes_at off len bytes)))
+      (same_bytes objects tx.pool.objects id.off (now id.off (held id.off (range_held tx false range locked))))
+  same_value op locked = refl
+
+  done_alike : (op : Operation) (reply : Option Value) → is_not_locked tx op ≡ false → ((off : ℕ) → is_wanted (wants_of op) off false ≡ true → T off ≡ true)
+      → IsDone tx op reply → IsDone (over tx objects before root) op reply
+  done_alike op reply locked within done = record {
+    there = λ k d inside first.
+        let want : Want = get_or (wants_of op) k d in
+        let off : ℕ = want.id.off in
+        let wanted : is_wanted (wants_of op) off false ≡ true =
+        list_any_at (λ (w : Want). eqb w.id.off off && (w.write || not false)) (wants_of op) k d inside
+        (and_from (eqb off off) (want.write || true) (eq-eqb off off refl) (or_right want.write true refl)) in
+        subst (λ (o : Option Object). IsSome o) (sym (now off (within off wanted))) (done.there k d inside first);
+    value = done.value ∙ sym (same_value op locked);
+  }
+
+  same_match : (fr fr' : Option Refusal) (A A' : Type 0) (B : Refusal → Type 0) → fr' ≡ fr → (fr ≡ None → A → A') → MatchOption fr A B → MatchOption fr' A' B
+  same_match None fr' A A' B e both m = subst (λ (o : Option Refusal). MatchOption o A' B) (sym e) (both refl m)
+  same_match (Some r) fr' A A' B e both m = subst (λ (o : Option Refusal). MatchOption o A' B) (sym e) m
+
+  answers_alike : (t : Told) (told : List Told) → TakesWithin T false (t ∷ told) → Answers tx t.operation t.reply → Answers (over tx objects before root) t.operation t.reply
+  answers_alike t told within a = record {
+    known = a.known;
+    seen = a.seen;
+    answer = same_match (first_refusal a.seen tx t.operation) (first_refusal a.seen (over tx objects before root) t.operation)
+        (IsDone tx t.operation t.reply) (IsDone (over tx objects before root) t.operation t.reply) (λ r. IsRefused r t.reply)
+        (same_refusal a.seen tx t.operation objects before root (λ off h. now off (held off h)))
+        (λ none done. done_alike t.operation t.reply (passed_lock a.seen tx t.operation none)
+        (takes_first T false t told within (done_is_plain tx t.operation t.reply done.value)) done)
+        a.answer;
+  }
+
+  abort_alike : (e : TxErr) → Alike T root (aborted e tx) (aborted e (over tx objects before root))
+  abort_alike e = record { objects = before; before = before; is = refl; now = at_start; at_start = at_start; held = held }
+
+  end_alike : (outermost : Bool) → Alike T root
+      (cond outermost (at_rest tx.pool) (ended_inner (committed tx)))
+      (cond outermost (at_rest (over tx objects before root).pool) (ended_inner (committed (over tx objects before root))))
+  end_alike true = record { objects = objects; before = objects; is = refl; now = now; at_start = now; held = λ off h. absurd (false≢true h) }
+  end_alike false = record { objects = objects; before = before; is = refl; now = now; at_start = at_start; held = held }
+
+  put_alike : (off at : ℕ) (bytes : List ℕ) (x : ℕ) → T x ≡ true → object_at (put_object off at bytes objects) x ≡ object_at (put_object off at bytes tx.pool.objects) x
+  put_alike off at bytes x inside =
+      object_at-put off at bytes objects x
+      ∙ (ap (λ (o : Option Object). cond (eqb x off) (option_map (with_bytes at bytes) o) o) (now x inside) ∙ sym (object_at-put off at bytes tx.pool.objects x))
+
+  performed_alike : (op : Operation) → ((off : ℕ) → is_wanted (wants_of op) off false ≡ true → T off ≡ true) → Alike T root (performed op tx) (performed op (over tx objects before root))
+  performed_alike (Begin wants) within = record {
+    objects = objects;
+    before = before;
+    is = refl;
+    now = now;
+    at_start = at_start;
+    held = λ off h. ⊎_elim (λ (w : is_wanted wants off false ≡ true). within off w) (λ (old : is_locked tx.locks off false ≡ true). held off old) (locked_all_from wants tx.locks off false h);
+  }
+  performed_alike (AddRange id off len) within = record { objects = objects; before = before; is = refl; now = now; at_start = at_start; held = held }
+  performed_alike (Write id off bytes) within = record {
+    objects = put_object id.off off bytes objects;
+    before = before;
+    is = refl;
+    now = put_alike id.off off bytes;
+    at_start = at_start;
+    held = held;
+  }
+  performed_alike Commit within = end_alike (leb tx.level 1)
+  performed_alike (Abort errnum) within = abort_alike (error_for errnum)
+  performed_alike op within = record { objects = objects; before = before; is = refl; now = now; at_start = at_start; held = held }
+
+  after_alike : (t : Told) (told : List Told) → TakesWithin T false (t ∷ told) → (fr : Option Refusal) → MatchOption fr (IsDone tx t.operation t.reply) (λ r. IsRefused r t.reply)
+      → Alike T root (after t tx) (after t (over tx objects before root))
+  after_alike t told within None done =
+      let plain : is_refusal t.reply ≡ false = done_is_plain tx t.operation t.reply done.value in
+      alike_along T root (performed t.operation tx) (after t tx) (performed t.operation (over tx objects before root)) (after t (over tx objects before root))
+      (sym (after_value t.operation t.reply tx plain)) (sym (after_value t.operation t.reply (over tx objects before root) plain))
+      (performed_alike t.operation (takes_first T false t told within plain))
+  after_alike t told within (Some r) is =
+      alike_along T root (aborted (error.Refused r) tx) (after t tx) (aborted (error.Refused r) (over tx objects before root)) (after t (over tx objects before root))
+      (sym (after_refused t.operation t.reply tx r is)) (sym (after_refused t.operation t.reply (over tx objects before root) r is))
+      (abort_alike (error.Refused r))
+
+-- one operation answers alike, and leaves alike
+pub step_alike : (T : ℕ → Bool) (root : Option ℕ) (t : Told) (told : List Told) (tx other : Transaction) → TakesWithin T false (t ∷ told) → Alike T root tx other
+    → Answers tx t.operation t.reply → Answers other t.operation t.reply × Alike T root (after t tx) (after t other)
+step_alike T root t told tx other within alike answers =
+    let there : Transaction = over tx alike.objects alike.before root in (
+      subst (λ (o : Transaction). Answers o t.operation t.reply) (sym alike.is)
+          (answers_alike T root tx alike.objects alike.before alike.now alike.at_start alike.held t told within answers),
+      alike_along T root (after t tx) (after t tx) (after t there) (after t other) refl (ap (after t) (sym alike.is))
+          (after_alike T root tx alike.objects alike.before alike.now alike.at_start alike.held t told within (first_refusal answers.seen tx t.operation) answers.answer),
+    )
+
+-- the same operations run with the same replies
+pub runs_alike : (T : ℕ → Bool) (root : Option ℕ) (told : List Told) (tx other last : Transaction) → TakesWithin T false told → Alike T root tx other → RunsOn tx told last
+    → (end : Transaction) × RunsOn other told end × Alike T root last end
+unfolding RunsOn
+runs_alike T root [] tx other last within alike runs =
+    (other, (ap (λ (t : Transaction). is_working t.stage) alike.is ∙ runs.0, refl), alike_along T root tx last other other (sym runs.1) refl alike)
+runs_alike T root (t ∷ told) tx other last within alike runs =
+    let next : Answers other t.operation t.reply × Alike T root (after t tx) (after t other) = step_alike T root t told tx other within alike runs.1 in
+    let rest : (end : Transaction) × RunsOn (after t other) told end × Alike T root last end =
+    runs_alike T root told (after t tx) (after t other) last (takes_rest T false t told within) next.1 runs.2 in
+    (rest.0, (ap (λ (t : Transaction). is_working t.stage) alike.is ∙ runs.0, next.0, rest.1), rest.2)

@@ -1,0 +1,117 @@
+-- What an operation that is done has passed, and on what its answer depends.
+use Rattle.std.proofs.Common.{◌≡◌, ⊎_elim, ℕ, ◌+◌, List, [], ◌∷◌, length, Option, Some, None, Bool, true, false, cond, eqb, ltb, ◌&&◌, refl, sym, ◌∙◌, ap}
+use Rattle.std.specs.List.{find}
+use Rattle.std.specs.Option.{option_map, option_map_or}
+use Rattle.std.proofs.lemmas.Bool.{cases_Bool, not-false, and_parts}
+use Rattle.pm_objects.specs.Pool.{Objects, object_at}
+use Rattle.pm_objects.specs.declared.calls.Operation.{Operation}
+use Rattle.pm_objects.specs.declared.pool.Object.{Object}
+use Rattle.pm_objects.specs.declared.refusal.Refusal.{Refusal}
+use Rattle.pm_objects.specs.declared.refusal.Refusal.TheVariants as refusal
+use Rattle.pm_model.specs.Transaction.{Transaction, is_locked}
+use Rattle.pm_model.specs.Bytes.{bytes_of}
+use Rattle.pm_model.specs.Checks.{Seen, Range, range_of, needs_write, finds_no_work, finds_no_tx, is_spent, is_too_deep, passes_locks, is_lock_missing, is_not_locked, wants_no_place, is_busy, is_missing, passes_end_of, passes_end, is_not_added, passes_log, checks, first_refusal}
+use Rattle.pm_model.proofs.Locking.{is_locked_to_read}
+
+-- the transaction over other objects, of a pool with another root
+abbrev pub over : Transaction → Objects → Objects → Option ℕ → Transaction
+over tx objects before root = record tx {
+  pool = record tx.pool { objects = objects; root = root };
+  before = record tx.before { objects = before; root = root };
+}
+
+-- the rows of the checks, for any answers of those on locks and on the object's end
+rows : Seen → Transaction → Operation → Bool → Bool → List (Refusal × Bool)
+rows seen tx op not_locked past_end =
+    (refusal.NotWork, finds_no_work tx)
+    ∷ (refusal.NoTx, finds_no_tx tx op)
+    ∷ (refusal.Spent, is_spent seen tx)
+    ∷ (refusal.Deep, is_too_deep tx op)
+    ∷ (refusal.LocksFull, passes_locks tx op)
+    ∷ (refusal.NotLocked, not_locked)
+    ∷ (refusal.NoObject, wants_no_place tx op)
+    ∷ (refusal.Busy, is_busy seen tx op)
+    ∷ (refusal.NoObject, is_missing seen tx op)
+    ∷ (refusal.OutOfRange, past_end)
+    ∷ (refusal.NotAdded, is_not_added tx op)
+    ∷ (refusal.LogFull, passes_log tx op)
+    ∷ []
+
+first_row : List (Refusal × Bool) → Option Refusal
+first_row checks = option_map (λ check. check.0) (find (λ check. check.1) checks)
+
+-- an object's end is looked at only under its lock
+end_under_lock : (seen : Seen) (tx : Transaction) (op : Operation) (not_locked one other : Bool) → (not_locked ≡ false → one ≡ other)
+    → first_row (rows seen tx op not_locked one) ≡ first_row (rows seen tx op not_locked other)
+unfolding rows first_row
+end_under_lock seen tx op true one other same = refl
+end_under_lock seen tx op false one other same = ap (λ (b : Bool). first_row (rows seen tx op false b)) (same refl)
+
+-- a range under a lock is held
+pub range_held : (tx : Transaction) (write : Bool) (range : Range) → is_lock_missing tx write range ≡ false → is_locked tx.locks range.id.off false ≡ true
+range_held tx write range held =
+    is_locked_to_read tx.locks range.id.off write
+    (and_parts (eqb range.id.pool tx.pool.id) (is_locked tx.locks range.id.off write) (not-false (eqb range.id.pool tx.pool.id && is_locked tx.locks range.id.off write) held)).1
+
+pub same_bytes : (one other : Objects) (off : ℕ) → object_at one off ≡ object_at other off → bytes_of one off ≡ bytes_of other off
+same_bytes one other off same = ap (λ (o : Option Object). option_map_or (λ (object : Object). object.bytes) o []) same
+
+same_end : (tx : Transaction) (objects before : Objects) (root : Option ℕ) (write : Bool) (range : Option Range)
+    → ((off : ℕ) → is_locked tx.locks off false ≡ true → object_at objects off ≡ object_at tx.pool.objects off)
+    → option_map_or (is_lock_missing tx write) range false ≡ false
+    → option_map_or (passes_end_of (over tx objects before root)) range false ≡ option_map_or (passes_end_of tx) range false
+same_end tx objects before root write None same held = refl
+same_end tx objects before root write (Some range) same held =
+    ap (λ (bytes : List ℕ). ltb (length bytes) (range.off + range.len)) (same_bytes objects tx.pool.objects range.id.off (same range.id.off (range_held tx write range held)))
+
+-- objects that are the same under all held locks have the same first refusal
+pub same_refusal : (seen : Seen) (tx : Transaction) (op : Operation) (objects before : Objects) (root : Option ℕ)
+    → ((off : ℕ) → is_locked tx.locks off false ≡ true → object_at objects off ≡ object_at tx.pool.objects off)
+    → first_refusal seen (over tx objects before root) op ≡ first_refusal seen tx op
+unfolding first_refusal first_row rows
+same_refusal seen tx op objects before root same =
+    end_under_lock seen tx op (is_not_locked tx op) (passes_end (over tx objects before root) op) (passes_end tx op)
+    (same_end tx objects before root (needs_write op) (range_of op) same)
+
+-- none of them passes the test
+NonePasses : {A : Type 0} → (A → Bool) → List A → Type 0
+NonePasses p [] = Unit {0}
+NonePasses p (x ∷ xs) = (p x ≡ false) × NonePasses p xs
+
+none_passes : {A : Type 0} (p : A → Bool) (xs : List A) → find p xs ≡ None → NonePasses p xs
+unfolding NonePasses
+none_passes p [] none = tt
+none_passes p (x ∷ xs) none = ⊎_elim
+    (λ (here : p x ≡ true). absurd (let clash : Some x ≡ None = sym (ap (λ (b : Bool). cond b (Some x) (find p xs)) here) ∙ none in cc))
+    (λ (off : p x ≡ false). (off, none_passes p xs (sym (ap (λ (b : Bool). cond b (Some x) (find p xs)) off) ∙ none)))
+    (cases_Bool (p x))
+
+unmapped : {A B : Type 0} (f : A → B) (o : Option A) → option_map f o ≡ None → o ≡ None
+unmapped f None none = refl
+unmapped f (Some x) none = absurd (let clash : Some (f x) ≡ None = none in cc)
+
+-- an operation that is not refused has its lock, and its range ends in the object
+pub passed_lock : (seen : Seen) (tx : Transaction) (op : Operation) → first_refusal seen tx op ≡ None → is_not_locked tx op ≡ false
+unfolding first_refusal NonePasses
+passed_lock seen tx op none =
+    let found : Option (Refusal × Bool) = find (λ (check : Refusal × Bool). check.1) (checks seen tx op) in
+    let passed : NonePasses (λ (check : Refusal × Bool). check.1) (checks seen tx op) =
+    none_passes (λ (check : Refusal × Bool). check.1) (checks seen tx op) (unmapped (λ (check : Refusal × Bool). check.0) found none) in
+    passed.1.1.1.1.1.0
+
+pub passed_end : (seen : Seen) (tx : Transaction) (op : Operation) → first_refusal seen tx op ≡ None → passes_end tx op ≡ false
+unfolding first_refusal NonePasses
+passed_end seen tx op none =
+    let found : Option (Refusal × Bool) = find (λ (check : Refusal × Bool). check.1) (checks seen tx op) in
+    let passed : NonePasses (λ (check : Refusal × Bool). check.1) (checks seen tx op) =
+    none_passes (λ (check : Refusal × Bool). check.1) (checks seen tx op) (unmapped (λ (check : Refusal × Bool). check.0) found none) in
+    passed.1.1.1.1.1.1.1.1.1.0
+
+-- an operation that is not refused misses no object
+pub passed_missing : (seen : Seen) (tx : Transaction) (op : Operation) → first_refusal seen tx op ≡ None → is_missing seen tx op ≡ false
+unfolding first_refusal NonePasses
+passed_missing seen tx op none =
+    let found : Option (Refusal × Bool) = find (λ (check : Refusal × Bool). check.1) (checks seen tx op) in
+    let passed : NonePasses (λ (check : Refusal × Bool). check.1) (checks seen tx op) =
+    none_passes (λ (check : Refusal × Bool). check.1) (checks seen tx op) (unmapped (λ (check : Refusal × Bool). check.0) found none) in
+    passed.1.1.1.1.1.1.1.1.0

@@ -1,0 +1,13 @@
+pub mod Changing
+pub mod Objects
+pub mod Locking
+pub mod Asked
+pub mod Alike
+pub mod Running
+pub mod Kept
+pub mod Frames
+pub mod Replaying
+pub mod Ending
+pub mod Pools
+pub mod Aloneness
+pub mod Beginning

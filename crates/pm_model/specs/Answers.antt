@@ -1,0 +1,100 @@
+-- What an operation of a transaction may answer, and what it leaves.
+use Rattle.std.specs.Prelude.{◌≡◌, ℕ, ◌+◌, ◌==◌, Bool, true, false, IsTrue, IsSome, All, if◌then◌else◌, List, ◌++◌, length, Option, None, Some, MatchOption}
+use Rattle.pm_objects.specs.Pool.{object_at}
+use Rattle.pm_objects.specs.declared.calls.Operation.{Operation}
+use Rattle.pm_objects.specs.declared.calls.Operation.TheVariants.{Begin, AddRange, Write, Read, Commit, Abort}
+use Rattle.pm_objects.specs.declared.calls.Want.{Want}
+use Rattle.pm_objects.specs.declared.history.TxErr.{TxErr}
+use Rattle.pm_objects.specs.declared.history.TxErr.TheVariants as error
+use Rattle.pm_objects.specs.declared.history.Value.{Value}
+use Rattle.pm_objects.specs.declared.history.Value.TheVariants.{Bytes, Refused}
+use Rattle.pm_objects.specs.declared.refusal.Refusal.{Refusal}
+use Rattle.pm_objects.specs.declared.refusal.Refusal.TheVariants as refusal
+use Rattle.pm_model.specs.Transaction.{Transaction, begun, committed, aborted, ended, is_locked}
+use Rattle.pm_model.specs.Bytes.{bytes_at, bytes_of, put_object, new_words, records_of}
+use Rattle.pm_model.specs.Checks.{Seen, Range, words_in, wants_of, first_refusal}
+
+-- an operation and its reply: a value, a refusal among them, or none where it is just done
+pub record Told : Type 0 where
+  pub operation : Operation
+  pub reply : Option Value
+
+-- the operations of transactions that are here so far
+abbrev pub is_known : Operation → Bool
+is_known (Begin wants) = true
+is_known (AddRange id off len) = true
+is_known (Write id off bytes) = true
+is_known (Read id off len) = true
+is_known Commit = true
+is_known (Abort errnum) = true
+is_known op = false
+
+-- what an operation answers that is not refused: a read gives its bytes, from the copy
+abbrev pub value_of : Transaction → Operation → Option Value
+value_of tx (Read id off len) = Some (Bytes (bytes_at off len (bytes_of tx.pool.objects id.off)))
+value_of tx op = None
+
+-- the error of an abort with this number
+abbrev pub error_for : ℕ → TxErr
+error_for errnum = if errnum == 0 then error.Canceled else error.User errnum
+
+-- the words of a range are recorded
+abbrev pub recorded : Range → Transaction → Transaction
+recorded range tx =
+    let words = new_words tx.recorded (words_in range) in
+    record tx { recorded = tx.recorded ++ words; records = tx.records + length (records_of words) }
+
+-- bytes are written into the copy
+abbrev pub written : ℕ → ℕ → List ℕ → Transaction → Transaction
+written off at bytes tx = record tx { pool = record tx.pool { objects = put_object off at bytes tx.pool.objects } }
+
+-- what an operation leaves that is not refused. A commit ends its level too
+abbrev pub performed : Operation → Transaction → Transaction
+performed (Begin wants) tx = begun wants tx
+performed (AddRange id off len) tx = recorded (record { id = id; off = off; len = len }) tx
+performed (Write id off bytes) tx = written id.off off bytes tx
+performed Commit tx = ended (committed tx)
+performed (Abort errnum) tx = aborted (error_for errnum) tx
+performed op tx = tx
+
+-- refusals that change nothing, and leave no trace in a call
+abbrev pub changes_nothing : Refusal → Bool
+changes_nothing refusal.NotWork = true
+changes_nothing refusal.InTx = true
+changes_nothing refusal.NoTx = true
+changes_nothing refusal.Spent = true
+changes_nothing r = false
+
+-- what a refused operation leaves: all of it is aborted, with the refusal as the error
+abbrev pub refused : Refusal → Transaction → Transaction
+refused r tx = if changes_nothing r then tx else aborted (error.Refused r) tx
+
+-- what an operation with its reply leaves
+abbrev pub after_reply : Operation → Option Value → Transaction → Transaction
+after_reply op (Some (Refused r)) tx = refused r tx
+after_reply op reply tx = performed op tx
+
+abbrev pub after : Told → Transaction → Transaction
+after told tx = after_reply told.operation told.reply tx
+
+-- each object of which a first lock is taken is there
+abbrev pub AreThere : Transaction → Operation → Type 0
+AreThere tx op =
+    All (λ (want : Want). is_locked tx.locks want.id.off false ≡ false → IsSome (object_at tx.pool.objects want.id.off)) (wants_of op)
+
+-- the operation is not refused: what it wants is there, and this is its value
+pub record IsDone (tx : Transaction) (op : Operation) (reply : Option Value) : Type 0 where
+  pub there : AreThere tx op
+  pub value : reply ≡ value_of tx op
+
+-- it is refused for this reason, which leaves a trace
+pub record IsRefused (r : Refusal) (reply : Option Value) : Type 0 where
+  pub traced : changes_nothing r ≡ false
+  pub told : reply ≡ Some (Refused r)
+
+-- what the operation may answer in a call of the history: it is done, or has the first refusal that applies, by what the lane saw. What
+-- other lanes do is not known here, so a lock may be Busy and an object missing whatever the pool is
+pub record Answers (tx : Transaction) (op : Operation) (reply : Option Value) : Type 0 where
+  pub known : IsTrue (is_known op)
+  pub seen : Seen
+  pub answer : MatchOption (first_refusal seen tx op) (IsDone tx op reply) (λ r. IsRefused r reply)

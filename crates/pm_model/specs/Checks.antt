@@ -1,0 +1,150 @@
+-- Which refusals apply to an operation of a transaction, and in which order they are looked for.
+use Rattle.std.specs.Prelude.{ℕ, ◌+◌, ◌==◌, ◌&&◌, ◌||◌, not, nat_lt, nat_le, Bool, true, false, if◌then◌else◌, List, [], ◌∷◌, length, filter, find, Option, None, Some}
+use Rattle.std.specs.List.{list_any, list_all}
+use Rattle.std.specs.Option.{option_map, option_map_or}
+use Rattle.pm_objects.specs.declared.calls.Operation.{Operation}
+use Rattle.pm_objects.specs.declared.calls.Operation.TheVariants.{Begin, AddRange, Write, Read}
+use Rattle.pm_objects.specs.declared.calls.Want.{Want}
+use Rattle.pm_objects.specs.declared.ids.Oid.{Oid}
+use Rattle.pm_objects.specs.declared.refusal.Refusal.{Refusal}
+use Rattle.pm_objects.specs.declared.refusal.Refusal.TheVariants as refusal
+use Rattle.pm_model.specs.Places.{has_place}
+use Rattle.pm_model.specs.Transaction.{Transaction, is_working, is_locked, locked_all}
+use Rattle.pm_model.specs.Bytes.{bytes_of, covered_words, is_among, new_words, records_of}
+
+-- what a lane saw beside the pool, of words that it shares with other lanes
+pub record Seen : Type 0 where
+  -- its generation or the commit counter was at its end
+  pub spent : Bool
+  -- a lock that it tried was another lane's
+  pub busy : Bool
+  -- no object was found under a lock that it took
+  pub missing : Bool
+
+-- the bytes of an object that an operation is about
+pub record Range : Type 0 where
+  pub id : Oid
+  pub off : ℕ
+  pub len : ℕ
+
+abbrev pub range_of : Operation → Option Range
+range_of (AddRange id off len) = Some (record { id = id; off = off; len = len })
+range_of (Write id off bytes) = Some (record { id = id; off = off; len = length bytes })
+range_of (Read id off len) = Some (record { id = id; off = off; len = len })
+range_of op = None
+
+-- the words of the range
+abbrev pub words_in : Range → List ℕ
+words_in range = covered_words (range.id.off + range.off) range.len
+
+abbrev pub wants_of : Operation → List Want
+wants_of (Begin wants) = wants
+wants_of op = []
+
+abbrev pub is_begin : Operation → Bool
+is_begin (Begin wants) = true
+is_begin op = false
+
+abbrev pub is_record : Operation → Bool
+is_record (AddRange id off len) = true
+is_record op = false
+
+abbrev pub is_write : Operation → Bool
+is_write (Write id off bytes) = true
+is_write op = false
+
+-- the operation needs the lock of its object for writing
+abbrev pub needs_write : Operation → Bool
+needs_write op = is_record op || is_write op
+
+-- NotWork: a transaction is open, and not for work
+abbrev pub finds_no_work : Transaction → Bool
+finds_no_work tx = nat_le 1 tx.level && not (is_working tx.stage)
+
+-- NoTx: no transaction is open
+abbrev pub finds_no_tx : Transaction → Operation → Bool
+finds_no_tx tx op = tx.level == 0 && not (is_begin op)
+
+-- Spent: a call would begin, and no number or no generation is left for it
+abbrev pub is_spent : Seen → Transaction → Bool
+is_spent seen tx = tx.level == 0 && seen.spent
+
+-- Deep: this would be the 65th level
+abbrev pub is_too_deep : Transaction → Operation → Bool
+is_too_deep tx op = is_begin op && nat_le 64 tx.level
+
+-- LocksFull: with what is wanted, of ids that have a place, more than 64 locks would be held
+abbrev pub passes_locks : Transaction → Operation → Bool
+passes_locks tx op = nat_lt 64 (length (locked_all (filter (λ (want : Want). has_place tx.pool want.id) (wants_of op)) tx.locks))
+
+-- NotLocked: the lock that the access needs is not held. None is held of an id that has no place
+abbrev pub is_lock_missing : Transaction → Bool → Range → Bool
+is_lock_missing tx write range = not (range.id.pool == tx.pool.id && is_locked tx.locks range.id.off write)
+
+abbrev pub is_not_locked : Transaction → Operation → Bool
+is_not_locked tx op = option_map_or (is_lock_missing tx (needs_write op)) (range_of op) false
+
+-- NoObject by place: a lock is wanted of an id that has no place
+abbrev pub wants_no_place : Transaction → Operation → Bool
+wants_no_place tx op = list_any (λ (want : Want). not (has_place tx.pool want.id)) (wants_of op)
+
+-- Busy: a lock that is not held so yet is tried once inside a transaction, and was another lane's
+abbrev pub takes_lock : Transaction → Operation → Bool
+takes_lock tx op = list_any (λ (want : Want). not (is_locked tx.locks want.id.off want.write)) (wants_of op)
+
+abbrev pub is_busy : Seen → Transaction → Operation → Bool
+is_busy seen tx op = nat_le 1 tx.level && takes_lock tx op && seen.busy
+
+-- NoObject: no object is where a first lock was taken
+abbrev pub takes_first_lock : Transaction → Operation → Bool
+takes_first_lock tx op = list_any (λ (want : Want). not (is_locked tx.locks want.id.off false)) (wants_of op)
+
+abbrev pub is_missing : Seen → Transaction → Operation → Bool
+is_missing seen tx op = takes_first_lock tx op && seen.missing
+
+-- OutOfRange: the range passes the object's end
+abbrev pub passes_end_of : Transaction → Range → Bool
+passes_end_of tx range = nat_lt (length (bytes_of tx.pool.objects range.id.off)) (range.off + range.len)
+
+abbrev pub passes_end : Transaction → Operation → Bool
+passes_end tx op = option_map_or (passes_end_of tx) (range_of op) false
+
+-- NotAdded: a word to be written is not recorded
+abbrev pub has_unrecorded : Transaction → Range → Bool
+has_unrecorded tx range = not (list_all (is_among tx.recorded) (words_in range))
+
+abbrev pub is_not_added : Transaction → Operation → Bool
+is_not_added tx op = is_write op && option_map_or (has_unrecorded tx) (range_of op) false
+
+-- LogFull: the new words need more records than are free of 64
+abbrev pub overfills : Transaction → Range → Bool
+overfills tx range = nat_lt 64 (tx.records + length (records_of (new_words tx.recorded (words_in range))))
+
+abbrev pub passes_log : Transaction → Operation → Bool
+passes_log tx op = is_record op && option_map_or (overfills tx) (range_of op) false
+
+-- the checks in their order. Those of calls that are not here yet come with them, each at its place. A lane that was stopped answers
+-- Stopped before them all
+abbrev pub checks : Seen → Transaction → Operation → List (Refusal × Bool)
+checks seen tx op =
+    (refusal.NotWork, finds_no_work tx)
+    ∷ (refusal.NoTx, finds_no_tx tx op)
+    ∷ (refusal.Spent, is_spent seen tx)
+    ∷ (refusal.Deep, is_too_deep tx op)
+    ∷ (refusal.LocksFull, passes_locks tx op)
+    ∷ (refusal.NotLocked, is_not_locked tx op)
+    ∷ (refusal.NoObject, wants_no_place tx op)
+    ∷ (refusal.Busy, is_busy seen tx op)
+    ∷ (refusal.NoObject, is_missing seen tx op)
+    ∷ (refusal.OutOfRange, passes_end tx op)
+    ∷ (refusal.NotAdded, is_not_added tx op)
+    ∷ (refusal.LogFull, passes_log tx op)
+    ∷ []
+
+-- the refusal of the first check that applies
+unfoldable pub first_refusal : Seen → Transaction → Operation → Option Refusal
+first_refusal seen tx op = option_map (λ check. check.0) (find (λ check. check.1) (checks seen tx op))
+
+-- the refusal of `end`: no transaction is open, or it is in work
+abbrev pub end_refusal : Transaction → Option Refusal
+end_refusal tx = if tx.level == 0 then Some refusal.NoTx else if is_working tx.stage then Some refusal.InTx else None

@@ -1,0 +1,83 @@
+-- A state read name by name, and which names a call reads and writes.
+use Rattle.std.specs.Prelude.{ℕ, ◌==◌, ◌&&◌, ◌||◌, not, Bool, true, false, if◌then◌else◌, List, [], ◌∷◌, ◌++◌, Option, Some}
+use Rattle.std.specs.List.{list_any}
+use Rattle.std.specs.List.Sorted.{IsStrictlyIncreasing}
+use Rattle.pm_objects.specs.Pool.{offsets, object_at}
+use Rattle.pm_objects.specs.declared.calls.Want.{Want}
+use Rattle.pm_objects.specs.declared.history.Value.{Value}
+use Rattle.pm_objects.specs.declared.history.Value.TheVariants.{Refused}
+use Rattle.pm_objects.specs.declared.pool.Object.{Object}
+use Rattle.pm_model.specs.Checks.{wants_of}
+use Rattle.pm_model.specs.Answers.{Told}
+use Rattle.pm_model.specs.Step.{State, Act, Step}
+use Rattle.pm_model.specs.Framed.{IsFramed, AreApart, AreAllApart, Follows}
+
+pub data Name : Type 0 where
+  -- what no call changes: the pool's id, layout name and shape
+  Fixed : Name
+  -- the root's offset
+  RootOffset : Name
+  -- what stands at an offset
+  ObjectAt : ℕ → Name
+  -- a lane's pending actions
+  ActionsOf : ℕ → Name
+
+pub data Content : Type 0 where
+  FixedIs : ℕ → List ℕ → ℕ → ℕ → Content
+  RootIs : Option ℕ → Content
+  ObjectIs : Option Object → Content
+  ActionsAre : List Told → Content
+
+-- what a state has under a name
+abbrev pub content : State → Name → Content
+content s Fixed = FixedIs s.pool.id s.pool.name s.pool.lanes s.pool.zones
+content s RootOffset = RootIs s.pool.root
+content s (ObjectAt off) = ObjectIs (object_at s.pool.objects off)
+content s (ActionsOf lane) = ActionsAre (s.actions lane)
+
+-- the objects are a finite map
+abbrev pub IsMap : State → Type 0
+IsMap s = IsStrictlyIncreasing (offsets s.pool.objects)
+
+abbrev pub is_refusal : Option Value → Bool
+is_refusal (Some (Refused r)) = true
+is_refusal reply = false
+
+-- what the call locked: what its begins wanted. Of a begin that was refused nothing is kept to the call's end
+unfoldable pub wants_taken : List Told → List Want
+wants_taken [] = []
+wants_taken (t ∷ told) = (if is_refusal t.reply then [] else wants_of t.operation) ++ wants_taken told
+
+-- a lock of the object at the offset is among what is wanted, for writing if so asked
+abbrev pub is_wanted : List Want → ℕ → Bool → Bool
+is_wanted wants off write = list_any (λ (want : Want). want.id.off == off && (want.write || not write)) wants
+
+-- the call locks the object at the offset, for writing if so asked
+abbrev pub locks : Act → ℕ → Bool → Bool
+locks act off write = is_wanted (wants_taken act.told) off write
+
+-- the call's written part
+abbrev pub writes : Act → Name → Bool
+writes act (ObjectAt off) = locks act off true
+writes act n = false
+
+-- its written and its read part
+abbrev pub touches : Act → Name → Bool
+touches act Fixed = true
+touches act (ObjectAt off) = locks act off false
+touches act n = false
+
+-- a call reads and changes its parts alone
+abbrev pub IsFramedCall : Act → Type 0
+IsFramedCall act = IsFramed content Step writes touches act
+
+-- neither call's written part meets a part of the other
+abbrev pub Apart : Act → Act → Type 0
+Apart a b = AreApart writes touches a b
+
+abbrev pub ApartFromAll : Act → List Act → Type 0
+ApartFromAll a calls = AreAllApart writes touches a calls
+
+-- the state after the calls, one whole call after another
+abbrev pub Replays : State → List Act → State → Type 0
+Replays s calls t = Follows Step s calls t

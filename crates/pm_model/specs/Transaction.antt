@@ -1,0 +1,87 @@
+-- A transaction as it runs: pmemobj_tx_begin(3). It works on a copy of the pool, which the outermost commit makes the pool.
+use Rattle.std.specs.Prelude.{ℕ, ◌+◌, ◌-◌, ◌==◌, ◌&&◌, ◌||◌, not, nat_le, Bool, true, false, if◌then◌else◌, List, [], ◌∷◌}
+use Rattle.std.specs.List.{list_any}
+use Rattle.pm_objects.specs.declared.calls.Want.{Want}
+use Rattle.pm_objects.specs.declared.history.TxErr.{TxErr}
+use Rattle.pm_objects.specs.declared.history.TxErr.TheVariants as error
+use Rattle.pm_objects.specs.declared.pool.PoolView.{PoolView}
+use Rattle.pm_model.specs.declared.stage.Stage.{Stage}
+use Rattle.pm_model.specs.declared.stage.Stage.TheVariants as stage
+
+-- a lock that a lane holds: of the object at an offset, for writing or for reading alone
+pub record Lock : Type 0 where
+  pub off : ℕ
+  pub write : Bool
+
+pub record Transaction : Type 0 where
+  -- the pool as the outermost level began, and its copy with what was changed since
+  pub before : PoolView
+  pub pool : PoolView
+  -- how many levels are open, and the stage
+  pub level : ℕ
+  pub stage : Stage
+  -- the locks, one of an object
+  pub locks : List Lock
+  -- the words that were recorded, by their numbers in the pool, and in how many records
+  pub recorded : List ℕ
+  pub records : ℕ
+  pub error : TxErr
+
+-- no transaction is open
+abbrev pub at_rest : PoolView → Transaction
+at_rest pool = record { before = pool; pool = pool; level = 0; stage = stage.None; locks = []; recorded = []; records = 0; error = error.None }
+
+abbrev pub is_working : Stage → Bool
+is_working stage.Work = true
+is_working s = false
+
+-- nothing was aborted
+abbrev pub is_unharmed : TxErr → Bool
+is_unharmed error.None = true
+is_unharmed e = false
+
+-- the locks with one more: an object has one lock, for writing where it was ever wanted so
+unfoldable pub locked : ℕ → Bool → List Lock → List Lock
+locked off write [] = record { off = off; write = write } ∷ []
+locked off write (lock ∷ locks) =
+    if lock.off == off then record { off = off; write = lock.write || write } ∷ locks else lock ∷ locked off write locks
+
+-- the locks with all that are wanted
+unfoldable pub locked_all : List Want → List Lock → List Lock
+locked_all [] locks = locks
+locked_all (want ∷ wants) locks = locked_all wants (locked want.id.off want.write locks)
+
+-- the lock of the object is held, for writing if so asked
+abbrev pub is_locked : List Lock → ℕ → Bool → Bool
+is_locked locks off write = list_any (λ (lock : Lock). lock.off == off && (lock.write || not write)) locks
+
+-- one level more, with the locks that it wants
+abbrev pub begun : List Want → Transaction → Transaction
+begun wants tx = record tx { level = tx.level + 1; stage = stage.Work; locks = locked_all wants tx.locks }
+
+-- the innermost level is committed: at the outermost one the copy is the pool from now on
+abbrev pub committed : Transaction → Transaction
+committed tx = record tx { stage = stage.OnCommit }
+
+-- all of it is given up for this reason. A refused outermost begin leaves level 1
+abbrev pub aborted : TxErr → Transaction → Transaction
+aborted e tx = record tx { pool = tx.before; level = if tx.level == 0 then 1 else tx.level; stage = stage.OnAbort; error = e }
+
+-- an inner level is ended: what is open goes on working, unless it was aborted
+abbrev pub ended_inner : Transaction → Transaction
+ended_inner tx = record tx { level = tx.level - 1; stage = if is_unharmed tx.error then stage.Work else stage.OnAbort }
+
+-- one level less: at the outermost one the locks are given back, and no transaction is open
+abbrev pub ended : Transaction → Transaction
+ended tx = if nat_le tx.level 1 then at_rest tx.pool else ended_inner tx
+
+-- one stage on: in work it commits, at rest it changes nothing
+abbrev pub processed_from : Stage → Transaction → Transaction
+processed_from stage.Work tx = committed tx
+processed_from stage.OnCommit tx = record tx { stage = stage.Finally }
+processed_from stage.OnAbort tx = record tx { stage = stage.Finally }
+processed_from stage.Finally tx = record tx { stage = stage.None }
+processed_from stage.None tx = tx
+
+abbrev pub processed : Transaction → Transaction
+processed tx = processed_from tx.stage tx

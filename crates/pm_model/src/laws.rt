@@ -1,0 +1,79 @@
+ghost use Rattle.std.specs.Prelude.{◌≡◌, ◌≢◌, ◌↔◌, ℕ, Bool, true, false, not, IsTrue, List, filter, MatchOption};
+ghost use Rattle.pm_objects.specs.Pool.{IsPool};
+ghost use Rattle.pm_objects.specs.declared.calls.Operation.{Operation};
+ghost use Rattle.pm_objects.specs.declared.history.TxErr.TheVariants.{None};
+ghost use Rattle.pm_model.specs.Places.{can_begin, CanBegin};
+ghost use Rattle.pm_model.specs.Transaction.{Transaction};
+ghost use Rattle.pm_model.specs.Answers.{changes_nothing, is_known, Answers};
+ghost use Rattle.pm_model.specs.Step.{State, Act, Step};
+ghost use Rattle.pm_model.specs.Framed.{MayBeLeftOut, IsUnwritten};
+ghost use Rattle.pm_model.specs.Names.{Name, content, IsMap, writes, touches, IsFramedCall, Apart, ApartFromAll, Replays};
+ghost use Rattle.pm_model.specs.Shown.{error_of};
+ghost use Rattle.pm_model.specs.Alone.{refusal_alone, answer_alone};
+
+/// A law: a call changes only what it writes, and goes alike from each state that has the same where it touches it. No code runs.
+pub fn calls_have_parts()
+    ensures { (act : Act) → IsFramedCall act }
+{}
+
+/// A law: two neighbours that are apart may change places, with all replies kept. No code runs.
+pub fn apart_calls_change_places()
+    ensures { (a b : Act) (s t u : State) → IsMap s → Apart a b
+        → Step s a t → Step t b u → (m : State) × Step s b m × Step m a u }
+{}
+
+/// A law: a call that is apart from all later ones may come last. No code runs.
+pub fn apart_calls_come_last()
+    ensures { (a : Act) (calls : List Act) (s t u : State) → IsMap s → ApartFromAll a calls
+        → Step s a t → Replays t calls u
+        → (m : State) × Replays s calls m × Step m a u }
+{}
+
+/// A law: a call that came last stands as well before all those from which it is apart. No code runs.
+pub fn late_calls_stand_earlier()
+    ensures { (a : Act) (calls : List Act) (s m u : State) → IsMap s → ApartFromAll a calls
+        → Replays s calls m → Step m a u
+        → (t : State) × Step s a t × Replays t calls u }
+{}
+
+/// A law: calls that are apart from all later ones may be left out; what they don't write ends as before. No code runs.
+pub fn apart_calls_may_be_left_out()
+    ensures { (left_out : Act → Bool) (calls : List Act) (s u : State) → IsMap s
+        → MayBeLeftOut writes touches left_out calls → Replays s calls u
+        → (m : State) × Replays s (filter (λ a. not (left_out a)) calls) m
+        × ((n : Name) → IsUnwritten writes left_out calls n → content m n ≡ content u n) }
+{}
+
+/// A law: a call's replies fix the next state. No code runs.
+pub fn replies_fix_the_next_state()
+    ensures { (act : Act) (s t u : State) → Step s act t → Step s act u → t ≡ u }
+{}
+
+/// A law: a state is known by what it has under each name. No code runs.
+pub fn states_are_known_by_names()
+    ensures { (s t : State) → IsMap s → IsMap t → ((n : Name) → content s n ≡ content t n)
+        → s ≡ t }
+{}
+
+/// A law: a call leaves a pool a pool. No code runs.
+pub fn calls_keep_pools()
+    ensures { (act : Act) (s t : State) → Step s act t → IsPool s.pool → IsPool t.pool }
+{}
+
+/// A law: a call's error is told by its operations, and a call that ended with one changed nothing. No code runs.
+pub fn aborted_calls_change_nothing()
+    ensures error { (act : Act) (s t : State) → (step : Step s act t) → step.last.error ≡ error_of act.told }
+    ensures unchanged { (act : Act) (s t : State) → Step s act t → error_of act.told ≢ None → t ≡ s }
+{}
+
+/// A law: what a lane answers that runs alone is an answer, where its refusal is one that leaves a trace. No code runs.
+pub fn answers_alone_are_answers()
+    ensures { (spent : Bool) (tx : Transaction) (op : Operation) → IsTrue (is_known op)
+        → MatchOption (refusal_alone spent tx op) (Unit {0}) (λ r. changes_nothing r ≡ false)
+        → Answers tx op (answer_alone spent tx op) }
+{}
+
+/// A law: a block can begin before an offset exactly where whole chunks or a block of a run can. No code runs.
+pub fn blocks_begin_at_chunks_and_in_runs()
+    ensures { (lanes zones off : ℕ) → (can_begin lanes zones off ≡ true) ↔ CanBegin lanes zones off }
+{}

@@ -1,0 +1,5 @@
+pub mod DigitByDigit
+pub mod LineStarts
+pub mod Objects
+pub mod Pieces
+pub mod Putting

@@ -1,0 +1,143 @@
+use super::*;
+use pm_objects::{Object, PoolView, Sequence};
+use pm_shelf::{FailingSink, ListSink, SinkFault};
+use std::alloc::{AllocError, Global};
+use std::test::Fail;
+
+fn object(alloc: Global, kind: u64, bytes: &[u8], members: &[u64]) -> Result<Object, AllocError> {
+    Ok(Object {
+        kind,
+        bytes: Sequence::from_vec(Vec::from_slice(alloc, bytes)?),
+        members: Sequence::from_vec(Vec::from_slice(alloc, members)?),
+    })
+}
+
+fn pool(
+    alloc: Global,
+    root: Option<u64>,
+    objects: Vec<(u64, Object)>,
+) -> Result<PoolView, AllocError> {
+    Ok(PoolView {
+        id: 7,
+        name: Sequence::from_vec(Vec::from_slice(alloc, b"notes")?),
+        lanes: 1,
+        zones: 1,
+        objects: Sequence::from_vec(objects),
+        root,
+    })
+}
+
+/// So many bytes: these at their place, and zeros around them.
+fn bytes_with(alloc: Global, size: usize, at: usize, others: &[u8]) -> Result<Vec<u8>, AllocError> {
+    let mut bytes = vec![in alloc; 0u8; at]?;
+    bytes.extend_from_slice(others)?;
+    bytes.resize(size, 0)?;
+    Ok(bytes)
+}
+
+#[test]
+fn a_pool_without_a_root(rt: HostRuntime) -> Result<(), Fail> {
+    let empty = pool(rt.alloc(), None, vec![in rt.alloc()]?)?;
+    let text = dump_text(rt.alloc(), &empty)?;
+    assert_eq!(rt; text.as_slice(), b"root none\n".as_slice());
+    Ok(())
+}
+
+/// A root at 16512 of so many bytes, all 0 but for some at a place, and the lines that its bytes make.
+#[test]
+fn data_of_a_root(rt: HostRuntime) -> Result<(), Fail> {
+    for (size, at, others, data) in [
+        (64, 0, b"".as_slice(), ""),
+        (
+            64,
+            0,
+            b"\x01\x02\x03\x04\x05\x06\x07\x08".as_slice(),
+            "data 0 01020304050607080000000000000000\n",
+        ),
+        (
+            64,
+            63,
+            b"\xff".as_slice(),
+            "data 48 000000000000000000000000000000ff\n",
+        ),
+        (
+            20,
+            15,
+            b"\x9a\xa9\xf0\x0f\x10".as_slice(),
+            "data 0 0000000000000000000000000000009a\ndata 16 a9f00f10\n",
+        ),
+        (17, 15, b"\x00\x0a".as_slice(), "data 16 0a\n"),
+    ] {
+        let bytes = bytes_with(rt.alloc(), size, at, others)?;
+        let root = object(rt.alloc(), 0, bytes.as_slice(), &[])?;
+        let view = pool(rt.alloc(), Some(16512), vec![in rt.alloc(); (16512, root)]?)?;
+        let text = dump_text(rt.alloc(), &view)?;
+        let want = format!(in rt.alloc(); "root 16512\nobject 16512 type 0 size {size}\n{data}")?;
+        assert_eq!(rt;
+            text.as_slice(),
+            want.as_bytes(),
+            "{size} bytes, from {at} on"
+        );
+    }
+    Ok(())
+}
+
+#[test]
+fn objects_with_types_and_members(rt: HostRuntime) -> Result<(), Fail> {
+    let list = object(rt.alloc(), 3, &[0], &[16640, 16768])?;
+    let member = object(rt.alloc(), u64::MAX, &[0xde, 0xad], &[])?;
+    let view = pool(
+        rt.alloc(),
+        Some(16512),
+        vec![in rt.alloc(); (16512, list), (16640, member)]?,
+    )?;
+    let text = dump_text(rt.alloc(), &view)?;
+    assert_eq!(rt;
+        text.as_slice(),
+        concat!(
+            "root 16512\n",
+            "object 16512 type 3 size 1\n",
+            "members 16640 16768\n",
+            "object 16640 type 18446744073709551615 size 2\n",
+            "data 0 dead\n",
+        )
+        .as_bytes()
+    );
+    Ok(())
+}
+
+#[test]
+fn a_sink_gets_the_text(rt: HostRuntime) -> Result<(), Fail> {
+    for text in ["", "\n", "one line\n", "one\ntwo\n\nno end"] {
+        let mut sink = ListSink::new(rt.alloc());
+        assert_eq!(rt; put_lines(text.as_bytes(), &mut sink), Ok(()), "{text}");
+        assert_eq!(rt; sink.bytes(), text.as_bytes(), "{text}");
+    }
+    Ok(())
+}
+
+/// The puts that fail, by their numbers, in a text of three lines, what the answer is and what is put: each put is one line.
+#[test]
+fn each_put_is_one_line(rt: HostRuntime) -> Result<(), Fail> {
+    for (failing, want, put) in [
+        (0, Err(SinkFault::Failed), ""),
+        (1, Err(SinkFault::Failed), "one\n"),
+        (2, Err(SinkFault::Failed), "one\ntwo\n"),
+        (3, Ok(()), "one\ntwo\nthree\n"),
+    ] {
+        let mut sink = FailingSink::new(rt.alloc(), vec![in rt.alloc(); failing]?);
+        assert_eq!(rt;
+            put_lines(b"one\ntwo\nthree\n", &mut sink),
+            want,
+            "put {failing} fails"
+        );
+        assert_eq!(rt; sink.bytes(), put.as_bytes(), "put {failing} fails");
+    }
+    let mut sink = FailingSink::new(rt.alloc(), vec![in rt.alloc(); 0]?);
+    assert_eq!(rt;
+        put_lines(b"", &mut sink),
+        Ok(()),
+        "no put for an empty text"
+    );
+    Ok(())
+}

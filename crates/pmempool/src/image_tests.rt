@@ -1,0 +1,474 @@
+//! Pools with words changed by hand, each with the text that docs/FORMAT.md's table of faults gives it.
+use crate::status::Status;
+use crate::tests::run;
+use pm_shelf::{ListSink, MapShelf, Shelf};
+use std::alloc::Global;
+use std::process::Abort;
+use std::test::Fail;
+
+const DEMO: &str = "create p --lanes 1 --zones 1 --id 7 --layout demo --root 64";
+
+const LARGE: &str = "create p --lanes 1 --zones 1 --id 7 --layout demo --root 4032";
+
+const TWO_LANES: &str = "create p --lanes 2 --zones 1 --id 7 --layout demo --root 64";
+
+/// What is shown of the demo pool as it was made.
+const SHOWN: &str = "root 16512\nobject 16512 type 0 size 64\n";
+
+/// The bytes of a pool that the line makes.
+fn pool(alloc: Global, line: &str) -> Result<Vec<u8>, Fail> {
+    let mut shelf = MapShelf::new(alloc);
+    let mut out = ListSink::new(alloc);
+    let status = run(alloc, line, &mut shelf, &mut out)?;
+    if status != Status::Done {
+        return Err(Fail::from("the pool is made"));
+    }
+    let bytes = shelf.get("p").ok_or("the pool is there")?;
+    Ok(bytes.to_vec(alloc)?)
+}
+
+/// Makes the word at this place another number.
+fn put(bytes: &mut [u8], place: usize, value: u64) {
+    for (i, byte) in value.to_le_bytes().into_iter().enumerate() {
+        if i < 8 && place < bytes.len() && i < bytes.len() - place {
+            bytes[place + i] = byte;
+        }
+    }
+}
+
+/// Shows the file and compares the status and the text; the file stays.
+fn shows(
+    rt: &impl Abort,
+    alloc: Global,
+    bytes: &[u8],
+    code: u8,
+    text: &str,
+    what: usize,
+) -> Result<(), Fail> {
+    let mut shelf = MapShelf::new(alloc);
+    shelf.write("f", bytes).ok().ok_or("a new name")?;
+    let mut out = ListSink::new(alloc);
+    let status = run(alloc, "dump f", &mut shelf, &mut out)?;
+    assert_eq!(rt; out.bytes(), text.as_bytes(), "at {what}");
+    assert_eq!(rt; status.code(), code, "at {what}");
+    assert!(rt; shelf.get("f") == Some(bytes), "at {what}");
+    Ok(())
+}
+
+/// Shows the pool with these words changed.
+fn shows_changed(
+    rt: &impl Abort,
+    alloc: Global,
+    pool: &[u8],
+    words: &[(usize, u64)],
+    code: u8,
+    text: &str,
+) -> Result<(), Fail> {
+    let mut bytes = pool.to_vec(alloc)?;
+    let mut what = 0;
+    for (place, value) in words {
+        put(&mut bytes, *place, *value);
+        what = *place;
+    }
+    shows(rt, alloc, &bytes, code, text, what)
+}
+
+/// Lengths around those of the least, the next and the greatest pool: zeros of a pool's length are no pool.
+#[test]
+fn lengths(rt: HostRuntime) -> Result<(), Fail> {
+    let alloc = rt.alloc();
+    for length in [
+        0, 1, 7, 8, 4096, 278_520, 278_527, 278_529, 278_536, 286_719, 286_721, 544_767, 544_769,
+    ] {
+        let text = format!(in alloc; "refused Size {length}\n")?;
+        shows(&rt, alloc, &vec![in alloc; 0; length]?, 1, &text, length)?;
+    }
+    for length in [278_528, 286_720, 544_768] {
+        shows(
+            &rt,
+            alloc,
+            &vec![in alloc; 0; length]?,
+            1,
+            "refused NotPool\n",
+            length,
+        )?;
+    }
+    shows(
+        &rt,
+        alloc,
+        &vec![in alloc; 0; 8_785_921]?,
+        3,
+        "too long f\n",
+        0,
+    )?;
+    let made = pool(alloc, DEMO)?;
+    shows(&rt, alloc, &made, 0, SHOWN, 0)?;
+    let short = made.get(..278_527).ok_or("a pool is longer")?;
+    shows(&rt, alloc, short, 1, "refused Size 278527\n", 0)
+}
+
+/// Each word of the header and name lines changed: in the main pair, in the copy, and in both. The other words of the page are not looked at.
+#[test]
+fn header_words(rt: HostRuntime) -> Result<(), Fail> {
+    let alloc = rt.alloc();
+    let made = pool(alloc, DEMO)?;
+    for word in 0..16 {
+        let (main, copy) = (8 * word, 2048 + 8 * word);
+        let both = if word == 0 {
+            "refused NotPool\n"
+        } else {
+            "refused HeaderBoth\n"
+        };
+        shows_changed(&rt, alloc, &made, &[(main, 77)], 1, "refused HeaderMain\n")?;
+        shows_changed(&rt, alloc, &made, &[(copy, 77)], 1, "refused HeaderCopy\n")?;
+        shows_changed(&rt, alloc, &made, &[(main, 77), (copy, 77)], 1, both)?;
+    }
+    for place in [128, 504, 520, 2040, 2176, 4088] {
+        shows_changed(&rt, alloc, &made, &[(place, 77)], 0, SHOWN)?;
+    }
+    let other = pool(
+        alloc,
+        "create p --lanes 1 --zones 1 --id 8 --layout demo --root 64",
+    )?;
+    let mut mixed = made.to_vec(alloc)?;
+    for (i, byte) in other.iter().enumerate() {
+        if (2048..2176).contains(&i) && i < mixed.len() {
+            mixed[i] = *byte;
+        }
+    }
+    shows(&rt, alloc, &mixed, 1, "refused HeaderDiffer\n", 0)?;
+    let two = pool(alloc, TWO_LANES)?;
+    let mut other_shape = made.to_vec(alloc)?;
+    for (i, byte) in two.iter().enumerate() {
+        if (i < 128 || (2048..2176).contains(&i)) && i < other_shape.len() {
+            other_shape[i] = *byte;
+        }
+    }
+    shows(&rt, alloc, &other_shape, 1, "refused Shape\n", 0)
+}
+
+/// The generation and the seal.
+#[test]
+fn lane_words(rt: HostRuntime) -> Result<(), Fail> {
+    let alloc = rt.alloc();
+    let made = pool(alloc, DEMO)?;
+    for generation in [0, (1 << 62) + 1, u64::MAX] {
+        shows_changed(
+            &rt,
+            alloc,
+            &made,
+            &[(4096, generation)],
+            1,
+            "refused Lane 0\n",
+        )?;
+    }
+    for generation in [2, 1 << 62] {
+        shows_changed(&rt, alloc, &made, &[(4096, generation)], 0, SHOWN)?;
+    }
+    for seal in [1, 2, 64, 65, u64::MAX] {
+        shows_changed(&rt, alloc, &made, &[(4104, seal)], 1, "refused Lane 0\n")?;
+    }
+    let two = pool(alloc, TWO_LANES)?;
+    shows_changed(&rt, alloc, &two, &[(12_288, 0)], 1, "refused Lane 1\n")?;
+    shows_changed(
+        &rt,
+        alloc,
+        &two,
+        &[(4104, 65), (12_296, 65)],
+        1,
+        "refused Lane 0\n",
+    )
+}
+
+/// Each entry's words and each slot's first and last word: without a seal no entry counts, and a slot without its sum is torn.
+#[test]
+fn log_words(rt: HostRuntime) -> Result<(), Fail> {
+    let alloc = rt.alloc();
+    let made = pool(alloc, DEMO)?;
+    for entry in 0..64 {
+        let first = 4160 + 16 * entry;
+        shows_changed(
+            &rt,
+            alloc,
+            &made,
+            &[(first, 16_512), (first + 8, 5)],
+            0,
+            SHOWN,
+        )?;
+    }
+    for slot in 0..64 {
+        let first = 5184 + 64 * slot;
+        shows_changed(&rt, alloc, &made, &[(first, 1), (first + 56, 1)], 0, SHOWN)?;
+    }
+    Ok(())
+}
+
+/// The sum of seven words is worked out as docs/FORMAT.md says: halves and running halves.
+fn sum_of(words: [u64; 7]) -> u64 {
+    let (mut low, mut high) = (0u32, 0u32);
+    for word in words {
+        for half in [word % (1 << 32), word / (1 << 32)] {
+            if half < 1 << 32 {
+                low = low.wrapping_add(half as u32);
+                high = high.wrapping_add(low);
+            }
+        }
+    }
+    u64::from(high) * (1 << 32) + u64::from(low)
+}
+
+/// The words of a slot with this record, at this place of the pool.
+fn record_at(at: usize, words: [u64; 7]) -> [(usize, u64); 8] {
+    let [a, b, c, d, e, f, g] = words;
+    let sum = sum_of(words);
+    if at > 1 << 32 {
+        return [(0, 0); 8];
+    }
+    [
+        (at, a),
+        (at + 8, b),
+        (at + 16, c),
+        (at + 24, d),
+        (at + 32, e),
+        (at + 40, f),
+        (at + 48, g),
+        (at + 56, sum),
+    ]
+}
+
+/// Valid undo records: what they restore, and what is wrong with others.
+#[test]
+fn undo_records(rt: HostRuntime) -> Result<(), Fail> {
+    let alloc = rt.alloc();
+    let made = pool(alloc, DEMO)?;
+    let slot = 5184;
+    let restored =
+        "root 16512\nobject 16512 type 0 size 64\ndata 0 ff000000000000000100000000000000\n";
+    let table = [
+        (slot, [1, 16_512, 2, 255, 1, 0, 0], 0, restored),
+        (slot + 64 * 63, [1, 16_512, 2, 255, 1, 0, 0], 0, restored),
+        (slot, [2, 16_512, 2, 255, 1, 0, 0], 0, SHOWN),
+        (slot, [0, 16_512, 2, 255, 1, 0, 0], 0, SHOWN),
+        (
+            slot,
+            [1, 16_448, 1, 9, 0, 0, 0],
+            0,
+            "root 16512\nobject 16512 type 9 size 64\n",
+        ),
+        (
+            slot,
+            [1, 16_512, 0, 0, 0, 0, 0],
+            1,
+            "refused Undo lane 0 slot 0\n",
+        ),
+        (
+            slot,
+            [1, 16_512, 5, 0, 0, 0, 0],
+            1,
+            "refused Undo lane 0 slot 0\n",
+        ),
+        (
+            slot,
+            [1, 16_513, 1, 0, 0, 0, 0],
+            1,
+            "refused Undo lane 0 slot 0\n",
+        ),
+        (
+            slot,
+            [1, 4096, 1, 1, 0, 0, 0],
+            1,
+            "refused Undo lane 0 slot 0\n",
+        ),
+        (
+            slot,
+            [1, 12_288, 1, 513, 0, 0, 0],
+            1,
+            "refused Undo lane 0 slot 0\n",
+        ),
+        (
+            slot,
+            [1, 512, 1, 0, 0, 0, 0],
+            1,
+            "refused Undo lane 0 slot 0\n",
+        ),
+        (
+            slot,
+            [1, 278_512, 3, 0, 0, 0, 0],
+            1,
+            "refused Undo lane 0 slot 0\n",
+        ),
+        (slot, [1, 278_512, 2, 0, 0, 0, 0], 0, SHOWN),
+        (
+            slot + 64 * 5,
+            [1, 16_376, 1, 0, 0, 0, 0],
+            1,
+            "refused Undo lane 0 slot 5\n",
+        ),
+        (
+            slot,
+            [1, 16_456, 1, 65, 0, 0, 0],
+            1,
+            "refused Block 16512\n",
+        ),
+    ];
+    for (at, words, code, text) in table {
+        shows_changed(&rt, alloc, &made, &record_at(at, words), code, text)?;
+    }
+    let mut twice = made.to_vec(alloc)?;
+    for (place, value) in record_at(slot, [1, 16_512, 2, 0, 0, 0, 0]) {
+        put(&mut twice, place, value);
+    }
+    shows_changed(
+        &rt,
+        alloc,
+        &twice,
+        &record_at(slot + 64, [1, 16_520, 1, 0, 0, 0, 0]),
+        1,
+        "refused Clash 16520\n",
+    )?;
+    shows_changed(
+        &rt,
+        alloc,
+        &twice,
+        &record_at(slot + 64, [1, 16_528, 1, 7, 0, 0, 0]),
+        0,
+        "root 16512\nobject 16512 type 0 size 64\ndata 16 07000000000000000000000000000000\n",
+    )?;
+    shows_changed(&rt, alloc, &made, &[(4096, 1 << 62)], 0, SHOWN)?;
+    let mut last = made.to_vec(alloc)?;
+    put(&mut last, 4096, 1 << 62);
+    shows_changed(
+        &rt,
+        alloc,
+        &last,
+        &record_at(slot, [1 << 62, 16_512, 1, 0, 0, 0, 0]),
+        1,
+        "refused Undo lane 0 slot 0\n",
+    )
+}
+
+/// Each descriptor but the first, with one that is in the table.
+#[test]
+fn descriptors(rt: HostRuntime) -> Result<(), Fail> {
+    let alloc = rt.alloc();
+    let made = pool(alloc, DEMO)?;
+    for chunk in 1..64 {
+        let text = format!(in alloc; "refused Chunk 0 {chunk}\n")?;
+        shows_changed(&rt, alloc, &made, &[(12_288 + 8 * chunk, 513)], 1, &text)?;
+    }
+    for descriptor in [1, 514, 1537, u64::MAX] {
+        shows_changed(
+            &rt,
+            alloc,
+            &made,
+            &[(12_296, descriptor)],
+            1,
+            "refused Chunk 0 1\n",
+        )?;
+    }
+    for descriptor in [1, 2, 257, 258 + 256 * 64, 1537, 512, 513 + (1 << 32)] {
+        shows_changed(
+            &rt,
+            alloc,
+            &made,
+            &[(12_288, descriptor)],
+            1,
+            "refused Chunk 0 0\n",
+        )?;
+    }
+    Ok(())
+}
+
+/// Each bit of the bitmap but the first.
+#[test]
+fn bitmap_bits(rt: HostRuntime) -> Result<(), Fail> {
+    let alloc = rt.alloc();
+    let made = pool(alloc, DEMO)?;
+    for bit in 1u64..64 {
+        shows_changed(
+            &rt,
+            alloc,
+            &made,
+            &[(16_384, 1 | 1 << bit)],
+            1,
+            "refused Bitmap 0 0\n",
+        )?;
+    }
+    Ok(())
+}
+
+/// Each word of the block's header line, words of the data, and the root's word.
+#[test]
+fn block_words(rt: HostRuntime) -> Result<(), Fail> {
+    let alloc = rt.alloc();
+    let made = pool(alloc, DEMO)?;
+    let table = [
+        (16_448, 3, 0, "root 16512\nobject 16512 type 3 size 64\n"),
+        (
+            16_448,
+            u64::MAX,
+            0,
+            "root 16512\nobject 16512 type 18446744073709551615 size 64\n",
+        ),
+        (16_456, 0, 1, "refused Block 16512\n"),
+        (16_456, 1, 0, "root 16512\nobject 16512 type 0 size 1\n"),
+        (16_456, 65, 1, "refused Block 16512\n"),
+        (16_456, 262_081, 1, "refused Block 16512\n"),
+        (16_464, 16_512, 1, "refused Link 16512\n"),
+        (16_472, 1, 1, "refused Link 16512\n"),
+        (16_480, 16_512, 1, "refused Link 16512\n"),
+        (16_488, 16_512, 1, "refused Link 16512\n"),
+        (16_496, 1, 1, "refused Block 16512\n"),
+        (16_504, 1, 1, "refused Block 16512\n"),
+        (
+            16_560,
+            1,
+            0,
+            "root 16512\nobject 16512 type 0 size 64\ndata 48 01000000000000000000000000000000\n",
+        ),
+        (16_576, 1, 0, SHOWN),
+        (512, 0, 0, "root none\nobject 16512 type 0 size 64\n"),
+        (512, 16_640, 1, "refused Root 16640\n"),
+        (512, 16_448, 1, "refused Root 16448\n"),
+        (16_384, 0, 1, "refused Root 16512\n"),
+        (12_288, 0, 1, "refused Root 16512\n"),
+        (12_288, 769, 1, "refused Block 16512\n"),
+        (12_800, 5, 0, SHOWN),
+    ];
+    for (place, value, code, text) in table {
+        shows_changed(&rt, alloc, &made, &[(place, value)], code, text)?;
+    }
+    let large = pool(alloc, LARGE)?;
+    shows(
+        &rt,
+        alloc,
+        &large,
+        0,
+        "root 16448\nobject 16448 type 0 size 4032\n",
+        0,
+    )?;
+    shows_changed(
+        &rt,
+        alloc,
+        &large,
+        &[(12_288, 514)],
+        1,
+        "refused Block 16448\n",
+    )?;
+    shows_changed(
+        &rt,
+        alloc,
+        &large,
+        &[(12_288, 514), (12_296, 2)],
+        1,
+        "refused Chunk 0 0\n",
+    )?;
+    shows_changed(
+        &rt,
+        alloc,
+        &large,
+        &[(20_472, 1 << 56)],
+        0,
+        "root 16448\nobject 16448 type 0 size 4032\ndata 4016 00000000000000000000000000000001\n",
+    )
+}
