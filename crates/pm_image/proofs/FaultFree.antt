@@ -12,17 +12,18 @@ use Rattle.pm_image.specs.Narrowings.{takes_links}
 use Rattle.pm_image.proofs.Finding.{found_nothing}
 use Rattle.pm_image.proofs.Members.{none_passes}
 
-neither : {X : Type 0} (a b : Option X) → option_or a b ≡ None → (a ≡ None) × (b ≡ None)
+pub neither : {X : Type 0} (a b : Option X) → option_or a b ≡ None → (a ≡ None) × (b ≡ None)
 neither None b none = (refl, none)
 neither (Some x) b none = absurd cc
 
 -- the parts of the heap's fault that are read one by one
-record NoFaults (w : ℕ → ℕ) (lanes zones : ℕ) : Type 0 where
-  chunks : chunk_fault w lanes zones ≡ None
-  sizes : block_fault w (blocks w lanes zones) ≡ None
-  links : link_fault w (blocks w lanes zones) ≡ None
+pub record NoFaults (w : ℕ → ℕ) (lanes zones : ℕ) : Type 0 where
+  pub chunks : chunk_fault w lanes zones ≡ None
+  pub sizes : block_fault w (blocks w lanes zones) ≡ None
+  pub links : link_fault w (blocks w lanes zones) ≡ None
+  pub root : root_fault w (blocks w lanes zones) ≡ None
 
-no_faults : (w : ℕ → ℕ) (lanes zones : ℕ) → heap_fault w lanes zones ≡ None → NoFaults w lanes zones
+pub no_faults : (w : ℕ → ℕ) (lanes zones : ℕ) → heap_fault w lanes zones ≡ None → NoFaults w lanes zones
 unfolding heap_fault
 no_faults w lanes zones none =
     let bs : List Block = blocks w lanes zones in
@@ -31,7 +32,7 @@ no_faults w lanes zones none =
     let second = neither (bitmap_fault w lanes zones) (option_or (block_fault w bs) after_links) first.1 in
     let third = neither (block_fault w bs) after_links second.1 in
     let fourth = neither (link_fault w bs) (root_fault w bs) third.1 in
-    record { chunks = first.0; sizes = third.0; links = fourth.0 }
+    record { chunks = first.0; sizes = third.0; links = fourth.0; root = fourth.1 }
 
 not_not : (b : Bool) → not b ≡ false → b ≡ true
 not_not true is = refl

@@ -43,11 +43,11 @@ of_chunks word chunks room block fits there =
     subst (StandsBetween word (word + 512 * room)) (only_member whole block there) stands
 
 -- the chunks of a good descriptor are in its zone
-passed : (b z t : Bool) → cond (cond b z false) t true ≡ false → b ≡ true
+pub passed : (b z t : Bool) → cond (cond b z false) t true ≡ false → b ≡ true
 passed true z t is = refl
 passed false z t is = absurd (false≢true (sym is))
 
-chunks_fit : (w : ℕ → ℕ) (lanes c chunks : ℕ) → bad_chunk w lanes c ≡ false → class_in (w (descriptor_word lanes c)) ≡ Some (Chunks chunks) → c % 64 + chunks ≤ 64
+pub chunks_fit : (w : ℕ → ℕ) (lanes c chunks : ℕ) → bad_chunk w lanes c ≡ false → class_in (w (descriptor_word lanes c)) ≡ Some (Chunks chunks) → c % 64 + chunks ≤ 64
 unfolding bad_chunk
 chunks_fit w lanes c chunks good class =
     let at : ℕ = descriptor_word lanes c in

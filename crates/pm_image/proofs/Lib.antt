@@ -21,3 +21,5 @@ pub mod LocalMeaning
 pub mod Rooms
 pub mod HeapWords
 pub mod SameReads
+pub mod Ordered
+pub mod Pools

@@ -20,7 +20,7 @@ last_of true t h = h
 last_of false t h = absurd (false≢true h)
 
 -- an object whose links are taken has no member
-first_none : (w : ℕ → ℕ) (block : Block) → takes_links w block ≡ true → first_in w block ≡ 0
+pub first_none : (w : ℕ → ℕ) (block : Block) → takes_links w block ≡ true → first_in w block ≡ 0
 first_none w block taken =
     eqb-true (header_word w block 5) 0 (last_of (eqb (header_word w block 2) 0 && eqb (header_word w block 3) 0 && eqb (header_word w block 4) 0) (eqb (header_word w block 5) 0) taken)
 

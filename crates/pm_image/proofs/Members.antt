@@ -1,7 +1,7 @@
 -- Lists by their members: tests and functions that agree on each member give the same, and where a member of a list comes from.
-use Rattle.std.proofs.Common.{◌≡◌, ◌⊎◌, inl, inr, ℕ, zero, suc, ◌+◌, ◌<◌, ◌≤◌, Bool, true, false, cond, List, [], ◌∷◌, ◌&&◌, map, get_or, Some, None, refl, sym, ◌∙◌, ap, arith}
+use Rattle.std.proofs.Common.{◌≡◌, ◌⊎◌, inl, inr, ℕ, zero, suc, ◌+◌, ◌<◌, ◌≤◌, Bool, true, false, cond, List, [], ◌∷◌, ◌&&◌, length, map, get_or, Some, None, refl, sym, ◌∙◌, ap, subst, arith, zero-add}
 use Rattle.std.specs.List.{Contains, filter, find, flat_map, list_all, range_with_len}
-use Rattle.std.proofs.lemmas.List.Elements.{Contains-append_cases, Contains-append_right}
+use Rattle.std.proofs.lemmas.List.Elements.{Contains-get_or, Contains-append_cases, Contains-append_right}
 use Rattle.std.proofs.lemmas.List.FromFn.{length-range_with_len, get_or-range_with_len}
 
 pub first_member : {X : Type 0} (x : X) (xs : List X) → Contains (x ∷ xs) x
@@ -72,3 +72,10 @@ member_kept {X = X} p (x ∷ xs) y there = go (p x) there (member_kept p xs y) w
   go : (b : Bool) → Contains (cond b (x ∷ filter p xs) (filter p xs)) y → (Contains (filter p xs) y → Contains xs y) → Contains (x ∷ xs) y
   go true kept rest = elim (member_cases x (filter p xs) y kept) [ inl here ↦ (0, omega arith, here) | inr later ↦ later_member x xs y (rest later) ]
   go false kept rest = later_member x xs y (rest kept)
+
+-- a number below the end is one of a range's
+pub range_member : (n k : ℕ) → k < n → Contains (range_with_len 0 n) k
+range_member n k inside =
+    let near : k < length (range_with_len 0 n) = omega (arith, length-range_with_len 0 n) in
+    let there = Contains-get_or (range_with_len 0 n) k 0 near in
+    subst (Contains (range_with_len 0 n)) (get_or-range_with_len 0 n k 0 inside ∙ zero-add k) there

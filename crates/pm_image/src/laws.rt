@@ -1,4 +1,5 @@
 ghost use Rattle.std.specs.Prelude.{◌≡◌, ◌<◌, ◌≤◌, ℕ, List, length, None};
+ghost use Rattle.pm_objects.specs.Pool.{IsPool};
 ghost use Rattle.pm_objects.specs.declared.pool.PoolView.{PoolView};
 ghost use Rattle.pm_image.specs.declared.block.Block.{Block};
 ghost use Rattle.pm_image.specs.declared.fault.ImageFault.{ImageFault};
@@ -51,4 +52,10 @@ pub fn one_meaning_per_image()
     ensures pools { (image : List ℕ) (pool other : PoolView) → IsMeaning image pool → IsMeaning image other → pool ≡ other }
     ensures faults { (image : List ℕ) (found other : ImageFault) → IsImageFault image found → IsImageFault image other → found ≡ other }
     ensures not_both { (image : List ℕ) (pool : PoolView) (found : ImageFault) → IsMeaning image pool → ¬ IsImageFault image found }
+{}
+
+/// A law: what an image means is a pool: its objects are a finite map in rising offsets, no two blocks overlap, and the root is there. No
+/// code runs.
+pub fn meanings_are_pools()
+    ensures { (image : List ℕ) (pool : PoolView) → IsMeaning image pool → IsPool pool }
 {}

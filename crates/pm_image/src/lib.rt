@@ -23,7 +23,7 @@ pub use fault::{ImageFault, MeansFault};
 pub use fault_text::text_of_fault;
 pub use laws::{
     agreement_goes_back, contents_are_local, heaps_are_local, meanings_are_local,
-    meanings_read_the_heap, one_meaning_per_image, recovered_words_are_local,
+    meanings_are_pools, meanings_read_the_heap, one_meaning_per_image, recovered_words_are_local,
     recovered_words_in_place,
 };
 pub use meaning::{blocks, means};

@@ -1,0 +1,16 @@
+pub mod Alone
+pub mod Choosing
+pub mod Counting
+pub mod Finding
+pub mod HeldLocks
+pub mod Imaging
+pub mod Leasts
+pub mod Locking
+pub mod Making
+pub mod Numbering
+pub mod Passing
+pub mod Runs
+pub mod Seeing
+pub mod TakingBack
+pub mod Touching
+pub mod Unlocked

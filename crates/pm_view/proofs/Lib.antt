@@ -1,0 +1,4 @@
+pub mod Finding
+pub mod Forming
+pub mod SameLane
+pub mod Sequences

@@ -1,0 +1,46 @@
+-- Counted calls, the lane's stop number, and the bounds on undrained changes.
+use Rattle.std.specs.Prelude.{◌≡◌, ℕ, ◌+◌, ◌<◌, ◌≤◌, Bool, true, false, if◌then◌else◌, IsTrue, Any, List, [], ◌∷◌, length, IsSomeAnd}
+use Rattle.std.specs.Option.{ForSome}
+use Rattle.pm_view.specs.declared.change.Change.{Change}
+use Rattle.pm_view.specs.Changes.{is_in_line}
+use Rattle.pm_view.specs.Steps.{Step}
+use Rattle.pm_view.specs.Steps.Step.{Store, Or, And, Flush, Drain}
+use Rattle.pm_view.specs.View.{View}
+
+-- the step is a counted call: a memory call other than a load
+abbrev pub is_counted : Step → Bool
+is_counted (Store w x) = true
+is_counted (Or w bits found) = true
+is_counted (And w bits found) = true
+is_counted (Flush line) = true
+is_counted Drain = true
+is_counted s = false
+
+-- the counted calls among these steps
+unfoldable pub counted : List Step → ℕ
+counted [] = 0
+counted (s ∷ steps) = (if is_counted s then 1 else 0) + counted steps
+
+-- the lane may make one more counted call
+abbrev pub MayCount : View → Type 0
+MayCount v = ForSome v.stop (λ stop. v.calls < stop)
+
+-- the lane made as many counted calls as its stop number says
+abbrev pub IsAtStop : View → Type 0
+IsAtStop v = IsSomeAnd v.stop (λ stop. stop ≤ v.calls)
+
+-- so many changes of a lane may be undrained
+abbrev pub max_changes : ℕ
+max_changes = 512
+
+-- one more change has room
+abbrev pub HasRoom : List Change → Type 0
+HasRoom changes = length changes < max_changes
+
+-- a flush of the line is not idle: it has an unflushed change
+abbrev pub FlushesSome : ℕ → List Change → Type 0
+FlushesSome line changes = Any (λ (c : Change). IsTrue (is_in_line line c) × (c.flushed ≡ false)) changes
+
+-- a drain is not idle
+abbrev pub DrainsSome : List Change → Type 0
+DrainsSome changes = 0 < length changes

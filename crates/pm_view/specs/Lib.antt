@@ -1,0 +1,14 @@
+pub mod Area
+pub mod Bits
+pub mod Blocks
+pub mod Changes
+pub mod Constants
+pub mod Counts
+pub mod Founds
+pub mod Held
+pub mod Log
+pub mod Rights
+pub mod Steps
+pub mod Survivors
+pub mod View
+pub mod Views

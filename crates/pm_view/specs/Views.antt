@@ -1,0 +1,124 @@
+-- What each step does to a lane's view.
+use Rattle.std.specs.Prelude.{ℕ, ◌+◌, ◌==◌, Bool, true, false, not, if◌then◌else◌, List, [], ◌∷◌, ◌++◌, map, slice_index, slice_set, Option, Some, None, is_some, bit_and, bit_or}
+use Rattle.std.specs.List.{filter}
+use Rattle.pm_objects.specs.declared.calls.Operation.{Operation}
+use Rattle.pm_objects.specs.declared.history.Value.{Value}
+use Rattle.std.specs.Int.{bit_not, w64}
+use Rattle.pm_view.specs.declared.change.Change.{Change}
+use Rattle.pm_view.specs.declared.occ.Occ.{Occ}
+use Rattle.pm_view.specs.Area.{part_of}
+use Rattle.pm_view.specs.Blocks.{allocation_word, block_at, is_word}
+use Rattle.pm_view.specs.Changes.{store_change, or_change, and_change, flushed, drained}
+use Rattle.pm_view.specs.Held.{is_held}
+use Rattle.pm_objects.specs.declared.calls.Operation.TheVariants.{Reserve, DeferFree, SetValue, Publish, Cancel}
+use Rattle.pm_objects.specs.declared.history.Value.TheVariants.{Offset}
+use Rattle.pm_view.specs.declared.occ.Occ.TheVariants.{Run, Zone}
+use Rattle.pm_view.specs.Log.{Log, Phase, no_log, log_stored, log_changed, log_drained, log_drawn}
+use Rattle.pm_view.specs.Log.Phase.{Idle, Open}
+use Rattle.pm_view.specs.Steps.{Step}
+use Rattle.pm_view.specs.Steps.Step.{Load, Store, Or, And, Flush, Drain, TakeWrite, TakeRead, Raise, Give, ZoneTry, ZoneGive, Occupied, Occupy, Vacate, Draw, NumberSeen, StopSeen, SetStop, Tell}
+use Rattle.pm_view.specs.View.{View, Lock, Taken, Told}
+
+-- the step told something
+abbrev pub with_seen : Step → View → View
+with_seen s v = record v { seen = v.seen ++ s ∷ [] }
+
+-- what a load of the word that tells of a block says of a lock
+abbrev pub with_block : ℕ → List ℕ → ℕ → Lock → Lock
+with_block lanes words w lock = if is_word (allocation_word lanes words lock.line) w then record lock { block = block_at lanes words lock.line } else lock
+
+-- x was found in the word
+abbrev pub loaded : View → ℕ → ℕ → View
+loaded v w x = record v {
+  words = slice_set v.words w x;
+  known = if is_held v w then w ∷ v.known else v.known;
+  locks = map (with_block v.lanes (slice_set v.words w x) w) v.locks;
+}
+
+-- the word became x by this change, and the log this
+abbrev pub changed : View → ℕ → ℕ → Change → Log → View
+changed v w x c log = record v { words = slice_set v.words w x; known = w ∷ v.known; changes = v.changes ++ c ∷ []; calls = v.calls + 1; log = log }
+
+-- once nothing is undrained the log goes on
+abbrev pub log_after_drain : List Change → View → Log
+log_after_drain [] v = log_drained v.log.phase (is_some v.number) v.log
+log_after_drain (c ∷ changes) v = v.log
+
+-- the locks with one more
+abbrev pub taken : ℕ → Bool → Bool → List Lock → List Lock
+taken line write true locks = locks ++ record { line = line; write = write; block = None } ∷ []
+taken line write false locks = locks
+
+-- the lock of the line is held for writing from now on
+abbrev pub raised : ℕ → Bool → List Lock → List Lock
+raised line true locks = map (λ (l : Lock). if l.line == line then record l { write = true } else l) locks
+raised line false locks = locks
+
+-- what no longer stays as it is known is known no longer
+abbrev pub forgetful : View → View
+forgetful v = record v { known = filter (is_held v) v.known }
+
+-- the zones whose lock the lane holds, with one more
+abbrev pub zone_taken : ℕ → Bool → List ℕ → List ℕ
+zone_taken zone true zones = zones ++ zone ∷ []
+zone_taken zone false zones = zones
+
+-- two occupancy words are one
+abbrev pub is_same_occ : Occ → Occ → Bool
+is_same_occ (Run place) (Run other) = place == other
+is_same_occ (Zone zone) (Zone other) = zone == other
+is_same_occ at other = false
+
+-- blocks, and these bits of an occupancy word
+abbrev pub with_taken : Occ → ℕ → Bool → List Taken → List Taken
+with_taken at bits true blocks = blocks ++ record { at = at; bits = bits } ∷ []
+with_taken at bits false blocks = blocks
+
+-- blocks but for these bits of an occupancy word
+abbrev pub without_taken : Occ → ℕ → List Taken → List Taken
+without_taken at bits blocks =
+    filter (λ (t : Taken). not (t.bits == 0)) (map (λ (t : Taken). if is_same_occ at t.at then record t { bits = bit_and t.bits (bit_not w64 bits) } else t) blocks)
+
+-- a call begins where none is open
+abbrev pub begun : Phase → View → View
+begun Idle v = record v { log = no_log (Open [] []); seen = []; call = []; number = None }
+begun phase v = v
+
+-- the pending actions after an operation that was answered so: one more, or none where they were published or given up
+abbrev pub actions_told : Operation → Option Value → List Told → List Told
+actions_told (Reserve size kind) (Some (Offset off)) actions = actions ++ record { operation = Reserve size kind; reply = Some (Offset off) } ∷ []
+actions_told (DeferFree id) None actions = actions ++ record { operation = DeferFree id; reply = None } ∷ []
+actions_told (SetValue id off value) None actions = actions ++ record { operation = SetValue id off value; reply = None } ∷ []
+actions_told Publish None actions = []
+actions_told Cancel None actions = []
+actions_told operation reply actions = actions
+
+abbrev pub after : View → Step → View
+after v (Load w x) = with_seen (Load w x) (loaded v w x)
+after v (Store w x) = changed v w x (store_change w (slice_index v.words w) x) (log_stored v.log.phase (part_of v.lane w) x v.log)
+after v (Or w bits found) = changed v w (bit_or found bits) (or_change w bits found) (log_changed v.log.phase v.log)
+after v (And w bits found) = changed v w (bit_and found bits) (and_change w bits found) (log_changed v.log.phase v.log)
+after v (Flush line) = record v { changes = flushed line v.changes; calls = v.calls + 1 }
+after v Drain = record v { changes = drained v.changes; calls = v.calls + 1; log = log_after_drain (drained v.changes) v }
+after v (TakeWrite line won) = with_seen (TakeWrite line won) (record v { locks = taken line true won v.locks })
+after v (TakeRead line won) = with_seen (TakeRead line won) (record v { locks = taken line false won v.locks })
+after v (Raise line won) = with_seen (Raise line won) (record v { locks = raised line won v.locks })
+after v (Give line) = forgetful (record v { locks = filter (λ (l : Lock). not (l.line == line)) v.locks })
+after v (Draw n) = record v {
+  log = log_drawn v.log.phase v.log;
+  number = Some n;
+  entries = v.entries ++ record { number = n; call = v.call } ∷ [];
+}
+after v (ZoneTry zone won) = with_seen (ZoneTry zone won) (record v { zone_locks = zone_taken zone won v.zone_locks })
+after v (ZoneGive zone) = with_seen (ZoneGive zone) (record v { zone_locks = filter (λ other. not (other == zone)) v.zone_locks })
+after v (Occupied at found) = with_seen (Occupied at found) v
+after v (Occupy at bits won) = with_seen (Occupy at bits won) (record v { reserved = with_taken at bits won v.reserved })
+after v (Vacate at bits) = forgetful (record v { reserved = without_taken at bits v.reserved; freed = without_taken at bits v.freed })
+after v (NumberSeen n) = with_seen (NumberSeen n) (begun v.log.phase v)
+after v (StopSeen set) = with_seen (StopSeen set) v
+after v SetStop = v
+after v (Tell operation reply) = record v { call = v.call ++ record { operation = operation; reply = reply } ∷ []; actions = actions_told operation reply v.actions }
+
+unfoldable pub after_all : View → List Step → View
+after_all v [] = v
+after_all v (s ∷ steps) = after_all (after v s) steps
