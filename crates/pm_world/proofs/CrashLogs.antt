@@ -1,0 +1,164 @@
+-- What a lane's log says of its undrained changes and of the words that it recorded.
+use Rattle.std.proofs.Common.{◌≡◌, ◌≢◌, ℕ, zero, suc, ◌+◌, ◌-◌, ◌/◌, ◌<◌, ◌≤◌, ◌⊎◌, inl, inr, ⊎_elim, eqb, leb, ltb, Bool, true, false, cond, ◌&&◌, Contains, List, [], ◌∷◌, length, slice_index, slice_get, Some, refl, sym, ap, ◌∙◌, subst, arith}
+use Rattle.std.specs.List.{list_any}
+use Rattle.std.proofs.lemmas.Bool.{and_parts, or_cases, or_left, or_right, leb-true, ltb-true, eq-eqb, false≢true, false_from_ne_true, not-true}
+use Rattle.std.proofs.lemmas.Option.{none-some, same_Some}
+use Rattle.std.proofs.lemmas.List.Elements.{All-contains}
+use Rattle.std.proofs.lemmas.List.Folds.{list_any-from_Any}
+use Rattle.pm_view.specs.declared.change.Change.{Change}
+use Rattle.pm_view.specs.Area.{area_word, is_in_area, part_of}
+use Rattle.pm_view.specs.Area.Part.{GenerationWord, SealWord, EntryWord, SlotWord, OtherWord}
+use Rattle.pm_view.specs.Bits.{all_bits}
+use Rattle.pm_view.specs.Changes.{is_in_line}
+use Rattle.pm_view.specs.Log.{Phase, Recorded, Final}
+use Rattle.pm_view.specs.Log.Phase.{Idle, Open, Drawn, Sealing, Applying, Clearing, Retiring}
+use Rattle.pm_view.specs.View.{View}
+use Rattle.pm_image.specs.Logs.{slot_line}
+use Rattle.pm_world.specs.Fits.{OpenChange, RetiringChange, PhaseFits, RecordedWordFits, RecordFits}
+use Rattle.pm_world.specs.Records.{IsRecordAt, generation_of, covers, is_recorded, is_drained_slot, is_logged_from, is_logged}
+
+-- what an undrained change is, by how far the call has come
+abbrev pub ChangeFits : View → Change → Phase → Type 0
+ChangeFits v c (Open slot pair) = OpenChange v c
+ChangeFits v c Retiring = RetiringChange v c
+ChangeFits v c phase = ⊥
+
+nothing_there : {X : Type 0} (xs : List X) (x : X) → xs ≡ [] → Contains xs x → ⊥
+nothing_there {X = X} xs x none there = let e : length xs ≡ 0 = ap length none in let inside = there.1 in omega arith
+
+pub change_fits : (flies : ℕ → List Final → Type 0) (v : View) (c : Change) (phase : Phase) → PhaseFits flies v phase → Contains v.changes c → ChangeFits v c phase
+change_fits flies v c Idle fits there = nothing_there v.changes c fits.drained there
+change_fits flies v c (Open slot pair) fits there = All-contains (OpenChange v) v.changes c fits.changes there
+change_fits flies v c Drawn fits there = nothing_there v.changes c fits.drained there
+change_fits flies v c Sealing fits there = fits
+change_fits flies v c (Applying applied) fits there = fits
+change_fits flies v c Clearing fits there = fits
+change_fits flies v c Retiring fits there = All-contains (RetiringChange v) v.changes c fits.changes there
+
+pub change_whole : (v : View) (c : Change) (phase : Phase) → ChangeFits v c phase → c.mask ≡ all_bits
+change_whole v c Idle fits = absurd fits
+change_whole v c (Open slot pair) fits = fits.whole
+change_whole v c Drawn fits = absurd fits
+change_whole v c Sealing fits = absurd fits
+change_whole v c (Applying applied) fits = absurd fits
+change_whole v c Clearing fits = absurd fits
+change_whole v c Retiring fits = fits.whole
+
+-- a word of the undo slots
+pub record InSlots (lane w : ℕ) : Type 0 where
+  pub low : area_word lane + 136 ≤ w
+  pub high : w < area_word lane + 648
+
+part_cases : (here generation seal entry slot : Bool) → cond here (cond generation GenerationWord (cond seal SealWord (cond entry EntryWord (cond slot SlotWord OtherWord)))) OtherWord ≡ SlotWord → (here ≡ true) × (slot ≡ true)
+part_cases true true seal entry slot e = absurd cc
+part_cases true false true entry slot e = absurd cc
+part_cases true false false true slot e = absurd cc
+part_cases true false false false true e = (refl, refl)
+part_cases true false false false false e = absurd cc
+part_cases false generation seal entry slot e = absurd cc
+
+pub slot_part : (lane w : ℕ) → part_of lane w ≡ SlotWord → InSlots lane w
+slot_part lane w e =
+    let offset : ℕ = w - area_word lane in
+    let t = part_cases (is_in_area lane w) (eqb (w - area_word lane) 0) (eqb (w - area_word lane) 1) (leb 8 (w - area_word lane) && ltb (w - area_word lane) 136) (leb 136 (w - area_word lane) && ltb (w - area_word lane) 648) e in
+    let a = and_parts (leb (area_word lane) w) (ltb w (area_word lane + 1024)) t.0 in
+    let s = and_parts (leb 136 (w - area_word lane)) (ltb (w - area_word lane) 648) t.1 in
+    let from = leb-true (area_word lane) w a.0 in
+    let low = leb-true 136 (w - area_word lane) s.0 in
+    let high = ltb-true (w - area_word lane) 648 s.1 in
+    record { low = omega arith; high = omega arith }
+
+-- a change is of a slot's word, of the generation, or of a word that the log would restore
+pub record ChangeLies (v : View) (c : Change) : Type 0 where
+  pub of : InSlots v.lane c.word ⊎ ((c.word ≡ area_word v.lane) ⊎ (is_logged v c.word ≡ true))
+
+pub change_lies : (v : View) (c : Change) (phase : Phase) → ChangeFits v c phase → ChangeLies v c
+change_lies v c Idle fits = absurd fits
+change_lies v c (Open slot pair) fits = record { of = ⊎_elim (λ (part : part_of v.lane c.word ≡ SlotWord). inl (slot_part v.lane c.word part)) (λ (logged : is_logged v c.word ≡ true). inr (inr logged)) fits.of }
+change_lies v c Drawn fits = absurd fits
+change_lies v c Sealing fits = absurd fits
+change_lies v c (Applying applied) fits = absurd fits
+change_lies v c Clearing fits = absurd fits
+change_lies v c Retiring fits = record { of = inr (inl fits.of) }
+
+-- a record of the word, and its slot
+pub record RecordOf (v : View) (w : ℕ) : Type 0 where
+  pub slot : ℕ
+  pub held : Recorded
+  pub at : IsRecordAt v slot held
+  pub of : covers held w ≡ true
+
+record RecordIn (records : List Recorded) (w : ℕ) : Type 0 where
+  slot : ℕ
+  held : Recorded
+  at : slice_get records slot ≡ Some held
+  of : covers held w ≡ true
+
+record_in : (records : List Recorded) (w : ℕ) → is_recorded records w ≡ true → RecordIn records w
+record_in [] w e = absurd (false≢true e)
+record_in (r ∷ records) w e =
+    ⊎_elim (λ (here : covers r w ≡ true). record { slot = 0; held = r; at = refl; of = here })
+    (λ (later : is_recorded records w ≡ true). let t = record_in records w later in record { slot = suc t.slot; held = t.held; at = t.at; of = t.of })
+    (or_cases (covers r w) (is_recorded records w) e)
+
+pub record_of : (v : View) (w : ℕ) → is_recorded v.log.records w ≡ true → RecordOf v w
+record_of v w e = let t = record_in v.log.records w e in record { slot = t.slot; held = t.held; at = t.at; of = t.of }
+
+recorded_in : (records : List Recorded) (w slot : ℕ) (r : Recorded) → slice_get records slot ≡ Some r → covers r w ≡ true → is_recorded records w ≡ true
+recorded_in [] w slot r at of = absurd (none-some r at)
+recorded_in (q ∷ records) w zero r at of = or_left (covers q w) (is_recorded records w) (ap (λ z. covers z w) (same_Some q r at) ∙ of)
+recorded_in (q ∷ records) w (suc slot) r at of = or_right (covers q w) (is_recorded records w) (recorded_in records w slot r at of)
+
+pub recorded_from : (v : View) (w slot : ℕ) (r : Recorded) → IsRecordAt v slot r → covers r w ≡ true → is_recorded v.log.records w ≡ true
+recorded_from v w slot r at of = recorded_in v.log.records w slot r at of
+
+-- a logged word has a record whose slot is drained
+record LoggedIn (v : View) (from : ℕ) (records : List Recorded) (w : ℕ) : Type 0 where
+  slot : ℕ
+  held : Recorded
+  at : slice_get records slot ≡ Some held
+  of : covers held w ≡ true
+  drained : is_drained_slot v (from + slot) ≡ true
+
+logged_in : (v : View) (from : ℕ) (records : List Recorded) (w : ℕ) → is_logged_from v from records w ≡ true → LoggedIn v from records w
+logged_in v from [] w e = absurd (false≢true e)
+logged_in v from (r ∷ records) w e =
+    ⊎_elim (λ (here : (covers r w && is_drained_slot v from) ≡ true). let t = and_parts (covers r w) (is_drained_slot v from) here in
+    let first : from ≡ from + 0 = omega arith in
+    record { slot = 0; held = r; at = refl; of = t.0; drained = ap (is_drained_slot v) (sym first) ∙ t.1 })
+    (λ (later : is_logged_from v (from + 1) records w ≡ true). let t = logged_in v (from + 1) records w later in
+    let next : from + 1 + t.slot ≡ from + suc t.slot = omega arith in
+    record { slot = suc t.slot; held = t.held; at = t.at; of = t.of; drained = ap (is_drained_slot v) (sym next) ∙ t.drained })
+    (or_cases (covers r w && is_drained_slot v from) (is_logged_from v (from + 1) records w) e)
+
+pub logged_recorded : (v : View) (w : ℕ) → is_logged v w ≡ true → is_recorded v.log.records w ≡ true
+logged_recorded v w e = let t = logged_in v 0 v.log.records w e in recorded_in v.log.records w t.slot t.held t.at t.of
+
+-- no record of the word is drained
+pub not_logged : (v : View) (w : ℕ) → ((slot : ℕ) (r : Recorded) → IsRecordAt v slot r → covers r w ≡ true → is_drained_slot v slot ≡ false) → is_logged v w ≡ false
+not_logged v w undrained = false_from_ne_true (is_logged v w) (λ e. let t = logged_in v 0 v.log.records w e in
+    let same : 0 + t.slot ≡ t.slot = omega arith in
+    false≢true (sym (undrained t.slot t.held t.at t.of) ∙ (ap (is_drained_slot v) (sym same) ∙ t.drained)))
+
+pub unrecorded_unlogged : (v : View) (w : ℕ) → is_recorded v.log.records w ≡ false → is_logged v w ≡ false
+unrecorded_unlogged v w none = false_from_ne_true (is_logged v w) (λ e. false≢true (sym none ∙ logged_recorded v w e))
+
+-- what the log says of a word that a record covers
+pub recorded_word : (settled : ℕ → ℕ) (v : View) (r : Recorded) (w : ℕ) → RecordFits settled v r → covers r w ≡ true → RecordedWordFits settled v w (slice_index r.old (w - r.word))
+recorded_word settled v r w fits of =
+    let t = and_parts (leb r.word w) (ltb w (r.word + length r.old)) of in
+    let low = leb-true r.word w t.0 in
+    let high = ltb-true w (r.word + length r.old) t.1 in
+    let same : r.word + (w - r.word) ≡ w = omega arith in
+    subst (λ u. RecordedWordFits settled v u (slice_index r.old (w - r.word))) same (fits.each (w - r.word) (omega arith))
+
+-- a drained slot has no change
+pub drained_slot : (v : View) (slot : ℕ) (c : Change) → is_drained_slot v slot ≡ true → Contains v.changes c → c.word / 8 ≢ slot_line v.lane slot
+drained_slot v slot c drained there same =
+    false≢true (sym (not-true (list_any (is_in_line (slot_line v.lane slot)) v.changes) drained)
+    ∙ list_any-from_Any (is_in_line (slot_line v.lane slot)) v.changes (there.0, c, there.1, there.2, eq-eqb (c.word / 8) (slot_line v.lane slot) same))
+
+-- the generation that the image has is the view's, or the one before it while the generation ends
+abbrev pub GenerationIs : View → ℕ → Phase → Type 0
+GenerationIs v generation Retiring = (generation ≡ generation_of v) ⊎ (generation + 1 ≡ generation_of v)
+GenerationIs v generation phase = generation ≡ generation_of v

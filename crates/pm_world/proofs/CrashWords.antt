@@ -1,0 +1,185 @@
+-- Which words of an image are as the lanes left them.
+use Rattle.std.proofs.Common.{◌≡◌, ◌≢◌, ℕ, ◌+◌, ◌-◌, ◌*◌, ◌<◌, ◌≤◌, ◌⊎◌, inl, inr, ⊎_elim, leb, ltb, Bool, true, All, Contains, List, [], ◌∷◌, length, take, drop, slice_index, slice_range, get_or, sym, ap, ◌∙◌, subst, arith}
+use Rattle.std.proofs.lemmas.Bool.{and_from, le-leb, lt-ltb}
+use Rattle.std.proofs.lemmas.List.{ext_get_or, get_or-take, get_or-drop, length-take, length-drop}
+use Rattle.std.proofs.lemmas.List.Elements.{All-head}
+use Rattle.pm_view.specs.declared.change.Change.{Change}
+use Rattle.pm_view.specs.Area.{area_word, is_in_area}
+use Rattle.pm_view.specs.Log.{Phase}
+use Rattle.pm_view.specs.Log.Phase.{Idle, Open, Drawn, Sealing, Applying, Clearing, Retiring}
+use Rattle.pm_view.specs.Survivors.{all_taken_back}
+use Rattle.pm_view.specs.View.{View}
+use Rattle.pm_view.proofs.Finding.{whole-taken_back}
+use Rattle.pm_image.specs.Logs.{generation, generation_word, seal_word, slot_line, undo_slot}
+use Rattle.pm_world.specs.Crash.{IsUndrained, Survives}
+use Rattle.pm_world.specs.Fits.{LaneFits, RecordedWordFits}
+use Rattle.pm_world.specs.History.{Entry, Flies, settled}
+use Rattle.pm_world.specs.Memory.{Memory}
+use Rattle.pm_world.specs.Memory.Location.{PoolWord}
+use Rattle.pm_world.specs.Opening.{Opening}
+use Rattle.pm_world.specs.Records.{is_recorded, is_drained_slot, is_logged, generation_of}
+use Rattle.pm_world.specs.World.{Views, World}
+use Rattle.pm_world.proofs.CrashLogs.{ChangeFits, change_fits, change_whole, InSlots, change_lies, slot_part, RecordOf, record_of, recorded_word, logged_recorded, drained_slot, GenerationIs}
+use Rattle.pm_world.proofs.CrashRecords.{generation_unsealed}
+use Rattle.pm_world.proofs.Exclusion.{WritesUnder, writes_under, one_writer}
+
+-- the word has the old value of an undrained change
+record TakenBack (views : Views) (lanes : ℕ) (image : List ℕ) (w : ℕ) : Type 0 where
+  change : Change
+  lane : ℕ
+  of_lane : lane < lanes
+  there : Contains (views lane).changes change
+  of_word : change.word ≡ w
+  is_old : slice_index image w ≡ change.old
+
+-- of a change of this lane
+pub record OwnTakenBack (v : View) (image : List ℕ) (w : ℕ) : Type 0 where
+  pub change : Change
+  pub there : Contains v.changes change
+  pub of_word : change.word ≡ w
+  pub is_old : slice_index image w ≡ change.old
+
+slot_same : (one other : List ℕ) (a : ℕ) → a + 8 ≤ length one → a + 8 ≤ length other → ((i : ℕ) → a ≤ i → i < a + 8 → slice_index one i ≡ slice_index other i)
+    → slice_range one a (a + 8) ≡ slice_range other a (a + 8)
+slot_same one other a long as_long same =
+    let eight : a + 8 - a ≡ 8 = omega arith in
+    let count : (xs : List ℕ) → a + 8 ≤ length xs → length (take 8 (drop a xs)) ≡ 8 = λ xs h. let dropped = length-drop a xs in let taken = length-take 8 (drop a xs) in omega (arith, dropped, taken) in
+    let at : (xs : List ℕ) (i : ℕ) → i < 8 → get_or (take 8 (drop a xs)) i 0 ≡ get_or xs (a + i) 0 = λ xs i h. get_or-take 8 (drop a xs) i 0 h ∙ get_or-drop a xs i 0 in
+    ap (λ (n : ℕ). take n (drop a one)) eight
+    ∙ ext_get_or 0 (take 8 (drop a one)) (take 8 (drop a other)) (count one long ∙ sym (count other as_long))
+    (λ i h. let inside : i < 8 = omega (arith, count one long) in at one i inside ∙ same (a + i) (omega arith) (omega arith) ∙ sym (at other i inside))
+    ∙ sym (ap (λ (n : ℕ). take n (drop a other)) eight)
+
+module _ (o : Opening) (mem : Memory) (views : Views) (log : List Entry) (decided : ℕ → Bool) (x : World o mem views log decided) where
+  pub lane_fits : (k : ℕ) → k < o.lanes → LaneFits o mem (settled o log decided) (Flies log decided k) k (views k)
+  lane_fits k inside = x.each_lane k inside
+
+  lane_is : (k : ℕ) → k < o.lanes → (views k).lane ≡ k
+  lane_is k inside = (x.each_lane k inside).lane.lane
+
+  -- a lane's change, by how far its call has come
+  fits_of : (k : ℕ) (c : Change) → k < o.lanes → Contains (views k).changes c → ChangeFits (views k) c (views k).log.phase
+  fits_of k c inside there = change_fits (Flies log decided k) (views k) c (views k).log.phase (x.each_lane k inside).phase there
+
+  pub recorded_fits : (k w : ℕ) → k < o.lanes → (t : RecordOf (views k) w) → RecordedWordFits (settled o log decided) (views k) w (slice_index t.held.old (w - t.held.word))
+  recorded_fits k w inside t = recorded_word (settled o log decided) (views k) t.held w ((x.each_lane k inside).log.each t.slot t.held t.at) t.of
+
+  pub recorded_writes : (k w : ℕ) → k < o.lanes → is_recorded (views k).log.records w ≡ true → WritesUnder o mem k w
+  recorded_writes k w inside e = writes_under o mem k (views k) w (x.each_lane k inside).locks (recorded_fits k w inside (record_of (views k) w e)).own
+
+  -- one lane at most has a record of a word
+  pub one_recorder : (j k w : ℕ) → j < o.lanes → k < o.lanes → is_recorded (views j).log.records w ≡ true → is_recorded (views k).log.records w ≡ true → j ≡ k
+  one_recorder j k w j_inside inside e f = one_writer o mem j k w x.sound (recorded_writes j w j_inside e) (recorded_writes k w inside f)
+
+  pub behind_areas : (k w : ℕ) → WritesUnder o mem k w → 512 + 1024 * o.lanes ≤ w
+  behind_areas k w (line, guard, word) = x.sound.behind_areas line w guard
+
+  logged_behind : (k w : ℕ) → k < o.lanes → is_logged (views k) w ≡ true → 512 + 1024 * o.lanes ≤ w
+  logged_behind k w inside e = behind_areas k w (recorded_writes k w inside (logged_recorded (views k) w e))
+
+  -- a change outside of the areas is of a word that its lane's log would restore
+  change_outside : (k : ℕ) (c : Change) → k < o.lanes → Contains (views k).changes c → (c.word < 512) ⊎ (512 + 1024 * o.lanes ≤ c.word) → is_logged (views k) c.word ≡ true
+  change_outside k c inside there outside =
+      let at = lane_is k inside in
+      ⊎_elim (λ (slots : InSlots (views k).lane c.word). let low = slots.low in let high = slots.high in
+      absurd (⊎_elim (λ (front : c.word < 512). omega arith) (λ (back : 512 + 1024 * o.lanes ≤ c.word). omega arith) outside))
+      (λ (other : (c.word ≡ area_word (views k).lane) ⊎ (is_logged (views k) c.word ≡ true)).
+      ⊎_elim (λ (first : c.word ≡ area_word (views k).lane). absurd (⊎_elim (λ (front : c.word < 512). omega arith) (λ (back : 512 + 1024 * o.lanes ≤ c.word). omega arith) outside))
+      (λ (logged : is_logged (views k) c.word ≡ true). logged) other)
+      (change_lies (views k) c (views k).log.phase (fits_of k c inside there)).of
+
+  -- a change in an area is its lane's, and not of the seal
+  change_inside : (j k : ℕ) (c : Change) → j < o.lanes → k < o.lanes → Contains (views j).changes c → area_word k ≤ c.word → c.word < area_word k + 1024 → (j ≡ k) × (c.word ≢ area_word k + 1)
+  change_inside j k c j_inside inside there low high =
+      let at = lane_is j j_inside in
+      ⊎_elim (λ (slots : InSlots (views j).lane c.word). let from = slots.low in let to = slots.high in (let same : j ≡ k = omega arith in same, λ seal. omega arith))
+      (λ (other : (c.word ≡ area_word (views j).lane) ⊎ (is_logged (views j) c.word ≡ true)).
+      ⊎_elim (λ (first : c.word ≡ area_word (views j).lane). (let same : j ≡ k = omega arith in same, λ seal. omega arith))
+      (λ (logged : is_logged (views j) c.word ≡ true). absurd (let behind = logged_behind j c.word j_inside logged in omega arith)) other)
+      (change_lies (views j) c (views j).log.phase (fits_of j c j_inside there)).of
+
+  module _ (image : List ℕ) (survives : Survives o mem views image) where
+    left_cases : (w : ℕ) (lost : List Change) → All (IsUndrained views o.lanes w) lost → slice_index image w ≡ all_taken_back lost (mem (PoolWord w)) → (slice_index image w ≡ mem (PoolWord w)) ⊎ TakenBack views o.lanes image w
+    left_cases w [] undrained left = inl left
+    left_cases w (c ∷ lost) undrained left =
+        let u = All-head (IsUndrained views o.lanes w) c lost undrained in
+        let whole = change_whole (views u.lane) c (views u.lane).log.phase (fits_of u.lane c u.of_lane u.there) in
+        inr (record { change = c; lane = u.lane; of_lane = u.of_lane; there = u.there; of_word = u.of_word; is_old = left ∙ whole-taken_back c (all_taken_back lost (mem (PoolWord w))) whole })
+
+    word_left : (w : ℕ) → w < length o.words → (slice_index image w ≡ mem (PoolWord w)) ⊎ TakenBack views o.lanes image w
+    word_left w inside = let l = survives.each w inside in left_cases w l.lost l.undrained l.left
+
+    -- a word outside of the areas that nobody's change is of
+    pub word_stays : (w : ℕ) → w < length o.words → (w < 512) ⊎ (512 + 1024 * o.lanes ≤ w) → ((k : ℕ) (c : Change) → k < o.lanes → Contains (views k).changes c → c.word ≡ w → is_logged (views k) w ≡ true → ⊥)
+        → slice_index image w ≡ mem (PoolWord w)
+    word_stays w inside outside away =
+        ⊎_elim (λ (same : slice_index image w ≡ mem (PoolWord w)). same)
+        (λ (t : TakenBack views o.lanes image w).
+        let there : (t.change.word < 512) ⊎ (512 + 1024 * o.lanes ≤ t.change.word) = subst (λ u. (u < 512) ⊎ (512 + 1024 * o.lanes ≤ u)) (sym t.of_word) outside in
+        absurd (away t.lane t.change t.of_lane t.there t.of_word (subst (λ u. is_logged (views t.lane) u ≡ true) t.of_word (change_outside t.lane t.change t.of_lane t.there there))))
+        (word_left w inside)
+
+    -- a word of a lane's area is as the lane has it, or its own change of it was taken back
+    area_left : (k w : ℕ) → k < o.lanes → area_word k ≤ w → w < area_word k + 1024 → (slice_index image w ≡ slice_index (views k).words w) ⊎ OwnTakenBack (views k) image w
+    area_left k w inside low high =
+        let size = x.sound.size in
+        let at = lane_is k inside in
+        let here : is_in_area (views k).lane w ≡ true = and_from (leb (area_word (views k).lane) w) (ltb w (area_word (views k).lane + 1024)) (le-leb (area_word (views k).lane) w (omega arith)) (lt-ltb w (area_word (views k).lane + 1024) (omega arith)) in
+        ⊎_elim (λ (same : slice_index image w ≡ mem (PoolWord w)). inl (same ∙ (x.each_lane k inside).picture.area w here))
+        (λ (t : TakenBack views o.lanes image w).
+        let is = t.of_word in
+        let who : t.lane ≡ k = (change_inside t.lane k t.change t.of_lane inside t.there (omega arith) (omega arith)).0 in
+        inr (record { change = t.change; there = subst (λ j. Contains (views j).changes t.change) who t.there; of_word = t.of_word; is_old = t.is_old }))
+        (word_left w (omega arith))
+
+    pub seal_stays : (k : ℕ) → k < o.lanes → seal_word image k ≡ 0
+    seal_stays k inside =
+        ⊎_elim (λ (same : slice_index image (area_word k + 1) ≡ slice_index (views k).words (area_word k + 1)).
+        same ∙ (ap (λ j. slice_index (views k).words (area_word j + 1)) (sym (lane_is k inside)) ∙ (x.each_lane k inside).log.unsealed))
+        (λ (t : OwnTakenBack (views k) image (area_word k + 1)). let is = t.of_word in absurd ((change_inside k k t.change inside inside t.there (omega arith) (omega arith)).1 t.of_word))
+        (area_left k (area_word k + 1) inside (omega arith) (omega arith))
+
+    pub generation_read : (k : ℕ) → k < o.lanes → generation image k ≡ generation_word image k
+    generation_read k inside = generation_unsealed image k (seal_stays k inside)
+
+    here_or_before : (k : ℕ) (phase : Phase) → k < o.lanes → ((c : Change) → Contains (views k).changes c → ChangeFits (views k) c phase) → (slice_index image (area_word k) ≡ generation_of (views k)) ⊎ OwnTakenBack (views k) image (area_word k)
+        → GenerationIs (views k) (generation_word image k) phase
+    here_or_before k Idle inside fits (inl same) = same
+    here_or_before k Idle inside fits (inr t) = absurd (fits t.change t.there)
+    here_or_before k (Open slot pair) inside fits (inl same) = same
+    here_or_before k (Open slot pair) inside fits (inr t) =
+        let is = t.of_word in
+        let at = lane_is k inside in
+        absurd (⊎_elim (λ part. let s = slot_part (views k).lane t.change.word part in let low = s.low in omega arith)
+        (λ logged. let behind = logged_behind k t.change.word inside logged in omega arith) (fits t.change t.there).of)
+    here_or_before k Drawn inside fits (inl same) = same
+    here_or_before k Drawn inside fits (inr t) = absurd (fits t.change t.there)
+    here_or_before k Sealing inside fits (inl same) = same
+    here_or_before k Sealing inside fits (inr t) = absurd (fits t.change t.there)
+    here_or_before k (Applying applied) inside fits (inl same) = same
+    here_or_before k (Applying applied) inside fits (inr t) = absurd (fits t.change t.there)
+    here_or_before k Clearing inside fits (inl same) = same
+    here_or_before k Clearing inside fits (inr t) = absurd (fits t.change t.there)
+    here_or_before k Retiring inside fits (inl same) = inl same
+    here_or_before k Retiring inside fits (inr t) = inr (ap (λ n. n + 1) t.is_old ∙ (fits t.change t.there).before)
+
+    -- which generation the image has
+    pub generation_is : (k : ℕ) → k < o.lanes → GenerationIs (views k) (generation_word image k) (views k).log.phase
+    generation_is k inside =
+        here_or_before k (views k).log.phase inside (λ c there. fits_of k c inside there)
+        (⊎_elim (λ (same : slice_index image (area_word k) ≡ slice_index (views k).words (area_word k)). inl (same ∙ ap (λ j. slice_index (views k).words (area_word j)) (sym (lane_is k inside))))
+        (λ (t : OwnTakenBack (views k) image (area_word k)). inr t)
+        (area_left k (area_word k) inside (omega arith) (omega arith)))
+
+    -- a slot of which nothing is undrained
+    pub slot_stays : (k slot : ℕ) → k < o.lanes → slot < 64 → is_drained_slot (views k) slot ≡ true → undo_slot image k slot ≡ undo_slot (views k).words (views k).lane slot
+    slot_stays k slot inside within drained =
+        let size = x.sound.size in
+        let long = survives.size in
+        let own = (x.each_lane k inside).lane.size in
+        let at = lane_is k inside in
+        slot_same image (views k).words (8 * slot_line k slot) (omega arith) (omega arith)
+        (λ i low high. ⊎_elim (λ (same : slice_index image i ≡ slice_index (views k).words i). same)
+        (λ (t : OwnTakenBack (views k) image i). let is = t.of_word in absurd (drained_slot (views k) slot t.change drained t.there (omega arith)))
+        (area_left k i inside (omega arith) (omega arith)))
+        ∙ ap (λ j. undo_slot (views k).words j slot) (sym at)

@@ -1,0 +1,79 @@
+-- What the open call makes final: each word that it recorded, as its view has it.
+use Rattle.std.proofs.Common.{◌≡◌, ◌≢◌, ℕ, zero, suc, ◌+◌, ◌<◌, ◌≤◌, ⊎_elim, eqb, ltb, leb, true, false, cond, ◌&&◌, ◌||◌, All, List, [], ◌∷◌, length, map, slice_index, flat_map, bit_or, refl, sym, ap, ◌∙◌, arith, eq-eqb}
+use Rattle.std.specs.List.{range_with_len}
+use Rattle.std.specs.Int.Bits.{and_zero_r, or_zero_l}
+use Rattle.std.proofs.lemmas.Bool.{cases_Bool, cond-true, eqb-true, leb-true, ltb-true, le-leb, lt-ltb, and_parts, and_from, or_cases, or_left, or_right, cases_eq, false_from_ne_true, false≢true}
+use Rattle.std.proofs.lemmas.List.Elements.{All-nil, All-cons, All-append, All-head, All-tail}
+use Rattle.std.proofs.lemmas.List.Folds.{list_any-append}
+use Rattle.pm_view.specs.Bits.{all_bits, with_bits}
+use Rattle.pm_view.specs.Log.{Recorded, Final}
+use Rattle.pm_view.specs.View.{View}
+use Rattle.pm_world.specs.History.{made_final, is_final}
+use Rattle.pm_world.specs.Records.{is_recorded, finals_of, difference_of}
+use Rattle.pm_world.proofs.Replays.{made_final-other}
+
+-- the word is made what these words have
+pub record IsTakenFrom (words : List ℕ) (f : Final) : Type 0 where
+  pub whole : f.mask ≡ all_bits
+  pub bits : f.bits ≡ slice_index words f.word
+
+with_all_bits : (x y : ℕ) → with_bits all_bits y x ≡ y
+with_all_bits x y = ap (λ n. bit_or n y) (and_zero_r x) ∙ or_zero_l y
+
+pub made_final-taken : (words : List ℕ) (difference : List Final) (w x : ℕ) → All (IsTakenFrom words) difference → is_final difference w ≡ true → made_final difference w x ≡ slice_index words w
+unfolding made_final
+made_final-taken words [] w x taken e = absurd (false≢true e)
+made_final-taken words (f ∷ difference) w x taken e =
+    let first = All-head (IsTakenFrom words) f difference taken in
+    let rest = All-tail (IsTakenFrom words) f difference taken in
+    ⊎_elim (λ (again : is_final difference w ≡ true). made_final-taken words difference w (cond (eqb f.word w) (with_bits f.mask f.bits x) x) rest again)
+    (λ (never : is_final difference w ≡ false).
+    let here : eqb f.word w ≡ true = ⊎_elim (λ (h : eqb f.word w ≡ true). h) (λ (later : is_final difference w ≡ true). absurd (false≢true (sym never ∙ later))) (or_cases (eqb f.word w) (is_final difference w) e) in
+    ap (made_final difference w) (cond-true _ _ _ here) ∙ (made_final-other difference w (with_bits f.mask f.bits x) never
+    ∙ (ap (λ m. with_bits m f.bits x) first.whole ∙ (with_all_bits x f.bits ∙ (first.bits ∙ ap (slice_index words) (eqb-true f.word w here))))))
+    (cases_Bool (is_final difference w))
+
+range_taken : (words : List ℕ) (from n : ℕ) → All (IsTakenFrom words) (map (λ w. record { word = w; mask = all_bits; bits = slice_index words w }) (range_with_len from n))
+range_taken words from zero = All-nil (IsTakenFrom words)
+range_taken words from (suc n) = All-cons (IsTakenFrom words) _ _ (record { whole = refl; bits = refl }) (range_taken words (from + 1) n)
+
+records_taken : (words : List ℕ) (records : List Recorded) → All (IsTakenFrom words) (flat_map (finals_of words) records)
+records_taken words [] = All-nil (IsTakenFrom words)
+records_taken words (r ∷ records) = All-append (IsTakenFrom words) (finals_of words r) (flat_map (finals_of words) records) (range_taken words r.word (length r.old)) (records_taken words records)
+
+abbrev range_finals : List ℕ → ℕ → ℕ → List Final
+range_finals words from n = map (λ u. record { word = u; mask = all_bits; bits = slice_index words u }) (range_with_len from n)
+
+final-in_range : (words : List ℕ) (from n w : ℕ) → is_final (range_finals words from n) w ≡ true → (from ≤ w) × (w < from + n)
+final-in_range words from zero w e = absurd (false≢true e)
+final-in_range words from (suc n) w e =
+    ⊎_elim (λ (here : eqb from w ≡ true). let same = eqb-true from w here in (omega arith, omega arith))
+    (λ (later : is_final (range_finals words (from + 1) n) w ≡ true). let t = final-in_range words (from + 1) n w later in let low = t.0 in let high = t.1 in (omega arith, omega arith))
+    (or_cases (eqb from w) (is_final (range_finals words (from + 1) n) w) e)
+
+range-final : (words : List ℕ) (from n w : ℕ) → from ≤ w → w < from + n → is_final (range_finals words from n) w ≡ true
+range-final words from zero w low high = absurd (omega arith)
+range-final words from (suc n) w low high =
+    ⊎_elim (λ (same : from ≡ w). or_left (eqb from w) (is_final (range_finals words (from + 1) n) w) (eq-eqb from w same))
+    (λ (differ : from ≢ w). or_right (eqb from w) (is_final (range_finals words (from + 1) n) w) (range-final words (from + 1) n w (omega arith) (omega arith)))
+    (cases_eq from w)
+
+range_final : (words : List ℕ) (from n w : ℕ) → is_final (range_finals words from n) w ≡ (leb from w && ltb w (from + n))
+range_final words from n w =
+    ⊎_elim (λ (yes : is_final (range_finals words from n) w ≡ true). let t = final-in_range words from n w yes in yes ∙ sym (and_from (leb from w) (ltb w (from + n)) (le-leb from w t.0) (lt-ltb w (from + n) t.1)))
+    (λ (no : is_final (range_finals words from n) w ≡ false). no ∙ sym (false_from_ne_true (leb from w && ltb w (from + n)) (λ both. let t = and_parts (leb from w) (ltb w (from + n)) both in
+    false≢true (sym no ∙ range-final words from n w (leb-true from w t.0) (ltb-true w (from + n) t.1)))))
+    (cases_Bool (is_final (range_finals words from n) w))
+
+records_final : (words : List ℕ) (records : List Recorded) (w : ℕ) → is_final (flat_map (finals_of words) records) w ≡ is_recorded records w
+records_final words [] w = refl
+records_final words (r ∷ records) w =
+    list_any-append (λ (f : Final). eqb f.word w) (finals_of words r) (flat_map (finals_of words) records)
+    ∙ (λ i. range_final words r.word (length r.old) w i || records_final words records w i)
+
+-- the difference is of the recorded words, and makes each what the view has
+pub difference-recorded : (v : View) (w : ℕ) → is_final (difference_of v) w ≡ is_recorded v.log.records w
+difference-recorded v w = records_final v.words v.log.records w
+
+pub difference-makes : (v : View) (w x : ℕ) → is_recorded v.log.records w ≡ true → made_final (difference_of v) w x ≡ slice_index v.words w
+difference-makes v w x e = made_final-taken v.words (difference_of v) w x (records_taken v.words v.log.records) (difference-recorded v w ∙ e)

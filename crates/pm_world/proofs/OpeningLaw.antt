@@ -1,0 +1,111 @@
+-- Over the words that recovery leaves a world begins.
+use Rattle.std.proofs.Common.{◌≡◌, ℕ, zero, suc, ◌+◌, ◌^◌, ◌<◌, ◌≤◌, inl, false, if◌then◌else◌, Contains, List, [], length, slice_get, slice_index, Option, is_none, refl, sym, ap, ◌∙◌, subst, arith}
+use Rattle.std.specs.Int.{bit_at}
+use Rattle.std.specs.List.{list_any}
+use Rattle.std.specs.Option.{ForSome}
+use Rattle.std.proofs.lemmas.Bool.{cond-false, and_right}
+use Rattle.std.proofs.lemmas.List.Elements.{All-nil, All-same}
+use Rattle.std.proofs.lemmas.Nat.Bits.{bit_at-zero}
+use Rattle.std.proofs.lemmas.Option.{none-some}
+use Rattle.pm_record.specs.Undo.{undo_of}
+use Rattle.pm_view.specs.Area.{area_word}
+use Rattle.pm_view.specs.Log.{Recorded, Final, Log}
+use Rattle.pm_view.specs.Log.Phase.{Idle}
+use Rattle.pm_view.specs.View.{View}
+use Rattle.pm_image.specs.Logs.{generation_word, undo_slot}
+use Rattle.pm_world.specs.Fits.{PictureFits, LockFits, LogFits, IdleFits, PhaseFits, LaneFits}
+use Rattle.pm_world.specs.History.{Flies, settled, replayed, AreNumbered, entries_by}
+use Rattle.pm_world.specs.Memory.{Memory}
+use Rattle.pm_world.specs.Opening.{Opening}
+use Rattle.pm_world.specs.Opens.{IsClean, IsFresh, IsOpened, OpeningLaw}
+use Rattle.pm_world.specs.Records.{IsRecordAt, generation_of, records_generation}
+use Rattle.pm_world.specs.World.{Views, is_low, may_draw, may_draw_count}
+
+nothing_there : {X : Type 0} (xs : List X) (x : X) → xs ≡ [] → Contains xs x → ⊥
+nothing_there {X = X} xs x none there = let e : length xs ≡ 0 = ap length none in let inside = there.1 in omega arith
+
+within_stop : (stop : Option ℕ) (calls : ℕ) → calls ≡ 0 → ForSome stop (λ s. calls ≤ s)
+within_stop stop calls none = λ s is. omega arith
+
+module _ (o : Opening) (mem : Memory) (k : ℕ) (v : View) (clean : IsClean o k) (fresh : IsFresh o k v) (opened : IsOpened o mem) where
+  phase_is : v.log.phase ≡ Idle
+  phase_is = ap (λ (l : Log). l.phase) fresh.idle
+
+  records_none : v.log.records ≡ []
+  records_none = ap (λ (l : Log). l.records) fresh.idle
+
+  no_record : (slot : ℕ) (r : Recorded) → IsRecordAt v slot r → ⊥
+  no_record slot r at = none-some r (sym (ap (λ records. slice_get records slot) records_none) ∙ at)
+
+  -- a word of the view's is the opening's
+  word_is : (w : ℕ) → slice_index v.words w ≡ slice_index o.words w
+  word_is w = ap (λ words. slice_index words w) fresh.words
+
+  generation_is : generation_of v ≡ generation_word o.words k
+  generation_is = word_is (area_word v.lane) ∙ ap (λ j. slice_index o.words (area_word j)) fresh.lane.lane
+
+  slot_is : (slot : ℕ) → undo_slot v.words v.lane slot ≡ undo_slot o.words k slot
+  slot_is slot = ap (λ words. undo_slot words v.lane slot) fresh.words ∙ ap (λ j. undo_slot o.words j slot) fresh.lane.lane
+
+  fresh_picture : PictureFits o mem v
+  fresh_picture = record {
+    area = λ w inside. opened.words w ∙ sym (word_is w);
+    known = λ w known. absurd (nothing_there v.known w fresh.nothing_known known);
+    held = λ w known. absurd (nothing_there v.known w fresh.nothing_known known);
+    descriptors = λ page chunk. word_is _;
+  }
+
+  fresh_log : (settled : ℕ → ℕ) → LogFits settled v (records_generation v.log.phase v)
+  fresh_log settled = record {
+    most = let none : length v.log.records ≡ 0 = ap length records_none in omega arith;
+    stored = λ slot r at. absurd (no_record slot r at);
+    each = λ slot r at. absurd (no_record slot r at);
+    once = λ slot other r q w at at' of of'. absurd (no_record slot r at);
+    stale = λ slot u used inside stands. subst (λ g. u.generation < g) (sym (ap (λ p. records_generation p v) phase_is ∙ generation_is)) (clean.stale slot u inside (ap undo_of (sym (slot_is slot)) ∙ stands));
+    unsealed = word_is (area_word v.lane + 1) ∙ (ap (λ j. slice_index o.words (area_word j + 1)) fresh.lane.lane ∙ clean.unsealed);
+    no_entries = ap (λ (l : Log). l.entries) fresh.idle;
+  }
+
+  pub fresh_lane : (settled : ℕ → ℕ) (flies : ℕ → List Final → Type 0) → LaneFits o mem settled flies k v
+  fresh_lane settled flies = record {
+    lane = fresh.lane;
+    picture = fresh_picture;
+    locks = All-same (LockFits o mem k) v.locks [] fresh.no_locks (All-nil (LockFits o mem k));
+    log = fresh_log settled;
+    phase = subst (PhaseFits flies v) (sym phase_is) (let idle : IdleFits v = record { no_records = records_none; drained = fresh.nothing_changed } in idle);
+    blocks = record { reserved = fresh.nothing_reserved; freed = fresh.nothing_freed };
+    first_generation = let is = generation_is in let first = clean.first_generation in omega arith;
+    last_generation = subst (λ g. g ≤ 2 ^ 62) (sym generation_is) clean.last_generation;
+    room = let none : length v.changes ≡ 0 = ap length fresh.nothing_changed in omega arith;
+    within = within_stop v.stop v.calls fresh.no_calls;
+  }
+
+-- a lane that saw nothing may not draw
+seen_nothing : (v : View) → v.seen ≡ [] → may_draw v ≡ false
+seen_nothing v nothing = and_right (is_none v.number) (list_any is_low v.seen) (ap (list_any is_low) nothing)
+
+nobody_draws : (views : Views) (n : ℕ) → ((k : ℕ) → k < n → (views k).seen ≡ []) → may_draw_count views n ≡ 0
+unfolding may_draw_count
+nobody_draws views zero nothing = refl
+nobody_draws views (suc k) nothing =
+    let rest = nobody_draws views k (λ j inside. nothing j (omega arith)) in
+    let one : ℕ = 1 in
+    let none : ℕ = 0 in
+    let here : (if may_draw (views k) then one else none) ≡ none = cond-false (may_draw (views k)) one none (seen_nothing (views k) (nothing k (omega arith))) in
+    ap (λ n. n + (if may_draw (views k) then one else none)) rest ∙ ap (λ n. 0 + n) here
+
+pub opening_law : OpeningLaw
+unfolding replayed AreNumbered entries_by
+opening_law o mem views sound clean fresh opened = record {
+  sound = sound;
+  each_lane = λ k inside. fresh_lane o mem k (views k) (clean k inside) (fresh k inside) opened (settled o [] (λ _. false)) (Flies [] (λ _. false) k);
+  each_word = λ w heap unlogged. opened.words w;
+  each_line = λ line bit set. absurd (let off = bit_at-zero bit in let on : bit_at 0 bit ≡ 1 = ap (λ n. bit_at n bit) (sym (opened.locks line)) ∙ set in omega arith);
+  each_entry = λ e there. absurd (let inside = there.1 in omega arith);
+  numbered = tt;
+  undrawn = λ n past. refl;
+  counter = opened.counter;
+  counter_room = let none = nobody_draws views o.lanes (λ k inside. (fresh k inside).nothing_seen) in let drawn = opened.counter in omega arith;
+  own_entries = λ k inside. sym (fresh k inside).no_entries;
+  stop_word = inl opened.stop_word;
+}

@@ -1,0 +1,112 @@
+-- The lane's own facts where its locks, what it knows and what it saw change, and no word does.
+use Rattle.std.proofs.Common.{◌≡◌, ◌≢◌, ℕ, ◌+◌, ◌-◌, ◌<◌, ◌≤◌, inl, inr, ⊎_elim, le_refl, Bool, true, IsTrue, All, Contains, List, Option, Some, None, refl, sym, ap, ◌∙◌, subst}
+use Rattle.std.specs.Int.{bit_at}
+use Rattle.std.proofs.lemmas.Bool.{cases_eq}
+use Rattle.std.proofs.lemmas.List.Elements.{All-weaker}
+use Rattle.pm_view.specs.Counts.{IsAtStop}
+use Rattle.pm_view.specs.Held.{is_held}
+use Rattle.pm_view.specs.Log.{Phase, Recorded, Final}
+use Rattle.pm_view.specs.Log.Phase.{Idle, Open, Drawn, Sealing, Applying, Clearing, Retiring}
+use Rattle.pm_view.specs.Rights.{is_written}
+use Rattle.pm_view.specs.Steps.{Step}
+use Rattle.pm_view.specs.View.{View, Lock}
+use Rattle.pm_world.specs.Fits.{ShowsHold, LockFits, LaneFits, LogFits, PhaseFits, EndFits, OpenChange, RetiringChange}
+use Rattle.pm_world.specs.History.{Entry, Flies, settled}
+use Rattle.pm_world.specs.Laws.{with_view}
+use Rattle.pm_world.specs.Memory.{Memory, IsSameBut}
+use Rattle.pm_world.specs.Memory.Location.{PoolWord, LockWord, CommitCounter, StopWord}
+use Rattle.pm_world.specs.Opening.{Opening}
+use Rattle.pm_world.specs.Records.{IsRecordAt, generation_of, records_generation}
+use Rattle.pm_world.specs.World.{Views, World, IsHold, may_draw}
+use Rattle.pm_world.proofs.Frame.{lane_kept}
+use Rattle.pm_world.proofs.Locations.{pool-lock, counter-lock, stop-lock, other_lock}
+use Rattle.pm_world.proofs.Recoursed.{used_again}
+use Rattle.pm_world.proofs.Worlds.{quiet, unlogged_before, room_kept, at_stop_kept, stop_kept}
+
+-- the view with other locks, known words and steps seen
+abbrev pub relocked : View → List Lock → List ℕ → List Step → View
+relocked v locks known seen = record v { locks = locks; known = known; seen = seen }
+
+pub generation_same : (phase : Phase) (v v' : View) → generation_of v' ≡ generation_of v → records_generation phase v' ≡ records_generation phase v
+generation_same Idle v v' same = same
+generation_same (Open slot pair) v v' same = same
+generation_same Drawn v v' same = same
+generation_same Sealing v v' same = same
+generation_same (Applying applied) v v' same = same
+generation_same Clearing v v' same = same
+generation_same Retiring v v' same = ap (λ n. n - 1) same
+
+module _ (v : View) (locks : List Lock) (known : List ℕ) (seen : List Step) where
+  abbrev v' : View
+  v' = relocked v locks known seen
+
+  ends_relocked : (flies : ℕ → List Final → Type 0) (number : Option ℕ) → EndFits flies v number → EndFits flies v' number
+  ends_relocked flies None ends = ends
+  ends_relocked flies (Some n) ends = ends
+
+  open_relocked : All (OpenChange v) v.changes → All (OpenChange v') v.changes
+  open_relocked all = All-weaker (OpenChange v) (OpenChange v') (λ c of. record { whole = of.whole; of = of.of }) v.changes all
+
+  phase_relocked : (flies : ℕ → List Final → Type 0) (phase : Phase) → PhaseFits flies v phase → PhaseFits flies v' phase
+  phase_relocked flies Idle fits = record { no_records = fits.no_records; drained = fits.drained }
+  phase_relocked flies (Open slot pair) fits = record { undrawn = fits.undrawn; short = fits.short; stands = fits.stands; changes = open_relocked fits.changes; no_pair = fits.no_pair }
+  phase_relocked flies Drawn fits = record { number = fits.number; drawn = fits.drawn; flying = fits.flying; drained = fits.drained }
+  phase_relocked flies Sealing fits = absurd fits
+  phase_relocked flies (Applying applied) fits = absurd fits
+  phase_relocked flies Clearing fits = absurd fits
+  phase_relocked flies Retiring fits = record {
+    changes = All-weaker (RetiringChange v) (RetiringChange v') (λ c of. record { whole = of.whole; of = of.of; before = of.before }) v.changes fits.changes;
+    ends = ends_relocked flies v.number fits.ends;
+  }
+
+  -- what is known stays so and is held; what the records are of may still be written, and is known
+  pub relocked_fits : (o : Opening) (old new : Memory) (settled : ℕ → ℕ) (flies : ℕ → List Final → Type 0) (k : ℕ) → ((w : ℕ) → new (PoolWord w) ≡ old (PoolWord w))
+      → ((w : ℕ) → Contains known w → Contains v.known w) → ((w : ℕ) → Contains known w → IsTrue (is_held v' w)) → All (LockFits o new k) locks
+      → ((slot : ℕ) (r : Recorded) → IsRecordAt v slot r → (w : ℕ) → IsTrue (is_written v w) → Contains v.known w → IsTrue (is_written v' w) × Contains known w)
+      → LaneFits o old settled flies k v → LaneFits o new settled flies k v'
+  relocked_fits o old new settled flies k same fewer held locks_fit kept fits = record {
+    lane = record { lanes = fits.lane.lanes; zones = fits.lane.zones; lane = fits.lane.lane; size = fits.lane.size };
+    picture = record { area = λ w inside. same w ∙ fits.picture.area w inside; known = λ w there. same w ∙ fits.picture.known w (fewer w there); held = held; descriptors = fits.picture.descriptors };
+    locks = locks_fit;
+    log = subst (LogFits settled v') (sym (generation_same v.log.phase v v' refl)) (let f = fits.log in record {
+      most = f.most;
+      stored = f.stored;
+      each = λ slot r there. let g = f.each slot r there in record {
+        some = g.some;
+        most = g.most;
+        each = λ i low. let e = g.each i low in let t = kept slot r there (r.word + i) e.own e.known in record { own = t.0; known = t.1; before = e.before };
+      };
+      once = f.once;
+      stale = λ slot u low. f.stale slot u (subst (λ n. n ≤ slot) (used_again v.log.phase v v' refl) low);
+      unsealed = f.unsealed;
+      no_entries = f.no_entries;
+    });
+    phase = phase_relocked flies v.log.phase fits.phase;
+    blocks = record { reserved = fits.blocks.reserved; freed = fits.blocks.freed };
+    first_generation = fits.first_generation;
+    last_generation = fits.last_generation;
+    room = fits.room;
+    within = fits.within;
+  }
+
+module _ (o : Opening) (old : Memory) (views : Views) (log : List Entry) (decided : ℕ → Bool) (world : World o old views log decided) (k : ℕ) (inside : k < o.lanes) (v : View) (is : views k ≡ v) where
+  -- only a lock word changed: the other lanes' holds of it stay
+  pub relocks : (new : Memory) (line : ℕ) (locks : List Lock) (known : List ℕ) (seen : List Step) → IsSameBut (LockWord line) old new
+      → ((j : ℕ) (write : Bool) → j < o.lanes → j ≢ k → ShowsHold j write (old (LockWord line)) → ShowsHold j write (new (LockWord line)))
+      → LaneFits o new (settled o log decided) (Flies log decided k) k (relocked v locks known seen)
+      → ((other bit : ℕ) → bit_at (new (LockWord other)) bit ≡ 1 → IsHold (with_view views k (relocked v locks known seen)) o.lanes other bit)
+      → (may_draw (relocked v locks known seen) ≡ true → may_draw v ≡ true)
+      → World o new (with_view views k (relocked v locks known seen)) log decided
+  relocks new line locks known seen same shows fits lines less =
+      let v'' : View = relocked v locks known seen in
+      quiet o old views log decided world k inside v is v'' new
+      (λ j low other. lane_kept o old new (settled o log decided) (settled o log decided) (Flies log decided j) (Flies log decided j) j (views j)
+      (λ w in_area. same (PoolWord w) (pool-lock w line)) (λ w there. same (PoolWord w) (pool-lock w line))
+      (λ at write held. ⊎_elim (λ (this : at ≡ line). subst (λ l. ShowsHold j write (new (LockWord l))) (sym this) (shows j write low other (subst (λ l. ShowsHold j write (old (LockWord l))) this held)))
+      (λ (differ : at ≢ line). subst (ShowsHold j write) (sym (same (LockWord at) (other_lock at line differ))) held) (cases_eq at line))
+      (λ w written. refl) (λ n flies. flies) (world.each_lane j low))
+      fits
+      (λ w heap un others. same (PoolWord w) (pool-lock w line) ∙ world.each_word w heap (unlogged_before o old views log decided world k inside v is v'' w un others))
+      lines (λ n flying. flying) (same CommitCounter (counter-lock line)) (room_kept o old views log decided world k inside v is v'' less) refl
+      (⊎_elim (λ (unset : old StopWord ≡ 0). inl (same StopWord (stop-lock line) ∙ unset))
+      (λ (t : (j : ℕ) × (j < o.lanes) × IsAtStop (views j)). inr (at_stop_kept o old views log decided world k inside v is v'' (stop_kept v v'' refl (le_refl v.calls)) t)) world.stop_word)

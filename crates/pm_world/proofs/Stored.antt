@@ -1,0 +1,159 @@
+-- What every store of a lane owes and keeps, at a word of its area or under a lock that it holds for writing.
+use Rattle.std.proofs.Common.{◌≡◌, ◌≢◌, ℕ, ◌+◌, ◌-◌, ◌*◌, ◌<◌, ◌≤◌, ◌⊎◌, inl, inr, ⊎_elim, Bool, true, false, IsTrue, is_some, ◌&&◌, ◌||◌, Contains, List, [], ◌∷◌, length, take, drop, set, slice_index, slice_range, Some, refl, sym, ap, ◌∙◌, subst, arith, length-set, length-append, get_or-set_same, get_or-set_other, zero, suc}
+use Rattle.std.proofs.lemmas.Bool.{cases_eq, and_parts, or_cases, or_left, or_right}
+use Rattle.std.proofs.lemmas.List.{drop-set-lt, drop-set-add, take-set-le}
+use Rattle.std.proofs.lemmas.List.Elements.{All-weaker}
+use Rattle.std.specs.List.{list_any}
+use Rattle.std.specs.Int.{bit_at}
+use Rattle.pm_view.specs.Area.{area_word, is_in_area}
+use Rattle.pm_view.specs.Blocks.{descriptor_word}
+use Rattle.pm_view.specs.Changes.{store_change}
+use Rattle.pm_view.specs.Counts.{MayCount, HasRoom, IsAtStop}
+use Rattle.pm_view.specs.Held.{is_held, is_under, is_reserved}
+use Rattle.pm_view.specs.Log.{Phase, Log}
+use Rattle.pm_record.specs.Undo.{undo_of}
+use Rattle.std.proofs.lemmas.Option.{slice_get_within}
+use Rattle.pm_view.specs.Rights.{is_written}
+use Rattle.pm_view.specs.View.{View, Lock}
+use Rattle.pm_view.specs.Views.{changed}
+use Rattle.pm_image.specs.Logs.{undo_slot, slot_line}
+use Rattle.pm_image.specs.Reads.{IsHeapWord}
+use Rattle.pm_world.specs.Course.{flight}
+use Rattle.pm_world.specs.Fits.{LaneFits, LockFits, LogFits, PhaseFits, ShowsHold}
+use Rattle.pm_world.specs.History.{Entry, Flies, settled}
+use Rattle.pm_world.specs.Laws.{with_view}
+use Rattle.pm_world.specs.Lawful.{generation_limit}
+use Rattle.pm_world.specs.Memory.{Memory, Becomes}
+use Rattle.pm_world.specs.Memory.Location.{PoolWord, LockWord, CommitCounter, StopWord}
+use Rattle.pm_world.specs.Opening.{Opening, IsChunk}
+use Rattle.pm_world.specs.Records.{generation_of, is_logged, records_generation, used_slots}
+use Rattle.pm_world.specs.World.{Views, World}
+use Rattle.pm_world.proofs.Apart.{area_bounds, IsOwn, area_apart, held_apart, held_core}
+use Rattle.pm_world.proofs.Exclusion.{WritesUnder, writes_under}
+use Rattle.pm_world.proofs.Frame.{lane_kept, in_phase}
+use Rattle.pm_world.proofs.Locations.{other_pool, lock-pool, counter-pool, stop-pool}
+use Rattle.pm_world.proofs.Worlds.{own, quiet, unlogged_before, hold_kept, room_kept, at_stop_kept, stop_kept}
+
+-- words from one on, where another word is stored
+pub range_set_other : (words : List ℕ) (w x from n : ℕ) → (w < from) ⊎ (from + n ≤ w) → slice_range (set words w x) from (from + n) ≡ slice_range words from (from + n)
+range_set_other words w x from n apart =
+    ⊎_elim (λ (below : w < from). ap (take (from + n - from)) (drop-set-lt from words w x below))
+    (λ (above : from + n ≤ w). let there : from + (w - from) ≡ w = omega arith in
+    ap (λ u. take (from + n - from) (drop from (set words u x))) (sym there) ∙ (ap (take (from + n - from)) (drop-set-add from words (w - from) x) ∙ take-set-le (from + n - from) (drop from words) (w - from) x (omega arith)))
+    apart
+
+-- a slot where a word of no slot, or of another, is stored
+pub slot_set_other : (words : List ℕ) (w x lane slot : ℕ) → (w < 8 * slot_line lane slot) ⊎ (8 * slot_line lane slot + 8 ≤ w) → undo_slot (set words w x) lane slot ≡ undo_slot words lane slot
+slot_set_other words w x lane slot apart = range_set_other words w x (8 * slot_line lane slot) 8 apart
+
+-- a word that the lane may write is under one of its locks
+pub written_under : (locks : List Lock) (w : ℕ) → list_any (λ (l : Lock). l.write && is_some l.block && is_under w l) locks ≡ true → list_any (is_under w) locks ≡ true
+written_under [] w e = e
+written_under (l ∷ locks) w e =
+    ⊎_elim (λ (here : (l.write && is_some l.block && is_under w l) ≡ true). or_left (is_under w l) (list_any (is_under w) locks) (and_parts (l.write && is_some l.block) (is_under w l) here).1)
+    (λ (later : list_any (λ (m : Lock). m.write && is_some m.block && is_under w m) locks ≡ true). or_right (is_under w l) (list_any (is_under w) locks) (written_under locks w later))
+    (or_cases (l.write && is_some l.block && is_under w l) (list_any (λ (m : Lock). m.write && is_some m.block && is_under w m) locks) e)
+
+module _ (o : Opening) (old : Memory) (views : Views) (log : List Entry) (decided : ℕ → Bool) (world : World o old views log decided) (k : ℕ) (inside : k < o.lanes) (v : View) (is : views k ≡ v)
+    (new : Memory) (w x : ℕ) (moves : Becomes (PoolWord w) x old new) (in_pool : w < length v.words) (right : IsTrue (is_in_area v.lane w) ⊎ IsTrue (is_written v w)) (may : MayCount v) (room : HasRoom v.changes) where
+  mine : LaneFits o old (settled o log decided) (Flies log decided k) k v
+  mine = own o old views log decided world k inside v is
+
+  pub owned : IsOwn o old k w
+  owned = ⊎_elim (λ (area : IsTrue (is_in_area v.lane w)). inl (ap (λ n. is_in_area n w) (sym mine.lane.lane) ∙ area))
+      (λ (written : IsTrue (is_written v w)). inr (writes_under o old k v w mine.locks written)) right
+
+  abbrev pub stored_view : Log → View
+  stored_view lg = changed v w x (store_change w (slice_index v.words w) x) lg
+
+  pub others_kept : (j : ℕ) → j < o.lanes → j ≢ k → LaneFits o new (settled o log decided) (Flies log decided j) j (views j)
+  others_kept j low other =
+      let fits = world.each_lane j low in
+      let same : (u : ℕ) → u ≢ w → new (PoolWord u) ≡ old (PoolWord u) = λ u differ. moves.0 (PoolWord u) (other_pool u w differ) in
+      lane_kept o old new (settled o log decided) (settled o log decided) (Flies log decided j) (Flies log decided j) j (views j)
+      (λ u in_area. same u (λ this. area_apart o old j k w world.sound low inside other owned (ap (λ n. is_in_area n w) (sym fits.lane.lane) ∙ subst (λ z. IsTrue (is_in_area (views j).lane z)) this in_area)))
+      (λ u known. same u (λ this. held_apart o old (settled o log decided) (Flies log decided j) j k w (views j) world.sound low inside other owned fits (subst (λ z. IsTrue (is_held (views j) z)) this (fits.picture.held u known))))
+      (λ line write. subst (λ word. ShowsHold j write word) (sym (moves.0 (LockWord line) (lock-pool line w)))) (λ u written. refl) (λ n flies. flies) fits
+
+  -- a word of the view, and of the memory
+  pub other_word : (u : ℕ) → u ≢ w → slice_index (set v.words w x) u ≡ slice_index v.words u
+  other_word u differ = get_or-set_other v.words w u x 0 differ
+
+  pub this_word : slice_index (set v.words w x) w ≡ x
+  this_word = get_or-set_same v.words w x 0 in_pool
+
+  word_now : (u : ℕ) → (u ≢ w → old (PoolWord u) ≡ slice_index v.words u) → new (PoolWord u) ≡ slice_index (set v.words w x) u
+  word_now u before = ⊎_elim (λ (this : u ≡ w). ap (λ z. new (PoolWord z)) this ∙ (moves.1 ∙ (sym this_word ∙ ap (slice_index (set v.words w x)) (sym this))))
+      (λ (differ : u ≢ w). moves.0 (PoolWord u) (other_pool u w differ) ∙ (before differ ∙ sym (other_word u differ))) (cases_eq u w)
+
+  known_before : (u : ℕ) → u ≢ w → Contains (w ∷ v.known) u → Contains v.known u
+  known_before u differ (zero, low, at) = absurd (differ (sym at))
+  known_before u differ (suc n, low, at) = (n, omega arith, at)
+
+  pub known_more : (u : ℕ) → Contains v.known u → Contains (w ∷ v.known) u
+  known_more u (n, low, at) = (suc n, omega arith, at)
+
+  -- the stored word describes no chunk
+  pub no_descriptor : (page : ℕ) → IsChunk o.lanes page → descriptor_word o.lanes page ≢ w
+  no_descriptor page chunk same =
+      ⊎_elim (λ (area : IsTrue (is_in_area k w)). let a = (area_bounds k w area).1 in let one = chunk.1 in absurd (omega arith))
+      (λ (t : WritesUnder o old k w). world.sound.apart t.0 w t.1 (page, (chunk, inl (sym same)))) owned
+
+  own_held : (is_in_area v.lane w || list_any (is_under w) v.locks) ≡ true
+  own_held =
+      (⊎_elim (λ (area : is_in_area v.lane w ≡ true). or_left (is_in_area v.lane w) (list_any (is_under w) v.locks) area)
+      (λ (written : is_written v w ≡ true). or_right (is_in_area v.lane w) (list_any (is_under w) v.locks) (written_under v.locks w written)) right)
+
+  -- the lane's own facts after the store, from those of its log
+  pub stored_fits : (lg : Log) → LogFits (settled o log decided) (stored_view lg) (records_generation lg.phase (stored_view lg)) → PhaseFits (Flies log decided k) (stored_view lg) lg.phase
+      → 1 ≤ generation_of (stored_view lg) → generation_of (stored_view lg) ≤ generation_limit → LaneFits o new (settled o log decided) (Flies log decided k) k (stored_view lg)
+  stored_fits lg log_fits phase_fits first last = record {
+    lane = record { lanes = mine.lane.lanes; zones = mine.lane.zones; lane = mine.lane.lane; size = length-set v.words w x ∙ mine.lane.size };
+    picture = record {
+      area = λ u in_area. word_now u (λ differ. mine.picture.area u in_area);
+      known = λ u known. word_now u (λ differ. mine.picture.known u (known_before u differ known));
+      held = λ u known. or_left (is_in_area v.lane u || list_any (is_under u) v.locks) (is_reserved (stored_view lg) u)
+          (⊎_elim (λ (this : u ≡ w). subst (λ z. (is_in_area v.lane z || list_any (is_under z) v.locks) ≡ true) (sym this) own_held)
+          (λ (differ : u ≢ w). held_core v u mine.blocks.reserved (mine.picture.held u (known_before u differ known))) (cases_eq u w));
+      descriptors = λ page chunk. other_word (descriptor_word o.lanes page) (no_descriptor page chunk) ∙ mine.picture.descriptors page chunk;
+    };
+    locks = All-weaker (LockFits o old k) (LockFits o new k) (λ l f. record { shows = subst (λ word. ShowsHold k l.write word) (sym (moves.0 (LockWord l.line) (lock-pool l.line w))) f.shows; found = f.found }) v.locks mine.locks;
+    log = log_fits;
+    phase = phase_fits;
+    blocks = record { reserved = mine.blocks.reserved; freed = mine.blocks.freed };
+    first_generation = first;
+    last_generation = last;
+    room = let before = room in let e = length-append v.changes (store_change w (slice_index v.words w) x ∷ []) in omega (arith, e, before);
+    within = λ stop e. let due = may stop e in omega arith;
+  }
+
+  -- the world after it
+  pub stored_world : (lg : Log) → LaneFits o new (settled o log decided) (Flies log decided k) k (stored_view lg)
+      → ((n : ℕ) → flight v ≡ Some n → flight (stored_view lg) ≡ Some n)
+      → ((u : ℕ) → IsHeapWord o.lanes o.zones u → is_logged (stored_view lg) u ≡ false → (u ≢ w) × (is_logged v u ≡ false))
+      → World o new (with_view views k (stored_view lg)) log decided
+  stored_world lg fits flies words =
+      let v' : View = stored_view lg in
+      quiet o old views log decided world k inside v is v' new others_kept fits
+      (λ u heap un others. let t = words u heap un in moves.0 (PoolWord u) (other_pool u w t.0) ∙ world.each_word u heap (unlogged_before o old views log decided world k inside v is v' u t.1 others))
+      (λ line bit one. hold_kept o old views log decided world k inside v is v' line bit (λ there. there) (world.each_line line bit (subst (λ n. bit_at n bit ≡ 1) (moves.0 (LockWord line) (lock-pool line w)) one)))
+      flies (moves.0 CommitCounter (counter-pool w)) (room_kept o old views log decided world k inside v is v' (λ can. can)) refl
+      (⊎_elim (λ (unset : old StopWord ≡ 0). inl (moves.0 StopWord (stop-pool w) ∙ unset))
+      (λ (t : (j : ℕ) × (j < o.lanes) × IsAtStop (views j)). inr (at_stop_kept o old views log decided world k inside v is v' (stop_kept v v' refl (omega arith)) t)) world.stop_word)
+
+  -- the log after a store of a word of no slot
+  pub log_beside : (phase : Phase) (generation : ℕ) → ((slot : ℕ) → slot < 64 → (w < 8 * slot_line v.lane slot) ⊎ (8 * slot_line v.lane slot + 8 ≤ w)) → area_word v.lane + 1 ≢ w
+      → used_slots phase (stored_view (in_phase phase v.log)) ≡ used_slots v.log.phase v → LogFits (settled o log decided) v generation → LogFits (settled o log decided) (stored_view (in_phase phase v.log)) generation
+  log_beside phase generation apart seal used fits = record {
+    most = fits.most;
+    stored = λ slot r there. let low = slice_get_within v.log.records slot r there in let most = fits.most in slot_set_other v.words w x v.lane slot (apart slot (omega arith)) ∙ fits.stored slot r there;
+    each = λ slot r there. let f = fits.each slot r there in record {
+      some = f.some;
+      most = f.most;
+      each = λ i low. let e = f.each i low in record { own = e.own; known = known_more (r.word + i) e.known; before = e.before };
+    };
+    once = fits.once;
+    stale = λ slot u low high there. fits.stale slot u (subst (λ n. n ≤ slot) used low) high (ap undo_of (sym (slot_set_other v.words w x v.lane slot (apart slot high))) ∙ there);
+    unsealed = other_word (area_word v.lane + 1) seal ∙ fits.unsealed;
+    no_entries = fits.no_entries;
+  }

@@ -1,0 +1,26 @@
+use Rattle.pm_world.proofs.StepDrain.{drains}
+use Rattle.pm_world.proofs.StepDraw.{draws}
+use Rattle.pm_world.proofs.StepFlush.{flushes}
+use Rattle.pm_world.proofs.StepGive.{gives}
+use Rattle.pm_world.proofs.StepLoad.{loads}
+use Rattle.pm_world.proofs.StepSeen.{sees_numbers, sees_stops, tells}
+use Rattle.pm_world.proofs.StepSetStop.{sets_stop}
+use Rattle.pm_world.proofs.StepStore.{stores}
+use Rattle.pm_world.proofs.StepTake.{takes_read, takes_write}
+use Rattle.pm_world.proofs.laws.lawful_steps_keep_the_world.Goals as goal
+
+pub returns : goal.returns
+returns c = record {
+  load = loads;
+  store = stores;
+  flush = flushes;
+  drain = drains;
+  take_write = takes_write;
+  take_read = takes_read;
+  give = gives;
+  draw = draws;
+  number_seen = sees_numbers;
+  stop_seen = sees_stops;
+  set_stop = sets_stop;
+  tell = tells;
+}

@@ -1,0 +1,140 @@
+-- How a lane's view fits the memory: what it knows, what it holds, and its log by how far its call has come.
+use Rattle.std.specs.Prelude.{◌≡◌, ℕ, ◌+◌, ◌^◌, ◌<◌, ◌≤◌, ◌⊎◌, Bool, true, false, IsTrue, IfSome, All, Contains, List, [], length, slice_index, Option, Some, None}
+use Rattle.std.specs.Option.{ForSome}
+use Rattle.std.specs.Int.{bit_at}
+use Rattle.pm_record.specs.Undo.{undo_of}
+use Rattle.pm_record.specs.declared.undo.Undo.{Undo}
+use Rattle.pm_view.specs.declared.change.Change.{Change}
+use Rattle.pm_view.specs.Area.{area_word, is_in_area, part_of}
+use Rattle.pm_view.specs.Area.Part.{SlotWord}
+use Rattle.pm_view.specs.Bits.{all_bits}
+use Rattle.pm_view.specs.Blocks.{block_at, descriptor_word}
+use Rattle.pm_view.specs.Counts.{max_changes}
+use Rattle.pm_view.specs.Held.{is_held}
+use Rattle.pm_view.specs.Log.{Phase, Recorded, Final}
+use Rattle.pm_view.specs.Log.Phase.{Idle, Open, Drawn, Retiring}
+use Rattle.pm_view.specs.Rights.{is_written}
+use Rattle.pm_view.specs.View.{View, Lock}
+use Rattle.pm_image.specs.Logs.{undo_slot}
+use Rattle.pm_memory.specs.LockWords.{writer_bit}
+use Rattle.pm_world.specs.Lawful.{generation_limit}
+use Rattle.pm_world.specs.Memory.{Memory}
+use Rattle.pm_world.specs.Memory.Location.{PoolWord, LockWord}
+use Rattle.pm_world.specs.Opening.{Opening, IsChunk}
+use Rattle.pm_world.specs.Records.{IsRecordAt, generation_of, slot_word, covers, is_logged, spelled, records_generation, used_slots, difference_of, AreRestored}
+
+-- the view is that of lane k of this pool
+pub record IsLane (o : Opening) (k : ℕ) (v : View) : Type 0 where
+  pub lanes : v.lanes ≡ o.lanes
+  pub zones : v.zones ≡ o.zones
+  pub lane : v.lane ≡ k
+  pub size : length v.words ≡ length o.words
+
+-- the view's picture of the pool: of its own area and of what it knows it has the values, and what it knows stays, being held
+pub record PictureFits (o : Opening) (mem : Memory) (v : View) : Type 0 where
+  pub area : (w : ℕ) → IsTrue (is_in_area v.lane w) → mem (PoolWord w) ≡ slice_index v.words w
+  pub known : (w : ℕ) → Contains v.known w → mem (PoolWord w) ≡ slice_index v.words w
+  pub held : (w : ℕ) → Contains v.known w → IsTrue (is_held v w)
+  -- what describes chunks is as at the opening; with the heap: a run stays one
+  pub descriptors : (page : ℕ) → IsChunk o.lanes page → slice_index v.words (descriptor_word o.lanes page) ≡ slice_index o.words (descriptor_word o.lanes page)
+
+-- the lock word shows that lane k holds it, for writing or for reading
+abbrev pub ShowsHold : ℕ → Bool → ℕ → Type 0
+ShowsHold k true word = word ≡ writer_bit k
+ShowsHold k false word = (bit_at word k ≡ 1) × (word < 2 ^ 32)
+
+-- a held lock: its word shows the hold, and what was found under it is there
+pub record LockFits (o : Opening) (mem : Memory) (k : ℕ) (l : Lock) : Type 0 where
+  pub shows : ShowsHold k l.write (mem (LockWord l.line))
+  pub found : IfSome l.block (λ lines. block_at o.lanes o.words l.line ≡ Some lines)
+
+-- a recorded word: the lane may write it, knows it, and recorded its settled value
+pub record RecordedWordFits (settled : ℕ → ℕ) (v : View) (w old : ℕ) : Type 0 where
+  pub own : IsTrue (is_written v w)
+  pub known : Contains v.known w
+  pub before : old ≡ settled w
+
+-- a record of one to four such words
+pub record RecordFits (settled : ℕ → ℕ) (v : View) (r : Recorded) : Type 0 where
+  pub some : 1 ≤ length r.old
+  pub most : length r.old ≤ 4
+  pub each : (i : ℕ) → i < length r.old → RecordedWordFits settled v (r.word + i) (slice_index r.old i)
+
+-- the log: its records stand in their slots in this generation and have no word twice, all other slots are of earlier ones
+pub record LogFits (settled : ℕ → ℕ) (v : View) (generation : ℕ) : Type 0 where
+  pub most : length v.log.records ≤ 64
+  pub stored : (slot : ℕ) (r : Recorded) → IsRecordAt v slot r → undo_slot v.words v.lane slot ≡ spelled generation r
+  pub each : (slot : ℕ) (r : Recorded) → IsRecordAt v slot r → RecordFits settled v r
+  pub once : (slot other : ℕ) (r q : Recorded) (w : ℕ) → IsRecordAt v slot r → IsRecordAt v other q → IsTrue (covers r w) → IsTrue (covers q w) → slot ≡ other
+  pub stale : (slot : ℕ) (u : Undo) → used_slots v.log.phase v ≤ slot → slot < 64 → undo_of (undo_slot v.words v.lane slot) ≡ Some u → u.generation < generation
+  -- with the redo log: the seal and the entries
+  pub unsealed : slice_index v.words (area_word v.lane + 1) ≡ 0
+  pub no_entries : v.log.entries ≡ []
+
+-- nothing is open
+pub record IdleFits (v : View) : Type 0 where
+  pub no_records : v.log.records ≡ []
+  pub drained : v.changes ≡ []
+
+-- an undrained change while the log may grow: a store of a slot's word, or of a word that the log would restore
+pub record OpenChange (v : View) (c : Change) : Type 0 where
+  pub whole : c.mask ≡ all_bits
+  pub of : (part_of v.lane c.word ≡ SlotWord) ⊎ IsTrue (is_logged v c.word)
+
+-- the log may grow: these words of the next record stand in their slot
+pub record OpenFits (v : View) (slot pair : List ℕ) : Type 0 where
+  pub undrawn : v.number ≡ None
+  pub short : length slot < 8
+  pub stands : (i : ℕ) → i < length slot → slice_index v.words (slot_word v.lane (length v.log.records) + i) ≡ slice_index slot i
+  pub changes : All (OpenChange v) v.changes
+  pub no_pair : pair ≡ []
+
+-- the number is drawn
+pub record DrawnFits (flies : ℕ → List Final → Type 0) (v : View) : Type 0 where
+  pub number : ℕ
+  pub drawn : v.number ≡ Some number
+  pub flying : flies number (difference_of v)
+  pub drained : v.changes ≡ []
+
+-- an undrained change while the generation ends: the store of the next one over the last
+pub record RetiringChange (v : View) (c : Change) : Type 0 where
+  pub whole : c.mask ≡ all_bits
+  pub of : c.word ≡ area_word v.lane
+  pub before : c.old + 1 ≡ generation_of v
+
+-- the call is in flight, or given up and taken back
+abbrev pub EndFits : (ℕ → List Final → Type 0) → View → Option ℕ → Type 0
+EndFits flies v (Some number) = flies number (difference_of v)
+EndFits flies v None = AreRestored v
+
+-- the next generation is stored
+pub record RetiringFits (flies : ℕ → List Final → Type 0) (v : View) : Type 0 where
+  pub changes : All (RetiringChange v) v.changes
+  pub ends : EndFits flies v v.number
+
+-- by how far the lane's call has come; with the redo log: sealing, applying, clearing
+abbrev pub PhaseFits : (ℕ → List Final → Type 0) → View → Phase → Type 0
+PhaseFits flies v Idle = IdleFits v
+PhaseFits flies v (Open slot pair) = OpenFits v slot pair
+PhaseFits flies v Drawn = DrawnFits flies v
+PhaseFits flies v Retiring = RetiringFits flies v
+PhaseFits flies v phase = ⊥
+
+-- with the heap: what the lane reserved and freed
+pub record HasNoBlocks (v : View) : Type 0 where
+  pub reserved : v.reserved ≡ []
+  pub freed : v.freed ≡ []
+
+-- The view v is one of lane k: `settled` has the words after all decided entries, and `flies` says that the lane's entry of some number and
+-- difference is drawn and not decided.
+pub record LaneFits (o : Opening) (mem : Memory) (settled : ℕ → ℕ) (flies : ℕ → List Final → Type 0) (k : ℕ) (v : View) : Type 0 where
+  pub lane : IsLane o k v
+  pub picture : PictureFits o mem v
+  pub locks : All (LockFits o mem k) v.locks
+  pub log : LogFits settled v (records_generation v.log.phase v)
+  pub phase : PhaseFits flies v v.log.phase
+  pub blocks : HasNoBlocks v
+  pub first_generation : 1 ≤ generation_of v
+  pub last_generation : generation_of v ≤ generation_limit
+  pub room : length v.changes ≤ max_changes
+  pub within : ForSome v.stop (λ stop. v.calls ≤ stop)

@@ -1,0 +1,133 @@
+-- Which steps a lane may make, by its own view alone, whatever a load or a lock answers. A step that no line allows comes with its stage:
+-- entries, the seal, ORs and ANDs, occupancy, zones and raises.
+use Rattle.std.specs.Prelude.{◌≡◌, ℕ, ◌+◌, ◌/◌, ◌^◌, ◌<◌, ◌≤◌, ◌==◌, Bool, true, false, IsTrue, All, Contains, List, [], ◌∷◌, ◌++◌, length, take, slice_index, None}
+use Rattle.std.specs.List.{list_any}
+use Rattle.pm_view.specs.declared.change.Change.{Change}
+use Rattle.pm_view.specs.Area.{Part, part_of}
+use Rattle.pm_view.specs.Area.Part.{GenerationWord, SlotWord, OtherWord}
+use Rattle.pm_view.specs.Counts.{is_counted, MayCount, IsAtStop, HasRoom, FlushesSome, DrainsSome}
+use Rattle.pm_view.specs.Held.{is_under, is_known}
+use Rattle.pm_view.specs.Log.{Phase, Recorded}
+use Rattle.pm_view.specs.Log.Phase.{Idle, Open, Drawn}
+use Rattle.pm_view.specs.Rights.{is_written}
+use Rattle.pm_view.specs.Steps.{Step}
+use Rattle.pm_view.specs.Steps.Step.{Load, Store, Flush, Drain, TakeWrite, TakeRead, Give, Draw, NumberSeen, StopSeen, SetStop, Tell}
+use Rattle.pm_view.specs.View.{View, Lock}
+use Rattle.pm_world.specs.Records.{generation_of, slot_word, is_recorded, is_logged, spelled, AreRestored}
+
+-- generations, and the numbers after which a call begins, are below this
+abbrev pub generation_limit : ℕ
+generation_limit = 2 ^ 62
+
+-- a word that the record is to be of: it has this value, the lane may write it, and it has no record yet
+pub record CanRecordWord (v : View) (w old : ℕ) : Type 0 where
+  pub own : IsTrue (is_written v w)
+  pub known : IsTrue (is_known v w)
+  pub present : slice_index v.words w ≡ old
+  pub new : is_recorded v.log.records w ≡ false
+
+-- a record of one to four such words
+pub record CanRecord (v : View) (r : Recorded) : Type 0 where
+  pub some : 1 ≤ length r.old
+  pub most : length r.old ≤ 4
+  pub each : (i : ℕ) → i < length r.old → CanRecordWord v (r.word + i) (slice_index r.old i)
+
+-- x is the next word of a record's slot: the slots are taken in order, and their words too
+pub record AppendsToSlot (v : View) (w x : ℕ) (slot : List ℕ) : Type 0 where
+  pub next : Recorded
+  pub can : CanRecord v next
+  pub spells : slot ++ x ∷ [] ≡ take (length slot + 1) (spelled (generation_of v) next)
+  pub at : w ≡ slot_word v.lane (length v.log.records) + length slot
+  pub free : length v.log.records < 64
+  pub below : generation_of v < generation_limit
+
+-- the word may be written: it is under a write lock, and its record is drained
+pub record MayWrite (v : View) (w : ℕ) : Type 0 where
+  pub own : IsTrue (is_written v w)
+  pub logged : IsTrue (is_logged v w)
+
+-- x ends the generation: it is the next one, and nothing is undrained
+pub record EndsGeneration (v : View) (x : ℕ) : Type 0 where
+  pub next : x ≡ generation_of v + 1
+  pub below : generation_of v < generation_limit
+  pub drained : v.changes ≡ []
+
+-- x ends the generation of a call that is given up: every recorded word has its old value, and no record is in the making
+pub record GivesUp (v : View) (x : ℕ) (slot : List ℕ) : Type 0 where
+  pub ends : EndsGeneration v x
+  pub restored : AreRestored v
+  pub whole : slot ≡ []
+
+-- by how far the call has come, and what the word is to the lane
+abbrev pub StoreFits : View → ℕ → ℕ → Phase → Part → Type 0
+StoreFits v w x (Open slot pair) SlotWord = AppendsToSlot v w x slot
+StoreFits v w x (Open slot pair) OtherWord = MayWrite v w
+StoreFits v w x (Open slot pair) GenerationWord = GivesUp v x slot
+StoreFits v w x Drawn GenerationWord = EndsGeneration v x
+StoreFits v w x phase part = ⊥
+
+pub record MayStore (v : View) (w x : ℕ) : Type 0 where
+  pub inside : w < length v.words
+  pub room : HasRoom v.changes
+  pub fits : StoreFits v w x v.log.phase (part_of v.lane w)
+
+-- locks are taken before the draw
+abbrev pub IsEarly : Phase → Type 0
+IsEarly Idle = Unit {0}
+IsEarly (Open slot pair) = Unit {0}
+IsEarly phase = ⊥
+
+-- the lane holds the line's lock
+abbrev pub is_holder : List Lock → ℕ → Bool
+is_holder locks line = list_any (λ (l : Lock). l.line == line) locks
+
+pub record MayTake (v : View) (line : ℕ) : Type 0 where
+  pub inside : line < length v.words / 8
+  pub free : is_holder v.locks line ≡ false
+  pub early : IsEarly v.log.phase
+
+-- a lock goes back where nothing was found under it, or once the call's log is retired and nothing undrained lies under it
+abbrev pub GiveFits : View → Lock → Phase → Type 0
+GiveFits v l Idle = All (λ (c : Change). is_under c.word l ≡ false) v.changes
+GiveFits v l (Open slot pair) = l.block ≡ None
+GiveFits v l phase = ⊥
+
+pub record MayGive (v : View) (line : ℕ) : Type 0 where
+  pub inside : line < length v.words / 8
+  pub held : is_holder v.locks line ≡ true
+  pub fits : All (λ (l : Lock). l.line ≡ line → GiveFits v l v.log.phase) v.locks
+
+-- the call draws its one number, having seen a number below the limit, with nothing undrained and no record in the making
+pub record MayDraw (v : View) : Type 0 where
+  pub is_open : v.log.phase ≡ Open [] []
+  pub first : v.number ≡ None
+  pub drained : v.changes ≡ []
+  pub found : ℕ
+  pub seen : Contains v.seen (NumberSeen found)
+  pub below : found < generation_limit
+
+-- operations are told while the call is open
+abbrev pub MayTell : Phase → Type 0
+MayTell (Open slot pair) = Unit {0}
+MayTell phase = ⊥
+
+-- the lane may ask for the step
+abbrev pub Allowed : View → Step → Type 0
+Allowed v (Load w found) = w < length v.words
+Allowed v (Store w x) = MayStore v w x
+Allowed v (Flush line) = FlushesSome line v.changes
+Allowed v Drain = DrainsSome v.changes
+Allowed v (TakeWrite line won) = MayTake v line
+Allowed v (TakeRead line won) = MayTake v line
+Allowed v (Give line) = MayGive v line
+Allowed v (Draw n) = MayDraw v
+Allowed v (NumberSeen n) = Unit {0}
+Allowed v (StopSeen set) = Unit {0}
+Allowed v SetStop = IsAtStop v
+Allowed v (Tell operation reply) = MayTell v.log.phase
+Allowed v s = ⊥
+
+-- the lane makes the step: it may, and a counted call is not beyond its stop number
+pub record IsLawful (v : View) (s : Step) : Type 0 where
+  pub allowed : Allowed v s
+  pub due : is_counted s ≡ true → MayCount v

@@ -1,0 +1,34 @@
+-- The laws of a world: each lawful step of a lane keeps it, whatever the others hold; and what a power failure leaves.
+use Rattle.std.specs.Prelude.{◌≡◌, ℕ, ◌<◌, ◌==◌, Bool, true, if◌then◌else◌, Contains, List}
+use Rattle.pm_view.specs.Founds.{Found}
+use Rattle.pm_view.specs.Steps.{Step}
+use Rattle.pm_view.specs.View.{View}
+use Rattle.pm_view.specs.Views.{after}
+use Rattle.pm_world.specs.Course.{log_after, decided_after}
+use Rattle.pm_world.specs.Crash.{Survives, NoneTorn, MeansKept, IsAcknowledged, is_kept}
+use Rattle.pm_world.specs.History.{Entry}
+use Rattle.pm_world.specs.Lawful.{IsLawful}
+use Rattle.pm_world.specs.Memory.{Memory}
+use Rattle.pm_world.specs.Moves.{Moves}
+use Rattle.pm_world.specs.Opening.{Opening}
+use Rattle.pm_world.specs.World.{Views, World}
+
+-- the views, with another of lane k
+abbrev pub with_view : Views → ℕ → View → Views
+with_view views k v j = if j == k then v else views j
+
+-- a lawful step of lane k keeps the world, moves its history on, and is answered as the lane's view knows
+abbrev pub Keeps : Step → Type 0
+Keeps s = (o : Opening) (old new : Memory) (views : Views) (log : List Entry) (decided : ℕ → Bool) (k : ℕ) (v : View)
+    → World o old views log decided → k < o.lanes → views k ≡ v → IsLawful v s → Moves k s old new
+    → World o new (with_view views k (after v s)) (log_after log v s) (decided_after decided v s) × Found v s
+
+-- every image that survives means the history without the entries that it loses
+abbrev pub CrashLaw : Type 0
+CrashLaw = (o : Opening) (mem : Memory) (views : Views) (log : List Entry) (decided : ℕ → Bool) (image : List ℕ)
+    → World o mem views log decided → Survives o mem views image → NoneTorn o views image → MeansKept o views log image
+
+-- no image loses an acknowledged entry
+abbrev pub AcknowledgedLaw : Type 0
+AcknowledgedLaw = (o : Opening) (mem : Memory) (views : Views) (log : List Entry) (decided : ℕ → Bool) (image : List ℕ) (e : Entry)
+    → World o mem views log decided → Contains log e → IsAcknowledged views e → is_kept o views image e.number ≡ true

@@ -1,0 +1,14 @@
+pub mod Course
+pub mod Crash
+pub mod Fits
+pub mod History
+pub mod Lanes
+pub mod Lawful
+pub mod Laws
+pub mod Memory
+pub mod Moves
+pub mod Opening
+pub mod Opens
+pub mod Records
+pub mod Solo
+pub mod World

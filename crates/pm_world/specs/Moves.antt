@@ -1,0 +1,25 @@
+-- What each step of a lane does to the memory, and what it is answered.
+use Rattle.std.specs.Prelude.{◌≡◌, ℕ, ◌+◌, ◌==◌, true, false, not, Some, None}
+use Rattle.pm_view.specs.Steps.{Step}
+use Rattle.pm_view.specs.Steps.Step.{Load, Store, Flush, Drain, TakeWrite, TakeRead, Give, Draw, NumberSeen, StopSeen, SetStop, Tell}
+use Rattle.pm_memory.specs.LockWords.{with_writer, with_reader, without_lane}
+use Rattle.pm_world.specs.Memory.{Memory, IsSame, IsSameBut, Becomes}
+use Rattle.pm_world.specs.Memory.Location.{PoolWord, LockWord, CommitCounter, StopWord}
+
+-- The step of the lane takes the memory from old to new. ORs, ANDs, raises and the steps of the heap come with their stages.
+abbrev pub Moves : ℕ → Step → Memory → Memory → Type 0
+Moves lane (Load w found) old new = IsSame old new × (found ≡ old (PoolWord w))
+Moves lane (Store w x) old new = Becomes (PoolWord w) x old new
+Moves lane (Flush line) old new = IsSame old new
+Moves lane Drain old new = IsSame old new
+Moves lane (TakeWrite line true) old new = IsSameBut (LockWord line) old new × (with_writer lane (old (LockWord line)) ≡ Some (new (LockWord line)))
+Moves lane (TakeWrite line false) old new = IsSame old new × (with_writer lane (old (LockWord line)) ≡ None)
+Moves lane (TakeRead line true) old new = IsSameBut (LockWord line) old new × (with_reader lane (old (LockWord line)) ≡ Some (new (LockWord line)))
+Moves lane (TakeRead line false) old new = IsSame old new × (with_reader lane (old (LockWord line)) ≡ None)
+Moves lane (Give line) old new = Becomes (LockWord line) (without_lane lane (old (LockWord line))) old new
+Moves lane (Draw n) old new = Becomes CommitCounter n old new × (n ≡ old CommitCounter + 1)
+Moves lane (NumberSeen n) old new = IsSame old new × (n ≡ old CommitCounter)
+Moves lane (StopSeen set) old new = IsSame old new × (set ≡ not (old StopWord == 0))
+Moves lane SetStop old new = Becomes StopWord 1 old new
+Moves lane (Tell operation reply) old new = IsSame old new
+Moves lane s old new = ⊥

@@ -1,0 +1,36 @@
+-- What a world began from, and which line's lock guards a word.
+use Rattle.std.specs.Prelude.{◌≡◌, ℕ, ◌+◌, ◌*◌, ◌<◌, ◌≤◌, ◌⊎◌, IsTrue, List, length, slice_index, Some}
+use Rattle.pm_view.specs.Blocks.{block_at, zone_page, chunk_of, descriptor_word, bitmap_word, is_run}
+use Rattle.pm_view.specs.Held.{is_under_found}
+
+-- the pool's shape, and its words at the opening, after recovery
+pub record Opening : Type 0 where
+  pub lanes : ℕ
+  pub zones : ℕ
+  pub words : List ℕ
+
+-- the line's lock guards the word: a block begins at the line, and the word is one of those of it that its lock is for
+pub record Guards (o : Opening) (line w : ℕ) : Type 0 where
+  pub lines : ℕ
+  pub block : block_at o.lanes o.words line ≡ Some lines
+  pub inside : IsTrue (is_under_found line (Some lines) w)
+
+-- the page is a chunk: behind the lanes' areas, and not the first of a zone
+abbrev pub IsChunk : ℕ → ℕ → Type 0
+IsChunk lanes page = (zone_page lanes 0 ≤ page) × (1 ≤ chunk_of lanes page)
+
+-- the word tells of the blocks in a chunk: it describes the chunk, or is its bitmap where the chunk is a run
+abbrev pub TellsOfBlocks : Opening → ℕ → Type 0
+TellsOfBlocks o w = (page : ℕ) × (IsChunk o.lanes page × ((w ≡ descriptor_word o.lanes page) ⊎ ((w ≡ bitmap_word page) × IsTrue (is_run (slice_index o.words (descriptor_word o.lanes page))))))
+
+-- What recovery leaves and a meaning gives: the words of a shape, whose blocks lie apart, behind the lanes' areas. The heap's stage says this
+-- of the words as they are settled, since blocks then come and go.
+pub record IsSound (o : Opening) : Type 0 where
+  pub some_lanes : 1 ≤ o.lanes
+  pub most_lanes : o.lanes ≤ 32
+  pub size : length o.words ≡ 512 + 1024 * o.lanes + 33280 * o.zones
+  pub one_guard : (line other w : ℕ) → Guards o line w → Guards o other w → line ≡ other
+  pub behind_areas : (line w : ℕ) → Guards o line w → 512 + 1024 * o.lanes ≤ w
+  pub within : (line w : ℕ) → Guards o line w → w < length o.words
+  -- no lock guards what tells of blocks
+  pub apart : (line w : ℕ) → Guards o line w → TellsOfBlocks o w → ⊥

@@ -1,0 +1,21 @@
+ghost use Rattle.std.specs.Prelude.{ℕ};
+ghost use Rattle.std.specs.Option.{option_copied};
+ghost use Rattle.pm_memory.specs.Runs.{Made};
+ghost use Rattle.pm_view.specs.Steps.{Step};
+ghost use Rattle.pm_view.specs.Steps.Step.{Tell};
+ghost use Rattle.pm_view.specs.View.{View};
+ghost use Rattle.pm_world.specs.Lawful.{Allowed};
+
+use pm_memory::LaneSync;
+use pm_objects::{Operation, Value};
+
+/// A lane's memory that asks no more of a step than that it is lawful.
+pub trait LawfulMem: LaneSync {
+    /// Adds an operation, with the value that it replied or none, to the lane's open call: for the proof alone, nothing else is done.
+    fn tell(&mut self, operation: &Operation, reply: Option<&Value>)
+        requires { Self.can self.old (Tell operation.now (option_copied reply)) }
+        ensures { Made (Self.at self.old) (Self.at self.new) (Tell operation.now (option_copied reply.entry)) };
+
+    /// A step that a lane's view allows is one that the memory takes.
+    ghost meets: { (m : Self) (v : View) (s : Step) → Self.at m v → Allowed v s → Self.can m s };
+}

@@ -1,0 +1,37 @@
+ghost use Rattle.std.specs.Prelude.{ℕ, Bool, Option};
+ghost use Rattle.pm_objects.specs.declared.calls.Operation.{Operation};
+ghost use Rattle.pm_objects.specs.declared.history.Value.{Value};
+ghost use Rattle.pm_view.specs.Steps.Step.{Load, Store, Flush, Drain, TakeWrite, TakeRead, Give, Draw, NumberSeen, StopSeen, SetStop, Tell};
+ghost use Rattle.pm_world.specs.Laws.{Keeps, CrashLaw, AcknowledgedLaw};
+ghost use Rattle.pm_world.specs.Opens.{OpeningLaw};
+
+/// A law: over the words that recovery leaves a world begins. No code runs.
+pub fn recovered_words_open_a_world()
+    ensures { OpeningLaw }
+{}
+
+/// A law: each lawful step of a lane keeps the world, whatever the other lanes hold. No code runs.
+pub fn lawful_steps_keep_the_world()
+    ensures load { (w found : ℕ) → Keeps (Load w found) }
+    ensures store { (w x : ℕ) → Keeps (Store w x) }
+    ensures flush { (line : ℕ) → Keeps (Flush line) }
+    ensures drain { Keeps Drain }
+    ensures take_write { (line : ℕ) (won : Bool) → Keeps (TakeWrite line won) }
+    ensures take_read { (line : ℕ) (won : Bool) → Keeps (TakeRead line won) }
+    ensures give { (line : ℕ) → Keeps (Give line) }
+    ensures draw { (n : ℕ) → Keeps (Draw n) }
+    ensures number_seen { (n : ℕ) → Keeps (NumberSeen n) }
+    ensures stop_seen { (stopped : Bool) → Keeps (StopSeen stopped) }
+    ensures set_stop { Keeps SetStop }
+    ensures tell { (operation : Operation) (reply : Option Value) → Keeps (Tell operation reply) }
+{}
+
+/// A law: every image that a power failure leaves of a world means the history without the calls that the image loses. No code runs.
+pub fn a_crash_keeps_whole_calls()
+    ensures { CrashLaw }
+{}
+
+/// A law: a call that has ended is lost by no image. No code runs.
+pub fn an_acknowledged_call_is_kept()
+    ensures { AcknowledgedLaw }
+{}
