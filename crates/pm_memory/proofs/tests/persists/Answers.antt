@@ -1,4 +1,5 @@
-use Rattle.std.proofs.Common.{◌≡◌, ℕ, Bool, false, None, refl, sym, ap, ◌∙◌, subst, IsTrue, rules, arith}
+use Rattle.std.proofs.Common.{◌≡◌, ℕ, ◌/◌, Bool, false, List, length, length-set, set, None, refl, sym, ap, ◌∙◌, subst, IsTrue, rules, arith}
+use Rattle.std.proofs.lemmas.List.{length-replicate}
 use Rattle.std.proofs.lemmas.List.Elements.{All-replicate}
 use Rattle.std.proofs.lemmas.List.Quantifiers.{Any-push}
 use Rattle.pm_view.specs.declared.change.Change.{Change}
@@ -20,4 +21,6 @@ persist-requires-clause-seen g c =
     let twice : c.store-2.new.self ≡ after_store c.store.new.self 11 2 = search rules in
     let now : Solo = after_store (after_store (opened c.in_ok-words.words.items None) 3 1) 11 2 in
     let is : c.store-2.new.self ≡ now = twice ∙ (ap (λ (m : Solo). after_store m 11 2) (once ∙ ap (λ (m : Solo). after_store m 3 1) first)) in
-    (view_of now, subst (λ (m : Solo). Sees m (view_of now)) (sym is) (sees_unlocked now (All-replicate (λ (word : ℕ). word ≡ 0) _ 0 refl) (All-replicate (λ (taken : Bool). taken ≡ false) 32 false refl) (omega arith) (λ n none. cc)))
+    let before : List ℕ = c.in_ok-words.words.items in
+    let lines : length now.locks ≡ length now.words / 8 = length-replicate (length before / 8) 0 ∙ ap (λ (n : ℕ). n / 8) (sym (length-set (set before 3 1) 11 2 ∙ length-set before 3 1)) in
+    (view_of now, subst (λ (m : Solo). Sees m (view_of now)) (sym is) (sees_unlocked now lines (All-replicate (λ (word : ℕ). word ≡ 0) _ 0 refl) (All-replicate (λ (taken : Bool). taken ≡ false) 32 false refl) (omega arith) (λ n none. cc)))
