@@ -1,5 +1,5 @@
 -- Counted calls, the lane's stop number, and the bounds on undrained changes.
-use Rattle.std.specs.Prelude.{◌≡◌, ℕ, ◌+◌, ◌<◌, ◌≤◌, ◌&&◌, Bool, true, false, not, if◌then◌else◌, IsTrue, Any, List, [], ◌∷◌, length, Option, Some, None, IsSomeAnd}
+use Rattle.std.specs.Prelude.{◌≡◌, ℕ, ◌+◌, ◌/◌, ◌<◌, ◌≤◌, max, ◌&&◌, Bool, true, false, not, if◌then◌else◌, IsTrue, Any, List, [], ◌∷◌, length, Option, Some, None, IsSomeAnd}
 use Rattle.std.specs.Option.{ForSome}
 use Rattle.std.specs.List.{filter, list_any, range_with_len}
 use Rattle.pm_view.specs.declared.change.Change.{Change}
@@ -50,9 +50,14 @@ DrainsSome changes = 0 < length changes
 abbrev pub is_unflushed : List Change → ℕ → Bool
 is_unflushed changes line = list_any (λ (c : Change). is_in_line line c && not c.flushed) changes
 
--- the lines with an unflushed change, rising, in a pool of so many lines
-unfoldable pub unflushed_lines : ℕ → List Change → List ℕ
-unflushed_lines lines changes = filter (is_unflushed changes) (range_with_len 0 lines)
+-- one more than the greatest line of the changes; 0 where there are none
+unfoldable pub lines_up_to : List Change → ℕ
+lines_up_to [] = 0
+lines_up_to (c ∷ changes) = max (c.word / 8 + 1) (lines_up_to changes)
+
+-- the lines with an unflushed change, rising
+unfoldable pub unflushed_lines : List Change → List ℕ
+unflushed_lines changes = filter (is_unflushed changes) (range_with_len 0 (lines_up_to changes))
 
 -- it is the least line with an unflushed change, or there is none
 abbrev pub IsFirstUnflushed : List Change → Option ℕ → Type 0
