@@ -1,5 +1,6 @@
 -- How sequences are put together.
-use Rattle.std.proofs.Common.{◌≡◌, ◌+◌, ◌-◌, ℕ, zero, suc, ◌<◌, ◌≤◌, List, [], ◌∷◌, ◌++◌, take, length, length-append, Result, Ok, Err, refl, sym, ap, ◌∙◌, subst, IsErr, arith, rules}
+use Rattle.std.proofs.Common.{◌≡◌, ◌+◌, ◌-◌, ℕ, zero, suc, ◌<◌, ◌≤◌, ◌⊎◌, ⊎_elim, List, [], ◌∷◌, ◌++◌, take, length, length-append, Result, Ok, Err, refl, sym, ap, ◌∙◌, subst, IsErr, slice_index, arith, rules}
+use Rattle.std.proofs.Math.Nat.{eq-or-lt_of_le}
 use Rattle.std.proofs.lemmas.List.{take-append-le}
 use Rattle.pm_memory.proofs.Runs.{stops_after}
 use Rattle.pm_memory.specs.Runs.{Ran, Stops, MadeOrStopped, Made}
@@ -12,7 +13,7 @@ use Rattle.pm_view.specs.Steps.Step.{Load}
 use Rattle.pm_view.specs.View.{View}
 use Rattle.pm_view.specs.Views.{after, after_all}
 use Rattle.pm_world.specs.Lawful.{Allowed}
-use Rattle.pm_world.specs.Sequences.{Sequence, nothing, one, in_turn, counted, by_view, looks, IsForeseen, Ready, IsReady, Runs}
+use Rattle.pm_world.specs.Sequences.{Sequence, nothing, one, in_turn, counted, by_view, by_lane, with_word, looks, IsForeseen, Ready, IsReady, Runs}
 
 -- the first of steps that may be made may be made, and the rest from where they end
 pub ready_left : (v : View) (xs ys : List Step) → Ready v (xs ++ ys) → Ready v xs
@@ -117,16 +118,73 @@ pub allowed_look : (old : View → Type 0) (w : ℕ) → IsReady old (looks w) �
 unfolding IsReady looks Ready
 allowed_look old w r = (r.0, (r.1.0, λ found. r.1.1.0))
 
--- a sequence chosen by the view, where the memory may be seen as such views alone as choose this one
-pub ready_by_view : (old : View → Type 0) (choose : View → Sequence) (steps : Sequence) → ((v : View) → old v → choose v ≡ steps) → IsReady old (by_view choose) → IsReady old steps
+-- a sequence chosen by the view, where each view that the memory may be seen as chooses this one
+pub ready_by_view : (old : View → Type 0) (choose : View → Sequence) (steps : Sequence) → ((v : View) → old v → Ready v (choose v v) → choose v ≡ steps) → IsReady old (by_view choose) → IsReady old steps
 unfolding IsReady by_view
-ready_by_view old choose steps is r = (r.0, (r.1.0, subst (λ (s : Sequence). Ready r.0 (s r.0)) (is r.0 r.1.0) r.1.1))
+ready_by_view old choose steps is r = (r.0, (r.1.0, subst (λ (s : Sequence). Ready r.0 (s r.0)) (is r.0 r.1.0 r.1.1) r.1.1))
 
 pub runs_by_view : {T : Type 0} (old new : View → Type 0) (choose : View → Sequence) (steps : Sequence) (result : Result T Stopped)
-    → ((v : View) → old v → choose v ≡ steps) → Runs old new steps result → Runs old new (by_view choose) result
+    → ((v : View) → old v → Ready v (choose v v) → choose v ≡ steps) → Runs old new steps result → Runs old new (by_view choose) result
 unfolding Runs by_view
 runs_by_view old new choose steps result is runs v seen r =
-    subst (λ (s : Sequence). Ran new v (s v) result) (sym (is v seen)) (runs v seen (subst (λ (s : Sequence). Ready v (s v)) (is v seen) r))
+    subst (λ (s : Sequence). Ran new v (s v) result) (sym (is v seen r)) (runs v seen (subst (λ (s : Sequence). Ready v (s v)) (is v seen r) r))
+
+-- the first part is the same whatever the view chooses
+pub ready_view_first : (old : View → Type 0) (s : Sequence) (choose : View → Sequence) → IsReady old (by_view (λ v. in_turn s (choose v))) → IsReady old s
+unfolding IsReady by_view in_turn
+ready_view_first old s choose r = (r.0, (r.1.0, ready_left r.0 (s r.0) (choose r.0 (after_all r.0 (s r.0))) r.1.1))
+
+-- the second part as the view before the first chooses it
+pub chosen_behind : (old : View → Type 0) (s t : Sequence) (choose : View → Sequence) → ((v : View) → old v → Ready v (s v) → choose v ≡ t)
+    → (v : View) → old v → Ready v (in_turn s (choose v) v) → in_turn s (choose v) ≡ in_turn s t
+unfolding in_turn
+chosen_behind old s t choose is v seen r = ap (in_turn s) (is v seen (ready_left v (s v) (choose v (after_all v (s v))) r))
+
+module _ (old : View → Type 0) (lane : ℕ) (is_lane : (v : View) → old v → lane ≡ v.lane) (steps : ℕ → Sequence) where
+  -- the lane's number is what every view has
+  pub lane_ready : IsReady old (by_lane steps) → IsReady old (steps lane)
+  unfolding by_lane
+  lane_ready r = ready_by_view old (λ v. steps v.lane) (steps lane) (λ v seen ready. ap steps (sym (is_lane v seen))) r
+
+  pub lane_runs : {T : Type 0} (new : View → Type 0) (result : Result T Stopped) → Runs old new (steps lane) result → Runs old new (by_lane steps) result
+  unfolding by_lane
+  lane_runs new result runs = runs_by_view old new (λ v. steps v.lane) (steps lane) result (λ v seen ready. ap steps (sym (is_lane v seen))) runs
+
+-- so a bound on it holds of the number that was told
+pub lane_below : (old : View → Type 0) (lane : ℕ) (s : Sequence) → ((v : View) → old v → lane ≡ v.lane) → ((v : View) → old v → v.lane < 32) → IsReady old s → lane < 32
+unfolding IsReady
+lane_below old lane s is_lane below r = subst (λ k. k < 32) (sym (is_lane r.0 r.1.0)) (below r.0 r.1.0)
+
+module _ (old : View → Type 0) (w : ℕ) (steps : ℕ → Sequence) where
+  -- a known word may be loaded
+  pub word_allowed : IsReady old (with_word w steps) → (v : View) × (old v × ((found : ℕ) → Allowed v (Load w found)))
+  unfolding with_word
+  word_allowed r = allowed_look old w (ready_view_first old (looks w) (λ v. steps (slice_index v.words w)) r)
+
+  module _ (mid : View → Type 0) (value : ℕ) (loaded : Made old mid (Load w value)) where
+    word_chosen : (v : View) → old v → Ready v (looks w v) → steps (slice_index v.words w) ≡ steps value
+    unfolding looks Ready
+    word_chosen v seen r = ap steps (sym ((loaded v seen).1 r.1))
+
+    -- what is found is what some view has
+    pub word_found : IsReady old (with_word w steps) → (v : View) × (old v × (value ≡ slice_index v.words w))
+    unfolding IsReady with_word by_view in_turn looks Ready
+    word_found r = (r.0, (r.1.0, (loaded r.0 r.1.0).1 r.1.1.1))
+
+    -- and what is found chooses what follows
+    pub word_ready : IsReady old (with_word w steps) → IsReady mid (steps value)
+    unfolding with_word
+    word_ready r =
+        ready_then old mid (looks w) (steps value) tt
+        (ready_by_view old (λ v. in_turn (looks w) (steps (slice_index v.words w))) (in_turn (looks w) (steps value)) (chosen_behind old (looks w) (steps value) (λ v. steps (slice_index v.words w)) word_chosen) r)
+        (runs_look old mid w value loaded)
+
+    pub word_runs : {T : Type 0} (new : View → Type 0) (result : Result T Stopped) → Runs mid new (steps value) result → Runs old new (with_word w steps) result
+    unfolding with_word
+    word_runs new result runs =
+        runs_by_view old new (λ v. in_turn (looks w) (steps (slice_index v.words w))) (in_turn (looks w) (steps value)) result
+        (chosen_behind old (looks w) (steps value) (λ v. steps (slice_index v.words w)) word_chosen)
+        (runs_then old mid new (looks w) (steps value) tt result (runs_look old mid w value loaded) runs)
 
 module _ (old : View → Type 0) (steps : ℕ → Sequence) where
   pub counted_none : Runs {T = Unit {0}} old old (counted steps 0) (Ok tt)
@@ -173,3 +231,14 @@ module _ (old : View → Type 0) (steps : ℕ → Sequence) where
   counted_err S T n k mid new answer stopped result below runs step error =
       answered_by_error T old new (counted steps n) stopped result error
       (stopped_up T (n - suc k) (suc k) n new stopped (omega (arith, below)) (more k mid new answer (Err stopped) runs step))
+
+-- of so many sequences in turn each may be made from where those before it end
+pub counted_ready : (steps : ℕ → Sequence) (v : View) (n k : ℕ) → k < n → Ready v (counted steps n v) → Ready v (counted steps k v) × Ready (after_all v (counted steps k v)) (steps k (after_all v (counted steps k v)))
+unfolding counted in_turn
+counted_ready steps v zero k below r = absurd (omega (arith, below))
+counted_ready steps v (suc n) k below r =
+    ⊎_elim
+    (λ (same : k ≡ n). subst (λ j. Ready v (counted steps j v) × Ready (after_all v (counted steps j v)) (steps j (after_all v (counted steps j v)))) (sym same)
+        (ready_left v (counted steps n v) (steps n (after_all v (counted steps n v))) r, ready_right v (counted steps n v) (steps n (after_all v (counted steps n v))) r))
+    (λ (lower : k < n). counted_ready steps v n k lower (ready_left v (counted steps n v) (steps n (after_all v (counted steps n v))) r))
+    (eq-or-lt_of_le (let e : k ≤ n = omega (arith, below) in e))

@@ -1,5 +1,5 @@
 -- What an engine does to a lane's memory: steps that follow from the lane's view before them (docs/FORMAT.md, "Sequences").
-use Rattle.std.specs.Prelude.{ℕ, zero, suc, IsTrue, ◌==◌, nat_lt, if◌then◌else◌, List, [], ◌∷◌, ◌++◌, length, map, slice_index, Result}
+use Rattle.std.specs.Prelude.{ℕ, zero, suc, IsTrue, ◌==◌, nat_lt, if◌then◌else◌, List, [], ◌∷◌, ◌++◌, length, map, slice_index, Result, Ok, Err}
 use Rattle.pm_memory.specs.Runs.{Ran}
 use Rattle.pm_memory.specs.declared.lane_mem.Stopped.{Stopped}
 use Rattle.pm_view.specs.Counts.{max_changes, unflushed_lines}
@@ -36,6 +36,14 @@ by_view steps v = steps v v
 -- a load of a word that the view knows
 unfoldable pub looks : ℕ → Sequence
 looks w v = Load w (slice_index v.words w) ∷ []
+
+-- a sequence that is chosen by the lane's number
+unfoldable pub by_lane : (ℕ → Sequence) → Sequence
+by_lane steps = by_view (λ v. steps v.lane)
+
+-- a load of a word that the view knows, and what its value chooses
+unfoldable pub with_word : ℕ → (ℕ → Sequence) → Sequence
+with_word w steps = by_view (λ v. in_turn (looks w) (steps (slice_index v.words w)))
 
 -- a flush of each line with an unflushed change, rising
 unfoldable pub flushes : Sequence
@@ -74,3 +82,11 @@ IsReady old steps = (v : View) × (old v × Ready v (steps v))
 -- from each such view the sequence was made, or the first steps of it up to the stop
 unfoldable pub Runs : {T : Type 0} → (View → Type 0) → (View → Type 0) → Sequence → Result T Stopped → Type 0
 Runs old new steps result = (v : View) → old v → Ready v (steps v) → Ran new v (steps v) result
+
+-- from each such view the whole sequence was made: of calls that never stop
+abbrev pub IsMade : (View → Type 0) → (View → Type 0) → Sequence → Type 0
+IsMade old new steps = Runs {T = Unit {0}} old new steps (Ok tt)
+
+-- from each such view the first steps of the sequence were made, up to the lane's stop
+abbrev pub IsStopped : (View → Type 0) → (View → Type 0) → Sequence → Type 0
+IsStopped old new steps = (stopped : Stopped) × Runs {T = Unit {0}} old new steps (Err stopped)
