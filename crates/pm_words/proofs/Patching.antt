@@ -24,13 +24,13 @@ copied_is_patched from bytes part old word same spelled =
     ∙ first_word ((take from (to_le_bytes w64 word) ++ bytes) ++ drop (from + length bytes) (to_le_bytes w64 word))
 
 -- parts of bytes, and bytes behind bytes, are bytes
-AreBytes-take : (n : ℕ) (xs : List ℕ) → AreBytes xs → AreBytes (take n xs)
+pub AreBytes-take : (n : ℕ) (xs : List ℕ) → AreBytes xs → AreBytes (take n xs)
 AreBytes-take zero xs fits i = omega arith
 AreBytes-take (suc n) [] fits i = omega arith
 AreBytes-take (suc n) (x ∷ xs) fits zero = fits 0
 AreBytes-take (suc n) (x ∷ xs) fits (suc i) = AreBytes-take n xs (λ k. fits (suc k)) i
 
-AreBytes-drop : (n : ℕ) (xs : List ℕ) → AreBytes xs → AreBytes (drop n xs)
+pub AreBytes-drop : (n : ℕ) (xs : List ℕ) → AreBytes xs → AreBytes (drop n xs)
 AreBytes-drop n xs fits i = subst (λ (b : ℕ). b < 256) (sym (get_or-drop n xs i 0)) (fits (n + i))
 
 AreBytes-append : (xs ys : List ℕ) → AreBytes xs → AreBytes ys → AreBytes (xs ++ ys)

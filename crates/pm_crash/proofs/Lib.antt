@@ -1,0 +1,6 @@
+pub mod Covered
+pub mod Bytewise
+pub mod Includes
+pub mod Standing
+pub mod ObjectBytes
+pub mod Apart
