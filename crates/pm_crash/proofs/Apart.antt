@@ -1,16 +1,15 @@
 -- No two blocks of a heap without a fault have a word in common, and the words of an object's bytes are none that tell of blocks.
-use Rattle.std.proofs.Common.{◌≡◌, ◌≢◌, ◌⊎◌, ⊎_elim, inl, inr, ℕ, zero, suc, ◌+◌, ◌-◌, ◌*◌, ◌/◌, ◌%◌, ◌<◌, ◌≤◌, false, List, [], ◌∷◌, Option, Some, None, refl, sym, ◌∙◌, ap, subst, arith}
+use Rattle.std.proofs.Common.{◌≡◌, ◌≢◌, ◌⊎◌, ⊎_elim, inl, inr, ℕ, ◌+◌, ◌-◌, ◌*◌, ◌/◌, ◌%◌, ◌<◌, ◌≤◌, false, List, [], ◌∷◌, Some, None, sym, ◌∙◌, ap, subst, arith}
 use Rattle.std.specs.List.{Contains}
 use Rattle.std.proofs.lemmas.Bool.{cases_lt}
-use Rattle.pm_layout.specs.declared.class.Class.{Class}
-use Rattle.pm_layout.specs.declared.class.Class.TheVariants.{Lines, Chunks}
+use Rattle.pm_layout.specs.declared.class.Class.TheVariants.{Lines}
 use Rattle.pm_image.specs.declared.block.Block.{Block}
 use Rattle.pm_image.specs.Blocks.{descriptor_word, chunk_word, class_in, blocks}
 use Rattle.pm_image.specs.Contents.{data_words, size_in}
 use Rattle.pm_image.specs.HeapFaults.{bad_chunk, heap_fault}
-use Rattle.pm_image.specs.Reads.{AgreeOn, IsBitmapWord, IsDescriptorWord, ReadsBlock}
+use Rattle.pm_image.specs.Reads.{AgreeOn, ReadsBlock}
 use Rattle.pm_image.proofs.FaultFree.{block_good, chunk_good}
-use Rattle.pm_image.proofs.Heads.{IsHeaderWord, ReadsHeads}
+use Rattle.pm_image.proofs.Heads.{ReadsHeads}
 use Rattle.pm_image.proofs.HeapWords.{chunks_fit, in_pool, object_fits}
 use Rattle.pm_image.proofs.Members.{member_cases, no_member, range_member}
 use Rattle.pm_image.proofs.Ordered.{blocks_rise, further_zeros, no_class, Rise}
@@ -20,7 +19,7 @@ use Rattle.pm_crash.specs.Writes.{KeepsOthers}
 use Rattle.pm_crash.proofs.Standing.{block_stands, IsChunkBlock, IsRunBlock, Stands}
 
 -- each chunk of a heap without a fault is good, and its blocks rise
-good_chunk : (w : ℕ → ℕ) (lanes zones c : ℕ) → heap_fault w lanes zones ≡ None → c < 64 * zones → bad_chunk w lanes c ≡ false
+pub good_chunk : (w : ℕ → ℕ) (lanes zones c : ℕ) → heap_fault w lanes zones ≡ None → c < 64 * zones → bad_chunk w lanes c ≡ false
 good_chunk w lanes zones c none inside = chunk_good w lanes zones c none (range_member (64 * zones) c inside)
 
 pub rising : (w : ℕ → ℕ) (lanes zones : ℕ) → heap_fault w lanes zones ≡ None → Rise 0 (blocks w lanes zones)

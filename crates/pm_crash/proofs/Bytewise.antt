@@ -1,9 +1,9 @@
 -- The bytes of a pool one by one: what stands at each byte place, before and after bytes are written.
-use Rattle.std.proofs.Common.{◌≡◌, ◌⊎◌, ⊎_elim, inl, inr, ℕ, zero, suc, ◌+◌, ◌-◌, ◌*◌, ◌/◌, ◌%◌, ◌<◌, ◌≤◌, List, [], ◌∷◌, ◌++◌, length, take, drop, map, get_or, refl, sym, ◌∙◌, ap, subst, arith, length-append}
+use Rattle.std.proofs.Common.{◌≡◌, ◌⊎◌, ⊎_elim, ℕ, zero, suc, ◌+◌, ◌-◌, ◌*◌, ◌/◌, ◌%◌, ◌<◌, ◌≤◌, List, [], ◌∷◌, ◌++◌, length, take, drop, map, get_or, ◌∙◌, ap, arith, length-append}
 use Rattle.std.specs.List.{Contains, range_with_len}
 use Rattle.std.proofs.lemmas.Bool.{cases_lt}
-use Rattle.std.proofs.lemmas.List.{append_assoc, get_or-append_right, get_or-drop, get_or-take, get_or_append_left, length-drop, length-take-le, length-take}
-use Rattle.pm_words.specs.Words.{bytes_of, patched, AreBytes}
+use Rattle.std.proofs.lemmas.List.{get_or-append_right, get_or-drop, get_or-take, get_or_append_left, length-drop, length-take-le, length-take}
+use Rattle.pm_words.specs.Words.{bytes_of, AreBytes}
 use Rattle.pm_words.proofs.Patching.{AreBytes-drop, AreBytes-take, bytes_of-patched, length-word}
 use Rattle.pm_words.proofs.Reading.{bytes_of-append}
 use Rattle.pm_model.specs.Bytes.{put_bytes, covered_words}

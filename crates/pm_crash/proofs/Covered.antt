@@ -1,10 +1,11 @@
--- The words that a range of bytes covers are those that have a byte of it.
-use Rattle.std.proofs.Common.{◌≡◌, ◌≢◌, ⊎_elim, ℕ, ◌+◌, ◌-◌, ◌*◌, ◌/◌, ◌<◌, ◌≤◌, Bool, true, false, cond, eqb, List, [], length, get_or, sym, ◌∙◌, ap, subst, arith}
+-- The words that a range of bytes covers are those that have a byte of it, and a write leaves the words of a function.
+use Rattle.std.proofs.Common.{◌≡◌, ◌≢◌, ⊎_elim, ℕ, ◌+◌, ◌-◌, ◌*◌, ◌/◌, ◌<◌, ◌≤◌, Bool, true, false, cond, eqb, List, [], ◌∷◌, length, get_or, sym, ◌∙◌, ap, subst, arith}
 use Rattle.std.specs.List.{Contains, range_with_len}
-use Rattle.std.proofs.lemmas.Bool.{cases_eq, eq-eqb, ne_eqb}
+use Rattle.std.proofs.lemmas.Bool.{cases_Bool, cases_eq, cond-false, cond-true, eq-eqb, eqb-true, false_from_ne_true, false≢true, ne_eqb, or_cases, or_left, or_right}
 use Rattle.std.proofs.lemmas.List.FromFn.{get_or-range_with_len, length-range_with_len}
-use Rattle.pm_model.specs.Bytes.{covered_words}
-use Rattle.pm_image.proofs.Members.{in_range, no_member}
+use Rattle.pm_model.specs.Bytes.{covered_words, is_among}
+use Rattle.pm_image.proofs.Members.{first_member, in_range, later_member, member_cases, no_member}
+use Rattle.pm_crash.specs.Writes.{written_word, words_written, IsWritten}
 
 -- so many words from the first on
 abbrev pub count_of : ℕ → ℕ → ℕ
@@ -37,3 +38,37 @@ byte_is_covered place len i some below above =
     let near : k < length (range_with_len (place / 8) (count_of place len)) = omega (arith, length-range_with_len (place / 8) (count_of place len)) in
     let is : get_or (range_with_len (place / 8) (count_of place len)) k i ≡ i = get_or-range_with_len (place / 8) (count_of place len) k i inside ∙ omega arith in
     subst (λ (words : List ℕ). Contains words i) (sym (covers_some place len some)) (k, near, is)
+
+-- the test of a number among others
+among_tested : (xs : List ℕ) (i : ℕ) → is_among xs i ≡ true → Contains xs i
+among_tested [] i is = absurd (false≢true is)
+among_tested (x ∷ xs) i is = ⊎_elim
+    (λ (here : eqb x i ≡ true). subst (λ (y : ℕ). Contains (x ∷ xs) y) (eqb-true x i here) (first_member x xs))
+    (λ (later : is_among xs i ≡ true). later_member x xs i (among_tested xs i later))
+    (or_cases (eqb x i) (is_among xs i) is)
+
+member_tested : (xs : List ℕ) (i : ℕ) → Contains xs i → is_among xs i ≡ true
+member_tested [] i there = absurd (no_member i there)
+member_tested (x ∷ xs) i there = ⊎_elim
+    (λ (here : x ≡ i). or_left (eqb x i) (is_among xs i) (eq-eqb x i here))
+    (λ (later : Contains xs i). or_right (eqb x i) (is_among xs i) (member_tested xs i later))
+    (member_cases x xs i there)
+
+-- so the words after a write are those of the function
+pub written_words : (w : ℕ → ℕ) (place : ℕ) (bytes : List ℕ) → IsWritten w (words_written place bytes w) place bytes
+written_words w place bytes =
+    let covered : List ℕ = covered_words place (length bytes) in
+    record {
+      covered = λ i there. cond-true (is_among covered i) (written_word place bytes i (w i)) (w i) (member_tested covered i there);
+      others = λ i never. cond-false (is_among covered i) (written_word place bytes i (w i)) (w i) (false_from_ne_true (is_among covered i) (λ is. never (among_tested covered i is)));
+    }
+
+pub only_words : (w v : ℕ → ℕ) (place : ℕ) (bytes : List ℕ) → IsWritten w v place bytes → (i : ℕ) → v i ≡ words_written place bytes w i
+only_words w v place bytes write i =
+    let covered : List ℕ = covered_words place (length bytes) in
+    let known : IsWritten w (words_written place bytes w) place bytes = written_words w place bytes in
+    ⊎_elim
+    (λ (is : is_among covered i ≡ true). let there : Contains covered i = among_tested covered i is in write.covered i there ∙ sym (known.covered i there))
+    (λ (is : is_among covered i ≡ false).
+    let never : Contains covered i → ⊥ = λ there. false≢true (sym is ∙ member_tested covered i there) in write.others i never ∙ sym (known.others i never))
+    (cases_Bool (is_among covered i))

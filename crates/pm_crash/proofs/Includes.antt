@@ -1,7 +1,6 @@
 -- Lists by their members, the other way: what a list that is made from another contains.
-use Rattle.std.proofs.Common.{◌≡◌, ◌+◌, ◌<◌, ⊎_elim, inl, inr, Bool, true, false, cond, List, [], ◌∷◌, ◌++◌, map, refl, sym, ◌∙◌, ap, subst}
+use Rattle.std.proofs.Common.{◌≡◌, ⊎_elim, Bool, true, false, cond, List, [], ◌∷◌, map, refl, sym, ◌∙◌, ap, subst}
 use Rattle.std.specs.List.{Contains, filter, flat_map}
-use Rattle.std.proofs.lemmas.Bool.{false≢true}
 use Rattle.std.proofs.lemmas.List.Elements.{Contains-append_left, Contains-append_right}
 use Rattle.pm_image.proofs.Members.{first_member, later_member, member_cases, no_member}
 
@@ -28,9 +27,9 @@ kept_member {X = X} p (y ∷ xs) x there passes = ⊎_elim
     (λ (here : y ≡ x). subst (λ b. Contains (cond b (y ∷ filter p xs) (filter p xs)) x) (sym (ap p here ∙ passes)) (subst (λ z. Contains (y ∷ filter p xs) z) here (first_member y (filter p xs))))
     (λ (later : Contains xs x). either (p y) (kept_member p xs x later passes))
     (member_cases y xs x there) where
-  either : (b : Bool) → Contains (filter p xs) x → Contains (cond b (y ∷ filter p xs) (filter p xs)) x
-  either true rest = later_member y (filter p xs) x rest
-  either false rest = rest
+      either : (b : Bool) → Contains (filter p xs) x → Contains (cond b (y ∷ filter p xs) (filter p xs)) x
+      either true rest = later_member y (filter p xs) x rest
+      either false rest = rest
 
 pub kept_passes : {X : Type 0} (p : X → Bool) (xs : List X) (x : X) → Contains (filter p xs) x → p x ≡ true
 kept_passes p [] x there = absurd (no_member x there)

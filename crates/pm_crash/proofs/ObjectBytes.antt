@@ -1,5 +1,5 @@
 -- An object's bytes one by one: they stand from its offset on.
-use Rattle.std.proofs.Common.{◌≡◌, ⊎_elim, ℕ, ◌+◌, ◌-◌, ◌*◌, ◌/◌, ◌%◌, ◌<◌, ◌≤◌, List, [], ◌∷◌, length, take, drop, map, get_or, refl, sym, ◌∙◌, ap, arith}
+use Rattle.std.proofs.Common.{◌≡◌, ⊎_elim, ℕ, ◌+◌, ◌*◌, ◌/◌, ◌%◌, ◌<◌, ◌≤◌, List, [], ◌∷◌, length, take, drop, map, get_or, sym, ◌∙◌, ap, arith}
 use Rattle.std.specs.List.{Contains, range_with_len}
 use Rattle.std.proofs.lemmas.Bool.{cases_lt}
 use Rattle.std.proofs.lemmas.Grind.{div_ceil_times}
@@ -13,7 +13,7 @@ use Rattle.pm_image.specs.Contents.{bytes_in, data_words, offset_in, size_in}
 use Rattle.pm_image.proofs.Pools.{length-bytes_in}
 use Rattle.pm_model.specs.Bytes.{bytes_at, covered_words}
 use Rattle.pm_crash.proofs.Bytewise.{byte_at_place, byte_of_words}
-use Rattle.pm_crash.proofs.Covered.{count_of, covers_none, covers_some}
+use Rattle.pm_crash.proofs.Covered.{count_of, covers_some}
 use Rattle.pm_crash.proofs.Standing.{block_begins_line}
 
 -- byte k of an object whose block begins a word

@@ -1,5 +1,5 @@
 -- Where a block stands: it is one of a run that its bitmap has, or it is whole chunks. Each begins a line.
-use Rattle.std.proofs.Common.{◌≡◌, ◌⊎◌, inl, inr, ℕ, ◌+◌, ◌*◌, ◌/◌, ◌%◌, ◌<◌, ◌≤◌, Bool, true, eqb, List, [], ◌∷◌, Option, Some, None, refl, sym, ◌∙◌, ap, subst, arith}
+use Rattle.std.proofs.Common.{◌≡◌, ◌⊎◌, inl, inr, ℕ, ◌+◌, ◌*◌, ◌%◌, ◌<◌, ◌≤◌, eqb, List, [], ◌∷◌, Option, Some, None, refl, sym, subst, arith}
 use Rattle.std.specs.Int.{bit_at}
 use Rattle.std.specs.List.{Contains, filter, range_with_len}
 use Rattle.std.proofs.lemmas.Bool.{eq-eqb, eqb-true}

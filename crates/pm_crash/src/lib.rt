@@ -9,9 +9,10 @@
 mod laws;
 
 pub use laws::{
-    a_lane_finds_the_blocks, a_read_finds_the_bytes, a_write_changes_one_object,
-    an_object_has_words_of_its_own, covered_words_have_a_byte, each_block_is_an_object,
-    images_hold_their_pools, the_root_is_its_word,
+    a_block_is_an_object, a_lane_finds_the_blocks, a_pool_is_held_by_heap_words,
+    a_read_finds_the_bytes, a_write_changes_one_object, an_object_has_words_of_its_own,
+    covered_words_have_a_byte, each_write_has_its_words, images_hold_their_pools,
+    the_root_is_its_word,
 };
 
 #[cfg(test)]

@@ -1,9 +1,9 @@
 -- What of the heap is read beside the objects' bytes: the root's word, descriptors, bitmaps of runs, and the header lines of blocks.
-use Rattle.std.proofs.Common.{◌≡◌, ◌⊎◌, inl, inr, ℕ, ◌+◌, ◌/◌, ◌<◌, ◌≤◌, List, refl, sym, arith}
+use Rattle.std.proofs.Common.{◌≡◌, ◌⊎◌, inl, inr, ℕ, ◌+◌, ◌/◌, ◌<◌, ◌≤◌, sym, arith}
 use Rattle.std.specs.List.{Contains}
 use Rattle.pm_image.specs.declared.block.Block.{Block}
 use Rattle.pm_image.specs.Blocks.{blocks}
-use Rattle.pm_image.specs.Contents.{data_words, header_word, size_in}
+use Rattle.pm_image.specs.Contents.{header_word}
 use Rattle.pm_image.specs.Reads.{AgreeOn, IsBitmapWord, IsDescriptorWord, Reads, ReadsBlock}
 
 -- the word is of the block's header line
