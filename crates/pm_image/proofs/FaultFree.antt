@@ -7,7 +7,7 @@ use Rattle.pm_image.specs.declared.fault.ImageFault.{ImageFault}
 use Rattle.pm_image.specs.declared.fault.ImageFault.TheVariants as fault
 use Rattle.pm_image.specs.Blocks.{blocks}
 use Rattle.pm_image.specs.Contents.{offset_in}
-use Rattle.pm_image.specs.HeapFaults.{bad_chunk, chunk_fault, bitmap_fault, good_block, block_fault, link_fault, root_fault, heap_fault}
+use Rattle.pm_image.specs.HeapFaults.{bad_bitmap, bad_chunk, chunk_fault, bitmap_fault, good_block, block_fault, link_fault, root_fault, heap_fault}
 use Rattle.pm_image.specs.Narrowings.{takes_links}
 use Rattle.pm_image.proofs.Finding.{found_nothing}
 use Rattle.pm_image.proofs.Members.{none_passes}
@@ -19,6 +19,7 @@ neither (Some x) b none = absurd cc
 -- the parts of the heap's fault that are read one by one
 pub record NoFaults (w : ℕ → ℕ) (lanes zones : ℕ) : Type 0 where
   pub chunks : chunk_fault w lanes zones ≡ None
+  pub bitmaps : bitmap_fault w lanes zones ≡ None
   pub sizes : block_fault w (blocks w lanes zones) ≡ None
   pub links : link_fault w (blocks w lanes zones) ≡ None
   pub root : root_fault w (blocks w lanes zones) ≡ None
@@ -32,7 +33,7 @@ no_faults w lanes zones none =
     let second = neither (bitmap_fault w lanes zones) (option_or (block_fault w bs) after_links) first.1 in
     let third = neither (block_fault w bs) after_links second.1 in
     let fourth = neither (link_fault w bs) (root_fault w bs) third.1 in
-    record { chunks = first.0; sizes = third.0; links = fourth.0; root = fourth.1 }
+    record { chunks = first.0; bitmaps = second.0; sizes = third.0; links = fourth.0; root = fourth.1 }
 
 not_not : (b : Bool) → not b ≡ false → b ≡ true
 not_not true is = refl
@@ -55,3 +56,9 @@ unfolding chunk_fault
 chunk_good w lanes zones c none there =
     let nowhere : find (bad_chunk w lanes) (range_with_len 0 (64 * zones)) ≡ None = found_nothing (λ k. fault.Chunk (k / 64) (k % 64)) (find (bad_chunk w lanes) (range_with_len 0 (64 * zones))) (no_faults w lanes zones none).chunks in
     none_passes (bad_chunk w lanes) (range_with_len 0 (64 * zones)) c nowhere there
+
+pub bitmap_good : (w : ℕ → ℕ) (lanes zones c : ℕ) → heap_fault w lanes zones ≡ None → Contains (range_with_len 0 (64 * zones)) c → bad_bitmap w lanes c ≡ false
+unfolding bitmap_fault
+bitmap_good w lanes zones c none there =
+    let nowhere : find (bad_bitmap w lanes) (range_with_len 0 (64 * zones)) ≡ None = found_nothing (λ k. fault.Bitmap (k / 64) (k % 64)) (find (bad_bitmap w lanes) (range_with_len 0 (64 * zones))) (no_faults w lanes zones none).bitmaps in
+    none_passes (bad_bitmap w lanes) (range_with_len 0 (64 * zones)) c nowhere there

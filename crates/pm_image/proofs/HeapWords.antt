@@ -18,9 +18,9 @@ use Rattle.pm_image.proofs.Members.{in_range, member_kept, member_made, member_o
 use Rattle.pm_image.proofs.Rooms.{lines_needed, run_fits, words_fit}
 
 -- the block stands behind this word, and ends before that one
-record StandsBetween (from to : ℕ) (block : Block) : Type 0 where
-  begins : from ≤ block.place / 8
-  ends : block.place / 8 + 8 * block.lines ≤ to
+pub record StandsBetween (from to : ℕ) (block : Block) : Type 0 where
+  pub begins : from ≤ block.place / 8
+  pub ends : block.place / 8 + 8 * block.lines ≤ to
 
 -- a block of a run
 in_run : (word bitmap lines : ℕ) (block : Block) → Contains (run_blocks (8 * word) bitmap lines) block → StandsBetween word (word + 512) block
@@ -68,7 +68,7 @@ in_zone w lanes c bitmap block (Some (Chunks chunks)) good is there =
     record { begins = whole.begins; ends = omega arith }
 
 -- a block is in the zones
-in_pool : (w : ℕ → ℕ) (lanes zones : ℕ) (block : Block) → heap_fault w lanes zones ≡ None → Contains (blocks w lanes zones) block → StandsBetween (512 + 1024 * lanes) (pool_words lanes zones) block
+pub in_pool : (w : ℕ → ℕ) (lanes zones : ℕ) (block : Block) → heap_fault w lanes zones ≡ None → Contains (blocks w lanes zones) block → StandsBetween (512 + 1024 * lanes) (pool_words lanes zones) block
 unfolding blocks chunk_blocks
 in_pool w lanes zones block none there =
     let found : (c : ℕ) × (Contains (range_with_len 0 (64 * zones)) c × Contains (chunk_blocks w lanes c) block) = member_of_part (chunk_blocks w lanes) (range_with_len 0 (64 * zones)) block there in
@@ -84,7 +84,7 @@ middle true true c d is = refl
 middle true false c d is = absurd (false≢true is)
 middle false b c d is = absurd (false≢true is)
 
-object_fits : (w : ℕ → ℕ) (block : Block) → good_block w block ≡ true → 8 + data_words (size_in w block) ≤ 8 * block.lines
+pub object_fits : (w : ℕ → ℕ) (block : Block) → good_block w block ≡ true → 8 + data_words (size_in w block) ≤ 8 * block.lines
 unfolding good_block
 object_fits w block good =
     let size : ℕ = size_in w block in

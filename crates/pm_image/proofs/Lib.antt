@@ -12,6 +12,7 @@ pub mod LogRows
 pub mod WholeImage
 pub mod Meanings
 pub mod Members
+pub mod Heads
 pub mod LocalContents
 pub mod InPlace
 pub mod LocalHeap

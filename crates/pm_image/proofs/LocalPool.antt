@@ -11,6 +11,7 @@ use Rattle.pm_image.specs.Means.{pool_in}
 use Rattle.pm_image.specs.Reads.{Reads, ReadsBlock, AgreeOn, SameHeap, SameContents}
 use Rattle.pm_image.proofs.Reading.{walk_nowhere}
 use Rattle.pm_image.proofs.Members.{map_same}
+use Rattle.pm_image.proofs.Heads.{agree_on_heads}
 use Rattle.pm_image.proofs.LocalContents.{contents_local}
 use Rattle.pm_image.proofs.LocalHeap.{blocks_same, heap_fault_same, root_same, agree_on_block}
 use Rattle.pm_image.proofs.FaultFree.{links_taken}
@@ -41,13 +42,13 @@ objects_same w v lanes zones agree none =
 
 pool_same : (w v : ℕ → ℕ) (lanes zones : ℕ) (header : Header) → AgreeOn (Reads w lanes zones) w v → heap_fault w lanes zones ≡ None → pool_in v lanes zones header ≡ pool_in w lanes zones header
 pool_same w v lanes zones header agree none =
-    let objects : objects_in v (blocks v lanes zones) ≡ objects_in w (blocks w lanes zones) = ap (objects_in v) (blocks_same w v lanes zones agree) ∙ objects_same w v lanes zones agree none in
-    let root : v 64 ≡ w 64 = root_same w v lanes zones agree in
+    let objects : objects_in v (blocks v lanes zones) ≡ objects_in w (blocks w lanes zones) = ap (objects_in v) (blocks_same w v lanes zones (agree_on_heads w v lanes zones agree)) ∙ objects_same w v lanes zones agree none in
+    let root : v 64 ≡ w 64 = root_same w v lanes zones (agree_on_heads w v lanes zones agree) in
     (λ j. record { id = header.id; name = header.name; lanes = lanes; zones = zones; objects = objects j; root = cond (eqb (root j) 0) None (Some (root j)) })
 
 pub heap_local : (w v : ℕ → ℕ) (lanes zones : ℕ) → AgreeOn (Reads w lanes zones) w v → SameHeap w v lanes zones
 heap_local w v lanes zones agree = record {
-  same_blocks = blocks_same w v lanes zones agree;
-  same_fault = heap_fault_same w v lanes zones agree;
+  same_blocks = blocks_same w v lanes zones (agree_on_heads w v lanes zones agree);
+  same_fault = heap_fault_same w v lanes zones (agree_on_heads w v lanes zones agree);
   same_pool = λ none header. pool_same w v lanes zones header agree none;
 }

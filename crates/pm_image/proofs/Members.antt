@@ -17,7 +17,7 @@ pub only_member : {X : Type 0} (x y : X) → Contains (x ∷ []) y → x ≡ y
 only_member x y (zero, inside, is) = is
 only_member x y (suc k, inside, is) = absurd (omega arith)
 
-member_cases : {X : Type 0} (x : X) (xs : List X) (y : X) → Contains (x ∷ xs) y → (x ≡ y) ⊎ Contains xs y
+pub member_cases : {X : Type 0} (x : X) (xs : List X) (y : X) → Contains (x ∷ xs) y → (x ≡ y) ⊎ Contains xs y
 member_cases x xs y there = elim (Contains-append_cases (x ∷ []) xs y there) [ inl here ↦ inl (only_member x y here) | inr later ↦ inr later ]
 
 -- tests that agree on each member find the same

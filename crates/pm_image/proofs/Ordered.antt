@@ -109,7 +109,7 @@ passes_at p n k inside all = go (p k) refl where
   go false is = absurd (false≢true (sym (all_fails p n k inside is) ∙ all))
 
 -- the descriptors of the further chunks of a block are 0
-further_zeros : (w : ℕ → ℕ) (lanes c n : ℕ) → bad_chunk w lanes c ≡ false → class_in (w (descriptor_word lanes c)) ≡ Some (Chunks n) → (k : ℕ) → k < n - 1 → w (descriptor_word lanes (c + 1 + k)) ≡ 0
+pub further_zeros : (w : ℕ → ℕ) (lanes c n : ℕ) → bad_chunk w lanes c ≡ false → class_in (w (descriptor_word lanes c)) ≡ Some (Chunks n) → (k : ℕ) → k < n - 1 → w (descriptor_word lanes (c + 1 + k)) ≡ 0
 unfolding bad_chunk zeros_behind
 further_zeros w lanes c n good is k inside =
     let at : ℕ = descriptor_word lanes c in
@@ -124,7 +124,7 @@ none_in : (w : ℕ → ℕ) (lanes c : ℕ) → class_in (w (descriptor_word lan
 unfolding chunk_blocks
 none_in w lanes c is = ap (λ (o : Option Class). blocks_in o (8 * chunk_word lanes c) (w (chunk_word lanes c))) is
 
-no_class : class_in 0 ≡ None
+pub no_class : class_in 0 ≡ None
 unfolding class_in
 no_class = refl
 

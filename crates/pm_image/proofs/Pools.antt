@@ -33,12 +33,12 @@ use Rattle.pm_image.proofs.Reading.{walk_nowhere}
 use Rattle.pm_image.proofs.Rooms.{lines_needed}
 
 -- what a good block says of its object
-record GoodSize (w : ℕ → ℕ) (block : Block) : Type 0 where
-  some : 1 ≤ size_in w block
-  most : size_in w block ≤ 262080
-  lines : block_lines (class_of (size_in w block)) ≡ block.lines
+pub record GoodSize (w : ℕ → ℕ) (block : Block) : Type 0 where
+  pub some : 1 ≤ size_in w block
+  pub most : size_in w block ≤ 262080
+  pub lines : block_lines (class_of (size_in w block)) ≡ block.lines
 
-good_size : (w : ℕ → ℕ) (block : Block) → good_block w block ≡ true → GoodSize w block
+pub good_size : (w : ℕ → ℕ) (block : Block) → good_block w block ≡ true → GoodSize w block
 unfolding good_block
 good_size w block good =
     let size : ℕ = size_in w block in
@@ -50,7 +50,7 @@ good_size w block good =
     let p1 = and_parts (leb 1 size) (leb size 262080) p2.0 in
     record { some = leb-true 1 size p1.0; most = leb-true size 262080 p1.1; lines = eqb-true (block_lines (class_of size)) block.lines p2.1 }
 
-length-bytes_in : (w : ℕ → ℕ) (block : Block) → length (bytes_in w block) ≡ size_in w block
+pub length-bytes_in : (w : ℕ → ℕ) (block : Block) → length (bytes_in w block) ≡ size_in w block
 unfolding bytes_in
 length-bytes_in w block =
     let size : ℕ = size_in w block in
@@ -80,7 +80,7 @@ length-objects_in : (w : ℕ → ℕ) (bs : List Block) → length (objects_in w
 unfolding objects_in
 length-objects_in w bs = length-map bs (λ block. (offset_in block, object_in w (length bs) block))
 
-some_lines : (w : ℕ → ℕ) (block : Block) → GoodSize w block → 1 ≤ block.lines
+pub some_lines : (w : ℕ → ℕ) (block : Block) → GoodSize w block → 1 ≤ block.lines
 some_lines w block good =
     let needed : lines_for (size_in w block) ≤ block_lines (class_of (size_in w block)) = lines_needed (size_in w block) in
     let is : block_lines (class_of (size_in w block)) ≡ block.lines = good.lines in
@@ -154,7 +154,7 @@ root_in w count root (b ∷ bs) is = go (eqb (offset_in b) root) refl (root_in w
       subst (λ (t : Bool). IsSome (cond t (Some (object_in w count b)) (lookup (λ key. eqb key root) rest))) (sym other)
       (later (sym (ap (λ (t : Bool). t || list_any (λ block. eqb (offset_in block) root) bs) other) ∙ is))
 
-root_there : (w : ℕ → ℕ) (bs : List Block) → bad_root w bs ≡ false → IfSome (cond (eqb (w 64) 0) None (Some (w 64))) (λ off. IsSome (object_at (objects_in w bs) off))
+pub root_there : (w : ℕ → ℕ) (bs : List Block) → bad_root w bs ≡ false → IfSome (cond (eqb (w 64) 0) None (Some (w 64))) (λ off. IsSome (object_at (objects_in w bs) off))
 unfolding bad_root objects_in
 root_there w bs good = go (eqb (w 64) 0) refl where
   found : (b : Bool) → not b ≡ false → b ≡ true
@@ -167,7 +167,7 @@ root_there w bs good = go (eqb (w 64) 0) refl where
       root_in w (length bs) (w 64) bs (found (list_any (λ block. eqb (offset_in block) (w 64)) bs)
       (sym (ap (λ (t : Bool). cond t false (not (list_any (λ block. eqb (offset_in block) (w 64)) bs))) some) ∙ good))
 
-no_bad_root : (w : ℕ → ℕ) (bs : List Block) → root_fault w bs ≡ None → bad_root w bs ≡ false
+pub no_bad_root : (w : ℕ → ℕ) (bs : List Block) → root_fault w bs ≡ None → bad_root w bs ≡ false
 unfolding root_fault
 no_bad_root w bs none = go (bad_root w bs) refl where
   go : (b : Bool) → bad_root w bs ≡ b → b ≡ false
@@ -182,7 +182,7 @@ good_blocks w lanes zones none = record {
 }
 
 -- the root's fault is the last that is looked for
-no_root_fault : (w : ℕ → ℕ) (lanes zones : ℕ) → heap_fault w lanes zones ≡ None → root_fault w (blocks w lanes zones) ≡ None
+pub no_root_fault : (w : ℕ → ℕ) (lanes zones : ℕ) → heap_fault w lanes zones ≡ None → root_fault w (blocks w lanes zones) ≡ None
 no_root_fault w lanes zones none = (no_faults w lanes zones none).root
 
 pool_of_heap : (w : ℕ → ℕ) (lanes zones : ℕ) (header : Header) → heap_fault w lanes zones ≡ None → IsName header.name → IsShape lanes zones → 1 ≤ header.id → IsPool (pool_in w lanes zones header)

@@ -5,6 +5,7 @@ use Rattle.pm_image.specs.declared.block.Block.{Block}
 use Rattle.pm_image.specs.Blocks.{class_in}
 use Rattle.pm_image.specs.Contents.{data_words, size_in}
 use Rattle.pm_image.specs.Reads.{IsBitmapWord, IsContentsWord, Reads, AgreeOn}
+use Rattle.pm_image.proofs.Heads.{agree_on_heads}
 use Rattle.pm_image.proofs.LocalContents.{header_same}
 use Rattle.pm_image.proofs.LocalHeap.{agree_on_block, blocks_same, descriptor_same}
 
@@ -13,13 +14,13 @@ bitmap_read w v lanes zones i agree is = record {
   chunk = is.chunk;
   lines = is.lines;
   in_range = is.in_range;
-  is_run = sym (ap class_in (descriptor_same w v lanes zones is.chunk agree is.in_range)) ∙ is.is_run;
+  is_run = sym (ap class_in (descriptor_same w v lanes zones is.chunk (agree_on_heads w v lanes zones agree) is.in_range)) ∙ is.is_run;
   is_word = is.is_word;
 }
 
 contents_read : (w v : ℕ → ℕ) (lanes zones i : ℕ) → AgreeOn (Reads w lanes zones) w v → IsContentsWord v lanes zones i → IsContentsWord w lanes zones i
 contents_read w v lanes zones i agree is =
-    let there = subst (λ (bs : List Block). Contains bs is.block) (blocks_same w v lanes zones agree) is.is_there in
+    let there = subst (λ (bs : List Block). Contains bs is.block) (blocks_same w v lanes zones (agree_on_heads w v lanes zones agree)) is.is_there in
     let size : size_in v is.block ≡ size_in w is.block = header_same w v is.block 1 (omega arith) (agree_on_block w v lanes zones is.block agree there) in
     record {
       block = is.block;

@@ -1,3 +1,4 @@
 pub mod Bits
+pub mod Patching
 pub mod Reading
 pub mod Running

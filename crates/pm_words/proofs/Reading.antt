@@ -47,7 +47,7 @@ unfolding bytes_of
 words_of-bytes_of words fits = sym (words_read (flat_map (little_bytes 8) words) words (length-flat_map_bytes words) (λ i h. sym (little_number-flat_map words i h fits)))
 
 -- the eight bytes of word i
-bytes_of_word : (bytes : List ℕ) (i : ℕ) → AreBytes bytes → 8 * i + 8 ≤ length bytes → little_bytes 8 (word_at bytes i) ≡ take 8 (drop (8 * i) bytes)
+pub bytes_of_word : (bytes : List ℕ) (i : ℕ) → AreBytes bytes → 8 * i + 8 ≤ length bytes → little_bytes 8 (word_at bytes i) ≡ take 8 (drop (8 * i) bytes)
 unfolding word_at
 bytes_of_word bytes i fits long =
     let here : List ℕ = take 8 (drop (8 * i) bytes) in

@@ -31,3 +31,18 @@ fn words_masks_and_places(rt: HostRuntime) {
     assert_eq!(rt; word_of(16519), 2064);
     words_and_bytes_agree();
 }
+
+/// A word whose byte j is 0x11 times j + 1, so that byte 0 is 0x11: worked by hand.
+#[test]
+fn patches_by_hand(rt: HostRuntime) {
+    let word = 0x8877_6655_4433_2211;
+    assert_eq!(rt; patch(word, 0, &[0xaa]), 0x8877_6655_4433_22aa);
+    assert_eq!(rt; patch(word, 7, &[0xaa]), 0xaa77_6655_4433_2211);
+    assert_eq!(rt; patch(word, 2, &[0xaa, 0xbb, 0xcc]), 0x8877_66cc_bbaa_2211);
+    assert_eq!(rt;
+        patch(word, 0, &[1, 2, 3, 4, 5, 6, 7, 8]),
+        0x0807_0605_0403_0201
+    );
+    assert_eq!(rt; patch(word, 3, &[]), word);
+    assert_eq!(rt; patch(word, 8, &[]), word);
+}

@@ -1,5 +1,5 @@
-ghost use Rattle.std.specs.Prelude.{◌≡◌, ◌*◌, length};
-ghost use Rattle.pm_words.specs.Words.{words_of, bytes_of};
+ghost use Rattle.std.specs.Prelude.{◌≡◌, ◌+◌, ◌*◌, ◌≤◌, length};
+ghost use Rattle.pm_words.specs.Words.{words_of, bytes_of, patched};
 
 use byteorder::{ByteOrder, LittleEndian};
 
@@ -18,4 +18,14 @@ pub fn bytes_of(words: &[u64], out: &mut [u8])
     ensures words { words_of out.new ≡ words.now }
 {
     LittleEndian::write_u64_into(words, out);
+}
+
+/// The word with its bytes from byte `from` on replaced by these, and the others as they were. Byte 0 is the lowest.
+pub fn patch(word: u64, from: usize, bytes: &[u8]) -> u64
+    requires { from + length bytes.now ≤ 8 }
+    ensures { result ≡ patched from bytes.now word }
+{
+    let mut whole = word.to_le_bytes();
+    whole[from..from + bytes.len()].copy_from_slice(bytes);
+    u64::from_le_bytes(whole)
 }

@@ -1,0 +1,13 @@
+pub mod Covered
+pub mod Bytewise
+pub mod Includes
+pub mod Standing
+pub mod ObjectBytes
+pub mod Apart
+pub mod Walks
+pub mod OneObject
+pub mod Written
+pub mod ObjectsOfBlocks
+pub mod Classes
+pub mod FoundBlocks
+pub mod HeapWordsAlone

@@ -1,0 +1,19 @@
+//! The laws of the crash theorem: what recovered words mean, and how the words that a call makes final change the pool.
+//!
+//! Promises whoever proves an engine or the top theorem that words which hold a pool, with bytes written inside an object, hold the
+//! pool of the plain model after that write; that reading the words of an object finds its bytes; and that the blocks a lane finds are the
+//! pool's objects. No code stands here but laws. It stands on `pm_image` for the meaning of words, `pm_model`
+//! for calls, and `pm_view` for what a lane finds; docs/MODEL.md, "The crash theorem".
+#![tactic(auto)]
+
+mod laws;
+
+pub use laws::{
+    a_block_is_an_object, a_lane_finds_the_blocks, a_pool_is_held_by_heap_words,
+    a_read_finds_the_bytes, a_write_changes_one_object, an_object_has_words_of_its_own,
+    covered_words_have_a_byte, each_write_has_its_words, images_hold_their_pools,
+    the_root_is_its_word,
+};
+
+#[cfg(test)]
+mod tests;

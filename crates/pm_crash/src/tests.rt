@@ -1,0 +1,16 @@
+use super::*;
+
+/// Each law by its name: none runs any code.
+#[test]
+fn laws(_rt: HostRuntime) {
+    images_hold_their_pools();
+    a_pool_is_held_by_heap_words();
+    an_object_has_words_of_its_own();
+    each_write_has_its_words();
+    a_write_changes_one_object();
+    a_read_finds_the_bytes();
+    covered_words_have_a_byte();
+    a_block_is_an_object();
+    the_root_is_its_word();
+    a_lane_finds_the_blocks();
+}
