@@ -5,3 +5,6 @@ pub mod Sound
 pub mod PutBack
 pub mod Raising
 pub mod Recovered
+pub mod Clean
+pub mod Meaning
+pub mod Final

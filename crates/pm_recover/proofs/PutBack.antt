@@ -164,25 +164,41 @@ front_of_lanes old now lanes from n sound few is =
 pub front_of_all : (old now : List ℕ) (lanes : ℕ) → HasSoundLogs old lanes → AreRestored (flat_map (records old) (range_with_len 0 lanes)) old now → SameFront old now lanes
 front_of_all old now lanes sound is = front_of_lanes old now lanes 0 lanes sound (omega arith) is
 
--- the image of which slot records behind this one are put back: its logs are sound too, and the slot's record comes before them
-pub sound_behind_slot : (old now : List ℕ) (lane slot n : ℕ) → HasSoundLogs old (lane + 1) → slot + 1 + n ≤ 64 → AreRestored (flat_map (record_at old lane) (range_with_len (slot + 1) n)) old now → HasSoundLogs now (lane + 1)
-sound_behind_slot old now lane slot n sound few is = sound_too old now (lane + 1) sound (front_of_slots old now (lane + 1) lane (slot + 1) n sound (omega arith) few is)
+-- once the records of the slots from one on are put back, the logs are sound as before, and the record of the slot before it comes first
+pub sound_behind_slot : (old now : List ℕ) (lane from n : ℕ) → HasSoundLogs old (lane + 1) → from + n ≤ 64 → AreRestored (flat_map (record_at old lane) (range_with_len from n)) old now → HasSoundLogs now (lane + 1)
+sound_behind_slot old now lane from n sound few is = sound_too old now (lane + 1) sound (front_of_slots old now (lane + 1) lane from n sound (omega arith) few is)
 
-pub slot_more : (old now new : List ℕ) (lane slot n : ℕ) → HasSoundLogs old (lane + 1) → slot + 1 + n ≤ 64 → AreRestored (flat_map (record_at old lane) (range_with_len (slot + 1) n)) old now
+slot_before : (old now new : List ℕ) (lane slot n : ℕ) → HasSoundLogs old (lane + 1) → slot + 1 + n ≤ 64 → AreRestored (flat_map (record_at old lane) (range_with_len (slot + 1) n)) old now
     → AreRestored (option_to_list (valid_record now lane slot)) now new → AreRestored (flat_map (record_at old lane) (range_with_len slot (suc n))) old new
-slot_more old now new lane slot n sound few before is =
+slot_before old now new lane slot n sound few before is =
     let front : SameFront old now (lane + 1) = front_of_slots old now (lane + 1) lane (slot + 1) n sound (omega arith) few before in
     let same : valid_record old lane slot ≡ valid_record now lane slot = same_valid old now lane slot (same_lane old now (lane + 1) lane sound front (omega arith)) (omega arith) in
     restored_then (record_at old lane slot) (flat_map (record_at old lane) (range_with_len (slot + 1) n)) old now new before (subst (λ (o : Option Undo). AreRestored (option_to_list o) now new) (sym same) is)
 
--- the same for lanes
-pub sound_behind_lane : (old now : List ℕ) (lanes lane n : ℕ) → HasSoundLogs old lanes → lane + 1 + n ≤ lanes → AreRestored (flat_map (records old) (range_with_len (lane + 1) n)) old now → HasSoundLogs now (lane + 1)
-sound_behind_lane old now lanes lane n sound few is =
-    fewer_lanes now lanes (lane + 1) (sound_too old now lanes sound (front_of_lanes old now lanes (lane + 1) n sound few is)) (omega arith)
+pub slot_more : (old now new : List ℕ) (lane slot from n m : ℕ) → from ≡ slot + 1 → m ≡ suc n → HasSoundLogs old (lane + 1) → from + n ≤ 64 → AreRestored (flat_map (record_at old lane) (range_with_len from n)) old now
+    → AreRestored (option_to_list (valid_record now lane slot)) now new → AreRestored (flat_map (record_at old lane) (range_with_len slot m)) old new
+slot_more old now new lane slot from n m next more sound few before is =
+    subst (λ (k : ℕ). AreRestored (flat_map (record_at old lane) (range_with_len slot k)) old new) (sym more)
+    (slot_before old now new lane slot n sound (omega arith) (subst (λ (k : ℕ). AreRestored (flat_map (record_at old lane) (range_with_len k n)) old now) next before) is)
 
-pub lane_more : (old now new : List ℕ) (lanes lane n : ℕ) → HasSoundLogs old lanes → lane + 1 + n ≤ lanes → AreRestored (flat_map (records old) (range_with_len (lane + 1) n)) old now
+pub all_slots : (old new : List ℕ) (lane from n : ℕ) → from ≡ 0 → n ≡ 64 → AreRestored (flat_map (record_at old lane) (range_with_len from n)) old new → AreRestored (records old lane) old new
+all_slots old new lane from n first whole is =
+    subst (λ (us : List Undo). AreRestored us old new) ((λ j. flat_map (record_at old lane) (range_with_len (first j) (whole j))) ∙ sym (records_by_number old lane)) is
+
+-- the same for lanes
+pub sound_behind_lane : (old now : List ℕ) (lanes lane from n : ℕ) → from ≡ lane + 1 → HasSoundLogs old lanes → from + n ≤ lanes → AreRestored (flat_map (records old) (range_with_len from n)) old now → HasSoundLogs now (lane + 1)
+sound_behind_lane old now lanes lane from n next sound few is =
+    fewer_lanes now lanes (lane + 1) (sound_too old now lanes sound (front_of_lanes old now lanes from n sound few is)) (omega arith)
+
+lane_before : (old now new : List ℕ) (lanes lane n : ℕ) → HasSoundLogs old lanes → lane + 1 + n ≤ lanes → AreRestored (flat_map (records old) (range_with_len (lane + 1) n)) old now
     → AreRestored (records now lane) now new → AreRestored (flat_map (records old) (range_with_len lane (suc n))) old new
-lane_more old now new lanes lane n sound few before is =
+lane_before old now new lanes lane n sound few before is =
     let front : SameFront old now lanes = front_of_lanes old now lanes (lane + 1) n sound few before in
     let same : records old lane ≡ records now lane = same_records old now lane (same_lane old now lanes lane sound front (omega arith)) in
     restored_then (records old lane) (flat_map (records old) (range_with_len (lane + 1) n)) old now new before (subst (λ (us : List Undo). AreRestored us now new) (sym same) is)
+
+pub lane_more : (old now new : List ℕ) (lanes lane from n m : ℕ) → from ≡ lane + 1 → m ≡ suc n → HasSoundLogs old lanes → from + n ≤ lanes → AreRestored (flat_map (records old) (range_with_len from n)) old now
+    → AreRestored (records now lane) now new → AreRestored (flat_map (records old) (range_with_len lane m)) old new
+lane_more old now new lanes lane from n m next more sound few before is =
+    subst (λ (k : ℕ). AreRestored (flat_map (records old) (range_with_len lane k)) old new) (sym more)
+    (lane_before old now new lanes lane n sound (omega arith) (subst (λ (k : ℕ). AreRestored (flat_map (records old) (range_with_len k n)) old now) next before) is)

@@ -26,10 +26,12 @@ pub not_valid : (g : ℕ) (o : Option Undo) → ((u : Undo) → o ≡ Some u →
 not_valid g None other = refl
 not_valid g (Some x) other = ap (λ (b : Bool). cond b (Some x) None) (ne_eqb x.generation g (other x refl))
 
+pub valid_if : (g : ℕ) (o : Option Undo) (u : Undo) → o ≡ Some u → u.generation ≡ g → of_generation g o ≡ Some u
+valid_if g o u is same = ap (of_generation g) is ∙ ap (λ (b : Bool). cond b (Some u) None) (eq-eqb u.generation g same)
+
 pub of_another : (g : ℕ) (o : Option Undo) (u : Undo) → of_generation g o ≡ None → o ≡ Some u → u.generation ≡ g → ⊥
 of_another g o u none is same =
-    let found : of_generation g o ≡ Some u = ap (of_generation g) is ∙ ap (λ (b : Bool). cond b (Some u) None) (eq-eqb u.generation g same) in
-    let clash : None ≡ Some u = sym none ∙ found in
+    let clash : None ≡ Some u = sym none ∙ valid_if g o u is same in
     absurd cc
 
 -- a lane that is not sealed has the generation of its area

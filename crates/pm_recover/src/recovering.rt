@@ -42,6 +42,7 @@ fn sound_lanes(alloc: Global, image: &RawImage) -> Result<u64, RecoverFault>
     ensures lanes { IfOk result (λ lanes. (pool : PoolView) → IsMeaning image.now pool → pool.lanes ≡ lanes) }
     ensures sound { IfOk result (HasSoundLogs image.now) }
     ensures fault { IfErr result (λ e. IfImage e (IsImageFault image.now)) }
+    ensures refused { (found : ImageFault) → IsImageFault image.now found → IsErrAnd result (λ e. IfImage e (λ told. told ≡ found)) }
 {
     match means(alloc, image) {
         Ok(pool) => Ok(pool.lanes),
