@@ -1,7 +1,6 @@
 -- Images that agree on a lane's area say the same of its log.
-use Rattle.std.proofs.Common.{◌≡◌, ℕ, ◌+◌, ◌*◌, ◌<◌, ◌≤◌, ◌&&◌, ◌||◌, Bool, not, cond, eqb, ltb, List, length, slice_index, Option, None, Some, refl, sym, ◌∙◌, ap, arith}
-use Rattle.std.specs.List.{flat_map, list_all, range_with_len}
-use Rattle.std.specs.Option.{option_and_then, option_to_list}
+use Rattle.std.proofs.Common.{◌≡◌, ℕ, ◌+◌, ◌*◌, ◌<◌, ◌≤◌, ◌&&◌, ◌||◌, not, cond, ltb, List, length, slice_index, sym, ◌∙◌, ap, arith}
+use Rattle.std.specs.Option.{option_to_list}
 use Rattle.pm_record.specs.Undo.{is_record, undo_of}
 use Rattle.pm_record.specs.declared.undo.Undo.{Undo}
 use Rattle.pm_image.specs.Logs.{area_word, generation, generation_word, records, seal_word, slot_line, undo_slot}

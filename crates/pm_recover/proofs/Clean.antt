@@ -1,12 +1,12 @@
 -- The logs of a recovered image are clean.
-use Rattle.std.proofs.Common.{◌≡◌, ◌≢◌, ⊎_elim, inr, ℕ, ◌+◌, ◌*◌, ◌<◌, ◌≤◌, ◌&&◌, ◌||◌, Bool, true, false, cond, ltb, List, [], length, slice_index, Option, None, Some, refl, sym, ◌∙◌, ap, subst, arith}
-use Rattle.std.proofs.lemmas.Bool.{and_left, cases_lt, le-ltb, or_from, or_left, or_parts, false≢true}
+use Rattle.std.proofs.Common.{◌≡◌, ◌≢◌, ⊎_elim, ℕ, ◌+◌, ◌*◌, ◌<◌, ◌≤◌, ◌&&◌, Bool, true, false, cond, ltb, List, [], length, Some, refl, sym, ◌∙◌, ap, subst, arith}
+use Rattle.std.proofs.lemmas.Bool.{and_left, cases_lt, le-ltb, or_from, or_parts}
 use Rattle.pm_record.specs.Undo.{undo_of}
 use Rattle.pm_record.specs.declared.undo.Undo.{Undo}
-use Rattle.pm_image.specs.Logs.{area_word, generation, generation_word, records, seal_word, undo_slot}
-use Rattle.pm_image.specs.Steps.{HasLanes, valid_record}
+use Rattle.pm_image.specs.Logs.{generation, generation_word, records, seal_word, undo_slot}
+use Rattle.pm_image.specs.Steps.{valid_record}
 use Rattle.pm_recover.specs.Recovery.{HasNoStrayRecord, IsCleanLog, IsRecovered, generation_after, has_record, has_torn_slot, is_raised}
-use Rattle.pm_recover.specs.Steps.{HasSoundLogs, IsRestorable}
+use Rattle.pm_recover.specs.Steps.{HasSoundLogs}
 use Rattle.pm_recover.proofs.Areas.{SameLog, same_seal, same_slot}
 use Rattle.pm_recover.proofs.Slots.{generation_stands, no_record_in, no_records, none_recorded, not_valid, of_another, unrecorded, valid_if}
 
@@ -75,7 +75,7 @@ earlier image lanes lane slot u sound past in_lanes in_slots is = go (is_raised 
       let still : generation_after image lane ≡ generation_word image lane = after_kept image lane kept in
       let stands : generation image lane ≡ generation_word image lane = generation_stands image lane (sound.unsealed lane in_lanes) in
       let other : u.generation ≡ generation image lane → ⊥ =
-          of_another (generation image lane) (undo_of (undo_slot image lane slot)) u (no_record_in image lane slot (none_if_kept image lane kept) in_slots) is in
+      of_another (generation image lane) (undo_of (undo_slot image lane slot)) u (no_record_in image lane slot (none_if_kept image lane kept) in_slots) is in
       let apart : u.generation ≢ generation_word image lane = λ same. other (same ∙ sym stands) in
       omega arith
 
@@ -104,5 +104,5 @@ clean_has_none image lane clean =
 
 pub none_to_come : (image : List ℕ) (lanes : ℕ) → ((lane : ℕ) → lane < lanes → IsCleanLog image lane) → HasNoStrayRecord image lanes
 none_to_come image lanes all = record {
-  past = λ lane slot u in_lanes in_slots is. let old : u.generation < generation_word image lane = (all lane in_lanes).stale slot u in_slots is in omega arith
+  past = λ lane slot u in_lanes in_slots is. let old : u.generation < generation_word image lane = (all lane in_lanes).stale slot u in_slots is in omega arith;
 }

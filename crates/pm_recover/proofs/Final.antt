@@ -1,5 +1,5 @@
 -- To recover once more changes nothing, where no slot is torn.
-use Rattle.std.proofs.Common.{◌≡◌, ⊎_elim, inl, inr, ℕ, ◌+◌, ◌-◌, ◌*◌, ◌/◌, ◌<◌, ◌≤◌, ◌&&◌, false, ltb, List, length, slice_index, sym, ◌∙◌, ap, arith}
+use Rattle.std.proofs.Common.{◌≡◌, ⊎_elim, inl, inr, ℕ, ◌-◌, ◌/◌, ◌<◌, ◌≤◌, ◌&&◌, false, ltb, List, slice_index, sym, ◌∙◌, ap, arith}
 use Rattle.std.proofs.lemmas.Bool.{and_right, cases_lt, or_from}
 use Rattle.std.proofs.lemmas.List.{ext_get_or}
 use Rattle.pm_image.specs.Logs.{area_word, generation_word}

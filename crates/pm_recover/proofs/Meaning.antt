@@ -1,5 +1,5 @@
 -- What is recovered means what it meant.
-use Rattle.std.proofs.Common.{◌≡◌, ◌⊎◌, ⊎_elim, inl, inr, ℕ, ◌+◌, ◌*◌, ◌/◌, ◌%◌, ◌<◌, ◌≤◌, ◌&&◌, Bool, true, false, not, eqb, leb, ltb, List, [], length, slice_index, get_or, take, Option, None, refl, sym, ◌∙◌, ap, subst, arith}
+use Rattle.std.proofs.Common.{◌≡◌, ◌⊎◌, ⊎_elim, inl, inr, ℕ, ◌+◌, ◌*◌, ◌/◌, ◌%◌, ◌<◌, ◌≤◌, ◌&&◌, true, false, not, eqb, leb, ltb, List, [], length, slice_index, take, Option, None, refl, sym, ◌∙◌, ap, subst, arith}
 use Rattle.std.specs.List.{filter, flat_map, range_with_len}
 use Rattle.std.specs.Option.{option_map_or}
 use Rattle.std.proofs.lemmas.Bool.{and_from, cases_lt, eq-eqb, le-leb, not_from_true}
@@ -11,7 +11,7 @@ use Rattle.pm_image.specs.Logs.{area_word, covers, generation_word, recovered_at
 use Rattle.pm_image.specs.LogFaults.{bad_slot, good_lane, good_record, log_fault}
 use Rattle.pm_image.specs.HeapFaults.{heap_fault}
 use Rattle.pm_image.specs.Means.{HasShape, IsMeaning, page}
-use Rattle.pm_image.specs.Reads.{AgreeInMeaning, IsHeapWord, Reads}
+use Rattle.pm_image.specs.Reads.{AgreeInMeaning, IsHeapWord}
 use Rattle.pm_image.specs.Steps.{HasLanes, valid_record}
 use Rattle.pm_image.proofs.FaultFree.{neither}
 use Rattle.pm_image.proofs.Firsts.{none_passes}
@@ -123,7 +123,7 @@ agree_in_meaning before after lanes zones shape logs heap past is =
       logs = logs;
       other_logs = no_log_fault after lanes zones clean_after;
       words = record {
-        same = λ i read. sym (is.words i (outside lanes zones i (reads_heap (recovered_at before lanes) lanes zones i heap read))) ∙ sym (as_they_stand after lanes i clean_after)
+        same = λ i read. sym (is.words i (outside lanes zones i (reads_heap (recovered_at before lanes) lanes zones i heap read))) ∙ sym (as_they_stand after lanes i clean_after);
       };
     }
 
@@ -131,8 +131,8 @@ pub meaning_kept : (before after : List ℕ) (pool : PoolView) → HasNoStrayRec
 meaning_kept before after pool past is means =
     let same : pool.lanes ≡ means.lanes = sym (lanes_of_meaning before pool means) in
     let heap : heap_fault (recovered_at before means.lanes) means.lanes means.zones ≡ None =
-        (neither (log_fault before means.lanes means.zones) (heap_fault (recovered_at before means.lanes) means.lanes means.zones) means.no_fault).1 in
+    (neither (log_fault before means.lanes means.zones) (heap_fault (recovered_at before means.lanes) means.lanes means.zones) means.no_fault).1 in
     let agree : AgreeInMeaning before after means.lanes means.zones =
-        agree_in_meaning before after means.lanes means.zones means.has_header.has_shape (logs_of_meaning before pool means) heap
-        (subst (HasNoStrayRecord before) same past) (subst (IsRecovered before after) same is) in
+    agree_in_meaning before after means.lanes means.zones means.has_header.has_shape (logs_of_meaning before pool means) heap
+    (subst (HasNoStrayRecord before) same past) (subst (IsRecovered before after) same is) in
     (meaning_local before after means.lanes means.zones agree).pools pool means

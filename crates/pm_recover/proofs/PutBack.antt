@@ -1,15 +1,15 @@
 -- The words of records put back one after the other, the last first.
-use Rattle.std.proofs.Common.{◌≡◌, ◌⊎◌, ⊎_elim, ℕ, suc, ◌+◌, ◌-◌, ◌*◌, ◌/◌, ◌%◌, ◌<◌, ◌≤◌, ◌&&◌, Bool, true, false, cond, eqb, leb, ltb, List, [], ◌∷◌, ◌++◌, length, slice_index, Option, None, Some, refl, sym, ◌∙◌, ap, subst, arith}
+use Rattle.std.proofs.Common.{◌≡◌, ⊎_elim, ℕ, suc, ◌+◌, ◌-◌, ◌*◌, ◌/◌, ◌%◌, ◌<◌, ◌≤◌, ◌&&◌, Bool, true, false, cond, eqb, leb, ltb, List, [], ◌∷◌, ◌++◌, length, slice_index, Option, None, Some, refl, sym, ◌∙◌, ap, subst, arith}
 use Rattle.std.specs.List.{find, flat_map, range_with_len}
 use Rattle.std.specs.Option.{option_or, option_to_list}
 use Rattle.std.proofs.lemmas.Bool.{and_from, and_left, and_right, cases_lt, eq-eqb, le-leb, le-ltb, lt-leb, lt-ltb}
 use Rattle.std.proofs.lemmas.List.Folds.{find-append}
 use Rattle.pm_record.specs.declared.undo.Undo.{Undo}
-use Rattle.pm_image.specs.Logs.{area_word, covers, generation_word, old_word, records, restored, seal_word}
+use Rattle.pm_image.specs.Logs.{area_word, covers, old_word, records, restored}
 use Rattle.pm_image.specs.Steps.{HasLanes, valid_record}
 use Rattle.pm_image.proofs.Gathering.{record_at, records_by_number}
 use Rattle.pm_recover.specs.Steps.{AreRestored, AreWritten, HasSoundLogs, IsRestorable}
-use Rattle.pm_recover.proofs.Areas.{SameLane, SameLog, same_records, same_valid}
+use Rattle.pm_recover.proofs.Areas.{SameLane, same_records, same_valid}
 use Rattle.pm_recover.proofs.Parts.{found_in_no_part}
 
 -- the record covers the word with this number

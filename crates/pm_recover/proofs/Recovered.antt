@@ -1,15 +1,14 @@
 -- An image whose records are put back and whose generations are raised is recovered.
-use Rattle.std.proofs.Common.{◌≡◌, ◌≢◌, ◌⊎◌, ⊎_elim, inl, inr, ℕ, ◌+◌, ◌*◌, ◌<◌, ◌≤◌, List, [], length, slice_index, Option, refl, sym, ◌∙◌, ap, subst, arith}
-use Rattle.std.specs.List.{find, flat_map, range_with_len}
+use Rattle.std.proofs.Common.{◌≡◌, ◌≢◌, ◌⊎◌, ⊎_elim, inl, inr, ℕ, ◌*◌, ◌<◌, ◌≤◌, List, length, slice_index, sym, ◌∙◌, ap, subst, arith}
+use Rattle.std.specs.List.{flat_map, range_with_len}
 use Rattle.std.proofs.lemmas.Bool.{cases_lt}
 use Rattle.std.proofs.lemmas.List.{get_or_past}
 use Rattle.pm_record.specs.declared.redo.Redo.{Redo}
-use Rattle.pm_record.specs.declared.undo.Undo.{Undo}
-use Rattle.pm_image.specs.Logs.{area_word, covers, generation_word, entries_for, record_for, records, recovered, recovered_at, recovered_by, recovered_words, restored}
+use Rattle.pm_image.specs.Logs.{area_word, record_for, records, recovered, recovered_at, recovered_by, recovered_words, restored}
 use Rattle.pm_image.proofs.InPlace.{recovered_in_place}
 use Rattle.pm_image.proofs.LogRows.{no_entries_for}
 use Rattle.pm_image.proofs.WholeImage.{length-recovered_words}
-use Rattle.pm_recover.specs.Recovery.{IsRecovered, generation_after}
+use Rattle.pm_recover.specs.Recovery.{IsRecovered}
 use Rattle.pm_recover.specs.Steps.{AreRaised, AreRestored, HasSoundLogs}
 use Rattle.pm_recover.proofs.Areas.{same_after}
 use Rattle.pm_recover.proofs.PutBack.{SameFront, front_of_all, first_for, same_lane}

@@ -5,7 +5,7 @@ use Rattle.std.proofs.lemmas.Bool.{eqb-true, eq-eqb, ne_eqb, false≢true, ltb-f
 use Rattle.std.proofs.lemmas.Option.{cond_some}
 use Rattle.pm_record.specs.Undo.{is_record, undo_in, undo_of}
 use Rattle.pm_record.specs.declared.undo.Undo.{Undo}
-use Rattle.pm_image.specs.Logs.{area_word, generation, generation_word, records, seal_word, undo_slot}
+use Rattle.pm_image.specs.Logs.{area_word, generation, generation_word, records, seal_word}
 use Rattle.pm_image.specs.Steps.{valid_record}
 use Rattle.pm_image.proofs.Gathering.{record_at, records_by_number}
 use Rattle.pm_image.proofs.LogRows.{not_sealed, nothing_in}

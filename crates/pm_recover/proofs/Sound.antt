@@ -1,14 +1,14 @@
 -- Where the logs of an image have no fault: what is known of each lane and each valid record.
-use Rattle.std.proofs.Common.{◌≡◌, ◌≢◌, ℕ, ◌+◌, ◌-◌, ◌*◌, ◌/◌, ◌%◌, ◌<◌, ◌≤◌, ◌&&◌, Bool, true, false, not, eqb, leb, ltb, List, length, Option, None, Some, refl, sym, ◌∙◌, ap, subst, arith}
+use Rattle.std.proofs.Common.{◌≡◌, ◌≢◌, ℕ, ◌+◌, ◌-◌, ◌*◌, ◌/◌, ◌%◌, ◌<◌, ◌≤◌, ◌&&◌, Bool, true, false, not, eqb, leb, ltb, List, length, Option, None, Some, sym, ◌∙◌, ap, subst, arith}
 use Rattle.std.specs.List.{find, list_all, range_with_len}
-use Rattle.std.specs.Option.{option_map, option_map_or, option_or}
+use Rattle.std.specs.Option.{option_map_or, option_or}
 use Rattle.std.proofs.lemmas.Bool.{and_parts, eqb-true, eqb-false, leb-true, ltb-true, not-true, not-false}
 use Rattle.pm_record.specs.Undo.{undo_of}
 use Rattle.pm_record.specs.declared.undo.Undo.{Undo}
 use Rattle.pm_objects.specs.declared.pool.PoolView.{PoolView}
 use Rattle.pm_image.specs.declared.fault.ImageFault.{ImageFault}
 use Rattle.pm_image.specs.declared.fault.ImageFault.TheVariants as fault
-use Rattle.pm_image.specs.Logs.{area_word, generation, generation_word, recovered_at, seal_word, undo_slot}
+use Rattle.pm_image.specs.Logs.{generation, generation_word, recovered_at, seal_word, undo_slot}
 use Rattle.pm_image.specs.LogFaults.{bad_slot, clash_fault, good_lane, good_record, in_chunk, lane_fault, log_fault, redo_fault, undo_fault, zones_word}
 use Rattle.pm_image.specs.HeapFaults.{heap_fault}
 use Rattle.pm_image.specs.Means.{HasShape, IsMeaning}
@@ -133,7 +133,7 @@ logs_sound image lanes zones shape none =
       last_generation = λ lane inside. (generation_in_range image lanes lane rows.lane_row inside).1;
       restorable = λ lane slot u in_lanes in_slots is.
           let same : u.generation ≡ generation_word image lane =
-              (valid_parts (generation image lane) (undo_of (undo_slot image lane slot)) u is).1 ∙ generation_stands image lane (unsealed image lanes rows.lane_row lane in_lanes) in
+          (valid_parts (generation image lane) (undo_of (undo_slot image lane slot)) u is).1 ∙ generation_stands image lane (unsealed image lanes rows.lane_row lane in_lanes) in
           let last : generation_word image lane ≤ 4611686018427387904 = (generation_in_range image lanes lane rows.lane_row in_lanes).1 in
           restorable_if_good image lanes zones u shape (good_if_valid image lanes zones lane slot u (slot_good image lanes zones lane slot rows.slot_row in_lanes in_slots) is) (omega arith);
     }

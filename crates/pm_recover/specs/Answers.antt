@@ -1,5 +1,5 @@
 -- What an answer of recovery says.
-use Rattle.std.specs.Prelude.{◌≡◌, ◌⊎◌, Result, Err, ⊤}
+use Rattle.std.specs.Prelude.{⊤}
 use Rattle.pm_image.specs.declared.fault.ImageFault.{ImageFault}
 use Rattle.pm_recover.specs.declared.fault.RecoverFault.{RecoverFault}
 use Rattle.pm_recover.specs.declared.fault.RecoverFault.TheVariants.{Image, Memory}

@@ -1,4 +1,3 @@
-use Rattle.std.proofs.Common.{◌≡◌}
 use Rattle.pm_recover.proofs.Recovered.{recovered_made}
 use Rattle.pm_recover.proofs.PutBack.{sound_too, front_of_all}
 use Rattle.pm_recover.proofs.recovering.recover_lanes.Goals as goal

@@ -1,6 +1,4 @@
-use Rattle.pm_image.specs.Means.{IsImageFault}
 use Rattle.pm_image.proofs.Meanings.{no_meaning_and_fault, one_fault}
-use Rattle.pm_recover.specs.Answers.{IfImage}
 use Rattle.pm_recover.proofs.Sound.{sound_if_meaning}
 use Rattle.pm_recover.proofs.recovering.sound_lanes.Goals as goal
 

@@ -1,5 +1,4 @@
-use Rattle.std.proofs.Common.{◌≡◌, ◌-◌, ◌+◌, ℕ, subst, arith}
-use Rattle.pm_recover.specs.Steps.{HasSoundLogs}
+use Rattle.std.proofs.Common.{◌-◌, arith}
 use Rattle.pm_recover.proofs.PutBack.{lane_more, sound_behind_lane}
 use Rattle.pm_recover.proofs.restoring.restore_all.Goals as goal
 
