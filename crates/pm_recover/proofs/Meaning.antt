@@ -127,8 +127,8 @@ agree_in_meaning before after lanes zones shape logs heap past is =
       };
     }
 
-pub meaning_kept : (before after : List ℕ) (pool : PoolView) → HasNoStrayRecord before pool.lanes → IsRecovered before after pool.lanes → IsMeaning before pool → IsMeaning after pool
-meaning_kept before after pool past is means =
+pub meaning_kept : (before after : List ℕ) (pool : PoolView) → IsMeaning before pool → HasNoStrayRecord before pool.lanes → IsRecovered before after pool.lanes → IsMeaning after pool
+meaning_kept before after pool means past is =
     let same : pool.lanes ≡ means.lanes = sym (lanes_of_meaning before pool means) in
     let heap : heap_fault (recovered_at before means.lanes) means.lanes means.zones ≡ None =
     (neither (log_fault before means.lanes means.zones) (heap_fault (recovered_at before means.lanes) means.lanes means.zones) means.no_fault).1 in

@@ -5,7 +5,7 @@ use Rattle.pm_image.specs.Logs.{area_word, generation_word, seal_word, covers, r
 use Rattle.pm_image.specs.Steps.{HasLanes, valid_record}
 use Rattle.pm_recover.specs.Recovery.{generation_after}
 
--- the record is of 1 to 4 words of the image, all of them behind the areas of so many lanes, and its generation can be raised
+-- the record is of four words of the image at most, all of them behind the areas of so many lanes, and its generation can be raised
 pub record IsRestorable (image : List ℕ) (lanes : ℕ) (u : Undo) : Type 0 where
   pub aligned : u.place % 8 ≡ 0
   pub few : u.count ≤ 4

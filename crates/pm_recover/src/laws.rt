@@ -6,7 +6,7 @@ ghost use Rattle.pm_recover.specs.Recovery.{HasNoStrayRecord, HasNoTornSlot, IsC
 
 /// A law: what an image means, it means once it is recovered, where it has no record of a generation to come. No code runs.
 pub fn recovery_keeps_the_meaning()
-    ensures { (before after : List ℕ) (pool : PoolView) → HasNoStrayRecord before pool.lanes → IsRecovered before after pool.lanes → IsMeaning before pool → IsMeaning after pool }
+    ensures { (before after : List ℕ) (pool : PoolView) → IsMeaning before pool → HasNoStrayRecord before pool.lanes → IsRecovered before after pool.lanes → IsMeaning after pool }
 {}
 
 /// A law: a recovered image has no valid record, and none of a generation to come, where the image before had none of the latter. No code runs.

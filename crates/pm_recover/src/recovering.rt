@@ -26,7 +26,7 @@ pub fn recover(alloc: Global, image: &mut RawImage) -> Result<(), RecoverFault>
     ensures seals { OnOk result ((pool : PoolView) (lane : ℕ) → IsMeaning image.old pool → lane < pool.lanes → seal_word image.new lane ≡ 0) }
 
     // To raise a generation wakes no old record, where there is none of a generation to come.
-    ensures meaning { OnOk result ((pool : PoolView) → HasNoStrayRecord image.old pool.lanes → IsMeaning image.old pool → IsMeaning image.new pool) }
+    ensures meaning { OnOk result ((pool : PoolView) → IsMeaning image.old pool → HasNoStrayRecord image.old pool.lanes → IsMeaning image.new pool) }
     ensures unchanged { OnErr result (image.new ≡ image.old) }
     ensures fault { IfErr result (λ e. IfImage e (IsImageFault image.old)) }
     ensures refused { (found : ImageFault) → IsImageFault image.old found → IsErrAnd result (λ e. IfImage e (λ told. told ≡ found)) }

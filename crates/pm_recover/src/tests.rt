@@ -138,6 +138,17 @@ fn slots(rt: HostRuntime) -> Result<(), Fail> {
     Ok(())
 }
 
+/// A pool whose lane left nothing stays, word for word.
+#[test]
+fn nothing_left(rt: HostRuntime) -> Result<(), Fail> {
+    let alloc = rt.alloc();
+    let mut image = pool(alloc, 5, &[(FIRST_SLOT, 4, 0)])?;
+    let before = image.copy(alloc)?;
+    assert!(rt; recover(alloc, &mut image) == Ok(()));
+    assert!(rt; image.words(0, image.len()) == before.words(0, before.len()));
+    Ok(())
+}
+
 /// A second recovery changes nothing, but for the generation where a slot is torn.
 #[test]
 fn twice(rt: HostRuntime) -> Result<(), Fail> {
