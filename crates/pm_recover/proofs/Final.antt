@@ -1,6 +1,6 @@
--- To recover once more changes nothing, where no slot is torn.
-use Rattle.std.proofs.Common.{◌≡◌, ⊎_elim, inl, inr, ℕ, ◌-◌, ◌/◌, ◌<◌, ◌≤◌, ◌&&◌, false, ltb, List, slice_index, sym, ◌∙◌, ap, arith}
-use Rattle.std.proofs.lemmas.Bool.{and_right, cases_lt, or_from}
+-- To recover once more changes generations alone, and nothing where no slot is torn.
+use Rattle.std.proofs.Common.{◌≡◌, ◌≢◌, ⊎_elim, inl, inr, ℕ, ◌-◌, ◌/◌, ◌<◌, ◌≤◌, ◌&&◌, false, ltb, List, slice_index, sym, ◌∙◌, ap, arith}
+use Rattle.std.proofs.lemmas.Bool.{and_right, cases_eq, cases_lt, or_from}
 use Rattle.std.proofs.lemmas.List.{ext_get_or}
 use Rattle.pm_image.specs.Logs.{area_word, generation_word}
 use Rattle.pm_recover.specs.Recovery.{HasNoStrayRecord, HasNoTornSlot, IsRecovered, has_record, has_torn_slot, is_raised}
@@ -24,29 +24,36 @@ same_generation before after again lanes lane sound past whole first second insi
     ∙ after_kept after lane (not_raised after lane (unrecorded after lane (clean_has_none after lane (logs.clean lane inside)))
     (sym (same_torn before after lane (same_log before after lanes lane sound first inside)) ∙ whole.whole lane inside))
 
--- a word of an area
-in_area : (before after again : List ℕ) (lanes i : ℕ) → HasSoundLogs before lanes → HasNoStrayRecord before lanes → HasNoTornSlot before lanes → IsRecovered before after lanes → IsRecovered after again lanes
-    → 512 ≤ i → i < area_word lanes → slice_index again i ≡ slice_index after i
-in_area before after again lanes i sound past whole first second from to =
-    let lane : ℕ = (i - 512) / 1024 in
-    let inside : (i - 512) / 1024 < lanes = omega arith in
-    ⊎_elim
-    (λ (behind : area_word ((i - 512) / 1024) < i). second.areas ((i - 512) / 1024) i inside behind (omega arith))
-    (λ (here : i ≤ area_word ((i - 512) / 1024)).
-    let at : i ≡ area_word ((i - 512) / 1024) = omega arith in
-    ap (slice_index again) at ∙ same_generation before after again lanes ((i - 512) / 1024) sound past whole first second inside ∙ sym (ap (slice_index after) at))
-    (cases_lt (area_word ((i - 512) / 1024)) i)
-
-pub again_same : (before after again : List ℕ) (lanes : ℕ) → HasSoundLogs before lanes → HasNoStrayRecord before lanes → HasNoTornSlot before lanes → IsRecovered before after lanes → IsRecovered after again lanes
-    → again ≡ after
-again_same before after again lanes sound past whole first second =
+-- no other word changes in any case
+pub others_same : (before after again : List ℕ) (lanes i : ℕ) → HasSoundLogs before lanes → HasNoStrayRecord before lanes → IsRecovered before after lanes → IsRecovered after again lanes
+    → ((lane : ℕ) → lane < lanes → i ≢ area_word lane) → slice_index again i ≡ slice_index after i
+others_same before after again lanes i sound past first second other =
     let logs : HasCleanLogs after lanes = clean_logs before after lanes sound past first in
-    ext_get_or 0 again after second.as_long (λ i h.
     ⊎_elim
     (λ (page : i < 512). second.words i (inl page) ∙ as_they_stand after lanes i logs)
     (λ (from : 512 ≤ i).
     ⊎_elim
-    (λ (to : i < area_word lanes). in_area before after again lanes i sound past whole first second from to)
+    (λ (to : i < area_word lanes).
+    let inside : (i - 512) / 1024 < lanes = omega arith in
+    let apart : i ≢ area_word ((i - 512) / 1024) = other ((i - 512) / 1024) inside in
+    second.areas ((i - 512) / 1024) i inside (omega arith) (omega arith))
     (λ (behind : area_word lanes ≤ i). second.words i (inr behind) ∙ as_they_stand after lanes i logs)
     (cases_lt i (area_word lanes)))
-    (cases_lt i 512))
+    (cases_lt i 512)
+
+-- where no slot is torn, nor do generations
+pub again_same : (before after again : List ℕ) (lanes : ℕ) → HasSoundLogs before lanes → HasNoStrayRecord before lanes → HasNoTornSlot before lanes → IsRecovered before after lanes → IsRecovered after again lanes
+    → again ≡ after
+again_same before after again lanes sound past whole first second =
+    ext_get_or 0 again after second.as_long (λ i h.
+    ⊎_elim
+    (λ (here : i ≡ area_word ((i - 512) / 1024)).
+    ⊎_elim
+    (λ (inside : (i - 512) / 1024 < lanes).
+    ap (slice_index again) here ∙ same_generation before after again lanes ((i - 512) / 1024) sound past whole first second inside ∙ sym (ap (slice_index after) here))
+    (λ (none : lanes ≤ (i - 512) / 1024). others_same before after again lanes i sound past first second (λ k near same. omega arith))
+    (cases_lt ((i - 512) / 1024) lanes))
+    (λ (apart : i ≡ area_word ((i - 512) / 1024) → ⊥).
+    let other : i ≢ area_word ((i - 512) / 1024) = apart in
+    others_same before after again lanes i sound past first second (λ k near same. let number : k ≡ (i - 512) / 1024 = omega arith in other (same ∙ ap area_word number)))
+    (cases_eq i (area_word ((i - 512) / 1024))))

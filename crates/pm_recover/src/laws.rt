@@ -1,6 +1,6 @@
-ghost use Rattle.std.specs.Prelude.{◌≡◌, ◌<◌, ℕ, List, []};
+ghost use Rattle.std.specs.Prelude.{◌≡◌, ◌≢◌, ◌<◌, ℕ, List, [], slice_index};
 ghost use Rattle.pm_objects.specs.declared.pool.PoolView.{PoolView};
-ghost use Rattle.pm_image.specs.Logs.{records};
+ghost use Rattle.pm_image.specs.Logs.{area_word, records};
 ghost use Rattle.pm_image.specs.Means.{IsMeaning};
 ghost use Rattle.pm_recover.specs.Recovery.{HasNoStrayRecord, HasNoTornSlot, IsCleanLog, IsRecovered};
 
@@ -21,6 +21,13 @@ pub fn recovery_leaves_no_record()
 pub fn recovery_leaves_clean_logs()
     ensures { (before after : List ℕ) (pool : PoolView) (lane : ℕ) → IsMeaning before pool → HasNoStrayRecord before pool.lanes → IsRecovered before after pool.lanes
         → lane < pool.lanes → IsCleanLog after lane }
+{}
+
+/// A law: recovering once more changes no word but generations. No code runs.
+pub fn recovery_again_raises_generations_alone()
+    ensures { (before after again : List ℕ) (pool : PoolView) (i : ℕ) → IsMeaning before pool → HasNoStrayRecord before pool.lanes
+        → IsRecovered before after pool.lanes → IsRecovered after again pool.lanes
+        → ((lane : ℕ) → lane < pool.lanes → i ≢ area_word lane) → slice_index again i ≡ slice_index after i }
 {}
 
 /// A law: recovering once more changes nothing, where no slot is torn. No code runs.

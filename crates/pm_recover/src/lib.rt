@@ -14,8 +14,8 @@ mod restoring;
 
 pub use fault::RecoverFault;
 pub use laws::{
-    recovery_keeps_the_meaning, recovery_leaves_clean_logs, recovery_leaves_no_record,
-    recovery_without_torn_slots_is_final,
+    recovery_again_raises_generations_alone, recovery_keeps_the_meaning,
+    recovery_leaves_clean_logs, recovery_leaves_no_record, recovery_without_torn_slots_is_final,
 };
 pub use recovering::recover;
 

@@ -132,7 +132,7 @@ fn slots(rt: HostRuntime) -> Result<(), Fail> {
     ];
     for (what, (generation, slots, words)) in table.into_iter().enumerate() {
         let mut image = pool(alloc, generation, slots)?;
-        assert!(rt; recover(alloc, &mut image) == Ok(()), "case {what}");
+        assert_eq!(rt; recover(alloc, &mut image), Ok(()), "case {what}");
         has_words(&rt, &image, words, what);
     }
     Ok(())
@@ -144,7 +144,7 @@ fn nothing_left(rt: HostRuntime) -> Result<(), Fail> {
     let alloc = rt.alloc();
     let mut image = pool(alloc, 5, &[(FIRST_SLOT, 4, 0)])?;
     let before = image.copy(alloc)?;
-    assert!(rt; recover(alloc, &mut image) == Ok(()));
+    assert_eq!(rt; recover(alloc, &mut image), Ok(()));
     assert!(rt; image.words(0, image.len()) == before.words(0, before.len()));
     Ok(())
 }
@@ -156,8 +156,8 @@ fn twice(rt: HostRuntime) -> Result<(), Fail> {
     let table: [(&[Slot], u64); 2] = [(&[(81, 5, 0)], 6), (&[(81, 5, 0), (82, 5, 1)], 7)];
     for (what, (slots, generation)) in table.into_iter().enumerate() {
         let mut image = pool(alloc, 5, slots)?;
-        assert!(rt; recover(alloc, &mut image) == Ok(()), "case {what}");
-        assert!(rt; recover(alloc, &mut image) == Ok(()), "case {what}");
+        assert_eq!(rt; recover(alloc, &mut image), Ok(()), "case {what}");
+        assert_eq!(rt; recover(alloc, &mut image), Ok(()), "case {what}");
         has_words(
             &rt,
             &image,
@@ -186,8 +186,9 @@ fn faults(rt: HostRuntime) -> Result<(), Fail> {
             image.set(256, 0);
         }
         let before = image.copy(alloc)?;
-        assert!(rt;
-            recover(alloc, &mut image) == Err(RecoverFault::Image(fault)),
+        assert_eq!(rt;
+            recover(alloc, &mut image),
+            Err(RecoverFault::Image(fault)),
             "{fault}"
         );
         assert_eq!(rt; image.len(), before.len());
