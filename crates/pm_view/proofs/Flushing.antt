@@ -1,9 +1,8 @@
 -- The lines that are to be flushed, while they are flushed one after another.
-use Rattle.std.proofs.Common.{◌≡◌, ◌≢◌, ℕ, zero, suc, ◌+◌, ◌/◌, ◌<◌, ◌≤◌, max, Bool, true, false, not, cond, eqb, ◌&&◌, ◌||◌, List, [], ◌∷◌, map, length, drop, slice_index, Option, Some, None, refl, sym, ap, ◌∙◌, subst, arith, rules}
-use Rattle.std.specs.List.{filter, list_any, range_with_len}
-use Rattle.std.proofs.lemmas.Bool.{cond-true, cond-false, or_parts}
+use Rattle.std.proofs.Common.{◌≡◌, ◌≢◌, ℕ, zero, suc, ◌+◌, ◌/◌, ◌<◌, ◌≤◌, max, Bool, true, false, not, cond, eqb, ◌&&◌, ◌||◌, List, [], ◌∷◌, length, drop, slice_index, Some, None, refl, sym, ap, ◌∙◌, subst, arith, rules}
+use Rattle.std.specs.List.{filter, range_with_len}
+use Rattle.std.proofs.lemmas.Bool.{cond-true, cond-false}
 use Rattle.std.proofs.lemmas.Bool.Decides.{nat_tests}
-use Rattle.std.proofs.lemmas.Grind.{common_steps}
 use Rattle.pm_view.specs.declared.change.Change.{Change}
 use Rattle.pm_view.specs.Changes.{flushed, mark}
 use Rattle.pm_view.specs.Counts.{is_unflushed, lines_up_to, unflushed_lines, IsFirstUnflushed}
@@ -102,11 +101,11 @@ others_stay : (line k : ℕ) (changes : List Change) → k ≢ line → is_unflu
 others_stay line k [] other = refl
 others_stay line k (c ∷ changes) other =
     ap (λ b. dirties k (mark line c) || b) (others_stay line k changes other) ∙ ap (λ b. b || is_unflushed changes k) (at (eqb (c.word / 8) line) refl) where
-  at : (b : Bool) → eqb (c.word / 8) line ≡ b → dirties k (mark line c) ≡ dirties k c
-  at true e =
-      let not_k : eqb (c.word / 8) k ≡ false = grind (arith, nat_tests) in
-      ap (dirties k) (mark_here line c e) ∙ (ap (λ b. b && false) not_k ∙ sym (ap (λ b. b && not c.flushed) not_k))
-  at false e = ap (dirties k) (mark_elsewhere line c e)
+      at : (b : Bool) → eqb (c.word / 8) line ≡ b → dirties k (mark line c) ≡ dirties k c
+      at true e =
+          let not_k : eqb (c.word / 8) k ≡ false = grind (arith, nat_tests) in
+          ap (dirties k) (mark_here line c e) ∙ (ap (λ b. b && false) not_k ∙ sym (ap (λ b. b && not c.flushed) not_k))
+      at false e = ap (dirties k) (mark_elsewhere line c e)
 
 same_reach : (line : ℕ) (changes : List Change) → lines_up_to (flushed line changes) ≡ lines_up_to changes
 unfolding lines_up_to
@@ -133,7 +132,7 @@ few_unflushed changes = in_range changes (lines_up_to changes) where
   in_range [] n = let is = ap length (none_passes (is_unflushed []) 0 n (λ k. refl)) in omega (arith, is)
   in_range (c ∷ changes) n =
       let more = one_more (is_unflushed (c ∷ changes)) (is_unflushed changes) (c.word / 8) 0 n (λ k other.
-          ap (λ b. (b && not c.flushed) || is_unflushed changes k) (let is : eqb (c.word / 8) k ≡ false = grind (arith, nat_tests) in is)) in
+      ap (λ b. (b && not c.flushed) || is_unflushed changes k) (let is : eqb (c.word / 8) k ≡ false = grind (arith, nat_tests) in is)) in
       let few = in_range changes n in
       omega (arith, more, few)
 
@@ -149,9 +148,9 @@ first_unflushed changes line first =
     let n : ℕ = lines_up_to changes in
     let within : line < n = within_reach line changes first.0 in
     let head : filter (is_unflushed changes) (range_with_len 0 n) ≡ line ∷ drop 1 (filter (is_unflushed changes) (range_with_len 0 n))
-        = first_passes (is_unflushed changes) line 0 n (omega arith) (omega (arith, within)) first.0 first.1 in
+    = first_passes (is_unflushed changes) line 0 n (omega arith) (omega (arith, within)) first.0 first.1 in
     head ∙ ap (λ l. line ∷ l) (sym (subst (λ m. filter (is_unflushed (flushed line changes)) (range_with_len 0 m) ≡ drop 1 (filter (is_unflushed changes) (range_with_len 0 n))) (sym (same_reach line changes))
-        (rest_passes (is_unflushed changes) (is_unflushed (flushed line changes)) line 0 n _ (none_in_flushed line changes) (λ k other. others_stay line k changes other) head)))
+    (rest_passes (is_unflushed changes) (is_unflushed (flushed line changes)) line 0 n _ (none_in_flushed line changes) (λ k other. others_stay line k changes other) head)))
 
 -- Whatever line comes first, behind it come those that are left once it is flushed.
 pub rest_unflushed : (changes : List Change) (line : ℕ) (rest : List ℕ) → unflushed_lines changes ≡ line ∷ rest → unflushed_lines (flushed line changes) ≡ rest

@@ -1,5 +1,5 @@
 -- How sequences are put together.
-use Rattle.std.proofs.Common.{◌≡◌, ◌+◌, ◌-◌, ℕ, zero, suc, ◌<◌, ◌≤◌, ◌⊎◌, ⊎_elim, List, [], ◌∷◌, ◌++◌, take, length, length-append, Result, Ok, Err, refl, sym, ap, ◌∙◌, subst, IsErr, slice_index, arith, rules}
+use Rattle.std.proofs.Common.{◌≡◌, ◌+◌, ◌-◌, ℕ, zero, suc, ◌<◌, ◌≤◌, ⊎_elim, List, [], ◌∷◌, ◌++◌, take, length-append, Result, Ok, Err, refl, sym, ap, subst, IsErr, slice_index, arith, rules}
 use Rattle.std.proofs.Math.Nat.{eq-or-lt_of_le}
 use Rattle.std.proofs.lemmas.List.{take-append-le}
 use Rattle.pm_memory.proofs.Runs.{stops_after}
@@ -7,13 +7,12 @@ use Rattle.pm_memory.specs.Runs.{Ran, Stops, MadeOrStopped, Made}
 use Rattle.pm_memory.specs.declared.lane_mem.Stopped.{Stopped}
 use Rattle.pm_view.proofs.Sequences.{after_all-append}
 use Rattle.pm_view.specs.Counts.{IsAtStop}
-use Rattle.pm_view.specs.Founds.{Found}
 use Rattle.pm_view.specs.Steps.{Step}
 use Rattle.pm_view.specs.Steps.Step.{Load}
 use Rattle.pm_view.specs.View.{View}
 use Rattle.pm_view.specs.Views.{after, after_all}
 use Rattle.pm_world.specs.Lawful.{Allowed}
-use Rattle.pm_world.specs.Sequences.{Sequence, nothing, one, in_turn, counted, by_view, by_lane, with_word, looks, IsForeseen, Ready, IsReady, Runs}
+use Rattle.pm_world.specs.Sequences.{Sequence, nothing, one, in_turn, counted, by_view, by_lane, with_word, looks, Ready, IsReady, Runs}
 
 -- the first of steps that may be made may be made, and the rest from where they end
 pub ready_left : (v : View) (xs ys : List Step) → Ready v (xs ++ ys) → Ready v xs
@@ -239,6 +238,6 @@ counted_ready steps v zero k below r = absurd (omega (arith, below))
 counted_ready steps v (suc n) k below r =
     ⊎_elim
     (λ (same : k ≡ n). subst (λ j. Ready v (counted steps j v) × Ready (after_all v (counted steps j v)) (steps j (after_all v (counted steps j v)))) (sym same)
-        (ready_left v (counted steps n v) (steps n (after_all v (counted steps n v))) r, ready_right v (counted steps n v) (steps n (after_all v (counted steps n v))) r))
+    (ready_left v (counted steps n v) (steps n (after_all v (counted steps n v))) r, ready_right v (counted steps n v) (steps n (after_all v (counted steps n v))) r))
     (λ (lower : k < n). counted_ready steps v n k lower (ready_left v (counted steps n v) (steps n (after_all v (counted steps n v))) r))
     (eq-or-lt_of_le (let e : k ≤ n = omega (arith, below) in e))

@@ -1,6 +1,5 @@
 -- Flushing line by line, and draining: what is made persistent.
-use Rattle.std.proofs.Common.{◌≡◌, ◌≢◌, ℕ, zero, suc, ◌+◌, ◌<◌, ◌≤◌, Bool, true, false, not, ◌&&◌, cond, eqb, List, [], ◌∷◌, map, length, take, slice_index, Option, Some, None, Result, Ok, Err, refl, sym, ap, ◌∙◌, subst, IsErr, IsTrue, arith, rules}
-use Rattle.std.specs.List.{Any}
+use Rattle.std.proofs.Common.{◌≡◌, ◌≢◌, ℕ, zero, suc, ◌+◌, ◌<◌, ◌≤◌, Bool, true, false, not, ◌&&◌, eqb, List, [], ◌∷◌, map, length, take, slice_index, Some, None, Result, Ok, Err, refl, sym, ap, ◌∙◌, subst, IsErr, IsTrue, arith, rules}
 use Rattle.std.proofs.lemmas.Bool.{cond-true, cond-false, lt-ltb, le-ltb}
 use Rattle.std.proofs.Math.Dec.{ltb}
 use Rattle.std.proofs.lemmas.Bool.Decides.{nat_tests}
@@ -12,13 +11,11 @@ use Rattle.pm_view.proofs.Flushing.{few_unflushed, none_unflushed, first_unflush
 use Rattle.pm_view.specs.declared.change.Change.{Change}
 use Rattle.pm_view.specs.Changes.{is_in_line}
 use Rattle.pm_view.specs.Counts.{FlushesSome, is_unflushed, unflushed_lines, IsFirstUnflushed}
-use Rattle.pm_view.specs.Steps.{Step}
 use Rattle.pm_view.specs.Steps.Step.{Flush, Drain}
 use Rattle.pm_view.specs.View.{View}
 use Rattle.pm_view.specs.Views.{after, after_all}
 use Rattle.pm_world.specs.Lawful.{Allowed}
-use Rattle.pm_world.specs.Sequences.{Sequence, flushes, drains, settles, makes_room, Ready, IsReady, Runs}
-use Rattle.pm_world.proofs.Sequencing.{runs_nothing}
+use Rattle.pm_world.specs.Sequences.{flushes, drains, settles, makes_room, Ready, IsReady, Runs}
 
 -- One flush more: the first line that is left is next in the sequence.
 next_flush : (v : View) (lines : List ℕ) → unflushed_lines v.changes ≡ lines → (k line : ℕ) → k ≤ length lines → IsFirstUnflushed (after_all v (take k (map Flush lines))).changes (Some line)
@@ -45,10 +42,10 @@ may_flush : (changes : List Change) (line : ℕ) → is_unflushed changes line �
 may_flush changes line is =
     let a = Any-from_list_any (λ (c : Change). is_in_line line c && not c.flushed) changes is in
     (a.0, a.1, a.2, a.3, parts (is_in_line line a.1) a.1.flushed a.4) where
-  parts : (here flushed : Bool) → (here && not flushed) ≡ true → IsTrue here × (flushed ≡ false)
-  parts true true e = absurd cc
-  parts true false e = (search rules, refl)
-  parts false flushed e = absurd cc
+      parts : (here flushed : Bool) → (here && not flushed) ≡ true → IsTrue here × (flushed ≡ false)
+      parts true true e = absurd cc
+      parts true false e = (search rules, refl)
+      parts false flushed e = absurd cc
 
 -- so many flushes are made of those that are due
 abbrev pub HasFlushed : (View → Type 0) → (View → Type 0) → ℕ → Type 0

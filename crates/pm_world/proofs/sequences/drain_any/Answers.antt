@@ -1,4 +1,3 @@
-use Rattle.std.proofs.Common.{rules}
 use Rattle.pm_view.specs.Steps.Step.{Drain}
 use Rattle.pm_world.proofs.Settling.{drains_nothing, may_drain, drains_once}
 use Rattle.pm_world.proofs.sequences.drain_any.Goals as goal

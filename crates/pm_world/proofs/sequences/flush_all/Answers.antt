@@ -13,12 +13,12 @@ flush-requires g c =
 pub returns-in_err-flush-in-Some : goal.returns-in_err-flush-in-Some
 returns-in_err-flush-in-Some g c =
     flush_stopped (g.M.LaneMem.at c.args.mem.now) (g.M.LaneMem.at c.loop.mem) c.loop.counter c.loop.invariant c.in-Some.line c.in-Some.ensures
-        (Unit {0}) (g.M.LaneMem.at c.flush.new.self) c.in_err-flush-in-Some.field-0.0 c.from_residual.result c.from_residual.ensures.0 c.in_err-flush-in-Some.ensures
+    (Unit {0}) (g.M.LaneMem.at c.flush.new.self) c.in_err-flush-in-Some.field-0.0 c.from_residual.result c.from_residual.ensures.0 c.in_err-flush-in-Some.ensures
 
 pub loop-preserved : goal.loop-preserved
 loop-preserved g c =
     flushed_more (g.M.LaneMem.at c.args.mem.now) (g.M.LaneMem.at c.loop.mem) c.loop.counter c.loop.invariant c.in-Some.line c.in-Some.ensures
-        (g.M.LaneMem.at c.flush.new.self) c.in_ok-flush-in-Some.field-0 c.in_ok-flush-in-Some.ensures
+    (g.M.LaneMem.at c.flush.new.self) c.in_ok-flush-in-Some.field-0 c.in_ok-flush-in-Some.ensures
 
 pub returns-after-loop : goal.returns-after-loop
 returns-after-loop g c = flushed_all (g.M.LaneMem.at c.args.mem.now) (g.M.LaneMem.at c.loop.mem) c.loop.counter c.loop.invariant _ c.undrained-end.result c.loop-test.false c.undrained-end.ensures

@@ -1,4 +1,4 @@
-use Rattle.std.proofs.Common.{◌≡◌, ◌+◌, List, sym, subst, take, arith, rules}
+use Rattle.std.proofs.Common.{◌≡◌, ◌+◌, List, sym, subst, take, rules}
 use Rattle.std.proofs.lemmas.List.{take_more, take_all}
 use Rattle.pm_view.specs.declared.change.Change.{Change}
 use Rattle.pm_view.specs.Counts.{IsFirstUnflushed}
