@@ -20,7 +20,7 @@ demo: build
 	@cp $(POOL) build/damaged.pool && printf '\101' | dd of=build/damaged.pool bs=1 seek=16456 conv=notrunc status=none
 	build/pmempool dump build/damaged.pool; echo "status $$?"
 
-# Times beside `cp` of the same file.
+# Times beside `cp` of the same file, and the time of ten million stores by one lane alone.
 bench: build
 	bench/run.sh
 
