@@ -1,13 +1,25 @@
-//! The words that people write for the program: numbers on the command line and in scripts.
+//! The words that people write for the program: numbers on the command line and in scripts, and the scripts themselves.
 //!
-//! Promises whoever reads such a word that it is a number exactly where its form says so, with exactly
-//! its value. The lines of scripts come here with the command that runs them.
-//! It stands on std alone. The form is in specs/Numbers.antt and docs/FORMAT.md, "Numbers".
+//! Promises whoever reads such a word that it is a number exactly where its form says so, with exactly its value; and
+//! whoever reads a script that `parse` gives what its lines say, exactly where the text is a script, and else its first
+//! bad line. It stands on `hex` for bytes in digits and on `pm_objects` for lists. The forms are in specs/, docs/FORMAT.md,
+//! "Numbers", and docs/COMMANDS.md, "Scripts".
 #![tactic(auto)]
 
+mod fault;
+mod laws;
 mod numbers;
+mod operations;
+mod parsing;
+mod reader;
+mod script;
+mod words;
 
+pub use fault::{BadLine, ScriptFault, Why};
+pub use laws::one_reading_per_text;
 pub use numbers::{MAX_DIGITS, number};
+pub use parsing::parse;
+pub use script::{Script, ScriptLine, ScriptOp};
 
 #[cfg(test)]
 mod tests;
