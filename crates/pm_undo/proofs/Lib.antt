@@ -2,3 +2,8 @@ pub mod Planning
 pub mod Looking
 pub mod Recording
 pub mod Fitting
+pub mod Settled
+pub mod Areas
+pub mod Staying
+pub mod Storing
+pub mod Retired

@@ -6,6 +6,7 @@
 //! records' spelling; docs/FORMAT.md, "Sequences", and docs/MODEL.md, "Undo logging".
 #![tactic(auto)]
 
+mod laws;
 mod places;
 mod plan;
 mod record;
@@ -13,6 +14,7 @@ mod restoring;
 mod retiring;
 mod snapshotting;
 
+pub use laws::{a_call_given_up_may_retire, a_drawn_call_may_retire, all_may_be_settled, room_may_be_made};
 pub use restoring::restore;
 pub use retiring::retire;
 pub use snapshotting::snapshot;

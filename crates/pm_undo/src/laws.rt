@@ -1,0 +1,30 @@
+ghost use Rattle.std.specs.Prelude.{◌≡◌, IsTrue, [], is_some};
+ghost use Rattle.pm_view.specs.Log.Phase.{Idle, Open, Drawn};
+ghost use Rattle.pm_view.specs.View.{View};
+ghost use Rattle.pm_view.specs.Views.{after_all};
+ghost use Rattle.pm_world.specs.Records.{AreRestored};
+ghost use Rattle.pm_world.specs.Sequences.{Ready, makes_room, settles};
+ghost use Rattle.pm_undo.specs.Sequences.{retires};
+ghost use Rattle.pm_undo.specs.Working.{HasArea, HasMadeRoom, IsRetired, IsSettled, IsWorking};
+
+/// A law: whatever is undrained may be made persistent, and then nothing is undrained. No code runs.
+pub fn all_may_be_settled()
+    ensures { (v : View) → Ready v (settles v) × IsSettled v (after_all v (settles v)) }
+{}
+
+/// A law: there is always room to be made for one more change. No code runs.
+pub fn room_may_be_made()
+    ensures { (v : View) → Ready v (makes_room v) × HasMadeRoom v (after_all v (makes_room v)) }
+{}
+
+/// A law: a lane at work whose recorded words have their old values again, with nothing undrained, may end its generation, and then has an
+/// open call with no records. No code runs.
+pub fn a_call_given_up_may_retire()
+    ensures { (v : View) → IsWorking v → v.changes ≡ [] → AreRestored v → Ready v (retires v) × IsRetired (Open [] []) v (after_all v (retires v)) }
+{}
+
+/// A law: a lane that drew its number with records and has nothing undrained may end its generation, and then no call is open. No code runs.
+pub fn a_drawn_call_may_retire()
+    ensures { (v : View) → HasArea v → v.log.phase ≡ Drawn → IsTrue (is_some v.number) → v.changes ≡ []
+        → Ready v (retires v) × IsRetired Idle v (after_all v (retires v)) }
+{}
