@@ -7,3 +7,5 @@ pub mod Areas
 pub mod Staying
 pub mod Storing
 pub mod Retired
+pub mod Kept
+pub mod Restored

@@ -13,7 +13,7 @@ use Rattle.pm_view.specs.Rights.{is_written}
 use Rattle.pm_view.specs.Steps.{Step}
 use Rattle.pm_view.specs.View.{View, Lock}
 use Rattle.pm_world.specs.Lawful.{generation_limit}
-use Rattle.pm_world.specs.Records.{IsRecordAt, covers, generation_of, is_drained_slot, is_recorded, spelled}
+use Rattle.pm_world.specs.Records.{AreRestored, IsRecordAt, covers, generation_of, is_drained_slot, is_recorded, spelled}
 
 -- a lane's area lies in the pool, before the zones
 pub record HasArea (v : View) : Type 0 where
@@ -96,3 +96,12 @@ pub record IsRetired (phase : Phase) (v w : View) : Type 0 where
   pub drained : w.changes ≡ []
   pub next : generation_of w ≡ generation_of v + 1
   pub others : (u : ℕ) → (u ≡ area_word v.lane → ⊥) → slice_index w.words u ≡ slice_index v.words u
+
+-- every recorded word is as it was recorded, and that is persistent; no other word changed
+pub record IsPutBack (v w : View) : Type 0 where
+  pub call : IsSameCall v w
+  pub working : IsWorking w
+  pub log : w.log ≡ v.log
+  pub drained : w.changes ≡ []
+  pub restored : AreRestored w
+  pub others : (u : ℕ) → is_recorded v.log.records u ≡ false → slice_index w.words u ≡ slice_index v.words u

@@ -1,11 +1,12 @@
-ghost use Rattle.std.specs.Prelude.{◌≡◌, IsTrue, [], is_some};
+ghost use Rattle.std.specs.Prelude.{◌≡◌, IsTrue, [], is_some, map};
 ghost use Rattle.pm_view.specs.Log.Phase.{Idle, Open, Drawn};
 ghost use Rattle.pm_view.specs.View.{View};
 ghost use Rattle.pm_view.specs.Views.{after_all};
+ghost use Rattle.pm_world.specs.Lanes.{span_of};
 ghost use Rattle.pm_world.specs.Records.{AreRestored};
 ghost use Rattle.pm_world.specs.Sequences.{Ready, makes_room, settles};
-ghost use Rattle.pm_undo.specs.Sequences.{retires};
-ghost use Rattle.pm_undo.specs.Working.{HasArea, HasMadeRoom, IsRetired, IsSettled, IsWorking};
+ghost use Rattle.pm_undo.specs.Sequences.{restores, retires};
+ghost use Rattle.pm_undo.specs.Working.{HasArea, HasMadeRoom, IsPutBack, IsRetired, IsSettled, IsWorking};
 
 /// A law: whatever is undrained may be made persistent, and then nothing is undrained. No code runs.
 pub fn all_may_be_settled()
@@ -27,4 +28,9 @@ pub fn a_call_given_up_may_retire()
 pub fn a_drawn_call_may_retire()
     ensures { (v : View) → HasArea v → v.log.phase ≡ Drawn → IsTrue (is_some v.number) → v.changes ≡ []
         → Ready v (retires v) × IsRetired Idle v (after_all v (retires v)) }
+{}
+
+/// A law: a lane at work may put every recorded word back, and then each is as it was recorded, and that is persistent. No code runs.
+pub fn recorded_words_may_be_put_back()
+    ensures { (v : View) → IsWorking v → Ready v (restores (map span_of v.log.records) v) × IsPutBack v (after_all v (restores (map span_of v.log.records) v)) }
 {}
