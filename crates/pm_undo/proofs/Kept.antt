@@ -1,14 +1,14 @@
 -- What keeps a lane's records, and what they say of words.
-use Rattle.std.proofs.Common.{◌≡◌, ◌≢◌, ℕ, zero, suc, ◌+◌, ◌-◌, ◌*◌, ◌<◌, ◌≤◌, ◌⊎◌, inl, inr, ⊎_elim, Bool, true, false, not, eqb, leb, ltb, ◌&&◌, ◌||◌, IsTrue, List, [], ◌∷◌, ◌++◌, length, take, drop, slice_index, slice_range, slice_get, get_or, Some, refl, sym, ap, ◌∙◌, subst, arith}
-use Rattle.std.proofs.lemmas.Bool.{cases_Bool, and_from, and_parts, or_left, or_right, le-leb, lt-ltb, leb-true, ltb-true, false≢true, false_from_ne_true}
+use Rattle.std.proofs.Common.{◌≡◌, ℕ, zero, suc, ◌+◌, ◌-◌, ◌*◌, ◌<◌, ◌≤◌, true, false, leb, ltb, ◌&&◌, List, [], ◌∷◌, length, take, drop, slice_index, slice_range, slice_get, Some, refl, sym, ap, ◌∙◌, subst, arith}
+use Rattle.std.proofs.lemmas.Bool.{and_from, or_left, or_right, le-leb, lt-ltb, false≢true, false_from_ne_true}
 use Rattle.std.proofs.lemmas.List.{length-take-le, length-drop, get_or-take, get_or-drop, ext_get_or}
 use Rattle.std.proofs.lemmas.List.Folds.{list_any_at, Any-from_list_any}
 use Rattle.std.proofs.lemmas.Option.{none-some, same_Some, slice_get_within, get_or_from_slice_get, slice_get-get_or}
 use Rattle.pm_image.specs.Logs.{undo_slot, slot_line}
-use Rattle.pm_view.specs.Area.{area_word, is_in_area}
+use Rattle.pm_view.specs.Area.{is_in_area}
 use Rattle.pm_view.specs.Log.{Recorded}
 use Rattle.pm_view.specs.Rights.{is_written}
-use Rattle.pm_view.specs.View.{View, Lock}
+use Rattle.pm_view.specs.View.{View}
 use Rattle.pm_world.specs.Records.{IsRecordAt, generation_of, covers, is_recorded, is_drained_slot, is_logged_from, spelled}
 use Rattle.pm_undo.specs.Working.{HasArea, HasRecords, IsSameCall, IsUserWord}
 

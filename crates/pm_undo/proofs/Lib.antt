@@ -9,3 +9,8 @@ pub mod Storing
 pub mod Retired
 pub mod Kept
 pub mod Restored
+pub mod Slots
+pub mod Unflushed
+pub mod Writing
+pub mod Rising
+pub mod Snapshotted

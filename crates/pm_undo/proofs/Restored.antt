@@ -1,11 +1,11 @@
 -- Every recorded word may be put back, and what that leaves.
-use Rattle.std.proofs.Common.{◌≡◌, ◌≢◌, ℕ, zero, suc, ◌+◌, ◌-◌, ◌*◌, ◌/◌, ◌<◌, ◌≤◌, ◌⊎◌, inl, inr, ⊎_elim, Bool, true, false, not, eqb, ◌&&◌, ◌||◌, List, [], ◌∷◌, ◌++◌, map, length, replicate, set, slice_index, slice_get, Some, is_some, refl, sym, ap, ◌∙◌, subst, arith, length-append, get_or-set_same, get_or-set_other}
+use Rattle.std.proofs.Common.{◌≡◌, ◌≢◌, ℕ, ◌+◌, ◌-◌, ◌*◌, ◌<◌, ◌≤◌, ⊎_elim, true, false, not, List, [], ◌∷◌, ◌++◌, map, length, replicate, set, slice_index, slice_get, is_some, refl, sym, ap, ◌∙◌, subst, arith, length-append, get_or-set_same, get_or-set_other}
 use Rattle.std.specs.List.{list_any}
 use Rattle.std.proofs.Math.Nat.{eq-or-lt_of_le}
 use Rattle.std.proofs.lemmas.Bool.{cases_eq, false≢true}
 use Rattle.std.proofs.lemmas.List.{length-map, get_or-drop, get_or-map, get_or_append_left}
 use Rattle.std.proofs.lemmas.Option.{same_Some, get_or_from_slice_get, slice_get_within}
-use Rattle.pm_image.specs.Logs.{undo_slot, slot_line}
+use Rattle.pm_image.specs.Logs.{slot_line}
 use Rattle.pm_view.specs.declared.change.Change.{Change}
 use Rattle.pm_view.specs.Area.{area_word, is_in_area, part_of}
 use Rattle.pm_view.specs.Area.Part.{OtherWord}
@@ -17,16 +17,16 @@ use Rattle.pm_view.specs.Steps.Step.{Store}
 use Rattle.pm_view.specs.View.{View}
 use Rattle.pm_view.specs.Views.{after, after_all}
 use Rattle.pm_world.specs.Lanes.{span_of}
-use Rattle.pm_world.specs.Lawful.{MayStore, MayWrite, StoreFits}
-use Rattle.pm_world.specs.Records.{AreRestored, IsRecordAt, generation_of, covers, is_recorded, is_logged, is_drained_slot, slot_word, spelled}
-use Rattle.pm_world.specs.Sequences.{Sequence, by_lane, by_view, counted, in_turn, looks, settles, stores, with_word, Ready}
+use Rattle.pm_world.specs.Lawful.{MayStore, StoreFits}
+use Rattle.pm_world.specs.Records.{IsRecordAt, generation_of, covers, is_recorded, is_drained_slot, slot_word, spelled}
+use Rattle.pm_world.specs.Sequences.{by_lane, by_view, counted, in_turn, looks, settles, stores, with_word, Ready}
 use Rattle.pm_world.specs.declared.lane.Span.{Span}
 use Rattle.pm_world.proofs.Going.{Goes, goes_by_view, goes_counted, goes_then, goes_weaker}
 use Rattle.pm_world.proofs.StoreWord.{drained_more}
 use Rattle.pm_undo.specs.Sequences.{no_span, puts_back, restores, restores_all, restores_record, restores_word, span_at}
-use Rattle.pm_undo.specs.Working.{HasArea, HasMadeRoom, HasRecords, IsPutBack, IsSameCall, IsSettled, IsUserWord, IsWorking, log_settled}
+use Rattle.pm_undo.specs.Working.{HasMadeRoom, IsPutBack, IsSameCall, IsSettled, IsUserWord, IsWorking, log_settled}
 use Rattle.pm_undo.proofs.Areas.{generation_in_area, in_area, other_part, slot_part}
-use Rattle.pm_undo.proofs.Kept.{area_kept, area_unrecorded, covers_own, is_of, logged_at, recorded_at, records_kept, stands_at, word_in_range, written_kept, user_word_kept}
+use Rattle.pm_undo.proofs.Kept.{area_kept, area_unrecorded, covers_own, logged_at, recorded_at, records_kept, stands_at, word_in_range, written_kept}
 use Rattle.pm_undo.proofs.Retired.{area_look}
 use Rattle.pm_undo.proofs.Settled.{settle_lawful}
 use Rattle.pm_undo.proofs.Staying.{looked, same_call, same_call-then, same_changed, same_looked, same_settled}
@@ -149,12 +149,12 @@ module _ (v : View) (working : IsWorking v) where
     word_back = goes_by_view (IsPuttingBack v slot i) (IsPuttingBack v slot (i + 1)) (λ u. in_turn (looks from) (stores w (slice_index u.words from)))
         (λ u p. goes_then (Is u) (Is (looked u from)) (IsPuttingBack v slot (i + 1)) (looks from) (stores w (slice_index u.words from))
         (area_look u (area_kept v u p.call (generation_kept slot i u p) working.area) from (ap (λ n. is_in_area n from) p.call.lane.lane ∙ in_slot)
-            (let size = p.call.lane.size in let most = working.area.inside in omega (arith, size, most, few, short, low)))
+        (let size = p.call.lane.size in let most = working.area.inside in omega (arith, size, most, few, short, low)))
         (goes_stores (Is (looked u from)) (IsPuttingBack v slot (i + 1)) w (slice_index u.words from)
-            (λ u' m is made.
-            let before = quiet slot i u (looked u from) (same_looked u from) refl refl (λ s e. e) p in
-            let here = roomy slot i (looked u from) m (subst (λ z. HasMadeRoom z m) is made) before in
-            (may m (slice_index u.words from) made.0 here, stored m (slice_index u.words from) here (found u p))))
+        (λ u' m is made.
+        let before = quiet slot i u (looked u from) (same_looked u from) refl refl (λ s e. e) p in
+        let here = roomy slot i (looked u from) m (subst (λ z. HasMadeRoom z m) is made) before in
+        (may m (slice_index u.words from) made.0 here, stored m (slice_index u.words from) here (found u p))))
         u refl)
 
   record_back : (slot : ℕ) (r : Recorded) → IsRecordAt v slot r → Goes (IsPuttingBack v slot 0) (restores_record v.lane slot (span_of r)) (IsPuttingBack v (slot + 1) 0)

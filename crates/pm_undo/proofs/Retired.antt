@@ -1,26 +1,32 @@
 -- The lane's generation may be ended, and what that leaves.
-use Rattle.std.proofs.Common.{◌≡◌, ◌≢◌, ℕ, ◌+◌, ◌*◌, ◌/◌, ◌<◌, ◌≤◌, ◌⊎◌, inl, inr, ⊎_elim, Bool, true, false, not, cond, eqb, List, [], ◌∷◌, ◌++◌, length, set, slice_index, Some, None, is_some, refl, sym, ap, ◌∙◌, subst, arith, get_or-set_same, get_or-set_other, eq-eqb, IsTrue}
-use Rattle.std.proofs.lemmas.Bool.{cond-true, or_left}
+use Rattle.std.proofs.Common.{◌≡◌, ℕ, ◌+◌, ◌/◌, ◌<◌, ◌≤◌, ⊎_elim, Bool, true, false, cond, eqb, List, [], ◌∷◌, ◌++◌, length, slice_index, is_some, refl, sym, ap, ◌∙◌, subst, arith, get_or-set_same, get_or-set_other, eq-eqb, IsTrue}
+use Rattle.std.proofs.lemmas.Bool.{or_left}
 use Rattle.std.specs.List.{list_any}
 use Rattle.pm_view.specs.declared.change.Change.{Change}
-use Rattle.pm_view.specs.Area.{Part, area_word, is_in_area, part_of}
+use Rattle.pm_view.specs.Area.{area_word, is_in_area}
 use Rattle.pm_view.specs.Area.Part.{GenerationWord}
 use Rattle.pm_view.specs.Changes.{drained, flushed, store_change}
 use Rattle.pm_view.specs.Counts.{FlushesSome, DrainsSome}
+use Rattle.pm_view.specs.Held.{is_known}
 use Rattle.pm_view.specs.Log.{Phase, log_stored, log_drained, no_log}
 use Rattle.pm_view.specs.Log.Phase.{Idle, Open, Drawn, Retiring}
-use Rattle.pm_view.specs.Steps.Step.{Load, Store, Flush, Drain}
-use Rattle.pm_view.specs.View.{View, Lock}
+use Rattle.pm_view.specs.Steps.Step.{Store, Flush, Drain}
+use Rattle.pm_view.specs.View.{View}
 use Rattle.pm_view.specs.Views.{after, after_all, log_after_drain}
 use Rattle.pm_world.specs.Lawful.{MayStore, StoreFits}
-use Rattle.pm_world.specs.Records.{generation_of, AreRestored}
-use Rattle.pm_world.specs.Sequences.{Sequence, by_lane, by_view, in_turn, looks, one, stores, with_word, Ready}
-use Rattle.pm_world.proofs.Going.{Goes, goes_one, goes_then}
+use Rattle.pm_world.specs.Records.{AreRestored}
+use Rattle.pm_world.specs.Sequences.{by_lane, by_view, in_turn, looks, one, stores, with_word, Ready}
+use Rattle.pm_world.proofs.Going.{Goes, goes_then}
 use Rattle.pm_undo.specs.Sequences.{ends_generation, persists, retires, with_generation}
-use Rattle.pm_undo.specs.Working.{HasArea, HasMadeRoom, IsRetired, IsSettled, IsWorking}
+use Rattle.pm_undo.specs.Working.{HasArea, HasMadeRoom, IsRetired, IsSettled, IsWorking, TellsNoBlock}
 use Rattle.pm_undo.proofs.Areas.{area_tells_nothing, generation_in_area, generation_word}
 use Rattle.pm_undo.proofs.Staying.{looked, looks_so, same_call-then, same_changed, same_coursed, same_looked}
 use Rattle.pm_undo.proofs.Storing.{Is, goes_from, goes_stores}
+
+-- a word that the view knows may be looked at, where no block is found by it
+pub may_look : (v : View) (w : ℕ) (Q : View → Type 0) → w < length v.words → is_known v w ≡ true → TellsNoBlock v w → Q (looked v w) → Ready v (looks w v) × Q (after_all v (looks w v))
+unfolding looks Ready after_all
+may_look v w Q low known quiet q = ((low, known, tt), subst Q (sym (looks_so v w quiet)) q)
 
 module _ (v : View) (area : HasArea v) where
   -- a word of the lane's area may be looked at
@@ -120,7 +126,7 @@ retire_given_up v working none restored =
     let open_ = working.is_open in
     goes_retired v working.area none
     (subst (λ p. StoreFits (v₁ v working.area none) (g v working.area none) (x v working.area none) p GenerationWord) (sym open_)
-        (record { ends = record { next = refl; below = working.area.below; drained = none }; restored = restored; whole = refl }))
+    (record { ends = record { next = refl; below = working.area.below; drained = none }; restored = restored; whole = refl }))
     (ap (λ p. log_stored p GenerationWord (x v working.area none) v.log) open_) false (ap is_some working.undrawn)
 
 -- a call that drew its number

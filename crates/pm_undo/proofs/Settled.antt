@@ -1,8 +1,7 @@
 -- Once all is made persistent nothing is undrained.
-use Rattle.std.proofs.Common.{◌≡◌, ℕ, zero, suc, ◌+◌, ◌/◌, ◌<◌, ◌≤◌, Bool, true, false, not, cond, eqb, ◌&&◌, ◌||◌, ◌⊎◌, inl, inr, ⊎_elim, List, [], ◌∷◌, ◌++◌, map, length, slice_index, refl, sym, ap, ◌∙◌, subst, IsTrue, is_some, arith, rules, eq-eqb}
+use Rattle.std.proofs.Common.{◌≡◌, ℕ, zero, suc, ◌+◌, ◌/◌, ◌<◌, ◌≤◌, Bool, true, false, not, cond, eqb, ◌&&◌, inl, inr, ⊎_elim, List, [], ◌∷◌, map, length, slice_index, refl, sym, ap, ◌∙◌, subst, IsTrue, is_some, arith, rules, eq-eqb}
 use Rattle.std.specs.List.{filter, range_with_len}
 use Rattle.std.proofs.lemmas.Bool.{cond-true, cond-false, or_parts, lt-ltb, le-ltb, cases_lt, eqb-true, eqb-false}
-use Rattle.std.proofs.lemmas.Bool.Decides.{nat_tests}
 use Rattle.std.proofs.lemmas.List.Folds.{Any-from_list_any}
 use Rattle.pm_view.proofs.Flushing.{rest_unflushed}
 use Rattle.pm_view.proofs.Sequences.{after_all-append}
@@ -13,7 +12,6 @@ use Rattle.pm_view.specs.Log.{log_drained}
 use Rattle.pm_view.specs.Steps.Step.{Flush, Drain}
 use Rattle.pm_view.specs.View.{View}
 use Rattle.pm_view.specs.Views.{after, after_all, log_after_drain}
-use Rattle.pm_world.specs.Lawful.{Allowed}
 use Rattle.pm_world.specs.Sequences.{flushes, drains, settles, makes_room, in_turn, Ready}
 use Rattle.pm_world.proofs.Sequencing.{ready_both}
 use Rattle.pm_undo.specs.Working.{HasMadeRoom, IsSettled, log_settled}
@@ -54,14 +52,14 @@ first_due : (changes : List Change) (line : ℕ) (rest : List ℕ) → unflushed
 unfolding unflushed_lines
 first_due changes line rest e = head_passes (is_unflushed changes) (range_with_len 0 (lines_up_to changes)) line rest e
 
-may_flush : (changes : List Change) (line : ℕ) → is_unflushed changes line ≡ true → FlushesSome line changes
+pub may_flush : (changes : List Change) (line : ℕ) → is_unflushed changes line ≡ true → FlushesSome line changes
 may_flush changes line is =
     let a = Any-from_list_any (λ (c : Change). is_in_line line c && not c.flushed) changes is in
     (a.0, a.1, a.2, a.3, parts (is_in_line line a.1) a.1.flushed a.4) where
-  parts : (here marked : Bool) → (here && not marked) ≡ true → IsTrue here × (marked ≡ false)
-  parts true true e = absurd cc
-  parts true false e = (search rules, refl)
-  parts false marked e = absurd cc
+      parts : (here marked : Bool) → (here && not marked) ≡ true → IsTrue here × (marked ≡ false)
+      parts true true e = absurd cc
+      parts true false e = (search rules, refl)
+      parts false marked e = absurd cc
 
 length_zero : (changes : List Change) → length changes ≡ 0 → changes ≡ []
 length_zero [] none = refl
@@ -73,7 +71,7 @@ pub record AreFlushed (v w : View) : Type 0 where
   pub many : length w.changes ≡ length v.changes
   pub none : drained w.changes ≡ []
 
-same_many : (line : ℕ) (changes : List Change) → length (flushed line changes) ≡ length changes
+pub same_many : (line : ℕ) (changes : List Change) → length (flushed line changes) ≡ length changes
 same_many line [] = refl
 same_many line (c ∷ changes) = ap suc (same_many line changes)
 
@@ -108,11 +106,12 @@ settle_behind v w marked = at (eqb (length w.changes) 0) refl where
       let zero_ : length w.changes ≡ 0 = eqb-true (length w.changes) 0 b in
       (tt, marked.same ∙ ap (λ changes. record v { changes = changes; calls = w.calls }) (length_zero w.changes zero_) ∙ ap (λ log. record v { changes = []; calls = w.calls; log = log }) (sym (log_kept v.changes v (sym many ∙ zero_))))
   at false b =
-      let some : 0 < length w.changes = (let no = eqb-false (length w.changes) 0 b in omega (arith, no)) in
-      ((some, tt, tt),
-      ap (λ left. record w { changes = left; calls = w.calls + 1; log = log_after_drain left w }) marked.none
-      ∙ ap (λ (u : View). record u { changes = []; calls = w.calls + 1; log = log_after_drain [] u }) marked.same
-      ∙ ap (λ log. record v { changes = []; calls = w.calls + 1; log = log }) (sym (log_moved v.changes v (omega (arith, some, many)))))
+      let some : 0 < length w.changes = (let no = eqb-false (length w.changes) 0 b in omega (arith, no)) in (
+        (some, tt, tt),
+        ap (λ left. record w { changes = left; calls = w.calls + 1; log = log_after_drain left w }) marked.none
+            ∙ ap (λ (u : View). record u { changes = []; calls = w.calls + 1; log = log_after_drain [] u }) marked.same
+            ∙ ap (λ log. record v { changes = []; calls = w.calls + 1; log = log }) (sym (log_moved v.changes v (omega (arith, some, many)))),
+      )
 
 pub settle_lawful : (v : View) → Ready v (settles v) × IsSettled v (after_all v (settles v))
 unfolding settles in_turn

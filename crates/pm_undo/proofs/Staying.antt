@@ -1,20 +1,18 @@
 -- Loads of known words, stores, flushes and drains leave a view that of the same call.
-use Rattle.std.proofs.Common.{◌≡◌, ◌≢◌, ℕ, ◌+◌, ◌<◌, ◌≤◌, ◌⊎◌, inl, inr, ⊎_elim, Bool, true, false, cond, eqb, ◌||◌, Contains, IsTrue, List, [], ◌∷◌, ◌++◌, map, length, set, slice_index, get_or, refl, sym, ap, ◌∙◌, subst, arith, length-set, get_or-set_same, get_or-set_other}
+use Rattle.std.proofs.Common.{◌≡◌, ℕ, ⊎_elim, Bool, true, false, cond, eqb, Contains, List, [], ◌∷◌, ◌++◌, map, set, slice_index, refl, sym, ap, ◌∙◌, subst, arith, length-set}
 use Rattle.std.specs.List.{list_any}
-use Rattle.std.proofs.lemmas.Bool.{cond-true, cond-false, or_cases, or_left, or_right, false≢true}
+use Rattle.std.proofs.lemmas.Bool.{cond-false, or_cases, or_left, or_right}
 use Rattle.std.proofs.lemmas.List.{set-get_or}
 use Rattle.std.proofs.lemmas.List.Elements.{Contains-append_left, Contains-append_right}
 use Rattle.pm_view.proofs.SameLane.{same_lane, same_lane-then}
 use Rattle.pm_view.specs.declared.change.Change.{Change}
-use Rattle.pm_view.specs.Area.{area_word, is_in_area}
-use Rattle.pm_view.specs.Changes.{store_change}
+use Rattle.pm_view.specs.Area.{is_in_area}
 use Rattle.pm_view.specs.Held.{is_held, is_known}
 use Rattle.pm_view.specs.Log.{Log}
-use Rattle.pm_view.specs.Steps.{Step}
 use Rattle.pm_view.specs.Steps.Step.{Load}
 use Rattle.pm_view.specs.View.{View, Lock}
 use Rattle.pm_view.specs.Views.{after, changed, with_block}
-use Rattle.pm_undo.specs.Working.{TellsNoBlock, IsSameCall, IsSettled, Stays, log_settled}
+use Rattle.pm_undo.specs.Working.{TellsNoBlock, IsSameCall, IsSettled, log_settled}
 
 pub same_call : (v : View) → IsSameCall v v
 same_call v = record {

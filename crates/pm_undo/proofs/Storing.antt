@@ -1,10 +1,10 @@
 -- Sequences from one view, and stores with room made for them.
-use Rattle.std.proofs.Common.{◌≡◌, ℕ, List, [], refl, sym, subst}
-use Rattle.pm_view.specs.Steps.Step.{Load, Store}
+use Rattle.std.proofs.Common.{◌≡◌, ℕ, sym, subst}
+use Rattle.pm_view.specs.Steps.Step.{Store}
 use Rattle.pm_view.specs.View.{View}
 use Rattle.pm_view.specs.Views.{after, after_all}
-use Rattle.pm_world.specs.Lawful.{Allowed, MayStore}
-use Rattle.pm_world.specs.Sequences.{Sequence, in_turn, looks, makes_room, one, stores, Ready}
+use Rattle.pm_world.specs.Lawful.{MayStore}
+use Rattle.pm_world.specs.Sequences.{Sequence, makes_room, one, stores, Ready}
 use Rattle.pm_world.proofs.Going.{Goes, goes_one, goes_then}
 use Rattle.pm_undo.specs.Working.{HasMadeRoom}
 use Rattle.pm_undo.proofs.Settled.{room_lawful}

@@ -1,5 +1,5 @@
 -- A lane at work in a transaction, on its view alone, and what the sequences of undo logging leave of a view.
-use Rattle.std.specs.Prelude.{◌≡◌, ℕ, ◌+◌, ◌*◌, ◌<◌, ◌≤◌, Bool, true, false, IsTrue, Contains, List, [], ◌∷◌, length, slice_index, None, is_some, ◌⊎◌}
+use Rattle.std.specs.Prelude.{◌≡◌, ℕ, ◌+◌, ◌*◌, ◌<◌, ◌≤◌, true, false, IsTrue, Contains, List, [], ◌∷◌, length, ◌++◌, map, slice_index, None, is_some, ◌⊎◌}
 use Rattle.pm_image.specs.Logs.{undo_slot}
 use Rattle.pm_view.specs.declared.change.Change.{Change}
 use Rattle.pm_view.specs.Area.{area_word, is_in_area}
@@ -14,6 +14,8 @@ use Rattle.pm_view.specs.Steps.{Step}
 use Rattle.pm_view.specs.View.{View, Lock}
 use Rattle.pm_world.specs.Lawful.{generation_limit}
 use Rattle.pm_world.specs.Records.{AreRestored, IsRecordAt, covers, generation_of, is_drained_slot, is_recorded, spelled}
+use Rattle.pm_world.specs.declared.lane.Span.{Span}
+use Rattle.pm_undo.specs.Sequences.{recorded_in}
 
 -- a lane's area lies in the pool, before the zones
 pub record HasArea (v : View) : Type 0 where
@@ -105,3 +107,15 @@ pub record IsPutBack (v w : View) : Type 0 where
   pub drained : w.changes ≡ []
   pub restored : AreRestored w
   pub others : (u : ℕ) → is_recorded v.log.records u ≡ false → slice_index w.words u ≡ slice_index v.words u
+
+-- a word that may be recorded: the lane may write it, knows it, and finds no block by it
+pub record CanSnapshot (v : View) (w : ℕ) : Type 0 where
+  pub user : IsUserWord v w
+  pub quiet : TellsNoBlock v w
+
+-- records of these spans stand behind those that there were, drained as they are, with the words that the spans had
+pub record IsSnapshot (spans : List Span) (v w : View) : Type 0 where
+  pub stays : Stays v w
+  pub working : IsWorking w
+  pub records : w.log.records ≡ v.log.records ++ map (recorded_in v) spans
+  pub entries : w.log.entries ≡ v.log.entries

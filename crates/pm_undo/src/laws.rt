@@ -1,12 +1,14 @@
-ghost use Rattle.std.specs.Prelude.{◌≡◌, IsTrue, [], is_some, map};
+ghost use Rattle.std.specs.Prelude.{◌≡◌, ℕ, ◌+◌, ◌≤◌, IsTrue, All, [], is_some, length, map};
+ghost use Rattle.pm_model.specs.Bytes.{covered_words};
 ghost use Rattle.pm_view.specs.Log.Phase.{Idle, Open, Drawn};
 ghost use Rattle.pm_view.specs.View.{View};
 ghost use Rattle.pm_view.specs.Views.{after_all};
 ghost use Rattle.pm_world.specs.Lanes.{span_of};
 ghost use Rattle.pm_world.specs.Records.{AreRestored};
 ghost use Rattle.pm_world.specs.Sequences.{Ready, makes_room, settles};
-ghost use Rattle.pm_undo.specs.Sequences.{restores, retires};
-ghost use Rattle.pm_undo.specs.Working.{HasArea, HasMadeRoom, IsPutBack, IsRetired, IsSettled, IsWorking};
+ghost use Rattle.pm_undo.specs.Sequences.{restores, retires, snapshots};
+ghost use Rattle.pm_undo.specs.Spans.{plan_of};
+ghost use Rattle.pm_undo.specs.Working.{CanSnapshot, HasArea, HasMadeRoom, IsPutBack, IsRetired, IsSettled, IsSnapshot, IsWorking};
 
 /// A law: whatever is undrained may be made persistent, and then nothing is undrained. No code runs.
 pub fn all_may_be_settled()
@@ -33,4 +35,13 @@ pub fn a_drawn_call_may_retire()
 /// A law: a lane at work may put every recorded word back, and then each is as it was recorded, and that is persistent. No code runs.
 pub fn recorded_words_may_be_put_back()
     ensures { (v : View) → IsWorking v → Ready v (restores (map span_of v.log.records) v) × IsPutBack v (after_all v (restores (map span_of v.log.records) v)) }
+{}
+
+/// A law: a lane at work may record the words of a range that it may write and knows, where 64 records are enough, and then they stand
+/// behind the others with the words that are there, drained as they are. No code runs.
+pub fn words_may_be_recorded()
+    ensures { (v : View) (place len : ℕ) → IsWorking v → All (CanSnapshot v) (covered_words place len)
+        → length v.log.records + length (plan_of (map span_of v.log.records) place len) ≤ 64
+        → Ready v (snapshots (map span_of v.log.records) place len v)
+        × IsSnapshot (plan_of (map span_of v.log.records) place len) v (after_all v (snapshots (map span_of v.log.records) place len v)) }
 {}

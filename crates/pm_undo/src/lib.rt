@@ -14,7 +14,10 @@ mod restoring;
 mod retiring;
 mod snapshotting;
 
-pub use laws::{a_call_given_up_may_retire, a_drawn_call_may_retire, all_may_be_settled, recorded_words_may_be_put_back, room_may_be_made};
+pub use laws::{
+    a_call_given_up_may_retire, a_drawn_call_may_retire, all_may_be_settled,
+    recorded_words_may_be_put_back, room_may_be_made, words_may_be_recorded,
+};
 pub use restoring::restore;
 pub use retiring::retire;
 pub use snapshotting::snapshot;
