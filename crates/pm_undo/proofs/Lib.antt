@@ -14,3 +14,5 @@ pub mod Unflushed
 pub mod Writing
 pub mod Rising
 pub mod Snapshotted
+pub mod Written
+pub mod Covering

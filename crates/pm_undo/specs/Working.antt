@@ -119,3 +119,11 @@ pub record IsSnapshot (spans : List Span) (v w : View) : Type 0 where
   pub working : IsWorking w
   pub records : w.log.records ≡ v.log.records ++ map (recorded_in v) spans
   pub entries : w.log.entries ≡ v.log.entries
+
+-- a word has this value, and no other word changed
+pub record IsWrittenWord (v : View) (word x : ℕ) (w : View) : Type 0 where
+  pub call : IsSameCall v w
+  pub working : IsWorking w
+  pub log : w.log ≡ v.log
+  pub there : slice_index w.words word ≡ x
+  pub others : (u : ℕ) → (u ≡ word → ⊥) → slice_index w.words u ≡ slice_index v.words u

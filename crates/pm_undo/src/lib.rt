@@ -15,8 +15,9 @@ mod retiring;
 mod snapshotting;
 
 pub use laws::{
-    a_call_given_up_may_retire, a_drawn_call_may_retire, all_may_be_settled,
-    recorded_words_may_be_put_back, room_may_be_made, words_may_be_recorded,
+    a_call_given_up_may_retire, a_drawn_call_may_retire, a_settled_lane_stays_at_work,
+    a_snapshot_covers_its_range, all_may_be_settled, recorded_words_may_be_put_back,
+    recorded_words_may_be_written, room_may_be_made, words_may_be_recorded,
 };
 pub use restoring::restore;
 pub use retiring::retire;
