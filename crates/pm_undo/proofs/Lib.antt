@@ -16,3 +16,5 @@ pub mod Rising
 pub mod Snapshotted
 pub mod Written
 pub mod Covering
+pub mod Lockings
+pub mod Begun

@@ -23,7 +23,7 @@ use Rattle.pm_undo.proofs.Staying.{same_call, same_call-then, same_changed, same
 use Rattle.pm_undo.proofs.Storing.{Is, goes_stores}
 
 -- a view whose log and words in the lane's area are the same is at work too, where its slots are drained
-work_goes_on : (v w : View) → IsWorking v → IsSameCall v w → w.log ≡ v.log → ((u : ℕ) → is_in_area v.lane u ≡ true → slice_index w.words u ≡ slice_index v.words u)
+pub work_goes_on : (v w : View) → IsWorking v → IsSameCall v w → w.log ≡ v.log → ((u : ℕ) → is_in_area v.lane u ≡ true → slice_index w.words u ≡ slice_index v.words u)
     → ((slot : ℕ) → slot < length v.log.records → not (list_any (is_in_line (slot_line v.lane slot)) w.changes) ≡ true) → IsWorking w
 work_goes_on v w working call log same drained =
     let generation : generation_of w ≡ generation_of v = ap (λ n. slice_index w.words (area_word n)) call.lane.lane ∙ same (area_word v.lane) (generation_in_area v.lane) in

@@ -1,9 +1,9 @@
 -- A lane at work in a transaction, on its view alone, and what the sequences of undo logging leave of a view.
-use Rattle.std.specs.Prelude.{◌≡◌, ℕ, ◌+◌, ◌*◌, ◌<◌, ◌≤◌, true, false, IsTrue, Contains, List, [], ◌∷◌, length, ◌++◌, map, slice_index, None, is_some, ◌⊎◌}
+use Rattle.std.specs.Prelude.{◌≡◌, ℕ, ◌+◌, ◌*◌, ◌<◌, ◌≤◌, true, false, IsTrue, Contains, List, [], ◌∷◌, length, ◌++◌, map, slice_index, None, is_some, ◌⊎◌, All, IfSome, Some}
 use Rattle.pm_image.specs.Logs.{undo_slot}
 use Rattle.pm_view.specs.declared.change.Change.{Change}
 use Rattle.pm_view.specs.Area.{area_word, is_in_area}
-use Rattle.pm_view.specs.Blocks.{allocation_word, is_word}
+use Rattle.pm_view.specs.Blocks.{allocation_word, block_at, descriptor_word, is_word}
 use Rattle.pm_view.specs.Constants.{IsSameLane}
 use Rattle.pm_view.specs.Counts.{HasRoom, max_changes}
 use Rattle.pm_view.specs.Held.{is_known}
@@ -13,6 +13,7 @@ use Rattle.pm_view.specs.Rights.{is_written}
 use Rattle.pm_view.specs.Steps.{Step}
 use Rattle.pm_view.specs.View.{View, Lock}
 use Rattle.pm_world.specs.Lawful.{generation_limit}
+use Rattle.pm_world.specs.Opening.{Opening, IsChunk}
 use Rattle.pm_world.specs.Records.{AreRestored, IsRecordAt, covers, generation_of, is_drained_slot, is_recorded, spelled}
 use Rattle.pm_world.specs.declared.lane.Span.{Span}
 use Rattle.pm_undo.specs.Sequences.{recorded_in}
@@ -127,3 +128,11 @@ pub record IsWrittenWord (v : View) (word x : ℕ) (w : View) : Type 0 where
   pub log : w.log ≡ v.log
   pub there : slice_index w.words word ≡ x
   pub others : (u : ℕ) → (u ≡ word → ⊥) → slice_index w.words u ≡ slice_index v.words u
+
+-- what the view finds of blocks is as at the opening: what describes chunks, and the blocks that its locks are for
+pub record FindsOpening (o : Opening) (v : View) : Type 0 where
+  pub lane : v.lane < v.lanes
+  pub lanes : v.lanes ≡ o.lanes
+  pub size : length v.words ≡ length o.words
+  pub descriptors : (page : ℕ) → IsChunk o.lanes page → slice_index v.words (descriptor_word o.lanes page) ≡ slice_index o.words (descriptor_word o.lanes page)
+  pub locks : All (λ (l : Lock). IfSome l.block (λ lines. block_at o.lanes o.words l.line ≡ Some lines)) v.locks

@@ -1,15 +1,21 @@
-ghost use Rattle.std.specs.Prelude.{◌≡◌, ℕ, ◌+◌, ◌≤◌, true, IsTrue, All, List, [], ◌++◌, is_some, length, map};
+ghost use Rattle.std.specs.Prelude.{◌≡◌, ℕ, ◌+◌, ◌<◌, ◌≤◌, Bool, true, Option, IsTrue, All, List, [], ◌++◌, is_some, length, map};
 ghost use Rattle.pm_model.specs.Bytes.{covered_words};
+ghost use Rattle.pm_objects.specs.declared.calls.Operation.{Operation};
+ghost use Rattle.pm_objects.specs.declared.history.Value.{Value};
+ghost use Rattle.pm_view.specs.Held.{is_known};
 ghost use Rattle.pm_view.specs.Log.{Recorded};
 ghost use Rattle.pm_view.specs.Log.Phase.{Idle, Open, Drawn};
+ghost use Rattle.pm_view.specs.Rights.{is_written};
+ghost use Rattle.pm_view.specs.Steps.Step.{NumberSeen, TakeWrite, TakeRead, Tell};
 ghost use Rattle.pm_view.specs.View.{View};
-ghost use Rattle.pm_view.specs.Views.{after_all};
+ghost use Rattle.pm_view.specs.Views.{after, after_all};
 ghost use Rattle.pm_world.specs.Lanes.{span_of};
+ghost use Rattle.pm_world.specs.Opening.{Opening, IsSound};
 ghost use Rattle.pm_world.specs.Records.{AreRestored, is_recorded};
-ghost use Rattle.pm_world.specs.Sequences.{Ready, makes_room, settles, stores};
+ghost use Rattle.pm_world.specs.Sequences.{Ready, looks, makes_room, settles, stores};
 ghost use Rattle.pm_undo.specs.Sequences.{recorded_in, restores, retires, snapshots};
 ghost use Rattle.pm_undo.specs.Spans.{plan_of};
-ghost use Rattle.pm_undo.specs.Working.{CanSnapshot, HasArea, HasMadeRoom, IsPutBack, IsRetired, IsSettled, IsSnapshot, IsWorking, IsWrittenWord};
+ghost use Rattle.pm_undo.specs.Working.{CanSnapshot, FindsOpening, HasArea, HasMadeRoom, IsPutBack, IsRetired, IsSettled, IsSnapshot, IsWorking, IsWrittenWord, TellsNoBlock};
 
 /// A law: whatever is undrained may be made persistent, and then nothing is undrained. No code runs.
 pub fn all_may_be_settled()
@@ -61,4 +67,30 @@ pub fn recorded_words_may_be_written()
 /// A law: a lane at work stays so once all is persistent. No code runs.
 pub fn a_settled_lane_stays_at_work()
     ensures { (v w : View) → IsWorking v → IsSettled v w → IsWorking w }
+{}
+
+/// A law: a word that the lane knows and holds for writing may be recorded, where the view finds of blocks what a sound opening has. No code
+/// runs.
+pub fn words_held_for_writing_may_be_recorded()
+    ensures { (o : Opening) → IsSound o → (v : View) → FindsOpening o v → (w : ℕ) → is_written v w ≡ true → is_known v w ≡ true → CanSnapshot v w }
+{}
+
+/// A law: a call that begins is at work, with no records. No code runs.
+pub fn a_begun_call_is_at_work()
+    ensures { (v : View) (n : ℕ) → HasArea v → v.log.phase ≡ Idle → IsWorking (after v (NumberSeen n)) }
+{}
+
+/// A law: a lane at work stays so as it tries a lock, for writing or for reading. No code runs.
+pub fn a_lane_that_takes_locks_stays_at_work()
+    ensures { (v : View) (line : ℕ) (won : Bool) → IsWorking v → IsWorking (after v (TakeWrite line won)) × IsWorking (after v (TakeRead line won)) }
+{}
+
+/// A law: a lane at work stays so as it tells an operation. No code runs.
+pub fn a_lane_that_tells_stays_at_work()
+    ensures { (v : View) (operation : Operation) (reply : Option Value) → IsWorking v → IsWorking (after v (Tell operation reply)) }
+{}
+
+/// A law: a lane at work may look at a word that it knows and that tells of no block, and stays at work. No code runs.
+pub fn a_lane_that_looks_stays_at_work()
+    ensures { (v : View) (w : ℕ) → IsWorking v → w < length v.words → is_known v w ≡ true → TellsNoBlock v w → Ready v (looks w v) × IsWorking (after_all v (looks w v)) }
 {}
