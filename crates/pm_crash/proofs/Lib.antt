@@ -11,3 +11,13 @@ pub mod ObjectsOfBlocks
 pub mod Classes
 pub mod FoundBlocks
 pub mod HeapWordsAlone
+pub mod Passing
+pub mod Runs
+pub mod CallWords
+pub mod Continued
+pub mod KeptWords
+pub mod Committed
+pub mod ReadOn
+pub mod RecordedWords
+pub mod WriteOn
+pub mod Differing

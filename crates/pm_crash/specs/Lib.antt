@@ -1,3 +1,5 @@
 pub mod Held
 pub mod Lines
+pub mod OpenCall
+pub mod Operations
 pub mod Writes

@@ -6,8 +6,13 @@
 //! for calls, and `pm_view` for what a lane finds; docs/MODEL.md, "The crash theorem".
 #![tactic(auto)]
 
+mod calls;
 mod laws;
 
+pub use calls::{
+    a_call_makes_its_difference, a_commit_is_a_step, a_read_tells_the_bytes,
+    a_write_changes_the_call,
+};
 pub use laws::{
     a_block_is_an_object, a_lane_finds_the_blocks, a_pool_is_held_by_heap_words,
     a_read_finds_the_bytes, a_write_changes_one_object, an_object_has_words_of_its_own,

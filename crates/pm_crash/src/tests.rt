@@ -13,4 +13,8 @@ fn laws(_rt: HostRuntime) {
     a_block_is_an_object();
     the_root_is_its_word();
     a_lane_finds_the_blocks();
+    a_call_makes_its_difference();
+    a_commit_is_a_step();
+    a_write_changes_the_call();
+    a_read_tells_the_bytes();
 }

@@ -1,0 +1,91 @@
+-- What a lane's view shows of an operation of the open call: the view before, and the one after the operation is told with its reply.
+use Rattle.std.specs.Prelude.{◌≡◌, ℕ, ◌+◌, ◌*◌, ◌<◌, ◌≤◌, ◌||◌, Bool, true, false, not, List, [], ◌∷◌, ◌++◌, map, length, slice_index, take, drop, ◌%◌, Contains, Option, Some, None}
+use Rattle.pm_words.specs.Words.{bytes_of, AreBytes}
+use Rattle.pm_objects.specs.declared.calls.Operation.{Operation}
+use Rattle.pm_objects.specs.declared.calls.Operation.TheVariants.{AddRange, Write, Read}
+use Rattle.pm_objects.specs.declared.history.Value.{Value}
+use Rattle.pm_objects.specs.declared.history.Value.TheVariants.{Bytes}
+use Rattle.pm_objects.specs.declared.ids.Oid.{Oid}
+use Rattle.pm_model.specs.Bytes.{covered_words, new_words, records_of}
+use Rattle.pm_view.specs.Area.{is_in_area}
+use Rattle.pm_view.specs.Log.{Recorded}
+use Rattle.pm_view.specs.View.{View, Lock}
+use Rattle.pm_world.specs.Records.{is_recorded}
+use Rattle.pm_crash.specs.OpenCall.{words_recorded}
+use Rattle.pm_crash.specs.Writes.{words_written}
+
+-- the operation is told with its reply. The lane is the same, with the locks that it held, and knows what it knew
+pub record Tells (v next : View) (op : Operation) (reply : Option Value) : Type 0 where
+  pub lanes : next.lanes ≡ v.lanes
+  pub zones : next.zones ≡ v.zones
+  pub pool : next.pool ≡ v.pool
+  pub lane : next.lane ≡ v.lane
+  pub locks : next.locks ≡ v.locks
+  pub known : (i : ℕ) → Contains v.known i → Contains next.known i
+  pub call : next.call ≡ v.call ++ record { operation = op; reply = reply } ∷ []
+
+-- no word changed but in the lane's own area
+pub record KeepsWords (v next : View) : Type 0 where
+  pub words : (i : ℕ) → is_in_area v.lane i ≡ false → slice_index next.words i ≡ slice_index v.words i
+
+-- nor was a word recorded
+pub record KeepsLog (v next : View) : Type 0 where
+  pub records : next.log.records ≡ v.log.records
+
+-- the lane holds the lock of the object, for writing if so asked, and found its block
+pub record IsHeld (v : View) (id : Oid) (write : Bool) : Type 0 where
+  pub lock : Lock
+  pub lines : ℕ
+  pub held : Contains v.locks lock
+  pub block : lock.block ≡ Some lines
+  pub allows : (lock.write || not write) ≡ true
+  pub of_pool : id.pool ≡ v.pool
+  pub place : id.off ≡ 64 * lock.line + 64
+  -- the word of the object's size is known
+  pub size_known : Contains v.known (8 * lock.line + 1)
+
+-- the range of the object ends where the object ends, or before
+pub record HasRange (v : View) (id : Oid) (off len : ℕ) (write : Bool) : Type 0 where
+  pub object : IsHeld v id write
+  pub inside : off + len ≤ slice_index v.words (8 * object.lock.line + 1)
+
+-- the lane wrote the bytes into words that it had recorded, and told so
+pub record WritesBytes (v next : View) (id : Oid) (off : ℕ) (bytes : List ℕ) : Type 0 where
+  pub tells : Tells v next (Write id off bytes) None
+  pub logs : KeepsLog v next
+  pub range : HasRange v id off (length bytes) true
+  pub are_bytes : AreBytes bytes
+  pub added : (i : ℕ) → Contains (covered_words (id.off + off) (length bytes)) i → is_recorded v.log.records i ≡ true
+  pub written : (i : ℕ) → slice_index next.words i ≡ words_written (id.off + off) bytes (slice_index v.words) i
+
+-- the bytes of a range as the lane's words have them
+abbrev pub bytes_seen : View → Oid → ℕ → ℕ → List ℕ
+bytes_seen v id off len = take len (drop (off % 8) (bytes_of (map (slice_index v.words) (covered_words (id.off + off) len))))
+
+-- the lane read the range, whose words it knows, and told the bytes
+pub record ReadsBytes (v next : View) (id : Oid) (off len : ℕ) : Type 0 where
+  pub tells : Tells v next (Read id off len) (Some (Bytes (bytes_seen v id off len)))
+  pub logs : KeepsLog v next
+  pub keeps : KeepsWords v next
+  pub range : HasRange v id off len false
+  pub known : (i : ℕ) → Contains (covered_words (id.off + off) len) i → Contains v.known i
+
+-- a record's first word, and how many it has
+abbrev pub extent : Recorded → ℕ × ℕ
+extent r = (r.word, length r.old)
+
+-- the record has its words as the lane knows them
+pub record IsPresent (v : View) (r : Recorded) : Type 0 where
+  pub known : (i : ℕ) → i < length r.old → Contains v.known (r.word + i)
+  pub value : (i : ℕ) → i < length r.old → slice_index r.old i ≡ slice_index v.words (r.word + i)
+
+-- the lane recorded those words of the range that were not recorded yet, as they were, and told so
+pub record AddsRange (v next : View) (id : Oid) (off len : ℕ) : Type 0 where
+  pub tells : Tells v next (AddRange id off len) None
+  pub keeps : KeepsWords v next
+  pub range : HasRange v id off len true
+  pub added : List Recorded
+  pub records : next.log.records ≡ v.log.records ++ added
+  pub extents : map extent added ≡ records_of (new_words (words_recorded v.log.records) (covered_words (id.off + off) len))
+  pub present : (r : Recorded) → Contains added r → IsPresent v r
+  pub room : length v.log.records + length added ≤ 64
