@@ -94,8 +94,8 @@ pub record IsObjectOf (v : View) (w : ℕ → ℕ) (tx : Transaction) (id : Oid)
   pub long : length (bytes_of tx.pool.objects id.off) ≡ slice_index v.words (8 * line + 1)
 
 pub object_under : (v : View) (w : ℕ → ℕ) (header : Header) (pool : PoolView) (level : ℕ) (id : Oid) (write : Bool) → IsOpen v level stage.Work error.None → IsBefore v w
-    → (c : ComesTo v w header pool level stage.Work error.None) → (held : IsHeld v id write) → IsObjectOf v w c.tx id held.lock.line
-object_under v w header pool level id write is_open before c held =
+    → (c : ComesTo v w header pool level stage.Work error.None) → (held : IsHeld v id write) → Contains v.known (8 * held.lock.line + 1) → IsObjectOf v w c.tx id held.lock.line
+object_under v w header pool level id write is_open before c held size_known =
     let line : ℕ = held.lock.line in
     let block : Block = block_at_line line held.lines in
     let words : ℕ → ℕ = call_words v w in
@@ -103,7 +103,7 @@ object_under v w header pool level id write is_open before c held =
     let is_there : Contains (blocks words v.lanes v.zones) block = subst (λ (bs : List Block). Contains bs block) (sym c.blocks_stay) was_there in
     let outside : is_in_area v.lane (8 * line + 1) ≡ false = under_is_outside v held.lock held.lines (8 * line + 1) is_open.in_lanes is_open.chunks held.held held.block (omega arith) in
     let header_word : 64 * line / 8 + 1 ≡ 8 * line + 1 = omega arith in
-    let size : size_in words block ≡ slice_index v.words (8 * line + 1) = ap words header_word ∙ known_call_word v w (8 * line + 1) before held.size_known outside in
+    let size : size_in words block ≡ slice_index v.words (8 * line + 1) = ap words header_word ∙ known_call_word v w (8 * line + 1) before size_known outside in
     let object = object_is_there words v.lanes v.zones header c.tx.pool block c.holds is_there in
     let bytes : bytes_of c.tx.pool.objects id.off ≡ bytes_in words block =
     ap (bytes_of c.tx.pool.objects) held.place ∙ ap (λ (o : Option Object). option_map_or (λ (x : Object). x.bytes) o []) object.found in

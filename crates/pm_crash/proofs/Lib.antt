@@ -21,3 +21,7 @@ pub mod ReadOn
 pub mod RecordedWords
 pub mod WriteOn
 pub mod Differing
+pub mod NewRecords
+pub mod AddOn
+pub mod GivenUp
+pub mod Begun

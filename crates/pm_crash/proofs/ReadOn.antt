@@ -30,7 +30,7 @@ seen_is_read : (v next : View) (id : Oid) (off len level : ℕ) (w : ℕ → ℕ
     → (c : ComesTo v w header pool level stage.Work error.None) → bytes_seen v id off len ≡ bytes_at off len (bytes_of c.tx.pool.objects id.off)
 seen_is_read v next id off len level w header pool is_open reads before c =
     let held = reads.range.object in
-    let object : IsObjectOf v w c.tx id held.lock.line = object_under v w header pool level id false is_open before c held in
+    let object : IsObjectOf v w c.tx id held.lock.line = object_under v w header pool level id false is_open before c held reads.range.size_known in
     let words : ℕ → ℕ = call_words v w in
     let inside : off + len ≤ slice_index v.words (8 * held.lock.line + 1) = reads.range.inside in
     let size : size_in words object.block ≡ slice_index v.words (8 * held.lock.line + 1) = object.size in
@@ -50,7 +50,7 @@ read_keeps_open v next id off len level some is_open reads =
     still_open v next level (Read id off len) (Some (Bytes bytes)) is_open reads.tells
     (goes_back v next (Read id off len) (Some (Bytes bytes)) reads.tells reads.logs (λ i outside none. reads.keeps.words i outside) is_open.outside)
     (λ w header pool same_id before next_before c.
-    let object : IsObjectOf v w c.tx id held.lock.line = object_under v w header pool level id false is_open before c held in
+    let object : IsObjectOf v w c.tx id held.lock.line = object_under v w header pool level id false is_open before c held reads.range.size_known in
     let works : Works c.tx = call_works v w header pool level some is_open c in
     let inside : off + len ≤ slice_index v.words (8 * held.lock.line + 1) = reads.range.inside in
     let long : length (bytes_of c.tx.pool.objects id.off) ≡ slice_index v.words (8 * held.lock.line + 1) = object.long in

@@ -43,3 +43,6 @@ pub runs_some : (told : List Answered) (pool : PoolView) (last : Transaction) �
 unfolding RunsTo
 runs_some [] pool last runs idle some = absurd (some refl)
 runs_some (t ∷ told) pool last runs idle some = runs_to_end t told pool last runs idle
+
+pub has_run : (pool : PoolView) (told : List Answered) (last : Transaction) → RunsTo pool told last → is_working last.stage ≡ false → (told ≡ [] → ⊥) → Runs pool told last
+has_run pool told last runs idle some = runs_some told pool last runs idle some

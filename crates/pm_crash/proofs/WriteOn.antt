@@ -66,7 +66,7 @@ write_keeps_open v next id off level bytes some is_open writes =
     still_open v next level (Write id off bytes) None is_open writes.tells
     (goes_back v next (Write id off bytes) None writes.tells writes.logs (λ i outside none. unwritten_stays v next id off bytes writes i none) is_open.outside)
     (λ w header pool same_id before next_before c.
-    let object : IsObjectOf v w c.tx id held.lock.line = object_under v w header pool level id true is_open before c held in
+    let object : IsObjectOf v w c.tx id held.lock.line = object_under v w header pool level id true is_open before c held writes.range.size_known in
     let works : Works c.tx = call_works v w header pool level some is_open c in
     let words : ℕ → ℕ = call_words v w in
     let block : Block = object.block in

@@ -1,17 +1,24 @@
 -- What a lane's view shows of an operation of the open call: the view before, and the one after the operation is told with its reply.
-use Rattle.std.specs.Prelude.{◌≡◌, ℕ, ◌+◌, ◌*◌, ◌<◌, ◌≤◌, ◌||◌, Bool, true, false, not, List, [], ◌∷◌, ◌++◌, map, length, slice_index, take, drop, ◌%◌, Contains, Option, Some, None}
+use Rattle.std.specs.Prelude.{◌≡◌, ◌⊎◌, ℕ, ◌+◌, ◌*◌, ◌/◌, ◌%◌, ◌<◌, ◌≤◌, ◌||◌, Bool, true, false, not, IsTrue, List, [], ◌∷◌, ◌++◌, map, length, slice_index, take, drop, Contains, Option, Some, None}
 use Rattle.pm_words.specs.Words.{bytes_of, AreBytes}
 use Rattle.pm_objects.specs.declared.calls.Operation.{Operation}
-use Rattle.pm_objects.specs.declared.calls.Operation.TheVariants.{AddRange, Write, Read}
+use Rattle.pm_objects.specs.declared.calls.Operation.TheVariants.{AddRange, Begin, Read, Write}
+use Rattle.pm_objects.specs.declared.calls.Want.{Want}
 use Rattle.pm_objects.specs.declared.history.Value.{Value}
-use Rattle.pm_objects.specs.declared.history.Value.TheVariants.{Bytes}
+use Rattle.pm_objects.specs.declared.history.Value.TheVariants.{Bytes, Refused}
 use Rattle.pm_objects.specs.declared.ids.Oid.{Oid}
+use Rattle.pm_objects.specs.declared.refusal.Refusal.{Refusal}
+use Rattle.pm_objects.specs.declared.refusal.Refusal.TheVariants as refusal
 use Rattle.pm_model.specs.Bytes.{covered_words, new_words, records_of}
+use Rattle.pm_model.specs.Checks.{Range, range_of, is_record, is_write, needs_write}
+use Rattle.pm_model.specs.Places.{can_begin}
+use Rattle.pm_model.specs.Transaction.{is_locked, locked_all}
 use Rattle.pm_view.specs.Area.{is_in_area}
+use Rattle.pm_view.specs.Blocks.{is_chunk}
 use Rattle.pm_view.specs.Log.{Recorded}
 use Rattle.pm_view.specs.View.{View, Lock}
-use Rattle.pm_world.specs.Records.{is_recorded}
-use Rattle.pm_crash.specs.OpenCall.{words_recorded}
+use Rattle.pm_world.specs.Records.{IsRecordAt, is_recorded}
+use Rattle.pm_crash.specs.OpenCall.{locks_of, words_recorded}
 use Rattle.pm_crash.specs.Writes.{words_written}
 
 -- the operation is told with its reply. The lane is the same, with the locks that it held, and knows what it knew
@@ -41,12 +48,11 @@ pub record IsHeld (v : View) (id : Oid) (write : Bool) : Type 0 where
   pub allows : (lock.write || not write) ≡ true
   pub of_pool : id.pool ≡ v.pool
   pub place : id.off ≡ 64 * lock.line + 64
-  -- the word of the object's size is known
-  pub size_known : Contains v.known (8 * lock.line + 1)
 
--- the range of the object ends where the object ends, or before
+-- it holds the object, and the range ends where the object ends, or before. It knows the word of the object's size
 pub record HasRange (v : View) (id : Oid) (off len : ℕ) (write : Bool) : Type 0 where
   pub object : IsHeld v id write
+  pub size_known : Contains v.known (8 * object.lock.line + 1)
   pub inside : off + len ≤ slice_index v.words (8 * object.lock.line + 1)
 
 -- the lane wrote the bytes into words that it had recorded, and told so
@@ -89,3 +95,64 @@ pub record AddsRange (v next : View) (id : Oid) (off len : ℕ) : Type 0 where
   pub extents : map extent added ≡ records_of (new_words (words_recorded v.log.records) (covered_words (id.off + off) len))
   pub present : (r : Recorded) → Contains added r → IsPresent v r
   pub room : length v.log.records + length added ≤ 64
+
+-- every recorded word is known to have its old value again, and no other word changed but in the lane's own area. The log has the records
+-- that it had, or none
+pub record TakesBack (v next : View) : Type 0 where
+  pub restored : (slot : ℕ) (r : Recorded) (i : ℕ) → IsRecordAt v slot r → i < length r.old → slice_index next.words (r.word + i) ≡ slice_index r.old i
+  pub known : (slot : ℕ) (r : Recorded) (i : ℕ) → IsRecordAt v slot r → i < length r.old → Contains next.known (r.word + i)
+  pub others : (i : ℕ) → is_in_area v.lane i ≡ false → is_recorded v.log.records i ≡ false → slice_index next.words i ≡ slice_index v.words i
+  pub records : (next.log.records ≡ []) ⊎ (next.log.records ≡ v.log.records)
+
+-- the lane holds no lock of the object, for writing if so asked; of an object of another pool none is held
+abbrev pub IsNotHeld : View → Oid → Bool → Type 0
+IsNotHeld v id write = id.pool ≡ v.pool → is_locked (locks_of v) id.off write ≡ false
+
+-- it holds the object, and the range passes its end
+pub record PassesEnd (v : View) (id : Oid) (off len : ℕ) (write : Bool) : Type 0 where
+  pub object : IsHeld v id write
+  pub size_known : Contains v.known (8 * object.lock.line + 1)
+  pub outside : slice_index v.words (8 * object.lock.line + 1) < off + len
+
+-- a word that would be written is not recorded
+pub record IsNotAdded (v : View) (id : Oid) (off len : ℕ) (write : Bool) : Type 0 where
+  pub range : HasRange v id off len write
+  pub word : ℕ
+  pub written : Contains (covered_words (id.off + off) len) word
+  pub unrecorded : is_recorded v.log.records word ≡ false
+
+-- the new words need more records than there is room for
+pub record Overfills (v : View) (id : Oid) (off len : ℕ) (write : Bool) : Type 0 where
+  pub range : HasRange v id off len write
+  pub overfull : 64 < length v.log.records + length (records_of (new_words (words_recorded v.log.records) (covered_words (id.off + off) len)))
+
+-- why an operation on a range is refused, by what the lane has
+abbrev pub IsReason : View → Operation → Range → Refusal → Type 0
+IsReason v op range refusal.NotLocked = IsNotHeld v range.id (needs_write op)
+IsReason v op range refusal.OutOfRange = PassesEnd v range.id range.off range.len (needs_write op)
+IsReason v op range refusal.NotAdded = IsTrue (is_write op) × IsNotAdded v range.id range.off range.len (needs_write op)
+IsReason v op range refusal.LogFull = IsTrue (is_record op) × Overfills v range.id range.off range.len (needs_write op)
+IsReason v op range r = ⊥
+
+-- the lane refused the operation on a range, took back what the call did, and told so
+pub record Refuses (v next : View) (op : Operation) (range : Range) (r : Refusal) : Type 0 where
+  pub is_range : range_of op ≡ Some range
+  pub reason : IsReason v op range r
+  pub tells : Tells v next op (Some (Refused r))
+  pub takes_back : TakesBack v next
+
+-- a lock that is wanted can be of an object, and the lane holds it
+pub record IsWantHeld (v : View) (want : Want) : Type 0 where
+  pub place : IsTrue (can_begin v.lanes v.zones want.id.off)
+  pub held : IsHeld v want.id want.write
+
+-- the lane began a call and told so: it recorded nothing yet, and has exactly the locks that were wanted, 64 at most, each of a line of a
+-- chunk where it found a block
+pub record BeginsCall (v : View) (wants : List Want) : Type 0 where
+  pub call : v.call ≡ record { operation = Begin wants; reply = None } ∷ []
+  pub no_records : v.log.records ≡ []
+  pub in_lanes : v.lane < v.lanes
+  pub few : length v.locks ≤ 64
+  pub locks : locks_of v ≡ locked_all wants []
+  pub wanted : (want : Want) → Contains wants want → IsWantHeld v want
+  pub chunks : (l : Lock) (lines : ℕ) → Contains v.locks l → l.block ≡ Some lines → is_chunk v.lanes (l.line / 64) ≡ true

@@ -1,13 +1,25 @@
-ghost use Rattle.std.specs.Prelude.{◌≡◌, ℕ, ◌+◌, ◌*◌, ◌≤◌, true, Bool, List, None};
-ghost use Rattle.pm_objects.specs.declared.calls.Operation.TheVariants.{Commit};
+ghost use Rattle.std.specs.Prelude.{◌≡◌, ◌≢◌, ℕ, ◌+◌, ◌*◌, ◌≤◌, true, false, Bool, List, [], None};
+ghost use Rattle.pm_header.specs.declared.header.Header.{Header};
+ghost use Rattle.pm_objects.specs.declared.calls.Operation.{Operation};
+ghost use Rattle.pm_objects.specs.declared.calls.Operation.TheVariants.{Abort, Commit};
+ghost use Rattle.pm_objects.specs.declared.calls.Want.{Want};
+ghost use Rattle.pm_objects.specs.declared.history.TxErr.{TxErr};
 ghost use Rattle.pm_objects.specs.declared.history.TxErr.TheVariants as error;
 ghost use Rattle.pm_objects.specs.declared.ids.Oid.{Oid};
+ghost use Rattle.pm_objects.specs.declared.pool.PoolView.{PoolView};
+ghost use Rattle.pm_objects.specs.declared.refusal.Refusal.{Refusal};
 ghost use Rattle.pm_model.specs.declared.stage.Stage.TheVariants as stage;
+ghost use Rattle.pm_model.specs.Transaction.{Transaction, is_working};
+ghost use Rattle.pm_model.specs.Checks.{Range};
+ghost use Rattle.pm_model.specs.Answers.{Told as Answered, error_for};
+ghost use Rattle.pm_model.specs.Step.{Runs, Step};
+ghost use Rattle.pm_model.specs.History.{opened};
 ghost use Rattle.pm_view.specs.View.{View};
 ghost use Rattle.pm_world.specs.History.{made_final};
 ghost use Rattle.pm_world.specs.Records.{difference_of};
-ghost use Rattle.pm_crash.specs.OpenCall.{IsOpen, IsWhole, call_words};
-ghost use Rattle.pm_crash.specs.Operations.{KeepsLog, KeepsWords, ReadsBytes, Tells, WritesBytes};
+ghost use Rattle.pm_crash.specs.Held.{HoldsPool};
+ghost use Rattle.pm_crash.specs.OpenCall.{IsBefore, IsGivenUp, IsOpen, IsWhole, RunsTo, act_of, call_words};
+ghost use Rattle.pm_crash.specs.Operations.{AddsRange, BeginsCall, KeepsLog, KeepsWords, ReadsBytes, Refuses, TakesBack, Tells, WritesBytes};
 
 /// A law: the words that a call makes of those before it are what its difference makes of them. No code runs.
 pub fn a_call_makes_its_difference()
@@ -30,4 +42,41 @@ pub fn a_write_changes_the_call()
 pub fn a_read_tells_the_bytes()
     ensures { (v next : View) (id : Oid) (off len level : ℕ) → 1 ≤ level
         → IsOpen v level stage.Work error.None → ReadsBytes v next id off len → IsOpen next level stage.Work error.None }
+{}
+
+/// A law: what a transaction came to by some operations, where it works no longer, is where they run to. No code runs.
+pub fn a_transaction_that_rests_has_run()
+    ensures { (pool : PoolView) (told : List Answered) (last : Transaction) → RunsTo pool told last
+        → is_working last.stage ≡ false → told ≢ [] → Runs pool told last }
+{}
+
+/// A law: a lane that began a call, with the locks that it wanted, has it open at the first level. No code runs.
+pub fn a_begin_opens()
+    ensures { (v : View) (wants : List Want) → BeginsCall v wants → IsOpen v 1 stage.Work error.None }
+{}
+
+/// A law: a range whose new words a lane has recorded as they were is the plain model's, with as many records. No code runs.
+pub fn a_record_keeps_the_call()
+    ensures { (v next : View) (id : Oid) (off len level : ℕ) → 1 ≤ level
+        → IsOpen v level stage.Work error.None → AddsRange v next id off len → IsOpen next level stage.Work error.None }
+{}
+
+/// A law: an operation on a range that a lane refuses for the first reason that it has is refused by the plain model so, and the call is
+/// given up. No code runs.
+pub fn a_refusal_gives_up()
+    ensures { (v next : View) (op : Operation) (range : Range) (r : Refusal) (level : ℕ) → 1 ≤ level
+        → IsOpen v level stage.Work error.None → Refuses v next op range r → IsGivenUp next (error.Refused r) }
+{}
+
+/// A law: an abort that is asked for gives up the call. No code runs.
+pub fn an_abort_gives_up()
+    ensures { (v next : View) (errnum level : ℕ) → 1 ≤ level → IsOpen v level stage.Work error.None
+        → Tells v next (Abort errnum) None → TakesBack v next → IsGivenUp next (error_for errnum) }
+{}
+
+/// A law: a call that was given up is a step of the plain model that changes nothing. No code runs.
+pub fn a_call_given_up_changes_nothing()
+    ensures { (v : View) (e : TxErr) → IsGivenUp v e → (w : ℕ → ℕ) (header : Header) (pool : PoolView)
+        → HoldsPool w v.lanes v.zones header pool → v.pool ≡ header.id → IsBefore v w
+        → Step (opened pool) (act_of v) (opened pool) }
 {}

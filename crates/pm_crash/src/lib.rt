@@ -10,8 +10,9 @@ mod calls;
 mod laws;
 
 pub use calls::{
-    a_call_makes_its_difference, a_commit_is_a_step, a_read_tells_the_bytes,
-    a_write_changes_the_call,
+    a_begin_opens, a_call_given_up_changes_nothing, a_call_makes_its_difference,
+    a_commit_is_a_step, a_read_tells_the_bytes, a_record_keeps_the_call, a_refusal_gives_up,
+    a_transaction_that_rests_has_run, a_write_changes_the_call, an_abort_gives_up,
 };
 pub use laws::{
     a_block_is_an_object, a_lane_finds_the_blocks, a_pool_is_held_by_heap_words,

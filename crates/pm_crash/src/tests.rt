@@ -17,4 +17,10 @@ fn laws(_rt: HostRuntime) {
     a_commit_is_a_step();
     a_write_changes_the_call();
     a_read_tells_the_bytes();
+    an_abort_gives_up();
+    a_transaction_that_rests_has_run();
+    a_refusal_gives_up();
+    a_record_keeps_the_call();
+    a_call_given_up_changes_nothing();
+    a_begin_opens();
 }
