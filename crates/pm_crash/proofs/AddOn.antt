@@ -1,5 +1,5 @@
 -- A range whose new words are recorded as they are is the model's, and changes no word of the call.
-use Rattle.std.proofs.Common.{◌≡◌, ⊎_elim, ℕ, ◌+◌, ◌-◌, ◌*◌, ◌<◌, ◌≤◌, ◌||◌, Bool, true, false, leb, ltb, List, ◌++◌, length, slice_get, slice_index, Some, None, refl, sym, ◌∙◌, ap, subst, arith}
+use Rattle.std.proofs.Common.{◌≡◌, ⊎_elim, ℕ, ◌+◌, ◌-◌, ◌*◌, ◌<◌, ◌≤◌, ◌||◌, Bool, true, false, leb, ltb, List, ◌++◌, length, map, slice_get, slice_index, Some, None, refl, sym, ◌∙◌, ap, subst, arith}
 use Rattle.std.proofs.lemmas.Bool.{and_parts, cases_Bool, le-ltb, leb-true, ltb-true, or_from, or_left, or_right, or_cases}
 use Rattle.std.proofs.lemmas.List.{length-append}
 use Rattle.std.proofs.lemmas.List.Folds.{list_any-append}
@@ -15,11 +15,11 @@ use Rattle.pm_view.specs.Log.{Recorded}
 use Rattle.pm_view.specs.View.{View}
 use Rattle.pm_world.specs.Records.{covers, is_recorded}
 use Rattle.pm_crash.specs.Held.{HoldsPool}
-use Rattle.pm_crash.specs.OpenCall.{IsBefore, call_words, IsOpen, words_recorded}
+use Rattle.pm_crash.specs.OpenCall.{IsBefore, call_words, IsOpen, lock_of, words_recorded}
 use Rattle.pm_crash.specs.Operations.{AddsRange, IsPresent}
 use Rattle.pm_crash.proofs.CallWords.{call_works, covered_is_outside, held_is_locked, object_under, other_call_word, recorded_call_word, same_pool, IsObjectOf}
 use Rattle.pm_crash.proofs.Continued.{answers_done, still_open}
-use Rattle.pm_crash.proofs.KeptWords.{found_back}
+use Rattle.pm_crash.proofs.KeptWords.{found_back, same_found}
 use Rattle.pm_crash.proofs.NewRecords.{new_is_covered, number_of_new, recorded_member, slot_added, slot_kept, words_of_all, words_of_new}
 use Rattle.pm_crash.proofs.Passing.{passes_all, Works}
 
@@ -59,11 +59,11 @@ add_back v next id off len adds w before =
       known = λ i known outside none. ⊎_elim
           (λ (is : is_recorded adds.added i ≡ true). new_is_before v next id off len i w adds before is)
           (λ (is : is_recorded adds.added i ≡ false).
-          before.known i (adds.tells.known i known) (ap (λ (n : ℕ). is_in_area n i) adds.tells.lane ∙ outside)
+          before.known i (adds.tells.keeps.known i known) (ap (λ (n : ℕ). is_in_area n i) adds.tells.keeps.lane ∙ outside)
           (recorded_after v next id off len i adds ∙ or_from (is_recorded v.log.records i) (is_recorded adds.added i) none is)
           ∙ adds.keeps.words i outside)
           (cases_Bool (is_recorded adds.added i));
-      found = found_back v next (AddRange id off len) None adds.tells w before;
+      found = found_back v next adds.tells.keeps (same_found v next adds.tells.locks) w before;
     }
 
 -- the words of the call stay
@@ -90,7 +90,7 @@ add_keeps_open v next id off len level some is_open adds =
     let words : List ℕ = covered_words (id.off + off) len in
     let old_words : List ℕ = words_recorded v.log.records in
     let added : List Recorded = adds.added in
-    still_open v next level (AddRange id off len) None is_open adds.tells
+    still_open v next level level (AddRange id off len) None is_open adds.tells
     (record {
       outside = λ i is. ⊎_elim
           (λ (old : is_recorded v.log.records i ≡ true). is_open.outside i old)
@@ -120,14 +120,14 @@ add_keeps_open v next id off len level some is_open adds =
           refl;
       holds = subst (λ (f : ℕ → ℕ). HoldsPool f v.lanes v.zones header c.tx.pool) (sym same) c.holds;
       before = refl;
-      locks = refl;
+      locks = c.locks ∙ ap (map lock_of) (sym adds.tells.locks);
       recorded =
           ap (λ (ws : List ℕ). ws ++ new_words ws words) c.recorded
           ∙ ap (λ (ws : List ℕ). old_words ++ ws) (sym (words_of_new added (new_words old_words words) adds.extents))
           ∙ sym (words_of_all v.log.records added)
           ∙ ap words_recorded (sym adds.records);
       records = omega arith;
-      levels = refl;
+      levels = c.levels;
       stands = refl;
       fails = refl;
       blocks_stay = ap (λ (f : ℕ → ℕ). blocks f v.lanes v.zones) same;

@@ -35,12 +35,12 @@ use Rattle.pm_crash.proofs.Passing.{unhindered}
 use Rattle.pm_crash.proofs.Runs.{runs_first}
 
 -- what all pass is filtered by nothing, and none fails it
-all_pass : {X : Type 0} (p : X → Bool) (xs : List X) → ((x : X) → Contains xs x → p x ≡ true) → filter p xs ≡ xs
+pub all_pass : {X : Type 0} (p : X → Bool) (xs : List X) → ((x : X) → Contains xs x → p x ≡ true) → filter p xs ≡ xs
 all_pass p [] passes = refl
 all_pass p (x ∷ xs) passes =
     cond-true (p x) (x ∷ filter p xs) (filter p xs) (passes x (first_member x xs)) ∙ ap (λ (ys : List _). x ∷ ys) (all_pass p xs (λ y there. passes y (later_member x xs y there)))
 
-none_fails : {X : Type 0} (p : X → Bool) (xs : List X) → ((x : X) → Contains xs x → p x ≡ true) → list_any (λ (x : X). not (p x)) xs ≡ false
+pub none_fails : {X : Type 0} (p : X → Bool) (xs : List X) → ((x : X) → Contains xs x → p x ≡ true) → list_any (λ (x : X). not (p x)) xs ≡ false
 none_fails p [] passes = refl
 none_fails p (x ∷ xs) passes =
     or_from (not (p x)) (list_any (λ y. not (p y)) xs) (ap not (passes x (first_member x xs))) (none_fails p xs (λ y there. passes y (later_member x xs y there)))
@@ -91,12 +91,12 @@ wanted_is_there v w header pool want holds before wanted =
 begin_answers : (v : View) (wants : List Want) (w : ℕ → ℕ) (header : Header) (pool : PoolView) → BeginsCall v wants → HoldsPool w v.lanes v.zones header pool → v.pool ≡ header.id → IsBefore v w
     → Answers (at_rest pool) (Begin wants) None
 begin_answers v wants w header pool begins holds id before =
-    let long : length (locked_all wants []) ≡ length v.locks = sym (ap (λ (ls : List Locked). length ls) begins.locks) ∙ length-map v.locks _ in
-    let few : length v.locks ≤ 64 = begins.few in
+    let long : length (locked_all wants []) ≡ length v.locks = sym (ap (λ (ls : List Locked). length ls) begins.takes.locks) ∙ length-map v.locks _ in
+    let few : length v.locks ≤ 64 = begins.takes.few in
     let passes : first_refusal unhindered (at_rest pool) (Begin wants) ≡ None =
-    begin_passes pool wants (λ want there. wanted_has_place v w header pool want holds id (begins.wanted want there)) (omega arith) in
+    begin_passes pool wants (λ want there. wanted_has_place v w header pool want holds id (begins.takes.wanted want there)) (omega arith) in
     let done : IsDone (at_rest pool) (Begin wants) None = record {
-      there = λ k d inside first. wanted_is_there v w header pool (get_or wants k d) holds before (begins.wanted (get_or wants k d) (Contains-get_or wants k d inside));
+      there = λ k d inside first. wanted_is_there v w header pool (get_or wants k d) holds before (begins.takes.wanted (get_or wants k d) (Contains-get_or wants k d inside));
       value = refl;
     } in
     record {
@@ -114,8 +114,8 @@ no_call_words v none w = (λ j i. at i j) where
 pub begin_opens : (v : View) (wants : List Want) → BeginsCall v wants → IsOpen v 1 stage.Work error.None
 begin_opens v wants begins = record {
   in_lanes = begins.in_lanes;
-  few = begins.few;
-  chunks = begins.chunks;
+  few = begins.takes.few;
+  chunks = begins.takes.chunks;
   outside = λ i is. absurd (let clash : false ≡ true = sym (ap (λ (records : List Recorded). is_recorded records i) begins.no_records) ∙ is in cc);
   comes = λ w header pool holds id before.
       let told : Answered = record { operation = Begin wants; reply = None } in
@@ -126,7 +126,7 @@ begin_opens v wants begins = record {
         runs = subst (λ (ts : List Answered). RunsTo pool ts tx) (sym (ap (map told_of) begins.call)) (runs_first told pool (begin_answers v wants w header pool begins holds id before));
         holds = subst (λ (f : ℕ → ℕ). HoldsPool f v.lanes v.zones header pool) (sym same) holds;
         before = refl;
-        locks = sym begins.locks;
+        locks = sym begins.takes.locks;
         recorded = ap words_recorded (sym begins.no_records);
         records = ap (λ (records : List Recorded). length records) (sym begins.no_records);
         levels = refl;

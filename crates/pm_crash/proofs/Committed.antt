@@ -15,7 +15,7 @@ use Rattle.pm_crash.specs.OpenCall.{IsBefore, call_words, ComesTo, IsOpen, IsWho
 use Rattle.pm_crash.specs.Operations.{Tells, KeepsLog, KeepsWords}
 use Rattle.pm_crash.proofs.CallWords.{call_works}
 use Rattle.pm_crash.proofs.Continued.{answers_done, told_once_more, two_same}
-use Rattle.pm_crash.proofs.KeptWords.{before_back, same_call_words}
+use Rattle.pm_crash.proofs.KeptWords.{before_back, outside_kept, same_call_words, same_found}
 use Rattle.pm_crash.proofs.Passing.{Works, passes_all}
 use Rattle.pm_crash.proofs.Runs.{runs_once_more, runs_some}
 
@@ -28,10 +28,11 @@ commits tx level = cond-true (leb tx.level 1) (at_rest tx.pool) (ended_inner (co
 
 pub commit_is_whole : (v next : View) → IsOpen v 1 stage.Work error.None → Tells v next Commit None → KeepsLog v next → KeepsWords v next → IsWhole next
 commit_is_whole v next is_open tells logs keeps = record {
+  outside = outside_kept v next tells.keeps logs is_open.outside;
   makes = λ w header pool holds id before.
-      let old_before : IsBefore v w = before_back v next Commit None tells logs (λ i outside none. keeps.words i outside) w before in
-      let old_holds : HoldsPool w v.lanes v.zones header pool = two_same (λ (n m : ℕ). HoldsPool w n m header pool) next.lanes v.lanes next.zones v.zones tells.lanes tells.zones holds in
-      let c : ComesTo v w header pool 1 stage.Work error.None = is_open.comes w header pool old_holds (sym tells.pool ∙ id) old_before in
+      let old_before : IsBefore v w = before_back v next tells.keeps (same_found v next tells.locks) logs (λ i outside none. keeps.words i outside) w before in
+      let old_holds : HoldsPool w v.lanes v.zones header pool = two_same (λ (n m : ℕ). HoldsPool w n m header pool) next.lanes v.lanes next.zones v.zones tells.keeps.lanes tells.keeps.zones holds in
+      let c : ComesTo v w header pool 1 stage.Work error.None = is_open.comes w header pool old_holds (sym tells.keeps.pool ∙ id) old_before in
       let works : Works c.tx = call_works v w header pool 1 (omega arith) is_open c in
       let answers : Answers c.tx Commit None =
       answers_done c.tx Commit None refl (record { no_wants = refl; no_begin = refl })
@@ -44,11 +45,11 @@ commit_is_whole v next is_open tells logs keeps = record {
       record {
         next = c.tx.pool;
         holds =
-            two_same (λ (n m : ℕ). HoldsPool (call_words next w) n m header c.tx.pool) v.lanes next.lanes v.zones next.zones (sym tells.lanes) (sym tells.zones)
+            two_same (λ (n m : ℕ). HoldsPool (call_words next w) n m header c.tx.pool) v.lanes next.lanes v.zones next.zones (sym tells.keeps.lanes) (sym tells.keeps.zones)
             (subst (λ (f : ℕ → ℕ). HoldsPool f v.lanes v.zones header c.tx.pool) (sym (same_call_words v next logs keeps is_open.outside w)) c.holds);
         steps = record {
           last = last;
-          runs = subst (λ (ts : List Answered). Runs pool ts last) (sym (told_once_more v next Commit None tells)) runs;
+          runs = subst (λ (ts : List Answered). Runs pool ts last) (sym (told_once_more v next Commit None tells.call)) runs;
           leaves = ap (λ (x : Transaction). opened x.pool) (sym rests);
         };
       };

@@ -1,5 +1,5 @@
 -- A refused operation, and an abort, give up the call: the model's pool is as before it, and so are the words.
-use Rattle.std.proofs.Common.{◌≡◌, ◌≢◌, ⊎_elim, ℕ, ◌+◌, ◌*◌, ◌<◌, ◌≤◌, ◌&&◌, Bool, true, false, not, eqb, leb, ltb, List, [], ◌∷◌, length, slice_get, slice_index, Option, Some, None, MatchOption, refl, sym, ◌∙◌, ap, subst, arith}
+use Rattle.std.proofs.Common.{◌++◌, ◌≡◌, ◌≢◌, ⊎_elim, ℕ, ◌+◌, ◌*◌, ◌<◌, ◌≤◌, ◌&&◌, Bool, true, false, not, eqb, leb, ltb, List, [], ◌∷◌, length, slice_get, slice_index, Option, Some, None, MatchOption, refl, sym, ◌∙◌, ap, subst, arith}
 use Rattle.std.specs.List.{Contains, list_all}
 use Rattle.std.specs.Option.{option_map_or}
 use Rattle.std.proofs.lemmas.Bool.{and_from, and_left, and_right, cases_eq, false≢true, le-leb, le-ltb, lt-ltb, ne_eqb}
@@ -30,38 +30,46 @@ use Rattle.pm_world.specs.Records.{covers, is_recorded}
 use Rattle.pm_world.proofs.CrashLogs.{recorded_from}
 use Rattle.pm_crash.specs.Held.{HoldsPool}
 use Rattle.pm_crash.specs.OpenCall.{IsBefore, ComesTo, ComesToNothing, IsGivenUp, IsOpen, RunsTo, act_of, locks_of, told_in, words_recorded}
-use Rattle.pm_crash.specs.Operations.{HasRange, IsHeld, IsNotAdded, IsNotHeld, IsReason, Overfills, Refuses, TakesBack, Tells}
+use Rattle.pm_crash.specs.Operations.{HasRange, KeepsFound, IsHeld, IsNotAdded, IsNotHeld, IsReason, Overfills, Refuses, KeepsLane, TakesBack, Tells}
 use Rattle.pm_crash.proofs.CallWords.{call_works, held_is_locked, object_under, same_pool}
 use Rattle.pm_crash.proofs.Continued.{answers_done, told_once_more, two_same}
-use Rattle.pm_crash.proofs.KeptWords.{found_back}
+use Rattle.pm_crash.proofs.KeptWords.{found_back, same_found}
 use Rattle.pm_crash.proofs.Passing.{fails_added, fails_end, fails_lock, fails_room, passes_all, unhindered, AsksNoLock, Works}
 use Rattle.pm_crash.proofs.RecordedWords.{among_recorded}
 use Rattle.pm_crash.proofs.Runs.{runs_once_more, runs_to_end}
 
 -- what was before the call, for the view before it was taken back
-taken_back : (v next : View) (op : Operation) (reply : Option Value) → Tells v next op reply → TakesBack v next → ((i : ℕ) → is_recorded v.log.records i ≡ true → is_in_area v.lane i ≡ false)
+pub taken_back : (v next : View) → KeepsLane v next → KeepsFound v next → TakesBack v next → ((i : ℕ) → is_recorded v.log.records i ≡ true → is_in_area v.lane i ≡ false)
     → (w : ℕ → ℕ) → IsBefore next w → IsBefore v w
-taken_back v next op reply tells back outside w before =
+taken_back v next lane finds back outside w before =
     record {
       recorded = λ slot r i at inside.
           let covered : covers r (r.word + i) ≡ true = and_from (leb r.word (r.word + i)) (ltb (r.word + i) (r.word + length r.old)) (le-leb r.word (r.word + i) (omega arith)) (lt-ltb (r.word + i) (r.word + length r.old) (omega arith)) in
           let is : is_recorded v.log.records (r.word + i) ≡ true = recorded_from v (r.word + i) slot r at covered in
           ⊎_elim
           (λ (none : next.log.records ≡ []).
-          before.known (r.word + i) (back.known slot r i at inside) (ap (λ (n : ℕ). is_in_area n (r.word + i)) tells.lane ∙ outside (r.word + i) is)
+          before.known (r.word + i) (back.known slot r i at inside) (ap (λ (n : ℕ). is_in_area n (r.word + i)) lane.lane ∙ outside (r.word + i) is)
           (ap (λ (records : List Recorded). is_recorded records (r.word + i)) none)
           ∙ back.restored slot r i at inside)
           (λ (same : next.log.records ≡ v.log.records). before.recorded slot r i (ap (λ (records : List Recorded). slice_get records slot) same ∙ at) inside)
           back.records;
       known = λ i known out none.
-          before.known i (tells.known i known) (ap (λ (n : ℕ). is_in_area n i) tells.lane ∙ out)
+          before.known i (lane.known i known) (ap (λ (n : ℕ). is_in_area n i) lane.lane ∙ out)
           (⊎_elim
           (λ (nothing : next.log.records ≡ []). ap (λ (records : List Recorded). is_recorded records i) nothing)
           (λ (same : next.log.records ≡ v.log.records). ap (λ (records : List Recorded). is_recorded records i) same ∙ none)
           back.records)
           ∙ back.others i out none;
-      found = found_back v next op reply tells w before;
+      found = found_back v next lane finds w before;
     }
+
+-- it recorded no word of its own area
+pub outside_taken_back : (v next : View) → KeepsLane v next → TakesBack v next → ((i : ℕ) → is_recorded v.log.records i ≡ true → is_in_area v.lane i ≡ false)
+    → (i : ℕ) → is_recorded next.log.records i ≡ true → is_in_area next.lane i ≡ false
+outside_taken_back v next lane back outside i is = ⊎_elim
+    (λ (none : next.log.records ≡ []). absurd (false≢true (sym (ap (λ (records : List Recorded). is_recorded records i) none) ∙ is)))
+    (λ (same : next.log.records ≡ v.log.records). ap (λ (n : ℕ). is_in_area n i) lane.lane ∙ outside i (sym (ap (λ (records : List Recorded). is_recorded records i) same) ∙ is))
+    back.records
 
 -- the operations on ranges ask for no lock, and are known
 ranged_asks : (op : Operation) (range : Range) → range_of op ≡ Some range → AsksNoLock op
@@ -183,14 +191,14 @@ refused_answers tx op r known is = record {
 }
 
 -- a call that was aborted came to nothing
-comes_to_nothing : (v next : View) (op : Operation) (reply : Option Value) (level : ℕ) (e : TxErr) (w : ℕ → ℕ) (header : Header) (pool : PoolView) → Tells v next op reply
-    → (c : ComesTo v w header pool level stage.Work error.None) → Answers c.tx op reply → after_reply op reply c.tx ≡ aborted e c.tx → ComesToNothing next pool e
-comes_to_nothing v next op reply level e w header pool tells c answers aborts =
+comes_to_nothing : (v next : View) (op : Operation) (reply : Option Value) (level : ℕ) (e : TxErr) (w : ℕ → ℕ) (header : Header) (pool : PoolView)
+    → next.call ≡ v.call ++ record { operation = op; reply = reply } ∷ [] → (c : ComesTo v w header pool level stage.Work error.None) → Answers c.tx op reply → after_reply op reply c.tx ≡ aborted e c.tx → ComesToNothing next pool e
+comes_to_nothing v next op reply level e w header pool call c answers aborts =
     let last : Transaction = after_reply op reply c.tx in
     record {
       tx = last;
       runs =
-          subst (λ (told : List Answered). RunsTo pool told last) (sym (told_once_more v next op reply tells))
+          subst (λ (told : List Answered). RunsTo pool told last) (sym (told_once_more v next op reply call))
           (runs_once_more (told_in v) (record { operation = op; reply = reply }) pool c.tx c.runs (ap is_working c.stands) answers);
       stands = ap (λ (x : Transaction). x.stage) aborts;
       fails = ap (λ (x : Transaction). x.error) aborts;
@@ -198,24 +206,26 @@ comes_to_nothing v next op reply level e w header pool tells c answers aborts =
     }
 
 -- so a call is given up by an operation that aborts it
-gives_up : (v next : View) (op : Operation) (reply : Option Value) (level : ℕ) (e : TxErr) → IsOpen v level stage.Work error.None → Tells v next op reply → TakesBack v next
+pub gives_up : (v next : View) (op : Operation) (reply : Option Value) (level : ℕ) (e : TxErr) → IsOpen v level stage.Work error.None → KeepsLane v next → KeepsFound v next
+    → next.call ≡ v.call ++ record { operation = op; reply = reply } ∷ [] → TakesBack v next
     → ((w : ℕ → ℕ) (header : Header) (pool : PoolView) → v.pool ≡ header.id → IsBefore v w → (c : ComesTo v w header pool level stage.Work error.None)
     → Answers c.tx op reply × (after_reply op reply c.tx ≡ aborted e c.tx))
     → IsGivenUp next e
-gives_up v next op reply level e is_open tells back aborts = record {
+gives_up v next op reply level e is_open lane finds call back aborts = record {
+  outside = outside_taken_back v next lane back is_open.outside;
   comes = λ w header pool holds id before.
-      let old_id : v.pool ≡ header.id = sym tells.pool ∙ id in
-      let old_before : IsBefore v w = taken_back v next op reply tells back is_open.outside w before in
-      let old_holds : HoldsPool w v.lanes v.zones header pool = two_same (λ (n m : ℕ). HoldsPool w n m header pool) next.lanes v.lanes next.zones v.zones tells.lanes tells.zones holds in
+      let old_id : v.pool ≡ header.id = sym lane.pool ∙ id in
+      let old_before : IsBefore v w = taken_back v next lane finds back is_open.outside w before in
+      let old_holds : HoldsPool w v.lanes v.zones header pool = two_same (λ (n m : ℕ). HoldsPool w n m header pool) next.lanes v.lanes next.zones v.zones lane.lanes lane.zones holds in
       let c : ComesTo v w header pool level stage.Work error.None = is_open.comes w header pool old_holds old_id old_before in
       let how = aborts w header pool old_id old_before c in
-      comes_to_nothing v next op reply level e w header pool tells c how.0 how.1;
+      comes_to_nothing v next op reply level e w header pool call c how.0 how.1;
 }
 
 pub refusal_gives_up : (v next : View) (op : Operation) (range : Range) (r : Refusal) (level : ℕ) → 1 ≤ level → IsOpen v level stage.Work error.None → Refuses v next op range r
     → IsGivenUp next (error.Refused r)
 refusal_gives_up v next op range r level some is_open refuses =
-    gives_up v next op (Some (Refused r)) level (error.Refused r) is_open refuses.tells refuses.takes_back
+    gives_up v next op (Some (Refused r)) level (error.Refused r) is_open refuses.tells.keeps (same_found v next refuses.tells.locks) refuses.tells.call refuses.takes_back
     (λ w header pool same_id before c.
     let asked : Asked v w header op range c.tx = record {
       works = call_works v w header pool level some is_open c;
@@ -232,7 +242,7 @@ refusal_gives_up v next op range r level some is_open refuses =
 -- an abort that is asked for
 pub abort_gives_up : (v next : View) (errnum level : ℕ) → 1 ≤ level → IsOpen v level stage.Work error.None → Tells v next (Abort errnum) None → TakesBack v next → IsGivenUp next (error_for errnum)
 abort_gives_up v next errnum level some is_open tells back =
-    gives_up v next (Abort errnum) None level (error_for errnum) is_open tells back
+    gives_up v next (Abort errnum) None level (error_for errnum) is_open tells.keeps (same_found v next tells.locks) tells.call back
     (λ w header pool same_id before c. (
       answers_done c.tx (Abort errnum) None refl (record { no_wants = refl; no_begin = refl })
           (passes_all c.tx (Abort errnum) (call_works v w header pool level some is_open c) (record { no_wants = refl; no_begin = refl }) refl refl refl refl) refl,

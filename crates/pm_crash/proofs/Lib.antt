@@ -25,3 +25,7 @@ pub mod NewRecords
 pub mod AddOn
 pub mod GivenUp
 pub mod Begun
+pub mod Levels
+pub mod RefusedBegin
+pub mod Staying
+pub mod RisingWants

@@ -28,13 +28,13 @@ pub record AsksNoLock (op : Operation) : Type 0 where
   pub no_wants : wants_of op ≡ []
   pub no_begin : is_begin op ≡ false
 
-no_work : (tx : Transaction) → Works tx → finds_no_work tx ≡ false
+pub no_work : (tx : Transaction) → Works tx → finds_no_work tx ≡ false
 no_work tx works = and_right (leb 1 tx.level) (not (is_working tx.stage)) (ap (λ (s : Stage). not (is_working s)) works.working)
 
-at_level : (tx : Transaction) → Works tx → eqb tx.level 0 ≡ false
+pub at_level : (tx : Transaction) → Works tx → eqb tx.level 0 ≡ false
 at_level tx works = let some : 1 ≤ tx.level = works.level in ne_eqb tx.level 0 (λ none. omega arith)
 
-no_tx : (tx : Transaction) (op : Operation) → Works tx → finds_no_tx tx op ≡ false
+pub no_tx : (tx : Transaction) (op : Operation) → Works tx → finds_no_tx tx op ≡ false
 no_tx tx op works = and_left (eqb tx.level 0) (not (is_begin op)) (at_level tx works)
 
 not_deep : (tx : Transaction) (op : Operation) → AsksNoLock op → is_too_deep tx op ≡ false
@@ -49,13 +49,13 @@ few_locks tx op works asks =
 has_places : (tx : Transaction) (op : Operation) → AsksNoLock op → wants_no_place tx op ≡ false
 has_places tx op asks = ap (λ (wants : List Want). list_any (λ (want : Want). not (has_place tx.pool want.id)) wants) asks.no_wants
 
-not_busy : (tx : Transaction) (op : Operation) → is_busy unhindered tx op ≡ false
+pub not_busy : (tx : Transaction) (op : Operation) → is_busy unhindered tx op ≡ false
 not_busy tx op = and_right (leb 1 tx.level && takes_lock tx op) false refl
 
-not_missing : (tx : Transaction) (op : Operation) → is_missing unhindered tx op ≡ false
+pub not_missing : (tx : Transaction) (op : Operation) → is_missing unhindered tx op ≡ false
 not_missing tx op = and_right (takes_first_lock tx op) false refl
 
-not_spent : (tx : Transaction) → is_spent unhindered tx ≡ false
+pub not_spent : (tx : Transaction) → is_spent unhindered tx ≡ false
 not_spent tx = and_right (eqb tx.level 0) false refl
 
 -- the first refusal, by what the checks of locks, ends, words and room say

@@ -17,11 +17,11 @@ use Rattle.pm_model.specs.Answers.{Answers}
 use Rattle.pm_view.specs.View.{View}
 use Rattle.pm_view.specs.Log.{Recorded}
 use Rattle.pm_crash.specs.Held.{HoldsPool}
-use Rattle.pm_crash.specs.OpenCall.{IsBefore, call_words, ComesTo, IsOpen, words_recorded}
+use Rattle.pm_crash.specs.OpenCall.{IsBefore, call_words, ComesTo, IsOpen, lock_of, words_recorded}
 use Rattle.pm_crash.specs.Operations.{ReadsBytes, bytes_seen}
 use Rattle.pm_crash.proofs.CallWords.{call_works, covered_is_outside, held_is_locked, known_call_word, object_under, same_pool, IsObjectOf}
 use Rattle.pm_crash.proofs.Continued.{answers_done, still_open}
-use Rattle.pm_crash.proofs.KeptWords.{goes_back, same_call_words}
+use Rattle.pm_crash.proofs.KeptWords.{goes_back, same_call_words, same_found}
 use Rattle.pm_crash.proofs.ObjectBytes.{range_is_read}
 use Rattle.pm_crash.proofs.Passing.{passes_all, Works}
 
@@ -47,8 +47,8 @@ pub read_keeps_open : (v next : View) (id : Oid) (off len level : ℕ) → 1 ≤
 read_keeps_open v next id off len level some is_open reads =
     let held = reads.range.object in
     let bytes : List ℕ = bytes_seen v id off len in
-    still_open v next level (Read id off len) (Some (Bytes bytes)) is_open reads.tells
-    (goes_back v next (Read id off len) (Some (Bytes bytes)) reads.tells reads.logs (λ i outside none. reads.keeps.words i outside) is_open.outside)
+    still_open v next level level (Read id off len) (Some (Bytes bytes)) is_open reads.tells
+    (goes_back v next reads.tells.keeps (same_found v next reads.tells.locks) reads.logs (λ i outside none. reads.keeps.words i outside) is_open.outside)
     (λ w header pool same_id before next_before c.
     let object : IsObjectOf v w c.tx id held.lock.line = object_under v w header pool level id false is_open before c held reads.range.size_known in
     let works : Works c.tx = call_works v w header pool level some is_open c in
@@ -65,10 +65,10 @@ read_keeps_open v next id off len level some is_open reads =
       answers = answers;
       holds = subst (λ (f : ℕ → ℕ). HoldsPool f v.lanes v.zones header c.tx.pool) (sym same) c.holds;
       before = refl;
-      locks = refl;
+      locks = c.locks ∙ ap (map lock_of) (sym reads.tells.locks);
       recorded = c.recorded ∙ ap words_recorded (sym reads.logs.records);
       records = c.records ∙ ap (λ (rs : List Recorded). length rs) (sym reads.logs.records);
-      levels = refl;
+      levels = c.levels;
       stands = refl;
       fails = refl;
       blocks_stay = ap (λ (f : ℕ → ℕ). blocks f v.lanes v.zones) same;

@@ -2,6 +2,7 @@
 use Rattle.std.specs.Prelude.{◌≡◌, ℕ, ◌+◌, ◌*◌, ◌/◌, ◌<◌, ◌≤◌, true, false, if◌then◌else◌, List, [], ◌∷◌, map, length, slice_index, flat_map, Contains, Some}
 use Rattle.std.specs.List.{range_with_len}
 use Rattle.pm_header.specs.declared.header.Header.{Header}
+use Rattle.pm_objects.specs.declared.calls.Want.{Want}
 use Rattle.pm_objects.specs.declared.history.TxErr.{TxErr}
 use Rattle.pm_objects.specs.declared.pool.PoolView.{PoolView}
 use Rattle.pm_image.specs.declared.block.Block.{Block}
@@ -37,6 +38,10 @@ lock_of l = record { off = 64 * l.line + 64; write = l.write }
 
 abbrev pub locks_of : View → List Locked
 locks_of v = map lock_of v.locks
+
+-- the lock that is wanted
+abbrev pub lock_wanted : Want → Locked
+lock_wanted want = record { off = want.id.off; write = want.write }
 
 -- the words of a record, and of all
 abbrev pub words_of_record : Recorded → List ℕ
@@ -104,8 +109,9 @@ pub record ComesToNothing (v : View) (pool : PoolView) (error : TxErr) : Type 0 
   pub fails : tx.error ≡ error
   pub unchanged : tx.pool ≡ pool
 
--- the lane's call was aborted with this error, whatever pool the words before it hold
+-- the lane's call was aborted with this error, whatever pool the words before it hold. It recorded no word of its own area
 pub record IsGivenUp (v : View) (error : TxErr) : Type 0 where
+  pub outside : (i : ℕ) → is_recorded v.log.records i ≡ true → is_in_area v.lane i ≡ false
   pub comes : (w : ℕ → ℕ) (header : Header) (pool : PoolView) → HoldsPool w v.lanes v.zones header pool → v.pool ≡ header.id → IsBefore v w
       → ComesToNothing v pool error
 
@@ -115,7 +121,8 @@ pub record MakesStep (v : View) (w : ℕ → ℕ) (header : Header) (pool : Pool
   pub holds : HoldsPool (call_words v w) v.lanes v.zones header next
   pub steps : Step (opened pool) (act_of v) (opened next)
 
--- the lane's call is whole, and a step of the plain model, whatever pool the words before it hold
+-- the lane's call is whole, and a step of the plain model, whatever pool the words before it hold. It recorded no word of its own area
 pub record IsWhole (v : View) : Type 0 where
+  pub outside : (i : ℕ) → is_recorded v.log.records i ≡ true → is_in_area v.lane i ≡ false
   pub makes : (w : ℕ → ℕ) (header : Header) (pool : PoolView) → HoldsPool w v.lanes v.zones header pool → v.pool ≡ header.id → IsBefore v w
       → MakesStep v w header pool

@@ -1,5 +1,6 @@
 -- What a lane's view shows of an operation of the open call: the view before, and the one after the operation is told with its reply.
-use Rattle.std.specs.Prelude.{◌≡◌, ◌⊎◌, ℕ, ◌+◌, ◌*◌, ◌/◌, ◌%◌, ◌<◌, ◌≤◌, ◌||◌, Bool, true, false, not, IsTrue, List, [], ◌∷◌, ◌++◌, map, length, slice_index, take, drop, Contains, Option, Some, None}
+use Rattle.std.specs.Prelude.{◌≡◌, ◌⊎◌, ℕ, ◌+◌, ◌*◌, ◌/◌, ◌%◌, ◌<◌, ◌≤◌, ◌==◌, ◌&&◌, ◌||◌, Bool, true, false, not, IsTrue, List, [], ◌∷◌, ◌++◌, map, filter, length, slice_index, take, drop, Contains, Option, Some, None}
+use Rattle.std.specs.List.{list_any}
 use Rattle.pm_words.specs.Words.{bytes_of, AreBytes}
 use Rattle.pm_objects.specs.declared.calls.Operation.{Operation}
 use Rattle.pm_objects.specs.declared.calls.Operation.TheVariants.{AddRange, Begin, Read, Write}
@@ -12,7 +13,7 @@ use Rattle.pm_objects.specs.declared.refusal.Refusal.TheVariants as refusal
 use Rattle.pm_model.specs.Bytes.{covered_words, new_words, records_of}
 use Rattle.pm_model.specs.Checks.{Range, range_of, is_record, is_write, needs_write}
 use Rattle.pm_model.specs.Places.{can_begin}
-use Rattle.pm_model.specs.Transaction.{is_locked, locked_all}
+use Rattle.pm_model.specs.Transaction.{Lock as Locked, is_locked, locked_all}
 use Rattle.pm_view.specs.Area.{is_in_area}
 use Rattle.pm_view.specs.Blocks.{is_chunk}
 use Rattle.pm_view.specs.Log.{Recorded}
@@ -21,15 +22,25 @@ use Rattle.pm_world.specs.Records.{IsRecordAt, is_recorded}
 use Rattle.pm_crash.specs.OpenCall.{locks_of, words_recorded}
 use Rattle.pm_crash.specs.Writes.{words_written}
 
--- the operation is told with its reply. The lane is the same, with the locks that it held, and knows what it knew
-pub record Tells (v next : View) (op : Operation) (reply : Option Value) : Type 0 where
+-- the lane is the same, and knows what it knew
+pub record KeepsLane (v next : View) : Type 0 where
   pub lanes : next.lanes ≡ v.lanes
   pub zones : next.zones ≡ v.zones
   pub pool : next.pool ≡ v.pool
   pub lane : next.lane ≡ v.lane
-  pub locks : next.locks ≡ v.locks
   pub known : (i : ℕ) → Contains v.known i → Contains next.known i
+
+-- the operation is told with its reply, under the locks that are held
+pub record Tells (v next : View) (op : Operation) (reply : Option Value) : Type 0 where
+  pub keeps : KeepsLane v next
+  pub locks : next.locks ≡ v.locks
   pub call : next.call ≡ v.call ++ record { operation = op; reply = reply } ∷ []
+
+-- nothing is told
+pub record TellsNothing (v next : View) : Type 0 where
+  pub keeps : KeepsLane v next
+  pub locks : next.locks ≡ v.locks
+  pub call : next.call ≡ v.call
 
 -- no word changed but in the lane's own area
 pub record KeepsWords (v next : View) : Type 0 where
@@ -55,14 +66,14 @@ pub record HasRange (v : View) (id : Oid) (off len : ℕ) (write : Bool) : Type 
   pub size_known : Contains v.known (8 * object.lock.line + 1)
   pub inside : off + len ≤ slice_index v.words (8 * object.lock.line + 1)
 
--- the lane wrote the bytes into words that it had recorded, and told so
+-- the lane wrote the bytes into words that it had recorded, changed no other but in its own area, and told so
 pub record WritesBytes (v next : View) (id : Oid) (off : ℕ) (bytes : List ℕ) : Type 0 where
   pub tells : Tells v next (Write id off bytes) None
   pub logs : KeepsLog v next
   pub range : HasRange v id off (length bytes) true
   pub are_bytes : AreBytes bytes
   pub added : (i : ℕ) → Contains (covered_words (id.off + off) (length bytes)) i → is_recorded v.log.records i ≡ true
-  pub written : (i : ℕ) → slice_index next.words i ≡ words_written (id.off + off) bytes (slice_index v.words) i
+  pub written : (i : ℕ) → is_in_area v.lane i ≡ false → slice_index next.words i ≡ words_written (id.off + off) bytes (slice_index v.words) i
 
 -- the bytes of a range as the lane's words have them
 abbrev pub bytes_seen : View → Oid → ℕ → ℕ → List ℕ
@@ -146,13 +157,80 @@ pub record IsWantHeld (v : View) (want : Want) : Type 0 where
   pub place : IsTrue (can_begin v.lanes v.zones want.id.off)
   pub held : IsHeld v want.id want.write
 
--- the lane began a call and told so: it recorded nothing yet, and has exactly the locks that were wanted, 64 at most, each of a line of a
--- chunk where it found a block
+-- the lane has exactly the locks that were held and are wanted, 64 at most, each of a line of a chunk where it found a block
+pub record TakesWanted (v : View) (before : List Locked) (wants : List Want) : Type 0 where
+  pub few : length v.locks ≤ 64
+  pub locks : locks_of v ≡ locked_all wants before
+  pub wanted : (want : Want) → Contains wants want → IsWantHeld v want
+  pub chunks : (l : Lock) (lines : ℕ) → Contains v.locks l → l.block ≡ Some lines → is_chunk v.lanes (l.line / 64) ≡ true
+
+-- the lane began a call with the locks that were wanted, and told so. It recorded nothing yet
 pub record BeginsCall (v : View) (wants : List Want) : Type 0 where
   pub call : v.call ≡ record { operation = Begin wants; reply = None } ∷ []
   pub no_records : v.log.records ≡ []
   pub in_lanes : v.lane < v.lanes
-  pub few : length v.locks ≤ 64
-  pub locks : locks_of v ≡ locked_all wants []
-  pub wanted : (want : Want) → Contains wants want → IsWantHeld v want
-  pub chunks : (l : Lock) (lines : ℕ) → Contains v.locks l → l.block ≡ Some lines → is_chunk v.lanes (l.line / 64) ≡ true
+  pub takes : TakesWanted v [] wants
+
+-- the lane holds the lock of this line, and found a block of so many lines under it
+pub record IsFoundUnder (v : View) (line lines : ℕ) : Type 0 where
+  pub lock : Lock
+  pub held : Contains v.locks lock
+  pub of_line : lock.line ≡ line
+  pub block : lock.block ≡ Some lines
+
+-- the lane keeps the locks under which it found a block: it may hold them for writing now
+abbrev pub KeepsFound : View → View → Type 0
+KeepsFound v next = (l : Lock) (lines : ℕ) → Contains v.locks l → l.block ≡ Some lines → IsFoundUnder next l.line lines
+
+-- the lane began a further level with the locks that were wanted, and told so
+pub record BeginsLevel (v next : View) (wants : List Want) : Type 0 where
+  pub keeps : KeepsLane v next
+  pub finds : KeepsFound v next
+  pub call : next.call ≡ v.call ++ record { operation = Begin wants; reply = None } ∷ []
+  pub logs : KeepsLog v next
+  pub words : KeepsWords v next
+  pub takes : TakesWanted next (locks_of v) wants
+
+-- what is wanted has the form of an object's id in the lane's pool
+abbrev pub is_placed : View → Want → Bool
+is_placed v want = want.id.pool == v.pool && can_begin v.lanes v.zones want.id.off
+
+-- one of the wants has not
+abbrev pub lacks_place : View → List Want → Bool
+lacks_place v wants = list_any (λ (want : Want). not (is_placed v want)) wants
+
+-- the locks that were held, with those of the wants that have
+abbrev pub locks_wanted : View → List Locked → List Want → List Locked
+locks_wanted v before wants = locked_all (filter (is_placed v) wants) before
+
+-- a lock is wanted that is not held so, or not at all
+abbrev pub wants_more : List Locked → List Want → Bool
+wants_more before wants = list_any (λ (want : Want). not (is_locked before want.id.off want.write)) wants
+
+abbrev pub wants_first : List Locked → List Want → Bool
+wants_first before wants = list_any (λ (want : Want). not (is_locked before want.id.off false)) wants
+
+-- why a begin at this level, with these locks held, is refused: for its depth, for too many locks, since something wanted has not the form
+-- of an object's id, since a lock that it tried was another lane's, or since it found no object under one that it took
+abbrev pub IsBeginReason : View → ℕ → List Locked → List Want → Refusal → Type 0
+IsBeginReason v level before wants refusal.Deep = 64 ≤ level
+IsBeginReason v level before wants refusal.LocksFull = (level < 64) × (64 < length (locks_wanted v before wants))
+IsBeginReason v level before wants refusal.NoObject =
+    (level < 64) × (length (locks_wanted v before wants) ≤ 64) × (IsTrue (lacks_place v wants) ⊎ IsTrue (wants_first before wants))
+IsBeginReason v level before wants refusal.Busy =
+    (level < 64) × (length (locks_wanted v before wants) ≤ 64) × (lacks_place v wants ≡ false) × (1 ≤ level) × IsTrue (wants_more before wants)
+IsBeginReason v level before wants r = ⊥
+
+-- the lane refused to begin a call, recorded nothing, and told so
+pub record RefusesCall (v : View) (wants : List Want) (r : Refusal) : Type 0 where
+  pub call : v.call ≡ record { operation = Begin wants; reply = Some (Refused r) } ∷ []
+  pub no_records : v.log.records ≡ []
+  pub reason : IsBeginReason v 0 [] wants r
+
+-- the lane refused to begin a further level, took back what the call did, and told so
+pub record RefusesLevel (v next : View) (level : ℕ) (wants : List Want) (r : Refusal) : Type 0 where
+  pub keeps : KeepsLane v next
+  pub finds : KeepsFound v next
+  pub call : next.call ≡ v.call ++ record { operation = Begin wants; reply = Some (Refused r) } ∷ []
+  pub reason : IsBeginReason v level (locks_of v) wants r
+  pub takes_back : TakesBack v next

@@ -1,4 +1,5 @@
-ghost use Rattle.std.specs.Prelude.{◌≡◌, ◌≢◌, ℕ, ◌+◌, ◌*◌, ◌≤◌, true, false, Bool, List, [], None};
+ghost use Rattle.std.specs.Prelude.{◌≡◌, ◌≢◌, ℕ, ◌+◌, ◌*◌, ◌<◌, ◌≤◌, true, false, Bool, List, [], map, None};
+ghost use Rattle.std.specs.List.Sorted.{IsStrictlyIncreasing};
 ghost use Rattle.pm_header.specs.declared.header.Header.{Header};
 ghost use Rattle.pm_objects.specs.declared.calls.Operation.{Operation};
 ghost use Rattle.pm_objects.specs.declared.calls.Operation.TheVariants.{Abort, Commit};
@@ -8,8 +9,9 @@ ghost use Rattle.pm_objects.specs.declared.history.TxErr.TheVariants as error;
 ghost use Rattle.pm_objects.specs.declared.ids.Oid.{Oid};
 ghost use Rattle.pm_objects.specs.declared.pool.PoolView.{PoolView};
 ghost use Rattle.pm_objects.specs.declared.refusal.Refusal.{Refusal};
+ghost use Rattle.pm_model.specs.declared.stage.Stage.{Stage};
 ghost use Rattle.pm_model.specs.declared.stage.Stage.TheVariants as stage;
-ghost use Rattle.pm_model.specs.Transaction.{Transaction, is_working};
+ghost use Rattle.pm_model.specs.Transaction.{Transaction, is_working, locked_all};
 ghost use Rattle.pm_model.specs.Checks.{Range};
 ghost use Rattle.pm_model.specs.Answers.{Told as Answered, error_for};
 ghost use Rattle.pm_model.specs.Step.{Runs, Step};
@@ -18,8 +20,8 @@ ghost use Rattle.pm_view.specs.View.{View};
 ghost use Rattle.pm_world.specs.History.{made_final};
 ghost use Rattle.pm_world.specs.Records.{difference_of};
 ghost use Rattle.pm_crash.specs.Held.{HoldsPool};
-ghost use Rattle.pm_crash.specs.OpenCall.{IsBefore, IsGivenUp, IsOpen, IsWhole, RunsTo, act_of, call_words};
-ghost use Rattle.pm_crash.specs.Operations.{AddsRange, BeginsCall, KeepsLog, KeepsWords, ReadsBytes, Refuses, TakesBack, Tells, WritesBytes};
+ghost use Rattle.pm_crash.specs.OpenCall.{IsBefore, IsGivenUp, IsOpen, IsWhole, RunsTo, act_of, call_words, lock_wanted};
+ghost use Rattle.pm_crash.specs.Operations.{AddsRange, BeginsCall, BeginsLevel, KeepsLog, KeepsWords, ReadsBytes, Refuses, RefusesCall, RefusesLevel, TakesBack, Tells, TellsNothing, WritesBytes};
 
 /// A law: the words that a call makes of those before it are what its difference makes of them. No code runs.
 pub fn a_call_makes_its_difference()
@@ -79,4 +81,41 @@ pub fn a_call_given_up_changes_nothing()
     ensures { (v : View) (e : TxErr) → IsGivenUp v e → (w : ℕ → ℕ) (header : Header) (pool : PoolView)
         → HoldsPool w v.lanes v.zones header pool → v.pool ≡ header.id → IsBefore v w
         → Step (opened pool) (act_of v) (opened pool) }
+{}
+
+/// A law: wants of rising offsets are each a lock of its own, in their order. No code runs.
+pub fn rising_wants_are_locks()
+    ensures { (wants : List Want) → IsStrictlyIncreasing (map (λ (want : Want). want.id.off) wants)
+        → locked_all wants [] ≡ map lock_wanted wants }
+{}
+
+/// A law: a lane that began a further level, with the locks that it wanted, has the call open one level deeper. No code runs.
+pub fn a_further_begin_opens()
+    ensures { (v next : View) (wants : List Want) (level : ℕ) → 1 ≤ level → level < 64
+        → IsOpen v level stage.Work error.None → BeginsLevel v next wants → IsOpen next (level + 1) stage.Work error.None }
+{}
+
+/// A law: the commit of an inner level leaves the call open one level less deep. No code runs.
+pub fn an_inner_commit_keeps_the_call()
+    ensures { (v next : View) (level : ℕ) → 1 ≤ level → IsOpen v (level + 1) stage.Work error.None
+        → Tells v next Commit None → KeepsLog v next → KeepsWords v next → IsOpen next level stage.Work error.None }
+{}
+
+/// A law: a begin that a lane refuses, of a call or of a further level, is refused by the plain model for the same reason, and the call is
+/// given up. No code runs.
+pub fn a_refused_begin_gives_up()
+    ensures call { (v : View) (wants : List Want) (r : Refusal) → RefusesCall v wants r → IsGivenUp v (error.Refused r) }
+    ensures level { (v next : View) (level : ℕ) (wants : List Want) (r : Refusal) → 1 ≤ level
+        → IsOpen v level stage.Work error.None → RefusesLevel v next level wants r → IsGivenUp next (error.Refused r) }
+{}
+
+/// A law: while nothing is told, recorded or changed but in the lane's own area, a call stays what it came to. A call that was given up does
+/// while it is taken back. No code runs.
+pub fn a_call_stays_while_nothing_is_told()
+    ensures is_open { (v next : View) (level : ℕ) (at_stage : Stage) (e : TxErr) → IsOpen v level at_stage e
+        → TellsNothing v next → KeepsLog v next → KeepsWords v next → IsOpen next level at_stage e }
+    ensures whole { (v next : View) → IsWhole v
+        → TellsNothing v next → KeepsLog v next → KeepsWords v next → IsWhole next }
+    ensures given_up { (v next : View) (e : TxErr) → IsGivenUp v e
+        → TellsNothing v next → TakesBack v next → IsGivenUp next e }
 {}

@@ -17,6 +17,11 @@ fn laws(_rt: HostRuntime) {
     a_commit_is_a_step();
     a_write_changes_the_call();
     a_read_tells_the_bytes();
+    rising_wants_are_locks();
+    an_inner_commit_keeps_the_call();
+    a_refused_begin_gives_up();
+    a_further_begin_opens();
+    a_call_stays_while_nothing_is_told();
     an_abort_gives_up();
     a_transaction_that_rests_has_run();
     a_refusal_gives_up();
