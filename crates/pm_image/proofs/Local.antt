@@ -21,7 +21,7 @@ flat_map_same {X = X} f g a (suc n) same =
     (λ k. same a (omega arith) (omega arith) k ++ flat_map_same f g (a + 1) n (λ i from to. same i (omega arith) (omega arith)) k)
 
 -- eight words that agree one by one
-slot_same : (one other : List ℕ) (a : ℕ) → a + 8 ≤ length one → a + 8 ≤ length other → ((i : ℕ) → a ≤ i → i < a + 8 → slice_index one i ≡ slice_index other i)
+pub slot_same : (one other : List ℕ) (a : ℕ) → a + 8 ≤ length one → a + 8 ≤ length other → ((i : ℕ) → a ≤ i → i < a + 8 → slice_index one i ≡ slice_index other i)
     → slice_range one a (a + 8) ≡ slice_range other a (a + 8)
 slot_same one other a long as_long same =
     let eight : a + 8 - a ≡ 8 = omega arith in

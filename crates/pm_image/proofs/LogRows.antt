@@ -21,7 +21,7 @@ unfolding log_fault lane_fault
 lane_row image lanes zones lane is =
     sym (ap (λ (o : Option ℕ). option_or (option_map fault.Lane o) (option_or (redo_fault image lanes zones) (option_or (undo_fault image lanes zones) (clash_fault image lanes)))) is)
 
-not_false : (b : Bool) → not b ≡ false → b ≡ true
+pub not_false : (b : Bool) → not b ≡ false → b ≡ true
 not_false true is = refl
 not_false false is = absurd cc
 
@@ -33,7 +33,7 @@ unsealed_if_good image lane good = eqb-true (seal_word image lane) 0 (and_parts 
 pub unsealed : (image : List ℕ) (lanes : ℕ) → find (λ k. not (good_lane image k)) (range_with_len 0 lanes) ≡ None → (lane : ℕ) → lane < lanes → seal_word image lane ≡ 0
 unsealed image lanes none lane inside = unsealed_if_good image lane (not_false (good_lane image lane) (fails_at_each (λ k. not (good_lane image k)) lanes none lane inside))
 
-not_sealed : (image : List ℕ) (lane : ℕ) → seal_word image lane ≡ 0 → is_sealed image lane ≡ false
+pub not_sealed : (image : List ℕ) (lane : ℕ) → seal_word image lane ≡ 0 → is_sealed image lane ≡ false
 not_sealed image lane none = ap (λ (n : ℕ). leb 1 n && leb n 64) none
 
 no_entries : (image : List ℕ) (lane : ℕ) → seal_word image lane ≡ 0 → entries image lane ≡ []
@@ -66,13 +66,13 @@ slot_row image lanes zones n none is =
 abbrev nothing : {X : Type 0} → ℕ → List X
 nothing k = []
 
-nothing_in : {X : Type 0} (f : ℕ → List X) (n : ℕ) → ((k : ℕ) → k < n → f k ≡ []) → flat_map f (range_with_len 0 n) ≡ []
+pub nothing_in : {X : Type 0} (f : ℕ → List X) (n : ℕ) → ((k : ℕ) → k < n → f k ≡ []) → flat_map f (range_with_len 0 n) ≡ []
 nothing_in {X = X} f n empty = flat_map_same f (nothing {X = X}) 0 n (λ k behind near. empty k (omega arith)) ∙ none 0 n where
   none : (a m : ℕ) → flat_map (nothing {X = X}) (range_with_len a m) ≡ []
   none a zero = refl
   none a (suc m) = none (a + 1) m
 
-no_entries_for : (image : List ℕ) (lanes place : ℕ) → ((lane : ℕ) → lane < lanes → seal_word image lane ≡ 0) → entries_for image lanes place ≡ []
+pub no_entries_for : (image : List ℕ) (lanes place : ℕ) → ((lane : ℕ) → lane < lanes → seal_word image lane ≡ 0) → entries_for image lanes place ≡ []
 unfolding entries_for
 no_entries_for image lanes place unsealed = ap (filter (λ (e : Redo). eqb e.place place)) (nothing_in (entries image) lanes (λ k inside. no_entries image k (unsealed k inside)))
 

@@ -1,4 +1,4 @@
--- A recovered word while it is made: for the crate's own functions.
+-- A recovered word while it is made, and what a reader of lanes asks of the image: for this crate's functions and for recovery's.
 use Rattle.std.specs.Prelude.{◌≡◌, ◌⊎◌, ℕ, ◌+◌, ◌*◌, ◌<◌, ◌≤◌, ◌==◌, List, [], ◌∷◌, find, length, slice_index, Option, None, Some, unwrap_or, if◌then◌else◌, ⊤}
 use Rattle.std.specs.Option.{option_and_then}
 use Rattle.std.specs.List.{filter, filter_map}

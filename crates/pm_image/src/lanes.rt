@@ -1,7 +1,8 @@
 ghost use Rattle.std.specs.Prelude.{◌≡◌, ◌+◌, ◌*◌, ◌<◌, ◌≤◌, IsTrue};
-ghost use Rattle.pm_image.specs.Logs.{generation_word, seal_word, is_sealed, generation, entry_pair, covers, old_word};
+ghost use Rattle.pm_image.specs.Logs.{generation_word, seal_word, is_sealed, generation, entry_pair, undo_slot, covers, old_word};
 ghost use Rattle.pm_image.specs.Steps.{HasLanes, valid_record};
 ghost use Rattle.pm_record.specs.Redo.{redo_of};
+ghost use Rattle.pm_record.specs.Undo.{undo_of};
 
 use pm_raw::RawImage;
 use pm_record::{Redo, Undo};
@@ -78,14 +79,23 @@ pub fn entry(image: &RawImage, lane: u64, i: u64) -> Option<Redo>
     Redo::decode(&pair)
 }
 
-/// The undo record of the slot, if it is a valid one: of the lane's generation.
+/// The undo record of the slot, 0 to 63, whatever its generation; nothing where the slot's last word is not the sum of the others.
+pub fn record_in_slot(image: &RawImage, lane: u64, i: u64) -> Option<Undo>
+    requires lanes { HasLanes image.now (lane + 1) }
+    requires number { i < 64 }
+    ensures { result ≡ undo_of (undo_slot image.now lane i) }
+{
+    let line = (area(lane) / LINE_WORDS) + SLOTS_AT + i;
+    Undo::decode(image.line(line))
+}
+
+/// The undo record of the slot, 0 to 63, if it is a valid one: of the lane's generation.
 pub fn valid_record(image: &RawImage, lane: u64, i: u64) -> Option<Undo>
     requires lanes { HasLanes image.now (lane + 1) }
     requires number { i < 64 }
     ensures { result ≡ valid_record image.now lane i }
 {
-    let line = (area(lane) / LINE_WORDS) + SLOTS_AT + i;
-    let record = Undo::decode(image.line(line))?;
+    let record = record_in_slot(image, lane, i)?;
     if record.generation == generation(image, lane) {
         Some(record)
     } else {

@@ -1,9 +1,14 @@
-ghost use Rattle.std.specs.Prelude.{◌≡◌, ◌<◌, [], ◌∷◌, ◌++◌, length, IfOk};
+ghost use Rattle.std.specs.Prelude.{◌≡◌, ◌<◌, List, [], ◌∷◌, ◌++◌, length, IfOk};
 ghost use Rattle.pm_view.specs.Changes.{mark, flushed, drained};
+ghost use Rattle.pm_view.specs.Counts.{IsFirstUnflushed};
+ghost use Rattle.pm_view.specs.declared.change.Change.{Change};
 
 use pm_view::{Change, MAX_CHANGES};
 use std::alloc::{AllocError, Global};
 use std::marker::Model;
+
+/// Words of a line.
+const LINE_WORDS: u64 = 8;
 
 /// A lane's undrained changes, the oldest first, with room for all that there may be. Contracts see the list.
 #[derive(Drop)]
@@ -48,6 +53,17 @@ impl Changes {
         prove!(pushed.is_ok());
     }
 
+    /// The least line with an unflushed change.
+    pub fn first_unflushed(&self) -> Option<u64>
+        ensures { IsFirstUnflushed self.now result }
+    {
+        let mut first = None;
+        for change in self.items.iter() {
+            first = lesser(first, *change);
+        }
+        first
+    }
+
     /// Marks the changes in a line.
     pub fn flush(&mut self, line: u64)
         ensures { self.new ≡ flushed line self.old }
@@ -65,11 +81,23 @@ impl Changes {
     }
 }
 
+/// The least line with an unflushed change among some changes and one more.
+fn lesser(first: Option<u64>, change: Change) -> Option<u64>
+    ensures { (changes : List Change) → IsFirstUnflushed changes first → IsFirstUnflushed (changes ++ change ∷ []) result }
+{
+    let line = change.word / LINE_WORDS;
+    match first {
+        _ if change.flushed => first,
+        Some(least) if least <= line => first,
+        _ => Some(line),
+    }
+}
+
 /// The change after a flush of the line.
 fn marked(change: Change, line: u64) -> Change
     ensures { result ≡ mark line change }
 {
-    if change.word / 8 == line {
+    if change.word / LINE_WORDS == line {
         Change {
             flushed: true,
             ..change

@@ -2,6 +2,7 @@ ghost use Rattle.std.specs.Prelude.{◌≡◌, ℕ, ◌%◌, ◌^◌, length};
 ghost use Rattle.pm_view.specs.View.{View};
 ghost use Rattle.pm_view.specs.Steps.{Step};
 ghost use Rattle.pm_view.specs.Steps.Step.{Load, Store, Or, And, Flush, Drain};
+ghost use Rattle.pm_view.specs.Counts.{IsFirstUnflushed};
 ghost use Rattle.pm_memory.specs.Runs.{Made, MadeOrStopped};
 
 /// The lane is at its stop number: it made as many counted calls as that, and makes none any more.
@@ -29,6 +30,14 @@ pub trait LaneMem {
     /// How many counted calls the lane made, modulo 2^64; exactly so many where it has a stop number.
     fn calls(&self) -> u64
         ensures { (v : View) → at self.now v → result ≡ v.calls % 2 ^ 64 };
+
+    /// How many changes of the lane are undrained.
+    fn undrained(&self) -> u64
+        ensures { (v : View) → at self.now v → result ≡ length v.changes };
+
+    /// The least line in which the lane has an unflushed change.
+    fn unflushed(&self) -> Option<u64>
+        ensures { (v : View) → at self.now v → IsFirstUnflushed v.changes result };
 
     /// The word's value.
     fn load(&mut self, word: u64) -> u64

@@ -49,7 +49,7 @@ impl SoloMem {
 
 impl LaneMem for SoloMem {
     ghost use Rattle.std.specs.Prelude.{ℕ, ◌%◌, IfOk};
-    ghost use Rattle.pm_view.specs.Counts.{FlushesSome, DrainsSome};
+    ghost use Rattle.pm_view.specs.Counts.{FlushesSome, DrainsSome, IsFirstUnflushed};
     ghost use Rattle.pm_view.specs.View.{View};
     ghost use Rattle.pm_view.specs.Steps.Step.{Load, Store, Or, And, Flush, Drain};
     ghost use Rattle.pm_memory.specs.Runs.{Made, MadeOrStopped};
@@ -78,6 +78,20 @@ impl LaneMem for SoloMem {
         ensures made { result ≡ self.now.calls }
     {
         self.calls
+    }
+
+    fn undrained(&self) -> u64
+        ensures seen { (v : View) → Sees self.now v → result ≡ length v.changes }
+        ensures all { result ≡ length self.now.changes }
+    {
+        self.changes.as_slice().len() as u64
+    }
+
+    fn unflushed(&self) -> Option<u64>
+        ensures seen { (v : View) → Sees self.now v → IsFirstUnflushed v.changes result }
+        ensures first { IsFirstUnflushed self.now.changes result }
+    {
+        self.changes.first_unflushed()
     }
 
     fn load(&mut self, word: u64) -> u64

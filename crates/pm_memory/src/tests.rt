@@ -61,14 +61,17 @@ fn survivors(rt: HostRuntime) -> Result<(), Fail> {
     Ok(())
 }
 
-/// What was flushed and drained stays; what was not, goes with `--keep 0`.
+/// What was flushed and drained stays; what was not, is told and goes with `--keep 0`.
 #[test]
 fn persists(rt: HostRuntime) -> Result<(), Fail> {
     let words = vec![in rt.alloc(); 0; 16]?;
     let mut memory = SoloMem::new(rt.alloc(), words, None)?;
     assert_eq!(rt; memory.store(3, 1), Ok(()));
     assert_eq!(rt; memory.store(11, 2), Ok(()));
+    assert_eq!(rt; memory.unflushed(), Some(0));
     assert_eq!(rt; persist(&mut memory, 1), Ok(()));
+    assert_eq!(rt; memory.undrained(), 1);
+    assert_eq!(rt; memory.unflushed(), Some(0));
     let image = memory.survive(rt.alloc(), 0)?;
     assert_eq!(rt; image.len(), 16);
     assert_eq!(rt; [image[3], image[11]], [0, 2]);

@@ -1,6 +1,7 @@
 -- Counted calls, the lane's stop number, and the bounds on undrained changes.
-use Rattle.std.specs.Prelude.{◌≡◌, ℕ, ◌+◌, ◌<◌, ◌≤◌, Bool, true, false, if◌then◌else◌, IsTrue, Any, List, [], ◌∷◌, length, IsSomeAnd}
+use Rattle.std.specs.Prelude.{◌≡◌, ℕ, ◌+◌, ◌/◌, ◌<◌, ◌≤◌, max, ◌&&◌, Bool, true, false, not, if◌then◌else◌, IsTrue, Any, List, [], ◌∷◌, length, Option, Some, None, IsSomeAnd}
 use Rattle.std.specs.Option.{ForSome}
+use Rattle.std.specs.List.{filter, list_any, range_with_len}
 use Rattle.pm_view.specs.declared.change.Change.{Change}
 use Rattle.pm_view.specs.Changes.{is_in_line}
 use Rattle.pm_view.specs.Steps.{Step}
@@ -44,3 +45,21 @@ FlushesSome line changes = Any (λ (c : Change). IsTrue (is_in_line line c) × (
 -- a drain is not idle
 abbrev pub DrainsSome : List Change → Type 0
 DrainsSome changes = 0 < length changes
+
+-- the line has an unflushed change
+abbrev pub is_unflushed : List Change → ℕ → Bool
+is_unflushed changes line = list_any (λ (c : Change). is_in_line line c && not c.flushed) changes
+
+-- one more than the greatest line of the changes; 0 where there are none
+unfoldable pub lines_up_to : List Change → ℕ
+lines_up_to [] = 0
+lines_up_to (c ∷ changes) = max (c.word / 8 + 1) (lines_up_to changes)
+
+-- the lines with an unflushed change, rising
+unfoldable pub unflushed_lines : List Change → List ℕ
+unflushed_lines changes = filter (is_unflushed changes) (range_with_len 0 (lines_up_to changes))
+
+-- it is the least line with an unflushed change, or there is none
+abbrev pub IsFirstUnflushed : List Change → Option ℕ → Type 0
+IsFirstUnflushed changes None = (line : ℕ) → is_unflushed changes line ≡ false
+IsFirstUnflushed changes (Some line) = (is_unflushed changes line ≡ true) × ((other : ℕ) → other < line → is_unflushed changes other ≡ false)

@@ -11,6 +11,7 @@ pub mod Differences
 pub mod Draws
 pub mod Exclusion
 pub mod Frame
+pub mod Going
 pub mod Histories
 pub mod Locations
 pub mod LockBits
@@ -22,6 +23,8 @@ pub mod Parts
 pub mod Recoursed
 pub mod Relocked
 pub mod Replays
+pub mod Sequencing
+pub mod Settling
 pub mod Slots
 pub mod StepDrain
 pub mod StepDraw

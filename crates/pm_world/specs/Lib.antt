@@ -10,5 +10,6 @@ pub mod Moves
 pub mod Opening
 pub mod Opens
 pub mod Records
+pub mod Sequences
 pub mod Solo
 pub mod World

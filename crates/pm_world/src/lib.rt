@@ -9,6 +9,7 @@
 mod lane;
 mod lawful_mem;
 mod laws;
+mod sequences;
 mod solo;
 
 pub use lane::{HeldLock, Lane, MAX_LOCKS, MAX_RECORDS, Span, Stage};
@@ -17,6 +18,7 @@ pub use laws::{
     a_crash_keeps_whole_calls, an_acknowledged_call_is_kept, lawful_steps_keep_the_world,
     recovered_words_open_a_world,
 };
+pub use sequences::{settle, store};
 
 #[cfg(test)]
 mod tests;

@@ -1,0 +1,10 @@
+pub mod Parts
+pub mod Slots
+pub mod Areas
+pub mod Sound
+pub mod PutBack
+pub mod Raising
+pub mod Recovered
+pub mod Clean
+pub mod Meaning
+pub mod Final

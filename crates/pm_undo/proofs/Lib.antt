@@ -1,0 +1,4 @@
+pub mod Planning
+pub mod Looking
+pub mod Recording
+pub mod Fitting

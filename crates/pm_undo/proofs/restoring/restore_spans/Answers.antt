@@ -1,0 +1,14 @@
+use Rattle.pm_world.proofs.Sequencing.{lane_ready, lane_runs, lane_below}
+use Rattle.pm_undo.specs.Sequences.{restores_all, restores}
+use Rattle.pm_undo.proofs.restoring.restore_spans.Goals as goal
+
+pub restore_all-requires-clause-lane : goal.restore_all-requires-clause-lane
+restore_all-requires-clause-lane g c = lane_below (g.M.LaneMem.at c.args.mem.now) c.lane-lane.result (restores c.args.spans.now) c.lane-lane.ensures c.requires.lane c.requires.ready
+
+pub restore_all-requires-clause-ready : goal.restore_all-requires-clause-ready
+unfolding restores
+restore_all-requires-clause-ready g c = lane_ready (g.M.LaneMem.at c.args.mem.now) c.lane-lane.result c.lane-lane.ensures (restores_all c.args.spans.now) c.requires.ready
+
+pub returns : goal.returns
+unfolding restores
+returns g c = lane_runs (g.M.LaneMem.at c.args.mem.now) c.lane-lane.result c.lane-lane.ensures (restores_all c.args.spans.now) (g.M.LaneMem.at c.restore_all.new.mem) c.restore_all.result c.restore_all.ensures
