@@ -29,3 +29,8 @@ pub mod Levels
 pub mod RefusedBegin
 pub mod Staying
 pub mod RisingWants
+pub mod LongerReplays
+pub mod DrawnWords
+pub mod OneCourse
+pub mod KeptEntries
+pub mod EndedCalls
