@@ -40,14 +40,14 @@ byte_is_covered place len i some below above =
     subst (λ (words : List ℕ). Contains words i) (sym (covers_some place len some)) (k, near, is)
 
 -- the test of a number among others
-among_tested : (xs : List ℕ) (i : ℕ) → is_among xs i ≡ true → Contains xs i
+pub among_tested : (xs : List ℕ) (i : ℕ) → is_among xs i ≡ true → Contains xs i
 among_tested [] i is = absurd (false≢true is)
 among_tested (x ∷ xs) i is = ⊎_elim
     (λ (here : eqb x i ≡ true). subst (λ (y : ℕ). Contains (x ∷ xs) y) (eqb-true x i here) (first_member x xs))
     (λ (later : is_among xs i ≡ true). later_member x xs i (among_tested xs i later))
     (or_cases (eqb x i) (is_among xs i) is)
 
-member_tested : (xs : List ℕ) (i : ℕ) → Contains xs i → is_among xs i ≡ true
+pub member_tested : (xs : List ℕ) (i : ℕ) → Contains xs i → is_among xs i ≡ true
 member_tested [] i there = absurd (no_member i there)
 member_tested (x ∷ xs) i there = ⊎_elim
     (λ (here : x ≡ i). or_left (eqb x i) (is_among xs i) (eq-eqb x i here))

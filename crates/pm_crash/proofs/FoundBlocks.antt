@@ -77,6 +77,12 @@ found_where true false true a b lines is = (refl, inr (refl, cc))
 found_where true false false a b lines is = absurd cc
 found_where false run huge a b lines is = absurd cc
 
+pub block_in_chunk : (words : List ℕ) (lanes line lines : ℕ) → block_at lanes words line ≡ Some lines → is_chunk lanes (line / 64) ≡ true
+block_in_chunk words lanes line lines found =
+    let d : ℕ = slice_index words (lane_descriptor lanes (line / 64)) in
+    let b : ℕ = slice_index words (bitmap_word (line / 64)) in
+    (found_where (is_chunk lanes (line / 64)) (is_run d && has_block b (d / 256) (line % 64)) (is_huge d && eqb (line % 64) 0) (d / 256) (64 * (d / 256)) lines found).0
+
 found_run : (w : ℕ → ℕ) (lanes c line lines : ℕ) → bad_chunk w lanes c ≡ false → bad_bitmap w lanes c ≡ false → 8 * chunk_word lanes c + 64 * (line % 64) ≡ 64 * line
     → (is_run (w (descriptor_word lanes c)) && has_block (w (chunk_word lanes c)) (w (descriptor_word lanes c) / 256) (line % 64)) ≡ true → w (descriptor_word lanes c) / 256 ≡ lines
     → IsRunBlock w lanes c (record { place = 64 * line; lines = lines })

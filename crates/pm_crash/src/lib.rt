@@ -6,8 +6,18 @@
 //! for calls, and `pm_view` for what a lane finds; docs/MODEL.md, "The crash theorem".
 #![tactic(auto)]
 
+mod calls;
+mod course;
 mod laws;
 
+pub use calls::{
+    a_begin_opens, a_call_given_up_changes_nothing, a_call_makes_its_difference,
+    a_call_stays_while_nothing_is_told, a_commit_is_a_step, a_further_begin_opens,
+    a_read_tells_the_bytes, a_record_keeps_the_call, a_refusal_gives_up, a_refused_begin_gives_up,
+    a_transaction_that_rests_has_run, a_write_changes_the_call, an_abort_gives_up,
+    an_inner_commit_keeps_the_call, rising_wants_are_locks,
+};
+pub use course::{an_ended_call_is_a_model_step, one_lanes_images_hold_the_replay};
 pub use laws::{
     a_block_is_an_object, a_lane_finds_the_blocks, a_pool_is_held_by_heap_words,
     a_read_finds_the_bytes, a_write_changes_one_object, an_object_has_words_of_its_own,

@@ -13,4 +13,21 @@ fn laws(_rt: HostRuntime) {
     a_block_is_an_object();
     the_root_is_its_word();
     a_lane_finds_the_blocks();
+    a_call_makes_its_difference();
+    a_commit_is_a_step();
+    a_write_changes_the_call();
+    a_read_tells_the_bytes();
+    rising_wants_are_locks();
+    an_inner_commit_keeps_the_call();
+    a_refused_begin_gives_up();
+    a_further_begin_opens();
+    a_call_stays_while_nothing_is_told();
+    an_abort_gives_up();
+    a_transaction_that_rests_has_run();
+    a_refusal_gives_up();
+    a_record_keeps_the_call();
+    a_call_given_up_changes_nothing();
+    a_begin_opens();
+    an_ended_call_is_a_model_step();
+    one_lanes_images_hold_the_replay();
 }

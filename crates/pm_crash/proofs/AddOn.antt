@@ -1,0 +1,135 @@
+-- A range whose new words are recorded as they are is the model's, and changes no word of the call.
+use Rattle.std.proofs.Common.{◌≡◌, ⊎_elim, ℕ, ◌+◌, ◌-◌, ◌*◌, ◌<◌, ◌≤◌, ◌||◌, Bool, true, false, leb, ltb, List, ◌++◌, length, map, slice_get, slice_index, Some, None, refl, sym, ◌∙◌, ap, subst, arith}
+use Rattle.std.proofs.lemmas.Bool.{and_parts, cases_Bool, le-ltb, leb-true, ltb-true, or_from, or_left, or_right, or_cases}
+use Rattle.std.proofs.lemmas.List.{length-append}
+use Rattle.std.proofs.lemmas.List.Folds.{list_any-append}
+use Rattle.pm_objects.specs.declared.calls.Operation.TheVariants.{AddRange}
+use Rattle.pm_objects.specs.declared.history.TxErr.TheVariants as error
+use Rattle.pm_objects.specs.declared.ids.Oid.{Oid}
+use Rattle.pm_image.specs.Blocks.{blocks}
+use Rattle.pm_image.specs.Contents.{size_in}
+use Rattle.pm_model.specs.declared.stage.Stage.TheVariants as stage
+use Rattle.pm_model.specs.Bytes.{bytes_of, covered_words, new_words, records_of}
+use Rattle.pm_view.specs.Area.{is_in_area}
+use Rattle.pm_view.specs.Log.{Recorded}
+use Rattle.pm_view.specs.View.{View}
+use Rattle.pm_world.specs.Records.{covers, is_recorded}
+use Rattle.pm_crash.specs.Held.{HoldsPool}
+use Rattle.pm_crash.specs.OpenCall.{IsBefore, call_words, IsOpen, lock_of, words_recorded}
+use Rattle.pm_crash.specs.Operations.{AddsRange, IsPresent}
+use Rattle.pm_crash.proofs.CallWords.{call_works, covered_is_outside, held_is_locked, object_under, other_call_word, recorded_call_word, same_pool, IsObjectOf}
+use Rattle.pm_crash.proofs.Continued.{answers_done, still_open}
+use Rattle.pm_crash.proofs.KeptWords.{found_back, same_found}
+use Rattle.pm_crash.proofs.NewRecords.{new_is_covered, number_of_new, recorded_member, slot_added, slot_kept, words_of_all, words_of_new}
+use Rattle.pm_crash.proofs.Passing.{passes_all, Works}
+
+-- a word is recorded after where it was before, or is new
+recorded_after : (v next : View) (id : Oid) (off len i : ℕ) → (adds : AddsRange v next id off len) → is_recorded next.log.records i ≡ (is_recorded v.log.records i || is_recorded adds.added i)
+recorded_after v next id off len i adds =
+    ap (λ (records : List Recorded). is_recorded records i) adds.records ∙ list_any-append (λ (r : Recorded). covers r i) v.log.records adds.added
+
+new_is_outside : (v next : View) (id : Oid) (off len level i : ℕ) → IsOpen v level stage.Work error.None → (adds : AddsRange v next id off len) → is_recorded adds.added i ≡ true
+    → is_in_area v.lane i ≡ false
+new_is_outside v next id off len level i is_open adds is =
+    covered_is_outside v id true off len i is_open.in_lanes is_open.chunks adds.range.object
+    (new_is_covered adds.added (words_recorded v.log.records) (covered_words (id.off + off) len) i adds.extents is)
+
+-- a new record has the value of its words from before the call
+new_is_before : (v next : View) (id : Oid) (off len i : ℕ) (w : ℕ → ℕ) → (adds : AddsRange v next id off len) → IsBefore next w → is_recorded adds.added i ≡ true
+    → w i ≡ slice_index v.words i
+new_is_before v next id off len i w adds before is =
+    let found = recorded_member adds.added i is in
+    let r : Recorded = found.0 in
+    let parts = and_parts (leb r.word i) (ltb i (r.word + length r.old)) found.2 in
+    let low : r.word ≤ i = leb-true r.word i parts.0 in
+    let high : i < r.word + length r.old = ltb-true i (r.word + length r.old) parts.1 in
+    let k : ℕ = i - r.word in
+    let inside : k < length r.old = omega arith in
+    let place : r.word + k ≡ i = omega arith in
+    let slot = slot_added v.log.records adds.added r found.1 in
+    let at : slice_get next.log.records slot.0 ≡ Some r = ap (λ (records : List Recorded). slice_get records slot.0) adds.records ∙ slot.1 in
+    let present : IsPresent v r = adds.present r found.1 in
+    ap w (sym place) ∙ before.recorded slot.0 r k at inside ∙ present.value k inside ∙ ap (slice_index v.words) place
+
+add_back : (v next : View) (id : Oid) (off len : ℕ) → AddsRange v next id off len → (w : ℕ → ℕ) → IsBefore next w → IsBefore v w
+add_back v next id off len adds w before =
+    record {
+      recorded = λ slot r i at inside.
+          before.recorded slot r i (ap (λ (records : List Recorded). slice_get records slot) adds.records ∙ slot_kept v.log.records adds.added slot r at) inside;
+      known = λ i known outside none. ⊎_elim
+          (λ (is : is_recorded adds.added i ≡ true). new_is_before v next id off len i w adds before is)
+          (λ (is : is_recorded adds.added i ≡ false).
+          before.known i (adds.tells.keeps.known i known) (ap (λ (n : ℕ). is_in_area n i) adds.tells.keeps.lane ∙ outside)
+          (recorded_after v next id off len i adds ∙ or_from (is_recorded v.log.records i) (is_recorded adds.added i) none is)
+          ∙ adds.keeps.words i outside)
+          (cases_Bool (is_recorded adds.added i));
+      found = found_back v next adds.tells.keeps (same_found v next adds.tells.locks) w before;
+    }
+
+-- the words of the call stay
+add_keeps_word : (v next : View) (id : Oid) (off len level : ℕ) → IsOpen v level stage.Work error.None → AddsRange v next id off len → (w : ℕ → ℕ) → IsBefore next w
+    → (i : ℕ) → call_words next w i ≡ call_words v w i
+add_keeps_word v next id off len level is_open adds w before i =
+    let old : Bool = is_recorded v.log.records i in
+    let new : Bool = is_recorded adds.added i in
+    let after : is_recorded next.log.records i ≡ (old || new) = recorded_after v next id off len i adds in
+    ⊎_elim
+    (λ (is : old ≡ true).
+    recorded_call_word next w i (after ∙ or_left old new is) ∙ adds.keeps.words i (is_open.outside i is) ∙ sym (recorded_call_word v w i is))
+    (λ (not_old : old ≡ false). ⊎_elim
+    (λ (is : new ≡ true).
+    recorded_call_word next w i (after ∙ or_right old new is) ∙ adds.keeps.words i (new_is_outside v next id off len level i is_open adds is)
+    ∙ sym (new_is_before v next id off len i w adds before is) ∙ sym (other_call_word v w i not_old))
+    (λ (is : new ≡ false). other_call_word next w i (after ∙ or_from old new not_old is) ∙ sym (other_call_word v w i not_old))
+    (cases_Bool new))
+    (cases_Bool old)
+
+pub add_keeps_open : (v next : View) (id : Oid) (off len level : ℕ) → 1 ≤ level → IsOpen v level stage.Work error.None → AddsRange v next id off len → IsOpen next level stage.Work error.None
+add_keeps_open v next id off len level some is_open adds =
+    let held = adds.range.object in
+    let words : List ℕ = covered_words (id.off + off) len in
+    let old_words : List ℕ = words_recorded v.log.records in
+    let added : List Recorded = adds.added in
+    still_open v next level level (AddRange id off len) None is_open adds.tells
+    (record {
+      outside = λ i is. ⊎_elim
+          (λ (old : is_recorded v.log.records i ≡ true). is_open.outside i old)
+          (λ (new : is_recorded added i ≡ true). new_is_outside v next id off len level i is_open adds new)
+          (or_cases (is_recorded v.log.records i) (is_recorded added i) (sym (recorded_after v next id off len i adds) ∙ is));
+      before = add_back v next id off len adds;
+    })
+    (λ w header pool same_id before next_before c.
+    let object : IsObjectOf v w c.tx id held.lock.line = object_under v w header pool level id true is_open before c held adds.range.size_known in
+    let works : Works c.tx = call_works v w header pool level some is_open c in
+    let inside : off + len ≤ slice_index v.words (8 * held.lock.line + 1) = adds.range.inside in
+    let long : length (bytes_of c.tx.pool.objects id.off) ≡ slice_index v.words (8 * held.lock.line + 1) = object.long in
+    let same : call_words next w ≡ call_words v w = (λ j i. add_keeps_word v next id off len level is_open adds w next_before i j) in
+    let records : c.tx.records ≡ length v.log.records = c.records in
+    let number : length (records_of (new_words c.tx.recorded words)) ≡ length added =
+    ap (λ (ws : List ℕ). length (records_of (new_words ws words))) c.recorded ∙ number_of_new added (new_words old_words words) adds.extents in
+    let room : length v.log.records + length added ≤ 64 = adds.room in
+    let all : length next.log.records ≡ length v.log.records + length added = ap (λ (rs : List Recorded). length rs) adds.records ∙ length-append v.log.records added in
+    record {
+      answers =
+          answers_done c.tx (AddRange id off len) None refl (record { no_wants = refl; no_begin = refl })
+          (passes_all c.tx (AddRange id off len) works (record { no_wants = refl; no_begin = refl })
+          (held_is_locked v id true c.tx held c.locks (same_pool v w header c.tx c.holds same_id))
+          (le-ltb (length (bytes_of c.tx.pool.objects id.off)) (off + len) (omega arith))
+          refl
+          (le-ltb 64 (c.tx.records + length (records_of (new_words c.tx.recorded words))) (omega arith)))
+          refl;
+      holds = subst (λ (f : ℕ → ℕ). HoldsPool f v.lanes v.zones header c.tx.pool) (sym same) c.holds;
+      before = refl;
+      locks = c.locks ∙ ap (map lock_of) (sym adds.tells.locks);
+      recorded =
+          ap (λ (ws : List ℕ). ws ++ new_words ws words) c.recorded
+          ∙ ap (λ (ws : List ℕ). old_words ++ ws) (sym (words_of_new added (new_words old_words words) adds.extents))
+          ∙ sym (words_of_all v.log.records added)
+          ∙ ap words_recorded (sym adds.records);
+      records = omega arith;
+      levels = c.levels;
+      stands = refl;
+      fails = refl;
+      blocks_stay = ap (λ (f : ℕ → ℕ). blocks f v.lanes v.zones) same;
+      sizes_stay = λ block there. ap (λ (f : ℕ → ℕ). size_in f block) same;
+    })

@@ -1,0 +1,138 @@
+-- A call that has begun with the locks that it wanted is the model's transaction at its first level.
+use Rattle.std.proofs.Common.{◌≡◌, ℕ, ◌≤◌, Bool, true, false, not, eqb, ltb, cond, List, [], ◌∷◌, length, map, get_or, slice_index, Option, None, MatchOption, refl, sym, ◌∙◌, ap, subst, arith}
+use Rattle.std.specs.Prelude.{IsSome}
+use Rattle.std.specs.List.{Contains, filter, find, list_any}
+use Rattle.std.specs.Option.{option_map}
+use Rattle.std.proofs.lemmas.Bool.{and_from, and_right, cond-true, eq-eqb, le-ltb, or_from}
+use Rattle.std.proofs.lemmas.List.{length-map}
+use Rattle.std.proofs.lemmas.List.Elements.{Contains-get_or}
+use Rattle.pm_header.specs.declared.header.Header.{Header}
+use Rattle.pm_objects.specs.Pool.{object_at}
+use Rattle.pm_objects.specs.declared.calls.Operation.{Operation}
+use Rattle.pm_objects.specs.declared.calls.Operation.TheVariants.{Begin}
+use Rattle.pm_objects.specs.declared.calls.Want.{Want}
+use Rattle.pm_objects.specs.declared.history.TxErr.TheVariants as error
+use Rattle.pm_objects.specs.declared.pool.Object.{Object}
+use Rattle.pm_objects.specs.declared.pool.PoolView.{PoolView}
+use Rattle.pm_objects.specs.declared.refusal.Refusal.{Refusal}
+use Rattle.pm_objects.specs.declared.refusal.Refusal.TheVariants as refusal
+use Rattle.pm_image.specs.Blocks.{blocks}
+use Rattle.pm_image.specs.Contents.{size_in}
+use Rattle.pm_image.proofs.Members.{first_member, later_member}
+use Rattle.pm_model.specs.declared.stage.Stage.TheVariants as stage
+use Rattle.pm_model.specs.Places.{can_begin, has_place}
+use Rattle.pm_model.specs.Transaction.{Transaction, Lock as Locked, at_rest, locked_all}
+use Rattle.pm_model.specs.Checks.{passes_locks, wants_no_place, takes_first_lock, is_missing, first_refusal}
+use Rattle.pm_model.specs.Answers.{Told as Answered, Answers, IsDone, IsRefused, after}
+use Rattle.pm_view.specs.Log.{Recorded}
+use Rattle.pm_view.specs.View.{View}
+use Rattle.pm_world.specs.Records.{is_recorded}
+use Rattle.pm_crash.specs.Held.{HoldsPool}
+use Rattle.pm_crash.specs.OpenCall.{IsBefore, IsOpen, RunsTo, block_at_line, call_words, told_of, words_recorded}
+use Rattle.pm_crash.specs.Operations.{BeginsCall, IsHeld, IsWantHeld}
+use Rattle.pm_crash.proofs.ObjectsOfBlocks.{object_is_there}
+use Rattle.pm_crash.proofs.Passing.{unhindered}
+use Rattle.pm_crash.proofs.Runs.{runs_first}
+
+-- what all pass is filtered by nothing, and none fails it
+pub all_pass : {X : Type 0} (p : X → Bool) (xs : List X) → ((x : X) → Contains xs x → p x ≡ true) → filter p xs ≡ xs
+all_pass p [] passes = refl
+all_pass p (x ∷ xs) passes =
+    cond-true (p x) (x ∷ filter p xs) (filter p xs) (passes x (first_member x xs)) ∙ ap (λ (ys : List _). x ∷ ys) (all_pass p xs (λ y there. passes y (later_member x xs y there)))
+
+pub none_fails : {X : Type 0} (p : X → Bool) (xs : List X) → ((x : X) → Contains xs x → p x ≡ true) → list_any (λ (x : X). not (p x)) xs ≡ false
+none_fails p [] passes = refl
+none_fails p (x ∷ xs) passes =
+    or_from (not (p x)) (list_any (λ y. not (p y)) xs) (ap not (passes x (first_member x xs))) (none_fails p xs (λ y there. passes y (later_member x xs y there)))
+
+-- the checks of a begin where no transaction is open
+begin_passes : (pool : PoolView) (wants : List Want) → ((want : Want) → Contains wants want → has_place pool want.id ≡ true) → length (locked_all wants []) ≤ 64
+    → first_refusal unhindered (at_rest pool) (Begin wants) ≡ None
+unfolding first_refusal
+begin_passes pool wants places few =
+    let tx : Transaction = at_rest pool in
+    let op : Operation = Begin wants in
+    let placed : Want → Bool = λ want. has_place pool want.id in
+    let locks : passes_locks tx op ≡ false =
+    ap (λ (ws : List Want). ltb 64 (length (locked_all ws []))) (all_pass placed wants places) ∙ le-ltb 64 (length (locked_all wants [])) few in
+    let place : wants_no_place tx op ≡ false = none_fails placed wants places in
+    let missing : is_missing unhindered tx op ≡ false = and_right (takes_first_lock tx op) false refl in
+    (λ j. option_map (λ (check : Refusal × Bool). check.0) (find (λ (check : Refusal × Bool). check.1)
+    ((refusal.NotWork, false)
+    ∷ (refusal.NoTx, false)
+    ∷ (refusal.Spent, false)
+    ∷ (refusal.Deep, false)
+    ∷ (refusal.LocksFull, locks j)
+    ∷ (refusal.NotLocked, false)
+    ∷ (refusal.NoObject, place j)
+    ∷ (refusal.Busy, false)
+    ∷ (refusal.NoObject, missing j)
+    ∷ (refusal.OutOfRange, false)
+    ∷ (refusal.NotAdded, false)
+    ∷ (refusal.LogFull, false)
+    ∷ [])))
+
+-- what is wanted has a place in the pool that the words hold
+wanted_has_place : (v : View) (w : ℕ → ℕ) (header : Header) (pool : PoolView) (want : Want) → HoldsPool w v.lanes v.zones header pool → v.pool ≡ header.id → IsWantHeld v want
+    → has_place pool want.id ≡ true
+wanted_has_place v w header pool want holds id wanted =
+    and_from (eqb want.id.pool pool.id) (can_begin pool.lanes pool.zones want.id.off)
+    (eq-eqb want.id.pool pool.id (wanted.held.of_pool ∙ id ∙ sym (ap (λ (p : PoolView). p.id) holds.is_pool)))
+    (ap (λ (p : PoolView). can_begin p.lanes p.zones want.id.off) holds.is_pool ∙ wanted.place)
+
+-- and an object is there
+wanted_is_there : (v : View) (w : ℕ → ℕ) (header : Header) (pool : PoolView) (want : Want) → HoldsPool w v.lanes v.zones header pool → IsBefore v w → IsWantHeld v want
+    → IsSome (object_at pool.objects want.id.off)
+wanted_is_there v w header pool want holds before wanted =
+    let held : IsHeld v want.id want.write = wanted.held in
+    let object = object_is_there w v.lanes v.zones header pool (block_at_line held.lock.line held.lines) holds (before.found held.lock held.lines held.held held.block) in
+    subst (λ (o : Option Object). IsSome o) (sym (ap (object_at pool.objects) held.place ∙ object.found)) refl
+
+begin_answers : (v : View) (wants : List Want) (w : ℕ → ℕ) (header : Header) (pool : PoolView) → BeginsCall v wants → HoldsPool w v.lanes v.zones header pool → v.pool ≡ header.id → IsBefore v w
+    → Answers (at_rest pool) (Begin wants) None
+begin_answers v wants w header pool begins holds id before =
+    let long : length (locked_all wants []) ≡ length v.locks = sym (ap (λ (ls : List Locked). length ls) begins.takes.locks) ∙ length-map v.locks _ in
+    let few : length v.locks ≤ 64 = begins.takes.few in
+    let passes : first_refusal unhindered (at_rest pool) (Begin wants) ≡ None =
+    begin_passes pool wants (λ want there. wanted_has_place v w header pool want holds id (begins.takes.wanted want there)) (omega arith) in
+    let done : IsDone (at_rest pool) (Begin wants) None = record {
+      there = λ k d inside first. wanted_is_there v w header pool (get_or wants k d) holds before (begins.takes.wanted (get_or wants k d) (Contains-get_or wants k d inside));
+      value = refl;
+    } in
+    record {
+      known = refl;
+      seen = unhindered;
+      answer = subst (λ (fr : Option Refusal). MatchOption fr (IsDone (at_rest pool) (Begin wants) None) (λ r. IsRefused r None)) (sym passes) done;
+    }
+
+-- nothing is recorded, so the words are those from before
+no_call_words : (v : View) → v.log.records ≡ [] → (w : ℕ → ℕ) → call_words v w ≡ w
+no_call_words v none w = (λ j i. at i j) where
+  at : (i : ℕ) → call_words v w i ≡ w i
+  at i = ap (λ (records : List Recorded). cond (is_recorded records i) (slice_index v.words i) (w i)) none
+
+pub begin_opens : (v : View) (wants : List Want) → BeginsCall v wants → IsOpen v 1 stage.Work error.None
+begin_opens v wants begins = record {
+  in_lanes = begins.in_lanes;
+  few = begins.takes.few;
+  chunks = begins.takes.chunks;
+  outside = λ i is. absurd (let clash : false ≡ true = sym (ap (λ (records : List Recorded). is_recorded records i) begins.no_records) ∙ is in cc);
+  comes = λ w header pool holds id before.
+      let told : Answered = record { operation = Begin wants; reply = None } in
+      let tx : Transaction = after told (at_rest pool) in
+      let same : call_words v w ≡ w = no_call_words v begins.no_records w in
+      record {
+        tx = tx;
+        runs = subst (λ (ts : List Answered). RunsTo pool ts tx) (sym (ap (map told_of) begins.call)) (runs_first told pool (begin_answers v wants w header pool begins holds id before));
+        holds = subst (λ (f : ℕ → ℕ). HoldsPool f v.lanes v.zones header pool) (sym same) holds;
+        before = refl;
+        locks = sym begins.takes.locks;
+        recorded = ap words_recorded (sym begins.no_records);
+        records = ap (λ (records : List Recorded). length records) (sym begins.no_records);
+        levels = refl;
+        stands = refl;
+        fails = refl;
+        blocks_stay = ap (λ (f : ℕ → ℕ). blocks f v.lanes v.zones) same;
+        sizes_stay = λ block there. ap (λ (f : ℕ → ℕ). size_in f block) same;
+      };
+}

@@ -1,0 +1,131 @@
+-- What the lane knows of the words of its open call, and the object under a lock that it holds.
+use Rattle.std.proofs.Common.{◌≡◌, ⊎_elim, ℕ, ◌+◌, ◌*◌, ◌/◌, ◌<◌, ◌≤◌, ◌&&◌, ◌||◌, Bool, true, false, not, eqb, leb, ltb, List, [], ◌∷◌, length, map, slice_index, Option, Some, refl, sym, ◌∙◌, ap, subst, arith}
+use Rattle.std.specs.List.{Contains}
+use Rattle.std.specs.Option.{option_map_or}
+use Rattle.std.proofs.lemmas.Bool.{and_from, and_parts, and_right, cases_Bool, cond-false, cond-true, eq-eqb, le-ltb, leb-true, or_left, or_right}
+use Rattle.std.proofs.lemmas.List.{length-map}
+use Rattle.pm_header.specs.declared.header.Header.{Header}
+use Rattle.pm_objects.specs.declared.history.TxErr.TheVariants as error
+use Rattle.pm_objects.specs.declared.ids.Oid.{Oid}
+use Rattle.pm_objects.specs.declared.pool.Object.{Object}
+use Rattle.pm_objects.specs.declared.pool.PoolView.{PoolView}
+use Rattle.pm_image.specs.declared.block.Block.{Block}
+use Rattle.pm_image.specs.Blocks.{blocks}
+use Rattle.pm_image.specs.Contents.{bytes_in, offset_in, size_in}
+use Rattle.pm_image.proofs.Members.{member_cases, no_member}
+use Rattle.pm_model.specs.declared.stage.Stage.TheVariants as stage
+use Rattle.pm_model.specs.Transaction.{Transaction, Lock as Locked, is_locked}
+use Rattle.pm_model.specs.Bytes.{bytes_of, covered_words}
+use Rattle.pm_view.specs.Area.{area_word, is_in_area}
+use Rattle.pm_view.specs.Blocks.{chunk_of, is_chunk, zone_page}
+use Rattle.pm_view.specs.View.{View, Lock}
+use Rattle.pm_world.specs.Records.{is_recorded}
+use Rattle.pm_crash.specs.Held.{HoldsPool}
+use Rattle.pm_crash.specs.OpenCall.{IsBefore, call_words, ComesTo, IsOpen, lock_of, locks_of, block_at_line}
+use Rattle.pm_crash.specs.Operations.{IsHeld}
+use Rattle.pm_crash.proofs.Covered.{covered_has_byte}
+use Rattle.pm_crash.proofs.ObjectsOfBlocks.{object_is_there}
+use Rattle.pm_crash.proofs.Passing.{Works}
+
+pub recorded_call_word : (v : View) (w : ℕ → ℕ) (i : ℕ) → is_recorded v.log.records i ≡ true → call_words v w i ≡ slice_index v.words i
+recorded_call_word v w i is = cond-true (is_recorded v.log.records i) (slice_index v.words i) (w i) is
+
+pub other_call_word : (v : View) (w : ℕ → ℕ) (i : ℕ) → is_recorded v.log.records i ≡ false → call_words v w i ≡ w i
+other_call_word v w i is = cond-false (is_recorded v.log.records i) (slice_index v.words i) (w i) is
+
+-- a known word outside the lane's area is as the lane has it
+pub known_call_word : (v : View) (w : ℕ → ℕ) (i : ℕ) → IsBefore v w → Contains v.known i → is_in_area v.lane i ≡ false → call_words v w i ≡ slice_index v.words i
+known_call_word v w i before known outside = ⊎_elim
+    (λ (is : is_recorded v.log.records i ≡ true). recorded_call_word v w i is)
+    (λ (is : is_recorded v.log.records i ≡ false). other_call_word v w i is ∙ before.known i known outside is)
+    (cases_Bool (is_recorded v.log.records i))
+
+-- a line of a chunk is behind all lanes' areas
+pub chunk_is_behind : (lanes line : ℕ) → is_chunk lanes (line / 64) ≡ true → 512 + 1024 * lanes ≤ 8 * line
+chunk_is_behind lanes line is =
+    let parts = and_parts (leb (zone_page lanes 0) (line / 64)) (leb 1 (chunk_of lanes (line / 64))) is in
+    let behind : zone_page lanes 0 ≤ line / 64 = leb-true (zone_page lanes 0) (line / 64) parts.0 in
+    omega arith
+
+pub behind_is_outside : (lane lanes i : ℕ) → lane < lanes → 512 + 1024 * lanes ≤ i → is_in_area lane i ≡ false
+behind_is_outside lane lanes i inside behind =
+    and_right (leb (area_word lane) i) (ltb i (area_word lane + 1024)) (le-ltb i (area_word lane + 1024) (omega arith))
+
+-- words at or behind a held line are outside the lane's area
+pub under_is_outside : (v : View) (lock : Lock) (lines i : ℕ) → v.lane < v.lanes → ((l : Lock) (n : ℕ) → Contains v.locks l → l.block ≡ Some n → is_chunk v.lanes (l.line / 64) ≡ true)
+    → Contains v.locks lock → lock.block ≡ Some lines → 8 * lock.line ≤ i → is_in_area v.lane i ≡ false
+under_is_outside v lock lines i lane chunks held found from =
+    let behind : 512 + 1024 * v.lanes ≤ 8 * lock.line = chunk_is_behind v.lanes lock.line (chunks lock lines held found) in
+    behind_is_outside v.lane v.lanes i lane (omega arith)
+
+-- the words that a range of the object covers
+pub covered_is_outside : (v : View) (id : Oid) (write : Bool) (off len i : ℕ) → v.lane < v.lanes → ((l : Lock) (n : ℕ) → Contains v.locks l → l.block ≡ Some n → is_chunk v.lanes (l.line / 64) ≡ true)
+    → IsHeld v id write → Contains (covered_words (id.off + off) len) i → is_in_area v.lane i ≡ false
+covered_is_outside v id write off len i lane chunks held there =
+    let has = covered_has_byte (id.off + off) len i there in
+    let place : id.off ≡ 64 * held.lock.line + 64 = held.place in
+    under_is_outside v held.lock held.lines i lane chunks held.held held.block (omega arith)
+
+-- the lock that the lane holds is the transaction's
+locked_member : (locks : List Lock) (l : Lock) (off : ℕ) (write : Bool) → Contains locks l → 64 * l.line + 64 ≡ off → (l.write || not write) ≡ true → is_locked (map lock_of locks) off write ≡ true
+locked_member [] l off write there place allows = absurd (no_member l there)
+locked_member (k ∷ locks) l off write there place allows = ⊎_elim
+    (λ (here : k ≡ l). or_left (eqb (64 * k.line + 64) off && (k.write || not write)) (is_locked (map lock_of locks) off write)
+    (subst (λ (x : Lock). (eqb (64 * x.line + 64) off && (x.write || not write)) ≡ true) (sym here) (and_from (eqb (64 * l.line + 64) off) (l.write || not write) (eq-eqb (64 * l.line + 64) off place) allows)))
+    (λ (later : Contains locks l). or_right (eqb (64 * k.line + 64) off && (k.write || not write)) (is_locked (map lock_of locks) off write) (locked_member locks l off write later place allows))
+    (member_cases k locks l there)
+
+pub held_is_locked : (v : View) (id : Oid) (write : Bool) (tx : Transaction) → IsHeld v id write → tx.locks ≡ locks_of v → tx.pool.id ≡ v.pool
+    → not (eqb id.pool tx.pool.id && is_locked tx.locks id.off write) ≡ false
+held_is_locked v id write tx held locks same =
+    ap not (and_from (eqb id.pool tx.pool.id) (is_locked tx.locks id.off write)
+    (eq-eqb id.pool tx.pool.id (held.of_pool ∙ sym same))
+    (ap (λ (ls : List Locked). is_locked ls id.off write) locks ∙ locked_member v.locks held.lock id.off write held.held (sym held.place) held.allows))
+
+-- the object under a held lock, in the words of the open call
+pub record IsObjectOf (v : View) (w : ℕ → ℕ) (tx : Transaction) (id : Oid) (line : ℕ) : Type 0 where
+  pub block : Block
+  pub is_there : Contains (blocks (call_words v w) v.lanes v.zones) block
+  pub was_there : Contains (blocks w v.lanes v.zones) block
+  pub place : block.place ≡ 64 * line
+  pub offset : offset_in block ≡ id.off
+  pub size : size_in (call_words v w) block ≡ slice_index v.words (8 * line + 1)
+  pub bytes : bytes_of tx.pool.objects id.off ≡ bytes_in (call_words v w) block
+  pub long : length (bytes_of tx.pool.objects id.off) ≡ slice_index v.words (8 * line + 1)
+
+pub object_under : (v : View) (w : ℕ → ℕ) (header : Header) (pool : PoolView) (level : ℕ) (id : Oid) (write : Bool) → IsOpen v level stage.Work error.None → IsBefore v w
+    → (c : ComesTo v w header pool level stage.Work error.None) → (held : IsHeld v id write) → Contains v.known (8 * held.lock.line + 1) → IsObjectOf v w c.tx id held.lock.line
+object_under v w header pool level id write is_open before c held size_known =
+    let line : ℕ = held.lock.line in
+    let block : Block = block_at_line line held.lines in
+    let words : ℕ → ℕ = call_words v w in
+    let was_there : Contains (blocks w v.lanes v.zones) block = before.found held.lock held.lines held.held held.block in
+    let is_there : Contains (blocks words v.lanes v.zones) block = subst (λ (bs : List Block). Contains bs block) (sym c.blocks_stay) was_there in
+    let outside : is_in_area v.lane (8 * line + 1) ≡ false = under_is_outside v held.lock held.lines (8 * line + 1) is_open.in_lanes is_open.chunks held.held held.block (omega arith) in
+    let header_word : 64 * line / 8 + 1 ≡ 8 * line + 1 = omega arith in
+    let size : size_in words block ≡ slice_index v.words (8 * line + 1) = ap words header_word ∙ known_call_word v w (8 * line + 1) before size_known outside in
+    let object = object_is_there words v.lanes v.zones header c.tx.pool block c.holds is_there in
+    let bytes : bytes_of c.tx.pool.objects id.off ≡ bytes_in words block =
+    ap (bytes_of c.tx.pool.objects) held.place ∙ ap (λ (o : Option Object). option_map_or (λ (x : Object). x.bytes) o []) object.found in
+    record {
+      block = block;
+      is_there = is_there;
+      was_there = was_there;
+      place = refl;
+      offset = sym held.place;
+      size = size;
+      bytes = bytes;
+      long = ap length bytes ∙ object.size ∙ size;
+    }
+
+-- the transaction works
+pub call_works : (v : View) (w : ℕ → ℕ) (header : Header) (pool : PoolView) (level : ℕ) → 1 ≤ level → IsOpen v level stage.Work error.None → (c : ComesTo v w header pool level stage.Work error.None) → Works c.tx
+call_works v w header pool level some is_open c =
+    let levels : c.tx.level ≡ level = c.levels in
+    let long : length c.tx.locks ≡ length v.locks = ap length c.locks ∙ length-map v.locks lock_of in
+    let few : length v.locks ≤ 64 = is_open.few in
+    record { level = omega arith; working = c.stands; few = omega arith }
+
+-- it is of the lane's pool
+pub same_pool : (v : View) (w : ℕ → ℕ) (header : Header) (tx : Transaction) → HoldsPool (call_words v w) v.lanes v.zones header tx.pool → v.pool ≡ header.id → tx.pool.id ≡ v.pool
+same_pool v w header tx holds id = ap (λ (p : PoolView). p.id) holds.is_pool ∙ sym id

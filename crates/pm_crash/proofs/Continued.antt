@@ -1,0 +1,119 @@
+-- A call goes on by an operation that is told, if the model's transaction goes on so and the words made so far are those of its pool.
+use Rattle.std.proofs.Common.{◌≡◌, ℕ, ◌<◌, ◌≤◌, ◌/◌, true, false, List, [], ◌∷◌, ◌++◌, length, map, Option, None, MatchOption, sym, ◌∙◌, ap, subst, arith}
+use Rattle.std.specs.Prelude.{IsTrue, IsSome}
+use Rattle.std.specs.List.{All, Contains}
+use Rattle.std.proofs.lemmas.List.{map-append}
+use Rattle.std.proofs.lemmas.List.Elements.{All-nil}
+use Rattle.pm_header.specs.declared.header.Header.{Header}
+use Rattle.pm_objects.specs.Pool.{object_at}
+use Rattle.pm_objects.specs.declared.calls.Operation.{Operation}
+use Rattle.pm_objects.specs.declared.calls.Want.{Want}
+use Rattle.pm_objects.specs.declared.history.TxErr.TheVariants as error
+use Rattle.pm_objects.specs.declared.history.Value.{Value}
+use Rattle.pm_objects.specs.declared.pool.PoolView.{PoolView}
+use Rattle.pm_objects.specs.declared.refusal.Refusal.{Refusal}
+use Rattle.pm_image.specs.declared.block.Block.{Block}
+use Rattle.pm_image.specs.Blocks.{blocks}
+use Rattle.pm_image.specs.Contents.{size_in}
+use Rattle.pm_model.specs.declared.stage.Stage.TheVariants as stage
+use Rattle.pm_model.specs.Transaction.{Transaction, is_locked, is_working}
+use Rattle.pm_model.specs.Checks.{first_refusal}
+use Rattle.pm_model.specs.Answers.{Told as Answered, Answers, IsDone, IsRefused, after_reply, is_known, value_of}
+use Rattle.pm_view.specs.Area.{is_in_area}
+use Rattle.pm_view.specs.Blocks.{is_chunk}
+use Rattle.pm_view.specs.View.{View, Lock}
+use Rattle.pm_world.specs.Records.{is_recorded}
+use Rattle.pm_crash.specs.Held.{HoldsPool}
+use Rattle.pm_crash.specs.OpenCall.{IsBefore, call_words, ComesTo, IsOpen, RunsTo, told_in, told_of, locks_of, words_recorded}
+use Rattle.pm_crash.specs.Operations.{KeepsLane, Tells}
+use Rattle.pm_crash.proofs.Passing.{unhindered, AsksNoLock}
+use Rattle.pm_crash.proofs.Runs.{runs_once_more}
+
+-- an operation that asks for no lock, and is not refused, answers its value
+pub answers_done : (tx : Transaction) (op : Operation) (reply : Option Value) → IsTrue (is_known op) → AsksNoLock op → first_refusal unhindered tx op ≡ None → reply ≡ value_of tx op
+    → Answers tx op reply
+answers_done tx op reply known asks none value =
+    let done : IsDone tx op reply = record {
+      there =
+          subst (λ (wants : List Want). All (λ (want : Want). is_locked tx.locks want.id.off false ≡ false → IsSome (object_at tx.pool.objects want.id.off)) wants) (sym asks.no_wants)
+          (All-nil (λ (want : Want). is_locked tx.locks want.id.off false ≡ false → IsSome (object_at tx.pool.objects want.id.off)));
+      value = value;
+    } in
+    record {
+      known = known;
+      seen = unhindered;
+      answer = subst (λ (fr : Option Refusal). MatchOption fr (IsDone tx op reply) (λ r. IsRefused r reply)) (sym none) done;
+    }
+
+pub two_same : (P : ℕ → ℕ → Type 0) (a b c d : ℕ) → a ≡ b → c ≡ d → P a c → P b d
+two_same P a b c d e f holds = subst (λ (n : ℕ). P n d) e (subst (P a) f holds)
+
+-- the operations as the model has them, with one more
+pub told_once_more : (v next : View) (op : Operation) (reply : Option Value) → next.call ≡ v.call ++ record { operation = op; reply = reply } ∷ []
+    → told_in next ≡ told_in v ++ record { operation = op; reply = reply } ∷ []
+told_once_more v next op reply call = ap (map told_of) call ∙ map-append told_of v.call (record { operation = op; reply = reply } ∷ [])
+
+-- the model's transaction goes on by the operation, with the words that the lane made
+pub record Continues (v next : View) (w : ℕ → ℕ) (header : Header) (op : Operation) (reply : Option Value) (to : ℕ) (tx : Transaction) : Type 0 where
+  pub answers : Answers tx op reply
+  pub holds : HoldsPool (call_words next w) v.lanes v.zones header (after_reply op reply tx).pool
+  pub before : (after_reply op reply tx).before ≡ tx.before
+  pub locks : (after_reply op reply tx).locks ≡ locks_of next
+  pub recorded : (after_reply op reply tx).recorded ≡ words_recorded next.log.records
+  pub records : (after_reply op reply tx).records ≡ length next.log.records
+  pub levels : (after_reply op reply tx).level ≡ to
+  pub stands : (after_reply op reply tx).stage ≡ tx.stage
+  pub fails : (after_reply op reply tx).error ≡ tx.error
+  pub blocks_stay : blocks (call_words next w) v.lanes v.zones ≡ blocks (call_words v w) v.lanes v.zones
+  pub sizes_stay : (block : Block) → Contains (blocks w v.lanes v.zones) block → size_in (call_words next w) block ≡ size_in (call_words v w) block
+
+pub next_comes : (v next : View) (level to : ℕ) (op : Operation) (reply : Option Value) (w : ℕ → ℕ) (header : Header) (pool : PoolView) → KeepsLane v next
+    → next.call ≡ v.call ++ record { operation = op; reply = reply } ∷ [] → (c : ComesTo v w header pool level stage.Work error.None) → Continues v next w header op reply to c.tx → ComesTo next w header pool to stage.Work error.None
+next_comes v next level to op reply w header pool lane call c on =
+    let tx : Transaction = after_reply op reply c.tx in
+    record {
+      tx = tx;
+      runs =
+          subst (λ (told : List Answered). RunsTo pool told tx) (sym (told_once_more v next op reply call))
+          (runs_once_more (told_in v) (record { operation = op; reply = reply }) pool c.tx c.runs (ap is_working c.stands) on.answers);
+      holds = two_same (λ (lanes zones : ℕ). HoldsPool (call_words next w) lanes zones header tx.pool) v.lanes next.lanes v.zones next.zones (sym lane.lanes) (sym lane.zones) on.holds;
+      before = on.before ∙ c.before;
+      locks = on.locks;
+      recorded = on.recorded;
+      records = on.records;
+      levels = on.levels;
+      stands = on.stands ∙ c.stands;
+      fails = on.fails ∙ c.fails;
+      blocks_stay =
+          two_same (λ (lanes zones : ℕ). blocks (call_words next w) lanes zones ≡ blocks w lanes zones) v.lanes next.lanes v.zones next.zones (sym lane.lanes) (sym lane.zones)
+          (on.blocks_stay ∙ c.blocks_stay);
+      sizes_stay =
+          two_same (λ (lanes zones : ℕ). (block : Block) → Contains (blocks w lanes zones) block → size_in (call_words next w) block ≡ size_in w block) v.lanes next.lanes v.zones next.zones
+          (sym lane.lanes) (sym lane.zones) (λ block there. on.sizes_stay block there ∙ c.sizes_stay block there);
+    }
+
+-- what the words before the call are, for the view before the operation
+pub record GoesBack (v next : View) : Type 0 where
+  pub outside : (i : ℕ) → is_recorded next.log.records i ≡ true → is_in_area v.lane i ≡ false
+  pub before : (w : ℕ → ℕ) → IsBefore next w → IsBefore v w
+
+pub still_open : (v next : View) (level to : ℕ) (op : Operation) (reply : Option Value) → IsOpen v level stage.Work error.None → Tells v next op reply → GoesBack v next
+    → ((w : ℕ → ℕ) (header : Header) (pool : PoolView) → v.pool ≡ header.id → IsBefore v w → IsBefore next w → (c : ComesTo v w header pool level stage.Work error.None)
+    → Continues v next w header op reply to c.tx)
+    → IsOpen next to stage.Work error.None
+still_open v next level to op reply is_open tells back continues =
+    let lane : next.lane ≡ v.lane = tells.keeps.lane in
+    let lanes : next.lanes ≡ v.lanes = tells.keeps.lanes in
+    let inside : v.lane < v.lanes = is_open.in_lanes in
+    record {
+      in_lanes = omega arith;
+      few = subst (λ (locks : List Lock). length locks ≤ 64) (sym tells.locks) is_open.few;
+      chunks = λ l lines held found. ap (λ (n : ℕ). is_chunk n (l.line / 64)) lanes ∙ is_open.chunks l lines (subst (λ (locks : List Lock). Contains locks l) tells.locks held) found;
+      outside = λ i is. ap (λ (n : ℕ). is_in_area n i) lane ∙ back.outside i is;
+      comes = λ w header pool holds id before.
+          let old_id : v.pool ≡ header.id = sym tells.keeps.pool ∙ id in
+          let old_before : IsBefore v w = back.before w before in
+          let old_holds : HoldsPool w v.lanes v.zones header pool = two_same (λ (n m : ℕ). HoldsPool w n m header pool) next.lanes v.lanes next.zones v.zones tells.keeps.lanes tells.keeps.zones holds in
+          let c : ComesTo v w header pool level stage.Work error.None = is_open.comes w header pool old_holds old_id old_before in
+          next_comes v next level to op reply w header pool tells.keeps tells.call c (continues w header pool old_id old_before before c);
+    }

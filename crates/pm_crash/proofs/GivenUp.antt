@@ -1,0 +1,269 @@
+-- A refused operation, and an abort, give up the call: the model's pool is as before it, and so are the words.
+use Rattle.std.proofs.Common.{◌++◌, ◌≡◌, ◌≢◌, ⊎_elim, ℕ, ◌+◌, ◌*◌, ◌<◌, ◌≤◌, ◌&&◌, Bool, true, false, not, eqb, leb, ltb, List, [], ◌∷◌, length, slice_get, slice_index, Option, Some, None, MatchOption, refl, sym, ◌∙◌, ap, subst, arith}
+use Rattle.std.specs.List.{Contains, list_all}
+use Rattle.std.specs.Option.{option_map_or}
+use Rattle.std.proofs.lemmas.Bool.{and_from, and_left, and_right, cases_eq, false≢true, le-leb, le-ltb, lt-ltb, ne_eqb}
+use Rattle.pm_header.specs.declared.header.Header.{Header}
+use Rattle.pm_objects.specs.declared.calls.Operation.{Operation}
+use Rattle.pm_objects.specs.declared.calls.Operation.TheVariants.{Abort, AddRange, Read, Write}
+use Rattle.pm_objects.specs.declared.history.TxErr.{TxErr}
+use Rattle.pm_objects.specs.declared.history.TxErr.TheVariants as error
+use Rattle.pm_objects.specs.declared.history.Value.{Value}
+use Rattle.pm_objects.specs.declared.history.Value.TheVariants.{Refused}
+use Rattle.pm_objects.specs.declared.ids.Oid.{Oid}
+use Rattle.pm_objects.specs.declared.pool.PoolView.{PoolView}
+use Rattle.pm_objects.specs.declared.refusal.Refusal.{Refusal}
+use Rattle.pm_objects.specs.declared.refusal.Refusal.TheVariants as refusal
+use Rattle.pm_image.proofs.Members.{member_cases, no_member}
+use Rattle.pm_model.specs.declared.stage.Stage.TheVariants as stage
+use Rattle.pm_model.specs.Transaction.{Transaction, Lock as Locked, aborted, at_rest, is_locked, is_working}
+use Rattle.pm_model.specs.Bytes.{bytes_of, is_among, new_words, records_of}
+use Rattle.pm_model.specs.Checks.{Range, range_of, is_record, is_write, needs_write, is_lock_missing, is_not_locked, passes_end_of, passes_end, has_unrecorded, is_not_added, overfills, passes_log, first_refusal, words_in}
+use Rattle.pm_model.specs.Answers.{Told as Answered, Answers, IsDone, IsRefused, after_reply, changes_nothing, error_for, is_known}
+use Rattle.pm_model.specs.Step.{Runs, Step}
+use Rattle.pm_model.specs.History.{opened}
+use Rattle.pm_model.proofs.Alike.{after_refused}
+use Rattle.pm_view.specs.Area.{is_in_area}
+use Rattle.pm_view.specs.Log.{Recorded}
+use Rattle.pm_view.specs.View.{View}
+use Rattle.pm_world.specs.Records.{covers, is_recorded}
+use Rattle.pm_world.proofs.CrashLogs.{recorded_from}
+use Rattle.pm_crash.specs.Held.{HoldsPool}
+use Rattle.pm_crash.specs.OpenCall.{IsBefore, ComesTo, ComesToNothing, IsGivenUp, IsOpen, RunsTo, act_of, locks_of, told_in, words_recorded}
+use Rattle.pm_crash.specs.Operations.{HasRange, KeepsFound, IsHeld, IsNotAdded, IsNotHeld, IsReason, Overfills, Refuses, KeepsLane, TakesBack, Tells}
+use Rattle.pm_crash.proofs.CallWords.{call_works, held_is_locked, object_under, same_pool}
+use Rattle.pm_crash.proofs.Continued.{answers_done, told_once_more, two_same}
+use Rattle.pm_crash.proofs.KeptWords.{found_back, same_found}
+use Rattle.pm_crash.proofs.Passing.{fails_added, fails_end, fails_lock, fails_room, passes_all, unhindered, AsksNoLock, Works}
+use Rattle.pm_crash.proofs.RecordedWords.{among_recorded}
+use Rattle.pm_crash.proofs.Runs.{runs_once_more, runs_to_end}
+
+-- what was before the call, for the view before it was taken back
+pub taken_back : (v next : View) → KeepsLane v next → KeepsFound v next → TakesBack v next → ((i : ℕ) → is_recorded v.log.records i ≡ true → is_in_area v.lane i ≡ false)
+    → (w : ℕ → ℕ) → IsBefore next w → IsBefore v w
+taken_back v next lane finds back outside w before =
+    record {
+      recorded = λ slot r i at inside.
+          let covered : covers r (r.word + i) ≡ true = and_from (leb r.word (r.word + i)) (ltb (r.word + i) (r.word + length r.old)) (le-leb r.word (r.word + i) (omega arith)) (lt-ltb (r.word + i) (r.word + length r.old) (omega arith)) in
+          let is : is_recorded v.log.records (r.word + i) ≡ true = recorded_from v (r.word + i) slot r at covered in
+          ⊎_elim
+          (λ (none : next.log.records ≡ []).
+          before.known (r.word + i) (back.known slot r i at inside) (ap (λ (n : ℕ). is_in_area n (r.word + i)) lane.lane ∙ outside (r.word + i) is)
+          (ap (λ (records : List Recorded). is_recorded records (r.word + i)) none)
+          ∙ back.restored slot r i at inside)
+          (λ (same : next.log.records ≡ v.log.records). before.recorded slot r i (ap (λ (records : List Recorded). slice_get records slot) same ∙ at) inside)
+          back.records;
+      known = λ i known out none.
+          before.known i (lane.known i known) (ap (λ (n : ℕ). is_in_area n i) lane.lane ∙ out)
+          (⊎_elim
+          (λ (nothing : next.log.records ≡ []). ap (λ (records : List Recorded). is_recorded records i) nothing)
+          (λ (same : next.log.records ≡ v.log.records). ap (λ (records : List Recorded). is_recorded records i) same ∙ none)
+          back.records)
+          ∙ back.others i out none;
+      found = found_back v next lane finds w before;
+    }
+
+-- it recorded no word of its own area
+pub outside_taken_back : (v next : View) → KeepsLane v next → TakesBack v next → ((i : ℕ) → is_recorded v.log.records i ≡ true → is_in_area v.lane i ≡ false)
+    → (i : ℕ) → is_recorded next.log.records i ≡ true → is_in_area next.lane i ≡ false
+outside_taken_back v next lane back outside i is = ⊎_elim
+    (λ (none : next.log.records ≡ []). absurd (false≢true (sym (ap (λ (records : List Recorded). is_recorded records i) none) ∙ is)))
+    (λ (same : next.log.records ≡ v.log.records). ap (λ (n : ℕ). is_in_area n i) lane.lane ∙ outside i (sym (ap (λ (records : List Recorded). is_recorded records i) same) ∙ is))
+    back.records
+
+-- the operations on ranges ask for no lock, and are known
+ranged_asks : (op : Operation) (range : Range) → range_of op ≡ Some range → AsksNoLock op
+ranged_asks (AddRange id off len) range is = record { no_wants = refl; no_begin = refl }
+ranged_asks (Write id off bytes) range is = record { no_wants = refl; no_begin = refl }
+ranged_asks (Read id off len) range is = record { no_wants = refl; no_begin = refl }
+ranged_asks op range is = absurd cc
+
+ranged_known : (op : Operation) (range : Range) → range_of op ≡ Some range → is_known op ≡ true
+ranged_known (AddRange id off len) range is = refl
+ranged_known (Write id off bytes) range is = refl
+ranged_known (Read id off len) range is = refl
+ranged_known op range is = absurd cc
+
+record_is_no_write : (op : Operation) → is_record op ≡ true → is_write op ≡ false
+record_is_no_write (Write id off bytes) is = absurd (false≢true is)
+record_is_no_write op is = refl
+
+-- the checks of an operation on a range
+lock_check : (tx : Transaction) (op : Operation) (range : Range) → range_of op ≡ Some range → is_not_locked tx op ≡ is_lock_missing tx (needs_write op) range
+lock_check tx op range is = ap (λ (r : Option Range). option_map_or (is_lock_missing tx (needs_write op)) r false) is
+
+end_check : (tx : Transaction) (op : Operation) (range : Range) → range_of op ≡ Some range → passes_end tx op ≡ passes_end_of tx range
+end_check tx op range is = ap (λ (r : Option Range). option_map_or (passes_end_of tx) r false) is
+
+added_check : (tx : Transaction) (op : Operation) (range : Range) → range_of op ≡ Some range → is_not_added tx op ≡ (is_write op && has_unrecorded tx range)
+added_check tx op range is = ap (λ (r : Option Range). is_write op && option_map_or (has_unrecorded tx) r false) is
+
+room_check : (tx : Transaction) (op : Operation) (range : Range) → range_of op ≡ Some range → passes_log tx op ≡ (is_record op && overfills tx range)
+room_check tx op range is = ap (λ (r : Option Range). is_record op && option_map_or (overfills tx) r false) is
+
+-- a word that is not among those recorded
+not_all : (words xs : List ℕ) (x : ℕ) → Contains xs x → is_among words x ≡ false → list_all (is_among words) xs ≡ false
+not_all words [] x there none = absurd (no_member x there)
+not_all words (y ∷ xs) x there none = ⊎_elim
+    (λ (here : y ≡ x). and_left (is_among words y) (list_all (is_among words) xs) (ap (is_among words) here ∙ none))
+    (λ (later : Contains xs x). and_right (is_among words y) (list_all (is_among words) xs) (not_all words xs x later none))
+    (member_cases y xs x there)
+
+-- the transaction of the open call, and what it finds of a range
+record Asked (v : View) (w : ℕ → ℕ) (header : Header) (op : Operation) (range : Range) (tx : Transaction) : Type 0 where
+  works : Works tx
+  is_range : range_of op ≡ Some range
+  of_pool : tx.pool.id ≡ v.pool
+  locks : tx.locks ≡ locks_of v
+  recorded : tx.recorded ≡ words_recorded v.log.records
+  records : tx.records ≡ length v.log.records
+  long : (write : Bool) → (held : IsHeld v range.id write) → Contains v.known (8 * held.lock.line + 1) → length (bytes_of tx.pool.objects range.id.off) ≡ slice_index v.words (8 * held.lock.line + 1)
+
+asked_lock : (v : View) (w : ℕ → ℕ) (header : Header) (op : Operation) (range : Range) (tx : Transaction) → Asked v w header op range tx → IsHeld v range.id (needs_write op) → is_not_locked tx op ≡ false
+asked_lock v w header op range tx asked held = lock_check tx op range asked.is_range ∙ held_is_locked v range.id (needs_write op) tx held asked.locks asked.of_pool
+
+asked_end : (v : View) (w : ℕ → ℕ) (header : Header) (op : Operation) (range : Range) (tx : Transaction) → Asked v w header op range tx → HasRange v range.id range.off range.len (needs_write op) → passes_end tx op ≡ false
+asked_end v w header op range tx asked has =
+    let long = asked.long (needs_write op) has.object has.size_known in
+    let inside : range.off + range.len ≤ slice_index v.words (8 * has.object.lock.line + 1) = has.inside in
+    end_check tx op range asked.is_range ∙ le-ltb (length (bytes_of tx.pool.objects range.id.off)) (range.off + range.len) (omega arith)
+
+-- the operation is refused for the reason, and so the whole transaction is aborted
+record IsAbortedFor (tx : Transaction) (op : Operation) (r : Refusal) : Type 0 where
+  refused_first : first_refusal unhindered tx op ≡ Some r
+  traced : changes_nothing r ≡ false
+
+lock_is_missing : (v : View) (tx : Transaction) (id : Oid) (write : Bool) → tx.pool.id ≡ v.pool → tx.locks ≡ locks_of v → IsNotHeld v id write → not (eqb id.pool tx.pool.id && is_locked tx.locks id.off write) ≡ true
+lock_is_missing v tx id write of_pool locks unheld =
+    ap not (⊎_elim
+    (λ (same : id.pool ≡ tx.pool.id). and_right (eqb id.pool tx.pool.id) (is_locked tx.locks id.off write) (ap (λ (ls : List Locked). is_locked ls id.off write) locks ∙ unheld (same ∙ of_pool)))
+    (λ (other : id.pool ≢ tx.pool.id). and_left (eqb id.pool tx.pool.id) (is_locked tx.locks id.off write) (ne_eqb id.pool tx.pool.id other))
+    (cases_eq id.pool tx.pool.id))
+
+by_reason : (v : View) (w : ℕ → ℕ) (header : Header) (op : Operation) (range : Range) (tx : Transaction) (r : Refusal) → Asked v w header op range tx → IsReason v op range r → IsAbortedFor tx op r
+by_reason v w header op range tx refusal.NotLocked asked reason = record {
+  refused_first =
+      fails_lock tx op asked.works (ranged_asks op range asked.is_range)
+      (lock_check tx op range asked.is_range ∙ lock_is_missing v tx range.id (needs_write op) asked.of_pool asked.locks reason);
+  traced = refl;
+}
+by_reason v w header op range tx refusal.OutOfRange asked reason =
+    let long = asked.long (needs_write op) reason.object reason.size_known in
+    let outside : slice_index v.words (8 * reason.object.lock.line + 1) < range.off + range.len = reason.outside in
+    record {
+      refused_first =
+          fails_end tx op asked.works (ranged_asks op range asked.is_range) (asked_lock v w header op range tx asked reason.object)
+          (end_check tx op range asked.is_range ∙ lt-ltb (length (bytes_of tx.pool.objects range.id.off)) (range.off + range.len) (omega arith));
+      traced = refl;
+    }
+by_reason v w header op range tx refusal.NotAdded asked reason =
+    let missing : IsNotAdded v range.id range.off range.len (needs_write op) = reason.1 in
+    let none : is_among tx.recorded missing.word ≡ false = ap (λ (ws : List ℕ). is_among ws missing.word) asked.recorded ∙ among_recorded v.log.records missing.word ∙ missing.unrecorded in
+    record {
+      refused_first =
+          fails_added tx op asked.works (ranged_asks op range asked.is_range) (asked_lock v w header op range tx asked missing.range.object) (asked_end v w header op range tx asked missing.range)
+          (added_check tx op range asked.is_range ∙ and_from (is_write op) (has_unrecorded tx range) reason.0 (ap not (not_all tx.recorded (words_in range) missing.word missing.written none)));
+      traced = refl;
+    }
+by_reason v w header op range tx refusal.LogFull asked reason =
+    let full : Overfills v range.id range.off range.len (needs_write op) = reason.1 in
+    let records : tx.records ≡ length v.log.records = asked.records in
+    let number : length (records_of (new_words tx.recorded (words_in range))) ≡ length (records_of (new_words (words_recorded v.log.records) (words_in range))) =
+    ap (λ (ws : List ℕ). length (records_of (new_words ws (words_in range)))) asked.recorded in
+    let over : 64 < length v.log.records + length (records_of (new_words (words_recorded v.log.records) (words_in range))) = full.overfull in
+    record {
+      refused_first =
+          fails_room tx op asked.works (ranged_asks op range asked.is_range) (asked_lock v w header op range tx asked full.range.object) (asked_end v w header op range tx asked full.range)
+          (added_check tx op range asked.is_range ∙ and_left (is_write op) (has_unrecorded tx range) (record_is_no_write op reason.0))
+          (room_check tx op range asked.is_range
+          ∙ and_from (is_record op) (overfills tx range) reason.0 (lt-ltb 64 (tx.records + length (records_of (new_words tx.recorded (words_in range)))) (omega arith)));
+      traced = refl;
+    }
+by_reason v w header op range tx r asked reason = absurd reason
+
+refused_answers : (tx : Transaction) (op : Operation) (r : Refusal) → is_known op ≡ true → IsAbortedFor tx op r → Answers tx op (Some (Refused r))
+refused_answers tx op r known is = record {
+  known = known;
+  seen = unhindered;
+  answer =
+      subst (λ (fr : Option Refusal). MatchOption fr (IsDone tx op (Some (Refused r))) (λ (x : Refusal). IsRefused x (Some (Refused r)))) (sym is.refused_first)
+      (record { traced = is.traced; told = refl });
+}
+
+-- a call that was aborted came to nothing
+comes_to_nothing : (v next : View) (op : Operation) (reply : Option Value) (level : ℕ) (e : TxErr) (w : ℕ → ℕ) (header : Header) (pool : PoolView)
+    → next.call ≡ v.call ++ record { operation = op; reply = reply } ∷ [] → (c : ComesTo v w header pool level stage.Work error.None) → Answers c.tx op reply → after_reply op reply c.tx ≡ aborted e c.tx → ComesToNothing next pool e
+comes_to_nothing v next op reply level e w header pool call c answers aborts =
+    let last : Transaction = after_reply op reply c.tx in
+    record {
+      tx = last;
+      runs =
+          subst (λ (told : List Answered). RunsTo pool told last) (sym (told_once_more v next op reply call))
+          (runs_once_more (told_in v) (record { operation = op; reply = reply }) pool c.tx c.runs (ap is_working c.stands) answers);
+      stands = ap (λ (x : Transaction). x.stage) aborts;
+      fails = ap (λ (x : Transaction). x.error) aborts;
+      unchanged = ap (λ (x : Transaction). x.pool) aborts ∙ c.before;
+    }
+
+-- so a call is given up by an operation that aborts it
+pub gives_up : (v next : View) (op : Operation) (reply : Option Value) (level : ℕ) (e : TxErr) → IsOpen v level stage.Work error.None → KeepsLane v next → KeepsFound v next
+    → next.call ≡ v.call ++ record { operation = op; reply = reply } ∷ [] → TakesBack v next
+    → ((w : ℕ → ℕ) (header : Header) (pool : PoolView) → v.pool ≡ header.id → IsBefore v w → (c : ComesTo v w header pool level stage.Work error.None)
+    → Answers c.tx op reply × (after_reply op reply c.tx ≡ aborted e c.tx))
+    → IsGivenUp next e
+gives_up v next op reply level e is_open lane finds call back aborts = record {
+  outside = outside_taken_back v next lane back is_open.outside;
+  comes = λ w header pool holds id before.
+      let old_id : v.pool ≡ header.id = sym lane.pool ∙ id in
+      let old_before : IsBefore v w = taken_back v next lane finds back is_open.outside w before in
+      let old_holds : HoldsPool w v.lanes v.zones header pool = two_same (λ (n m : ℕ). HoldsPool w n m header pool) next.lanes v.lanes next.zones v.zones lane.lanes lane.zones holds in
+      let c : ComesTo v w header pool level stage.Work error.None = is_open.comes w header pool old_holds old_id old_before in
+      let how = aborts w header pool old_id old_before c in
+      comes_to_nothing v next op reply level e w header pool call c how.0 how.1;
+}
+
+pub refusal_gives_up : (v next : View) (op : Operation) (range : Range) (r : Refusal) (level : ℕ) → 1 ≤ level → IsOpen v level stage.Work error.None → Refuses v next op range r
+    → IsGivenUp next (error.Refused r)
+refusal_gives_up v next op range r level some is_open refuses =
+    gives_up v next op (Some (Refused r)) level (error.Refused r) is_open refuses.tells.keeps (same_found v next refuses.tells.locks) refuses.tells.call refuses.takes_back
+    (λ w header pool same_id before c.
+    let asked : Asked v w header op range c.tx = record {
+      works = call_works v w header pool level some is_open c;
+      is_range = refuses.is_range;
+      of_pool = same_pool v w header c.tx c.holds same_id;
+      locks = c.locks;
+      recorded = c.recorded;
+      records = c.records;
+      long = λ write held size_known. (object_under v w header pool level range.id write is_open before c held size_known).long;
+    } in
+    let is : IsAbortedFor c.tx op r = by_reason v w header op range c.tx r asked refuses.reason in
+    (refused_answers c.tx op r (ranged_known op range refuses.is_range) is, after_refused op (Some (Refused r)) c.tx r (record { traced = is.traced; told = refl })))
+
+-- an abort that is asked for
+pub abort_gives_up : (v next : View) (errnum level : ℕ) → 1 ≤ level → IsOpen v level stage.Work error.None → Tells v next (Abort errnum) None → TakesBack v next → IsGivenUp next (error_for errnum)
+abort_gives_up v next errnum level some is_open tells back =
+    gives_up v next (Abort errnum) None level (error_for errnum) is_open tells.keeps (same_found v next tells.locks) tells.call back
+    (λ w header pool same_id before c. (
+      answers_done c.tx (Abort errnum) None refl (record { no_wants = refl; no_begin = refl })
+          (passes_all c.tx (Abort errnum) (call_works v w header pool level some is_open c) (record { no_wants = refl; no_begin = refl }) refl refl refl refl) refl,
+      refl,
+    ))
+
+-- what was given up has run, and is a step that changes nothing
+aborted_runs : (told : List Answered) (pool : PoolView) (last : Transaction) → RunsTo pool told last → last.stage ≡ stage.OnAbort → Runs pool told last
+unfolding RunsTo
+aborted_runs [] pool last runs stands =
+    let rests : last ≡ at_rest pool = runs in
+    let clash : stage.None ≡ stage.OnAbort = sym (ap (λ (x : Transaction). x.stage) rests) ∙ stands in
+    absurd cc
+aborted_runs (t ∷ told) pool last runs stands = runs_to_end t told pool last runs (ap is_working stands)
+
+pub given_up_changes_nothing : (v : View) (e : TxErr) → IsGivenUp v e → (w : ℕ → ℕ) (header : Header) (pool : PoolView) → HoldsPool w v.lanes v.zones header pool → v.pool ≡ header.id → IsBefore v w
+    → Step (opened pool) (act_of v) (opened pool)
+given_up_changes_nothing v e given_up w header pool holds id before =
+    let c : ComesToNothing v pool e = given_up.comes w header pool holds id before in
+    record {
+      last = c.tx;
+      runs = aborted_runs (told_in v) pool c.tx c.runs c.stands;
+      leaves = ap opened (sym c.unchanged);
+    }

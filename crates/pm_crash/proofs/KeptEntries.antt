@@ -1,0 +1,121 @@
+-- What a power failure leaves of one lane's course: its history, or all of it but the last entry.
+use Rattle.std.proofs.Common.{◌≡◌, ◌≢◌, ⊎_elim, ℕ, suc, ◌+◌, ◌*◌, ◌<◌, ◌≤◌, Bool, true, false, not, List, [], ◌∷◌, length, take, slice_index, Option, Some, None, refl, sym, ◌∙◌, ap, subst, arith}
+use Rattle.std.specs.List.{Contains, filter}
+use Rattle.std.proofs.lemmas.Bool.{and_parts, cases_Bool, cases_eq, cond-false, cond-true, eqb-true, false_from_ne_true, false≢true, not_from_false}
+use Rattle.pm_header.specs.declared.header.Header.{Header}
+use Rattle.pm_objects.specs.declared.pool.PoolView.{PoolView}
+use Rattle.pm_image.specs.Logs.{recovered_at}
+use Rattle.pm_image.specs.Reads.{IsHeapWord}
+use Rattle.pm_image.proofs.InPlace.{recovered_in_place}
+use Rattle.pm_image.proofs.Members.{first_member, later_member, member_cases}
+use Rattle.pm_view.specs.Log.{Phase}
+use Rattle.pm_view.specs.Log.Phase.{Idle}
+use Rattle.pm_view.specs.View.{View}
+use Rattle.pm_world.specs.Course.{is_number}
+use Rattle.pm_world.specs.Crash.{IsAcknowledged, NoneTorn, Survives, is_deciding_in, is_kept, is_lost, loses}
+use Rattle.pm_world.specs.History.{AreNumbered, Entry}
+use Rattle.pm_world.specs.Memory.{Memory}
+use Rattle.pm_world.specs.Opening.{Opening}
+use Rattle.pm_world.specs.World.{Views}
+use Rattle.pm_world.proofs.CrashLaw.{crash_law}
+use Rattle.pm_world.proofs.Losses.{acknowledged, some_lane}
+use Rattle.pm_crash.specs.OneLane.{Begins, HoldsReplay, IsCourse, Moment, Move, beginning, kept_entries}
+use Rattle.pm_crash.proofs.HeapWordsAlone.{held_by_heap}
+use Rattle.pm_crash.proofs.LongerReplays.{replayed_without, words_after}
+use Rattle.pm_crash.proofs.OneCourse.{Goes, Reaches, goes_along, goes_first}
+
+is_number-some : (number : Option ℕ) (n : ℕ) → is_number number n ≡ true → number ≡ Some n
+is_number-some None n e = absurd (false≢true e)
+is_number-some (Some m) n e = ap Some (eqb-true m n e)
+
+-- where all entries but the last pass the test, those that pass are the first so many
+record FirstOf (log entries : List Entry) : Type 0 where
+  count : ℕ
+  within : count ≤ length log
+  are : entries ≡ take count log
+
+first_of : (keep : Entry → Bool) (n : ℕ) (log : List Entry) → AreNumbered n log → ((e : Entry) → Contains log e → e.number + 1 < n + length log → keep e ≡ true) → FirstOf log (filter keep log)
+unfolding AreNumbered
+first_of keep n [] numbered earlier = record { count = 0; within = omega arith; are = refl }
+first_of keep n (e ∷ []) numbered earlier = ⊎_elim
+    (λ (kept : keep e ≡ true). record { count = 1; within = omega arith; are = cond-true (keep e) (e ∷ []) [] kept })
+    (λ (lost : keep e ≡ false). record { count = 0; within = omega arith; are = cond-false (keep e) (e ∷ []) [] lost })
+    (cases_Bool (keep e))
+first_of keep n (e ∷ d ∷ log) numbered earlier =
+    let number = numbered.0 in
+    let kept : keep e ≡ true = earlier e (first_member e (d ∷ log)) (omega arith) in
+    let rest = first_of keep (n + 1) (d ∷ log) numbered.1 (λ x there low. earlier x (later_member e (d ∷ log) x there) (omega arith)) in
+    let few = rest.within in
+    record {
+      count = suc rest.count;
+      within = omega arith;
+      are = cond-true (keep e) (e ∷ filter keep (d ∷ log)) (filter keep (d ∷ log)) kept ∙ ap (λ (es : List Entry). e ∷ es) rest.are;
+    }
+
+-- an entry that passes is there
+pub passes_there : (keep : Entry → Bool) (log : List Entry) (e : Entry) → Contains log e → keep e ≡ true → Contains (filter keep log) e
+passes_there keep [] e there kept = there
+passes_there keep (d ∷ log) e there kept = ⊎_elim
+    (λ (here : d ≡ e).
+    let passes : keep d ≡ true = ap keep here ∙ kept in
+    subst (λ (es : List Entry). Contains es e) (sym (cond-true (keep d) (d ∷ filter keep log) (filter keep log) passes)) (subst (λ (x : Entry). Contains (x ∷ filter keep log) e) (sym here) (first_member e (filter keep log))))
+    (λ (later : Contains log e).
+    let rest : Contains (filter keep log) e = passes_there keep log e later kept in
+    ⊎_elim
+    (λ (passes : keep d ≡ true). subst (λ (es : List Entry). Contains es e) (sym (cond-true (keep d) (d ∷ filter keep log) (filter keep log) passes)) (later_member d (filter keep log) e rest))
+    (λ (fails : keep d ≡ false). subst (λ (es : List Entry). Contains es e) (sym (cond-false (keep d) (d ∷ filter keep log) (filter keep log) fails)) rest)
+    (cases_Bool (keep d)))
+    (member_cases d log e there)
+
+module _ (o : Opening) (k : ℕ) (header : Header) (pool : PoolView) (m : Moment) (g : Goes o k header pool m) (image : List ℕ) where
+  idle_keeps : (v : View) (n : ℕ) (phase : Phase) → phase ≡ Idle → v.log.phase ≡ phase → loses image v n ≡ true → ⊥
+  idle_keeps v n phase idle is e =
+      let t = and_parts (is_number v.number n) (not (is_deciding_in image v v.log.phase)) e in
+      false≢true (sym (ap (λ (p : Phase). not (is_deciding_in image v p)) (is ∙ idle)) ∙ t.1)
+
+  -- only the last entry can be lost
+  lost_last : (n : ℕ) → is_lost o m.views image n ≡ true → n ≡ length m.log
+  lost_last n lost =
+      let t = some_lane (λ j. loses image (m.views j) n) 0 o.lanes lost in
+      ⊎_elim
+      (λ (same : t.0 ≡ k).
+      let e : loses image (m.views k) n ≡ true = subst (λ j. loses image (m.views j) n ≡ true) same t.3 in
+      g.newest n (is_number-some (m.views k).number n (and_parts (is_number (m.views k).number n) (not (is_deciding_in image (m.views k) (m.views k).log.phase)) e).0))
+      (λ (other : t.0 ≢ k). absurd (idle_keeps (m.views t.0) n Idle refl (g.others t.0 (let high = t.2 in omega arith) other) t.3))
+      (cases_eq t.0 k)
+
+  kept_first : FirstOf m.log (kept_entries o m image)
+  kept_first =
+      first_of (λ (e : Entry). is_kept o m.views image e.number) 1 m.log g.world.numbered
+      (λ e there low. not_from_false (is_lost o m.views image e.number) (false_from_ne_true (is_lost o m.views image e.number) (λ lost. let last = lost_last e.number lost in omega arith)))
+
+  kept_reached : Reaches o header pool (kept_entries o m image)
+  kept_reached = subst (Reaches o header pool) (sym kept_first.are) (g.reached kept_first.count kept_first.within)
+
+  pub image_replays : Survives o m.memory m.views image → NoneTorn o m.views image → HoldsReplay (recovered_at image o.lanes) o.lanes o.zones header pool (kept_entries o m image)
+  image_replays survives whole = record {
+    last = kept_reached.last;
+    replays = kept_reached.replays;
+    holds =
+        held_by_heap (words_after (slice_index o.words) (kept_entries o m image)) (recovered_at image o.lanes) o.lanes o.zones header kept_reached.last kept_reached.holds
+        (λ i heap. recovered_in_place image o.lanes i (inside i heap)
+        ∙ crash_law o m.memory m.views m.log m.decided image g.world survives whole i heap
+        ∙ replayed_without (is_kept o m.views image) m.log i (slice_index o.words i));
+  } where
+    inside : (i : ℕ) → IsHeapWord o.lanes o.zones i → i < length image
+    inside i heap =
+        let size = g.world.sound.size in
+        let long = survives.size in
+        ⊎_elim (λ (root : i ≡ 64). omega arith) (λ (zone : (512 + 1024 * o.lanes ≤ i) × (i < 512 + 1024 * o.lanes + 33280 * o.zones)). let high = zone.1 in omega arith) heap
+
+  pub acknowledged_kept : (e : Entry) → Contains m.log e → IsAcknowledged m.views e → Contains (kept_entries o m image) e
+  acknowledged_kept e there ended =
+      passes_there (λ (d : Entry). is_kept o m.views image d.number) m.log e there (acknowledged o m.memory m.views m.log m.decided image e g.world there ended)
+
+module _ (o : Opening) (memory : Memory) (views : Views) (k : ℕ) (header : Header) (pool : PoolView) (steps : List Move) (m : Moment) (image : List ℕ) where
+  pub replay_held : Begins o memory views k header pool → IsCourse k (beginning memory views) steps m → Survives o m.memory m.views image → NoneTorn o m.views image
+      → HoldsReplay (recovered_at image o.lanes) o.lanes o.zones header pool (kept_entries o m image)
+  replay_held begins course = image_replays o k header pool m (goes_along o k header pool (beginning memory views) steps m (goes_first o memory views k header pool begins) course) image
+
+  pub ended_kept : Begins o memory views k header pool → IsCourse k (beginning memory views) steps m → (e : Entry) → Contains m.log e → IsAcknowledged m.views e → Contains (kept_entries o m image) e
+  ended_kept begins course = acknowledged_kept o k header pool m (goes_along o k header pool (beginning memory views) steps m (goes_first o memory views k header pool begins) course) image

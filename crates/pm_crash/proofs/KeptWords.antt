@@ -1,0 +1,73 @@
+-- Words that stay while operations are told, and what was before the call.
+use Rattle.std.proofs.Common.{◌≡◌, ⊎_elim, ℕ, true, false, cond, List, slice_get, slice_index, Some, refl, sym, ◌∙◌, ap, subst}
+use Rattle.std.specs.List.{Contains}
+use Rattle.std.proofs.lemmas.Bool.{cases_Bool, cond-true, cond-false}
+use Rattle.pm_image.specs.Blocks.{blocks}
+use Rattle.pm_view.specs.Area.{is_in_area}
+use Rattle.pm_view.specs.Log.{Recorded}
+use Rattle.pm_view.specs.View.{View, Lock}
+use Rattle.pm_world.specs.Records.{is_recorded}
+use Rattle.pm_crash.specs.OpenCall.{IsBefore, call_words, block_at_line}
+use Rattle.pm_crash.specs.Operations.{IsFoundUnder, KeepsFound, KeepsLane, KeepsLog, KeepsWords}
+use Rattle.pm_crash.proofs.Continued.{two_same, GoesBack}
+
+-- the same locks are of the same lines
+pub same_found : (v next : View) → next.locks ≡ v.locks → KeepsFound v next
+same_found v next locks l lines held block = record { lock = l; held = subst (λ (ls : List Lock). Contains ls l) (sym locks) held; of_line = refl; block = block }
+
+-- the blocks that were found are there for the view before too
+pub found_back : (v next : View) → KeepsLane v next → KeepsFound v next → (w : ℕ → ℕ) → IsBefore next w
+    → (l : Lock) (lines : ℕ) → Contains v.locks l → l.block ≡ Some lines → Contains (blocks w v.lanes v.zones) (block_at_line l.line lines)
+found_back v next lane finds w before l lines held block =
+    let found : IsFoundUnder next l.line lines = finds l lines held block in
+    subst (λ (line : ℕ). Contains (blocks w v.lanes v.zones) (block_at_line line lines)) found.of_line
+    (two_same (λ (n m : ℕ). Contains (blocks w n m) (block_at_line found.lock.line lines)) next.lanes v.lanes next.zones v.zones lane.lanes lane.zones
+    (before.found found.lock lines found.held found.block))
+
+-- where no word is newly recorded, and those that are not stay
+pub before_back : (v next : View) → KeepsLane v next → KeepsFound v next → KeepsLog v next
+    → ((i : ℕ) → is_in_area v.lane i ≡ false → is_recorded v.log.records i ≡ false → slice_index next.words i ≡ slice_index v.words i)
+    → (w : ℕ → ℕ) → IsBefore next w → IsBefore v w
+before_back v next lane finds logs stay w before =
+    record {
+      recorded = λ slot r i at inside. before.recorded slot r i (ap (λ (records : List Recorded). slice_get records slot) logs.records ∙ at) inside;
+      known = λ i known outside none.
+          before.known i (lane.known i known) (ap (λ (n : ℕ). is_in_area n i) lane.lane ∙ outside) (ap (λ (records : List Recorded). is_recorded records i) logs.records ∙ none)
+          ∙ stay i outside none;
+      found = found_back v next lane finds w before;
+    }
+
+-- nor is a word of the lane's own area recorded
+pub outside_kept : (v next : View) → KeepsLane v next → KeepsLog v next → ((i : ℕ) → is_recorded v.log.records i ≡ true → is_in_area v.lane i ≡ false)
+    → (i : ℕ) → is_recorded next.log.records i ≡ true → is_in_area next.lane i ≡ false
+outside_kept v next lane logs outside i is =
+    ap (λ (n : ℕ). is_in_area n i) lane.lane ∙ outside i (sym (ap (λ (records : List Recorded). is_recorded records i) logs.records) ∙ is)
+
+pub goes_back : (v next : View) → KeepsLane v next → KeepsFound v next → KeepsLog v next
+    → ((i : ℕ) → is_in_area v.lane i ≡ false → is_recorded v.log.records i ≡ false → slice_index next.words i ≡ slice_index v.words i)
+    → ((i : ℕ) → is_recorded v.log.records i ≡ true → is_in_area v.lane i ≡ false) → GoesBack v next
+goes_back v next lane finds logs stay outside = record {
+  outside = λ i is. outside i (sym (ap (λ (records : List Recorded). is_recorded records i) logs.records) ∙ is);
+  before = before_back v next lane finds logs stay;
+}
+
+-- the words of the call after, by the records before
+pub same_records : (v next : View) (w : ℕ → ℕ) (i : ℕ) → KeepsLog v next → call_words next w i ≡ cond (is_recorded v.log.records i) (slice_index next.words i) (w i)
+same_records v next w i logs = ap (λ (records : List Recorded). cond (is_recorded records i) (slice_index next.words i) (w i)) logs.records
+
+-- where words and log stay, the words of the call do
+pub same_call_word : (v next : View) → KeepsLog v next → KeepsWords v next → ((i : ℕ) → is_recorded v.log.records i ≡ true → is_in_area v.lane i ≡ false)
+    → (w : ℕ → ℕ) (i : ℕ) → call_words next w i ≡ call_words v w i
+same_call_word v next logs keeps outside w i =
+    same_records v next w i logs
+    ∙ ⊎_elim
+    (λ (is : is_recorded v.log.records i ≡ true).
+    cond-true (is_recorded v.log.records i) (slice_index next.words i) (w i) is ∙ keeps.words i (outside i is)
+    ∙ sym (cond-true (is_recorded v.log.records i) (slice_index v.words i) (w i) is))
+    (λ (is : is_recorded v.log.records i ≡ false).
+    cond-false (is_recorded v.log.records i) (slice_index next.words i) (w i) is ∙ sym (cond-false (is_recorded v.log.records i) (slice_index v.words i) (w i) is))
+    (cases_Bool (is_recorded v.log.records i))
+
+pub same_call_words : (v next : View) → KeepsLog v next → KeepsWords v next → ((i : ℕ) → is_recorded v.log.records i ≡ true → is_in_area v.lane i ≡ false)
+    → (w : ℕ → ℕ) → call_words next w ≡ call_words v w
+same_call_words v next logs keeps outside w = (λ j i. same_call_word v next logs keeps outside w i j)

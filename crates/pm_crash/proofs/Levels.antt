@@ -1,0 +1,172 @@
+-- Further levels of a transaction: one begins with more locks, and an inner one commits.
+use Rattle.std.proofs.Common.{◌≡◌, ℕ, ◌+◌, ◌<◌, ◌≤◌, Bool, true, false, cond, eqb, leb, ltb, List, [], ◌∷◌, length, map, get_or, Option, None, MatchOption, refl, sym, ◌∙◌, ap, subst, arith}
+use Rattle.std.specs.Prelude.{IsSome}
+use Rattle.std.specs.List.{Contains, find}
+use Rattle.std.specs.Option.{option_map}
+use Rattle.std.proofs.lemmas.Bool.{and_from, cond-false, eq-eqb, le-ltb, lt-leb}
+use Rattle.std.proofs.lemmas.List.{length-map}
+use Rattle.std.proofs.lemmas.List.Elements.{Contains-get_or}
+use Rattle.pm_header.specs.declared.header.Header.{Header}
+use Rattle.pm_objects.specs.Pool.{object_at}
+use Rattle.pm_objects.specs.declared.calls.Operation.{Operation}
+use Rattle.pm_objects.specs.declared.calls.Operation.TheVariants.{Begin, Commit}
+use Rattle.pm_objects.specs.declared.calls.Want.{Want}
+use Rattle.pm_objects.specs.declared.history.TxErr.{TxErr}
+use Rattle.pm_objects.specs.declared.history.TxErr.TheVariants as error
+use Rattle.pm_objects.specs.declared.pool.Object.{Object}
+use Rattle.pm_objects.specs.declared.pool.PoolView.{PoolView}
+use Rattle.pm_objects.specs.declared.refusal.Refusal.{Refusal}
+use Rattle.pm_objects.specs.declared.refusal.Refusal.TheVariants as refusal
+use Rattle.pm_image.specs.declared.block.Block.{Block}
+use Rattle.pm_image.specs.Blocks.{blocks}
+use Rattle.pm_image.specs.Contents.{size_in}
+use Rattle.pm_model.specs.declared.stage.Stage.TheVariants as stage
+use Rattle.pm_model.specs.Places.{can_begin, has_place}
+use Rattle.pm_model.specs.Transaction.{Transaction, Lock as Locked, at_rest, committed, ended_inner, is_unharmed, locked_all}
+use Rattle.pm_model.specs.Checks.{is_too_deep, passes_locks, wants_no_place, first_refusal}
+use Rattle.pm_model.specs.Answers.{IsDone, IsRefused, after_reply}
+use Rattle.pm_view.specs.Log.{Recorded}
+use Rattle.pm_view.specs.View.{View}
+use Rattle.pm_crash.specs.Held.{HoldsPool}
+use Rattle.pm_crash.specs.OpenCall.{IsBefore, ComesTo, IsOpen, block_at_line, call_words, lock_of, locks_of, words_recorded}
+use Rattle.pm_crash.specs.Operations.{BeginsLevel, IsHeld, IsWantHeld, KeepsLog, KeepsWords, Tells}
+use Rattle.pm_crash.proofs.Begun.{all_pass, none_fails}
+use Rattle.pm_crash.proofs.CallWords.{call_works, same_pool}
+use Rattle.pm_crash.proofs.Continued.{answers_done, next_comes, still_open, two_same, Continues}
+use Rattle.pm_crash.proofs.KeptWords.{before_back, goes_back, outside_kept, same_call_words, same_found}
+use Rattle.pm_crash.proofs.ObjectsOfBlocks.{object_is_there}
+use Rattle.pm_crash.proofs.Passing.{no_tx, no_work, not_busy, not_missing, not_spent, passes_all, unhindered, Works}
+
+-- an inner commit leaves one level less, and changes nothing else
+commits_inner : (tx : Transaction) (level : ℕ) → 1 ≤ level → tx.level ≡ level + 1 → after_reply Commit None tx ≡ ended_inner (committed tx)
+commits_inner tx level some levels = cond-false (leb tx.level 1) (at_rest tx.pool) (ended_inner (committed tx)) (lt-leb tx.level 1 (omega arith))
+
+pub inner_commit_keeps_open : (v next : View) (level : ℕ) → 1 ≤ level → IsOpen v (level + 1) stage.Work error.None → Tells v next Commit None → KeepsLog v next → KeepsWords v next
+    → IsOpen next level stage.Work error.None
+inner_commit_keeps_open v next level some is_open tells logs keeps =
+    still_open v next (level + 1) level Commit None is_open tells
+    (goes_back v next tells.keeps (same_found v next tells.locks) logs (λ i outside none. keeps.words i outside) is_open.outside)
+    (λ w header pool same_id before next_before c.
+    let same : call_words next w ≡ call_words v w = same_call_words v next logs keeps is_open.outside w in
+    let levels : c.tx.level ≡ level + 1 = c.levels in
+    let ends : after_reply Commit None c.tx ≡ ended_inner (committed c.tx) = commits_inner c.tx level some levels in
+    let works : Works c.tx = call_works v w header pool (level + 1) (omega arith) is_open c in
+    record {
+      answers =
+          answers_done c.tx Commit None refl (record { no_wants = refl; no_begin = refl }) (passes_all c.tx Commit works (record { no_wants = refl; no_begin = refl }) refl refl refl refl) refl;
+      holds =
+          subst (λ (x : Transaction). HoldsPool (call_words next w) v.lanes v.zones header x.pool) (sym ends)
+          (subst (λ (f : ℕ → ℕ). HoldsPool f v.lanes v.zones header c.tx.pool) (sym same) c.holds);
+      before = ap (λ (x : Transaction). x.before) ends;
+      locks = ap (λ (x : Transaction). x.locks) ends ∙ c.locks ∙ ap (map lock_of) (sym tells.locks);
+      recorded = ap (λ (x : Transaction). x.recorded) ends ∙ c.recorded ∙ ap words_recorded (sym logs.records);
+      records = ap (λ (x : Transaction). x.records) ends ∙ c.records ∙ ap (λ (rs : List Recorded). length rs) (sym logs.records);
+      levels = ap (λ (x : Transaction). x.level) ends ∙ omega arith;
+      stands = ap (λ (x : Transaction). x.stage) ends ∙ ap (λ (e : TxErr). cond (is_unharmed e) stage.Work stage.OnAbort) c.fails ∙ sym c.stands;
+      fails = ap (λ (x : Transaction). x.error) ends;
+      blocks_stay = ap (λ (f : ℕ → ℕ). blocks f v.lanes v.zones) same;
+      sizes_stay = λ block there. ap (λ (f : ℕ → ℕ). size_in f block) same;
+    })
+
+-- the checks of a begin inside a transaction
+further_passes : (tx : Transaction) (wants : List Want) → Works tx → tx.level < 64 → ((want : Want) → Contains wants want → has_place tx.pool want.id ≡ true)
+    → length (locked_all wants tx.locks) ≤ 64 → first_refusal unhindered tx (Begin wants) ≡ None
+unfolding first_refusal
+further_passes tx wants works shallow places few =
+    let op : Operation = Begin wants in
+    let placed : Want → Bool = λ want. has_place tx.pool want.id in
+    let deep : is_too_deep tx op ≡ false = lt-leb 64 tx.level (omega arith) in
+    let locks : passes_locks tx op ≡ false =
+    ap (λ (ws : List Want). ltb 64 (length (locked_all ws tx.locks))) (all_pass placed wants places) ∙ le-ltb 64 (length (locked_all wants tx.locks)) few in
+    let place : wants_no_place tx op ≡ false = none_fails placed wants places in
+    (λ j. option_map (λ (check : Refusal × Bool). check.0) (find (λ (check : Refusal × Bool). check.1)
+    ((refusal.NotWork, no_work tx works j)
+    ∷ (refusal.NoTx, no_tx tx op works j)
+    ∷ (refusal.Spent, not_spent tx j)
+    ∷ (refusal.Deep, deep j)
+    ∷ (refusal.LocksFull, locks j)
+    ∷ (refusal.NotLocked, false)
+    ∷ (refusal.NoObject, place j)
+    ∷ (refusal.Busy, not_busy tx op j)
+    ∷ (refusal.NoObject, not_missing tx op j)
+    ∷ (refusal.OutOfRange, false)
+    ∷ (refusal.NotAdded, false)
+    ∷ (refusal.LogFull, false)
+    ∷ [])))
+
+-- what is wanted has a place in the transaction's pool, and an object is there
+record IsWantThere (tx : Transaction) (want : Want) : Type 0 where
+  place : has_place tx.pool want.id ≡ true
+  there : IsSome (object_at tx.pool.objects want.id.off)
+
+want_is_there : (v next : View) (wants : List Want) (level : ℕ) (w : ℕ → ℕ) (header : Header) (pool : PoolView) (want : Want) → BeginsLevel v next wants → v.pool ≡ header.id → IsBefore next w
+    → (c : ComesTo v w header pool level stage.Work error.None) → IsWantHeld next want → IsWantThere c.tx want
+want_is_there v next wants level w header pool want begins id before c wanted =
+    let held : IsHeld next want.id want.write = wanted.held in
+    let block : Block = block_at_line held.lock.line held.lines in
+    let was_there : Contains (blocks w v.lanes v.zones) block =
+    two_same (λ (n m : ℕ). Contains (blocks w n m) block) next.lanes v.lanes next.zones v.zones begins.keeps.lanes begins.keeps.zones (before.found held.lock held.lines held.held held.block) in
+    let is_there : Contains (blocks (call_words v w) v.lanes v.zones) block = subst (λ (bs : List Block). Contains bs block) (sym c.blocks_stay) was_there in
+    let object = object_is_there (call_words v w) v.lanes v.zones header c.tx.pool block c.holds is_there in
+    record {
+      place =
+          and_from (eqb want.id.pool c.tx.pool.id) (can_begin c.tx.pool.lanes c.tx.pool.zones want.id.off)
+          (eq-eqb want.id.pool c.tx.pool.id (held.of_pool ∙ begins.keeps.pool ∙ sym (same_pool v w header c.tx c.holds id)))
+          (ap (λ (p : PoolView). can_begin p.lanes p.zones want.id.off) c.holds.is_pool
+          ∙ two_same (λ (n m : ℕ). can_begin n m want.id.off ≡ true) next.lanes v.lanes next.zones v.zones begins.keeps.lanes begins.keeps.zones wanted.place);
+      there = subst (λ (o : Option Object). IsSome o) (sym (ap (object_at c.tx.pool.objects) held.place ∙ object.found)) refl;
+    }
+
+further_continues : (v next : View) (wants : List Want) (level : ℕ) → 1 ≤ level → level < 64 → IsOpen v level stage.Work error.None → BeginsLevel v next wants
+    → (w : ℕ → ℕ) (header : Header) (pool : PoolView) → v.pool ≡ header.id → IsBefore next w → (c : ComesTo v w header pool level stage.Work error.None)
+    → Continues v next w header (Begin wants) None (level + 1) c.tx
+further_continues v next wants level some shallow is_open begins w header pool id before c =
+    let works : Works c.tx = call_works v w header pool level some is_open c in
+    let levels : c.tx.level ≡ level = c.levels in
+    let there : (want : Want) → Contains wants want → IsWantThere c.tx want =
+    λ want inside. want_is_there v next wants level w header pool want begins id before c (begins.takes.wanted want inside) in
+    let locks : locked_all wants c.tx.locks ≡ locks_of next = ap (locked_all wants) c.locks ∙ sym begins.takes.locks in
+    let long : length (locked_all wants c.tx.locks) ≡ length next.locks = ap (λ (ls : List Locked). length ls) locks ∙ length-map next.locks lock_of in
+    let few : length next.locks ≤ 64 = begins.takes.few in
+    let passes : first_refusal unhindered c.tx (Begin wants) ≡ None = further_passes c.tx wants works (omega arith) (λ want inside. (there want inside).place) (omega arith) in
+    let done : IsDone c.tx (Begin wants) None = record {
+      there = λ k d inside first. (there (get_or wants k d) (Contains-get_or wants k d inside)).there;
+      value = refl;
+    } in
+    let same : call_words next w ≡ call_words v w = same_call_words v next begins.logs begins.words is_open.outside w in
+    record {
+      answers = record {
+        known = refl;
+        seen = unhindered;
+        answer = subst (λ (fr : Option Refusal). MatchOption fr (IsDone c.tx (Begin wants) None) (λ r. IsRefused r None)) (sym passes) done;
+      };
+      holds = subst (λ (f : ℕ → ℕ). HoldsPool f v.lanes v.zones header c.tx.pool) (sym same) c.holds;
+      before = refl;
+      locks = locks;
+      recorded = c.recorded ∙ ap words_recorded (sym begins.logs.records);
+      records = c.records ∙ ap (λ (rs : List Recorded). length rs) (sym begins.logs.records);
+      levels = omega arith;
+      stands = sym c.stands;
+      fails = refl;
+      blocks_stay = ap (λ (f : ℕ → ℕ). blocks f v.lanes v.zones) same;
+      sizes_stay = λ block there. ap (λ (f : ℕ → ℕ). size_in f block) same;
+    }
+
+pub further_begin_opens : (v next : View) (wants : List Want) (level : ℕ) → 1 ≤ level → level < 64 → IsOpen v level stage.Work error.None → BeginsLevel v next wants
+    → IsOpen next (level + 1) stage.Work error.None
+further_begin_opens v next wants level some shallow is_open begins =
+    let lane : next.lane ≡ v.lane = begins.keeps.lane in
+    let lanes : next.lanes ≡ v.lanes = begins.keeps.lanes in
+    let inside : v.lane < v.lanes = is_open.in_lanes in
+    record {
+      in_lanes = omega arith;
+      few = begins.takes.few;
+      chunks = begins.takes.chunks;
+      outside = outside_kept v next begins.keeps begins.logs is_open.outside;
+      comes = λ w header pool holds id before.
+          let old_id : v.pool ≡ header.id = sym begins.keeps.pool ∙ id in
+          let old_before : IsBefore v w = before_back v next begins.keeps begins.finds begins.logs (λ i outside none. begins.words.words i outside) w before in
+          let old_holds : HoldsPool w v.lanes v.zones header pool = two_same (λ (n m : ℕ). HoldsPool w n m header pool) next.lanes v.lanes next.zones v.zones begins.keeps.lanes begins.keeps.zones holds in
+          let c : ComesTo v w header pool level stage.Work error.None = is_open.comes w header pool old_holds old_id old_before in
+          next_comes v next level (level + 1) (Begin wants) None w header pool begins.keeps begins.call c (further_continues v next wants level some shallow is_open begins w header pool old_id before c);
+    }

@@ -1,0 +1,229 @@
+-- The course of one lane: its history is the plain model's, entry by entry.
+use Rattle.std.proofs.Common.{◌≡◌, ◌≢◌, ◌⊎◌, ⊎_elim, inl, inr, ℕ, ◌+◌, ◌<◌, ◌≤◌, List, [], ◌∷◌, ◌++◌, length, take, slice_index, Some, refl, sym, ◌∙◌, ap, subst, arith}
+use Rattle.std.specs.List.{Contains}
+use Rattle.std.proofs.lemmas.Bool.{cases_lt}
+use Rattle.std.proofs.lemmas.List.{length-append, take-append-le, take_all}
+use Rattle.std.proofs.lemmas.List.Elements.{Contains-append_cases}
+use Rattle.std.proofs.lemmas.Option.{none-some}
+use Rattle.pm_header.specs.declared.header.Header.{Header}
+use Rattle.pm_objects.specs.declared.pool.PoolView.{PoolView}
+use Rattle.pm_image.proofs.Members.{no_member, only_member}
+use Rattle.pm_view.specs.Log.{Phase}
+use Rattle.pm_view.specs.Log.Phase.{Idle, Open, Drawn, Sealing, Applying, Clearing, Retiring}
+use Rattle.pm_view.specs.Steps.{Step}
+use Rattle.pm_view.specs.Steps.Step.{Load, Store, Or, And, Flush, Drain, TakeWrite, TakeRead, Raise, Give, ZoneTry, ZoneGive, Occupied, Occupy, Vacate, Draw, NumberSeen, StopSeen, SetStop, Tell}
+use Rattle.pm_view.specs.View.{View}
+use Rattle.pm_view.specs.Views.{after, begun}
+use Rattle.pm_view.proofs.SameLane.{same_lane-after}
+use Rattle.pm_world.specs.Course.{entry_of, log_after}
+use Rattle.pm_world.specs.Fits.{PhaseFits}
+use Rattle.pm_world.specs.History.{Entry, Flies, made_final, replayed}
+use Rattle.pm_world.specs.Laws.{Keeps}
+use Rattle.pm_world.specs.Memory.{Memory}
+use Rattle.pm_world.specs.Memory.Location.{CommitCounter}
+use Rattle.pm_world.specs.Opening.{Opening}
+use Rattle.pm_world.specs.Records.{difference_of}
+use Rattle.pm_world.specs.World.{Views, World}
+use Rattle.pm_world.proofs.Frame.{view_else, view_here}
+use Rattle.pm_world.proofs.OpeningLaw.{opening_law}
+use Rattle.pm_world.proofs.StepDrain.{drains}
+use Rattle.pm_world.proofs.StepDraw.{draws}
+use Rattle.pm_world.proofs.StepFlush.{flushes}
+use Rattle.pm_world.proofs.StepGive.{gives}
+use Rattle.pm_world.proofs.StepLoad.{loads}
+use Rattle.pm_world.proofs.StepSeen.{sees_numbers, sees_stops, tells}
+use Rattle.pm_world.proofs.StepSetStop.{sets_stop}
+use Rattle.pm_world.proofs.StepStore.{stores}
+use Rattle.pm_world.proofs.StepTake.{takes_read, takes_write}
+use Rattle.pm_crash.specs.Held.{HoldsPool}
+use Rattle.pm_crash.specs.OneLane.{Begins, HoldsReplay, IsCourse, Makes, Moment, Move, beginning, moved}
+use Rattle.pm_crash.specs.OpenCall.{MakesStep, call_words}
+use Rattle.pm_crash.proofs.Continued.{two_same}
+use Rattle.pm_crash.proofs.Differing.{difference_makes_call}
+use Rattle.pm_crash.proofs.DrawnWords.{drawn_before}
+use Rattle.pm_crash.proofs.HeapWordsAlone.{held_by_heap}
+use Rattle.pm_crash.proofs.LongerReplays.{holds_once_more, words_after}
+
+-- each step keeps the world
+keeps_each : (s : Step) → Keeps s
+keeps_each (Load w x) = loads w x
+keeps_each (Store w x) = stores w x
+keeps_each (Or w bits found) = λ o old new views log decided k v world inside is lawful moves. absurd moves
+keeps_each (And w bits found) = λ o old new views log decided k v world inside is lawful moves. absurd moves
+keeps_each (Flush line) = flushes line
+keeps_each Drain = drains
+keeps_each (TakeWrite line won) = takes_write line won
+keeps_each (TakeRead line won) = takes_read line won
+keeps_each (Raise line won) = λ o old new views log decided k v world inside is lawful moves. absurd moves
+keeps_each (Give line) = gives line
+keeps_each (ZoneTry zone won) = λ o old new views log decided k v world inside is lawful moves. absurd moves
+keeps_each (ZoneGive zone) = λ o old new views log decided k v world inside is lawful moves. absurd moves
+keeps_each (Occupied at found) = λ o old new views log decided k v world inside is lawful moves. absurd moves
+keeps_each (Occupy at bits won) = λ o old new views log decided k v world inside is lawful moves. absurd moves
+keeps_each (Vacate at bits) = λ o old new views log decided k v world inside is lawful moves. absurd moves
+keeps_each (Draw n) = draws n
+keeps_each (NumberSeen n) = sees_numbers n
+keeps_each (StopSeen set) = sees_stops set
+keeps_each SetStop = sets_stop
+keeps_each (Tell operation reply) = tells operation reply
+
+-- a step that draws no number leaves the history, and the lane no other number
+record DrawsNone (log : List Entry) (v : View) (s : Step) : Type 0 where
+  same_log : log_after log v s ≡ log
+  no_other : (n : ℕ) → (after v s).number ≡ Some n → v.number ≡ Some n
+
+begun_number : (phase : Phase) (v : View) (n : ℕ) → (begun phase v).number ≡ Some n → v.number ≡ Some n
+begun_number Idle v n e = absurd (none-some n e)
+begun_number (Open slot pair) v n e = e
+begun_number Drawn v n e = e
+begun_number Sealing v n e = e
+begun_number (Applying applied) v n e = e
+begun_number Clearing v n e = e
+begun_number Retiring v n e = e
+
+abbrev IsDraw : Step → Type 0
+IsDraw s = (n : ℕ) × (s ≡ Draw n)
+
+draws_or_not : (log : List Entry) (v : View) (s : Step) → IsDraw s ⊎ DrawsNone log v s
+draws_or_not log v (Load w x) = inr (record { same_log = refl; no_other = λ n e. e })
+draws_or_not log v (Store w x) = inr (record { same_log = refl; no_other = λ n e. e })
+draws_or_not log v (Or w bits found) = inr (record { same_log = refl; no_other = λ n e. e })
+draws_or_not log v (And w bits found) = inr (record { same_log = refl; no_other = λ n e. e })
+draws_or_not log v (Flush line) = inr (record { same_log = refl; no_other = λ n e. e })
+draws_or_not log v Drain = inr (record { same_log = refl; no_other = λ n e. e })
+draws_or_not log v (TakeWrite line won) = inr (record { same_log = refl; no_other = λ n e. e })
+draws_or_not log v (TakeRead line won) = inr (record { same_log = refl; no_other = λ n e. e })
+draws_or_not log v (Raise line won) = inr (record { same_log = refl; no_other = λ n e. e })
+draws_or_not log v (Give line) = inr (record { same_log = refl; no_other = λ n e. e })
+draws_or_not log v (ZoneTry zone won) = inr (record { same_log = refl; no_other = λ n e. e })
+draws_or_not log v (ZoneGive zone) = inr (record { same_log = refl; no_other = λ n e. e })
+draws_or_not log v (Occupied at found) = inr (record { same_log = refl; no_other = λ n e. e })
+draws_or_not log v (Occupy at bits won) = inr (record { same_log = refl; no_other = λ n e. e })
+draws_or_not log v (Vacate at bits) = inr (record { same_log = refl; no_other = λ n e. e })
+draws_or_not log v (Draw n) = inl (n, refl)
+draws_or_not log v (NumberSeen n) = inr (record { same_log = refl; no_other = begun_number v.log.phase v })
+draws_or_not log v (StopSeen set) = inr (record { same_log = refl; no_other = λ n e. e })
+draws_or_not log v SetStop = inr (record { same_log = refl; no_other = λ n e. e })
+draws_or_not log v (Tell operation reply) = inr (record { same_log = refl; no_other = λ n e. e })
+
+-- the first so many entries lead from the pool to another, which the words after them hold
+abbrev pub Reaches : Opening → Header → PoolView → List Entry → Type 0
+Reaches o header pool log = HoldsReplay (words_after (slice_index o.words) log) o.lanes o.zones header pool log
+
+-- lane k alone made steps, and its number is that of the last entry: with every beginning of the history the pool is the replay's
+pub record Goes (o : Opening) (k : ℕ) (header : Header) (pool : PoolView) (m : Moment) : Type 0 where
+  pub world : World o m.memory m.views m.log m.decided
+  pub in_lanes : k < o.lanes
+  pub alone : (e : Entry) → Contains m.log e → e.lane ≡ k
+  pub others : (j : ℕ) → j < o.lanes → j ≢ k → (m.views j).log.phase ≡ Idle
+  pub of_pool : (m.views k).pool ≡ header.id
+  pub newest : (n : ℕ) → (m.views k).number ≡ Some n → n ≡ length m.log
+  pub reached : (n : ℕ) → n ≤ length m.log → Reaches o header pool (take n m.log)
+
+-- it begins so
+pub goes_first : (o : Opening) (memory : Memory) (views : Views) (k : ℕ) (header : Header) (pool : PoolView) → Begins o memory views k header pool → Goes o k header pool (beginning memory views)
+unfolding replayed
+goes_first o memory views k header pool b = record {
+  world = opening_law o memory views b.sound b.clean b.fresh b.opens;
+  in_lanes = b.in_lanes;
+  alone = λ e there. absurd (no_member e there);
+  others = λ j low other. ap (λ log. log.phase) (b.fresh j low).idle;
+  of_pool = b.of_pool;
+  newest = λ n e. absurd (none-some n (sym (b.fresh k b.in_lanes).no_number ∙ e));
+  reached = λ n low. nothing (take n []) (take_all n [] (omega arith));
+} where
+  nothing : (log : List Entry) → log ≡ [] → Reaches o header pool log
+  nothing log none = subst (Reaches o header pool) (sym none) (record { last = pool; replays = refl; holds = b.holds })
+
+module _ (o : Opening) (k : ℕ) (header : Header) (pool : PoolView) (m : Moment) (g : Goes o k header pool m) where
+  idle_records : (j : ℕ) → j < o.lanes → j ≢ k → (m.views j).log.records ≡ []
+  idle_records j low other = (subst (PhaseFits (Flies m.log m.decided j) (m.views j)) (g.others j low other) (g.world.each_lane j low).phase).no_records
+
+  module _ (s : Move) (makes : Makes k m s) where
+    world_goes : World o (moved k m s).memory (moved k m s).views (moved k m s).log (moved k m s).decided
+    world_goes = (keeps_each s.step o m.memory s.memory m.views m.log m.decided k (m.views k) g.world g.in_lanes refl makes.lawful makes.moves).0
+
+    others_rest : (j : ℕ) → j < o.lanes → j ≢ k → ((moved k m s).views j).log.phase ≡ Idle
+    others_rest j low other = ap (λ (u : View). u.log.phase) (view_else m.views k (after (m.views k) s.step) j other) ∙ g.others j low other
+
+    pool_stays : ((moved k m s).views k).pool ≡ header.id
+    pool_stays = ap (λ (u : View). u.pool) (view_here m.views k (after (m.views k) s.step)) ∙ (same_lane-after (m.views k) s.step).pool ∙ g.of_pool
+
+    number_here : (n : ℕ) → ((moved k m s).views k).number ≡ Some n → (after (m.views k) s.step).number ≡ Some n
+    number_here n e = sym (ap (λ (u : View). u.number) (view_here m.views k (after (m.views k) s.step))) ∙ e
+
+    -- a step that draws none
+    goes_still : DrawsNone m.log (m.views k) s.step → Goes o k header pool (moved k m s)
+    goes_still none = record {
+      world = world_goes;
+      in_lanes = g.in_lanes;
+      alone = subst (λ (log : List Entry). (e : Entry) → Contains log e → e.lane ≡ k) (sym none.same_log) g.alone;
+      others = others_rest;
+      of_pool = pool_stays;
+      newest = subst (λ (log : List Entry). (n : ℕ) → ((moved k m s).views k).number ≡ Some n → n ≡ length log) (sym none.same_log) (λ n e. g.newest n (none.no_other n (number_here n e)));
+      reached = subst (λ (log : List Entry). (n : ℕ) → n ≤ length log → Reaches o header pool (take n log)) (sym none.same_log) g.reached;
+    }
+
+  -- the whole history
+  pub reached_all : Reaches o header pool m.log
+  reached_all = subst (Reaches o header pool) (take_all (length m.log) m.log (omega arith)) (g.reached (length m.log) (omega arith))
+
+  module _ (n : ℕ) (memory : Memory) (makes : Makes k m (record { step = Draw n; memory = memory })) where
+    abbrev longer : List Entry
+    longer = m.log ++ entry_of (m.views k) n ∷ []
+
+    longer_length : length longer ≡ length m.log + 1
+    longer_length = length-append m.log (entry_of (m.views k) n ∷ [])
+
+    draw_reaches : Reaches o header pool longer
+    draw_reaches =
+        let v : View = m.views k in
+        let words : ℕ → ℕ = words_after (slice_index o.words) m.log in
+        let here = (g.world.each_lane k g.in_lanes).lane in
+        let holds : HoldsPool words v.lanes v.zones header reached_all.last =
+        two_same (λ (a b : ℕ). HoldsPool words a b header reached_all.last) o.lanes v.lanes o.zones v.zones (sym here.lanes) (sym here.zones) reached_all.holds in
+        let step : MakesStep v words header reached_all.last =
+        makes.paid words header reached_all.last holds g.of_pool
+        (drawn_before o k m g.world g.in_lanes g.alone idle_records makes.lawful.allowed.is_open reached_all.holds.no_fault) in
+        let made : HoldsPool (call_words v words) o.lanes o.zones header step.next =
+        two_same (λ (a b : ℕ). HoldsPool (call_words v words) a b header step.next) v.lanes o.lanes v.zones o.zones here.lanes here.zones step.holds in
+        holds_once_more (slice_index o.words) o.lanes o.zones header pool step.next m.log (entry_of v n) reached_all step.steps
+        (held_by_heap (call_words v words) (λ i. made_final (difference_of v) i (words i)) o.lanes o.zones header step.next made (λ i heap. difference_makes_call v words i))
+
+    goes_drawn : Goes o k header pool (moved k m (record { step = Draw n; memory = memory }))
+    goes_drawn = record {
+      world = world_goes (record { step = Draw n; memory = memory }) makes;
+      in_lanes = g.in_lanes;
+      alone = λ e there. ⊎_elim
+          (λ (old : Contains m.log e). g.alone e old)
+          (λ (new : Contains (entry_of (m.views k) n ∷ []) e). sym (ap (λ (x : Entry). x.lane) (only_member (entry_of (m.views k) n) e new)) ∙ (g.world.each_lane k g.in_lanes).lane.lane)
+          (Contains-append_cases m.log (entry_of (m.views k) n ∷ []) e there);
+      others = others_rest (record { step = Draw n; memory = memory }) makes;
+      of_pool = pool_stays (record { step = Draw n; memory = memory }) makes;
+      newest = λ j e.
+          let same : Some n ≡ Some j = number_here (record { step = Draw n; memory = memory }) makes j e in
+          let is : n ≡ j = cc in
+          let counted : n ≡ m.memory CommitCounter + 1 = makes.moves.1 in
+          let counter = g.world.counter in
+          let long = longer_length in
+          omega arith;
+      reached = λ j low. ⊎_elim
+          (λ (more : length m.log < j).
+          let long = longer_length in subst (Reaches o header pool) (sym (take_all j longer (omega arith))) draw_reaches)
+          (λ (few : j ≤ length m.log). subst (Reaches o header pool) (sym (take-append-le j m.log (entry_of (m.views k) n ∷ []) few)) (g.reached j few))
+          (cases_lt (length m.log) j);
+    }
+
+pub goes_on : (o : Opening) (k : ℕ) (header : Header) (pool : PoolView) (m : Moment) (s : Move) → Goes o k header pool m → Makes k m s → Goes o k header pool (moved k m s)
+goes_on o k header pool m s g makes = ⊎_elim
+    (λ (draw : IsDraw s.step).
+    subst (λ (x : Step). Makes k m (record { step = x; memory = s.memory }) → Goes o k header pool (moved k m (record { step = x; memory = s.memory }))) (sym draw.1)
+    (λ drawn. goes_drawn o k header pool m g draw.0 s.memory drawn) makes)
+    (λ (none : DrawsNone m.log (m.views k) s.step). goes_still o k header pool m g s makes none)
+    (draws_or_not m.log (m.views k) s.step)
+
+-- and so to the course's end
+pub goes_along : (o : Opening) (k : ℕ) (header : Header) (pool : PoolView) (m : Moment) (steps : List Move) (last : Moment) → Goes o k header pool m → IsCourse k m steps last → Goes o k header pool last
+unfolding IsCourse
+goes_along o k header pool m [] last g course = subst (Goes o k header pool) (sym course) g
+goes_along o k header pool m (s ∷ steps) last g course = goes_along o k header pool (moved k m s) steps last (goes_on o k header pool m s g course.0) course.1

@@ -1,0 +1,106 @@
+-- An operation inside a transaction that passes each check is not refused, and else is refused for the first that it fails.
+use Rattle.std.proofs.Common.{◌≡◌, ◌≤◌, List, [], ◌∷◌, length, Option, Some, None, Bool, true, false, not, eqb, leb, ltb, ◌&&◌, refl, ◌∙◌, ap, arith}
+use Rattle.std.specs.List.{find, filter, list_any}
+use Rattle.std.specs.Option.{option_map}
+use Rattle.std.proofs.lemmas.Bool.{and_left, and_right, ne_eqb, le-ltb}
+use Rattle.pm_objects.specs.declared.calls.Operation.{Operation}
+use Rattle.pm_objects.specs.declared.calls.Want.{Want}
+use Rattle.pm_objects.specs.declared.refusal.Refusal.{Refusal}
+use Rattle.pm_objects.specs.declared.refusal.Refusal.TheVariants as refusal
+use Rattle.pm_model.specs.declared.stage.Stage.{Stage}
+use Rattle.pm_model.specs.declared.stage.Stage.TheVariants as stage
+use Rattle.pm_model.specs.Places.{has_place}
+use Rattle.pm_model.specs.Transaction.{Transaction, is_working, locked_all}
+use Rattle.pm_model.specs.Checks.{Seen, wants_of, is_begin, finds_no_work, finds_no_tx, is_spent, is_too_deep, passes_locks, is_not_locked, wants_no_place, takes_lock, is_busy, takes_first_lock, is_missing, passes_end, is_not_added, passes_log, first_refusal}
+
+-- what a lane saw that nothing hindered
+abbrev pub unhindered : Seen
+unhindered = record { spent = false; busy = false; missing = false }
+
+-- the transaction works, with 64 locks at most
+pub record Works (tx : Transaction) : Type 0 where
+  pub level : 1 ≤ tx.level
+  pub working : tx.stage ≡ stage.Work
+  pub few : length tx.locks ≤ 64
+
+-- the operation asks for no lock
+pub record AsksNoLock (op : Operation) : Type 0 where
+  pub no_wants : wants_of op ≡ []
+  pub no_begin : is_begin op ≡ false
+
+pub no_work : (tx : Transaction) → Works tx → finds_no_work tx ≡ false
+no_work tx works = and_right (leb 1 tx.level) (not (is_working tx.stage)) (ap (λ (s : Stage). not (is_working s)) works.working)
+
+pub at_level : (tx : Transaction) → Works tx → eqb tx.level 0 ≡ false
+at_level tx works = let some : 1 ≤ tx.level = works.level in ne_eqb tx.level 0 (λ none. omega arith)
+
+pub no_tx : (tx : Transaction) (op : Operation) → Works tx → finds_no_tx tx op ≡ false
+no_tx tx op works = and_left (eqb tx.level 0) (not (is_begin op)) (at_level tx works)
+
+not_deep : (tx : Transaction) (op : Operation) → AsksNoLock op → is_too_deep tx op ≡ false
+not_deep tx op asks = and_left (is_begin op) (leb 64 tx.level) asks.no_begin
+
+few_locks : (tx : Transaction) (op : Operation) → Works tx → AsksNoLock op → passes_locks tx op ≡ false
+unfolding locked_all
+few_locks tx op works asks =
+    ap (λ (wants : List Want). ltb 64 (length (locked_all (filter (λ (want : Want). has_place tx.pool want.id) wants) tx.locks))) asks.no_wants
+    ∙ le-ltb 64 (length tx.locks) works.few
+
+has_places : (tx : Transaction) (op : Operation) → AsksNoLock op → wants_no_place tx op ≡ false
+has_places tx op asks = ap (λ (wants : List Want). list_any (λ (want : Want). not (has_place tx.pool want.id)) wants) asks.no_wants
+
+pub not_busy : (tx : Transaction) (op : Operation) → is_busy unhindered tx op ≡ false
+not_busy tx op = and_right (leb 1 tx.level && takes_lock tx op) false refl
+
+pub not_missing : (tx : Transaction) (op : Operation) → is_missing unhindered tx op ≡ false
+not_missing tx op = and_right (takes_first_lock tx op) false refl
+
+pub not_spent : (tx : Transaction) → is_spent unhindered tx ≡ false
+not_spent tx = and_right (eqb tx.level 0) false refl
+
+-- the first refusal, by what the checks of locks, ends, words and room say
+first_of_four : Bool → Bool → Bool → Bool → Option Refusal
+first_of_four not_locked past_end not_added overfull = option_map (λ (check : Refusal × Bool). check.0) (find (λ (check : Refusal × Bool). check.1)
+    ((refusal.NotLocked, not_locked) ∷ (refusal.OutOfRange, past_end) ∷ (refusal.NotAdded, not_added) ∷ (refusal.LogFull, overfull) ∷ []))
+
+four_checks : (tx : Transaction) (op : Operation) → Works tx → AsksNoLock op
+    → first_refusal unhindered tx op ≡ first_of_four (is_not_locked tx op) (passes_end tx op) (is_not_added tx op) (passes_log tx op)
+unfolding first_refusal first_of_four
+four_checks tx op works asks =
+    (λ j. option_map (λ (check : Refusal × Bool). check.0) (find (λ (check : Refusal × Bool). check.1)
+    ((refusal.NotWork, no_work tx works j)
+    ∷ (refusal.NoTx, no_tx tx op works j)
+    ∷ (refusal.Spent, not_spent tx j)
+    ∷ (refusal.Deep, not_deep tx op asks j)
+    ∷ (refusal.LocksFull, few_locks tx op works asks j)
+    ∷ (refusal.NotLocked, is_not_locked tx op)
+    ∷ (refusal.NoObject, has_places tx op asks j)
+    ∷ (refusal.Busy, not_busy tx op j)
+    ∷ (refusal.NoObject, not_missing tx op j)
+    ∷ (refusal.OutOfRange, passes_end tx op)
+    ∷ (refusal.NotAdded, is_not_added tx op)
+    ∷ (refusal.LogFull, passes_log tx op)
+    ∷ [])))
+
+pub passes_all : (tx : Transaction) (op : Operation) → Works tx → AsksNoLock op → is_not_locked tx op ≡ false → passes_end tx op ≡ false → is_not_added tx op ≡ false → passes_log tx op ≡ false
+    → first_refusal unhindered tx op ≡ None
+unfolding first_of_four
+passes_all tx op works asks locked ends added room = four_checks tx op works asks ∙ (λ j. first_of_four (locked j) (ends j) (added j) (room j))
+
+pub fails_lock : (tx : Transaction) (op : Operation) → Works tx → AsksNoLock op → is_not_locked tx op ≡ true → first_refusal unhindered tx op ≡ Some refusal.NotLocked
+unfolding first_of_four
+fails_lock tx op works asks fails = four_checks tx op works asks ∙ (λ j. first_of_four (fails j) (passes_end tx op) (is_not_added tx op) (passes_log tx op))
+
+pub fails_end : (tx : Transaction) (op : Operation) → Works tx → AsksNoLock op → is_not_locked tx op ≡ false → passes_end tx op ≡ true → first_refusal unhindered tx op ≡ Some refusal.OutOfRange
+unfolding first_of_four
+fails_end tx op works asks locked fails = four_checks tx op works asks ∙ (λ j. first_of_four (locked j) (fails j) (is_not_added tx op) (passes_log tx op))
+
+pub fails_added : (tx : Transaction) (op : Operation) → Works tx → AsksNoLock op → is_not_locked tx op ≡ false → passes_end tx op ≡ false → is_not_added tx op ≡ true
+    → first_refusal unhindered tx op ≡ Some refusal.NotAdded
+unfolding first_of_four
+fails_added tx op works asks locked ends fails = four_checks tx op works asks ∙ (λ j. first_of_four (locked j) (ends j) (fails j) (passes_log tx op))
+
+pub fails_room : (tx : Transaction) (op : Operation) → Works tx → AsksNoLock op → is_not_locked tx op ≡ false → passes_end tx op ≡ false → is_not_added tx op ≡ false → passes_log tx op ≡ true
+    → first_refusal unhindered tx op ≡ Some refusal.LogFull
+unfolding first_of_four
+fails_room tx op works asks locked ends added fails = four_checks tx op works asks ∙ (λ j. first_of_four (locked j) (ends j) (added j) (fails j))

@@ -1,0 +1,76 @@
+-- A read of what the lane knows under its lock tells the bytes that the model reads, and leaves all as it is.
+use Rattle.std.proofs.Common.{◌≡◌, ℕ, ◌+◌, ◌*◌, ◌≤◌, ◌%◌, false, List, length, map, take, drop, slice_index, Some, refl, sym, ◌∙◌, ap, subst, arith}
+use Rattle.std.proofs.lemmas.Bool.{le-ltb}
+use Rattle.pm_header.specs.declared.header.Header.{Header}
+use Rattle.pm_words.specs.Words.{bytes_of as bytes_of_words}
+use Rattle.pm_objects.specs.declared.calls.Operation.TheVariants.{Read}
+use Rattle.pm_objects.specs.declared.history.TxErr.TheVariants as error
+use Rattle.pm_objects.specs.declared.history.Value.TheVariants.{Bytes}
+use Rattle.pm_objects.specs.declared.ids.Oid.{Oid}
+use Rattle.pm_objects.specs.declared.pool.PoolView.{PoolView}
+use Rattle.pm_image.specs.Blocks.{blocks}
+use Rattle.pm_image.specs.Contents.{offset_in, size_in}
+use Rattle.pm_image.proofs.Members.{map_same}
+use Rattle.pm_model.specs.declared.stage.Stage.TheVariants as stage
+use Rattle.pm_model.specs.Bytes.{bytes_at, bytes_of, covered_words}
+use Rattle.pm_model.specs.Answers.{Answers}
+use Rattle.pm_view.specs.View.{View}
+use Rattle.pm_view.specs.Log.{Recorded}
+use Rattle.pm_crash.specs.Held.{HoldsPool}
+use Rattle.pm_crash.specs.OpenCall.{IsBefore, call_words, ComesTo, IsOpen, lock_of, words_recorded}
+use Rattle.pm_crash.specs.Operations.{ReadsBytes, bytes_seen}
+use Rattle.pm_crash.proofs.CallWords.{call_works, covered_is_outside, held_is_locked, known_call_word, object_under, same_pool, IsObjectOf}
+use Rattle.pm_crash.proofs.Continued.{answers_done, still_open}
+use Rattle.pm_crash.proofs.KeptWords.{goes_back, same_call_words, same_found}
+use Rattle.pm_crash.proofs.ObjectBytes.{range_is_read}
+use Rattle.pm_crash.proofs.Passing.{passes_all, Works}
+
+-- the bytes seen are the model's
+seen_is_read : (v next : View) (id : Oid) (off len level : ℕ) (w : ℕ → ℕ) (header : Header) (pool : PoolView) → IsOpen v level stage.Work error.None → (reads : ReadsBytes v next id off len) → IsBefore v w
+    → (c : ComesTo v w header pool level stage.Work error.None) → bytes_seen v id off len ≡ bytes_at off len (bytes_of c.tx.pool.objects id.off)
+seen_is_read v next id off len level w header pool is_open reads before c =
+    let held = reads.range.object in
+    let object : IsObjectOf v w c.tx id held.lock.line = object_under v w header pool level id false is_open before c held reads.range.size_known in
+    let words : ℕ → ℕ = call_words v w in
+    let inside : off + len ≤ slice_index v.words (8 * held.lock.line + 1) = reads.range.inside in
+    let size : size_in words object.block ≡ slice_index v.words (8 * held.lock.line + 1) = object.size in
+    let fits : off + len ≤ size_in words object.block = omega arith in
+    let known : map (slice_index v.words) (covered_words (id.off + off) len) ≡ map words (covered_words (id.off + off) len) =
+    map_same (slice_index v.words) words (covered_words (id.off + off) len) (λ i there.
+    sym (known_call_word v w i before (reads.known i there) (covered_is_outside v id false off len i is_open.in_lanes is_open.chunks held there))) in
+    let moved : map words (covered_words (id.off + off) len) ≡ map words (covered_words (offset_in object.block + off) len) = ap (λ (o : ℕ). map words (covered_words (o + off) len)) (sym object.offset) in
+    ap (λ (ws : List ℕ). take len (drop (off % 8) (bytes_of_words ws))) (known ∙ moved)
+    ∙ sym (range_is_read words v.lanes v.zones off len object.block object.is_there fits)
+    ∙ sym (ap (bytes_at off len) object.bytes)
+
+pub read_keeps_open : (v next : View) (id : Oid) (off len level : ℕ) → 1 ≤ level → IsOpen v level stage.Work error.None → ReadsBytes v next id off len → IsOpen next level stage.Work error.None
+read_keeps_open v next id off len level some is_open reads =
+    let held = reads.range.object in
+    let bytes : List ℕ = bytes_seen v id off len in
+    still_open v next level level (Read id off len) (Some (Bytes bytes)) is_open reads.tells
+    (goes_back v next reads.tells.keeps (same_found v next reads.tells.locks) reads.logs (λ i outside none. reads.keeps.words i outside) is_open.outside)
+    (λ w header pool same_id before next_before c.
+    let object : IsObjectOf v w c.tx id held.lock.line = object_under v w header pool level id false is_open before c held reads.range.size_known in
+    let works : Works c.tx = call_works v w header pool level some is_open c in
+    let inside : off + len ≤ slice_index v.words (8 * held.lock.line + 1) = reads.range.inside in
+    let long : length (bytes_of c.tx.pool.objects id.off) ≡ slice_index v.words (8 * held.lock.line + 1) = object.long in
+    let same : call_words next w ≡ call_words v w = same_call_words v next reads.logs reads.keeps is_open.outside w in
+    let answers : Answers c.tx (Read id off len) (Some (Bytes bytes)) =
+    answers_done c.tx (Read id off len) (Some (Bytes bytes)) refl (record { no_wants = refl; no_begin = refl })
+    (passes_all c.tx (Read id off len) works (record { no_wants = refl; no_begin = refl })
+    (held_is_locked v id false c.tx held c.locks (same_pool v w header c.tx c.holds same_id))
+    (le-ltb (length (bytes_of c.tx.pool.objects id.off)) (off + len) (omega arith)) refl refl)
+    (ap (λ (bs : List ℕ). Some (Bytes bs)) (seen_is_read v next id off len level w header pool is_open reads before c)) in
+    record {
+      answers = answers;
+      holds = subst (λ (f : ℕ → ℕ). HoldsPool f v.lanes v.zones header c.tx.pool) (sym same) c.holds;
+      before = refl;
+      locks = c.locks ∙ ap (map lock_of) (sym reads.tells.locks);
+      recorded = c.recorded ∙ ap words_recorded (sym reads.logs.records);
+      records = c.records ∙ ap (λ (rs : List Recorded). length rs) (sym reads.logs.records);
+      levels = c.levels;
+      stands = refl;
+      fails = refl;
+      blocks_stay = ap (λ (f : ℕ → ℕ). blocks f v.lanes v.zones) same;
+      sizes_stay = λ block there. ap (λ (f : ℕ → ℕ). size_in f block) same;
+    })

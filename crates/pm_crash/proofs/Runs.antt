@@ -1,0 +1,48 @@
+-- A transaction goes on by one operation more, and where it works no longer it has run.
+use Rattle.std.proofs.Common.{◌≡◌, List, [], ◌∷◌, ◌++◌, true, false, refl, sym, ◌∙◌, ap, subst}
+use Rattle.std.proofs.lemmas.Bool.{false≢true}
+use Rattle.pm_objects.specs.declared.pool.PoolView.{PoolView}
+use Rattle.pm_model.specs.Transaction.{Transaction, at_rest, is_working}
+use Rattle.pm_model.specs.Answers.{Told as Answered, Answers, after}
+use Rattle.pm_model.specs.Step.{Runs, RunsOn}
+use Rattle.pm_crash.specs.OpenCall.{GoesOn, RunsTo}
+
+goes_on_once : (told : List Answered) (t : Answered) (tx now : Transaction) → GoesOn tx told now → is_working now.stage ≡ true → Answers now t.operation t.reply
+    → GoesOn tx (told ++ t ∷ []) (after t now)
+unfolding GoesOn
+goes_on_once [] t tx now goes works answers =
+    let same : now ≡ tx = goes in
+    (ap (λ (x : Transaction). is_working x.stage) (sym same) ∙ works, subst (λ (x : Transaction). Answers x t.operation t.reply) same answers, ap (after t) same)
+goes_on_once (u ∷ told) t tx now goes works answers = (goes.0, goes.1, goes_on_once told t (after u tx) now goes.2 works answers)
+
+-- one operation more in a transaction that works
+pub runs_once_more : (told : List Answered) (t : Answered) (pool : PoolView) (now : Transaction) → RunsTo pool told now → is_working now.stage ≡ true → Answers now t.operation t.reply
+    → RunsTo pool (told ++ t ∷ []) (after t now)
+unfolding RunsTo
+runs_once_more [] t pool now runs works answers =
+    let rest : now ≡ at_rest pool = runs in
+    absurd (false≢true (ap (λ (x : Transaction). is_working x.stage) (sym rest) ∙ works))
+runs_once_more (u ∷ told) t pool now runs works answers = (runs.0, goes_on_once told t (after u (at_rest pool)) now runs.1 works answers)
+
+-- the first operation of all
+pub runs_first : (t : Answered) (pool : PoolView) → Answers (at_rest pool) t.operation t.reply → RunsTo pool (t ∷ []) (after t (at_rest pool))
+unfolding RunsTo GoesOn
+runs_first t pool answers = (answers, refl)
+
+ends_on : (told : List Answered) (tx last : Transaction) → GoesOn tx told last → is_working last.stage ≡ false → RunsOn tx told last
+unfolding GoesOn RunsOn
+ends_on [] tx last goes idle = let same : last ≡ tx = goes in (ap (λ (x : Transaction). is_working x.stage) (sym same) ∙ idle, same)
+ends_on (t ∷ told) tx last goes idle = (goes.0, goes.1, ends_on told (after t tx) last goes.2 idle)
+
+-- what ran to an end, by one operation at least, has run
+pub runs_to_end : (t : Answered) (told : List Answered) (pool : PoolView) (last : Transaction) → RunsTo pool (t ∷ told) last → is_working last.stage ≡ false → Runs pool (t ∷ told) last
+unfolding RunsTo Runs
+runs_to_end t told pool last runs idle = (runs.0, ends_on told (after t (at_rest pool)) last runs.1 idle)
+
+pub runs_some : (told : List Answered) (pool : PoolView) (last : Transaction) → RunsTo pool told last → is_working last.stage ≡ false → (told ≡ [] → ⊥) → Runs pool told last
+unfolding RunsTo
+runs_some [] pool last runs idle some = absurd (some refl)
+runs_some (t ∷ told) pool last runs idle some = runs_to_end t told pool last runs idle
+
+pub has_run : (pool : PoolView) (told : List Answered) (last : Transaction) → RunsTo pool told last → is_working last.stage ≡ false → (told ≡ [] → ⊥) → Runs pool told last
+has_run pool told last runs idle some = runs_some told pool last runs idle some

@@ -1,0 +1,106 @@
+-- Where nothing is told, a call stays what it came to.
+use Rattle.std.proofs.Common.{◌≡◌, ℕ, ◌/◌, ◌<◌, ◌≤◌, List, length, map, sym, ◌∙◌, ap, subst, arith}
+use Rattle.std.specs.List.{Contains}
+use Rattle.pm_header.specs.declared.header.Header.{Header}
+use Rattle.pm_objects.specs.declared.history.TxErr.{TxErr}
+use Rattle.pm_objects.specs.declared.pool.PoolView.{PoolView}
+use Rattle.pm_image.specs.declared.block.Block.{Block}
+use Rattle.pm_image.specs.Blocks.{blocks}
+use Rattle.pm_image.specs.Contents.{size_in}
+use Rattle.pm_model.specs.declared.stage.Stage.{Stage}
+use Rattle.pm_model.specs.Answers.{Told as Answered}
+use Rattle.pm_model.specs.Step.{Act, Step}
+use Rattle.pm_model.specs.History.{opened}
+use Rattle.pm_view.specs.Blocks.{is_chunk}
+use Rattle.pm_view.specs.Log.{Recorded}
+use Rattle.pm_view.specs.View.{View, Lock}
+use Rattle.pm_crash.specs.Held.{HoldsPool}
+use Rattle.pm_crash.specs.OpenCall.{IsBefore, ComesTo, ComesToNothing, IsGivenUp, IsOpen, IsWhole, MakesStep, RunsTo, act_of, call_words, lock_of, told_in, told_of, words_recorded}
+use Rattle.pm_crash.specs.Operations.{KeepsLog, KeepsWords, TakesBack, TellsNothing}
+use Rattle.pm_crash.proofs.Continued.{two_same}
+use Rattle.pm_crash.proofs.GivenUp.{outside_taken_back, taken_back}
+use Rattle.pm_crash.proofs.KeptWords.{before_back, outside_kept, same_call_words, same_found}
+
+same_told : (v next : View) → TellsNothing v next → told_in next ≡ told_in v
+same_told v next quiet = ap (map told_of) quiet.call
+
+same_act : (v next : View) → TellsNothing v next → act_of next ≡ act_of v
+same_act v next quiet = (λ j. record { lane = quiet.keeps.lane j; told = same_told v next quiet j })
+
+quiet_back : (v next : View) → TellsNothing v next → KeepsLog v next → KeepsWords v next → (w : ℕ → ℕ) → IsBefore next w → IsBefore v w
+quiet_back v next quiet logs words = before_back v next quiet.keeps (same_found v next quiet.locks) logs (λ i outside none. words.words i outside)
+
+quiet_holds : (v next : View) → TellsNothing v next → (w : ℕ → ℕ) (header : Header) (pool : PoolView) → HoldsPool w next.lanes next.zones header pool → HoldsPool w v.lanes v.zones header pool
+quiet_holds v next quiet w header pool holds = two_same (λ (n m : ℕ). HoldsPool w n m header pool) next.lanes v.lanes next.zones v.zones quiet.keeps.lanes quiet.keeps.zones holds
+
+quiet_made : (v next : View) (w : ℕ → ℕ) (header : Header) (pool : PoolView) → TellsNothing v next → call_words next w ≡ call_words v w → HoldsPool (call_words v w) v.lanes v.zones header pool
+    → HoldsPool (call_words next w) next.lanes next.zones header pool
+quiet_made v next w header pool quiet same holds =
+    two_same (λ (n m : ℕ). HoldsPool (call_words next w) n m header pool) v.lanes next.lanes v.zones next.zones (sym quiet.keeps.lanes) (sym quiet.keeps.zones)
+    (subst (λ (f : ℕ → ℕ). HoldsPool f v.lanes v.zones header pool) (sym same) holds)
+
+open_stays_so : (v next : View) (level : ℕ) (at_stage : Stage) (e : TxErr) (w : ℕ → ℕ) (header : Header) (pool : PoolView) → TellsNothing v next → KeepsLog v next → call_words next w ≡ call_words v w
+    → ComesTo v w header pool level at_stage e → ComesTo next w header pool level at_stage e
+open_stays_so v next level at_stage e w header pool quiet logs same c =
+    record {
+      tx = c.tx;
+      runs = subst (λ (told : List Answered). RunsTo pool told c.tx) (sym (same_told v next quiet)) c.runs;
+      holds = quiet_made v next w header c.tx.pool quiet same c.holds;
+      before = c.before;
+      locks = c.locks ∙ ap (map lock_of) (sym quiet.locks);
+      recorded = c.recorded ∙ ap words_recorded (sym logs.records);
+      records = c.records ∙ ap (λ (rs : List Recorded). length rs) (sym logs.records);
+      levels = c.levels;
+      stands = c.stands;
+      fails = c.fails;
+      blocks_stay =
+          two_same (λ (n m : ℕ). blocks (call_words next w) n m ≡ blocks w n m) v.lanes next.lanes v.zones next.zones (sym quiet.keeps.lanes) (sym quiet.keeps.zones)
+          (ap (λ (f : ℕ → ℕ). blocks f v.lanes v.zones) same ∙ c.blocks_stay);
+      sizes_stay =
+          two_same (λ (n m : ℕ). (block : Block) → Contains (blocks w n m) block → size_in (call_words next w) block ≡ size_in w block) v.lanes next.lanes v.zones next.zones
+          (sym quiet.keeps.lanes) (sym quiet.keeps.zones) (λ block there. ap (λ (f : ℕ → ℕ). size_in f block) same ∙ c.sizes_stay block there);
+    }
+
+pub open_stays : (v next : View) (level : ℕ) (at_stage : Stage) (e : TxErr) → IsOpen v level at_stage e → TellsNothing v next → KeepsLog v next → KeepsWords v next → IsOpen next level at_stage e
+open_stays v next level at_stage e is_open quiet logs words =
+    let lane : next.lane ≡ v.lane = quiet.keeps.lane in
+    let lanes : next.lanes ≡ v.lanes = quiet.keeps.lanes in
+    let inside : v.lane < v.lanes = is_open.in_lanes in
+    record {
+      in_lanes = omega arith;
+      few = subst (λ (locks : List Lock). length locks ≤ 64) (sym quiet.locks) is_open.few;
+      chunks = λ l lines held found. ap (λ (n : ℕ). is_chunk n (l.line / 64)) lanes ∙ is_open.chunks l lines (subst (λ (locks : List Lock). Contains locks l) quiet.locks held) found;
+      outside = outside_kept v next quiet.keeps logs is_open.outside;
+      comes = λ w header pool holds id before.
+          open_stays_so v next level at_stage e w header pool quiet logs (same_call_words v next logs words is_open.outside w)
+          (is_open.comes w header pool (quiet_holds v next quiet w header pool holds) (sym quiet.keeps.pool ∙ id) (quiet_back v next quiet logs words w before));
+    }
+
+pub whole_stays : (v next : View) → IsWhole v → TellsNothing v next → KeepsLog v next → KeepsWords v next → IsWhole next
+whole_stays v next whole quiet logs words = record {
+  outside = outside_kept v next quiet.keeps logs whole.outside;
+  makes = λ w header pool holds id before.
+      let made : MakesStep v w header pool =
+      whole.makes w header pool (quiet_holds v next quiet w header pool holds) (sym quiet.keeps.pool ∙ id) (quiet_back v next quiet logs words w before) in
+      record {
+        next = made.next;
+        holds = quiet_made v next w header made.next quiet (same_call_words v next logs words whole.outside w) made.holds;
+        steps = subst (λ (act : Act). Step (opened pool) act (opened made.next)) (sym (same_act v next quiet)) made.steps;
+      };
+}
+
+pub given_up_stays : (v next : View) (e : TxErr) → IsGivenUp v e → TellsNothing v next → TakesBack v next → IsGivenUp next e
+given_up_stays v next e given_up quiet back = record {
+  outside = outside_taken_back v next quiet.keeps back given_up.outside;
+  comes = λ w header pool holds id before.
+      let c : ComesToNothing v pool e =
+      given_up.comes w header pool (quiet_holds v next quiet w header pool holds) (sym quiet.keeps.pool ∙ id)
+      (taken_back v next quiet.keeps (same_found v next quiet.locks) back given_up.outside w before) in
+      record {
+        tx = c.tx;
+        runs = subst (λ (told : List Answered). RunsTo pool told c.tx) (sym (same_told v next quiet)) c.runs;
+        stands = c.stands;
+        fails = c.fails;
+        unchanged = c.unchanged;
+      };
+}

@@ -1,0 +1,94 @@
+-- The course of a world in which one lane makes steps, and what its history makes of the pool that the world began from.
+use Rattle.std.specs.Prelude.{◌≡◌, ℕ, ◌<◌, Bool, false, List, [], ◌∷◌, map, slice_index}
+use Rattle.std.specs.List.{filter}
+use Rattle.pm_header.specs.declared.header.Header.{Header}
+use Rattle.pm_objects.specs.declared.pool.PoolView.{PoolView}
+use Rattle.pm_model.specs.Step.{Act}
+use Rattle.pm_model.specs.History.{opened}
+use Rattle.pm_model.specs.Names.{Replays}
+use Rattle.pm_view.specs.Steps.{Step}
+use Rattle.pm_view.specs.Steps.Step.{Draw}
+use Rattle.pm_view.specs.View.{View}
+use Rattle.pm_view.specs.Views.{after}
+use Rattle.pm_world.specs.Course.{log_after, decided_after}
+use Rattle.pm_world.specs.Crash.{is_kept}
+use Rattle.pm_world.specs.History.{Entry}
+use Rattle.pm_world.specs.Laws.{with_view}
+use Rattle.pm_world.specs.Lawful.{IsLawful}
+use Rattle.pm_world.specs.Memory.{Memory}
+use Rattle.pm_world.specs.Moves.{Moves}
+use Rattle.pm_world.specs.Opening.{Opening, IsSound}
+use Rattle.pm_world.specs.Opens.{IsClean, IsFresh, IsOpened}
+use Rattle.pm_world.specs.World.{Views}
+use Rattle.pm_crash.specs.Held.{HoldsPool}
+use Rattle.pm_crash.specs.OpenCall.{IsBefore, MakesStep, told_of}
+
+-- where a world stands: its memory, what its lanes see, its history, and which numbers are decided
+pub record Moment : Type 0 where
+  pub memory : Memory
+  pub views : Views
+  pub log : List Entry
+  pub decided : ℕ → Bool
+
+-- before the first step
+abbrev pub beginning : Memory → Views → Moment
+beginning memory views = record { memory = memory; views = views; log = []; decided = λ n. false }
+
+-- a step of a lane, and the memory after it
+pub record Move : Type 0 where
+  pub step : Step
+  pub memory : Memory
+
+-- the moment after a step of lane k
+abbrev pub moved : ℕ → Moment → Move → Moment
+moved k m s = record {
+  memory = s.memory;
+  views = with_view m.views k (after (m.views k) s.step);
+  log = log_after m.log (m.views k) s.step;
+  decided = decided_after m.decided (m.views k) s.step;
+}
+
+-- the lane's call is a step of the plain model, whatever pool the words before it hold
+abbrev pub IsModelStep : View → Type 0
+IsModelStep v = (w : ℕ → ℕ) (header : Header) (pool : PoolView) → HoldsPool w v.lanes v.zones header pool → v.pool ≡ header.id → IsBefore v w
+    → MakesStep v w header pool
+
+-- what a lane owes for a step besides what is lawful: a call that draws is a step of the plain model
+abbrev pub IsPaid : View → Step → Type 0
+IsPaid v (Draw n) = IsModelStep v
+IsPaid v s = Unit {0}
+
+-- lane k makes the step
+pub record Makes (k : ℕ) (m : Moment) (s : Move) : Type 0 where
+  pub lawful : IsLawful (m.views k) s.step
+  pub moves : Moves k s.step m.memory s.memory
+  pub paid : IsPaid (m.views k) s.step
+
+-- lane k makes these steps, one after another, from the one moment to the other
+unfoldable pub IsCourse : ℕ → Moment → List Move → Moment → Type 0
+IsCourse k m [] last = last ≡ m
+IsCourse k m (s ∷ steps) last = Makes k m s × IsCourse k (moved k m s) steps last
+
+-- a world begins over words that hold a pool, with each log clean and no lane having made a step; lane k is of this pool
+pub record Begins (o : Opening) (memory : Memory) (views : Views) (k : ℕ) (header : Header) (pool : PoolView) : Type 0 where
+  pub holds : HoldsPool (slice_index o.words) o.lanes o.zones header pool
+  pub sound : IsSound o
+  pub clean : (j : ℕ) → j < o.lanes → IsClean o j
+  pub fresh : (j : ℕ) → j < o.lanes → IsFresh o j (views j)
+  pub opens : IsOpened o memory
+  pub in_lanes : k < o.lanes
+  pub of_pool : (views k).pool ≡ header.id
+
+-- the entries that the image does not lose, in order
+abbrev pub kept_entries : Opening → Moment → List ℕ → List Entry
+kept_entries o m image = filter (λ (e : Entry). is_kept o m.views image e.number) m.log
+
+-- an entry's call as the model's
+abbrev pub act_of_entry : Entry → Act
+act_of_entry e = record { lane = e.lane; told = map told_of e.call }
+
+-- these entries, one whole call after another, lead from the one pool to another, and that one the words hold
+pub record HoldsReplay (w : ℕ → ℕ) (lanes zones : ℕ) (header : Header) (pool : PoolView) (entries : List Entry) : Type 0 where
+  pub last : PoolView
+  pub replays : Replays (opened pool) (map act_of_entry entries) (opened last)
+  pub holds : HoldsPool w lanes zones header last

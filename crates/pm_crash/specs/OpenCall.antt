@@ -1,0 +1,128 @@
+-- A lane's open call, by its view alone: the words that it makes, and what the plain model's transaction has come to.
+use Rattle.std.specs.Prelude.{◌≡◌, ℕ, ◌+◌, ◌*◌, ◌/◌, ◌<◌, ◌≤◌, true, false, if◌then◌else◌, List, [], ◌∷◌, map, length, slice_index, flat_map, Contains, Some}
+use Rattle.std.specs.List.{range_with_len}
+use Rattle.pm_header.specs.declared.header.Header.{Header}
+use Rattle.pm_objects.specs.declared.calls.Want.{Want}
+use Rattle.pm_objects.specs.declared.history.TxErr.{TxErr}
+use Rattle.pm_objects.specs.declared.pool.PoolView.{PoolView}
+use Rattle.pm_image.specs.declared.block.Block.{Block}
+use Rattle.pm_image.specs.Blocks.{blocks}
+use Rattle.pm_image.specs.Contents.{size_in}
+use Rattle.pm_model.specs.declared.stage.Stage.{Stage}
+use Rattle.pm_model.specs.declared.stage.Stage.TheVariants as stage
+use Rattle.pm_model.specs.Transaction.{Transaction, Lock as Locked, at_rest, is_working}
+use Rattle.pm_model.specs.Answers.{Told as Answered, Answers, after}
+use Rattle.pm_model.specs.Step.{Act, Step}
+use Rattle.pm_model.specs.History.{opened}
+use Rattle.pm_view.specs.Area.{is_in_area}
+use Rattle.pm_view.specs.Blocks.{is_chunk}
+use Rattle.pm_view.specs.Log.{Recorded}
+use Rattle.pm_view.specs.View.{View, Lock, Told}
+use Rattle.pm_world.specs.Records.{IsRecordAt, is_recorded}
+use Rattle.pm_crash.specs.Held.{HoldsPool}
+
+-- the operations of the open call with their replies, as the model has them
+abbrev pub told_of : Told → Answered
+told_of t = record { operation = t.operation; reply = t.reply }
+
+abbrev pub told_in : View → List Answered
+told_in v = map told_of v.call
+
+-- the open call as the model's
+abbrev pub act_of : View → Act
+act_of v = record { lane = v.lane; told = told_in v }
+
+-- the lock of a line is that of the object whose block begins there
+abbrev pub lock_of : Lock → Locked
+lock_of l = record { off = 64 * l.line + 64; write = l.write }
+
+abbrev pub locks_of : View → List Locked
+locks_of v = map lock_of v.locks
+
+-- the lock that is wanted
+abbrev pub lock_wanted : Want → Locked
+lock_wanted want = record { off = want.id.off; write = want.write }
+
+-- the words of a record, and of all
+abbrev pub words_of_record : Recorded → List ℕ
+words_of_record r = range_with_len r.word (length r.old)
+
+abbrev pub words_recorded : List Recorded → List ℕ
+words_recorded records = flat_map words_of_record records
+
+-- the block that was found to begin at a line
+abbrev pub block_at_line : ℕ → ℕ → Block
+block_at_line line lines = record { place = 64 * line; lines = lines }
+
+-- `w` may be the words before the open call: they are what the lane recorded, what it knows and did not record, and they have the blocks
+-- that it found under its locks
+pub record IsBefore (v : View) (w : ℕ → ℕ) : Type 0 where
+  pub recorded : (slot : ℕ) (r : Recorded) (i : ℕ) → IsRecordAt v slot r → i < length r.old → w (r.word + i) ≡ slice_index r.old i
+  pub known : (i : ℕ) → Contains v.known i → is_in_area v.lane i ≡ false → is_recorded v.log.records i ≡ false → w i ≡ slice_index v.words i
+  pub found : (l : Lock) (lines : ℕ) → Contains v.locks l → l.block ≡ Some lines → Contains (blocks w v.lanes v.zones) (block_at_line l.line lines)
+
+-- the words as the open call has made them of those before it: what it recorded is as it left it
+abbrev pub call_words : View → (ℕ → ℕ) → ℕ → ℕ
+call_words v w i = if is_recorded v.log.records i then slice_index v.words i else w i
+
+-- the transaction comes from one state to another by these operations with their replies, in work before each
+unfoldable pub GoesOn : Transaction → List Answered → Transaction → Type 0
+GoesOn tx [] now = now ≡ tx
+GoesOn tx (t ∷ told) now = (is_working tx.stage ≡ true) × Answers tx t.operation t.reply × GoesOn (after t tx) told now
+
+-- these operations with their replies, from a pool where none is open, lead to this state of a transaction
+unfoldable pub RunsTo : PoolView → List Answered → Transaction → Type 0
+RunsTo pool [] now = now ≡ at_rest pool
+RunsTo pool (t ∷ told) now = Answers (at_rest pool) t.operation t.reply × GoesOn (after t (at_rest pool)) told now
+
+-- what the open call came to, from words that hold a pool: the model's transaction, whose copy of the pool is that of the words made so
+-- far, with the locks and the records that the lane has. The words have the blocks that they had, of their sizes
+pub record ComesTo (v : View) (w : ℕ → ℕ) (header : Header) (pool : PoolView) (level : ℕ) (at_stage : Stage) (error : TxErr) : Type 0 where
+  pub tx : Transaction
+  pub runs : RunsTo pool (told_in v) tx
+  pub holds : HoldsPool (call_words v w) v.lanes v.zones header tx.pool
+  pub before : tx.before ≡ pool
+  pub locks : tx.locks ≡ locks_of v
+  pub recorded : tx.recorded ≡ words_recorded v.log.records
+  pub records : tx.records ≡ length v.log.records
+  pub levels : tx.level ≡ level
+  pub stands : tx.stage ≡ at_stage
+  pub fails : tx.error ≡ error
+  pub blocks_stay : blocks (call_words v w) v.lanes v.zones ≡ blocks w v.lanes v.zones
+  pub sizes_stay : (block : Block) → Contains (blocks w v.lanes v.zones) block → size_in (call_words v w) block ≡ size_in w block
+
+-- the lane has a call open at this level, in this stage and with this error, whatever pool the words before it hold. It holds 64 locks at
+-- most, each of a line of a chunk where it found a block there, and recorded no word of its own area
+pub record IsOpen (v : View) (level : ℕ) (at_stage : Stage) (error : TxErr) : Type 0 where
+  pub in_lanes : v.lane < v.lanes
+  pub few : length v.locks ≤ 64
+  pub chunks : (l : Lock) (lines : ℕ) → Contains v.locks l → l.block ≡ Some lines → is_chunk v.lanes (l.line / 64) ≡ true
+  pub outside : (i : ℕ) → is_recorded v.log.records i ≡ true → is_in_area v.lane i ≡ false
+  pub comes : (w : ℕ → ℕ) (header : Header) (pool : PoolView) → HoldsPool w v.lanes v.zones header pool → v.pool ≡ header.id → IsBefore v w
+      → ComesTo v w header pool level at_stage error
+
+-- what a call that was given up came to: the pool is as before it
+pub record ComesToNothing (v : View) (pool : PoolView) (error : TxErr) : Type 0 where
+  pub tx : Transaction
+  pub runs : RunsTo pool (told_in v) tx
+  pub stands : tx.stage ≡ stage.OnAbort
+  pub fails : tx.error ≡ error
+  pub unchanged : tx.pool ≡ pool
+
+-- the lane's call was aborted with this error, whatever pool the words before it hold. It recorded no word of its own area
+pub record IsGivenUp (v : View) (error : TxErr) : Type 0 where
+  pub outside : (i : ℕ) → is_recorded v.log.records i ≡ true → is_in_area v.lane i ≡ false
+  pub comes : (w : ℕ → ℕ) (header : Header) (pool : PoolView) → HoldsPool w v.lanes v.zones header pool → v.pool ≡ header.id → IsBefore v w
+      → ComesToNothing v pool error
+
+-- the call makes a step of the plain model: from words that hold a pool it makes words that hold the next one
+pub record MakesStep (v : View) (w : ℕ → ℕ) (header : Header) (pool : PoolView) : Type 0 where
+  pub next : PoolView
+  pub holds : HoldsPool (call_words v w) v.lanes v.zones header next
+  pub steps : Step (opened pool) (act_of v) (opened next)
+
+-- the lane's call is whole, and a step of the plain model, whatever pool the words before it hold. It recorded no word of its own area
+pub record IsWhole (v : View) : Type 0 where
+  pub outside : (i : ℕ) → is_recorded v.log.records i ≡ true → is_in_area v.lane i ≡ false
+  pub makes : (w : ℕ → ℕ) (header : Header) (pool : PoolView) → HoldsPool w v.lanes v.zones header pool → v.pool ≡ header.id → IsBefore v w
+      → MakesStep v w header pool

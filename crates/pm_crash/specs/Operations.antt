@@ -1,0 +1,236 @@
+-- What a lane's view shows of an operation of the open call: the view before, and the one after the operation is told with its reply.
+use Rattle.std.specs.Prelude.{◌≡◌, ◌⊎◌, ℕ, ◌+◌, ◌*◌, ◌/◌, ◌%◌, ◌<◌, ◌≤◌, ◌==◌, ◌&&◌, ◌||◌, Bool, true, false, not, IsTrue, List, [], ◌∷◌, ◌++◌, map, filter, length, slice_index, take, drop, Contains, Option, Some, None}
+use Rattle.std.specs.List.{list_any}
+use Rattle.pm_words.specs.Words.{bytes_of, AreBytes}
+use Rattle.pm_objects.specs.declared.calls.Operation.{Operation}
+use Rattle.pm_objects.specs.declared.calls.Operation.TheVariants.{AddRange, Begin, Read, Write}
+use Rattle.pm_objects.specs.declared.calls.Want.{Want}
+use Rattle.pm_objects.specs.declared.history.Value.{Value}
+use Rattle.pm_objects.specs.declared.history.Value.TheVariants.{Bytes, Refused}
+use Rattle.pm_objects.specs.declared.ids.Oid.{Oid}
+use Rattle.pm_objects.specs.declared.refusal.Refusal.{Refusal}
+use Rattle.pm_objects.specs.declared.refusal.Refusal.TheVariants as refusal
+use Rattle.pm_model.specs.Bytes.{covered_words, new_words, records_of}
+use Rattle.pm_model.specs.Checks.{Range, range_of, is_record, is_write, needs_write}
+use Rattle.pm_model.specs.Places.{can_begin}
+use Rattle.pm_model.specs.Transaction.{Lock as Locked, is_locked, locked_all}
+use Rattle.pm_view.specs.Area.{is_in_area}
+use Rattle.pm_view.specs.Blocks.{is_chunk}
+use Rattle.pm_view.specs.Log.{Recorded}
+use Rattle.pm_view.specs.View.{View, Lock}
+use Rattle.pm_world.specs.Records.{IsRecordAt, is_recorded}
+use Rattle.pm_crash.specs.OpenCall.{locks_of, words_recorded}
+use Rattle.pm_crash.specs.Writes.{words_written}
+
+-- the lane is the same, and knows what it knew
+pub record KeepsLane (v next : View) : Type 0 where
+  pub lanes : next.lanes ≡ v.lanes
+  pub zones : next.zones ≡ v.zones
+  pub pool : next.pool ≡ v.pool
+  pub lane : next.lane ≡ v.lane
+  pub known : (i : ℕ) → Contains v.known i → Contains next.known i
+
+-- the operation is told with its reply, under the locks that are held
+pub record Tells (v next : View) (op : Operation) (reply : Option Value) : Type 0 where
+  pub keeps : KeepsLane v next
+  pub locks : next.locks ≡ v.locks
+  pub call : next.call ≡ v.call ++ record { operation = op; reply = reply } ∷ []
+
+-- nothing is told
+pub record TellsNothing (v next : View) : Type 0 where
+  pub keeps : KeepsLane v next
+  pub locks : next.locks ≡ v.locks
+  pub call : next.call ≡ v.call
+
+-- no word changed but in the lane's own area
+pub record KeepsWords (v next : View) : Type 0 where
+  pub words : (i : ℕ) → is_in_area v.lane i ≡ false → slice_index next.words i ≡ slice_index v.words i
+
+-- nor was a word recorded
+pub record KeepsLog (v next : View) : Type 0 where
+  pub records : next.log.records ≡ v.log.records
+
+-- the lane holds the lock of the object, for writing if so asked, and found its block
+pub record IsHeld (v : View) (id : Oid) (write : Bool) : Type 0 where
+  pub lock : Lock
+  pub lines : ℕ
+  pub held : Contains v.locks lock
+  pub block : lock.block ≡ Some lines
+  pub allows : (lock.write || not write) ≡ true
+  pub of_pool : id.pool ≡ v.pool
+  pub place : id.off ≡ 64 * lock.line + 64
+
+-- it holds the object, and the range ends where the object ends, or before. It knows the word of the object's size
+pub record HasRange (v : View) (id : Oid) (off len : ℕ) (write : Bool) : Type 0 where
+  pub object : IsHeld v id write
+  pub size_known : Contains v.known (8 * object.lock.line + 1)
+  pub inside : off + len ≤ slice_index v.words (8 * object.lock.line + 1)
+
+-- the lane wrote the bytes into words that it had recorded, changed no other but in its own area, and told so
+pub record WritesBytes (v next : View) (id : Oid) (off : ℕ) (bytes : List ℕ) : Type 0 where
+  pub tells : Tells v next (Write id off bytes) None
+  pub logs : KeepsLog v next
+  pub range : HasRange v id off (length bytes) true
+  pub are_bytes : AreBytes bytes
+  pub added : (i : ℕ) → Contains (covered_words (id.off + off) (length bytes)) i → is_recorded v.log.records i ≡ true
+  pub written : (i : ℕ) → is_in_area v.lane i ≡ false → slice_index next.words i ≡ words_written (id.off + off) bytes (slice_index v.words) i
+
+-- the bytes of a range as the lane's words have them
+abbrev pub bytes_seen : View → Oid → ℕ → ℕ → List ℕ
+bytes_seen v id off len = take len (drop (off % 8) (bytes_of (map (slice_index v.words) (covered_words (id.off + off) len))))
+
+-- the lane read the range, whose words it knows, and told the bytes
+pub record ReadsBytes (v next : View) (id : Oid) (off len : ℕ) : Type 0 where
+  pub tells : Tells v next (Read id off len) (Some (Bytes (bytes_seen v id off len)))
+  pub logs : KeepsLog v next
+  pub keeps : KeepsWords v next
+  pub range : HasRange v id off len false
+  pub known : (i : ℕ) → Contains (covered_words (id.off + off) len) i → Contains v.known i
+
+-- a record's first word, and how many it has
+abbrev pub extent : Recorded → ℕ × ℕ
+extent r = (r.word, length r.old)
+
+-- the record has its words as the lane knows them
+pub record IsPresent (v : View) (r : Recorded) : Type 0 where
+  pub known : (i : ℕ) → i < length r.old → Contains v.known (r.word + i)
+  pub value : (i : ℕ) → i < length r.old → slice_index r.old i ≡ slice_index v.words (r.word + i)
+
+-- the lane recorded those words of the range that were not recorded yet, as they were, and told so
+pub record AddsRange (v next : View) (id : Oid) (off len : ℕ) : Type 0 where
+  pub tells : Tells v next (AddRange id off len) None
+  pub keeps : KeepsWords v next
+  pub range : HasRange v id off len true
+  pub added : List Recorded
+  pub records : next.log.records ≡ v.log.records ++ added
+  pub extents : map extent added ≡ records_of (new_words (words_recorded v.log.records) (covered_words (id.off + off) len))
+  pub present : (r : Recorded) → Contains added r → IsPresent v r
+  pub room : length v.log.records + length added ≤ 64
+
+-- every recorded word is known to have its old value again, and no other word changed but in the lane's own area. The log has the records
+-- that it had, or none
+pub record TakesBack (v next : View) : Type 0 where
+  pub restored : (slot : ℕ) (r : Recorded) (i : ℕ) → IsRecordAt v slot r → i < length r.old → slice_index next.words (r.word + i) ≡ slice_index r.old i
+  pub known : (slot : ℕ) (r : Recorded) (i : ℕ) → IsRecordAt v slot r → i < length r.old → Contains next.known (r.word + i)
+  pub others : (i : ℕ) → is_in_area v.lane i ≡ false → is_recorded v.log.records i ≡ false → slice_index next.words i ≡ slice_index v.words i
+  pub records : (next.log.records ≡ []) ⊎ (next.log.records ≡ v.log.records)
+
+-- the lane holds no lock of the object, for writing if so asked; of an object of another pool none is held
+abbrev pub IsNotHeld : View → Oid → Bool → Type 0
+IsNotHeld v id write = id.pool ≡ v.pool → is_locked (locks_of v) id.off write ≡ false
+
+-- it holds the object, and the range passes its end
+pub record PassesEnd (v : View) (id : Oid) (off len : ℕ) (write : Bool) : Type 0 where
+  pub object : IsHeld v id write
+  pub size_known : Contains v.known (8 * object.lock.line + 1)
+  pub outside : slice_index v.words (8 * object.lock.line + 1) < off + len
+
+-- a word that would be written is not recorded
+pub record IsNotAdded (v : View) (id : Oid) (off len : ℕ) (write : Bool) : Type 0 where
+  pub range : HasRange v id off len write
+  pub word : ℕ
+  pub written : Contains (covered_words (id.off + off) len) word
+  pub unrecorded : is_recorded v.log.records word ≡ false
+
+-- the new words need more records than there is room for
+pub record Overfills (v : View) (id : Oid) (off len : ℕ) (write : Bool) : Type 0 where
+  pub range : HasRange v id off len write
+  pub overfull : 64 < length v.log.records + length (records_of (new_words (words_recorded v.log.records) (covered_words (id.off + off) len)))
+
+-- why an operation on a range is refused, by what the lane has
+abbrev pub IsReason : View → Operation → Range → Refusal → Type 0
+IsReason v op range refusal.NotLocked = IsNotHeld v range.id (needs_write op)
+IsReason v op range refusal.OutOfRange = PassesEnd v range.id range.off range.len (needs_write op)
+IsReason v op range refusal.NotAdded = IsTrue (is_write op) × IsNotAdded v range.id range.off range.len (needs_write op)
+IsReason v op range refusal.LogFull = IsTrue (is_record op) × Overfills v range.id range.off range.len (needs_write op)
+IsReason v op range r = ⊥
+
+-- the lane refused the operation on a range, took back what the call did, and told so
+pub record Refuses (v next : View) (op : Operation) (range : Range) (r : Refusal) : Type 0 where
+  pub is_range : range_of op ≡ Some range
+  pub reason : IsReason v op range r
+  pub tells : Tells v next op (Some (Refused r))
+  pub takes_back : TakesBack v next
+
+-- a lock that is wanted can be of an object, and the lane holds it
+pub record IsWantHeld (v : View) (want : Want) : Type 0 where
+  pub place : IsTrue (can_begin v.lanes v.zones want.id.off)
+  pub held : IsHeld v want.id want.write
+
+-- the lane has exactly the locks that were held and are wanted, 64 at most, each of a line of a chunk where it found a block
+pub record TakesWanted (v : View) (before : List Locked) (wants : List Want) : Type 0 where
+  pub few : length v.locks ≤ 64
+  pub locks : locks_of v ≡ locked_all wants before
+  pub wanted : (want : Want) → Contains wants want → IsWantHeld v want
+  pub chunks : (l : Lock) (lines : ℕ) → Contains v.locks l → l.block ≡ Some lines → is_chunk v.lanes (l.line / 64) ≡ true
+
+-- the lane began a call with the locks that were wanted, and told so. It recorded nothing yet
+pub record BeginsCall (v : View) (wants : List Want) : Type 0 where
+  pub call : v.call ≡ record { operation = Begin wants; reply = None } ∷ []
+  pub no_records : v.log.records ≡ []
+  pub in_lanes : v.lane < v.lanes
+  pub takes : TakesWanted v [] wants
+
+-- the lane holds the lock of this line, and found a block of so many lines under it
+pub record IsFoundUnder (v : View) (line lines : ℕ) : Type 0 where
+  pub lock : Lock
+  pub held : Contains v.locks lock
+  pub of_line : lock.line ≡ line
+  pub block : lock.block ≡ Some lines
+
+-- the lane keeps the locks under which it found a block: it may hold them for writing now
+abbrev pub KeepsFound : View → View → Type 0
+KeepsFound v next = (l : Lock) (lines : ℕ) → Contains v.locks l → l.block ≡ Some lines → IsFoundUnder next l.line lines
+
+-- the lane began a further level with the locks that were wanted, and told so
+pub record BeginsLevel (v next : View) (wants : List Want) : Type 0 where
+  pub keeps : KeepsLane v next
+  pub finds : KeepsFound v next
+  pub call : next.call ≡ v.call ++ record { operation = Begin wants; reply = None } ∷ []
+  pub logs : KeepsLog v next
+  pub words : KeepsWords v next
+  pub takes : TakesWanted next (locks_of v) wants
+
+-- what is wanted has the form of an object's id in the lane's pool
+abbrev pub is_placed : View → Want → Bool
+is_placed v want = want.id.pool == v.pool && can_begin v.lanes v.zones want.id.off
+
+-- one of the wants has not
+abbrev pub lacks_place : View → List Want → Bool
+lacks_place v wants = list_any (λ (want : Want). not (is_placed v want)) wants
+
+-- the locks that were held, with those of the wants that have
+abbrev pub locks_wanted : View → List Locked → List Want → List Locked
+locks_wanted v before wants = locked_all (filter (is_placed v) wants) before
+
+-- a lock is wanted that is not held so, or not at all
+abbrev pub wants_more : List Locked → List Want → Bool
+wants_more before wants = list_any (λ (want : Want). not (is_locked before want.id.off want.write)) wants
+
+abbrev pub wants_first : List Locked → List Want → Bool
+wants_first before wants = list_any (λ (want : Want). not (is_locked before want.id.off false)) wants
+
+-- why a begin at this level, with these locks held, is refused: for its depth, for too many locks, since something wanted has not the form
+-- of an object's id, since a lock that it tried was another lane's, or since it found no object under one that it took
+abbrev pub IsBeginReason : View → ℕ → List Locked → List Want → Refusal → Type 0
+IsBeginReason v level before wants refusal.Deep = 64 ≤ level
+IsBeginReason v level before wants refusal.LocksFull = (level < 64) × (64 < length (locks_wanted v before wants))
+IsBeginReason v level before wants refusal.NoObject =
+    (level < 64) × (length (locks_wanted v before wants) ≤ 64) × (IsTrue (lacks_place v wants) ⊎ IsTrue (wants_first before wants))
+IsBeginReason v level before wants refusal.Busy =
+    (level < 64) × (length (locks_wanted v before wants) ≤ 64) × (lacks_place v wants ≡ false) × (1 ≤ level) × IsTrue (wants_more before wants)
+IsBeginReason v level before wants r = ⊥
+
+-- the lane refused to begin a call, recorded nothing, and told so
+pub record RefusesCall (v : View) (wants : List Want) (r : Refusal) : Type 0 where
+  pub call : v.call ≡ record { operation = Begin wants; reply = Some (Refused r) } ∷ []
+  pub no_records : v.log.records ≡ []
+  pub reason : IsBeginReason v 0 [] wants r
+
+-- the lane refused to begin a further level, took back what the call did, and told so
+pub record RefusesLevel (v next : View) (level : ℕ) (wants : List Want) (r : Refusal) : Type 0 where
+  pub keeps : KeepsLane v next
+  pub finds : KeepsFound v next
+  pub call : next.call ≡ v.call ++ record { operation = Begin wants; reply = Some (Refused r) } ∷ []
+  pub reason : IsBeginReason v level (locks_of v) wants r
+  pub takes_back : TakesBack v next
