@@ -29,3 +29,5 @@ pub mod Levels
 pub mod RefusedBegin
 pub mod Staying
 pub mod RisingWants
+pub mod InFlight
+pub mod Drawn

@@ -1,3 +1,4 @@
+pub mod Draws
 pub mod Held
 pub mod Lines
 pub mod OpenCall

@@ -17,8 +17,14 @@ ghost use Rattle.pm_model.specs.Answers.{Told as Answered, error_for};
 ghost use Rattle.pm_model.specs.Step.{Runs, Step};
 ghost use Rattle.pm_model.specs.History.{opened};
 ghost use Rattle.pm_view.specs.View.{View};
-ghost use Rattle.pm_world.specs.History.{made_final};
+ghost use Rattle.pm_image.specs.HeapFaults.{heap_fault};
+ghost use Rattle.pm_world.specs.Course.{flight};
+ghost use Rattle.pm_world.specs.History.{Entry, made_final};
+ghost use Rattle.pm_world.specs.Memory.{Memory};
+ghost use Rattle.pm_world.specs.Opening.{Opening};
 ghost use Rattle.pm_world.specs.Records.{difference_of};
+ghost use Rattle.pm_world.specs.World.{Views, World};
+ghost use Rattle.pm_crash.specs.Draws.{DrawsStep, KeepsDecided, kept_words};
 ghost use Rattle.pm_crash.specs.Held.{HoldsPool};
 ghost use Rattle.pm_crash.specs.OpenCall.{IsBefore, IsGivenUp, IsOpen, IsWhole, RunsTo, act_of, call_words, lock_wanted};
 ghost use Rattle.pm_crash.specs.Operations.{AddsRange, BeginsCall, BeginsLevel, KeepsLog, KeepsWords, ReadsBytes, Refuses, RefusesCall, RefusesLevel, TakesBack, Tells, TellsNothing, WritesBytes};
@@ -118,4 +124,28 @@ pub fn a_call_stays_while_nothing_is_told()
         → TellsNothing v next → KeepsLog v next → KeepsWords v next → IsWhole next }
     ensures given_up { (v next : View) (e : TxErr) → IsGivenUp v e
         → TellsNothing v next → TakesBack v next → IsGivenUp next e }
+{}
+
+/// A law: whatever of the calls in flight is left out, the words that the others make of the opening's may be those before the open call of
+/// a lane, if they have no fault. No code runs.
+pub fn a_lane_looks_past_calls_in_flight()
+    ensures { (o : Opening) (mem : Memory) (views : Views) (log : List Entry) (decided : ℕ → Bool)
+        → World o mem views log decided → (keep : ℕ → Bool) (k : ℕ) → k < o.lanes → flight (views k) ≡ None
+        → KeepsDecided decided keep → heap_fault (kept_words o keep log) o.lanes o.zones ≡ None
+        → IsBefore (views k) (kept_words o keep log) }
+{}
+
+/// A law: a lane that draws a whole call, or one that it gave up, adds a step of the plain model to the history, whatever of the calls in
+/// flight is left out: from the pool that the calls which are kept made to the one that they make with it. No code runs.
+pub fn a_drawn_call_is_a_step()
+    ensures whole { (o : Opening) (mem : Memory) (views : Views) (log : List Entry) (decided : ℕ → Bool)
+        → World o mem views log decided → (keep : ℕ → Bool) (k n : ℕ) → k < o.lanes → flight (views k) ≡ None
+        → KeepsDecided decided keep → (header : Header) (pool : PoolView) → HoldsPool (kept_words o keep log) o.lanes o.zones header pool
+        → (views k).pool ≡ header.id → keep n ≡ true → IsWhole (views k)
+        → DrawsStep o keep log (views k) n header pool }
+    ensures given_up { (o : Opening) (mem : Memory) (views : Views) (log : List Entry) (decided : ℕ → Bool)
+        → World o mem views log decided → (keep : ℕ → Bool) (k n : ℕ) → k < o.lanes → flight (views k) ≡ None
+        → KeepsDecided decided keep → (header : Header) (pool : PoolView) → HoldsPool (kept_words o keep log) o.lanes o.zones header pool
+        → (views k).pool ≡ header.id → (e : TxErr) → keep n ≡ true → IsGivenUp (views k) e → (views k).log.records ≡ []
+        → DrawsStep o keep log (views k) n header pool }
 {}
