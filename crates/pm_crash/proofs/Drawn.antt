@@ -10,7 +10,7 @@ use Rattle.pm_world.specs.Memory.{Memory}
 use Rattle.pm_world.specs.Opening.{Opening}
 use Rattle.pm_world.specs.World.{Views, World}
 use Rattle.pm_crash.specs.Held.{HoldsPool}
-use Rattle.pm_crash.specs.OpenCall.{IsBefore, IsGivenUp, IsWhole, MakesStep, call_words}
+use Rattle.pm_crash.specs.OpenCall.{IsBefore, IsGivenUp, IsWholeCall, MakesStep, call_words}
 use Rattle.pm_crash.specs.Draws.{DrawsStep, KeepsDecided, kept_words}
 use Rattle.pm_crash.proofs.Begun.{no_call_words}
 use Rattle.pm_crash.proofs.Continued.{two_same}
@@ -36,7 +36,7 @@ module _ (o : Opening) (mem : Memory) (views : Views) (log : List Entry) (decide
       subst (λ (f : ℕ → ℕ). HoldsPool f o.lanes o.zones header next) (sym (with_drawn o keep log (views k) n kept))
       (two_same (λ (a b : ℕ). HoldsPool (call_words (views k) (kept_words o keep log)) a b header next) (views k).lanes o.lanes (views k).zones o.zones (x.each_lane k inside).lane.lanes (x.each_lane k inside).lane.zones after)
 
-  pub whole_draws : keep n ≡ true → IsWhole (views k) → DrawsStep o keep log (views k) n header pool
+  pub whole_draws : keep n ≡ true → IsWholeCall (views k) → DrawsStep o keep log (views k) n header pool
   whole_draws kept whole =
       let step : MakesStep (views k) (kept_words o keep log) header pool = whole.makes (kept_words o keep log) header pool of_view id before in
       record { next = step.next; holds = made step.next kept step.holds; steps = step.steps }

@@ -31,3 +31,4 @@ pub mod Staying
 pub mod RisingWants
 pub mod InFlight
 pub mod Drawn
+pub mod HeldHistories

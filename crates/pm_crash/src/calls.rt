@@ -17,16 +17,10 @@ ghost use Rattle.pm_model.specs.Answers.{Told as Answered, error_for};
 ghost use Rattle.pm_model.specs.Step.{Runs, Step};
 ghost use Rattle.pm_model.specs.History.{opened};
 ghost use Rattle.pm_view.specs.View.{View};
-ghost use Rattle.pm_image.specs.HeapFaults.{heap_fault};
-ghost use Rattle.pm_world.specs.Course.{flight};
-ghost use Rattle.pm_world.specs.History.{Entry, made_final};
-ghost use Rattle.pm_world.specs.Memory.{Memory};
-ghost use Rattle.pm_world.specs.Opening.{Opening};
+ghost use Rattle.pm_world.specs.History.{made_final};
 ghost use Rattle.pm_world.specs.Records.{difference_of};
-ghost use Rattle.pm_world.specs.World.{Views, World};
-ghost use Rattle.pm_crash.specs.Draws.{DrawsStep, KeepsDecided, kept_words};
 ghost use Rattle.pm_crash.specs.Held.{HoldsPool};
-ghost use Rattle.pm_crash.specs.OpenCall.{IsBefore, IsGivenUp, IsOpen, IsWhole, RunsTo, act_of, call_words, lock_wanted};
+ghost use Rattle.pm_crash.specs.OpenCall.{IsBefore, IsGivenUp, IsOpen, IsWholeCall, RunsTo, act_of, call_words, lock_wanted};
 ghost use Rattle.pm_crash.specs.Operations.{AddsRange, BeginsCall, BeginsLevel, KeepsLog, KeepsWords, ReadsBytes, Refuses, RefusesCall, RefusesLevel, TakesBack, Tells, TellsNothing, WritesBytes};
 
 /// A law: the words that a call makes of those before it are what its difference makes of them. No code runs.
@@ -37,7 +31,7 @@ pub fn a_call_makes_its_difference()
 /// A law: a call that commits its outermost level is whole: a step of the plain model, to the pool that its words hold. No code runs.
 pub fn a_commit_is_a_step()
     ensures { (v next : View) → IsOpen v 1 stage.Work error.None → Tells v next Commit None → KeepsLog v next
-        → KeepsWords v next → IsWhole next }
+        → KeepsWords v next → IsWholeCall next }
 {}
 
 /// A law: bytes that a lane writes into words of an object that it holds and has recorded are the plain model's write. No code runs.
@@ -120,32 +114,8 @@ pub fn a_refused_begin_gives_up()
 pub fn a_call_stays_while_nothing_is_told()
     ensures is_open { (v next : View) (level : ℕ) (at_stage : Stage) (e : TxErr) → IsOpen v level at_stage e
         → TellsNothing v next → KeepsLog v next → KeepsWords v next → IsOpen next level at_stage e }
-    ensures whole { (v next : View) → IsWhole v
-        → TellsNothing v next → KeepsLog v next → KeepsWords v next → IsWhole next }
+    ensures whole { (v next : View) → IsWholeCall v
+        → TellsNothing v next → KeepsLog v next → KeepsWords v next → IsWholeCall next }
     ensures given_up { (v next : View) (e : TxErr) → IsGivenUp v e
         → TellsNothing v next → TakesBack v next → IsGivenUp next e }
-{}
-
-/// A law: whatever of the calls in flight is left out, the words that the others make of the opening's may be those before the open call of
-/// a lane, if they have no fault. No code runs.
-pub fn a_lane_looks_past_calls_in_flight()
-    ensures { (o : Opening) (mem : Memory) (views : Views) (log : List Entry) (decided : ℕ → Bool)
-        → World o mem views log decided → (keep : ℕ → Bool) (k : ℕ) → k < o.lanes → flight (views k) ≡ None
-        → KeepsDecided decided keep → heap_fault (kept_words o keep log) o.lanes o.zones ≡ None
-        → IsBefore (views k) (kept_words o keep log) }
-{}
-
-/// A law: a lane that draws a whole call, or one that it gave up, adds a step of the plain model to the history, whatever of the calls in
-/// flight is left out: from the pool that the calls which are kept made to the one that they make with it. No code runs.
-pub fn a_drawn_call_is_a_step()
-    ensures whole { (o : Opening) (mem : Memory) (views : Views) (log : List Entry) (decided : ℕ → Bool)
-        → World o mem views log decided → (keep : ℕ → Bool) (k n : ℕ) → k < o.lanes → flight (views k) ≡ None
-        → KeepsDecided decided keep → (header : Header) (pool : PoolView) → HoldsPool (kept_words o keep log) o.lanes o.zones header pool
-        → (views k).pool ≡ header.id → keep n ≡ true → IsWhole (views k)
-        → DrawsStep o keep log (views k) n header pool }
-    ensures given_up { (o : Opening) (mem : Memory) (views : Views) (log : List Entry) (decided : ℕ → Bool)
-        → World o mem views log decided → (keep : ℕ → Bool) (k n : ℕ) → k < o.lanes → flight (views k) ≡ None
-        → KeepsDecided decided keep → (header : Header) (pool : PoolView) → HoldsPool (kept_words o keep log) o.lanes o.zones header pool
-        → (views k).pool ≡ header.id → (e : TxErr) → keep n ≡ true → IsGivenUp (views k) e → (views k).log.records ≡ []
-        → DrawsStep o keep log (views k) n header pool }
 {}
