@@ -106,7 +106,7 @@ begin_answers v wants w header pool begins holds id before =
     }
 
 -- nothing is recorded, so the words are those from before
-no_call_words : (v : View) → v.log.records ≡ [] → (w : ℕ → ℕ) → call_words v w ≡ w
+pub no_call_words : (v : View) → v.log.records ≡ [] → (w : ℕ → ℕ) → call_words v w ≡ w
 no_call_words v none w = (λ j i. at i j) where
   at : (i : ℕ) → call_words v w i ≡ w i
   at i = ap (λ (records : List Recorded). cond (is_recorded records i) (slice_index v.words i) (w i)) none

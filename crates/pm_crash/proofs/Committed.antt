@@ -11,7 +11,7 @@ use Rattle.pm_model.specs.Step.{Runs}
 use Rattle.pm_model.specs.History.{opened}
 use Rattle.pm_view.specs.View.{View}
 use Rattle.pm_crash.specs.Held.{HoldsPool}
-use Rattle.pm_crash.specs.OpenCall.{IsBefore, call_words, ComesTo, IsOpen, IsWhole, RunsTo, told_in}
+use Rattle.pm_crash.specs.OpenCall.{IsBefore, call_words, ComesTo, IsOpen, IsWholeCall, RunsTo, told_in}
 use Rattle.pm_crash.specs.Operations.{Tells, KeepsLog, KeepsWords}
 use Rattle.pm_crash.proofs.CallWords.{call_works}
 use Rattle.pm_crash.proofs.Continued.{answers_done, told_once_more, two_same}
@@ -26,7 +26,7 @@ some_told told t none = let long = length-append told (t ∷ []) in let same : l
 commits : (tx : Transaction) → tx.level ≡ 1 → after_reply Commit None tx ≡ at_rest tx.pool
 commits tx level = cond-true (leb tx.level 1) (at_rest tx.pool) (ended_inner (committed tx)) (le-leb tx.level 1 (omega arith))
 
-pub commit_is_whole : (v next : View) → IsOpen v 1 stage.Work error.None → Tells v next Commit None → KeepsLog v next → KeepsWords v next → IsWhole next
+pub commit_is_whole : (v next : View) → IsOpen v 1 stage.Work error.None → Tells v next Commit None → KeepsLog v next → KeepsWords v next → IsWholeCall next
 commit_is_whole v next is_open tells logs keeps = record {
   outside = outside_kept v next tells.keeps logs is_open.outside;
   makes = λ w header pool holds id before.

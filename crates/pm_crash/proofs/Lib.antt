@@ -34,3 +34,6 @@ pub mod DrawnWords
 pub mod OneCourse
 pub mod KeptEntries
 pub mod EndedCalls
+pub mod InFlight
+pub mod Drawn
+pub mod HeldHistories

@@ -15,7 +15,7 @@ use Rattle.pm_view.specs.Blocks.{is_chunk}
 use Rattle.pm_view.specs.Log.{Recorded}
 use Rattle.pm_view.specs.View.{View, Lock}
 use Rattle.pm_crash.specs.Held.{HoldsPool}
-use Rattle.pm_crash.specs.OpenCall.{IsBefore, ComesTo, ComesToNothing, IsGivenUp, IsOpen, IsWhole, MakesStep, RunsTo, act_of, call_words, lock_of, told_in, told_of, words_recorded}
+use Rattle.pm_crash.specs.OpenCall.{IsBefore, ComesTo, ComesToNothing, IsGivenUp, IsOpen, IsWholeCall, MakesStep, RunsTo, act_of, call_words, lock_of, told_in, told_of, words_recorded}
 use Rattle.pm_crash.specs.Operations.{KeepsLog, KeepsWords, TakesBack, TellsNothing}
 use Rattle.pm_crash.proofs.Continued.{two_same}
 use Rattle.pm_crash.proofs.GivenUp.{outside_taken_back, taken_back}
@@ -76,7 +76,7 @@ open_stays v next level at_stage e is_open quiet logs words =
           (is_open.comes w header pool (quiet_holds v next quiet w header pool holds) (sym quiet.keeps.pool ∙ id) (quiet_back v next quiet logs words w before));
     }
 
-pub whole_stays : (v next : View) → IsWhole v → TellsNothing v next → KeepsLog v next → KeepsWords v next → IsWhole next
+pub whole_stays : (v next : View) → IsWholeCall v → TellsNothing v next → KeepsLog v next → KeepsWords v next → IsWholeCall next
 whole_stays v next whole quiet logs words = record {
   outside = outside_kept v next quiet.keeps logs whole.outside;
   makes = λ w header pool holds id before.

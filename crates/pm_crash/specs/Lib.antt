@@ -1,4 +1,6 @@
+pub mod Draws
 pub mod Held
+pub mod HeldHistory
 pub mod Lines
 pub mod OneLane
 pub mod OpenCall

@@ -122,7 +122,7 @@ pub record MakesStep (v : View) (w : ℕ → ℕ) (header : Header) (pool : Pool
   pub steps : Step (opened pool) (act_of v) (opened next)
 
 -- the lane's call is whole, and a step of the plain model, whatever pool the words before it hold. It recorded no word of its own area
-pub record IsWhole (v : View) : Type 0 where
+pub record IsWholeCall (v : View) : Type 0 where
   pub outside : (i : ℕ) → is_recorded v.log.records i ≡ true → is_in_area v.lane i ≡ false
   pub makes : (w : ℕ → ℕ) (header : Header) (pool : PoolView) → HoldsPool w v.lanes v.zones header pool → v.pool ≡ header.id → IsBefore v w
       → MakesStep v w header pool

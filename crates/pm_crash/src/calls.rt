@@ -20,7 +20,7 @@ ghost use Rattle.pm_view.specs.View.{View};
 ghost use Rattle.pm_world.specs.History.{made_final};
 ghost use Rattle.pm_world.specs.Records.{difference_of};
 ghost use Rattle.pm_crash.specs.Held.{HoldsPool};
-ghost use Rattle.pm_crash.specs.OpenCall.{IsBefore, IsGivenUp, IsOpen, IsWhole, RunsTo, act_of, call_words, lock_wanted};
+ghost use Rattle.pm_crash.specs.OpenCall.{IsBefore, IsGivenUp, IsOpen, IsWholeCall, RunsTo, act_of, call_words, lock_wanted};
 ghost use Rattle.pm_crash.specs.Operations.{AddsRange, BeginsCall, BeginsLevel, KeepsLog, KeepsWords, ReadsBytes, Refuses, RefusesCall, RefusesLevel, TakesBack, Tells, TellsNothing, WritesBytes};
 
 /// A law: the words that a call makes of those before it are what its difference makes of them. No code runs.
@@ -31,7 +31,7 @@ pub fn a_call_makes_its_difference()
 /// A law: a call that commits its outermost level is whole: a step of the plain model, to the pool that its words hold. No code runs.
 pub fn a_commit_is_a_step()
     ensures { (v next : View) → IsOpen v 1 stage.Work error.None → Tells v next Commit None → KeepsLog v next
-        → KeepsWords v next → IsWhole next }
+        → KeepsWords v next → IsWholeCall next }
 {}
 
 /// A law: bytes that a lane writes into words of an object that it holds and has recorded are the plain model's write. No code runs.
@@ -114,8 +114,8 @@ pub fn a_refused_begin_gives_up()
 pub fn a_call_stays_while_nothing_is_told()
     ensures is_open { (v next : View) (level : ℕ) (at_stage : Stage) (e : TxErr) → IsOpen v level at_stage e
         → TellsNothing v next → KeepsLog v next → KeepsWords v next → IsOpen next level at_stage e }
-    ensures whole { (v next : View) → IsWhole v
-        → TellsNothing v next → KeepsLog v next → KeepsWords v next → IsWhole next }
+    ensures whole { (v next : View) → IsWholeCall v
+        → TellsNothing v next → KeepsLog v next → KeepsWords v next → IsWholeCall next }
     ensures given_up { (v next : View) (e : TxErr) → IsGivenUp v e
         → TellsNothing v next → TakesBack v next → IsGivenUp next e }
 {}

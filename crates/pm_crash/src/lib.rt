@@ -1,13 +1,15 @@
 //! The laws of the crash theorem: what recovered words mean, and how the words that a call makes final change the pool.
 //!
 //! Promises whoever proves an engine or the top theorem that words which hold a pool, with bytes written inside an object, hold the
-//! pool of the plain model after that write; that reading the words of an object finds its bytes; and that the blocks a lane finds are the
-//! pool's objects. No code stands here but laws. It stands on `pm_image` for the meaning of words, `pm_model`
-//! for calls, and `pm_view` for what a lane finds; docs/MODEL.md, "The crash theorem".
+//! pool of the plain model after that write; that the blocks a lane finds are the pool's objects; and that each operation of a call, its
+//! refusals and its commit are the plain model's, by what the lane's view has before and after; and that every image which a power failure
+//! leaves then holds what whole calls made. No code stands here but laws. It stands on
+//! `pm_image` for the meaning of words, `pm_model` for calls, `pm_view` for what a lane has, `pm_world` for records; docs/MODEL.md.
 #![tactic(auto)]
 
 mod calls;
 mod course;
+mod histories;
 mod laws;
 
 pub use calls::{
@@ -18,6 +20,10 @@ pub use calls::{
     an_inner_commit_keeps_the_call, rising_wants_are_locks,
 };
 pub use course::{an_ended_call_is_a_model_step, one_lanes_images_hold_the_replay};
+pub use histories::{
+    a_crash_leaves_what_kept_calls_made, a_drawn_call_is_a_step, a_history_is_held,
+    a_lane_looks_past_calls_in_flight,
+};
 pub use laws::{
     a_block_is_an_object, a_lane_finds_the_blocks, a_pool_is_held_by_heap_words,
     a_read_finds_the_bytes, a_write_changes_one_object, an_object_has_words_of_its_own,

@@ -26,7 +26,7 @@ block_of-other line descriptor bitmap bitmap' none =
     ap (λ b. cond (b && has_block bitmap (descriptor / 256) (line % 64)) (Some (descriptor / 256)) rest) none
     ∙ sym (ap (λ b. cond (b && has_block bitmap' (descriptor / 256) (line % 64)) (Some (descriptor / 256)) rest) none)
 
-chunk_here : (lanes page : ℕ) → is_chunk lanes page ≡ true → IsChunk lanes page
+pub chunk_here : (lanes page : ℕ) → is_chunk lanes page ≡ true → IsChunk lanes page
 chunk_here lanes page e = let t = and_parts (leb (zone_page lanes 0) page) (leb 1 (chunk_of lanes page)) e in (leb-true (zone_page lanes 0) page t.0, leb-true 1 (chunk_of lanes page) t.1)
 
 chunk_is : (lanes page : ℕ) → IsChunk lanes page → is_chunk lanes page ≡ true

@@ -29,7 +29,7 @@ lane_some p n k inside holds =
     list_any_at p (range_with_len 0 n) k 0 (omega arith) (ap p (get_or-range_with_len 0 n k 0 inside ∙ at) ∙ holds)
 
 -- a call in flight flies
-flies_of : (flies : ℕ → List Final → Type 0) (v : View) (n : ℕ) (phase : Phase) → PhaseFits flies v phase → flight_in phase v.number ≡ Some n → flies n (difference_of v)
+pub flies_of : (flies : ℕ → List Final → Type 0) (v : View) (n : ℕ) (phase : Phase) → PhaseFits flies v phase → flight_in phase v.number ≡ Some n → flies n (difference_of v)
 flies_of flies v n Idle fits flight = absurd (none-some n flight)
 flies_of flies v n (Open slot pair) fits flight = absurd (none-some n flight)
 flies_of flies v n Drawn fits flight = subst (λ m. flies m (difference_of v)) (same_Some fits.number n (sym fits.drawn ∙ flight)) fits.flying

@@ -1,0 +1,153 @@
+-- A history stays one of the plain model as calls are drawn and decided, and what a power failure leaves holds what its kept calls made.
+use Rattle.std.proofs.Common.{◌≡◌, ⊎_elim, ℕ, ◌+◌, ◌*◌, ◌<◌, ◌≤◌, Bool, true, false, cond, eqb, ◌&&◌, List, [], ◌∷◌, ◌++◌, length, map, slice_index, None, refl, sym, ◌∙◌, ap, subst, arith}
+use Rattle.std.specs.List.{filter}
+use Rattle.std.proofs.lemmas.Bool.{cases_Bool, cond-false, cond-true, false_from_ne_true, false≢true, not_from_false, or_left}
+use Rattle.std.proofs.lemmas.List.{append-nil, map-append}
+use Rattle.pm_header.specs.declared.header.Header.{Header}
+use Rattle.pm_objects.specs.declared.history.TxErr.{TxErr}
+use Rattle.pm_objects.specs.declared.pool.PoolView.{PoolView}
+use Rattle.pm_image.specs.Blocks.{pool_words}
+use Rattle.pm_image.specs.Logs.{recovered_at}
+use Rattle.pm_image.specs.Reads.{IsHeapWord}
+use Rattle.pm_image.proofs.InPlace.{recovered_in_place}
+use Rattle.pm_model.specs.Step.{Act, State, Step}
+use Rattle.pm_model.specs.History.{opened}
+use Rattle.pm_model.specs.Names.{Replays}
+use Rattle.pm_view.specs.Changes.{drained}
+use Rattle.pm_view.specs.Log.{Phase}
+use Rattle.pm_view.specs.Steps.{Step as LaneStep}
+use Rattle.pm_view.specs.Steps.Step.{Drain, Draw}
+use Rattle.pm_view.specs.View.{View}
+use Rattle.pm_world.specs.Course.{decided_after, entry_of, flight, flight_in, is_decided_by_drain, is_empty, log_after}
+use Rattle.pm_world.specs.Crash.{NoneTorn, Survives, is_kept, is_lost, loses}
+use Rattle.pm_world.specs.History.{Entry, Flies, replayed}
+use Rattle.pm_world.specs.Lawful.{IsLawful}
+use Rattle.pm_world.specs.Memory.{Memory}
+use Rattle.pm_world.specs.Opening.{Opening}
+use Rattle.pm_world.specs.Records.{difference_of}
+use Rattle.pm_world.specs.World.{Views, World}
+use Rattle.pm_world.proofs.CrashLaw.{crash_law}
+use Rattle.pm_world.proofs.Losses.{loses-flight, some_lane}
+use Rattle.pm_world.proofs.Replays.{replayed-more}
+use Rattle.pm_crash.specs.Draws.{DrawsStep, KeepsDecided, kept_words}
+use Rattle.pm_crash.specs.Held.{HoldsPool}
+use Rattle.pm_crash.specs.HeldHistory.{DrawsEnded, HoldReplay, IsEndedCall, IsHeldHistory, act_of_entry, kept_acts}
+use Rattle.pm_crash.specs.OpenCall.{IsGivenUp, IsWholeCall, act_of}
+use Rattle.pm_crash.proofs.Drawn.{given_up_draws, whole_draws}
+use Rattle.pm_crash.proofs.HeapWordsAlone.{held_by_heap}
+
+-- an opening's words hold its pool, with no call made
+pub begins_held : (o : Opening) (decided : ℕ → Bool) (header : Header) (pool : PoolView) → HoldsPool (slice_index o.words) o.lanes o.zones header pool → IsHeldHistory o [] decided header pool
+unfolding replayed
+begins_held o decided header pool holds = record { each = λ keep keeps. record { last = pool; holds = holds; replays = refl } }
+
+-- a step that decides calls leaves it so
+pub stays_held : (o : Opening) (log : List Entry) (decided later : ℕ → Bool) (header : Header) (pool : PoolView) → IsHeldHistory o log decided header pool → KeepsDecided decided later
+    → IsHeldHistory o log later header pool
+stays_held o log decided later header pool history more = record { each = λ keep keeps. history.each keep (λ n is. keeps n (more n is)) }
+
+-- the kept ones, with one more call
+filter_more : (keep : ℕ → Bool) (log : List Entry) (e : Entry) → filter (λ (d : Entry). keep d.number) (log ++ e ∷ []) ≡ filter (λ (d : Entry). keep d.number) log ++ cond (keep e.number) (e ∷ []) []
+filter_more keep [] e = refl
+filter_more keep (d ∷ log) e = ⊎_elim
+    (λ (kept : keep d.number ≡ true).
+    cond-true (keep d.number) _ _ kept ∙ ap (λ (l : List Entry). d ∷ l) (filter_more keep log e)
+    ∙ sym (ap (λ (l : List Entry). l ++ cond (keep e.number) (e ∷ []) []) (cond-true (keep d.number) (d ∷ filter (λ (c : Entry). keep c.number) log) (filter (λ (c : Entry). keep c.number) log) kept)))
+    (λ (left : keep d.number ≡ false).
+    cond-false (keep d.number) _ _ left ∙ filter_more keep log e
+    ∙ sym (ap (λ (l : List Entry). l ++ cond (keep e.number) (e ∷ []) []) (cond-false (keep d.number) (d ∷ filter (λ (c : Entry). keep c.number) log) (filter (λ (c : Entry). keep c.number) log) left)))
+    (cases_Bool (keep d.number))
+
+acts_more : (keep : ℕ → Bool) (log : List Entry) (e : Entry) → keep e.number ≡ true → kept_acts keep (log ++ e ∷ []) ≡ kept_acts keep log ++ act_of_entry e ∷ []
+acts_more keep log e kept =
+    ap (map act_of_entry) (filter_more keep log e ∙ ap (λ (l : List Entry). filter (λ (d : Entry). keep d.number) log ++ l) (cond-true (keep e.number) (e ∷ []) [] kept))
+    ∙ map-append act_of_entry (filter (λ (d : Entry). keep d.number) log) (e ∷ [])
+
+acts_same : (keep : ℕ → Bool) (log : List Entry) (e : Entry) → keep e.number ≡ false → kept_acts keep (log ++ e ∷ []) ≡ kept_acts keep log
+acts_same keep log e left =
+    ap (map act_of_entry)
+    (filter_more keep log e ∙ ap (λ (l : List Entry). filter (λ (d : Entry). keep d.number) log ++ l) (cond-false (keep e.number) (e ∷ []) [] left) ∙ append-nil (filter (λ (d : Entry). keep d.number) log))
+
+-- one step more
+replays_more : (calls : List Act) (a : Act) (s t u : State) → Replays s calls t → Step t a u → Replays s (calls ++ a ∷ []) u
+replays_more [] a s t u replays step = (u, subst (λ (x : State). Step x a u) replays step, refl)
+replays_more (b ∷ calls) a s t u replays step = (replays.0, replays.1, replays_more calls a replays.0 t u replays.2 step)
+
+draw_kept : (o : Opening) (log : List Entry) (v : View) (n : ℕ) (header : Header) (pool : PoolView) (keep : ℕ → Bool) → keep n ≡ true → (held : HoldReplay (kept_words o keep log) o keep log header pool)
+    → DrawsStep o keep log v n header held.last → HoldReplay (kept_words o keep (log ++ entry_of v n ∷ [])) o keep (log ++ entry_of v n ∷ []) header pool
+draw_kept o log v n header pool keep kept held draws = record {
+  last = draws.next;
+  holds = draws.holds;
+  replays =
+      subst (λ (calls : List Act). Replays (opened pool) calls (opened draws.next)) (sym (acts_more keep log (entry_of v n) kept))
+      (replays_more (kept_acts keep log) (act_of v) (opened pool) (opened held.last) (opened draws.next) held.replays draws.steps);
+}
+
+draw_left : (o : Opening) (log : List Entry) (v : View) (n : ℕ) (header : Header) (pool : PoolView) (keep : ℕ → Bool) → keep n ≡ false → HoldReplay (kept_words o keep log) o keep log header pool
+    → HoldReplay (kept_words o keep (log ++ entry_of v n ∷ [])) o keep (log ++ entry_of v n ∷ []) header pool
+draw_left o log v n header pool keep left held =
+    let same : kept_words o keep (log ++ entry_of v n ∷ []) ≡ kept_words o keep log = (λ j i. replayed-more keep log (entry_of v n) i (slice_index o.words i) left j) in
+    record {
+      last = held.last;
+      holds = subst (λ (f : ℕ → ℕ). HoldsPool f o.lanes o.zones header held.last) (sym same) held.holds;
+      replays = subst (λ (calls : List Act). Replays (opened pool) calls (opened held.last)) (sym (acts_same keep log (entry_of v n) left)) held.replays;
+    }
+
+-- a draw of an ended call leaves it so
+pub draw_stays_held : (o : Opening) (mem : Memory) (views : Views) (log : List Entry) (decided later : ℕ → Bool) → World o mem views log decided → (k n : ℕ) → k < o.lanes → flight (views k) ≡ None
+    → KeepsDecided decided later → (header : Header) (pool : PoolView) → (views k).pool ≡ header.id → IsEndedCall (views k) → IsHeldHistory o log decided header pool
+    → IsHeldHistory o (log ++ entry_of (views k) n ∷ []) later header pool
+draw_stays_held o mem views log decided later world k n inside idle more header pool id ended history = record {
+  each = λ keep keeps.
+      let decides : KeepsDecided decided keep = λ m is. keeps m (more m is) in
+      let held : HoldReplay (kept_words o keep log) o keep log header pool = history.each keep decides in
+      ⊎_elim
+      (λ (kept : keep n ≡ true). draw_kept o log (views k) n header pool keep kept held (⊎_elim
+      (λ (whole : IsWholeCall (views k)). whole_draws o mem views log decided world keep k n inside idle decides header held.last held.holds id kept whole)
+      (λ (given_up : (e : TxErr) × IsGivenUp (views k) e × ((views k).log.records ≡ [])).
+      given_up_draws o mem views log decided world keep k n inside idle decides header held.last held.holds id given_up.0 kept given_up.1 given_up.2)
+      ended))
+      (λ (left : keep n ≡ false). draw_left o log (views k) n header pool keep left held)
+      (cases_Bool (keep n));
+}
+
+-- no image loses a decided call
+decided_kept : (o : Opening) (mem : Memory) (views : Views) (log : List Entry) (decided : ℕ → Bool) (image : List ℕ) → World o mem views log decided → KeepsDecided decided (is_kept o views image)
+decided_kept o mem views log decided image world n is =
+    not_from_false (is_lost o views image n) (false_from_ne_true (is_lost o views image n) (λ lost.
+    let t = some_lane (λ k. loses image (views k) n) 0 o.lanes lost in
+    let inside : t.0 < o.lanes = omega (arith, t.2) in
+    let flies : Flies log decided t.0 n (difference_of (views t.0)) = (loses-flight image (Flies log decided t.0) (views t.0) n (world.each_lane t.0 inside).phase t.3).0 in
+    false≢true (sym flies.undecided ∙ is)))
+
+-- every image that a power failure leaves holds, once recovered, the pool that the calls it does not lose made
+pub crash_leaves_replay : (o : Opening) (mem : Memory) (views : Views) (log : List Entry) (decided : ℕ → Bool) (image : List ℕ) (header : Header) (pool : PoolView) → World o mem views log decided
+    → IsHeldHistory o log decided header pool → Survives o mem views image → NoneTorn o views image
+    → HoldReplay (recovered_at image o.lanes) o (is_kept o views image) log header pool
+crash_leaves_replay o mem views log decided image header pool world history survives none_torn =
+    let keep : ℕ → Bool = is_kept o views image in
+    let held : HoldReplay (kept_words o keep log) o keep log header pool = history.each keep (decided_kept o mem views log decided image world) in
+    let size = world.sound.size in
+    let long : length image ≡ length o.words = survives.size in
+    record {
+      last = held.last;
+      holds = held_by_heap (kept_words o keep log) (recovered_at image o.lanes) o.lanes o.zones header held.last held.holds (λ i heap.
+          recovered_in_place image o.lanes i (in_image i heap) ∙ crash_law o mem views log decided image world survives none_torn i heap);
+      replays = held.replays;
+    } where
+      in_image : (i : ℕ) → IsHeapWord o.lanes o.zones i → i < length image
+      in_image i heap =
+          let size = world.sound.size in
+          let long : length image ≡ length o.words = survives.size in
+          ⊎_elim (λ (root : i ≡ 64). omega arith) (λ (zones : (512 + 1024 * o.lanes ≤ i) × (i < pool_words o.lanes o.zones)). let within = zones.1 in omega arith) heap
+
+-- so does each lawful step of a lane, if what it draws is an ended call
+pub step_stays_held : (o : Opening) (mem : Memory) (views : Views) (log : List Entry) (decided : ℕ → Bool) → World o mem views log decided → (k : ℕ) (s : LaneStep) → k < o.lanes → IsLawful (views k) s
+    → (header : Header) (pool : PoolView) → (views k).pool ≡ header.id → DrawsEnded (views k) s → IsHeldHistory o log decided header pool
+    → IsHeldHistory o (log_after log (views k) s) (decided_after decided (views k) s) header pool
+step_stays_held o mem views log decided world k (Draw n) inside lawful header pool id ended history =
+    draw_stays_held o mem views log decided (decided_after decided (views k) (Draw n)) world k n inside (ap (λ (phase : Phase). flight_in phase (views k).number) lawful.allowed.is_open)
+    (λ m is. or_left (decided m) (eqb n m && is_empty (difference_of (views k))) is) header pool id ended history
+step_stays_held o mem views log decided world k Drain inside lawful header pool id ended history =
+    stays_held o log decided (decided_after decided (views k) Drain) header pool history (λ m is. or_left (decided m) (is_decided_by_drain (drained (views k).changes) (views k) m) is)
+step_stays_held o mem views log decided world k s inside lawful header pool id ended history = history
