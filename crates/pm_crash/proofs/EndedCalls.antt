@@ -5,12 +5,12 @@ use Rattle.pm_view.specs.Log.{Recorded}
 use Rattle.pm_view.specs.View.{View}
 use Rattle.pm_world.specs.Records.{is_recorded}
 use Rattle.pm_crash.specs.OneLane.{IsModelStep}
-use Rattle.pm_crash.specs.OpenCall.{IsGivenUp, IsWhole, call_words}
+use Rattle.pm_crash.specs.OpenCall.{IsGivenUp, IsWholeCall, call_words}
 use Rattle.pm_crash.proofs.CallWords.{other_call_word}
 use Rattle.pm_crash.proofs.GivenUp.{given_up_changes_nothing}
 use Rattle.pm_crash.proofs.HeapWordsAlone.{held_by_heap}
 
-pub whole_steps : (v : View) → IsWhole v → IsModelStep v
+pub whole_steps : (v : View) → IsWholeCall v → IsModelStep v
 whole_steps v whole = whole.makes
 
 -- without records no word is the call's

@@ -10,12 +10,12 @@ ghost use Rattle.pm_world.specs.Memory.{Memory};
 ghost use Rattle.pm_world.specs.Opening.{Opening};
 ghost use Rattle.pm_world.specs.World.{Views};
 ghost use Rattle.pm_crash.specs.OneLane.{Begins, HoldsReplay, IsCourse, IsModelStep, Moment, Move, beginning, kept_entries};
-ghost use Rattle.pm_crash.specs.OpenCall.{IsGivenUp, IsWhole};
+ghost use Rattle.pm_crash.specs.OpenCall.{IsGivenUp, IsWholeCall};
 
 /// A law: a call that is whole is a step of the plain model, whatever pool it meets; and so is one that was given up, once its log has no
 /// record. No code runs.
 pub fn an_ended_call_is_a_model_step()
-    ensures whole { (v : View) → IsWhole v → IsModelStep v }
+    ensures whole { (v : View) → IsWholeCall v → IsModelStep v }
     ensures given_up { (v : View) (e : TxErr) → IsGivenUp v e → v.log.records ≡ [] → IsModelStep v }
 {}
 
