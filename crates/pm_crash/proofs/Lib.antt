@@ -34,3 +34,5 @@ pub mod DrawnWords
 pub mod OneCourse
 pub mod KeptEntries
 pub mod EndedCalls
+pub mod Guarded
+pub mod CleanWords

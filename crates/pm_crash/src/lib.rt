@@ -17,7 +17,9 @@ pub use calls::{
     a_transaction_that_rests_has_run, a_write_changes_the_call, an_abort_gives_up,
     an_inner_commit_keeps_the_call, rising_wants_are_locks,
 };
-pub use course::{an_ended_call_is_a_model_step, one_lanes_images_hold_the_replay};
+pub use course::{
+    a_recovered_pool_opens_a_world, an_ended_call_is_a_model_step, one_lanes_images_hold_the_replay,
+};
 pub use laws::{
     a_block_is_an_object, a_lane_finds_the_blocks, a_pool_is_held_by_heap_words,
     a_read_finds_the_bytes, a_write_changes_one_object, an_object_has_words_of_its_own,
