@@ -1,9 +1,10 @@
 //! The laws of the crash theorem: what recovered words mean, and how the words that a call makes final change the pool.
 //!
 //! Promises whoever proves an engine or the top theorem that words which hold a pool, with bytes written inside an object, hold the
-//! pool of the plain model after that write; that reading the words of an object finds its bytes; and that the blocks a lane finds are the
-//! pool's objects. No code stands here but laws. It stands on `pm_image` for the meaning of words, `pm_model`
-//! for calls, and `pm_view` for what a lane finds; docs/MODEL.md, "The crash theorem".
+//! pool of the plain model after that write; that reading the words of an object finds its bytes; that the blocks a lane finds are the
+//! pool's objects; and that what a power failure leaves of one lane's work holds the replay of its calls. No code stands here but laws. It
+//! stands on `pm_image` for the meaning of words, `pm_model` for calls, `pm_view` for what a lane finds, and `pm_world` for its steps and
+//! for what a power failure leaves; docs/MODEL.md, "The crash theorem".
 #![tactic(auto)]
 
 mod calls;
