@@ -68,11 +68,11 @@ in_its_zone w lanes c block good (inr whole) =
     subst (IsInZone lanes c) whole.is_block (record { begins = omega arith; ends = omega arith })
 
 -- the bitmap of a run is in no other block's words behind their first line
-record IsBehindHeader (block : Block) (i : ℕ) : Type 0 where
-  from : block.place / 8 + 8 ≤ i
-  to : i < block.place / 8 + 8 * block.lines
+pub record IsBehindHeader (block : Block) (i : ℕ) : Type 0 where
+  pub from : block.place / 8 + 8 ≤ i
+  pub to : i < block.place / 8 + 8 * block.lines
 
-no_bitmap : (w : ℕ → ℕ) (lanes c other lines : ℕ) (block : Block) → bad_chunk w lanes c ≡ false → IsRunBlock w lanes c block ⊎ IsChunkBlock w lanes c block
+pub no_bitmap : (w : ℕ → ℕ) (lanes c other lines : ℕ) (block : Block) → bad_chunk w lanes c ≡ false → IsRunBlock w lanes c block ⊎ IsChunkBlock w lanes c block
     → class_in (w (descriptor_word lanes other)) ≡ Some (Lines lines) → IsBehindHeader block (chunk_word lanes other) → ⊥
 no_bitmap w lanes c other lines block good (inl run) is_run inside =
     let before : ℕ = run.lines * run.index in

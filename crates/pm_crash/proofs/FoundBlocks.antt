@@ -38,12 +38,12 @@ seen words w lanes line agree =
     ∙ bitmap_matters (is_chunk lanes (line / 64)) (is_run (w (lane_descriptor lanes (line / 64)))) (w (lane_descriptor lanes (line / 64))) (slice_index words (bitmap_word (line / 64))) (w (bitmap_word (line / 64))) (line % 64) refl agree.bitmap
 
 -- the page of a chunk
-record IsPageOf (lanes page c : ℕ) : Type 0 where
-  descriptor : lane_descriptor lanes page ≡ descriptor_word lanes c
-  bitmap : bitmap_word page ≡ chunk_word lanes c
-  in_chunk : is_chunk lanes page ≡ true
+pub record IsPageOf (lanes page c : ℕ) : Type 0 where
+  pub descriptor : lane_descriptor lanes page ≡ descriptor_word lanes c
+  pub bitmap : bitmap_word page ≡ chunk_word lanes c
+  pub in_chunk : is_chunk lanes page ≡ true
 
-page_of_chunk : (lanes page c : ℕ) → page ≡ 2 + 2 * lanes + 65 * (c / 64) + c % 64 → IsPageOf lanes page c
+pub page_of_chunk : (lanes page c : ℕ) → page ≡ 2 + 2 * lanes + 65 * (c / 64) + c % 64 → IsPageOf lanes page c
 page_of_chunk lanes page c is =
     let behind : zone_page lanes 0 ≤ page = omega arith in
     let zone : zone_of lanes page ≡ c / 64 = omega arith in
@@ -55,11 +55,11 @@ page_of_chunk lanes page c is =
     }
 
 -- and the chunk of a page
-record IsChunkOf (lanes zones page c : ℕ) : Type 0 where
-  page_is : page ≡ 2 + 2 * lanes + 65 * (c / 64) + c % 64
-  in_zones : c < 64 * zones
+pub record IsChunkOf (lanes zones page c : ℕ) : Type 0 where
+  pub page_is : page ≡ 2 + 2 * lanes + 65 * (c / 64) + c % 64
+  pub in_zones : c < 64 * zones
 
-chunk_of_page : (lanes zones page : ℕ) → 512 * page < pool_words lanes zones → is_chunk lanes page ≡ true → (c : ℕ) × IsChunkOf lanes zones page c
+pub chunk_of_page : (lanes zones page : ℕ) → 512 * page < pool_words lanes zones → is_chunk lanes page ≡ true → (c : ℕ) × IsChunkOf lanes zones page c
 chunk_of_page lanes zones page inside is =
     let parts = and_parts (leb (zone_page lanes 0) page) (leb 1 (chunk_of lanes page)) is in
     let behind : zone_page lanes 0 ≤ page = leb-true (zone_page lanes 0) page parts.0 in

@@ -37,3 +37,5 @@ pub mod EndedCalls
 pub mod InFlight
 pub mod Drawn
 pub mod HeldHistories
+pub mod Guarded
+pub mod CleanWords

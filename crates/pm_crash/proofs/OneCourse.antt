@@ -25,7 +25,6 @@ use Rattle.pm_world.specs.Opening.{Opening}
 use Rattle.pm_world.specs.Records.{difference_of}
 use Rattle.pm_world.specs.World.{Views, World}
 use Rattle.pm_world.proofs.Frame.{view_else, view_here}
-use Rattle.pm_world.proofs.OpeningLaw.{opening_law}
 use Rattle.pm_world.proofs.StepDrain.{drains}
 use Rattle.pm_world.proofs.StepDraw.{draws}
 use Rattle.pm_world.proofs.StepFlush.{flushes}
@@ -38,6 +37,7 @@ use Rattle.pm_world.proofs.StepTake.{takes_read, takes_write}
 use Rattle.pm_crash.specs.Held.{HoldsPool}
 use Rattle.pm_crash.specs.OneLane.{Begins, HoldsReplay, IsCourse, Makes, Moment, Move, beginning, moved}
 use Rattle.pm_crash.specs.OpenCall.{MakesStep, call_words}
+use Rattle.pm_crash.proofs.CleanWords.{clean_words_hold, world_begins}
 use Rattle.pm_crash.proofs.Continued.{two_same}
 use Rattle.pm_crash.proofs.Differing.{difference_makes_call}
 use Rattle.pm_crash.proofs.DrawnWords.{drawn_before}
@@ -124,7 +124,7 @@ pub record Goes (o : Opening) (k : ℕ) (header : Header) (pool : PoolView) (m :
 pub goes_first : (o : Opening) (memory : Memory) (views : Views) (k : ℕ) (header : Header) (pool : PoolView) → Begins o memory views k header pool → Goes o k header pool (beginning memory views)
 unfolding replayed
 goes_first o memory views k header pool b = record {
-  world = opening_law o memory views b.sound b.clean b.fresh b.opens;
+  world = world_begins o header pool b.holds b.clean memory views b.fresh b.opens;
   in_lanes = b.in_lanes;
   alone = λ e there. absurd (no_member e there);
   others = λ j low other. ap (λ log. log.phase) (b.fresh j low).idle;
@@ -133,7 +133,7 @@ goes_first o memory views k header pool b = record {
   reached = λ n low. nothing (take n []) (take_all n [] (omega arith));
 } where
   nothing : (log : List Entry) → log ≡ [] → Reaches o header pool log
-  nothing log none = subst (Reaches o header pool) (sym none) (record { last = pool; replays = refl; holds = b.holds })
+  nothing log none = subst (Reaches o header pool) (sym none) (record { last = pool; replays = refl; holds = clean_words_hold o header pool b.holds b.clean })
 
 module _ (o : Opening) (k : ℕ) (header : Header) (pool : PoolView) (m : Moment) (g : Goes o k header pool m) where
   idle_records : (j : ℕ) → j < o.lanes → j ≢ k → (m.views j).log.records ≡ []

@@ -1,5 +1,5 @@
 -- The course of a world in which one lane makes steps, and what its history makes of the pool that the world began from.
-use Rattle.std.specs.Prelude.{◌≡◌, ℕ, ◌<◌, Bool, false, List, [], ◌∷◌, map, slice_index}
+use Rattle.std.specs.Prelude.{◌≡◌, ℕ, ◌<◌, Bool, false, List, [], ◌∷◌, map}
 use Rattle.std.specs.List.{filter}
 use Rattle.pm_header.specs.declared.header.Header.{Header}
 use Rattle.pm_objects.specs.declared.pool.PoolView.{PoolView}
@@ -17,10 +17,10 @@ use Rattle.pm_world.specs.Laws.{with_view}
 use Rattle.pm_world.specs.Lawful.{IsLawful}
 use Rattle.pm_world.specs.Memory.{Memory}
 use Rattle.pm_world.specs.Moves.{Moves}
-use Rattle.pm_world.specs.Opening.{Opening, IsSound}
+use Rattle.pm_world.specs.Opening.{Opening}
 use Rattle.pm_world.specs.Opens.{IsClean, IsFresh, IsOpened}
 use Rattle.pm_world.specs.World.{Views}
-use Rattle.pm_crash.specs.Held.{HoldsPool}
+use Rattle.pm_crash.specs.Held.{HoldsImage, HoldsPool}
 use Rattle.pm_crash.specs.OpenCall.{IsBefore, MakesStep, told_of}
 
 -- where a world stands: its memory, what its lanes see, its history, and which numbers are decided
@@ -69,10 +69,9 @@ unfoldable pub IsCourse : ℕ → Moment → List Move → Moment → Type 0
 IsCourse k m [] last = last ≡ m
 IsCourse k m (s ∷ steps) last = Makes k m s × IsCourse k (moved k m s) steps last
 
--- a world begins over words that hold a pool, with each log clean and no lane having made a step; lane k is of this pool
+-- a world begins over an image that holds a pool, with each log clean and no lane having made a step; lane k is of this pool
 pub record Begins (o : Opening) (memory : Memory) (views : Views) (k : ℕ) (header : Header) (pool : PoolView) : Type 0 where
-  pub holds : HoldsPool (slice_index o.words) o.lanes o.zones header pool
-  pub sound : IsSound o
+  pub holds : HoldsImage o.words o.lanes o.zones header pool
   pub clean : (j : ℕ) → j < o.lanes → IsClean o j
   pub fresh : (j : ℕ) → j < o.lanes → IsFresh o j (views j)
   pub opens : IsOpened o memory

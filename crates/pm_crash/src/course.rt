@@ -1,4 +1,4 @@
-ghost use Rattle.std.specs.Prelude.{◌≡◌, ℕ, [], Contains, List};
+ghost use Rattle.std.specs.Prelude.{◌≡◌, ℕ, ◌<◌, false, [], Contains, List, slice_index};
 ghost use Rattle.pm_header.specs.declared.header.Header.{Header};
 ghost use Rattle.pm_objects.specs.declared.history.TxErr.{TxErr};
 ghost use Rattle.pm_objects.specs.declared.pool.PoolView.{PoolView};
@@ -7,10 +7,24 @@ ghost use Rattle.pm_view.specs.View.{View};
 ghost use Rattle.pm_world.specs.Crash.{IsAcknowledged, NoneTorn, Survives};
 ghost use Rattle.pm_world.specs.History.{Entry};
 ghost use Rattle.pm_world.specs.Memory.{Memory};
-ghost use Rattle.pm_world.specs.Opening.{Opening};
-ghost use Rattle.pm_world.specs.World.{Views};
+ghost use Rattle.pm_world.specs.Opening.{IsSound, Opening};
+ghost use Rattle.pm_world.specs.Opens.{IsClean, IsFresh, IsOpened};
+ghost use Rattle.pm_world.specs.World.{Views, World};
+ghost use Rattle.pm_crash.specs.Held.{HoldsImage, HoldsPool};
 ghost use Rattle.pm_crash.specs.OneLane.{Begins, HoldsReplay, IsCourse, IsModelStep, Moment, Move, beginning, kept_entries};
 ghost use Rattle.pm_crash.specs.OpenCall.{IsGivenUp, IsWholeCall};
+
+/// A law: an image that holds a pool, with each lane's log clean, is what a world can begin from: its words hold the pool as they stand, its
+/// blocks lie apart behind the lanes' areas, and with fresh views over the memory as it is opened the world begins. No code runs.
+pub fn a_recovered_pool_opens_a_world()
+    ensures sound { (o : Opening) (header : Header) (pool : PoolView) → HoldsImage o.words o.lanes o.zones header pool
+        → ((k : ℕ) → k < o.lanes → IsClean o k) → IsSound o }
+    ensures holds { (o : Opening) (header : Header) (pool : PoolView) → HoldsImage o.words o.lanes o.zones header pool
+        → ((k : ℕ) → k < o.lanes → IsClean o k) → HoldsPool (slice_index o.words) o.lanes o.zones header pool }
+    ensures world { (o : Opening) (memory : Memory) (views : Views) (header : Header) (pool : PoolView)
+        → HoldsImage o.words o.lanes o.zones header pool → ((k : ℕ) → k < o.lanes → IsClean o k)
+        → ((k : ℕ) → k < o.lanes → IsFresh o k (views k)) → IsOpened o memory → World o memory views [] (λ n. false) }
+{}
 
 /// A law: a call that is whole is a step of the plain model, whatever pool it meets; and so is one that was given up, once its log has no
 /// record. No code runs.

@@ -19,7 +19,9 @@ pub use calls::{
     a_transaction_that_rests_has_run, a_write_changes_the_call, an_abort_gives_up,
     an_inner_commit_keeps_the_call, rising_wants_are_locks,
 };
-pub use course::{an_ended_call_is_a_model_step, one_lanes_images_hold_the_replay};
+pub use course::{
+    a_recovered_pool_opens_a_world, an_ended_call_is_a_model_step, one_lanes_images_hold_the_replay,
+};
 pub use histories::{
     a_crash_leaves_what_kept_calls_made, a_drawn_call_is_a_step, a_history_is_held,
     a_lane_looks_past_calls_in_flight,

@@ -32,6 +32,7 @@ fn laws(_rt: HostRuntime) {
     a_record_keeps_the_call();
     a_call_given_up_changes_nothing();
     a_begin_opens();
+    a_recovered_pool_opens_a_world();
     an_ended_call_is_a_model_step();
     one_lanes_images_hold_the_replay();
 }
