@@ -32,3 +32,4 @@ pub mod RisingWants
 pub mod InFlight
 pub mod Drawn
 pub mod HeldHistories
+pub mod SameLocks
