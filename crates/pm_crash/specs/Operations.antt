@@ -212,7 +212,8 @@ abbrev pub wants_first : List Locked → List Want → Bool
 wants_first before wants = list_any (λ (want : Want). not (is_locked before want.id.off false)) wants
 
 -- why a begin at this level, with these locks held, is refused: for its depth, for too many locks, since something wanted has not the form
--- of an object's id, since a lock that it tried was another lane's, or since it found no object under one that it took
+-- of an object's id, since a lock that it tried was another lane's, or since it found no object under one that it took. What it saw of other
+-- lanes is not asked for here: the model allows the last two wherever such a lock is wanted
 abbrev pub IsBeginReason : View → ℕ → List Locked → List Want → Refusal → Type 0
 IsBeginReason v level before wants refusal.Deep = 64 ≤ level
 IsBeginReason v level before wants refusal.LocksFull = (level < 64) × (64 < length (locks_wanted v before wants))
