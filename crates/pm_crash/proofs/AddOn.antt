@@ -1,5 +1,5 @@
 -- A range whose new words are recorded as they are is the model's, and changes no word of the call.
-use Rattle.std.proofs.Common.{◌≡◌, ⊎_elim, ℕ, ◌+◌, ◌-◌, ◌*◌, ◌<◌, ◌≤◌, ◌||◌, Bool, true, false, leb, ltb, List, ◌++◌, length, map, slice_get, slice_index, Some, None, refl, sym, ◌∙◌, ap, subst, arith}
+use Rattle.std.proofs.Common.{◌≡◌, ⊎_elim, ℕ, ◌+◌, ◌-◌, ◌*◌, ◌<◌, ◌≤◌, ◌||◌, Bool, true, false, leb, ltb, List, ◌++◌, length, slice_get, slice_index, Some, None, refl, sym, ◌∙◌, ap, subst, arith}
 use Rattle.std.proofs.lemmas.Bool.{and_parts, cases_Bool, le-ltb, leb-true, ltb-true, or_from, or_left, or_right, or_cases}
 use Rattle.std.proofs.lemmas.List.{length-append}
 use Rattle.std.proofs.lemmas.List.Folds.{list_any-append}
@@ -14,8 +14,9 @@ use Rattle.pm_view.specs.Area.{is_in_area}
 use Rattle.pm_view.specs.Log.{Recorded}
 use Rattle.pm_view.specs.View.{View}
 use Rattle.pm_world.specs.Records.{covers, is_recorded}
+use Rattle.pm_crash.proofs.CallWords.{locks_kept}
 use Rattle.pm_crash.specs.Held.{HoldsPool}
-use Rattle.pm_crash.specs.OpenCall.{IsBefore, call_words, IsOpen, lock_of, words_recorded}
+use Rattle.pm_crash.specs.OpenCall.{IsBefore, call_words, IsOpen, words_recorded}
 use Rattle.pm_crash.specs.Operations.{AddsRange, IsPresent}
 use Rattle.pm_crash.proofs.CallWords.{call_works, covered_is_outside, held_is_locked, object_under, other_call_word, recorded_call_word, same_pool, IsObjectOf}
 use Rattle.pm_crash.proofs.Continued.{answers_done, still_open}
@@ -120,7 +121,7 @@ add_keeps_open v next id off len level some is_open adds =
           refl;
       holds = subst (λ (f : ℕ → ℕ). HoldsPool f v.lanes v.zones header c.tx.pool) (sym same) c.holds;
       before = refl;
-      locks = c.locks ∙ ap (map lock_of) (sym adds.tells.locks);
+      locks = locks_kept c.tx v next adds.tells.locks c.locks;
       recorded =
           ap (λ (ws : List ℕ). ws ++ new_words ws words) c.recorded
           ∙ ap (λ (ws : List ℕ). old_words ++ ws) (sym (words_of_new added (new_words old_words words) adds.extents))

@@ -21,14 +21,15 @@ use Rattle.pm_image.specs.Contents.{size_in}
 use Rattle.pm_image.proofs.Members.{first_member, later_member}
 use Rattle.pm_model.specs.declared.stage.Stage.TheVariants as stage
 use Rattle.pm_model.specs.Places.{can_begin, has_place}
-use Rattle.pm_model.specs.Transaction.{Transaction, Lock as Locked, at_rest, locked_all}
+use Rattle.pm_model.specs.Transaction.{Transaction, at_rest, locked_all}
 use Rattle.pm_model.specs.Checks.{passes_locks, wants_no_place, takes_first_lock, is_missing, first_refusal}
 use Rattle.pm_model.specs.Answers.{Told as Answered, Answers, IsDone, IsRefused, after}
 use Rattle.pm_view.specs.Log.{Recorded}
 use Rattle.pm_view.specs.View.{View}
 use Rattle.pm_world.specs.Records.{is_recorded}
+use Rattle.pm_crash.proofs.SameLocks.{turned_locks}
 use Rattle.pm_crash.specs.Held.{HoldsPool}
-use Rattle.pm_crash.specs.OpenCall.{IsBefore, IsOpen, RunsTo, block_at_line, call_words, told_of, words_recorded}
+use Rattle.pm_crash.specs.OpenCall.{IsBefore, IsOpen, RunsTo, block_at_line, call_words, told_of, words_recorded, lock_of, locks_of}
 use Rattle.pm_crash.specs.Operations.{BeginsCall, IsHeld, IsWantHeld}
 use Rattle.pm_crash.proofs.ObjectsOfBlocks.{object_is_there}
 use Rattle.pm_crash.proofs.Passing.{unhindered}
@@ -91,7 +92,7 @@ wanted_is_there v w header pool want holds before wanted =
 begin_answers : (v : View) (wants : List Want) (w : ℕ → ℕ) (header : Header) (pool : PoolView) → BeginsCall v wants → HoldsPool w v.lanes v.zones header pool → v.pool ≡ header.id → IsBefore v w
     → Answers (at_rest pool) (Begin wants) None
 begin_answers v wants w header pool begins holds id before =
-    let long : length (locked_all wants []) ≡ length v.locks = sym (ap (λ (ls : List Locked). length ls) begins.takes.locks) ∙ length-map v.locks _ in
+    let long : length (locked_all wants []) ≡ length v.locks = sym begins.takes.locks.count ∙ length-map v.locks lock_of in
     let few : length v.locks ≤ 64 = begins.takes.few in
     let passes : first_refusal unhindered (at_rest pool) (Begin wants) ≡ None =
     begin_passes pool wants (λ want there. wanted_has_place v w header pool want holds id (begins.takes.wanted want there)) (omega arith) in
@@ -126,7 +127,7 @@ begin_opens v wants begins = record {
         runs = subst (λ (ts : List Answered). RunsTo pool ts tx) (sym (ap (map told_of) begins.call)) (runs_first told pool (begin_answers v wants w header pool begins holds id before));
         holds = subst (λ (f : ℕ → ℕ). HoldsPool f v.lanes v.zones header pool) (sym same) holds;
         before = refl;
-        locks = sym begins.takes.locks;
+        locks = turned_locks (locks_of v) (locked_all wants []) begins.takes.locks;
         recorded = ap words_recorded (sym begins.no_records);
         records = ap (λ (records : List Recorded). length records) (sym begins.no_records);
         levels = refl;

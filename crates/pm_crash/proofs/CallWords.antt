@@ -14,12 +14,13 @@ use Rattle.pm_image.specs.Blocks.{blocks}
 use Rattle.pm_image.specs.Contents.{bytes_in, offset_in, size_in}
 use Rattle.pm_image.proofs.Members.{member_cases, no_member}
 use Rattle.pm_model.specs.declared.stage.Stage.TheVariants as stage
-use Rattle.pm_model.specs.Transaction.{Transaction, Lock as Locked, is_locked}
+use Rattle.pm_model.specs.Transaction.{Transaction, is_locked}
 use Rattle.pm_model.specs.Bytes.{bytes_of, covered_words}
 use Rattle.pm_view.specs.Area.{area_word, is_in_area}
 use Rattle.pm_view.specs.Blocks.{chunk_of, is_chunk, zone_page}
 use Rattle.pm_view.specs.View.{View, Lock}
 use Rattle.pm_world.specs.Records.{is_recorded}
+use Rattle.pm_crash.specs.Locks.{AreSameLocks}
 use Rattle.pm_crash.specs.Held.{HoldsPool}
 use Rattle.pm_crash.specs.OpenCall.{IsBefore, call_words, ComesTo, IsOpen, lock_of, locks_of, block_at_line}
 use Rattle.pm_crash.specs.Operations.{IsHeld}
@@ -75,12 +76,16 @@ locked_member (k ∷ locks) l off write there place allows = ⊎_elim
     (λ (later : Contains locks l). or_right (eqb (64 * k.line + 64) off && (k.write || not write)) (is_locked (map lock_of locks) off write) (locked_member locks l off write later place allows))
     (member_cases k locks l there)
 
-pub held_is_locked : (v : View) (id : Oid) (write : Bool) (tx : Transaction) → IsHeld v id write → tx.locks ≡ locks_of v → tx.pool.id ≡ v.pool
+pub held_is_locked : (v : View) (id : Oid) (write : Bool) (tx : Transaction) → IsHeld v id write → AreSameLocks tx.locks (locks_of v) → tx.pool.id ≡ v.pool
     → not (eqb id.pool tx.pool.id && is_locked tx.locks id.off write) ≡ false
 held_is_locked v id write tx held locks same =
     ap not (and_from (eqb id.pool tx.pool.id) (is_locked tx.locks id.off write)
     (eq-eqb id.pool tx.pool.id (held.of_pool ∙ sym same))
-    (ap (λ (ls : List Locked). is_locked ls id.off write) locks ∙ locked_member v.locks held.lock id.off write held.held (sym held.place) held.allows))
+    (locks.same id.off write ∙ locked_member v.locks held.lock id.off write held.held (sym held.place) held.allows))
+
+-- locks that stay are still the transaction's
+pub locks_kept : (tx : Transaction) (v next : View) → next.locks ≡ v.locks → AreSameLocks tx.locks (locks_of v) → AreSameLocks tx.locks (locks_of next)
+locks_kept tx v next same are = subst (λ (ls : List Lock). AreSameLocks tx.locks (map lock_of ls)) (sym same) are
 
 -- the object under a held lock, in the words of the open call
 pub record IsObjectOf (v : View) (w : ℕ → ℕ) (tx : Transaction) (id : Oid) (line : ℕ) : Type 0 where
@@ -122,7 +127,7 @@ object_under v w header pool level id write is_open before c held size_known =
 pub call_works : (v : View) (w : ℕ → ℕ) (header : Header) (pool : PoolView) (level : ℕ) → 1 ≤ level → IsOpen v level stage.Work error.None → (c : ComesTo v w header pool level stage.Work error.None) → Works c.tx
 call_works v w header pool level some is_open c =
     let levels : c.tx.level ≡ level = c.levels in
-    let long : length c.tx.locks ≡ length v.locks = ap length c.locks ∙ length-map v.locks lock_of in
+    let long : length c.tx.locks ≡ length v.locks = c.locks.count ∙ length-map v.locks lock_of in
     let few : length v.locks ≤ 64 = is_open.few in
     record { level = omega arith; working = c.stands; few = omega arith }
 

@@ -23,6 +23,7 @@ use Rattle.pm_view.specs.Area.{is_in_area}
 use Rattle.pm_view.specs.Blocks.{is_chunk}
 use Rattle.pm_view.specs.View.{View, Lock}
 use Rattle.pm_world.specs.Records.{is_recorded}
+use Rattle.pm_crash.specs.Locks.{AreSameLocks}
 use Rattle.pm_crash.specs.Held.{HoldsPool}
 use Rattle.pm_crash.specs.OpenCall.{IsBefore, call_words, ComesTo, IsOpen, RunsTo, told_in, told_of, locks_of, words_recorded}
 use Rattle.pm_crash.specs.Operations.{KeepsLane, Tells}
@@ -58,7 +59,7 @@ pub record Continues (v next : View) (w : ℕ → ℕ) (header : Header) (op : O
   pub answers : Answers tx op reply
   pub holds : HoldsPool (call_words next w) v.lanes v.zones header (after_reply op reply tx).pool
   pub before : (after_reply op reply tx).before ≡ tx.before
-  pub locks : (after_reply op reply tx).locks ≡ locks_of next
+  pub locks : AreSameLocks (after_reply op reply tx).locks (locks_of next)
   pub recorded : (after_reply op reply tx).recorded ≡ words_recorded next.log.records
   pub records : (after_reply op reply tx).records ≡ length next.log.records
   pub levels : (after_reply op reply tx).level ≡ to

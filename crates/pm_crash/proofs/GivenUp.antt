@@ -16,7 +16,7 @@ use Rattle.pm_objects.specs.declared.refusal.Refusal.{Refusal}
 use Rattle.pm_objects.specs.declared.refusal.Refusal.TheVariants as refusal
 use Rattle.pm_image.proofs.Members.{member_cases, no_member}
 use Rattle.pm_model.specs.declared.stage.Stage.TheVariants as stage
-use Rattle.pm_model.specs.Transaction.{Transaction, Lock as Locked, aborted, at_rest, is_locked, is_working}
+use Rattle.pm_model.specs.Transaction.{Transaction, aborted, at_rest, is_locked, is_working}
 use Rattle.pm_model.specs.Bytes.{bytes_of, is_among, new_words, records_of}
 use Rattle.pm_model.specs.Checks.{Range, range_of, is_record, is_write, needs_write, is_lock_missing, is_not_locked, passes_end_of, passes_end, has_unrecorded, is_not_added, overfills, passes_log, first_refusal, words_in}
 use Rattle.pm_model.specs.Answers.{Told as Answered, Answers, IsDone, IsRefused, after_reply, changes_nothing, error_for, is_known}
@@ -28,6 +28,7 @@ use Rattle.pm_view.specs.Log.{Recorded}
 use Rattle.pm_view.specs.View.{View}
 use Rattle.pm_world.specs.Records.{covers, is_recorded}
 use Rattle.pm_world.proofs.CrashLogs.{recorded_from}
+use Rattle.pm_crash.specs.Locks.{AreSameLocks}
 use Rattle.pm_crash.specs.Held.{HoldsPool}
 use Rattle.pm_crash.specs.OpenCall.{IsBefore, ComesTo, ComesToNothing, IsGivenUp, IsOpen, RunsTo, act_of, locks_of, told_in, words_recorded}
 use Rattle.pm_crash.specs.Operations.{HasRange, KeepsFound, IsHeld, IsNotAdded, IsNotHeld, IsReason, Overfills, Refuses, KeepsLane, TakesBack, Tells}
@@ -114,7 +115,7 @@ record Asked (v : View) (w : ℕ → ℕ) (header : Header) (op : Operation) (ra
   works : Works tx
   is_range : range_of op ≡ Some range
   of_pool : tx.pool.id ≡ v.pool
-  locks : tx.locks ≡ locks_of v
+  locks : AreSameLocks tx.locks (locks_of v)
   recorded : tx.recorded ≡ words_recorded v.log.records
   records : tx.records ≡ length v.log.records
   long : (write : Bool) → (held : IsHeld v range.id write) → Contains v.known (8 * held.lock.line + 1) → length (bytes_of tx.pool.objects range.id.off) ≡ slice_index v.words (8 * held.lock.line + 1)
@@ -133,10 +134,10 @@ record IsAbortedFor (tx : Transaction) (op : Operation) (r : Refusal) : Type 0 w
   refused_first : first_refusal unhindered tx op ≡ Some r
   traced : changes_nothing r ≡ false
 
-lock_is_missing : (v : View) (tx : Transaction) (id : Oid) (write : Bool) → tx.pool.id ≡ v.pool → tx.locks ≡ locks_of v → IsNotHeld v id write → not (eqb id.pool tx.pool.id && is_locked tx.locks id.off write) ≡ true
+lock_is_missing : (v : View) (tx : Transaction) (id : Oid) (write : Bool) → tx.pool.id ≡ v.pool → AreSameLocks tx.locks (locks_of v) → IsNotHeld v id write → not (eqb id.pool tx.pool.id && is_locked tx.locks id.off write) ≡ true
 lock_is_missing v tx id write of_pool locks unheld =
     ap not (⊎_elim
-    (λ (same : id.pool ≡ tx.pool.id). and_right (eqb id.pool tx.pool.id) (is_locked tx.locks id.off write) (ap (λ (ls : List Locked). is_locked ls id.off write) locks ∙ unheld (same ∙ of_pool)))
+    (λ (same : id.pool ≡ tx.pool.id). and_right (eqb id.pool tx.pool.id) (is_locked tx.locks id.off write) (locks.same id.off write ∙ unheld (same ∙ of_pool)))
     (λ (other : id.pool ≢ tx.pool.id). and_left (eqb id.pool tx.pool.id) (is_locked tx.locks id.off write) (ne_eqb id.pool tx.pool.id other))
     (cases_eq id.pool tx.pool.id))
 

@@ -1,5 +1,5 @@
 -- Further levels of a transaction: one begins with more locks, and an inner one commits.
-use Rattle.std.proofs.Common.{◌≡◌, ℕ, ◌+◌, ◌<◌, ◌≤◌, Bool, true, false, cond, eqb, leb, ltb, List, [], ◌∷◌, length, map, get_or, Option, None, MatchOption, refl, sym, ◌∙◌, ap, subst, arith}
+use Rattle.std.proofs.Common.{◌≡◌, ℕ, ◌+◌, ◌<◌, ◌≤◌, Bool, true, false, cond, eqb, leb, ltb, List, [], ◌∷◌, length, get_or, Option, None, MatchOption, refl, sym, ◌∙◌, ap, subst, arith}
 use Rattle.std.specs.Prelude.{IsSome}
 use Rattle.std.specs.List.{Contains, find}
 use Rattle.std.specs.Option.{option_map}
@@ -22,11 +22,14 @@ use Rattle.pm_image.specs.Blocks.{blocks}
 use Rattle.pm_image.specs.Contents.{size_in}
 use Rattle.pm_model.specs.declared.stage.Stage.TheVariants as stage
 use Rattle.pm_model.specs.Places.{can_begin, has_place}
-use Rattle.pm_model.specs.Transaction.{Transaction, Lock as Locked, at_rest, committed, ended_inner, is_unharmed, locked_all}
+use Rattle.pm_model.specs.Transaction.{Transaction, at_rest, committed, ended_inner, is_unharmed, locked_all}
 use Rattle.pm_model.specs.Checks.{is_too_deep, passes_locks, wants_no_place, first_refusal}
 use Rattle.pm_model.specs.Answers.{IsDone, IsRefused, after_reply}
 use Rattle.pm_view.specs.Log.{Recorded}
 use Rattle.pm_view.specs.View.{View}
+use Rattle.pm_crash.proofs.SameLocks.{joined_locks, turned_locks, wanted_alike}
+use Rattle.pm_crash.proofs.CallWords.{locks_kept}
+use Rattle.pm_crash.specs.Locks.{AreSameLocks}
 use Rattle.pm_crash.specs.Held.{HoldsPool}
 use Rattle.pm_crash.specs.OpenCall.{IsBefore, ComesTo, IsOpen, block_at_line, call_words, lock_of, locks_of, words_recorded}
 use Rattle.pm_crash.specs.Operations.{BeginsLevel, IsHeld, IsWantHeld, KeepsLog, KeepsWords, Tells}
@@ -58,7 +61,7 @@ inner_commit_keeps_open v next level some is_open tells logs keeps =
           subst (λ (x : Transaction). HoldsPool (call_words next w) v.lanes v.zones header x.pool) (sym ends)
           (subst (λ (f : ℕ → ℕ). HoldsPool f v.lanes v.zones header c.tx.pool) (sym same) c.holds);
       before = ap (λ (x : Transaction). x.before) ends;
-      locks = ap (λ (x : Transaction). x.locks) ends ∙ c.locks ∙ ap (map lock_of) (sym tells.locks);
+      locks = subst (λ (x : Transaction). AreSameLocks x.locks (locks_of next)) (sym ends) (locks_kept c.tx v next tells.locks c.locks);
       recorded = ap (λ (x : Transaction). x.recorded) ends ∙ c.recorded ∙ ap words_recorded (sym logs.records);
       records = ap (λ (x : Transaction). x.records) ends ∙ c.records ∙ ap (λ (rs : List Recorded). length rs) (sym logs.records);
       levels = ap (λ (x : Transaction). x.level) ends ∙ omega arith;
@@ -125,8 +128,10 @@ further_continues v next wants level some shallow is_open begins w header pool i
     let levels : c.tx.level ≡ level = c.levels in
     let there : (want : Want) → Contains wants want → IsWantThere c.tx want =
     λ want inside. want_is_there v next wants level w header pool want begins id before c (begins.takes.wanted want inside) in
-    let locks : locked_all wants c.tx.locks ≡ locks_of next = ap (locked_all wants) c.locks ∙ sym begins.takes.locks in
-    let long : length (locked_all wants c.tx.locks) ≡ length next.locks = ap (λ (ls : List Locked). length ls) locks ∙ length-map next.locks lock_of in
+    let locks : AreSameLocks (locked_all wants c.tx.locks) (locks_of next) =
+    joined_locks (locked_all wants c.tx.locks) (locked_all wants (locks_of v)) (locks_of next) (wanted_alike wants c.tx.locks (locks_of v) c.locks)
+    (turned_locks (locks_of next) (locked_all wants (locks_of v)) begins.takes.locks) in
+    let long : length (locked_all wants c.tx.locks) ≡ length next.locks = locks.count ∙ length-map next.locks lock_of in
     let few : length next.locks ≤ 64 = begins.takes.few in
     let passes : first_refusal unhindered c.tx (Begin wants) ≡ None = further_passes c.tx wants works (omega arith) (λ want inside. (there want inside).place) (omega arith) in
     let done : IsDone c.tx (Begin wants) None = record {

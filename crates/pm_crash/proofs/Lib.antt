@@ -39,3 +39,4 @@ pub mod Drawn
 pub mod HeldHistories
 pub mod Guarded
 pub mod CleanWords
+pub mod SameLocks

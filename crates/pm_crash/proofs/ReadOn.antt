@@ -16,8 +16,9 @@ use Rattle.pm_model.specs.Bytes.{bytes_at, bytes_of, covered_words}
 use Rattle.pm_model.specs.Answers.{Answers}
 use Rattle.pm_view.specs.View.{View}
 use Rattle.pm_view.specs.Log.{Recorded}
+use Rattle.pm_crash.proofs.CallWords.{locks_kept}
 use Rattle.pm_crash.specs.Held.{HoldsPool}
-use Rattle.pm_crash.specs.OpenCall.{IsBefore, call_words, ComesTo, IsOpen, lock_of, words_recorded}
+use Rattle.pm_crash.specs.OpenCall.{IsBefore, call_words, ComesTo, IsOpen, words_recorded}
 use Rattle.pm_crash.specs.Operations.{ReadsBytes, bytes_seen}
 use Rattle.pm_crash.proofs.CallWords.{call_works, covered_is_outside, held_is_locked, known_call_word, object_under, same_pool, IsObjectOf}
 use Rattle.pm_crash.proofs.Continued.{answers_done, still_open}
@@ -65,7 +66,7 @@ read_keeps_open v next id off len level some is_open reads =
       answers = answers;
       holds = subst (λ (f : ℕ → ℕ). HoldsPool f v.lanes v.zones header c.tx.pool) (sym same) c.holds;
       before = refl;
-      locks = c.locks ∙ ap (map lock_of) (sym reads.tells.locks);
+      locks = locks_kept c.tx v next reads.tells.locks c.locks;
       recorded = c.recorded ∙ ap words_recorded (sym reads.logs.records);
       records = c.records ∙ ap (λ (rs : List Recorded). length rs) (sym reads.logs.records);
       levels = c.levels;

@@ -19,6 +19,8 @@ use Rattle.pm_model.proofs.Alike.{after_refused}
 use Rattle.pm_view.specs.Log.{Recorded}
 use Rattle.pm_view.specs.View.{View}
 use Rattle.pm_world.specs.Records.{is_recorded}
+use Rattle.pm_crash.proofs.SameLocks.{same_locks, wanted_alike}
+use Rattle.pm_crash.specs.Locks.{AreSameLocks}
 use Rattle.pm_crash.specs.OpenCall.{IsGivenUp, IsOpen, RunsTo, locks_of, told_of}
 use Rattle.pm_crash.specs.Operations.{IsBeginReason, RefusesCall, RefusesLevel, is_placed, lacks_place, locks_wanted, wants_first, wants_more}
 use Rattle.pm_crash.proofs.CallWords.{call_works, same_pool}
@@ -59,8 +61,14 @@ five_checks busy missing tx wants works =
 record IsAt (v : View) (level : ℕ) (before : List Locked) (tx : Transaction) : Type 0 where
   works : finds_no_work tx ≡ false
   levels : tx.level ≡ level
-  locks : tx.locks ≡ before
+  locks : AreSameLocks tx.locks before
   placed : (λ (want : Want). has_place tx.pool want.id) ≡ is_placed v
+
+-- the check of room for locks does not depend on their order
+full_check : (v : View) (level : ℕ) (before : List Locked) (tx : Transaction) (wants : List Want) → IsAt v level before tx
+    → passes_locks tx (Begin wants) ≡ ltb 64 (length (locks_wanted v before wants))
+full_check v level before tx wants at =
+    (λ j. ltb 64 (length (locked_all (filter (at.placed j) wants) tx.locks))) ∙ ap (ltb 64) (wanted_alike (filter (is_placed v) wants) tx.locks before at.locks).count
 
 -- the begin is refused for this reason, whatever else holds
 record IsBeginRefused (tx : Transaction) (wants : List Want) (r : Refusal) : Type 0 where
@@ -84,7 +92,7 @@ begin_refused v level before tx wants refusal.LocksFull at reason =
     let shallow : level < 64 = reason.0 in
     let deep : leb 64 tx.level ≡ false = lt-leb 64 tx.level (omega arith) in
     let full : passes_locks tx (Begin wants) ≡ true =
-    (λ j. ltb 64 (length (locked_all (filter (at.placed j) wants) (at.locks j)))) ∙ lt-ltb 64 (length (locks_wanted v before wants)) reason.1 in
+    full_check v level before tx wants at ∙ lt-ltb 64 (length (locks_wanted v before wants)) reason.1 in
     record {
       seen = saw false false;
       refused_first = five_checks false false tx wants at.works ∙ (λ j. first_of_five (deep j) (full j) (wants_no_place tx (Begin wants)) (leb 1 tx.level && takes_lock tx (Begin wants) && false) (takes_first_lock tx (Begin wants) && false));
@@ -95,9 +103,9 @@ begin_refused v level before tx wants refusal.NoObject at reason =
     let shallow : level < 64 = reason.0 in
     let deep : leb 64 tx.level ≡ false = lt-leb 64 tx.level (omega arith) in
     let full : passes_locks tx (Begin wants) ≡ false =
-    (λ j. ltb 64 (length (locked_all (filter (at.placed j) wants) (at.locks j)))) ∙ le-ltb 64 (length (locks_wanted v before wants)) reason.1 in
+    full_check v level before tx wants at ∙ le-ltb 64 (length (locks_wanted v before wants)) reason.1 in
     let place : wants_no_place tx (Begin wants) ≡ lacks_place v wants = (λ j. list_any (λ (want : Want). not (at.placed j want)) wants) in
-    let first : takes_first_lock tx (Begin wants) ≡ wants_first before wants = ap (λ (ls : List Locked). wants_first ls wants) at.locks in
+    let first : takes_first_lock tx (Begin wants) ≡ wants_first before wants = (λ j. list_any (λ (want : Want). not (at.locks.same want.id.off false j)) wants) in
     let by_place : lacks_place v wants ≡ true → IsBeginRefused tx wants refusal.NoObject = λ lacks.
     record {
       seen = saw false false;
@@ -124,9 +132,9 @@ begin_refused v level before tx wants refusal.Busy at reason =
     let some : 1 ≤ level = reason.3 in
     let deep : leb 64 tx.level ≡ false = lt-leb 64 tx.level (omega arith) in
     let full : passes_locks tx (Begin wants) ≡ false =
-    (λ j. ltb 64 (length (locked_all (filter (at.placed j) wants) (at.locks j)))) ∙ le-ltb 64 (length (locks_wanted v before wants)) reason.1 in
+    full_check v level before tx wants at ∙ le-ltb 64 (length (locks_wanted v before wants)) reason.1 in
     let place : wants_no_place tx (Begin wants) ≡ lacks_place v wants = (λ j. list_any (λ (want : Want). not (at.placed j want)) wants) in
-    let more : takes_lock tx (Begin wants) ≡ wants_more before wants = ap (λ (ls : List Locked). wants_more ls wants) at.locks in
+    let more : takes_lock tx (Begin wants) ≡ wants_more before wants = (λ j. list_any (λ (want : Want). not (at.locks.same want.id.off want.write j)) wants) in
     let busy : (leb 1 tx.level && takes_lock tx (Begin wants) && true) ≡ true =
     and_from (leb 1 tx.level && takes_lock tx (Begin wants)) true (and_from (leb 1 tx.level) (takes_lock tx (Begin wants)) (le-leb 1 tx.level (omega arith)) (more ∙ reason.4)) refl in
     record {
@@ -160,7 +168,7 @@ call_refused v wants r refuses = record {
       let at : IsAt v 0 [] (at_rest pool) = record {
         works = refl;
         levels = refl;
-        locks = refl;
+        locks = same_locks [];
         placed =
             same_places v pool (ap (λ (p : PoolView). p.id) holds.is_pool ∙ sym id) (ap (λ (p : PoolView). p.lanes) holds.is_pool) (ap (λ (p : PoolView). p.zones) holds.is_pool);
       } in

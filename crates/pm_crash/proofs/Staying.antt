@@ -14,8 +14,9 @@ use Rattle.pm_model.specs.History.{opened}
 use Rattle.pm_view.specs.Blocks.{is_chunk}
 use Rattle.pm_view.specs.Log.{Recorded}
 use Rattle.pm_view.specs.View.{View, Lock}
+use Rattle.pm_crash.proofs.CallWords.{locks_kept}
 use Rattle.pm_crash.specs.Held.{HoldsPool}
-use Rattle.pm_crash.specs.OpenCall.{IsBefore, ComesTo, ComesToNothing, IsGivenUp, IsOpen, IsWholeCall, MakesStep, RunsTo, act_of, call_words, lock_of, told_in, told_of, words_recorded}
+use Rattle.pm_crash.specs.OpenCall.{IsBefore, ComesTo, ComesToNothing, IsGivenUp, IsOpen, IsWholeCall, MakesStep, RunsTo, act_of, call_words, told_in, told_of, words_recorded}
 use Rattle.pm_crash.specs.Operations.{KeepsLog, KeepsWords, TakesBack, TellsNothing}
 use Rattle.pm_crash.proofs.Continued.{two_same}
 use Rattle.pm_crash.proofs.GivenUp.{outside_taken_back, taken_back}
@@ -47,7 +48,7 @@ open_stays_so v next level at_stage e w header pool quiet logs same c =
       runs = subst (λ (told : List Answered). RunsTo pool told c.tx) (sym (same_told v next quiet)) c.runs;
       holds = quiet_made v next w header c.tx.pool quiet same c.holds;
       before = c.before;
-      locks = c.locks ∙ ap (map lock_of) (sym quiet.locks);
+      locks = locks_kept c.tx v next quiet.locks c.locks;
       recorded = c.recorded ∙ ap words_recorded (sym logs.records);
       records = c.records ∙ ap (λ (rs : List Recorded). length rs) (sym logs.records);
       levels = c.levels;

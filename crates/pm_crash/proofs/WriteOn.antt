@@ -1,5 +1,5 @@
 -- A write into recorded words under a write lock makes the words that hold the model's pool after it.
-use Rattle.std.proofs.Common.{◌≡◌, ⊎_elim, ℕ, ◌+◌, ◌*◌, ◌≤◌, true, false, not, List, [], ◌∷◌, length, map, slice_index, None, refl, sym, ◌∙◌, ap, subst, arith}
+use Rattle.std.proofs.Common.{◌≡◌, ⊎_elim, ℕ, ◌+◌, ◌*◌, ◌≤◌, true, false, not, List, [], ◌∷◌, length, slice_index, None, refl, sym, ◌∙◌, ap, subst, arith}
 use Rattle.std.specs.List.{Contains, list_all}
 use Rattle.std.proofs.lemmas.Bool.{and_from, cases_Bool, cond-false, cond-true, false≢true, le-ltb}
 use Rattle.pm_objects.specs.declared.calls.Operation.TheVariants.{Write}
@@ -15,8 +15,9 @@ use Rattle.pm_view.specs.Area.{is_in_area}
 use Rattle.pm_view.specs.Log.{Recorded}
 use Rattle.pm_view.specs.View.{View}
 use Rattle.pm_world.specs.Records.{is_recorded}
+use Rattle.pm_crash.proofs.CallWords.{locks_kept}
 use Rattle.pm_crash.specs.Held.{HoldsPool}
-use Rattle.pm_crash.specs.OpenCall.{call_words, IsOpen, lock_of, words_recorded}
+use Rattle.pm_crash.specs.OpenCall.{call_words, IsOpen, words_recorded}
 use Rattle.pm_crash.specs.Operations.{WritesBytes}
 use Rattle.pm_crash.specs.Writes.{IsWritten, KeepsOthers, WritesObject, words_written, written_word}
 use Rattle.pm_crash.proofs.Apart.{heads_kept}
@@ -95,7 +96,7 @@ write_keeps_open v next id off level bytes some is_open writes =
           subst (λ (o : ℕ). HoldsPool (call_words next w) v.lanes v.zones header (record c.tx.pool { objects = put_object o off bytes c.tx.pool.objects })) object.offset
           (written_pool words (call_words next w) v.lanes v.zones off header c.tx.pool block bytes c.holds write);
       before = refl;
-      locks = c.locks ∙ ap (map lock_of) (sym writes.tells.locks);
+      locks = locks_kept c.tx v next writes.tells.locks c.locks;
       recorded = c.recorded ∙ ap words_recorded (sym writes.logs.records);
       records = c.records ∙ ap (λ (rs : List Recorded). length rs) (sym writes.logs.records);
       levels = c.levels;

@@ -3,6 +3,7 @@ pub mod Held
 pub mod HeldHistory
 pub mod Lines
 pub mod OneLane
+pub mod Locks
 pub mod OpenCall
 pub mod Operations
 pub mod Writes

@@ -19,6 +19,7 @@ use Rattle.pm_view.specs.Blocks.{is_chunk}
 use Rattle.pm_view.specs.Log.{Recorded}
 use Rattle.pm_view.specs.View.{View, Lock, Told}
 use Rattle.pm_world.specs.Records.{IsRecordAt, is_recorded}
+use Rattle.pm_crash.specs.Locks.{AreSameLocks}
 use Rattle.pm_crash.specs.Held.{HoldsPool}
 
 -- the operations of the open call with their replies, as the model has them
@@ -82,7 +83,7 @@ pub record ComesTo (v : View) (w : ℕ → ℕ) (header : Header) (pool : PoolVi
   pub runs : RunsTo pool (told_in v) tx
   pub holds : HoldsPool (call_words v w) v.lanes v.zones header tx.pool
   pub before : tx.before ≡ pool
-  pub locks : tx.locks ≡ locks_of v
+  pub locks : AreSameLocks tx.locks (locks_of v)
   pub recorded : tx.recorded ≡ words_recorded v.log.records
   pub records : tx.records ≡ length v.log.records
   pub levels : tx.level ≡ level

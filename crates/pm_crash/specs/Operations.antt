@@ -19,6 +19,7 @@ use Rattle.pm_view.specs.Blocks.{is_chunk}
 use Rattle.pm_view.specs.Log.{Recorded}
 use Rattle.pm_view.specs.View.{View, Lock}
 use Rattle.pm_world.specs.Records.{IsRecordAt, is_recorded}
+use Rattle.pm_crash.specs.Locks.{AreSameLocks}
 use Rattle.pm_crash.specs.OpenCall.{locks_of, words_recorded}
 use Rattle.pm_crash.specs.Writes.{words_written}
 
@@ -157,10 +158,10 @@ pub record IsWantHeld (v : View) (want : Want) : Type 0 where
   pub place : IsTrue (can_begin v.lanes v.zones want.id.off)
   pub held : IsHeld v want.id want.write
 
--- the lane has exactly the locks that were held and are wanted, 64 at most, each of a line of a chunk where it found a block
+-- the lane has exactly the locks that were held and are wanted, in any order, 64 at most, each of a line of a chunk where it found a block
 pub record TakesWanted (v : View) (before : List Locked) (wants : List Want) : Type 0 where
   pub few : length v.locks ≤ 64
-  pub locks : locks_of v ≡ locked_all wants before
+  pub locks : AreSameLocks (locks_of v) (locked_all wants before)
   pub wanted : (want : Want) → Contains wants want → IsWantHeld v want
   pub chunks : (l : Lock) (lines : ℕ) → Contains v.locks l → l.block ≡ Some lines → is_chunk v.lanes (l.line / 64) ≡ true
 
@@ -211,7 +212,8 @@ abbrev pub wants_first : List Locked → List Want → Bool
 wants_first before wants = list_any (λ (want : Want). not (is_locked before want.id.off false)) wants
 
 -- why a begin at this level, with these locks held, is refused: for its depth, for too many locks, since something wanted has not the form
--- of an object's id, since a lock that it tried was another lane's, or since it found no object under one that it took
+-- of an object's id, since a lock that it tried was another lane's, or since it found no object under one that it took. What it saw of other
+-- lanes is not asked for here: the model allows the last two wherever such a lock is wanted
 abbrev pub IsBeginReason : View → ℕ → List Locked → List Want → Refusal → Type 0
 IsBeginReason v level before wants refusal.Deep = 64 ≤ level
 IsBeginReason v level before wants refusal.LocksFull = (level < 64) × (64 < length (locks_wanted v before wants))

@@ -1,4 +1,4 @@
-ghost use Rattle.std.specs.Prelude.{◌≡◌, ◌≢◌, ℕ, ◌+◌, ◌*◌, ◌<◌, ◌≤◌, true, false, Bool, List, [], map, None};
+ghost use Rattle.std.specs.Prelude.{◌≡◌, ◌≢◌, ℕ, ◌+◌, ◌*◌, ◌<◌, ◌≤◌, true, false, Bool, List, [], ◌∷◌, map, None};
 ghost use Rattle.std.specs.List.Sorted.{IsStrictlyIncreasing};
 ghost use Rattle.pm_header.specs.declared.header.Header.{Header};
 ghost use Rattle.pm_objects.specs.declared.calls.Operation.{Operation};
@@ -11,7 +11,7 @@ ghost use Rattle.pm_objects.specs.declared.pool.PoolView.{PoolView};
 ghost use Rattle.pm_objects.specs.declared.refusal.Refusal.{Refusal};
 ghost use Rattle.pm_model.specs.declared.stage.Stage.{Stage};
 ghost use Rattle.pm_model.specs.declared.stage.Stage.TheVariants as stage;
-ghost use Rattle.pm_model.specs.Transaction.{Transaction, is_working, locked_all};
+ghost use Rattle.pm_model.specs.Transaction.{Lock, Transaction, is_working, locked_all};
 ghost use Rattle.pm_model.specs.Checks.{Range};
 ghost use Rattle.pm_model.specs.Answers.{Told as Answered, error_for};
 ghost use Rattle.pm_model.specs.Step.{Runs, Step};
@@ -20,6 +20,7 @@ ghost use Rattle.pm_view.specs.View.{View};
 ghost use Rattle.pm_world.specs.History.{made_final};
 ghost use Rattle.pm_world.specs.Records.{difference_of};
 ghost use Rattle.pm_crash.specs.Held.{HoldsPool};
+ghost use Rattle.pm_crash.specs.Locks.{AreSameLocks};
 ghost use Rattle.pm_crash.specs.OpenCall.{IsBefore, IsGivenUp, IsOpen, IsWholeCall, RunsTo, act_of, call_words, lock_wanted};
 ghost use Rattle.pm_crash.specs.Operations.{AddsRange, BeginsCall, BeginsLevel, KeepsLog, KeepsWords, ReadsBytes, Refuses, RefusesCall, RefusesLevel, TakesBack, Tells, TellsNothing, WritesBytes};
 
@@ -118,4 +119,15 @@ pub fn a_call_stays_while_nothing_is_told()
         → TellsNothing v next → KeepsLog v next → KeepsWords v next → IsWholeCall next }
     ensures given_up { (v next : View) (e : TxErr) → IsGivenUp v e
         → TellsNothing v next → TakesBack v next → IsGivenUp next e }
+{}
+
+/// A law: which objects are locked, and by how many locks, does not depend on the order in which they are wanted: two neighbours may change
+/// places, and the same wants over the same locks are the same. No code runs.
+pub fn wants_may_change_places()
+    ensures neighbours { (a b : Want) (wants : List Want) (locks : List Lock)
+        → AreSameLocks (locked_all (a ∷ b ∷ wants) locks) (locked_all (b ∷ a ∷ wants) locks) }
+    ensures alike { (wants : List Want) (locks others : List Lock) → AreSameLocks locks others
+        → AreSameLocks (locked_all wants locks) (locked_all wants others) }
+    ensures joined { (locks others more : List Lock) → AreSameLocks locks others → AreSameLocks others more
+        → AreSameLocks locks more }
 {}

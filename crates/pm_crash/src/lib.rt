@@ -1,7 +1,7 @@
 //! The laws of the crash theorem: what recovered words mean, and how the words that a call makes final change the pool.
 //!
 //! Promises whoever proves an engine or the top theorem that words which hold a pool, with bytes written inside an object, hold the
-//! pool of the plain model after that write; that the blocks a lane finds are the pool's objects; and that each operation of a call, its
+//! pool of the plain model after that write; that the blocks a lane finds are the pool's objects; that each operation of a call, its
 //! refusals and its commit are the plain model's, by what the lane's view has before and after; and that every image which a power failure
 //! leaves then holds what whole calls made. No code stands here but laws. It stands on
 //! `pm_image` for the meaning of words, `pm_model` for calls, `pm_view` for what a lane has, `pm_world` for records; docs/MODEL.md.
@@ -17,7 +17,7 @@ pub use calls::{
     a_call_stays_while_nothing_is_told, a_commit_is_a_step, a_further_begin_opens,
     a_read_tells_the_bytes, a_record_keeps_the_call, a_refusal_gives_up, a_refused_begin_gives_up,
     a_transaction_that_rests_has_run, a_write_changes_the_call, an_abort_gives_up,
-    an_inner_commit_keeps_the_call, rising_wants_are_locks,
+    an_inner_commit_keeps_the_call, rising_wants_are_locks, wants_may_change_places,
 };
 pub use course::{
     a_recovered_pool_opens_a_world, an_ended_call_is_a_model_step, one_lanes_images_hold_the_replay,

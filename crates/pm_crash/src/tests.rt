@@ -17,6 +17,7 @@ fn laws(_rt: HostRuntime) {
     a_commit_is_a_step();
     a_write_changes_the_call();
     a_read_tells_the_bytes();
+    wants_may_change_places();
     a_history_is_held();
     a_crash_leaves_what_kept_calls_made();
     a_lane_looks_past_calls_in_flight();
