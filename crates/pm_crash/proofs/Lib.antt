@@ -36,3 +36,4 @@ pub mod KeptEntries
 pub mod EndedCalls
 pub mod Guarded
 pub mod CleanWords
+pub mod FrontWords
