@@ -1,9 +1,13 @@
 -- What a power failure leaves of one lane's course: its history, or all of it but the last entry.
 use Rattle.std.proofs.Common.{◌≡◌, ◌≢◌, ⊎_elim, ℕ, suc, ◌+◌, ◌*◌, ◌<◌, ◌≤◌, Bool, true, false, not, List, [], ◌∷◌, length, take, slice_index, Option, Some, None, refl, sym, ◌∙◌, ap, subst, arith}
 use Rattle.std.specs.List.{Contains, filter}
+use Rattle.std.specs.Option.{option_or}
 use Rattle.std.proofs.lemmas.Bool.{and_parts, cases_Bool, cases_eq, cond-false, cond-true, eqb-true, false_from_ne_true, false≢true, not_from_false}
 use Rattle.pm_header.specs.declared.header.Header.{Header}
 use Rattle.pm_objects.specs.declared.pool.PoolView.{PoolView}
+use Rattle.pm_image.specs.declared.fault.ImageFault.{ImageFault}
+use Rattle.pm_image.specs.HeapFaults.{heap_fault}
+use Rattle.pm_image.specs.LogFaults.{log_fault}
 use Rattle.pm_image.specs.Logs.{recovered_at}
 use Rattle.pm_image.specs.Reads.{IsHeapWord}
 use Rattle.pm_image.proofs.InPlace.{recovered_in_place}
@@ -19,7 +23,8 @@ use Rattle.pm_world.specs.Opening.{Opening}
 use Rattle.pm_world.specs.World.{Views}
 use Rattle.pm_world.proofs.CrashLaw.{crash_law}
 use Rattle.pm_world.proofs.Losses.{acknowledged, some_lane}
-use Rattle.pm_crash.specs.OneLane.{Begins, HoldsReplay, IsCourse, Moment, Move, beginning, kept_entries}
+use Rattle.pm_crash.specs.OneLane.{Begins, HoldsReplay, IsCourse, MeansReplay, Moment, Move, beginning, kept_entries}
+use Rattle.pm_crash.proofs.FrontWords.{header_survives}
 use Rattle.pm_crash.proofs.HeapWordsAlone.{held_by_heap}
 use Rattle.pm_crash.proofs.LongerReplays.{replayed_without, words_after}
 use Rattle.pm_crash.proofs.OneCourse.{Goes, Reaches, goes_along, goes_first}
@@ -119,3 +124,23 @@ module _ (o : Opening) (memory : Memory) (views : Views) (k : ℕ) (header : Hea
 
   pub ended_kept : Begins o memory views k header pool → IsCourse k (beginning memory views) steps m → (e : Entry) → Contains m.log e → IsAcknowledged m.views e → Contains (kept_entries o m image) e
   ended_kept begins course = acknowledged_kept o k header pool m (goes_along o k header pool (beginning memory views) steps m (goes_first o memory views k header pool begins) course) image
+
+  -- the image has the header, so that it means the pool, where its logs have no fault
+  pub replay_meant : Begins o memory views k header pool → IsCourse k (beginning memory views) steps m → Survives o m.memory m.views image → NoneTorn o m.views image → log_fault image o.lanes o.zones ≡ None
+      → MeansReplay image pool (kept_entries o m image)
+  replay_meant begins course survives whole none =
+      let g : Goes o k header pool m = goes_along o k header pool (beginning memory views) steps m (goes_first o memory views k header pool begins) course in
+      let held = image_replays o k header pool m g image survives whole in
+      record {
+        last = held.last;
+        replays = held.replays;
+        means = record {
+          lanes = o.lanes;
+          zones = o.zones;
+          header = header;
+          has_header = header_survives o m.memory m.views m.log m.decided g.world header image survives g.front begins.holds.has_header;
+          fits = begins.holds.fits;
+          no_fault = ap (λ (found : Option ImageFault). option_or found (heap_fault (recovered_at image o.lanes) o.lanes o.zones)) none ∙ held.holds.no_fault;
+          is_pool = held.holds.is_pool;
+        };
+      }

@@ -40,3 +40,4 @@ pub mod HeldHistories
 pub mod Guarded
 pub mod CleanWords
 pub mod SameLocks
+pub mod FrontWords

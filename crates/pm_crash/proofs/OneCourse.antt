@@ -20,7 +20,7 @@ use Rattle.pm_world.specs.Fits.{PhaseFits}
 use Rattle.pm_world.specs.History.{Entry, Flies, made_final, replayed}
 use Rattle.pm_world.specs.Laws.{Keeps}
 use Rattle.pm_world.specs.Memory.{Memory}
-use Rattle.pm_world.specs.Memory.Location.{CommitCounter}
+use Rattle.pm_world.specs.Memory.Location.{CommitCounter, PoolWord}
 use Rattle.pm_world.specs.Opening.{Opening}
 use Rattle.pm_world.specs.Records.{difference_of}
 use Rattle.pm_world.specs.World.{Views, World}
@@ -41,6 +41,7 @@ use Rattle.pm_crash.proofs.CleanWords.{clean_words_hold, world_begins}
 use Rattle.pm_crash.proofs.Continued.{two_same}
 use Rattle.pm_crash.proofs.Differing.{difference_makes_call}
 use Rattle.pm_crash.proofs.DrawnWords.{drawn_before}
+use Rattle.pm_crash.proofs.FrontWords.{front_stays}
 use Rattle.pm_crash.proofs.HeapWordsAlone.{held_by_heap}
 use Rattle.pm_crash.proofs.LongerReplays.{holds_once_more, words_after}
 
@@ -118,6 +119,7 @@ pub record Goes (o : Opening) (k : ℕ) (header : Header) (pool : PoolView) (m :
   pub others : (j : ℕ) → j < o.lanes → j ≢ k → (m.views j).log.phase ≡ Idle
   pub of_pool : (m.views k).pool ≡ header.id
   pub newest : (n : ℕ) → (m.views k).number ≡ Some n → n ≡ length m.log
+  pub front : (i : ℕ) → i < 512 → m.memory (PoolWord i) ≡ slice_index o.words i
   pub reached : (n : ℕ) → n ≤ length m.log → Reaches o header pool (take n m.log)
 
 -- it begins so
@@ -130,6 +132,7 @@ goes_first o memory views k header pool b = record {
   others = λ j low other. ap (λ log. log.phase) (b.fresh j low).idle;
   of_pool = b.of_pool;
   newest = λ n e. absurd (none-some n (sym (b.fresh k b.in_lanes).no_number ∙ e));
+  front = λ i low. b.opens.words i;
   reached = λ n low. nothing (take n []) (take_all n [] (omega arith));
 } where
   nothing : (log : List Entry) → log ≡ [] → Reaches o header pool log
@@ -149,6 +152,9 @@ module _ (o : Opening) (k : ℕ) (header : Header) (pool : PoolView) (m : Moment
     pool_stays : ((moved k m s).views k).pool ≡ header.id
     pool_stays = ap (λ (u : View). u.pool) (view_here m.views k (after (m.views k) s.step)) ∙ (same_lane-after (m.views k) s.step).pool ∙ g.of_pool
 
+    front_here : (i : ℕ) → i < 512 → s.memory (PoolWord i) ≡ slice_index o.words i
+    front_here i low = front_stays o m.memory m.views m.log m.decided g.world k g.in_lanes s.step s.memory i makes.lawful makes.moves low ∙ g.front i low
+
     number_here : (n : ℕ) → ((moved k m s).views k).number ≡ Some n → (after (m.views k) s.step).number ≡ Some n
     number_here n e = sym (ap (λ (u : View). u.number) (view_here m.views k (after (m.views k) s.step))) ∙ e
 
@@ -161,6 +167,7 @@ module _ (o : Opening) (k : ℕ) (header : Header) (pool : PoolView) (m : Moment
       others = others_rest;
       of_pool = pool_stays;
       newest = subst (λ (log : List Entry). (n : ℕ) → ((moved k m s).views k).number ≡ Some n → n ≡ length log) (sym none.same_log) (λ n e. g.newest n (none.no_other n (number_here n e)));
+      front = front_here;
       reached = subst (λ (log : List Entry). (n : ℕ) → n ≤ length log → Reaches o header pool (take n log)) (sym none.same_log) g.reached;
     }
 
@@ -207,6 +214,7 @@ module _ (o : Opening) (k : ℕ) (header : Header) (pool : PoolView) (m : Moment
           let counter = g.world.counter in
           let long = longer_length in
           omega arith;
+      front = front_here (record { step = Draw n; memory = memory }) makes;
       reached = λ j low. ⊎_elim
           (λ (more : length m.log < j).
           let long = longer_length in subst (Reaches o header pool) (sym (take_all j longer (omega arith))) draw_reaches)

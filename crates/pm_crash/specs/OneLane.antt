@@ -3,6 +3,7 @@ use Rattle.std.specs.Prelude.{◌≡◌, ℕ, ◌<◌, Bool, false, List, [], �
 use Rattle.std.specs.List.{filter}
 use Rattle.pm_header.specs.declared.header.Header.{Header}
 use Rattle.pm_objects.specs.declared.pool.PoolView.{PoolView}
+use Rattle.pm_image.specs.Means.{IsMeaning}
 use Rattle.pm_model.specs.Step.{Act}
 use Rattle.pm_model.specs.History.{opened}
 use Rattle.pm_model.specs.Names.{Replays}
@@ -91,3 +92,9 @@ pub record HoldsReplay (w : ℕ → ℕ) (lanes zones : ℕ) (header : Header) (
   pub last : PoolView
   pub replays : Replays (opened pool) (map act_of_entry entries) (opened last)
   pub holds : HoldsPool w lanes zones header last
+
+-- these entries, one whole call after another, lead from the one pool to another, and that one the image means
+pub record MeansReplay (image : List ℕ) (pool : PoolView) (entries : List Entry) : Type 0 where
+  pub last : PoolView
+  pub replays : Replays (opened pool) (map act_of_entry entries) (opened last)
+  pub means : IsMeaning image last
