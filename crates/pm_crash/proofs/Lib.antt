@@ -37,3 +37,6 @@ pub mod EndedCalls
 pub mod Guarded
 pub mod CleanWords
 pub mod FrontWords
+pub mod LogCourse
+pub mod AtMostOne
+pub mod ImageLogs

@@ -2,7 +2,7 @@
 //!
 //! Promises whoever proves an engine or the top theorem that words which hold a pool, with bytes written inside an object, hold the
 //! pool of the plain model after that write; that reading the words of an object finds its bytes; that the blocks a lane finds are the
-//! pool's objects; and that what a power failure leaves of one lane's work holds the replay of its calls. No code stands here but laws. It
+//! pool's objects; and that what a power failure leaves of one lane's work means the replay of its calls. No code stands here but laws. It
 //! stands on `pm_image` for the meaning of words, `pm_model` for calls, `pm_view` for what a lane finds, and `pm_world` for its steps and
 //! for what a power failure leaves; docs/MODEL.md, "The crash theorem".
 #![tactic(auto)]
@@ -19,7 +19,7 @@ pub use calls::{
     an_inner_commit_keeps_the_call, rising_wants_are_locks,
 };
 pub use course::{
-    a_recovered_pool_opens_a_world, an_ended_call_is_a_model_step, one_lanes_images_hold_the_replay,
+    a_recovered_pool_opens_a_world, an_ended_call_is_a_model_step, one_lanes_images_mean_the_replay,
 };
 pub use laws::{
     a_block_is_an_object, a_lane_finds_the_blocks, a_pool_is_held_by_heap_words,
