@@ -1,11 +1,12 @@
 -- In a heap without a fault each word of a block is guarded by the block's line alone, and no word that tells of blocks is one.
 use Rattle.std.proofs.Common.{◌≡◌, ◌⊎◌, ⊎_elim, inl, inr, ℕ, ◌+◌, ◌-◌, ◌*◌, ◌/◌, ◌%◌, ◌<◌, ◌≤◌, ◌&&◌, true, leb, ltb, length, slice_index, Some, None, sym, ◌∙◌, ap, subst, arith}
 use Rattle.std.specs.List.{Contains}
-use Rattle.std.proofs.lemmas.Bool.{and_from, and_parts, cases_lt, eqb-true, le-leb, leb-true, ltb-true}
+use Rattle.std.proofs.lemmas.Bool.{and_from, and_parts, cases_lt, eqb-true, le-leb, leb-true, lt-ltb, ltb-true}
 use Rattle.pm_layout.specs.declared.class.Class.TheVariants.{Lines}
 use Rattle.pm_image.specs.declared.block.Block.{Block}
 use Rattle.pm_image.specs.Blocks.{blocks, chunk_word, class_in, descriptor_word}
 use Rattle.pm_image.specs.HeapFaults.{heap_fault}
+use Rattle.pm_image.specs.LogFaults.{in_chunk}
 use Rattle.pm_image.proofs.HeapWords.{in_pool}
 use Rattle.pm_image.proofs.Rooms.{run_fits}
 use Rattle.pm_view.specs.Blocks.{chunk_of, descriptor_word as lane_descriptor, is_chunk, zone_of, zone_page}
@@ -131,3 +132,21 @@ module _ (o : Opening) (none : heap_fault (slice_index o.words) o.lanes o.zones 
     within = within;
     apart = no_heads;
   }
+
+  -- a guarded word is in a chunk
+  pub guarded_in_chunk : (line i : ℕ) → Guards o line i → in_chunk o.lanes o.zones i ≡ true
+  guarded_in_chunk line i g =
+      let stands : Stands (slice_index o.words) o.lanes o.zones (block_at_line line g.lines) = block_stands (slice_index o.words) o.lanes o.zones (block_at_line line g.lines) (block_of line i g) in
+      let zone : IsInZone o.lanes stands.chunk (block_at_line line g.lines) =
+      in_its_zone (slice_index o.words) o.lanes stands.chunk (block_at_line line g.lines) (good_chunk (slice_index o.words) o.lanes o.zones stands.chunk none stands.in_zones) stands.is in
+      let inside = word_of line i g in
+      let begins = zone.begins in
+      let ends = zone.ends in
+      let from = inside.from in
+      let to = inside.to in
+      let in_zones = stands.in_zones in
+      let first : ℕ = 512 + 1024 * o.lanes in
+      let which : (i - first) / 33280 ≡ stands.chunk / 64 = omega arith in
+      and_from (leb first i && ltb ((i - first) / 33280) o.zones) (leb 512 ((i - first) % 33280))
+      (and_from (leb first i) (ltb ((i - first) / 33280) o.zones) (le-leb first i (omega arith)) (lt-ltb ((i - first) / 33280) o.zones (omega arith)))
+      (le-leb 512 ((i - first) % 33280) (omega arith))

@@ -12,6 +12,7 @@ use Rattle.pm_image.specs.Logs.{recovered_at}
 use Rattle.pm_image.specs.Reads.{IsHeapWord}
 use Rattle.pm_image.proofs.InPlace.{recovered_in_place}
 use Rattle.pm_image.proofs.Members.{first_member, later_member, member_cases}
+use Rattle.pm_view.specs.Area.{area_word}
 use Rattle.pm_view.specs.Log.{Phase}
 use Rattle.pm_view.specs.Log.Phase.{Idle}
 use Rattle.pm_view.specs.View.{View}
@@ -19,13 +20,17 @@ use Rattle.pm_world.specs.Course.{is_number}
 use Rattle.pm_world.specs.Crash.{IsAcknowledged, NoneTorn, Survives, is_deciding_in, is_kept, is_lost, loses}
 use Rattle.pm_world.specs.History.{AreNumbered, Entry}
 use Rattle.pm_world.specs.Memory.{Memory}
+use Rattle.pm_world.specs.Memory.Location.{PoolWord}
 use Rattle.pm_world.specs.Opening.{Opening}
 use Rattle.pm_world.specs.World.{Views}
 use Rattle.pm_world.proofs.CrashLaw.{crash_law}
 use Rattle.pm_world.proofs.Losses.{acknowledged, some_lane}
-use Rattle.pm_crash.specs.OneLane.{Begins, HoldsReplay, IsCourse, MeansReplay, Moment, Move, beginning, kept_entries}
+use Rattle.pm_crash.specs.OneLane.{Begins, HoldsReplay, IsCourse, MeansReplay, Moment, Move, NoneMixed, beginning, kept_entries}
+use Rattle.pm_crash.proofs.CleanWords.{clean_words_hold}
 use Rattle.pm_crash.proofs.FrontWords.{header_survives}
 use Rattle.pm_crash.proofs.HeapWordsAlone.{held_by_heap}
+use Rattle.pm_crash.proofs.ImageLogs.{no_log_fault}
+use Rattle.pm_crash.proofs.LogCourse.{InRange}
 use Rattle.pm_crash.proofs.LongerReplays.{replayed_without, words_after}
 use Rattle.pm_crash.proofs.OneCourse.{Goes, Reaches, goes_along, goes_first}
 
@@ -125,12 +130,18 @@ module _ (o : Opening) (memory : Memory) (views : Views) (k : ℕ) (header : Hea
   pub ended_kept : Begins o memory views k header pool → IsCourse k (beginning memory views) steps m → (e : Entry) → Contains m.log e → IsAcknowledged m.views e → Contains (kept_entries o m image) e
   ended_kept begins course = acknowledged_kept o k header pool m (goes_along o k header pool (beginning memory views) steps m (goes_first o memory views k header pool begins) course) image
 
-  -- the image has the header, so that it means the pool, where its logs have no fault
-  pub replay_meant : Begins o memory views k header pool → IsCourse k (beginning memory views) steps m → Survives o m.memory m.views image → NoneTorn o m.views image → log_fault image o.lanes o.zones ≡ None
+  -- the image has the header and no fault in its logs, so that it means the pool
+  pub replay_meant : Begins o memory views k header pool → IsCourse k (beginning memory views) steps m → Survives o m.memory m.views image → NoneTorn o m.views image → NoneMixed o m.views image
       → MeansReplay image pool (kept_entries o m image)
-  replay_meant begins course survives whole none =
+  replay_meant begins course survives whole unmixed =
       let g : Goes o k header pool m = goes_along o k header pool (beginning memory views) steps m (goes_first o memory views k header pool begins) course in
       let held = image_replays o k header pool m g image survives whole in
+      let ranges : (j : ℕ) → j < o.lanes → InRange (m.memory (PoolWord (area_word j))) (m.views j) (m.views j).log.phase = λ j low. ⊎_elim
+      (λ (same : j ≡ k). subst (λ n. InRange (m.memory (PoolWord (area_word n))) (m.views n) (m.views n).log.phase) (sym same) g.range)
+      (λ (other : j ≢ k). subst (InRange (m.memory (PoolWord (area_word j))) (m.views j)) (sym (g.others j low other)) tt)
+      (cases_eq j k) in
+      let none : log_fault image o.lanes o.zones ≡ None =
+      no_log_fault o m.memory m.views m.log m.decided g.world image survives whole unmixed ranges (clean_words_hold o header pool begins.holds begins.clean).no_fault in
       record {
         last = held.last;
         replays = held.replays;

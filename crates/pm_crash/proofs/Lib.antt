@@ -41,3 +41,6 @@ pub mod Guarded
 pub mod CleanWords
 pub mod SameLocks
 pub mod FrontWords
+pub mod LogCourse
+pub mod AtMostOne
+pub mod ImageLogs

@@ -8,6 +8,7 @@ use Rattle.std.proofs.lemmas.Option.{none-some}
 use Rattle.pm_header.specs.declared.header.Header.{Header}
 use Rattle.pm_objects.specs.declared.pool.PoolView.{PoolView}
 use Rattle.pm_image.proofs.Members.{no_member, only_member}
+use Rattle.pm_view.specs.Area.{area_word}
 use Rattle.pm_view.specs.Log.{Phase}
 use Rattle.pm_view.specs.Log.Phase.{Idle, Open, Drawn, Sealing, Applying, Clearing, Retiring}
 use Rattle.pm_view.specs.Steps.{Step}
@@ -43,6 +44,7 @@ use Rattle.pm_crash.proofs.Differing.{difference_makes_call}
 use Rattle.pm_crash.proofs.DrawnWords.{drawn_before}
 use Rattle.pm_crash.proofs.FrontWords.{front_stays}
 use Rattle.pm_crash.proofs.HeapWordsAlone.{held_by_heap}
+use Rattle.pm_crash.proofs.LogCourse.{InRange, range_after}
 use Rattle.pm_crash.proofs.LongerReplays.{holds_once_more, words_after}
 
 -- each step keeps the world
@@ -120,6 +122,7 @@ pub record Goes (o : Opening) (k : ℕ) (header : Header) (pool : PoolView) (m :
   pub of_pool : (m.views k).pool ≡ header.id
   pub newest : (n : ℕ) → (m.views k).number ≡ Some n → n ≡ length m.log
   pub front : (i : ℕ) → i < 512 → m.memory (PoolWord i) ≡ slice_index o.words i
+  pub range : InRange (m.memory (PoolWord (area_word k))) (m.views k) (m.views k).log.phase
   pub reached : (n : ℕ) → n ≤ length m.log → Reaches o header pool (take n m.log)
 
 -- it begins so
@@ -133,6 +136,7 @@ goes_first o memory views k header pool b = record {
   of_pool = b.of_pool;
   newest = λ n e. absurd (none-some n (sym (b.fresh k b.in_lanes).no_number ∙ e));
   front = λ i low. b.opens.words i;
+  range = subst (InRange (memory (PoolWord (area_word k))) (views k)) (sym (ap (λ log. log.phase) (b.fresh k b.in_lanes).idle)) tt;
   reached = λ n low. nothing (take n []) (take_all n [] (omega arith));
 } where
   nothing : (log : List Entry) → log ≡ [] → Reaches o header pool log
@@ -155,6 +159,11 @@ module _ (o : Opening) (k : ℕ) (header : Header) (pool : PoolView) (m : Moment
     front_here : (i : ℕ) → i < 512 → s.memory (PoolWord i) ≡ slice_index o.words i
     front_here i low = front_stays o m.memory m.views m.log m.decided g.world k g.in_lanes s.step s.memory i makes.lawful makes.moves low ∙ g.front i low
 
+    range_here : InRange (s.memory (PoolWord (area_word k))) ((moved k m s).views k) ((moved k m s).views k).log.phase
+    range_here =
+        subst (λ (u : View). InRange (s.memory (PoolWord (area_word k))) u u.log.phase) (sym (view_here m.views k (after (m.views k) s.step)))
+        (range_after o m.memory m.views m.log m.decided g.world k g.in_lanes s.memory s.step makes.lawful makes.moves g.range)
+
     number_here : (n : ℕ) → ((moved k m s).views k).number ≡ Some n → (after (m.views k) s.step).number ≡ Some n
     number_here n e = sym (ap (λ (u : View). u.number) (view_here m.views k (after (m.views k) s.step))) ∙ e
 
@@ -168,6 +177,7 @@ module _ (o : Opening) (k : ℕ) (header : Header) (pool : PoolView) (m : Moment
       of_pool = pool_stays;
       newest = subst (λ (log : List Entry). (n : ℕ) → ((moved k m s).views k).number ≡ Some n → n ≡ length log) (sym none.same_log) (λ n e. g.newest n (none.no_other n (number_here n e)));
       front = front_here;
+      range = range_here;
       reached = subst (λ (log : List Entry). (n : ℕ) → n ≤ length log → Reaches o header pool (take n log)) (sym none.same_log) g.reached;
     }
 
@@ -215,6 +225,7 @@ module _ (o : Opening) (k : ℕ) (header : Header) (pool : PoolView) (m : Moment
           let long = longer_length in
           omega arith;
       front = front_here (record { step = Draw n; memory = memory }) makes;
+      range = range_here (record { step = Draw n; memory = memory }) makes;
       reached = λ j low. ⊎_elim
           (λ (more : length m.log < j).
           let long = longer_length in subst (Reaches o header pool) (sym (take_all j longer (omega arith))) draw_reaches)

@@ -1,8 +1,7 @@
-ghost use Rattle.std.specs.Prelude.{◌≡◌, ℕ, ◌<◌, false, [], Contains, List, slice_index, None};
+ghost use Rattle.std.specs.Prelude.{◌≡◌, ℕ, ◌<◌, false, [], Contains, List, slice_index};
 ghost use Rattle.pm_header.specs.declared.header.Header.{Header};
 ghost use Rattle.pm_objects.specs.declared.history.TxErr.{TxErr};
 ghost use Rattle.pm_objects.specs.declared.pool.PoolView.{PoolView};
-ghost use Rattle.pm_image.specs.LogFaults.{log_fault};
 ghost use Rattle.pm_image.specs.Logs.{recovered_at};
 ghost use Rattle.pm_view.specs.View.{View};
 ghost use Rattle.pm_world.specs.Crash.{IsAcknowledged, NoneTorn, Survives};
@@ -12,7 +11,7 @@ ghost use Rattle.pm_world.specs.Opening.{IsSound, Opening};
 ghost use Rattle.pm_world.specs.Opens.{IsClean, IsFresh, IsOpened};
 ghost use Rattle.pm_world.specs.World.{Views, World};
 ghost use Rattle.pm_crash.specs.Held.{HoldsImage, HoldsPool};
-ghost use Rattle.pm_crash.specs.OneLane.{Begins, HoldsReplay, IsCourse, IsModelStep, MeansReplay, Moment, Move, beginning, kept_entries};
+ghost use Rattle.pm_crash.specs.OneLane.{Begins, HoldsReplay, IsCourse, IsModelStep, MeansReplay, Moment, Move, NoneMixed, beginning, kept_entries};
 ghost use Rattle.pm_crash.specs.OpenCall.{IsGivenUp, IsWholeCall};
 
 /// A law: an image that holds a pool, with each lane's log clean, is what a world can begin from: its words hold the pool as they stand, its
@@ -34,16 +33,15 @@ pub fn an_ended_call_is_a_model_step()
     ensures given_up { (v : View) (e : TxErr) → IsGivenUp v e → v.log.records ≡ [] → IsModelStep v }
 {}
 
-/// A law: where one lane alone makes steps, every image that a power failure leaves holds, once recovered, the pool to which the entries that
-/// it does not lose lead, in order, from the pool at the opening; it means that pool, where its logs have no fault; and it loses no call that
-/// has ended. No code runs.
-pub fn one_lanes_images_hold_the_replay()
+/// A law: where one lane alone makes steps, every image that a power failure leaves means the pool to which the entries that it does not lose
+/// lead, in order, from the pool at the opening; its recovered words hold that pool; and it loses no call that has ended. No code runs.
+pub fn one_lanes_images_mean_the_replay()
+    ensures meaning { (o : Opening) (memory : Memory) (views : Views) (k : ℕ) (header : Header) (pool : PoolView) (steps : List Move) (m : Moment) (image : List ℕ)
+        → Begins o memory views k header pool → IsCourse k (beginning memory views) steps m → Survives o m.memory m.views image → NoneTorn o m.views image
+        → NoneMixed o m.views image → MeansReplay image pool (kept_entries o m image) }
     ensures replay { (o : Opening) (memory : Memory) (views : Views) (k : ℕ) (header : Header) (pool : PoolView) (steps : List Move) (m : Moment) (image : List ℕ)
         → Begins o memory views k header pool → IsCourse k (beginning memory views) steps m → Survives o m.memory m.views image → NoneTorn o m.views image
         → HoldsReplay (recovered_at image o.lanes) o.lanes o.zones header pool (kept_entries o m image) }
-    ensures meaning { (o : Opening) (memory : Memory) (views : Views) (k : ℕ) (header : Header) (pool : PoolView) (steps : List Move) (m : Moment) (image : List ℕ)
-        → Begins o memory views k header pool → IsCourse k (beginning memory views) steps m → Survives o m.memory m.views image → NoneTorn o m.views image
-        → log_fault image o.lanes o.zones ≡ None → MeansReplay image pool (kept_entries o m image) }
     ensures ended { (o : Opening) (memory : Memory) (views : Views) (k : ℕ) (header : Header) (pool : PoolView) (steps : List Move) (m : Moment) (image : List ℕ)
         → Begins o memory views k header pool → IsCourse k (beginning memory views) steps m
         → (e : Entry) → Contains m.log e → IsAcknowledged m.views e → Contains (kept_entries o m image) e }

@@ -3,7 +3,7 @@
 //! Promises whoever proves an engine or the top theorem that words which hold a pool, with bytes written inside an object, hold the
 //! pool of the plain model after that write; that the blocks a lane finds are the pool's objects; that each operation of a call, its
 //! refusals and its commit are the plain model's, by what the lane's view has before and after; and that every image which a power failure
-//! leaves then holds what whole calls made. No code stands here but laws. It stands on
+//! leaves then holds what whole calls made, and of one lane's work means their replay. No code stands here but laws. It stands on
 //! `pm_image` for the meaning of words, `pm_model` for calls, `pm_view` for what a lane has, `pm_world` for records; docs/MODEL.md.
 #![tactic(auto)]
 
@@ -20,7 +20,7 @@ pub use calls::{
     an_inner_commit_keeps_the_call, rising_wants_are_locks, wants_may_change_places,
 };
 pub use course::{
-    a_recovered_pool_opens_a_world, an_ended_call_is_a_model_step, one_lanes_images_hold_the_replay,
+    a_recovered_pool_opens_a_world, an_ended_call_is_a_model_step, one_lanes_images_mean_the_replay,
 };
 pub use histories::{
     a_crash_leaves_what_kept_calls_made, a_drawn_call_is_a_step, a_history_is_held,

@@ -35,5 +35,5 @@ fn laws(_rt: HostRuntime) {
     a_begin_opens();
     a_recovered_pool_opens_a_world();
     an_ended_call_is_a_model_step();
-    one_lanes_images_hold_the_replay();
+    one_lanes_images_mean_the_replay();
 }

@@ -1,0 +1,336 @@
+-- The logs of an image that a power failure leaves have no fault.
+use Rattle.std.proofs.Common.{◌≡◌, ◌⊎◌, ⊎_elim, inl, inr, ℕ, ◌+◌, ◌-◌, ◌*◌, ◌/◌, ◌%◌, ◌<◌, ◌≤◌, ◌&&◌, Bool, true, false, not, eqb, leb, ltb, IsTrue, List, [], ◌∷◌, get_or, length, slice_get, slice_index, Option, Some, None, refl, sym, ◌∙◌, ap, subst, arith}
+use Rattle.std.specs.List.{Contains, filter, flat_map, list_all, list_any, range_with_len}
+use Rattle.std.specs.Option.{option_map_or}
+use Rattle.std.proofs.lemmas.Bool.{and_from, and_parts, cases_Bool, cases_lt, eq-eqb, eqb-true, false≢true, le-leb, le-ltb, leb-true, lt-ltb, ltb-true, ne_eqb, not_from_true}
+use Rattle.std.proofs.lemmas.List.Folds.{Any-from_list_any}
+use Rattle.std.proofs.lemmas.Option.{none-some, same_Some, slice_get-get_or, slice_get_within}
+use Rattle.pm_record.specs.Undo.{undo_of}
+use Rattle.pm_record.specs.declared.undo.Undo.{Undo}
+use Rattle.pm_image.specs.HeapFaults.{heap_fault}
+use Rattle.pm_image.specs.LogFaults.{bad_slot, good_lane, good_record, in_chunk, log_fault}
+use Rattle.pm_image.specs.Logs as logs
+use Rattle.pm_image.specs.Logs.{generation_word, records, seal_word, slot_line, undo_slot}
+use Rattle.pm_image.specs.Steps.{valid_record}
+use Rattle.pm_image.proofs.Firsts.{none_passes}
+use Rattle.pm_image.proofs.Gathering.{record_at, records_by_number}
+use Rattle.pm_image.proofs.LogRows.{clash_row}
+use Rattle.pm_view.specs.declared.change.Change.{Change}
+use Rattle.pm_view.specs.Area.{area_word}
+use Rattle.pm_view.specs.Changes.{is_in_line}
+use Rattle.pm_view.specs.Log.{Final, Phase, Recorded}
+use Rattle.pm_view.specs.Log.Phase.{Idle, Open, Drawn, Sealing, Applying, Clearing, Retiring}
+use Rattle.pm_view.specs.Rights.{is_written}
+use Rattle.pm_view.specs.View.{View}
+use Rattle.pm_world.specs.Crash.{IsBeingWritten, IsWhole, NoneTorn, Survives}
+use Rattle.pm_world.specs.Fits.{LaneFits, PhaseFits}
+use Rattle.pm_world.specs.History.{Entry, Flies, settled}
+use Rattle.pm_world.specs.Lawful.{CanRecord, CanRecordWord, generation_limit}
+use Rattle.pm_world.specs.Memory.{Memory}
+use Rattle.pm_world.specs.Memory.Location.{PoolWord}
+use Rattle.pm_world.specs.Opening.{Opening}
+use Rattle.pm_world.specs.Records.{IsRecordAt, covers, generation_of, is_drained_slot, records_generation, spelled, used_slots}
+use Rattle.pm_world.specs.World.{Views, World}
+use Rattle.pm_world.proofs.CrashLogs.{ChangeFits, GenerationIs, change_fits, recorded_from, recorded_word}
+use Rattle.pm_world.proofs.CrashSpellings.{covers_back, undo_from, undo_of-spelled, valid_parts}
+use Rattle.pm_world.proofs.CrashWords.{generation_is, generation_read, seal_stays, slot_stays}
+use Rattle.pm_world.proofs.Exclusion.{WritesUnder, one_writer, writes_under}
+use Rattle.pm_crash.specs.OneLane.{NoneMixed}
+use Rattle.pm_crash.proofs.AtMostOne.{all_pass, at_most_one, one_or_none, passing, passing_one, some_part}
+use Rattle.pm_crash.proofs.Guarded.{guarded_in_chunk}
+use Rattle.pm_crash.proofs.LogCourse.{InRange, IsUnwritten}
+use Rattle.pm_crash.proofs.LogCourse as course
+
+generation_from : (v : View) (g : ℕ) (phase : Phase) → 1 ≤ generation_of v → GenerationIs v g phase → records_generation phase v ≤ g
+generation_from v g Idle first is = omega arith
+generation_from v g (Open slot pair) first is = omega arith
+generation_from v g Drawn first is = omega arith
+generation_from v g Sealing first is = omega arith
+generation_from v g (Applying applied) first is = omega arith
+generation_from v g Clearing first is = omega arith
+generation_from v g Retiring first is = ⊎_elim (λ (same : g ≡ generation_of v). omega arith) (λ (before : g + 1 ≡ generation_of v). omega arith) is
+
+used_upto : (v : View) (phase : Phase) → used_slots phase v ≤ length v.log.records + 1
+used_upto v Idle = omega arith
+used_upto v (Open [] pair) = omega arith
+used_upto v (Open (x ∷ slot) pair) = omega arith
+used_upto v Drawn = omega arith
+used_upto v Sealing = omega arith
+used_upto v (Applying applied) = omega arith
+used_upto v Clearing = omega arith
+used_upto v Retiring = omega arith
+
+-- a lane's generation in the image
+in_range : (flies : ℕ → List Final → Type 0) (v : View) (g : ℕ) (phase : Phase) → 1 ≤ generation_of v → generation_of v ≤ generation_limit → PhaseFits flies v phase → GenerationIs v g phase → InRange (generation_of v) v phase
+    → (1 ≤ g) × (g ≤ 4611686018427387904)
+in_range flies v g Idle first last fits is range = (omega arith, omega arith)
+in_range flies v g (Open slot pair) first last fits is range = (omega arith, omega arith)
+in_range flies v g Drawn first last fits is range = (omega arith, omega arith)
+in_range flies v g Sealing first last fits is range = absurd fits
+in_range flies v g (Applying applied) first last fits is range = absurd fits
+in_range flies v g Clearing first last fits is range = absurd fits
+in_range flies v g Retiring first last fits is range =
+    ⊎_elim (λ (same : g ≡ generation_of v). (omega arith, omega arith)) (λ (before : g + 1 ≡ generation_of v). (omega (arith, before, range), omega (arith, before, last))) is
+
+-- a slot of a change is that of a record, or the next one
+undrained_upto : (flies : ℕ → List Final → Type 0) (v : View) (c : Change) (slot : ℕ) (phase : Phase) → PhaseFits flies v phase → ChangeFits v c phase → InRange (generation_of v) v phase → Contains v.changes c → slot < 64
+    → c.word / 8 ≡ slot_line v.lane slot → slot ≤ length v.log.records
+undrained_upto flies v c slot Idle fits change range there within line = absurd change
+undrained_upto flies v c slot (Open words pair) fits change range there within line =
+    let short = fits.short in
+    let bound = range.1 c there (record { low = omega (arith, line); high = omega (arith, line, within) }) in
+    omega (arith, short, bound, line)
+undrained_upto flies v c slot Drawn fits change range there within line = absurd change
+undrained_upto flies v c slot Sealing fits change range there within line = absurd change
+undrained_upto flies v c slot (Applying applied) fits change range there within line = absurd change
+undrained_upto flies v c slot Clearing fits change range there within line = absurd change
+undrained_upto flies v c slot Retiring fits change range there within line = let of = change.of in absurd (omega (arith, of, line))
+
+-- nothing of a slot is undrained where nothing is
+all_drained : (v : View) (slot : ℕ) → v.changes ≡ [] → is_drained_slot v slot ≡ true
+all_drained v slot nothing = ap (λ changes. not (list_any (is_in_line (slot_line v.lane slot)) changes)) nothing
+
+no_record : (v : View) (slot : ℕ) (r : Recorded) → v.log.records ≡ [] → IsRecordAt v slot r → ⊥
+no_record v slot r none at = none-some r (sym (ap (λ records. slice_get records slot) none) ∙ at)
+
+-- the record is the slot's, or the next one, which is being written
+abbrev Stored : View → ℕ → Recorded → Type 0
+Stored v slot r = IsRecordAt v slot r ⊎ ((slot ≡ length v.log.records) × CanRecord v r × IsBeingWritten v slot)
+
+no_slot : (v : View) (slot : ℕ) (r : Recorded) → v.log.records ≡ [] → v.changes ≡ [] → used_slots v.log.phase v ≡ length v.log.records → Stored v slot r → ⊥
+no_slot v slot r none drained used (inl at) = no_record v slot r none at
+no_slot v slot r none drained used (inr (last, can, inl undrained)) = false≢true (sym undrained ∙ all_drained v slot drained)
+no_slot v slot r none drained used (inr (last, can, inr (past, making))) = omega (arith, past, making, used)
+
+-- the generation of a record that the log has can be raised
+raisable : (flies : ℕ → List Final → Type 0) (v : View) (slot : ℕ) (r : Recorded) (phase : Phase) → v.log.phase ≡ phase → PhaseFits flies v phase → InRange (generation_of v) v phase → generation_of v ≤ generation_limit → Stored v slot r
+    → records_generation phase v < 4611686018427387904
+raisable flies v slot r Idle is fits range last stored = absurd (no_slot v slot r fits.no_records fits.drained (ap (λ p. used_slots p v) is) stored)
+raisable flies v slot r (Open words pair) is fits range last stored = ⊎_elim
+    (λ (low : generation_of v < generation_limit). omega (arith, low))
+    (λ (un : IsUnwritten v words). absurd (no_slot v slot r un.no_records un.no_changes (ap (λ p. used_slots p v) is ∙ ap (λ (ws : List ℕ). used_slots (Open ws pair) v) un.no_slot) stored))
+    range.0
+raisable flies v slot r Drawn is fits range last stored = omega (arith, range)
+raisable flies v slot r Sealing is fits range last stored = absurd fits
+raisable flies v slot r (Applying applied) is fits range last stored = absurd fits
+raisable flies v slot r Clearing is fits range last stored = absurd fits
+raisable flies v slot r Retiring is fits range last stored = omega (arith, range, last)
+
+module _ (o : Opening) (mem : Memory) (views : Views) (log : List Entry) (decided : ℕ → Bool) (x : World o mem views log decided) (image : List ℕ) (survives : Survives o mem views image) (whole : NoneTorn o views image)
+    (unmixed : NoneMixed o views image) (ranges : (j : ℕ) → j < o.lanes → InRange (mem (PoolWord (area_word j))) (views j) (views j).log.phase) (none : heap_fault (slice_index o.words) o.lanes o.zones ≡ None) where
+  fits : (j : ℕ) → j < o.lanes → LaneFits o mem (settled o log decided) (Flies log decided j) j (views j)
+  fits j inside = x.each_lane j inside
+
+  range_of : (j : ℕ) → j < o.lanes → InRange (generation_of (views j)) (views j) (views j).log.phase
+  range_of j inside = subst (λ (g : ℕ). InRange g (views j) (views j).log.phase) (course.generation_is o mem views log decided x j inside) (ranges j inside)
+
+  lane_good : (j : ℕ) → j < o.lanes → good_lane image j ≡ true
+  unfolding good_lane
+  lane_good j inside =
+      let g : ℕ = generation_word image j in
+      let s : ℕ = seal_word image j in
+      let zero : seal_word image j ≡ 0 = seal_stays o mem views log decided x image survives j inside in
+      let both = in_range (Flies log decided j) (views j) g (views j).log.phase (fits j inside).first_generation (fits j inside).last_generation (fits j inside).phase (generation_is o mem views log decided x image survives j inside) (range_of j inside) in
+      and_from (leb 1 g && leb g 4611686018427387904 && leb s 64) (eqb s 0)
+      (and_from (leb 1 g && leb g 4611686018427387904) (leb s 64)
+      (and_from (leb 1 g) (leb g 4611686018427387904) (le-leb 1 g both.0) (le-leb g 4611686018427387904 both.1))
+      (le-leb s 64 (omega (arith, zero))))
+      (eq-eqb s 0 zero)
+
+  -- what a valid slot has
+  record Valid (j slot : ℕ) (u : Undo) : Type 0 where
+    held : Recorded
+    is : u ≡ undo_from (records_generation (views j).log.phase (views j)) held
+    some : 1 ≤ length held.old
+    most : length held.old ≤ 4
+    own : (w : ℕ) → covers held w ≡ true → IsTrue (is_written (views j) w)
+    stored : Stored (views j) slot held
+
+  module _ (j slot : ℕ) (u : Undo) (inside : j < o.lanes) (within : slot < 64) (valid : valid_record image j slot ≡ Some u) where
+    abbrev v : View
+    v = views j
+
+    spelled_is : (r : Recorded) → length r.old ≤ 4 → undo_slot image j slot ≡ spelled (records_generation v.log.phase v) r → u ≡ undo_from (records_generation v.log.phase v) r
+    spelled_is r most spells =
+        let p = valid_parts image j slot u valid in
+        same_Some u (undo_from (records_generation v.log.phase v) r) (sym p.stands ∙ (ap undo_of spells ∙ undo_of-spelled (records_generation v.log.phase v) r most))
+
+    recorded_valid : slot < length v.log.records → Valid j slot u
+    recorded_valid low =
+        let r : Recorded = get_or v.log.records slot (record { word = 0; old = [] }) in
+        let at : IsRecordAt v slot r = slice_get-get_or v.log.records slot (record { word = 0; old = [] }) low in
+        let record_fits = (fits j inside).log.each slot r at in
+        record {
+          held = r;
+          is = spelled_is r record_fits.most (⊎_elim
+              (λ (drained : is_drained_slot v slot ≡ true). slot_stays o mem views log decided x image survives j slot inside within drained ∙ (fits j inside).log.stored slot r at)
+              (λ (undrained : is_drained_slot v slot ≡ false). unmixed j slot r u inside at undrained valid)
+              (cases_Bool (is_drained_slot v slot)));
+          some = record_fits.some;
+          most = record_fits.most;
+          own = λ w of. (recorded_word (settled o log decided) v r w record_fits of).own;
+          stored = inl at;
+        }
+
+    can_word : (r : Recorded) (w : ℕ) → CanRecord v r → covers r w ≡ true → CanRecordWord v w (slice_index r.old (w - r.word))
+    can_word r w can of =
+        let t = and_parts (leb r.word w) (ltb w (r.word + length r.old)) of in
+        let low = leb-true r.word w t.0 in
+        let high = ltb-true w (r.word + length r.old) t.1 in
+        let same : r.word + (w - r.word) ≡ w = omega (arith, low) in
+        subst (λ i. CanRecordWord v i (slice_index r.old (w - r.word))) same (can.each (w - r.word) (omega (arith, low, high)))
+
+    written_valid : length v.log.records ≤ slot → slot ≤ length v.log.records → IsBeingWritten v slot → Valid j slot u
+    written_valid past upto written =
+        let w : IsWhole v image slot = whole j slot u inside within written valid in
+        let can : CanRecord v w.held = ⊎_elim (λ (at : IsRecordAt v slot w.held). let low = slice_get_within v.log.records slot w.held at in absurd (omega (arith, low, past))) (λ (can : CanRecord v w.held). can) w.lawful in
+        record {
+          held = w.held;
+          is = spelled_is w.held can.most (ap (λ n. undo_slot image n slot) (sym (fits j inside).lane.lane) ∙ w.spells);
+          some = can.some;
+          most = can.most;
+          own = λ i of. (can_word w.held i can of).own;
+          stored = inr (let e : slot ≡ length v.log.records = omega (arith, past, upto) in e, can, written);
+        }
+
+    unused : is_drained_slot v slot ≡ true → used_slots v.log.phase v ≤ slot → ⊥
+    unused drained past =
+        let stays = slot_stays o mem views log decided x image survives j slot inside within drained in
+        let p = valid_parts image j slot u valid in
+        let old = (fits j inside).log.stale slot u past within (ap undo_of (sym stays) ∙ p.stands) in
+        let now : u.generation ≡ generation_word image j = p.present ∙ generation_read o mem views log decided x image survives j inside in
+        let least = generation_from v (generation_word image j) v.log.phase (fits j inside).first_generation (generation_is o mem views log decided x image survives j inside) in
+        omega (arith, old, now, least)
+
+    undrained_valid : length v.log.records ≤ slot → is_drained_slot v slot ≡ false → Valid j slot u
+    undrained_valid past undrained =
+        let some : list_any (is_in_line (slot_line v.lane slot)) v.changes ≡ true = not_false (list_any (is_in_line (slot_line v.lane slot)) v.changes) undrained in
+        let t = Any-from_list_any (is_in_line (slot_line v.lane slot)) v.changes some in
+        let c : Change = t.1 in
+        let there : Contains v.changes c = (t.0, t.2, t.3) in
+        let line : c.word / 8 ≡ slot_line v.lane slot = eqb-true (c.word / 8) (slot_line v.lane slot) t.4 in
+        written_valid past
+        (undrained_upto (Flies log decided j) v c slot v.log.phase (fits j inside).phase (change_fits (Flies log decided j) v c v.log.phase (fits j inside).phase there) (range_of j inside) there within line)
+        (inl undrained) where
+          not_false : (b : Bool) → not b ≡ false → b ≡ true
+          not_false true e = refl
+          not_false false e = absurd (false≢true (sym e))
+
+    valid_slot : Valid j slot u
+    valid_slot = ⊎_elim
+        (λ (low : slot < length v.log.records). recorded_valid low)
+        (λ (past : length v.log.records ≤ slot). ⊎_elim
+        (λ (drained : is_drained_slot v slot ≡ true). ⊎_elim
+        (λ (making : slot < used_slots v.log.phase v). let most = used_upto v v.log.phase in written_valid past (omega (arith, making, most)) (inr (past, making)))
+        (λ (past_used : used_slots v.log.phase v ≤ slot). absurd (unused drained past_used))
+        (cases_lt slot (used_slots v.log.phase v)))
+        (λ (undrained : is_drained_slot v slot ≡ false). undrained_valid past undrained)
+        (cases_Bool (is_drained_slot v slot)))
+        (cases_lt slot (length v.log.records))
+
+    writes : (w : ℕ) → covers valid_slot.held w ≡ true → WritesUnder o mem j w
+    writes w of = writes_under o mem j v w (fits j inside).locks (valid_slot.own w of)
+
+    covered_in_chunk : (w : ℕ) → covers valid_slot.held w ≡ true → in_chunk o.lanes o.zones w ≡ true
+    covered_in_chunk w of = let t = writes w of in guarded_in_chunk o none x.sound.size t.0 w t.1
+
+    -- it is good
+    good_held : good_record o.lanes o.zones (undo_from (records_generation v.log.phase v) valid_slot.held) ≡ true
+    unfolding good_record
+    good_held =
+        let r : Recorded = valid_slot.held in
+        let n : ℕ = length r.old in
+        let some = valid_slot.some in
+        let most = valid_slot.most in
+        let low = raisable (Flies log decided j) v slot r v.log.phase refl (fits j inside).phase (range_of j inside) (fits j inside).last_generation valid_slot.stored in
+        let g : ℕ = records_generation v.log.phase v in
+        let place : 8 * r.word / 8 ≡ r.word = omega arith in
+        and_from (leb 1 n && leb n 4 && eqb (8 * r.word % 8) 0 && list_all (λ k. in_chunk o.lanes o.zones (8 * r.word / 8 + k)) (range_with_len 0 n)) (not (eqb g 4611686018427387904))
+        (and_from (leb 1 n && leb n 4 && eqb (8 * r.word % 8) 0) (list_all (λ k. in_chunk o.lanes o.zones (8 * r.word / 8 + k)) (range_with_len 0 n))
+        (and_from (leb 1 n && leb n 4) (eqb (8 * r.word % 8) 0) (and_from (leb 1 n) (leb n 4) (le-leb 1 n some) (le-leb n 4 most)) (eq-eqb (8 * r.word % 8) 0 (omega arith)))
+        (all_pass (λ k. in_chunk o.lanes o.zones (8 * r.word / 8 + k)) 0 n
+        (λ k inside_record. ap (λ w. in_chunk o.lanes o.zones (w + k)) place
+        ∙ covered_in_chunk (r.word + k) (and_from (leb r.word (r.word + k)) (ltb (r.word + k) (r.word + n)) (le-leb r.word (r.word + k) (omega arith)) (lt-ltb (r.word + k) (r.word + n) (omega (arith, inside_record)))))))
+        (ap not (ne_eqb g 4611686018427387904 (λ same. omega (arith, same, low))))
+
+    slot_good : good_record o.lanes o.zones u ≡ true
+    slot_good = ap (good_record o.lanes o.zones) valid_slot.is ∙ good_held
+
+    -- what the slot covers, its record does
+    covered : (i : ℕ) → logs.covers u (8 * i) ≡ true → covers valid_slot.held i ≡ true
+    covered i of = covers_back (records_generation v.log.phase v) valid_slot.held i (sym (ap (λ (y : Undo). logs.covers y (8 * i)) valid_slot.is) ∙ of)
+
+  slot_passes : (j slot : ℕ) → j < o.lanes → slot < 64 → bad_slot image o.lanes o.zones j slot ≡ false
+  unfolding bad_slot
+  slot_passes j slot inside within = go (valid_record image j slot) refl where
+    go : (found : Option Undo) → valid_record image j slot ≡ found → option_map_or (λ u. not (good_record o.lanes o.zones u)) found false ≡ false
+    go None is = refl
+    go (Some u) is = ap not (slot_good j slot u inside within is)
+
+  -- two valid slots that cover one word are one
+  one_slot : (i j slot other : ℕ) (u y : Undo) → (inside : j < o.lanes) → (low : slot < 64) → (other_low : other < 64) → (valid : valid_record image j slot ≡ Some u) → (other_valid : valid_record image j other ≡ Some y)
+      → logs.covers u (8 * i) ≡ true → logs.covers y (8 * i) ≡ true → slot ≡ other
+  one_slot i j slot other u y inside low other_low valid other_valid of other_of =
+      let a : Valid j slot u = valid_slot j slot u inside low valid in
+      let b : Valid j other y = valid_slot j other y inside other_low other_valid in
+      let a_of : covers a.held i ≡ true = covered j slot u inside low valid i of in
+      let b_of : covers b.held i ≡ true = covered j other y inside other_low other_valid i other_of in
+      ⊎_elim
+      (λ (at : IsRecordAt (views j) slot a.held). ⊎_elim
+      (λ (other_at : IsRecordAt (views j) other b.held). (fits j inside).log.once slot other a.held b.held i at other_at a_of b_of)
+      (λ (new : (other ≡ length (views j).log.records) × CanRecord (views j) b.held × IsBeingWritten (views j) other).
+      absurd (false≢true (sym (can_word j other y inside other_low other_valid b.held i new.1 b_of).new ∙ recorded_from (views j) i slot a.held at a_of)))
+      b.stored)
+      (λ (new : (slot ≡ length (views j).log.records) × CanRecord (views j) a.held × IsBeingWritten (views j) slot). ⊎_elim
+      (λ (other_at : IsRecordAt (views j) other b.held).
+      absurd (false≢true (sym (can_word j slot u inside low valid a.held i new.1 a_of).new ∙ recorded_from (views j) i other b.held other_at b_of)))
+      (λ (other_new : (other ≡ length (views j).log.records) × CanRecord (views j) b.held × IsBeingWritten (views j) other). new.0 ∙ sym other_new.0)
+      b.stored)
+      a.stored
+
+  module _ (i : ℕ) where
+    abbrev p : Undo → Bool
+    p u = logs.covers u (8 * i)
+
+    -- a lane's valid slot that covers the word
+    record Covering (j : ℕ) : Type 0 where
+      slot : ℕ
+      found : Undo
+      low : slot < 64
+      valid : valid_record image j slot ≡ Some found
+      covering : logs.covers found (8 * i) ≡ true
+
+    lane_few : (j : ℕ) → j < o.lanes → passing p (records image j) ≤ 1
+    lane_few j inside =
+        subst (λ (us : List Undo). passing p us ≤ 1) (sym (records_by_number image j))
+        (at_most_one p (record_at image j) 0 64 (λ slot low. one_or_none p (valid_record image j slot))
+        (λ slot other low other_low some other_some.
+        let a = passing_one p (valid_record image j slot) some in
+        let b = passing_one p (valid_record image j other) other_some in
+        one_slot i j slot other a.0 b.0 inside low other_low a.1 b.1 a.2 b.2))
+
+    lane_covering : (j : ℕ) → 1 ≤ passing p (records image j) → Covering j
+    lane_covering j some =
+        let t = some_part p (record_at image j) 0 64 (subst (λ (us : List Undo). 1 ≤ passing p us) (records_by_number image j) some) in
+        let one = passing_one p (valid_record image j t.0) t.3 in
+        record { slot = t.0; found = one.0; low = t.2; valid = one.1; covering = one.2 }
+
+    one_lane : (j k : ℕ) → j < o.lanes → k < o.lanes → 1 ≤ passing p (records image j) → 1 ≤ passing p (records image k) → j ≡ k
+    one_lane j k inside other_inside some other_some =
+        let a : Covering j = lane_covering j some in
+        let b : Covering k = lane_covering k other_some in
+        one_writer o mem j k i x.sound
+        (writes j a.slot a.found inside a.low a.valid i (covered j a.slot a.found inside a.low a.valid i a.covering))
+        (writes k b.slot b.found other_inside b.low b.valid i (covered k b.slot b.found other_inside b.low b.valid i b.covering))
+
+    no_clash : ltb 1 (passing p (flat_map (records image) (range_with_len 0 o.lanes))) ≡ false
+    no_clash = le-ltb 1 (passing p (flat_map (records image) (range_with_len 0 o.lanes)))
+        (at_most_one p (records image) 0 o.lanes (λ j low. lane_few j (omega (arith, low))) (λ j k low other_low. one_lane j k (omega (arith, low)) (omega (arith, other_low))))
+
+  pub no_log_fault : log_fault image o.lanes o.zones ≡ None
+  no_log_fault =
+      sym (clash_row image o.lanes o.zones (flat_map (records image) (range_with_len 0 o.lanes)) None
+      (none_passes (λ j. not (good_lane image j)) o.lanes (λ j inside. not_from_true (good_lane image j) (lane_good j inside)))
+      (none_passes (λ n. bad_slot image o.lanes o.zones (n / 64) (n % 64)) (64 * o.lanes) (λ n inside. slot_passes (n / 64) (n % 64) (omega arith) (omega arith)))
+      refl
+      (none_passes (λ i. ltb 1 (length (filter (λ u. logs.covers u (8 * i)) (flat_map (records image) (range_with_len 0 o.lanes))))) (length image) (λ i inside. no_clash i)))
