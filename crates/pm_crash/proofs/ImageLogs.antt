@@ -35,7 +35,6 @@ use Rattle.pm_world.proofs.CrashLogs.{ChangeFits, GenerationIs, change_fits, rec
 use Rattle.pm_world.proofs.CrashSpellings.{covers_back, undo_from, undo_of-spelled, valid_parts}
 use Rattle.pm_world.proofs.CrashWords.{generation_is, generation_read, seal_stays, slot_stays}
 use Rattle.pm_world.proofs.Exclusion.{WritesUnder, one_writer, writes_under}
-use Rattle.pm_crash.specs.OneLane.{NoneMixed}
 use Rattle.pm_crash.proofs.AtMostOne.{all_pass, at_most_one, one_or_none, passing, passing_one, some_part}
 use Rattle.pm_crash.proofs.Guarded.{guarded_in_chunk}
 use Rattle.pm_crash.proofs.LogCourse.{InRange, IsUnwritten}
@@ -117,7 +116,7 @@ raisable flies v slot r Clearing is fits range last stored = absurd fits
 raisable flies v slot r Retiring is fits range last stored = omega (arith, range, last)
 
 module _ (o : Opening) (mem : Memory) (views : Views) (log : List Entry) (decided : ℕ → Bool) (x : World o mem views log decided) (image : List ℕ) (survives : Survives o mem views image) (whole : NoneTorn o views image)
-    (unmixed : NoneMixed o views image) (ranges : (j : ℕ) → j < o.lanes → InRange (mem (PoolWord (area_word j))) (views j) (views j).log.phase) (none : heap_fault (slice_index o.words) o.lanes o.zones ≡ None) where
+    (ranges : (j : ℕ) → j < o.lanes → InRange (mem (PoolWord (area_word j))) (views j) (views j).log.phase) (none : heap_fault (slice_index o.words) o.lanes o.zones ≡ None) where
   fits : (j : ℕ) → j < o.lanes → LaneFits o mem (settled o log decided) (Flies log decided j) j (views j)
   fits j inside = x.each_lane j inside
 
@@ -155,6 +154,15 @@ module _ (o : Opening) (mem : Memory) (views : Views) (log : List Entry) (decide
         let p = valid_parts image j slot u valid in
         same_Some u (undo_from (records_generation v.log.phase v) r) (sym p.stands ∙ (ap undo_of spells ∙ undo_of-spelled (records_generation v.log.phase v) r most))
 
+    -- a valid slot that has undrained words of the log's record has this record, whole
+    spells_its_record : slot < length v.log.records → (r : Recorded) → IsRecordAt v slot r → is_drained_slot v slot ≡ false → undo_slot image j slot ≡ spelled (records_generation v.log.phase v) r
+    spells_its_record low r at undrained =
+        let w : IsWhole v image slot = whole j slot u inside within (inl undrained) valid in
+        let same : w.held ≡ r = ⊎_elim
+        (λ (here : IsRecordAt v slot w.held). same_Some w.held r (sym here ∙ at))
+        (λ (past : (length v.log.records ≤ slot) × CanRecord v w.held). let beyond = past.0 in absurd (omega (arith, low, beyond))) w.lawful in
+        ap (λ n. undo_slot image n slot) (sym (fits j inside).lane.lane) ∙ (w.spells ∙ ap (spelled (records_generation v.log.phase v)) same)
+
     recorded_valid : slot < length v.log.records → Valid j slot u
     recorded_valid low =
         let r : Recorded = get_or v.log.records slot (record { word = 0; old = [] }) in
@@ -164,7 +172,7 @@ module _ (o : Opening) (mem : Memory) (views : Views) (log : List Entry) (decide
           held = r;
           is = spelled_is r record_fits.most (⊎_elim
               (λ (drained : is_drained_slot v slot ≡ true). slot_stays o mem views log decided x image survives j slot inside within drained ∙ (fits j inside).log.stored slot r at)
-              (λ (undrained : is_drained_slot v slot ≡ false). unmixed j slot r u inside at undrained valid)
+              (λ (undrained : is_drained_slot v slot ≡ false). spells_its_record low r at undrained)
               (cases_Bool (is_drained_slot v slot)));
           some = record_fits.some;
           most = record_fits.most;
@@ -183,7 +191,7 @@ module _ (o : Opening) (mem : Memory) (views : Views) (log : List Entry) (decide
     written_valid : length v.log.records ≤ slot → slot ≤ length v.log.records → IsBeingWritten v slot → Valid j slot u
     written_valid past upto written =
         let w : IsWhole v image slot = whole j slot u inside within written valid in
-        let can : CanRecord v w.held = ⊎_elim (λ (at : IsRecordAt v slot w.held). let low = slice_get_within v.log.records slot w.held at in absurd (omega (arith, low, past))) (λ (can : CanRecord v w.held). can) w.lawful in
+        let can : CanRecord v w.held = ⊎_elim (λ (at : IsRecordAt v slot w.held). let low = slice_get_within v.log.records slot w.held at in absurd (omega (arith, low, past))) (λ (can : (length v.log.records ≤ slot) × CanRecord v w.held). can.1) w.lawful in
         record {
           held = w.held;
           is = spelled_is w.held can.most (ap (λ n. undo_slot image n slot) (sym (fits j inside).lane.lane) ∙ w.spells);

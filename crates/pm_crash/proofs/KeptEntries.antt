@@ -25,7 +25,7 @@ use Rattle.pm_world.specs.Opening.{Opening}
 use Rattle.pm_world.specs.World.{Views}
 use Rattle.pm_world.proofs.CrashLaw.{crash_law}
 use Rattle.pm_world.proofs.Losses.{acknowledged, some_lane}
-use Rattle.pm_crash.specs.OneLane.{Begins, HoldsReplay, IsCourse, MeansReplay, Moment, Move, NoneMixed, beginning, kept_entries}
+use Rattle.pm_crash.specs.OneLane.{Begins, HoldsReplay, IsCourse, MeansReplay, Moment, Move, beginning, kept_entries}
 use Rattle.pm_crash.proofs.CleanWords.{clean_words_hold}
 use Rattle.pm_crash.proofs.FrontWords.{header_survives}
 use Rattle.pm_crash.proofs.HeapWordsAlone.{held_by_heap}
@@ -131,9 +131,9 @@ module _ (o : Opening) (memory : Memory) (views : Views) (k : ℕ) (header : Hea
   ended_kept begins course = acknowledged_kept o k header pool m (goes_along o k header pool (beginning memory views) steps m (goes_first o memory views k header pool begins) course) image
 
   -- the image has the header and no fault in its logs, so that it means the pool
-  pub replay_meant : Begins o memory views k header pool → IsCourse k (beginning memory views) steps m → Survives o m.memory m.views image → NoneTorn o m.views image → NoneMixed o m.views image
+  pub replay_meant : Begins o memory views k header pool → IsCourse k (beginning memory views) steps m → Survives o m.memory m.views image → NoneTorn o m.views image
       → MeansReplay image pool (kept_entries o m image)
-  replay_meant begins course survives whole unmixed =
+  replay_meant begins course survives whole =
       let g : Goes o k header pool m = goes_along o k header pool (beginning memory views) steps m (goes_first o memory views k header pool begins) course in
       let held = image_replays o k header pool m g image survives whole in
       let ranges : (j : ℕ) → j < o.lanes → InRange (m.memory (PoolWord (area_word j))) (m.views j) (m.views j).log.phase = λ j low. ⊎_elim
@@ -141,7 +141,7 @@ module _ (o : Opening) (memory : Memory) (views : Views) (k : ℕ) (header : Hea
       (λ (other : j ≢ k). subst (InRange (m.memory (PoolWord (area_word j))) (m.views j)) (sym (g.others j low other)) tt)
       (cases_eq j k) in
       let none : log_fault image o.lanes o.zones ≡ None =
-      no_log_fault o m.memory m.views m.log m.decided g.world image survives whole unmixed ranges (clean_words_hold o header pool begins.holds begins.clean).no_fault in
+      no_log_fault o m.memory m.views m.log m.decided g.world image survives whole ranges (clean_words_hold o header pool begins.holds begins.clean).no_fault in
       record {
         last = held.last;
         replays = held.replays;

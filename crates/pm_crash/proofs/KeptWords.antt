@@ -8,7 +8,7 @@ use Rattle.pm_view.specs.Log.{Recorded}
 use Rattle.pm_view.specs.View.{View, Lock}
 use Rattle.pm_world.specs.Records.{is_recorded}
 use Rattle.pm_crash.specs.OpenCall.{IsBefore, call_words, block_at_line}
-use Rattle.pm_crash.specs.Operations.{IsFoundUnder, KeepsFound, KeepsLane, KeepsLog, KeepsWords}
+use Rattle.pm_crash.specs.Operations.{IsFoundUnder, KeepsFound, KeepsKnown, KeepsLane, KeepsLog, KeepsWords}
 use Rattle.pm_crash.proofs.Continued.{two_same, GoesBack}
 
 -- the same locks are of the same lines
@@ -24,18 +24,23 @@ found_back v next lane finds w before l lines held block =
     (two_same (λ (n m : ℕ). Contains (blocks w n m) (block_at_line found.lock.line lines)) next.lanes v.lanes next.zones v.zones lane.lanes lane.zones
     (before.found found.lock lines found.held found.block))
 
--- where no word is newly recorded, and those that are not stay
-pub before_back : (v next : View) → KeepsLane v next → KeepsFound v next → KeepsLog v next
-    → ((i : ℕ) → is_in_area v.lane i ≡ false → is_recorded v.log.records i ≡ false → slice_index next.words i ≡ slice_index v.words i)
+-- where no word is newly recorded, and those that are known and are not recorded stay
+pub known_back : (v next : View) → KeepsLane v next → KeepsFound v next → KeepsLog v next
+    → ((i : ℕ) → Contains v.known i → is_in_area v.lane i ≡ false → is_recorded v.log.records i ≡ false → slice_index next.words i ≡ slice_index v.words i)
     → (w : ℕ → ℕ) → IsBefore next w → IsBefore v w
-before_back v next lane finds logs stay w before =
+known_back v next lane finds logs stay w before =
     record {
       recorded = λ slot r i at inside. before.recorded slot r i (ap (λ (records : List Recorded). slice_get records slot) logs.records ∙ at) inside;
       known = λ i known outside none.
           before.known i (lane.known i known) (ap (λ (n : ℕ). is_in_area n i) lane.lane ∙ outside) (ap (λ (records : List Recorded). is_recorded records i) logs.records ∙ none)
-          ∙ stay i outside none;
+          ∙ stay i known outside none;
       found = found_back v next lane finds w before;
     }
+
+pub before_back : (v next : View) → KeepsLane v next → KeepsFound v next → KeepsLog v next
+    → ((i : ℕ) → is_in_area v.lane i ≡ false → is_recorded v.log.records i ≡ false → slice_index next.words i ≡ slice_index v.words i)
+    → (w : ℕ → ℕ) → IsBefore next w → IsBefore v w
+before_back v next lane finds logs stay = known_back v next lane finds logs (λ i known. stay i)
 
 -- nor is a word of the lane's own area recorded
 pub outside_kept : (v next : View) → KeepsLane v next → KeepsLog v next → ((i : ℕ) → is_recorded v.log.records i ≡ true → is_in_area v.lane i ≡ false)
@@ -55,19 +60,26 @@ goes_back v next lane finds logs stay outside = record {
 pub same_records : (v next : View) (w : ℕ → ℕ) (i : ℕ) → KeepsLog v next → call_words next w i ≡ cond (is_recorded v.log.records i) (slice_index next.words i) (w i)
 same_records v next w i logs = ap (λ (records : List Recorded). cond (is_recorded records i) (slice_index next.words i) (w i)) logs.records
 
--- where words and log stay, the words of the call do
-pub same_call_word : (v next : View) → KeepsLog v next → KeepsWords v next → ((i : ℕ) → is_recorded v.log.records i ≡ true → is_in_area v.lane i ≡ false)
+-- where the recorded words and the log stay, the words of the call do
+same_call_word : (v next : View) → KeepsLog v next → KeepsKnown v next → ((i : ℕ) → is_recorded v.log.records i ≡ true → is_in_area v.lane i ≡ false)
     → (w : ℕ → ℕ) (i : ℕ) → call_words next w i ≡ call_words v w i
 same_call_word v next logs keeps outside w i =
     same_records v next w i logs
     ∙ ⊎_elim
     (λ (is : is_recorded v.log.records i ≡ true).
-    cond-true (is_recorded v.log.records i) (slice_index next.words i) (w i) is ∙ keeps.words i (outside i is)
+    cond-true (is_recorded v.log.records i) (slice_index next.words i) (w i) is ∙ keeps.recorded i (outside i is) is
     ∙ sym (cond-true (is_recorded v.log.records i) (slice_index v.words i) (w i) is))
     (λ (is : is_recorded v.log.records i ≡ false).
     cond-false (is_recorded v.log.records i) (slice_index next.words i) (w i) is ∙ sym (cond-false (is_recorded v.log.records i) (slice_index v.words i) (w i) is))
     (cases_Bool (is_recorded v.log.records i))
 
+pub same_known_words : (v next : View) → KeepsLog v next → KeepsKnown v next → ((i : ℕ) → is_recorded v.log.records i ≡ true → is_in_area v.lane i ≡ false)
+    → (w : ℕ → ℕ) → call_words next w ≡ call_words v w
+same_known_words v next logs keeps outside w = (λ j i. same_call_word v next logs keeps outside w i j)
+
+pub keeps_known : (v next : View) → KeepsWords v next → KeepsKnown v next
+keeps_known v next keeps = record { known = λ i outside known. keeps.words i outside; recorded = λ i outside is. keeps.words i outside }
+
 pub same_call_words : (v next : View) → KeepsLog v next → KeepsWords v next → ((i : ℕ) → is_recorded v.log.records i ≡ true → is_in_area v.lane i ≡ false)
     → (w : ℕ → ℕ) → call_words next w ≡ call_words v w
-same_call_words v next logs keeps outside w = (λ j i. same_call_word v next logs keeps outside w i j)
+same_call_words v next logs keeps = same_known_words v next logs (keeps_known v next keeps)

@@ -9,7 +9,8 @@ use Rattle.pm_model.specs.History.{opened}
 use Rattle.pm_model.specs.Names.{Replays}
 use Rattle.pm_world.specs.History.{Entry, made_final, replayed}
 use Rattle.pm_crash.specs.Held.{HoldsPool}
-use Rattle.pm_crash.specs.OneLane.{HoldsReplay, act_of_entry}
+use Rattle.pm_crash.specs.HeldHistory.{act_of_entry}
+use Rattle.pm_crash.specs.OneLane.{HoldsReplay}
 use Rattle.pm_crash.proofs.HeapWordsAlone.{held_by_heap}
 
 -- no entry is left out

@@ -1,5 +1,5 @@
 -- Where nothing is told, a call stays what it came to.
-use Rattle.std.proofs.Common.{◌≡◌, ℕ, ◌/◌, ◌<◌, ◌≤◌, List, length, map, sym, ◌∙◌, ap, subst, arith}
+use Rattle.std.proofs.Common.{◌≡◌, true, false, ℕ, ◌/◌, ◌<◌, ◌≤◌, List, length, map, sym, ◌∙◌, ap, subst, arith}
 use Rattle.std.specs.List.{Contains}
 use Rattle.pm_header.specs.declared.header.Header.{Header}
 use Rattle.pm_objects.specs.declared.history.TxErr.{TxErr}
@@ -11,16 +11,18 @@ use Rattle.pm_model.specs.declared.stage.Stage.{Stage}
 use Rattle.pm_model.specs.Answers.{Told as Answered}
 use Rattle.pm_model.specs.Step.{Act, Step}
 use Rattle.pm_model.specs.History.{opened}
+use Rattle.pm_view.specs.Area.{is_in_area}
 use Rattle.pm_view.specs.Blocks.{is_chunk}
 use Rattle.pm_view.specs.Log.{Recorded}
 use Rattle.pm_view.specs.View.{View, Lock}
+use Rattle.pm_world.specs.Records.{is_recorded}
 use Rattle.pm_crash.proofs.CallWords.{locks_kept}
 use Rattle.pm_crash.specs.Held.{HoldsPool}
 use Rattle.pm_crash.specs.OpenCall.{IsBefore, ComesTo, ComesToNothing, IsGivenUp, IsOpen, IsWholeCall, MakesStep, RunsTo, act_of, call_words, told_in, told_of, words_recorded}
-use Rattle.pm_crash.specs.Operations.{KeepsLog, KeepsWords, TakesBack, TellsNothing}
+use Rattle.pm_crash.specs.Operations.{KeepsKnown, KeepsLog, KeepsWords, TakesBack, TellsNothing}
 use Rattle.pm_crash.proofs.Continued.{two_same}
 use Rattle.pm_crash.proofs.GivenUp.{outside_taken_back, taken_back}
-use Rattle.pm_crash.proofs.KeptWords.{before_back, outside_kept, same_call_words, same_found}
+use Rattle.pm_crash.proofs.KeptWords.{keeps_known, known_back, outside_kept, same_known_words, same_found}
 
 same_told : (v next : View) → TellsNothing v next → told_in next ≡ told_in v
 same_told v next quiet = ap (map told_of) quiet.call
@@ -28,8 +30,8 @@ same_told v next quiet = ap (map told_of) quiet.call
 same_act : (v next : View) → TellsNothing v next → act_of next ≡ act_of v
 same_act v next quiet = (λ j. record { lane = quiet.keeps.lane j; told = same_told v next quiet j })
 
-quiet_back : (v next : View) → TellsNothing v next → KeepsLog v next → KeepsWords v next → (w : ℕ → ℕ) → IsBefore next w → IsBefore v w
-quiet_back v next quiet logs words = before_back v next quiet.keeps (same_found v next quiet.locks) logs (λ i outside none. words.words i outside)
+quiet_back : (v next : View) → TellsNothing v next → KeepsLog v next → KeepsKnown v next → (w : ℕ → ℕ) → IsBefore next w → IsBefore v w
+quiet_back v next quiet logs words = known_back v next quiet.keeps (same_found v next quiet.locks) logs (λ i known outside none. words.known i outside known)
 
 quiet_holds : (v next : View) → TellsNothing v next → (w : ℕ → ℕ) (header : Header) (pool : PoolView) → HoldsPool w next.lanes next.zones header pool → HoldsPool w v.lanes v.zones header pool
 quiet_holds v next quiet w header pool holds = two_same (λ (n m : ℕ). HoldsPool w n m header pool) next.lanes v.lanes next.zones v.zones quiet.keeps.lanes quiet.keeps.zones holds
@@ -62,8 +64,8 @@ open_stays_so v next level at_stage e w header pool quiet logs same c =
           (sym quiet.keeps.lanes) (sym quiet.keeps.zones) (λ block there. ap (λ (f : ℕ → ℕ). size_in f block) same ∙ c.sizes_stay block there);
     }
 
-pub open_stays : (v next : View) (level : ℕ) (at_stage : Stage) (e : TxErr) → IsOpen v level at_stage e → TellsNothing v next → KeepsLog v next → KeepsWords v next → IsOpen next level at_stage e
-open_stays v next level at_stage e is_open quiet logs words =
+pub open_learns : (v next : View) (level : ℕ) (at_stage : Stage) (e : TxErr) → IsOpen v level at_stage e → TellsNothing v next → KeepsLog v next → KeepsKnown v next → IsOpen next level at_stage e
+open_learns v next level at_stage e is_open quiet logs words =
     let lane : next.lane ≡ v.lane = quiet.keeps.lane in
     let lanes : next.lanes ≡ v.lanes = quiet.keeps.lanes in
     let inside : v.lane < v.lanes = is_open.in_lanes in
@@ -73,30 +75,36 @@ open_stays v next level at_stage e is_open quiet logs words =
       chunks = λ l lines held found. ap (λ (n : ℕ). is_chunk n (l.line / 64)) lanes ∙ is_open.chunks l lines (subst (λ (locks : List Lock). Contains locks l) quiet.locks held) found;
       outside = outside_kept v next quiet.keeps logs is_open.outside;
       comes = λ w header pool holds id before.
-          open_stays_so v next level at_stage e w header pool quiet logs (same_call_words v next logs words is_open.outside w)
+          open_stays_so v next level at_stage e w header pool quiet logs (same_known_words v next logs words is_open.outside w)
           (is_open.comes w header pool (quiet_holds v next quiet w header pool holds) (sym quiet.keeps.pool ∙ id) (quiet_back v next quiet logs words w before));
     }
 
-pub whole_stays : (v next : View) → IsWholeCall v → TellsNothing v next → KeepsLog v next → KeepsWords v next → IsWholeCall next
-whole_stays v next whole quiet logs words = record {
+pub whole_learns : (v next : View) → IsWholeCall v → TellsNothing v next → KeepsLog v next → KeepsKnown v next → IsWholeCall next
+whole_learns v next whole quiet logs words = record {
   outside = outside_kept v next quiet.keeps logs whole.outside;
   makes = λ w header pool holds id before.
       let made : MakesStep v w header pool =
       whole.makes w header pool (quiet_holds v next quiet w header pool holds) (sym quiet.keeps.pool ∙ id) (quiet_back v next quiet logs words w before) in
       record {
         next = made.next;
-        holds = quiet_made v next w header made.next quiet (same_call_words v next logs words whole.outside w) made.holds;
+        holds = quiet_made v next w header made.next quiet (same_known_words v next logs words whole.outside w) made.holds;
         steps = subst (λ (act : Act). Step (opened pool) act (opened made.next)) (sym (same_act v next quiet)) made.steps;
       };
 }
 
-pub given_up_stays : (v next : View) (e : TxErr) → IsGivenUp v e → TellsNothing v next → TakesBack v next → IsGivenUp next e
-given_up_stays v next e given_up quiet back = record {
-  outside = outside_taken_back v next quiet.keeps back given_up.outside;
+pub open_stays : (v next : View) (level : ℕ) (at_stage : Stage) (e : TxErr) → IsOpen v level at_stage e → TellsNothing v next → KeepsLog v next → KeepsWords v next → IsOpen next level at_stage e
+open_stays v next level at_stage e is_open quiet logs words = open_learns v next level at_stage e is_open quiet logs (keeps_known v next words)
+
+pub whole_stays : (v next : View) → IsWholeCall v → TellsNothing v next → KeepsLog v next → KeepsWords v next → IsWholeCall next
+whole_stays v next whole quiet logs words = whole_learns v next whole quiet logs (keeps_known v next words)
+
+-- a call that was given up stays so, where it goes back to what was before it
+still_given_up : (v next : View) (e : TxErr) → IsGivenUp v e → TellsNothing v next → ((i : ℕ) → is_recorded next.log.records i ≡ true → is_in_area next.lane i ≡ false)
+    → ((w : ℕ → ℕ) → IsBefore next w → IsBefore v w) → IsGivenUp next e
+still_given_up v next e given_up quiet outside back = record {
+  outside = outside;
   comes = λ w header pool holds id before.
-      let c : ComesToNothing v pool e =
-      given_up.comes w header pool (quiet_holds v next quiet w header pool holds) (sym quiet.keeps.pool ∙ id)
-      (taken_back v next quiet.keeps (same_found v next quiet.locks) back given_up.outside w before) in
+      let c : ComesToNothing v pool e = given_up.comes w header pool (quiet_holds v next quiet w header pool holds) (sym quiet.keeps.pool ∙ id) (back w before) in
       record {
         tx = c.tx;
         runs = subst (λ (told : List Answered). RunsTo pool told c.tx) (sym (same_told v next quiet)) c.runs;
@@ -105,3 +113,10 @@ given_up_stays v next e given_up quiet back = record {
         unchanged = c.unchanged;
       };
 }
+
+pub given_up_stays : (v next : View) (e : TxErr) → IsGivenUp v e → TellsNothing v next → TakesBack v next → IsGivenUp next e
+given_up_stays v next e given_up quiet back =
+    still_given_up v next e given_up quiet (outside_taken_back v next quiet.keeps back given_up.outside) (taken_back v next quiet.keeps (same_found v next quiet.locks) back given_up.outside)
+
+pub given_up_learns : (v next : View) (e : TxErr) → IsGivenUp v e → TellsNothing v next → KeepsLog v next → KeepsKnown v next → IsGivenUp next e
+given_up_learns v next e given_up quiet logs words = still_given_up v next e given_up quiet (outside_kept v next quiet.keeps logs given_up.outside) (quiet_back v next quiet logs words)

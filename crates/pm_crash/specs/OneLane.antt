@@ -1,16 +1,11 @@
 -- The course of a world in which one lane makes steps, and what its history makes of the pool that the world began from.
-use Rattle.std.specs.Prelude.{◌≡◌, ℕ, ◌<◌, Some, Bool, false, List, [], ◌∷◌, map}
+use Rattle.std.specs.Prelude.{◌≡◌, ℕ, ◌<◌, Bool, false, List, [], ◌∷◌, map}
 use Rattle.std.specs.List.{filter}
 use Rattle.pm_header.specs.declared.header.Header.{Header}
 use Rattle.pm_objects.specs.declared.pool.PoolView.{PoolView}
-use Rattle.pm_record.specs.declared.undo.Undo.{Undo}
-use Rattle.pm_image.specs.Logs.{undo_slot}
 use Rattle.pm_image.specs.Means.{IsMeaning}
-use Rattle.pm_image.specs.Steps.{valid_record}
-use Rattle.pm_model.specs.Step.{Act}
 use Rattle.pm_model.specs.History.{opened}
 use Rattle.pm_model.specs.Names.{Replays}
-use Rattle.pm_view.specs.Log.{Recorded}
 use Rattle.pm_view.specs.Steps.{Step}
 use Rattle.pm_view.specs.Steps.Step.{Draw}
 use Rattle.pm_view.specs.View.{View}
@@ -24,10 +19,10 @@ use Rattle.pm_world.specs.Memory.{Memory}
 use Rattle.pm_world.specs.Moves.{Moves}
 use Rattle.pm_world.specs.Opening.{Opening}
 use Rattle.pm_world.specs.Opens.{IsClean, IsFresh, IsOpened}
-use Rattle.pm_world.specs.Records.{IsRecordAt, is_drained_slot, records_generation, spelled}
 use Rattle.pm_world.specs.World.{Views}
+use Rattle.pm_crash.specs.HeldHistory.{act_of_entry}
 use Rattle.pm_crash.specs.Held.{HoldsImage, HoldsPool}
-use Rattle.pm_crash.specs.OpenCall.{IsBefore, MakesStep, told_of}
+use Rattle.pm_crash.specs.OpenCall.{IsBefore, MakesStep}
 
 -- where a world stands: its memory, what its lanes see, its history, and which numbers are decided
 pub record Moment : Type 0 where
@@ -84,19 +79,9 @@ pub record Begins (o : Opening) (memory : Memory) (views : Views) (k : ℕ) (hea
   pub in_lanes : k < o.lanes
   pub of_pool : (views k).pool ≡ header.id
 
--- nor does the sum of a record of the log match by chance when it was torn: where its slot has undrained words and is valid in the image, it
--- is this record
-abbrev pub NoneMixed : Opening → Views → List ℕ → Type 0
-NoneMixed o views image = (k slot : ℕ) (r : Recorded) (u : Undo) → k < o.lanes → IsRecordAt (views k) slot r → is_drained_slot (views k) slot ≡ false → valid_record image k slot ≡ Some u
-    → undo_slot image k slot ≡ spelled (records_generation (views k).log.phase (views k)) r
-
 -- the entries that the image does not lose, in order
 abbrev pub kept_entries : Opening → Moment → List ℕ → List Entry
 kept_entries o m image = filter (λ (e : Entry). is_kept o m.views image e.number) m.log
-
--- an entry's call as the model's
-abbrev pub act_of_entry : Entry → Act
-act_of_entry e = record { lane = e.lane; told = map told_of e.call }
 
 -- these entries, one whole call after another, lead from the one pool to another, and that one the words hold
 pub record HoldsReplay (w : ℕ → ℕ) (lanes zones : ℕ) (header : Header) (pool : PoolView) (entries : List Entry) : Type 0 where

@@ -47,6 +47,11 @@ pub record TellsNothing (v next : View) : Type 0 where
 pub record KeepsWords (v next : View) : Type 0 where
   pub words : (i : ℕ) → is_in_area v.lane i ≡ false → slice_index next.words i ≡ slice_index v.words i
 
+-- no word that it knew or recorded changed, but in the lane's own area: others may have been looked at for the first time
+pub record KeepsKnown (v next : View) : Type 0 where
+  pub known : (i : ℕ) → is_in_area v.lane i ≡ false → Contains v.known i → slice_index next.words i ≡ slice_index v.words i
+  pub recorded : (i : ℕ) → is_in_area v.lane i ≡ false → is_recorded v.log.records i ≡ true → slice_index next.words i ≡ slice_index v.words i
+
 -- nor was a word recorded
 pub record KeepsLog (v next : View) : Type 0 where
   pub records : next.log.records ≡ v.log.records

@@ -22,7 +22,7 @@ ghost use Rattle.pm_world.specs.Records.{difference_of};
 ghost use Rattle.pm_crash.specs.Held.{HoldsPool};
 ghost use Rattle.pm_crash.specs.Locks.{AreSameLocks};
 ghost use Rattle.pm_crash.specs.OpenCall.{IsBefore, IsGivenUp, IsOpen, IsWholeCall, RunsTo, act_of, call_words, lock_wanted};
-ghost use Rattle.pm_crash.specs.Operations.{AddsRange, BeginsCall, BeginsLevel, KeepsLog, KeepsWords, ReadsBytes, Refuses, RefusesCall, RefusesLevel, TakesBack, Tells, TellsNothing, WritesBytes};
+ghost use Rattle.pm_crash.specs.Operations.{AddsRange, BeginsCall, BeginsLevel, KeepsKnown, KeepsLog, KeepsWords, ReadsBytes, Refuses, RefusesCall, RefusesLevel, TakesBack, Tells, TellsNothing, WritesBytes};
 
 /// A law: the words that a call makes of those before it are what its difference makes of them. No code runs.
 pub fn a_call_makes_its_difference()
@@ -119,6 +119,17 @@ pub fn a_call_stays_while_nothing_is_told()
         → TellsNothing v next → KeepsLog v next → KeepsWords v next → IsWholeCall next }
     ensures given_up { (v next : View) (e : TxErr) → IsGivenUp v e
         → TellsNothing v next → TakesBack v next → IsGivenUp next e }
+{}
+
+/// A law: while nothing is told or recorded, and no word that the lane knew or recorded changed but in its own area, a call stays what it
+/// came to. So it does while the lane looks at words for the first time. No code runs.
+pub fn a_call_stays_while_its_lane_learns()
+    ensures is_open { (v next : View) (level : ℕ) (at_stage : Stage) (e : TxErr) → IsOpen v level at_stage e
+        → TellsNothing v next → KeepsLog v next → KeepsKnown v next → IsOpen next level at_stage e }
+    ensures whole { (v next : View) → IsWholeCall v
+        → TellsNothing v next → KeepsLog v next → KeepsKnown v next → IsWholeCall next }
+    ensures given_up { (v next : View) (e : TxErr) → IsGivenUp v e
+        → TellsNothing v next → KeepsLog v next → KeepsKnown v next → IsGivenUp next e }
 {}
 
 /// A law: which objects are locked, and by how many locks, does not depend on the order in which they are wanted: two neighbours may change

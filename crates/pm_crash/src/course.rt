@@ -11,7 +11,7 @@ ghost use Rattle.pm_world.specs.Opening.{IsSound, Opening};
 ghost use Rattle.pm_world.specs.Opens.{IsClean, IsFresh, IsOpened};
 ghost use Rattle.pm_world.specs.World.{Views, World};
 ghost use Rattle.pm_crash.specs.Held.{HoldsImage, HoldsPool};
-ghost use Rattle.pm_crash.specs.OneLane.{Begins, HoldsReplay, IsCourse, IsModelStep, MeansReplay, Moment, Move, NoneMixed, beginning, kept_entries};
+ghost use Rattle.pm_crash.specs.OneLane.{Begins, HoldsReplay, IsCourse, IsModelStep, MeansReplay, Moment, Move, beginning, kept_entries};
 ghost use Rattle.pm_crash.specs.OpenCall.{IsGivenUp, IsWholeCall};
 
 /// A law: an image that holds a pool, with each lane's log clean, is what a world can begin from: its words hold the pool as they stand, its
@@ -38,7 +38,7 @@ pub fn an_ended_call_is_a_model_step()
 pub fn one_lanes_images_mean_the_replay()
     ensures meaning { (o : Opening) (memory : Memory) (views : Views) (k : ℕ) (header : Header) (pool : PoolView) (steps : List Move) (m : Moment) (image : List ℕ)
         → Begins o memory views k header pool → IsCourse k (beginning memory views) steps m → Survives o m.memory m.views image → NoneTorn o m.views image
-        → NoneMixed o m.views image → MeansReplay image pool (kept_entries o m image) }
+        → MeansReplay image pool (kept_entries o m image) }
     ensures replay { (o : Opening) (memory : Memory) (views : Views) (k : ℕ) (header : Header) (pool : PoolView) (steps : List Move) (m : Moment) (image : List ℕ)
         → Begins o memory views k header pool → IsCourse k (beginning memory views) steps m → Survives o m.memory m.views image → NoneTorn o m.views image
         → HoldsReplay (recovered_at image o.lanes) o.lanes o.zones header pool (kept_entries o m image) }

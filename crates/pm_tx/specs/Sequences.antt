@@ -1,9 +1,18 @@
--- The sequences of a transaction's reads and writes: docs/FORMAT.md, "Sequences".
-use Rattle.std.specs.Prelude.{ℕ, ◌+◌, ◌-◌, ◌/◌, ◌%◌, ◌==◌, if◌then◌else◌, List, [], ◌∷◌, length, slice_index}
+-- The sequences of a transaction's reads, writes and ends: docs/FORMAT.md, "Sequences".
+use Rattle.std.specs.Prelude.{ℕ, ◌+◌, ◌-◌, ◌/◌, ◌%◌, ◌==◌, if◌then◌else◌, List, [], ◌∷◌, Option, None, Some, false, length, slice_index, slice_index_or}
 use Rattle.pm_words.specs.Words.{bytes_of}
+use Rattle.pm_objects.specs.declared.calls.Operation.{Operation}
+use Rattle.pm_objects.specs.declared.calls.Operation.TheVariants.{Commit}
+use Rattle.pm_objects.specs.declared.history.Value.{Value}
+use Rattle.pm_objects.specs.declared.history.Value.TheVariants.{Refused}
+use Rattle.pm_objects.specs.declared.refusal.Refusal.{Refusal}
 use Rattle.pm_crash.specs.Writes.{written_word}
-use Rattle.pm_undo.specs.Sequences.{looks_from}
-use Rattle.pm_world.specs.Sequences.{Sequence, counted, stores, with_word}
+use Rattle.pm_undo.specs.Sequences.{looks_from, restores, retires}
+use Rattle.pm_view.specs.Area.{area_word}
+use Rattle.pm_view.specs.Steps.Step.{Draw, Give, NumberSeen, Tell}
+use Rattle.pm_world.specs.Sequences.{Sequence, by_lane, counted, in_turn, looks, nothing, one, settles, stores, with_word}
+use Rattle.pm_world.specs.declared.lane.HeldLock.{HeldLock}
+use Rattle.pm_world.specs.declared.lane.Span.{Span}
 
 -- how many words have some of so many bytes from a place on
 abbrev pub word_count : ℕ → ℕ → ℕ
@@ -24,3 +33,56 @@ reads place len = looks_from (place / 8) (word_count place len)
 -- the byte at a place of the pool
 abbrev pub byte_in : List ℕ → ℕ → ℕ
 byte_in words place = slice_index (bytes_of (slice_index words (place / 8) ∷ [])) (place % 8)
+
+-- every recorded word is put back, and then the records are ended
+unfoldable pub undoes : List Span → Sequence
+undoes spans = in_turn (restores spans) retires
+
+-- what the call did is taken back: where it has no records there is nothing to put back, and all is made persistent
+unfoldable pub takes_back : List Span → Sequence
+takes_back [] = settles
+takes_back (s ∷ spans) = undoes (s ∷ spans)
+
+-- an operation is told with its reply, and the call draws this number
+unfoldable pub ends_call : Operation → Option Value → ℕ → Sequence
+ends_call operation reply n = in_turn (one (Tell operation reply)) (one (Draw n))
+
+-- the call is taken back, and ends with this operation
+unfoldable pub gives_up : List Span → Operation → Option Value → ℕ → Sequence
+gives_up spans operation reply n = in_turn (takes_back spans) (ends_call operation reply n)
+
+-- the records are ended, if there are any
+unfoldable pub retires_any : List Span → Sequence
+retires_any [] = nothing
+retires_any (s ∷ spans) = retires
+
+-- the commit is told, the call draws this number, and its records are ended
+unfoldable pub decides : List Span → ℕ → Sequence
+decides spans n = in_turn (ends_call Commit None n) (retires_any spans)
+
+-- all is made persistent, and then the call is decided
+unfoldable pub commits : List Span → ℕ → Sequence
+commits spans n = in_turn settles (decides spans n)
+
+abbrev pub no_lock : HeldLock
+no_lock = record { line = 0; write = false; block = None }
+
+-- the line of a lock, by the lock's place in the lane's list
+abbrev pub line_at : List HeldLock → ℕ → ℕ
+line_at locks i = (slice_index_or locks i no_lock).line
+
+-- each lock is given back, in their order
+unfoldable pub gives : List HeldLock → Sequence
+gives locks = counted (λ i. one (Give (line_at locks i))) (length locks)
+
+-- a call that did nothing is refused: that is told, the call draws this number, and the locks are given back
+unfoldable pub refuses : List HeldLock → Operation → Refusal → ℕ → Sequence
+refuses locks operation r n = in_turn (ends_call operation (Some (Refused r)) n) (gives locks)
+
+-- the lane looks at its generation
+unfoldable pub sees_generation : Sequence
+sees_generation = by_lane (λ lane. looks (area_word lane))
+
+-- and then at how many numbers were drawn, which are so many
+unfoldable pub starts : ℕ → Sequence
+starts n = in_turn sees_generation (one (NumberSeen n))

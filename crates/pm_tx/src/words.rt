@@ -10,10 +10,10 @@ use pm_words::patch;
 use pm_world::{LawfulMem, store};
 
 /// Bytes of a word.
-const WORD_BYTES: u64 = 8;
+pub const WORD_BYTES: u64 = 8;
 
 /// How many words have some of so many bytes from a place on.
-fn count_words(place: u64, len: u64) -> u64
+pub fn count_words(place: u64, len: u64) -> u64
     requires { place + len < 2 ^ 60 }
     ensures { result ≡ word_count place len }
 {

@@ -18,3 +18,4 @@ pub mod Written
 pub mod Covering
 pub mod Lockings
 pub mod Begun
+pub mod Learned

@@ -28,6 +28,7 @@ same_call v = record {
   entries = refl;
   actions = refl;
   known = λ u e. e;
+  remembers = λ u there. there;
   seen = λ s there. there;
 }
 
@@ -45,6 +46,7 @@ same_call-then u v w first second = record {
   entries = second.entries ∙ first.entries;
   actions = second.actions ∙ first.actions;
   known = λ u e. second.known u (first.known u e);
+  remembers = λ u there. second.remembers u (first.remembers u there);
   seen = λ s there. second.seen s (first.seen s there);
 }
 
@@ -66,11 +68,12 @@ same_coursed v changes calls log = record {
   entries = refl;
   actions = refl;
   known = λ u e. e;
+  remembers = λ u there. there;
   seen = λ s there. there;
 }
 
 -- what was known is, where the list of known words grows
-still_known : (v : View) (known : List ℕ) (u : ℕ) → (list_any (λ other. eqb other u) v.known ≡ true → list_any (λ other. eqb other u) known ≡ true) → is_known v u ≡ true → is_known (record v { known = known }) u ≡ true
+pub still_known : (v : View) (known : List ℕ) (u : ℕ) → (list_any (λ other. eqb other u) v.known ≡ true → list_any (λ other. eqb other u) known ≡ true) → is_known v u ≡ true → is_known (record v { known = known }) u ≡ true
 still_known v known u more e =
     ⊎_elim (λ (here : is_in_area v.lane u ≡ true). or_left (is_in_area v.lane u) (list_any (λ other. eqb other u) known) here)
     (λ (there : list_any (λ other. eqb other u) v.known ≡ true). or_right (is_in_area v.lane u) (list_any (λ other. eqb other u) known) (more there))
@@ -80,7 +83,7 @@ still_known v known u more e =
 abbrev pub looked : View → ℕ → View
 looked v w = record v { known = cond (is_held v w) (w ∷ v.known) v.known; seen = v.seen ++ Load w (slice_index v.words w) ∷ [] }
 
-same_locks : (f : Lock → Lock) (locks : List Lock) → ((l : Lock) → Contains locks l → f l ≡ l) → map f locks ≡ locks
+pub same_locks : (f : Lock → Lock) (locks : List Lock) → ((l : Lock) → Contains locks l → f l ≡ l) → map f locks ≡ locks
 same_locks f [] same = refl
 same_locks f (l ∷ locks) same =
     ap (λ (m : Lock). m ∷ map f locks) (same l (0, omega arith, refl)) ∙ ap (λ (ms : List Lock). l ∷ ms) (same_locks f locks (λ m there. same m (Contains-append_right (l ∷ []) locks m there)))
@@ -105,11 +108,16 @@ same_looked v w = record {
   entries = refl;
   actions = refl;
   known = λ u. still_known v (cond (is_held v w) (w ∷ v.known) v.known) u (at u (is_held v w));
+  remembers = λ u. more u (is_held v w);
   seen = λ s there. Contains-append_left v.seen (Load w (slice_index v.words w) ∷ []) s there;
 } where
   at : (u : ℕ) (b : Bool) → list_any (λ other. eqb other u) v.known ≡ true → list_any (λ other. eqb other u) (cond b (w ∷ v.known) v.known) ≡ true
   at u true e = or_right (eqb w u) (list_any (λ other. eqb other u) v.known) e
   at u false e = e
+
+  more : (u : ℕ) (b : Bool) → Contains v.known u → Contains (cond b (w ∷ v.known) v.known) u
+  more u true there = Contains-append_right (w ∷ []) v.known u there
+  more u false there = there
 
 pub same_changed : (v : View) (w x : ℕ) (c : Change) (log : Log) → IsSameCall v (changed v w x c log)
 same_changed v w x c log = record {
@@ -125,6 +133,7 @@ same_changed v w x c log = record {
   entries = refl;
   actions = refl;
   known = λ u. still_known v (w ∷ v.known) u (or_right (eqb w u) (list_any (λ other. eqb other u) v.known));
+  remembers = λ u there. Contains-append_right (w ∷ []) v.known u there;
   seen = λ s there. there;
 }
 

@@ -1,12 +1,12 @@
 -- A lane at work in a transaction, on its view alone, and what the sequences of undo logging leave of a view.
-use Rattle.std.specs.Prelude.{◌≡◌, ℕ, ◌+◌, ◌*◌, ◌<◌, ◌≤◌, true, false, IsTrue, Contains, List, [], ◌∷◌, length, ◌++◌, map, slice_index, None, is_some, ◌⊎◌, All, IfSome, Some}
+use Rattle.std.specs.Prelude.{◌≡◌, ◌≢◌, ℕ, ◌+◌, ◌*◌, ◌<◌, ◌≤◌, true, false, IsTrue, Contains, List, [], ◌∷◌, length, ◌++◌, map, slice_index, None, is_some, ◌⊎◌, All, IfSome, Some}
 use Rattle.pm_image.specs.Logs.{undo_slot}
 use Rattle.pm_view.specs.declared.change.Change.{Change}
 use Rattle.pm_view.specs.Area.{area_word, is_in_area}
-use Rattle.pm_view.specs.Blocks.{allocation_word, block_at, descriptor_word, is_word}
+use Rattle.pm_view.specs.Blocks.{allocation_word, block_at, descriptor_word, is_chunk, is_word}
 use Rattle.pm_view.specs.Constants.{IsSameLane}
 use Rattle.pm_view.specs.Counts.{HasRoom, max_changes}
-use Rattle.pm_view.specs.Held.{is_known}
+use Rattle.pm_view.specs.Held.{is_held, is_known}
 use Rattle.pm_view.specs.Log.{Log, Phase, Recorded, log_drained, no_log}
 use Rattle.pm_view.specs.Log.Phase.{Open}
 use Rattle.pm_view.specs.Rights.{is_written}
@@ -24,6 +24,10 @@ pub record HasArea (v : View) : Type 0 where
   pub few : v.lane < 32
   pub inside : 512 + 1024 * (v.lane + 1) ≤ length v.words
   pub below : generation_of v < generation_limit
+
+-- the memory may be seen as a view with its area
+abbrev pub IsSeenWithArea : (View → Type 0) → Type 0
+IsSeenWithArea at = (v : View) × (at v × HasArea v)
 
 -- a word of the pool that the lane locked for writing and knows, outside of its own area
 pub record IsUserWord (v : View) (w : ℕ) : Type 0 where
@@ -53,6 +57,12 @@ pub record IsWorking (v : View) : Type 0 where
 abbrev pub TellsNoBlock : View → ℕ → Type 0
 TellsNoBlock v w = (l : Lock) → Contains v.locks l → is_word (allocation_word v.lanes v.words l.line) w ≡ false
 
+-- a word that the lane may look at whether it knows it or not: whatever is found in it, each lock has the block that it had, and each chunk
+-- is described as it was
+pub record IsPlain (v : View) (word : ℕ) : Type 0 where
+  pub quiet : TellsNoBlock v word
+  pub plain : (page : ℕ) → is_chunk v.lanes page ≡ true → word ≢ descriptor_word v.lanes page
+
 -- the view is of the same call, whatever words were changed: it holds and knows what it did
 pub record IsSameCall (v w : View) : Type 0 where
   pub lane : IsSameLane v w
@@ -67,11 +77,22 @@ pub record IsSameCall (v w : View) : Type 0 where
   pub entries : w.entries ≡ v.entries
   pub actions : w.actions ≡ v.actions
   pub known : (u : ℕ) → is_known v u ≡ true → is_known w u ≡ true
+  pub remembers : (u : ℕ) → Contains v.known u → Contains w.known u
   pub seen : (s : Step) → Contains v.seen s → Contains w.seen s
 
 -- no word outside of the lane's area changed
 abbrev pub KeepsOutside : View → View → Type 0
 KeepsOutside v w = (u : ℕ) → is_in_area v.lane u ≡ false → slice_index w.words u ≡ slice_index v.words u
+
+-- the lane looked at a word, and knows it by now where it holds it. No word that it knew has another value
+pub record HasLearned (v : View) (word : ℕ) (w : View) : Type 0 where
+  pub call : IsSameCall v w
+  pub working : IsWorking w
+  pub log : w.log ≡ v.log
+  pub changes : w.changes ≡ v.changes
+  pub same : (u : ℕ) → is_known v u ≡ true → slice_index w.words u ≡ slice_index v.words u
+  pub others : (u : ℕ) → u ≢ word → slice_index w.words u ≡ slice_index v.words u
+  pub learned : is_held v word ≡ true → is_known w word ≡ true
 
 -- the same call, with all words outside of the lane's area, and with its generation
 pub record Stays (v w : View) : Type 0 where

@@ -1,13 +1,15 @@
-ghost use Rattle.std.specs.Prelude.{◌≡◌, ℕ, ◌+◌, ◌<◌, ◌≤◌, Bool, true, Option, IsTrue, All, List, [], ◌++◌, is_some, length, map};
+ghost use Rattle.std.specs.Prelude.{◌≡◌, ℕ, ◌+◌, ◌<◌, ◌≤◌, Bool, true, Option, IsTrue, All, Contains, false, List, [], ◌++◌, is_some, length, map};
 ghost use Rattle.pm_model.specs.Bytes.{covered_words};
 ghost use Rattle.pm_objects.specs.declared.calls.Operation.{Operation};
 ghost use Rattle.pm_objects.specs.declared.history.Value.{Value};
-ghost use Rattle.pm_view.specs.Held.{is_known};
+ghost use Rattle.pm_view.specs.Area.{is_in_area};
+ghost use Rattle.pm_view.specs.Founds.{FindsKnown};
+ghost use Rattle.pm_view.specs.Held.{is_held, is_known, is_under};
 ghost use Rattle.pm_view.specs.Log.{Recorded};
 ghost use Rattle.pm_view.specs.Log.Phase.{Idle, Open, Drawn};
 ghost use Rattle.pm_view.specs.Rights.{is_written};
-ghost use Rattle.pm_view.specs.Steps.Step.{NumberSeen, TakeWrite, TakeRead, Tell};
-ghost use Rattle.pm_view.specs.View.{View};
+ghost use Rattle.pm_view.specs.Steps.Step.{Load, NumberSeen, TakeWrite, TakeRead, Tell};
+ghost use Rattle.pm_view.specs.View.{View, Lock};
 ghost use Rattle.pm_view.specs.Views.{after, after_all};
 ghost use Rattle.pm_world.specs.Lanes.{span_of};
 ghost use Rattle.pm_world.specs.Opening.{Opening, IsSound};
@@ -15,7 +17,7 @@ ghost use Rattle.pm_world.specs.Records.{AreRestored, is_recorded};
 ghost use Rattle.pm_world.specs.Sequences.{Ready, looks, makes_room, settles, stores};
 ghost use Rattle.pm_undo.specs.Sequences.{recorded_in, restores, retires, snapshots};
 ghost use Rattle.pm_undo.specs.Spans.{plan_of};
-ghost use Rattle.pm_undo.specs.Working.{CanSnapshot, FindsOpening, HasArea, HasMadeRoom, IsPutBack, IsRetired, IsSettled, IsSnapshot, IsWorking, IsWrittenWord, TellsNoBlock};
+ghost use Rattle.pm_undo.specs.Working.{CanSnapshot, FindsOpening, HasArea, HasLearned, HasMadeRoom, IsPlain, IsPutBack, IsRetired, IsSettled, IsSnapshot, IsWorking, IsWrittenWord, TellsNoBlock};
 
 /// A law: whatever is undrained may be made persistent, and then nothing is undrained. No code runs.
 pub fn all_may_be_settled()
@@ -93,4 +95,18 @@ pub fn a_lane_that_tells_stays_at_work()
 /// A law: a lane at work may look at a word that it knows and that tells of no block, and stays at work. No code runs.
 pub fn a_lane_that_looks_stays_at_work()
     ensures { (v : View) (w : ℕ) → IsWorking v → w < length v.words → is_known v w ≡ true → TellsNoBlock v w → Ready v (looks w v) × IsWorking (after_all v (looks w v)) }
+{}
+
+/// A law: a lane at work may look at a word that tells of no block, whatever is found where the lane doesn't know it, and stays at work. No
+/// code runs.
+pub fn a_lane_that_learns_stays_at_work()
+    ensures work { (v : View) (word x : ℕ) → IsWorking v → IsPlain v word → FindsKnown v word x → HasLearned v word (after v (Load word x)) }
+    ensures opening { (o : Opening) (v : View) (word x : ℕ) → FindsOpening o v → IsPlain v word → FindsOpening o (after v (Load word x)) }
+{}
+
+/// A law: a word under a lock where the view found a block tells of no block, lies in the pool outside of the lane's area, and is held. No
+/// code runs.
+pub fn words_under_locks_are_plain()
+    ensures { (o : Opening) → IsSound o → (v : View) → FindsOpening o v → (l : Lock) (w : ℕ) → Contains v.locks l → IsTrue (is_some l.block) → is_under w l ≡ true
+        → IsPlain v w × (w < length v.words) × (is_in_area v.lane w ≡ false) × (is_held v w ≡ true) }
 {}

@@ -16,11 +16,13 @@ mod snapshotting;
 
 pub use laws::{
     a_begun_call_is_at_work, a_call_given_up_may_retire, a_drawn_call_may_retire,
-    a_lane_that_looks_stays_at_work, a_lane_that_takes_locks_stays_at_work,
-    a_lane_that_tells_stays_at_work, a_settled_lane_stays_at_work, a_snapshot_covers_its_range,
-    all_may_be_settled, recorded_words_may_be_put_back, recorded_words_may_be_written,
-    room_may_be_made, words_held_for_writing_may_be_recorded, words_may_be_recorded,
+    a_lane_that_learns_stays_at_work, a_lane_that_looks_stays_at_work,
+    a_lane_that_takes_locks_stays_at_work, a_lane_that_tells_stays_at_work,
+    a_settled_lane_stays_at_work, a_snapshot_covers_its_range, all_may_be_settled,
+    recorded_words_may_be_put_back, recorded_words_may_be_written, room_may_be_made,
+    words_held_for_writing_may_be_recorded, words_may_be_recorded, words_under_locks_are_plain,
 };
+pub use plan::is_recorded;
 pub use restoring::restore;
 pub use retiring::retire;
 pub use snapshotting::snapshot;

@@ -59,7 +59,7 @@ fn has(span: Span, word: u64) -> bool
 }
 
 /// Whether one of the records has the word.
-fn is_recorded(spans: &[Span], word: u64) -> bool
+pub fn is_recorded(spans: &[Span], word: u64) -> bool
     ensures { result ≡ is_among (words_in spans.now) word }
 {
     for span in spans {

@@ -8,6 +8,7 @@ ghost use Rattle.pm_world.specs.Records.{spelled};
 ghost use Rattle.pm_world.specs.Sequences.{IsMade, IsReady, Ready, Runs, with_word};
 ghost use Rattle.pm_undo.specs.Sequences.{looks_from, stores_from, words_of_span, writes_slot, writes_record, writes_records, writes_all, logs};
 ghost use Rattle.pm_undo.specs.Spans.{IsSpan};
+ghost use Rattle.pm_undo.specs.Working.{IsSeenWithArea};
 
 use crate::places::{LINE_WORDS, area_word, slot_line};
 use pm_memory::Stopped;
@@ -145,7 +146,7 @@ fn log_in<M: LawfulMem>(mem: &mut M, slot: u64, spans: &[Span], lane: u64) -> Re
 
 /// Writes the records of some spans behind so many that there are, and drains them.
 pub fn log<M: LawfulMem>(mem: &mut M, slot: u64, spans: &[Span]) -> Result<(), Stopped>
-    requires lane { (v : View) → M.at mem.old v → v.lane < 32 }
+    requires area { IsSeenWithArea (M.at mem.old) }
     requires slots { slot + length spans.now ≤ 64 }
     requires spans { All IsSpan spans.now }
     requires ready { IsReady (M.at mem.old) (logs slot spans.now) }

@@ -1,9 +1,9 @@
 ghost use Rattle.std.specs.Prelude.{◌≡◌, ◌+◌, ◌<◌, ◌≤◌, ◌^◌, length};
 ghost use Rattle.std.specs.List.{All};
-ghost use Rattle.pm_view.specs.View.{View};
 ghost use Rattle.pm_world.specs.Sequences.{IsReady, Runs};
 ghost use Rattle.pm_undo.specs.Sequences.{puts_back, restores_word, restores_record, restores_all, restores};
 ghost use Rattle.pm_undo.specs.Spans.{IsSpan};
+ghost use Rattle.pm_undo.specs.Working.{IsSeenWithArea};
 
 use crate::places::{LINE_WORDS, slot_line};
 use pm_memory::Stopped;
@@ -79,7 +79,7 @@ fn restore_all<M: LawfulMem>(mem: &mut M, lane: u64, spans: &[Span]) -> Result<(
 
 /// Makes every recorded word what it was, and all of that persistent.
 fn restore_spans<M: LawfulMem>(mem: &mut M, spans: &[Span]) -> Result<(), Stopped>
-    requires lane { (v : View) → M.at mem.old v → v.lane < 32 }
+    requires area { IsSeenWithArea (M.at mem.old) }
     requires slots { length spans.now ≤ 64 }
     requires spans { All IsSpan spans.now }
     requires ready { IsReady (M.at mem.old) (restores spans.now) }
@@ -92,7 +92,7 @@ fn restore_spans<M: LawfulMem>(mem: &mut M, spans: &[Span]) -> Result<(), Stoppe
 /// Puts every recorded word back to what it was when it was recorded, in the order of the records, and makes that persistent. The records
 /// stay until they are retired. Makes exactly the memory calls of `restores`, or the first of them up to the lane's stop.
 pub fn restore<M: LawfulMem>(lane: &mut Lane<M>) -> Result<(), Stopped>
-    requires lane { (v : View) → M.at lane.old.memory v → v.lane < 32 }
+    requires area { IsSeenWithArea (M.at lane.old.memory) }
     requires spans { All IsSpan lane.old.records.items }
     requires ready { IsReady (M.at lane.old.memory) (restores lane.old.records.items) }
     ensures ran { Runs (M.at lane.old.memory) (M.at lane.new.memory) (restores lane.old.records.items) result }

@@ -1,10 +1,10 @@
-ghost use Rattle.std.specs.Prelude.{◌≡◌, ◌+◌, ◌<◌, ◌^◌, [], slice_index, OnOk};
+ghost use Rattle.std.specs.Prelude.{◌≡◌, ◌+◌, ◌<◌, ◌^◌, [], OnOk};
 ghost use Rattle.pm_view.specs.Area.{area_word};
 ghost use Rattle.pm_view.specs.Steps.Step.{Flush, Drain};
 ghost use Rattle.pm_view.specs.View.{View};
-ghost use Rattle.pm_world.specs.Records.{generation_of};
 ghost use Rattle.pm_world.specs.Sequences.{IsReady, Runs, one, with_word};
 ghost use Rattle.pm_undo.specs.Sequences.{ends_generation, persists, retires};
+ghost use Rattle.pm_undo.specs.Working.{HasArea, IsSeenWithArea};
 
 use crate::places::{LINE_WORDS, area_word};
 use pm_memory::Stopped;
@@ -44,7 +44,7 @@ fn end_generation<M: LawfulMem>(mem: &mut M, lane: u64, generation: u64) -> Resu
 /// Ends this lane's generation.
 fn retire_lane<M: LawfulMem>(mem: &mut M, lane: u64) -> Result<(), Stopped>
     requires lane { lane < 32 }
-    requires more { (v : View) → M.at mem.old v → slice_index v.words (area_word lane) + 1 < 2 ^ 64 }
+    requires area { (v : View) × (M.at mem.old v × (HasArea v × (lane ≡ v.lane))) }
     requires ready { IsReady (M.at mem.old) (with_word (area_word lane) (ends_generation lane)) }
     ensures { Runs (M.at mem.old) (M.at mem.new) (with_word (area_word lane) (ends_generation lane)) result }
 {
@@ -54,8 +54,7 @@ fn retire_lane<M: LawfulMem>(mem: &mut M, lane: u64) -> Result<(), Stopped>
 
 /// Ends the lane's generation.
 fn retire_generation<M: LawfulMem>(mem: &mut M) -> Result<(), Stopped>
-    requires lane { (v : View) → M.at mem.old v → v.lane < 32 }
-    requires more { (v : View) → M.at mem.old v → generation_of v + 1 < 2 ^ 64 }
+    requires area { IsSeenWithArea (M.at mem.old) }
     requires ready { IsReady (M.at mem.old) retires }
     ensures { Runs (M.at mem.old) (M.at mem.new) retires result }
 {
@@ -66,12 +65,11 @@ fn retire_generation<M: LawfulMem>(mem: &mut M) -> Result<(), Stopped>
 /// Ends the records of the lane's generation: the next generation is stored and made persistent, so that no recovery puts a word back any
 /// more. Makes exactly the memory calls of `retires`, or the first of them up to the lane's stop.
 pub fn retire<M: LawfulMem>(lane: &mut Lane<M>) -> Result<(), Stopped>
-    requires lane { (v : View) → M.at lane.old.memory v → v.lane < 32 }
-    requires more { (v : View) → M.at lane.old.memory v → generation_of v + 1 < 2 ^ 64 }
+    requires area { IsSeenWithArea (M.at lane.old.memory) }
     requires ready { IsReady (M.at lane.old.memory) retires }
     ensures ran { Runs (M.at lane.old.memory) (M.at lane.new.memory) retires result }
     ensures none { OnOk result (lane.new.records.items ≡ []) }
-    ensures else_same { OnOk result (lane.new ≡ record lane.old { memory = lane.new.memory; records = lane.new.records }) }
+    ensures else_same { lane.new ≡ record lane.old { memory = lane.new.memory; records = lane.new.records } }
 {
     retire_generation(&mut lane.memory)?;
     lane.records.clear();

@@ -2,10 +2,10 @@ ghost use Rattle.std.specs.Prelude.{◌≡◌, ◌+◌, ◌^◌, ◌<◌, ◌≤
 ghost use Rattle.std.specs.List.{All};
 ghost use Rattle.pm_model.specs.Bytes.{covered_words, new_words};
 ghost use Rattle.pm_objects.specs.declared.refusal.Refusal.TheVariants as refusal;
-ghost use Rattle.pm_view.specs.View.{View};
 ghost use Rattle.pm_world.specs.Sequences.{IsMade, IsReady, IsStopped, Runs};
 ghost use Rattle.pm_undo.specs.Sequences.{logs_any, snapshots};
 ghost use Rattle.pm_undo.specs.Spans.{IsSpan, plan_of, words_in};
+ghost use Rattle.pm_undo.specs.Working.{IsSeenWithArea};
 
 use crate::plan::plan;
 use crate::record::log;
@@ -16,7 +16,7 @@ use pm_world::{Lane, LawfulMem, Span};
 
 /// Writes the records of some spans, if there are any, behind so many that there are.
 fn log_any<M: LawfulMem>(mem: &mut M, slot: u64, spans: &[Span]) -> Result<(), Stopped>
-    requires lane { (v : View) → M.at mem.old v → v.lane < 32 }
+    requires area { IsSeenWithArea (M.at mem.old) }
     requires slots { slot + length spans.now ≤ 64 }
     requires spans { All IsSpan spans.now }
     requires ready { IsReady (M.at mem.old) (logs_any slot spans.now) }
@@ -34,12 +34,13 @@ fn log_any<M: LawfulMem>(mem: &mut M, slot: u64, spans: &[Span]) -> Result<(), S
 /// `Stopped` where the lane came to its stop, the first of the calls being made.
 pub fn snapshot<M: LawfulMem>(lane: &mut Lane<M>, place: u64, len: u64) -> Result<u64, Refusal>
     requires range { place + len < 2 ^ 60 }
-    requires lane { (v : View) → M.at lane.old.memory v → v.lane < 32 }
+    requires area { IsSeenWithArea (M.at lane.old.memory) }
     requires ready { length lane.old.records.items + length (plan_of lane.old.records.items place len) ≤ 64
         → IsReady (M.at lane.old.memory) (snapshots lane.old.records.items place len) }
     ensures made { OnOk result (IsMade (M.at lane.old.memory) (M.at lane.new.memory) (snapshots lane.old.records.items place len)) }
     ensures words { IfOk result (λ count. count ≡ length (new_words (words_in lane.old.records.items) (covered_words place len))) }
     ensures recorded { OnOk result (lane.new.records.items ≡ lane.old.records.items ++ plan_of lane.old.records.items place len) }
+    ensures room { OnOk result (length lane.old.records.items + length (plan_of lane.old.records.items place len) ≤ 64) }
     ensures full { result ≡ Err refusal.LogFull → 64 < length lane.old.records.items + length (plan_of lane.old.records.items place len) }
     ensures unchanged { result ≡ Err refusal.LogFull → lane.new ≡ lane.old }
     ensures stopped { result ≡ Err refusal.Stopped → IsStopped (M.at lane.old.memory) (M.at lane.new.memory) (snapshots lane.old.records.items place len) }

@@ -108,7 +108,7 @@ module _ (o : Opening) (mem : Memory) (views : Views) (log : List Entry) (decide
         let w : IsWhole (views k) image slot = whole k slot u inside within written valid in
         record {
           held = w.held;
-          was = ⊎_elim (λ (at : IsRecordAt (views k) slot w.held). record_settled k slot w.held inside at) (λ (can : CanRecord (views k) w.held). making_settled k w.held inside can) w.lawful;
+          was = ⊎_elim (λ (at : IsRecordAt (views k) slot w.held). record_settled k slot w.held inside at) (λ (can : (length (views k).log.records ≤ slot) × CanRecord (views k) w.held). making_settled k w.held inside can.1) w.lawful;
           spells = ap (λ j. undo_slot image j slot) (sym (x.each_lane k inside).lane.lane) ∙ w.spells;
         }
 

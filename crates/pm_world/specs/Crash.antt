@@ -41,10 +41,10 @@ pub record Survives (o : Opening) (mem : Memory) (views : Views) (image : List �
 abbrev pub IsBeingWritten : View → ℕ → Type 0
 IsBeingWritten v slot = (is_drained_slot v slot ≡ false) ⊎ ((length v.log.records ≤ slot) × (slot < used_slots v.log.phase v))
 
--- the slot holds, whole, the log's record of this slot, or one that could be written there now
+-- the slot holds, whole, the log's record of this slot, or, where the log has none there yet, one that could be written there now
 pub record IsWhole (v : View) (image : List ℕ) (slot : ℕ) : Type 0 where
   pub held : Recorded
-  pub lawful : IsRecordAt v slot held ⊎ CanRecord v held
+  pub lawful : IsRecordAt v slot held ⊎ ((length v.log.records ≤ slot) × CanRecord v held)
   pub spells : undo_slot image v.lane slot ≡ spelled (records_generation v.log.phase v) held
 
 -- no torn record's sum matches by chance: where a slot that is being written is valid in the image, it is whole

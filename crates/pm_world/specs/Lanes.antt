@@ -23,6 +23,7 @@ last_number_of (e ∷ d ∷ entries) = last_number_of (d ∷ entries)
 -- the lane may be seen as the view, where its memory may be
 pub record IsSeenAs {M : Type 0} (at : M → View → Type 0) (lane : Lane M) (v : View) : Type 0 where
   pub memory : at lane.memory v
+  pub pool : v.pool ≡ lane.pool
   pub locks : map lock_of lane.locks.items ≡ v.locks
   pub records : lane.records.items ≡ map span_of v.log.records
   pub drawn : ForSome lane.drawn (λ number. v.number ≡ Some number)

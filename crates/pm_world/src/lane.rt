@@ -4,6 +4,7 @@ ghost use Rattle.pm_world.specs.Lanes.{IsIdle, IsSeenAs};
 
 use crate::LawfulMem;
 use arrayvec::ArrayVec;
+use pm_objects::TxErr;
 
 /// Locks of lines that a lane holds at most.
 pub const MAX_LOCKS: usize = 64;
@@ -45,6 +46,8 @@ pub enum Stage {
 #[derive(Drop)]
 pub struct Lane<M> {
     pub memory: M,
+    /// The pool's id.
+    pub pool: u64,
     /// The locks that it holds, in the order in which it took them.
     pub locks: ArrayVec<HeldLock, 64>,
     /// The undo records of its generation, in the order of their slots.
@@ -52,6 +55,8 @@ pub struct Lane<M> {
     /// The transaction's level, 0 to 64, and its stage.
     pub level: u64,
     pub stage: Stage,
+    /// Why the transaction was aborted, if it was: pmemobj_tx_errno.
+    pub error: TxErr,
     /// The number that its open call drew, and the last number that any call of it drew; 0 for none.
     pub drawn: Option<u64>,
     pub last: u64,
@@ -60,16 +65,18 @@ pub struct Lane<M> {
 }
 
 impl<M: LawfulMem> Lane<M> {
-    /// A lane over its memory, before its first call.
-    pub fn new(memory: M) -> Lane<M>
-        ensures { (v : View) → M.at memory v → v.locks ≡ [] → v.log.records ≡ [] → v.entries ≡ [] → IsSeenAs M.at result v × IsIdle result }
+    /// A lane over its memory of the pool with this id, before its first call.
+    pub fn new(memory: M, pool: u64) -> Lane<M>
+        ensures { (v : View) → M.at memory v → v.pool ≡ pool → v.locks ≡ [] → v.log.records ≡ [] → v.entries ≡ [] → IsSeenAs M.at result v × IsIdle result }
     {
         Lane {
             memory,
+            pool,
             locks: ArrayVec::new(),
             records: ArrayVec::new(),
             level: 0,
             stage: Stage::None,
+            error: TxErr::None,
             drawn: None,
             last: 0,
             stopped: false,

@@ -1,4 +1,6 @@
-ghost use Rattle.std.specs.Prelude.{ℕ};
+ghost use Rattle.std.specs.Prelude.{ℕ, Some, None, length};
+ghost use Rattle.pm_objects.specs.declared.calls.Operation.TheVariants.{Read, Write};
+ghost use Rattle.pm_objects.specs.declared.history.Value.TheVariants.{Bytes};
 ghost use Rattle.std.specs.Option.{option_copied};
 ghost use Rattle.pm_memory.specs.Runs.{Made};
 ghost use Rattle.pm_view.specs.Steps.{Step};
@@ -7,7 +9,7 @@ ghost use Rattle.pm_view.specs.View.{View};
 ghost use Rattle.pm_world.specs.Lawful.{Allowed};
 
 use pm_memory::LaneSync;
-use pm_objects::{Operation, Value};
+use pm_objects::{Oid, Operation, Value};
 
 /// A lane's memory that asks no more of a step than that it is lawful.
 pub trait LawfulMem: LaneSync {
@@ -15,6 +17,16 @@ pub trait LawfulMem: LaneSync {
     fn tell(&mut self, operation: &Operation, reply: Option<&Value>)
         requires { Self.can self.old (Tell operation.now (option_copied reply)) }
         ensures { Made (Self.at self.old) (Self.at self.new) (Tell operation.now (option_copied reply.entry)) };
+
+    /// Tells a write that was done, its bytes being lent: an operation has bytes of its own, and a lane takes no memory.
+    fn tell_write(&mut self, id: Oid, off: u64, bytes: &[u8])
+        requires { Self.can self.old (Tell (Write id off bytes.now) None) }
+        ensures { Made (Self.at self.old) (Self.at self.new) (Tell (Write id off bytes.now) None) };
+
+    /// Tells a read that was done, with the bytes that it replied, likewise.
+    fn tell_read(&mut self, id: Oid, off: u64, bytes: &[u8])
+        requires { Self.can self.old (Tell (Read id off (length bytes.now)) (Some (Bytes bytes.now))) }
+        ensures { Made (Self.at self.old) (Self.at self.new) (Tell (Read id off (length bytes.now)) (Some (Bytes bytes.now))) };
 
     /// A step that a lane's view allows is one that the memory takes.
     ghost meets: { (m : Self) (v : View) (s : Step) → Self.at m v → Allowed v s → Self.can m s };

@@ -1,13 +1,13 @@
 use super::*;
 use pm_memory::{LaneSync, SoloMem};
-use pm_objects::Operation;
+use pm_objects::{Oid, Operation};
 use std::alloc::Global;
 use std::test::Fail;
 
 /// Lane 0 over 1536 words of 0.
 fn fresh(alloc: Global) -> Result<Lane<SoloMem>, Fail> {
     let words = vec![in alloc; 0; 1536]?;
-    Ok(Lane::new(SoloMem::new(alloc, words, Some(2))?))
+    Ok(Lane::new(SoloMem::new(alloc, words, Some(2))?, 7))
 }
 
 /// A fresh lane is idle, and no longer once a call of it has drawn or a transaction is open.
@@ -35,6 +35,8 @@ fn lanes(rt: HostRuntime) -> Result<(), Fail> {
 fn tells(rt: HostRuntime) -> Result<(), Fail> {
     let mut lane = fresh(rt.alloc())?;
     lane.memory.tell(&Operation::Publish, None);
+    lane.memory.tell_write(Oid::NULL, 0, &[1, 2]);
+    lane.memory.tell_read(Oid::NULL, 0, &[1, 2]);
     assert_eq!(rt; [lane.memory.number_seen(), lane.calls()], [0, 0]);
     Ok(())
 }

@@ -1,13 +1,11 @@
-use Rattle.std.proofs.Common.{◌≡◌, ◌+◌, ◌-◌, ◌*◌, ◌/◌, ◌%◌, ◌<◌, ◌≤◌, ◌⊎◌, ⊎_elim, [], ◌∷◌, List, ℕ, length, slice_index, refl, ap, sym, ◌∙◌, subst, arith, rules}
+use Rattle.std.proofs.Common.{◌≡◌, ◌+◌, ◌*◌, ◌/◌, ◌<◌, ◌≤◌, ⊎_elim, ℕ, length, slice_index, refl, sym, ◌∙◌, subst, arith, rules}
 use Rattle.std.proofs.lemmas.Bool.{cases_lt}
 use Rattle.pm_view.specs.Steps.Step.{Load}
-use Rattle.pm_view.specs.View.{View}
-use Rattle.pm_words.specs.Words.{bytes_of}
-use Rattle.pm_world.specs.Sequences.{Sequence, IsMade, IsReady, Ready, looks}
+use Rattle.pm_world.specs.Sequences.{IsMade, looks}
 use Rattle.pm_world.proofs.Sequencing.{counted_none, counted_next, counted_more, runs_look, allowed_look}
 use Rattle.pm_undo.specs.Sequences.{looks_from}
 use Rattle.pm_undo.proofs.Looking.{all_looks, look_found}
-use Rattle.pm_tx.specs.Sequences.{byte_in, reads, word_count}
+use Rattle.pm_tx.specs.Sequences.{reads, word_count}
 use Rattle.pm_tx.proofs.Parts.{byte_of_word, counts_all}
 use Rattle.pm_tx.proofs.words.read_words.Goals as goal
 

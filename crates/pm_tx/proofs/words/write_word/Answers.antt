@@ -1,7 +1,7 @@
 use Rattle.std.proofs.Common.{sym, subst}
 use Rattle.pm_crash.specs.Writes.{written_word}
 use Rattle.pm_view.specs.Steps.Step.{Load}
-use Rattle.pm_world.specs.Sequences.{IsReady, Runs, stores, with_word}
+use Rattle.pm_world.specs.Sequences.{IsReady, Runs, stores}
 use Rattle.pm_world.proofs.Sequencing.{word_allowed, word_ready, word_runs}
 use Rattle.pm_tx.specs.Sequences.{writes_word}
 use Rattle.pm_tx.proofs.words.write_word.Goals as goal

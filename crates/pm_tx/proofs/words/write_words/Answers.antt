@@ -1,6 +1,6 @@
-use Rattle.std.proofs.Common.{◌≡◌, ◌+◌, ◌/◌, ◌<◌, length, arith, rules, subst, ◌∙◌, Ok}
+use Rattle.std.proofs.Common.{◌≡◌, ◌+◌, ◌/◌, ◌<◌, length, rules, subst, ◌∙◌, Ok}
 use Rattle.pm_world.proofs.Sequencing.{counted_none, counted_next, counted_more, counted_err}
-use Rattle.pm_world.specs.Sequences.{Sequence, Runs, counted}
+use Rattle.pm_world.specs.Sequences.{Runs, counted}
 use Rattle.pm_tx.specs.Sequences.{word_count, writes_word, writes}
 use Rattle.pm_tx.proofs.words.write_words.Goals as goal
 

@@ -1,11 +1,12 @@
-use Rattle.pm_world.proofs.Sequencing.{lane_ready, lane_runs, lane_below}
+use Rattle.std.proofs.Common.{sym, subst, ◌<◌}
+use Rattle.pm_world.proofs.Sequencing.{lane_ready, lane_runs}
 use Rattle.pm_view.specs.Area.{area_word}
 use Rattle.pm_world.specs.Sequences.{with_word}
 use Rattle.pm_undo.specs.Sequences.{writes_all, with_generation, logs}
 use Rattle.pm_undo.proofs.record.log.Goals as goal
 
 pub log_in-requires-clause-lane : goal.log_in-requires-clause-lane
-log_in-requires-clause-lane g c = lane_below (g.M.LaneMem.at c.args.mem.now) c.lane-lane.result (logs c.args.slot c.args.spans.now) c.lane-lane.ensures c.requires.lane c.requires.ready
+log_in-requires-clause-lane g c = let seen = c.requires.area in subst (λ k. k < 32) (sym (c.lane-lane.ensures seen.0 seen.1.0)) seen.1.1.few
 
 pub log_in-requires-clause-ready : goal.log_in-requires-clause-ready
 unfolding logs with_generation

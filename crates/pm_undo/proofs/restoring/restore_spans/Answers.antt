@@ -1,9 +1,10 @@
-use Rattle.pm_world.proofs.Sequencing.{lane_ready, lane_runs, lane_below}
+use Rattle.std.proofs.Common.{sym, subst, ◌<◌}
+use Rattle.pm_world.proofs.Sequencing.{lane_ready, lane_runs}
 use Rattle.pm_undo.specs.Sequences.{restores_all, restores}
 use Rattle.pm_undo.proofs.restoring.restore_spans.Goals as goal
 
 pub restore_all-requires-clause-lane : goal.restore_all-requires-clause-lane
-restore_all-requires-clause-lane g c = lane_below (g.M.LaneMem.at c.args.mem.now) c.lane-lane.result (restores c.args.spans.now) c.lane-lane.ensures c.requires.lane c.requires.ready
+restore_all-requires-clause-lane g c = let seen = c.requires.area in subst (λ k. k < 32) (sym (c.lane-lane.ensures seen.0 seen.1.0)) seen.1.1.few
 
 pub restore_all-requires-clause-ready : goal.restore_all-requires-clause-ready
 unfolding restores

@@ -1,12 +1,12 @@
-use Rattle.pm_world.proofs.Sequencing.{lane_ready, lane_runs, lane_below}
-use Rattle.std.proofs.Common.{sym, subst, ◌+◌, ◌<◌, ◌^◌, slice_index}
+use Rattle.std.proofs.Common.{sym, subst, ◌<◌}
+use Rattle.pm_world.proofs.Sequencing.{lane_ready, lane_runs}
 use Rattle.pm_view.specs.Area.{area_word}
 use Rattle.pm_world.specs.Sequences.{with_word}
 use Rattle.pm_undo.specs.Sequences.{ends_generation, with_generation, retires}
 use Rattle.pm_undo.proofs.retiring.retire_generation.Goals as goal
 
 pub retire_lane-requires-clause-lane : goal.retire_lane-requires-clause-lane
-retire_lane-requires-clause-lane g c = lane_below (g.M.LaneMem.at c.args.mem.now) c.lane-lane.result retires c.lane-lane.ensures c.requires.lane c.requires.ready
+retire_lane-requires-clause-lane g c = let seen = c.requires.area in subst (λ k. k < 32) (sym (c.lane-lane.ensures seen.0 seen.1.0)) seen.1.1.few
 
 pub retire_lane-requires-clause-ready : goal.retire_lane-requires-clause-ready
 unfolding retires with_generation
@@ -16,5 +16,5 @@ pub returns : goal.returns
 unfolding retires with_generation
 returns g c = lane_runs (g.M.LaneMem.at c.args.mem.now) c.lane-lane.result c.lane-lane.ensures (λ lane. with_word (area_word lane) (ends_generation lane)) (g.M.LaneMem.at c.retire_lane.new.mem) c.retire_lane.result c.retire_lane.ensures
 
-pub retire_lane-requires-clause-more : goal.retire_lane-requires-clause-more
-retire_lane-requires-clause-more g c v seen = subst (λ k. slice_index v.words (area_word k) + 1 < 2 ^ 64) (sym (c.lane-lane.ensures v seen)) (c.requires.more v seen)
+pub retire_lane-requires-clause-area : goal.retire_lane-requires-clause-area
+retire_lane-requires-clause-area g c = let seen = c.requires.area in (seen.0, (seen.1.0, (seen.1.1, c.lane-lane.ensures seen.0 seen.1.0)))

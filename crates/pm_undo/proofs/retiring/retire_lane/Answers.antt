@@ -1,8 +1,14 @@
-use Rattle.std.proofs.Common.{sym, ap, ◌∙◌, subst, ◌+◌, ◌<◌, ◌^◌, slice_index}
+use Rattle.std.proofs.Common.{◌≡◌, sym, ap, ◌∙◌, subst, true, eqb, slice_index, arith}
+use Rattle.std.specs.List.{list_any}
+use Rattle.std.proofs.lemmas.Bool.{or_left}
+use Rattle.pm_view.specs.Area.{area_word, is_in_area}
+use Rattle.pm_view.specs.Held.{is_known}
 use Rattle.pm_view.specs.Steps.Step.{Load}
+use Rattle.pm_view.specs.View.{View}
 use Rattle.pm_world.specs.Sequences.{IsReady, Runs, with_word}
-use Rattle.pm_world.proofs.Sequencing.{word_allowed, word_found, word_ready, word_runs}
+use Rattle.pm_world.proofs.Sequencing.{word_allowed, word_ready, word_runs}
 use Rattle.pm_undo.specs.Sequences.{ends_generation}
+use Rattle.pm_undo.proofs.Areas.{generation_in_area}
 use Rattle.pm_undo.proofs.retiring.retire_lane.Goals as goal
 
 pub load-generation-requires : goal.load-generation-requires
@@ -22,10 +28,11 @@ returns g c =
 
 pub end_generation-requires-clause-more : goal.end_generation-requires-clause-more
 end_generation-requires-clause-more g c =
-    let old = g.M.LaneMem.at c.args.mem.now in
-    let steps = ends_generation c.args.lane in
-    let r = word_found old c.area_word.result steps (g.M.LaneMem.at c.load-generation.new.self) c.load-generation.result c.load-generation.ensures
-    (subst (λ w. IsReady old (with_word w steps)) (sym c.area_word.ensures) c.requires.ready) in
-    let is = r.1.1 in
-    let at = c.area_word.ensures in
-    subst (λ x. x + 1 < 2 ^ 64) (sym (is ∙ ap (slice_index r.0.words) at)) (c.requires.more r.0 r.1.0)
+    let seen = c.requires.area in
+    let v : View = seen.0 in
+    let word : c.area_word.result ≡ area_word v.lane = c.area_word.ensures ∙ ap area_word seen.1.1.1 in
+    let known : is_known v c.area_word.result ≡ true = subst (λ w. is_known v w ≡ true) (sym word) (or_left (is_in_area v.lane (area_word v.lane)) (list_any (λ other. eqb other (area_word v.lane)) v.known) (generation_in_area v.lane)) in
+    let is = (c.load-generation.ensures v seen.1.0).1 known in
+    let below = seen.1.1.0.below in
+    let same : c.load-generation.result ≡ slice_index v.words (area_word v.lane) = is ∙ ap (slice_index v.words) word in
+    omega (arith, below, same)

@@ -52,3 +52,9 @@ returns-in-Err-clause-stopped g c e =
       subst (λ slot. Runs {T = Unit {0}} (g.M.LaneMem.at c.args.lane.now.memory) (g.M.LaneMem.at c.log_any.new.mem) (logs_any slot (plan_of c.args.lane.now.records.items c.args.place c.args.len)) (Err c.in-Err.field-0)) c.len-slot.ensures.value
           (subst (λ (spans : List Span). Runs {T = Unit {0}} (g.M.LaneMem.at c.args.lane.now.memory) (g.M.LaneMem.at c.log_any.new.mem) (logs_any c.len-slot.result spans) (Err c.in-Err.field-0)) is c.in-Err.ensures),
     )
+
+pub returns-in-Ok-clause-room : goal.returns-in-Ok-clause-room
+returns-in-Ok-clause-room g c =
+    let is : c.as_slice-2.result.now ≡ plan_of c.args.lane.now.records.items c.args.place c.args.len =
+    c.as_slice-2.ensures.value ∙ (c.in-Some.ensures.some ∙ ap (λ (spans : List Span). plan_of spans c.args.place c.args.len) c.as_slice.ensures.value) in
+    let room = c.in-Some.ensures.room in let a = ap length c.as_slice.ensures.value in let b = ap length is in let d = ap length c.as_slice-2.ensures.value in omega (arith, room, a, b, d)

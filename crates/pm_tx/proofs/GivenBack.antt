@@ -1,0 +1,159 @@
+-- A lane whose call is over may give its locks back.
+use Rattle.std.proofs.Common.{◌≡◌, ℕ, inl, zero, suc, ◌+◌, ◌/◌, ◌<◌, All, Contains, None, false, not, eqb, List, [], ◌∷◌, map, drop, get_or, length, Ok, refl, sym, ap, ◌∙◌, subst, arith, eq-eqb, ne_eqb}
+use Rattle.std.specs.List.{AllByRecursion, IsDistinct, filter}
+use Rattle.std.specs.Prelude.{nat_eq}
+use Rattle.std.proofs.lemmas.Bool.{cond-false, cond-true, eqb-false, or_left}
+use Rattle.std.proofs.lemmas.List.{drop_all, drop_more, length-map}
+use Rattle.std.proofs.Math.ListN.{get_or-map}
+use Rattle.std.proofs.lemmas.Option.{none-some}
+use Rattle.std.proofs.lemmas.List.Elements.{All-contains_itself, All-get_or, All-nil, All-weaker}
+use Rattle.pm_objects.specs.declared.history.TxErr.TheVariants as error
+use Rattle.pm_view.specs.declared.change.Change.{Change}
+use Rattle.pm_view.specs.Held.{is_under}
+use Rattle.pm_view.specs.Log.{Log, no_log}
+use Rattle.pm_view.specs.Log.Phase.{Idle}
+use Rattle.pm_memory.specs.Runs.{Made}
+use Rattle.pm_view.specs.Steps.{Step}
+use Rattle.pm_view.specs.Steps.Step.{Give}
+use Rattle.pm_view.specs.View.{View, Lock}
+use Rattle.pm_view.specs.Views.{after, after_all}
+use Rattle.pm_world.proofs.Going.{goes_counted, goes_one}
+use Rattle.pm_world.specs.Lanes.{last_number_of, lock_of, span_of}
+use Rattle.pm_world.specs.Lawful.{GiveFits, MayGive, is_holder}
+use Rattle.pm_world.specs.Sequences.{IsMade, IsReady, Ready, Runs, one}
+use Rattle.pm_world.specs.declared.lane.HeldLock.{HeldLock}
+use Rattle.pm_world.specs.declared.lane.Lane.{Lane}
+use Rattle.pm_tx.specs.AtWork.{HoldsLines}
+use Rattle.pm_tx.specs.Ending.{IsAfterCall, IsClosedBy}
+use Rattle.pm_tx.specs.Resting.{HasPlace}
+use Rattle.pm_tx.specs.Sequences.{gives, line_at, no_lock}
+
+abbrev lines_of : List HeldLock → List ℕ
+lines_of locks = map (λ (l : Lock). l.line) (map lock_of locks)
+
+-- what is left of distinct lines is
+distinct_drop : (k : ℕ) (locks : List HeldLock) → IsDistinct nat_eq (lines_of locks) → IsDistinct nat_eq (lines_of (drop k locks))
+unfolding IsDistinct
+distinct_drop zero locks once = once
+distinct_drop (suc k) [] once = tt
+distinct_drop (suc k) (h ∷ locks) once = distinct_drop k locks once.1
+
+-- no lock of other lines goes
+others_stay : (line : ℕ) (locks : List HeldLock) → AllByRecursion (λ other. nat_eq line other ≡ false) (lines_of locks) → filter (λ (l : Lock). not (eqb l.line line)) (map lock_of locks) ≡ map lock_of locks
+others_stay line [] apart = refl
+others_stay line (h ∷ locks) apart =
+    cond-true (not (eqb h.line line)) (lock_of h ∷ filter (λ (l : Lock). not (eqb l.line line)) (map lock_of locks)) (filter (λ (l : Lock). not (eqb l.line line)) (map lock_of locks))
+    (ap not (ne_eqb h.line line (λ same. eqb-false line h.line apart.0 (sym same))))
+    ∙ ap (λ (rest : List Lock). lock_of h ∷ rest) (others_stay line locks apart.1)
+
+-- the lock of the line goes
+first_goes : (h : HeldLock) (locks : List HeldLock) → IsDistinct nat_eq (lines_of (h ∷ locks)) → filter (λ (l : Lock). not (eqb l.line h.line)) (map lock_of (h ∷ locks)) ≡ map lock_of locks
+unfolding IsDistinct
+first_goes h locks once =
+    cond-false (not (eqb h.line h.line)) (lock_of h ∷ filter (λ (l : Lock). not (eqb l.line h.line)) (map lock_of locks)) (filter (λ (l : Lock). not (eqb l.line h.line)) (map lock_of locks))
+    (ap not (eq-eqb h.line h.line refl))
+    ∙ others_stay h.line locks once.0
+
+module _ (v : View) (locks : List HeldLock) (seen : map lock_of locks ≡ v.locks) (idle : v.log ≡ no_log Idle) (drained : v.changes ≡ []) (lines : HoldsLines v) where
+  -- the first so many are given back
+  abbrev AreGiven : ℕ → View → Type 0
+  AreGiven k w = w ≡ record v { locks = map lock_of (drop k locks); known = w.known }
+
+  once : IsDistinct nat_eq (lines_of locks)
+  once = subst (λ (held : List Lock). IsDistinct nat_eq (map (λ (l : Lock). l.line) held)) (sym seen) lines.once
+
+  module _ (k : ℕ) (low : k < length locks) (w : View) (is : AreGiven k w) where
+    abbrev h : HeldLock
+    h = get_or locks k no_lock
+
+    left : drop k locks ≡ h ∷ drop (k + 1) locks
+    left = drop_more locks k no_lock low
+
+    held : w.locks ≡ lock_of h ∷ map lock_of (drop (k + 1) locks)
+    held = ap (λ (u : View). u.locks) is ∙ ap (map lock_of) left
+
+    inside : h.line < length w.words / 8
+    inside =
+        let all : All (λ (l : Lock). l.line < length v.words / 8) (map lock_of locks) = subst (All (λ (l : Lock). l.line < length v.words / 8)) (sym seen) lines.inside in
+        subst (λ (u : View). h.line < length u.words / 8) (sym is) (within locks k low all) where
+          within : (held : List HeldLock) (i : ℕ) → i < length held → All (λ (l : Lock). l.line < length v.words / 8) (map lock_of held) → (get_or held i no_lock).line < length v.words / 8
+          within held i low all = subst (λ (l : Lock). l.line < length v.words / 8) (get_or-map lock_of held i no_lock) (All-get_or (λ (l : Lock). l.line < length v.words / 8) (map lock_of held) i (lock_of no_lock) (let n = length-map held lock_of in omega (arith, n, low)) all)
+
+    may_give : MayGive w h.line
+    may_give = record {
+      inside = inside;
+      held = ap (λ (locks : List Lock). is_holder locks h.line) held ∙ or_left (eqb h.line h.line) (is_holder (map lock_of (drop (k + 1) locks)) h.line) (eq-eqb h.line h.line refl);
+      fits = All-weaker (Contains w.locks) (λ (l : Lock). l.line ≡ h.line → GiveFits w l w.log.phase)
+          (λ l there same. subst (λ (log : Log). GiveFits w l log.phase) (sym (ap (λ (u : View). u.log) is ∙ idle))
+          (subst (All (λ (c : Change). is_under c.word l ≡ false)) (sym (ap (λ (u : View). u.changes) is ∙ drained)) (All-nil (λ (c : Change). is_under c.word l ≡ false))))
+          w.locks (All-contains_itself w.locks);
+    }
+
+    given : AreGiven (k + 1) (after w (Give h.line))
+    given =
+        ap (λ (u : View). record u { locks = filter (λ (l : Lock). not (eqb l.line h.line)) u.locks; known = (after w (Give h.line)).known }) is
+        ∙ ap (λ locks. record v { locks = locks; known = (after w (Give h.line)).known })
+        (ap (λ (locks : List HeldLock). filter (λ (l : Lock). not (eqb l.line h.line)) (map lock_of locks)) left
+        ∙ first_goes h (drop (k + 1) locks) (subst (λ (locks : List HeldLock). IsDistinct nat_eq (lines_of locks)) left (distinct_drop k locks once)))
+
+  may : (k : ℕ) → k < length locks → (w : View) → AreGiven k w → MayGive w (line_at locks k)
+  may k low w is = may_give k low w is
+
+  then : (k : ℕ) → k < length locks → (w : View) → AreGiven k w → AreGiven (k + 1) (after w (Give (line_at locks k)))
+  then k low w is = given k low w is
+
+  all_given : Ready v (gives locks v) × AreGiven (length locks) (after_all v (gives locks v))
+  unfolding gives
+  all_given =
+      goes_counted AreGiven (λ i. one (Give (line_at locks i))) (length locks)
+      (λ k low. goes_one (AreGiven k) (AreGiven (k + 1)) (Give (line_at locks k)) (λ w is. (may k low w is, tt, then k low w is))) v
+      (ap (λ locks. record v { locks = locks }) (sym seen))
+
+  none_left : (w : View) → AreGiven (length locks) w → w ≡ record v { locks = []; known = w.known }
+  none_left w is = is ∙ ap (λ (rest : List HeldLock). record v { locks = map lock_of rest; known = w.known }) (drop_all (length locks) locks (omega arith))
+
+module _ {M : Type 0} (at : M → View → Type 0) (lane : Lane M) (v : View) (is : IsAfterCall at lane v) where
+  abbrev locks : List HeldLock
+  locks = lane.locks.items
+
+  lawful : Ready v (gives locks v) × (after_all v (gives locks v) ≡ record v { locks = []; known = (after_all v (gives locks v)).known })
+  lawful =
+      let t = all_given v locks is.seen.locks is.log is.drained is.lines in
+      (t.0, none_left v locks is.seen.locks is.log is.drained is.lines (after_all v (gives locks v)) t.1)
+
+  pub give_ready : IsReady (at lane.memory) (gives lane.locks.items)
+  unfolding IsReady
+  give_ready = (v, (is.seen.memory, lawful.0))
+
+  pub closed : (new : Lane M) → Runs {T = Unit {0}} (at lane.memory) (at new.memory) (gives lane.locks.items) (Ok tt) → new.locks.items ≡ [] → new.records.items ≡ lane.records.items → new.drawn ≡ None → new.last ≡ lane.last → new.pool ≡ lane.pool → new.error ≡ error.None → new.stopped ≡ lane.stopped
+      → IsClosedBy at new v (gives lane.locks.items)
+  unfolding Runs
+  closed new ran none records drawn last pool unharmed stops =
+      let w : View = after_all v (gives locks v) in
+      let same = lawful.1 in
+      record {
+        ready = lawful.0;
+        rests = record {
+          seen = record {
+            memory = ran v is.seen.memory lawful.0;
+            pool = ap (λ (u : View). u.pool) same ∙ (is.seen.pool ∙ sym pool);
+            locks = ap (map lock_of) none ∙ sym (ap (λ (u : View). u.locks) same);
+            records = records ∙ (is.seen.records ∙ sym (ap (λ (u : View). map span_of u.log.records) same));
+            drawn = λ number some. absurd (none-some number (sym drawn ∙ some));
+            last = last ∙ (is.seen.last ∙ sym (ap (λ (u : View). last_number_of u.entries) same));
+          };
+          answered = drawn;
+          unharmed = unharmed;
+          unstopped = stops ∙ is.unstopped;
+          fresh = inl (ap (λ (u : View). u.log) same ∙ is.log);
+          drained = ap (λ (u : View). u.changes) same ∙ is.drained;
+          free = ap (λ (u : View). u.locks) same;
+          place = subst HasPlace (sym same) (let p = is.place in record { lane = p.lane; few = p.few; inside = p.inside });
+        };
+        same = same;
+      }
+
+-- a step that was made is a sequence of one
+pub made_one : (old new : View → Type 0) (s : Step) → Made old new s → IsMade old new (one s)
+unfolding Runs one after_all
+made_one old new s made v seen ready = (made v seen).0

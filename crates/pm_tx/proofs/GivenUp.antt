@@ -1,0 +1,201 @@
+-- A call at work may be given up, and then it is over.
+use Rattle.std.proofs.Common.{◌≡◌, ℕ, ◌/◌, ◌<◌, All, inr, List, [], ◌∷◌, ◌++◌, map, length, Option, Err, Ok, None, Some, true, false, refl, sym, ap, ◌∙◌, subst, arith}
+use Rattle.std.specs.List.{IsDistinct}
+use Rattle.std.specs.Prelude.{nat_eq}
+use Rattle.pm_crash.proofs.GivenUp.{abort_gives_up}
+use Rattle.pm_crash.specs.OpenCall.{IsGivenUp}
+use Rattle.pm_crash.specs.Operations.{TakesBack, Tells}
+use Rattle.pm_model.specs.Answers.{error_for}
+use Rattle.pm_objects.specs.declared.calls.Operation.{Operation}
+use Rattle.pm_objects.specs.declared.calls.Operation.TheVariants.{Abort}
+use Rattle.pm_objects.specs.declared.history.TxErr.{TxErr}
+use Rattle.pm_objects.specs.declared.history.Value.{Value}
+use Rattle.pm_memory.specs.declared.lane_mem.Stopped.{Stopped}
+use Rattle.pm_undo.specs.Working.{IsWorking}
+use Rattle.pm_view.proofs.Sequences.{after_all-append}
+use Rattle.pm_view.specs.Log.{Log, log_drawn}
+use Rattle.pm_view.specs.Steps.{Step}
+use Rattle.pm_view.specs.Steps.Step.{NumberSeen, Tell}
+use Rattle.pm_view.specs.View.{Lock, View, Numbered, Told}
+use Rattle.pm_view.specs.Views.{after, after_all}
+use Rattle.pm_world.proofs.Sequencing.{ready_both}
+use Rattle.pm_world.specs.Lanes.{IsSeenAs, last_number_of, lock_of, span_of}
+use Rattle.pm_world.specs.Lawful.{MayDraw, MayTell}
+use Rattle.pm_world.specs.Opening.{Opening}
+use Rattle.pm_world.specs.Sequences.{Ready, Runs, in_turn, one}
+use Rattle.pm_world.specs.declared.lane.Lane.{Lane}
+use Rattle.pm_world.specs.declared.lane.Span.{Span}
+use Rattle.pm_tx.specs.AtWork.{HoldsLines, IsAtWork, MayCome}
+use Rattle.pm_tx.specs.Ending.{DrawEnded, GivesUpBy, IsAfterCall, IsEndedBy, IsOver, IsReadyForAny, IsStoppedIn, IsTakenBack, IsWorkingLane}
+use Rattle.pm_tx.specs.Resting.{HasPlace}
+use Rattle.pm_tx.specs.Sequences.{ends_call, gives_up, takes_back}
+use Rattle.pm_tx.proofs.Drawless.{drawless, drawn_in_turn}
+use Rattle.pm_tx.proofs.TakenBack.{take_back_lawful}
+
+-- the number of the last of some entries
+pub last_behind : (entries : List Numbered) (e : Numbered) → last_number_of (entries ++ e ∷ []) ≡ e.number
+last_behind [] e = refl
+last_behind (d ∷ []) e = refl
+last_behind (c ∷ d ∷ entries) e = last_behind (d ∷ entries) e
+
+module _ (v m : View) (working : IsWorking v) (may : MayCome v) (back : IsTakenBack v m) (operation : Operation) (reply : Option Value) where
+  abbrev pub told : View
+  told = after m (Tell operation reply)
+
+  may_draw : MayDraw told
+  may_draw = record {
+    is_open = ap (λ (log : Log). log.phase) back.log;
+    first = back.call.number ∙ working.undrawn;
+    drained = back.drained;
+    found = may.found;
+    seen = back.call.seen (NumberSeen may.found) may.seen;
+    below = may.below;
+  }
+
+  pub end_ready : (n : ℕ) → Ready m (ends_call operation reply n m)
+  unfolding ends_call in_turn one Ready after_all
+  end_ready n = (subst (λ (log : Log). MayTell log.phase) (sym back.log) tt, tt, (may_draw, tt, tt))
+
+  pub end_is_over : (n : ℕ) → IsOver v (after_all m (ends_call operation reply n m)) n
+  unfolding ends_call in_turn one after_all
+  end_is_over n =
+      let lane = back.call.lane in
+      record {
+        lane = record { lanes = lane.lanes; zones = lane.zones; pool = lane.pool; lane = lane.lane; stop = lane.stop; table = lane.table; size = lane.size };
+        locks = back.call.locks;
+        log = ap (λ (log : Log). log_drawn log.phase log) back.log;
+        drained = back.drained;
+        number = refl;
+        last = last_behind m.entries (record { number = n; call = told.call });
+      }
+
+  tells : Tells v told operation reply
+  tells =
+      let lane = back.call.lane in
+      record {
+        keeps = record { lanes = lane.lanes; zones = lane.zones; pool = lane.pool; lane = lane.lane; known = back.call.remembers };
+        locks = back.call.locks;
+        call = ap (λ (call : List Told). call ++ record { operation = operation; reply = reply } ∷ []) back.call.call;
+      }
+
+  taken_back : TakesBack v told
+  taken_back = let t = back.takes_back in record { restored = t.restored; known = t.known; others = t.others; records = t.records }
+
+  pub end_is_drawn : (error : TxErr) → GivesUpBy v operation reply error → (n : ℕ) → DrawEnded m (ends_call operation reply n m)
+  unfolding ends_call in_turn one DrawEnded after_all
+  end_is_drawn error why n = (tt, (inr (error, why told tells taken_back, ap (λ (log : Log). log.records) back.log), tt))
+
+module _ (v : View) (working : IsWorking v) (none : v.log.entries ≡ []) (may : MayCome v) (operation : Operation) (reply : Option Value) (n : ℕ) where
+  abbrev first : List Step
+  first = takes_back (map span_of v.log.records) v
+
+  abbrev mid : View
+  mid = after_all v first
+
+  abbrev second : List Step
+  second = ends_call operation reply n mid
+
+  taken : Ready v first × IsTakenBack v mid
+  taken = take_back_lawful v working none
+
+  pub give_up_lawful : Ready v (gives_up (map span_of v.log.records) operation reply n v) × IsOver v (after_all v (gives_up (map span_of v.log.records) operation reply n v)) n
+  unfolding gives_up in_turn
+  give_up_lawful = (
+    ready_both v first second taken.0 (end_ready v mid working may taken.1 operation reply n),
+    subst (λ (w : View). IsOver v w n) (sym (after_all-append v first second)) (end_is_over v mid working may taken.1 operation reply n),
+  )
+
+  pub give_up_drawn : (error : TxErr) → GivesUpBy v operation reply error → DrawEnded v (gives_up (map span_of v.log.records) operation reply n v)
+  unfolding gives_up in_turn
+  give_up_drawn error why =
+      drawn_in_turn v first second (drawless v first (let e = ap length taken.1.call.entries in omega (arith, e))) (end_is_drawn v mid working may taken.1 operation reply error why n)
+
+-- the lane is seen as the view behind its call
+seen_over : {M : Type 0} (at : M → View → Type 0) (lane new : Lane M) (v w : View) → IsSeenAs at lane v → at new.memory w → IsOver v w new.last → new.locks.items ≡ lane.locks.items → new.records.items ≡ [] → new.drawn ≡ Some new.last → new.pool ≡ lane.pool → IsSeenAs at new w
+seen_over at lane new v w seen memory over locks none drawn pool = record {
+  memory = memory;
+  pool = over.lane.pool ∙ (seen.pool ∙ sym pool);
+  locks = ap (map lock_of) locks ∙ (seen.locks ∙ sym over.locks);
+  records = none ∙ sym (ap (λ (log : Log). map span_of log.records) over.log);
+  drawn = λ number is. over.number ∙ (sym drawn ∙ is);
+  last = sym over.last;
+}
+
+pub after_over : {M : Type 0} (at : M → View → Type 0) (lane new : Lane M) (v w : View) → IsSeenAs at lane v → HoldsLines v → at new.memory w → IsOver v w new.last → new.locks.items ≡ lane.locks.items → new.records.items ≡ []
+    → new.drawn ≡ Some new.last → new.pool ≡ lane.pool → new.stopped ≡ false → HasPlace v → IsAfterCall at new w
+after_over at lane new v w seen lines memory over locks none drawn pool unstopped place = record {
+  seen = seen_over at lane new v w seen memory over locks none drawn pool;
+  unstopped = unstopped;
+  log = over.log;
+  drained = over.drained;
+  lines = record {
+    inside = subst (λ (held : List Lock). All (λ (l : Lock). l.line < length w.words / 8) held) (sym over.locks) (subst (λ n. All (λ (l : Lock). l.line < n / 8) v.locks) (sym over.lane.size) lines.inside);
+    once = subst (λ (held : List Lock). IsDistinct nat_eq (map (λ (l : Lock). l.line) held)) (sym over.locks) lines.once;
+  };
+  place =
+      let lane = over.lane.lane in let lanes = over.lane.lanes in let size = over.lane.size in
+      record {
+        lane = (let low = place.lane in omega (arith, low, lane, lanes));
+        few = (let few = place.few in omega (arith, few, lane));
+        inside = (let inside = place.inside in omega (arith, inside, lane, size));
+      };
+}
+
+pub place_at_work : (v : View) → IsWorking v → HasPlace v
+place_at_work v working = let area = working.area in record { lane = area.lane; few = area.few; inside = area.inside }
+
+module _ {M : Type 0} (at : M → View → Type 0) (lane : Lane M) (o : Opening) (v : View) (is : IsAtWork o at lane v) (operation : Operation) (reply : Option Value) where
+  abbrev pub spans : List Span
+  spans = lane.records.items
+
+  abbrev same : spans ≡ map span_of v.log.records
+  same = is.seen.records
+
+  pub giving_up_lawful : (n : ℕ) → Ready v (gives_up spans operation reply n v) × IsOver v (after_all v (gives_up spans operation reply n v)) n
+  giving_up_lawful n =
+      subst (λ (spans : List Span). Ready v (gives_up spans operation reply n v) × IsOver v (after_all v (gives_up spans operation reply n v)) n) (sym same)
+      (give_up_lawful v is.working is.no_entries is.may_come operation reply n)
+
+  pub giving_up_drawn : (error : TxErr) → GivesUpBy v operation reply error → (n : ℕ) → DrawEnded v (gives_up spans operation reply n v)
+  giving_up_drawn error why n =
+      subst (λ (spans : List Span). DrawEnded v (gives_up spans operation reply n v)) (sym same) (give_up_drawn v is.working is.no_entries is.may_come operation reply n error why)
+
+  pub is_working_lane : IsWorkingLane at lane
+  is_working_lane = (v, (is.seen, is.working))
+
+  taking : Ready v (takes_back spans v) × IsTakenBack v (after_all v (takes_back spans v))
+  taking = subst (λ (spans : List Span). Ready v (takes_back spans v) × IsTakenBack v (after_all v (takes_back spans v))) (sym same) (take_back_lawful v is.working is.no_entries)
+
+  -- once it is taken back, the call may end with whatever number
+  pub end_ready_for_any : (behind : View → Type 0) → Runs {T = Unit {0}} (at lane.memory) behind (takes_back spans) (Ok tt) → IsReadyForAny behind (ends_call operation reply)
+  unfolding Runs IsReadyForAny
+  end_ready_for_any behind ran = (
+    after_all v (takes_back spans v),
+    (ran v is.seen.memory taking.0, λ n. end_ready v (after_all v (takes_back spans v)) is.working is.may_come taking.1 operation reply n),
+  )
+
+  module _ (error : TxErr) (why : GivesUpBy v operation reply error) (new : Lane M) where
+    -- it was given up
+    pub given_up : Runs {T = Unit {0}} (at lane.memory) (at new.memory) (gives_up spans operation reply new.last) (Ok tt) → new.locks.items ≡ lane.locks.items → new.records.items ≡ [] → new.drawn ≡ Some new.last → new.pool ≡ lane.pool → new.stopped ≡ lane.stopped
+        → IsEndedBy at new v (gives_up spans operation reply new.last)
+    unfolding Runs
+    given_up ran locks none drawn pool stops =
+        let lawful = giving_up_lawful new.last in
+        let over = lawful.1 in
+        record {
+          ready = lawful.0;
+          draws = giving_up_drawn error why new.last;
+          behind = after_over at lane new v (after_all v (gives_up spans operation reply new.last v)) is.seen is.lines (ran v is.seen.memory lawful.0) over locks none drawn pool (stops ∙ is.unstopped) (place_at_work v is.working);
+          over = over;
+        }
+
+    -- it stopped before that
+    pub stopped_giving_up : (stopped : Stopped) → Runs {T = Unit {0}} (at lane.memory) (at new.memory) (gives_up spans operation reply new.last) (Err stopped) → new.stopped ≡ true → IsStoppedIn at new v (gives_up spans operation reply new.last)
+    unfolding Runs
+    stopped_giving_up stopped ran says =
+        let lawful = giving_up_lawful new.last in
+        record { ready = lawful.0; draws = giving_up_drawn error why new.last; stops = ran v is.seen.memory lawful.0; stopped = says }
+
+-- an abort that is asked for gives up the call
+pub gives_up_by_abort : {M : Type 0} (at : M → View → Type 0) (lane : Lane M) (o : Opening) (v : View) → IsAtWork o at lane v → (errnum : ℕ) (error : TxErr) → error ≡ error_for errnum → GivesUpBy v (Abort errnum) None error
+gives_up_by_abort at lane o v is errnum error so next tells back = subst (IsGivenUp next) (sym so) (abort_gives_up v next errnum lane.level is.level is.is_open tells back)

@@ -1,0 +1,99 @@
+-- A lane at work stays so by what keeps its locks, what it found under them, and its call.
+use Rattle.std.proofs.Common.{◌≡◌, ℕ, ◌+◌, ◌*◌, All, Contains, [], map, slice_index, Some, sym, ap, ◌∙◌, subst, arith, ◌<◌, ◌/◌, length}
+use Rattle.std.specs.Prelude.{nat_eq}
+use Rattle.std.specs.List.{IsDistinct}
+use Rattle.std.specs.Option.{ForSome}
+use Rattle.pm_crash.specs.OpenCall.{IsOpen}
+use Rattle.pm_model.specs.declared.stage.Stage.TheVariants as model_stage
+use Rattle.pm_objects.specs.declared.history.TxErr.TheVariants as error
+use Rattle.pm_view.specs.Steps.{Step}
+use Rattle.pm_view.specs.View.{View, Lock}
+use Rattle.pm_undo.specs.Spans.{IsSpan}
+use Rattle.pm_undo.specs.Working.{FindsOpening, IsSameCall, IsWorking}
+use Rattle.pm_world.specs.Lanes.{lock_of, last_number_of, span_of}
+use Rattle.pm_world.specs.Opening.{Opening}
+use Rattle.pm_world.specs.declared.lane.Lane.{Lane}
+use Rattle.pm_tx.specs.AtWork.{FindsObject, IsAtWork}
+
+-- the lane's fields but for its memory and its records
+pub record HasSameFields {M : Type 0} (lane next : Lane M) : Type 0 where
+  pub pool : next.pool ≡ lane.pool
+  pub locks : next.locks ≡ lane.locks
+  pub level : next.level ≡ lane.level
+  pub stage : next.stage ≡ lane.stage
+  pub error : next.error ≡ lane.error
+  pub drawn : next.drawn ≡ lane.drawn
+  pub last : next.last ≡ lane.last
+  pub stopped : next.stopped ≡ lane.stopped
+
+pub fields_same : {M : Type 0} (lane next : Lane M) → next ≡ record lane { memory = next.memory; records = next.records } → HasSameFields lane next
+fields_same {M} lane next same = record {
+  pool = ap (λ (l : Lane M). l.pool) same;
+  locks = ap (λ (l : Lane M). l.locks) same;
+  level = ap (λ (l : Lane M). l.level) same;
+  stage = ap (λ (l : Lane M). l.stage) same;
+  error = ap (λ (l : Lane M). l.error) same;
+  drawn = ap (λ (l : Lane M). l.drawn) same;
+  last = ap (λ (l : Lane M). l.last) same;
+  stopped = ap (λ (l : Lane M). l.stopped) same;
+}
+
+-- the view's locks, and what is known of the objects under them
+pub record KeepsObjects (v w : View) : Type 0 where
+  pub pool : w.pool ≡ v.pool
+  pub locks : w.locks ≡ v.locks
+  pub number : w.number ≡ v.number
+  pub entries : w.entries ≡ v.entries
+  pub remembers : (u : ℕ) → Contains v.known u → Contains w.known u
+  pub seen : (s : Step) → Contains v.seen s → Contains w.seen s
+  pub sizes : (l : Lock) → Contains v.locks l → slice_index w.words (8 * l.line + 1) ≡ slice_index v.words (8 * l.line + 1)
+
+pub objects_kept : (v w : View) → IsSameCall v w → ((l : Lock) → Contains v.locks l → slice_index w.words (8 * l.line + 1) ≡ slice_index v.words (8 * l.line + 1)) → KeepsObjects v w
+objects_kept v w call sizes = record {
+  pool = call.lane.pool;
+  locks = call.locks;
+  number = call.number;
+  entries = call.entries;
+  remembers = call.remembers;
+  seen = call.seen;
+  sizes = sizes;
+}
+
+pub goes_on : {M : Type 0} (o : Opening) (at : M → View → Type 0) (lane next : Lane M) (v w : View) → IsAtWork o at lane v → HasSameFields lane next → KeepsObjects v w
+    → at next.memory w → next.records.items ≡ map span_of w.log.records → All IsSpan next.records.items → FindsOpening o w → IsWorking w → w.log.entries ≡ []
+    → IsOpen w lane.level model_stage.Work error.None → IsAtWork o at next w
+goes_on o at lane next v w work fields keeps seen records spans opening working no_entries is_open = record {
+  seen = record {
+    memory = seen;
+    pool = keeps.pool ∙ (work.seen.pool ∙ sym fields.pool);
+    locks = ap (λ locks. map lock_of locks.items) fields.locks ∙ (work.seen.locks ∙ sym keeps.locks);
+    records = records;
+    drawn = subst (λ drawn. ForSome drawn (λ number. w.number ≡ Some number)) (sym fields.drawn) (subst (λ n. ForSome lane.drawn (λ number. n ≡ Some number)) (sym keeps.number) work.seen.drawn);
+    last = fields.last ∙ (work.seen.last ∙ ap last_number_of (sym keeps.entries));
+  };
+  level = (let e = fields.level in let some = work.level in omega (arith, e, some));
+  works = fields.stage ∙ work.works;
+  unharmed = fields.error ∙ work.unharmed;
+  unstopped = fields.stopped ∙ work.unstopped;
+  spans = spans;
+  sound = work.sound;
+  zones = work.zones;
+  opening = opening;
+  working = working;
+  no_entries = no_entries;
+  is_open = subst (λ n. IsOpen w n model_stage.Work error.None) (sym fields.level) is_open;
+  may_come = record { found = work.may_come.found; seen = keeps.seen _ work.may_come.seen; below = work.may_come.below };
+  lines = record {
+    inside = subst (λ locks. All (λ (l : Lock). l.line < length w.words / 8) locks) (sym keeps.locks) (subst (λ n. All (λ (l : Lock). l.line < n / 8) v.locks) (work.opening.size ∙ sym opening.size) work.lines.inside);
+    once = subst (λ locks. IsDistinct nat_eq (map (λ (l : Lock). l.line) locks)) (sym keeps.locks) work.lines.once;
+  };
+  objects = λ l there.
+      let held : Contains v.locks l = subst (λ locks. Contains locks l) keeps.locks there in
+      let object : FindsObject v l = work.objects l held in
+      record {
+        lines = object.lines;
+        block = object.block;
+        known = keeps.remembers (8 * l.line + 1) object.known;
+        fits = (let same = keeps.sizes l held in let most = object.fits in omega (arith, same, most));
+      };
+}

@@ -1,0 +1,174 @@
+-- A lane at rest may begin a call.
+use Rattle.std.proofs.Common.{◌≡◌, ℕ, ◌/◌, All, ◌<◌, true, eqb, inl, inr, Contains, List, [], ◌∷◌, ◌++◌, map, length, None, Ok, refl, sym, ap, ◌∙◌, subst, arith}
+use Rattle.std.specs.List.{IsDistinct, list_any}
+use Rattle.std.specs.Prelude.{nat_eq}
+use Rattle.std.proofs.lemmas.Bool.{or_left}
+use Rattle.std.proofs.lemmas.List.Elements.{All-nil, Contains-append_right}
+use Rattle.std.proofs.lemmas.Option.{none-some}
+use Rattle.pm_memory.specs.Runs.{Made}
+use Rattle.pm_undo.proofs.Areas.{area_tells_nothing, generation_in_area}
+use Rattle.pm_undo.proofs.Retired.{may_look}
+use Rattle.pm_undo.proofs.Staying.{looked}
+use Rattle.pm_view.proofs.Sequences.{after_all-append}
+use Rattle.pm_view.specs.Area.{area_word, is_in_area}
+use Rattle.pm_view.specs.Held.{is_known}
+use Rattle.pm_view.specs.Log.{Log, no_log}
+use Rattle.pm_view.specs.Log.Phase.{Open}
+use Rattle.pm_view.specs.Steps.{Step}
+use Rattle.pm_view.specs.Steps.Step.{Load, NumberSeen}
+use Rattle.pm_view.specs.View.{View, Lock}
+use Rattle.pm_view.specs.Views.{after, after_all, begun, with_seen}
+use Rattle.pm_world.proofs.Sequencing.{lane_runs, ready_both, runs_look}
+use Rattle.pm_world.specs.Lanes.{IsSeenAs, span_of}
+use Rattle.pm_world.specs.Lawful.{generation_limit}
+use Rattle.pm_world.specs.Records.{generation_of}
+use Rattle.pm_world.specs.Sequences.{IsMade, Ready, Runs, by_lane, by_view, in_turn, looks, one}
+use Rattle.pm_world.specs.declared.lane.Lane.{Lane}
+use Rattle.pm_tx.specs.AtWork.{HoldsLines}
+use Rattle.pm_tx.specs.Beginning.{IsBegun, IsBegunBy, RestsBehind}
+use Rattle.pm_tx.specs.Resting.{IsAtRest, IsFresh}
+use Rattle.pm_tx.specs.Ending.{DrawEnded}
+use Rattle.pm_tx.specs.Sequences.{sees_generation, starts}
+use Rattle.pm_tx.proofs.Drawless.{drawless}
+
+-- the view of a call that has just begun
+abbrev pub fresh_call : View → List Step → View
+fresh_call u seen = record u { log = no_log (Open [] []); seen = seen; call = []; number = None }
+
+started : (u : View) (n : ℕ) → IsFresh u → (seen : List Step) × ((after u (NumberSeen n) ≡ fresh_call u seen) × Contains seen (NumberSeen n))
+started u n (inl idle) = (
+  NumberSeen n ∷ [],
+  (ap (λ (log : Log). with_seen (NumberSeen n) (begun log.phase u)) idle, (0, omega arith, refl)),
+)
+started u n (inr (log, number, call)) = (
+  u.seen ++ NumberSeen n ∷ [],
+  (
+    ap (λ (log : Log). with_seen (NumberSeen n) (begun log.phase u)) log
+        ∙ (ap (λ (log : Log). record u { log = log; seen = u.seen ++ NumberSeen n ∷ [] }) log
+        ∙ (ap (λ call. record u { log = no_log (Open [] []); seen = u.seen ++ NumberSeen n ∷ []; call = call }) call
+        ∙ ap (λ number. record u { log = no_log (Open [] []); seen = u.seen ++ NumberSeen n ∷ []; call = []; number = number }) number)),
+    Contains-append_right u.seen (NumberSeen n ∷ []) (NumberSeen n) (0, omega arith, refl),
+  ),
+)
+
+fresh_records : (v : View) → IsFresh v → v.log.records ≡ []
+fresh_records v (inl idle) = ap (λ (log : Log). log.records) idle
+fresh_records v (inr (log, number, call)) = ap (λ (log : Log). log.records) log
+
+-- no lock is held
+no_lines : (v : View) → v.locks ≡ [] → HoldsLines v
+unfolding IsDistinct
+no_lines v none = record {
+  inside = subst (All (λ (l : Lock). l.line < length v.words / 8)) (sym none) (All-nil (λ (l : Lock). l.line < length v.words / 8));
+  once = subst (λ (locks : List Lock). IsDistinct nat_eq (map (λ (l : Lock). l.line) locks)) (sym none) tt;
+}
+
+module _ {M : Type 0} (at : M → View → Type 0) (lane : Lane M) (v : View) (is : IsAtRest at lane v) where
+  abbrev pub word : ℕ
+  word = area_word v.lane
+
+  abbrev pub u : View
+  u = looked v word
+
+  known : is_known v word ≡ true
+  known = or_left (is_in_area v.lane word) (list_any (λ other. eqb other word) v.known) (generation_in_area v.lane)
+
+  looks_at : Ready v (sees_generation v) × (after_all v (sees_generation v) ≡ u)
+  unfolding sees_generation by_lane by_view
+  looks_at = may_look v word (λ (w : View). w ≡ u) (let inside = is.place.inside in omega (arith, inside)) known (λ l there. area_tells_nothing v.lanes v.lane word l.line v.words is.place.lane (generation_in_area v.lane)) refl
+
+  -- the memory is seen as the view behind that
+  pub saw : (mid : View → Type 0) → IsMade (at lane.memory) mid sees_generation → mid u
+  unfolding Runs
+  saw mid made = subst mid looks_at.1 (made v is.seen.memory looks_at.0)
+
+  rests_so : (memory : M) → at memory u → IsAtRest at (record lane { memory = memory }) u
+  rests_so memory there = record {
+    seen = record { memory = there; locks = is.seen.locks; records = is.seen.records; drawn = is.seen.drawn; last = is.seen.last; pool = is.seen.pool };
+    answered = is.answered;
+    unharmed = is.unharmed;
+    unstopped = is.unstopped;
+    fresh = is.fresh;
+    drained = is.drained;
+    free = is.free;
+    place = (let p = is.place in record { lane = p.lane; few = p.few; inside = p.inside });
+  }
+
+  pub spent_at_once : (memory : M) → IsMade (at lane.memory) (at memory) sees_generation → RestsBehind at (record lane { memory = memory }) v sees_generation
+  spent_at_once memory made = record {
+    ready = looks_at.0;
+    draws = drawless v (sees_generation v) (let e = ap (λ (w : View). length w.entries) looks_at.1 in omega (arith, e));
+    rests = subst (IsAtRest at (record lane { memory = memory })) (sym looks_at.1) (rests_so memory (saw (at memory) made));
+  }
+
+  module _ (n : ℕ) (mid : View → Type 0) (memory : M) (made : IsMade (at lane.memory) mid sees_generation) (seen : Made mid (at memory) (NumberSeen n)) where
+    abbrev t : (steps : List Step) × ((after u (NumberSeen n) ≡ fresh_call u steps) × Contains steps (NumberSeen n))
+    t = started u n is.fresh
+
+    abbrev w : View
+    w = fresh_call u t.0
+
+    ends : after_all v (starts n v) ≡ w
+    unfolding starts in_turn one after_all
+    ends = after_all-append v (sees_generation v) (NumberSeen n ∷ []) ∙ (ap (λ (m : View). after m (NumberSeen n)) looks_at.1 ∙ t.1.0)
+
+    ready : Ready v (starts n v)
+    unfolding starts in_turn one Ready
+    ready = ready_both v (sees_generation v) (NumberSeen n ∷ []) looks_at.0 (tt, tt, tt)
+
+    there : at memory w
+    there = subst (at memory) t.1.0 (seen u (saw mid made)).0
+
+    no_draws : DrawEnded v (starts n v)
+    no_draws = drawless v (starts n v) (let e = ap (λ (m : View). length m.entries) ends in omega (arith, e))
+
+    abbrev new : Lane M
+    new = record lane { memory = memory }
+
+    seen_so : IsSeenAs at new w
+    seen_so = record {
+      memory = there;
+      locks = is.seen.locks;
+      records = is.seen.records ∙ ap (map span_of) (fresh_records v is.fresh);
+      drawn = λ number some. absurd (none-some number (sym is.answered ∙ some));
+      last = is.seen.last;
+      pool = is.seen.pool;
+    }
+
+    pub started_spent : RestsBehind at new v (starts n)
+    started_spent = record {
+      ready = ready;
+      draws = no_draws;
+      rests = subst (IsAtRest at new) (sym ends) (record {
+        seen = seen_so;
+        answered = is.answered;
+        unharmed = is.unharmed;
+        unstopped = is.unstopped;
+        fresh = inr (refl, refl, refl);
+        drained = is.drained;
+        free = is.free;
+        place = (let p = is.place in record { lane = p.lane; few = p.few; inside = p.inside });
+      });
+    }
+
+    pub has_begun : generation_of v < generation_limit → n < generation_limit → IsBegunBy at new v (starts n)
+    has_begun generation below = record {
+      ready = ready;
+      draws = no_draws;
+      begun = subst (IsBegun at new) (sym ends) (record {
+        seen = seen_so;
+        unharmed = is.unharmed;
+        unstopped = is.unstopped;
+        log = refl;
+        undrawn = refl;
+        drained = is.drained;
+        untold = refl;
+        area = record { lane = is.place.lane; few = is.place.few; inside = is.place.inside; below = generation };
+        may_come = record { found = n; seen = t.1.1; below = below };
+        lines = no_lines w is.free;
+      });
+    }
+
+pub generation_looked_at : (old new : View → Type 0) (lane found : ℕ) → ((v : View) → old v → lane ≡ v.lane) → Made old new (Load (area_word lane) found) → IsMade old new sees_generation
+unfolding sees_generation
+generation_looked_at old new lane found is_lane made = lane_runs old lane is_lane (λ lane. looks (area_word lane)) new (Ok tt) (runs_look old new (area_word lane) found made)

@@ -1,0 +1,127 @@
+ghost use Rattle.std.specs.Prelude.{◌≡◌, ◌-◌, ◌≤◌, [], None, Some, Err, true, IfErr, OnErr, OnOk};
+ghost use Rattle.pm_objects.specs.declared.calls.Operation.TheVariants.{Commit};
+ghost use Rattle.pm_objects.specs.declared.refusal.Refusal.{Refusal};
+ghost use Rattle.pm_objects.specs.declared.refusal.Refusal.TheVariants as refusal;
+ghost use Rattle.pm_undo.specs.Working.{IsSeenWithArea};
+ghost use Rattle.pm_view.specs.Steps.Step.{Tell};
+ghost use Rattle.pm_view.specs.View.{View};
+ghost use Rattle.pm_view.specs.Views.{after};
+ghost use Rattle.pm_world.specs.Opening.{Opening};
+ghost use Rattle.pm_world.specs.Sequences.{IsMade, IsReady, Runs, one};
+ghost use Rattle.pm_world.specs.declared.lane.Stage.TheVariants as stage;
+ghost use Rattle.pm_tx.specs.AtWork.{IsAtWork};
+ghost use Rattle.pm_tx.specs.Ending.{IsDecidable, IsEndedBy, IsLaneAtWork, IsStoppedIn};
+ghost use Rattle.pm_tx.specs.Sequences.{commits, decides, retires_any};
+ghost use Rattle.pm_tx.specs.Stages.{work_refusal};
+
+use crate::ending::end_call;
+use crate::stages::check_work;
+use pm_memory::Stopped;
+use pm_objects::{Operation, Refusal};
+use pm_undo::retire;
+use pm_world::{Lane, LawfulMem, Stage, settle};
+
+/// Ends the records, if there are any.
+fn retire_any<M: LawfulMem>(lane: &mut Lane<M>) -> Result<(), Stopped>
+    requires area { IsSeenWithArea (M.at lane.old.memory) }
+    requires ready { IsReady (M.at lane.old.memory) (retires_any lane.old.records.items) }
+    ensures ran { Runs (M.at lane.old.memory) (M.at lane.new.memory) (retires_any lane.old.records.items) result }
+    ensures none { OnOk result (lane.new.records.items ≡ []) }
+    ensures else_same { lane.new ≡ record lane.old { memory = lane.new.memory; records = lane.new.records } }
+{
+    if lane.records.is_empty() {
+        Ok(())
+    } else {
+        retire(lane)
+    }
+}
+
+/// Tells the commit, draws the call's number, and ends the records.
+#[tactic(auto, using(pm_world::proofs::Sequencing::runs_then), unfolding(crate::specs::Sequences::decides))]
+fn decide<M: LawfulMem>(lane: &mut Lane<M>) -> Result<(), Stopped>
+    requires decidable { IsDecidable (M.at lane.old.memory) lane.old.records.items }
+    ensures ran { Runs (M.at lane.old.memory) (M.at lane.new.memory) (decides lane.old.records.items lane.new.last) result }
+    ensures none { OnOk result (lane.new.records.items ≡ []) }
+    ensures drawn { OnOk result (lane.new.drawn ≡ Some lane.new.last) }
+    ensures else_same { lane.new ≡ record lane.old { memory = lane.new.memory; records = lane.new.records; drawn = lane.new.drawn; last = lane.new.last } }
+{
+    end_call(lane, &Operation::Commit, None);
+    retire_any(lane)
+}
+
+/// Makes all that the call did persistent, and then final.
+#[tactic(auto, using(pm_world::proofs::Sequencing::runs_then, pm_world::proofs::Sequencing::runs_err), unfolding(crate::specs::Sequences::commits))]
+fn finish<M: LawfulMem>(lane: &mut Lane<M>) -> Result<(), Stopped>
+    requires at_work { IsLaneAtWork M.at lane.old }
+    ensures ran { Runs (M.at lane.old.memory) (M.at lane.new.memory) (commits lane.old.records.items lane.new.last) result }
+    ensures none { OnOk result (lane.new.records.items ≡ []) }
+    ensures drawn { OnOk result (lane.new.drawn ≡ Some lane.new.last) }
+    ensures else_same { lane.new ≡ record lane.old { memory = lane.new.memory; records = lane.new.records; drawn = lane.new.drawn; last = lane.new.last } }
+{
+    settle(&mut lane.memory)?;
+    decide(lane)
+}
+
+/// Commits the outermost level.
+fn commit_outer<M: LawfulMem>(lane: &mut Lane<M>) -> Result<(), Refusal>
+    requires at_work { IsLaneAtWork M.at lane.old }
+    ensures ended { OnOk result ((o : Opening) (v : View) → IsAtWork o M.at lane.old v → lane.old.level ≡ 1 → IsEndedBy M.at lane.new v (commits lane.old.records.items lane.new.last)) }
+    ensures none { OnOk result (lane.new.records.items ≡ []) }
+    ensures lane { OnOk result (lane.new ≡ record lane.old { memory = lane.new.memory; records = lane.new.records; stage = stage.OnCommit; drawn = Some lane.new.last; last = lane.new.last }) }
+    ensures stops { OnErr result ((o : Opening) (v : View) → IsAtWork o M.at lane.old v → lane.old.level ≡ 1 → IsStoppedIn M.at lane.new v (commits lane.old.records.items lane.new.last)) }
+    ensures stopped { IfErr result (λ r. r ≡ refusal.Stopped) }
+    ensures stopped_lane { OnErr result (lane.new ≡ record lane.old { memory = lane.new.memory; records = lane.new.records; drawn = lane.new.drawn; last = lane.new.last; stopped = true }) }
+{
+    match finish(lane) {
+        Ok(()) => {
+            lane.stage = Stage::OnCommit;
+            Ok(())
+        }
+        Err(Stopped) => {
+            lane.stopped = true;
+            Err(Refusal::Stopped)
+        }
+    }
+}
+
+/// Commits an inner level: the operation is told, and all else is left to the outer ones.
+fn commit_inner<M: LawfulMem>(lane: &mut Lane<M>)
+    requires at_work { IsLaneAtWork M.at lane.old }
+    ensures made { IsMade (M.at lane.old.memory) (M.at lane.new.memory) (one (Tell Commit None)) }
+    ensures lane { lane.new ≡ record lane.old { memory = lane.new.memory; stage = stage.OnCommit } }
+    ensures stays { (o : Opening) (v : View) → IsAtWork o M.at lane.old v → 2 ≤ lane.old.level
+        → IsAtWork o M.at (record lane.new { level = lane.new.level - 1; stage = stage.Work }) (after v (Tell Commit None)) }
+{
+    lane.memory.tell(&Operation::Commit, None);
+    lane.stage = Stage::OnCommit;
+}
+
+/// Commits the transaction's level: pmemobj_tx_commit(3). At the outermost level all that the call did is made persistent, it draws its
+/// number and its records are ended, after which no power failure takes it back; an inner level's is only told, and once that level has
+/// ended the transaction is in work again. The lane keeps its locks until the outermost level ends. `NotWork` and `NoTx` for the
+/// transaction's stage, and `Stopped` where the lane had stopped, change nothing; `Stopped` where it comes to its stop leaves the first of
+/// these memory calls made.
+pub fn commit<M: LawfulMem>(lane: &mut Lane<M>) -> Result<(), Refusal>
+    requires at_work { work_refusal lane.old ≡ None → IsLaneAtWork M.at lane.old }
+    ensures refused { (r : Refusal) → work_refusal lane.old ≡ Some r → (result ≡ Err r) × (lane.new ≡ lane.old) }
+    ensures ended { OnOk result ((o : Opening) (v : View) → IsAtWork o M.at lane.old v → lane.old.level ≡ 1 → IsEndedBy M.at lane.new v (commits lane.old.records.items lane.new.last)) }
+    ensures none { OnOk result (lane.old.level ≡ 1 → lane.new.records.items ≡ []) }
+    ensures lane { OnOk result (lane.old.level ≡ 1
+        → lane.new ≡ record lane.old { memory = lane.new.memory; records = lane.new.records; stage = stage.OnCommit; drawn = Some lane.new.last; last = lane.new.last }) }
+    ensures inner_made { OnOk result (2 ≤ lane.old.level → IsMade (M.at lane.old.memory) (M.at lane.new.memory) (one (Tell Commit None))) }
+    ensures inner_lane { OnOk result (2 ≤ lane.old.level → lane.new ≡ record lane.old { memory = lane.new.memory; stage = stage.OnCommit }) }
+    ensures inner_stays { OnOk result ((o : Opening) (v : View) → IsAtWork o M.at lane.old v → 2 ≤ lane.old.level
+        → IsAtWork o M.at (record lane.new { level = lane.new.level - 1; stage = stage.Work }) (after v (Tell Commit None))) }
+    ensures stops { OnErr result (work_refusal lane.old ≡ None → (o : Opening) (v : View) → IsAtWork o M.at lane.old v → IsStoppedIn M.at lane.new v (commits lane.old.records.items lane.new.last)) }
+    ensures stopped { IfErr result (λ r. work_refusal lane.old ≡ None → r ≡ refusal.Stopped) }
+    ensures stopped_lane { OnErr result (work_refusal lane.old ≡ None
+        → lane.new ≡ record lane.old { memory = lane.new.memory; records = lane.new.records; drawn = lane.new.drawn; last = lane.new.last; stopped = true }) }
+{
+    check_work(lane)?;
+    if lane.level == 1 {
+        commit_outer(lane)?;
+    } else {
+        commit_inner(lane);
+    }
+    Ok(())
+}
