@@ -1,5 +1,6 @@
 pub mod Draws
 pub mod Held
+pub mod Leading
 pub mod HeldHistory
 pub mod Lines
 pub mod OneLane

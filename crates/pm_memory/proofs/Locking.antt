@@ -1,8 +1,9 @@
 -- How lane 0's view follows its memory, a call on a volatile word at a time: `m` is the memory before, `n` the memory after.
-use Rattle.std.proofs.Common.{◌≡◌, ◌≢◌, ◌⊎◌, ⊎_elim, ℕ, ◌<◌, Bool, true, false, not, ◌||◌, cond, eqb, List, [], ◌∷◌, ◌++◌, length, slice_index, get_or, set, Option, Some, None, refl, sym, ap, ◌∙◌, subst, arith, eq-eqb, ne_eqb, length-set, get_or-set_same, get_or-set_other, rules}
+use Rattle.std.proofs.Common.{IsTrue, ◌≡◌, ◌≢◌, ◌⊎◌, ⊎_elim, ℕ, ◌<◌, Bool, true, false, not, ◌||◌, cond, eqb, List, [], ◌∷◌, ◌++◌, length, slice_index, get_or, set, Option, Some, None, refl, sym, ap, ◌∙◌, subst, arith, eq-eqb, ne_eqb, length-set, get_or-set_same, get_or-set_other, rules}
 use Rattle.std.specs.List.{filter, list_any}
 use Rattle.std.proofs.lemmas.Bool.{cases_eq}
 use Rattle.std.proofs.lemmas.List.Folds.{list_any-append}
+use Rattle.pm_view.specs.Founds.{IsAlone}
 use Rattle.pm_view.specs.Steps.Step.{TakeWrite, TakeRead, Raise, Give, ZoneTry, ZoneGive}
 use Rattle.pm_view.specs.View.{View, Lock, Taken}
 use Rattle.pm_view.specs.Views.{after, taken, raised}
@@ -22,6 +23,7 @@ sees_locks m v line word locks within here there sees = record {
   calls = sees.calls;
   within = sees.within;
   numbers = sees.numbers;
+  count = sees.count;
   counter = sees.counter;
   locks = λ other inside.
       let inside_before : other < length m.locks = omega (arith, inside, length-set m.locks line word) in
@@ -45,25 +47,25 @@ module _ (m n : Solo) (line word : ℕ) (answer : Option ℕ) (won : Bool) (with
   set_so : (w : ℕ) → answer ≡ Some w → (won ≡ true) × (n ≡ record m { locks = set m.locks line w })
   set_so w is = subst (λ (a : Option ℕ). SetsLock m n line a won) is sets
 
-  pub write_made : slice_index m.locks line ≡ 0 → answer ≡ with_writer 0 word → (v : View) → Sees m v → Sees n (after v (TakeWrite line won)) × Unit {0}
+  pub write_made : slice_index m.locks line ≡ 0 → answer ≡ with_writer 0 word → (v : View) → Sees m v → Sees n (after v (TakeWrite line won)) × Unit {0} × (IsAlone v → IsTrue won)
   write_made free answered v sees =
       let set : (won ≡ true) × (n ≡ record m { locks = set m.locks line (writer_bit 0) }) = set_so (writer_bit 0) (answered ∙ ap (with_writer 0) (found ∙ free)) in
       let made : Sees n (after v (TakeWrite line true)) = subst (λ (k : Solo). Sees k (after v (TakeWrite line true))) (sym set.1) (sees_seen _ _ (TakeWrite line true) (search rules) (λ k e. cc) (sees_taken m v line true within free sees)) in
-      (subst (λ (b : Bool). Sees n (after v (TakeWrite line b))) (sym set.0) made, tt)
+      (subst (λ (b : Bool). Sees n (after v (TakeWrite line b))) (sym set.0) made, tt, λ alone. subst IsTrue (sym set.0) (search rules))
 
-  pub read_made : slice_index m.locks line ≡ 0 → answer ≡ with_reader 0 word → (v : View) → Sees m v → Sees n (after v (TakeRead line won)) × Unit {0}
+  pub read_made : slice_index m.locks line ≡ 0 → answer ≡ with_reader 0 word → (v : View) → Sees m v → Sees n (after v (TakeRead line won)) × Unit {0} × (IsAlone v → IsTrue won)
   read_made free answered v sees =
       let set : (won ≡ true) × (n ≡ record m { locks = set m.locks line (reader_bit 0) }) = set_so (reader_bit 0) (answered ∙ ap (with_reader 0) (found ∙ free)) in
       let made : Sees n (after v (TakeRead line true)) = subst (λ (k : Solo). Sees k (after v (TakeRead line true))) (sym set.1) (sees_seen _ _ (TakeRead line true) (search rules) (λ k e. cc) (sees_taken m v line false within free sees)) in
-      (subst (λ (b : Bool). Sees n (after v (TakeRead line b))) (sym set.0) made, tt)
+      (subst (λ (b : Bool). Sees n (after v (TakeRead line b))) (sym set.0) made, tt, λ alone. subst IsTrue (sym set.0) (search rules))
 
-  pub raise_made : slice_index m.locks line ≡ reader_bit 0 → answer ≡ with_raised 0 word → (v : View) → Sees m v → Sees n (after v (Raise line won)) × Unit {0}
+  pub raise_made : slice_index m.locks line ≡ reader_bit 0 → answer ≡ with_raised 0 word → (v : View) → Sees m v → Sees n (after v (Raise line won)) × Unit {0} × (IsAlone v → IsTrue won)
   raise_made reads answered v sees =
       let set : (won ≡ true) × (n ≡ record m { locks = set m.locks line (writer_bit 0) }) = set_so (writer_bit 0) (answered ∙ ap (with_raised 0) (found ∙ reads)) in
       let held : lock_word v.locks line ≡ reader_bit 0 = sym (sees.locks line within) ∙ reads in
       let up = sees_locks m v line (writer_bit 0) (raised line true v.locks) within (lock_word-raised_same v.locks line (λ none. absurd (omega (arith, held, none)))) (λ other differ. lock_word-raised_other v.locks line other differ) sees in
       let made : Sees n (after v (Raise line true)) = subst (λ (k : Solo). Sees k (after v (Raise line true))) (sym set.1) (sees_seen _ _ (Raise line true) (search rules) (λ k e. cc) up) in
-      (subst (λ (b : Bool). Sees n (after v (Raise line b))) (sym set.0) made, tt)
+      (subst (λ (b : Bool). Sees n (after v (Raise line b))) (sym set.0) made, tt, λ alone. subst IsTrue (sym set.0) (search rules))
 
 -- of a lock word of one lane nothing is left
 given_free : (word : ℕ) → (word ≡ 0) ⊎ ((word ≡ reader_bit 0) ⊎ (word ≡ writer_bit 0)) → without_lane 0 word ≡ 0
@@ -80,6 +82,7 @@ sees_regions m v reserved freed known sees = record {
   calls = sees.calls;
   within = sees.within;
   numbers = sees.numbers;
+  count = sees.count;
   counter = sees.counter;
   locks = sees.locks;
   zone_locks = sees.zone_locks;
@@ -87,13 +90,13 @@ sees_regions m v reserved freed known sees = record {
   alone = sees.alone;
 }
 
-pub give_made : (m n : Solo) (line word left : ℕ) → line < length m.locks → word ≡ slice_index m.locks line → left ≡ without_lane 0 word → n ≡ record m { locks = set m.locks line left } → (v : View) → Sees m v → Sees n (after v (Give line)) × Unit {0}
+pub give_made : (m n : Solo) (line word left : ℕ) → line < length m.locks → word ≡ slice_index m.locks line → left ≡ without_lane 0 word → n ≡ record m { locks = set m.locks line left } → (v : View) → Sees m v → Sees n (after v (Give line)) × Unit {0} × Unit {0}
 give_made m n line word left within found gives is v sees =
     let others : List Lock = filter (λ (l : Lock). not (eqb l.line line)) v.locks in
     let none : left ≡ 0 = gives ∙ (ap (without_lane 0) (found ∙ sees.locks line within) ∙ given_free (lock_word v.locks line) (lock_word-values v.locks line)) in
     let without : Sees (record m { locks = set m.locks line left }) (record v { locks = others }) =
     sees_locks m v line left others within (lock_word-given_same v.locks line ∙ sym none) (λ other differ. lock_word-given_other v.locks line other differ) sees in
-    (subst (λ (k : Solo). Sees k (after v (Give line))) (sym is) (sees_regions _ (record v { locks = others }) v.reserved v.freed _ without), tt)
+    (subst (λ (k : Solo). Sees k (after v (Give line))) (sym is) (sees_regions _ (record v { locks = others }) v.reserved v.freed _ without), tt, tt)
 
 -- another list of zones whose lock is held, which differs in one zone
 sees_zones : (m : Solo) (v : View) (zone : ℕ) (held : Bool) (zones : List ℕ) → zone < length m.zone_locks → list_any (λ other. eqb other zone) zones ≡ held → ((other : ℕ) → zone ≢ other → list_any (λ z. eqb z other) zones ≡ list_any (λ z. eqb z other) v.zone_locks) → Sees m v
@@ -106,6 +109,7 @@ sees_zones m v zone held zones within here there sees = record {
   calls = sees.calls;
   within = sees.within;
   numbers = sees.numbers;
+  count = sees.count;
   counter = sees.counter;
   locks = sees.locks;
   zone_locks = λ other inside.
@@ -155,16 +159,16 @@ without_zone-there (z ∷ zones) zone other differ =
     (cases_eq z zone)
 
 pub zone_try_made : (m n : Solo) (zone : ℕ) (was won : Bool) → zone < length m.zone_locks → get_or m.zone_locks zone false ≡ false → was ≡ get_or m.zone_locks zone false → won ≡ not was → n ≡ record m { zone_locks = set m.zone_locks zone true } → (v : View) → Sees m v
-    → Sees n (after v (ZoneTry zone won)) × Unit {0}
+    → Sees n (after v (ZoneTry zone won)) × Unit {0} × Unit {0}
 zone_try_made m n zone was won within free found answers is v sees =
     let granted : won ≡ true = answers ∙ ap not (found ∙ free) in
     let held : Sees (record m { zone_locks = set m.zone_locks zone true }) (record v { zone_locks = v.zone_locks ++ zone ∷ [] }) =
     sees_zones m v zone true (v.zone_locks ++ zone ∷ []) within (one_more v.zone_locks zone zone true (eq-eqb zone zone refl) ∙ or_true _) (λ other differ. one_more v.zone_locks zone other false (ne_eqb zone other differ) ∙ or_false _) sees in
     let made : Sees n (after v (ZoneTry zone true)) = subst (λ (k : Solo). Sees k (after v (ZoneTry zone true))) (sym is) (sees_seen _ _ (ZoneTry zone true) (search rules) (λ k e. cc) held) in
-    (subst (λ (b : Bool). Sees n (after v (ZoneTry zone b))) (sym granted) made, tt)
+    (subst (λ (b : Bool). Sees n (after v (ZoneTry zone b))) (sym granted) made, tt, tt)
 
-pub zone_give_made : (m n : Solo) (zone : ℕ) → zone < length m.zone_locks → n ≡ record m { zone_locks = set m.zone_locks zone false } → (v : View) → Sees m v → Sees n (after v (ZoneGive zone)) × Unit {0}
+pub zone_give_made : (m n : Solo) (zone : ℕ) → zone < length m.zone_locks → n ≡ record m { zone_locks = set m.zone_locks zone false } → (v : View) → Sees m v → Sees n (after v (ZoneGive zone)) × Unit {0} × Unit {0}
 zone_give_made m n zone within is v sees =
     let without : Sees (record m { zone_locks = set m.zone_locks zone false }) (record v { zone_locks = without_zone zone v.zone_locks }) =
     sees_zones m v zone false (without_zone zone v.zone_locks) within (without_zone-here v.zone_locks zone) (λ other differ. without_zone-there v.zone_locks zone other differ) sees in
-    (subst (λ (k : Solo). Sees k (after v (ZoneGive zone))) (sym is) (sees_seen _ _ (ZoneGive zone) tt (λ k e. cc) without), tt)
+    (subst (λ (k : Solo). Sees k (after v (ZoneGive zone))) (sym is) (sees_seen _ _ (ZoneGive zone) tt (λ k e. cc) without), tt, tt)

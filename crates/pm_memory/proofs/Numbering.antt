@@ -1,16 +1,17 @@
 -- How lane 0's view follows its occupancy words, its commit counter and its stop word: `m` is the memory before, `n` the memory after.
-use Rattle.std.proofs.Common.{◌≡◌, ℕ, ◌+◌, ◌<◌, ◌≤◌, Bool, true, false, List, [], sym, ◌∙◌, subst, arith}
+use Rattle.std.proofs.Common.{◌≡◌, ℕ, zero, suc, ◌+◌, ◌<◌, ◌≤◌, Bool, true, false, List, [], ◌∷◌, ◌++◌, length, length-append, sym, ◌∙◌, subst, arith}
 use Rattle.std.specs.List.{All, Contains}
-use Rattle.std.proofs.lemmas.List.Elements.{All-push, All-weaker, All-nil}
+use Rattle.std.proofs.lemmas.List.Elements.{All-cons, All-weaker, All-nil}
 use Rattle.pm_view.specs.declared.occ.Occ.{Occ}
 use Rattle.pm_view.specs.declared.occ.Occ.TheVariants.{Run, Zone}
+use Rattle.pm_view.specs.Founds.{IsAlone}
 use Rattle.pm_view.specs.Log.{Phase}
 use Rattle.pm_view.specs.Log.Phase.{Idle, Open, Drawn, Sealing, Applying, Clearing, Retiring}
 use Rattle.pm_view.specs.Steps.{Step}
 use Rattle.pm_view.specs.Steps.Step.{Occupied, Occupy, Vacate, Draw, NumberSeen, StopSeen}
 use Rattle.pm_view.specs.View.{View, Taken, Numbered}
 use Rattle.pm_view.specs.Views.{after, begun, with_taken, without_taken}
-use Rattle.pm_memory.specs.Solo.{Solo, Sees, IsGranted, with_occ}
+use Rattle.pm_memory.specs.Solo.{Solo, Sees, AreNumbered, IsGranted, with_occ}
 use Rattle.pm_memory.proofs.Seeing.{sees_seen}
 
 -- occupancy words are no concern of a view, nor is what it reserved or freed one of the memory
@@ -23,6 +24,7 @@ sees_occ m (Run place) word v reserved freed known sees = record {
   calls = sees.calls;
   within = sees.within;
   numbers = sees.numbers;
+  count = sees.count;
   counter = sees.counter;
   locks = sees.locks;
   zone_locks = sees.zone_locks;
@@ -37,6 +39,7 @@ sees_occ m (Zone zone) word v reserved freed known sees = record {
   calls = sees.calls;
   within = sees.within;
   numbers = sees.numbers;
+  count = sees.count;
   counter = sees.counter;
   locks = sees.locks;
   zone_locks = sees.zone_locks;
@@ -44,22 +47,41 @@ sees_occ m (Zone zone) word v reserved freed known sees = record {
   alone = sees.alone;
 }
 
-pub occupied_made : (m : Solo) (at : Occ) (found : ℕ) (v : View) → Sees m v → Sees m (after v (Occupied at found)) × Unit {0}
-occupied_made m at found v sees = (sees_seen m v (Occupied at found) tt (λ k e. cc) sees, tt)
+pub occupied_made : (m : Solo) (at : Occ) (found : ℕ) (v : View) → Sees m v → Sees m (after v (Occupied at found)) × Unit {0} × Unit {0}
+occupied_made m at found v sees = (sees_seen m v (Occupied at found) tt (λ k e. cc) sees, tt, tt)
 
-pub occupy_refused : (m : Solo) (at : Occ) (bits : ℕ) (v : View) → Sees m v → Sees m (after v (Occupy at bits false)) × Unit {0}
-occupy_refused m at bits v sees = (sees_seen m v (Occupy at bits false) tt (λ k e. cc) sees, tt)
+pub occupy_refused : (m : Solo) (at : Occ) (bits : ℕ) (v : View) → Sees m v → Sees m (after v (Occupy at bits false)) × Unit {0} × Unit {0}
+occupy_refused m at bits v sees = (sees_seen m v (Occupy at bits false) tt (λ k e. cc) sees, tt, tt)
 
-pub occupy_made : (m n : Solo) (at : Occ) (bits word : ℕ) → n ≡ with_occ m at word → (v : View) → Sees m v → Sees n (after v (Occupy at bits true)) × Unit {0}
+pub occupy_made : (m n : Solo) (at : Occ) (bits word : ℕ) → n ≡ with_occ m at word → (v : View) → Sees m v → Sees n (after v (Occupy at bits true)) × Unit {0} × Unit {0}
 occupy_made m n at bits word is v sees =
     let reserved : List Taken = with_taken at bits true v.reserved in
-    (subst (λ (k : Solo). Sees k (after v (Occupy at bits true))) (sym is) (sees_seen _ (record v { reserved = reserved }) (Occupy at bits true) tt (λ k e. cc) (sees_occ m at word v reserved v.freed v.known sees)), tt)
+    (subst (λ (k : Solo). Sees k (after v (Occupy at bits true))) (sym is) (sees_seen _ (record v { reserved = reserved }) (Occupy at bits true) tt (λ k e. cc) (sees_occ m at word v reserved v.freed v.known sees)), tt, tt)
 
-pub vacate_made : (m n : Solo) (at : Occ) (bits word : ℕ) → n ≡ with_occ m at word → (v : View) → Sees m v → Sees n (after v (Vacate at bits)) × Unit {0}
-vacate_made m n at bits word is v sees = (subst (λ (k : Solo). Sees k (after v (Vacate at bits))) (sym is) (sees_occ m at word v (without_taken at bits v.reserved) (without_taken at bits v.freed) _ sees), tt)
+pub vacate_made : (m n : Solo) (at : Occ) (bits word : ℕ) → n ≡ with_occ m at word → (v : View) → Sees m v → Sees n (after v (Vacate at bits)) × Unit {0} × Unit {0}
+vacate_made m n at bits word is v sees = (subst (λ (k : Solo). Sees k (after v (Vacate at bits))) (sym is) (sees_occ m at word v (without_taken at bits v.reserved) (without_taken at bits v.freed) _ sees), tt, tt)
+
+-- entries that are numbered from one number on, with one more behind them
+numbered_more : (n : ℕ) (entries : List Numbered) (e : Numbered) → AreNumbered n entries → e.number ≡ n + length entries → AreNumbered n (entries ++ e ∷ [])
+unfolding AreNumbered
+numbered_more n [] e numbered is = (omega (arith, is), tt)
+numbered_more n (d ∷ entries) e numbered is = (numbered.0, numbered_more (n + 1) entries e numbered.1 (omega (arith, is)))
+
+-- each number is below that behind the last
+numbered_below : (n : ℕ) (entries : List Numbered) → AreNumbered n entries → All (λ (e : Numbered). e.number < n + length entries) entries
+unfolding AreNumbered
+numbered_below n [] numbered = All-nil (λ (e : Numbered). e.number < n + 0)
+numbered_below n (d ∷ entries) numbered =
+    All-cons (λ (e : Numbered). e.number < n + suc (length entries)) d entries (let first = numbered.0 in omega (arith, first))
+    (All-weaker (λ (e : Numbered). e.number < n + 1 + length entries) (λ (e : Numbered). e.number < n + suc (length entries)) (λ e few. omega (arith, few)) entries (numbered_below (n + 1) entries numbered.1))
+
+own_below : (m : Solo) (v : View) (n : ℕ) → Sees m v → m.number < n → All (λ (e : Numbered). e.number < n) v.entries
+own_below m v n sees below =
+    let count = sees.count in
+    All-weaker (λ (e : Numbered). e.number < 1 + length v.entries) (λ (e : Numbered). e.number < n) (λ e few. omega (arith, few, count, below)) v.entries (numbered_below 1 v.entries sees.numbers)
 
 -- the number drawn is above the lane's own, and the counter
-pub draw_made : (m n : Solo) (number : ℕ) → number ≡ m.number + 1 → n ≡ record m { number = m.number + 1 } → (v : View) → Sees m v → Sees n (after v (Draw number)) × All (λ (e : Numbered). e.number < number) v.entries
+pub draw_made : (m n : Solo) (number : ℕ) → number ≡ m.number + 1 → n ≡ record m { number = m.number + 1 } → (v : View) → Sees m v → Sees n (after v (Draw number)) × All (λ (e : Numbered). e.number < number) v.entries × Unit {0}
 draw_made m n number next is v sees = (
   subst (λ (k : Solo). Sees k (after v (Draw number))) (sym is) record {
     lane = sees.lane;
@@ -68,14 +90,16 @@ draw_made m n number next is v sees = (
     stop = sees.stop;
     calls = sees.calls;
     within = sees.within;
-    numbers = All-push (λ (e : Numbered). e.number ≤ m.number + 1) v.entries (record { number = number; call = v.call }) (All-weaker (λ (e : Numbered). e.number ≤ m.number) (λ (e : Numbered). e.number ≤ m.number + 1) (λ e few. omega arith) v.entries sees.numbers) (omega arith);
+    numbers = numbered_more 1 v.entries (record { number = number; call = v.call }) sees.numbers (let count = sees.count in omega (arith, next, count));
+    count = let count = sees.count in omega (arith, count, length-append v.entries (record { number = number; call = v.call } ∷ []));
     counter = λ none k among. cc;
     locks = sees.locks;
     zone_locks = sees.zone_locks;
     lines = sees.lines;
     alone = sees.alone;
   },
-  All-weaker (λ (e : Numbered). e.number ≤ m.number) (λ (e : Numbered). e.number < number) (λ e few. omega arith) v.entries sees.numbers,
+  own_below m v number sees (omega (arith, next)),
+  tt,
 )
 
 nothing_seen : (s : Step) → Contains [] s → ⊥
@@ -90,6 +114,7 @@ sees_begun m Idle v sees = record {
   calls = sees.calls;
   within = sees.within;
   numbers = sees.numbers;
+  count = sees.count;
   counter = λ none k among. absurd (nothing_seen (NumberSeen k) among);
   locks = sees.locks;
   zone_locks = sees.zone_locks;
@@ -103,11 +128,12 @@ sees_begun m (Applying applied) v sees = sees
 sees_begun m Clearing v sees = sees
 sees_begun m Retiring v sees = sees
 
-pub number_seen_made : (m : Solo) (number : ℕ) → number ≡ m.number → (v : View) → Sees m v → Sees m (after v (NumberSeen number)) × All (λ (e : Numbered). e.number ≤ number) v.entries
+pub number_seen_made : (m : Solo) (number : ℕ) → number ≡ m.number → (v : View) → Sees m v → Sees m (after v (NumberSeen number)) × All (λ (e : Numbered). e.number ≤ number) v.entries × (IsAlone v → number ≡ length v.entries)
 number_seen_made m number is v sees = (
   sees_seen m (begun v.log.phase v) (NumberSeen number) tt (λ k e. let same : number ≡ k = cc in sym is ∙ same) (sees_begun m v.log.phase v sees),
-  All-weaker (λ (e : Numbered). e.number ≤ m.number) (λ (e : Numbered). e.number ≤ number) (λ e few. omega arith) v.entries sees.numbers,
+  All-weaker (λ (e : Numbered). e.number < number + 1) (λ (e : Numbered). e.number ≤ number) (λ e few. omega (arith, few)) v.entries (own_below m v (number + 1) sees (omega (arith, is))),
+  λ alone. is ∙ sees.count,
 )
 
-pub stop_seen_made : (m : Solo) (stopped : Bool) (v : View) → Sees m v → Sees m (after v (StopSeen stopped)) × Unit {0}
-stop_seen_made m stopped v sees = (sees_seen m v (StopSeen stopped) tt (λ k e. cc) sees, tt)
+pub stop_seen_made : (m : Solo) (stopped : Bool) (v : View) → Sees m v → Sees m (after v (StopSeen stopped)) × Unit {0} × Unit {0}
+stop_seen_made m stopped v sees = (sees_seen m v (StopSeen stopped) tt (λ k e. cc) sees, tt, tt)

@@ -6,7 +6,7 @@ use Rattle.std.proofs.lemmas.List.{set-get_or}
 use Rattle.std.proofs.lemmas.List.Elements.{All-push, Contains-push_cases}
 use Rattle.pm_view.specs.declared.change.Change.{Change}
 use Rattle.pm_view.specs.Blocks.{allocation_word, block_at, is_word}
-use Rattle.pm_view.specs.Founds.{FindsKnown}
+use Rattle.pm_view.specs.Founds.{FindsKnown, IsAlone}
 use Rattle.pm_view.specs.Log.{Log}
 use Rattle.pm_view.specs.Steps.{Step}
 use Rattle.pm_view.specs.Steps.Step.{Load, NumberSeen}
@@ -26,6 +26,7 @@ sees_seen m v s granted drawn sees = record {
   calls = sees.calls;
   within = sees.within;
   numbers = sees.numbers;
+  count = sees.count;
   counter = λ none n among. ⊎_elim (λ (before : Contains v.seen (NumberSeen n)). sees.counter none n before) (λ (last : s ≡ NumberSeen n). drawn n last) (Contains-push_cases v.seen s (NumberSeen n) among);
   locks = sees.locks;
   zone_locks = sees.zone_locks;
@@ -49,7 +50,7 @@ write-with_block : (lanes : ℕ) (words : List ℕ) (w : ℕ) (l : Lock) → (wi
 write-with_block lanes words w l = write-either (is_word (allocation_word lanes words l.line) w) (record l { block = block_at lanes words l.line }) l refl
 
 -- the word found is the memory's
-pub sees_loaded : (m : Solo) (v : View) (w x : ℕ) → x ≡ slice_index m.words w → Sees m v → Sees m (after v (Load w x)) × FindsKnown v w x
+pub sees_loaded : (m : Solo) (v : View) (w x : ℕ) → x ≡ slice_index m.words w → Sees m v → Sees m (after v (Load w x)) × FindsKnown v w x × (IsAlone v → x ≡ slice_index v.words w)
 sees_loaded m v w x found sees =
     let same : set v.words w x ≡ v.words = ap (set v.words w) (found ∙ ap (λ (words : List ℕ). slice_index words w) (sym sees.words)) ∙ set-get_or v.words w 0 in (
       sees_seen m (loaded v w x) (Load w x) tt (λ n e. cc) record {
@@ -60,6 +61,7 @@ sees_loaded m v w x found sees =
         calls = sees.calls;
         within = sees.within;
         numbers = sees.numbers;
+        count = sees.count;
         counter = sees.counter;
         locks = λ line there. sees.locks line there ∙ sym (lock_word-map (with_block v.lanes (set v.words w x) w) (line-with_block v.lanes (set v.words w x) w) (write-with_block v.lanes (set v.words w x) w) v.locks line);
         zone_locks = sees.zone_locks;
@@ -67,6 +69,7 @@ sees_loaded m v w x found sees =
         alone = sees.alone;
       },
       λ known. found ∙ ap (λ (words : List ℕ). slice_index words w) (sym sees.words),
+      λ alone. found ∙ ap (λ (words : List ℕ). slice_index words w) (sym sees.words),
     )
 
 -- a counted call made this change
@@ -79,6 +82,7 @@ sees_changed m v c x log due fits sees = record {
   calls = calls_next v.calls m.calls sees.calls;
   within = within_next m v sees due fits;
   numbers = sees.numbers;
+  count = sees.count;
   counter = sees.counter;
   locks = sees.locks;
   zone_locks = sees.zone_locks;
@@ -97,6 +101,7 @@ sees_recounted m v f log due fits sees = record {
   calls = calls_next v.calls m.calls sees.calls;
   within = within_next m v sees due fits;
   numbers = sees.numbers;
+  count = sees.count;
   counter = sees.counter;
   locks = sees.locks;
   zone_locks = sees.zone_locks;
@@ -114,6 +119,7 @@ sees_stopped m v sees = record {
   calls = sees.calls;
   within = sees.within;
   numbers = sees.numbers;
+  count = sees.count;
   counter = sees.counter;
   locks = sees.locks;
   zone_locks = sees.zone_locks;

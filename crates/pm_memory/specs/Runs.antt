@@ -4,17 +4,18 @@ use Rattle.pm_view.specs.View.{View}
 use Rattle.pm_view.specs.Steps.{Step}
 use Rattle.pm_view.specs.Steps.Step.{SetStop}
 use Rattle.pm_view.specs.Views.{after, after_all}
-use Rattle.pm_view.specs.Founds.{Found}
+use Rattle.pm_view.specs.Founds.{Found, FoundAlone}
 use Rattle.pm_view.specs.Counts.{MayCount, IsAtStop}
 use Rattle.pm_memory.specs.declared.lane_mem.Stopped.{Stopped}
 
--- the step was made: whatever view the memory was seen as, it is now seen as that after the step, and the reply is what the view knows
+-- the step was made: whatever view the memory was seen as, it is now seen as that after the step, and the reply is what the view knows, and
+-- what a lane that is alone finds
 abbrev pub Made : (View → Type 0) → (View → Type 0) → Step → Type 0
-Made old new s = (v : View) → old v → new (after v s) × Found v s
+Made old new s = (v : View) → old v → new (after v s) × Found v s × FoundAlone v s
 
 -- the counted step with its answer was made, or the lane is at its stop number and the stop word was set in its place
 abbrev pub MadeOrStopped : {T : Type 0} → (View → Type 0) → (View → Type 0) → (T → Step) → Result T Stopped → Type 0
-MadeOrStopped old new s (Ok answer) = (v : View) → old v → new (after v (s answer)) × Found v (s answer) × MayCount v
+MadeOrStopped old new s (Ok answer) = (v : View) → old v → new (after v (s answer)) × Found v (s answer) × MayCount v × FoundAlone v (s answer)
 MadeOrStopped old new s (Err stopped) = (v : View) → old v → new (after v SetStop) × IsAtStop v
 
 -- some of the steps were made, the first of them, and the next is a counted one at the lane's stop number

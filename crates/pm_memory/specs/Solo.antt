@@ -42,6 +42,11 @@ IsGranted (Raise line won) = IsTrue won
 IsGranted (ZoneTry zone won) = IsTrue won
 IsGranted s = Unit {0}
 
+-- the entries have the numbers from this one on
+unfoldable pub AreNumbered : ℕ → List Numbered → Type 0
+AreNumbered n [] = Unit {0}
+AreNumbered n (e ∷ entries) = (e.number ≡ n) × AreNumbered (n + 1) entries
+
 -- The view of lane 0 has the memory's words, changes, calls, numbers and locks. What else it has is no concern of the memory.
 pub record Sees (m : Solo) (v : View) : Type 0 where
   pub lane : v.lane ≡ 0
@@ -51,8 +56,9 @@ pub record Sees (m : Solo) (v : View) : Type 0 where
   -- the calls are counted modulo 2 ^ 64, and exactly up to a stop number
   pub calls : v.calls % 2 ^ 64 ≡ m.calls
   pub within : ForSome m.stop (λ stop. v.calls ≤ stop)
-  -- its own numbers are among those drawn, and what it saw of the counter before its draw is the counter still
-  pub numbers : All (λ (e : Numbered). e.number ≤ m.number) v.entries
+  -- all numbers drawn are its own, and what it saw of the counter before its draw is the counter still
+  pub numbers : AreNumbered 1 v.entries
+  pub count : m.number ≡ length v.entries
   pub counter : v.number ≡ None → (n : ℕ) → Contains v.seen (NumberSeen n) → m.number ≡ n
   -- each line has its lock word
   pub lines : length m.locks ≡ length m.words / 8

@@ -23,7 +23,7 @@ use Rattle.pm_tx.proofs.GoingOn.{HasSameFields, KeepsObjects}
 use Rattle.pm_tx.proofs.LearnsAtWork.{Anywhere, forget, end_kept, look_at_work, moved, objects_learned, range_kept, looks_none, looks_once}
 use Rattle.pm_tx.proofs.Objects.{is_found, size_under}
 use Rattle.pm_tx.specs.AtWork.{FindsObject, IsAtWork}
-use Rattle.pm_tx.specs.Learning.{HasChecked}
+use Rattle.pm_tx.specs.Learning.{Finds, HasChecked}
 use Rattle.pm_tx.specs.Ranges.{is_lock_of}
 
 -- where no line is before the offset
@@ -80,6 +80,10 @@ module _ {M : Type 0} (o : Opening) (at : M → View → Type 0) (lane : Lane M)
           let word : 8 * line + 1 ≡ 8 * t.0.line + 1 = ap (λ n. 8 * n + 1) (sym t.2) in
           finds (ap (is_known v) word ∙ listed_is_known v (8 * t.0.line + 1) (work.objects t.0 t.1).known) ∙ ap (slice_index v.words) word
 
+      -- it finds what the view has, since the view knows it
+      finds_so : Finds v (8 * line + 1) x
+      finds_so = (finds, λ alone. let t = held_lock in size_is ∙ ap (λ n. slice_index v.words (8 * n + 1)) t.2)
+
       object_held : (id : Oid) → id.pool ≡ lane.pool → id.off ≡ 64 * line + 64 → IsHeld v id write
       object_held id of_pool place =
           let t = held_lock in
@@ -128,7 +132,7 @@ module _ {M : Type 0} (o : Opening) (at : M → View → Type 0) (lane : Lane M)
         range_checked id off len of_pool place low = record {
           loads = 1;
           view = after v (Load (8 * line + 1) x);
-          looks = looks_once v (8 * line + 1) x size_in_pool finds;
+          looks = looks_once v (8 * line + 1) x size_in_pool finds_so;
           works = looked_at_work;
           holds = range_kept v (after v (Load (8 * line + 1) x)) id off len write size_objects (has_range id off len of_pool place low);
         }
@@ -137,7 +141,7 @@ module _ {M : Type 0} (o : Opening) (at : M → View → Type 0) (lane : Lane M)
         end_checked id off len of_pool place high = record {
           loads = 1;
           view = after v (Load (8 * line + 1) x);
-          looks = looks_once v (8 * line + 1) x size_in_pool finds;
+          looks = looks_once v (8 * line + 1) x size_in_pool finds_so;
           works = looked_at_work;
           holds = end_kept v (after v (Load (8 * line + 1) x)) id off len write size_objects (passes_end id off len of_pool place high);
         }

@@ -1,18 +1,17 @@
 -- What loads of words that a lane may not know yet leave of its view.
 use Rattle.std.proofs.Common.{◌≡◌, ℕ, zero, suc, ◌+◌, ◌-◌, ◌*◌, ◌/◌, ◌<◌, Bool, true, false, cond, eqb, length, refl, ap, ◌∙◌, subst, length-set, arith}
 use Rattle.std.proofs.lemmas.Bool.Decides.{nat_tests}
-use Rattle.pm_view.specs.Founds.{FindsKnown}
 use Rattle.pm_view.specs.Steps.Step.{Load}
 use Rattle.pm_view.specs.View.{View}
 use Rattle.pm_view.specs.Views.{after}
-use Rattle.pm_tx.specs.Learning.{Learns}
+use Rattle.pm_tx.specs.Learning.{Finds, Learns}
 use Rattle.pm_tx.specs.Sequences.{word_count}
 
 pub learns_none : (first : ℕ) (v : View) → Learns first 0 v v
 unfolding Learns
 learns_none first v = refl
 
-pub learns_more : (first n : ℕ) (v m : View) (x : ℕ) → Learns first n v m → FindsKnown m (first + n) x → Learns first (n + 1) v (after m (Load (first + n) x))
+pub learns_more : (first n : ℕ) (v m : View) (x : ℕ) → Learns first n v m → Finds m (first + n) x → Learns first (n + 1) v (after m (Load (first + n) x))
 unfolding Learns
 learns_more first n v m x before finds = subst (λ k. Learns first k v (after m (Load (first + n) x))) (let e : suc n ≡ n + 1 = omega arith in e) (m, x, before, finds, refl)
 

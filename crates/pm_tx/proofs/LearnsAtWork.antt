@@ -31,7 +31,7 @@ use Rattle.pm_tx.proofs.AddsAtWork.{listed_is_known}
 use Rattle.pm_tx.proofs.GoingOn.{HasSameFields, KeepsObjects, goes_on, objects_kept}
 use Rattle.pm_tx.proofs.Objects.{covered_under, is_found}
 use Rattle.pm_tx.specs.AtWork.{FindsObject, IsAtWork}
-use Rattle.pm_tx.specs.Learning.{HasChecked, Learns, Looks}
+use Rattle.pm_tx.specs.Learning.{Finds, HasChecked, Learns, Looks}
 use Rattle.pm_tx.specs.Ranges.{KnowsRange}
 use Rattle.pm_tx.specs.Sequences.{word_count}
 use Rattle.pm_tx.proofs.WrittenBytes.{counted_covered, covered_counted}
@@ -135,16 +135,16 @@ words_learned o lane v l held first (suc n) w work under t =
     let before : HasLearnedWords o lane v first n m = words_learned o lane v l held first n m work (λ i low. under i (omega (arith, low))) t.2 in
     let there : Contains m.locks l = subst (λ locks. Contains locks l) (sym before.objects.locks) held in
     let last : is_under (first + n) l ≡ true = under n (omega arith) in
-    let more : KeepsObjects m (after m (Load (first + n) t.1)) = objects_learned o lane m before.works l there (first + n) t.1 last t.3 in
+    let more : KeepsObjects m (after m (Load (first + n) t.1)) = objects_learned o lane m before.works l there (first + n) t.1 last t.3.0 in
     subst (HasLearnedWords o lane v first (suc n)) (sym t.4)
     (record {
-      works = look_at_work o lane m before.works l there (first + n) t.1 last t.3;
+      works = look_at_work o lane m before.works l there (first + n) t.1 last t.3.0;
       objects = objects_then v m (after m (Load (first + n) t.1)) before.objects more;
       learned = λ i low. ⊎_elim
-          (λ (this : i ≡ n). subst (λ j. Contains (after m (Load (first + n) t.1)).known (first + j)) (sym this) (look_learns o lane m before.works l there (first + n) t.1 last t.3))
+          (λ (this : i ≡ n). subst (λ j. Contains (after m (Load (first + n) t.1)).known (first + j)) (sym this) (look_learns o lane m before.works l there (first + n) t.1 last t.3.0))
           (λ (front : i < n). more.remembers (first + i) (before.learned i front))
           (eq-or-lt_of_le (let e : i ≤ n = omega (arith, low) in e));
-      looks = (m, first + n, t.1, before.looks, look_in_pool o lane m before.works l there (first + n) t.1 last t.3, t.3, refl);
+      looks = (m, first + n, t.1, before.looks, look_in_pool o lane m before.works l there (first + n) t.1 last t.3.0, t.3, refl);
     })
 
 -- the range stays one of the object
@@ -188,7 +188,7 @@ pub looks_none : (v : View) → Looks 0 v v
 unfolding Looks
 looks_none v = refl
 
-pub looks_once : (v : View) (word x : ℕ) → word < length v.words → FindsKnown v word x → Looks 1 v (after v (Load word x))
+pub looks_once : (v : View) (word x : ℕ) → word < length v.words → Finds v word x → Looks 1 v (after v (Load word x))
 unfolding Looks
 looks_once v word x low finds = (v, word, x, refl, low, finds, refl)
 

@@ -11,6 +11,7 @@ use Rattle.pm_undo.proofs.Retired.{may_look}
 use Rattle.pm_undo.proofs.Staying.{looked}
 use Rattle.pm_view.proofs.Sequences.{after_all-append}
 use Rattle.pm_view.specs.Area.{area_word, is_in_area}
+use Rattle.pm_view.specs.Founds.{FoundAlone}
 use Rattle.pm_view.specs.Held.{is_known}
 use Rattle.pm_view.specs.Log.{Log, no_log}
 use Rattle.pm_view.specs.Log.Phase.{Open}
@@ -114,7 +115,7 @@ module _ {M : Type 0} (at : M → View → Type 0) (lane : Lane M) (v : View) (i
 
     ready : Ready v (starts n v)
     unfolding starts in_turn one Ready
-    ready = ready_both v (sees_generation v) (NumberSeen n ∷ []) looks_at.0 (tt, tt, tt)
+    ready = ready_both v (sees_generation v) (NumberSeen n ∷ []) looks_at.0 (tt, subst (λ (m : View). FoundAlone m (NumberSeen n)) (sym looks_at.1) (seen u (saw mid made)).2, tt)
 
     there : at memory w
     there = subst (at memory) t.1.0 (seen u (saw mid made)).0

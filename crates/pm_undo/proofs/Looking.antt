@@ -18,7 +18,7 @@ all_looks word = counted (λ i. looks (word + i))
 -- a load of a known word changes none
 pub foreseen : (v : View) (w : ℕ) → Ready v (looks w v) → IsTrue (is_known v w)
 unfolding looks Ready
-foreseen v w r = r.1
+foreseen v w r = r.1.0
 
 look_keeps : (v : View) (w : ℕ) → (after_all v (looks w v)).words ≡ v.words
 unfolding looks after_all

@@ -26,7 +26,7 @@ use Rattle.pm_undo.proofs.Storing.{Is, goes_from, goes_stores}
 -- a word that the view knows may be looked at, where no block is found by it
 pub may_look : (v : View) (w : ℕ) (Q : View → Type 0) → w < length v.words → is_known v w ≡ true → TellsNoBlock v w → Q (looked v w) → Ready v (looks w v) × Q (after_all v (looks w v))
 unfolding looks Ready after_all
-may_look v w Q low known quiet q = ((low, known, tt), subst Q (sym (looks_so v w quiet)) q)
+may_look v w Q low known quiet q = ((low, (known, refl), tt), subst Q (sym (looks_so v w quiet)) q)
 
 module _ (v : View) (area : HasArea v) where
   -- a word of the lane's area may be looked at
@@ -34,7 +34,7 @@ module _ (v : View) (area : HasArea v) where
   unfolding looks Ready after_all
   area_look w inside low =
       goes_from v (Is (looked v w)) (looks w)
-      ((low, or_left (is_in_area v.lane w) (list_any (λ other. eqb other w) v.known) inside, tt), looks_so v w (λ l there. area_tells_nothing v.lanes v.lane w l.line v.words area.lane inside))
+      ((low, (or_left (is_in_area v.lane w) (list_any (λ other. eqb other w) v.known) inside, refl), tt), looks_so v w (λ l there. area_tells_nothing v.lanes v.lane w l.line v.words area.lane inside))
 
 flushed_once : (changes : List Change) (c : Change) → changes ≡ [] → drained (flushed (c.word / 8) (changes ++ c ∷ [])) ≡ []
 flushed_once changes c none = ap (λ cs. drained (flushed (c.word / 8) (cs ++ c ∷ []))) none ∙ at (eqb (c.word / 8) (c.word / 8)) (eq-eqb (c.word / 8) (c.word / 8) refl) where

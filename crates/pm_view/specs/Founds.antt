@@ -1,8 +1,8 @@
 -- What a step tells that a lane's view knows before.
-use Rattle.std.specs.Prelude.{◌≡◌, ℕ, ◌<◌, ◌≤◌, IsTrue, All, slice_index}
+use Rattle.std.specs.Prelude.{◌≡◌, ℕ, ◌<◌, ◌≤◌, IsTrue, All, [], length, slice_index}
 use Rattle.pm_view.specs.Held.{is_known}
 use Rattle.pm_view.specs.Steps.{Step}
-use Rattle.pm_view.specs.Steps.Step.{Load, Or, And, Draw, NumberSeen}
+use Rattle.pm_view.specs.Steps.Step.{Load, Or, And, TakeWrite, TakeRead, Raise, Draw, NumberSeen}
 use Rattle.pm_view.specs.View.{View, Numbered}
 
 -- a word that the view knows has the value that the view has
@@ -17,3 +17,19 @@ Found v (And w bits found) = FindsKnown v w found
 Found v (Draw n) = All (λ (e : Numbered). e.number < n) v.entries
 Found v (NumberSeen n) = All (λ (e : Numbered). e.number ≤ n) v.entries
 Found v s = Unit {0}
+
+-- the lane shares its words with no other: it is of no table
+abbrev pub IsAlone : View → Type 0
+IsAlone v = v.table ≡ []
+
+-- what the step's reply says where the lane is alone: each word is as its view has it, no lock is refused, and the numbers drawn
+-- are its own
+abbrev pub FoundAlone : View → Step → Type 0
+FoundAlone v (Load w found) = IsAlone v → found ≡ slice_index v.words w
+FoundAlone v (Or w bits found) = IsAlone v → found ≡ slice_index v.words w
+FoundAlone v (And w bits found) = IsAlone v → found ≡ slice_index v.words w
+FoundAlone v (TakeWrite line won) = IsAlone v → IsTrue won
+FoundAlone v (TakeRead line won) = IsAlone v → IsTrue won
+FoundAlone v (Raise line won) = IsAlone v → IsTrue won
+FoundAlone v (NumberSeen n) = IsAlone v → n ≡ length v.entries
+FoundAlone v s = Unit {0}

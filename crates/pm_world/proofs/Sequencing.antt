@@ -110,7 +110,7 @@ pub runs_look : (old new : View → Type 0) (w found : ℕ) → Made old new (Lo
 unfolding Runs looks Ready after_all
 runs_look old new w found made v seen r =
     let m = made v seen in
-    subst (λ x. new (after v (Load w x))) (m.1 r.1) m.0
+    subst (λ x. new (after v (Load w x))) (m.1 r.1.0) m.0
 
 -- the first of two sequences is a load that the lane may make
 pub allowed_look : (old : View → Type 0) (w : ℕ) → IsReady old (looks w) → (v : View) × (old v × ((found : ℕ) → Allowed v (Load w found)))
@@ -163,12 +163,12 @@ module _ (old : View → Type 0) (w : ℕ) (steps : ℕ → Sequence) where
   module _ (mid : View → Type 0) (value : ℕ) (loaded : Made old mid (Load w value)) where
     word_chosen : (v : View) → old v → Ready v (looks w v) → steps (slice_index v.words w) ≡ steps value
     unfolding looks Ready
-    word_chosen v seen r = ap steps (sym ((loaded v seen).1 r.1))
+    word_chosen v seen r = ap steps (sym ((loaded v seen).1 r.1.0))
 
     -- what is found is what some view has
     pub word_found : IsReady old (with_word w steps) → (v : View) × (old v × (value ≡ slice_index v.words w))
     unfolding IsReady with_word by_view in_turn looks Ready
-    word_found r = (r.0, (r.1.0, (loaded r.0 r.1.0).1 r.1.1.1))
+    word_found r = (r.0, (r.1.0, (loaded r.0 r.1.0).1 r.1.1.1.0))
 
     -- and what is found chooses what follows
     pub word_ready : IsReady old (with_word w steps) → IsReady mid (steps value)

@@ -13,3 +13,4 @@ pub mod Records
 pub mod Sequences
 pub mod Solo
 pub mod World
+pub mod Tellings

@@ -1,8 +1,9 @@
 -- What an engine does to a lane's memory: steps that follow from the lane's view before them (docs/FORMAT.md, "Sequences").
-use Rattle.std.specs.Prelude.{ℕ, zero, suc, IsTrue, ◌==◌, nat_lt, if◌then◌else◌, List, [], ◌∷◌, ◌++◌, length, map, slice_index, Result, Ok, Err}
+use Rattle.std.specs.Prelude.{◌≡◌, ℕ, zero, suc, IsTrue, ◌==◌, nat_lt, if◌then◌else◌, List, [], ◌∷◌, ◌++◌, length, map, slice_index, Result, Ok, Err}
 use Rattle.pm_memory.specs.Runs.{Ran}
 use Rattle.pm_memory.specs.declared.lane_mem.Stopped.{Stopped}
 use Rattle.pm_view.specs.Counts.{max_changes, unflushed_lines}
+use Rattle.pm_view.specs.Founds.{FoundAlone}
 use Rattle.pm_view.specs.Held.{is_known}
 use Rattle.pm_view.specs.Steps.{Step}
 use Rattle.pm_view.specs.Steps.Step.{Load, Store, Flush, Drain}
@@ -65,10 +66,11 @@ makes_room v = if nat_lt (length v.changes) max_changes then [] else settles v
 unfoldable pub stores : ℕ → ℕ → Sequence
 stores w x = in_turn makes_room (one (Store w x))
 
--- what the step answers is known before: a load is of a word that the view knows
+-- what the step answers is known before: a load is of a word that the view knows, and finds that, and any other step finds what it does where
+-- the lane is alone
 abbrev pub IsForeseen : View → Step → Type 0
-IsForeseen v (Load w found) = IsTrue (is_known v w)
-IsForeseen v s = Unit {0}
+IsForeseen v (Load w found) = IsTrue (is_known v w) × (found ≡ slice_index v.words w)
+IsForeseen v s = FoundAlone v s
 
 -- the lane may make these steps, one after another, and knows what they answer
 unfoldable pub Ready : View → List Step → Type 0

@@ -1,5 +1,5 @@
 ghost use Rattle.std.specs.Prelude.{ℕ, Some, None, length};
-ghost use Rattle.pm_objects.specs.declared.calls.Operation.TheVariants.{Read, Write};
+ghost use Rattle.pm_objects.specs.declared.calls.Operation.TheVariants.{Begin, Read, Write};
 ghost use Rattle.pm_objects.specs.declared.history.Value.TheVariants.{Bytes};
 ghost use Rattle.std.specs.Option.{option_copied};
 ghost use Rattle.pm_memory.specs.Runs.{Made};
@@ -7,9 +7,10 @@ ghost use Rattle.pm_view.specs.Steps.{Step};
 ghost use Rattle.pm_view.specs.Steps.Step.{Tell};
 ghost use Rattle.pm_view.specs.View.{View};
 ghost use Rattle.pm_world.specs.Lawful.{Allowed};
+ghost use Rattle.pm_world.specs.Tellings.{reply_of};
 
 use pm_memory::LaneSync;
-use pm_objects::{Oid, Operation, Value};
+use pm_objects::{Oid, Operation, Refusal, Value, Want};
 
 /// A lane's memory that asks no more of a step than that it is lawful.
 pub trait LawfulMem: LaneSync {
@@ -18,7 +19,13 @@ pub trait LawfulMem: LaneSync {
         requires { Self.can self.old (Tell operation.now (option_copied reply)) }
         ensures { Made (Self.at self.old) (Self.at self.new) (Tell operation.now (option_copied reply.entry)) };
 
-    /// Tells a write that was done, its bytes being lent: an operation has bytes of its own, and a lane takes no memory.
+    /// Tells the begin of a level, or why it was refused, its wants being lent: an operation has wants of its own, and a lane takes
+    /// no memory.
+    fn tell_begin(&mut self, wants: &[Want], refusal: Option<Refusal>)
+        requires { Self.can self.old (Tell (Begin wants.now) (reply_of refusal)) }
+        ensures { Made (Self.at self.old) (Self.at self.new) (Tell (Begin wants.now) (reply_of refusal)) };
+
+    /// Tells a write that was done, its bytes being lent likewise.
     fn tell_write(&mut self, id: Oid, off: u64, bytes: &[u8])
         requires { Self.can self.old (Tell (Write id off bytes.now) None) }
         ensures { Made (Self.at self.old) (Self.at self.new) (Tell (Write id off bytes.now) None) };

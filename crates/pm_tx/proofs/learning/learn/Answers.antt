@@ -22,7 +22,7 @@ pub loop-i-preserved : goal.loop-i-preserved
 loop-i-preserved g c v seen =
     let t = c.loop-i.invariant v seen in
     let made = c.load-found.ensures t.0 t.1.0 in
-    (after t.0 (Load (c.args.place / 8 + c.loop-i.i) c.load-found.result), (made.0, learns_more (c.args.place / 8) c.loop-i.i v t.0 c.load-found.result t.1.1 made.1))
+    (after t.0 (Load (c.args.place / 8 + c.loop-i.i) c.load-found.result), (made.0, learns_more (c.args.place / 8) c.loop-i.i v t.0 c.load-found.result t.1.1 (made.1, made.2)))
 
 pub returns : goal.returns
 returns g c v seen =
