@@ -26,6 +26,7 @@ fn finish<M: LawfulMem>(
     ensures ran { Runs (M.at lane.old.memory) (M.at lane.new.memory) (gives_up lane.old.records.items operation.now (option_copied reply.entry) lane.new.last) result }
     ensures none { OnOk result (lane.new.records.items ≡ []) }
     ensures drawn { OnOk result (lane.new.drawn ≡ Some lane.new.last) }
+    ensures undrawn { OnErr result (lane.new.drawn ≡ lane.old.drawn) }
     ensures else_same { lane.new ≡ record lane.old { memory = lane.new.memory; records = lane.new.records; drawn = lane.new.drawn; last = lane.new.last } }
 {
     take_back(lane)?;
@@ -44,11 +45,11 @@ pub fn give_up<M: LawfulMem>(
 ) -> Result<(), Refusal>
     requires at_work { IsLaneAtWork M.at lane.old }
     ensures ended { OnOk result ((o : Opening) (v : View) → IsAtWork o M.at lane.old v → GivesUpBy v operation.now (option_copied reply.entry) error
-        → IsEndedBy M.at lane.new v (gives_up lane.old.records.items operation.now (option_copied reply.entry) lane.new.last)) }
+        → IsEndedBy M.at lane.new v (gives_up lane.old.records.items operation.now (option_copied reply.entry) lane.new.last) operation.now (option_copied reply.entry)) }
     ensures none { OnOk result (lane.new.records.items ≡ []) }
     ensures lane { OnOk result (lane.new ≡ record lane.old { memory = lane.new.memory; records = lane.new.records; stage = stage.OnAbort; error = error; drawn = Some lane.new.last; last = lane.new.last }) }
     ensures stops { OnErr result ((o : Opening) (v : View) → IsAtWork o M.at lane.old v → GivesUpBy v operation.now (option_copied reply.entry) error
-        → IsStoppedIn M.at lane.new v (gives_up lane.old.records.items operation.now (option_copied reply.entry) lane.new.last)) }
+        → IsStoppedIn M.at lane.new v (gives_up lane.old.records.items operation.now (option_copied reply.entry) lane.new.last) operation.now (option_copied reply.entry)) }
     ensures stopped { IfErr result (λ r. r ≡ refusal.Stopped) }
     ensures stopped_lane { OnErr result (lane.new ≡ record lane.old { memory = lane.new.memory; records = lane.new.records; drawn = lane.new.drawn; last = lane.new.last; stopped = true }) }
 {

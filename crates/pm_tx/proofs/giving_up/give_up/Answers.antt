@@ -11,4 +11,4 @@ returns-in-Ok-clause-ended g c o v is why =
 
 pub returns-in-Err-clause-stops : goal.returns-in-Err-clause-stops
 returns-in-Err-clause-stops g c o v is why =
-    stopped_giving_up g.M.LaneMem.at c.args.lane.now o v is c.args.operation.now (option_copied c.args.reply) c.args.error why _ c.in-Err.field-0 c.in-Err.ensures.ran refl
+    stopped_giving_up g.M.LaneMem.at c.args.lane.now o v is c.args.operation.now (option_copied c.args.reply) c.args.error why _ c.in-Err.field-0 c.in-Err.ensures.ran refl c.in-Err.ensures.undrawn
