@@ -202,6 +202,9 @@ after_over at lane new v w seen lines memory over locks none drawn pool unstoppe
 pub place_at_work : (v : View) → IsWorking v → HasPlace v
 place_at_work v working = let area = working.area in record { lane = area.lane; few = area.few; inside = area.inside }
 
+pub is_working_lane : {M : Type 0} (at : M → View → Type 0) (lane : Lane M) (o : Opening) (v : View) → IsAtWork o at lane v → IsWorkingLane at lane
+is_working_lane at lane o v is = (v, (is.seen, is.working))
+
 module _ {M : Type 0} (at : M → View → Type 0) (lane : Lane M) (o : Opening) (v : View) (is : IsAtWork o at lane v) (operation : Operation) (reply : Option Value) where
   abbrev pub spans : List Span
   spans = lane.records.items
@@ -227,9 +230,6 @@ module _ {M : Type 0} (at : M → View → Type 0) (lane : Lane M) (o : Opening)
   pub giving_up_drawn : (error : TxErr) → GivesUpBy v operation reply error → (n : ℕ) → DrawEnded v (gives_up spans operation reply n v)
   giving_up_drawn error why n =
       subst (λ (spans : List Span). DrawEnded v (gives_up spans operation reply n v)) (sym same) (give_up_drawn v is.working is.no_entries is.may_come operation reply n error why)
-
-  pub is_working_lane : IsWorkingLane at lane
-  is_working_lane = (v, (is.seen, is.working))
 
   taking : Ready v (takes_back spans v) × IsTakenBack v (after_all v (takes_back spans v))
   taking = subst (λ (spans : List Span). Ready v (takes_back spans v) × IsTakenBack v (after_all v (takes_back spans v))) (sym same) (take_back_lawful v is.working is.no_entries)

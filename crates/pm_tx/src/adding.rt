@@ -10,7 +10,7 @@ ghost use Rattle.pm_view.specs.View.{View};
 ghost use Rattle.pm_world.specs.Opening.{Opening};
 ghost use Rattle.pm_world.specs.Sequences.{IsMade, IsStopped};
 ghost use Rattle.pm_tx.specs.AtWork.{IsAtWork};
-ghost use Rattle.pm_tx.specs.Ranges.{CanAdd, HasAddedRange, MayAddRange, adds_range};
+ghost use Rattle.pm_tx.specs.Ranges.{CanAdd, HasAddedRange, MayAddRange, StopsUndrawn, adds_range};
 
 use pm_objects::{Oid, Operation, Refusal};
 use pm_undo::snapshot;
@@ -36,6 +36,7 @@ pub fn do_add<M: LawfulMem>(lane: &mut Lane<M>, id: Oid, off: u64, len: u64) -> 
         → IsReason v (AddRange id off len) (record { id = id; off = off; len = len }) refusal.LogFull }
     ensures unchanged { result ≡ Err refusal.LogFull → lane.new ≡ lane.old }
     ensures stopped { result ≡ Err refusal.Stopped → IsStopped (M.at lane.old.memory) (M.at lane.new.memory) (adds_range lane.old.records.items id off len) }
+    ensures stops { result ≡ Err refusal.Stopped → (o : Opening) (v : View) → IsAtWork o M.at lane.old v → CanAdd v id off len → StopsUndrawn (M.at lane.new.memory) v (adds_range lane.old.records.items id off len) }
     ensures causes { IfErr result (λ r. (r ≡ refusal.LogFull) ⊎ (r ≡ refusal.Stopped)) }
     ensures else_same { lane.new ≡ record lane.old { memory = lane.new.memory; records = lane.new.records } }
 {

@@ -1,9 +1,9 @@
-ghost use Rattle.std.specs.Prelude.{◌≡◌, ℕ, length, OnOk};
+ghost use Rattle.std.specs.Prelude.{◌≡◌, ℕ, length, OnErr, OnOk};
 ghost use Rattle.pm_view.specs.View.{View};
 ghost use Rattle.pm_world.specs.Opening.{Opening};
 ghost use Rattle.pm_world.specs.Sequences.{Runs};
 ghost use Rattle.pm_tx.specs.AtWork.{IsAtWork};
-ghost use Rattle.pm_tx.specs.Ranges.{CanWrite, HasWrittenRange, MayWriteRange, writes_range};
+ghost use Rattle.pm_tx.specs.Ranges.{CanWrite, HasWrittenRange, MayWriteRange, StopsUndrawn, writes_range};
 
 use crate::words::write_words;
 use pm_memory::Stopped;
@@ -21,9 +21,10 @@ pub fn do_write<M: LawfulMem>(
     requires may { MayWriteRange M.at lane.old id off (length bytes.now) }
     ensures ran { Runs (M.at lane.old.memory) (M.at lane.new.memory) (writes_range id off bytes.now) result }
     ensures done { OnOk result ((o : Opening) (v : View) → IsAtWork o M.at lane.old v → CanWrite v id off (length bytes.now) → HasWrittenRange o M.at lane.new v id off bytes.now) }
+    ensures stops { OnErr result ((o : Opening) (v : View) → IsAtWork o M.at lane.old v → CanWrite v id off (length bytes.now) → StopsUndrawn (M.at lane.new.memory) v (writes_range id off bytes.now)) }
     ensures else_same { lane.new ≡ record lane.old { memory = lane.new.memory } }
 {
     write_words(&mut lane.memory, id.off + off, bytes)?;
-    lane.memory.tell_write(id, off, bytes);
+    lane.memory.tell_write(id, off, bytes, None);
     Ok(())
 }
