@@ -4,5 +4,6 @@ pub mod Learning
 pub mod Resting
 pub mod Ending
 pub mod Ranges
+pub mod Calls
 pub mod Stages
 pub mod Beginning

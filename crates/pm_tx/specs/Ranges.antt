@@ -65,10 +65,6 @@ pub record HasAddedRange {M : Type 0} (o : Opening) (at : M → View → Type 0)
   pub added : AddsRange v (after_all v (adds_range spans id off len v)) id off len
   pub recorded : All (λ w. IsTrue (is_recorded (after_all v (adds_range spans id off len v)).log.records w)) (covered_words (id.off + off) len)
 
--- some view that the lane may be seen as is at work
-abbrev pub IsLaneAtWork : {M : Type 0} → (M → View → Type 0) → Lane M → Type 0
-IsLaneAtWork at lane = (o : Opening) × (v : View) × IsAtWork o at lane v
-
 -- a held lock is of this line, for writing if so asked
 abbrev pub is_lock_of : ℕ → Bool → HeldLock → Bool
 is_lock_of line write l = l.line == line && (l.write || not write)
