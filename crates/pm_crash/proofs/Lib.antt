@@ -44,3 +44,4 @@ pub mod FrontWords
 pub mod LogCourse
 pub mod AtMostOne
 pub mod ImageLogs
+pub mod Leading

@@ -1,0 +1,12 @@
+-- Steps that lead from one view to another, put together.
+use Rattle.std.proofs.Common.{List, [], ◌∷◌, ◌++◌, subst}
+use Rattle.pm_view.specs.Steps.{Step}
+use Rattle.pm_view.specs.View.{View}
+use Rattle.pm_view.specs.Views.{after}
+use Rattle.pm_crash.specs.Leading.{Leads}
+
+-- steps that lead to a view, and then those that lead on from it
+pub leads_then : (u v w : View) (first second : List Step) → Leads u first v → Leads v second w → Leads u (first ++ second) w
+unfolding Leads
+leads_then u v w [] second leads on = subst (λ m. Leads m second w) leads on
+leads_then u v w (s ∷ first) second leads on = (leads.0, leads.1, leads.2, leads_then (after u s) v w first second leads.3 on)

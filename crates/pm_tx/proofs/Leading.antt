@@ -1,0 +1,58 @@
+-- What a lane makes leads from the view before to the view behind: whole sequences, the first of their steps, and loads.
+use Rattle.std.proofs.Common.{◌≡◌, ◌+◌, ℕ, zero, suc, List, [], ◌∷◌, ◌++◌, take, Option, refl, ◌∙◌, ap, if◌then◌else◌}
+use Rattle.pm_crash.proofs.Leading.{leads_then}
+use Rattle.pm_crash.specs.Leading.{Leads}
+use Rattle.pm_objects.specs.declared.calls.Operation.{Operation}
+use Rattle.pm_objects.specs.declared.history.Value.{Value}
+use Rattle.pm_view.specs.Counts.{counted, is_counted}
+use Rattle.pm_view.specs.Founds.{FoundAlone}
+use Rattle.pm_view.specs.Steps.{Step}
+use Rattle.pm_view.specs.Steps.Step.{Load}
+use Rattle.pm_view.specs.View.{View}
+use Rattle.pm_view.specs.Views.{after, after_all}
+use Rattle.pm_world.specs.Sequences.{IsForeseen, Ready, Sequence}
+use Rattle.pm_world.specs.declared.lane.Lane.{Lane}
+use Rattle.pm_tx.specs.Ending.{DrawEnded, IsEndedBy, IsStoppedIn}
+use Rattle.pm_tx.specs.Learning.{Looks}
+
+-- what is known before is what a lane that is alone finds
+foreseen_is_found : (v : View) (s : Step) → IsForeseen v s → FoundAlone v s
+foreseen_is_found v (Load w found) foreseen = λ alone. foreseen.1
+foreseen_is_found v s foreseen = foreseen
+
+-- the first of steps that may be made, and what they draw is an ended call's
+pub front_leads : (v : View) (steps : List Step) (made : ℕ) → Ready v steps → DrawEnded v steps → Leads v (take made steps) (after_all v (take made steps))
+unfolding Leads Ready DrawEnded after_all
+front_leads v steps zero ready draws = refl
+front_leads v [] (suc made) ready draws = refl
+front_leads v (s ∷ steps) (suc made) ready draws = (ready.0, foreseen_is_found v s ready.1, draws.0, front_leads (after v s) steps made ready.2 draws.1)
+
+-- and all of them
+pub ready_leads : (v : View) (steps : List Step) → Ready v steps → DrawEnded v steps → Leads v steps (after_all v steps)
+unfolding Leads Ready DrawEnded after_all
+ready_leads v [] ready draws = refl
+ready_leads v (s ∷ steps) ready draws = (ready.0, foreseen_is_found v s ready.1, draws.0, ready_leads (after v s) steps ready.2 draws.1)
+
+module _ {M : Type 0} (at : M → View → Type 0) (lane : Lane M) (v : View) (steps : Sequence) (operation : Operation) (reply : Option Value) where
+  -- a call that ended
+  pub ended_leads : IsEndedBy at lane v steps operation reply → Leads v (steps v) (after_all v (steps v))
+  ended_leads ended = ready_leads v (steps v) ended.ready ended.draws
+
+  -- and one in which the lane stopped
+  pub stopped_leads : (stopped : IsStoppedIn at lane v steps operation reply) → Leads v (take stopped.stops.made (steps v)) (after_all v (take stopped.stops.made (steps v)))
+  stopped_leads stopped = front_leads v (steps v) stopped.stops.made stopped.ready stopped.draws
+
+counted_more : (steps : List Step) (word x : ℕ) → counted (steps ++ Load word x ∷ []) ≡ counted steps
+unfolding counted
+counted_more [] word x = refl
+counted_more (s ∷ steps) word x = ap (λ n. (if is_counted s then 1 else 0) + n) (counted_more steps word x)
+
+-- loads lead, and are no counted calls
+pub looks_lead : (n : ℕ) (v w : View) → Looks n v w → (steps : List Step) × (Leads v steps w × (counted steps ≡ 0))
+unfolding Looks Leads counted
+looks_lead zero v w is = ([], (is, refl))
+looks_lead (suc n) v w t =
+    let m : View = t.0 in
+    let before = looks_lead n v m t.3 in
+    let one : Leads m (Load t.1 t.2 ∷ []) w = (t.4, t.5.1, tt, t.6) in
+    (before.0 ++ Load t.1 t.2 ∷ [], (leads_then v m w before.0 (Load t.1 t.2 ∷ []) before.1.0 one, counted_more before.0 t.1 t.2 ∙ before.1.1))
