@@ -44,3 +44,6 @@ pub mod FrontWords
 pub mod LogCourse
 pub mod AtMostOne
 pub mod ImageLogs
+pub mod AloneMemory
+pub mod AloneCourse
+pub mod AloneImages
