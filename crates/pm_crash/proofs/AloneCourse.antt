@@ -280,7 +280,7 @@ module _ (o : Opening) (header : Header) (pool : PoolView) where
   calls_more v SetStop counts = absurd (false≢true counts)
   calls_more v (Tell operation reply) counts = absurd (false≢true counts)
 
-  due_along : (v : View) (s : Step) (w : View) → Grows (after v s) w → ForSome w.stop (λ stop. w.calls ≤ stop) → is_counted s ≡ true → MayCount v
+  pub due_along : (v : View) (s : Step) (w : View) → Grows (after v s) w → ForSome w.stop (λ stop. w.calls ≤ stop) → is_counted s ≡ true → MayCount v
   due_along v s w grows within counts =
       let more = calls_more v s counts in
       let calls = grows.calls in
@@ -293,7 +293,7 @@ module _ (o : Opening) (header : Header) (pool : PoolView) where
       let at : n ≡ 1 + length v.entries = numbered_at 1 v.entries e grows.rest numbers in
       omega arith
 
-  number_along : (v : View) (s : Step) (w : View) → Grows (after v s) w → AreNumbered 1 w.entries → (n : ℕ) → s ≡ Draw n → n ≡ length v.entries + 1
+  pub number_along : (v : View) (s : Step) (w : View) → Grows (after v s) w → AreNumbered 1 w.entries → (n : ℕ) → s ≡ Draw n → n ≡ length v.entries + 1
   number_along v s w grows numbered n is = drawn_along v n w (subst (λ (t : Step). Grows (after v t) w) is grows) numbered
 
   -- and so along all its steps

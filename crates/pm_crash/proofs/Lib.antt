@@ -47,3 +47,5 @@ pub mod ImageLogs
 pub mod AloneMemory
 pub mod AloneCourse
 pub mod AloneImages
+pub mod FirstLog
+pub mod TornSlots

@@ -94,12 +94,12 @@ drained_of changes = record {
 }
 
 -- a word more in the slot: a record more, or a longer slot
-record Slotted (log : Log) (s pair : List ℕ) : Type 0 where
-  slot : List ℕ
-  is_open : (with_slot log s pair).phase ≡ Open slot pair
-  count : 8 * length (with_slot log s pair).records + length slot ≡ 8 * length log.records + length s
+pub record Slotted (log : Log) (s pair : List ℕ) : Type 0 where
+  pub slot : List ℕ
+  pub is_open : (with_slot log s pair).phase ≡ Open slot pair
+  pub count : 8 * length (with_slot log s pair).records + length slot ≡ 8 * length log.records + length s
 
-slotted : (log : Log) (s pair : List ℕ) → Slotted log s pair
+pub slotted : (log : Log) (s pair : List ℕ) → Slotted log s pair
 slotted log [] pair = record { slot = []; is_open = refl; count = refl }
 slotted log (a ∷ []) pair = record { slot = a ∷ []; is_open = refl; count = refl }
 slotted log (a ∷ b ∷ []) pair = record { slot = a ∷ b ∷ []; is_open = refl; count = refl }

@@ -1,24 +1,29 @@
 -- One lane that makes steps where no other lane makes any, over an image that holds a pool; and what a power failure leaves of its work.
-use Rattle.std.specs.Prelude.{◌≡◌, ℕ, ◌<◌, ◌≤◌, ◌==◌, not, if◌then◌else◌, List, map}
-use Rattle.std.specs.List.{filter}
+use Rattle.std.specs.Prelude.{◌≡◌, ◌≢◌, ◌⊎◌, ℕ, ◌+◌, ◌*◌, ◌<◌, ◌≤◌, ◌==◌, ◌&&◌, nat_le, not, Bool, true, if◌then◌else◌, IsTrue, List, [], length, map, slice_index}
+use Rattle.std.specs.List.{filter, list_all, range_with_len}
 use Rattle.std.specs.Option.{ForSome}
 use Rattle.pm_header.specs.declared.header.Header.{Header}
 use Rattle.pm_objects.specs.Pool.{offsets}
 use Rattle.pm_objects.specs.declared.pool.PoolView.{PoolView}
 use Rattle.pm_image.specs.Blocks.{blocks}
 use Rattle.pm_image.specs.Contents.{offset_in}
-use Rattle.pm_image.specs.Logs.{recovered_at}
+use Rattle.pm_image.specs.Logs.{generation_word, recovered_at, undo_slot}
 use Rattle.pm_image.specs.Means.{IsMeaning}
 use Rattle.pm_model.specs.History.{opened}
 use Rattle.pm_model.specs.Names.{Replays}
 use Rattle.pm_model.specs.Step.{Act}
+use Rattle.pm_record.specs.Undo.{is_record}
 use Rattle.pm_view.specs.Founds.{IsAlone}
+use Rattle.pm_view.specs.Log.{Phase, Recorded}
+use Rattle.pm_view.specs.Log.Phase.{Open}
+use Rattle.pm_view.specs.Rights.{is_written}
 use Rattle.pm_view.specs.Steps.{Step}
 use Rattle.pm_view.specs.View.{Numbered, View, blank}
 use Rattle.pm_memory.specs.Solo.{AreNumbered}
 use Rattle.pm_world.specs.Crash.{loses}
 use Rattle.pm_world.specs.Opening.{Opening}
 use Rattle.pm_world.specs.Opens.{IsClean, IsFresh}
+use Rattle.pm_world.specs.Records.{generation_of, spelled}
 use Rattle.pm_world.specs.World.{Views}
 use Rattle.pm_crash.specs.Held.{HoldsImage}
 use Rattle.pm_crash.specs.Leading.{Leads}
@@ -62,3 +67,36 @@ pub record MeansCalls (image : List ℕ) (lanes zones : ℕ) (pool : PoolView) (
   pub replays : Replays (opened pool) (map act_of_numbered calls) (opened last)
   pub means : IsMeaning image last
   pub blocks_are : map offset_in (blocks (recovered_at image lanes) lanes zones) ≡ offsets last.objects
+
+-- the lane may be writing the record: its words lie behind the lanes' areas, under locks that it holds for writing, and are as the view has them
+pub record MayRecord (w : View) (r : Recorded) : Type 0 where
+  pub some : 1 ≤ length r.old
+  pub most : length r.old ≤ 4
+  pub behind : 512 + 1024 * w.lanes ≤ r.word
+  pub inside : r.word + length r.old ≤ length w.words
+  pub own : (i : ℕ) → i < length r.old → IsTrue (is_written w (r.word + i))
+  pub present : (i : ℕ) → i < length r.old → slice_index w.words (r.word + i) ≡ slice_index r.old i
+
+-- eight words of a slot, each that of a record or the one that was there: the first is the record's, not all are, and yet the last is the
+-- sum of the others
+pub record IsTornMatch (was whole slot : List ℕ) : Type 0 where
+  pub size : length slot ≡ 8
+  pub mixed : (i : ℕ) → i < 8 → (slice_index slot i ≡ slice_index whole i) ⊎ (slice_index slot i ≡ slice_index was i)
+  pub begun : slice_index slot 0 ≡ slice_index whole 0
+  pub torn : slot ≢ whole
+  pub matches : IsTrue (is_record slot)
+
+-- no record of one to four words that passes the test makes, in the opening's generation, a torn match in a slot of lane 0
+abbrev pub HasNoTornMatch : Opening → (Recorded → Bool) → Type 0
+HasNoTornMatch o test =
+    (slot : ℕ) (r : Recorded) (words : List ℕ) → slot < 64 → 1 ≤ length r.old → length r.old ≤ 4 → test r ≡ true
+    → IsTornMatch (undo_slot o.words 0 slot) (spelled (generation_word o.words 0) r) words → ⊥
+
+-- the record is of some of these words, and has them for old ones
+abbrev pub is_of_words : List ℕ → Recorded → Bool
+is_of_words words r = nat_le (r.word + length r.old) (length words) && list_all (λ i. slice_index words (r.word + i) == slice_index r.old i) (range_with_len 0 (length r.old))
+
+-- while the lane's log may grow it is of the opening's generation, or nothing of it is written yet
+abbrev pub GrowsFirst : Opening → View → Phase → Type 0
+GrowsFirst o w (Open slot pair) = (generation_of w ≡ generation_word o.words 0) ⊎ ((slot ≡ []) × (w.log.records ≡ []))
+GrowsFirst o w phase = Unit {0}

@@ -38,4 +38,5 @@ fn laws(_rt: HostRuntime) {
     one_lanes_images_mean_the_replay();
     a_lane_alone_leaves_its_whole_calls();
     a_call_in_flight_is_lost_by_its_generation();
+    no_record_is_torn();
 }
