@@ -151,7 +151,7 @@ module _ (o : Opening) (header : Header) (pool : PoolView) (v : View) (stands : 
   fits = own_fits o header pool v stands
 
   -- what the lane may write lies behind the areas
-  behind : (u : ℕ) → is_written v u ≡ true → 1536 ≤ u
+  pub behind : (u : ℕ) → is_written v u ≡ true → 1536 ≤ u
   behind u written =
       let low = behind_areas o (memory_of v) stands.views stands.log stands.decided stands.goes.world 0 u (writes_under o (memory_of v) 0 v u fits.locks written) in
       let some = stands.goes.in_lanes in

@@ -49,3 +49,4 @@ pub mod AloneCourse
 pub mod AloneImages
 pub mod FirstLog
 pub mod TornSlots
+pub mod Raising

@@ -1,5 +1,5 @@
 -- One lane that makes steps where no other lane makes any, over an image that holds a pool; and what a power failure leaves of its work.
-use Rattle.std.specs.Prelude.{◌≡◌, ◌≢◌, ◌⊎◌, ℕ, ◌+◌, ◌*◌, ◌<◌, ◌≤◌, ◌==◌, ◌&&◌, nat_le, not, Bool, true, if◌then◌else◌, IsTrue, List, [], length, map, slice_index}
+use Rattle.std.specs.Prelude.{◌≡◌, ◌≢◌, ◌⊎◌, ℕ, ◌+◌, ◌*◌, ◌<◌, ◌≤◌, ◌==◌, ◌&&◌, nat_le, not, Bool, true, false, if◌then◌else◌, IsTrue, List, [], ◌∷◌, length, map, slice_index}
 use Rattle.std.specs.List.{filter, list_all, range_with_len}
 use Rattle.std.specs.Option.{ForSome}
 use Rattle.pm_header.specs.declared.header.Header.{Header}
@@ -17,7 +17,9 @@ use Rattle.pm_view.specs.Founds.{IsAlone}
 use Rattle.pm_view.specs.Log.{Phase, Recorded}
 use Rattle.pm_view.specs.Log.Phase.{Open}
 use Rattle.pm_view.specs.Rights.{is_written}
+use Rattle.pm_view.specs.Area.{area_word}
 use Rattle.pm_view.specs.Steps.{Step}
+use Rattle.pm_view.specs.Steps.Step.{Store}
 use Rattle.pm_view.specs.View.{Numbered, View, blank}
 use Rattle.pm_memory.specs.Solo.{AreNumbered}
 use Rattle.pm_world.specs.Crash.{loses}
@@ -100,3 +102,13 @@ is_of_words words r = nat_le (r.word + length r.old) (length words) && list_all 
 abbrev pub GrowsFirst : Opening → View → Phase → Type 0
 GrowsFirst o w (Open slot pair) = (generation_of w ≡ generation_word o.words 0) ⊎ ((slot ≡ []) × (w.log.records ≡ []))
 GrowsFirst o w phase = Unit {0}
+
+-- the step stores the generation of lane 0's log
+abbrev pub is_raise : Step → Bool
+is_raise (Store w x) = w == area_word 0
+is_raise s = false
+
+-- how many of these steps do
+unfoldable pub raises : List Step → ℕ
+raises [] = 0
+raises (s ∷ steps) = (if is_raise s then 1 else 0) + raises steps

@@ -1,4 +1,4 @@
-ghost use Rattle.std.specs.Prelude.{◌≡◌, ◌≢◌, ◌⊎◌, ◌==◌, ℕ, ◌<◌, Bool, true, false, List, [], ◌∷◌, length, slice_index, Some};
+ghost use Rattle.std.specs.Prelude.{◌≡◌, ◌≢◌, ◌⊎◌, ◌==◌, ℕ, ◌+◌, ◌<◌, Bool, true, false, List, [], ◌∷◌, length, slice_index, Some};
 ghost use Rattle.pm_header.specs.declared.header.Header.{Header};
 ghost use Rattle.pm_objects.specs.declared.pool.PoolView.{PoolView};
 ghost use Rattle.pm_image.specs.Logs.{generation_word};
@@ -9,8 +9,8 @@ ghost use Rattle.pm_view.specs.View.{View};
 ghost use Rattle.pm_memory.specs.Keep.{IsKeptImage};
 ghost use Rattle.pm_world.specs.Crash.{NoneTorn, loses};
 ghost use Rattle.pm_world.specs.Opening.{Opening};
-ghost use Rattle.pm_world.specs.Records.{records_generation};
-ghost use Rattle.pm_crash.specs.Alone.{GrowsFirst, HasNoTornMatch, MayRecord, MeansCalls, WorksAlone, alone_views, is_of_words, kept_numbered};
+ghost use Rattle.pm_world.specs.Records.{generation_of, records_generation};
+ghost use Rattle.pm_crash.specs.Alone.{GrowsFirst, HasNoTornMatch, MayRecord, MeansCalls, WorksAlone, alone_views, is_of_words, kept_numbered, raises};
 
 /// A law: where one lane works alone, each image that a power failure leaves of its words means the pool to which the calls that it does
 /// not lose lead, in order, from the pool at the opening; and it has the opening's length and header page. No code runs.
@@ -50,4 +50,11 @@ pub fn no_record_is_torn()
     ensures of_words { (o : Opening) (header : Header) (pool : PoolView) (v w : View) (steps : List Step) (keep : ℕ) (image : List ℕ)
         → WorksAlone o header pool v steps w → IsKeptImage keep w.words (w.changes ∷ []) image → GrowsFirst o w w.log.phase
         → HasNoTornMatch o (is_of_words w.words) → NoneTorn o (alone_views o w) image }
+{}
+
+/// A law: a lane that works alone raises its generation by one with each store of it, and with nothing else; so before the first such store
+/// it is the opening's. No code runs.
+pub fn a_generation_rises_with_each_store_of_it()
+    ensures { (o : Opening) (header : Header) (pool : PoolView) (v w : View) (steps : List Step)
+        → WorksAlone o header pool v steps w → generation_of w ≡ generation_word o.words 0 + raises steps }
 {}

@@ -13,7 +13,10 @@ mod course;
 mod histories;
 mod laws;
 
-pub use alone::{a_call_in_flight_is_lost_by_its_generation, a_lane_alone_leaves_its_whole_calls};
+pub use alone::{
+    a_call_in_flight_is_lost_by_its_generation, a_generation_rises_with_each_store_of_it,
+    a_lane_alone_leaves_its_whole_calls, no_record_is_torn,
+};
 pub use calls::{
     a_begin_opens, a_call_given_up_changes_nothing, a_call_makes_its_difference,
     a_call_stays_while_its_lane_learns, a_call_stays_while_nothing_is_told, a_commit_is_a_step,

@@ -39,4 +39,5 @@ fn laws(_rt: HostRuntime) {
     a_lane_alone_leaves_its_whole_calls();
     a_call_in_flight_is_lost_by_its_generation();
     no_record_is_torn();
+    a_generation_rises_with_each_store_of_it();
 }
