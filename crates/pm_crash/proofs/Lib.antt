@@ -50,3 +50,4 @@ pub mod AloneImages
 pub mod FirstLog
 pub mod TornSlots
 pub mod Raising
+pub mod SeenAlone
