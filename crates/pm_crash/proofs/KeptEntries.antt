@@ -9,6 +9,7 @@ use Rattle.pm_image.specs.declared.fault.ImageFault.{ImageFault}
 use Rattle.pm_image.specs.HeapFaults.{heap_fault}
 use Rattle.pm_image.specs.LogFaults.{log_fault}
 use Rattle.pm_image.specs.Logs.{recovered_at}
+use Rattle.pm_image.specs.Means.{IsMeaning}
 use Rattle.pm_image.specs.Reads.{IsHeapWord}
 use Rattle.pm_image.proofs.InPlace.{recovered_in_place}
 use Rattle.pm_image.proofs.Members.{first_member, later_member, member_cases}
@@ -22,9 +23,11 @@ use Rattle.pm_world.specs.History.{AreNumbered, Entry}
 use Rattle.pm_world.specs.Memory.{Memory}
 use Rattle.pm_world.specs.Memory.Location.{PoolWord}
 use Rattle.pm_world.specs.Opening.{Opening}
+use Rattle.pm_world.specs.Opens.{IsClean}
 use Rattle.pm_world.specs.World.{Views}
 use Rattle.pm_world.proofs.CrashLaw.{crash_law}
 use Rattle.pm_world.proofs.Losses.{acknowledged, some_lane}
+use Rattle.pm_crash.specs.Held.{HoldsImage}
 use Rattle.pm_crash.specs.OneLane.{Begins, HoldsReplay, IsCourse, MeansReplay, Moment, Move, beginning, kept_entries}
 use Rattle.pm_crash.proofs.CleanWords.{clean_words_hold}
 use Rattle.pm_crash.proofs.FrontWords.{header_survives}
@@ -122,6 +125,26 @@ module _ (o : Opening) (k : ℕ) (header : Header) (pool : PoolView) (m : Moment
   acknowledged_kept e there ended =
       passes_there (λ (d : Entry). is_kept o m.views image d.number) m.log e there (acknowledged o m.memory m.views m.log m.decided image e g.world there ended)
 
+  -- the image has the header and no fault in its logs, so that it means the pool
+  pub image_means : HoldsImage o.words o.lanes o.zones header pool → ((j : ℕ) → j < o.lanes → IsClean o j) → Survives o m.memory m.views image → NoneTorn o m.views image
+      → (held : HoldsReplay (recovered_at image o.lanes) o.lanes o.zones header pool (kept_entries o m image)) → IsMeaning image held.last
+  image_means holds clean survives whole held =
+      let ranges : (j : ℕ) → j < o.lanes → InRange (m.memory (PoolWord (area_word j))) (m.views j) (m.views j).log.phase = λ j low. ⊎_elim
+      (λ (same : j ≡ k). subst (λ n. InRange (m.memory (PoolWord (area_word n))) (m.views n) (m.views n).log.phase) (sym same) g.range)
+      (λ (other : j ≢ k). subst (InRange (m.memory (PoolWord (area_word j))) (m.views j)) (sym (g.others j low other)) tt)
+      (cases_eq j k) in
+      let none : log_fault image o.lanes o.zones ≡ None =
+      no_log_fault o m.memory m.views m.log m.decided g.world image survives whole ranges (clean_words_hold o header pool holds clean).no_fault in
+      record {
+        lanes = o.lanes;
+        zones = o.zones;
+        header = header;
+        has_header = header_survives o m.memory m.views m.log m.decided g.world header image survives g.front holds.has_header;
+        fits = holds.fits;
+        no_fault = ap (λ (found : Option ImageFault). option_or found (heap_fault (recovered_at image o.lanes) o.lanes o.zones)) none ∙ held.holds.no_fault;
+        is_pool = held.holds.is_pool;
+      }
+
 module _ (o : Opening) (memory : Memory) (views : Views) (k : ℕ) (header : Header) (pool : PoolView) (steps : List Move) (m : Moment) (image : List ℕ) where
   pub replay_held : Begins o memory views k header pool → IsCourse k (beginning memory views) steps m → Survives o m.memory m.views image → NoneTorn o m.views image
       → HoldsReplay (recovered_at image o.lanes) o.lanes o.zones header pool (kept_entries o m image)
@@ -130,28 +153,9 @@ module _ (o : Opening) (memory : Memory) (views : Views) (k : ℕ) (header : Hea
   pub ended_kept : Begins o memory views k header pool → IsCourse k (beginning memory views) steps m → (e : Entry) → Contains m.log e → IsAcknowledged m.views e → Contains (kept_entries o m image) e
   ended_kept begins course = acknowledged_kept o k header pool m (goes_along o k header pool (beginning memory views) steps m (goes_first o memory views k header pool begins) course) image
 
-  -- the image has the header and no fault in its logs, so that it means the pool
   pub replay_meant : Begins o memory views k header pool → IsCourse k (beginning memory views) steps m → Survives o m.memory m.views image → NoneTorn o m.views image
       → MeansReplay image pool (kept_entries o m image)
   replay_meant begins course survives whole =
       let g : Goes o k header pool m = goes_along o k header pool (beginning memory views) steps m (goes_first o memory views k header pool begins) course in
       let held = image_replays o k header pool m g image survives whole in
-      let ranges : (j : ℕ) → j < o.lanes → InRange (m.memory (PoolWord (area_word j))) (m.views j) (m.views j).log.phase = λ j low. ⊎_elim
-      (λ (same : j ≡ k). subst (λ n. InRange (m.memory (PoolWord (area_word n))) (m.views n) (m.views n).log.phase) (sym same) g.range)
-      (λ (other : j ≢ k). subst (InRange (m.memory (PoolWord (area_word j))) (m.views j)) (sym (g.others j low other)) tt)
-      (cases_eq j k) in
-      let none : log_fault image o.lanes o.zones ≡ None =
-      no_log_fault o m.memory m.views m.log m.decided g.world image survives whole ranges (clean_words_hold o header pool begins.holds begins.clean).no_fault in
-      record {
-        last = held.last;
-        replays = held.replays;
-        means = record {
-          lanes = o.lanes;
-          zones = o.zones;
-          header = header;
-          has_header = header_survives o m.memory m.views m.log m.decided g.world header image survives g.front begins.holds.has_header;
-          fits = begins.holds.fits;
-          no_fault = ap (λ (found : Option ImageFault). option_or found (heap_fault (recovered_at image o.lanes) o.lanes o.zones)) none ∙ held.holds.no_fault;
-          is_pool = held.holds.is_pool;
-        };
-      }
+      record { last = held.last; replays = held.replays; means = image_means o k header pool m g image begins.holds begins.clean survives whole held }

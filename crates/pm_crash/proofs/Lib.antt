@@ -45,3 +45,10 @@ pub mod LogCourse
 pub mod AtMostOne
 pub mod ImageLogs
 pub mod Leading
+pub mod AloneMemory
+pub mod AloneCourse
+pub mod AloneImages
+pub mod FirstLog
+pub mod TornSlots
+pub mod Raising
+pub mod SeenAlone

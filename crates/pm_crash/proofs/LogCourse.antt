@@ -49,11 +49,11 @@ InRange g v Retiring = 2 ≤ g
 InRange g v phase = Unit {0}
 
 -- the changes are some of the others, by their words
-record Among (changes others : List Change) : Type 0 where
-  none : others ≡ [] → changes ≡ []
-  from : (c : Change) → Contains changes c → (d : Change) × Contains others d × (d.word ≡ c.word)
+pub record Among (changes others : List Change) : Type 0 where
+  pub none : others ≡ [] → changes ≡ []
+  pub from : (c : Change) → Contains changes c → (d : Change) × Contains others d × (d.word ≡ c.word)
 
-carried : (g g' : ℕ) (v v' : View) (phase : Phase) → g' ≡ g → v'.lane ≡ v.lane → v'.log.records ≡ v.log.records → Among v'.changes v.changes → InRange g v phase → InRange g' v' phase
+pub carried : (g g' : ℕ) (v v' : View) (phase : Phase) → g' ≡ g → v'.lane ≡ v.lane → v'.log.records ≡ v.log.records → Among v'.changes v.changes → InRange g v phase → InRange g' v' phase
 carried g g' v v' Idle same lane records among range = tt
 carried g g' v v' (Open slot pair) same lane records among range = (
   ⊎_elim (λ (low : g < generation_limit). inl (subst (λ n. n < generation_limit) (sym same) low))
@@ -72,7 +72,7 @@ carried g g' v v' (Applying applied) same lane records among range = tt
 carried g g' v v' Clearing same lane records among range = tt
 carried g g' v v' Retiring same lane records among range = subst (λ n. 2 ≤ n) (sym same) range
 
-all_of : (changes : List Change) → Among changes changes
+pub all_of : (changes : List Change) → Among changes changes
 all_of changes = record { none = λ e. e; from = λ c there. (c, there, refl) }
 
 marked_word : (line : ℕ) (c : Change) (b : Bool) → (cond b (record c { flushed = true }) c).word ≡ c.word
@@ -94,12 +94,12 @@ drained_of changes = record {
 }
 
 -- a word more in the slot: a record more, or a longer slot
-record Slotted (log : Log) (s pair : List ℕ) : Type 0 where
-  slot : List ℕ
-  is_open : (with_slot log s pair).phase ≡ Open slot pair
-  count : 8 * length (with_slot log s pair).records + length slot ≡ 8 * length log.records + length s
+pub record Slotted (log : Log) (s pair : List ℕ) : Type 0 where
+  pub slot : List ℕ
+  pub is_open : (with_slot log s pair).phase ≡ Open slot pair
+  pub count : 8 * length (with_slot log s pair).records + length slot ≡ 8 * length log.records + length s
 
-slotted : (log : Log) (s pair : List ℕ) → Slotted log s pair
+pub slotted : (log : Log) (s pair : List ℕ) → Slotted log s pair
 slotted log [] pair = record { slot = []; is_open = refl; count = refl }
 slotted log (a ∷ []) pair = record { slot = a ∷ []; is_open = refl; count = refl }
 slotted log (a ∷ b ∷ []) pair = record { slot = a ∷ b ∷ []; is_open = refl; count = refl }

@@ -1,6 +1,7 @@
 pub mod Draws
 pub mod Held
 pub mod Leading
+pub mod Alone
 pub mod HeldHistory
 pub mod Lines
 pub mod OneLane

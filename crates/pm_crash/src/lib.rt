@@ -3,15 +3,20 @@
 //! Promises whoever proves an engine or the top theorem that words which hold a pool, with bytes written inside an object, hold the
 //! pool of the plain model after that write; that the blocks a lane finds are the pool's objects; that each operation of a call, its
 //! refusals and its commit are the plain model's, by what the lane's view has before and after; and that every image which a power failure
-//! leaves then holds what whole calls made, and of one lane's work means their replay. No code stands here but laws. It stands on
+//! leaves then holds what whole calls made, and of one lane's work means their replay, by what that lane's view has. No code stands here but laws. It stands on
 //! `pm_image` for the meaning of words, `pm_model` for calls, `pm_view` for what a lane has, `pm_world` for records; docs/MODEL.md.
 #![tactic(auto)]
 
+mod alone;
 mod calls;
 mod course;
 mod histories;
 mod laws;
 
+pub use alone::{
+    a_call_in_flight_is_lost_by_its_generation, a_generation_rises_with_each_store_of_it,
+    a_lane_alone_leaves_its_whole_calls, no_record_is_torn,
+};
 pub use calls::{
     a_begin_opens, a_call_given_up_changes_nothing, a_call_makes_its_difference,
     a_call_stays_while_its_lane_learns, a_call_stays_while_nothing_is_told, a_commit_is_a_step,

@@ -36,4 +36,8 @@ fn laws(_rt: HostRuntime) {
     a_recovered_pool_opens_a_world();
     an_ended_call_is_a_model_step();
     one_lanes_images_mean_the_replay();
+    a_lane_alone_leaves_its_whole_calls();
+    a_call_in_flight_is_lost_by_its_generation();
+    no_record_is_torn();
+    a_generation_rises_with_each_store_of_it();
 }

@@ -32,11 +32,11 @@ use Rattle.pm_world.proofs.Exclusion.{one_writer}
 use Rattle.pm_world.proofs.Losses.{some_lane}
 
 -- with nothing undrained each slot is drained
-all_drained : (v : View) (slot : ℕ) → v.changes ≡ [] → is_drained_slot v slot ≡ true
+pub all_drained : (v : View) (slot : ℕ) → v.changes ≡ [] → is_drained_slot v slot ≡ true
 all_drained v slot nothing = ap (λ changes. not (list_any (is_in_line (slot_line v.lane slot)) changes)) nothing
 
 -- while the generation ends, no slot has a change
-retiring_drained : (v : View) (slot : ℕ) → All (RetiringChange v) v.changes → is_drained_slot v slot ≡ true
+pub retiring_drained : (v : View) (slot : ℕ) → All (RetiringChange v) v.changes → is_drained_slot v slot ≡ true
 retiring_drained v slot changes =
     not_from_false (list_any (is_in_line (slot_line v.lane slot)) v.changes)
     (list_any_none (is_in_line (slot_line v.lane slot)) v.changes

@@ -120,7 +120,7 @@ module _ (o : Opening) (mem : Memory) (views : Views) (log : List Entry) (decide
         (word_left w inside)
 
     -- a word of a lane's area is as the lane has it, or its own change of it was taken back
-    area_left : (k w : ℕ) → k < o.lanes → area_word k ≤ w → w < area_word k + 1024 → (slice_index image w ≡ slice_index (views k).words w) ⊎ OwnTakenBack (views k) image w
+    pub area_left : (k w : ℕ) → k < o.lanes → area_word k ≤ w → w < area_word k + 1024 → (slice_index image w ≡ slice_index (views k).words w) ⊎ OwnTakenBack (views k) image w
     area_left k w inside low high =
         let size = x.sound.size in
         let at = lane_is k inside in

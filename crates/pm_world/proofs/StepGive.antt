@@ -56,7 +56,7 @@ filter-contains q xs x there = All-contains (Contains xs) (filter q xs) x (All-f
 filter-passed : {X : Type 0} (q : X → Bool) (xs : List X) (x : X) → Contains (filter q xs) x → q x ≡ true
 filter-passed q xs x there = All-contains (λ y. q y ≡ true) (filter q xs) x (filter_passes q xs) there
 
-list_any-filter : {X : Type 0} (p q : X → Bool) (xs : List X) → All (λ x. p x ≡ true → q x ≡ true) xs → list_any p xs ≡ true → list_any p (filter q xs) ≡ true
+pub list_any-filter : {X : Type 0} (p q : X → Bool) (xs : List X) → All (λ x. p x ≡ true → q x ≡ true) xs → list_any p xs ≡ true → list_any p (filter q xs) ≡ true
 list_any-filter p q [] all e = e
 list_any-filter p q (x ∷ xs) all e =
     let rest : list_any p xs ≡ true → list_any p (filter q xs) ≡ true = list_any-filter p q xs (All-tail (λ y. p y ≡ true → q y ≡ true) x xs all) in
@@ -67,7 +67,7 @@ list_any-filter p q (x ∷ xs) all e =
     (cases_Bool (q x))
 
 -- no object was found under the lock
-no_block : (l : Lock) (w : ℕ) → l.block ≡ None → (l.write && is_some l.block && is_under w l) ≡ true → ⊥
+pub no_block : (l : Lock) (w : ℕ) → l.block ≡ None → (l.write && is_some l.block && is_under w l) ≡ true → ⊥
 no_block l w none e = false≢true (ap is_some (sym none) ∙ (and_parts l.write (is_some l.block) (and_parts (l.write && is_some l.block) (is_under w l) e).0).1)
 
 module _ (o : Opening) (old : Memory) (views : Views) (log : List Entry) (decided : ℕ → Bool) (world : World o old views log decided) (k : ℕ) (inside : k < o.lanes) (v : View) (is : views k ≡ v)

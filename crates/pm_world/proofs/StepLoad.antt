@@ -136,7 +136,7 @@ module _ (o : Opening) (old : Memory) (views : Views) (log : List Entry) (decide
   under_now u = list_any-map (is_under u) f v.locks (All-weaker (LockFits o old k) (λ l. is_under u l ≡ true → is_under u (f l) ≡ true)
       (λ l fit e. of_lock (λ m. is_under u m ≡ true) l e (under_found o.lanes o.words l.line l.block u fit.found e)) v.locks mine.locks)
 
-  written_now : (u : ℕ) → is_written v u ≡ true → is_written v' u ≡ true
+  pub written_now : (u : ℕ) → is_written v u ≡ true → is_written (with_seen (Load w x) (loaded v w x)) u ≡ true
   written_now u = list_any-map (λ (l : Lock). l.write && is_some l.block && is_under u l) f v.locks (All-weaker (LockFits o old k) (λ l. (l.write && is_some l.block && is_under u l) ≡ true → ((f l).write && is_some (f l).block && is_under u (f l)) ≡ true)
       (λ l fit e. of_lock (λ m. (m.write && is_some m.block && is_under u m) ≡ true) l e (written_found o.lanes o.words l.line l.write l.block u fit.found e)) v.locks mine.locks)
 

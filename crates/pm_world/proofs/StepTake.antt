@@ -31,7 +31,7 @@ use Rattle.pm_world.proofs.Worlds.{own, hold_kept, room_kept}
 any-left : {X : Type 0} (P : X → Type 0) (xs ys : List X) → Any P xs → Any P (xs ++ ys)
 any-left P xs ys (n, x, low, at, p) = (n, x, (let e = length-append xs ys in omega arith), get_or_append_left xs ys x n low ∙ at, p)
 
-list_any-left : {X : Type 0} (p : X → Bool) (xs ys : List X) → list_any p xs ≡ true → list_any p (xs ++ ys) ≡ true
+pub list_any-left : {X : Type 0} (p : X → Bool) (xs ys : List X) → list_any p xs ≡ true → list_any p (xs ++ ys) ≡ true
 list_any-left p xs ys e = list_any-append p xs ys ∙ or_left (list_any p xs) (list_any p ys) e
 
 pub low_before : (v : View) (s : Step) → is_low s ≡ false → (is_none v.number && list_any is_low (v.seen ++ s ∷ [])) ≡ true → may_draw v ≡ true

@@ -40,7 +40,7 @@ use Rattle.pm_world.proofs.StoreWord.{drained_more}
 use Rattle.pm_world.proofs.Worlds.{own, unlogged_before}
 
 -- fewer than eight words are no record yet
-with_slot-short : (log : Log) (slot pair : List ℕ) → length slot < 8 → with_slot log slot pair ≡ in_phase (Open slot pair) log
+pub with_slot-short : (log : Log) (slot pair : List ℕ) → length slot < 8 → with_slot log slot pair ≡ in_phase (Open slot pair) log
 with_slot-short log [] pair low = refl
 with_slot-short log (a ∷ []) pair low = refl
 with_slot-short log (a ∷ b ∷ []) pair low = refl
@@ -51,7 +51,7 @@ with_slot-short log (a ∷ b ∷ c ∷ d ∷ e ∷ f ∷ []) pair low = refl
 with_slot-short log (a ∷ b ∷ c ∷ d ∷ e ∷ f ∷ g ∷ []) pair low = refl
 with_slot-short log (a ∷ b ∷ c ∷ d ∷ e ∷ f ∷ g ∷ h ∷ slot) pair low = absurd (omega arith)
 
-abbrev with_record : Log → List ℕ → Recorded → Log
+abbrev pub with_record : Log → List ℕ → Recorded → Log
 with_record log pair r = record log { phase = Open [] pair; records = log.records ++ r ∷ [] }
 
 -- eight are one
@@ -64,10 +64,10 @@ with_slot-whole' log generation word (a ∷ b ∷ c ∷ []) pair some most = ap 
 with_slot-whole' log generation word (a ∷ b ∷ c ∷ d ∷ []) pair some most = ap (λ u. with_record log pair (record { word = u; old = a ∷ b ∷ c ∷ d ∷ [] })) (let e : 8 * word / 8 ≡ word = omega arith in e)
 with_slot-whole' log generation word (a ∷ b ∷ c ∷ d ∷ e ∷ old) pair some most = absurd (omega arith)
 
-with_slot-whole : (log : Log) (generation : ℕ) (r : Recorded) (pair : List ℕ) → 1 ≤ length r.old → length r.old ≤ 4 → with_slot log (spelled generation r) pair ≡ with_record log pair r
+pub with_slot-whole : (log : Log) (generation : ℕ) (r : Recorded) (pair : List ℕ) → 1 ≤ length r.old → length r.old ≤ 4 → with_slot log (spelled generation r) pair ≡ with_record log pair r
 with_slot-whole log generation r pair some most = with_slot-whole' log generation r.word r.old pair some most
 
-length-spelled : (generation : ℕ) (r : Recorded) → length r.old ≤ 4 → length (spelled generation r) ≡ 8
+pub length-spelled : (generation : ℕ) (r : Recorded) → length r.old ≤ 4 → length (spelled generation r) ≡ 8
 length-spelled generation r most =
     let one = length-append r.old (replicate (4 - length r.old) 0) in let two = length-replicate {A = ℕ} (4 - length r.old) 0 in
     let u : Undo = record { generation = generation; place = 8 * r.word; count = length r.old; old = r.old ++ replicate (4 - length r.old) 0 } in

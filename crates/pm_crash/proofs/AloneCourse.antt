@@ -1,0 +1,311 @@
+-- The steps of a lane that is alone are a course of a world: its memory is what the lane's view says, and no other lane makes a step.
+use Rattle.std.proofs.Common.{◌≡◌, ◌≢◌, ⊎_elim, inl, inr, ℕ, ◌+◌, ◌<◌, ◌≤◌, Bool, true, false, eqb, is_none, List, [], ◌∷◌, ◌++◌, length, slice_index, Option, refl, sym, ◌∙◌, ap, subst, arith, append_assoc, le_refl, ne_eqb}
+use Rattle.std.specs.Option.{ForSome}
+use Rattle.std.specs.List.{list_any}
+use Rattle.std.proofs.lemmas.Bool.{and_from, and_parts, cases_eq, cond-false, false≢true}
+use Rattle.pm_header.specs.declared.header.Header.{Header}
+use Rattle.pm_objects.specs.declared.pool.PoolView.{PoolView}
+use Rattle.pm_view.specs.Area.{area_word}
+use Rattle.pm_view.specs.Counts.{MayCount, is_counted}
+use Rattle.pm_view.specs.Founds.{FoundAlone, IsAlone}
+use Rattle.pm_view.specs.Log.{Phase}
+use Rattle.pm_view.specs.Log.Phase.{Idle, Open, Drawn, Sealing, Applying, Clearing, Retiring}
+use Rattle.pm_view.specs.Steps.{Step}
+use Rattle.pm_view.specs.Steps.Step.{Load, Store, Or, And, Flush, Drain, TakeWrite, TakeRead, Raise, Give, ZoneTry, ZoneGive, Occupied, Occupy, Vacate, Draw, NumberSeen, StopSeen, SetStop, Tell}
+use Rattle.pm_view.specs.View.{Lock, Numbered, View}
+use Rattle.pm_view.specs.Views.{after, begun}
+use Rattle.pm_view.proofs.SameLane.{same_lane-after}
+use Rattle.pm_memory.specs.Solo.{AreNumbered, lock_word}
+use Rattle.pm_world.specs.History.{Entry}
+use Rattle.pm_world.specs.Laws.{with_view}
+use Rattle.pm_world.specs.Lawful.{Allowed, IsLawful}
+use Rattle.pm_world.specs.Memory.Location.{PoolWord}
+use Rattle.pm_world.specs.Moves.{Moves}
+use Rattle.pm_world.specs.Opening.{Opening}
+use Rattle.pm_world.specs.Opens.{IsFresh}
+use Rattle.pm_world.specs.World.{Views, is_low}
+use Rattle.pm_world.proofs.Frame.{view_else, view_here}
+use Rattle.pm_world.proofs.StepSeen.{not_low_more, told}
+use Rattle.pm_world.proofs.Worlds.{room_kept}
+use Rattle.pm_crash.specs.Alone.{BeginsAlone, alone_views, idle_view}
+use Rattle.pm_crash.specs.HeldHistory.{DrawsEnded, IsEndedCall}
+use Rattle.pm_crash.specs.Leading.{Leads}
+use Rattle.pm_crash.specs.OneLane.{IsModelStep, IsPaid, Makes, Moment, Move, moved}
+use Rattle.pm_crash.proofs.AloneMemory.{draw_moves, drain_moves, flush_moves, give_moves, load_moves, memory_of, number_moves, same_memory, store_moves, take_read_moves, take_write_moves, tell_moves}
+use Rattle.pm_crash.proofs.EndedCalls.{given_up_steps, whole_steps}
+use Rattle.pm_crash.proofs.LogCourse.{InRange, all_of, carried}
+use Rattle.pm_crash.proofs.OneCourse.{Goes, goes_first, goes_on}
+
+-- the calls and the entries of a lane grow
+pub record Grows (v w : View) : Type 0 where
+  pub calls : v.calls ≤ w.calls
+  pub stop : w.stop ≡ v.stop
+  pub rest : List Numbered
+  pub entries : w.entries ≡ v.entries ++ rest
+
+append_none : (entries : List Numbered) → entries ≡ entries ++ []
+append_none [] = refl
+append_none (e ∷ entries) = ap (λ (es : List Numbered). e ∷ es) (append_none entries)
+
+grows_not : (v : View) → Grows v v
+grows_not v = record { calls = le_refl v.calls; stop = refl; rest = []; entries = append_none v.entries }
+
+-- other calls alone
+grown : (v w : View) → v.calls ≤ w.calls → w.stop ≡ v.stop → w.entries ≡ v.entries → Grows v w
+grown v w calls stop entries = record { calls = calls; stop = stop; rest = []; entries = entries ∙ append_none v.entries }
+
+grows_begun : (phase : Phase) (v : View) → Grows v (begun phase v)
+grows_begun Idle v = grown v (begun Idle v) (le_refl v.calls) refl refl
+grows_begun (Open slot pair) v = grows_not v
+grows_begun Drawn v = grows_not v
+grows_begun Sealing v = grows_not v
+grows_begun (Applying applied) v = grows_not v
+grows_begun Clearing v = grows_not v
+grows_begun Retiring v = grows_not v
+
+grows_after : (v : View) (s : Step) → Grows v (after v s)
+grows_after v (Load w x) = grown v (after v (Load w x)) (le_refl v.calls) refl refl
+grows_after v (Store w x) = grown v (after v (Store w x)) (omega arith) refl refl
+grows_after v (Or w bits found) = grown v (after v (Or w bits found)) (omega arith) refl refl
+grows_after v (And w bits found) = grown v (after v (And w bits found)) (omega arith) refl refl
+grows_after v (Flush line) = grown v (after v (Flush line)) (omega arith) refl refl
+grows_after v Drain = grown v (after v Drain) (omega arith) refl refl
+grows_after v (TakeWrite line won) = grown v (after v (TakeWrite line won)) (le_refl v.calls) refl refl
+grows_after v (TakeRead line won) = grown v (after v (TakeRead line won)) (le_refl v.calls) refl refl
+grows_after v (Raise line won) = grown v (after v (Raise line won)) (le_refl v.calls) refl refl
+grows_after v (Give line) = grown v (after v (Give line)) (le_refl v.calls) refl refl
+grows_after v (ZoneTry zone won) = grown v (after v (ZoneTry zone won)) (le_refl v.calls) refl refl
+grows_after v (ZoneGive zone) = grown v (after v (ZoneGive zone)) (le_refl v.calls) refl refl
+grows_after v (Occupied at found) = grown v (after v (Occupied at found)) (le_refl v.calls) refl refl
+grows_after v (Occupy at bits won) = grown v (after v (Occupy at bits won)) (le_refl v.calls) refl refl
+grows_after v (Vacate at bits) = grown v (after v (Vacate at bits)) (le_refl v.calls) refl refl
+grows_after v (Draw n) = record { calls = le_refl v.calls; stop = refl; rest = record { number = n; call = v.call } ∷ []; entries = refl }
+grows_after v (NumberSeen n) =
+    let g = grows_begun v.log.phase v in
+    record { calls = g.calls; stop = g.stop; rest = g.rest; entries = g.entries }
+grows_after v (StopSeen set) = grown v (after v (StopSeen set)) (le_refl v.calls) refl refl
+grows_after v SetStop = grows_not v
+grows_after v (Tell operation reply) = grown v (after v (Tell operation reply)) (le_refl v.calls) refl refl
+
+grows_then : (u v w : View) → Grows u v → Grows v w → Grows u w
+grows_then u v w first second = record {
+  calls = let low = first.calls in let high = second.calls in omega arith;
+  stop = second.stop ∙ first.stop;
+  rest = first.rest ++ second.rest;
+  entries = second.entries ∙ ap (λ (es : List Numbered). es ++ second.rest) first.entries ∙ append_assoc u.entries first.rest second.rest;
+}
+
+pub grows_along : (v : View) (steps : List Step) (w : View) → Leads v steps w → Grows v w
+unfolding Leads
+grows_along v [] w leads = subst (Grows v) (sym leads) (grows_not v)
+grows_along v (s ∷ steps) w leads = grows_then v (after v s) w (grows_after v s) (grows_along (after v s) steps w leads.3)
+
+-- numbers that count on are those of the places
+numbered_at : (n : ℕ) (before : List Numbered) (e : Numbered) (rest : List Numbered) → AreNumbered n (before ++ e ∷ rest) → e.number ≡ n + length before
+unfolding AreNumbered
+numbered_at n [] e rest numbered = numbered.0 ∙ (let same : n ≡ n + 0 = omega arith in same)
+numbered_at n (d ∷ before) e rest numbered =
+    let there = numbered_at (n + 1) before e rest numbered.1 in omega (arith, there)
+
+-- the lane has made a counted call less than its stop number
+counts_less : (stop other : Option ℕ) (calls last : ℕ) → other ≡ stop → calls < last → ForSome other (λ s. last ≤ s) → ForSome stop (λ s. calls < s)
+counts_less stop other calls last same less within s is = let most = within s (same ∙ is) in omega arith
+
+-- the lane is at this view of a world that it alone made steps in
+pub record StandsAlone (o : Opening) (header : Header) (pool : PoolView) (v : View) : Type 0 where
+  pub views : Views
+  pub log : List Entry
+  pub decided : ℕ → Bool
+  pub goes : Goes o 0 header pool (record { memory = memory_of v; views = views; log = log; decided = decided })
+  pub here : views 0 ≡ v
+  pub others : (j : ℕ) → j ≢ 0 → views j ≡ idle_view o j
+
+-- the views of the lanes that make no step
+pub alone_else : (o : Opening) (v : View) (j : ℕ) → j ≢ 0 → alone_views o v j ≡ idle_view o j
+alone_else o v j other = cond-false (eqb j 0) v (idle_view o j) (ne_eqb j 0 other)
+
+idle_fresh : (o : Opening) (j : ℕ) → IsFresh o j (idle_view o j)
+idle_fresh o j = record {
+  lane = record { lanes = refl; zones = refl; lane = refl; size = refl };
+  words = refl;
+  nothing_known = refl;
+  nothing_changed = refl;
+  no_calls = refl;
+  idle = refl;
+  no_locks = refl;
+  nothing_reserved = refl;
+  nothing_freed = refl;
+  nothing_seen = refl;
+  no_number = refl;
+  no_entries = refl;
+}
+
+module _ (o : Opening) (header : Header) (pool : PoolView) where
+  -- before its first step
+  pub stands_first : (v : View) → BeginsAlone o header pool v → StandsAlone o header pool v
+  stands_first v begins = record {
+    views = alone_views o v;
+    log = [];
+    decided = λ n. false;
+    goes = goes_first o (memory_of v) (alone_views o v) 0 header pool (record {
+      holds = begins.holds;
+      clean = begins.clean;
+      fresh = λ j low. fresh j;
+      opens = record {
+        words = λ w. ap (λ (words : List ℕ). slice_index words w) begins.fresh.words;
+        locks = λ line. ap (λ (locks : List Lock). lock_word locks line) begins.fresh.no_locks;
+        counter = ap (λ (es : List Numbered). length es) begins.fresh.no_entries;
+        stop_word = refl;
+      };
+      in_lanes = let some = begins.holds.has_header.has_shape.shape.lanes_from in omega arith;
+      of_pool = begins.of_pool;
+    });
+    here = refl;
+    others = alone_else o v;
+  } where
+    fresh : (j : ℕ) → IsFresh o j (alone_views o v j)
+    fresh j = ⊎_elim
+        (λ (same : j ≡ 0). subst (λ (n : ℕ). IsFresh o n (alone_views o v n)) (sym same) begins.fresh)
+        (λ (other : j ≢ 0). subst (IsFresh o j) (sym (alone_else o v j other)) (idle_fresh o j))
+        (cases_eq j 0)
+
+  module _ (v : View) (stands : StandsAlone o header pool v) where
+    abbrev now : Moment
+    now = record { memory = memory_of v; views = stands.views; log = stands.log; decided = stands.decided }
+
+    -- a step that moves the memory on
+    goes_step : (s : Step) → IsLawful v s → Moves 0 s (memory_of v) (memory_of (after v s)) → IsPaid v s → StandsAlone o header pool (after v s)
+    goes_step s lawful moves paid =
+        let move : Move = record { step = s; memory = memory_of (after v s) } in
+        let makes : Makes 0 now move = record {
+          lawful = subst (λ (u : View). IsLawful u s) (sym stands.here) lawful;
+          moves = moves;
+          paid = subst (λ (u : View). IsPaid u s) (sym stands.here) paid;
+        } in
+        let next : Moment = moved 0 now move in
+        record {
+          views = next.views;
+          log = next.log;
+          decided = next.decided;
+          goes = goes_on o 0 header pool now move stands.goes makes;
+          here = view_here stands.views 0 (after (stands.views 0) s) ∙ ap (λ (u : View). after u s) stands.here;
+          others = λ j other. view_else stands.views 0 (after (stands.views 0) s) j other ∙ stands.others j other;
+        }
+
+    -- what it sees of the stop word is no concern of a world
+    sees_stop : (set : Bool) → StandsAlone o header pool (after v (StopSeen set))
+    sees_stop set =
+        let next : View = after v (StopSeen set) in
+        let g = stands.goes in
+        let here : (with_view stands.views 0 next) 0 ≡ next = view_here stands.views 0 next in
+        let range : InRange (memory_of next (PoolWord (area_word 0))) next next.log.phase =
+        carried (memory_of v (PoolWord (area_word 0))) (memory_of next (PoolWord (area_word 0))) v next v.log.phase refl refl refl (all_of v.changes)
+        (subst (λ (u : View). InRange (memory_of v (PoolWord (area_word 0))) u u.log.phase) stands.here g.range) in
+        record {
+          views = with_view stands.views 0 next;
+          log = stands.log;
+          decided = stands.decided;
+          goes = record {
+            world =
+                told o (memory_of v) stands.views stands.log stands.decided g.world 0 g.in_lanes v stands.here (memory_of next) (v.seen ++ StopSeen set ∷ []) v.call v.actions
+                (same_memory v next (record { words = refl; locks = λ line. refl; count = refl }))
+                (room_kept o (memory_of v) stands.views stands.log stands.decided g.world 0 g.in_lanes v stands.here (record v { seen = v.seen ++ StopSeen set ∷ [] })
+                (λ can.
+                let t = and_parts (is_none v.number) (list_any is_low (v.seen ++ StopSeen set ∷ [])) can in
+                and_from (is_none v.number) (list_any is_low v.seen) t.0 (not_low_more v.seen (StopSeen set) refl t.1)));
+            in_lanes = g.in_lanes;
+            alone = g.alone;
+            others = λ j low other. ap (λ (u : View). u.log.phase) (view_else stands.views 0 next j other) ∙ g.others j low other;
+            of_pool = ap (λ (u : View). u.pool) here ∙ (ap (λ (u : View). u.pool) (sym stands.here) ∙ g.of_pool);
+            newest = λ n e. g.newest n (ap (λ (u : View). u.number) stands.here ∙ (ap (λ (u : View). u.number) (sym here) ∙ e));
+            front = g.front;
+            range = subst (λ (u : View). InRange (memory_of next (PoolWord (area_word 0))) u u.log.phase) (sym here) range;
+            reached = g.reached;
+          };
+          here = here;
+          others = λ j other. view_else stands.views 0 next j other ∙ stands.others j other;
+        }
+
+    lawful_so : (s : Step) → Allowed v s → (is_counted s ≡ true → MayCount v) → IsLawful v s
+    lawful_so s may due = record { allowed = may; due = due }
+
+    -- a call that draws is a step of the model
+    owes : IsEndedCall v → IsModelStep v
+    owes (inl whole) = whole_steps v whole
+    owes (inr (e, given_up, none)) = given_up_steps v e given_up none
+
+    -- each step that it may make
+    pub stands_after : (s : Step) → IsAlone v → Allowed v s → FoundAlone v s → DrawsEnded v s → (is_counted s ≡ true → MayCount v) → ((n : ℕ) → s ≡ Draw n → n ≡ length v.entries + 1)
+        → StandsAlone o header pool (after v s)
+    stands_after (Load w x) alone may found ended due next = goes_step (Load w x) (lawful_so (Load w x) may due) (load_moves v w x (found alone)) tt
+    stands_after (Store w x) alone may found ended due next = goes_step (Store w x) (lawful_so (Store w x) may due) (store_moves v w x may.inside) tt
+    stands_after (Or w bits found) alone may f ended due next = absurd may
+    stands_after (And w bits found) alone may f ended due next = absurd may
+    stands_after (Flush line) alone may found ended due next = goes_step (Flush line) (lawful_so (Flush line) may due) (flush_moves v line) tt
+    stands_after Drain alone may found ended due next = goes_step Drain (lawful_so Drain may due) (drain_moves v) tt
+    stands_after (TakeWrite line won) alone may found ended due next = goes_step (TakeWrite line won) (lawful_so (TakeWrite line won) may due) (take_write_moves v line won (found alone) may.free) tt
+    stands_after (TakeRead line won) alone may found ended due next = goes_step (TakeRead line won) (lawful_so (TakeRead line won) may due) (take_read_moves v line won (found alone) may.free) tt
+    stands_after (Raise line won) alone may found ended due next = absurd may
+    stands_after (Give line) alone may found ended due next = goes_step (Give line) (lawful_so (Give line) may due) (give_moves v line) tt
+    stands_after (ZoneTry zone won) alone may found ended due next = absurd may
+    stands_after (ZoneGive zone) alone may found ended due next = absurd may
+    stands_after (Occupied at found) alone may f ended due next = absurd may
+    stands_after (Occupy at bits won) alone may found ended due next = absurd may
+    stands_after (Vacate at bits) alone may found ended due next = absurd may
+    stands_after (Draw n) alone may found ended due next = goes_step (Draw n) (lawful_so (Draw n) may due) (draw_moves v n (next n refl)) (owes ended)
+    stands_after (NumberSeen n) alone may found ended due next = goes_step (NumberSeen n) (lawful_so (NumberSeen n) may due) (number_moves v n (found alone)) tt
+    stands_after (StopSeen set) alone may found ended due next = sees_stop set
+    stands_after SetStop alone may found ended due next = stands
+    stands_after (Tell operation reply) alone may found ended due next = goes_step (Tell operation reply) (lawful_so (Tell operation reply) may due) (tell_moves v operation reply) tt
+
+  calls_more : (v : View) (s : Step) → is_counted s ≡ true → (after v s).calls ≡ v.calls + 1
+  calls_more v (Load w x) counts = absurd (false≢true counts)
+  calls_more v (Store w x) counts = refl
+  calls_more v (Or w bits found) counts = refl
+  calls_more v (And w bits found) counts = refl
+  calls_more v (Flush line) counts = refl
+  calls_more v Drain counts = refl
+  calls_more v (TakeWrite line won) counts = absurd (false≢true counts)
+  calls_more v (TakeRead line won) counts = absurd (false≢true counts)
+  calls_more v (Raise line won) counts = absurd (false≢true counts)
+  calls_more v (Give line) counts = absurd (false≢true counts)
+  calls_more v (ZoneTry zone won) counts = absurd (false≢true counts)
+  calls_more v (ZoneGive zone) counts = absurd (false≢true counts)
+  calls_more v (Occupied at found) counts = absurd (false≢true counts)
+  calls_more v (Occupy at bits won) counts = absurd (false≢true counts)
+  calls_more v (Vacate at bits) counts = absurd (false≢true counts)
+  calls_more v (Draw n) counts = absurd (false≢true counts)
+  calls_more v (NumberSeen n) counts = absurd (false≢true counts)
+  calls_more v (StopSeen set) counts = absurd (false≢true counts)
+  calls_more v SetStop counts = absurd (false≢true counts)
+  calls_more v (Tell operation reply) counts = absurd (false≢true counts)
+
+  pub due_along : (v : View) (s : Step) (w : View) → Grows (after v s) w → ForSome w.stop (λ stop. w.calls ≤ stop) → is_counted s ≡ true → MayCount v
+  due_along v s w grows within counts =
+      let more = calls_more v s counts in
+      let calls = grows.calls in
+      counts_less v.stop w.stop v.calls w.calls (grows.stop ∙ (same_lane-after v s).stop) (omega arith) within
+
+  drawn_along : (v : View) (n : ℕ) (w : View) → Grows (after v (Draw n)) w → AreNumbered 1 w.entries → n ≡ length v.entries + 1
+  drawn_along v n w grows numbered =
+      let e : Numbered = record { number = n; call = v.call } in
+      let numbers : AreNumbered 1 (v.entries ++ e ∷ grows.rest) = subst (AreNumbered 1) (grows.entries ∙ append_assoc v.entries (e ∷ []) grows.rest) numbered in
+      let at : n ≡ 1 + length v.entries = numbered_at 1 v.entries e grows.rest numbers in
+      omega arith
+
+  pub number_along : (v : View) (s : Step) (w : View) → Grows (after v s) w → AreNumbered 1 w.entries → (n : ℕ) → s ≡ Draw n → n ≡ length v.entries + 1
+  number_along v s w grows numbered n is = drawn_along v n w (subst (λ (t : Step). Grows (after v t) w) is grows) numbered
+
+  -- and so along all its steps
+  pub stands_along : (v : View) (steps : List Step) (w : View) → StandsAlone o header pool v → IsAlone v → Leads v steps w → AreNumbered 1 w.entries → ForSome w.stop (λ stop. w.calls ≤ stop)
+      → StandsAlone o header pool w
+  unfolding Leads
+  stands_along v [] w stands alone leads numbered within = subst (StandsAlone o header pool) (sym leads) stands
+  stands_along v (s ∷ steps) w stands alone leads numbered within =
+      let grows : Grows (after v s) w = grows_along (after v s) steps w leads.3 in
+      stands_along (after v s) steps w
+      (stands_after v stands s alone leads.0 leads.1 leads.2 (due_along v s w grows within) (number_along v s w grows numbered))
+      ((same_lane-after v s).table ∙ alone) leads.3 numbered within
+
+  pub stands_at : (v : View) (steps : List Step) (w : View) → BeginsAlone o header pool v → Leads v steps w → AreNumbered 1 w.entries → ForSome w.stop (λ stop. w.calls ≤ stop) → StandsAlone o header pool w
+  stands_at v steps w begins = stands_along v steps w (stands_first v begins) begins.alone

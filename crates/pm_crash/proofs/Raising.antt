@@ -1,0 +1,122 @@
+-- A lane that is alone raises its generation by one with each store of it, and with nothing else.
+use Rattle.std.proofs.Common.{◌≡◌, ◌≢◌, ℕ, ◌+◌, ◌*◌, ◌<◌, ◌≤◌, Bool, false, cond, List, [], ◌∷◌, length, slice_index, refl, sym, ◌∙◌, ap, arith, eq-eqb, ne_eqb, get_or-set_same, get_or-set_other}
+use Rattle.std.specs.Option.{ForSome}
+use Rattle.pm_header.specs.declared.header.Header.{Header}
+use Rattle.pm_objects.specs.declared.pool.PoolView.{PoolView}
+use Rattle.pm_image.specs.Logs.{generation_word}
+use Rattle.pm_view.specs.Area.{Part, area_word, part_of}
+use Rattle.pm_view.specs.Area.Part.{EntryWord, GenerationWord, OtherWord, SealWord, SlotWord}
+use Rattle.pm_view.specs.Founds.{FoundAlone, IsAlone}
+use Rattle.pm_view.specs.Log.{Phase}
+use Rattle.pm_view.specs.Log.Phase.{Idle, Open, Drawn, Sealing, Applying, Clearing, Retiring}
+use Rattle.pm_view.specs.Steps.{Step}
+use Rattle.pm_view.specs.Steps.Step.{Load, Store, Or, And, Flush, Drain, TakeWrite, TakeRead, Raise, Give, ZoneTry, ZoneGive, Occupied, Occupy, Vacate, Draw, NumberSeen, StopSeen, SetStop, Tell}
+use Rattle.pm_view.specs.View.{View}
+use Rattle.pm_view.specs.Views.{after, begun}
+use Rattle.pm_view.proofs.SameLane.{same_lane-after}
+use Rattle.pm_memory.specs.Solo.{AreNumbered}
+use Rattle.pm_world.specs.Lawful.{Allowed, EndsGeneration, StoreFits}
+use Rattle.pm_world.specs.Opening.{Opening}
+use Rattle.pm_world.specs.Records.{generation_of}
+use Rattle.pm_world.proofs.Parts.{generation_part}
+use Rattle.pm_crash.specs.Alone.{WorksAlone, is_raise, raises}
+use Rattle.pm_crash.specs.Leading.{Leads}
+use Rattle.pm_crash.proofs.AloneCourse.{StandsAlone, due_along, grows_along, number_along, stands_after, stands_first}
+use Rattle.pm_crash.proofs.AloneImages.{own_fits}
+use Rattle.pm_crash.proofs.AloneMemory.{load_words}
+use Rattle.pm_crash.proofs.FirstLog.{behind}
+
+-- by how much a step raises it
+abbrev raise_by : Step → ℕ
+raise_by s = cond (is_raise s) 1 0
+
+begun_generation : (phase : Phase) (v : View) → generation_of (begun phase v) ≡ generation_of v
+begun_generation Idle v = refl
+begun_generation (Open slot pair) v = refl
+begun_generation Drawn v = refl
+begun_generation Sealing v = refl
+begun_generation (Applying applied) v = refl
+begun_generation Clearing v = refl
+begun_generation Retiring v = refl
+
+module _ (o : Opening) (header : Header) (pool : PoolView) where
+  module _ (v : View) (stands : StandsAlone o header pool v) (alone : IsAlone v) where
+    lane : v.lane ≡ 0
+    lane = (own_fits o header pool v stands).lane.lane
+
+    still : (s : Step) → is_raise s ≡ false → generation_of (after v s) ≡ generation_of v → generation_of (after v s) ≡ generation_of v + raise_by s
+    still s none same = same ∙ (let zero : raise_by s ≡ 0 = ap (λ (b : Bool). cond b 1 0) none in let e : generation_of v ≡ generation_of v + raise_by s = omega (arith, zero) in e)
+
+    module _ (w y : ℕ) (inside : w < length v.words) where
+      other : w ≢ 512 → generation_of (after v (Store w y)) ≡ generation_of v + raise_by (Store w y)
+      other differ =
+          let at = lane in
+          still (Store w y) (ne_eqb w 512 differ) (get_or-set_other v.words w (area_word v.lane) y 0 (λ e. differ (omega (arith, e, at))))
+
+      raised : part_of v.lane w ≡ GenerationWord → EndsGeneration v y → generation_of (after v (Store w y)) ≡ generation_of v + raise_by (Store w y)
+      raised part ends =
+          let at : w ≡ area_word v.lane = (generation_part v.lane w part).1 in
+          let zero = lane in
+          let here : w ≡ 512 = omega (arith, at, zero) in
+          let one : raise_by (Store w y) ≡ 1 = ap (λ (b : Bool). cond b 1 0) (eq-eqb w 512 here) in
+          let is : generation_of (after v (Store w y)) ≡ y = ap (λ (i : ℕ). slice_index (after v (Store w y)).words i) (sym at) ∙ get_or-set_same v.words w y 0 inside in
+          let next = ends.next in
+          omega (arith, is, next, one)
+
+      stored : (p : Phase) (part : Part) → part_of v.lane w ≡ part → StoreFits v w y p part → generation_of (after v (Store w y)) ≡ generation_of v + raise_by (Store w y)
+      stored Idle part of may = absurd may
+      stored (Open slot pair) GenerationWord of may = raised of may.ends
+      stored (Open slot pair) SealWord of may = absurd may
+      stored (Open slot pair) EntryWord of may = absurd may
+      stored (Open slot pair) SlotWord of may = other (λ e. let at = may.at in omega (arith, e, at))
+      stored (Open slot pair) OtherWord of may = other (λ e. let far = behind o header pool v stands alone w may.own in omega (arith, e, far))
+      stored Drawn GenerationWord of may = raised of may
+      stored Drawn SealWord of may = absurd may
+      stored Drawn EntryWord of may = absurd may
+      stored Drawn SlotWord of may = absurd may
+      stored Drawn OtherWord of may = absurd may
+      stored Sealing part of may = absurd may
+      stored (Applying applied) part of may = absurd may
+      stored Clearing part of may = absurd may
+      stored Retiring part of may = absurd may
+
+    raised_after : (s : Step) → Allowed v s → FoundAlone v s → generation_of (after v s) ≡ generation_of v + raise_by s
+    raised_after (Load w x) may found = still (Load w x) refl (ap (λ (words : List ℕ). slice_index words (area_word v.lane)) (load_words v w x (found alone)))
+    raised_after (Store w y) may found = stored w y may.inside v.log.phase (part_of v.lane w) refl may.fits
+    raised_after (Or w bits found) may f = absurd may
+    raised_after (And w bits found) may f = absurd may
+    raised_after (Flush line) may found = still (Flush line) refl refl
+    raised_after Drain may found = still Drain refl refl
+    raised_after (TakeWrite line won) may found = still (TakeWrite line won) refl refl
+    raised_after (TakeRead line won) may found = still (TakeRead line won) refl refl
+    raised_after (Raise line won) may found = absurd may
+    raised_after (Give line) may found = still (Give line) refl refl
+    raised_after (ZoneTry zone won) may found = absurd may
+    raised_after (ZoneGive zone) may found = absurd may
+    raised_after (Occupied at found) may f = absurd may
+    raised_after (Occupy at bits won) may found = absurd may
+    raised_after (Vacate at bits) may found = absurd may
+    raised_after (Draw n) may found = still (Draw n) refl refl
+    raised_after (NumberSeen n) may found = still (NumberSeen n) refl (begun_generation v.log.phase v)
+    raised_after (StopSeen set) may found = still (StopSeen set) refl refl
+    raised_after SetStop may found = still SetStop refl refl
+    raised_after (Tell operation reply) may found = still (Tell operation reply) refl refl
+
+  raised_along : (v : View) (steps : List Step) (w : View) → StandsAlone o header pool v → IsAlone v → Leads v steps w → AreNumbered 1 w.entries → ForSome w.stop (λ stop. w.calls ≤ stop)
+      → generation_of w ≡ generation_of v + raises steps
+  unfolding Leads raises
+  raised_along v [] w stands alone leads numbered within = ap (λ (u : View). generation_of u) leads ∙ (let e : generation_of v ≡ generation_of v + 0 = omega arith in e)
+  raised_along v (s ∷ steps) w stands alone leads numbered within =
+      let grows = grows_along (after v s) steps w leads.3 in
+      let rest : generation_of w ≡ generation_of (after v s) + raises steps = raised_along (after v s) steps w
+      (stands_after o header pool v stands s alone leads.0 leads.1 leads.2 (due_along o header pool v s w grows within) (number_along o header pool v s w grows numbered))
+      ((same_lane-after v s).table ∙ alone) leads.3 numbered within in
+      let here = raised_after v stands alone s leads.0 leads.1 in
+      omega (arith, rest, here)
+
+  pub generation_raised : (v w : View) (steps : List Step) → WorksAlone o header pool v steps w → generation_of w ≡ generation_word o.words 0 + raises steps
+  generation_raised v w steps works =
+      let fresh = works.begins.fresh in
+      let from : generation_of v ≡ generation_word o.words 0 = (λ i. slice_index (fresh.words i) (512 + 1024 * fresh.lane.lane i)) in
+      raised_along v steps w (stands_first o header pool v works.begins) works.begins.alone works.leads works.numbered works.within
+      ∙ ap (λ (g : ℕ). g + raises steps) from

@@ -1,0 +1,393 @@
+-- A slot that is being written while the power fails and is valid in the image holds a whole record, where no torn record matches by chance.
+use Rattle.std.proofs.Common.{◌≡◌, ◌≢◌, ◌⊎◌, ⊎_elim, inl, inr, ℕ, zero, suc, ◌+◌, ◌-◌, ◌*◌, ◌/◌, ◌<◌, ◌≤◌, Bool, true, false, not, eqb, leb, ltb, IsTrue, List, [], ◌∷◌, length, take, drop, slice_get, slice_index, slice_range, Some, refl, sym, ◌∙◌, ap, subst, arith, eq-eqb}
+use Rattle.std.specs.List.{Contains, list_all, list_any, range_with_len}
+use Rattle.std.specs.Option.{ForSome}
+use Rattle.std.proofs.lemmas.Bool.{cases_eq, cases_lt, and_from, eqb-true, false≢true, le-leb, lt-ltb}
+use Rattle.std.proofs.lemmas.List.{ext_get_or, get_or-drop, get_or-take, length-drop, length-take}
+use Rattle.std.proofs.lemmas.List.Folds.{Any-from_list_any}
+use Rattle.std.proofs.lemmas.Option.{cond_some}
+use Rattle.pm_header.specs.declared.header.Header.{Header}
+use Rattle.pm_objects.specs.declared.pool.PoolView.{PoolView}
+use Rattle.pm_record.specs.Undo.{is_record, undo_in, undo_of}
+use Rattle.pm_record.specs.declared.undo.Undo.{Undo}
+use Rattle.pm_image.specs.Logs.{generation_word, slot_line, undo_slot}
+use Rattle.pm_image.specs.Reads.{IsHeapWord}
+use Rattle.pm_image.proofs.Members.{no_member}
+use Rattle.pm_image.specs.Steps.{valid_record}
+use Rattle.pm_view.specs.declared.change.Change.{Change}
+use Rattle.pm_view.specs.Area.{area_word}
+use Rattle.pm_view.specs.Changes.{is_in_line}
+use Rattle.pm_view.specs.Founds.{IsAlone}
+use Rattle.pm_view.specs.Log.{Log, Phase, Recorded}
+use Rattle.pm_view.specs.Log.Phase.{Idle, Open, Drawn, Sealing, Applying, Clearing, Retiring}
+use Rattle.pm_view.specs.Rights.{is_written}
+use Rattle.pm_view.specs.Steps.{Step}
+use Rattle.pm_view.specs.View.{View}
+use Rattle.pm_view.specs.Views.{after}
+use Rattle.pm_view.proofs.SameLane.{same_lane-after}
+use Rattle.pm_memory.specs.Keep.{IsKeptImage}
+use Rattle.pm_memory.specs.Solo.{AreNumbered}
+use Rattle.pm_world.specs.Crash.{IsBeingWritten, IsWhole, NoneTorn, Survives}
+use Rattle.pm_world.specs.Fits.{LaneFits, OpenFits, PhaseFits, RecordFits}
+use Rattle.pm_world.specs.History.{Flies, settled}
+use Rattle.pm_world.specs.Lawful.{CanRecord}
+use Rattle.pm_world.specs.Memory.Location.{PoolWord}
+use Rattle.pm_world.specs.Opening.{Opening}
+use Rattle.pm_world.specs.Records.{IsRecordAt, covers, generation_of, is_drained_slot, is_logged, records_generation, slot_word, spelled, used_slots}
+use Rattle.pm_world.proofs.CrashLaw.{all_drained, retiring_drained}
+use Rattle.pm_world.proofs.CrashLogs.{GenerationIs, not_logged}
+use Rattle.pm_world.proofs.CrashSpellings.{valid_parts}
+use Rattle.pm_world.proofs.CrashWords.{OwnTakenBack, area_left, generation_is, generation_read}
+use Rattle.pm_world.proofs.Exclusion.{writes_under}
+use Rattle.pm_world.proofs.StoreSlot.{length-spelled}
+use Rattle.pm_crash.specs.Alone.{BeginsAlone, GrowsFirst, HasNoTornMatch, MayRecord, WorksAlone, alone_views, idle_view, is_of_words}
+use Rattle.pm_crash.specs.Leading.{Leads}
+use Rattle.pm_crash.proofs.AloneCourse.{StandsAlone, alone_else, due_along, grows_along, number_along, stands_after, stands_first}
+use Rattle.pm_crash.proofs.AloneImages.{kept_survives, own_fits}
+use Rattle.pm_crash.proofs.AloneMemory.{memory_of}
+use Rattle.pm_crash.proofs.FirstLog.{FirstLog, Making, Since, Unwritten, first_after}
+use Rattle.pm_crash.proofs.LogCourse.{InRange}
+
+-- where a lane that is alone stands, and its log
+record StandsFirst (o : Opening) (header : Header) (pool : PoolView) (w : View) : Type 0 where
+  stands : StandsAlone o header pool w
+  first : FirstLog o w w.log.phase
+
+module _ (o : Opening) (header : Header) (pool : PoolView) where
+  begins_first : (v : View) → BeginsAlone o header pool v → FirstLog o v v.log.phase
+  begins_first v begins =
+      let fresh = begins.fresh in
+      let is : generation_of v ≡ generation_word o.words 0 = (λ i. slice_index (fresh.words i) (512 + 1024 * fresh.lane.lane i)) in
+      let since : Since o v 648 = record {
+        least = omega (arith, is);
+        first = λ now. record {
+          beyond = λ i from high. ap (λ (words : List ℕ). slice_index words i) fresh.words;
+          olds = λ c there slots. absurd (no_member c (subst (λ (cs : List Change). Contains cs c) fresh.nothing_changed there));
+        };
+      } in
+      subst (FirstLog o v) (sym (ap (λ (l : Log). l.phase) fresh.idle)) since
+
+  first_along : (v : View) (steps : List Step) (w : View) → StandsAlone o header pool v → IsAlone v → FirstLog o v v.log.phase → Leads v steps w → AreNumbered 1 w.entries
+      → ForSome w.stop (λ stop. w.calls ≤ stop) → StandsFirst o header pool w
+  unfolding Leads
+  first_along v [] w stands alone first leads numbered within = subst (StandsFirst o header pool) (sym leads) (record { stands = stands; first = first })
+  first_along v (s ∷ steps) w stands alone first leads numbered within =
+      let grows = grows_along (after v s) steps w leads.3 in
+      first_along (after v s) steps w
+      (stands_after o header pool v stands s alone leads.0 leads.1 leads.2 (due_along o header pool v s w grows within) (number_along o header pool v s w grows numbered))
+      ((same_lane-after v s).table ∙ alone) (first_after o header pool v stands alone s leads.0 leads.1 first) leads.3 numbered within
+
+  first_at : (v : View) (steps : List Step) (w : View) → WorksAlone o header pool v steps w → StandsFirst o header pool w
+  first_at v steps w works =
+      first_along v steps w (stands_first o header pool v works.begins) works.begins.alone (begins_first v works.begins) works.leads works.numbered works.within
+
+-- eight words of a list
+eight_words : (words : List ℕ) (a i : ℕ) → i < 8 → slice_index (slice_range words a (a + 8)) i ≡ slice_index words (a + i)
+eight_words words a i low =
+    let count : a + 8 - a ≡ 8 = omega arith in
+    ap (λ (n : ℕ). slice_index (take n (drop a words)) i) count ∙ get_or-take 8 (drop a words) i 0 low ∙ get_or-drop a words i 0
+
+eight_count : (words : List ℕ) (a : ℕ) → a + 8 ≤ length words → length (slice_range words a (a + 8)) ≡ 8
+eight_count words a inside =
+    let count : a + 8 - a ≡ 8 = omega arith in
+    let behind = length-drop a words in
+    let taken = length-take 8 (drop a words) in
+    ap (λ (n : ℕ). length (take n (drop a words))) count ∙ (let e : length (take 8 (drop a words)) ≡ 8 = omega (arith, behind, taken) in e)
+
+-- two lists of eight words are the same, or not
+are_same : (n : ℕ) (one other : List ℕ) → ((i : ℕ) → i < n → slice_index one i ≡ slice_index other i) ⊎ (one ≢ other)
+are_same zero one other = inl (λ i low. absurd (omega arith))
+are_same (suc n) one other = ⊎_elim
+    (λ (before : (i : ℕ) → i < n → slice_index one i ≡ slice_index other i). ⊎_elim
+    (λ (here : slice_index one n ≡ slice_index other n). inl (λ i low. ⊎_elim
+    (λ (same : i ≡ n). ap (slice_index one) same ∙ here ∙ ap (slice_index other) (sym same))
+    (λ (differ : i ≢ n). before i (omega (arith, differ)))
+    (cases_eq i n)))
+    (λ (differ : slice_index one n ≢ slice_index other n). inr (λ same. differ (ap (λ (ws : List ℕ). slice_index ws n) same)))
+    (cases_eq (slice_index one n) (slice_index other n)))
+    (λ (differ : one ≢ other). inr differ)
+    (are_same n one other)
+
+-- a slot with a record has it as it stands
+record Reads (words : List ℕ) (u : Undo) : Type 0 where
+  matches : is_record words ≡ true
+  begun : u.generation ≡ slice_index words 0
+
+reads : (words : List ℕ) (u : Undo) → undo_of words ≡ Some u → Reads words u
+reads words u is =
+    let t = cond_some (is_record words) (undo_in words) u is in
+    record { matches = t.0; begun = ap (λ (x : Undo). x.generation) (sym t.1) }
+
+-- a slot of the log has a record
+record_there : (records : List Recorded) (slot : ℕ) → slot < length records → (r : Recorded) × (slice_get records slot ≡ Some r)
+record_there [] slot low = absurd (omega arith)
+record_there (r ∷ records) zero low = (r, refl)
+record_there (r ∷ records) (suc slot) low = record_there records slot (omega arith)
+
+not_drained : (b : Bool) → not b ≡ false → b ≡ true
+not_drained true e = refl
+not_drained false e = absurd (false≢true (sym e))
+
+module _ (o : Opening) (header : Header) (pool : PoolView) (w : View) (s : StandsAlone o header pool w) where
+  fits : LaneFits o (memory_of w) (settled o s.log s.decided) (Flies s.log s.decided 0) 0 w
+  fits = own_fits o header pool w s
+
+  -- what the lane may write lies in the zones
+  lies : (u : ℕ) → IsTrue (is_written w u) → (512 + 1024 * o.lanes ≤ u) × (u < length o.words)
+  lies u own =
+      let under = writes_under o (memory_of w) 0 w u fits.locks own in
+      (s.goes.world.sound.behind_areas under.0 u under.1, s.goes.world.sound.within under.0 u under.1)
+
+  may_record : (r : Recorded) → 1 ≤ length r.old → length r.old ≤ 4 → ((i : ℕ) → i < length r.old → IsTrue (is_written w (r.word + i)))
+      → ((i : ℕ) → i < length r.old → slice_index w.words (r.word + i) ≡ slice_index r.old i) → MayRecord w r
+  may_record r some most own present =
+      let from = (lies (r.word + 0) (own 0 some)).0 in
+      let last : r.word + (length r.old - 1) < length o.words = (lies (r.word + (length r.old - 1)) (own (length r.old - 1) (omega (arith, some)))).1 in
+      let size = fits.lane.size in
+      let lanes = fits.lane.lanes in
+      record { some = some; most = most; behind = omega (arith, from, lanes); inside = omega (arith, last, size, some); own = own; present = present }
+
+  can_may : (r : Recorded) → CanRecord w r → MayRecord w r
+  can_may r can = may_record r can.some can.most (λ i low. (can.each i low).own) (λ i low. (can.each i low).present)
+
+  -- an undrained record's words have not been written
+  undrained_may : (slot : ℕ) (r : Recorded) → IsRecordAt w slot r → is_drained_slot w slot ≡ false → MayRecord w r
+  undrained_may slot r at undrained =
+      may_record r record_fits.some record_fits.most (λ i low. (record_fits.each i low).own)
+      (λ i low. s.goes.world.each_word (r.word + i) (heap i low) (unlogged i low) ∙ sym (record_fits.each i low).before)
+    where
+      record_fits : RecordFits (settled o s.log s.decided) w r
+      record_fits = fits.log.each slot r at
+
+      heap : (i : ℕ) → i < length r.old → IsHeapWord o.lanes o.zones (r.word + i)
+      heap i low =
+          let there = lies (r.word + i) (record_fits.each i low).own in
+          let to = there.1 in
+          let size = s.goes.world.sound.size in
+          inr (there.0, omega (arith, to, size))
+
+      covered : (i : ℕ) → i < length r.old → covers r (r.word + i) ≡ true
+      covered i low = and_from (leb r.word (r.word + i)) (ltb (r.word + i) (r.word + length r.old)) (le-leb r.word (r.word + i) (omega arith)) (lt-ltb (r.word + i) (r.word + length r.old) (omega arith))
+
+      own_unlogged : (i : ℕ) → i < length r.old → is_logged w (r.word + i) ≡ false
+      own_unlogged i low = not_logged w (r.word + i) (λ other q there of.
+          let same : other ≡ slot = fits.log.once other slot q r (r.word + i) there at of (covered i low) in
+          ap (is_drained_slot w) same ∙ undrained)
+
+      unlogged : (i : ℕ) → i < length r.old → (k : ℕ) → k < o.lanes → is_logged (s.views k) (r.word + i) ≡ false
+      unlogged i low k inside = ⊎_elim
+          (λ (same : k ≡ 0). ap (λ (n : ℕ). is_logged (s.views n) (r.word + i)) same ∙ ap (λ (u : View). is_logged u (r.word + i)) s.here ∙ own_unlogged i low)
+          (λ (other : k ≢ 0). ap (λ (u : View). is_logged u (r.word + i)) (s.others k other))
+          (cases_eq k 0)
+
+  module _ (image : List ℕ) (survives : Survives o (memory_of w) s.views image) (slot : ℕ) (within : slot < 64) where
+    abbrev place : ℕ
+    place = 8 * slot_line 0 slot
+
+    abbrev found : List ℕ
+    found = undo_slot image 0 slot
+
+    size : 1536 ≤ length o.words
+    size = let all = s.goes.world.sound.size in let some = s.goes.in_lanes in omega (arith, all, some)
+
+    -- each word of the slot is as the lane left it, or as at the opening
+    found_word : (end i : ℕ) → Unwritten o w end → i < 8 → (slice_index found i ≡ slice_index w.words (place + i)) ⊎ (slice_index found i ≡ slice_index o.words (place + i))
+    found_word end i un low =
+        let word : slice_index found i ≡ slice_index image (place + i) = eight_words image place i low in
+        let some = s.goes.in_lanes in
+        let left : (slice_index image (place + i) ≡ slice_index w.words (place + i)) ⊎ OwnTakenBack w image (place + i) =
+        subst (λ (u : View). (slice_index image (place + i) ≡ slice_index u.words (place + i)) ⊎ OwnTakenBack u image (place + i)) s.here
+        (area_left o (memory_of w) s.views s.log s.decided s.goes.world image survives 0 (place + i) s.goes.in_lanes (omega arith) (omega arith)) in
+        ⊎_elim
+        (λ (same : slice_index image (place + i) ≡ slice_index w.words (place + i)). inl (word ∙ same))
+        (λ (t : OwnTakenBack w image (place + i)).
+        let at = t.of_word in
+        inr (word ∙ t.is_old ∙ un.olds t.change t.there (record { low = omega (arith, at); high = omega (arith, at, low, within) }) ∙ ap (slice_index o.words) t.of_word))
+        left
+
+    -- so the slot is whole, where each word of it as the lane left it is that of the record, or as at the opening
+    whole_found : (test : Recorded → Bool) → HasNoTornMatch o test → (r : Recorded) → 1 ≤ length r.old → length r.old ≤ 4 → test r ≡ true → (end : ℕ) → Unwritten o w end
+        → ((i : ℕ) → i < 8 → (slice_index w.words (place + i) ≡ slice_index (spelled (generation_word o.words 0) r) i) ⊎ (slice_index w.words (place + i) ≡ slice_index o.words (place + i)))
+        → is_record found ≡ true → slice_index found 0 ≡ generation_word o.words 0 → found ≡ spelled (generation_word o.words 0) r
+    whole_found test none r some most passes end un left matches begun =
+        let whole : List ℕ = spelled (generation_word o.words 0) r in
+        let long = survives.size in
+        let big = size in
+        let count : length found ≡ 8 = eight_count image place (omega arith) in
+        let eight : length whole ≡ 8 = length-spelled (generation_word o.words 0) r most in
+        ⊎_elim
+        (λ (same : (i : ℕ) → i < 8 → slice_index found i ≡ slice_index whole i). ext_get_or 0 found whole (count ∙ sym eight) (λ i low. same i (omega (arith, count))))
+        (λ (differ : found ≢ whole).
+        absurd (none slot r found within some most passes (record {
+          size = count;
+          mixed = λ i low.
+              let was : slice_index (undo_slot o.words 0 slot) i ≡ slice_index o.words (place + i) = eight_words o.words place i low in
+              ⊎_elim
+              (λ (now : slice_index found i ≡ slice_index w.words (place + i)). ⊎_elim
+              (λ (ours : slice_index w.words (place + i) ≡ slice_index whole i). inl (now ∙ ours))
+              (λ (old : slice_index w.words (place + i) ≡ slice_index o.words (place + i)). inr (now ∙ old ∙ sym was))
+              (left i low))
+              (λ (old : slice_index found i ≡ slice_index o.words (place + i)). inr (old ∙ sym was))
+              (found_word end i un low);
+          begun = begun;
+          torn = differ;
+          matches = matches;
+        })))
+        (are_same 8 found whole)
+
+    -- where the slot stands that is being written
+    abbrev IsInLog : List ℕ → Type 0
+    IsInLog making = ((slot < length w.log.records) × (is_drained_slot w slot ≡ false)) ⊎ ((slot ≡ length w.log.records) × (1 ≤ length making))
+
+    used_here : (making pair : List ℕ) → length w.log.records ≤ slot → slot < used_slots (Open making pair) w → IsInLog making
+    used_here [] pair from to = absurd (omega arith)
+    used_here (x ∷ making) pair from to = inr (omega arith, omega arith)
+
+    changed_here : (making pair : List ℕ) → w.log.phase ≡ Open making pair → length making < 8 → is_drained_slot w slot ≡ false → IsInLog making
+    changed_here making pair is short undrained = ⊎_elim
+        (λ (low : slot < length w.log.records). inl (low, undrained))
+        (λ (high : length w.log.records ≤ slot).
+        let t = Any-from_list_any (is_in_line (slot_line w.lane slot)) w.changes (not_drained (list_any (is_in_line (slot_line w.lane slot)) w.changes) undrained) in
+        let c : Change = t.1 in
+        let line : c.word / 8 ≡ slot_line w.lane slot = eqb-true (c.word / 8) (slot_line w.lane slot) t.4 in
+        let lane = fits.lane.lane in
+        let range : InRange (memory_of w (PoolWord (area_word 0))) w (Open making pair) =
+        subst (InRange (memory_of w (PoolWord (area_word 0))) w) is (subst (λ (u : View). InRange (memory_of w (PoolWord (area_word 0))) u u.log.phase) s.here s.goes.range) in
+        let below = range.1 c (t.0, t.2, t.3) (record { low = omega (arith, line, lane); high = omega (arith, line, lane, within) }) in
+        inr (omega (arith, below, line, lane, high, short), omega (arith, below, line, lane, high, short)))
+        (cases_lt slot (length w.log.records))
+
+    open_here : (making pair : List ℕ) → w.log.phase ≡ Open making pair → length making < 8 → IsBeingWritten w slot → IsInLog making
+    open_here making pair is short being = ⊎_elim
+        (λ (undrained : is_drained_slot w slot ≡ false). changed_here making pair is short undrained)
+        (λ (used : (length w.log.records ≤ slot) × (slot < used_slots w.log.phase w)). used_here making pair used.0 (subst (λ (p : Phase). slot < used_slots p w) is used.1))
+        being
+
+    -- a drained log of which no slot is used
+    none_here : (phase : Phase) → w.log.phase ≡ phase → used_slots phase w ≡ length w.log.records → is_drained_slot w slot ≡ true → IsBeingWritten w slot → IsWhole w image slot
+    none_here phase is used drained being = absurd (⊎_elim
+        (λ (undrained : is_drained_slot w slot ≡ false). false≢true (sym undrained ∙ drained))
+        (λ (more : (length w.log.records ≤ slot) × (slot < used_slots w.log.phase w)).
+        let below : slot < used_slots phase w = subst (λ (p : Phase). slot < used_slots p w) is more.1 in let from = more.0 in omega (arith, below, from, used))
+        being)
+
+    -- the log may grow, at the opening's generation
+    module _ (test : Recorded → Bool) (none : HasNoTornMatch o test) (passes : (r : Recorded) → MayRecord w r → test r ≡ true) (u : Undo) (valid : valid_record image 0 slot ≡ Some u)
+        (making pair : List ℕ) (is : w.log.phase ≡ Open making pair) (open_fits : OpenFits w making pair) (now : generation_of w ≡ generation_word o.words 0)
+        (un : Unwritten o w (648 + 8 * length w.log.records + length making)) where
+      read_back : Reads found u
+      read_back = reads found u (valid_parts image 0 slot u valid).stands
+
+      begins_so : slice_index found 0 ≡ generation_word o.words 0
+      begins_so =
+          let generation_there : generation_word image 0 ≡ generation_of w =
+          subst (GenerationIs w (generation_word image 0)) is
+          (subst (λ (x : View). GenerationIs x (generation_word image 0) x.log.phase) s.here (generation_is o (memory_of w) s.views s.log s.decided s.goes.world image survives 0 s.goes.in_lanes)) in
+          sym read_back.begun ∙ (valid_parts image 0 slot u valid).present ∙ generation_read o (memory_of w) s.views s.log s.decided s.goes.world image survives 0 s.goes.in_lanes ∙ generation_there ∙ now
+
+      -- it holds the record so
+      holds_so : (r : Recorded) → IsRecordAt w slot r ⊎ ((length w.log.records ≤ slot) × CanRecord w r) → found ≡ spelled (generation_word o.words 0) r → IsWhole w image slot
+      holds_so r lawful same = record {
+        held = r;
+        lawful = lawful;
+        spells =
+            ap (λ (lane : ℕ). undo_slot image lane slot) fits.lane.lane
+            ∙ same
+            ∙ ap (λ (g : ℕ). spelled g r) (sym (ap (λ (p : Phase). records_generation p w) is ∙ now));
+      }
+
+      -- a record of the log
+      stored_whole : slot < length w.log.records → is_drained_slot w slot ≡ false → IsWhole w image slot
+      stored_whole low undrained =
+          let t = record_there w.log.records slot low in
+          let may = undrained_may slot t.0 t.1 undrained in
+          let stored : undo_slot w.words 0 slot ≡ spelled (generation_word o.words 0) t.0 =
+          ap (λ (lane : ℕ). undo_slot w.words lane slot) (sym fits.lane.lane)
+          ∙ fits.log.stored slot t.0 t.1
+          ∙ ap (λ (g : ℕ). spelled g t.0) (ap (λ (p : Phase). records_generation p w) is ∙ now) in
+          holds_so t.0 (inl t.1)
+          (whole_found test none t.0 may.some may.most (passes t.0 may) (648 + 8 * length w.log.records + length making) un
+          (λ i below. inl (sym (eight_words w.words place i below) ∙ ap (λ (ws : List ℕ). slice_index ws i) stored)) read_back.matches begins_so)
+
+      -- the one in the making
+      making_whole : slot ≡ length w.log.records → Making w making → IsWhole w image slot
+      making_whole last m =
+          let may = can_may m.next m.can in
+          let lane = fits.lane.lane in
+          let short = open_fits.short in
+          holds_so m.next (inr (omega (arith, last), m.can))
+          (whole_found test none m.next may.some may.most (passes m.next may) (648 + 8 * length w.log.records + length making) un
+          (λ i below. ⊎_elim
+          (λ (written : i < length making).
+          let at : place + i ≡ slot_word w.lane (length w.log.records) + i = omega (arith, lane, last) in
+          inl (ap (slice_index w.words) at ∙ open_fits.stands i written
+          ∙ ap (λ (ws : List ℕ). slice_index ws i) m.spells
+          ∙ get_or-take (length making) (spelled (generation_of w) m.next) i 0 written
+          ∙ ap (λ (g : ℕ). slice_index (spelled g m.next) i) now))
+          (λ (unwritten : length making ≤ i). inr (un.beyond (place + i) (omega (arith, last, unwritten)) (omega (arith, below, within))))
+          (cases_lt i (length making))) read_back.matches begins_so)
+
+      growing_whole : (1 ≤ length making → Making w making) → IsInLog making → IsWhole w image slot
+      growing_whole makes here = ⊎_elim
+          (λ (t : (slot < length w.log.records) × (is_drained_slot w slot ≡ false)). stored_whole t.0 t.1)
+          (λ (t : (slot ≡ length w.log.records) × (1 ≤ length making)). making_whole t.0 (makes t.1))
+          here
+
+    nothing_here : (making : List ℕ) → making ≡ [] → w.log.records ≡ [] → IsInLog making → ⊥
+    nothing_here making empty none here =
+        let count : length w.log.records ≡ 0 = ap (λ (rs : List Recorded). length rs) none in
+        let short : length making ≡ 0 = ap (λ (ws : List ℕ). length ws) empty in
+        ⊎_elim
+        (λ (t : (slot < length w.log.records) × (is_drained_slot w slot ≡ false)). let low = t.0 in omega (arith, low, count))
+        (λ (t : (slot ≡ length w.log.records) × (1 ≤ length making)). let some = t.1 in omega (arith, some, short))
+        here
+
+    whole_in : (test : Recorded → Bool) → HasNoTornMatch o test → ((r : Recorded) → MayRecord w r → test r ≡ true) → (u : Undo) → valid_record image 0 slot ≡ Some u
+        → (phase : Phase) → w.log.phase ≡ phase → PhaseFits (Flies s.log s.decided 0) w phase → FirstLog o w phase → GrowsFirst o w phase → IsBeingWritten w slot → IsWhole w image slot
+    whole_in test none passes u valid Idle is fit first grows being = none_here Idle is refl (all_drained w slot fit.drained) being
+    whole_in test none passes u valid (Open making pair) is fit first grows being =
+        let here : IsInLog making = open_here making pair is fit.short being in
+        ⊎_elim
+        (λ (now : generation_of w ≡ generation_word o.words 0). growing_whole test none passes u valid making pair is fit now (first.0.first now) first.1 here)
+        (λ (empty : (making ≡ []) × (w.log.records ≡ [])). absurd (nothing_here making empty.0 empty.1 here))
+        grows
+    whole_in test none passes u valid Drawn is fit first grows being = none_here Drawn is refl (all_drained w slot fit.drained) being
+    whole_in test none passes u valid Sealing is fit first grows being = absurd fit
+    whole_in test none passes u valid (Applying applied) is fit first grows being = absurd fit
+    whole_in test none passes u valid Clearing is fit first grows being = absurd fit
+    whole_in test none passes u valid Retiring is fit first grows being = none_here Retiring is refl (retiring_drained w slot fit.changes) being
+
+-- a lane that makes no step writes no slot
+idle_writes_none : (o : Opening) (j slot : ℕ) → IsBeingWritten (idle_view o j) slot → ⊥
+idle_writes_none o j slot being = ⊎_elim
+    (λ (undrained : true ≡ false). false≢true (sym undrained))
+    (λ (used : (0 ≤ slot) × (slot < 0)). let low = used.1 in omega arith)
+    being
+
+pub none_torn_alone : (o : Opening) (header : Header) (pool : PoolView) (v w : View) (steps : List Step) (keep : ℕ) (image : List ℕ) (test : Recorded → Bool) → WorksAlone o header pool v steps w
+    → IsKeptImage keep w.words (w.changes ∷ []) image → GrowsFirst o w w.log.phase → HasNoTornMatch o test → ((r : Recorded) → MayRecord w r → test r ≡ true) → NoneTorn o (alone_views o w) image
+none_torn_alone o header pool v w steps keep image test works is grows none passes k slot u low within being valid = ⊎_elim
+    (λ (same : k ≡ 0).
+    let at : StandsFirst o header pool w = first_at o header pool v steps w works in
+    let here : IsBeingWritten w slot = subst (λ (n : ℕ). IsBeingWritten (alone_views o w n) slot) same being in
+    let survives : Survives o (memory_of w) at.stands.views image = kept_survives o header pool w at.stands image keep is in
+    subst (λ (n : ℕ). IsWhole (alone_views o w n) image slot) (sym same)
+    (whole_in o header pool w at.stands image survives slot within test none passes u (subst (λ (n : ℕ). valid_record image n slot ≡ Some u) same valid) w.log.phase refl
+    (own_fits o header pool w at.stands).phase at.first grows here))
+    (λ (other : k ≢ 0). absurd (idle_writes_none o k slot (subst (λ (x : View). IsBeingWritten x slot) (alone_else o w k other) being)))
+    (cases_eq k 0)
+
+-- a record that the lane may be writing has its words
+of_words : (w : View) (r : Recorded) → MayRecord w r → is_of_words w.words r ≡ true
+of_words w r may =
+    and_from (leb (r.word + length r.old) (length w.words)) _ (le-leb (r.word + length r.old) (length w.words) may.inside)
+    (every (λ i. eqb (slice_index w.words (r.word + i)) (slice_index r.old i)) 0 (length r.old)
+    (λ i from to. eq-eqb (slice_index w.words (r.word + i)) (slice_index r.old i) (may.present i (omega (arith, to)))))
+  where
+    every : (p : ℕ → Bool) (from n : ℕ) → ((i : ℕ) → from ≤ i → i < from + n → p i ≡ true) → list_all p (range_with_len from n) ≡ true
+    every p from zero all = refl
+    every p from (suc n) all = and_from (p from) (list_all p (range_with_len (from + 1) n)) (all from (omega arith) (omega arith)) (every p (from + 1) n (λ i low high. all i (omega arith) (omega arith)))
+
+pub none_torn_by_words : (o : Opening) (header : Header) (pool : PoolView) (v w : View) (steps : List Step) (keep : ℕ) (image : List ℕ) → WorksAlone o header pool v steps w
+    → IsKeptImage keep w.words (w.changes ∷ []) image → GrowsFirst o w w.log.phase → HasNoTornMatch o (is_of_words w.words) → NoneTorn o (alone_views o w) image
+none_torn_by_words o header pool v w steps keep image works is grows none = none_torn_alone o header pool v w steps keep image (is_of_words w.words) works is grows none (of_words w)

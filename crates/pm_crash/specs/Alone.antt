@@ -1,0 +1,114 @@
+-- One lane that makes steps where no other lane makes any, over an image that holds a pool; and what a power failure leaves of its work.
+use Rattle.std.specs.Prelude.{◌≡◌, ◌≢◌, ◌⊎◌, ℕ, ◌+◌, ◌*◌, ◌<◌, ◌≤◌, ◌==◌, ◌&&◌, nat_le, not, Bool, true, false, if◌then◌else◌, IsTrue, List, [], ◌∷◌, length, map, slice_index}
+use Rattle.std.specs.List.{filter, list_all, range_with_len}
+use Rattle.std.specs.Option.{ForSome}
+use Rattle.pm_header.specs.declared.header.Header.{Header}
+use Rattle.pm_objects.specs.Pool.{offsets}
+use Rattle.pm_objects.specs.declared.pool.PoolView.{PoolView}
+use Rattle.pm_image.specs.Blocks.{blocks}
+use Rattle.pm_image.specs.Contents.{offset_in}
+use Rattle.pm_image.specs.Logs.{generation_word, recovered_at, undo_slot}
+use Rattle.pm_image.specs.Means.{IsMeaning}
+use Rattle.pm_model.specs.History.{opened}
+use Rattle.pm_model.specs.Names.{Replays}
+use Rattle.pm_model.specs.Step.{Act}
+use Rattle.pm_record.specs.Undo.{is_record}
+use Rattle.pm_view.specs.Founds.{IsAlone}
+use Rattle.pm_view.specs.Log.{Phase, Recorded}
+use Rattle.pm_view.specs.Log.Phase.{Open}
+use Rattle.pm_view.specs.Rights.{is_written}
+use Rattle.pm_view.specs.Area.{area_word}
+use Rattle.pm_view.specs.Steps.{Step}
+use Rattle.pm_view.specs.Steps.Step.{Store}
+use Rattle.pm_view.specs.View.{Numbered, View, blank}
+use Rattle.pm_memory.specs.Solo.{AreNumbered}
+use Rattle.pm_world.specs.Crash.{loses}
+use Rattle.pm_world.specs.Opening.{Opening}
+use Rattle.pm_world.specs.Opens.{IsClean, IsFresh}
+use Rattle.pm_world.specs.Records.{generation_of, spelled}
+use Rattle.pm_world.specs.World.{Views}
+use Rattle.pm_crash.specs.Held.{HoldsImage}
+use Rattle.pm_crash.specs.Leading.{Leads}
+use Rattle.pm_crash.specs.OpenCall.{told_of}
+
+-- the image holds a pool and each log is clean; the view is that of lane 0 before its first step, of this pool, and of no table
+pub record BeginsAlone (o : Opening) (header : Header) (pool : PoolView) (v : View) : Type 0 where
+  pub holds : HoldsImage o.words o.lanes o.zones header pool
+  pub clean : (j : ℕ) → j < o.lanes → IsClean o j
+  pub fresh : IsFresh o 0 v
+  pub of_pool : v.pool ≡ header.id
+  pub alone : IsAlone v
+
+-- from there the steps led to the view w: the numbers drawn are the lane's own, and it made no more counted calls than up to its stop number
+pub record WorksAlone (o : Opening) (header : Header) (pool : PoolView) (v : View) (steps : List Step) (w : View) : Type 0 where
+  pub begins : BeginsAlone o header pool v
+  pub leads : Leads v steps w
+  pub numbered : AreNumbered 1 w.entries
+  pub within : ForSome w.stop (λ stop. w.calls ≤ stop)
+
+-- the view of a lane that makes no step
+abbrev pub idle_view : Opening → ℕ → View
+idle_view o j = record blank { lanes = o.lanes; zones = o.zones; lane = j; words = o.words }
+
+-- the views of all lanes, where lane 0 has this one
+abbrev pub alone_views : Opening → View → Views
+alone_views o w j = if j == 0 then w else idle_view o j
+
+-- the calls that drew a number and that the image does not lose, in order
+abbrev pub kept_numbered : List ℕ → View → List Numbered
+kept_numbered image w = filter (λ (e : Numbered). not (loses image w e.number)) w.entries
+
+-- such a call as the model's
+abbrev pub act_of_numbered : Numbered → Act
+act_of_numbered e = record { lane = 0; told = map told_of e.call }
+
+-- these calls, one whole call after another, lead from the one pool to another, which the image means; and the allocated blocks of its
+-- recovered words are those of that pool's objects, in order
+pub record MeansCalls (image : List ℕ) (lanes zones : ℕ) (pool : PoolView) (calls : List Numbered) : Type 0 where
+  pub last : PoolView
+  pub replays : Replays (opened pool) (map act_of_numbered calls) (opened last)
+  pub means : IsMeaning image last
+  pub blocks_are : map offset_in (blocks (recovered_at image lanes) lanes zones) ≡ offsets last.objects
+
+-- the lane may be writing the record: its words lie behind the lanes' areas, under locks that it holds for writing, and are as the view has them
+pub record MayRecord (w : View) (r : Recorded) : Type 0 where
+  pub some : 1 ≤ length r.old
+  pub most : length r.old ≤ 4
+  pub behind : 512 + 1024 * w.lanes ≤ r.word
+  pub inside : r.word + length r.old ≤ length w.words
+  pub own : (i : ℕ) → i < length r.old → IsTrue (is_written w (r.word + i))
+  pub present : (i : ℕ) → i < length r.old → slice_index w.words (r.word + i) ≡ slice_index r.old i
+
+-- eight words of a slot, each that of a record or the one that was there: the first is the record's, not all are, and yet the last is the
+-- sum of the others
+pub record IsTornMatch (was whole slot : List ℕ) : Type 0 where
+  pub size : length slot ≡ 8
+  pub mixed : (i : ℕ) → i < 8 → (slice_index slot i ≡ slice_index whole i) ⊎ (slice_index slot i ≡ slice_index was i)
+  pub begun : slice_index slot 0 ≡ slice_index whole 0
+  pub torn : slot ≢ whole
+  pub matches : IsTrue (is_record slot)
+
+-- no record of one to four words that passes the test makes, in the opening's generation, a torn match in a slot of lane 0
+abbrev pub HasNoTornMatch : Opening → (Recorded → Bool) → Type 0
+HasNoTornMatch o test =
+    (slot : ℕ) (r : Recorded) (words : List ℕ) → slot < 64 → 1 ≤ length r.old → length r.old ≤ 4 → test r ≡ true
+    → IsTornMatch (undo_slot o.words 0 slot) (spelled (generation_word o.words 0) r) words → ⊥
+
+-- the record is of some of these words, and has them for old ones
+abbrev pub is_of_words : List ℕ → Recorded → Bool
+is_of_words words r = nat_le (r.word + length r.old) (length words) && list_all (λ i. slice_index words (r.word + i) == slice_index r.old i) (range_with_len 0 (length r.old))
+
+-- while the lane's log may grow it is of the opening's generation, or nothing of it is written yet
+abbrev pub GrowsFirst : Opening → View → Phase → Type 0
+GrowsFirst o w (Open slot pair) = (generation_of w ≡ generation_word o.words 0) ⊎ ((slot ≡ []) × (w.log.records ≡ []))
+GrowsFirst o w phase = Unit {0}
+
+-- the step stores the generation of lane 0's log
+abbrev pub is_raise : Step → Bool
+is_raise (Store w x) = w == area_word 0
+is_raise s = false
+
+-- how many of these steps do
+unfoldable pub raises : List Step → ℕ
+raises [] = 0
+raises (s ∷ steps) = (if is_raise s then 1 else 0) + raises steps
