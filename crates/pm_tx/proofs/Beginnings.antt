@@ -31,6 +31,7 @@ use Rattle.pm_world.specs.Records.{IsRecordAt}
 use Rattle.pm_world.specs.Sequences.{IsMade, Ready, Runs, in_turn, one}
 use Rattle.pm_world.specs.declared.lane.Lane.{Lane}
 use Rattle.pm_world.specs.declared.lane.Stage.TheVariants as stage
+use Rattle.pm_world.proofs.Shapes.{IsOfSamePool}
 use Rattle.pm_tx.specs.AtWork.{IsAtWork, FindsObjects}
 use Rattle.pm_tx.specs.Beginning.{IsBegun, IsRefusedBy}
 use Rattle.pm_tx.specs.Ending.{DrawEnded, IsAfterCall, IsClosedBy, IsOver, IsReadyForAny, IsTakenBack}
@@ -92,7 +93,7 @@ module _ {M : Type 0} (at : M → View → Type 0) (lane : Lane M) (v : View) (i
   opened o sound finds zones objects operation wants begins takes memory there =
       let next : View = after v (Tell operation None) in
       record {
-        seen = record { memory = there; locks = is.seen.locks; records = is.seen.records; drawn = is.seen.drawn; last = is.seen.last; pool = is.seen.pool };
+        seen = record { memory = there; locks = is.seen.locks; records = is.seen.records; drawn = is.seen.drawn; last = is.seen.last; pool = is.seen.pool; shape = (let s = is.seen.shape in record { lanes = s.lanes; zones = s.zones; size = s.size }) };
         level = omega arith;
         works = refl;
         unharmed = is.unharmed;
@@ -136,7 +137,7 @@ module _ {M : Type 0} (at : M → View → Type 0) (lane : Lane M) (v : View) (i
 
     -- once it has drawn its number, the lane's call is over
     pub refused_after : (new : Lane M) → new.last ≡ n → IsMade (at lane.memory) (at new.memory) (ends_call operation (Some (Refused r)) n) → new.locks.items ≡ lane.locks.items → new.records.items ≡ lane.records.items
-        → new.drawn ≡ Some new.last → new.pool ≡ lane.pool → new.stopped ≡ lane.stopped → IsAfterCall at new mid
+        → new.drawn ≡ Some new.last → IsOfSamePool lane new → new.stopped ≡ lane.stopped → IsAfterCall at new mid
     unfolding Runs
     refused_after new last made locks records drawn pool stops =
         after_over at lane new v mid is.seen is.lines (made v is.seen.memory ends_ready) (subst (IsOver v mid) (sym last) over) locks (records ∙ no_spans) drawn pool (stops ∙ is.unstopped) (place_at_work v works)

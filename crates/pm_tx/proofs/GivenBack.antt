@@ -23,6 +23,8 @@ use Rattle.pm_world.specs.Lawful.{GiveFits, MayGive, is_holder}
 use Rattle.pm_world.specs.Sequences.{IsMade, IsReady, Ready, Runs, one}
 use Rattle.pm_world.specs.declared.lane.HeldLock.{HeldLock}
 use Rattle.pm_world.specs.declared.lane.Lane.{Lane}
+use Rattle.pm_world.proofs.Shapes.{IsOfSamePool, shape_seen}
+use Rattle.pm_view.proofs.SameLane.{same_lane-after_all}
 use Rattle.pm_tx.specs.AtWork.{HoldsLines}
 use Rattle.pm_tx.specs.Ending.{IsAfterCall, IsClosedBy}
 use Rattle.pm_tx.specs.Resting.{HasPlace}
@@ -125,7 +127,7 @@ module _ {M : Type 0} (at : M → View → Type 0) (lane : Lane M) (v : View) (i
   unfolding IsReady
   give_ready = (v, (is.seen.memory, lawful.0))
 
-  pub closed : (new : Lane M) → Runs {T = Unit {0}} (at lane.memory) (at new.memory) (gives lane.locks.items) (Ok tt) → new.locks.items ≡ [] → new.records.items ≡ lane.records.items → new.drawn ≡ None → new.last ≡ lane.last → new.pool ≡ lane.pool → new.error ≡ error.None → new.stopped ≡ lane.stopped
+  pub closed : (new : Lane M) → Runs {T = Unit {0}} (at lane.memory) (at new.memory) (gives lane.locks.items) (Ok tt) → new.locks.items ≡ [] → new.records.items ≡ lane.records.items → new.drawn ≡ None → new.last ≡ lane.last → IsOfSamePool lane new → new.error ≡ error.None → new.stopped ≡ lane.stopped
       → IsClosedBy at new v (gives lane.locks.items)
   unfolding Runs
   closed new ran none records drawn last pool unharmed stops =
@@ -136,7 +138,8 @@ module _ {M : Type 0} (at : M → View → Type 0) (lane : Lane M) (v : View) (i
         rests = record {
           seen = record {
             memory = ran v is.seen.memory lawful.0;
-            pool = ap (λ (u : View). u.pool) same ∙ (is.seen.pool ∙ sym pool);
+            pool = ap (λ (u : View). u.pool) same ∙ (is.seen.pool ∙ sym pool.pool);
+            shape = shape_seen lane new v w pool (same_lane-after_all v (gives locks v)) is.seen.shape;
             locks = ap (map lock_of) none ∙ sym (ap (λ (u : View). u.locks) same);
             records = records ∙ (is.seen.records ∙ sym (ap (λ (u : View). map span_of u.log.records) same));
             drawn = λ number some. absurd (none-some number (sym drawn ∙ some));
