@@ -157,6 +157,7 @@ module _ {M : Type 0} (at : M → View → Type 0) (lane : Lane M) (v : View) (i
     has_begun generation below = record {
       ready = ready;
       draws = no_draws;
+      entries = ap (λ (m : View). m.entries) ends;
       begun = subst (IsBegun at new) (sym ends) (record {
         seen = seen_so;
         unharmed = is.unharmed;

@@ -6,3 +6,5 @@ pub mod Resting
 pub mod Ending
 pub mod Stages
 pub mod Beginning
+pub mod Plans
+pub mod Begins
