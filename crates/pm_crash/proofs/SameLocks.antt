@@ -14,22 +14,22 @@ turned_locks ls ms are = record { same = λ off write. sym (are.same off write);
 pub joined_locks : (ls ms ns : List Lock) → AreSameLocks ls ms → AreSameLocks ms ns → AreSameLocks ls ns
 joined_locks ls ms ns one two = record { same = λ off write. one.same off write ∙ two.same off write; count = one.count ∙ two.count }
 
-or_none : (a : Bool) → (a || false) ≡ a
+pub or_none : (a : Bool) → (a || false) ≡ a
 or_none true = refl
 or_none false = refl
 
-or_assoc : (a b c : Bool) → (a || (b || c)) ≡ ((a || b) || c)
+pub or_assoc : (a b c : Bool) → (a || (b || c)) ≡ ((a || b) || c)
 or_assoc true b c = refl
 or_assoc false b c = refl
 
-or_turned : (a b : Bool) → (a || b) ≡ (b || a)
+pub or_turned : (a b : Bool) → (a || b) ≡ (b || a)
 or_turned true true = refl
 or_turned true false = refl
 or_turned false true = refl
 or_turned false false = refl
 
 -- a lock that stands for two
-joined_tests : (a p q n r : Bool) → ((a && ((p || q) || n)) || r) ≡ (((a && (p || n)) || r) || (a && (q || n)))
+pub joined_tests : (a p q n r : Bool) → ((a && ((p || q) || n)) || r) ≡ (((a && (p || n)) || r) || (a && (q || n)))
 joined_tests false p q n r = sym (or_none r)
 joined_tests true true q n r = refl
 joined_tests true false true true r = refl
@@ -38,7 +38,7 @@ joined_tests true false false true r = refl
 joined_tests true false false false r = sym (or_none r)
 
 -- what is locked after one more lock
-is_locked_after : (off : ℕ) (w : Bool) (ls : List Lock) (x : ℕ) (write : Bool) → is_locked (locked off w ls) x write ≡ (is_locked ls x write || (eqb off x && (w || not write)))
+pub is_locked_after : (off : ℕ) (w : Bool) (ls : List Lock) (x : ℕ) (write : Bool) → is_locked (locked off w ls) x write ≡ (is_locked ls x write || (eqb off x && (w || not write)))
 unfolding locked
 is_locked_after off w [] x write = or_none (eqb off x && (w || not write))
 is_locked_after off w (l ∷ ls) x write = ⊎_elim
@@ -53,10 +53,10 @@ is_locked_after off w (l ∷ ls) x write = ⊎_elim
     (cases_Bool (eqb l.off off))
 
 -- one lock more where none was held of the object
-abbrev one_unless : Bool → ℕ
+abbrev pub one_unless : Bool → ℕ
 one_unless held = cond held 0 1
 
-count_after : (off : ℕ) (w : Bool) (ls : List Lock) → length (locked off w ls) ≡ length ls + one_unless (is_locked ls off false)
+pub count_after : (off : ℕ) (w : Bool) (ls : List Lock) → length (locked off w ls) ≡ length ls + one_unless (is_locked ls off false)
 unfolding locked
 count_after off w [] = refl
 count_after off w (l ∷ ls) = ⊎_elim
@@ -71,7 +71,7 @@ count_after off w (l ∷ ls) = ⊎_elim
     ap (λ (locks : List Lock). length locks) (cond-false (eqb l.off off) (record { off = off; write = l.write || w } ∷ ls) (l ∷ locked off w ls) other) ∙ omega arith)
     (cases_Bool (eqb l.off off))
 
-locked_alike : (off : ℕ) (w : Bool) (ls ms : List Lock) → AreSameLocks ls ms → AreSameLocks (locked off w ls) (locked off w ms)
+pub locked_alike : (off : ℕ) (w : Bool) (ls ms : List Lock) → AreSameLocks ls ms → AreSameLocks (locked off w ls) (locked off w ms)
 locked_alike off w ls ms are =
     record {
       same = λ x write. is_locked_after off w ls x write ∙ ap (λ (b : Bool). b || (eqb off x && (w || not write))) (are.same x write) ∙ sym (is_locked_after off w ms x write);

@@ -16,27 +16,26 @@ use Rattle.pm_undo.proofs.Begun.{tell_works}
 use Rattle.pm_undo.proofs.Staying.{same_call}
 use Rattle.pm_undo.specs.Spans.{IsSpan}
 use Rattle.pm_undo.specs.Working.{FindsOpening, IsWorking}
-use Rattle.pm_view.proofs.Sequences.{after_all-append}
-use Rattle.pm_view.specs.Constants.{IsSameLane}
+use Rattle.pm_view.specs.Counts.{counted}
 use Rattle.pm_view.specs.Log.{Log, Recorded}
 use Rattle.pm_view.specs.Steps.{Step}
 use Rattle.pm_view.specs.Steps.Step.{Tell}
 use Rattle.pm_view.specs.View.{View, Told}
 use Rattle.pm_view.specs.Views.{after, after_all}
-use Rattle.pm_world.proofs.Sequencing.{ready_both}
-use Rattle.pm_world.specs.Lanes.{span_of}
+use Rattle.pm_world.specs.Lanes.{IsSeenAs, span_of}
 use Rattle.pm_world.specs.Lawful.{MayTell}
 use Rattle.pm_world.specs.Opening.{Opening, IsSound}
 use Rattle.pm_world.specs.Records.{IsRecordAt}
 use Rattle.pm_world.specs.Sequences.{IsMade, Ready, Runs, in_turn, one}
 use Rattle.pm_world.specs.declared.lane.Lane.{Lane}
 use Rattle.pm_world.specs.declared.lane.Stage.TheVariants as stage
+use Rattle.pm_world.proofs.Shapes.{IsOfSamePool}
 use Rattle.pm_tx.specs.AtWork.{IsAtWork, FindsObjects}
-use Rattle.pm_tx.specs.Beginning.{IsBegun, IsRefusedBy}
-use Rattle.pm_tx.specs.Ending.{DrawEnded, IsAfterCall, IsClosedBy, IsOver, IsReadyForAny, IsTakenBack}
-use Rattle.pm_tx.specs.Resting.{IsAtRest}
-use Rattle.pm_tx.specs.Sequences.{ends_call, gives, refuses}
-use Rattle.pm_tx.proofs.Drawless.{drawless, drawn_in_turn}
+use Rattle.pm_tx.specs.Beginning.{IsBegun}
+use Rattle.pm_tx.specs.Begins.{HasRefused}
+use Rattle.pm_tx.specs.Ending.{DrawEnded, IsAfterCall, IsOver, IsReadyForAny, IsTakenBack}
+use Rattle.pm_tx.specs.Sequences.{ends_call}
+use Rattle.pm_tx.proofs.Leads.{ready_led}
 use Rattle.pm_tx.proofs.GivenUp.{after_over, end_is_over, end_ready, place_at_work}
 
 module _ {M : Type 0} (at : M → View → Type 0) (lane : Lane M) (v : View) (is : IsBegun at lane v) where
@@ -86,13 +85,18 @@ module _ {M : Type 0} (at : M → View → Type 0) (lane : Lane M) (v : View) (i
   unfolding IsReadyForAny
   may_end operation reply = (v, (is.seen.memory, λ n. end_ready v v works is.may_come taken operation reply n))
 
+  -- the lane is seen as the view of the call that is told to have begun
+  pub opened_seen : (wants : List Want) (memory : M) → at memory (after v (Tell (Begin wants) None)) → IsSeenAs at (record lane { memory = memory; level = 1; stage = stage.Work }) (after v (Tell (Begin wants) None))
+  opened_seen wants memory there =
+      record { memory = there; locks = is.seen.locks; records = is.seen.records; drawn = is.seen.drawn; last = is.seen.last; pool = is.seen.pool; shape = (let s = is.seen.shape in record { lanes = s.lanes; zones = s.zones; size = s.size }) }
+
   -- a call that is told to have begun with its locks is at work
-  pub opened : (o : Opening) → IsSound o → FindsOpening o v → o.zones ≤ 32 → FindsObjects v → (operation : Operation) (wants : List Want) → operation ≡ Begin wants → TakesWanted v [] wants → (memory : M) → at memory (after v (Tell operation None))
-      → IsAtWork o at (record lane { memory = memory; level = 1; stage = stage.Work }) (after v (Tell operation None))
-  opened o sound finds zones objects operation wants begins takes memory there =
-      let next : View = after v (Tell operation None) in
+  pub opened : (o : Opening) → IsSound o → FindsOpening o v → o.zones ≤ 32 → FindsObjects v → (wants : List Want) → TakesWanted v [] wants → (memory : M) → at memory (after v (Tell (Begin wants) None))
+      → IsAtWork o at (record lane { memory = memory; level = 1; stage = stage.Work }) (after v (Tell (Begin wants) None))
+  opened o sound finds zones objects wants takes memory there =
+      let next : View = after v (Tell (Begin wants) None) in
       record {
-        seen = record { memory = there; locks = is.seen.locks; records = is.seen.records; drawn = is.seen.drawn; last = is.seen.last; pool = is.seen.pool };
+        seen = opened_seen wants memory there;
         level = omega arith;
         works = refl;
         unharmed = is.unharmed;
@@ -100,10 +104,10 @@ module _ {M : Type 0} (at : M → View → Type 0) (lane : Lane M) (v : View) (i
         spans = subst (All IsSpan) (sym no_spans) (All-nil IsSpan);
         sound = sound;
         opening = record { lane = finds.lane; lanes = finds.lanes; size = finds.size; descriptors = finds.descriptors; locks = finds.locks };
-        working = tell_works v operation None works;
+        working = tell_works v (Begin wants) None works;
         no_entries = ap (λ (log : Log). log.entries) is.log;
         is_open = begin_opens next wants (record {
-          call = ap (λ (told : List Told). told ++ record { operation = operation; reply = None } ∷ []) is.untold ∙ ap (λ (op : Operation). record { operation = op; reply = None } ∷ []) begins;
+          call = ap (λ (told : List Told). told ++ record { operation = Begin wants; reply = None } ∷ []) is.untold;
           no_records = no_records;
           in_lanes = is.area.lane;
           takes = record {
@@ -121,58 +125,66 @@ module _ {M : Type 0} (at : M → View → Type 0) (lane : Lane M) (v : View) (i
         objects = λ l held. let f = objects l held in record { lines = f.lines; block = f.block; known = f.known; fits = f.fits };
       }
 
-  module _ (operation : Operation) (r : Refusal) (n : ℕ) where
+  module _ (wants : List Want) (r : Refusal) (n : ℕ) where
     abbrev ends : List Step
-    ends = ends_call operation (Some (Refused r)) n v
+    ends = ends_call (Begin wants) (Some (Refused r)) n v
 
     abbrev mid : View
     mid = after_all v ends
 
     over : IsOver v mid n
-    over = end_is_over v v works is.may_come taken operation (Some (Refused r)) n
+    over = end_is_over v v works is.may_come taken (Begin wants) (Some (Refused r)) n
 
     ends_ready : Ready v ends
-    ends_ready = end_ready v v works is.may_come taken operation (Some (Refused r)) n
+    ends_ready = end_ready v v works is.may_come taken (Begin wants) (Some (Refused r)) n
 
     -- once it has drawn its number, the lane's call is over
-    pub refused_after : (new : Lane M) → new.last ≡ n → IsMade (at lane.memory) (at new.memory) (ends_call operation (Some (Refused r)) n) → new.locks.items ≡ lane.locks.items → new.records.items ≡ lane.records.items
-        → new.drawn ≡ Some new.last → new.pool ≡ lane.pool → new.stopped ≡ lane.stopped → IsAfterCall at new mid
+    refused_after : (new : Lane M) → new.last ≡ n → IsMade (at lane.memory) (at new.memory) (ends_call (Begin wants) (Some (Refused r)) n) → new.locks.items ≡ lane.locks.items → new.records.items ≡ lane.records.items
+        → new.drawn ≡ Some new.last → IsOfSamePool lane new → new.stopped ≡ lane.stopped → IsAfterCall at new mid
     unfolding Runs
     refused_after new last made locks records drawn pool stops =
         after_over at lane new v mid is.seen is.lines (made v is.seen.memory ends_ready) (subst (IsOver v mid) (sym last) over) locks (records ∙ no_spans) drawn pool (stops ∙ is.unstopped) (place_at_work v works)
 
-    ends_drawn : (wants : List Want) → operation ≡ Begin wants → IsBeginReason v 0 [] wants r → DrawEnded v ends
+    told_so : v.call ++ record { operation = Begin wants; reply = Some (Refused r) } ∷ [] ≡ record { operation = Begin wants; reply = Some (Refused r) } ∷ []
+    told_so = ap (λ (told : List Told). told ++ record { operation = Begin wants; reply = Some (Refused r) } ∷ []) is.untold
+
+    ends_drawn : IsBeginReason v 0 [] wants r → DrawEnded v ends
     unfolding ends_call in_turn one DrawEnded after_all
-    ends_drawn wants begins reason = (
+    ends_drawn reason = (
       tt,
       (
         inr (
           error.Refused r,
-          call_refused (after v (Tell operation (Some (Refused r)))) wants r (record {
-            call = ap (λ (told : List Told). told ++ record { operation = operation; reply = Some (Refused r) } ∷ []) is.untold ∙ ap (λ (op : Operation). record { operation = op; reply = Some (Refused r) } ∷ []) begins;
-            no_records = no_records;
-            reason = reason_at r reason;
-          }),
+          call_refused (after v (Tell (Begin wants) (Some (Refused r)))) wants r (record { call = told_so; no_records = no_records; reason = reason_at r reason }),
           no_records,
         ),
         tt,
       ),
     ) where
-      reason_at : (r : Refusal) → IsBeginReason v 0 [] wants r → IsBeginReason (after v (Tell operation (Some (Refused r)))) 0 [] wants r
+      reason_at : (r : Refusal) → IsBeginReason v 0 [] wants r → IsBeginReason (after v (Tell (Begin wants) (Some (Refused r)))) 0 [] wants r
       reason_at r reason = reason
 
-    -- a begin that was refused, and whose locks were given back
-    pub refused : (wants : List Want) → operation ≡ Begin wants → IsBeginReason v 0 [] wants r → (between new : Lane M) → between.locks.items ≡ lane.locks.items → IsAfterCall at between mid → IsClosedBy at new mid (gives between.locks.items)
-        → IsRefusedBy at new v (refuses lane.locks.items operation r n)
-    unfolding refuses in_turn
-    refused wants begins reason between new locks after closed =
-        let c : IsClosedBy at new mid (gives lane.locks.items) = subst (λ locks. IsClosedBy at new mid (gives locks)) locks closed in
-        let back : List Step = gives lane.locks.items mid in
-        let joined = after_all-append v ends back in
-        let same = c.same in
-        record {
-          ready = ready_both v ends back ends_ready c.ready;
-          draws = drawn_in_turn v ends back (ends_drawn wants begins reason) (drawless mid back (let many = ap (λ (u : View). length u.entries) same in omega (arith, many)));
-          same = subst (IsSameLane v) (sym joined) (subst (IsSameLane v) (sym same) (let l = over.lane in record { lanes = l.lanes; zones = l.zones; pool = l.pool; lane = l.lane; stop = l.stop; table = l.table; size = l.size }));
-          rests = subst (IsAtRest at new) (sym joined) c.rests;
-        }
+    ends_uncounted : counted ends ≡ 0
+    unfolding ends_call in_turn one counted after_all
+    ends_uncounted = refl
+
+    mid_call : mid.call ≡ record { operation = Begin wants; reply = Some (Refused r) } ∷ []
+    unfolding ends_call in_turn one after_all
+    mid_call = told_so
+
+    mid_entries : mid.entries ≡ v.entries ++ record { number = n; call = mid.call } ∷ []
+    unfolding ends_call in_turn one after_all
+    mid_entries = refl
+
+    -- a begin that was refused
+    pub refused : IsBeginReason v 0 [] wants r → (new : Lane M) → new.last ≡ n → IsMade (at lane.memory) (at new.memory) (ends_call (Begin wants) (Some (Refused r)) n) → new.locks.items ≡ lane.locks.items
+        → new.records.items ≡ lane.records.items → new.drawn ≡ Some new.last → IsOfSamePool lane new → new.stopped ≡ lane.stopped → HasRefused at new v wants r
+    refused reason new last made locks records drawn pool stops = record {
+      view = mid;
+      led = ready_led v ends ends_ready (ends_drawn reason) ends_uncounted;
+      same = over.lane;
+      over = refused_after new last made locks records drawn pool stops;
+      number = over.number ∙ ap Some (sym last);
+      call = mid_call;
+      entries = mid_entries ∙ ap (λ k. v.entries ++ record { number = k; call = mid.call } ∷ []) (sym last);
+    }

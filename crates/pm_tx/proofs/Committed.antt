@@ -33,6 +33,7 @@ use Rattle.pm_world.specs.Sequences.{IsMade, IsStopped, Ready, Runs, in_turn, no
 use Rattle.pm_world.specs.declared.lane.Lane.{Lane}
 use Rattle.pm_world.specs.declared.lane.Span.{Span}
 use Rattle.pm_world.specs.declared.lane.Stage.TheVariants as stage
+use Rattle.pm_world.proofs.Shapes.{IsOfSamePool}
 use Rattle.pm_tx.specs.AtWork.{IsAtWork, MayCome}
 use Rattle.pm_tx.specs.Ending.{DrawEnded, IsDecidable, IsDrawnOrNot, IsEndedBy, IsOver, IsStoppedIn, StopsDrawn, drawn_more, drawn_view, told_more}
 use Rattle.pm_tx.proofs.Fronts.{HasDrawnNone, HasStayedDrawn, front_drawn, front_undrawn, stopped_left, stopped_right}
@@ -278,7 +279,7 @@ module _ {M : Type 0} (at : M → View → Type 0) (lane : Lane M) (o : Opening)
   -- the commit of an inner level leaves the lane at work, once that level has ended
   pub inner_stays : 2 ≤ lane.level → (memory : M) → at memory (after v (Tell Commit None)) → IsAtWork o at (record lane { memory = memory; level = lane.level - 1; stage = stage.Work }) (after v (Tell Commit None))
   inner_stays inner memory there = record {
-    seen = record { memory = there; locks = is.seen.locks; records = is.seen.records; drawn = is.seen.drawn; last = is.seen.last; pool = is.seen.pool };
+    seen = record { memory = there; locks = is.seen.locks; records = is.seen.records; drawn = is.seen.drawn; last = is.seen.last; pool = is.seen.pool; shape = (let s = is.seen.shape in record { lanes = s.lanes; zones = s.zones; size = s.size }) };
     level = omega (arith, inner);
     works = refl;
     unharmed = is.unharmed;
@@ -300,7 +301,7 @@ module _ {M : Type 0} (at : M → View → Type 0) (lane : Lane M) (o : Opening)
 
   module _ (outer : lane.level ≡ 1) (new : Lane M) where
     -- it was committed
-    pub committed : Runs {T = Unit {0}} (at lane.memory) (at new.memory) (commits records new.last) (Ok tt) → new.locks.items ≡ lane.locks.items → new.records.items ≡ [] → new.drawn ≡ Some new.last → new.pool ≡ lane.pool → new.stopped ≡ lane.stopped
+    pub committed : Runs {T = Unit {0}} (at lane.memory) (at new.memory) (commits records new.last) (Ok tt) → new.locks.items ≡ lane.locks.items → new.records.items ≡ [] → new.drawn ≡ Some new.last → IsOfSamePool lane new → new.stopped ≡ lane.stopped
         → IsEndedBy at new v (commits records new.last) Commit None
     unfolding Runs
     committed ran locks none drawn pool stops =

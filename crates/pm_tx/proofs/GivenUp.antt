@@ -25,6 +25,7 @@ use Rattle.pm_world.specs.Opening.{Opening}
 use Rattle.pm_world.specs.Sequences.{Ready, Runs, in_turn, one}
 use Rattle.pm_world.specs.declared.lane.Lane.{Lane}
 use Rattle.pm_world.specs.declared.lane.Span.{Span}
+use Rattle.pm_world.proofs.Shapes.{IsOfSamePool, shape_seen}
 use Rattle.pm_tx.specs.AtWork.{HoldsLines, IsAtWork, MayCome}
 use Rattle.pm_memory.specs.Runs.{Stops}
 use Rattle.std.proofs.lemmas.Bool.{cases_lt}
@@ -169,10 +170,11 @@ undrawn_lane at lane v seen none = by lane.drawn refl where
   by (Some n) is = absurd (none-some n (sym none ∙ seen.drawn n is))
 
 -- the lane is seen as the view behind its call
-seen_over : {M : Type 0} (at : M → View → Type 0) (lane new : Lane M) (v w : View) → IsSeenAs at lane v → at new.memory w → IsOver v w new.last → new.locks.items ≡ lane.locks.items → new.records.items ≡ [] → new.drawn ≡ Some new.last → new.pool ≡ lane.pool → IsSeenAs at new w
+seen_over : {M : Type 0} (at : M → View → Type 0) (lane new : Lane M) (v w : View) → IsSeenAs at lane v → at new.memory w → IsOver v w new.last → new.locks.items ≡ lane.locks.items → new.records.items ≡ [] → new.drawn ≡ Some new.last → IsOfSamePool lane new → IsSeenAs at new w
 seen_over at lane new v w seen memory over locks none drawn pool = record {
   memory = memory;
-  pool = over.lane.pool ∙ (seen.pool ∙ sym pool);
+  pool = over.lane.pool ∙ (seen.pool ∙ sym pool.pool);
+  shape = shape_seen lane new v w pool over.lane seen.shape;
   locks = ap (map lock_of) locks ∙ (seen.locks ∙ sym over.locks);
   records = none ∙ sym (ap (λ (log : Log). map span_of log.records) over.log);
   drawn = λ number is. over.number ∙ (sym drawn ∙ is);
@@ -180,7 +182,7 @@ seen_over at lane new v w seen memory over locks none drawn pool = record {
 }
 
 pub after_over : {M : Type 0} (at : M → View → Type 0) (lane new : Lane M) (v w : View) → IsSeenAs at lane v → HoldsLines v → at new.memory w → IsOver v w new.last → new.locks.items ≡ lane.locks.items → new.records.items ≡ []
-    → new.drawn ≡ Some new.last → new.pool ≡ lane.pool → new.stopped ≡ false → HasPlace v → IsAfterCall at new w
+    → new.drawn ≡ Some new.last → IsOfSamePool lane new → new.stopped ≡ false → HasPlace v → IsAfterCall at new w
 after_over at lane new v w seen lines memory over locks none drawn pool unstopped place = record {
   seen = seen_over at lane new v w seen memory over locks none drawn pool;
   unstopped = unstopped;
@@ -244,7 +246,7 @@ module _ {M : Type 0} (at : M → View → Type 0) (lane : Lane M) (o : Opening)
 
   module _ (error : TxErr) (why : GivesUpBy v operation reply error) (new : Lane M) where
     -- it was given up
-    pub given_up : Runs {T = Unit {0}} (at lane.memory) (at new.memory) (gives_up spans operation reply new.last) (Ok tt) → new.locks.items ≡ lane.locks.items → new.records.items ≡ [] → new.drawn ≡ Some new.last → new.pool ≡ lane.pool → new.stopped ≡ lane.stopped
+    pub given_up : Runs {T = Unit {0}} (at lane.memory) (at new.memory) (gives_up spans operation reply new.last) (Ok tt) → new.locks.items ≡ lane.locks.items → new.records.items ≡ [] → new.drawn ≡ Some new.last → IsOfSamePool lane new → new.stopped ≡ lane.stopped
         → IsEndedBy at new v (gives_up spans operation reply new.last) operation reply
     unfolding Runs
     given_up ran locks none drawn pool stops =

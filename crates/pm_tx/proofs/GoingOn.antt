@@ -6,6 +6,7 @@ use Rattle.std.specs.Option.{ForSome}
 use Rattle.pm_crash.specs.OpenCall.{IsOpen}
 use Rattle.pm_model.specs.declared.stage.Stage.TheVariants as model_stage
 use Rattle.pm_objects.specs.declared.history.TxErr.TheVariants as error
+use Rattle.pm_view.specs.Constants.{IsSameLane}
 use Rattle.pm_view.specs.Steps.{Step}
 use Rattle.pm_view.specs.View.{View, Lock}
 use Rattle.pm_undo.specs.Spans.{IsSpan}
@@ -13,11 +14,13 @@ use Rattle.pm_undo.specs.Working.{FindsOpening, IsSameCall, IsWorking}
 use Rattle.pm_world.specs.Lanes.{lock_of, last_number_of, span_of}
 use Rattle.pm_world.specs.Opening.{Opening}
 use Rattle.pm_world.specs.declared.lane.Lane.{Lane}
+use Rattle.pm_world.proofs.Shapes.{shape_seen}
 use Rattle.pm_tx.specs.AtWork.{FindsObject, IsAtWork}
 
 -- the lane's fields but for its memory and its records
 pub record HasSameFields {M : Type 0} (lane next : Lane M) : Type 0 where
   pub pool : next.pool ≡ lane.pool
+  pub shape : next.shape ≡ lane.shape
   pub locks : next.locks ≡ lane.locks
   pub level : next.level ≡ lane.level
   pub stage : next.stage ≡ lane.stage
@@ -29,6 +32,7 @@ pub record HasSameFields {M : Type 0} (lane next : Lane M) : Type 0 where
 pub fields_same : {M : Type 0} (lane next : Lane M) → next ≡ record lane { memory = next.memory; records = next.records } → HasSameFields lane next
 fields_same {M} lane next same = record {
   pool = ap (λ (l : Lane M). l.pool) same;
+  shape = ap (λ (l : Lane M). l.shape) same;
   locks = ap (λ (l : Lane M). l.locks) same;
   level = ap (λ (l : Lane M). l.level) same;
   stage = ap (λ (l : Lane M). l.stage) same;
@@ -40,7 +44,7 @@ fields_same {M} lane next same = record {
 
 -- the view's locks, and what is known of the objects under them
 pub record KeepsObjects (v w : View) : Type 0 where
-  pub pool : w.pool ≡ v.pool
+  pub lane : IsSameLane v w
   pub locks : w.locks ≡ v.locks
   pub number : w.number ≡ v.number
   pub entries : w.entries ≡ v.entries
@@ -50,7 +54,7 @@ pub record KeepsObjects (v w : View) : Type 0 where
 
 pub objects_kept : (v w : View) → IsSameCall v w → ((l : Lock) → Contains v.locks l → slice_index w.words (8 * l.line + 1) ≡ slice_index v.words (8 * l.line + 1)) → KeepsObjects v w
 objects_kept v w call sizes = record {
-  pool = call.lane.pool;
+  lane = call.lane;
   locks = call.locks;
   number = call.number;
   entries = call.entries;
@@ -65,7 +69,8 @@ pub goes_on : {M : Type 0} (o : Opening) (at : M → View → Type 0) (lane next
 goes_on o at lane next v w work fields keeps seen records spans opening working no_entries is_open = record {
   seen = record {
     memory = seen;
-    pool = keeps.pool ∙ (work.seen.pool ∙ sym fields.pool);
+    pool = keeps.lane.pool ∙ (work.seen.pool ∙ sym fields.pool);
+    shape = shape_seen lane next v w (record { pool = fields.pool; shape = fields.shape }) keeps.lane work.seen.shape;
     locks = ap (λ locks. map lock_of locks.items) fields.locks ∙ (work.seen.locks ∙ sym keeps.locks);
     records = records;
     drawn = subst (λ drawn. ForSome drawn (λ number. w.number ≡ Some number)) (sym fields.drawn) (subst (λ n. ForSome lane.drawn (λ number. n ≡ Some number)) (sym keeps.number) work.seen.drawn);

@@ -27,6 +27,7 @@ use Rattle.pm_undo.specs.Working.{HasLearned, IsPlain}
 use Rattle.pm_world.specs.Lanes.{span_of}
 use Rattle.pm_world.specs.Opening.{Opening}
 use Rattle.pm_world.specs.declared.lane.Lane.{Lane}
+use Rattle.pm_view.proofs.SameLane.{same_lane, same_lane-then}
 use Rattle.pm_tx.proofs.AddsAtWork.{listed_is_known}
 use Rattle.pm_tx.proofs.GoingOn.{HasSameFields, KeepsObjects, goes_on, objects_kept}
 use Rattle.pm_tx.proofs.Objects.{covered_under, is_found}
@@ -51,7 +52,7 @@ Anywhere m v = Unit {0}
 
 pub forget : {M : Type 0} (o : Opening) (at other : M → View → Type 0) (lane : Lane M) (v : View) → IsAtWork o at lane v → other lane.memory v → IsAtWork o other lane v
 forget o at other lane v work there = record {
-  seen = record { memory = there; pool = work.seen.pool; locks = work.seen.locks; records = work.seen.records; drawn = work.seen.drawn; last = work.seen.last };
+  seen = record { memory = there; pool = work.seen.pool; shape = work.seen.shape; locks = work.seen.locks; records = work.seen.records; drawn = work.seen.drawn; last = work.seen.last };
   level = work.level;
   works = work.works;
   unharmed = work.unharmed;
@@ -69,7 +70,7 @@ forget o at other lane v work there = record {
 }
 
 pub same_fields : {M : Type 0} (lane : Lane M) → HasSameFields lane lane
-same_fields lane = record { pool = refl; locks = refl; level = refl; stage = refl; error = refl; drawn = refl; last = refl; stopped = refl }
+same_fields lane = record { pool = refl; shape = refl; locks = refl; level = refl; stage = refl; error = refl; drawn = refl; last = refl; stopped = refl }
 
 module _ {M : Type 0} (o : Opening) (lane : Lane M) (m : View) (work : IsAtWork o Anywhere lane m) (l : Lock) (held : Contains m.locks l) (word x : ℕ) (under : is_under word l ≡ true) (finds : FindsKnown m word x) where
   plain : IsPlain m word × (word < length m.words) × (is_in_area m.lane word ≡ false) × (is_held m word ≡ true)
@@ -107,7 +108,7 @@ module _ {M : Type 0} (o : Opening) (lane : Lane M) (m : View) (work : IsAtWork 
 -- from one view to another with the same objects
 pub objects_then : (u v w : View) → KeepsObjects u v → KeepsObjects v w → KeepsObjects u w
 objects_then u v w first second = record {
-  pool = second.pool ∙ first.pool;
+  lane = same_lane-then u v w first.lane second.lane;
   locks = second.locks ∙ first.locks;
   number = second.number ∙ first.number;
   entries = second.entries ∙ first.entries;
@@ -117,7 +118,7 @@ objects_then u v w first second = record {
 }
 
 pub same_objects : (v : View) → KeepsObjects v v
-same_objects v = record { pool = refl; locks = refl; number = refl; entries = refl; remembers = λ i there. there; seen = λ s there. there; sizes = λ l held. refl }
+same_objects v = record { lane = same_lane v; locks = refl; number = refl; entries = refl; remembers = λ i there. there; seen = λ s there. there; sizes = λ l held. refl }
 
 -- what loads of so many words under a lock leave
 pub record HasLearnedWords {M : Type 0} (o : Opening) (lane : Lane M) (v : View) (first n : ℕ) (w : View) : Type 0 where
@@ -156,7 +157,7 @@ range_kept v w id off len write keeps range = record {
     held = subst (λ locks. Contains locks range.object.lock) (sym keeps.locks) range.object.held;
     block = range.object.block;
     allows = range.object.allows;
-    of_pool = range.object.of_pool ∙ sym keeps.pool;
+    of_pool = range.object.of_pool ∙ sym keeps.lane.pool;
     place = range.object.place;
   };
   size_known = keeps.remembers (8 * range.object.lock.line + 1) range.size_known;
@@ -171,7 +172,7 @@ end_kept v w id off len write keeps passes = record {
     held = subst (λ locks. Contains locks passes.object.lock) (sym keeps.locks) passes.object.held;
     block = passes.object.block;
     allows = passes.object.allows;
-    of_pool = passes.object.of_pool ∙ sym keeps.pool;
+    of_pool = passes.object.of_pool ∙ sym keeps.lane.pool;
     place = passes.object.place;
   };
   size_known = keeps.remembers (8 * passes.object.lock.line + 1) passes.size_known;

@@ -148,7 +148,7 @@ module _ {M : Type 0} (o : Opening) (at : M → View → Type 0) (lane : Lane M)
         let works : IsAtWork o at next w =
         goes_on o at lane next v w work fields
         (record {
-          pool = call.lane.pool;
+          lane = (let s = call.lane in record { lanes = s.lanes; zones = s.zones; pool = s.pool; lane = s.lane; stop = s.stop; table = s.table; size = s.size });
           locks = call.locks;
           number = call.number;
           entries = call.entries;

@@ -85,7 +85,7 @@ module _ {M : Type 0} (at : M → View → Type 0) (lane : Lane M) (v : View) (i
 
   rests_so : (memory : M) → at memory u → IsAtRest at (record lane { memory = memory }) u
   rests_so memory there = record {
-    seen = record { memory = there; locks = is.seen.locks; records = is.seen.records; drawn = is.seen.drawn; last = is.seen.last; pool = is.seen.pool };
+    seen = record { memory = there; locks = is.seen.locks; records = is.seen.records; drawn = is.seen.drawn; last = is.seen.last; pool = is.seen.pool; shape = (let s = is.seen.shape in record { lanes = s.lanes; zones = s.zones; size = s.size }) };
     answered = is.answered;
     unharmed = is.unharmed;
     unstopped = is.unstopped;
@@ -134,6 +134,7 @@ module _ {M : Type 0} (at : M → View → Type 0) (lane : Lane M) (v : View) (i
       drawn = λ number some. absurd (none-some number (sym is.answered ∙ some));
       last = is.seen.last;
       pool = is.seen.pool;
+      shape = (let s = is.seen.shape in record { lanes = s.lanes; zones = s.zones; size = s.size });
     }
 
     pub started_spent : RestsBehind at new v (starts n)
@@ -156,6 +157,7 @@ module _ {M : Type 0} (at : M → View → Type 0) (lane : Lane M) (v : View) (i
     has_begun generation below = record {
       ready = ready;
       draws = no_draws;
+      entries = ap (λ (m : View). m.entries) ends;
       begun = subst (IsBegun at new) (sym ends) (record {
         seen = seen_so;
         unharmed = is.unharmed;

@@ -70,7 +70,7 @@ module _ {M : Type 0} (o : Opening) (at : M → View → Type 0) (lane : Lane M)
   objects =
       let has = made.1 in
       record {
-        pool = has.call.lane.pool;
+        lane = (let s = has.call.lane in record { lanes = s.lanes; zones = s.zones; pool = s.pool; lane = s.lane; stop = s.stop; table = s.table; size = s.size });
         locks = has.call.locks;
         number = has.call.number;
         entries = has.call.entries;

@@ -2,7 +2,6 @@
 use Rattle.std.specs.Prelude.{◌≡◌, ◌⊎◌, ℕ, ◌/◌, ◌<◌, ◌≤◌, Bool, true, false, [], None, length}
 use Rattle.pm_objects.specs.declared.history.TxErr.TheVariants as error
 use Rattle.pm_undo.specs.Working.{HasArea}
-use Rattle.pm_view.specs.Constants.{IsSameLane}
 use Rattle.pm_view.specs.Log.{no_log}
 use Rattle.pm_view.specs.Log.Phase.{Open}
 use Rattle.pm_view.specs.Steps.{Step}
@@ -35,18 +34,12 @@ pub record IsBegun {M : Type 0} (at : M → View → Type 0) (lane : Lane M) (v 
 abbrev pub IsLaneBegun : {M : Type 0} → (M → View → Type 0) → Lane M → Type 0
 IsLaneBegun at lane = (v : View) × IsBegun at lane v
 
--- the steps were made, what they draw is an ended call's, and then the lane rests
-pub record IsRefusedBy {M : Type 0} (at : M → View → Type 0) (lane : Lane M) (v : View) (steps : Sequence) : Type 0 where
-  pub ready : Ready v (steps v)
-  pub draws : DrawEnded v (steps v)
-  pub same : IsSameLane v (after_all v (steps v))
-  pub rests : IsAtRest at lane (after_all v (steps v))
-
 -- the steps were made, without a draw, and the call has begun
 pub record IsBegunBy {M : Type 0} (at : M → View → Type 0) (lane : Lane M) (v : View) (steps : Sequence) : Type 0 where
   pub ready : Ready v (steps v)
   pub draws : DrawEnded v (steps v)
   pub begun : IsBegun at lane (after_all v (steps v))
+  pub entries : (after_all v (steps v)).entries ≡ v.entries
 
 -- the steps were made, without a draw, and the lane rests
 pub record RestsBehind {M : Type 0} (at : M → View → Type 0) (lane : Lane M) (v : View) (steps : Sequence) : Type 0 where

@@ -7,3 +7,5 @@ pub mod Ranges
 pub mod Calls
 pub mod Stages
 pub mod Beginning
+pub mod Plans
+pub mod Begins

@@ -1,11 +1,9 @@
 -- The sequences of a transaction's reads, writes and ends: docs/FORMAT.md, "Sequences".
-use Rattle.std.specs.Prelude.{ℕ, ◌+◌, ◌-◌, ◌/◌, ◌%◌, ◌==◌, if◌then◌else◌, List, [], ◌∷◌, Option, None, Some, false, length, slice_index, slice_index_or}
+use Rattle.std.specs.Prelude.{ℕ, ◌+◌, ◌-◌, ◌/◌, ◌%◌, ◌==◌, if◌then◌else◌, List, [], ◌∷◌, Option, None, false, length, slice_index, slice_index_or}
 use Rattle.pm_words.specs.Words.{bytes_of}
 use Rattle.pm_objects.specs.declared.calls.Operation.{Operation}
 use Rattle.pm_objects.specs.declared.calls.Operation.TheVariants.{Commit}
 use Rattle.pm_objects.specs.declared.history.Value.{Value}
-use Rattle.pm_objects.specs.declared.history.Value.TheVariants.{Refused}
-use Rattle.pm_objects.specs.declared.refusal.Refusal.{Refusal}
 use Rattle.pm_crash.specs.Writes.{written_word}
 use Rattle.pm_undo.specs.Sequences.{looks_from, restores, retires}
 use Rattle.pm_view.specs.Area.{area_word}
@@ -74,10 +72,6 @@ line_at locks i = (slice_index_or locks i no_lock).line
 -- each lock is given back, in their order
 unfoldable pub gives : List HeldLock → Sequence
 gives locks = counted (λ i. one (Give (line_at locks i))) (length locks)
-
--- a call that did nothing is refused: that is told, the call draws this number, and the locks are given back
-unfoldable pub refuses : List HeldLock → Operation → Refusal → ℕ → Sequence
-refuses locks operation r n = in_turn (ends_call operation (Some (Refused r)) n) (gives locks)
 
 -- the lane looks at its generation
 unfoldable pub sees_generation : Sequence

@@ -1,50 +1,135 @@
-ghost use Rattle.std.specs.Prelude.{◌≡◌, ◌≤◌, List, [], None, Some};
+ghost use Rattle.std.specs.Prelude.{◌≡◌, ◌≤◌, Err, IfErr, OnOk, [], None, Some, false, true};
 ghost use Rattle.pm_crash.specs.Operations.{IsBeginReason, TakesWanted};
 ghost use Rattle.pm_objects.specs.declared.calls.Operation.TheVariants.{Begin};
-ghost use Rattle.pm_objects.specs.declared.calls.Want.{Want};
 ghost use Rattle.pm_objects.specs.declared.history.TxErr.TheVariants as error;
+ghost use Rattle.pm_objects.specs.declared.history.Value.TheVariants.{Refused};
+ghost use Rattle.pm_objects.specs.declared.refusal.Refusal.TheVariants as refusal;
 ghost use Rattle.pm_undo.specs.Working.{FindsOpening};
 ghost use Rattle.pm_view.specs.Steps.Step.{Tell};
 ghost use Rattle.pm_view.specs.View.{View};
 ghost use Rattle.pm_view.specs.Views.{after};
+ghost use Rattle.pm_world.specs.Lanes.{IsSeenAs};
 ghost use Rattle.pm_world.specs.Opening.{Opening, IsSound};
 ghost use Rattle.pm_world.specs.Sequences.{IsMade, one};
 ghost use Rattle.pm_world.specs.declared.lane.Stage.TheVariants as stage;
 ghost use Rattle.pm_tx.specs.AtWork.{IsAtWork, FindsObjects};
-ghost use Rattle.pm_tx.specs.Beginning.{IsBegun, IsLaneBegun, IsRefusedBy};
-ghost use Rattle.pm_tx.specs.Sequences.{refuses};
+ghost use Rattle.pm_tx.specs.Beginning.{IsBegun, IsLaneBegun};
+ghost use Rattle.pm_tx.specs.Begins.{FailsToBegin, HasBegun, HasRefused, IsBeginCause, IsStartedCause, LeavesLane};
+ghost use Rattle.pm_tx.specs.Plans.{IsPlan};
+ghost use Rattle.pm_tx.specs.Resting.{IsAtRest, IsLaneAtRest};
+ghost use Rattle.pm_tx.specs.Sequences.{ends_call};
 
-use crate::ending::end_call;
-use crate::ending_level::close;
-use pm_objects::{Operation, Refusal, Value};
-use pm_world::{Lane, LawfulMem, Stage};
+use crate::finding::find_objects;
+use crate::locking::{give_back, take_all};
+use crate::starting::start;
+use crate::wants::plan_locks;
+use pm_objects::{Refusal, TxErr, Want};
+use pm_world::{HeldLock, Lane, LawfulMem, Stage};
 
 /// Opens the transaction at its first level, once the lane has the locks that the begin wants.
-pub fn open_call<M: LawfulMem>(lane: &mut Lane<M>, operation: &Operation)
+pub fn open_call<M: LawfulMem>(lane: &mut Lane<M>, wants: &[Want])
     requires begun { IsLaneBegun M.at lane.old }
-    ensures made { IsMade (M.at lane.old.memory) (M.at lane.new.memory) (one (Tell operation.now None)) }
+    ensures made { IsMade (M.at lane.old.memory) (M.at lane.new.memory) (one (Tell (Begin wants.now) None)) }
     ensures lane { lane.new ≡ record lane.old { memory = lane.new.memory; level = 1; stage = stage.Work } }
+    ensures seen { (v : View) → IsBegun M.at lane.old v → IsSeenAs M.at lane.new (after v (Tell (Begin wants.now) None)) }
     ensures at_work { (o : Opening) (v : View) → IsBegun M.at lane.old v → IsSound o → FindsOpening o v → o.zones ≤ 32 → FindsObjects v
-        → (wants : List Want) → operation.now ≡ Begin wants → TakesWanted v [] wants → IsAtWork o M.at lane.new (after v (Tell operation.now None)) }
+        → TakesWanted v [] wants.now → IsAtWork o M.at lane.new (after v (Tell (Begin wants.now) None)) }
 {
-    lane.memory.tell(operation, None);
+    lane.memory.tell_begin(wants, None);
     lane.level = 1;
     lane.stage = Stage::Work;
 }
 
-/// Refuses the begin of a call: that is told, the call draws its number, which changes nothing, and the lane gives its locks back and is as
-/// before the call.
-#[tactic(auto, using(pm_world::proofs::Sequencing::runs_then), unfolding(crate::specs::Sequences::refuses))]
-pub fn refuse_call<M: LawfulMem>(lane: &mut Lane<M>, operation: &Operation, refusal: Refusal)
+/// Tells that the begin of a call is refused, and draws the call's number.
+fn end_refused<M: LawfulMem>(lane: &mut Lane<M>, wants: &[Want], refusal: Refusal)
     requires begun { IsLaneBegun M.at lane.old }
-    ensures made { IsMade (M.at lane.old.memory) (M.at lane.new.memory) (refuses lane.old.locks.items operation.now refusal lane.new.last) }
-    ensures none { lane.new.locks.items ≡ [] }
-    ensures lane { lane.new
-        ≡ record lane.old { memory = lane.new.memory; locks = lane.new.locks; level = 0; stage = stage.None; error = error.None; drawn = None; last = lane.new.last } }
-    ensures refused { (v : View) → IsBegun M.at lane.old v → (wants : List Want) → operation.now ≡ Begin wants → IsBeginReason v 0 [] wants refusal
-        → IsRefusedBy M.at lane.new v (refuses lane.old.locks.items operation.now refusal lane.new.last) }
+    ensures made { IsMade (M.at lane.old.memory) (M.at lane.new.memory) (ends_call (Begin wants.now) (Some (Refused refusal)) lane.new.last) }
+    ensures lane { lane.new ≡ record lane.old { memory = lane.new.memory; drawn = Some lane.new.last; last = lane.new.last } }
 {
-    let reply = Value::Refused(refusal);
-    end_call(lane, operation, Some(&reply));
-    close(lane);
+    lane.memory.tell_begin(wants, Some(refusal));
+    let number = lane.memory.draw();
+    lane.drawn = Some(number);
+    lane.last = number;
+}
+
+/// Refuses the begin of a call: that is told, and the call, which changed nothing, draws its number. Level 1 is left aborted, with the locks
+/// that were taken, until it is ended.
+pub fn refuse_call<M: LawfulMem>(lane: &mut Lane<M>, wants: &[Want], refusal: Refusal)
+    requires begun { IsLaneBegun M.at lane.old }
+    ensures made { IsMade (M.at lane.old.memory) (M.at lane.new.memory) (ends_call (Begin wants.now) (Some (Refused refusal)) lane.new.last) }
+    ensures lane { lane.new ≡ record lane.old
+        { memory = lane.new.memory; level = 1; stage = stage.OnAbort; error = error.Refused refusal; drawn = Some lane.new.last; last = lane.new.last } }
+    ensures refused { (v : View) → IsBegun M.at lane.old v → IsBeginReason v 0 [] wants.now refusal → HasRefused M.at lane.new v wants.now refusal }
+{
+    end_refused(lane, wants, refusal);
+    lane.level = 1;
+    lane.stage = Stage::OnAbort;
+    lane.error = TxErr::Refused(refusal);
+}
+
+/// Takes the locks of the plan, and looks for the objects under them: then the transaction is open, or the begin is refused. Where a lock is
+/// refused, the others are given back.
+fn begin_planned<M: LawfulMem>(
+    lane: &mut Lane<M>,
+    plan: &[HeldLock],
+    wants: &[Want],
+) -> Result<(), Refusal>
+    requires begun { IsLaneBegun M.at lane.old }
+    requires free { lane.old.locks.items ≡ [] }
+    requires plan { IsPlan lane.old.pool lane.old.shape.lanes lane.old.shape.zones wants.now plan.now }
+    ensures begun { OnOk result ((v : View) → IsBegun M.at lane.old v → HasBegun M.at lane.new v wants.now) }
+    ensures opened { OnOk result (lane.new ≡ record lane.old { memory = lane.new.memory; locks = lane.new.locks; level = 1; stage = stage.Work }) }
+    ensures fails { IfErr result (λ r. (v : View) → IsBegun M.at lane.old v → FailsToBegin M.at lane.new v wants.now r) }
+    ensures leaves { IfErr result (λ r. LeavesLane r lane.old lane.new) }
+    ensures causes { IfErr result IsStartedCause }
+{
+    if !take_all(lane, plan) {
+        give_back(lane);
+        return Err(Refusal::Busy);
+    }
+    if !find_objects(lane, plan) {
+        refuse_call(lane, wants, Refusal::NoObject);
+        return Err(Refusal::NoObject);
+    }
+    open_call(lane, wants);
+    Ok(())
+}
+
+/// Plans the locks of a call that has started, and goes on with them, or refuses the begin.
+fn begin_started<M: LawfulMem>(lane: &mut Lane<M>, wants: &[Want]) -> Result<(), Refusal>
+    requires begun { IsLaneBegun M.at lane.old }
+    requires free { lane.old.locks.items ≡ [] }
+    ensures begun { OnOk result ((v : View) → IsBegun M.at lane.old v → HasBegun M.at lane.new v wants.now) }
+    ensures opened { OnOk result (lane.new ≡ record lane.old { memory = lane.new.memory; locks = lane.new.locks; level = 1; stage = stage.Work }) }
+    ensures fails { IfErr result (λ r. (v : View) → IsBegun M.at lane.old v → FailsToBegin M.at lane.new v wants.now r) }
+    ensures leaves { IfErr result (λ r. LeavesLane r lane.old lane.new) }
+    ensures causes { IfErr result IsStartedCause }
+{
+    match plan_locks(lane.pool, lane.shape, wants) {
+        Ok(plan) => begin_planned(lane, plan.as_slice(), wants),
+        Err(refusal) => {
+            refuse_call(lane, wants, refusal);
+            Err(refusal)
+        }
+    }
+}
+
+/// Begins a transaction where none is open, with these locks, each tried once: pmemobj_tx_begin(3). The first reason that applies is the
+/// answer. `Stopped` where the lane had stopped, `Spent` where its generation or the numbers are used up, and `Busy` where a lock is another
+/// lane's: then the lane is at rest as before, with no lock. `LocksFull` where more than 64 objects are wanted, and `NoObject` where a want
+/// is of no object: then the call is over, and its level 1 is left aborted, to be ended.
+pub fn begin<M: LawfulMem>(lane: &mut Lane<M>, wants: &[Want]) -> Result<(), Refusal>
+    requires rests { lane.old.stopped ≡ false → IsLaneAtRest M.at lane.old }
+    ensures stopped { lane.old.stopped ≡ true → (result ≡ Err refusal.Stopped) × (lane.new ≡ lane.old) }
+    ensures begun { OnOk result ((v : View) → IsAtRest M.at lane.old v → HasBegun M.at lane.new v wants.now) }
+    ensures opened { OnOk result (lane.new ≡ record lane.old { memory = lane.new.memory; locks = lane.new.locks; level = 1; stage = stage.Work }) }
+    ensures fails { IfErr result (λ r. (v : View) → IsAtRest M.at lane.old v → FailsToBegin M.at lane.new v wants.now r) }
+    ensures leaves { IfErr result (λ r. LeavesLane r lane.old lane.new) }
+    ensures causes { IfErr result (IsBeginCause lane.old.stopped) }
+{
+    if lane.stopped {
+        return Err(Refusal::Stopped);
+    }
+    start(lane)?;
+    begin_started(lane, wants)
 }

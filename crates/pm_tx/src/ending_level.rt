@@ -14,7 +14,7 @@ use pm_objects::{Refusal, TxErr};
 use pm_world::{HeldLock, Lane, LawfulMem, Stage};
 
 /// Gives each lock back.
-fn give_all<M: LawfulMem>(mem: &mut M, locks: &[HeldLock])
+pub fn give_all<M: LawfulMem>(mem: &mut M, locks: &[HeldLock])
     requires { IsReady (M.at mem.old) (gives locks.now) }
     ensures { IsMade (M.at mem.old) (M.at mem.new) (gives locks.now) }
 {

@@ -1,9 +1,14 @@
-ghost use Rattle.std.specs.Prelude.{◌≡◌, ◌<◌, length};
+ghost use Rattle.std.specs.Prelude.{◌≡◌, ◌<◌, ◌≤◌, [], false, length, map, true};
+ghost use Rattle.std.specs.List.{AllByRecursion};
 ghost use Rattle.pm_memory.specs.Runs.{Made};
 ghost use Rattle.pm_view.specs.View.{View};
 ghost use Rattle.pm_view.specs.Views.{after};
-ghost use Rattle.pm_tx.specs.Beginning.{IsBegun, IsFreeLine, takes};
+ghost use Rattle.pm_world.specs.Lanes.{lock_of};
+ghost use Rattle.pm_tx.specs.Beginning.{IsBegun, IsFreeLine, IsLaneBegun, takes};
+ghost use Rattle.pm_tx.specs.Begins.{HasNotTaken, HasTaken, HoldsUnfound, IsGivenBack};
+ghost use Rattle.pm_tx.specs.Plans.{IsChunkLine, Rises, unfound};
 
+use crate::ending_level::give_all;
 use pm_world::{HeldLock, Lane, LawfulMem};
 
 /// Tries a line's lock once.
@@ -36,4 +41,33 @@ pub fn take_line<M: LawfulMem>(lane: &mut Lane<M>, line: u64, write: bool) -> bo
         });
     }
     won
+}
+
+/// Tries the locks of these lines, each once, until one is refused: whether the lane holds all of them now.
+pub fn take_all<M: LawfulMem>(lane: &mut Lane<M>, plan: &[HeldLock]) -> bool
+    requires begun { IsLaneBegun M.at lane.old }
+    requires free { lane.old.locks.items ≡ [] }
+    requires few { length plan.now ≤ 64 }
+    requires rises { Rises plan.now }
+    requires chunks { AllByRecursion (IsChunkLine lane.old.shape.lanes lane.old.shape.zones) plan.now }
+    ensures taken { result ≡ true → (v : View) → IsBegun M.at lane.old v → HasTaken M.at lane.new v (map lock_of (map unfound plan.now)) }
+    ensures not_taken { result ≡ false → (v : View) → IsBegun M.at lane.old v → HasNotTaken M.at lane.new v }
+    ensures else_same { lane.new ≡ record lane.old { memory = lane.new.memory; locks = lane.new.locks } }
+{
+    for held in plan {
+        if !take_line(lane, held.line, held.write) {
+            return false;
+        }
+    }
+    true
+}
+
+/// Gives each lock back, under which no block was found.
+pub fn give_back<M: LawfulMem>(lane: &mut Lane<M>)
+    requires held { (v : View) × HoldsUnfound M.at lane.old v }
+    ensures given { (v : View) → HoldsUnfound M.at lane.old v → IsGivenBack M.at lane.new v }
+    ensures else_same { lane.new ≡ record lane.old { memory = lane.new.memory; locks = lane.new.locks } }
+{
+    give_all(&mut lane.memory, lane.locks.as_slice());
+    lane.locks.clear();
 }

@@ -25,6 +25,7 @@ pub mod Relocked
 pub mod Replays
 pub mod Sequencing
 pub mod Settling
+pub mod Shapes
 pub mod Slots
 pub mod StepDrain
 pub mod StepDraw

@@ -1,6 +1,7 @@
 -- How a lane's fixed lists and numbers show in its view.
-use Rattle.std.specs.Prelude.{◌≡◌, ℕ, false, List, [], ◌∷◌, length, map, Some, None}
+use Rattle.std.specs.Prelude.{◌≡◌, ℕ, ◌+◌, ◌*◌, false, List, [], ◌∷◌, length, map, Some, None}
 use Rattle.std.specs.Option.{ForSome}
+use Rattle.pm_layout.specs.declared.shape.Shape.{Shape}
 use Rattle.pm_view.specs.Log.{Recorded}
 use Rattle.pm_view.specs.View.{View, Lock, Numbered}
 use Rattle.pm_world.specs.declared.lane.HeldLock.{HeldLock}
@@ -20,10 +21,17 @@ last_number_of [] = 0
 last_number_of (e ∷ []) = e.number
 last_number_of (e ∷ d ∷ entries) = last_number_of (d ∷ entries)
 
+-- the view is of a pool of this shape: its numbers of lanes and zones, and all of its words
+pub record IsOfShape (v : View) (shape : Shape) : Type 0 where
+  pub lanes : v.lanes ≡ shape.lanes
+  pub zones : v.zones ≡ shape.zones
+  pub size : length v.words ≡ 512 + 1024 * shape.lanes + 33280 * shape.zones
+
 -- the lane may be seen as the view, where its memory may be
 pub record IsSeenAs {M : Type 0} (at : M → View → Type 0) (lane : Lane M) (v : View) : Type 0 where
   pub memory : at lane.memory v
   pub pool : v.pool ≡ lane.pool
+  pub shape : IsOfShape v lane.shape
   pub locks : map lock_of lane.locks.items ≡ v.locks
   pub records : lane.records.items ≡ map span_of v.log.records
   pub drawn : ForSome lane.drawn (λ number. v.number ≡ Some number)

@@ -1,9 +1,10 @@
 ghost use Rattle.std.specs.Prelude.{◌≡◌, ℕ, ◌%◌, ◌^◌, ◌↔◌, IsTrue, []};
 ghost use Rattle.pm_view.specs.View.{View};
-ghost use Rattle.pm_world.specs.Lanes.{IsIdle, IsSeenAs};
+ghost use Rattle.pm_world.specs.Lanes.{IsIdle, IsOfShape, IsSeenAs};
 
 use crate::LawfulMem;
 use arrayvec::ArrayVec;
+use pm_layout::Shape;
 use pm_objects::TxErr;
 
 /// Locks of lines that a lane holds at most.
@@ -46,8 +47,9 @@ pub enum Stage {
 #[derive(Drop)]
 pub struct Lane<M> {
     pub memory: M,
-    /// The pool's id.
+    /// The pool's id, and its shape.
     pub pool: u64,
+    pub shape: Shape,
     /// The locks that it holds, in the order in which it took them.
     pub locks: ArrayVec<HeldLock, 64>,
     /// The undo records of its generation, in the order of their slots.
@@ -65,13 +67,15 @@ pub struct Lane<M> {
 }
 
 impl<M: LawfulMem> Lane<M> {
-    /// A lane over its memory of the pool with this id, before its first call.
-    pub fn new(memory: M, pool: u64) -> Lane<M>
-        ensures { (v : View) → M.at memory v → v.pool ≡ pool → v.locks ≡ [] → v.log.records ≡ [] → v.entries ≡ [] → IsSeenAs M.at result v × IsIdle result }
+    /// A lane over its memory of the pool with this id and shape, before its first call.
+    pub fn new(memory: M, pool: u64, shape: Shape) -> Lane<M>
+        ensures { (v : View) → M.at memory v → v.pool ≡ pool → IsOfShape v shape → v.locks ≡ [] → v.log.records ≡ [] → v.entries ≡ []
+            → IsSeenAs M.at result v × IsIdle result }
     {
         Lane {
             memory,
             pool,
+            shape,
             locks: ArrayVec::new(),
             records: ArrayVec::new(),
             level: 0,

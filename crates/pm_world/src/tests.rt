@@ -1,4 +1,5 @@
 use super::*;
+use pm_layout::Shape;
 use pm_memory::{LaneSync, SoloMem};
 use pm_objects::{Oid, Operation};
 use std::alloc::Global;
@@ -7,7 +8,7 @@ use std::test::Fail;
 /// Lane 0 over 1536 words of 0.
 fn fresh(alloc: Global) -> Result<Lane<SoloMem>, Fail> {
     let words = vec![in alloc; 0; 1536]?;
-    Ok(Lane::new(SoloMem::new(alloc, words, Some(2))?, 7))
+    Ok(Lane::new(SoloMem::new(alloc, words, Some(2))?, 7, Shape::new(1, 1)?))
 }
 
 /// A fresh lane is idle, and no longer once a call of it has drawn or a transaction is open.

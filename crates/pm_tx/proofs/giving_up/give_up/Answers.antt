@@ -37,4 +37,4 @@ returns-clause-ended g c o v is why =
     (given_up g.M.LaneMem.at c.args.lane.now o v is c.args.operation.now (option_copied c.args.reply) c.args.error why (record c.end_call.new.lane { stage = stage.OnAbort; error = c.args.error })
     (runs_then (g.M.LaneMem.at c.args.lane.now.memory) (g.M.LaneMem.at c.undo_call.new.lane.memory) (g.M.LaneMem.at c.end_call.new.lane.memory) (takes_back spans) (ends_call c.args.operation.now (option_copied c.args.reply) last) tt (Ok tt) c.in_ok-undo_call.ensures.made c.end_call.ensures.made)
     (ap (λ (lane : Lane g.row.M.Denot). lane.locks.items) ended ∙ ap (λ (lane : Lane g.row.M.Denot). lane.locks.items) undone) (ap (λ (lane : Lane g.row.M.Denot). lane.records.items) ended ∙ c.in_ok-undo_call.ensures.none)
-    c.end_call.ensures.drawn (ap (λ (lane : Lane g.row.M.Denot). lane.pool) ended ∙ ap (λ (lane : Lane g.row.M.Denot). lane.pool) undone) (ap (λ (lane : Lane g.row.M.Denot). lane.stopped) ended ∙ ap (λ (lane : Lane g.row.M.Denot). lane.stopped) undone))
+    c.end_call.ensures.drawn (record { pool = ap (λ (lane : Lane g.row.M.Denot). lane.pool) ended ∙ ap (λ (lane : Lane g.row.M.Denot). lane.pool) undone; shape = ap (λ (lane : Lane g.row.M.Denot). lane.shape) ended ∙ ap (λ (lane : Lane g.row.M.Denot). lane.shape) undone }) (ap (λ (lane : Lane g.row.M.Denot). lane.stopped) ended ∙ ap (λ (lane : Lane g.row.M.Denot). lane.stopped) undone))

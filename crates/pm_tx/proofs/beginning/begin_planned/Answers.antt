@@ -1,0 +1,45 @@
+use Rattle.std.proofs.Common.{◌∙◌, ap}
+use Rattle.pm_world.specs.declared.lane.Lane.{Lane}
+use Rattle.pm_tx.proofs.BeginPlanned.{begun, busy, missing, taken_lines}
+use Rattle.pm_tx.proofs.beginning.begin_planned.Goals as goal
+
+pub returns-then-not-take_all-clause-fails : goal.returns-then-not-take_all-clause-fails
+returns-then-not-take_all-clause-fails g c v is =
+    let t = c.take_all.ensures.not_taken c.if-not-take_all.true v is in
+    busy g.M.LaneMem.at c.take_all.new.lane c.give_back.new.lane v t (c.give_back.ensures.given t.view t.held)
+
+pub find_objects-requires-clause-lines : goal.find_objects-requires-clause-lines
+find_objects-requires-clause-lines g c =
+    let r = c.requires.begun in
+    let t = c.take_all.ensures.taken c.if-not-take_all.false r.0 r.1 in
+    (t.view, (t.begun, taken_lines g.M.LaneMem.at c.take_all.new.lane r.0 c.args.plan.now t))
+
+pub refuse_call-requires : goal.refuse_call-requires
+refuse_call-requires g c =
+    let r = c.requires.begun in
+    let t = c.take_all.ensures.taken c.if-not-take_all.false r.0 r.1 in
+    let f = c.find_objects.ensures.found t.view t.begun (taken_lines g.M.LaneMem.at c.take_all.new.lane r.0 c.args.plan.now t) in
+    record { begun = (f.view, f.begun) }
+
+pub returns-then-not-find_objects-clause-fails : goal.returns-then-not-find_objects-clause-fails
+returns-then-not-find_objects-clause-fails g c v is =
+    let t = c.take_all.ensures.taken c.if-not-take_all.false v is in
+    let f = c.find_objects.ensures.found t.view t.begun (taken_lines g.M.LaneMem.at c.take_all.new.lane v c.args.plan.now t) in
+    missing g.M.LaneMem.at c.args.lane.now c.take_all.new.lane c.find_objects.new.lane c.args.wants.now c.args.plan.now c.requires.plan (ap (λ (l : Lane g.row.M.Denot). l.pool) c.find_objects.ensures.else_same ∙ ap (λ (l : Lane g.row.M.Denot). l.pool) c.take_all.ensures.else_same)
+    (ap (λ (l : Lane g.row.M.Denot). l.shape) c.find_objects.ensures.else_same ∙ ap (λ (l : Lane g.row.M.Denot). l.shape) c.take_all.ensures.else_same) v t c.find_objects.result f
+    c.if-not-find_objects.true c.refuse_call.new.lane (c.refuse_call.ensures.refused f.view f.begun)
+
+pub open_call-requires : goal.open_call-requires
+open_call-requires g c =
+    let r = c.requires.begun in
+    let t = c.take_all.ensures.taken c.if-not-take_all.false r.0 r.1 in
+    let f = c.find_objects.ensures.found t.view t.begun (taken_lines g.M.LaneMem.at c.take_all.new.lane r.0 c.args.plan.now t) in
+    record { begun = (f.view, f.begun) }
+
+pub returns-clause-begun : goal.returns-clause-begun
+returns-clause-begun g c v is =
+    let t = c.take_all.ensures.taken c.if-not-take_all.false v is in
+    let f = c.find_objects.ensures.found t.view t.begun (taken_lines g.M.LaneMem.at c.take_all.new.lane v c.args.plan.now t) in
+    begun g.M.LaneMem.at c.args.lane.now c.take_all.new.lane c.find_objects.new.lane c.args.wants.now c.args.plan.now c.requires.plan (ap (λ (l : Lane g.row.M.Denot). l.pool) c.find_objects.ensures.else_same ∙ ap (λ (l : Lane g.row.M.Denot). l.pool) c.take_all.ensures.else_same)
+    (ap (λ (l : Lane g.row.M.Denot). l.shape) c.find_objects.ensures.else_same ∙ ap (λ (l : Lane g.row.M.Denot). l.shape) c.take_all.ensures.else_same) v t c.find_objects.result f
+    c.if-not-find_objects.false c.open_call.new.lane (c.open_call.ensures.seen f.view f.begun) (λ o. c.open_call.ensures.at_work o f.view f.begun)
