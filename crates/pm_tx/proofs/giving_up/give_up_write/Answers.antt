@@ -39,4 +39,4 @@ returns-clause-ended g c o v is why =
     (given_up g.M.LaneMem.at c.args.lane.now o v is (Write c.args.id c.args.off c.args.bytes.now) (Some (Refused c.args.why)) (error.Refused c.args.why) why (record c.end_write.new.lane { stage = stage.OnAbort; error = (error.Refused c.args.why) })
     (runs_then (g.M.LaneMem.at c.args.lane.now.memory) (g.M.LaneMem.at c.undo_call.new.lane.memory) (g.M.LaneMem.at c.end_write.new.lane.memory) (takes_back spans) (ends_call (Write c.args.id c.args.off c.args.bytes.now) (Some (Refused c.args.why)) last) tt (Ok tt) c.in_ok-undo_call.ensures.made c.end_write.ensures.made)
     (ap (λ (lane : Lane g.row.M.Denot). lane.locks.items) ended ∙ ap (λ (lane : Lane g.row.M.Denot). lane.locks.items) undone) (ap (λ (lane : Lane g.row.M.Denot). lane.records.items) ended ∙ c.in_ok-undo_call.ensures.none)
-    c.end_write.ensures.drawn (ap (λ (lane : Lane g.row.M.Denot). lane.pool) ended ∙ ap (λ (lane : Lane g.row.M.Denot). lane.pool) undone) (ap (λ (lane : Lane g.row.M.Denot). lane.stopped) ended ∙ ap (λ (lane : Lane g.row.M.Denot). lane.stopped) undone))
+    c.end_write.ensures.drawn (record { pool = ap (λ (lane : Lane g.row.M.Denot). lane.pool) ended ∙ ap (λ (lane : Lane g.row.M.Denot). lane.pool) undone; shape = ap (λ (lane : Lane g.row.M.Denot). lane.shape) ended ∙ ap (λ (lane : Lane g.row.M.Denot). lane.shape) undone }) (ap (λ (lane : Lane g.row.M.Denot). lane.stopped) ended ∙ ap (λ (lane : Lane g.row.M.Denot). lane.stopped) undone))
