@@ -1,10 +1,10 @@
 //! Transactions: pmemobj_tx_begin(3) and its kin, over any lawful memory of a lane.
 //!
-//! Promises the ends of a transaction (`commit`, `abort`, `end`, `give_up`, and of a begin what comes before and behind its locks), and the parts of what
-//! stands inside one, each in two: a check (`check_range`, `check_words`, `check_write`), which answers the plain model's reason for a
-//! refusal, by what the lane has; and the work (`do_add`, `do_write`, `do_read`), which makes exactly the stated sequence of memory calls,
-//! or the first of them up to the lane's stop. Of each, what it makes of the call is the plain model's. They stand on `pm_undo` for the
-//! records without which no word is stored, and on `pm_crash` for what the operations of a call come to.
+//! Promises the begin of a transaction (`begin`) and its ends (`commit`, `abort`, `end`, `give_up`), and the parts of what stands inside
+//! one, each in two: a check (`check_range`, `check_words`, `check_write`), which answers the plain model's reason for a refusal, by what the
+//! lane has; and the work (`do_add`, `do_write`, `do_read`), which makes exactly the stated sequence of memory calls, or the first of them up
+//! to the lane's stop. Of each, what it makes of the call is the plain model's. They stand on `pm_undo` for the records without which no word
+//! is stored, and on `pm_crash` for what the operations of a call come to.
 #![tactic(auto)]
 
 mod aborting;
