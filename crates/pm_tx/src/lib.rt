@@ -1,11 +1,10 @@
 //! Transactions: pmemobj_tx_begin(3) and its kin, over any lawful memory of a lane.
 //!
-//! Promises the ends of a transaction (`commit`, `abort`, `end`, `give_up`, and of a begin what comes before and behind its locks), and
-//! what stands inside one: a range is recorded, written or read (`add_range`, `write`, `read`), or its refusal gives the transaction up.
-//! Each of these is a check (`check_range`, `check_words`, `check_write`), which answers the plain model's reason for a refusal, by what
-//! the lane has; and the work (`do_add`, `do_write`, `do_read`), which makes exactly the stated sequence of memory calls, or the first of
-//! them up to the lane's stop. Of each, what it makes of the call is the plain model's. They stand on `pm_undo` for the records without
-//! which no word is stored, and on `pm_crash` for what the operations of a call come to.
+//! Promises the calls of an outermost transaction (`begin`, `add_range`, `write`, `read`, `commit`, `abort`, `end`). Each makes exactly the
+//! stated sequence of memory calls, or the first of them up to the lane's stop, and what it makes of the call is the plain model's: a
+//! refusal is the model's reason, takes back what was done and gives the transaction up. The parts stand beside them: checks
+//! (`check_range`, `check_words`, `check_write`), and the work (`do_add`, `do_write`, `do_read`). They stand on `pm_undo` for the records
+//! without which no word is stored, and on `pm_crash` for what the operations of a call come to.
 #![tactic(auto)]
 
 mod aborting;
