@@ -40,8 +40,12 @@ use Rattle.pm_world.specs.declared.lane.Span.{Span}
 use Rattle.pm_tx.proofs.GoingOn.{HasSameFields, KeepsObjects, goes_on}
 use Rattle.pm_tx.proofs.Objects.{covered_under, is_found, size_under}
 use Rattle.pm_tx.proofs.PlannedRecords.{extents_planned, planned_count, present_planned, spans_again}
+use Rattle.pm_memory.specs.Runs.{Stops}
+use Rattle.pm_tx.proofs.Drawless.{drawless}
+use Rattle.pm_tx.proofs.Fronts.{front_undrawn}
+use Rattle.pm_tx.specs.Ending.{DrawEnded}
 use Rattle.pm_tx.specs.AtWork.{IsAtWork}
-use Rattle.pm_tx.specs.Ranges.{CanAdd, HasAddedRange, adds_range}
+use Rattle.pm_tx.specs.Ranges.{CanAdd, HasAddedRange, StopsUndrawn, adds_range}
 
 -- a word in the list is known
 pub listed_is_known : (v : View) (u : ℕ) → Contains v.known u → is_known v u ≡ true
@@ -140,6 +144,18 @@ module _ {M : Type 0} (o : Opening) (at : M → View → Type 0) (lane : Lane M)
                 made.1.stays.outside (8 * l.line + 1) (locked_is_plain o work.sound v work.opening l (8 * l.line + 1) held (is_found v work.objects l held) (size_under v work.objects l held)).2;
           }
 
+      add_few : length (after_all v (adds_range (map span_of v.log.records) id off len v)).entries ≤ length v.entries
+      add_few = let same = ap (λ (u : View). length u.entries) sequence.1 in let e = ap length objects.entries in omega (arith, same, e)
+
+      add_draws : DrawEnded v (adds_range (map span_of v.log.records) id off len v)
+      add_draws = drawless v (adds_range (map span_of v.log.records) id off len v) add_few
+
+      -- it stopped before the range was told
+      pub add_stops : (new : View → Type 0) → Stops new v (adds_range (map span_of v.log.records) id off len v) → StopsUndrawn new v (adds_range (map span_of v.log.records) id off len)
+      add_stops new stops =
+          let none = front_undrawn v (adds_range (map span_of v.log.records) id off len v) stops.made add_few work.working.undrawn in
+          record { ready = add_may_be_made; draws = add_draws; stops = stops; number = none.0; entries = none.1 }
+
       pub add_is_made : id.off + off + len < 2 ^ 60 → (next : Lane M) → HasSameFields lane next → next.records.items ≡ lane.records.items ++ plan → at next.memory w → HasAddedRange o at next v (map span_of v.log.records) id off len
       add_is_made low next fields records seen =
           let call = made.1.stays.call in
@@ -156,6 +172,8 @@ module _ {M : Type 0} (o : Opening) (at : M → View → Type 0) (lane : Lane M)
           (made.1.entries ∙ work.no_entries)
           (add_keeps_open v w id off len lane.level work.level work.is_open added) in
           record {
+            ready = add_may_be_made;
+            draws = add_draws;
             works = subst (IsAtWork o at next) (sym sequence.1) works;
             added = subst (λ (z : View). AddsRange v z id off len) (sym sequence.1) added;
             recorded =
@@ -182,6 +200,11 @@ module _ {M : Type 0} (o : Opening) (at : M → View → Type 0) (lane : Lane M)
         (add_is_made can (few lane.records.items work.seen.records room) low next fields
         (records ∙ ap (λ s. lane.records.items ++ plan_of s (id.off + off) len) work.seen.records)
         (subst (λ s. at next.memory (after (after_all v (snapshots s (id.off + off) len v)) (Tell (AddRange id off len) None))) work.seen.records seen))
+
+    pub lane_stops : length lane.records.items + length (plan_of lane.records.items (id.off + off) len) ≤ 64 → (new : View → Type 0) → Stops new v (adds_range lane.records.items id off len v) → StopsUndrawn new v (adds_range lane.records.items id off len)
+    lane_stops room new stops =
+        subst (λ s. StopsUndrawn new v (adds_range s id off len)) (sym work.seen.records)
+        (add_stops can (few lane.records.items work.seen.records room) new (subst (λ s. Stops new v (adds_range s id off len v)) work.seen.records stops))
 
     pub lane_overfills : 64 < length lane.records.items + length (plan_of lane.records.items (id.off + off) len) → Overfills v id off len true
     lane_overfills over = record {

@@ -1,11 +1,10 @@
 -- A call at work may be committed, and then it is over.
-use Rattle.std.proofs.Common.{◌≡◌, ℕ, ◌+◌, ◌-◌, ◌≤◌, inl, true, List, [], ◌∷◌, ◌++◌, map, length, slice_index, Err, None, Ok, OnErr, Result, Some, refl, sym, ap, ◌∙◌, subst, arith}
+use Rattle.std.proofs.Common.{◌≡◌, ◌⊎◌, ⊎_elim, take, append_assoc, ℕ, ◌+◌, ◌-◌, ◌≤◌, inl, inr, true, List, [], ◌∷◌, ◌++◌, map, length, slice_index, Err, None, Ok, OnErr, Result, Some, refl, sym, ap, ◌∙◌, subst, arith}
 use Rattle.pm_crash.proofs.Committed.{commit_is_whole}
 use Rattle.pm_crash.proofs.Levels.{inner_commit_keeps_open}
 use Rattle.pm_crash.specs.OpenCall.{IsOpen}
 use Rattle.pm_crash.specs.Operations.{KeepsLog, KeepsWords, Tells}
 use Rattle.pm_memory.specs.Runs.{Made}
-use Rattle.pm_memory.specs.declared.lane_mem.Stopped.{Stopped}
 use Rattle.pm_model.specs.declared.stage.Stage.TheVariants as model_stage
 use Rattle.pm_objects.specs.declared.calls.Operation.TheVariants.{Commit}
 use Rattle.pm_objects.specs.declared.history.TxErr.TheVariants as error
@@ -24,21 +23,28 @@ use Rattle.pm_view.specs.Log.{Log, Phase, Recorded, log_drawn}
 use Rattle.pm_view.specs.Log.Phase.{Idle, Open}
 use Rattle.pm_view.specs.Steps.{Step}
 use Rattle.pm_view.specs.Steps.Step.{Draw, NumberSeen, Tell}
-use Rattle.pm_view.specs.View.{View, Told}
+use Rattle.pm_view.specs.View.{Numbered, Told, View}
 use Rattle.pm_view.specs.Views.{after, after_all}
 use Rattle.pm_world.proofs.Sequencing.{ready_both}
 use Rattle.pm_world.specs.Lanes.{last_number_of, span_of}
 use Rattle.pm_world.specs.Lawful.{MayDraw, MayTell}
 use Rattle.pm_world.specs.Opening.{Opening}
-use Rattle.pm_world.specs.Sequences.{IsMade, Ready, Runs, in_turn, nothing, one, settles}
+use Rattle.pm_world.specs.Sequences.{IsMade, IsStopped, Ready, Runs, in_turn, nothing, one, settles}
 use Rattle.pm_world.specs.declared.lane.Lane.{Lane}
 use Rattle.pm_world.specs.declared.lane.Span.{Span}
 use Rattle.pm_world.specs.declared.lane.Stage.TheVariants as stage
 use Rattle.pm_tx.specs.AtWork.{IsAtWork, MayCome}
-use Rattle.pm_tx.specs.Ending.{DrawEnded, IsDecidable, IsEndedBy, IsOver, IsStoppedIn}
+use Rattle.pm_tx.specs.Ending.{DrawEnded, IsDecidable, IsDrawnOrNot, IsEndedBy, IsOver, IsStoppedIn, StopsDrawn, drawn_more, drawn_view, told_more}
+use Rattle.pm_tx.proofs.Fronts.{HasDrawnNone, HasStayedDrawn, front_drawn, front_undrawn, stopped_left, stopped_right}
+use Rattle.pm_memory.specs.Runs.{Stops}
 use Rattle.pm_tx.specs.Sequences.{commits, decides, ends_call, retires_any}
 use Rattle.pm_tx.proofs.Drawless.{drawless, drawn_in_turn}
-use Rattle.pm_tx.proofs.GivenUp.{after_over, last_behind, place_at_work}
+use Rattle.pm_tx.proofs.GivenUp.{IsLast, after_over, last_behind, place_at_work, undrawn_lane}
+
+-- the steps of a commit, in its parts
+commits_in_parts : (v : View) (spans : List Span) (n : ℕ) → commits spans n v ≡ (settles v ++ ends_call Commit None n (after_all v (settles v))) ++ retires_any spans (drawn_view v n)
+unfolding commits decides in_turn
+commits_in_parts v spans n = sym (append_assoc (settles v) (ends_call Commit None n (after_all v (settles v))) (retires_any spans (drawn_view v n)))
 
 module _ (v m : View) (working : IsWorking v) (no_entries : v.log.entries ≡ []) (may : MayCome v) (settled : IsSettled v m) where
   call : IsSameCall v m
@@ -116,7 +122,7 @@ module _ (v m : View) (working : IsWorking v) (no_entries : v.log.entries ≡ []
   abbrev IsTail : List Recorded → ℕ → View → Type 0
   IsTail records n d =
       Ready d (retires_any (map span_of records) d) × IsOver v (after_all d (retires_any (map span_of records) d)) n
-      × (length (after_all d (retires_any (map span_of records) d)).entries ≤ length d.entries)
+      × ((after_all d (retires_any (map span_of records) d)).entries ≡ d.entries) × ((after_all d (retires_any (map span_of records) d)).call ≡ d.call)
 
   retired_over : (n : ℕ) (w : View) → IsRetired Idle (drawn n) w → IsOver v w n
   retired_over n w retired = record {
@@ -133,12 +139,14 @@ module _ (v m : View) (working : IsWorking v) (no_entries : v.log.entries ≡ []
   tail [] are n = (
     tt,
     record { lane = lane_drawn n; locks = call.locks; log = ap (λ (l : Log). log_drawn l.phase l) (log_of [] are); drained = gone; number = refl; last = last_drawn n },
-    omega arith,
+    refl,
+    refl,
   )
   tail (r ∷ records) are n = behind (retire_drawn (drawn n) (area n) (ap (λ (l : Log). (log_drawn l.phase l).phase) (log_of (r ∷ records) are)) refl gone) where
     behind : Ready (drawn n) (retires (drawn n)) × IsRetired Idle (drawn n) (after_all (drawn n) (retires (drawn n)))
-        → Ready (drawn n) (retires (drawn n)) × IsOver v (after_all (drawn n) (retires (drawn n))) n × (length (after_all (drawn n) (retires (drawn n))).entries ≤ length (drawn n).entries)
-    behind r = (r.0, retired_over n (after_all (drawn n) (retires (drawn n))) r.1, let same = ap length r.1.call.entries in omega (arith, same))
+        → Ready (drawn n) (retires (drawn n)) × IsOver v (after_all (drawn n) (retires (drawn n))) n × ((after_all (drawn n) (retires (drawn n))).entries ≡ (drawn n).entries)
+        × ((after_all (drawn n) (retires (drawn n))).call ≡ (drawn n).call)
+    behind r = (r.0, retired_over n (after_all (drawn n) (retires (drawn n))) r.1, r.1.call.entries, r.1.call.call)
 
   abbrev spans : List Span
   spans = map span_of v.log.records
@@ -153,11 +161,44 @@ module _ (v m : View) (working : IsWorking v) (no_entries : v.log.entries ≡ []
       let t = tail_behind n in
       (ready_both m ends (retires_any spans (after_all m ends)) (end_ready n) t.0, subst (λ (w : View). IsOver v w n) (sym (after_all-append m ends (retires_any spans (after_all m ends)))) t.1)
 
+  -- the call came to the commit, and its entry is the last
+  drawn_last : (n : ℕ) → IsLast v (drawn n) n Commit None
+  drawn_last n = (ap (λ (told : List Told). told_more told Commit None) call.call, ap (λ (entries : List Numbered). drawn_more entries n told.call) call.entries)
+
+  last_then : (n : ℕ) (d w : View) → IsLast v d n Commit None → w.entries ≡ d.entries → w.call ≡ d.call → IsLast v w n Commit None
+  last_then n d w last entries call = (call ∙ last.0, entries ∙ (last.1 ∙ ap (λ (told : List Told). drawn_more v.entries n told) (sym call)))
+
+  abbrev behind_draw : ℕ → View
+  behind_draw n = after_all m (ends_call Commit None n m)
+
+  ended_last : (n : ℕ) → IsLast v (behind_draw n) n Commit None
+  ended_last n = subst (λ (w : View). IsLast v w n Commit None) (sym (is_drawn n)) (drawn_last n)
+
+  decided_last : (n : ℕ) → IsLast v (after_all m (decides spans n m)) n Commit None
+  unfolding decides in_turn
+  decided_last n =
+      let t = tail_behind n in
+      subst (λ (w : View). IsLast v w n Commit None) (sym (after_all-append m (ends_call Commit None n m) (retires_any spans (behind_draw n))))
+      (last_then n (behind_draw n) (after_all (behind_draw n) (retires_any spans (behind_draw n))) (ended_last n) t.2 t.3)
+
+  -- behind the draw it stays so, wherever the lane stops
+  tail_front : (n made : ℕ) → HasStayedDrawn (behind_draw n) (after_all (behind_draw n) (take made (retires_any spans (behind_draw n)))) n
+  tail_front n made =
+      let t = tail_behind n in
+      front_drawn (behind_draw n) (retires_any spans (behind_draw n)) made n (let e = ap length t.2 in omega (arith, e)) t.1.number (let e = ap length t.3 in omega (arith, e))
+
+  front_is_drawn : (n made : ℕ) → IsDrawnOrNot v (after_all (behind_draw n) (take made (retires_any spans (behind_draw n)))) Commit None
+  front_is_drawn n made =
+      let w : View = after_all (behind_draw n) (take made (retires_any spans (behind_draw n))) in
+      let stays = tail_front n made in
+      let last = last_then n (behind_draw n) w (ended_last n) stays.1 stays.2 in
+      record { told = inr last.0; entries = inr (n, record { number = stays.0; entries = last.1 }) }
+
   decided_drawn : IsOpen v 1 model_stage.Work error.None → (n : ℕ) → DrawEnded m (decides spans n m)
   unfolding decides in_turn
   decided_drawn is_open n =
       let ends : List Step = ends_call Commit None n m in
-      drawn_in_turn m ends (retires_any spans (after_all m ends)) (end_drawn is_open n) (drawless (after_all m ends) (retires_any spans (after_all m ends)) (tail_behind n).2)
+      drawn_in_turn m ends (retires_any spans (after_all m ends)) (end_drawn is_open n) (drawless (after_all m ends) (retires_any spans (after_all m ends)) (let e = ap length (tail_behind n).2 in omega (arith, e)))
 
 module _ (v : View) (working : IsWorking v) (no_entries : v.log.entries ≡ []) (may : MayCome v) (n : ℕ) where
   abbrev mid : View
@@ -169,6 +210,20 @@ module _ (v : View) (working : IsWorking v) (no_entries : v.log.entries ≡ []) 
       let first = settle_lawful v in
       let second = decided_lawful v mid working no_entries may first.1 n in
       (ready_both v (settles v) (decides (map span_of v.log.records) n mid) first.0 second.0, subst (λ (w : View). IsOver v w n) (sym (after_all-append v (settles v) (decides (map span_of v.log.records) n mid))) second.1)
+
+  commit_last : IsLast v (after_all v (commits (map span_of v.log.records) n v)) n Commit None
+  unfolding commits in_turn
+  commit_last =
+      let first = settle_lawful v in
+      subst (λ (w : View). IsLast v w n Commit None) (sym (after_all-append v (settles v) (decides (map span_of v.log.records) n mid))) (decided_last v mid working no_entries may first.1 n)
+
+  -- while all is made persistent nothing is drawn
+  settling_undrawn : (made : ℕ) → HasDrawnNone v (after_all v (take made (settles v)))
+  settling_undrawn made = let first = settle_lawful v in let same = ap (λ (u : View). length u.entries) first.1 in front_undrawn v (settles v) made (omega (arith, same)) working.undrawn
+
+  behind_commit : (made : ℕ) → (HasStayedDrawn (drawn_view v n) (after_all (drawn_view v n) (take made (retires_any (map span_of v.log.records) (drawn_view v n)))) n)
+      × IsDrawnOrNot v (after_all (drawn_view v n) (take made (retires_any (map span_of v.log.records) (drawn_view v n)))) Commit None
+  behind_commit made = let first = settle_lawful v in (tail_front v mid working no_entries may first.1 n made, front_is_drawn v mid working no_entries may first.1 n made)
 
   commit_drawn : IsOpen v 1 model_stage.Work error.None → DrawEnded v (commits (map span_of v.log.records) n v)
   unfolding commits in_turn
@@ -184,6 +239,16 @@ module _ {M : Type 0} (at : M → View → Type 0) (lane : Lane M) (o : Opening)
   committing_lawful : (n : ℕ) → Ready v (commits records n v) × IsOver v (after_all v (commits records n v)) n
   committing_lawful n =
       subst (λ (spans : List Span). Ready v (commits spans n v) × IsOver v (after_all v (commits spans n v)) n) (sym is.seen.records) (commit_lawful v is.working is.no_entries is.may_come n)
+
+  committing_last : (n : ℕ) → IsLast v (after_all v (commits records n v)) n Commit None
+  committing_last n = subst (λ (spans : List Span). IsLast v (after_all v (commits spans n v)) n Commit None) (sym is.seen.records) (commit_last v is.working is.no_entries is.may_come n)
+
+  ending_behind : (n made : ℕ) → (HasStayedDrawn (drawn_view v n) (after_all (drawn_view v n) (take made (retires_any records (drawn_view v n)))) n)
+      × IsDrawnOrNot v (after_all (drawn_view v n) (take made (retires_any records (drawn_view v n)))) Commit None
+  ending_behind n made = subst
+      (λ (spans : List Span). (HasStayedDrawn (drawn_view v n) (after_all (drawn_view v n) (take made (retires_any spans (drawn_view v n)))) n)
+      × IsDrawnOrNot v (after_all (drawn_view v n) (take made (retires_any spans (drawn_view v n)))) Commit None)
+      (sym is.seen.records) (behind_commit v is.working is.no_entries is.may_come n made)
 
   committing_drawn : lane.level ≡ 1 → (n : ℕ) → DrawEnded v (commits records n v)
   committing_drawn outer n =
@@ -236,23 +301,46 @@ module _ {M : Type 0} (at : M → View → Type 0) (lane : Lane M) (o : Opening)
   module _ (outer : lane.level ≡ 1) (new : Lane M) where
     -- it was committed
     pub committed : Runs {T = Unit {0}} (at lane.memory) (at new.memory) (commits records new.last) (Ok tt) → new.locks.items ≡ lane.locks.items → new.records.items ≡ [] → new.drawn ≡ Some new.last → new.pool ≡ lane.pool → new.stopped ≡ lane.stopped
-        → IsEndedBy at new v (commits records new.last)
+        → IsEndedBy at new v (commits records new.last) Commit None
     unfolding Runs
     committed ran locks none drawn pool stops =
         let lawful = committing_lawful new.last in
+        let last = committing_last new.last in
         record {
           ready = lawful.0;
           draws = committing_drawn outer new.last;
           behind = after_over at lane new v (after_all v (commits records new.last v)) is.seen is.lines (ran v is.seen.memory lawful.0) lawful.1 locks none drawn pool (stops ∙ is.unstopped) (place_at_work v is.working);
           over = lawful.1;
+          told = last.0;
+          entries = last.1;
         }
 
-    -- it stopped before that
-    pub stopped_committing : (stopped : Stopped) → Runs {T = Unit {0}} (at lane.memory) (at new.memory) (commits records new.last) (Err stopped) → new.stopped ≡ true → IsStoppedIn at new v (commits records new.last)
-    unfolding Runs
-    stopped_committing stopped ran says =
-        let lawful = committing_lawful new.last in
-        record { ready = lawful.0; draws = committing_drawn outer new.last; stops = ran v is.seen.memory lawful.0; stopped = says }
+    -- it stopped while all was made persistent
+    pub stopped_settling : IsStopped (at lane.memory) (at new.memory) settles → new.stopped ≡ true → new.drawn ≡ lane.drawn → IsStoppedIn at new v (commits records new.last) Commit None
+    unfolding Runs commits in_turn
+    stopped_settling stops says drawn =
+        let first = settle_lawful v in
+        let s : Stops (at new.memory) v (settles v) = stops.1 v is.seen.memory first.0 in
+        let rest : List Step = decides records new.last (after_all v (settles v)) in
+        let undrawn = settling_undrawn v is.working is.no_entries is.may_come new.last s.made in
+        stopped_left at new v (commits records new.last) Commit None (settles v) rest refl (committing_lawful new.last).0 (committing_drawn outer new.last) s says
+        (drawn ∙ (undrawn_lane at lane v is.seen is.working.undrawn ∙ sym undrawn.0)) (record { told = inl undrawn.0; entries = inl undrawn })
+
+    -- it stopped behind the draw
+    pub stopped_retiring : StopsDrawn (at lane.memory) (at new.memory) records new.last → new.stopped ≡ true → new.drawn ≡ Some new.last → IsStoppedIn at new v (commits records new.last) Commit None
+    stopped_retiring stops says drawn =
+        let s : Stops (at new.memory) (drawn_view v new.last) (retires_any records (drawn_view v new.last)) = stops v is.seen.memory (committing_lawful new.last).0 in
+        let behind = ending_behind new.last s.made in
+        stopped_right at new v (commits records new.last) Commit None (settles v ++ ends_call Commit None new.last (after_all v (settles v))) (drawn_view v new.last) (retires_any records (drawn_view v new.last))
+        (after_all-append v (settles v) (ends_call Commit None new.last (after_all v (settles v)))) (commits_in_parts v records new.last) (committing_lawful new.last).0 (committing_drawn outer new.last) s says
+        (drawn ∙ sym behind.0.0) behind.1
+
+    -- it stopped in one of the two
+    pub stopped_committing : ((new.drawn ≡ lane.drawn) × IsStopped (at lane.memory) (at new.memory) settles) ⊎ ((new.drawn ≡ Some new.last) × StopsDrawn (at lane.memory) (at new.memory) records new.last) → new.stopped ≡ true
+        → IsStoppedIn at new v (commits records new.last) Commit None
+    stopped_committing where_ says =
+        ⊎_elim (λ (first : (new.drawn ≡ lane.drawn) × IsStopped (at lane.memory) (at new.memory) settles). stopped_settling first.1 says first.0)
+        (λ (behind : (new.drawn ≡ Some new.last) × StopsDrawn (at lane.memory) (at new.memory) records new.last). stopped_retiring behind.1 says behind.0) where_
 
 pub made_told : (old new : View → Type 0) → Made old new (Tell Commit None) → IsMade old new (one (Tell Commit None))
 unfolding Runs one after_all
@@ -262,3 +350,8 @@ made_told old new told v seen ready = (told v seen).0
 pub on_err : {T E : Type 0} (P : Type 0) (result : Result T E) → P → OnErr result P
 on_err P (Ok answer) p = tt
 on_err P (Err e) p = p
+
+-- and what follows from what holds of an error
+pub on_err_so : {T E : Type 0} (P Q : Type 0) (result : Result T E) → (P → Q) → OnErr result P → OnErr result Q
+on_err_so P Q (Ok answer) so p = tt
+on_err_so P Q (Err e) so p = so p

@@ -1,15 +1,16 @@
 -- A call that may be decided may draw its number, and then end its records.
-use Rattle.std.proofs.Common.{◌≡◌, ℕ, None, List, [], ◌∷◌, length, refl, arith}
+use Rattle.std.proofs.Common.{◌≡◌, ℕ, None, Ok, Err, OnErr, Result, List, [], ◌∷◌, length, refl, arith}
 use Rattle.pm_objects.specs.declared.calls.Operation.TheVariants.{Commit}
 use Rattle.pm_undo.specs.Sequences.{retires}
 use Rattle.pm_undo.specs.Working.{HasArea, IsSeenWithArea}
 use Rattle.pm_view.specs.View.{View}
 use Rattle.pm_view.specs.Views.{after_all}
 use Rattle.pm_world.proofs.Sequencing.{ready_left, ready_right}
-use Rattle.pm_world.specs.Sequences.{IsMade, IsReady, Ready, Runs, in_turn, nothing, one}
+use Rattle.pm_world.specs.Sequences.{IsMade, IsReady, Ready, Runs, in_turn, nothing, one, settles}
 use Rattle.pm_world.specs.declared.lane.Span.{Span}
-use Rattle.pm_tx.specs.Ending.{IsDecidable, IsReadyForAny}
-use Rattle.pm_tx.specs.Sequences.{decides, ends_call, retires_any}
+use Rattle.pm_memory.specs.declared.lane_mem.Stopped.{Stopped}
+use Rattle.pm_tx.specs.Ending.{IsDecidable, IsReadyForAny, StopsDrawn, StopsEnded}
+use Rattle.pm_tx.specs.Sequences.{commits, decides, ends_call, retires_any}
 
 pub retires_none : (spans : List Span) → length spans ≡ 0 → retires_any spans ≡ nothing
 unfolding retires_any
@@ -52,3 +53,21 @@ module _ (old : View → Type 0) (spans : List Span) (r : IsDecidable old spans)
     pub may_retire : IsReady mid (retires_any spans)
     unfolding IsReady decides in_turn
     may_retire = (behind n, (there, ready_right v (ends_call Commit None n v) (retires_any spans (behind n)) (r.1.1.1 n)))
+
+ended_stops : (old mid new : View → Type 0) (spans : List Span) (n : ℕ) (stopped : Stopped) → IsMade old mid (ends_call Commit None n) → Runs {T = Unit {0}} mid new (retires_any spans) (Err stopped) → StopsEnded old new spans n
+unfolding Runs decides in_turn
+ended_stops old mid new spans n stopped made runs v seen ready =
+    let behind : View = after_all v (ends_call Commit None n v) in
+    runs behind (made v seen (ready_left v (ends_call Commit None n v) (retires_any spans behind) ready)) (ready_right v (ends_call Commit None n v) (retires_any spans behind) ready)
+
+-- the call ended, and its records were not
+pub stops_ended : (old mid new : View → Type 0) (spans : List Span) (n : ℕ) (result : Result (Unit {0}) Stopped) → IsMade old mid (ends_call Commit None n) → Runs mid new (retires_any spans) result → OnErr result (StopsEnded old new spans n)
+stops_ended old mid new spans n (Ok done) made runs = tt
+stops_ended old mid new spans n (Err stopped) made runs = ended_stops old mid new spans n stopped made runs
+
+-- all was made persistent before
+pub stops_drawn : (old mid new : View → Type 0) (spans : List Span) (n : ℕ) → Runs {T = Unit {0}} old mid settles (Ok tt) → StopsEnded mid new spans n → StopsDrawn old new spans n
+unfolding Runs commits in_turn
+stops_drawn old mid new spans n made stops v seen ready =
+    let behind : View = after_all v (settles v) in
+    stops behind (made v seen (ready_left v (settles v) (decides spans n behind) ready)) (ready_right v (settles v) (decides spans n behind) ready)

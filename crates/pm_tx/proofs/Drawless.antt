@@ -19,7 +19,7 @@ entries_begun Clearing v = refl
 entries_begun Retiring v = refl
 
 -- a step keeps the entries, or draws one more
-kept : (v : View) (s : Step) → length v.entries ≤ length (after v s).entries
+pub kept : (v : View) (s : Step) → length v.entries ≤ length (after v s).entries
 kept v (Load w x) = omega arith
 kept v (Store w x) = omega arith
 kept v (Or w bits found) = omega arith
@@ -41,7 +41,7 @@ kept v (StopSeen set) = omega arith
 kept v SetStop = omega arith
 kept v (Tell operation reply) = omega arith
 
-kept_by_all : (v : View) (steps : List Step) → length v.entries ≤ length (after_all v steps).entries
+pub kept_by_all : (v : View) (steps : List Step) → length v.entries ≤ length (after_all v steps).entries
 unfolding after_all
 kept_by_all v [] = omega arith
 kept_by_all v (s ∷ steps) = let a = kept v s in let b = kept_by_all (after v s) steps in omega (arith, a, b)

@@ -1,5 +1,5 @@
 -- A call at work may be given up, and then it is over.
-use Rattle.std.proofs.Common.{◌≡◌, ℕ, ◌/◌, ◌<◌, All, inr, List, [], ◌∷◌, ◌++◌, map, length, Option, Err, Ok, None, Some, true, false, refl, sym, ap, ◌∙◌, subst, arith}
+use Rattle.std.proofs.Common.{◌≡◌, ℕ, ◌+◌, ◌-◌, ◌/◌, ◌<◌, ◌≤◌, ⊎_elim, All, inl, inr, List, [], ◌∷◌, ◌++◌, map, length, length-append, take, Option, Err, Ok, None, Some, true, false, refl, sym, ap, ◌∙◌, subst, arith}
 use Rattle.std.specs.List.{IsDistinct}
 use Rattle.std.specs.Prelude.{nat_eq}
 use Rattle.pm_crash.proofs.GivenUp.{abort_gives_up}
@@ -26,11 +26,21 @@ use Rattle.pm_world.specs.Sequences.{Ready, Runs, in_turn, one}
 use Rattle.pm_world.specs.declared.lane.Lane.{Lane}
 use Rattle.pm_world.specs.declared.lane.Span.{Span}
 use Rattle.pm_tx.specs.AtWork.{HoldsLines, IsAtWork, MayCome}
-use Rattle.pm_tx.specs.Ending.{DrawEnded, GivesUpBy, IsAfterCall, IsEndedBy, IsOver, IsReadyForAny, IsStoppedIn, IsTakenBack, IsWorkingLane}
+use Rattle.pm_memory.specs.Runs.{Stops}
+use Rattle.std.proofs.lemmas.Bool.{cases_lt}
+use Rattle.std.proofs.lemmas.List.{take-append-le}
+use Rattle.std.proofs.Math.Seq.{take-append-add}
+use Rattle.std.proofs.lemmas.Option.{none-some}
+use Rattle.pm_tx.proofs.Fronts.{HasDrawnNone, front_undrawn}
+use Rattle.pm_tx.specs.Ending.{told_more, drawn_more, DrawEnded, GivesUpBy, IsAfterCall, IsEndedBy, IsOver, IsReadyForAny, IsStoppedIn, IsTakenBack, IsWorkingLane}
 use Rattle.pm_tx.specs.Resting.{HasPlace}
 use Rattle.pm_tx.specs.Sequences.{ends_call, gives_up, takes_back}
 use Rattle.pm_tx.proofs.Drawless.{drawless, drawn_in_turn}
 use Rattle.pm_tx.proofs.TakenBack.{take_back_lawful}
+
+-- the call came to this operation, and its entry is the last
+abbrev pub IsLast : View → View → ℕ → Operation → Option Value → Type 0
+IsLast v w n operation reply = (w.call ≡ told_more v.call operation reply) × (w.entries ≡ drawn_more v.entries n w.call)
 
 -- the number of the last of some entries
 pub last_behind : (entries : List Numbered) (e : Numbered) → last_number_of (entries ++ e ∷ []) ≡ e.number
@@ -81,9 +91,27 @@ module _ (v m : View) (working : IsWorking v) (may : MayCome v) (back : IsTakenB
   taken_back : TakesBack v told
   taken_back = let t = back.takes_back in record { restored = t.restored; known = t.known; others = t.others; records = t.records }
 
+  -- it came to the operation, and its entry is the last
+  pub end_is_last : (n : ℕ) → IsLast v (after_all m (ends_call operation reply n m)) n operation reply
+  unfolding ends_call in_turn one after_all
+  end_is_last n = let call = ap (λ (call : List Told). told_more call operation reply) back.call.call in (call, ap (λ (entries : List Numbered). drawn_more entries n told.call) back.call.entries)
+
+  -- before the draw none is drawn
+  pub told_is_undrawn : HasDrawnNone v told
+  told_is_undrawn = (back.call.number ∙ working.undrawn, back.call.entries)
+
   pub end_is_drawn : (error : TxErr) → GivesUpBy v operation reply error → (n : ℕ) → DrawEnded m (ends_call operation reply n m)
   unfolding ends_call in_turn one DrawEnded after_all
   end_is_drawn error why n = (tt, (inr (error, why told tells taken_back, ap (λ (log : Log). log.records) back.log), tt))
+
+end_is_two : (m : View) (operation : Operation) (reply : Option Value) (n : ℕ) → length (ends_call operation reply n m) ≡ 2
+unfolding ends_call in_turn one
+end_is_two m operation reply n = refl
+
+-- the first of the two is the telling
+told_undrawn : (m : View) (operation : Operation) (reply : Option Value) (n : ℕ) (P : View → Type 0) → P (after m (Tell operation reply)) → P (after_all m (take 1 (ends_call operation reply n m)))
+unfolding ends_call in_turn one after_all
+told_undrawn m operation reply n P p = p
 
 module _ (v : View) (working : IsWorking v) (none : v.log.entries ≡ []) (may : MayCome v) (operation : Operation) (reply : Option Value) (n : ℕ) where
   abbrev first : List Step
@@ -105,10 +133,40 @@ module _ (v : View) (working : IsWorking v) (none : v.log.entries ≡ []) (may :
     subst (λ (w : View). IsOver v w n) (sym (after_all-append v first second)) (end_is_over v mid working may taken.1 operation reply n),
   )
 
+  pub give_up_last : IsLast v (after_all v (gives_up (map span_of v.log.records) operation reply n v)) n operation reply
+  unfolding gives_up in_turn
+  give_up_last = subst (λ (w : View). IsLast v w n operation reply) (sym (after_all-append v first second)) (end_is_last v mid working may taken.1 operation reply n)
+
+  -- what was taken back drew nothing
+  first_few : length mid.entries ≤ length v.entries
+  first_few = let e = ap length taken.1.call.entries in omega (arith, e)
+
+  -- a stop comes before the draw
+  pub give_up_undrawn : (made : ℕ) → made < length (gives_up (map span_of v.log.records) operation reply n v) → HasDrawnNone v (after_all v (take made (gives_up (map span_of v.log.records) operation reply n v)))
+  unfolding gives_up in_turn
+  give_up_undrawn made fewer = ⊎_elim
+      (λ (behind : length first < made).
+      let k : ℕ = made - length first in
+      let at : made ≡ length first + k = omega (arith, behind) in
+      let one : k ≡ 1 = (let all = length-append first second in let two = end_is_two mid operation reply n in omega (arith, fewer, all, two, behind)) in
+      subst (λ (steps : List Step). HasDrawnNone v (after_all v steps)) (sym (ap (λ j. take j (first ++ second)) at ∙ take-append-add first second k))
+      (subst (λ (w : View). HasDrawnNone v w) (sym (after_all-append v first (take k second)))
+      (subst (λ j. HasDrawnNone v (after_all mid (take j second))) (sym one) (told_undrawn mid operation reply n (HasDrawnNone v) (told_is_undrawn v mid working may taken.1 operation reply)))))
+      (λ (front : made ≤ length first).
+      subst (λ (steps : List Step). HasDrawnNone v (after_all v steps)) (sym (take-append-le made first second front)) (front_undrawn v first made first_few working.undrawn))
+      (cases_lt (length first) made)
+
   pub give_up_drawn : (error : TxErr) → GivesUpBy v operation reply error → DrawEnded v (gives_up (map span_of v.log.records) operation reply n v)
   unfolding gives_up in_turn
   give_up_drawn error why =
       drawn_in_turn v first second (drawless v first (let e = ap length taken.1.call.entries in omega (arith, e))) (end_is_drawn v mid working may taken.1 operation reply error why n)
+
+-- a lane whose call drew no number says so
+pub undrawn_lane : {M : Type 0} (at : M → View → Type 0) (lane : Lane M) (v : View) → IsSeenAs at lane v → v.number ≡ None → lane.drawn ≡ None
+undrawn_lane at lane v seen none = by lane.drawn refl where
+  by : (drawn : Option ℕ) → lane.drawn ≡ drawn → lane.drawn ≡ None
+  by None is = is
+  by (Some n) is = absurd (none-some n (sym none ∙ seen.drawn n is))
 
 -- the lane is seen as the view behind its call
 seen_over : {M : Type 0} (at : M → View → Type 0) (lane new : Lane M) (v w : View) → IsSeenAs at lane v → at new.memory w → IsOver v w new.last → new.locks.items ≡ lane.locks.items → new.records.items ≡ [] → new.drawn ≡ Some new.last → new.pool ≡ lane.pool → IsSeenAs at new w
@@ -144,6 +202,9 @@ after_over at lane new v w seen lines memory over locks none drawn pool unstoppe
 pub place_at_work : (v : View) → IsWorking v → HasPlace v
 place_at_work v working = let area = working.area in record { lane = area.lane; few = area.few; inside = area.inside }
 
+pub is_working_lane : {M : Type 0} (at : M → View → Type 0) (lane : Lane M) (o : Opening) (v : View) → IsAtWork o at lane v → IsWorkingLane at lane
+is_working_lane at lane o v is = (v, (is.seen, is.working))
+
 module _ {M : Type 0} (at : M → View → Type 0) (lane : Lane M) (o : Opening) (v : View) (is : IsAtWork o at lane v) (operation : Operation) (reply : Option Value) where
   abbrev pub spans : List Span
   spans = lane.records.items
@@ -156,12 +217,19 @@ module _ {M : Type 0} (at : M → View → Type 0) (lane : Lane M) (o : Opening)
       subst (λ (spans : List Span). Ready v (gives_up spans operation reply n v) × IsOver v (after_all v (gives_up spans operation reply n v)) n) (sym same)
       (give_up_lawful v is.working is.no_entries is.may_come operation reply n)
 
+  abbrev giving_steps : ℕ → List Span → List Step
+  giving_steps n spans = gives_up spans operation reply n v
+
+  pub giving_up_last : (n : ℕ) → IsLast v (after_all v (gives_up spans operation reply n v)) n operation reply
+  giving_up_last n = subst (λ (spans : List Span). IsLast v (after_all v (giving_steps n spans)) n operation reply) (sym same) (give_up_last v is.working is.no_entries is.may_come operation reply n)
+
+  giving_up_undrawn : (n made : ℕ) → made < length (gives_up spans operation reply n v) → HasDrawnNone v (after_all v (take made (gives_up spans operation reply n v)))
+  giving_up_undrawn n made =
+      subst (λ (spans : List Span). made < length (giving_steps n spans) → HasDrawnNone v (after_all v (take made (giving_steps n spans)))) (sym same) (give_up_undrawn v is.working is.no_entries is.may_come operation reply n made)
+
   pub giving_up_drawn : (error : TxErr) → GivesUpBy v operation reply error → (n : ℕ) → DrawEnded v (gives_up spans operation reply n v)
   giving_up_drawn error why n =
       subst (λ (spans : List Span). DrawEnded v (gives_up spans operation reply n v)) (sym same) (give_up_drawn v is.working is.no_entries is.may_come operation reply n error why)
-
-  pub is_working_lane : IsWorkingLane at lane
-  is_working_lane = (v, (is.seen, is.working))
 
   taking : Ready v (takes_back spans v) × IsTakenBack v (after_all v (takes_back spans v))
   taking = subst (λ (spans : List Span). Ready v (takes_back spans v) × IsTakenBack v (after_all v (takes_back spans v))) (sym same) (take_back_lawful v is.working is.no_entries)
@@ -177,24 +245,37 @@ module _ {M : Type 0} (at : M → View → Type 0) (lane : Lane M) (o : Opening)
   module _ (error : TxErr) (why : GivesUpBy v operation reply error) (new : Lane M) where
     -- it was given up
     pub given_up : Runs {T = Unit {0}} (at lane.memory) (at new.memory) (gives_up spans operation reply new.last) (Ok tt) → new.locks.items ≡ lane.locks.items → new.records.items ≡ [] → new.drawn ≡ Some new.last → new.pool ≡ lane.pool → new.stopped ≡ lane.stopped
-        → IsEndedBy at new v (gives_up spans operation reply new.last)
+        → IsEndedBy at new v (gives_up spans operation reply new.last) operation reply
     unfolding Runs
     given_up ran locks none drawn pool stops =
         let lawful = giving_up_lawful new.last in
         let over = lawful.1 in
+        let last = giving_up_last new.last in
         record {
           ready = lawful.0;
           draws = giving_up_drawn error why new.last;
           behind = after_over at lane new v (after_all v (gives_up spans operation reply new.last v)) is.seen is.lines (ran v is.seen.memory lawful.0) over locks none drawn pool (stops ∙ is.unstopped) (place_at_work v is.working);
           over = over;
+          told = last.0;
+          entries = last.1;
         }
 
     -- it stopped before that
-    pub stopped_giving_up : (stopped : Stopped) → Runs {T = Unit {0}} (at lane.memory) (at new.memory) (gives_up spans operation reply new.last) (Err stopped) → new.stopped ≡ true → IsStoppedIn at new v (gives_up spans operation reply new.last)
+    pub stopped_giving_up : (stopped : Stopped) → Runs {T = Unit {0}} (at lane.memory) (at new.memory) (gives_up spans operation reply new.last) (Err stopped) → new.stopped ≡ true → new.drawn ≡ lane.drawn
+        → IsStoppedIn at new v (gives_up spans operation reply new.last) operation reply
     unfolding Runs
-    stopped_giving_up stopped ran says =
+    stopped_giving_up stopped ran says drawn =
         let lawful = giving_up_lawful new.last in
-        record { ready = lawful.0; draws = giving_up_drawn error why new.last; stops = ran v is.seen.memory lawful.0; stopped = says }
+        let stops : Stops (at new.memory) v (gives_up spans operation reply new.last v) = ran v is.seen.memory lawful.0 in
+        let undrawn = giving_up_undrawn new.last stops.made stops.fewer in
+        record {
+          ready = lawful.0;
+          draws = giving_up_drawn error why new.last;
+          stops = stops;
+          stopped = says;
+          drawn = drawn ∙ (undrawn_lane at lane v is.seen is.working.undrawn ∙ sym undrawn.0);
+          came = record { told = inl undrawn.0; entries = inl undrawn };
+        }
 
 -- an abort that is asked for gives up the call
 pub gives_up_by_abort : {M : Type 0} (at : M → View → Type 0) (lane : Lane M) (o : Opening) (v : View) → IsAtWork o at lane v → (errnum : ℕ) (error : TxErr) → error ≡ error_for errnum → GivesUpBy v (Abort errnum) None error

@@ -37,6 +37,7 @@ use Rattle.pm_tx.proofs.AddsAtWork.{listed_is_known}
 use Rattle.pm_tx.proofs.GoingOn.{HasSameFields, goes_on}
 use Rattle.pm_tx.proofs.Objects.{covered_under, is_found}
 use Rattle.pm_tx.proofs.WrittenBytes.{counted_covered}
+use Rattle.pm_tx.proofs.Drawless.{drawless}
 use Rattle.pm_tx.specs.AtWork.{IsAtWork}
 use Rattle.pm_tx.specs.Ranges.{HasReadRange, KnowsRange, reads_range}
 use Rattle.pm_tx.specs.Sequences.{byte_in, reads, word_count}
@@ -126,6 +127,9 @@ module _ {M : Type 0} (o : Opening) (at : M → View → Type 0) (lane : Lane M)
     pub read_may_be_made : Ready v (reads_range id off len bytes v)
     read_may_be_made = sequence.0
 
+    read_few : length (after_all v (reads_range id off len bytes v)).entries ≤ length v.entries
+    read_few = let same = ap (λ (u : View). length u.entries) sequence.1 in let e = ap length made.1.call.entries in omega (arith, same, e)
+
     pub read_is_made : bytes ≡ bytes_seen v id off len → (next : Lane M) → HasSameFields lane next → next.records ≡ lane.records → at next.memory w → HasReadRange o at next v id off len bytes
     read_is_made is next fields records seen =
         let call = made.1.call in
@@ -156,6 +160,8 @@ module _ {M : Type 0} (o : Opening) (at : M → View → Type 0) (lane : Lane M)
         opening (tell_works u (Read id off len) (Some (Bytes bytes)) made.1.working) (ap (λ (l : Log). l.entries) made.1.log ∙ work.no_entries)
         (read_keeps_open v w id off len lane.level work.level work.is_open read) in
         record {
+          ready = read_may_be_made;
+          draws = drawless v (reads_range id off len bytes v) read_few;
           works = subst (IsAtWork o at next) (sym sequence.1) works;
           read = subst (λ (z : View). ReadsBytes v z id off len) (sym sequence.1) read;
           seen = is;

@@ -1,5 +1,5 @@
 -- A lane at work may write a range that it recorded; it stays at work, and its call is what the plain model's write makes of it.
-use Rattle.std.proofs.Common.{◌≡◌, ℕ, ◌+◌, ◌*◌, ◌/◌, All, List, [], ◌∷◌, ◌++◌, length, map, None, true, refl, sym, ap, ◌∙◌, subst}
+use Rattle.std.proofs.Common.{◌≡◌, ℕ, ◌+◌, ◌*◌, ◌/◌, ◌≤◌, arith, All, List, [], ◌∷◌, ◌++◌, length, map, None, true, refl, sym, ap, ◌∙◌, subst}
 use Rattle.pm_words.specs.Words.{AreBytes}
 use Rattle.pm_crash.proofs.WriteOn.{write_keeps_open}
 use Rattle.pm_crash.specs.Operations.{WritesBytes}
@@ -22,8 +22,12 @@ use Rattle.pm_world.specs.declared.lane.Lane.{Lane}
 use Rattle.pm_tx.proofs.GoingOn.{HasSameFields, KeepsObjects, goes_on}
 use Rattle.pm_tx.proofs.Objects.{covers_no_size}
 use Rattle.pm_tx.proofs.WrittenBytes.{HasWritten, all_written, counted_covered, writes_lawful}
+use Rattle.pm_memory.specs.Runs.{Stops}
+use Rattle.pm_tx.proofs.Drawless.{drawless}
+use Rattle.pm_tx.proofs.Fronts.{front_undrawn}
 use Rattle.pm_tx.specs.AtWork.{IsAtWork}
-use Rattle.pm_tx.specs.Ranges.{CanWrite, HasWrittenRange, writes_range}
+use Rattle.pm_tx.specs.Ending.{DrawEnded}
+use Rattle.pm_tx.specs.Ranges.{CanWrite, HasWrittenRange, StopsUndrawn, writes_range}
 use Rattle.pm_tx.specs.Sequences.{word_count, writes}
 
 module _ {M : Type 0} (o : Opening) (at : M → View → Type 0) (lane : Lane M) (v : View) (work : IsAtWork o at lane v) (id : Oid) (off : ℕ) (bytes : List ℕ) (can : CanWrite v id off (length bytes)) where
@@ -76,6 +80,18 @@ module _ {M : Type 0} (o : Opening) (at : M → View → Type 0) (lane : Lane M)
             has.others (8 * l.line + 1) (λ i low same. covers_no_size v work.objects id off (length bytes) true can.range o work.sound work.opening ((id.off + off) / 8 + i) (counted_covered (id.off + off) (length bytes) i low) l held (sym same));
       }
 
+  write_few : length (after_all v (writes_range id off bytes v)).entries ≤ length v.entries
+  write_few = let same = ap (λ (u : View). length u.entries) sequence.1 in let e = ap length objects.entries in omega (arith, same, e)
+
+  pub write_draws : DrawEnded v (writes_range id off bytes v)
+  write_draws = drawless v (writes_range id off bytes v) write_few
+
+  -- it stopped before the write was told
+  pub write_stops : (new : View → Type 0) → Stops new v (writes_range id off bytes v) → StopsUndrawn new v (writes_range id off bytes)
+  write_stops new stops =
+      let none = front_undrawn v (writes_range id off bytes v) stops.made write_few work.working.undrawn in
+      record { ready = write_may_be_made; draws = write_draws; stops = stops; number = none.0; entries = none.1 }
+
   pub write_is_made : AreBytes bytes → (next : Lane M) → HasSameFields lane next → next.records ≡ lane.records → at next.memory (after (after_all v (writes (id.off + off) bytes v)) (Tell (Write id off bytes) None))
       → HasWrittenRange o at next v id off bytes
   write_is_made are next fields records seen =
@@ -92,6 +108,8 @@ module _ {M : Type 0} (o : Opening) (at : M → View → Type 0) (lane : Lane M)
       (ap (λ (l : Log). l.entries) has.log ∙ work.no_entries)
       (write_keeps_open v last id off lane.level bytes work.level work.is_open written) in
       record {
+        ready = write_may_be_made;
+        draws = write_draws;
         works = subst (IsAtWork o at next) (sym sequence.1) works;
         written = subst (λ (z : View). WritesBytes v z id off bytes) (sym sequence.1) written;
       }

@@ -1,6 +1,7 @@
 -- What the ends of a call leave of its view, and of its lane.
-use Rattle.std.specs.Prelude.{◌≡◌, ℕ, false, true, List, [], ◌∷◌, Option, Some}
+use Rattle.std.specs.Prelude.{◌≡◌, ◌⊎◌, ℕ, false, true, List, [], ◌∷◌, ◌++◌, take, Option, Some, None}
 use Rattle.pm_objects.specs.declared.calls.Operation.{Operation}
+use Rattle.pm_objects.specs.declared.calls.Operation.TheVariants.{Commit}
 use Rattle.pm_objects.specs.declared.history.TxErr.{TxErr}
 use Rattle.pm_objects.specs.declared.history.Value.{Value}
 use Rattle.pm_memory.specs.Runs.{Stops}
@@ -12,16 +13,16 @@ use Rattle.pm_view.specs.Log.{no_log}
 use Rattle.pm_view.specs.Constants.{IsSameLane}
 use Rattle.pm_view.specs.Log.Phase.{Idle, Open}
 use Rattle.pm_view.specs.Steps.{Step}
-use Rattle.pm_view.specs.View.{View}
+use Rattle.pm_view.specs.View.{Numbered, Told, View}
 use Rattle.pm_view.specs.Views.{after, after_all}
 use Rattle.pm_world.specs.Lanes.{IsSeenAs, last_number_of}
 use Rattle.pm_world.specs.Opening.{Opening}
-use Rattle.pm_world.specs.Sequences.{Sequence, Ready}
+use Rattle.pm_world.specs.Sequences.{Sequence, Ready, settles}
 use Rattle.pm_world.specs.declared.lane.Lane.{Lane}
 use Rattle.pm_world.specs.declared.lane.Span.{Span}
 use Rattle.pm_tx.specs.AtWork.{HoldsLines, IsAtWork}
 use Rattle.pm_tx.specs.Resting.{HasPlace, IsAtRest}
-use Rattle.pm_tx.specs.Sequences.{decides}
+use Rattle.pm_tx.specs.Sequences.{commits, decides, ends_call, retires_any}
 
 -- some view that the lane may be seen as is at work
 abbrev pub IsWorkingLane : {M : Type 0} → (M → View → Type 0) → Lane M → Type 0
@@ -51,6 +52,18 @@ IsReadyForAny at steps = (v : View) × (at v × ((n : ℕ) → Ready v (steps n 
 abbrev pub IsDecidable : (View → Type 0) → List Span → Type 0
 IsDecidable at spans = (v : View) × (at v × (HasArea v × ((n : ℕ) → Ready v (decides spans n v))))
 
+-- the view once all is persistent, the commit is told and the call drew this number
+abbrev pub drawn_view : View → ℕ → View
+drawn_view v n = after_all (after_all v (settles v)) (ends_call Commit None n (after_all v (settles v)))
+
+-- from each such view the call ended, and the lane stopped behind that
+abbrev pub StopsEnded : (View → Type 0) → (View → Type 0) → List Span → ℕ → Type 0
+StopsEnded old new spans n = (v : View) → old v → Ready v (decides spans n v) → Stops new (after_all v (ends_call Commit None n v)) (retires_any spans (after_all v (ends_call Commit None n v)))
+
+-- from each such view the commit drew this number, and the lane stopped behind that
+abbrev pub StopsDrawn : (View → Type 0) → (View → Type 0) → List Span → ℕ → Type 0
+StopsDrawn old new spans n = (v : View) → old v → Ready v (commits spans n v) → Stops new (drawn_view v n) (retires_any spans (drawn_view v n))
+
 -- once it is taken back and this operation is told, the call is given up with this error
 abbrev pub GivesUpBy : View → Operation → Option Value → TxErr → Type 0
 GivesUpBy v operation reply error = (next : View) → Tells v next operation reply → TakesBack v next → IsGivenUp next error
@@ -76,19 +89,43 @@ pub record IsAfterCall {M : Type 0} (at : M → View → Type 0) (lane : Lane M)
 abbrev pub IsLaneAfterCall : {M : Type 0} → (M → View → Type 0) → Lane M → Type 0
 IsLaneAfterCall at lane = (v : View) × IsAfterCall at lane v
 
--- the steps were made, what they draw is an ended call's, and then no call is open
-pub record IsEndedBy {M : Type 0} (at : M → View → Type 0) (lane : Lane M) (v : View) (steps : Sequence) : Type 0 where
+-- the call with one more operation, told with its reply
+abbrev pub told_more : List Told → Operation → Option Value → List Told
+told_more call operation reply = call ++ record { operation = operation; reply = reply } ∷ []
+
+-- the entries with one more: this call drew this number
+abbrev pub drawn_more : List Numbered → ℕ → List Told → List Numbered
+drawn_more entries n call = entries ++ record { number = n; call = call } ∷ []
+
+-- the steps were made, what they draw is an ended call's, and then no call is open: it came to this operation with its reply, and its entry
+-- is the last
+pub record IsEndedBy {M : Type 0} (at : M → View → Type 0) (lane : Lane M) (v : View) (steps : Sequence) (operation : Operation) (reply : Option Value) : Type 0 where
   pub ready : Ready v (steps v)
   pub draws : DrawEnded v (steps v)
   pub behind : IsAfterCall at lane (after_all v (steps v))
   pub over : IsOver v (after_all v (steps v)) lane.last
+  pub told : (after_all v (steps v)).call ≡ told_more v.call operation reply
+  pub entries : (after_all v (steps v)).entries ≡ drawn_more v.entries lane.last (after_all v (steps v)).call
 
--- the first of the steps were made, up to the lane's stop: what they draw is an ended call's
-pub record IsStoppedIn {M : Type 0} (at : M → View → Type 0) (lane : Lane M) (v : View) (steps : Sequence) : Type 0 where
+-- the call drew this number, and its entry is the last
+pub record IsDrawnAs (v w : View) (n : ℕ) : Type 0 where
+  pub number : w.number ≡ Some n
+  pub entries : w.entries ≡ drawn_more v.entries n w.call
+
+-- the call drew no number, or it came to this operation with its reply and its entry is the last
+pub record IsDrawnOrNot (v w : View) (operation : Operation) (reply : Option Value) : Type 0 where
+  pub told : (w.number ≡ None) ⊎ (w.call ≡ told_more v.call operation reply)
+  pub entries : ((w.number ≡ None) × (w.entries ≡ v.entries)) ⊎ ((n : ℕ) × IsDrawnAs v w n)
+
+-- the first of the steps were made, up to the lane's stop: what they draw is an ended call's. The lane tells the number that its call drew
+-- by then, if it did
+pub record IsStoppedIn {M : Type 0} (at : M → View → Type 0) (lane : Lane M) (v : View) (steps : Sequence) (operation : Operation) (reply : Option Value) : Type 0 where
   pub ready : Ready v (steps v)
   pub draws : DrawEnded v (steps v)
   pub stops : Stops (at lane.memory) v (steps v)
   pub stopped : lane.stopped ≡ true
+  pub drawn : lane.drawn ≡ (after_all v (take stops.made (steps v))).number
+  pub came : IsDrawnOrNot v (after_all v (take stops.made (steps v))) operation reply
 
 -- the steps gave every lock back, nothing else changed that the lane keeps, and it rests
 pub record IsClosedBy {M : Type 0} (at : M → View → Type 0) (lane : Lane M) (v : View) (steps : Sequence) : Type 0 where

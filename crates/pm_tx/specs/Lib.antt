@@ -1,8 +1,9 @@
 pub mod Sequences
 pub mod AtWork
 pub mod Learning
-pub mod Ranges
 pub mod Resting
 pub mod Ending
+pub mod Ranges
+pub mod Calls
 pub mod Stages
 pub mod Beginning

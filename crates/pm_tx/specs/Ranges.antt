@@ -1,21 +1,23 @@
 -- What a lane at work does with a range of an object: what it needs for that, which calls it makes, and what it leaves.
-use Rattle.std.specs.Prelude.{◌≡◌, ℕ, ◌+◌, ◌==◌, ◌&&◌, ◌||◌, not, Bool, true, All, Contains, IsTrue, List, None, Some, false}
+use Rattle.std.specs.Prelude.{◌≡◌, ℕ, ◌+◌, ◌==◌, ◌&&◌, ◌||◌, not, Bool, true, All, Contains, IsTrue, List, None, Some, false, take}
 use Rattle.pm_crash.specs.Operations.{AddsRange, HasRange, ReadsBytes, WritesBytes, bytes_seen}
 use Rattle.pm_model.specs.Bytes.{covered_words}
 use Rattle.pm_objects.specs.declared.calls.Operation.TheVariants.{AddRange, Read, Write}
 use Rattle.pm_objects.specs.declared.history.Value.TheVariants.{Bytes}
 use Rattle.pm_objects.specs.declared.ids.Oid.{Oid}
+use Rattle.pm_memory.specs.Runs.{Stops}
 use Rattle.pm_view.specs.Steps.Step.{Tell}
 use Rattle.pm_view.specs.View.{View}
 use Rattle.pm_view.specs.Views.{after_all}
 use Rattle.pm_world.specs.Opening.{Opening}
 use Rattle.pm_world.specs.Records.{is_recorded}
-use Rattle.pm_world.specs.Sequences.{Sequence, in_turn, one}
+use Rattle.pm_world.specs.Sequences.{Ready, Sequence, in_turn, one}
 use Rattle.pm_world.specs.declared.lane.HeldLock.{HeldLock}
 use Rattle.pm_world.specs.declared.lane.Lane.{Lane}
 use Rattle.pm_world.specs.declared.lane.Span.{Span}
 use Rattle.pm_undo.specs.Sequences.{snapshots}
 use Rattle.pm_tx.specs.AtWork.{IsAtWork}
+use Rattle.pm_tx.specs.Ending.{DrawEnded}
 use Rattle.pm_tx.specs.Sequences.{reads, writes}
 
 -- it holds the object for writing, the range is inside, and each word of it is recorded
@@ -31,8 +33,10 @@ MayWriteRange at lane id off len = (o : Opening) × (v : View) × IsAtWork o at 
 unfoldable pub writes_range : Oid → ℕ → List ℕ → Sequence
 writes_range id off bytes = in_turn (writes (id.off + off) bytes) (one (Tell (Write id off bytes) None))
 
--- from the view before the lane made the write, is at work still, and the write is the plain model's
+-- from the view before the lane made the write, which draws no number, is at work still, and the write is the plain model's
 pub record HasWrittenRange {M : Type 0} (o : Opening) (at : M → View → Type 0) (lane : Lane M) (v : View) (id : Oid) (off : ℕ) (bytes : List ℕ) : Type 0 where
+  pub ready : Ready v (writes_range id off bytes v)
+  pub draws : DrawEnded v (writes_range id off bytes v)
   pub works : IsAtWork o at lane (after_all v (writes_range id off bytes v))
   pub written : WritesBytes v (after_all v (writes_range id off bytes v)) id off bytes
 
@@ -53,15 +57,13 @@ unfoldable pub adds_range : List Span → Oid → ℕ → ℕ → Sequence
 adds_range spans id off len = in_turn (snapshots spans (id.off + off) len) (one (Tell (AddRange id off len) None))
 
 -- from the view before, with these records, the lane recorded the range, is at work still, and that is the plain model's. Each word of the
--- range has a record
+-- range has a record, and no number was drawn
 pub record HasAddedRange {M : Type 0} (o : Opening) (at : M → View → Type 0) (lane : Lane M) (v : View) (spans : List Span) (id : Oid) (off len : ℕ) : Type 0 where
+  pub ready : Ready v (adds_range spans id off len v)
+  pub draws : DrawEnded v (adds_range spans id off len v)
   pub works : IsAtWork o at lane (after_all v (adds_range spans id off len v))
   pub added : AddsRange v (after_all v (adds_range spans id off len v)) id off len
   pub recorded : All (λ w. IsTrue (is_recorded (after_all v (adds_range spans id off len v)).log.records w)) (covered_words (id.off + off) len)
-
--- some view that the lane may be seen as is at work
-abbrev pub IsLaneAtWork : {M : Type 0} → (M → View → Type 0) → Lane M → Type 0
-IsLaneAtWork at lane = (o : Opening) × (v : View) × IsAtWork o at lane v
 
 -- a held lock is of this line, for writing if so asked
 abbrev pub is_lock_of : ℕ → Bool → HeldLock → Bool
@@ -75,8 +77,18 @@ MayReadRange at lane id off len = (o : Opening) × (v : View) × IsAtWork o at l
 unfoldable pub reads_range : Oid → ℕ → ℕ → List ℕ → Sequence
 reads_range id off len bytes = in_turn (reads (id.off + off) len) (one (Tell (Read id off len) (Some (Bytes bytes))))
 
--- from the view before the lane read these bytes, is at work still, and they are what the plain model reads
+-- from the view before the lane read these bytes, is at work still, and they are what the plain model reads. No number was drawn
 pub record HasReadRange {M : Type 0} (o : Opening) (at : M → View → Type 0) (lane : Lane M) (v : View) (id : Oid) (off len : ℕ) (bytes : List ℕ) : Type 0 where
+  pub ready : Ready v (reads_range id off len bytes v)
+  pub draws : DrawEnded v (reads_range id off len bytes v)
   pub works : IsAtWork o at lane (after_all v (reads_range id off len bytes v))
   pub read : ReadsBytes v (after_all v (reads_range id off len bytes v)) id off len
   pub seen : bytes ≡ bytes_seen v id off len
+
+-- the first of the steps were made, up to the lane's stop, and none of them draws a number
+pub record StopsUndrawn (new : View → Type 0) (v : View) (steps : Sequence) : Type 0 where
+  pub ready : Ready v (steps v)
+  pub draws : DrawEnded v (steps v)
+  pub stops : Stops new v (steps v)
+  pub number : (after_all v (take stops.made (steps v))).number ≡ None
+  pub entries : (after_all v (take stops.made (steps v))).entries ≡ v.entries

@@ -11,8 +11,9 @@ ghost use Rattle.pm_world.specs.Lanes.{lock_of as view_lock};
 ghost use Rattle.pm_world.specs.Opening.{Opening};
 ghost use Rattle.pm_world.specs.declared.lane.Stage.TheVariants as stage;
 ghost use Rattle.pm_tx.specs.AtWork.{IsAtWork};
+ghost use Rattle.pm_tx.specs.Ending.{IsLaneAtWork};
 ghost use Rattle.pm_tx.specs.Learning.{HasChecked};
-ghost use Rattle.pm_tx.specs.Ranges.{CanWrite, IsLaneAtWork, KnowsRange, is_lock_of};
+ghost use Rattle.pm_tx.specs.Ranges.{CanWrite, KnowsRange, is_lock_of};
 
 use crate::learning::learn;
 use crate::words::{WORD_BYTES, count_words};

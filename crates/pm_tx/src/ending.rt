@@ -1,10 +1,14 @@
-ghost use Rattle.std.specs.Prelude.{◌≡◌, Some};
+ghost use Rattle.std.specs.Prelude.{◌≡◌, ℕ, Some};
 ghost use Rattle.std.specs.Option.{option_copied};
+ghost use Rattle.pm_memory.specs.Runs.{Made};
+ghost use Rattle.pm_objects.specs.declared.calls.Operation.TheVariants.{Write};
+ghost use Rattle.pm_objects.specs.declared.history.Value.TheVariants.{Refused};
+ghost use Rattle.pm_view.specs.Steps.Step.{Draw};
 ghost use Rattle.pm_world.specs.Sequences.{IsMade};
 ghost use Rattle.pm_tx.specs.Ending.{IsReadyForAny};
 ghost use Rattle.pm_tx.specs.Sequences.{ends_call};
 
-use pm_objects::{Operation, Value};
+use pm_objects::{Oid, Operation, Refusal, Value};
 use pm_world::{Lane, LawfulMem};
 
 /// Tells the operation that ends the open call, and draws the call's number.
@@ -15,6 +19,33 @@ pub fn end_call<M: LawfulMem>(lane: &mut Lane<M>, operation: &Operation, reply: 
     ensures else_same { lane.new ≡ record lane.old { memory = lane.new.memory; drawn = lane.new.drawn; last = lane.new.last } }
 {
     lane.memory.tell(operation, reply);
+    draw_number(lane);
+}
+
+/// Tells the write whose refusal ends the open call, and draws the call's number.
+pub fn end_write<M: LawfulMem>(
+    lane: &mut Lane<M>,
+    id: Oid,
+    off: u64,
+    bytes: &[u8],
+    refusal: Refusal,
+)
+    requires ready { IsReadyForAny (M.at lane.old.memory) (ends_call (Write id off bytes.now) (Some (Refused refusal))) }
+    ensures made { IsMade (M.at lane.old.memory) (M.at lane.new.memory) (ends_call (Write id off bytes.now) (Some (Refused refusal)) lane.new.last) }
+    ensures drawn { lane.new.drawn ≡ Some lane.new.last }
+    ensures else_same { lane.new ≡ record lane.old { memory = lane.new.memory; drawn = lane.new.drawn; last = lane.new.last } }
+{
+    lane.memory.tell_write(id, off, bytes, Some(refusal));
+    draw_number(lane);
+}
+
+/// Draws the open call's number.
+fn draw_number<M: LawfulMem>(lane: &mut Lane<M>)
+    requires may { (n : ℕ) → M.can lane.old.memory (Draw n) }
+    ensures made { Made (M.at lane.old.memory) (M.at lane.new.memory) (Draw lane.new.last) }
+    ensures drawn { lane.new.drawn ≡ Some lane.new.last }
+    ensures else_same { lane.new ≡ record lane.old { memory = lane.new.memory; drawn = lane.new.drawn; last = lane.new.last } }
+{
     let number = lane.memory.draw();
     lane.drawn = Some(number);
     lane.last = number;

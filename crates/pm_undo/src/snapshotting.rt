@@ -41,6 +41,7 @@ pub fn snapshot<M: LawfulMem>(lane: &mut Lane<M>, place: u64, len: u64) -> Resul
     ensures words { IfOk result (λ count. count ≡ length (new_words (words_in lane.old.records.items) (covered_words place len))) }
     ensures recorded { OnOk result (lane.new.records.items ≡ lane.old.records.items ++ plan_of lane.old.records.items place len) }
     ensures room { OnOk result (length lane.old.records.items + length (plan_of lane.old.records.items place len) ≤ 64) }
+    ensures stopped_room { result ≡ Err refusal.Stopped → length lane.old.records.items + length (plan_of lane.old.records.items place len) ≤ 64 }
     ensures full { result ≡ Err refusal.LogFull → 64 < length lane.old.records.items + length (plan_of lane.old.records.items place len) }
     ensures unchanged { result ≡ Err refusal.LogFull → lane.new ≡ lane.old }
     ensures stopped { result ≡ Err refusal.Stopped → IsStopped (M.at lane.old.memory) (M.at lane.new.memory) (snapshots lane.old.records.items place len) }

@@ -1,4 +1,4 @@
-ghost use Rattle.std.specs.Prelude.{ℕ, Some, None, length};
+ghost use Rattle.std.specs.Prelude.{ℕ, Some, length};
 ghost use Rattle.pm_objects.specs.declared.calls.Operation.TheVariants.{Begin, Read, Write};
 ghost use Rattle.pm_objects.specs.declared.history.Value.TheVariants.{Bytes};
 ghost use Rattle.std.specs.Option.{option_copied};
@@ -25,10 +25,10 @@ pub trait LawfulMem: LaneSync {
         requires { Self.can self.old (Tell (Begin wants.now) (reply_of refusal)) }
         ensures { Made (Self.at self.old) (Self.at self.new) (Tell (Begin wants.now) (reply_of refusal)) };
 
-    /// Tells a write that was done, its bytes being lent likewise.
-    fn tell_write(&mut self, id: Oid, off: u64, bytes: &[u8])
-        requires { Self.can self.old (Tell (Write id off bytes.now) None) }
-        ensures { Made (Self.at self.old) (Self.at self.new) (Tell (Write id off bytes.now) None) };
+    /// Tells a write, or why it was refused, its bytes being lent likewise.
+    fn tell_write(&mut self, id: Oid, off: u64, bytes: &[u8], refusal: Option<Refusal>)
+        requires { Self.can self.old (Tell (Write id off bytes.now) (reply_of refusal)) }
+        ensures { Made (Self.at self.old) (Self.at self.new) (Tell (Write id off bytes.now) (reply_of refusal)) };
 
     /// Tells a read that was done, with the bytes that it replied, likewise.
     fn tell_read(&mut self, id: Oid, off: u64, bytes: &[u8])

@@ -10,7 +10,7 @@ impl LawfulMem for SoloMem {
 
     fn tell_begin(&mut self, _wants: &[Want], _refusal: Option<Refusal>) {}
 
-    fn tell_write(&mut self, _id: Oid, _off: u64, _bytes: &[u8]) {}
+    fn tell_write(&mut self, _id: Oid, _off: u64, _bytes: &[u8], _refusal: Option<Refusal>) {}
 
     fn tell_read(&mut self, _id: Oid, _off: u64, _bytes: &[u8]) {}
 

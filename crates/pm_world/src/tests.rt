@@ -36,7 +36,7 @@ fn tells(rt: HostRuntime) -> Result<(), Fail> {
     let mut lane = fresh(rt.alloc())?;
     lane.memory.tell(&Operation::Publish, None);
     lane.memory.tell_begin(&[], None);
-    lane.memory.tell_write(Oid::NULL, 0, &[1, 2]);
+    lane.memory.tell_write(Oid::NULL, 0, &[1, 2], None);
     lane.memory.tell_read(Oid::NULL, 0, &[1, 2]);
     assert_eq!(rt; [lane.memory.number_seen(), lane.calls()], [0, 0]);
     Ok(())

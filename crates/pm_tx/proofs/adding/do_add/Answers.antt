@@ -4,10 +4,10 @@ use Rattle.pm_undo.specs.Sequences.{snapshots}
 use Rattle.pm_view.specs.Steps.Step.{Tell}
 use Rattle.pm_world.specs.Sequences.{one}
 use Rattle.pm_world.proofs.Sequencing.{allowed_one, ready_then, runs_err, runs_then}
-use Rattle.pm_tx.proofs.AddsAtWork.{lane_adds_first, lane_has_added, lane_may_add, lane_overfills}
+use Rattle.pm_tx.proofs.AddsAtWork.{lane_adds_first, lane_has_added, lane_may_add, lane_overfills, lane_stops}
 use Rattle.pm_tx.proofs.GoingOn.{fields_same}
 use Rattle.pm_tx.proofs.Objects.{range_is_low}
-use Rattle.pm_tx.proofs.Telling.{is_ready, runs_made, was_made}
+use Rattle.pm_tx.proofs.Telling.{is_ready, runs_made, was_made, was_stopped}
 use Rattle.pm_tx.specs.Ranges.{adds_range}
 use Rattle.pm_tx.proofs.adding.do_add.Goals as goal
 
@@ -65,3 +65,15 @@ returns-clause-done g c o v work can =
     (c.tell_added.ensures _
     (was_made (g.M.LaneMem.at c.args.lane.now.memory) (g.M.LaneMem.at c.snapshot.new.lane.memory) (snapshots c.args.lane.now.records.items (c.args.id.off + c.args.off) c.args.len) tt c.in_ok-count.ensures.made v work.seen.memory
     (lane_adds_first o g.M.LaneMem.at c.args.lane.now v work c.args.id c.args.off c.args.len can room))).0
+
+pub returns-in_err-count-clause-stops : goal.returns-in_err-count-clause-stops
+unfolding adds_range
+returns-in_err-count-clause-stops g c e o v work can =
+    let old = g.M.LaneMem.at c.args.lane.now.memory in
+    let new = g.M.LaneMem.at c.snapshot.new.lane.memory in
+    let s = c.snapshot.ensures.stopped (search rules) in
+    let room = c.snapshot.ensures.stopped_room (search rules) in
+    lane_stops o g.M.LaneMem.at c.args.lane.now v work c.args.id c.args.off c.args.len can room new
+    (was_stopped old new (adds_range c.args.lane.now.records.items c.args.id c.args.off c.args.len) s.0
+    (runs_err (Unit {0}) old new (snapshots c.args.lane.now.records.items (c.args.id.off + c.args.off) c.args.len) (one (Tell (AddRange c.args.id c.args.off c.args.len) None)) s.0 (Err s.0) (search rules) s.1) v work.seen.memory
+    (lane_may_add o g.M.LaneMem.at c.args.lane.now v work c.args.id c.args.off c.args.len can room))

@@ -18,7 +18,7 @@ pub load-size-requires : goal.load-size-requires
 load-size-requires g c found =
     let r = c.requires.work in
     let holds = subst (λ locks. list_any (is_lock_of c.in-Some.line c.args.write) locks ≡ true) c.as_slice.ensures.value c.in-Some.ensures.some.2 in
-    g.met.M.LawfulMem.meets c.args.lane.now.memory r.1 (Load (8 * c.in-Some.line + 1) found) r.2.seen.memory (size_in_pool r.0 g.M.LaneMem.at c.args.lane.now r.1 r.2 c.in-Some.line c.args.write holds)
+    g.met.M.LawfulMem.meets c.args.lane.now.memory r.1.0 (Load (8 * c.in-Some.line + 1) found) r.1.1.seen.memory (size_in_pool r.0 g.M.LaneMem.at c.args.lane.now r.1.0 r.1.1 c.in-Some.line c.args.write holds)
 
 pub returns-then-off-size-clause-out_of_range : goal.returns-then-off-size-clause-out_of_range
 returns-then-off-size-clause-out_of_range g c e o v work =

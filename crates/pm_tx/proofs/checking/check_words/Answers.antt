@@ -6,19 +6,19 @@ use Rattle.pm_tx.proofs.checking.check_words.Goals as goal
 pub overflow_add-id : goal.overflow_add-id
 overflow_add-id g c =
     let r = c.requires.work in
-    let t = c.in_ok-check_range.ensures.ok r.0 r.1 r.2 in
+    let t = c.in_ok-check_range.ensures.ok r.0 r.1.0 r.1.1 in
     let low = range_is_low t.view t.works.objects c.args.id c.args.off c.args.len c.args.write t.holds r.0 t.works.sound t.works.opening t.works.zones in omega (arith, low)
 
 pub learn-requires-clause-range : goal.learn-requires-clause-range
 learn-requires-clause-range g c =
     let r = c.requires.work in
-    let t = c.in_ok-check_range.ensures.ok r.0 r.1 r.2 in
+    let t = c.in_ok-check_range.ensures.ok r.0 r.1.0 r.1.1 in
     range_is_low t.view t.works.objects c.args.id c.args.off c.args.len c.args.write t.holds r.0 t.works.sound t.works.opening t.works.zones
 
 pub learn-requires-clause-inside : goal.learn-requires-clause-inside
 learn-requires-clause-inside g c =
     let r = c.requires.work in
-    let t = c.in_ok-check_range.ensures.ok r.0 r.1 r.2 in
+    let t = c.in_ok-check_range.ensures.ok r.0 r.1.0 r.1.1 in
     (t.view, (t.works.seen.memory, covered_in_pool t.view t.works.objects c.args.id c.args.off c.args.len c.args.write t.holds r.0 t.works.sound t.works.opening))
 
 pub returns-clause-ok : goal.returns-clause-ok

@@ -8,13 +8,13 @@ use Rattle.pm_tx.proofs.checking.check_write.Goals as goal
 pub overflow_add-id : goal.overflow_add-id
 overflow_add-id g c =
     let r = c.requires.work in
-    let t = c.in_ok-check_range.ensures.ok r.0 r.1 r.2 in
+    let t = c.in_ok-check_range.ensures.ok r.0 r.1.0 r.1.1 in
     let low = range_is_low t.view t.works.objects c.args.id c.args.off c.args.len true t.holds r.0 t.works.sound t.works.opening t.works.zones in omega (arith, low)
 
 pub are_recorded-requires : goal.are_recorded-requires
 are_recorded-requires g c =
     let r = c.requires.work in
-    let t = c.in_ok-check_range.ensures.ok r.0 r.1 r.2 in
+    let t = c.in_ok-check_range.ensures.ok r.0 r.1.0 r.1.1 in
     record { range = range_is_low t.view t.works.objects c.args.id c.args.off c.args.len true t.holds r.0 t.works.sound t.works.opening t.works.zones }
 
 pub returns-in_err-check_range-clause-not_locked : goal.returns-in_err-check_range-clause-not_locked

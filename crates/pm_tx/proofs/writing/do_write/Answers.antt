@@ -1,11 +1,12 @@
-use Rattle.std.proofs.Common.{◌+◌, None, length, refl, true, arith}
+use Rattle.std.proofs.Common.{◌+◌, None, length, refl, true, Err, arith, rules}
 use Rattle.pm_objects.specs.declared.calls.Operation.TheVariants.{Write}
 use Rattle.pm_view.specs.Steps.Step.{Tell}
 use Rattle.pm_world.specs.Sequences.{one}
 use Rattle.pm_world.proofs.Sequencing.{allowed_one, ready_then, runs_err, runs_then}
+use Rattle.pm_tx.proofs.Committed.{on_err}
 use Rattle.pm_tx.proofs.Objects.{range_is_low}
-use Rattle.pm_tx.proofs.Telling.{is_ready, runs_made, was_made}
-use Rattle.pm_tx.proofs.WritesAtWork.{write_is_made, write_may_be_made, writes_first}
+use Rattle.pm_tx.proofs.Telling.{is_ready, runs_made, was_made, was_stopped}
+use Rattle.pm_tx.proofs.WritesAtWork.{write_is_made, write_may_be_made, write_stops, writes_first}
 use Rattle.pm_tx.specs.Ranges.{writes_range}
 use Rattle.pm_tx.specs.Sequences.{writes}
 use Rattle.pm_tx.proofs.writing.do_write.Goals as goal
@@ -50,3 +51,16 @@ returns-clause-done g c o v work can =
     write_is_made o g.M.LaneMem.at c.args.lane.now v work c.args.id c.args.off c.args.bytes.now can (λ i. let e = c.type_inv.bytes i in omega (arith, e)) _
     (record { pool = refl; locks = refl; level = refl; stage = refl; error = refl; drawn = refl; last = refl; stopped = refl }) refl
     (c.tell_write.ensures _ (was_made (g.M.LaneMem.at c.args.lane.now.memory) (g.M.LaneMem.at c.write_words.new.mem) (writes (c.args.id.off + c.args.off) c.args.bytes.now) tt c.in_ok-write_words.ensures v work.seen.memory first)).0
+
+pub returns-in_err-write_words-clause-stops : goal.returns-in_err-write_words-clause-stops
+unfolding writes_range
+returns-in_err-write_words-clause-stops g c =
+    let old = g.M.LaneMem.at c.args.lane.now.memory in
+    let new = g.M.LaneMem.at c.write_words.new.mem in
+    let stopped = c.in_err-write_words.field-0.0 in
+    on_err _ c.from_residual.result
+    (λ o v work can.
+    write_stops o g.M.LaneMem.at c.args.lane.now v work c.args.id c.args.off c.args.bytes.now can new
+    (was_stopped old new (writes_range c.args.id c.args.off c.args.bytes.now) stopped
+    (runs_err (Unit {0}) old new (writes (c.args.id.off + c.args.off) c.args.bytes.now) (one (Tell (Write c.args.id c.args.off c.args.bytes.now) None)) stopped (Err stopped) (search rules) c.in_err-write_words.ensures)
+    v work.seen.memory (write_may_be_made o g.M.LaneMem.at c.args.lane.now v work c.args.id c.args.off c.args.bytes.now can)))

@@ -58,3 +58,9 @@ returns-in-Ok-clause-room g c =
     let is : c.as_slice-2.result.now ≡ plan_of c.args.lane.now.records.items c.args.place c.args.len =
     c.as_slice-2.ensures.value ∙ (c.in-Some.ensures.some ∙ ap (λ (spans : List Span). plan_of spans c.args.place c.args.len) c.as_slice.ensures.value) in
     let room = c.in-Some.ensures.room in let a = ap length c.as_slice.ensures.value in let b = ap length is in let d = ap length c.as_slice-2.ensures.value in omega (arith, room, a, b, d)
+
+pub returns-in-Err-clause-stopped_room : goal.returns-in-Err-clause-stopped_room
+returns-in-Err-clause-stopped_room g c e =
+    let is : c.as_slice-2.result.now ≡ plan_of c.args.lane.now.records.items c.args.place c.args.len =
+    c.as_slice-2.ensures.value ∙ (c.in-Some.ensures.some ∙ ap (λ (spans : List Span). plan_of spans c.args.place c.args.len) c.as_slice.ensures.value) in
+    let room = c.in-Some.ensures.room in let a = ap length c.as_slice.ensures.value in let b = ap length is in let d = ap length c.as_slice-2.ensures.value in omega (arith, room, a, b, d)

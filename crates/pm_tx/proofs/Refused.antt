@@ -1,0 +1,105 @@
+-- A call on a range that is refused gives up the open call, unless the lane stops before.
+use Rattle.std.proofs.Common.{◌≡◌, ◌≢◌, ◌⊎◌, ⊎_elim, inl, inr, List, None, Some, true, refl, sym, ◌∙◌, subst}
+use Rattle.pm_crash.proofs.GivenUp.{refusal_gives_up}
+use Rattle.pm_crash.specs.Operations.{IsReason}
+use Rattle.pm_model.specs.Checks.{Range, range_of}
+use Rattle.pm_objects.specs.declared.calls.Operation.{Operation}
+use Rattle.pm_objects.specs.declared.history.TxErr.TheVariants as error
+use Rattle.pm_objects.specs.declared.history.Value.TheVariants.{Refused}
+use Rattle.pm_objects.specs.declared.refusal.Refusal.{Refusal}
+use Rattle.pm_objects.specs.declared.refusal.Refusal.TheVariants as refusal
+use Rattle.pm_view.specs.View.{View}
+use Rattle.pm_world.specs.Opening.{Opening}
+use Rattle.pm_world.specs.Sequences.{Sequence}
+use Rattle.pm_world.specs.declared.lane.Lane.{Lane}
+use Rattle.pm_world.specs.declared.lane.Span.{Span}
+use Rattle.pm_tx.proofs.Checked.{looked_so}
+use Rattle.pm_tx.proofs.GivenUp.{undrawn_lane}
+use Rattle.pm_tx.specs.AtWork.{IsAtWork}
+use Rattle.pm_tx.specs.Calls.{HasLooked, IsGivenUpFor, IsStoppedAt, IsStoppedFor}
+use Rattle.pm_tx.specs.Ending.{GivesUpBy, IsEndedBy, IsLaneAtWork, IsStoppedIn}
+use Rattle.pm_tx.specs.Learning.{HasChecked}
+use Rattle.pm_tx.specs.Ranges.{StopsUndrawn}
+use Rattle.pm_tx.specs.Sequences.{gives_up}
+
+-- a refusal is that of a lane that stopped, or another
+stopped_or_not : (r : Refusal) → (r ≡ refusal.Stopped) ⊎ (r ≢ refusal.Stopped)
+stopped_or_not refusal.Stopped = inl refl
+stopped_or_not r = inr (λ e. absurd cc)
+
+-- a check that found no lock, or no end, found no stop
+pub not_stopped : (r : Refusal) → (r ≡ refusal.NotLocked) ⊎ (r ≡ refusal.OutOfRange) → r ≢ refusal.Stopped
+not_stopped r cause stopped =
+    ⊎_elim (λ (e : r ≡ refusal.NotLocked). let clash : refusal.NotLocked ≡ refusal.Stopped = sym e ∙ stopped in absurd cc) (λ (e : r ≡ refusal.OutOfRange). let clash : refusal.OutOfRange ≡ refusal.Stopped = sym e ∙ stopped in absurd cc) cause
+
+-- a refusal for the operation's reason gives the call up
+pub gives_up_by_reason : {M : Type 0} (at : M → View → Type 0) (lane : Lane M) (o : Opening) (v : View) → IsAtWork o at lane v → (op : Operation) (range : Range) (r : Refusal) → range_of op ≡ Some range → IsReason v op range r
+    → GivesUpBy v op (Some (Refused r)) (error.Refused r)
+gives_up_by_reason at lane o v is op range r of_range reason next tells back =
+    refusal_gives_up v next op range r lane.level is.level is.is_open (record { is_range = of_range; reason = reason; tells = tells; takes_back = back })
+
+module _ {M : Type 0} (at : M → View → Type 0) (old mid new : Lane M) (op : Operation) (range : Range) (of_range : range_of op ≡ Some range) (r answer : Refusal) where
+  -- what a refusal leaves, and what a stop does
+  abbrev Ends : List Span → Type 0
+  Ends spans = answer ≢ refusal.Stopped → (o : Opening) (v : View) → IsAtWork o at mid v → GivesUpBy v op (Some (Refused r)) (error.Refused r) → IsEndedBy at new v (gives_up spans op (Some (Refused r)) new.last) op (Some (Refused r))
+
+  abbrev Stops : List Span → Type 0
+  Stops spans =
+      r ≢ refusal.Stopped → answer ≡ refusal.Stopped → (o : Opening) (v : View) → IsAtWork o at mid v → GivesUpBy v op (Some (Refused r)) (error.Refused r)
+      → IsStoppedIn at new v (gives_up spans op (Some (Refused r)) new.last) op (Some (Refused r))
+
+  -- the check found the reason
+  abbrev Finds : Type 0
+  Finds = r ≢ refusal.Stopped → (o : Opening) (v : View) → IsAtWork o at old v → HasChecked o at mid v (λ w. IsReason w op range r)
+
+  -- some view is at work still
+  pub still_at_work : IsLaneAtWork at old → Finds → r ≢ refusal.Stopped → IsLaneAtWork at mid
+  still_at_work is finds stays = let t = finds stays is.0 is.1.0 is.1.1 in (is.0, (t.view, t.works))
+
+  -- what is answered is the reason, where the lane did not stop
+  abbrev Answers : Type 0
+  Answers = (r ≡ refusal.Stopped → answer ≡ refusal.Stopped) × (answer ≢ refusal.Stopped → answer ≡ r)
+
+  module _ (finds : Finds) (kept : r ≢ refusal.Stopped → mid.records.items ≡ old.records.items) (answers : Answers) where
+    pub given_up_for : Ends mid.records.items → answer ≢ refusal.Stopped → (o : Opening) (v : View) → IsAtWork o at old v → HasLooked v (λ w. IsGivenUpFor at new old.records.items op range answer w)
+    given_up_for ends stays o v work =
+        let goes : r ≢ refusal.Stopped = λ e. stays (answers.0 e) in
+        subst (λ (a : Refusal). HasLooked v (λ w. IsGivenUpFor at new old.records.items op range a w)) (sym (answers.1 stays))
+        (looked_so o at mid v (λ w. IsReason w op range r) (λ w. IsGivenUpFor at new old.records.items op range r w) (finds goes o v work)
+        (λ w works reason. record {
+          reason = reason;
+          ended =
+              subst (λ (spans : List Span). IsEndedBy at new w (gives_up spans op (Some (Refused r)) new.last) op (Some (Refused r))) (kept goes) (ends stays o w works (gives_up_by_reason at mid o w works op range r of_range reason));
+        }))
+
+    pub stopped_for : Stops mid.records.items → r ≢ refusal.Stopped → answer ≡ refusal.Stopped → (o : Opening) (v : View) → IsAtWork o at old v → HasLooked v (λ w. IsStoppedFor at new old.records.items op range w)
+    stopped_for stops goes stopped o v work =
+        looked_so o at mid v (λ w. IsReason w op range r) (λ w. IsStoppedFor at new old.records.items op range w) (finds goes o v work)
+        (λ w works reason. record {
+          refusal = r;
+          reason = reason;
+          stopped =
+              subst (λ (spans : List Span). IsStoppedIn at new w (gives_up spans op (Some (Refused r)) new.last) op (Some (Refused r))) (kept goes) (stops goes stopped o w works (gives_up_by_reason at mid o w works op range r of_range reason));
+        })
+
+    module _ (steps : Sequence) (cut : r ≡ refusal.Stopped → (o : Opening) (v : View) → IsAtWork o at old v → HasLooked v (λ w. StopsUndrawn (at mid.memory) w steps)) (at_once : r ≡ refusal.Stopped → new ≡ record mid { stopped = true }) (drawn : mid.drawn ≡ old.drawn) where
+      -- the lane stopped in the steps of the operation
+      stopped_in_steps : r ≡ refusal.Stopped → (o : Opening) (v : View) → IsAtWork o at old v → HasLooked v (λ w. IsStoppedAt at new old.records.items op range steps w)
+      stopped_in_steps e o v work =
+          let t = cut e o v work in
+          let s : StopsUndrawn (at mid.memory) t.view steps = t.holds in
+          let in_steps : IsStoppedIn at (record mid { stopped = true }) t.view steps op None = record {
+            ready = s.ready;
+            draws = s.draws;
+            stops = s.stops;
+            stopped = refl;
+            drawn = drawn ∙ (undrawn_lane at old v work.seen work.working.undrawn ∙ sym s.number);
+            came = record { told = inl s.number; entries = inl (s.number, s.entries) };
+          } in
+          record { loads = t.loads; view = t.view; looks = t.looks; holds = inl (subst (λ (lane : Lane M). IsStoppedIn at lane t.view steps op None) (sym (at_once e)) in_steps) }
+
+      pub stopped_at : Stops mid.records.items → answer ≡ refusal.Stopped → (o : Opening) (v : View) → IsAtWork o at old v → HasLooked v (λ w. IsStoppedAt at new old.records.items op range steps w)
+      stopped_at stops stopped o v work = ⊎_elim (λ (e : r ≡ refusal.Stopped). stopped_in_steps e o v work)
+          (λ (goes : r ≢ refusal.Stopped).
+          let t = stopped_for stops goes stopped o v work in record { loads = t.loads; view = t.view; looks = t.looks; holds = inr t.holds })
+          (stopped_or_not r)
