@@ -7,3 +7,4 @@ pub mod Ranges
 pub mod Calls
 pub mod Stages
 pub mod Beginning
+pub mod Generations
