@@ -50,5 +50,7 @@ pub mod AloneCourse
 pub mod AloneImages
 pub mod FirstLog
 pub mod TornSlots
+pub mod Raises
 pub mod Raising
+pub mod LeadingOn
 pub mod SeenAlone

@@ -25,10 +25,7 @@ use Rattle.pm_crash.proofs.AloneCourse.{StandsAlone, due_along, grows_along, num
 use Rattle.pm_crash.proofs.AloneImages.{own_fits}
 use Rattle.pm_crash.proofs.AloneMemory.{load_words}
 use Rattle.pm_crash.proofs.FirstLog.{behind}
-
--- by how much a step raises it
-abbrev raise_by : Step → ℕ
-raise_by s = cond (is_raise s) 1 0
+use Rattle.pm_crash.proofs.Raises.{raise_by}
 
 begun_generation : (phase : Phase) (v : View) → generation_of (begun phase v) ≡ generation_of v
 begun_generation Idle v = refl

@@ -9,3 +9,4 @@ pub mod Stages
 pub mod Beginning
 pub mod Plans
 pub mod Begins
+pub mod Generations

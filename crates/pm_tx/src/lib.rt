@@ -15,6 +15,7 @@ mod committing;
 mod ending;
 mod ending_level;
 mod finding;
+mod generations;
 mod giving_up;
 mod laws;
 mod learning;
@@ -35,6 +36,11 @@ pub use beginning::{begin, open_call, refuse_call};
 pub use checking::{check_range, check_words, check_work, check_write};
 pub use committing::commit;
 pub use ending_level::end;
+pub use generations::{
+    a_call_given_up_ends_one_generation, a_commit_ends_one_generation,
+    a_first_generation_is_the_openings, a_generation_lasts_while_a_call_works,
+    a_generation_rises_with_its_stores, steps_that_may_be_made_lead_on,
+};
 pub use giving_up::give_up;
 pub use laws::a_call_may_be_taken_back;
 pub use learning::learn;

@@ -1,0 +1,96 @@
+-- A commit ends the generation once at most, and once the number is drawn.
+use Rattle.std.proofs.Common.{◌≡◌, inl, inr, ⊎_elim, ℕ, ◌+◌, true, false, List, [], ◌∷◌, is_some, map, take, None, refl, sym, ap, ◌∙◌, subst, arith}
+use Rattle.pm_crash.proofs.Raises.{raise_by}
+use Rattle.pm_crash.specs.Alone.{raises}
+use Rattle.pm_objects.specs.declared.calls.Operation.TheVariants.{Commit}
+use Rattle.pm_undo.specs.Sequences.{retires}
+use Rattle.pm_undo.specs.Working.{IsWorking}
+use Rattle.pm_view.specs.Log.{Log, Phase, Recorded, log_drawn, phase_drawn}
+use Rattle.pm_view.specs.Log.Phase.{Drawn, Retiring}
+use Rattle.pm_view.specs.Steps.Step.{Draw, Tell}
+use Rattle.pm_view.specs.View.{View}
+use Rattle.pm_view.specs.Views.{after, after_all}
+use Rattle.pm_world.specs.Lanes.{span_of}
+use Rattle.pm_world.specs.Sequences.{in_turn, nothing, one, settles}
+use Rattle.pm_world.specs.declared.lane.Span.{Span}
+use Rattle.pm_tx.proofs.Courses.{Course, course_in_turn, course_nothing, course_of_kind, course_one, course_weaker, throughout_at}
+use Rattle.pm_tx.proofs.Retirement.{HasRetired, IsBeside, IsSteady, Retires, Stands, beside_keeps, log_ended, quiet_beside, retires_course, steady_drawn, steady_open}
+use Rattle.pm_tx.proofs.StepKinds.{only_one, only_settles}
+use Rattle.pm_tx.specs.Generations.{IsCommitting}
+use Rattle.pm_tx.specs.Sequences.{commits, decides, ends_call, retires_any}
+
+module _ (v : View) (lane : v.lane ≡ 0) (working : IsWorking v) where
+  abbrev I : ℕ → View → Type 0
+  I = IsCommitting v
+
+  -- anything
+  abbrev Any : ℕ → View → Type 0
+  Any r w = Unit {0}
+
+  abbrev Before : ℕ → View → Type 0
+  Before = Stands 0 v.log false
+
+  abbrev log_then : Log
+  log_then = record v.log { phase = phase_drawn v.log.records v.log.entries }
+
+  abbrev Then : ℕ → View → Type 0
+  Then = Stands 0 log_then true
+
+  before : (r : ℕ) (w : View) → Before r w → I r w
+  before r w p = inl (p.0, inl (ap (λ (l : Log). l.phase) p.2 ∙ working.is_open))
+
+  then : (r : ℕ) (w : View) → Then r w → I r w
+  then r w p = inl (p.0, inr (ap (λ (l : Log). l.phase) p.2))
+
+  between : (r : ℕ) (w : View) → Retires true r w → I r w
+  between r w p = inr (p.0, p.3, inl p.2)
+
+  behind : (r : ℕ) (w : View) → HasRetired true r w → I r w
+  behind r w p = inr (p.0, p.2, ⊎_elim (λ (still : w.log.phase ≡ Retiring). inl still) (λ (over : w.log ≡ log_ended true). inr (ap (λ (l : Log). l.phase) over)) p.1)
+
+  open_steady : IsSteady v.log.phase
+  open_steady = subst IsSteady (sym working.is_open) steady_open
+
+  drawn : (n r : ℕ) (w : View) → Before r w → Then (r + raise_by (Draw n)) (after w (Draw n))
+  drawn n r w p =
+      let none = p.0 in (
+        (let e : r + 0 ≡ 0 = omega (arith, none) in e),
+        p.1,
+        ap (λ (l : Log). log_drawn l.phase l) p.2 ∙ ap (λ (phase : Phase). log_drawn phase v.log) working.is_open,
+        refl,
+      )
+
+  tail : (records : List Recorded) → v.log.records ≡ records → Course I Then (retires_any (map span_of records)) Any
+  unfolding retires_any
+  tail [] are = course_weaker I Then Then Any nothing (λ r w p. tt) (course_nothing I Then then)
+  tail (r ∷ records) are =
+      let phase : log_then.phase ≡ Drawn = ap (λ rs. phase_drawn rs v.log.entries) are in
+      course_weaker I Then (HasRetired true) Any retires (λ r w p. tt) (retires_course I log_then true (subst IsSteady (sym phase) steady_drawn) then between behind)
+
+  abbrev spans : List Span
+  spans = map span_of v.log.records
+
+  decides_course : (n : ℕ) → Course I Before (decides spans n) Any
+  unfolding decides ends_call
+  decides_course n =
+      course_in_turn I Before Then Any (in_turn (one (Tell Commit None)) (one (Draw n))) (retires_any spans)
+      (course_in_turn I Before Before Then (one (Tell Commit None)) (one (Draw n))
+      (course_of_kind I IsBeside Before before (λ r w p. p.1) (beside_keeps 0 v.log false open_steady) (one (Tell Commit None)) (only_one IsBeside (Tell Commit None) tt))
+      (course_one I Before Then (Draw n) before then (drawn n)))
+      (tail v.log.records refl)
+
+  commits_course : (n : ℕ) → Course I Before (commits spans n) Any
+  unfolding commits
+  commits_course n =
+      course_in_turn I Before Before Any settles (decides spans n)
+      (course_of_kind I IsBeside Before before (λ r w p. p.1) (beside_keeps 0 v.log false open_steady) settles (only_settles IsBeside quiet_beside))
+      (decides_course n)
+
+  pub commits_so : (n k : ℕ) → I (raises (take k (commits spans n v))) (after_all v (take k (commits spans n v)))
+  commits_so n k =
+      subst (λ r. I r (after_all v (take k (commits spans n v)))) (let e : 0 + raises (take k (commits spans n v)) ≡ raises (take k (commits spans n v)) = omega arith in e)
+      (throughout_at I 0 v (commits spans n v) k (commits_course n 0 v (refl, lane, refl, ap is_some working.undrawn)).0)
+
+-- the same of the records as the lane has them
+pub commits_of : (v : View) (spans : List Span) (n k : ℕ) → v.lane ≡ 0 → IsWorking v → spans ≡ map span_of v.log.records → IsCommitting v (raises (take k (commits spans n v))) (after_all v (take k (commits spans n v)))
+commits_of v spans n k lane working are = subst (λ (s : List Span). IsCommitting v (raises (take k (commits s n v))) (after_all v (take k (commits s n v)))) (sym are) (commits_so v lane working n k)

@@ -1,0 +1,106 @@
+-- While a lane's first generation lasts, and as it ends, its log and its records are of the opening's.
+use Rattle.std.proofs.Common.{◌≡◌, inl, inr, ℕ, ◌+◌, ◌-◌, false, List, [], ◌∷◌, take, None, refl, sym, ap, ◌∙◌, subst, arith}
+use Rattle.std.proofs.lemmas.Bool.{false≢true}
+use Rattle.std.proofs.lemmas.Option.{none-some}
+use Rattle.pm_crash.specs.Alone.{GrowsFirst, raises}
+use Rattle.pm_image.specs.Logs.{generation_word}
+use Rattle.pm_view.specs.Log.{Final, Log, Phase, Recorded, no_log, phase_drawn}
+use Rattle.pm_view.specs.Log.Phase.{Idle, Open, Drawn, Sealing, Applying, Clearing, Retiring}
+use Rattle.pm_view.specs.Steps.{Step}
+use Rattle.pm_view.specs.View.{View}
+use Rattle.pm_view.specs.Views.{after_all}
+use Rattle.pm_world.specs.Opening.{Opening}
+use Rattle.pm_world.specs.Records.{generation_of, records_generation}
+use Rattle.pm_world.specs.Sequences.{Ready}
+use Rattle.pm_tx.proofs.ReadyGenerations.{looks_generation, raised_when_ready, ready_first_of}
+use Rattle.pm_tx.proofs.Unended.{unended_along}
+use Rattle.pm_tx.specs.Generations.{is_ending, IsCommitting, IsGivingUp, IsOfOpening}
+use Rattle.pm_tx.specs.Learning.{Looks}
+
+module _ (o : Opening) (w : View) where
+  grows_in : (p : Phase) → generation_of w ≡ generation_word o.words 0 → GrowsFirst o w p
+  grows_in Idle first = tt
+  grows_in (Open slot pair) first = inl first
+  grows_in Drawn first = tt
+  grows_in Sealing first = tt
+  grows_in (Applying applied) first = tt
+  grows_in Clearing first = tt
+  grows_in Retiring first = tt
+
+  grows_as : (p : Phase) → w.log.phase ≡ p → GrowsFirst o w p → GrowsFirst o w w.log.phase
+  grows_as p is grows = subst (GrowsFirst o w) (sym is) grows
+
+  drawn_generation : (records : List Recorded) (entries : List Final) → records_generation (phase_drawn records entries) w ≡ generation_of w
+  drawn_generation [] [] = refl
+  drawn_generation [] (e ∷ entries) = refl
+  drawn_generation (r ∷ records) entries = refl
+
+  unended_generation : (p : Phase) → is_ending p ≡ false → records_generation p w ≡ generation_of w
+  unended_generation Retiring unended = absurd (false≢true (sym unended))
+  unended_generation p unended = refl
+
+  -- while the generation is the opening's, and not ended
+  unended_first : is_ending w.log.phase ≡ false → generation_of w ≡ generation_word o.words 0 → IsOfOpening o w
+  unended_first unended first = record { grows = grows_in w.log.phase first; in_flight = λ n drawn flies. unended_generation w.log.phase unended ∙ first }
+
+  phase_first : (p : Phase) → w.log.phase ≡ p → records_generation p w ≡ generation_of w → generation_of w ≡ generation_word o.words 0 → IsOfOpening o w
+  phase_first p is same first = record {
+    grows = grows_in w.log.phase first;
+    in_flight = λ n drawn flies. ap (λ (q : Phase). records_generation q w) is ∙ (same ∙ first);
+  }
+
+  idle_first : w.log.phase ≡ Idle → IsOfOpening o w
+  idle_first is = record { grows = grows_as Idle is tt; in_flight = λ n drawn flies. absurd (flies is) }
+
+  retiring_first : w.log.phase ≡ Retiring → generation_of w ≡ generation_word o.words 0 + 1 → IsOfOpening o w
+  retiring_first is next = record {
+    grows = grows_as Retiring is tt;
+    in_flight = λ n drawn flies. ap (λ (q : Phase). records_generation q w) is ∙ (let e : generation_of w - 1 ≡ generation_word o.words 0 = omega (arith, next) in e);
+  }
+
+  emptied_first : w.log ≡ no_log (Open [] []) → w.number ≡ None → IsOfOpening o w
+  emptied_first is none = record {
+    grows = grows_as (Open [] []) (ap (λ (l : Log). l.phase) is) (inr (refl, ap (λ (l : Log). l.records) is));
+    in_flight = λ n drawn flies. absurd (none-some n (sym none ∙ drawn));
+  }
+
+  module _ (v : View) (r : ℕ) (first : generation_of w ≡ generation_word o.words 0 + r) where
+    none_yet : r ≡ 0 → generation_of w ≡ generation_word o.words 0
+    none_yet none = omega (arith, first, none)
+
+    once : r ≡ 1 → generation_of w ≡ generation_word o.words 0 + 1
+    once one = omega (arith, first, one)
+
+    pub committing_first : IsCommitting v r w → IsOfOpening o w
+    committing_first (inl (none, inl is)) = phase_first (Open [] []) is refl (none_yet none)
+    committing_first (inl (none, inr is)) = phase_first (phase_drawn v.log.records v.log.entries) is (drawn_generation v.log.records v.log.entries) (none_yet none)
+    committing_first (inr (one, number, inl is)) = retiring_first is (once one)
+    committing_first (inr (one, number, inr is)) = idle_first is
+
+    pub giving_up_first : IsGivingUp v r w → IsOfOpening o w
+    giving_up_first (inl (none, inl (is, records))) = phase_first (Open [] []) is refl (none_yet none)
+    giving_up_first (inl (none, inr (is, records))) = idle_first is
+    giving_up_first (inr (one, inl (is, number))) = retiring_first is (once one)
+    giving_up_first (inr (one, inr (inl (is, number)))) = emptied_first is number
+    giving_up_first (inr (one, inr (inr is))) = idle_first is
+
+module _ (o : Opening) (v : View) (steps : List Step) (k : ℕ) (lane : v.lane ≡ 0) (ready : Ready v steps) (first : generation_of v ≡ generation_word o.words 0) where
+  raised_first : generation_of (after_all v (take k steps)) ≡ generation_word o.words 0 + raises (take k steps)
+  raised_first = let e = raised_when_ready v (take k steps) lane (ready_first_of k v steps ready) in omega (arith, e, first)
+
+  pub commit_first : IsCommitting v (raises (take k steps)) (after_all v (take k steps)) → IsOfOpening o (after_all v (take k steps))
+  commit_first is = committing_first o (after_all v (take k steps)) v (raises (take k steps)) raised_first is
+
+  pub give_up_first : IsGivingUp v (raises (take k steps)) (after_all v (take k steps)) → IsOfOpening o (after_all v (take k steps))
+  give_up_first is = giving_up_first o (after_all v (take k steps)) v (raises (take k steps)) raised_first is
+
+  pub unraised_first : is_ending v.log.phase ≡ false → raises (take k steps) ≡ 0 → IsOfOpening o (after_all v (take k steps))
+  unraised_first unended none = unended_first o (after_all v (take k steps))
+      (unended_along v (take k steps) lane unended (ready_first_of k v steps ready) none)
+      (let e : generation_of (after_all v (take k steps)) ≡ generation_word o.words 0 = omega (arith, raised_first, none) in e)
+
+-- looks go on so
+pub looks_first : (o : Opening) (n : ℕ) (v w : View) → Looks n v w → is_ending v.log.phase ≡ false → generation_of v ≡ generation_word o.words 0 → IsOfOpening o w
+looks_first o n v w looks unended first =
+    let same = looks_generation n v w looks in
+    unended_first o w (ap (λ (log : Log). is_ending log.phase) same.1 ∙ unended) (same.0 ∙ first)

@@ -1,0 +1,109 @@
+-- Steps that may be made raise the generation by one with each store of it, and with nothing else.
+use Rattle.std.proofs.Common.{◌≡◌, ◌≢◌, ℕ, zero, suc, ◌+◌, ◌<◌, Bool, false, cond, eqb, List, [], ◌∷◌, take, length, set, slice_index, refl, sym, ap, ◌∙◌, subst, arith, eq-eqb, ne_eqb, get_or-set_same, get_or-set_other, ⊎_elim}
+use Rattle.std.proofs.lemmas.Bool.{cases_eq, or_left}
+use Rattle.std.proofs.lemmas.List.{set-get_or}
+use Rattle.std.specs.List.{list_any}
+use Rattle.pm_crash.proofs.Raises.{raise_by}
+use Rattle.pm_crash.specs.Alone.{is_raise, raises}
+use Rattle.pm_undo.proofs.Areas.{generation_in_area, generation_word}
+use Rattle.pm_view.proofs.SameLane.{same_lane-after}
+use Rattle.pm_view.specs.Area.{Part, area_word, is_in_area, part_of}
+use Rattle.pm_view.specs.Area.Part.{GenerationWord}
+use Rattle.pm_view.specs.Log.{Phase}
+use Rattle.pm_view.specs.Log.Phase.{Idle, Open, Drawn, Sealing, Applying, Clearing, Retiring}
+use Rattle.pm_view.specs.Steps.{Step}
+use Rattle.pm_view.specs.Steps.Step.{Load, Store, Or, And, Flush, Drain, TakeWrite, TakeRead, Raise, Give, ZoneTry, ZoneGive, Occupied, Occupy, Vacate, Draw, NumberSeen, StopSeen, SetStop, Tell}
+use Rattle.pm_view.specs.View.{View}
+use Rattle.pm_view.specs.Views.{after, after_all, begun}
+use Rattle.pm_world.specs.Lawful.{Allowed, StoreFits}
+use Rattle.pm_world.specs.Records.{generation_of}
+use Rattle.pm_world.specs.Sequences.{IsForeseen, Ready}
+use Rattle.pm_tx.specs.Learning.{Finds, Looks}
+
+begun_generation : (phase : Phase) (v : View) → generation_of (begun phase v) ≡ generation_of v
+begun_generation Idle v = refl
+begun_generation (Open slot pair) v = refl
+begun_generation Drawn v = refl
+begun_generation Sealing v = refl
+begun_generation (Applying applied) v = refl
+begun_generation Clearing v = refl
+begun_generation Retiring v = refl
+
+-- a store of the generation stores the next one
+fits_next : (v : View) (w y : ℕ) (p : Phase) → StoreFits v w y p GenerationWord → y ≡ generation_of v + 1
+fits_next v w y Idle fits = absurd fits
+fits_next v w y (Open slot pair) fits = fits.ends.next
+fits_next v w y Drawn fits = fits.next
+fits_next v w y Sealing fits = absurd fits
+fits_next v w y (Applying applied) fits = absurd fits
+fits_next v w y Clearing fits = absurd fits
+fits_next v w y Retiring fits = absurd fits
+
+module _ (v : View) (lane : v.lane ≡ 0) where
+  still : (s : Step) → is_raise s ≡ false → generation_of (after v s) ≡ generation_of v → generation_of (after v s) ≡ generation_of v + raise_by s
+  still s none same = same ∙ (let zero : raise_by s ≡ 0 = ap (λ (b : Bool). cond b 1 0) none in let e : generation_of v ≡ generation_of v + raise_by s = omega (arith, zero) in e)
+
+  stored : (w y : ℕ) → w < length v.words → StoreFits v w y v.log.phase (part_of v.lane w) → generation_of (after v (Store w y)) ≡ generation_of v + raise_by (Store w y)
+  stored w y inside fits = ⊎_elim
+      (λ (here : w ≡ 512).
+      let at : w ≡ area_word v.lane = omega (arith, here, lane) in
+      let part : part_of v.lane w ≡ GenerationWord = ap (part_of v.lane) at ∙ generation_word v.lane in
+      let next = fits_next v w y v.log.phase (subst (λ (p : Part). StoreFits v w y v.log.phase p) part fits) in
+      let one : raise_by (Store w y) ≡ 1 = ap (λ (b : Bool). cond b 1 0) (eq-eqb w 512 here) in
+      let is : generation_of (after v (Store w y)) ≡ y = ap (λ (i : ℕ). slice_index (after v (Store w y)).words i) (sym at) ∙ get_or-set_same v.words w y 0 inside in
+      let e : generation_of (after v (Store w y)) ≡ generation_of v + raise_by (Store w y) = omega (arith, is, next, one) in e)
+      (λ (differ : w ≢ 512). still (Store w y) (ne_eqb w 512 differ) (get_or-set_other v.words w (area_word v.lane) y 0 (λ e. differ (omega (arith, e, lane)))))
+      (cases_eq w 512)
+
+  raised_after : (s : Step) → Allowed v s → IsForeseen v s → generation_of (after v s) ≡ generation_of v + raise_by s
+  raised_after (Load w x) may found = still (Load w x) refl (ap (λ (words : List ℕ). slice_index words (area_word v.lane)) (ap (set v.words w) found.1 ∙ set-get_or v.words w 0))
+  raised_after (Store w y) may found = stored w y may.inside may.fits
+  raised_after (Or w bits found) may f = absurd may
+  raised_after (And w bits found) may f = absurd may
+  raised_after (Flush line) may found = still (Flush line) refl refl
+  raised_after Drain may found = still Drain refl refl
+  raised_after (TakeWrite line won) may found = still (TakeWrite line won) refl refl
+  raised_after (TakeRead line won) may found = still (TakeRead line won) refl refl
+  raised_after (Raise line won) may found = absurd may
+  raised_after (Give line) may found = still (Give line) refl refl
+  raised_after (ZoneTry zone won) may found = absurd may
+  raised_after (ZoneGive zone) may found = absurd may
+  raised_after (Occupied at found) may f = absurd may
+  raised_after (Occupy at bits won) may found = absurd may
+  raised_after (Vacate at bits) may found = absurd may
+  raised_after (Draw n) may found = still (Draw n) refl refl
+  raised_after (NumberSeen n) may found = still (NumberSeen n) refl (begun_generation v.log.phase v)
+  raised_after (StopSeen set) may found = still (StopSeen set) refl refl
+  raised_after SetStop may found = still SetStop refl refl
+  raised_after (Tell operation reply) may found = still (Tell operation reply) refl refl
+
+pub raised_when_ready : (v : View) (steps : List Step) → v.lane ≡ 0 → Ready v steps → generation_of (after_all v steps) ≡ generation_of v + raises steps
+unfolding Ready raises after_all
+raised_when_ready v [] lane ready = (let e : generation_of v ≡ generation_of v + 0 = omega arith in e)
+raised_when_ready v (s ∷ steps) lane ready =
+    let rest = raised_when_ready (after v s) steps ((same_lane-after v s).lane ∙ lane) ready.2 in
+    let here = raised_after v lane s ready.0 ready.1 in
+    omega (arith, rest, here)
+
+-- the first of steps that may be made may be made
+pub ready_first_of : (k : ℕ) (v : View) (steps : List Step) → Ready v steps → Ready v (take k steps)
+unfolding Ready
+ready_first_of zero v steps ready = tt
+ready_first_of (suc k) v [] ready = tt
+ready_first_of (suc k) v (s ∷ steps) ready = (ready.0, ready.1, ready_first_of k (after v s) steps ready.2)
+
+-- a load finds the generation that the view has
+loaded_generation : (m : View) (word x : ℕ) → Finds m word x → generation_of (after m (Load word x)) ≡ generation_of m
+loaded_generation m word x finds = ⊎_elim
+    (λ (here : word ≡ area_word m.lane).
+    let known = or_left (is_in_area m.lane word) (list_any (λ other. eqb other word) m.known) (ap (is_in_area m.lane) here ∙ generation_in_area m.lane) in
+    ap (λ (words : List ℕ). slice_index words (area_word m.lane)) (ap (set m.words word) (finds.0 known) ∙ set-get_or m.words word 0))
+    (λ (differ : word ≢ area_word m.lane). get_or-set_other m.words word (area_word m.lane) x 0 (λ e. differ (sym e)))
+    (cases_eq word (area_word m.lane))
+
+pub looks_generation : (n : ℕ) (v w : View) → Looks n v w → (generation_of w ≡ generation_of v) × (w.log ≡ v.log)
+unfolding Looks
+looks_generation zero v w is = (ap (λ (u : View). generation_of u) is, ap (λ (u : View). u.log) is)
+looks_generation (suc n) v w t =
+    let front = looks_generation n v t.0 t.3 in
+    (ap (λ (u : View). generation_of u) t.6 ∙ (loaded_generation t.0 t.1 t.2 t.5 ∙ front.0), ap (λ (u : View). u.log) t.6 ∙ front.1)

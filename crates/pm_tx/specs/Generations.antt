@@ -1,0 +1,34 @@
+-- How often a transaction ends the generation of its lane's log, and where its call stands then.
+use Rattle.std.specs.Prelude.{◌≡◌, ◌≢◌, ◌⊎◌, ℕ, Bool, true, false, [], None, Some, is_some}
+use Rattle.pm_crash.specs.Alone.{GrowsFirst}
+use Rattle.pm_image.specs.Logs.{generation_word}
+use Rattle.pm_view.specs.Log.{Phase, no_log, phase_drawn}
+use Rattle.pm_view.specs.Log.Phase.{Idle, Open, Retiring}
+use Rattle.pm_view.specs.View.{View}
+use Rattle.pm_world.specs.Opening.{Opening}
+use Rattle.pm_world.specs.Records.{records_generation}
+
+-- the next generation is stored, and not drained
+abbrev pub is_ending : Phase → Bool
+is_ending Retiring = true
+is_ending phase = false
+
+-- from the view before a commit, behind so many stores of the generation: the call is open, or has drawn its number and is decided only if
+-- it has no records; or the generation is ended, with the number drawn, and with that the call is decided
+abbrev pub IsCommitting : View → ℕ → View → Type 0
+IsCommitting v raised w =
+    ((raised ≡ 0) × ((w.log.phase ≡ Open [] []) ⊎ (w.log.phase ≡ phase_drawn v.log.records v.log.entries)))
+    ⊎ ((raised ≡ 1) × (is_some w.number ≡ true) × ((w.log.phase ≡ Retiring) ⊎ (w.log.phase ≡ Idle)))
+
+-- from the view before a call is given up, behind so many stores of the generation: the call is open with its records, or, without any, it is
+-- over; or the generation is ended, before a number is drawn, and then the call is open with no records, and then it is over
+abbrev pub IsGivingUp : View → ℕ → View → Type 0
+IsGivingUp v raised w =
+    ((raised ≡ 0) × (((w.log.phase ≡ Open [] []) × (w.log.records ≡ v.log.records)) ⊎ ((w.log.phase ≡ Idle) × (v.log.records ≡ []))))
+    ⊎ ((raised ≡ 1) × (((w.log.phase ≡ Retiring) × (w.number ≡ None)) ⊎ (((w.log ≡ no_log (Open [] [])) × (w.number ≡ None)) ⊎ (w.log.phase ≡ Idle))))
+
+-- while the lane's log may grow it is of the opening's generation, or nothing of it is written yet; and the records of a call in flight are of
+-- the opening's generation
+pub record IsOfOpening (o : Opening) (w : View) : Type 0 where
+  pub grows : GrowsFirst o w w.log.phase
+  pub in_flight : (n : ℕ) → w.number ≡ Some n → w.log.phase ≢ Idle → records_generation w.log.phase w ≡ generation_word o.words 0
