@@ -9,9 +9,8 @@ use Rattle.pm_crash.specs.Writes.{written_word}
 use Rattle.pm_model.specs.Bytes.{covered_words}
 use Rattle.pm_objects.specs.declared.calls.Operation.{Operation}
 use Rattle.pm_objects.specs.declared.calls.Operation.TheVariants.{AddRange, Read, Write}
-use Rattle.pm_objects.specs.declared.history.Value.TheVariants.{Bytes, Refused}
+use Rattle.pm_objects.specs.declared.history.Value.TheVariants.{Bytes}
 use Rattle.pm_objects.specs.declared.history.Value.{Value}
-use Rattle.pm_objects.specs.declared.refusal.Refusal.{Refusal}
 use Rattle.pm_objects.specs.declared.ids.Oid.{Oid}
 use Rattle.pm_undo.proofs.Areas.{generation_in_area}
 use Rattle.pm_undo.proofs.Kept.{is_of}
@@ -30,7 +29,7 @@ use Rattle.pm_tx.proofs.WrittenBytes.{counted_covered}
 use Rattle.pm_tx.specs.Learning.{Looks}
 use Rattle.pm_tx.specs.Ranges.{adds_range, reads_range, writes_range}
 use Rattle.pm_tx.specs.Beginning.{takes}
-use Rattle.pm_tx.specs.Sequences.{ends_call, gives, line_at, reads, refuses, sees_generation, starts, word_count, writes, writes_word}
+use Rattle.pm_tx.specs.Sequences.{ends_call, gives, line_at, reads, sees_generation, starts, word_count, writes, writes_word}
 
 -- a step of lane 0 that ends no generation: none but a store of it does
 abbrev pub IsWork : Step → Type 0
@@ -111,10 +110,6 @@ ends_work operation reply n = only_in_turn IsWork (one (Tell operation reply)) (
 pub gives_work : (locks : List HeldLock) → HasOnly IsWork (gives locks)
 unfolding gives
 gives_work locks = only_counted IsWork (λ i. one (Give (line_at locks i))) (length locks) (λ i below. only_one IsWork (Give (line_at locks i)) tt)
-
-pub refuses_work : (locks : List HeldLock) (operation : Operation) (r : Refusal) (n : ℕ) → HasOnly IsWork (refuses locks operation r n)
-unfolding refuses
-refuses_work locks operation r n = only_in_turn IsWork (ends_call operation (Some (Refused r)) n) (gives locks) (ends_work operation (Some (Refused r)) n) (gives_work locks)
 
 pub takes_work : (line : ℕ) (write won : Bool) → raises (takes line write won ∷ []) ≡ 0
 unfolding raises

@@ -22,7 +22,7 @@ ghost use Rattle.pm_tx.specs.Ending.{DrawEnded};
 ghost use Rattle.pm_tx.specs.Generations.{IsCommitting, IsGivingUp, IsOfOpening, is_ending};
 ghost use Rattle.pm_tx.specs.Learning.{Looks};
 ghost use Rattle.pm_tx.specs.Ranges.{CanWrite, adds_range, reads_range, writes_range};
-ghost use Rattle.pm_tx.specs.Sequences.{commits, gives, gives_up, refuses, starts};
+ghost use Rattle.pm_tx.specs.Sequences.{commits, ends_call, gives, gives_up, starts};
 
 /// A law: lane 0 stores no generation as it begins a call, takes a lock, tells an operation, looks at words, records, writes and reads
 /// ranges, is refused its begin, and gives its locks back; and where some steps store none, their first ones don't. The loads of looks lead
@@ -36,8 +36,7 @@ pub fn a_generation_lasts_while_a_call_works()
     ensures writes { (v : View) (id : Oid) (off : ℕ) (bytes : List ℕ) → v.lane ≡ 0 → IsWorking v → CanWrite v id off (length bytes)
         → raises (writes_range id off bytes v) ≡ 0 }
     ensures reads { (v : View) (id : Oid) (off len : ℕ) (bytes : List ℕ) → v.lane ≡ 0 → raises (reads_range id off len bytes v) ≡ 0 }
-    ensures refuses { (v : View) (locks : List HeldLock) (operation : Operation) (r : Refusal) (n : ℕ) → v.lane ≡ 0
-        → raises (refuses locks operation r n v) ≡ 0 }
+    ensures ends { (v : View) (operation : Operation) (reply : Option Value) (n : ℕ) → v.lane ≡ 0 → raises (ends_call operation reply n v) ≡ 0 }
     ensures gives { (v : View) (locks : List HeldLock) → v.lane ≡ 0 → raises (gives locks v) ≡ 0 }
     ensures first_ones { (steps : List Step) (k : ℕ) → raises steps ≡ 0 → raises (take k steps) ≡ 0 }
 {}
