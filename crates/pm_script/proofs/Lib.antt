@@ -6,3 +6,5 @@ pub mod Numerals
 pub mod Readings
 pub mod Saying
 pub mod WordLists
+pub mod StopLists
+pub mod RisingLines

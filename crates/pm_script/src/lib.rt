@@ -13,13 +13,15 @@ mod operations;
 mod parsing;
 mod reader;
 mod script;
+mod stopping;
 mod words;
 
 pub use fault::{BadLine, ScriptFault, Why};
-pub use laws::one_reading_per_text;
+pub use laws::{one_reading_per_text, the_lines_of_a_script_rise};
 pub use numbers::{MAX_DIGITS, number};
 pub use parsing::parse;
 pub use script::{Script, ScriptLine, ScriptOp};
+pub use stopping::{stop_of, stops};
 
 #[cfg(test)]
 mod tests;

@@ -140,6 +140,7 @@ fn bad_lines(rt: HostRuntime) -> Result<(), Fail> {
     let no_text = told(rt.alloc(), &[b'#', 0xFF])?;
     assert_eq!(rt; no_text.as_str(), "bad script line 1 Word");
     one_reading_per_text();
+    the_lines_of_a_script_rise();
     Ok(())
 }
 
@@ -164,5 +165,32 @@ fn long_writes(rt: HostRuntime) -> Result<(), Fail> {
     let longer = format!(in alloc; "{text}5a\ncommit")?;
     let told = told(alloc, longer.as_bytes())?;
     assert_eq!(rt; told.as_str(), "bad script line 3 Word");
+    Ok(())
+}
+
+/// The stops that a text is, or none where it is no list of stops.
+#[test]
+fn lists_of_stops(rt: HostRuntime) -> Result<(), Fail> {
+    let alloc = rt.alloc();
+    let good: [(&str, u64, Option<u64>); 5] = [
+        ("0:11", 0, Some(11)),
+        ("1:0,0:7", 0, Some(7)),
+        ("1:0,0:7", 1, Some(0)),
+        ("31:5", 0, None),
+        ("0:18446744073709551615", 0, Some(u64::MAX)),
+    ];
+    for (text, lane, wanted) in good.iter() {
+        let Some(found) = stops(alloc, text)? else {
+            panic!(rt; "a list of stops is refused: {text}");
+        };
+        assert_eq!(rt; stop_of(*lane, &found), *wanted);
+    }
+    for text in [
+        "", "0:", ":1", "0:1,", ",0:1", "0:1,0:2", "0:1:2", "0;1", "a:1", "0:-1",
+    ]
+    .iter()
+    {
+        assert!(rt; stops(alloc, text)?.is_none());
+    }
     Ok(())
 }

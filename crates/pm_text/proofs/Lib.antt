@@ -3,3 +3,4 @@ pub mod LineStarts
 pub mod Objects
 pub mod Pieces
 pub mod Putting
+pub mod Ends

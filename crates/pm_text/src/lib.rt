@@ -8,10 +8,13 @@
 mod digits;
 mod dump;
 mod object_text;
+mod outcomes;
 mod printing;
+mod report;
 
 pub use dump::dump_text;
 pub use printing::put_lines;
+pub use report::{LaneEnd, report_text};
 
 #[cfg(test)]
 mod tests;

@@ -1,5 +1,5 @@
 use super::*;
-use pm_objects::{Object, PoolView, Sequence};
+use pm_objects::{Call, Entry, Fate, Object, PoolView, Refusal, Reply, Sequence, TxErr, Value};
 use pm_shelf::{FailingSink, ListSink, SinkFault};
 use std::alloc::{AllocError, Global};
 use std::test::Fail;
@@ -139,5 +139,105 @@ fn each_put_is_one_line(rt: HostRuntime) -> Result<(), Fail> {
         Ok(()),
         "no put for an empty text"
     );
+    Ok(())
+}
+
+/// An entry of lane 0 with these lines, of which `root` stood for an offset, if so.
+fn entry(
+    alloc: Global,
+    number: u64,
+    root: Option<u64>,
+    fate: Fate,
+    values: Vec<(u64, Value)>,
+) -> Result<Entry, AllocError> {
+    Ok(Entry {
+        number,
+        call: Call {
+            lane: 0,
+            first: 2,
+            last: 5,
+            root,
+            operations: Sequence::from_vec(Vec::new(alloc)),
+        },
+        reply: Reply {
+            values: Sequence::from_vec(values),
+            at: 4,
+        },
+        fate,
+    })
+}
+
+/// The entries' text, one behind the other, and no lanes.
+fn line(alloc: Global, entry: Entry) -> Result<Vec<u8>, AllocError> {
+    report_text(alloc, &[entry], &[])
+}
+
+#[test]
+fn fates_in_a_report(rt: HostRuntime) -> Result<(), Fail> {
+    let alloc = rt.alloc();
+    let refused = TxErr::Refused(Refusal::OutOfRange);
+    let cases: [(Option<u64>, Fate, &[u8]); 8] = [
+        (
+            Some(16512),
+            Fate::Done,
+            b"1 lane 0 lines 2-5 done root=16512\n",
+        ),
+        (
+            Some(16512),
+            Fate::Kept,
+            b"1 lane 0 lines 2-5 kept root=16512\n",
+        ),
+        (Some(16512), Fate::Lost, b"1 lane 0 lines 2-5 lost\n"),
+        (None, Fate::Done, b"1 lane 0 lines 2-5 done\n"),
+        (
+            Some(0),
+            Fate::Aborted(refused),
+            b"1 lane 0 lines 2-5 aborted OutOfRange at 4 root=0\n",
+        ),
+        (
+            None,
+            Fate::Aborted(TxErr::Canceled),
+            b"1 lane 0 lines 2-5 aborted ECANCELED at 4\n",
+        ),
+        (
+            None,
+            Fate::Aborted(TxErr::User(12)),
+            b"1 lane 0 lines 2-5 aborted 12 at 4\n",
+        ),
+        (
+            None,
+            Fate::Refused(Refusal::Short(3)),
+            b"1 lane 0 lines 2-5 refused Short 3\n",
+        ),
+    ];
+    for (root, fate, wanted) in cases.iter() {
+        let text = line(alloc, entry(alloc, 1, *root, *fate, Vec::new(alloc))?)?;
+        assert_eq!(rt; text.as_slice(), *wanted);
+    }
+    Ok(())
+}
+
+#[test]
+fn values_and_ends_in_a_report(rt: HostRuntime) -> Result<(), Fail> {
+    let alloc = rt.alloc();
+    let mut values = Vec::new(alloc);
+    values.push((3, Value::Offset(16640)))?;
+    values.push((4, Value::Number(7)))?;
+    values.push((
+        5,
+        Value::Bytes(Sequence::from_vec(Vec::from_slice(alloc, &[1, 0xaf])?)),
+    ))?;
+    values.push((
+        6,
+        Value::Members(Sequence::from_vec(Vec::from_slice(alloc, &[8, 16])?)),
+    ))?;
+    values.push((7, Value::Members(Sequence::from_vec(Vec::new(alloc)))))?;
+    values.push((8, Value::Refused(Refusal::Listed)))?;
+    let entries = [entry(alloc, 12, None, Fate::Done, values)?];
+    let ends = [LaneEnd::Ended, LaneEnd::Stopped(14), LaneEnd::Spent(2)];
+    let text = report_text(alloc, &entries, &ends)?;
+    let wanted: &[u8] =
+        b"12 lane 0 lines 2-5 done 3=16640 4=7 5=01af 6=8,16 7=none 8=Listed\nlane 0 ended\nlane 1 stopped after 14 calls\nlane 2 spent at line 2\n";
+    assert_eq!(rt; text.as_slice(), wanted);
     Ok(())
 }
