@@ -1,8 +1,8 @@
 -- Steps that lead from one view to another, put together.
-use Rattle.std.proofs.Common.{List, [], ◌∷◌, ◌++◌, subst}
+use Rattle.std.proofs.Common.{◌≡◌, List, [], ◌∷◌, ◌++◌, subst}
 use Rattle.pm_view.specs.Steps.{Step}
 use Rattle.pm_view.specs.View.{View}
-use Rattle.pm_view.specs.Views.{after}
+use Rattle.pm_view.specs.Views.{after, after_all}
 use Rattle.pm_crash.specs.Leading.{Leads}
 
 -- steps that lead to a view, and then those that lead on from it
@@ -10,3 +10,9 @@ pub leads_then : (u v w : View) (first second : List Step) → Leads u first v �
 unfolding Leads
 leads_then u v w [] second leads on = subst (λ m. Leads m second w) leads on
 leads_then u v w (s ∷ first) second leads on = (leads.0, leads.1, leads.2, leads_then (after u s) v w first second leads.3 on)
+
+-- where they end
+pub leads_end : (v w : View) (steps : List Step) → Leads v steps w → w ≡ after_all v steps
+unfolding Leads after_all
+leads_end v w [] leads = leads
+leads_end v w (s ∷ steps) leads = leads_end (after v s) w steps leads.3

@@ -52,5 +52,4 @@ pub mod FirstLog
 pub mod TornSlots
 pub mod Raises
 pub mod Raising
-pub mod LeadingOn
 pub mod SeenAlone

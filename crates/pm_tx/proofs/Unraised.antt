@@ -1,7 +1,7 @@
 -- Looks, records, writes and reads of a transaction store no generation.
 use Rattle.std.proofs.Common.{◌≡◌, ◌≢◌, ℕ, zero, suc, ◌+◌, ◌/◌, ◌<◌, Bool, true, false, cond, Contains, List, [], ◌∷◌, ◌++◌, length, None, Option, Some, refl, sym, ap, ◌∙◌, arith, ne_eqb}
 use Rattle.std.proofs.lemmas.Bool.{false≢true}
-use Rattle.pm_crash.proofs.LeadingOn.{leads_on}
+use Rattle.pm_crash.proofs.Leading.{leads_then}
 use Rattle.pm_crash.proofs.Raises.{raise_by}
 use Rattle.pm_crash.specs.Alone.{is_raise, raises}
 use Rattle.pm_crash.specs.Leading.{Leads}
@@ -142,4 +142,4 @@ looks_lead zero v w is = ([], (is, tt))
 looks_lead (suc n) v w t =
     let front = looks_lead n v t.0 t.3 in
     let load : Step = Load t.1 t.2 in
-    (front.0 ++ load ∷ [], (leads_on v t.0 w front.0 (load ∷ []) front.1.0 (t.4, t.5.1, tt, t.6), work_behind front.0 load front.1.1 tt))
+    (front.0 ++ load ∷ [], (leads_then v t.0 w front.0 (load ∷ []) front.1.0 (t.4, t.5.1, tt, t.6), work_behind front.0 load front.1.1 tt))

@@ -134,23 +134,3 @@ pub fn check_write<M: LawfulMem>(
         Err(Refusal::NotAdded)
     }
 }
-
-/// Whether the lane has a transaction in work: `Stopped` where it came to its stop, `NoTx` where none is open, and `NotWork` where one is in
-/// another stage. Each changes nothing.
-pub fn check_work<M>(lane: &Lane<M>) -> Result<(), Refusal>
-    ensures ok { OnOk result ((lane.now.stopped ≡ false) × (1 ≤ lane.now.level) × (lane.now.stage ≡ stage.Work)) }
-    ensures stopped { result ≡ Err refusal.Stopped → lane.now.stopped ≡ true }
-    ensures no_tx { result ≡ Err refusal.NoTx → (lane.now.stopped ≡ false) × (lane.now.level ≡ 0) }
-    ensures not_work { result ≡ Err refusal.NotWork → (lane.now.stopped ≡ false) × (1 ≤ lane.now.level) × (lane.now.stage ≢ stage.Work) }
-    ensures causes { IfErr result (λ r. (r ≡ refusal.Stopped) ⊎ (r ≡ refusal.NoTx) ⊎ (r ≡ refusal.NotWork)) }
-{
-    if lane.stopped {
-        Err(Refusal::Stopped)
-    } else if lane.level == 0 {
-        Err(Refusal::NoTx)
-    } else if lane.stage != Stage::Work {
-        Err(Refusal::NotWork)
-    } else {
-        Ok(())
-    }
-}

@@ -33,7 +33,7 @@ mod writing;
 pub use aborting::abort;
 pub use adding::{add_range, do_add};
 pub use beginning::{begin, open_call, refuse_call};
-pub use checking::{check_range, check_words, check_work, check_write};
+pub use checking::{check_range, check_words, check_write};
 pub use committing::commit;
 pub use ending_level::end;
 pub use generations::{
@@ -47,6 +47,7 @@ pub use learning::learn;
 pub use locking::{give_back, take_all, take_line};
 pub use places::can_begin;
 pub use reading::{do_read, read};
+pub use stages::check_work;
 pub use starting::start;
 pub use taking_back::take_back;
 pub use wants::plan_locks;

@@ -1,5 +1,5 @@
-use Rattle.pm_tx.proofs.ReadyLeads.{ready_first_leads, ready_leads}
+use Rattle.pm_tx.proofs.Leading.{front_leads, ready_leads}
 use Rattle.pm_tx.proofs.generations.steps_that_may_be_made_lead_on.Goals as goal
 
 pub returns : goal.returns
-returns c = record { all = ready_leads; first_ones = ready_first_leads }
+returns c = record { all = ready_leads; first_ones = front_leads }
