@@ -2,10 +2,12 @@
 use Rattle.std.proofs.Common.{◌≡◌, ◌⊎◌, inl, inr, ℕ, ◌≤◌, Bool, true, false, List, [], ◌∷◌, ◌++◌, map, length, None, Some, Result, Ok, Err, refl, sym, ap, ◌∙◌, subst, arith}
 use Rattle.std.specs.List.{Contains}
 use Rattle.std.specs.Prelude.{IfErr, OnOk}
+use Rattle.pm_crash.specs.Locks.{AreSameLocks}
 use Rattle.pm_crash.specs.OpenCall.{locks_of}
 use Rattle.pm_crash.specs.OpenCall.{lock_of as model_lock}
 use Rattle.pm_crash.specs.Operations.{IsBeginReason, TakesWanted}
 use Rattle.pm_layout.specs.declared.shape.Shape.{Shape}
+use Rattle.pm_model.specs.Transaction.{Lock as Locked, locked_all}
 use Rattle.pm_objects.specs.declared.calls.Operation.TheVariants.{Begin}
 use Rattle.pm_objects.specs.declared.calls.Want.{Want}
 use Rattle.pm_objects.specs.declared.history.TxErr.TheVariants as error
@@ -72,6 +74,7 @@ begun_further at lane u v wants led entries was = record {
   undrawn = was.undrawn;
   drained = was.drained;
   entries = was.entries ∙ entries;
+  locks = was.locks;
   opens = was.opens;
 }
 
@@ -135,6 +138,7 @@ module _ {M : Type 0} (at : M → View → Type 0) (old mid lane : Lane M) (want
         undrawn = f.begun.undrawn;
         drained = f.begun.drained;
         entries = entries;
+        locks = subst (λ (ls : List Locked). AreSameLocks ls (locked_all wants [])) (sym models) is.same;
         opens = λ o sound zones finds.
             let before = opening_before o finds in
             works o sound before zones (f.objects found) (takes_wanted old.pool f.view wants plan of_pool plan_so models (f.objects found) o before);

@@ -24,7 +24,7 @@ of_err P result r is holds = subst (λ answer. IfErr answer P) is holds
 module _ {M : Type 0} (o : Opening) (at : M → View → Type 0) (mid : Lane M) (v : View) where
   -- what a check left, for whoever asks for the view alone
   pub looked_so : (P Q : View → Type 0) → HasChecked o at mid v P → ((w : View) → IsAtWork o at mid w → P w → Q w) → HasLooked v Q
-  looked_so P Q t so = record { loads = t.loads; view = t.view; looks = t.looks; holds = so t.view t.works t.holds }
+  looked_so P Q t so = record { loads = t.loads; view = t.view; looks = t.looks; working = t.works.working; holds = so t.view t.works t.holds }
 
   module _ {T : Type 0} (op : Operation) (range : Range) (result : Result T Refusal) (r : Refusal) (is : result ≡ Err r) where
     abbrev Checks : (View → Type 0) → Type 0

@@ -82,12 +82,12 @@ module _ {M : Type 0} (at : M → View → Type 0) (old mid new : Lane M) (op : 
               subst (λ (spans : List Span). IsStoppedIn at new w (gives_up spans op (Some (Refused r)) new.last) op (Some (Refused r))) (kept goes) (stops goes stopped o w works (gives_up_by_reason at mid o w works op range r of_range reason));
         })
 
-    module _ (steps : Sequence) (cut : r ≡ refusal.Stopped → (o : Opening) (v : View) → IsAtWork o at old v → HasLooked v (λ w. StopsUndrawn (at mid.memory) w steps)) (at_once : r ≡ refusal.Stopped → new ≡ record mid { stopped = true }) (drawn : mid.drawn ≡ old.drawn) where
+    module _ (Can : View → Type 0) (steps : Sequence) (cut : r ≡ refusal.Stopped → (o : Opening) (v : View) → IsAtWork o at old v → HasLooked v (λ w. Can w × StopsUndrawn (at mid.memory) w steps)) (at_once : r ≡ refusal.Stopped → new ≡ record mid { stopped = true }) (drawn : mid.drawn ≡ old.drawn) where
       -- the lane stopped in the steps of the operation
-      stopped_in_steps : r ≡ refusal.Stopped → (o : Opening) (v : View) → IsAtWork o at old v → HasLooked v (λ w. IsStoppedAt at new old.records.items op range steps w)
+      stopped_in_steps : r ≡ refusal.Stopped → (o : Opening) (v : View) → IsAtWork o at old v → HasLooked v (λ w. IsStoppedAt at new old.records.items op range Can steps w)
       stopped_in_steps e o v work =
           let t = cut e o v work in
-          let s : StopsUndrawn (at mid.memory) t.view steps = t.holds in
+          let s : StopsUndrawn (at mid.memory) t.view steps = t.holds.1 in
           let in_steps : IsStoppedIn at (record mid { stopped = true }) t.view steps op None = record {
             ready = s.ready;
             draws = s.draws;
@@ -96,10 +96,10 @@ module _ {M : Type 0} (at : M → View → Type 0) (old mid new : Lane M) (op : 
             drawn = drawn ∙ (undrawn_lane at old v work.seen work.working.undrawn ∙ sym s.number);
             came = record { told = inl s.number; entries = inl (s.number, s.entries) };
           } in
-          record { loads = t.loads; view = t.view; looks = t.looks; holds = inl (subst (λ (lane : Lane M). IsStoppedIn at lane t.view steps op None) (sym (at_once e)) in_steps) }
+          record { loads = t.loads; view = t.view; looks = t.looks; working = t.working; holds = inl (t.holds.0, subst (λ (lane : Lane M). IsStoppedIn at lane t.view steps op None) (sym (at_once e)) in_steps) }
 
-      pub stopped_at : Stops mid.records.items → answer ≡ refusal.Stopped → (o : Opening) (v : View) → IsAtWork o at old v → HasLooked v (λ w. IsStoppedAt at new old.records.items op range steps w)
+      pub stopped_at : Stops mid.records.items → answer ≡ refusal.Stopped → (o : Opening) (v : View) → IsAtWork o at old v → HasLooked v (λ w. IsStoppedAt at new old.records.items op range Can steps w)
       stopped_at stops stopped o v work = ⊎_elim (λ (e : r ≡ refusal.Stopped). stopped_in_steps e o v work)
           (λ (goes : r ≢ refusal.Stopped).
-          let t = stopped_for stops goes stopped o v work in record { loads = t.loads; view = t.view; looks = t.looks; holds = inr t.holds })
+          let t = stopped_for stops goes stopped o v work in record { loads = t.loads; view = t.view; looks = t.looks; working = t.working; holds = inr t.holds })
           (stopped_or_not r)

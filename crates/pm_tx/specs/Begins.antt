@@ -2,7 +2,9 @@
 use Rattle.std.specs.Prelude.{◌≡◌, ℕ, ◌+◌, ◌*◌, ◌<◌, ◌/◌, ◌%◌, ◌≤◌, ◌==◌, ◌&&◌, Bool, true, false, if◌then◌else◌, All, Contains, List, [], ◌∷◌, ◌++◌, length, map, Option, None, Some, slice_index}
 use Rattle.std.specs.List.{AllByRecursion}
 use Rattle.pm_crash.specs.Leading.{Leads}
+use Rattle.pm_crash.specs.Locks.{AreSameLocks}
 use Rattle.pm_crash.specs.OpenCall.{locks_of}
+use Rattle.pm_model.specs.Transaction.{locked_all}
 use Rattle.pm_objects.specs.declared.calls.Operation.TheVariants.{Begin}
 use Rattle.pm_objects.specs.declared.calls.Want.{Want}
 use Rattle.pm_objects.specs.declared.history.TxErr.TheVariants as error
@@ -42,6 +44,7 @@ pub record HasBegun {M : Type 0} (at : M → View → Type 0) (lane : Lane M) (v
   pub undrawn : view.number ≡ None
   pub drained : view.changes ≡ []
   pub entries : view.entries ≡ v.entries
+  pub locks : AreSameLocks (locks_of view) (locked_all wants [])
   pub opens : (o : Opening) → IsSound o → o.zones ≤ 32 → FindsOpening o view → IsAtWork o at lane view
 
 -- a lock was refused, every other was given back, and the lane rests

@@ -5,6 +5,7 @@ use Rattle.pm_model.specs.Checks.{Range}
 use Rattle.pm_objects.specs.declared.calls.Operation.{Operation}
 use Rattle.pm_objects.specs.declared.history.Value.TheVariants.{Refused}
 use Rattle.pm_objects.specs.declared.refusal.Refusal.{Refusal}
+use Rattle.pm_undo.specs.Working.{IsWorking}
 use Rattle.pm_view.specs.View.{View}
 use Rattle.pm_world.specs.Sequences.{Sequence}
 use Rattle.pm_world.specs.declared.lane.Lane.{Lane}
@@ -13,11 +14,12 @@ use Rattle.pm_tx.specs.Ending.{IsEndedBy, IsStoppedIn}
 use Rattle.pm_tx.specs.Learning.{Looks}
 use Rattle.pm_tx.specs.Sequences.{gives_up}
 
--- from the view before, the lane looked at some words at most, and this holds of its view then
+-- from the view before, the lane looked at some words at most, is at work, and this holds of its view then
 pub record HasLooked (v : View) (Q : View → Type 0) : Type 0 where
   pub loads : ℕ
   pub view : View
   pub looks : Looks loads v view
+  pub working : IsWorking view
   pub holds : Q view
 
 -- there was this reason to refuse the operation on the range, and so the call with these records was given up by it
@@ -31,6 +33,6 @@ pub record IsStoppedFor {M : Type 0} (at : M → View → Type 0) (lane : Lane M
   pub reason : IsReason w op range refusal
   pub stopped : IsStoppedIn at lane w (gives_up spans op (Some (Refused refusal)) lane.last) op (Some (Refused refusal))
 
--- the lane stopped in the steps of the operation, or while it gave the call up
-abbrev pub IsStoppedAt : {M : Type 0} → (M → View → Type 0) → Lane M → List Span → Operation → Range → Sequence → View → Type 0
-IsStoppedAt at lane spans op range steps w = IsStoppedIn at lane w steps op None ⊎ IsStoppedFor at lane spans op range w
+-- the lane stopped in the steps of the operation, which it could make, or while it gave the call up
+abbrev pub IsStoppedAt : {M : Type 0} → (M → View → Type 0) → Lane M → List Span → Operation → Range → (View → Type 0) → Sequence → View → Type 0
+IsStoppedAt at lane spans op range Can steps w = (Can w × IsStoppedIn at lane w steps op None) ⊎ IsStoppedFor at lane spans op range w

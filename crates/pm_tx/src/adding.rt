@@ -64,7 +64,7 @@ fn try_add<M: LawfulMem>(lane: &mut Lane<M>, id: Oid, off: u64, len: u64) -> Res
         → HasChecked o M.at lane.new v (λ w. IsReason w (AddRange id off len) (record { id = id; off = off; len = len }) r)) }
     ensures kept { IfErr result (λ r. r ≢ refusal.Stopped → lane.new.records ≡ lane.old.records) }
     ensures stops { result ≡ Err refusal.Stopped → (o : Opening) (v : View) → IsAtWork o M.at lane.old v
-        → HasLooked v (λ w. StopsUndrawn (M.at lane.new.memory) w (adds_range lane.old.records.items id off len)) }
+        → HasLooked v (λ w. CanAdd w id off len × StopsUndrawn (M.at lane.new.memory) w (adds_range lane.old.records.items id off len)) }
     ensures causes { IfErr result (λ r. (r ≡ refusal.NotLocked) ⊎ (r ≡ refusal.OutOfRange) ⊎ (r ≡ refusal.LogFull) ⊎ (r ≡ refusal.Stopped)) }
     ensures else_same { lane.new ≡ record lane.old { memory = lane.new.memory; records = lane.new.records } }
 {
@@ -89,7 +89,7 @@ fn add_at_work<M: LawfulMem>(
     ensures given_up_lane { IfErr result (λ r. r ≢ refusal.Stopped
         → lane.new ≡ record lane.old { memory = lane.new.memory; records = lane.new.records; stage = stage.OnAbort; error = error.Refused r; drawn = Some lane.new.last; last = lane.new.last }) }
     ensures stopped { IfErr result (λ r. r ≡ refusal.Stopped → (o : Opening) (v : View) → IsAtWork o M.at lane.old v
-        → HasLooked v (λ w. IsStoppedAt M.at lane.new lane.old.records.items (AddRange id off len) (record { id = id; off = off; len = len }) (adds_range lane.old.records.items id off len) w)) }
+        → HasLooked v (λ w. IsStoppedAt M.at lane.new lane.old.records.items (AddRange id off len) (record { id = id; off = off; len = len }) (λ u. CanAdd u id off len) (adds_range lane.old.records.items id off len) w)) }
     ensures stopped_lane { IfErr result (λ r. r ≡ refusal.Stopped
         → lane.new ≡ record lane.old { memory = lane.new.memory; records = lane.new.records; drawn = lane.new.drawn; last = lane.new.last; stopped = true }) }
     ensures causes { IfErr result (λ r. (r ≡ refusal.NotLocked) ⊎ (r ≡ refusal.OutOfRange) ⊎ (r ≡ refusal.LogFull) ⊎ (r ≡ refusal.Stopped)) }
@@ -122,7 +122,7 @@ pub fn add_range<M: LawfulMem>(
     ensures given_up_lane { IfErr result (λ r. work_refusal lane.old ≡ None → r ≢ refusal.Stopped
         → lane.new ≡ record lane.old { memory = lane.new.memory; records = lane.new.records; stage = stage.OnAbort; error = error.Refused r; drawn = Some lane.new.last; last = lane.new.last }) }
     ensures stopped { IfErr result (λ r. work_refusal lane.old ≡ None → r ≡ refusal.Stopped → (o : Opening) (v : View) → IsAtWork o M.at lane.old v
-        → HasLooked v (λ w. IsStoppedAt M.at lane.new lane.old.records.items (AddRange id off len) (record { id = id; off = off; len = len }) (adds_range lane.old.records.items id off len) w)) }
+        → HasLooked v (λ w. IsStoppedAt M.at lane.new lane.old.records.items (AddRange id off len) (record { id = id; off = off; len = len }) (λ u. CanAdd u id off len) (adds_range lane.old.records.items id off len) w)) }
     ensures stopped_lane { IfErr result (λ r. work_refusal lane.old ≡ None → r ≡ refusal.Stopped
         → lane.new ≡ record lane.old { memory = lane.new.memory; records = lane.new.records; drawn = lane.new.drawn; last = lane.new.last; stopped = true }) }
     ensures causes { IfErr result (λ r. work_refusal lane.old ≡ None → (r ≡ refusal.NotLocked) ⊎ (r ≡ refusal.OutOfRange) ⊎ (r ≡ refusal.LogFull) ⊎ (r ≡ refusal.Stopped)) }

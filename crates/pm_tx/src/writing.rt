@@ -53,7 +53,7 @@ fn try_write<M: LawfulMem>(
     ensures done { OnOk result ((o : Opening) (v : View) → IsAtWork o M.at lane.old v → HasLooked v (λ w. CanWrite w id off (length bytes.now) × HasWrittenRange o M.at lane.new w id off bytes.now)) }
     ensures refused { IfErr result (λ r. r ≢ refusal.Stopped → (o : Opening) (v : View) → IsAtWork o M.at lane.old v
         → HasChecked o M.at lane.new v (λ w. IsReason w (Write id off bytes.now) (record { id = id; off = off; len = length bytes.now }) r)) }
-    ensures stops { result ≡ Err refusal.Stopped → (o : Opening) (v : View) → IsAtWork o M.at lane.old v → HasLooked v (λ w. StopsUndrawn (M.at lane.new.memory) w (writes_range id off bytes.now)) }
+    ensures stops { result ≡ Err refusal.Stopped → (o : Opening) (v : View) → IsAtWork o M.at lane.old v → HasLooked v (λ w. CanWrite w id off (length bytes.now) × StopsUndrawn (M.at lane.new.memory) w (writes_range id off bytes.now)) }
     ensures causes { IfErr result (λ r. (r ≡ refusal.NotLocked) ⊎ (r ≡ refusal.OutOfRange) ⊎ (r ≡ refusal.NotAdded) ⊎ (r ≡ refusal.Stopped)) }
     ensures else_same { lane.new ≡ record lane.old { memory = lane.new.memory } }
 {
@@ -80,7 +80,7 @@ fn write_at_work<M: LawfulMem>(
     ensures given_up_lane { IfErr result (λ r. r ≢ refusal.Stopped
         → lane.new ≡ record lane.old { memory = lane.new.memory; records = lane.new.records; stage = stage.OnAbort; error = error.Refused r; drawn = Some lane.new.last; last = lane.new.last }) }
     ensures stopped { IfErr result (λ r. r ≡ refusal.Stopped → (o : Opening) (v : View) → IsAtWork o M.at lane.old v
-        → HasLooked v (λ w. IsStoppedAt M.at lane.new lane.old.records.items (Write id off bytes.now) (record { id = id; off = off; len = length bytes.now }) (writes_range id off bytes.now) w)) }
+        → HasLooked v (λ w. IsStoppedAt M.at lane.new lane.old.records.items (Write id off bytes.now) (record { id = id; off = off; len = length bytes.now }) (λ u. CanWrite u id off (length bytes.now)) (writes_range id off bytes.now) w)) }
     ensures stopped_lane { IfErr result (λ r. r ≡ refusal.Stopped
         → lane.new ≡ record lane.old { memory = lane.new.memory; records = lane.new.records; drawn = lane.new.drawn; last = lane.new.last; stopped = true }) }
     ensures causes { IfErr result (λ r. (r ≡ refusal.NotLocked) ⊎ (r ≡ refusal.OutOfRange) ⊎ (r ≡ refusal.NotAdded) ⊎ (r ≡ refusal.Stopped)) }
@@ -111,7 +111,7 @@ pub fn write<M: LawfulMem>(
     ensures given_up_lane { IfErr result (λ r. work_refusal lane.old ≡ None → r ≢ refusal.Stopped
         → lane.new ≡ record lane.old { memory = lane.new.memory; records = lane.new.records; stage = stage.OnAbort; error = error.Refused r; drawn = Some lane.new.last; last = lane.new.last }) }
     ensures stopped { IfErr result (λ r. work_refusal lane.old ≡ None → r ≡ refusal.Stopped → (o : Opening) (v : View) → IsAtWork o M.at lane.old v
-        → HasLooked v (λ w. IsStoppedAt M.at lane.new lane.old.records.items (Write id off bytes.now) (record { id = id; off = off; len = length bytes.now }) (writes_range id off bytes.now) w)) }
+        → HasLooked v (λ w. IsStoppedAt M.at lane.new lane.old.records.items (Write id off bytes.now) (record { id = id; off = off; len = length bytes.now }) (λ u. CanWrite u id off (length bytes.now)) (writes_range id off bytes.now) w)) }
     ensures stopped_lane { IfErr result (λ r. work_refusal lane.old ≡ None → r ≡ refusal.Stopped
         → lane.new ≡ record lane.old { memory = lane.new.memory; records = lane.new.records; drawn = lane.new.drawn; last = lane.new.last; stopped = true }) }
     ensures causes { IfErr result (λ r. work_refusal lane.old ≡ None → (r ≡ refusal.NotLocked) ⊎ (r ≡ refusal.OutOfRange) ⊎ (r ≡ refusal.NotAdded) ⊎ (r ≡ refusal.Stopped)) }

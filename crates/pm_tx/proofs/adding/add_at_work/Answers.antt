@@ -1,6 +1,6 @@
 use Rattle.std.proofs.Common.{◌∙◌, Err, ap, refl}
 use Rattle.pm_objects.specs.declared.calls.Operation.TheVariants.{AddRange}
-use Rattle.pm_tx.specs.Ranges.{adds_range}
+use Rattle.pm_tx.specs.Ranges.{CanAdd, adds_range}
 use Rattle.pm_world.specs.declared.lane.Lane.{Lane}
 use Rattle.pm_tx.proofs.Refused.{given_up_for, still_at_work, stopped_at}
 use Rattle.pm_tx.proofs.adding.add_at_work.Goals as goal
@@ -22,6 +22,6 @@ returns-in-Err-clause-stopped g c stopped o v work =
     let mid = c.try_add.new.lane in
     let new = c.refuse.new.lane in
     stopped_at g.M.LaneMem.at old mid new (AddRange c.args.id c.args.off c.args.len) (record { id = c.args.id; off = c.args.off; len = c.args.len }) refl c.in-Err.why c.refuse.result c.in-Err.ensures.refused (λ stays. ap (λ rs. rs.items) (c.in-Err.ensures.kept stays))
-    (λ e. (c.refuse.ensures.at_once e).0, c.refuse.ensures.answer) (adds_range c.args.lane.now.records.items c.args.id c.args.off c.args.len)
+    (λ e. (c.refuse.ensures.at_once e).0, c.refuse.ensures.answer) (λ w. CanAdd w c.args.id c.args.off c.args.len) (adds_range c.args.lane.now.records.items c.args.id c.args.off c.args.len)
     (λ e. c.try_add.ensures.stops (c.in-Err.is ∙ ap Err e)) (λ e. (c.refuse.ensures.at_once e).1) (ap (λ (lane : Lane g.row.M.Denot). lane.drawn) c.try_add.ensures.else_same)
     c.refuse.ensures.stops stopped o v work

@@ -46,11 +46,13 @@ returns-in_err-do_add-clause-refused g c =
 pub returns-in_err-do_add-clause-stops : goal.returns-in_err-do_add-clause-stops
 returns-in_err-do_add-clause-stops g c e o v work =
     let stopped : c.do_add.result ≡ Err refusal.Stopped = search rules in
-    looked_so o g.M.LaneMem.at c.check_words.new.lane v (λ w. KnowsRange w c.args.id c.args.off c.args.len true) (λ w. StopsUndrawn (g.M.LaneMem.at c.do_add.new.lane.memory) w (adds_range c.args.lane.now.records.items c.args.id c.args.off c.args.len))
+    looked_so o g.M.LaneMem.at c.check_words.new.lane v (λ w. KnowsRange w c.args.id c.args.off c.args.len true) (λ w. KnowsRange w c.args.id c.args.off c.args.len true × StopsUndrawn (g.M.LaneMem.at c.do_add.new.lane.memory) w (adds_range c.args.lane.now.records.items c.args.id c.args.off c.args.len))
     (c.in_ok-check_words.ensures.ok o v work)
-    (λ w works can.
-    subst (λ (spans : List Span). StopsUndrawn (g.M.LaneMem.at c.do_add.new.lane.memory) w (adds_range spans c.args.id c.args.off c.args.len)) (ap (λ (lane : Lane g.row.M.Denot). lane.records.items) c.check_words.ensures.else_same)
-    (c.do_add.ensures.stops stopped o w works can))
+    (λ w works can. (
+      can,
+      subst (λ (spans : List Span). StopsUndrawn (g.M.LaneMem.at c.do_add.new.lane.memory) w (adds_range spans c.args.id c.args.off c.args.len)) (ap (λ (lane : Lane g.row.M.Denot). lane.records.items) c.check_words.ensures.else_same)
+          (c.do_add.ensures.stops stopped o w works can),
+    ))
 
 pub returns-clause-done : goal.returns-clause-done
 returns-clause-done g c o v work =

@@ -20,8 +20,8 @@ do_write-requires g c =
 
 pub returns-in-Err-clause-stops : goal.returns-in-Err-clause-stops
 returns-in-Err-clause-stops g c e o v work =
-    looked_so o g.M.LaneMem.at c.check_write.new.lane v (λ w. CanWrite w c.args.id c.args.off (length c.args.bytes.now)) (λ w. StopsUndrawn (g.M.LaneMem.at c.do_write.new.lane.memory) w (writes_range c.args.id c.args.off c.args.bytes.now))
-    (c.in_ok-check_write.ensures.ok o v work) (λ w works can. c.in-Err.ensures.stops o w works can)
+    looked_so o g.M.LaneMem.at c.check_write.new.lane v (λ w. CanWrite w c.args.id c.args.off (length c.args.bytes.now)) (λ w. CanWrite w c.args.id c.args.off (length c.args.bytes.now) × StopsUndrawn (g.M.LaneMem.at c.do_write.new.lane.memory) w (writes_range c.args.id c.args.off c.args.bytes.now))
+    (c.in_ok-check_write.ensures.ok o v work) (λ w works can. (can, c.in-Err.ensures.stops o w works can))
 
 pub returns-in-Ok-clause-done : goal.returns-in-Ok-clause-done
 returns-in-Ok-clause-done g c o v work =

@@ -1,6 +1,6 @@
 use Rattle.std.proofs.Common.{◌∙◌, Err, ap, refl, length}
 use Rattle.pm_objects.specs.declared.calls.Operation.TheVariants.{Write}
-use Rattle.pm_tx.specs.Ranges.{writes_range}
+use Rattle.pm_tx.specs.Ranges.{CanWrite, writes_range}
 use Rattle.pm_world.specs.declared.lane.Lane.{Lane}
 use Rattle.pm_tx.proofs.Refused.{given_up_for, still_at_work, stopped_at}
 use Rattle.pm_tx.proofs.writing.write_at_work.Goals as goal
@@ -22,6 +22,6 @@ returns-in-Err-clause-stopped g c stopped o v work =
     let mid = c.try_write.new.lane in
     let new = c.refuse_write.new.lane in
     stopped_at g.M.LaneMem.at old mid new (Write c.args.id c.args.off c.args.bytes.now) (record { id = c.args.id; off = c.args.off; len = length c.args.bytes.now }) refl c.in-Err.why c.refuse_write.result c.in-Err.ensures.refused (λ stays. ap (λ (lane : Lane g.row.M.Denot). lane.records.items) c.try_write.ensures.else_same)
-    (λ e. (c.refuse_write.ensures.at_once e).0, c.refuse_write.ensures.answer) (writes_range c.args.id c.args.off c.args.bytes.now)
+    (λ e. (c.refuse_write.ensures.at_once e).0, c.refuse_write.ensures.answer) (λ w. CanWrite w c.args.id c.args.off (length c.args.bytes.now)) (writes_range c.args.id c.args.off c.args.bytes.now)
     (λ e. c.try_write.ensures.stops (c.in-Err.is ∙ ap Err e)) (λ e. (c.refuse_write.ensures.at_once e).1) (ap (λ (lane : Lane g.row.M.Denot). lane.drawn) c.try_write.ensures.else_same)
     c.refuse_write.ensures.stops stopped o v work

@@ -1,0 +1,4 @@
+pub mod Calls
+pub mod Opening
+pub mod Runs
+pub mod Torn

@@ -1,0 +1,12 @@
+//! The run of a script on a pool, from the image that is read to the image that a power failure leaves.
+//!
+//! Promises whoever runs a script that the history tells of the script's calls, and that the image left means the pool which
+//! those of them make that are not lost, for every stop and every choice of what survives. It stands on `pm_recover` for the
+//! opening, on `pm_tx` for transactions over one lane's memory, and on `pm_crash` for what images mean; docs/MODEL.md, "A run".
+#![tactic(auto)]
+
+mod outcome;
+mod running;
+
+pub use outcome::{OpenFault, Outcome};
+pub use running::exec;
