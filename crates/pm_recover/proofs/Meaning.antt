@@ -64,7 +64,7 @@ as_they_stand image lanes i logs =
     (cases_lt i (length image))
 
 -- nor do sound ones change a word before the zones
-front_stands : (image : List ℕ) (lanes i : ℕ) → HasSoundLogs image lanes → i < area_word lanes → recovered_at image lanes i ≡ slice_index image i
+pub front_stands : (image : List ℕ) (lanes i : ℕ) → HasSoundLogs image lanes → i < area_word lanes → recovered_at image lanes i ≡ slice_index image i
 front_stands image lanes i sound front =
     let areas : 512 + 1024 * lanes ≤ length image = sound.has_lanes.areas in
     recovered_in_place image lanes i (omega arith) ∙ by_records image lanes i sound
