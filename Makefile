@@ -9,9 +9,11 @@ build:
 	cd crates/pmempool && { rt run > ../../build/log 2>&1 || test $$? -eq 2; }
 	@cp crates/pmempool/out/pmempool build/pmempool
 
-# A pool is made and shown, and neither overwritten nor made of values out of range; a damaged one is told by its fault.
+# A pool is made and shown, and neither overwritten nor made of values out of range; a damaged one is told by its fault. Then a transaction
+# writes eight bytes of its root, and stops at some call: a power failure leaves the root unchanged, or changed as a whole.
 demo: build
-	@rm -f $(POOL) build/damaged.pool
+	@rm -f $(POOL) build/damaged.pool build/demo-*.pool
+	@printf 'lane 0\nbegin root\nadd root 0 8\nwrite root 0 0102030405060708\ncommit\n' > build/demo.script
 	build/pmempool create $(POOL) --lanes 1 --zones 1 --id 7 --layout demo --root 64
 	build/pmempool dump $(POOL)
 	od -A d -t x8 -w32 $(POOL)
@@ -19,6 +21,14 @@ demo: build
 	build/pmempool create build/other.pool --lanes 33 --zones 1 --id 7 --layout demo --root 64; echo "status $$?"
 	@cp $(POOL) build/damaged.pool && printf '\101' | dd of=build/damaged.pool bs=1 seek=16456 conv=notrunc status=none
 	build/pmempool dump build/damaged.pool; echo "status $$?"
+	cat build/demo.script
+	@for stop in 4 11 13 14 16; do for keep in 0 1; do \
+	  echo "build/pmempool exec $(POOL) .. --stops 0:$$stop --keep $$keep"; \
+	  build/pmempool exec $(POOL) --script build/demo.script --out build/demo-$$stop-$$keep.pool --layout demo --stops 0:$$stop --keep $$keep; \
+	  build/pmempool dump build/demo-$$stop-$$keep.pool; \
+	done; done
+	build/pmempool exec build/demo-11-1.pool --script build/demo.script --out build/demo-again.pool --layout demo
+	build/pmempool dump build/demo-again.pool
 
 # Times beside `cp` of the same file, and the time of ten million stores by one lane alone.
 bench: build

@@ -22,6 +22,8 @@ least() {
 
 row() { printf '%-28s %10.2f ms %8.1f times cp\n' "$1" "$(echo "$2" | awk '{print $1 / 1000}')" "$(echo "$2 $3" | awk '{print $1 / $2}')"; }
 
+printf 'lane 0\nbegin root\nadd root 0 8\nwrite root 0 0102030405060708\ncommit\n' > "$folder/script"
+
 for shape in "1 1" "32 32"; do
   set -- $shape
   pool="$folder/pool-$1-$2"
@@ -29,10 +31,12 @@ for shape in "1 1" "32 32"; do
   copy=$(least cp "$pool" "$folder/new")
   create=$(least "$program" create "$folder/new" --lanes "$1" --zones "$2" --id 7 --layout bench --root 64)
   dump=$(least "$program" dump "$pool")
+  exec=$(least "$program" exec "$pool" --script "$folder/script" --out "$folder/new" --layout bench)
   printf 'a pool of %s bytes (%s lanes, %s zones)\n' "$(stat -c %s "$pool")" "$1" "$2"
   row "cp" "$copy" "$copy"
   row "create" "$create" "$copy"
   row "dump" "$dump" "$copy"
+  row "exec of one small write" "$exec" "$copy"
 done
 
 # The stores are a program of its own, outside the gate: its files end in .in, so that the gate takes them for no crate's. It is proved and built

@@ -4,7 +4,6 @@ use Rattle.pm_image.specs.Blocks.{blocks}
 use Rattle.pm_image.specs.Contents.{offset_in}
 use Rattle.pm_image.specs.Logs.{recovered_at}
 use Rattle.pm_image.specs.Means.{IsMeaning}
-use Rattle.pm_image.specs.declared.block.Block.{Block}
 use Rattle.pm_model.specs.History.{IsHistory, ReplaysEntries, is_answered, without_lost}
 use Rattle.pm_objects.specs.Pool.{offsets}
 use Rattle.pm_objects.specs.declared.history.Entry.{Entry}

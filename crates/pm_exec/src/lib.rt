@@ -5,6 +5,10 @@
 //! opening, on `pm_tx` for transactions over one lane's memory, and on `pm_crash` for what images mean; docs/MODEL.md, "A run".
 #![tactic(auto)]
 
+mod calls;
+mod ending;
+mod lines;
+mod opening;
 mod outcome;
 mod running;
 

@@ -1,7 +1,10 @@
+ghost use Rattle.std.specs.Prelude.{◌≡◌};
+ghost use Rattle.pm_exec.specs.declared.outcome.OpenFault.TheVariants.{Memory};
+
 use pm_image::ImageFault;
 use pm_objects::{Entry, Sequence};
 use pm_text::LaneEnd;
-use std::alloc::AllocError;
+use std::alloc::{AllocError, AllocFailed};
 
 /// What a run came to.
 #[derive(Drop)]
@@ -23,4 +26,24 @@ pub enum OpenFault {
     Layout(Sequence<u8>),
     /// There was no memory.
     Memory(AllocError),
+}
+
+impl From<AllocError> for OpenFault {
+    ghost use Rattle.std.specs.Prelude.{alloc_error};
+
+    ghost from_gives = { λ _ fault. fault ≡ Memory alloc_error };
+
+    fn from(_: AllocError) -> Self {
+        OpenFault::Memory(AllocError)
+    }
+}
+
+impl<T: Drop> From<AllocFailed<T>> for OpenFault {
+    ghost use Rattle.std.specs.Prelude.{alloc_error};
+
+    ghost from_gives = { λ _ fault. fault ≡ Memory alloc_error };
+
+    fn from(_: AllocFailed<T>) -> Self {
+        OpenFault::Memory(AllocError)
+    }
 }

@@ -1,4 +1,7 @@
 pub mod Texts
 pub mod FileBytes
+pub mod OptionCounts
+pub mod OneCommand
+pub mod Running
 pub mod Printing
-mod Completeness
+pub mod Completeness

@@ -5,5 +5,6 @@ pub mod Lines
 pub mod Asked
 pub mod Statuses
 pub mod Failures
+pub mod Executed
 pub mod Answers
 pub mod Saying

@@ -8,7 +8,8 @@ use Rattle.pm_image.specs.declared.fault.ImageFault.{ImageFault}
 use Rattle.pmempool.specs.declared.failure.Refusal.{Refusal}
 use Rattle.pmempool.specs.declared.failure.Refusal.TheVariants.{BadShape, BadId, BadLayout, BadSize}
 use Rattle.pmempool.specs.declared.failure.Failure.{Failure}
-use Rattle.pmempool.specs.declared.failure.Failure.TheVariants.{Usage, Refused, Faulty, NotRead, TooLong, NotWritten, NoMemory}
+use Rattle.pmempool.specs.declared.failure.Failure.TheVariants.{Usage, Refused, Faulty, OtherLayout, NotRead, TooLong, BadScript, NotWritten, NoMemory}
+use Rattle.pm_script.specs.declared.fault.BadLine.{BadLine}
 use Rattle.pmempool.specs.declared.status.Status.{Status}
 use Rattle.pmempool.specs.declared.status.Status.TheVariants as status
 
@@ -28,6 +29,17 @@ refused_line refusal = codes "refused " ++ refusal_text refusal ++ codes "\n"
 abbrev pub faulty_line : ImageFault → List ℕ
 faulty_line found = codes "refused " ++ fault_text found ++ codes "\n"
 
+-- the pool has another layout name than was asked for
+abbrev pub other_layout_line : List ℕ → List ℕ → List ℕ
+other_layout_line asked kept = codes "refused Layout asked " ++ asked ++ codes " kept " ++ kept ++ codes "\n"
+
+-- the script's first bad line
+abbrev pub bad_line_text : ℕ → List ℕ
+bad_line_text line = codes "bad script line " ++ (decimal line ++ codes " Word\n")
+
+abbrev pub bad_script_line : BadLine → List ℕ
+bad_script_line bad = bad_line_text bad.line
+
 abbrev pub read_fault_line : List ℕ → List ℕ
 read_fault_line name = codes "read fault " ++ name ++ codes "\n"
 
@@ -45,8 +57,10 @@ abbrev pub failure_line : Failure → List ℕ
 failure_line Usage = usage_line
 failure_line (Refused refusal) = refused_line refusal
 failure_line (Faulty found) = faulty_line found
+failure_line (OtherLayout asked kept) = other_layout_line asked.now kept
 failure_line (NotRead name) = read_fault_line name.now
 failure_line (TooLong name) = too_long_line name.now
+failure_line (BadScript bad) = bad_script_line bad
 failure_line (NotWritten name) = write_fault_line name.now
 failure_line NoMemory = no_memory_line
 
@@ -55,8 +69,10 @@ abbrev pub failure_status : Failure → Status
 failure_status Usage = status.Usage
 failure_status (Refused refusal) = status.Refused
 failure_status (Faulty found) = status.Refused
+failure_status (OtherLayout asked kept) = status.Refused
 failure_status (NotRead name) = status.ReadFault
 failure_status (TooLong name) = status.ReadFault
+failure_status (BadScript bad) = status.BadScript
 failure_status (NotWritten name) = status.WriteFault
 failure_status NoMemory = status.NoMemory
 

@@ -1,7 +1,8 @@
 -- The words of the command line: docs/COMMANDS.md.
-use Rattle.std.specs.Prelude.{◌≡◌, ℕ, List, [], length, map, Some, codes, slice_index_or, string_bytes, String}
+use Rattle.std.specs.Prelude.{◌≡◌, ◌⊎◌, ◌≤◌, ℕ, List, ◌+◌, [], length, map, Option, None, Some, codes, slice_index_or, string_bytes, String}
 use Rattle.std.specs.declared.alloc.Global.{Global}
 use Rattle.pm_script.specs.Numbers.{number_of}
+use Rattle.pm_script.specs.Stops.{AreStops, stop_of}
 use Rattle.pm_pool.specs.Created.{Wanted}
 
 -- the bytes of each word
@@ -39,7 +40,55 @@ pub record IsDump (words : List (List ℕ)) (name : List ℕ) : Type 0 where
   pub command : word words 1 ≡ codes "dump"
   pub pool : word words 2 ≡ name
 
+-- what `exec` is asked for: the names of the pool, the script and the new pool, the layout name, after how many counted calls lane 0
+-- stops, if it does, and what survives
+pub record Exec : Type 0 where
+  pub pool : List ℕ
+  pub script : List ℕ
+  pub out : List ℕ
+  pub layout : List ℕ
+  pub stop : Option ℕ
+  pub keep : ℕ
+
+-- lane 0's stop number, by a list of stops
+abbrev pub IsStopIn : List ℕ → Option ℕ → Type 0
+IsStopIn text stop = (stops : List (ℕ × ℕ)) × AreStops text stops × (stop ≡ stop_of 0 stops)
+
+-- word 9 is `--stops` and word 10 a list of stops
+abbrev pub HasStops : List (List ℕ) → Option ℕ → Type 0
+HasStops words stop = (word words 9 ≡ codes "--stops") × IsStopIn (word words 10) stop
+
+-- the word at this place is `--keep`, and a number follows it
+abbrev pub HasKeep : List (List ℕ) → ℕ → ℕ → Type 0
+HasKeep words at keep = (word words at ≡ codes "--keep") × (number_of (word words (at + 1)) ≡ Some keep)
+
+-- from word 9 on the words are `[--stops LIST] [--keep K]`
+abbrev pub HasOptions : List (List ℕ) → Option ℕ → ℕ → Type 0
+HasOptions words stop keep =
+    ((length words ≡ 9) × (stop ≡ None) × (keep ≡ 0))
+    ⊎ ((length words ≡ 11) × HasStops words stop × (keep ≡ 0))
+    ⊎ ((length words ≡ 11) × HasKeep words 9 keep × (stop ≡ None))
+    ⊎ ((length words ≡ 13) × HasStops words stop × HasKeep words 11 keep)
+
+-- behind the program's name the words begin `exec POOL --script FILE --out POOL2 --layout NAME`
+pub record IsPlainExec (words : List (List ℕ)) (e : Exec) : Type 0 where
+  pub count : 9 ≤ length words
+  pub command : word words 1 ≡ codes "exec"
+  pub pool : word words 2 ≡ e.pool
+  pub script_option : word words 3 ≡ codes "--script"
+  pub script : word words 4 ≡ e.script
+  pub out_option : word words 5 ≡ codes "--out"
+  pub out : word words 6 ≡ e.out
+  pub layout_option : word words 7 ≡ codes "--layout"
+  pub layout : word words 8 ≡ e.layout
+
+-- and `[--stops LIST] [--keep K]` follow
+pub record IsExec (words : List (List ℕ)) (e : Exec) : Type 0 where
+  pub plain : IsPlainExec words e
+  pub options : HasOptions words e.stop e.keep
+
 -- the words are no command
 pub record IsNoCommand (words : List (List ℕ)) : Type 0 where
   pub no_create : (c : Create) → ¬ IsCreate words c
   pub no_dump : (name : List ℕ) → ¬ IsDump words name
+  pub no_exec : (e : Exec) → ¬ IsExec words e

@@ -1,18 +1,16 @@
 ghost use Rattle.std.specs.Prelude.{◌≡◌, ◌%◌, length, IfOk, IfErr};
-ghost use Rattle.pm_words.specs.Words.{words_of};
 ghost use Rattle.pm_image.specs.Steps.{IfImage};
 ghost use Rattle.pmempool.specs.Failures.{IsDumpCause, failure_of};
 ghost use Rattle.pmempool.specs.PoolFiles.{BytesMean, BytesFail, IsTextOf, IsDumpOf};
 
 use crate::failure::Failure;
+use crate::image_bytes::image_of;
 use pm_image::{ImageFault, MeansFault, means};
 use pm_layout::{MAX_POOL_BYTES, WORD_BYTES};
 use pm_objects::PoolView;
-use pm_raw::RawImage;
 use pm_shelf::{Shelf, ShelfFault};
 use pm_text::dump_text;
-use pm_words::words_of;
-use std::alloc::{AllocError, Global};
+use std::alloc::Global;
 
 /// Reads the pool with this name. The answer is the text of what it means; the shelf stays as it was.
 pub fn run_dump<'a, S: Shelf>(
@@ -67,14 +65,4 @@ fn pool_in(alloc: Global, bytes: &[u8]) -> Result<PoolView, MeansFault>
     }
     let image = image_of(alloc, bytes)?;
     means(alloc, &image)
-}
-
-/// The image that these bytes are.
-fn image_of(alloc: Global, bytes: &[u8]) -> Result<RawImage, AllocError>
-    requires { length bytes.now % 8 ≡ 0 }
-    ensures { IfOk result (λ image. image ≡ words_of bytes.now) }
-{
-    let mut words = vec![in alloc; 0; bytes.len() / WORD_BYTES as usize]?;
-    words_of(bytes, &mut words);
-    RawImage::from_words(alloc, &words)
 }

@@ -1,8 +1,10 @@
-ghost use Rattle.std.specs.Prelude.{◌≡◌, IfOk, string_bytes};
-ghost use Rattle.pmempool.specs.Lines.{refusal_text, faulty_line, failure_line, failure_status};
+ghost use Rattle.std.specs.Prelude.{◌≡◌, ◌++◌, IfOk, codes};
+ghost use Rattle.pmempool.specs.Lines.{bad_line_text, refusal_text, refused_line, faulty_line, failure_line, failure_status, other_layout_line};
 
 use crate::status::Status;
 use pm_image::{ImageFault, text_of_fault};
+use pm_objects::Sequence;
+use pm_script::BadLine;
 use std::alloc::{AllocError, Global};
 
 /// Which value of a command is refused.
@@ -31,7 +33,7 @@ pub fn refusal_text(refusal: Refusal) -> &'static str
 }
 
 /// Why a command ended without its answer.
-#[derive(Clone, Copy, Debug)]
+#[derive(Drop)]
 pub enum Failure<'a> {
     /// The words are no command.
     Usage,
@@ -39,10 +41,14 @@ pub enum Failure<'a> {
     Refused(Refusal),
     /// The image has this fault.
     Faulty(ImageFault),
+    /// Another layout name was asked for than the pool has, which is kept.
+    OtherLayout { asked: &'a str, kept: Sequence<u8> },
     /// This name could not be read.
     NotRead(&'a str),
-    /// This name has more bytes than a pool.
+    /// This name has more bytes than what it is read for.
     TooLong(&'a str),
+    /// This is the first bad line of the script.
+    BadScript(BadLine),
     /// This name could not be written.
     NotWritten(&'a str),
     /// There was no memory.
@@ -50,37 +56,78 @@ pub enum Failure<'a> {
 }
 
 /// The line that tells of the failure, with its line feed.
-pub fn failure_line(alloc: Global, failure: Failure<'_>) -> Result<String, AllocError>
-    ensures { IfOk result (λ text. string_bytes text ≡ failure_line failure.entry) }
+pub fn failure_line(alloc: Global, failure: &Failure<'_>) -> Result<Vec<u8>, AllocError>
+    ensures { IfOk result (λ text. text.items ≡ failure_line failure.now) }
 {
     match failure {
-        Failure::Usage => String::from_str(alloc, "usage\n"),
-        Failure::Refused(refusal) => format!(in alloc; "refused {}\n", refusal_text(refusal)),
-        Failure::Faulty(found) => faulty_line(alloc, found),
-        Failure::NotRead(name) => format!(in alloc; "read fault {name}\n"),
-        Failure::TooLong(name) => format!(in alloc; "too long {name}\n"),
-        Failure::NotWritten(name) => format!(in alloc; "write fault {name}\n"),
-        Failure::NoMemory => String::from_str(alloc, "no memory\n"),
+        Failure::Usage => Vec::from_slice(alloc, b"usage\n"),
+        Failure::Refused(refusal) => refused_line(alloc, *refusal),
+        Failure::Faulty(found) => faulty_line(alloc, *found),
+        Failure::OtherLayout { asked, kept } => other_layout_line(alloc, asked, kept.as_slice()),
+        Failure::NotRead(name) => named_line(alloc, b"read fault ", name),
+        Failure::TooLong(name) => named_line(alloc, b"too long ", name),
+        Failure::BadScript(bad) => bad_script_line(alloc, bad.line),
+        Failure::NotWritten(name) => named_line(alloc, b"write fault ", name),
+        Failure::NoMemory => Vec::from_slice(alloc, b"no memory\n"),
     }
 }
 
-/// The line that tells of an image's fault.
-fn faulty_line(alloc: Global, found: ImageFault) -> Result<String, AllocError>
-    ensures { IfOk result (λ text. string_bytes text ≡ faulty_line found) }
+/// The line of a value that is refused.
+fn refused_line(alloc: Global, refusal: Refusal) -> Result<Vec<u8>, AllocError>
+    ensures { IfOk result (λ text. text.items ≡ refused_line refusal) }
 {
-    let text = text_of_fault(alloc, found)?;
-    format!(in alloc; "refused {text}\n")
+    let text = format!(in alloc; "refused {}\n", refusal_text(refusal))?;
+    Ok(text.into_bytes())
+}
+
+/// The line that tells of an image's fault.
+fn faulty_line(alloc: Global, found: ImageFault) -> Result<Vec<u8>, AllocError>
+    ensures { IfOk result (λ text. text.items ≡ faulty_line found) }
+{
+    let fault = text_of_fault(alloc, found)?;
+    let text = format!(in alloc; "refused {fault}\n")?;
+    Ok(text.into_bytes())
+}
+
+/// The line of a pool that has another layout name than was asked for.
+fn other_layout_line(alloc: Global, asked: &str, kept: &[u8]) -> Result<Vec<u8>, AllocError>
+    ensures { IfOk result (λ text. text.items ≡ other_layout_line asked.now kept.now) }
+{
+    let mut text = Vec::from_slice(alloc, b"refused Layout asked ")?;
+    text.extend_from_slice(asked.as_bytes())?;
+    text.extend_from_slice(b" kept ")?;
+    text.extend_from_slice(kept)?;
+    text.push(b'\n')?;
+    Ok(text)
+}
+
+/// The line of a script's first bad line.
+fn bad_script_line(alloc: Global, line: u64) -> Result<Vec<u8>, AllocError>
+    ensures { IfOk result (λ text. text.items ≡ bad_line_text line) }
+{
+    let text = format!(in alloc; "bad script line {line} Word\n")?;
+    Ok(text.into_bytes())
+}
+
+/// What befell a name, with the name and a line feed.
+fn named_line(alloc: Global, what: &[u8], name: &str) -> Result<Vec<u8>, AllocError>
+    ensures { IfOk result (λ text. text.items ≡ what.now ++ name.now ++ codes "\n") }
+{
+    let mut text = Vec::from_slice(alloc, what)?;
+    text.extend_from_slice(name.as_bytes())?;
+    text.push(b'\n')?;
+    Ok(text)
 }
 
 /// The status of a command that failed so.
-pub fn failure_status(failure: Failure<'_>) -> Status
-    ensures { result ≡ failure_status failure.entry }
+pub fn failure_status(failure: &Failure<'_>) -> Status
+    ensures { result ≡ failure_status failure.now }
 {
     match failure {
         Failure::Usage => Status::Usage,
-        Failure::Refused(_) => Status::Refused,
-        Failure::Faulty(_) => Status::Refused,
+        Failure::Refused(_) | Failure::Faulty(_) | Failure::OtherLayout { .. } => Status::Refused,
         Failure::NotRead(_) | Failure::TooLong(_) => Status::ReadFault,
+        Failure::BadScript(_) => Status::BadScript,
         Failure::NotWritten(_) => Status::WriteFault,
         Failure::NoMemory => Status::NoMemory,
     }

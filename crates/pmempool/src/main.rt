@@ -3,11 +3,12 @@
 //! Promises its user that `top` answers each list of words with the status and the lines of docs/COMMANDS.md,
 //! and that a name is put on the shelf exactly as the command says, and no other name changes. `main`
 //! hands `top` the files and the standard output, and ends with its status. It stands on `pm_pool` for
-//! what a pool is, on `pm_shelf` for the outside, and on `pm_script` for numbers.
+//! what a pool is, on `pm_exec` for runs, on `pm_shelf` for the outside, and on `pm_script` for scripts.
 #![tactic(auto)]
 
 mod create_command;
 mod dump_command;
+mod exec_command;
 mod failure;
 mod image_bytes;
 mod options;
@@ -24,6 +25,8 @@ use top::{say_failure, top};
 #[cfg(test)]
 mod image_tests;
 #[cfg(test)]
+mod run_tests;
+#[cfg(test)]
 mod tests;
 
 fn main(rt: HostRuntime) -> ExitCode {
@@ -31,7 +34,7 @@ fn main(rt: HostRuntime) -> ExitCode {
     let mut out = OutputSink::new(&rt);
     let status = match words_of(&rt) {
         Ok(words) => top(rt.alloc(), &words, &mut shelf, &mut out),
-        Err(failure) => say_failure(rt.alloc(), failure, &mut out),
+        Err(failure) => say_failure(rt.alloc(), &failure, &mut out),
     };
     ExitCode::from(status.code())
 }

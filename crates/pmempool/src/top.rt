@@ -1,15 +1,17 @@
 ghost use Rattle.std.specs.Prelude.{◌≡◌, ◌⊎◌, ℕ, List, Some, IfOk, IfErr};
 ghost use Rattle.pm_objects.specs.declared.pool.PoolView.{PoolView};
 ghost use Rattle.pm_shelf.specs.Outside.{Held, Rose, IsThere, MayAddPart};
-ghost use Rattle.pmempool.specs.Words.{Create, IsCreate, IsDump, IsNoCommand, texts};
+ghost use Rattle.pmempool.specs.Words.{Create, Exec, IsCreate, IsDump, IsExec, IsNoCommand, texts};
 ghost use Rattle.pmempool.specs.Refusals.{IsGood};
 ghost use Rattle.pmempool.specs.PoolFiles.{BytesMean};
+ghost use Rattle.pmempool.specs.Executed.{CanRun};
 ghost use Rattle.pmempool.specs.Lines.{failure_line, failure_status, no_memory_line};
-ghost use Rattle.pmempool.specs.Answers.{pool_bytes, IsDone, IsDumped, IsRefused, IsShownFaulty, IsUsage, IsNotRead, IsNotWritten, IsNotPrinted, IsNoMemory, DidCommand, DidFail};
+ghost use Rattle.pmempool.specs.Answers.{pool_bytes, IsBadScript, IsDone, IsDumped, IsExecuted, IsOfAnotherLayout, IsRefused, IsShownFaulty, IsUsage, IsNotRead, IsNotWritten, IsNotPrinted, IsNoMemory, DidCommand, DidFail};
 ghost use Rattle.pmempool.specs.Saying.{Said};
 
 use crate::create_command::run_create;
 use crate::dump_command::run_dump;
+use crate::exec_command::run_exec;
 use crate::failure::{Failure, failure_line, failure_status};
 use crate::options::{Command, command_of};
 use crate::status::Status;
@@ -24,10 +26,12 @@ const NO_MEMORY_LINE: &[u8] = b"no memory\n";
 pub fn top<S: Shelf, K: Sink>(alloc: Global, words: &[String], shelf: &mut S, out: &mut K) -> Status
     ensures done { result ≡ Status.Done →
         IsDone (texts words.now) (S.content shelf.old) (S.content shelf.new) (K.told out.old) (K.told out.new)
-        ⊎ IsDumped (texts words.now) (S.content shelf.old) (S.content shelf.new) (K.told out.old) (K.told out.new) }
+        ⊎ IsDumped (texts words.now) (S.content shelf.old) (S.content shelf.new) (K.told out.old) (K.told out.new)
+        ⊎ IsExecuted (texts words.now) (S.content shelf.old) (S.content shelf.new) (K.told out.old) (K.told out.new) }
     ensures refused { result ≡ Status.Refused →
         IsRefused (texts words.now) (S.content shelf.old) (S.content shelf.new) (K.told out.old) (K.told out.new)
-        ⊎ IsShownFaulty (texts words.now) (S.content shelf.old) (S.content shelf.new) (K.told out.old) (K.told out.new) }
+        ⊎ IsShownFaulty (texts words.now) (S.content shelf.old) (S.content shelf.new) (K.told out.old) (K.told out.new)
+        ⊎ IsOfAnotherLayout (texts words.now) (S.content shelf.old) (S.content shelf.new) (K.told out.old) (K.told out.new) }
     ensures usage { result ≡ Status.Usage → IsUsage (texts words.now) (S.content shelf.old) (S.content shelf.new) (K.told out.old) (K.told out.new) }
     ensures read_fault { result ≡ Status.ReadFault →
         IsNotRead (texts words.now) (S.content shelf.old) (S.content shelf.new) (S.faults shelf.old) (S.faults shelf.new) (K.told out.old) (K.told out.new) }
@@ -35,10 +39,11 @@ pub fn top<S: Shelf, K: Sink>(alloc: Global, words: &[String], shelf: &mut S, ou
         IsNotWritten (texts words.now) (S.content shelf.old) (S.faults shelf.old) (S.faults shelf.new) (K.told out.old) (K.told out.new)
         ⊎ IsNotPrinted (texts words.now) (S.content shelf.old) (K.faults out.old) (K.faults out.new) (K.told out.old) (K.told out.new) }
     ensures no_memory { result ≡ Status.NoMemory → IsNoMemory (texts words.now) (S.content shelf.old) (K.told out.old) (K.told out.new) }
-    ensures bad_script { result ≡ Status.BadScript → ⊥ }
+    ensures bad_script { result ≡ Status.BadScript → IsBadScript (texts words.now) (S.content shelf.old) (S.content shelf.new) (K.told out.old) (K.told out.new) }
 
     // Whatever the status: no name but the new pool's changes, and that is as it was, or new with a front of the pool.
     ensures one_name { (c : Create) → IsCreate (texts words.now) c → MayAddPart (S.content shelf.old) (S.content shelf.new) c.pool (pool_bytes c) }
+    ensures exec_name { (e : Exec) → IsExec (texts words.now) e → (written : List ℕ) × MayAddPart (S.content shelf.old) (S.content shelf.new) e.out written }
     ensures dump_writes_none { (name : List ℕ) → IsDump (texts words.now) name → S.content shelf.new ≡ S.content shelf.old }
     ensures no_name { IsNoCommand (texts words.now) → S.content shelf.new ≡ S.content shelf.old }
 
@@ -52,6 +57,11 @@ pub fn top<S: Shelf, K: Sink>(alloc: Global, words: &[String], shelf: &mut S, ou
         → held name ≡ Some bytes → BytesMean bytes pool
         → ¬ Rose (S.faults shelf.old) (S.faults shelf.new) → ¬ Rose (K.faults out.old) (K.faults out.new)
         → (result ≡ Status.Done) ⊎ (result ≡ Status.NoMemory) }
+
+    // A pool of the layout and a script under their names, a new name and no fault: done, or want of memory.
+    ensures exec_complete { (e : Exec) (held : Held) → IsExec (texts words.now) e → S.content shelf.old ≡ Some held → CanRun held e
+        → ¬ Rose (S.faults shelf.old) (S.faults shelf.new) → ¬ Rose (K.faults out.old) (K.faults out.new)
+        → (result ≡ Status.Done) ⊎ (result ≡ Status.NoMemory) }
 {
     answer(alloc, words, shelf, out)
 }
@@ -60,10 +70,12 @@ pub fn top<S: Shelf, K: Sink>(alloc: Global, words: &[String], shelf: &mut S, ou
 fn answer<S: Shelf, K: Sink>(alloc: Global, words: &[String], shelf: &mut S, out: &mut K) -> Status
     ensures done { result ≡ Status.Done →
         IsDone (texts words.now) (S.content shelf.old) (S.content shelf.new) (K.told out.old) (K.told out.new)
-        ⊎ IsDumped (texts words.now) (S.content shelf.old) (S.content shelf.new) (K.told out.old) (K.told out.new) }
+        ⊎ IsDumped (texts words.now) (S.content shelf.old) (S.content shelf.new) (K.told out.old) (K.told out.new)
+        ⊎ IsExecuted (texts words.now) (S.content shelf.old) (S.content shelf.new) (K.told out.old) (K.told out.new) }
     ensures refused { result ≡ Status.Refused →
         IsRefused (texts words.now) (S.content shelf.old) (S.content shelf.new) (K.told out.old) (K.told out.new)
-        ⊎ IsShownFaulty (texts words.now) (S.content shelf.old) (S.content shelf.new) (K.told out.old) (K.told out.new) }
+        ⊎ IsShownFaulty (texts words.now) (S.content shelf.old) (S.content shelf.new) (K.told out.old) (K.told out.new)
+        ⊎ IsOfAnotherLayout (texts words.now) (S.content shelf.old) (S.content shelf.new) (K.told out.old) (K.told out.new) }
     ensures usage { result ≡ Status.Usage → IsUsage (texts words.now) (S.content shelf.old) (S.content shelf.new) (K.told out.old) (K.told out.new) }
     ensures read_fault { result ≡ Status.ReadFault →
         IsNotRead (texts words.now) (S.content shelf.old) (S.content shelf.new) (S.faults shelf.old) (S.faults shelf.new) (K.told out.old) (K.told out.new) }
@@ -71,14 +83,15 @@ fn answer<S: Shelf, K: Sink>(alloc: Global, words: &[String], shelf: &mut S, out
         IsNotWritten (texts words.now) (S.content shelf.old) (S.faults shelf.old) (S.faults shelf.new) (K.told out.old) (K.told out.new)
         ⊎ IsNotPrinted (texts words.now) (S.content shelf.old) (K.faults out.old) (K.faults out.new) (K.told out.old) (K.told out.new) }
     ensures no_memory { result ≡ Status.NoMemory → IsNoMemory (texts words.now) (S.content shelf.old) (K.told out.old) (K.told out.new) }
-    ensures bad_script { result ≡ Status.BadScript → ⊥ }
+    ensures bad_script { result ≡ Status.BadScript → IsBadScript (texts words.now) (S.content shelf.old) (S.content shelf.new) (K.told out.old) (K.told out.new) }
     ensures one_name { (c : Create) → IsCreate (texts words.now) c → MayAddPart (S.content shelf.old) (S.content shelf.new) c.pool (pool_bytes c) }
+    ensures exec_name { (e : Exec) → IsExec (texts words.now) e → (written : List ℕ) × MayAddPart (S.content shelf.old) (S.content shelf.new) e.out written }
     ensures dump_writes_none { (name : List ℕ) → IsDump (texts words.now) name → S.content shelf.new ≡ S.content shelf.old }
     ensures no_name { IsNoCommand (texts words.now) → S.content shelf.new ≡ S.content shelf.old }
 {
     match run(alloc, words, shelf) {
         Ok(text) => say(out, &text, Status::Done),
-        Err(failure) => say_failure(alloc, failure, out),
+        Err(failure) => say_failure(alloc, &failure, out),
     }
 }
 
@@ -91,26 +104,32 @@ fn run<'a, S: Shelf>(
     ensures did { IfOk result (λ text. DidCommand (texts words.now) (S.content shelf.old) (S.content shelf.new) text.items) }
     ensures failed { IfErr result (DidFail (texts words.now) (S.content shelf.old) (S.content shelf.new) (S.faults shelf.old) (S.faults shelf.new)) }
     ensures one_name { (c : Create) → IsCreate (texts words.now) c → MayAddPart (S.content shelf.old) (S.content shelf.new) c.pool (pool_bytes c) }
+    ensures exec_name { (e : Exec) → IsExec (texts words.now) e → (written : List ℕ) × MayAddPart (S.content shelf.old) (S.content shelf.new) e.out written }
     ensures dump_writes_none { (name : List ℕ) → IsDump (texts words.now) name → S.content shelf.new ≡ S.content shelf.old }
     ensures no_name { IsNoCommand (texts words.now) → S.content shelf.new ≡ S.content shelf.old }
 {
-    match command_of(words) {
+    let command = match command_of(alloc, words) {
+        Ok(command) => command,
+        Err(AllocError) => return Err(Failure::NoMemory),
+    };
+    match command {
         Some(Command::Create(create)) => match run_create(alloc, &create, shelf) {
             Ok(line) => Ok(line.into_bytes()),
             Err(failure) => Err(failure),
         },
         Some(Command::Dump(name)) => run_dump(alloc, name, shelf),
+        Some(Command::Exec(exec)) => run_exec(alloc, &exec, shelf),
         None => Err(Failure::Usage),
     }
 }
 
 /// Prints the line of a failure, or the one for want of memory.
-pub fn say_failure<K: Sink>(alloc: Global, failure: Failure<'_>, out: &mut K) -> Status
-    ensures { Said (K.told out.old) (K.told out.new) (K.faults out.old) (K.faults out.new) (failure_line failure.entry) (failure_status failure.entry) result
+pub fn say_failure<K: Sink>(alloc: Global, failure: &Failure<'_>, out: &mut K) -> Status
+    ensures { Said (K.told out.old) (K.told out.new) (K.faults out.old) (K.faults out.new) (failure_line failure.now) (failure_status failure.now) result
         ⊎ Said (K.told out.old) (K.told out.new) (K.faults out.old) (K.faults out.new) no_memory_line Status.NoMemory result }
 {
     match failure_line(alloc, failure) {
-        Ok(line) => say(out, line.as_bytes(), failure_status(failure)),
+        Ok(line) => say(out, &line, failure_status(failure)),
         Err(AllocError) => say(out, NO_MEMORY_LINE, Status::NoMemory),
     }
 }

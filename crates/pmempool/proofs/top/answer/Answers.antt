@@ -1,4 +1,4 @@
-use Rattle.pmempool.proofs.Printing.{done_done, write_fault_done, no_memory_done, refused_failed, write_fault_failed, no_memory_failed}
+use Rattle.pmempool.proofs.Printing.{done_done, write_fault_done, no_memory_done, refused_failed, read_fault_failed, bad_script_failed, write_fault_failed, no_memory_failed}
 use Rattle.pmempool.proofs.top.answer.Goals as goal
 
 pub returns-in-Ok-clause-done : goal.returns-in-Ok-clause-done
@@ -18,3 +18,9 @@ returns-in-Err-clause-write_fault g c = write_fault_failed _ _ _ _ _ _ _ _ _ _ _
 
 pub returns-in-Err-clause-no_memory : goal.returns-in-Err-clause-no_memory
 returns-in-Err-clause-no_memory g c = no_memory_failed _ _ _ _ _ _ _ _ _ _ _ c.in-Err.ensures.failed c.say_failure.ensures
+
+pub returns-in-Err-clause-read_fault : goal.returns-in-Err-clause-read_fault
+returns-in-Err-clause-read_fault g c = read_fault_failed _ _ _ _ _ _ _ _ _ _ _ c.in-Err.ensures.failed c.say_failure.ensures
+
+pub returns-in-Err-clause-bad_script : goal.returns-in-Err-clause-bad_script
+returns-in-Err-clause-bad_script g c = bad_script_failed _ _ _ _ _ _ _ _ _ _ _ c.in-Err.ensures.failed c.say_failure.ensures

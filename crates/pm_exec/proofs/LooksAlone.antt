@@ -1,0 +1,31 @@
+-- What a lane that is alone keeps while it looks at words.
+use Rattle.std.proofs.Common.{◌≡◌, ℕ, zero, suc, set, refl, sym, ap, ◌∙◌, subst}
+use Rattle.std.proofs.lemmas.List.{set-get_or}
+use Rattle.pm_tx.specs.Learning.{Looks}
+use Rattle.pm_view.specs.Founds.{IsAlone}
+use Rattle.pm_view.specs.View.{View}
+
+-- the words, the call, its number and the entries are the same
+pub record IsSameBut (v w : View) : Type 0 where
+  pub alone : IsAlone w
+  pub lane : w.lane ≡ v.lane
+  pub words : w.words ≡ v.words
+  pub call : w.call ≡ v.call
+  pub number : w.number ≡ v.number
+  pub entries : w.entries ≡ v.entries
+
+pub looks_same : (n : ℕ) (v w : View) → Looks n v w → IsAlone v → IsSameBut v w
+unfolding Looks
+looks_same zero v w is alone = subst (IsSameBut v) (sym is) (record { alone = alone; lane = refl; words = refl; call = refl; number = refl; entries = refl })
+looks_same (suc n) v w t alone =
+    let m : View = t.0 in
+    let front : IsSameBut v m = looks_same n v m t.3 alone in
+    let found : set m.words t.1 t.2 ≡ m.words = ap (set m.words t.1) (t.5.1 front.alone) ∙ set-get_or m.words t.1 0 in
+    subst (IsSameBut v) (sym t.6) (record {
+      alone = front.alone;
+      lane = front.lane;
+      words = found ∙ front.words;
+      call = front.call;
+      number = front.number;
+      entries = front.entries;
+    })

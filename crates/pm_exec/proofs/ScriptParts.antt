@@ -1,0 +1,135 @@
+-- A script's lines: a begin, changes, and a commit.
+use Rattle.std.proofs.Common.{◌≡◌, ℕ, zero, suc, ◌+◌, ◌-◌, ◌<◌, ◌≤◌, All, List, [], ◌∷◌, ◌++◌, drop, get_or, length, take, Result, refl, sym, ap, ◌∙◌, subst, arith, length-append, append_assoc}
+use Rattle.std.proofs.Math.ListN.{get_or-map}
+use Rattle.std.proofs.Math.Seq.{take-length}
+use Rattle.std.proofs.lemmas.List.{length-map, map-append, take-append-drop, take-append-le, take_more}
+use Rattle.std.proofs.lemmas.List.Elements.{All-get_or}
+use Rattle.pm_memory.specs.Solo.{Solo}
+use Rattle.pm_objects.specs.declared.ids.Oid.{Oid}
+use Rattle.pm_script.specs.Scripts.{IsChange, IsTransaction, operations}
+use Rattle.pm_script.specs.declared.script.ScriptLine.{ScriptLine}
+use Rattle.pm_script.specs.declared.script.ScriptOp.{ScriptOp}
+use Rattle.pm_script.specs.declared.script.ScriptOp.TheVariants as op
+use Rattle.pm_view.specs.View.{View}
+use Rattle.pm_world.specs.Opening.{Opening}
+use Rattle.pm_world.specs.declared.lane.Lane.{Lane}
+use Rattle.pm_exec.specs.Progress.{CameTo, IsAtLine, IsNotDone}
+use Rattle.pm_exec.specs.declared.lines.NotDone.{NotDone}
+use Rattle.pm_exec.proofs.CommitLine.{operations_more}
+
+pub record Parts (script : List ScriptLine) : Type 0 where
+  pub begin : ScriptLine
+  pub changes : List ScriptLine
+  pub commit : ScriptLine
+  pub is : script ≡ (begin ∷ changes) ++ commit ∷ []
+  pub begins : begin.operation ≡ op.Begin
+  pub are : All IsChange (operations changes)
+  pub commits : commit.operation ≡ op.Commit
+
+-- the last of some lines, and those before it
+record Ends (script : List ScriptLine) (ops : List ScriptOp) : Type 0 where
+  before : List ScriptLine
+  last : ScriptLine
+  is : script ≡ before ++ last ∷ []
+  same : operations before ≡ ops
+  commits : last.operation ≡ op.Commit
+
+ends_with : (script : List ScriptLine) (ops : List ScriptOp) → operations script ≡ ops ++ op.Commit ∷ [] → Ends script ops
+ends_with [] [] same = absurd cc
+ends_with [] (o ∷ ops) same = absurd cc
+ends_with (x ∷ []) [] same = record { before = []; last = x; is = refl; same = refl; commits = cc }
+ends_with (x ∷ y ∷ script) [] same = absurd cc
+ends_with (x ∷ script) (o ∷ ops) same =
+    let head : x.operation ≡ o = cc in
+    let rest : Ends script ops = ends_with script ops cc in
+    record { before = x ∷ rest.before; last = rest.last; is = ap (λ (ls : List ScriptLine). x ∷ ls) rest.is; same = (λ i. head i ∷ rest.same i); commits = rest.commits }
+
+pub parts : (script : List ScriptLine) → IsTransaction (operations script) → Parts script
+parts [] t = absurd (let clash = t.1 in cc)
+parts (x ∷ script) t =
+    let same = t.1 in
+    let e : Ends script t.0 = ends_with script t.0 cc in
+    record {
+      begin = x;
+      changes = e.before;
+      commit = e.last;
+      is = ap (λ (ls : List ScriptLine). x ∷ ls) e.is;
+      begins = cc;
+      are = subst (All IsChange) (sym e.same) t.2;
+      commits = e.commits;
+    }
+
+module _ (script : List ScriptLine) (p : Parts script) where
+  long : length script ≡ length p.changes + 2
+  long = ap length p.is ∙ (let e = length-append (p.begin ∷ p.changes) (p.commit ∷ []) in omega (arith, e))
+
+  pub two : 2 ≤ length script
+  two = let n = long in omega (arith, n)
+
+  middle_of : (xs : List ScriptLine) (last : ScriptLine) (n : ℕ) → n ≡ length xs → take n (xs ++ last ∷ []) ≡ xs
+  middle_of xs last n is = ap (λ k. take k (xs ++ last ∷ [])) is ∙ (take-append-le (length xs) xs (last ∷ []) (omega arith) ∙ take-length xs)
+
+  pub middle : take (length script - 1 - 1) (drop 1 script) ≡ p.changes
+  middle =
+      ap (λ (ls : List ScriptLine). take (length script - 1 - 1) (drop 1 ls)) p.is
+      ∙ middle_of p.changes p.commit (length script - 1 - 1) (let n = long in omega (arith, n))
+
+  pub first_line : (d : ScriptLine) → get_or script 0 d ≡ p.begin
+  first_line d = ap (λ (ls : List ScriptLine). get_or ls 0 d) p.is
+
+  pub changes_are : All IsChange (operations (take (length script - 1 - 1) (drop 1 script)))
+  changes_are = subst (λ (ls : List ScriptLine). All IsChange (operations ls)) (sym middle) p.are
+
+  module _ (o : Opening) (first : View) (root : Oid) where
+    pub begun_not : (new : Lane Solo) (why : NotDone) (said : ScriptLine) → said ≡ get_or script 0 said → ((rest : List ScriptLine) → IsNotDone o first new root (said ∷ rest) why) → IsNotDone o first new root script why
+    begun_not new why said is so =
+        subst (λ (ls : List ScriptLine). IsNotDone o first new root ls why) (ap (λ (s : ScriptLine). s ∷ (p.changes ++ p.commit ∷ [])) (is ∙ first_line said) ∙ sym p.is) (so (p.changes ++ p.commit ∷ []))
+
+    front_is : op.Begin ∷ operations (take (length script - 1 - 1) (drop 1 script)) ≡ operations (p.begin ∷ p.changes)
+    front_is = (λ i. sym p.begins i ∷ operations (middle i))
+
+    begin_is : op.Begin ∷ [] ≡ operations (p.begin ∷ [])
+    begin_is = ap (λ (x : ScriptOp). x ∷ []) (sym p.begins)
+
+    pub changed_not : (mid new : Lane Solo) (why : NotDone) → IsAtLine o first mid root (op.Begin ∷ [])
+        → ((front rest : List ScriptLine) → IsAtLine o first mid root (operations front) → IsNotDone o first new root (front ++ take (length script - 1 - 1) (drop 1 script) ++ rest) why) → IsNotDone o first new root script why
+    changed_not mid new why at so =
+        subst (λ (ls : List ScriptLine). IsNotDone o first new root ls why) (ap (λ (ls : List ScriptLine). ((p.begin ∷ []) ++ ls) ++ p.commit ∷ []) middle ∙ sym p.is)
+        (so (p.begin ∷ []) (p.commit ∷ []) (subst (IsAtLine o first mid root) begin_is at))
+
+    pub committed_or_not : {T : Type 0} (mid new : Lane Solo) (result : Result T NotDone) → IsAtLine o first mid root (op.Begin ∷ operations (take (length script - 1 - 1) (drop 1 script)))
+        → ((front : List ScriptLine) (said : ScriptLine) → IsAtLine o first mid root (operations front) → said.operation ≡ op.Commit → CameTo o first new root (front ++ said ∷ []) result) → CameTo o first new root script result
+    committed_or_not mid new result at so =
+        subst (λ (ls : List ScriptLine). CameTo o first new root ls result) (sym p.is) (so (p.begin ∷ p.changes) p.commit (subst (IsAtLine o first mid root) front_is at) p.commits)
+
+-- the first lines of some, and one more
+pub operations_taken : (lines : List ScriptLine) (i : ℕ) (said : ScriptLine) → i < length lines → said ≡ get_or lines i said → operations (take (i + 1) lines) ≡ operations (take i lines) ++ said.operation ∷ []
+operations_taken lines i said low is =
+    ap (λ (ls : List ScriptLine). operations ls) (take_more lines i said low ∙ ap (λ (s : ScriptLine). take i lines ++ s ∷ []) (sym is)) ∙ operations_more (take i lines) said
+
+-- a line stands between those before it and those behind
+pub between : (lines front rest : List ScriptLine) (i : ℕ) (said : ScriptLine) → i < length lines → said ≡ get_or lines i said → (front ++ take i lines) ++ said ∷ (drop (i + 1) lines ++ rest) ≡ front ++ lines ++ rest
+between lines front rest i said low is =
+    let before : List ScriptLine = take i lines in
+    let behind : List ScriptLine = drop (i + 1) lines in
+    let all : (before ++ said ∷ []) ++ behind ≡ lines =
+    ap (λ (ls : List ScriptLine). ls ++ behind) (sym (take_more lines i said low ∙ ap (λ (s : ScriptLine). before ++ s ∷ []) (sym is))) ∙ take-append-drop (i + 1) lines in
+    append_assoc front before (said ∷ (behind ++ rest))
+    ∙ ap (λ (ls : List ScriptLine). front ++ ls) (sym (append_assoc before (said ∷ []) (behind ++ rest)) ∙ (sym (append_assoc (before ++ said ∷ []) behind rest) ∙ ap (λ (ls : List ScriptLine). ls ++ rest) all))
+    ∙ sym (append_assoc front lines rest)
+
+-- a line of some changes is one
+pub change_at_index : (lines : List ScriptLine) → All IsChange (operations lines) → (i : ℕ) (said : ScriptLine) → i < length lines → said ≡ get_or lines i said → IsChange said.operation
+change_at_index lines are i said low is =
+    subst IsChange (get_or-map (λ (l : ScriptLine). l.operation) lines i said ∙ ap (λ (l : ScriptLine). l.operation) (sym is))
+    (All-get_or IsChange (operations lines) i said.operation (let n = length-map lines (λ (l : ScriptLine). l.operation) in omega (arith, low, n)) are)
+
+-- all the lines
+pub taken_all : (lines : List ScriptLine) (i : ℕ) → length lines ≤ i → take i lines ≡ lines
+taken_all [] zero past = refl
+taken_all [] (suc i) past = refl
+taken_all (l ∷ lines) zero past = absurd (omega (arith, past))
+taken_all (l ∷ lines) (suc i) past = ap (λ (ls : List ScriptLine). l ∷ ls) (taken_all lines i (omega (arith, past)))
+
+pub operations_both : (front lines : List ScriptLine) → operations front ++ operations lines ≡ operations (front ++ lines)
+operations_both front lines = sym (map-append (λ (l : ScriptLine). l.operation) front lines)

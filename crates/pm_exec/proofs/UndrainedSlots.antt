@@ -1,0 +1,206 @@
+-- What a lane that begins alone has undrained of its slots, along its steps: words of the log's records and of the one in the making, and none
+-- where the log may not grow. So at work, with its records drained, it is quiet.
+use Rattle.std.proofs.Common.{◌≡◌, ⊎_elim, ℕ, ◌+◌, ◌-◌, ◌*◌, ◌/◌, ◌<◌, ◌≤◌, Bool, true, false, not, cond, List, [], ◌∷◌, ◌++◌, length, slice_index, refl, sym, ◌∙◌, ap, subst, arith, length-append, eq-eqb}
+use Rattle.std.specs.List.{Contains, list_any}
+use Rattle.std.proofs.lemmas.Bool.{false≢true}
+use Rattle.std.proofs.lemmas.List.Folds.{list_any-from_Any}
+use Rattle.std.proofs.lemmas.List.Elements.{Contains-append_cases}
+use Rattle.pm_header.specs.declared.header.Header.{Header}
+use Rattle.pm_objects.specs.declared.pool.PoolView.{PoolView}
+use Rattle.pm_image.proofs.Members.{member_kept, member_made, no_member, only_member}
+use Rattle.pm_image.specs.Logs.{slot_line}
+use Rattle.pm_view.specs.declared.change.Change.{Change}
+use Rattle.pm_view.specs.Area.{Part, area_word, part_of}
+use Rattle.pm_view.specs.Area.Part.{EntryWord, GenerationWord, OtherWord, SealWord, SlotWord}
+use Rattle.pm_view.specs.Changes.{drained, flushed, is_in_line, mark, store_change}
+use Rattle.pm_view.specs.Log.{Log, Phase, log_drawn, log_stored, with_slot}
+use Rattle.pm_view.specs.Log.Phase.{Idle, Open, Drawn, Sealing, Applying, Clearing, Retiring}
+use Rattle.pm_view.specs.Steps.{Step}
+use Rattle.pm_view.specs.Steps.Step.{Load, Store, Or, And, Flush, Drain, TakeWrite, TakeRead, Raise, Give, ZoneTry, ZoneGive, Occupied, Occupy, Vacate, Draw, NumberSeen, StopSeen, SetStop, Tell}
+use Rattle.pm_view.specs.View.{View}
+use Rattle.pm_view.specs.Views.{after, begun, changed, log_after_drain}
+use Rattle.pm_view.proofs.SameLane.{same_lane-after_all}
+use Rattle.pm_world.specs.Lawful.{Allowed, EndsGeneration, StoreFits}
+use Rattle.pm_world.proofs.CrashLogs.{InSlots}
+use Rattle.pm_world.specs.Opening.{Opening}
+use Rattle.pm_undo.specs.Working.{IsWorking}
+use Rattle.pm_undo.proofs.Areas.{slot_part}
+use Rattle.pm_crash.specs.Alone.{BeginsAlone}
+use Rattle.pm_crash.specs.Leading.{Leads}
+use Rattle.pm_crash.proofs.Leading.{leads_end}
+use Rattle.pm_crash.proofs.LogCourse.{Slotted, slotted}
+use Rattle.pm_exec.specs.Quiet.{IsQuiet, MakesNone}
+use Rattle.pm_exec.proofs.QuietSlots.{quiet_between}
+
+-- how many words of slots may be undrained
+abbrev pub slot_words : Phase → Log → ℕ
+slot_words (Open slot pair) log = 8 * length log.records + length slot
+slot_words phase log = 0
+
+-- undrained slot words are among the first so many
+abbrev pub AreFirst : ℕ → ℕ → List Change → Type 0
+AreFirst lane count changes = (c : Change) → Contains changes c → InSlots lane c.word → c.word < area_word lane + 136 + count
+
+abbrev pub HasFirst : View → Type 0
+HasFirst v = AreFirst v.lane (slot_words v.log.phase v.log) v.changes
+
+none_first : (lane count : ℕ) → AreFirst lane count []
+none_first lane count c there = absurd (no_member c there)
+
+empty_first : (lane count : ℕ) (changes : List Change) → changes ≡ [] → AreFirst lane count changes
+empty_first lane count changes none = subst (AreFirst lane count) (sym none) (none_first lane count)
+
+-- a change more
+one_more : (lane count : ℕ) (changes : List Change) (d : Change) → AreFirst lane count changes → (InSlots lane d.word → d.word < area_word lane + 136 + count) → AreFirst lane count (changes ++ d ∷ [])
+one_more lane count changes d first last c there slots = ⊎_elim
+    (λ (old : Contains changes c). first c old slots)
+    (λ (new : Contains (d ∷ []) c).
+    let word : d.word ≡ c.word = ap (λ (e : Change). e.word) (only_member d c new) in
+    let low = last (subst (InSlots lane) (sym word) slots) in omega (arith, low, word))
+    (Contains-append_cases changes (d ∷ []) c there)
+
+wider : (lane count more : ℕ) (changes : List Change) → count ≤ more → AreFirst lane count changes → AreFirst lane more changes
+wider lane count more changes at first c there slots = let low = first c there slots in omega (arith, low, at)
+
+marked_word : (c : Change) (b : Bool) → (cond b (record c { flushed = true }) c).word ≡ c.word
+marked_word c true = refl
+marked_word c false = refl
+
+flushed_first : (lane count line : ℕ) (changes : List Change) → AreFirst lane count changes → AreFirst lane count (flushed line changes)
+flushed_first lane count line changes first c there slots =
+    let d = member_made (mark line) changes c there in
+    let word : d.0.word ≡ c.word = sym (marked_word d.0 (is_in_line line d.0)) ∙ ap (λ (x : Change). x.word) d.1.1 in
+    let low = first d.0 d.1.0 (subst (InSlots lane) (sym word) slots) in omega (arith, low, word)
+
+-- a word of the slots is a slot word
+in_slots_part : (lane w : ℕ) → InSlots lane w → part_of lane w ≡ SlotWord
+in_slots_part lane w slots =
+    let low = slots.low in
+    let high = slots.high in
+    let slot : ℕ = w / 8 - (81 + 128 * lane) in
+    let i : ℕ = w - 8 * (w / 8) in
+    (slot_part lane slot i w (omega (arith, low, high)) (omega (arith, low, high)) (omega (arith, low, high))).0
+
+slot_not_other : (lane w : ℕ) → part_of lane w ≡ OtherWord → InSlots lane w → ⊥
+slot_not_other lane w part slots = let clash : SlotWord ≡ OtherWord = sym (in_slots_part lane w slots) ∙ part in cc
+
+slot_not_generation : (lane w : ℕ) → part_of lane w ≡ GenerationWord → InSlots lane w → ⊥
+slot_not_generation lane w part slots = let clash : SlotWord ≡ GenerationWord = sym (in_slots_part lane w slots) ∙ part in cc
+
+module _ (v : View) (w x : ℕ) where
+  abbrev change : Change
+  change = store_change w (slice_index v.words w) x
+
+  abbrev stored : Log → View
+  stored log = changed v w x change log
+
+  -- a slot's next word
+  in_slot : (slot pair : List ℕ) → StoreFits v w x (Open slot pair) SlotWord → AreFirst v.lane (slot_words (Open slot pair) v.log) v.changes → HasFirst (stored (with_slot v.log (slot ++ x ∷ []) pair))
+  in_slot slot pair may first =
+      let s : Slotted v.log (slot ++ x ∷ []) pair = slotted v.log (slot ++ x ∷ []) pair in
+      let at = may.at in
+      let count = s.count in
+      let more = length-append slot (x ∷ []) in
+      let all : ℕ = 8 * length (with_slot v.log (slot ++ x ∷ []) pair).records + length s.slot in
+      subst (λ (p : Phase). AreFirst v.lane (slot_words p (with_slot v.log (slot ++ x ∷ []) pair)) (v.changes ++ change ∷ [])) (sym s.is_open)
+      (one_more v.lane all v.changes change (wider v.lane (8 * length v.log.records + length slot) all v.changes (omega (arith, count, more)) first)
+      (λ slots. omega (arith, at, count, more)))
+
+  -- the generation, with nothing undrained
+  ends_first : (count : ℕ) → part_of v.lane w ≡ GenerationWord → EndsGeneration v x → AreFirst v.lane count (v.changes ++ change ∷ [])
+  ends_first count part ends =
+      one_more v.lane count v.changes change (empty_first v.lane count v.changes ends.drained) (λ slots. absurd (slot_not_generation v.lane w part slots))
+
+  store_first : (p : Phase) (part : Part) → v.log.phase ≡ p → part_of v.lane w ≡ part → StoreFits v w x p part → AreFirst v.lane (slot_words p v.log) v.changes → HasFirst (stored (log_stored p part x v.log))
+  store_first Idle part is of may first = absurd may
+  store_first (Open slot pair) GenerationWord is of may first = ends_first 0 of may.ends
+  store_first (Open slot pair) SealWord is of may first = absurd may
+  store_first (Open slot pair) EntryWord is of may first = absurd may
+  store_first (Open slot pair) SlotWord is of may first = in_slot slot pair may first
+  store_first (Open slot pair) OtherWord is of may first =
+      subst (λ (p : Phase). AreFirst v.lane (slot_words p v.log) (v.changes ++ change ∷ [])) (sym is)
+      (one_more v.lane (8 * length v.log.records + length slot) v.changes change first (λ slots. absurd (slot_not_other v.lane w of slots)))
+  store_first Drawn GenerationWord is of may first = ends_first 0 of may
+  store_first Drawn SealWord is of may first = absurd may
+  store_first Drawn EntryWord is of may first = absurd may
+  store_first Drawn SlotWord is of may first = absurd may
+  store_first Drawn OtherWord is of may first = absurd may
+  store_first Sealing part is of may first = absurd may
+  store_first (Applying applied) part is of may first = absurd may
+  store_first Clearing part is of may first = absurd may
+  store_first Retiring part is of may first = absurd may
+
+-- with some changes fewer, or none
+abbrev emptied : View → List Change → View
+emptied v left = record v { changes = left; calls = v.calls + 1; log = log_after_drain left v }
+
+drain_first : (v : View) (left : List Change) → AreFirst v.lane (slot_words v.log.phase v.log) left → HasFirst (emptied v left)
+drain_first v [] first = none_first v.lane (slot_words (log_after_drain [] v).phase (log_after_drain [] v))
+drain_first v (c ∷ left) first = first
+
+begun_first : (v : View) (p : Phase) → v.log.phase ≡ p → AreFirst v.lane (slot_words p v.log) v.changes → HasFirst (begun p v)
+begun_first v Idle is first = first
+begun_first v (Open slot pair) is first = subst (λ (p : Phase). AreFirst v.lane (slot_words p v.log) v.changes) (sym is) first
+begun_first v Drawn is first = subst (λ (p : Phase). AreFirst v.lane (slot_words p v.log) v.changes) (sym is) first
+begun_first v Sealing is first = subst (λ (p : Phase). AreFirst v.lane (slot_words p v.log) v.changes) (sym is) first
+begun_first v (Applying applied) is first = subst (λ (p : Phase). AreFirst v.lane (slot_words p v.log) v.changes) (sym is) first
+begun_first v Clearing is first = subst (λ (p : Phase). AreFirst v.lane (slot_words p v.log) v.changes) (sym is) first
+begun_first v Retiring is first = subst (λ (p : Phase). AreFirst v.lane (slot_words p v.log) v.changes) (sym is) first
+
+first_after : (v : View) (s : Step) → Allowed v s → HasFirst v → HasFirst (after v s)
+first_after v (Load w x) may first = first
+first_after v (Store w x) may first = store_first v w x v.log.phase (part_of v.lane w) refl refl may.fits first
+first_after v (Or w bits found) may first = absurd may
+first_after v (And w bits found) may first = absurd may
+first_after v (Flush line) may first = flushed_first v.lane (slot_words v.log.phase v.log) line v.changes first
+first_after v Drain may first = drain_first v (drained v.changes) (λ c there. first c (member_kept (λ (d : Change). not d.flushed) v.changes c there))
+first_after v (TakeWrite line won) may first = first
+first_after v (TakeRead line won) may first = first
+first_after v (Raise line won) may first = absurd may
+first_after v (Give line) may first = first
+first_after v (ZoneTry zone won) may first = absurd may
+first_after v (ZoneGive zone) may first = absurd may
+first_after v (Occupied at found) may first = absurd may
+first_after v (Occupy at bits won) may first = absurd may
+first_after v (Vacate at bits) may first = absurd may
+first_after v (Draw n) may first = empty_first v.lane (slot_words (log_drawn v.log.phase v.log).phase (log_drawn v.log.phase v.log)) v.changes may.drained
+first_after v (NumberSeen n) may first = begun_first v v.log.phase refl first
+first_after v (StopSeen set) may first = first
+first_after v SetStop may first = first
+first_after v (Tell operation reply) may first = first
+
+pub first_along : (v : View) (steps : List Step) (w : View) → Leads v steps w → HasFirst v → HasFirst w
+unfolding Leads
+first_along v [] w leads first = subst HasFirst (sym leads) first
+first_along v (s ∷ steps) w leads first = first_along (after v s) steps w leads.3 (first_after v s leads.0 first)
+
+drained_so : (b : Bool) → not b ≡ true → b ≡ true → ⊥
+drained_so true drained is = false≢true drained
+drained_so false drained is = false≢true is
+
+module _ (o : Opening) (header : Header) (pool : PoolView) (v : View) (steps : List Step) (w : View) (begins : BeginsAlone o header pool v) (leads : Leads v steps w) where
+  pub alone_lane : w.lane ≡ 0
+  alone_lane = ap (λ (u : View). u.lane) (leads_end v w steps leads) ∙ ((same_lane-after_all v steps).lane ∙ begins.fresh.lane.lane)
+
+  pub alone_first : HasFirst w
+  alone_first = first_along v steps w leads (empty_first v.lane (slot_words v.log.phase v.log) v.changes begins.fresh.nothing_changed)
+
+  -- at work it is quiet
+  pub quiet_at_work : IsWorking w → IsQuiet w
+  quiet_at_work working = record {
+    lane = alone_lane;
+    unchanged = λ c there slots.
+        let lane = alone_lane in
+        let first : AreFirst w.lane (8 * length w.log.records + 0) w.changes = subst (λ (p : Phase). AreFirst w.lane (slot_words p w.log) w.changes) working.is_open alone_first in
+        let below = first c there (subst (λ n. InSlots n c.word) (sym lane) slots) in
+        let low = slots.low in
+        let slot : ℕ = c.word / 8 - 81 in
+        let line : c.word / 8 ≡ slot_line w.lane slot = omega (arith, low, lane) in
+        drained_so (list_any (is_in_line (slot_line w.lane slot)) w.changes) (working.drained slot (omega (arith, below, low, lane)))
+        (list_any-from_Any (is_in_line (slot_line w.lane slot)) w.changes (there.0, c, there.1, there.2, eq-eqb (c.word / 8) (slot_line w.lane slot) line));
+    unbegun = subst (λ (p : Phase). MakesNone p) (sym working.is_open) tt;
+  }
+
+-- before its first step it is, too
+pub quiet_first : (o : Opening) (header : Header) (pool : PoolView) (v : View) → BeginsAlone o header pool v → IsQuiet v
+quiet_first o header pool v begins = quiet_between v begins.fresh.lane.lane begins.fresh.nothing_changed begins.fresh.idle

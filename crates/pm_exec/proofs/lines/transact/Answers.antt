@@ -1,0 +1,30 @@
+use Rattle.std.proofs.Common.{arith, rules}
+use Rattle.std.proofs.lemmas.Result.{err_from_is_err_and}
+use Rattle.pm_exec.proofs.ScriptParts.{begun_not, changed_not, changes_are, committed_or_not, parts, two}
+use Rattle.pm_exec.proofs.lines.transact.Goals as goal
+
+pub slice_bounds-change_all-count : goal.slice_bounds-change_all-count
+slice_bounds-change_all-count c = let n = two c.args.lines.now (parts c.args.lines.now c.requires.transaction) in omega (arith, n)
+
+pub slice_bounds-change_all-start : goal.slice_bounds-change_all-start
+slice_bounds-change_all-start c = let n = two c.args.lines.now (parts c.args.lines.now c.requires.transaction) in search (rules, n)
+
+pub change_all-requires-clause-are_changes : goal.change_all-requires-clause-are_changes
+change_all-requires-clause-are_changes c = changes_are c.args.lines.now (parts c.args.lines.now c.requires.transaction)
+
+pub returns-in_err-begin_at : goal.returns-in_err-begin_at
+returns-in_err-begin_at c o first is =
+    let p = err_from_is_err_and c.from_residual.result c.from_residual.ensures.1 in
+    rw (p.1, p.2)
+    (begun_not c.args.lines.now (parts c.args.lines.now c.requires.transaction) o first c.args.root c.begin_at.new.lane _ c.index-lines-0.result c.index-lines-0.is (λ rest. c.in_err-begin_at.ensures.ends o first rest is))
+
+pub returns-in_err-change_all : goal.returns-in_err-change_all
+returns-in_err-change_all c o first is =
+    let p = err_from_is_err_and c.from_residual-in_err-change_all.result c.from_residual-in_err-change_all.ensures.1 in
+    rw (p.1, p.2)
+    (changed_not c.args.lines.now (parts c.args.lines.now c.requires.transaction) o first c.args.root c.begin_at.new.lane c.change_all.new.lane _ (c.in_ok-begin_at.ensures.done o first is) (λ front rest at. c.in_err-change_all.ensures.ends o first front rest at))
+
+pub returns : goal.returns
+returns c o first is =
+    committed_or_not c.args.lines.now (parts c.args.lines.now c.requires.transaction) o first c.args.root c.change_all.new.lane c.commit_all.new.lane c.commit_all.result
+    (c.in_ok-change_all.ensures.done o first _ (c.in_ok-begin_at.ensures.done o first is)) (λ front said at commits. c.commit_all.ensures o first front said at commits)

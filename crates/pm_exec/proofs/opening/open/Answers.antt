@@ -1,0 +1,12 @@
+use Rattle.std.proofs.lemmas.Result.{err_from_is_err_and}
+use Rattle.pm_exec.proofs.opening.open.Goals as goal
+
+pub returns-in_err-pool-clause-cause : goal.returns-in_err-pool-clause-cause
+returns-in_err-pool-clause-cause c =
+    let p = err_from_is_err_and c.from_residual.result c.from_residual.ensures.1 in
+    rw (p.1, p.2) (c.in_err-pool.ensures.cause c.args.layout.now)
+
+pub returns-in_err-recover_image-clause-cause : goal.returns-in_err-recover_image-clause-cause
+returns-in_err-recover_image-clause-cause c =
+    let p = err_from_is_err_and c.from_residual-in_err-recover_image.result c.from_residual-in_err-recover_image.ensures.1 in
+    rw (p.1, p.2) (c.in_err-recover_image.ensures.cause c.args.layout.now)

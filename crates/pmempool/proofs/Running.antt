@@ -1,0 +1,47 @@
+-- What opening and running an image comes to, said of the bytes of files.
+use Rattle.std.proofs.Common.{◌≡◌, ℕ, ◌%◌, List, [], ◌∷◌, length, inr, subst}
+use Rattle.std.specs.Borrow.{Bor}
+use Rattle.pm_words.specs.Words.{bytes_of, words_of}
+use Rattle.pm_exec.specs.declared.outcome.OpenFault.{OpenFault}
+use Rattle.pm_exec.specs.declared.outcome.OpenFault.TheVariants as opening
+use Rattle.pm_exec.specs.Opening.{IsOfOtherLayout, IsOpenCause, IsOpened}
+use Rattle.pm_exec.specs.Runs.{IsHistoryOf, LeavesReplay}
+use Rattle.pm_exec.specs.Torn.{HasNoTornMatch}
+use Rattle.pm_image.specs.Means.{IsImageFault, IsMeaning}
+use Rattle.pm_objects.specs.declared.history.Entry.{Entry}
+use Rattle.pm_objects.specs.declared.pool.PoolView.{PoolView}
+use Rattle.pm_recover.specs.Recovery.{HasNoStrayRecord}
+use Rattle.pm_script.specs.Scripts.{IsScript}
+use Rattle.pm_script.specs.Words.{lines}
+use Rattle.pm_script.specs.declared.script.ScriptLine.{ScriptLine}
+use Rattle.pm_text.specs.Report.{report_text}
+use Rattle.pm_text.specs.declared.report.LaneEnd.{LaneEnd}
+use Rattle.pmempool.specs.Executed.{IsRunFault, IsRunOver, open_failure}
+use Rattle.pmempool.specs.Words.{Exec}
+
+-- a pool that was not opened is not run
+pub not_opened : (source script_text : List ℕ) (e : Exec) (image : List ℕ) (asked : Bor (List ℕ)) (fault : OpenFault) → length source % 8 ≡ 0 → image ≡ words_of source → asked.now ≡ e.layout
+    → IsOpenCause image e.layout fault → IsRunFault source script_text e (open_failure asked fault)
+not_opened source script_text e image asked (opening.Image found) in_words is same cause = inr (in_words, subst (λ (ws : List ℕ). IsImageFault ws found) is cause)
+not_opened source script_text e image asked (opening.Layout kept) in_words is same cause = (same, in_words, subst (λ (ws : List ℕ). IsOfOtherLayout ws e.layout kept) is cause)
+not_opened source script_text e image asked (opening.Memory error) in_words is same cause = tt
+
+-- a run of an image is one of the files
+pub has_run : (source script_text : List ℕ) (e : Exec) (image written : List ℕ) (script : List ScriptLine) (history : List Entry) (end : LaneEnd) (bytes text : List ℕ)
+    → length source % 8 ≡ 0 → image ≡ words_of source → IsScript (lines script_text) script → IsOpened image e.layout
+    → ((pool : PoolView) → IsMeaning image pool → IsHistoryOf pool script history end)
+    → ((pool : PoolView) → IsMeaning image pool → HasNoStrayRecord image pool.lanes → HasNoTornMatch image pool script → LeavesReplay image pool history written)
+    → bytes ≡ bytes_of written → text ≡ report_text history (end ∷ []) → IsRunOver source script_text e bytes text
+has_run source script_text e image written script history end bytes text in_words is is_script opened calls replay is_image is_report = record {
+  in_words = in_words;
+  opened = subst (λ (ws : List ℕ). IsOpened ws e.layout) is opened;
+  script = script;
+  is_script = is_script;
+  image = written;
+  is_image = is_image;
+  history = history;
+  end = end;
+  is_report = is_report;
+  calls = subst (λ (ws : List ℕ). (pool : PoolView) → IsMeaning ws pool → IsHistoryOf pool script history end) is calls;
+  replay = subst (λ (ws : List ℕ). (pool : PoolView) → IsMeaning ws pool → HasNoStrayRecord ws pool.lanes → HasNoTornMatch ws pool script → LeavesReplay ws pool history written) is replay;
+}
