@@ -133,6 +133,7 @@ module _ (o : Opening) (first : View) (lane : Lane Solo) (root : Oid) (ops : Lis
             came = inl (kept.number ∙ undrawn_u, kept.entries ∙ no_entries_u);
             opening = unraised_first o u (steps u) k lane_u stopped.ready generation_u unended_u (all_work_raises (take k (steps u)) (each_first IsWork k (steps u) work));
             untorn = untorn;
+            at_stop = stopped.stops.stopped;
           }
 
     -- the call is given up for it
@@ -176,4 +177,5 @@ module _ (o : Opening) (first : View) (lane : Lane Solo) (root : Oid) (ops : Lis
             came = inl (kept.number ∙ undrawn_u, kept.entries ∙ no_entries_u);
             opening = give_up_first o u (steps u) k lane_u stopped.ready generation_u (gives_up_of u lane.records.items (operation_of root op) reply new.last k lane_u working no_entries spans_u);
             untorn = inl (calm_behind m working (λ quiet. quiet_in_give_up u lane.records.items (operation_of root op) reply new.last k quiet working spans_u));
+            at_stop = stopped.stops.stopped;
           }

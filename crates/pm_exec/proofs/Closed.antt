@@ -54,6 +54,7 @@ ran_refused o first m root script line r told ended at c = record {
   leads = c.leads;
   seen = c.seen;
   untorn = inl c.quiet;
+  at_stop = λ calls is. let clash : end.Ended ≡ end.Stopped calls = sym c.ends ∙ is in cc;
   so = inl (record {
     told = told;
     number = c.number;

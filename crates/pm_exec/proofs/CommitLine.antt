@@ -82,6 +82,7 @@ module _ (o : Opening) (first : View) (lane : Lane Solo) (root : Oid) (ops : Lis
             s.came.entries;
         opening = commit_first o v (steps v) k a.of_lane s.ready a.generation (commits_of v lane.records.items new.last k a.of_lane a.works.working a.works.seen.records);
         untorn = inl (record { view = v; steps = a.steps; leads = a.leads; working = a.works.working; calm = λ quiet. quiet_in_commit v lane.records.items new.last k quiet });
+        at_stop = s.stops.stopped;
       }
     where
       in_flight : (k : ℕ) (w : View) → after_all v (take k (steps v)) ≡ w → (n : ℕ) → IsDrawnAs v w n → k < length (steps v) → w.call ≡ told_of root (ops ++ op.Commit ∷ []) → IsInFlight w (told_of root (ops ++ op.Commit ∷ []))

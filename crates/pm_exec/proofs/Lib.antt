@@ -24,3 +24,4 @@ pub mod FirstLane
 pub mod RunHistory
 pub mod RunReplay
 pub mod Untorn
+pub mod StoppedEnd

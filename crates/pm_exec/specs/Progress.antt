@@ -1,5 +1,5 @@
 -- How far a run has come: for the crate's own functions.
-use Rattle.std.specs.Prelude.{◌≡◌, ◌≢◌, ◌⊎◌, ℕ, ◌≤◌, true, false, List, [], ◌∷◌, ◌++◌, map, slice_index, take, Option, None, Some, Result, Ok, Err}
+use Rattle.std.specs.Prelude.{◌≡◌, ◌≢◌, ◌⊎◌, ℕ, ◌≤◌, ◌%◌, ◌^◌, true, false, List, [], ◌∷◌, ◌++◌, map, slice_index, take, Option, None, Some, Result, Ok, Err}
 use Rattle.pm_crash.specs.Leading.{Leads}
 use Rattle.pm_image.specs.Logs.{generation_word}
 use Rattle.pm_memory.specs.Solo.{Sees, Solo}
@@ -15,6 +15,7 @@ use Rattle.pm_objects.specs.declared.refusal.Refusal.TheVariants as refusal
 use Rattle.pm_script.specs.Scripts.{operations}
 use Rattle.pm_script.specs.declared.script.ScriptLine.{ScriptLine}
 use Rattle.pm_script.specs.declared.script.ScriptOp.{ScriptOp}
+use Rattle.pm_text.specs.declared.report.LaneEnd.{LaneEnd}
 use Rattle.pm_text.specs.declared.report.LaneEnd.TheVariants as end
 use Rattle.pm_tx.specs.AtWork.{IsAtWork}
 use Rattle.pm_tx.specs.Ending.{DrawEnded, IsAfterCall}
@@ -24,6 +25,7 @@ use Rattle.pm_tx.specs.Ranges.{adds_range}
 use Rattle.pm_tx.specs.Stages.{is_work}
 use Rattle.pm_undo.specs.Working.{IsWorking}
 use Rattle.pm_view.specs.Area.{is_in_area}
+use Rattle.pm_view.specs.Counts.{IsAtStop}
 use Rattle.pm_view.specs.Founds.{IsAlone}
 use Rattle.pm_view.specs.Log.{no_log}
 use Rattle.pm_view.specs.Log.Phase.{Idle}
@@ -158,6 +160,7 @@ pub record IsCut (o : Opening) (first : View) (lane : Lane Solo) (root : Oid) (a
   pub came : IsUndrawn view ⊎ IsInFlight view (told_of root all)
   pub opening : IsOfOpening o view
   pub untorn : IsUntorn o first root all view
+  pub at_stop : IsAtStop view
 
 -- it did not begin its call
 pub record IsUnbegun (o : Opening) (first : View) (lane : Lane Solo) : Type 0 where
@@ -254,6 +257,10 @@ pub record IsNothing (o : Opening) (ended : Ended) (v : View) : Type 0 where
   pub ends : ended.end ≢ end.Ended
   pub opening : IsOfOpening o v
 
+-- a lane that stopped made as many counted calls as its stop number says, modulo 2^64
+abbrev pub EndsAtStop : Option ℕ → LaneEnd → Type 0
+EndsAtStop stop ended = (calls : ℕ) → ended ≡ end.Stopped calls → (n : ℕ) × ((stop ≡ Some n) × (calls ≡ n % 2 ^ 64))
+
 -- the run has ended, and its memory is seen so
 pub record HasRun (o : Opening) (first : View) (m : Solo) (root : Oid) (script : List ScriptLine) (ended : Ended) : Type 0 where
   pub view : View
@@ -261,4 +268,5 @@ pub record HasRun (o : Opening) (first : View) (m : Solo) (root : Oid) (script :
   pub leads : Leads first steps view
   pub seen : Sees m view
   pub untorn : IsQuiet view ⊎ IsUntorn o first root (operations script) view
+  pub at_stop : EndsAtStop first.stop ended.end
   pub so : IsAnswered script root ended view ⊎ (IsFlying o script root ended view ⊎ IsNothing o ended view)

@@ -44,7 +44,7 @@ pub fn exec(
     ensures opened { IfOk result (λ out. IsOpened image layout.now) }
     ensures cause { IfErr result (IsOpenCause image layout.now) }
     ensures size { IfOk result (λ out. length out.words.items ≡ length image) }
-    ensures history { IfOk result (λ out. (pool : PoolView) → IsMeaning image pool → IsHistoryOf pool script.now out.history.items out.end) }
+    ensures history { IfOk result (λ out. (pool : PoolView) → IsMeaning image pool → IsHistoryOf pool script.now stop out.history.items out.end) }
 
     // Taken for granted: no slot has a record of a generation to come, and no torn record's sum matches by chance.
     ensures replay { IfOk result (λ out. (pool : PoolView) → IsMeaning image pool → HasNoStrayRecord image pool.lanes → HasNoTornMatch image pool script.now
@@ -69,7 +69,7 @@ fn run(
     requires rising { IsStrictlyIncreasing (numbers_of script.now) }
     requires recovered { (before : List ℕ) × (IsMeaning before pool.now × IsRecovered before image.now pool.now.lanes) }
     ensures size { IfOk result (λ out. length out.words.items ≡ length image.now) }
-    ensures history { IfOk result (λ out. IsHistoryOf pool.now script.now out.history.items out.end) }
+    ensures history { IfOk result (λ out. IsHistoryOf pool.now script.now stop out.history.items out.end) }
     ensures replay { IfOk result (λ out. (before : List ℕ) → IsMeaning before pool.now → IsRecovered before image.now pool.now.lanes → HasNoStrayRecord before pool.now.lanes
         → HasNoTornMatch before pool.now script.now → LeavesReplay before pool.now out.history.items out.words.items) }
 {

@@ -29,7 +29,7 @@ not_opened source script_text e image asked (opening.Memory error) in_words is s
 -- a run of an image is one of the files
 pub has_run : (source script_text : List ℕ) (e : Exec) (image written : List ℕ) (script : List ScriptLine) (history : List Entry) (end : LaneEnd) (bytes text : List ℕ)
     → length source % 8 ≡ 0 → image ≡ words_of source → IsScript (lines script_text) script → IsOpened image e.layout
-    → ((pool : PoolView) → IsMeaning image pool → IsHistoryOf pool script history end)
+    → ((pool : PoolView) → IsMeaning image pool → IsHistoryOf pool script e.stop history end)
     → ((pool : PoolView) → IsMeaning image pool → HasNoStrayRecord image pool.lanes → HasNoTornMatch image pool script → LeavesReplay image pool history written)
     → bytes ≡ bytes_of written → text ≡ report_text history (end ∷ []) → IsRunOver source script_text e bytes text
 has_run source script_text e image written script history end bytes text in_words is is_script opened calls replay is_image is_report = record {
@@ -42,6 +42,6 @@ has_run source script_text e image written script history end bytes text in_word
   history = history;
   end = end;
   is_report = is_report;
-  calls = subst (λ (ws : List ℕ). (pool : PoolView) → IsMeaning ws pool → IsHistoryOf pool script history end) is calls;
+  calls = subst (λ (ws : List ℕ). (pool : PoolView) → IsMeaning ws pool → IsHistoryOf pool script e.stop history end) is calls;
   replay = subst (λ (ws : List ℕ). (pool : PoolView) → IsMeaning ws pool → HasNoStrayRecord ws pool.lanes → HasNoTornMatch ws pool script → LeavesReplay ws pool history written) is replay;
 }

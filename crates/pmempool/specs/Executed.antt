@@ -41,7 +41,7 @@ pub record IsRunOver (source script_text : List ℕ) (e : Exec) (written text : 
   pub history : List Entry
   pub end : LaneEnd
   pub is_report : text ≡ report_text history (end ∷ [])
-  pub calls : (pool : PoolView) → IsMeaning (words_of source) pool → IsHistoryOf pool script history end
+  pub calls : (pool : PoolView) → IsMeaning (words_of source) pool → IsHistoryOf pool script e.stop history end
   pub replay : (pool : PoolView) → IsMeaning (words_of source) pool → HasNoStrayRecord (words_of source) pool.lanes → HasNoTornMatch (words_of source) pool script
       → LeavesReplay (words_of source) pool history image
 

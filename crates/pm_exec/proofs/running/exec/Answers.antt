@@ -9,7 +9,7 @@ use Rattle.pm_exec.proofs.running.exec.Goals as goal
 pub returns-clause-history : goal.returns-clause-history
 returns-clause-history c pool means =
     let out = c.in_ok-outcome in
-    subst (λ (p : PoolView). IsHistoryOf p c.args.script.now out.outcome.history.items out.outcome.end) (one_meaning c.args.image c.in_ok-pool.pool pool c.in_ok-pool.ensures.means means) out.ensures.history
+    subst (λ (p : PoolView). IsHistoryOf p c.args.script.now c.args.stop out.outcome.history.items out.outcome.end) (one_meaning c.args.image c.in_ok-pool.pool pool c.in_ok-pool.ensures.means means) out.ensures.history
 
 pub returns-clause-replay : goal.returns-clause-replay
 returns-clause-replay c pool means =

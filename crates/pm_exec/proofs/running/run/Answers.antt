@@ -48,8 +48,8 @@ returns-clause-history c =
     let first = first_view pool c.args.image.now c.args.stop in
     let came = c.end_run-ended.ensures o first c.root_of-root.result c.lines-lines.result.now (c.transact-done.ensures o first c.in_ok-lane.ensures) in
     let run = ran_of o first c.end_run-ended.new.lane.memory c.root_of-root.result (root_of pool) c.lines-lines.result.now c.args.script.now c.end_run-ended.result (search rules) (search rules) came in
-    subst (λ (es : List Entry). IsHistoryOf pool c.args.script.now es c.end_run-ended.result.end) (sym c.in_ok-history.ensures)
-    (ran_history o first c.end_run-ended.new.lane.memory (root_of pool) c.args.script.now c.end_run-ended.result run pool c.in_ok-call.call (search rules) _)
+    subst (λ (es : List Entry). IsHistoryOf pool c.args.script.now c.args.stop es c.end_run-ended.result.end) (sym c.in_ok-history.ensures)
+    (ran_history o first c.end_run-ended.new.lane.memory (root_of pool) c.args.script.now c.end_run-ended.result run pool c.in_ok-call.call (search rules) (search rules) _)
 
 pub returns-clause-replay : goal.returns-clause-replay
 returns-clause-replay c before means recovered past none =
