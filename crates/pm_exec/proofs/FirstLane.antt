@@ -65,10 +65,3 @@ is_first pool words stop lane sound shape seen idle unharmed = record {
   words_are = refl;
   no_entries = refl;
 }
-
--- of which no transaction has failed
-pub unfailed : (lane : Lane Solo) (v : View) → IsSeenAs Sees lane v → IsSeenAs Sees (record lane { error = error.None }) v
-unfailed lane v s = record { memory = s.memory; pool = s.pool; shape = s.shape; locks = s.locks; records = s.records; drawn = s.drawn; last = s.last }
-
-pub idle_unfailed : (lane : Lane Solo) → IsIdle lane → IsIdle (record lane { error = error.None })
-idle_unfailed lane i = record { stage = i.stage; level = i.level; answered = i.answered; unstopped = i.unstopped }

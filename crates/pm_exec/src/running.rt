@@ -19,7 +19,7 @@ use crate::opening::open;
 use crate::outcome::{OpenFault, Outcome};
 use pm_layout::Shape;
 use pm_memory::SoloMem;
-use pm_objects::{PoolView, TxErr};
+use pm_objects::PoolView;
 use pm_raw::RawImage;
 use pm_script::Script;
 use pm_world::Lane;
@@ -115,7 +115,5 @@ fn open_lane(
     };
     let words = Vec::from_slice(alloc, image.words(0, image.len()))?;
     let memory = SoloMem::new(alloc, words, stop)?;
-    let mut lane = Lane::new(memory, pool.id, shape);
-    lane.error = TxErr::None;
-    Ok(lane)
+    Ok(Lane::new(memory, pool.id, shape))
 }

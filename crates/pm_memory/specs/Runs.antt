@@ -1,11 +1,11 @@
 -- What a lane's calls did, as seen in its views.
-use Rattle.std.specs.Prelude.{ℕ, ◌<◌, List, length, take, Result, Ok, Err}
+use Rattle.std.specs.Prelude.{◌≡◌, ℕ, ◌+◌, ◌<◌, List, length, take, Result, Ok, Err}
 use Rattle.pm_view.specs.View.{View}
 use Rattle.pm_view.specs.Steps.{Step}
 use Rattle.pm_view.specs.Steps.Step.{SetStop}
 use Rattle.pm_view.specs.Views.{after, after_all}
 use Rattle.pm_view.specs.Founds.{Found, FoundAlone}
-use Rattle.pm_view.specs.Counts.{MayCount, IsAtStop}
+use Rattle.pm_view.specs.Counts.{MayCount, IsAtStop, counted}
 use Rattle.pm_memory.specs.declared.lane_mem.Stopped.{Stopped}
 
 -- the step was made: whatever view the memory was seen as, it is now seen as that after the step, and the reply is what the view knows, and
@@ -24,6 +24,7 @@ pub record Stops (new : View → Type 0) (v : View) (steps : List Step) : Type 0
   pub fewer : made < length steps
   pub seen : new (after_all v (take made steps))
   pub stopped : IsAtStop (after_all v (take made steps))
+  pub due : counted (take (made + 1) steps) ≡ counted (take made steps) + 1
 
 -- from this view all of the steps were made, or the first of them up to the stop
 abbrev pub Ran : {T : Type 0} → (View → Type 0) → View → List Step → Result T Stopped → Type 0

@@ -1,12 +1,12 @@
 -- How sequences are put together.
-use Rattle.std.proofs.Common.{◌≡◌, ◌+◌, ◌-◌, ℕ, zero, suc, ◌<◌, ◌≤◌, ⊎_elim, List, [], ◌∷◌, ◌++◌, take, length-append, Result, Ok, Err, refl, sym, ap, subst, IsErr, slice_index, arith, rules}
+use Rattle.std.proofs.Common.{◌≡◌, ◌+◌, ◌-◌, ℕ, zero, suc, ◌<◌, ◌≤◌, ⊎_elim, List, [], ◌∷◌, ◌++◌, take, length-append, Result, Ok, Err, refl, sym, ap, ◌∙◌, subst, T, IsErr, slice_index, arith, rules}
 use Rattle.std.proofs.Math.Nat.{eq-or-lt_of_le}
 use Rattle.std.proofs.lemmas.List.{take-append-le}
-use Rattle.pm_memory.proofs.Runs.{stops_after}
+use Rattle.pm_memory.proofs.Runs.{stops_after, stops_at_once}
 use Rattle.pm_memory.specs.Runs.{Ran, Stops, MadeOrStopped, Made}
 use Rattle.pm_memory.specs.declared.lane_mem.Stopped.{Stopped}
 use Rattle.pm_view.proofs.Sequences.{after_all-append}
-use Rattle.pm_view.specs.Counts.{IsAtStop}
+use Rattle.pm_view.specs.Counts.{IsAtStop, is_counted, counted as calls_in}
 use Rattle.pm_view.specs.Steps.{Step}
 use Rattle.pm_view.specs.Steps.Step.{Load}
 use Rattle.pm_view.specs.View.{View}
@@ -39,6 +39,7 @@ stops_left new v xs ys s =
       fewer = omega (arith, s.fewer, length-append xs ys);
       seen = subst (λ (steps : List Step). new (after_all v steps)) (sym same) s.seen;
       stopped = subst (λ (steps : List Step). IsAtStop (after_all v steps)) (sym same) s.stopped;
+      due = ap calls_in (take-append-le (s.made + 1) xs ys (omega (arith, s.fewer))) ∙ s.due ∙ ap (λ (steps : List Step). calls_in steps + 1) (sym same);
     }
 
 stops_right : (new : View → Type 0) (v : View) (xs ys : List Step) → Stops new (after_all v xs) ys → Stops new v (xs ++ ys)
@@ -95,10 +96,10 @@ unfolding Runs nothing after_all
 runs_nothing old answer v seen r = seen
 
 -- one counted step
-pub runs_one : {T : Type 0} (old new : View → Type 0) (s : Step) (result : Result T Stopped) → MadeOrStopped old new (λ _. s) result → Runs old new (one s) result
+pub runs_one : {U : Type 0} (old new : View → Type 0) (s : Step) (result : Result U Stopped) → T (is_counted s) → MadeOrStopped old new (λ _. s) result → Runs old new (one s) result
 unfolding Runs one after_all
-runs_one old new s (Ok answer) made v seen r = (made v seen).0
-runs_one old new s (Err stopped) made v seen r = let m = made v seen in record { made = 0; fewer = omega arith; seen = m.0; stopped = m.1 }
+runs_one old new s (Ok answer) counts made v seen r = (made v seen).0
+runs_one old new s (Err stopped) counts made v seen r = let m = made v seen in stops_at_once new v s [] counts m.0 m.1
 
 -- the first of two sequences is one step that the lane may make
 pub allowed_one : (old : View → Type 0) (s : Step) → IsReady old (one s) → (v : View) × (old v × Allowed v s)

@@ -5,12 +5,13 @@ use Rattle.std.proofs.Math.Dec.{ltb}
 use Rattle.std.proofs.lemmas.Bool.Decides.{nat_tests}
 use Rattle.std.proofs.lemmas.List.{take_all, length-map}
 use Rattle.std.proofs.lemmas.List.Folds.{Any-from_list_any}
+use Rattle.pm_memory.proofs.Runs.{stops_at_once}
 use Rattle.pm_memory.specs.Runs.{Ran, Stops, MadeOrStopped}
 use Rattle.pm_memory.specs.declared.lane_mem.Stopped.{Stopped}
 use Rattle.pm_view.proofs.Flushing.{few_unflushed, none_unflushed, first_unflushed, rest_unflushed}
 use Rattle.pm_view.specs.declared.change.Change.{Change}
 use Rattle.pm_view.specs.Changes.{is_in_line}
-use Rattle.pm_view.specs.Counts.{FlushesSome, is_unflushed, unflushed_lines, IsFirstUnflushed}
+use Rattle.pm_view.specs.Counts.{FlushesSome, is_unflushed, unflushed_lines, IsFirstUnflushed, counted as calls_in}
 use Rattle.pm_view.specs.Steps.Step.{Flush, Drain}
 use Rattle.pm_view.specs.View.{View}
 use Rattle.pm_view.specs.Views.{after, after_all}
@@ -47,6 +48,13 @@ may_flush changes line is =
       parts true false e = (search rules, refl)
       parts false flushed e = absurd cc
 
+-- each flush is a counted call
+flushes_count : (lines : List ℕ) (m : ℕ) → m ≤ length lines → calls_in (take m (map Flush lines)) ≡ m
+unfolding calls_in
+flushes_count lines zero few = refl
+flushes_count [] (suc m) few = absurd (omega arith)
+flushes_count (line ∷ lines) (suc m) few = let rest = flushes_count lines m (omega (arith, few)) in omega (arith, rest)
+
 -- so many flushes are made of those that are due
 abbrev pub HasFlushed : (View → Type 0) → (View → Type 0) → ℕ → Type 0
 HasFlushed old mid k = (v : View) → old v → mid (after_all v (take k (flushes v))) × (k ≤ length (flushes v))
@@ -80,11 +88,15 @@ module _ (old mid : View → Type 0) (k : ℕ) (has : HasFlushed old mid k) wher
         (subst new (sym n.1) (made (after_all v (take k (flushes v))) (has v seen).0).0, n.0)
 
     pub flush_stopped : {U : Type 0} (T : Type 0) (new : View → Type 0) (stopped : Stopped) (result : Result U Stopped) → IsErr result → MadeOrStopped {T = T} mid new (λ _. Flush line) (Err stopped) → Runs old new flushes result
-    unfolding Runs
+    unfolding Runs flushes
     flush_stopped T new stopped (Ok answer) error made v seen r = absurd (search rules)
     flush_stopped T new stopped (Err e) error made v seen r =
         let m = made (after_all v (take k (flushes v))) (has v seen).0 in
-        record { made = k; fewer = (let more = (next v seen).0 in omega (arith, more)); seen = m.0; stopped = m.1 }
+        let more = (next v seen).0 in
+        let many = length-map (unflushed_lines v.changes) Flush in
+        let now : calls_in (take k (map Flush (unflushed_lines v.changes))) ≡ k = flushes_count (unflushed_lines v.changes) k (omega (arith, many, more)) in
+        let then : calls_in (take (k + 1) (map Flush (unflushed_lines v.changes))) ≡ k + 1 = flushes_count (unflushed_lines v.changes) (k + 1) (omega (arith, many, more)) in
+        record { made = k; fewer = omega (arith, more); seen = m.0; stopped = m.1; due = omega (arith, now, then) }
 
   pub flushed_all : {T : Type 0} (answer : T) → (n : ℕ) → n ≤ k → ((v : View) → old v → n ≡ length v.changes) → Runs old mid flushes (Ok answer)
   unfolding Runs flushes
@@ -124,7 +136,7 @@ module _ (old : View → Type 0) (n : ℕ) (counts : (v : View) → old v → n 
   drains_once new (Ok answer) some made v seen r = subst (λ steps. new (after_all v steps)) (sym (some_undrained some v seen)) (made v seen).0
   drains_once new (Err stopped) some made v seen r =
       let m = made v seen in
-      subst (Stops new v) (sym (some_undrained some v seen)) (record { made = 0; fewer = omega arith; seen = m.0; stopped = m.1 })
+      subst (Stops new v) (sym (some_undrained some v seen)) (stops_at_once new v Drain [] tt m.0 m.1)
 
   -- there is room
   pub makes_none : {T : Type 0} (answer : T) → n < 512 → Runs old old makes_room (Ok answer)

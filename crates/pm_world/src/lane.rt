@@ -1,4 +1,5 @@
 ghost use Rattle.std.specs.Prelude.{◌≡◌, ℕ, ◌%◌, ◌^◌, ◌↔◌, IsTrue, []};
+ghost use Rattle.pm_objects.specs.declared.history.TxErr.TheVariants as error;
 ghost use Rattle.pm_view.specs.View.{View};
 ghost use Rattle.pm_world.specs.Lanes.{IsIdle, IsOfShape, IsSeenAs};
 
@@ -69,8 +70,9 @@ pub struct Lane<M> {
 impl<M: LawfulMem> Lane<M> {
     /// A lane over its memory of the pool with this id and shape, before its first call.
     pub fn new(memory: M, pool: u64, shape: Shape) -> Lane<M>
-        ensures { (v : View) → M.at memory v → v.pool ≡ pool → IsOfShape v shape → v.locks ≡ [] → v.log.records ≡ [] → v.entries ≡ []
+        ensures fits { (v : View) → M.at memory v → v.pool ≡ pool → IsOfShape v shape → v.locks ≡ [] → v.log.records ≡ [] → v.entries ≡ []
             → IsSeenAs M.at result v × IsIdle result }
+        ensures unharmed { result.error ≡ error.None }
     {
         Lane {
             memory,
