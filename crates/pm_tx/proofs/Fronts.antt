@@ -6,7 +6,7 @@ use Rattle.pm_memory.specs.Runs.{Stops}
 use Rattle.pm_objects.specs.declared.calls.Operation.{Operation}
 use Rattle.pm_objects.specs.declared.history.Value.{Value}
 use Rattle.pm_view.proofs.Sequences.{after_all-append}
-use Rattle.pm_view.specs.Counts.{IsAtStop}
+use Rattle.pm_view.specs.Counts.{IsAtStop, counted}
 use Rattle.pm_world.specs.Sequences.{Ready, Sequence}
 use Rattle.pm_world.specs.declared.lane.Lane.{Lane}
 use Rattle.pm_tx.specs.Ending.{DrawEnded, IsDrawnOrNot, IsStoppedIn}
@@ -18,6 +18,7 @@ use Rattle.pm_view.specs.Steps.Step.{Load, Store, Or, And, Flush, Drain, TakeWri
 use Rattle.pm_view.specs.View.{View}
 use Rattle.pm_view.specs.Views.{after, after_all, begun}
 use Rattle.pm_tx.proofs.Drawless.{kept, kept_by_all}
+use Rattle.pm_tx.proofs.Leads.{counted_then}
 
 -- no number is drawn, and the entries are those that were there
 abbrev pub HasDrawnNone : View → View → Type 0
@@ -131,12 +132,12 @@ front_drawn v (s ∷ steps) (suc made) n few some told =
     (rest.0, rest.1 ∙ one.2, rest.2 ∙ one.3 (omega (arith, told, low)))
 
 module _ {M : Type 0} (at : M → View → Type 0) (lane : Lane M) (v : View) (steps : Sequence) (operation : Operation) (reply : Option Value) where
-  stopped_at : (made : ℕ) → made < length (steps v) → (w : View) → after_all v (take made (steps v)) ≡ w → Ready v (steps v) → DrawEnded v (steps v) → at lane.memory w → IsAtStop w → lane.stopped ≡ true → lane.drawn ≡ w.number → IsDrawnOrNot v w operation reply
+  stopped_at : (made : ℕ) → made < length (steps v) → counted (take (made + 1) (steps v)) ≡ counted (take made (steps v)) + 1 → (w : View) → after_all v (take made (steps v)) ≡ w → Ready v (steps v) → DrawEnded v (steps v) → at lane.memory w → IsAtStop w → lane.stopped ≡ true → lane.drawn ≡ w.number → IsDrawnOrNot v w operation reply
       → IsStoppedIn at lane v steps operation reply
-  stopped_at made fewer w same ready draws seen stop says drawn came = record {
+  stopped_at made fewer due w same ready draws seen stop says drawn came = record {
     ready = ready;
     draws = draws;
-    stops = record { made = made; fewer = fewer; seen = subst (at lane.memory) (sym same) seen; stopped = subst (λ (u : View). IsAtStop u) (sym same) stop };
+    stops = record { made = made; fewer = fewer; seen = subst (at lane.memory) (sym same) seen; stopped = subst (λ (u : View). IsAtStop u) (sym same) stop; due = due };
     stopped = says;
     drawn = drawn ∙ sym (ap (λ (u : View). u.number) same);
     came = subst (λ (u : View). IsDrawnOrNot v u operation reply) (sym same) came;
@@ -149,7 +150,9 @@ module _ {M : Type 0} (at : M → View → Type 0) (lane : Lane M) (v : View) (s
       let fewer = s.fewer in
       let long = length-append xs ys in
       let all = ap length are in
-      stopped_at s.made (omega (arith, fewer, long, all)) (after_all v (take s.made xs))
+      let same : take s.made (steps v) ≡ take s.made xs = ap (take s.made) are ∙ take-append-le s.made xs ys (omega (arith, fewer)) in
+      let more : take (s.made + 1) (steps v) ≡ take (s.made + 1) xs = ap (take (s.made + 1)) are ∙ take-append-le (s.made + 1) xs ys (omega (arith, fewer)) in
+      stopped_at s.made (omega (arith, fewer, long, all)) (ap counted more ∙ (s.due ∙ ap (λ (front : List Step). counted front + 1) (sym same))) (after_all v (take s.made xs))
       (ap (λ all. after_all v (take s.made all)) are ∙ ap (after_all v) (take-append-le s.made xs ys (omega (arith, fewer)))) ready draws s.seen s.stopped says drawn came
 
   -- or behind them
@@ -159,6 +162,12 @@ module _ {M : Type 0} (at : M → View → Type 0) (lane : Lane M) (v : View) (s
       let fewer = s.fewer in
       let long = length-append xs ys in
       let all = ap length are in
-      stopped_at (length xs + s.made) (omega (arith, fewer, long, all)) (after_all m (take s.made ys))
+      let same : take (length xs + s.made) (steps v) ≡ xs ++ take s.made ys = ap (take (length xs + s.made)) are ∙ take-append-add xs ys s.made in
+      let next : length xs + s.made + 1 ≡ length xs + (s.made + 1) = omega arith in
+      let more : take (length xs + s.made + 1) (steps v) ≡ xs ++ take (s.made + 1) ys = ap (λ n. take n (steps v)) next ∙ (ap (take (length xs + (s.made + 1))) are ∙ take-append-add xs ys (s.made + 1)) in
+      let now = ap counted same ∙ counted_then xs (take s.made ys) in
+      let then = ap counted more ∙ counted_then xs (take (s.made + 1) ys) in
+      let due = s.due in
+      stopped_at (length xs + s.made) (omega (arith, fewer, long, all)) (omega (arith, now, then, due)) (after_all m (take s.made ys))
       (ap (λ all. after_all v (take (length xs + s.made) all)) are ∙ (ap (after_all v) (take-append-add xs ys s.made) ∙ (after_all-append v xs (take s.made ys) ∙ ap (λ u. after_all u (take s.made ys)) there)))
       ready draws s.seen s.stopped says drawn came
