@@ -115,5 +115,6 @@ fn open_lane(
     };
     let words = Vec::from_slice(alloc, image.words(0, image.len()))?;
     let memory = SoloMem::new(alloc, words, stop)?;
-    Ok(Lane::new(memory, pool.id, shape))
+    let lane = Lane::new(memory, pool.id, shape);
+    Ok(lane)
 }
