@@ -48,6 +48,7 @@ pub mod Leading
 pub mod AloneMemory
 pub mod AloneCourse
 pub mod AloneImages
+pub mod OnTheWay
 pub mod FirstLog
 pub mod TornSlots
 pub mod Raises
