@@ -51,6 +51,8 @@ pub mod AloneImages
 pub mod OnTheWay
 pub mod FirstLog
 pub mod TornSlots
+pub mod AtRest
+pub mod SoundPools
 pub mod Raises
 pub mod Raising
 pub mod SeenAlone
