@@ -233,5 +233,12 @@ module _ (o : Opening) (header : Header) (pool : PoolView) (v w : View) (steps :
   pub fate : (n : ℕ) → w.number ≡ Some n → w.log.phase ≢ Idle → loses image w n ≡ eqb (generation_word image 0) (records_generation w.log.phase w)
   fate = lost_by_generation o header pool w stands image left_so
 
+  -- where the generation of its records is this one
+  fate_by : (generation n : ℕ) → w.number ≡ Some n → w.log.phase ≢ Idle → records_generation w.log.phase w ≡ generation → loses image w n ≡ eqb (generation_word image 0) generation
+  fate_by generation n number busy same = fate n number busy ∙ ap (eqb (generation_word image 0)) same
+
   pub first_fate : (n : ℕ) → w.number ≡ Some n → w.log.phase ≢ Idle → records_generation w.log.phase w ≡ generation_word o.words 0 → loses image w n ≡ eqb (generation_word image 0) (generation_word o.words 0)
-  first_fate n number busy first = fate n number busy ∙ ap (eqb (generation_word image 0)) first
+  first_fate = fate_by (generation_word o.words 0)
+
+  pub since_fate : (b : View) (n : ℕ) → w.number ≡ Some n → w.log.phase ≢ Idle → records_generation w.log.phase w ≡ generation_of b → loses image w n ≡ eqb (generation_word image 0) (generation_of b)
+  since_fate b = fate_by (generation_of b)

@@ -1,5 +1,6 @@
--- The log of a lane that is alone, while its generation is the opening's: what it has not written yet is as it was, so is what its undrained
--- stores found in the slots, and the words of a record in the making are those of a record that may be made.
+-- The log of a lane that is alone, while its generation is that of an origin, the pool at the opening or where the lane rested: what it has not
+-- written yet is as it was, so is what its undrained stores found in the slots, and the words of a record in the making are those of a record
+-- that may be made.
 use Rattle.std.proofs.Common.{◌≡◌, ◌≢◌, ⊎_elim, ℕ, ◌+◌, ◌*◌, ◌<◌, ◌≤◌, Bool, true, false, not, eqb, cond, ◌&&◌, ◌||◌, List, [], ◌∷◌, ◌++◌, length, take, get_or, slice_index, None, Some, is_some, refl, sym, ◌∙◌, ap, subst, arith, length-append, get_or-set_same, get_or-set_other, ne_eqb}
 use Rattle.std.specs.List.{All, Contains, filter, list_any}
 use Rattle.std.proofs.lemmas.Bool.{cases_lt, false≢true, not_from_false, or_cases, or_left, or_right, eqb-true}
@@ -41,12 +42,12 @@ use Rattle.pm_crash.proofs.AloneCourse.{StandsAlone}
 use Rattle.pm_crash.proofs.AloneImages.{own_fits}
 use Rattle.pm_crash.proofs.AloneMemory.{load_moves, load_words, memory_of}
 
--- from this word on the slots are as at the opening, and so is what undrained stores found in them
+-- from this word on the slots are as at the origin, and so is what undrained stores found in them
 pub record Unwritten (o : Opening) (v : View) (end : ℕ) : Type 0 where
   pub beyond : (i : ℕ) → end ≤ i → i < 1160 → slice_index v.words i ≡ slice_index o.words i
   pub olds : (c : Change) → Contains v.changes c → InSlots 0 c.word → c.old ≡ slice_index o.words c.word
 
--- so it is while the generation is the opening's; it never falls below
+-- so it is while the generation is the origin's; it never falls below
 pub record Since (o : Opening) (v : View) (end : ℕ) : Type 0 where
   pub least : generation_word o.words 0 ≤ generation_of v
   pub first : generation_of v ≡ generation_word o.words 0 → Unwritten o v end
@@ -168,253 +169,255 @@ module _ (o : Opening) (header : Header) (pool : PoolView) (v : View) (stands : 
     can = λ slot pair is. can_on v w records written known (λ u own new. ap (λ (ws : List ℕ). slice_index ws u) words);
   }
 
-  first_still : (w : View) → Carries v w → w.log ≡ v.log → FirstLog o v v.log.phase → FirstLog o w w.log.phase
-  first_still w carries logs first = subst (FirstLog o w) (ap (λ (l : Log). l.phase) (sym logs)) (first_on o v w fits.lane.lane carries v.log.phase refl first)
+  -- the log since the pool stood so: at the opening, or where the lane rested on its way
+  module _ (origin : Opening) where
+    first_still : (w : View) → Carries v w → w.log ≡ v.log → FirstLog origin v v.log.phase → FirstLog origin w w.log.phase
+    first_still w carries logs first = subst (FirstLog origin w) (ap (λ (l : Log). l.phase) (sym logs)) (first_on origin v w fits.lane.lane carries v.log.phase refl first)
 
-  load_carries : (w x : ℕ) → w < length v.words → x ≡ slice_index v.words w → Carries v (after v (Load w x))
-  load_carries w x inside found =
-      let moves = load_moves v w x found in
-      quiet (after v (Load w x)) refl (load_words v w x found) refl (itself v.changes)
-      (written_now o (memory_of v) stands.views stands.log stands.decided stands.goes.world 0 stands.goes.in_lanes v stands.here (memory_of (after v (Load w x))) w x moves.0 moves.1 inside)
-      (λ u own. known_more (is_in_area v.lane u) (is_held v w) w v.known u)
+    load_carries : (w x : ℕ) → w < length v.words → x ≡ slice_index v.words w → Carries v (after v (Load w x))
+    load_carries w x inside found =
+        let moves = load_moves v w x found in
+        quiet (after v (Load w x)) refl (load_words v w x found) refl (itself v.changes)
+        (written_now o (memory_of v) stands.views stands.log stands.decided stands.goes.world 0 stands.goes.in_lanes v stands.here (memory_of (after v (Load w x))) w x moves.0 moves.1 inside)
+        (λ u own. known_more (is_in_area v.lane u) (is_held v w) w v.known u)
 
-  flush_carries : (line : ℕ) → Carries v (after v (Flush line))
-  flush_carries line = quiet (after v (Flush line)) refl refl refl
-      (λ c there.
-      let d = member_made (mark line) v.changes c there in
-      let same = marked line d.0 (is_in_line line d.0) in
-      record { change = d.0; there = d.1.0; word = sym same.0 ∙ ap (λ (x : Change). x.word) d.1.1; old = sym same.1 ∙ ap (λ (x : Change). x.old) d.1.1 })
-      (λ u own. own) (λ u own is. is)
+    flush_carries : (line : ℕ) → Carries v (after v (Flush line))
+    flush_carries line = quiet (after v (Flush line)) refl refl refl
+        (λ c there.
+        let d = member_made (mark line) v.changes c there in
+        let same = marked line d.0 (is_in_line line d.0) in
+        record { change = d.0; there = d.1.0; word = sym same.0 ∙ ap (λ (x : Change). x.word) d.1.1; old = sym same.1 ∙ ap (λ (x : Change). x.old) d.1.1 })
+        (λ u own. own) (λ u own is. is)
 
-  lock_carries : (w : View) (l : Lock) → w ≡ record v { locks = v.locks ++ l ∷ []; seen = w.seen } → Carries v w
-  lock_carries w l is = subst (Carries v) (sym is)
-      (quiet (record v { locks = v.locks ++ l ∷ []; seen = w.seen }) refl refl refl (itself v.changes)
-      (λ u own. list_any-left (λ (k : Lock). k.write && is_some k.block && is_under u k) v.locks (l ∷ []) own) (λ u own is_. is_))
+    lock_carries : (w : View) (l : Lock) → w ≡ record v { locks = v.locks ++ l ∷ []; seen = w.seen } → Carries v w
+    lock_carries w l is = subst (Carries v) (sym is)
+        (quiet (record v { locks = v.locks ++ l ∷ []; seen = w.seen }) refl refl refl (itself v.changes)
+        (λ u own. list_any-left (λ (k : Lock). k.write && is_some k.block && is_under u k) v.locks (l ∷ []) own) (λ u own is_. is_))
 
-  take_write_carries : (line : ℕ) (won : Bool) → Carries v (after v (TakeWrite line won))
-  take_write_carries line true = lock_carries (after v (TakeWrite line true)) (record { line = line; write = true; block = None }) refl
-  take_write_carries line false = quiet (after v (TakeWrite line false)) refl refl refl (itself v.changes) (λ u own. own) (λ u own is. is)
+    take_write_carries : (line : ℕ) (won : Bool) → Carries v (after v (TakeWrite line won))
+    take_write_carries line true = lock_carries (after v (TakeWrite line true)) (record { line = line; write = true; block = None }) refl
+    take_write_carries line false = quiet (after v (TakeWrite line false)) refl refl refl (itself v.changes) (λ u own. own) (λ u own is. is)
 
-  take_read_carries : (line : ℕ) (won : Bool) → Carries v (after v (TakeRead line won))
-  take_read_carries line true = lock_carries (after v (TakeRead line true)) (record { line = line; write = false; block = None }) refl
-  take_read_carries line false = quiet (after v (TakeRead line false)) refl refl refl (itself v.changes) (λ u own. own) (λ u own is. is)
+    take_read_carries : (line : ℕ) (won : Bool) → Carries v (after v (TakeRead line won))
+    take_read_carries line true = lock_carries (after v (TakeRead line true)) (record { line = line; write = false; block = None }) refl
+    take_read_carries line false = quiet (after v (TakeRead line false)) refl refl refl (itself v.changes) (λ u own. own) (λ u own is. is)
 
-  module _ (line : ℕ) (may : MayGive v line) where
-    abbrev others : List Lock
-    others = filter (λ (l : Lock). not (eqb l.line line)) v.locks
+    module _ (line : ℕ) (may : MayGive v line) where
+      abbrev others : List Lock
+      others = filter (λ (l : Lock). not (eqb l.line line)) v.locks
 
-    abbrev bare : View
-    bare = record v { locks = others }
+      abbrev bare : View
+      bare = record v { locks = others }
 
-    still_written : (slot pair : List ℕ) → v.log.phase ≡ Open slot pair → (u : ℕ) → is_written v u ≡ true → is_written bare u ≡ true
-    still_written slot pair is u own =
-        let found : All (λ (l : Lock). l.line ≡ line → l.block ≡ None) v.locks = subst (λ (p : Phase). All (λ (l : Lock). l.line ≡ line → GiveFits v l p) v.locks) is may.fits in
-        list_any-filter (λ (l : Lock). l.write && is_some l.block && is_under u l) (λ (l : Lock). not (eqb l.line line)) v.locks
-        (λ n d low under. not_from_false (eqb (get_or v.locks n d).line line) (ne_eqb (get_or v.locks n d).line line (λ same. no_block (get_or v.locks n d) u (found n d low same) under))) own
+      still_written : (slot pair : List ℕ) → v.log.phase ≡ Open slot pair → (u : ℕ) → is_written v u ≡ true → is_written bare u ≡ true
+      still_written slot pair is u own =
+          let found : All (λ (l : Lock). l.line ≡ line → l.block ≡ None) v.locks = subst (λ (p : Phase). All (λ (l : Lock). l.line ≡ line → GiveFits v l p) v.locks) is may.fits in
+          list_any-filter (λ (l : Lock). l.write && is_some l.block && is_under u l) (λ (l : Lock). not (eqb l.line line)) v.locks
+          (λ n d low under. not_from_false (eqb (get_or v.locks n d).line line) (ne_eqb (get_or v.locks n d).line line (λ same. no_block (get_or v.locks n d) u (found n d low same) under))) own
 
-    still_known : (u : ℕ) → is_written bare u ≡ true → is_known v u ≡ true → (is_in_area v.lane u || list_any (λ other. eqb other u) (filter (is_held bare) v.known)) ≡ true
-    still_known u own known =
-        let held : is_held bare u ≡ true = or_left (is_in_area v.lane u || list_any (is_under u) others) (is_reserved bare u) (or_right (is_in_area v.lane u) (list_any (is_under u) others) (written_under others u own)) in
-        ⊎_elim
-        (λ (area : is_in_area v.lane u ≡ true). or_left (is_in_area v.lane u) (list_any (λ other. eqb other u) (filter (is_held bare) v.known)) area)
-        (λ (there : list_any (λ other. eqb other u) v.known ≡ true). or_right (is_in_area v.lane u) (list_any (λ other. eqb other u) (filter (is_held bare) v.known))
-        (list_any-filter (λ other. eqb other u) (is_held bare) v.known (λ n d low same. ap (is_held bare) (eqb-true (get_or v.known n d) u same) ∙ held) there))
-        (or_cases (is_in_area v.lane u) (list_any (λ other. eqb other u) v.known) known)
+      still_known : (u : ℕ) → is_written bare u ≡ true → is_known v u ≡ true → (is_in_area v.lane u || list_any (λ other. eqb other u) (filter (is_held bare) v.known)) ≡ true
+      still_known u own known =
+          let held : is_held bare u ≡ true = or_left (is_in_area v.lane u || list_any (is_under u) others) (is_reserved bare u) (or_right (is_in_area v.lane u) (list_any (is_under u) others) (written_under others u own)) in
+          ⊎_elim
+          (λ (area : is_in_area v.lane u ≡ true). or_left (is_in_area v.lane u) (list_any (λ other. eqb other u) (filter (is_held bare) v.known)) area)
+          (λ (there : list_any (λ other. eqb other u) v.known ≡ true). or_right (is_in_area v.lane u) (list_any (λ other. eqb other u) (filter (is_held bare) v.known))
+          (list_any-filter (λ other. eqb other u) (is_held bare) v.known (λ n d low same. ap (is_held bare) (eqb-true (get_or v.known n d) u same) ∙ held) there))
+          (or_cases (is_in_area v.lane u) (list_any (λ other. eqb other u) v.known) known)
 
-    give_carries : Carries v (after v (Give line))
-    give_carries = record {
-      lane = refl;
-      area = λ i low high. refl;
-      olds = λ c there slots. itself v.changes c there;
-      records = refl;
-      can = λ slot pair is. can_on v (after v (Give line)) refl (still_written slot pair is) (λ u own known. still_known u (still_written slot pair is u own) known) (λ u own new. refl);
-    }
-
-  module _ (w y : ℕ) (inside : w < length v.words) where
-    abbrev stored : Log → View
-    stored lg = changed v w y (store_change w (slice_index v.words w) y) lg
-
-    other_word : (i : ℕ) → i ≢ w → slice_index (stored v.log).words i ≡ slice_index v.words i
-    other_word i differ = get_or-set_other v.words w i y 0 differ
-
-    new_changes : (P : Change → Type 0) → ((c : Change) → Contains v.changes c → P c) → P (store_change w (slice_index v.words w) y) → (c : Change) → Contains (stored v.log).changes c → P c
-    new_changes P olds last c there = ⊎_elim
-        (λ (before : Contains v.changes c). olds c before)
-        (λ (new : Contains (store_change w (slice_index v.words w) y ∷ []) c). subst P (only_member (store_change w (slice_index v.words w) y) c new) last)
-        (Contains-append_cases v.changes (store_change w (slice_index v.words w) y ∷ []) c there)
-
-    -- a slot's next word
-    since_slotted : (slot : List ℕ) (lg : Log) (end : ℕ) → AppendsToSlot v w y slot → length slot < 8 → end ≡ 648 + 8 * length v.log.records + length slot + 1
-        → Since o v (648 + 8 * length v.log.records + length slot) → Since o (stored lg) end
-    since_slotted slot lg end may short is since =
-        let at = may.at in
-        let lane = fits.lane.lane in
-        let free = may.free in
-        let same : generation_of (stored lg) ≡ generation_of v = other_word (area_word v.lane) (λ e. omega (arith, e, at, lane)) in
-        record {
-          least = let least = since.least in omega (arith, same, least);
-          first = λ now.
-              let un = since.first (sym same ∙ now) in
-              record {
-                beyond = λ i from high. other_word i (λ e. omega (arith, e, at, lane, from, is)) ∙ un.beyond i (omega (arith, from, is)) high;
-                olds = new_changes (λ (c : Change). InSlots 0 c.word → c.old ≡ slice_index o.words c.word) un.olds
-                    (λ slots. un.beyond w (omega (arith, at, lane)) (omega (arith, at, lane, free, short)));
-              };
-        }
-
-    in_slot : (slot pair : List ℕ) → AppendsToSlot v w y slot → length slot < 8 → FirstLog o v (Open slot pair)
-        → FirstLog o (stored (with_slot v.log (slot ++ y ∷ []) pair)) (with_slot v.log (slot ++ y ∷ []) pair).phase
-    in_slot slot pair may short first = ⊎_elim
-        (λ (low : length (slot ++ y ∷ []) < 8).
-        let lg : Log = in_phase (Open (slot ++ y ∷ []) pair) v.log in
-        subst (λ (l : Log). FirstLog o (stored l) l.phase) (sym (with_slot-short v.log (slot ++ y ∷ []) pair low))
-        (grown (can_more lg refl may.next may.can)))
-        (λ (full : 8 ≤ length (slot ++ y ∷ [])).
-        let long = length-append slot (y ∷ []) in
-        let size = length-spelled (generation_of v) may.next may.can.most in
-        let whole : slot ++ y ∷ [] ≡ spelled (generation_of v) may.next = may.spells ∙ take_all (length slot + 1) (spelled (generation_of v) may.next) (omega (arith, size, full, long)) in
-        let lg : Log = with_record v.log pair may.next in
-        let is : with_slot v.log (slot ++ y ∷ []) pair ≡ lg = ap (λ (s : List ℕ). with_slot v.log s pair) whole ∙ with_slot-whole v.log (generation_of v) may.next pair may.can.some may.can.most in
-        let count = length-append v.log.records (may.next ∷ []) in
-        subst (λ (l : Log). FirstLog o (stored l) l.phase) (sym is)
-        (since_slotted slot lg (648 + 8 * length (v.log.records ++ may.next ∷ []) + 0) may short (omega (arith, count, full, long, short)) first.0, λ some. absurd (omega arith)))
-        (cases_lt (length (slot ++ y ∷ [])) 8)
-      where
-        can_more : (lg : Log) → lg.records ≡ v.log.records → (r : Recorded) → CanRecord v r → CanRecord (stored lg) r
-        can_more lg same = can_on v (stored lg) same (λ u own. own) (λ u own. known_more (is_in_area v.lane u) true w v.known u)
-            (λ u own new. other_word u (λ e. let far = behind u own in let at = may.at in let lane = fits.lane.lane in let free = may.free in omega (arith, e, far, at, lane, free, short)))
-
-        grown : CanRecord (stored (in_phase (Open (slot ++ y ∷ []) pair) v.log)) may.next → FirstLog o (stored (in_phase (Open (slot ++ y ∷ []) pair) v.log)) (Open (slot ++ y ∷ []) pair)
-        grown can =
-            let long = length-append slot (y ∷ []) in
-            let now : View = stored (in_phase (Open (slot ++ y ∷ []) pair) v.log) in
-            let at = may.at in
-            let lane = fits.lane.lane in
-            let same : generation_of now ≡ generation_of v = other_word (area_word v.lane) (λ e. omega (arith, e, at, lane)) in (
-              since_slotted slot (in_phase (Open (slot ++ y ∷ []) pair) v.log) (648 + 8 * length v.log.records + length (slot ++ y ∷ [])) may short (omega (arith, long)) first.0,
-              λ some. record {
-                next = may.next;
-                can = can;
-                spells = may.spells ∙ (λ i. take (sym long i) (spelled (sym same i) may.next));
-              },
-            )
-
-    -- a word that the log would restore
-    object_carries : MayWrite v w → Carries v (stored v.log)
-    object_carries may =
-        let far = behind w may.own in
-        record {
-          lane = refl;
-          area = λ i low high. other_word i (λ e. omega (arith, e, far, high));
-          olds = new_changes (λ (c : Change). InSlots 0 c.word → OldOf v.changes c) (λ c there slots. itself v.changes c there) (λ slots. absurd (let high = slots.high in omega (arith, far, high)));
-          records = refl;
-          can = λ slot pair is. can_on v (stored v.log) refl (λ u own. own) (λ u own. known_more (is_in_area v.lane u) true w v.known u)
-              (λ u own new. other_word u (λ e. false≢true (sym new ∙ (ap (is_recorded v.log.records) e ∙ logged_recorded v w may.logged))));
-        }
-
-    -- the next generation
-    raises : part_of v.lane w ≡ GenerationWord → EndsGeneration v y → generation_word o.words 0 ≤ generation_of v → (lg : Log) → generation_word o.words 0 < generation_of (stored lg)
-    raises part ends least lg =
-        let at : w ≡ area_word v.lane = (generation_part v.lane w part).1 in
-        let next = ends.next in
-        let is : generation_of (stored lg) ≡ y = ap (λ (i : ℕ). slice_index (stored lg).words i) (sym at) ∙ get_or-set_same v.words w y 0 inside in
-        omega (arith, is, next, least)
-
-    store_first : (p : Phase) (part : Part) → v.log.phase ≡ p → part_of v.lane w ≡ part → StoreFits v w y p part → PhaseFits (Flies stands.log stands.decided 0) v p → FirstLog o v p
-        → FirstLog o (stored (log_stored p part y v.log)) (log_stored p part y v.log).phase
-    store_first Idle part is of may fit first = absurd may
-    store_first (Open slot pair) GenerationWord is of may fit first = raises of may.ends first.0.least (record v.log { phase = Retiring })
-    store_first (Open slot pair) SealWord is of may fit first = absurd may
-    store_first (Open slot pair) EntryWord is of may fit first = absurd may
-    store_first (Open slot pair) SlotWord is of may fit first = in_slot slot pair may fit.short first
-    store_first (Open slot pair) OtherWord is of may fit first = first_still (stored v.log) (object_carries may) refl (subst (FirstLog o v) (sym is) first)
-    store_first Drawn GenerationWord is of may fit first = raises of may first (record v.log { phase = Retiring })
-    store_first Drawn SealWord is of may fit first = absurd may
-    store_first Drawn EntryWord is of may fit first = absurd may
-    store_first Drawn SlotWord is of may fit first = absurd may
-    store_first Drawn OtherWord is of may fit first = absurd may
-    store_first Sealing part is of may fit first = absurd may
-    store_first (Applying applied) part is of may fit first = absurd may
-    store_first Clearing part is of may fit first = absurd may
-    store_first Retiring part is of may fit first = absurd may
-
-  -- nothing is undrained any longer, or less
-  abbrev emptied : List Change → Log → View
-  emptied changes lg = record v { changes = changes; calls = v.calls + 1; log = lg }
-
-  empty_carries : (left : List Change) → ((c : Change) → Contains left c → Contains v.changes c) → Carries v (emptied left v.log)
-  empty_carries left among = quiet (emptied left v.log) refl refl refl (λ c there. itself v.changes c (among c there)) (λ u own. own) (λ u own is. is)
-
-  drained_first : (p : Phase) (drawn : Bool) → v.log.phase ≡ p → FirstLog o v p → FirstLog o (emptied [] (log_drained p drawn v.log)) (log_drained p drawn v.log).phase
-  drained_first Idle drawn is first = first_still (emptied [] v.log) (empty_carries [] (λ c there. absurd (no_member c there))) refl (subst (FirstLog o v) (sym is) first)
-  drained_first (Open slot pair) drawn is first = first_still (emptied [] v.log) (empty_carries [] (λ c there. absurd (no_member c there))) refl (subst (FirstLog o v) (sym is) first)
-  drained_first Drawn drawn is first = first_still (emptied [] v.log) (empty_carries [] (λ c there. absurd (no_member c there))) refl (subst (FirstLog o v) (sym is) first)
-  drained_first Sealing drawn is first = tt
-  drained_first (Applying applied) drawn is first = first_still (emptied [] v.log) (empty_carries [] (λ c there. absurd (no_member c there))) refl (subst (FirstLog o v) (sym is) first)
-  drained_first Clearing drawn is first = absurd (subst (PhaseFits (Flies stands.log stands.decided 0) v) is fits.phase)
-  drained_first Retiring true is first = record { least = omega arith; first = λ now. absurd (omega arith) }
-  drained_first Retiring false is first = (record { least = omega arith; first = λ now. absurd (omega arith) }, λ some. absurd (omega arith))
-
-  drain_first : (left : List Change) → ((c : Change) → Contains left c → Contains v.changes c) → FirstLog o v v.log.phase → FirstLog o (emptied left (log_after_drain left v)) (log_after_drain left v).phase
-  drain_first [] among first = drained_first v.log.phase (is_some v.number) refl first
-  drain_first (c ∷ left) among first = first_still (emptied (c ∷ left) v.log) (empty_carries (c ∷ left) among) refl first
-
-  -- a number is seen: a call begins, or nothing of the log changes
-  still_seen : (n : ℕ) → Carries v (with_seen (NumberSeen n) v)
-  still_seen n = quiet (with_seen (NumberSeen n) v) refl refl refl (itself v.changes) (λ u own. own) (λ u own is. is)
-
-  seen_first : (n : ℕ) (p : Phase) → v.log.phase ≡ p → FirstLog o v p → FirstLog o (with_seen (NumberSeen n) (begun p v)) (begun p v).log.phase
-  seen_first n Idle is first =
-      (record { least = first.least; first = λ now. let un = first.first now in record { beyond = un.beyond; olds = un.olds } }, λ some. absurd (omega arith))
-  seen_first n (Open slot pair) is first = first_still (with_seen (NumberSeen n) v) (still_seen n) refl (subst (FirstLog o v) (sym is) first)
-  seen_first n Drawn is first = first_still (with_seen (NumberSeen n) v) (still_seen n) refl (subst (FirstLog o v) (sym is) first)
-  seen_first n Sealing is first = first_still (with_seen (NumberSeen n) v) (still_seen n) refl (subst (FirstLog o v) (sym is) first)
-  seen_first n (Applying applied) is first = first_still (with_seen (NumberSeen n) v) (still_seen n) refl (subst (FirstLog o v) (sym is) first)
-  seen_first n Clearing is first = first_still (with_seen (NumberSeen n) v) (still_seen n) refl (subst (FirstLog o v) (sym is) first)
-  seen_first n Retiring is first = first_still (with_seen (NumberSeen n) v) (still_seen n) refl (subst (FirstLog o v) (sym is) first)
-
-  -- the call draws
-  abbrev numbered : ℕ → Log → View
-  numbered n lg = record v { log = lg; number = Some n; entries = v.entries ++ record { number = n; call = v.call } ∷ [] }
-
-  drawn_first : (n : ℕ) (lg : Log) (records : List Recorded) (entries : List Final) → v.log.records ≡ records → Since o v (648 + 8 * length v.log.records + 0) → FirstLog o (numbered n lg) (phase_drawn records entries)
-  drawn_first n lg [] [] none since =
-      let count : length v.log.records ≡ 0 = ap (λ (rs : List Recorded). length rs) none in
-      record {
-        least = since.least;
-        first = λ now.
-            let un = since.first now in
-            record { beyond = λ i from high. un.beyond i (omega (arith, from, count)) high; olds = un.olds };
+      give_carries : Carries v (after v (Give line))
+      give_carries = record {
+        lane = refl;
+        area = λ i low high. refl;
+        olds = λ c there slots. itself v.changes c there;
+        records = refl;
+        can = λ slot pair is. can_on v (after v (Give line)) refl (still_written slot pair is) (λ u own known. still_known u (still_written slot pair is u own) known) (λ u own new. refl);
       }
-  drawn_first n lg [] (f ∷ entries) some since = since.least
-  drawn_first n lg (r ∷ records) entries some since = since.least
 
-  draw_first : (n : ℕ) (p : Phase) → p ≡ Open [] [] → FirstLog o v p → FirstLog o (numbered n (log_drawn p v.log)) (log_drawn p v.log).phase
-  draw_first n p is first =
-      subst (λ (q : Phase). FirstLog o (numbered n (log_drawn q v.log)) (log_drawn q v.log).phase) (sym is)
-      (drawn_first n (log_drawn (Open [] []) v.log) v.log.records v.log.entries refl (subst (FirstLog o v) is first).0)
+    module _ (w y : ℕ) (inside : w < length v.words) where
+      abbrev stored : Log → View
+      stored lg = changed v w y (store_change w (slice_index v.words w) y) lg
 
-  told_carries : (w : View) → w ≡ record v { seen = w.seen; call = w.call; actions = w.actions } → Carries v w
-  told_carries w is = subst (Carries v) (sym is) (quiet (record v { seen = w.seen; call = w.call; actions = w.actions }) refl refl refl (itself v.changes) (λ u own. own) (λ u own is_. is_))
+      other_word : (i : ℕ) → i ≢ w → slice_index (stored v.log).words i ≡ slice_index v.words i
+      other_word i differ = get_or-set_other v.words w i y 0 differ
 
-  pub first_after : (s : Step) → Allowed v s → FoundAlone v s → FirstLog o v v.log.phase → FirstLog o (after v s) (after v s).log.phase
-  first_after (Load w x) may found first = first_still (after v (Load w x)) (load_carries w x may (found alone)) refl first
-  first_after (Store w y) may found first = store_first w y may.inside v.log.phase (part_of v.lane w) refl refl may.fits fits.phase first
-  first_after (Or w bits found) may f first = absurd may
-  first_after (And w bits found) may f first = absurd may
-  first_after (Flush line) may found first = first_still (after v (Flush line)) (flush_carries line) refl first
-  first_after Drain may found first = drain_first (drained v.changes) (λ c there. member_kept (λ (d : Change). not d.flushed) v.changes c there) first
-  first_after (TakeWrite line won) may found first = first_still (after v (TakeWrite line won)) (take_write_carries line won) refl first
-  first_after (TakeRead line won) may found first = first_still (after v (TakeRead line won)) (take_read_carries line won) refl first
-  first_after (Raise line won) may found first = absurd may
-  first_after (Give line) may found first = first_still (after v (Give line)) (give_carries line may) refl first
-  first_after (ZoneTry zone won) may found first = absurd may
-  first_after (ZoneGive zone) may found first = absurd may
-  first_after (Occupied at found) may f first = absurd may
-  first_after (Occupy at bits won) may found first = absurd may
-  first_after (Vacate at bits) may found first = absurd may
-  first_after (Draw n) may found first = draw_first n v.log.phase may.is_open first
-  first_after (NumberSeen n) may found first = seen_first n v.log.phase refl first
-  first_after (StopSeen set) may found first = first_still (after v (StopSeen set)) (told_carries (after v (StopSeen set)) refl) refl first
-  first_after SetStop may found first = first
-  first_after (Tell operation reply) may found first = first_still (after v (Tell operation reply)) (told_carries (after v (Tell operation reply)) refl) refl first
+      new_changes : (P : Change → Type 0) → ((c : Change) → Contains v.changes c → P c) → P (store_change w (slice_index v.words w) y) → (c : Change) → Contains (stored v.log).changes c → P c
+      new_changes P olds last c there = ⊎_elim
+          (λ (before : Contains v.changes c). olds c before)
+          (λ (new : Contains (store_change w (slice_index v.words w) y ∷ []) c). subst P (only_member (store_change w (slice_index v.words w) y) c new) last)
+          (Contains-append_cases v.changes (store_change w (slice_index v.words w) y ∷ []) c there)
+
+      -- a slot's next word
+      since_slotted : (slot : List ℕ) (lg : Log) (end : ℕ) → AppendsToSlot v w y slot → length slot < 8 → end ≡ 648 + 8 * length v.log.records + length slot + 1
+          → Since origin v (648 + 8 * length v.log.records + length slot) → Since origin (stored lg) end
+      since_slotted slot lg end may short is since =
+          let at = may.at in
+          let lane = fits.lane.lane in
+          let free = may.free in
+          let same : generation_of (stored lg) ≡ generation_of v = other_word (area_word v.lane) (λ e. omega (arith, e, at, lane)) in
+          record {
+            least = let least = since.least in omega (arith, same, least);
+            first = λ now.
+                let un = since.first (sym same ∙ now) in
+                record {
+                  beyond = λ i from high. other_word i (λ e. omega (arith, e, at, lane, from, is)) ∙ un.beyond i (omega (arith, from, is)) high;
+                  olds = new_changes (λ (c : Change). InSlots 0 c.word → c.old ≡ slice_index origin.words c.word) un.olds
+                      (λ slots. un.beyond w (omega (arith, at, lane)) (omega (arith, at, lane, free, short)));
+                };
+          }
+
+      in_slot : (slot pair : List ℕ) → AppendsToSlot v w y slot → length slot < 8 → FirstLog origin v (Open slot pair)
+          → FirstLog origin (stored (with_slot v.log (slot ++ y ∷ []) pair)) (with_slot v.log (slot ++ y ∷ []) pair).phase
+      in_slot slot pair may short first = ⊎_elim
+          (λ (low : length (slot ++ y ∷ []) < 8).
+          let lg : Log = in_phase (Open (slot ++ y ∷ []) pair) v.log in
+          subst (λ (l : Log). FirstLog origin (stored l) l.phase) (sym (with_slot-short v.log (slot ++ y ∷ []) pair low))
+          (grown (can_more lg refl may.next may.can)))
+          (λ (full : 8 ≤ length (slot ++ y ∷ [])).
+          let long = length-append slot (y ∷ []) in
+          let size = length-spelled (generation_of v) may.next may.can.most in
+          let whole : slot ++ y ∷ [] ≡ spelled (generation_of v) may.next = may.spells ∙ take_all (length slot + 1) (spelled (generation_of v) may.next) (omega (arith, size, full, long)) in
+          let lg : Log = with_record v.log pair may.next in
+          let is : with_slot v.log (slot ++ y ∷ []) pair ≡ lg = ap (λ (s : List ℕ). with_slot v.log s pair) whole ∙ with_slot-whole v.log (generation_of v) may.next pair may.can.some may.can.most in
+          let count = length-append v.log.records (may.next ∷ []) in
+          subst (λ (l : Log). FirstLog origin (stored l) l.phase) (sym is)
+          (since_slotted slot lg (648 + 8 * length (v.log.records ++ may.next ∷ []) + 0) may short (omega (arith, count, full, long, short)) first.0, λ some. absurd (omega arith)))
+          (cases_lt (length (slot ++ y ∷ [])) 8)
+        where
+          can_more : (lg : Log) → lg.records ≡ v.log.records → (r : Recorded) → CanRecord v r → CanRecord (stored lg) r
+          can_more lg same = can_on v (stored lg) same (λ u own. own) (λ u own. known_more (is_in_area v.lane u) true w v.known u)
+              (λ u own new. other_word u (λ e. let far = behind u own in let at = may.at in let lane = fits.lane.lane in let free = may.free in omega (arith, e, far, at, lane, free, short)))
+
+          grown : CanRecord (stored (in_phase (Open (slot ++ y ∷ []) pair) v.log)) may.next → FirstLog origin (stored (in_phase (Open (slot ++ y ∷ []) pair) v.log)) (Open (slot ++ y ∷ []) pair)
+          grown can =
+              let long = length-append slot (y ∷ []) in
+              let now : View = stored (in_phase (Open (slot ++ y ∷ []) pair) v.log) in
+              let at = may.at in
+              let lane = fits.lane.lane in
+              let same : generation_of now ≡ generation_of v = other_word (area_word v.lane) (λ e. omega (arith, e, at, lane)) in (
+                since_slotted slot (in_phase (Open (slot ++ y ∷ []) pair) v.log) (648 + 8 * length v.log.records + length (slot ++ y ∷ [])) may short (omega (arith, long)) first.0,
+                λ some. record {
+                  next = may.next;
+                  can = can;
+                  spells = may.spells ∙ (λ i. take (sym long i) (spelled (sym same i) may.next));
+                },
+              )
+
+      -- a word that the log would restore
+      object_carries : MayWrite v w → Carries v (stored v.log)
+      object_carries may =
+          let far = behind w may.own in
+          record {
+            lane = refl;
+            area = λ i low high. other_word i (λ e. omega (arith, e, far, high));
+            olds = new_changes (λ (c : Change). InSlots 0 c.word → OldOf v.changes c) (λ c there slots. itself v.changes c there) (λ slots. absurd (let high = slots.high in omega (arith, far, high)));
+            records = refl;
+            can = λ slot pair is. can_on v (stored v.log) refl (λ u own. own) (λ u own. known_more (is_in_area v.lane u) true w v.known u)
+                (λ u own new. other_word u (λ e. false≢true (sym new ∙ (ap (is_recorded v.log.records) e ∙ logged_recorded v w may.logged))));
+          }
+
+      -- the next generation
+      raises : part_of v.lane w ≡ GenerationWord → EndsGeneration v y → generation_word origin.words 0 ≤ generation_of v → (lg : Log) → generation_word origin.words 0 < generation_of (stored lg)
+      raises part ends least lg =
+          let at : w ≡ area_word v.lane = (generation_part v.lane w part).1 in
+          let next = ends.next in
+          let is : generation_of (stored lg) ≡ y = ap (λ (i : ℕ). slice_index (stored lg).words i) (sym at) ∙ get_or-set_same v.words w y 0 inside in
+          omega (arith, is, next, least)
+
+      store_first : (p : Phase) (part : Part) → v.log.phase ≡ p → part_of v.lane w ≡ part → StoreFits v w y p part → PhaseFits (Flies stands.log stands.decided 0) v p → FirstLog origin v p
+          → FirstLog origin (stored (log_stored p part y v.log)) (log_stored p part y v.log).phase
+      store_first Idle part is of may fit first = absurd may
+      store_first (Open slot pair) GenerationWord is of may fit first = raises of may.ends first.0.least (record v.log { phase = Retiring })
+      store_first (Open slot pair) SealWord is of may fit first = absurd may
+      store_first (Open slot pair) EntryWord is of may fit first = absurd may
+      store_first (Open slot pair) SlotWord is of may fit first = in_slot slot pair may fit.short first
+      store_first (Open slot pair) OtherWord is of may fit first = first_still (stored v.log) (object_carries may) refl (subst (FirstLog origin v) (sym is) first)
+      store_first Drawn GenerationWord is of may fit first = raises of may first (record v.log { phase = Retiring })
+      store_first Drawn SealWord is of may fit first = absurd may
+      store_first Drawn EntryWord is of may fit first = absurd may
+      store_first Drawn SlotWord is of may fit first = absurd may
+      store_first Drawn OtherWord is of may fit first = absurd may
+      store_first Sealing part is of may fit first = absurd may
+      store_first (Applying applied) part is of may fit first = absurd may
+      store_first Clearing part is of may fit first = absurd may
+      store_first Retiring part is of may fit first = absurd may
+
+    -- nothing is undrained any longer, or less
+    abbrev emptied : List Change → Log → View
+    emptied changes lg = record v { changes = changes; calls = v.calls + 1; log = lg }
+
+    empty_carries : (left : List Change) → ((c : Change) → Contains left c → Contains v.changes c) → Carries v (emptied left v.log)
+    empty_carries left among = quiet (emptied left v.log) refl refl refl (λ c there. itself v.changes c (among c there)) (λ u own. own) (λ u own is. is)
+
+    drained_first : (p : Phase) (drawn : Bool) → v.log.phase ≡ p → FirstLog origin v p → FirstLog origin (emptied [] (log_drained p drawn v.log)) (log_drained p drawn v.log).phase
+    drained_first Idle drawn is first = first_still (emptied [] v.log) (empty_carries [] (λ c there. absurd (no_member c there))) refl (subst (FirstLog origin v) (sym is) first)
+    drained_first (Open slot pair) drawn is first = first_still (emptied [] v.log) (empty_carries [] (λ c there. absurd (no_member c there))) refl (subst (FirstLog origin v) (sym is) first)
+    drained_first Drawn drawn is first = first_still (emptied [] v.log) (empty_carries [] (λ c there. absurd (no_member c there))) refl (subst (FirstLog origin v) (sym is) first)
+    drained_first Sealing drawn is first = tt
+    drained_first (Applying applied) drawn is first = first_still (emptied [] v.log) (empty_carries [] (λ c there. absurd (no_member c there))) refl (subst (FirstLog origin v) (sym is) first)
+    drained_first Clearing drawn is first = absurd (subst (PhaseFits (Flies stands.log stands.decided 0) v) is fits.phase)
+    drained_first Retiring true is first = record { least = omega arith; first = λ now. absurd (omega arith) }
+    drained_first Retiring false is first = (record { least = omega arith; first = λ now. absurd (omega arith) }, λ some. absurd (omega arith))
+
+    drain_first : (left : List Change) → ((c : Change) → Contains left c → Contains v.changes c) → FirstLog origin v v.log.phase → FirstLog origin (emptied left (log_after_drain left v)) (log_after_drain left v).phase
+    drain_first [] among first = drained_first v.log.phase (is_some v.number) refl first
+    drain_first (c ∷ left) among first = first_still (emptied (c ∷ left) v.log) (empty_carries (c ∷ left) among) refl first
+
+    -- a number is seen: a call begins, or nothing of the log changes
+    still_seen : (n : ℕ) → Carries v (with_seen (NumberSeen n) v)
+    still_seen n = quiet (with_seen (NumberSeen n) v) refl refl refl (itself v.changes) (λ u own. own) (λ u own is. is)
+
+    seen_first : (n : ℕ) (p : Phase) → v.log.phase ≡ p → FirstLog origin v p → FirstLog origin (with_seen (NumberSeen n) (begun p v)) (begun p v).log.phase
+    seen_first n Idle is first =
+        (record { least = first.least; first = λ now. let un = first.first now in record { beyond = un.beyond; olds = un.olds } }, λ some. absurd (omega arith))
+    seen_first n (Open slot pair) is first = first_still (with_seen (NumberSeen n) v) (still_seen n) refl (subst (FirstLog origin v) (sym is) first)
+    seen_first n Drawn is first = first_still (with_seen (NumberSeen n) v) (still_seen n) refl (subst (FirstLog origin v) (sym is) first)
+    seen_first n Sealing is first = first_still (with_seen (NumberSeen n) v) (still_seen n) refl (subst (FirstLog origin v) (sym is) first)
+    seen_first n (Applying applied) is first = first_still (with_seen (NumberSeen n) v) (still_seen n) refl (subst (FirstLog origin v) (sym is) first)
+    seen_first n Clearing is first = first_still (with_seen (NumberSeen n) v) (still_seen n) refl (subst (FirstLog origin v) (sym is) first)
+    seen_first n Retiring is first = first_still (with_seen (NumberSeen n) v) (still_seen n) refl (subst (FirstLog origin v) (sym is) first)
+
+    -- the call draws
+    abbrev numbered : ℕ → Log → View
+    numbered n lg = record v { log = lg; number = Some n; entries = v.entries ++ record { number = n; call = v.call } ∷ [] }
+
+    drawn_first : (n : ℕ) (lg : Log) (records : List Recorded) (entries : List Final) → v.log.records ≡ records → Since origin v (648 + 8 * length v.log.records + 0) → FirstLog origin (numbered n lg) (phase_drawn records entries)
+    drawn_first n lg [] [] none since =
+        let count : length v.log.records ≡ 0 = ap (λ (rs : List Recorded). length rs) none in
+        record {
+          least = since.least;
+          first = λ now.
+              let un = since.first now in
+              record { beyond = λ i from high. un.beyond i (omega (arith, from, count)) high; olds = un.olds };
+        }
+    drawn_first n lg [] (f ∷ entries) some since = since.least
+    drawn_first n lg (r ∷ records) entries some since = since.least
+
+    draw_first : (n : ℕ) (p : Phase) → p ≡ Open [] [] → FirstLog origin v p → FirstLog origin (numbered n (log_drawn p v.log)) (log_drawn p v.log).phase
+    draw_first n p is first =
+        subst (λ (q : Phase). FirstLog origin (numbered n (log_drawn q v.log)) (log_drawn q v.log).phase) (sym is)
+        (drawn_first n (log_drawn (Open [] []) v.log) v.log.records v.log.entries refl (subst (FirstLog origin v) is first).0)
+
+    told_carries : (w : View) → w ≡ record v { seen = w.seen; call = w.call; actions = w.actions } → Carries v w
+    told_carries w is = subst (Carries v) (sym is) (quiet (record v { seen = w.seen; call = w.call; actions = w.actions }) refl refl refl (itself v.changes) (λ u own. own) (λ u own is_. is_))
+
+    pub first_after : (s : Step) → Allowed v s → FoundAlone v s → FirstLog origin v v.log.phase → FirstLog origin (after v s) (after v s).log.phase
+    first_after (Load w x) may found first = first_still (after v (Load w x)) (load_carries w x may (found alone)) refl first
+    first_after (Store w y) may found first = store_first w y may.inside v.log.phase (part_of v.lane w) refl refl may.fits fits.phase first
+    first_after (Or w bits found) may f first = absurd may
+    first_after (And w bits found) may f first = absurd may
+    first_after (Flush line) may found first = first_still (after v (Flush line)) (flush_carries line) refl first
+    first_after Drain may found first = drain_first (drained v.changes) (λ c there. member_kept (λ (d : Change). not d.flushed) v.changes c there) first
+    first_after (TakeWrite line won) may found first = first_still (after v (TakeWrite line won)) (take_write_carries line won) refl first
+    first_after (TakeRead line won) may found first = first_still (after v (TakeRead line won)) (take_read_carries line won) refl first
+    first_after (Raise line won) may found first = absurd may
+    first_after (Give line) may found first = first_still (after v (Give line)) (give_carries line may) refl first
+    first_after (ZoneTry zone won) may found first = absurd may
+    first_after (ZoneGive zone) may found first = absurd may
+    first_after (Occupied at found) may f first = absurd may
+    first_after (Occupy at bits won) may found first = absurd may
+    first_after (Vacate at bits) may found first = absurd may
+    first_after (Draw n) may found first = draw_first n v.log.phase may.is_open first
+    first_after (NumberSeen n) may found first = seen_first n v.log.phase refl first
+    first_after (StopSeen set) may found first = first_still (after v (StopSeen set)) (told_carries (after v (StopSeen set)) refl) refl first
+    first_after SetStop may found first = first
+    first_after (Tell operation reply) may found first = first_still (after v (Tell operation reply)) (told_carries (after v (Tell operation reply)) refl) refl first

@@ -1,5 +1,5 @@
 -- Steps that lead from one view to another, put together.
-use Rattle.std.proofs.Common.{◌≡◌, List, [], ◌∷◌, ◌++◌, subst}
+use Rattle.std.proofs.Common.{◌≡◌, List, [], ◌∷◌, ◌++◌, sym, subst}
 use Rattle.pm_view.specs.Steps.{Step}
 use Rattle.pm_view.specs.View.{View}
 use Rattle.pm_view.specs.Views.{after, after_all}
@@ -10,6 +10,12 @@ pub leads_then : (u v w : View) (first second : List Step) → Leads u first v �
 unfolding Leads
 leads_then u v w [] second leads on = subst (λ m. Leads m second w) leads on
 leads_then u v w (s ∷ first) second leads on = (leads.0, leads.1, leads.2, leads_then (after u s) v w first second leads.3 on)
+
+-- of steps that lead to a view by another, those behind it lead on
+pub leads_on : (u v w : View) (first second : List Step) → Leads u first v → Leads u (first ++ second) w → Leads v second w
+unfolding Leads
+leads_on u v w [] second leads all = subst (λ m. Leads m second w) (sym leads) all
+leads_on u v w (s ∷ first) second leads all = leads_on (after u s) v w first second leads.3 all.3
 
 -- where they end
 pub leads_end : (v w : View) (steps : List Step) → Leads v steps w → w ≡ after_all v steps

@@ -48,8 +48,11 @@ pub mod Leading
 pub mod AloneMemory
 pub mod AloneCourse
 pub mod AloneImages
+pub mod OnTheWay
 pub mod FirstLog
 pub mod TornSlots
+pub mod AtRest
+pub mod SoundPools
 pub mod Raises
 pub mod Raising
 pub mod SeenAlone

@@ -1,5 +1,5 @@
 -- A slot that is being written while the power fails and is valid in the image holds a whole record, where no torn record matches by chance.
-use Rattle.std.proofs.Common.{◌≡◌, ◌≢◌, ◌⊎◌, ⊎_elim, inl, inr, ℕ, zero, suc, ◌+◌, ◌-◌, ◌*◌, ◌/◌, ◌<◌, ◌≤◌, Bool, true, false, not, eqb, leb, ltb, IsTrue, List, [], ◌∷◌, length, take, drop, slice_get, slice_index, slice_range, Some, refl, sym, ◌∙◌, ap, subst, arith, eq-eqb}
+use Rattle.std.proofs.Common.{◌≡◌, ◌≢◌, ◌⊎◌, ⊎_elim, inl, inr, ℕ, zero, suc, ◌+◌, ◌-◌, ◌*◌, ◌/◌, ◌<◌, ◌≤◌, Bool, true, false, not, eqb, leb, ltb, IsTrue, List, [], ◌∷◌, ◌++◌, length, take, drop, slice_get, slice_index, slice_range, Some, refl, sym, ◌∙◌, ap, subst, arith, eq-eqb}
 use Rattle.std.specs.List.{Contains, list_all, list_any, range_with_len}
 use Rattle.std.specs.Option.{ForSome}
 use Rattle.std.proofs.lemmas.Bool.{cases_eq, cases_lt, and_from, eqb-true, false≢true, le-leb, lt-ltb}
@@ -18,7 +18,7 @@ use Rattle.pm_view.specs.declared.change.Change.{Change}
 use Rattle.pm_view.specs.Area.{area_word}
 use Rattle.pm_view.specs.Changes.{is_in_line}
 use Rattle.pm_view.specs.Founds.{IsAlone}
-use Rattle.pm_view.specs.Log.{Log, Phase, Recorded}
+use Rattle.pm_view.specs.Log.{Log, Phase, Recorded, no_log}
 use Rattle.pm_view.specs.Log.Phase.{Idle, Open, Drawn, Sealing, Applying, Clearing, Retiring}
 use Rattle.pm_view.specs.Rights.{is_written}
 use Rattle.pm_view.specs.Steps.{Step}
@@ -40,46 +40,57 @@ use Rattle.pm_world.proofs.CrashSpellings.{valid_parts}
 use Rattle.pm_world.proofs.CrashWords.{OwnTakenBack, area_left, generation_is, generation_read}
 use Rattle.pm_world.proofs.Exclusion.{writes_under}
 use Rattle.pm_world.proofs.StoreSlot.{length-spelled}
-use Rattle.pm_crash.specs.Alone.{BeginsAlone, GrowsFirst, HasNoTornMatch, MayRecord, WorksAlone, alone_views, idle_view, is_of_words}
+use Rattle.pm_crash.specs.Alone.{GrowsFirst, HasNoTornMatch, MayRecord, Rests, WorksAlone, alone_views, idle_view, is_of_words, standing}
 use Rattle.pm_crash.specs.Leading.{Leads}
-use Rattle.pm_crash.proofs.AloneCourse.{StandsAlone, alone_else, due_along, grows_along, number_along, stands_after, stands_first}
+use Rattle.pm_crash.proofs.AloneCourse.{StandsAlone, alone_else, due_along, grows_along, number_along, stands_after, stands_at}
 use Rattle.pm_crash.proofs.AloneImages.{kept_survives, own_fits}
 use Rattle.pm_crash.proofs.AloneMemory.{memory_of}
 use Rattle.pm_crash.proofs.FirstLog.{FirstLog, Making, Since, Unwritten, first_after}
+use Rattle.pm_crash.proofs.Leading.{leads_on}
 use Rattle.pm_crash.proofs.LogCourse.{InRange}
+use Rattle.pm_crash.proofs.OnTheWay.{alone_on_the_way, works_up_to}
 
--- where a lane that is alone stands, and its log
-record StandsFirst (o : Opening) (header : Header) (pool : PoolView) (w : View) : Type 0 where
+-- where a lane that is alone stands, and its log since the origin
+record StandsFirst (o origin : Opening) (header : Header) (pool : PoolView) (w : View) : Type 0 where
   stands : StandsAlone o header pool w
-  first : FirstLog o w w.log.phase
+  first : FirstLog origin w w.log.phase
+
+-- where the lane rests nothing of a log is written since
+rested : (o : Opening) (b : View) (end : ℕ) → b.lane ≡ 0 → b.changes ≡ [] → Since (standing o b) b end
+rested o b end lane none =
+    let is : generation_of b ≡ generation_word b.words 0 = ap (λ (n : ℕ). slice_index b.words (area_word n)) lane in
+    record {
+      least = omega (arith, is);
+      first = λ now. record {
+        beyond = λ i from high. refl;
+        olds = λ c there slots. absurd (no_member c (subst (λ (cs : List Change). Contains cs c) none there));
+      };
+    }
+
+first_at_rest : (o : Opening) (b : View) → b.lane ≡ 0 → Rests b → FirstLog (standing o b) b b.log.phase
+first_at_rest o b lane rests = ⊎_elim
+    (λ (idle : b.log ≡ no_log Idle). subst (λ (l : Log). FirstLog (standing o b) b l.phase) (sym idle) (rested o b 648 lane rests.drained))
+    (λ (fresh : b.log ≡ no_log (Open [] [])). subst (λ (l : Log). FirstLog (standing o b) b l.phase) (sym fresh)
+    (rested o b (648 + 8 * length b.log.records + 0) lane rests.drained, λ some. absurd (omega arith)))
+    rests.empty
 
 module _ (o : Opening) (header : Header) (pool : PoolView) where
-  begins_first : (v : View) → BeginsAlone o header pool v → FirstLog o v v.log.phase
-  begins_first v begins =
-      let fresh = begins.fresh in
-      let is : generation_of v ≡ generation_word o.words 0 = (λ i. slice_index (fresh.words i) (512 + 1024 * fresh.lane.lane i)) in
-      let since : Since o v 648 = record {
-        least = omega (arith, is);
-        first = λ now. record {
-          beyond = λ i from high. ap (λ (words : List ℕ). slice_index words i) fresh.words;
-          olds = λ c there slots. absurd (no_member c (subst (λ (cs : List Change). Contains cs c) fresh.nothing_changed there));
-        };
-      } in
-      subst (FirstLog o v) (sym (ap (λ (l : Log). l.phase) fresh.idle)) since
-
-  first_along : (v : View) (steps : List Step) (w : View) → StandsAlone o header pool v → IsAlone v → FirstLog o v v.log.phase → Leads v steps w → AreNumbered 1 w.entries
-      → ForSome w.stop (λ stop. w.calls ≤ stop) → StandsFirst o header pool w
+  first_along : (origin : Opening) (v : View) (steps : List Step) (w : View) → StandsAlone o header pool v → IsAlone v → FirstLog origin v v.log.phase → Leads v steps w → AreNumbered 1 w.entries
+      → ForSome w.stop (λ stop. w.calls ≤ stop) → StandsFirst o origin header pool w
   unfolding Leads
-  first_along v [] w stands alone first leads numbered within = subst (StandsFirst o header pool) (sym leads) (record { stands = stands; first = first })
-  first_along v (s ∷ steps) w stands alone first leads numbered within =
+  first_along origin v [] w stands alone first leads numbered within = subst (StandsFirst o origin header pool) (sym leads) (record { stands = stands; first = first })
+  first_along origin v (s ∷ steps) w stands alone first leads numbered within =
       let grows = grows_along (after v s) steps w leads.3 in
-      first_along (after v s) steps w
+      first_along origin (after v s) steps w
       (stands_after o header pool v stands s alone leads.0 leads.1 leads.2 (due_along o header pool v s w grows within) (number_along o header pool v s w grows numbered))
-      ((same_lane-after v s).table ∙ alone) (first_after o header pool v stands alone s leads.0 leads.1 first) leads.3 numbered within
+      ((same_lane-after v s).table ∙ alone) (first_after o header pool v stands alone origin s leads.0 leads.1 first) leads.3 numbered within
 
-  first_at : (v : View) (steps : List Step) (w : View) → WorksAlone o header pool v steps w → StandsFirst o header pool w
-  first_at v steps w works =
-      first_along v steps w (stands_first o header pool v works.begins) works.begins.alone (begins_first v works.begins) works.leads works.numbered works.within
+  first_at : (v b w : View) (before steps : List Step) → WorksAlone o header pool v (before ++ steps) w → Leads v before b → Rests b → StandsFirst o (standing o b) header pool w
+  first_at v b w before steps works leads rests =
+      let up : WorksAlone o header pool v before b = works_up_to o header pool v b w before steps works leads in
+      let stands : StandsAlone o header pool b = stands_at o header pool v before b up.begins up.leads up.numbered up.within in
+      first_along (standing o b) b steps w stands (alone_on_the_way v b before up.begins.alone leads) (first_at_rest o b (own_fits o header pool b stands).lane.lane rests)
+      (leads_on v b w before steps leads works.leads) works.numbered works.within
 
 -- eight words of a list
 eight_words : (words : List ℕ) (a i : ℕ) → i < 8 → slice_index (slice_range words a (a + 8)) i ≡ slice_index words (a + i)
@@ -180,7 +191,8 @@ module _ (o : Opening) (header : Header) (pool : PoolView) (w : View) (s : Stand
           (λ (other : k ≢ 0). ap (λ (u : View). is_logged u (r.word + i)) (s.others k other))
           (cases_eq k 0)
 
-  module _ (image : List ℕ) (survives : Survives o (memory_of w) s.views image) (slot : ℕ) (within : slot < 64) where
+  -- an image, and a slot as it was at the origin
+  module _ (origin : Opening) (image : List ℕ) (survives : Survives o (memory_of w) s.views image) (slot : ℕ) (within : slot < 64) where
     abbrev place : ℕ
     place = 8 * slot_line 0 slot
 
@@ -190,8 +202,8 @@ module _ (o : Opening) (header : Header) (pool : PoolView) (w : View) (s : Stand
     size : 1536 ≤ length o.words
     size = let all = s.goes.world.sound.size in let some = s.goes.in_lanes in omega (arith, all, some)
 
-    -- each word of the slot is as the lane left it, or as at the opening
-    found_word : (end i : ℕ) → Unwritten o w end → i < 8 → (slice_index found i ≡ slice_index w.words (place + i)) ⊎ (slice_index found i ≡ slice_index o.words (place + i))
+    -- each word of the slot is as the lane left it, or as at the origin
+    found_word : (end i : ℕ) → Unwritten origin w end → i < 8 → (slice_index found i ≡ slice_index w.words (place + i)) ⊎ (slice_index found i ≡ slice_index origin.words (place + i))
     found_word end i un low =
         let word : slice_index found i ≡ slice_index image (place + i) = eight_words image place i low in
         let some = s.goes.in_lanes in
@@ -202,32 +214,32 @@ module _ (o : Opening) (header : Header) (pool : PoolView) (w : View) (s : Stand
         (λ (same : slice_index image (place + i) ≡ slice_index w.words (place + i)). inl (word ∙ same))
         (λ (t : OwnTakenBack w image (place + i)).
         let at = t.of_word in
-        inr (word ∙ t.is_old ∙ un.olds t.change t.there (record { low = omega (arith, at); high = omega (arith, at, low, within) }) ∙ ap (slice_index o.words) t.of_word))
+        inr (word ∙ t.is_old ∙ un.olds t.change t.there (record { low = omega (arith, at); high = omega (arith, at, low, within) }) ∙ ap (slice_index origin.words) t.of_word))
         left
 
-    -- so the slot is whole, where each word of it as the lane left it is that of the record, or as at the opening
-    whole_found : (test : Recorded → Bool) → HasNoTornMatch o test → (r : Recorded) → 1 ≤ length r.old → length r.old ≤ 4 → test r ≡ true → (end : ℕ) → Unwritten o w end
-        → ((i : ℕ) → i < 8 → (slice_index w.words (place + i) ≡ slice_index (spelled (generation_word o.words 0) r) i) ⊎ (slice_index w.words (place + i) ≡ slice_index o.words (place + i)))
-        → is_record found ≡ true → slice_index found 0 ≡ generation_word o.words 0 → found ≡ spelled (generation_word o.words 0) r
+    -- so the slot is whole, where each word of it as the lane left it is that of the record, or as at the origin
+    whole_found : (test : Recorded → Bool) → HasNoTornMatch origin test → (r : Recorded) → 1 ≤ length r.old → length r.old ≤ 4 → test r ≡ true → (end : ℕ) → Unwritten origin w end
+        → ((i : ℕ) → i < 8 → (slice_index w.words (place + i) ≡ slice_index (spelled (generation_word origin.words 0) r) i) ⊎ (slice_index w.words (place + i) ≡ slice_index origin.words (place + i)))
+        → is_record found ≡ true → slice_index found 0 ≡ generation_word origin.words 0 → found ≡ spelled (generation_word origin.words 0) r
     whole_found test none r some most passes end un left matches begun =
-        let whole : List ℕ = spelled (generation_word o.words 0) r in
+        let whole : List ℕ = spelled (generation_word origin.words 0) r in
         let long = survives.size in
         let big = size in
         let count : length found ≡ 8 = eight_count image place (omega arith) in
-        let eight : length whole ≡ 8 = length-spelled (generation_word o.words 0) r most in
+        let eight : length whole ≡ 8 = length-spelled (generation_word origin.words 0) r most in
         ⊎_elim
         (λ (same : (i : ℕ) → i < 8 → slice_index found i ≡ slice_index whole i). ext_get_or 0 found whole (count ∙ sym eight) (λ i low. same i (omega (arith, count))))
         (λ (differ : found ≢ whole).
         absurd (none slot r found within some most passes (record {
           size = count;
           mixed = λ i low.
-              let was : slice_index (undo_slot o.words 0 slot) i ≡ slice_index o.words (place + i) = eight_words o.words place i low in
+              let was : slice_index (undo_slot origin.words 0 slot) i ≡ slice_index origin.words (place + i) = eight_words origin.words place i low in
               ⊎_elim
               (λ (now : slice_index found i ≡ slice_index w.words (place + i)). ⊎_elim
               (λ (ours : slice_index w.words (place + i) ≡ slice_index whole i). inl (now ∙ ours))
-              (λ (old : slice_index w.words (place + i) ≡ slice_index o.words (place + i)). inr (now ∙ old ∙ sym was))
+              (λ (old : slice_index w.words (place + i) ≡ slice_index origin.words (place + i)). inr (now ∙ old ∙ sym was))
               (left i low))
-              (λ (old : slice_index found i ≡ slice_index o.words (place + i)). inr (old ∙ sym was))
+              (λ (old : slice_index found i ≡ slice_index origin.words (place + i)). inr (old ∙ sym was))
               (found_word end i un low);
           begun = begun;
           torn = differ;
@@ -271,14 +283,14 @@ module _ (o : Opening) (header : Header) (pool : PoolView) (w : View) (s : Stand
         let below : slot < used_slots phase w = subst (λ (p : Phase). slot < used_slots p w) is more.1 in let from = more.0 in omega (arith, below, from, used))
         being)
 
-    -- the log may grow, at the opening's generation
-    module _ (test : Recorded → Bool) (none : HasNoTornMatch o test) (passes : (r : Recorded) → MayRecord w r → test r ≡ true) (u : Undo) (valid : valid_record image 0 slot ≡ Some u)
-        (making pair : List ℕ) (is : w.log.phase ≡ Open making pair) (open_fits : OpenFits w making pair) (now : generation_of w ≡ generation_word o.words 0)
-        (un : Unwritten o w (648 + 8 * length w.log.records + length making)) where
+    -- the log may grow, at the origin's generation
+    module _ (test : Recorded → Bool) (none : HasNoTornMatch origin test) (passes : (r : Recorded) → MayRecord w r → test r ≡ true) (u : Undo) (valid : valid_record image 0 slot ≡ Some u)
+        (making pair : List ℕ) (is : w.log.phase ≡ Open making pair) (open_fits : OpenFits w making pair) (now : generation_of w ≡ generation_word origin.words 0)
+        (un : Unwritten origin w (648 + 8 * length w.log.records + length making)) where
       read_back : Reads found u
       read_back = reads found u (valid_parts image 0 slot u valid).stands
 
-      begins_so : slice_index found 0 ≡ generation_word o.words 0
+      begins_so : slice_index found 0 ≡ generation_word origin.words 0
       begins_so =
           let generation_there : generation_word image 0 ≡ generation_of w =
           subst (GenerationIs w (generation_word image 0)) is
@@ -286,7 +298,7 @@ module _ (o : Opening) (header : Header) (pool : PoolView) (w : View) (s : Stand
           sym read_back.begun ∙ (valid_parts image 0 slot u valid).present ∙ generation_read o (memory_of w) s.views s.log s.decided s.goes.world image survives 0 s.goes.in_lanes ∙ generation_there ∙ now
 
       -- it holds the record so
-      holds_so : (r : Recorded) → IsRecordAt w slot r ⊎ ((length w.log.records ≤ slot) × CanRecord w r) → found ≡ spelled (generation_word o.words 0) r → IsWhole w image slot
+      holds_so : (r : Recorded) → IsRecordAt w slot r ⊎ ((length w.log.records ≤ slot) × CanRecord w r) → found ≡ spelled (generation_word origin.words 0) r → IsWhole w image slot
       holds_so r lawful same = record {
         held = r;
         lawful = lawful;
@@ -301,7 +313,7 @@ module _ (o : Opening) (header : Header) (pool : PoolView) (w : View) (s : Stand
       stored_whole low undrained =
           let t = record_there w.log.records slot low in
           let may = undrained_may slot t.0 t.1 undrained in
-          let stored : undo_slot w.words 0 slot ≡ spelled (generation_word o.words 0) t.0 =
+          let stored : undo_slot w.words 0 slot ≡ spelled (generation_word origin.words 0) t.0 =
           ap (λ (lane : ℕ). undo_slot w.words lane slot) (sym fits.lane.lane)
           ∙ fits.log.stored slot t.0 t.1
           ∙ ap (λ (g : ℕ). spelled g t.0) (ap (λ (p : Phase). records_generation p w) is ∙ now) in
@@ -342,13 +354,13 @@ module _ (o : Opening) (header : Header) (pool : PoolView) (w : View) (s : Stand
         (λ (t : (slot ≡ length w.log.records) × (1 ≤ length making)). let some = t.1 in omega (arith, some, short))
         here
 
-    whole_in : (test : Recorded → Bool) → HasNoTornMatch o test → ((r : Recorded) → MayRecord w r → test r ≡ true) → (u : Undo) → valid_record image 0 slot ≡ Some u
-        → (phase : Phase) → w.log.phase ≡ phase → PhaseFits (Flies s.log s.decided 0) w phase → FirstLog o w phase → GrowsFirst o w phase → IsBeingWritten w slot → IsWhole w image slot
+    whole_in : (test : Recorded → Bool) → HasNoTornMatch origin test → ((r : Recorded) → MayRecord w r → test r ≡ true) → (u : Undo) → valid_record image 0 slot ≡ Some u
+        → (phase : Phase) → w.log.phase ≡ phase → PhaseFits (Flies s.log s.decided 0) w phase → FirstLog origin w phase → GrowsFirst origin w phase → IsBeingWritten w slot → IsWhole w image slot
     whole_in test none passes u valid Idle is fit first grows being = none_here Idle is refl (all_drained w slot fit.drained) being
     whole_in test none passes u valid (Open making pair) is fit first grows being =
         let here : IsInLog making = open_here making pair is fit.short being in
         ⊎_elim
-        (λ (now : generation_of w ≡ generation_word o.words 0). growing_whole test none passes u valid making pair is fit now (first.0.first now) first.1 here)
+        (λ (now : generation_of w ≡ generation_word origin.words 0). growing_whole test none passes u valid making pair is fit now (first.0.first now) first.1 here)
         (λ (empty : (making ≡ []) × (w.log.records ≡ [])). absurd (nothing_here making empty.0 empty.1 here))
         grows
     whole_in test none passes u valid Drawn is fit first grows being = none_here Drawn is refl (all_drained w slot fit.drained) being
@@ -364,18 +376,32 @@ idle_writes_none o j slot being = ⊎_elim
     (λ (used : (0 ≤ slot) × (slot < 0)). let low = used.1 in omega arith)
     being
 
-pub none_torn_alone : (o : Opening) (header : Header) (pool : PoolView) (v w : View) (steps : List Step) (keep : ℕ) (image : List ℕ) (test : Recorded → Bool) → WorksAlone o header pool v steps w
-    → IsKeptImage keep w.words (w.changes ∷ []) image → GrowsFirst o w w.log.phase → HasNoTornMatch o test → ((r : Recorded) → MayRecord w r → test r ≡ true) → NoneTorn o (alone_views o w) image
-none_torn_alone o header pool v w steps keep image test works is grows none passes k slot u low within being valid = ⊎_elim
-    (λ (same : k ≡ 0).
-    let at : StandsFirst o header pool w = first_at o header pool v steps w works in
-    let here : IsBeingWritten w slot = subst (λ (n : ℕ). IsBeingWritten (alone_views o w n) slot) same being in
-    let survives : Survives o (memory_of w) at.stands.views image = kept_survives o header pool w at.stands image keep is in
-    subst (λ (n : ℕ). IsWhole (alone_views o w n) image slot) (sym same)
-    (whole_in o header pool w at.stands image survives slot within test none passes u (subst (λ (n : ℕ). valid_record image n slot ≡ Some u) same valid) w.log.phase refl
-    (own_fits o header pool w at.stands).phase at.first grows here))
+-- so no torn record matches where none does in a slot of the lane that works
+pub none_torn_by_lane : (o : Opening) (w : View) (image : List ℕ) → ((slot : ℕ) (u : Undo) → slot < 64 → IsBeingWritten w slot → valid_record image 0 slot ≡ Some u → IsWhole w image slot) → NoneTorn o (alone_views o w) image
+none_torn_by_lane o w image whole k slot u low within being valid = ⊎_elim
+    (λ (same : k ≡ 0). subst (λ (n : ℕ). IsWhole (alone_views o w n) image slot) (sym same)
+    (whole slot u within (subst (λ (n : ℕ). IsBeingWritten (alone_views o w n) slot) same being) (subst (λ (n : ℕ). valid_record image n slot ≡ Some u) same valid)))
     (λ (other : k ≢ 0). absurd (idle_writes_none o k slot (subst (λ (x : View). IsBeingWritten x slot) (alone_else o w k other) being)))
     (cases_eq k 0)
+
+pub none_torn_behind : (o : Opening) (header : Header) (pool : PoolView) (v b w : View) (before steps : List Step) (keep : ℕ) (image : List ℕ) (test : Recorded → Bool)
+    → WorksAlone o header pool v (before ++ steps) w → Leads v before b → Rests b → IsKeptImage keep w.words (w.changes ∷ []) image → GrowsFirst (standing o b) w w.log.phase
+    → HasNoTornMatch (standing o b) test → ((r : Recorded) → MayRecord w r → test r ≡ true) → NoneTorn o (alone_views o w) image
+none_torn_behind o header pool v b w before steps keep image test works leads rests is grows none passes =
+    let at : StandsFirst o (standing o b) header pool w = first_at o header pool v b w before steps works leads rests in
+    let survives : Survives o (memory_of w) at.stands.views image = kept_survives o header pool w at.stands image keep is in
+    none_torn_by_lane o w image (λ slot u within being valid.
+    whole_in o header pool w at.stands (standing o b) image survives slot within test none passes u valid w.log.phase refl (own_fits o header pool w at.stands).phase at.first grows being)
+
+-- the opening is the pool as it stands before the first step, where the lane rests
+pub none_torn_alone : (o : Opening) (header : Header) (pool : PoolView) (v w : View) (steps : List Step) (keep : ℕ) (image : List ℕ) (test : Recorded → Bool) → WorksAlone o header pool v steps w
+    → IsKeptImage keep w.words (w.changes ∷ []) image → GrowsFirst o w w.log.phase → HasNoTornMatch o test → ((r : Recorded) → MayRecord w r → test r ≡ true) → NoneTorn o (alone_views o w) image
+unfolding Leads
+none_torn_alone o header pool v w steps keep image test works is grows none passes =
+    let fresh = works.begins.fresh in
+    let same : standing o v ≡ o = ap (λ (words : List ℕ). let p : Opening = record o { words = words } in p) fresh.words in
+    none_torn_behind o header pool v v w [] steps keep image test works refl (record { empty = inl fresh.idle; drained = fresh.nothing_changed }) is
+    (subst (λ (p : Opening). GrowsFirst p w w.log.phase) (sym same) grows) (subst (λ (p : Opening). HasNoTornMatch p test) (sym same) none) passes
 
 -- a record that the lane may be writing has its words
 of_words : (w : View) (r : Recorded) → MayRecord w r → is_of_words w.words r ≡ true
@@ -391,3 +417,9 @@ of_words w r may =
 pub none_torn_by_words : (o : Opening) (header : Header) (pool : PoolView) (v w : View) (steps : List Step) (keep : ℕ) (image : List ℕ) → WorksAlone o header pool v steps w
     → IsKeptImage keep w.words (w.changes ∷ []) image → GrowsFirst o w w.log.phase → HasNoTornMatch o (is_of_words w.words) → NoneTorn o (alone_views o w) image
 none_torn_by_words o header pool v w steps keep image works is grows none = none_torn_alone o header pool v w steps keep image (is_of_words w.words) works is grows none (of_words w)
+
+pub none_torn_behind_by_words : (o : Opening) (header : Header) (pool : PoolView) (v b w : View) (before steps : List Step) (keep : ℕ) (image : List ℕ) → WorksAlone o header pool v (before ++ steps) w
+    → Leads v before b → Rests b → IsKeptImage keep w.words (w.changes ∷ []) image → GrowsFirst (standing o b) w w.log.phase → HasNoTornMatch (standing o b) (is_of_words w.words)
+    → NoneTorn o (alone_views o w) image
+none_torn_behind_by_words o header pool v b w before steps keep image works leads rests is grows none =
+    none_torn_behind o header pool v b w before steps keep image (is_of_words w.words) works leads rests is grows none (of_words w)

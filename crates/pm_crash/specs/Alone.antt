@@ -14,8 +14,8 @@ use Rattle.pm_model.specs.Names.{Replays}
 use Rattle.pm_model.specs.Step.{Act}
 use Rattle.pm_record.specs.Undo.{is_record}
 use Rattle.pm_view.specs.Founds.{IsAlone}
-use Rattle.pm_view.specs.Log.{Phase, Recorded}
-use Rattle.pm_view.specs.Log.Phase.{Open}
+use Rattle.pm_view.specs.Log.{Phase, Recorded, no_log}
+use Rattle.pm_view.specs.Log.Phase.{Idle, Open}
 use Rattle.pm_view.specs.Rights.{is_written}
 use Rattle.pm_view.specs.Area.{area_word}
 use Rattle.pm_view.specs.Steps.{Step}
@@ -53,6 +53,15 @@ idle_view o j = record blank { lanes = o.lanes; zones = o.zones; lane = j; words
 -- the views of all lanes, where lane 0 has this one
 abbrev pub alone_views : Opening → View → Views
 alone_views o w j = if j == 0 then w else idle_view o j
+
+-- the pool as it stands at the view: of the opening's shape, with the words that the view has
+abbrev pub standing : Opening → View → Opening
+standing o b = record o { words = b.words }
+
+-- the lane rests: its log is empty, with no call open or one that may record, and nothing is undrained
+pub record Rests (b : View) : Type 0 where
+  pub empty : (b.log ≡ no_log Idle) ⊎ (b.log ≡ no_log (Open [] []))
+  pub drained : b.changes ≡ []
 
 -- the calls that drew a number and that the image does not lose, in order
 abbrev pub kept_numbered : List ℕ → View → List Numbered

@@ -1,4 +1,4 @@
-ghost use Rattle.std.specs.Prelude.{◌≡◌, ◌≢◌, ◌⊎◌, ◌==◌, ℕ, ◌+◌, ◌<◌, Bool, true, false, List, [], ◌∷◌, length, slice_index, Some};
+ghost use Rattle.std.specs.Prelude.{◌≡◌, ◌≢◌, ◌⊎◌, ◌==◌, ℕ, ◌+◌, ◌<◌, Bool, true, false, List, [], ◌∷◌, ◌++◌, length, slice_index, Some};
 ghost use Rattle.pm_header.specs.declared.header.Header.{Header};
 ghost use Rattle.pm_objects.specs.declared.pool.PoolView.{PoolView};
 ghost use Rattle.pm_image.specs.Logs.{generation_word};
@@ -8,16 +8,20 @@ ghost use Rattle.pm_view.specs.Steps.{Step};
 ghost use Rattle.pm_view.specs.View.{View};
 ghost use Rattle.pm_memory.specs.Keep.{IsKeptImage};
 ghost use Rattle.pm_world.specs.Crash.{NoneTorn, loses};
-ghost use Rattle.pm_world.specs.Opening.{Opening};
+ghost use Rattle.pm_world.specs.Opening.{IsSound, Opening};
 ghost use Rattle.pm_world.specs.Records.{generation_of, records_generation};
-ghost use Rattle.pm_crash.specs.Alone.{GrowsFirst, HasNoTornMatch, MayRecord, MeansCalls, WorksAlone, alone_views, is_of_words, kept_numbered, raises};
+ghost use Rattle.pm_crash.specs.Alone.{GrowsFirst, HasNoTornMatch, MayRecord, MeansCalls, Rests, WorksAlone, alone_views, is_of_words, kept_numbered, raises, standing};
+ghost use Rattle.pm_crash.specs.Leading.{Leads};
 
 /// A law: where one lane works alone, each image that a power failure leaves of its words means the pool to which the calls that it does
-/// not lose lead, in order, from the pool at the opening; and it has the opening's length and header page. No code runs.
+/// not lose lead, in order, from the pool at the opening; and it has the opening's length and header page. Where the lane rests, these are
+/// all its calls, and nothing is taken for granted of torn records. No code runs.
 pub fn a_lane_alone_leaves_its_whole_calls()
     ensures meaning { (o : Opening) (header : Header) (pool : PoolView) (v w : View) (steps : List Step) (keep : ℕ) (image : List ℕ)
         → WorksAlone o header pool v steps w → IsKeptImage keep w.words (w.changes ∷ []) image → NoneTorn o (alone_views o w) image
         → MeansCalls image o.lanes o.zones pool (kept_numbered image w) }
+    ensures at_rest { (o : Opening) (header : Header) (pool : PoolView) (v w : View) (steps : List Step) (keep : ℕ) (image : List ℕ)
+        → WorksAlone o header pool v steps w → IsKeptImage keep w.words (w.changes ∷ []) image → Rests w → MeansCalls image o.lanes o.zones pool w.entries }
     ensures header_page { (o : Opening) (header : Header) (pool : PoolView) (v w : View) (steps : List Step) (keep : ℕ) (image : List ℕ)
         → WorksAlone o header pool v steps w → IsKeptImage keep w.words (w.changes ∷ []) image
         → (i : ℕ) → i < 512 → slice_index image i ≡ slice_index o.words i }
@@ -26,8 +30,8 @@ pub fn a_lane_alone_leaves_its_whole_calls()
 {}
 
 /// A law: no image loses a call that has ended, or one behind which the lane drew another number. A call in flight is lost exactly where
-/// the image has the generation of the call's records still; so where that is the opening's, exactly where the image has the opening's
-/// generation. No code runs.
+/// the image has the generation of the call's records still; so where that is the opening's, or that of a view on the way, exactly where the
+/// image has that generation. No code runs.
 pub fn a_call_in_flight_is_lost_by_its_generation()
     ensures ended { (w : View) (image : List ℕ) (n : ℕ) → (w.log.phase ≡ Idle) ⊎ (w.number ≢ Some n) → loses image w n ≡ false }
     ensures in_flight { (o : Opening) (header : Header) (pool : PoolView) (v w : View) (steps : List Step) (keep : ℕ) (image : List ℕ) (n : ℕ)
@@ -37,6 +41,9 @@ pub fn a_call_in_flight_is_lost_by_its_generation()
         → WorksAlone o header pool v steps w → IsKeptImage keep w.words (w.changes ∷ []) image → w.number ≡ Some n → w.log.phase ≢ Idle
         → records_generation w.log.phase w ≡ generation_word o.words 0
         → loses image w n ≡ (generation_word image 0 == generation_word o.words 0) }
+    ensures since { (o : Opening) (header : Header) (pool : PoolView) (v b w : View) (steps : List Step) (keep : ℕ) (image : List ℕ) (n : ℕ)
+        → WorksAlone o header pool v steps w → IsKeptImage keep w.words (w.changes ∷ []) image → w.number ≡ Some n → w.log.phase ≢ Idle
+        → records_generation w.log.phase w ≡ generation_of b → loses image w n ≡ (generation_word image 0 == generation_of b) }
 {}
 
 /// A law: where no torn record of the opening's generation matches by chance, and the log that may grow is of that generation or empty,
@@ -52,9 +59,29 @@ pub fn no_record_is_torn()
         → HasNoTornMatch o (is_of_words w.words) → NoneTorn o (alone_views o w) image }
 {}
 
+/// A law: the same of a lane's later calls. Where the lane rested on its way, what its slots held then stands for what they held at the
+/// opening, and the generation of then for the opening's; and at rest no slot is being written, so that nothing is taken for granted. No
+/// code runs.
+pub fn no_record_is_torn_behind_a_rest()
+    ensures tested { (o : Opening) (header : Header) (pool : PoolView) (v b w : View) (before steps : List Step) (keep : ℕ) (image : List ℕ) (test : Recorded → Bool)
+        → WorksAlone o header pool v (before ++ steps) w → Leads v before b → Rests b → IsKeptImage keep w.words (w.changes ∷ []) image
+        → GrowsFirst (standing o b) w w.log.phase → HasNoTornMatch (standing o b) test → ((r : Recorded) → MayRecord w r → test r ≡ true)
+        → NoneTorn o (alone_views o w) image }
+    ensures of_words { (o : Opening) (header : Header) (pool : PoolView) (v b w : View) (before steps : List Step) (keep : ℕ) (image : List ℕ)
+        → WorksAlone o header pool v (before ++ steps) w → Leads v before b → Rests b → IsKeptImage keep w.words (w.changes ∷ []) image
+        → GrowsFirst (standing o b) w w.log.phase → HasNoTornMatch (standing o b) (is_of_words w.words) → NoneTorn o (alone_views o w) image }
+    ensures at_rest { (o : Opening) (b : View) (image : List ℕ) → Rests b → NoneTorn o (alone_views o b) image }
+{}
+
 /// A law: a lane that works alone raises its generation by one with each store of it, and with nothing else; so before the first such store
 /// it is the opening's. No code runs.
 pub fn a_generation_rises_with_each_store_of_it()
     ensures { (o : Opening) (header : Header) (pool : PoolView) (v w : View) (steps : List Step)
         → WorksAlone o header pool v steps w → generation_of w ≡ generation_word o.words 0 + raises steps }
+{}
+
+/// A law: where a lane works alone, the words that tell of blocks stay as they were; so the pool is sound as each view of the lane has it, and
+/// so where the lane rests on its way. No code runs.
+pub fn a_pool_stays_sound()
+    ensures { (o : Opening) (header : Header) (pool : PoolView) (v b : View) (steps : List Step) → WorksAlone o header pool v steps b → IsSound (standing o b) }
 {}

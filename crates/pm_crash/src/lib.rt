@@ -15,7 +15,8 @@ mod laws;
 
 pub use alone::{
     a_call_in_flight_is_lost_by_its_generation, a_generation_rises_with_each_store_of_it,
-    a_lane_alone_leaves_its_whole_calls, no_record_is_torn,
+    a_lane_alone_leaves_its_whole_calls, a_pool_stays_sound, no_record_is_torn,
+    no_record_is_torn_behind_a_rest,
 };
 pub use calls::{
     a_begin_opens, a_call_given_up_changes_nothing, a_call_makes_its_difference,

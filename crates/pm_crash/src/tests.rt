@@ -39,5 +39,7 @@ fn laws(_rt: HostRuntime) {
     a_lane_alone_leaves_its_whole_calls();
     a_call_in_flight_is_lost_by_its_generation();
     no_record_is_torn();
+    no_record_is_torn_behind_a_rest();
+    a_pool_stays_sound();
     a_generation_rises_with_each_store_of_it();
 }
