@@ -1,11 +1,15 @@
 -- The lines of a script have rising numbers.
-use Rattle.std.proofs.Common.{◌≡◌, ℕ, zero, suc, ◌+◌, ◌<◌, ◌≤◌, Bool, true, false, List, [], ◌∷◌, length, map, slice_index, cond, Option, Some, None, refl, sym, ap, ◌∙◌, subst, arith}
-use Rattle.std.specs.List.{AllZip, cons_option}
-use Rattle.std.specs.Option.{IfSome}
+use Rattle.std.proofs.Common.{◌≡◌, ℕ, zero, suc, ◌+◌, ◌<◌, ◌≤◌, List, [], ◌∷◌, length, map, slice_index, Option, Some, None, option_map, refl, sym, subst, arith}
+use Rattle.std.specs.List.{cons_option, filter_map}
+use Rattle.std.specs.Option.{IfSome, option_and_then}
 use Rattle.std.specs.List.Sorted.{IsStrictlyIncreasing}
-use Rattle.pm_script.specs.Scripts.{IsSaid, IsScript, Numbered, kept, kept_from}
-use Rattle.pm_script.specs.Words.{is_skipped, words}
+use Rattle.pm_script.specs.Scripts.{Context, IsScript, context_behind, line_of, line_said, lines_from, said, start}
+use Rattle.pm_script.specs.Words.{words}
+use Rattle.pm_script.specs.declared.script.Script.{Script}
 use Rattle.pm_script.specs.declared.script.ScriptLine.{ScriptLine}
+use Rattle.pm_script.specs.declared.script.ScriptOp.{ScriptOp}
+use Rattle.pm_script.specs.declared.statement.Statement.{Statement}
+use Rattle.pm_script.specs.declared.statement.Statement.TheVariants as says
 
 -- each number is above the one before it, and none is below the first bound
 abbrev Rises : ℕ → List ℕ → Type 0
@@ -16,21 +20,28 @@ lower : (n m : ℕ) (xs : List ℕ) → n ≤ m → Rises m xs → Rises n xs
 lower n m [] below rises = tt
 lower n m (x ∷ xs) below rises = (let low = rises.0 in omega (arith, low, below), rises.1)
 
-abbrev numbers : List Numbered → List ℕ
-numbers lines = map (λ (line : Numbered). line.0) lines
+abbrev numbers : List ScriptLine → List ℕ
+numbers lines = map (λ (line : ScriptLine). line.line) lines
 
--- one line more, which is skipped or kept
-one_more : (n : ℕ) (found : Option Numbered) (others : List Numbered) → IfSome found (λ line. line.0 ≡ n) → Rises (n + 1) (numbers others) → Rises n (numbers (cons_option found others))
+-- one line more, which says an operation or not
+one_more : (n : ℕ) (found : Option ScriptLine) (others : List ScriptLine) → IfSome found (λ line. line.line ≡ n) → Rises (n + 1) (numbers others) → Rises n (numbers (cons_option found others))
 one_more n None others is rises = lower n (n + 1) (numbers others) (omega arith) rises
 one_more n (Some line) others is rises = (omega (arith, is), subst (λ m. Rises (m + 1) (numbers others)) (sym is) rises)
 
-kept_number : (n : ℕ) (line : List ℕ) (b : Bool) → IfSome (cond b None (Some (n, words line))) (λ (found : Numbered). found.0 ≡ n)
-kept_number n line true = tt
-kept_number n line false = refl
+operation_numbered : (n : ℕ) (operation : ScriptOp) (lane : Option ℕ) → IfSome (option_map (λ (l : ℕ). record { line = n; lane = l; operation = operation }) lane) (λ (line : ScriptLine). line.line ≡ n)
+operation_numbered n operation None = tt
+operation_numbered n operation (Some lane) = refl
 
-kept_rise : (n : ℕ) (lines : List (List ℕ)) → Rises n (numbers (kept_from n lines))
-kept_rise n [] = tt
-kept_rise n (line ∷ lines) = one_more n (kept (n, line)) (kept_from (n + 1) lines) (kept_number n line (is_skipped (words line))) (kept_rise (n + 1) lines)
+numbered : (context : Context) (n : ℕ) (statement : Option Statement) → IfSome (option_and_then (line_said context n) statement) (λ line. line.line ≡ n)
+numbered context n None = tt
+numbered context n (Some (says.Lane lane)) = tt
+numbered context n (Some (says.Operation operation)) = operation_numbered n operation context.lane
+
+rise_from : (context : Context) (n : ℕ) (lines : List (List ℕ)) → Rises n (numbers (filter_map line_of (lines_from context n lines)))
+rise_from context n [] = tt
+rise_from context n (text ∷ lines) =
+    let next = context_behind context n (said (words text)) in
+    one_more n (option_and_then (line_said context n) (said (words text))) (filter_map line_of (lines_from next (n + 1) lines)) (numbered context n (said (words text))) (rise_from next (n + 1) lines)
 
 at_least : (n : ℕ) (xs : List ℕ) (k : ℕ) → Rises n xs → k + 1 < length xs → slice_index xs k < slice_index xs (k + 1)
 at_least n [] k rises low = absurd (omega (arith, low))
@@ -39,13 +50,5 @@ at_least n (x ∷ y ∷ xs) zero rises low = let next = rises.1.0 in omega (arit
 at_least n (x ∷ y ∷ xs) (suc k) rises low =
     subst (λ m. slice_index (x ∷ y ∷ xs) (suc k) < slice_index (x ∷ y ∷ xs) m) (let e : suc (k + 1) ≡ suc k + 1 = omega arith in e) (at_least (x + 1) (y ∷ xs) k rises.1 (omega (arith, low)))
 
-said_lines : (lines : List Numbered) (script : List ScriptLine) → AllZip IsSaid lines script → map (λ (line : ScriptLine). line.line) script ≡ numbers lines
-said_lines [] [] said = refl
-said_lines [] (y ∷ script) said = elim said [ ]
-said_lines (x ∷ lines) [] said = elim said [ ]
-said_lines (x ∷ lines) (y ∷ script) said = ap (λ n. n ∷ map (λ (line : ScriptLine). line.line) script) said.0.0 ∙ ap (λ ns. x.0 ∷ ns) (said_lines lines script said.1)
-
-pub lines_rise : (lines : List (List ℕ)) (script : List ScriptLine) → IsScript lines script → IsStrictlyIncreasing (map (λ (line : ScriptLine). line.line) script)
-lines_rise lines script is =
-    let all : Rises 1 (numbers (is.lane ∷ is.rest)) = subst (λ (ls : List Numbered). Rises 1 (numbers ls)) is.lines_kept (kept_rise 1 lines) in
-    subst IsStrictlyIncreasing (sym (said_lines is.rest script is.said)) (λ k low. at_least (is.lane.0 + 1) (numbers is.rest) k all.1 low)
+pub lines_rise : (lines : List (List ℕ)) (script : Script) → IsScript lines script → IsStrictlyIncreasing (map (λ (line : ScriptLine). line.line) script.lines)
+lines_rise lines script is = subst (λ ls. IsStrictlyIncreasing (numbers ls)) (sym is.lines_said) (λ k low. at_least 1 (numbers (filter_map line_of (lines_from start 1 lines))) k (rise_from start 1 lines) low)

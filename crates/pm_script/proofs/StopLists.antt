@@ -4,7 +4,7 @@ use Rattle.std.specs.List.{after_first, list_any, position_or_len}
 use Rattle.std.specs.Option.{IfNone, MatchOption}
 use Rattle.std.proofs.Math.Nat.{eq-or-lt_of_le}
 use Rattle.std.proofs.lemmas.Bool.{false≢true, eqb-true}
-use Rattle.std.proofs.lemmas.List.{drop_all, get_or_default}
+use Rattle.std.proofs.lemmas.List.{drop_all, ext_get_or, get_or_default}
 use Rattle.std.proofs.lemmas.List.Folds.{Any-from_list_any, list_any_at}
 use Rattle.std.proofs.Math.ListN.{get_or-append}
 use Rattle.std.proofs.Math.Seq.{get_or-append_seam}
@@ -26,9 +26,22 @@ none_yet parts stops none =
 pub all_read : (parts : List (List ℕ)) (k : ℕ) (stops : List (ℕ × ℕ)) → AreFirst parts k stops → k ≡ length parts → AreStopsOf parts stops
 all_read parts k stops first all = record { count = first.count ∙ all; each = first.each; once = first.once }
 
--- a text is one stop at most
+-- a text is a stop of one lane at most
 one_lane : (text : List ℕ) (a b : ℕ × ℕ) → IsStop text a → IsStop text b → a.0 ≡ b.0
 one_lane text a b first second = let same : Some a.0 ≡ Some b.0 = sym first.0 ∙ second.0 in cc
+
+-- a text is one stop at most
+one_stop : (text : List ℕ) (a b : ℕ × ℕ) → IsStop text a → IsStop text b → a ≡ b
+one_stop text a b first second =
+    let lane : a.0 ≡ b.0 = one_lane text a b first second in
+    let calls : a.1 ≡ b.1 = let same : Some a.1 ≡ Some b.1 = sym first.1 ∙ second.1 in cc in
+    λ i. (lane i, calls i)
+
+-- parts are one list of stops at most
+pub stops_once : (parts : List (List ℕ)) (one other : List (ℕ × ℕ)) → AreStopsOf parts one → AreStopsOf parts other → one ≡ other
+stops_once parts one other s t =
+    let count : length one ≡ length other = s.count ∙ sym t.count in
+    ext_get_or (0, 0) one other count (λ i low. one_stop (get_or parts i []) (stop_at one i) (stop_at other i) (s.each i low) (t.each i (omega (arith, count, low))))
 
 module _ (parts : List (List ℕ)) (k : ℕ) (stops : List (ℕ × ℕ)) (first : AreFirst parts k stops) (low : k < length parts) where
   -- part k is no stop

@@ -1,4 +1,5 @@
 pub mod Numbers
+pub mod Operands
 pub mod Reading
 pub mod Scripts
 pub mod Stops

@@ -1,70 +1,86 @@
 -- A script while it is read, line by line: for the crate's own functions.
-use Rattle.std.specs.Prelude.{◌≡◌, ◌↔◌, ℕ, ◌+◌, List, [], ◌∷◌, ◌++◌, All, length, Option, Some, None, ⊤}
-use Rattle.std.specs.List.{AllZip}
-use Rattle.pm_script.specs.Words.{IsText}
-use Rattle.pm_script.specs.Scripts.{Numbered, kept_from, IsLane, IsSaid, IsChange, IsTransaction, IsScript, operations}
+use Rattle.std.specs.Prelude.{◌≡◌, ℕ, ◌<◌, List, [], ◌∷◌, ◌++◌, option_to_list, Option, Some, None, Result, Ok, Err, ⊤}
+use Rattle.std.specs.List.{filter_map}
+use Rattle.pm_script.specs.Scripts.{Context, Line, fault_of, context_after, context_behind, line_of, line_said, lines_from, start, faults, left, first_failed, form_tests, place_tests, keyword_of, statement_of}
+use Rattle.pm_script.specs.declared.fault.BadLine.{BadLine}
+use Rattle.pm_script.specs.declared.fault.LineFault.{LineFault}
+use Rattle.pm_script.specs.declared.fault.LineFault.TheVariants.{Bad, Memory}
 use Rattle.pm_script.specs.declared.fault.ScriptFault.{ScriptFault}
-use Rattle.pm_script.specs.declared.fault.ScriptFault.TheVariants.{Bad, Memory}
+use Rattle.pm_script.specs.declared.fault.ScriptFault.TheVariants as script_fault
+use Rattle.pm_script.specs.declared.fault.Why.{Why}
 use Rattle.pm_script.specs.declared.fault.Why.TheVariants.{Word}
-use Rattle.pm_script.specs.declared.reader.Awaited.{Awaited}
-use Rattle.pm_script.specs.declared.reader.Awaited.TheVariants.{Lane, Change, Nothing}
-use Rattle.pm_script.specs.declared.reader.Awaited.TheVariants as awaited
 use Rattle.pm_script.specs.declared.reader.Reader.{Reader}
-use Rattle.pm_script.specs.declared.script.ScriptLine.{ScriptLine}
-use Rattle.pm_script.specs.declared.script.ScriptOp.{ScriptOp}
 use Rattle.pm_script.specs.declared.script.ScriptOp.TheVariants as op
+use Rattle.pm_script.specs.declared.statement.Keyword.{Keyword}
+use Rattle.pm_script.specs.declared.statement.Keyword.TheVariants.{Lane, Begin, Add, Write, Read, Commit}
+use Rattle.pm_script.specs.declared.statement.Statement.{Statement}
+use Rattle.pm_script.specs.declared.statement.Statement.TheVariants as says
 
--- what is awaited after an operation, where it may come
-abbrev pub after : Awaited → ScriptOp → Option Awaited
-after awaited.Begin op.Begin = Some Change
-after Change (op.Add off len) = Some Change
-after Change (op.Write off bytes) = Some Change
-after Change op.Commit = Some Nothing
-after _ _ = None
+-- why a line with these operands is bad by itself
+abbrev pub form_why : Keyword → List (List ℕ) → Option Why
+form_why keyword operands = first_failed (form_tests keyword operands)
 
--- these operations end a transaction
-abbrev pub Ends : Awaited → List ScriptOp → Type 0
-Ends Lane ops = IsTransaction ops
-Ends awaited.Begin ops = IsTransaction ops
-Ends Change ops = (changes : List ScriptOp) × (ops ≡ changes ++ op.Commit ∷ []) × All IsChange changes
-Ends Nothing ops = ops ≡ []
+-- why such a line is bad in its place
+abbrev pub place_why : Context → Keyword → Option Why
+place_why context keyword = first_failed (place_tests context keyword)
 
--- these lines say the script's operations, behind the lane's line where that is awaited
-abbrev pub AreSaid : Awaited → List Numbered → List ScriptLine → Type 0
-AreSaid Lane lines script = (lane : Numbered) × (rest : List Numbered) × (lines ≡ lane ∷ rest) × IsLane lane.1 × AllZip IsSaid rest script
-AreSaid awaited.Begin lines script = AllZip IsSaid lines script
-AreSaid Change lines script = AllZip IsSaid lines script
-AreSaid Nothing lines script = AllZip IsSaid lines script
+-- the operands were read as what they say, or their fault was found
+abbrev pub IsReadAs : Keyword → List (List ℕ) → Result Statement LineFault → Type 0
+IsReadAs keyword operands (Ok statement) = (statement_of keyword operands ≡ Some statement) × (form_why keyword operands ≡ None)
+IsReadAs keyword operands (Err (Bad why)) = form_why keyword operands ≡ Some why
+IsReadAs keyword operands (Err (Memory error)) = ⊤
 
--- the script is what was read, and then what these lines say
-abbrev pub Follows : Awaited → List ScriptLine → List Numbered → List ScriptLine → Type 0
-Follows awaited read lines script = (more : List ScriptLine) × (script ≡ read ++ more) × AreSaid awaited lines more × Ends awaited (operations more)
+-- the same behind a first word that asks for this, or is none of a script's
+abbrev pub AreReadBehind : Option Keyword → List (List ℕ) → Result Statement LineFault → Type 0
+AreReadBehind (Some keyword) operands result = IsReadAs keyword operands result
+AreReadBehind None operands result = result ≡ Err (Bad Word)
 
--- the same of lines as they stand in the text, with the numbers from n on
-abbrev pub Continues : Awaited → List ScriptLine → ℕ → List (List ℕ) → List ScriptLine → Type 0
-Continues awaited read n lines script = All IsText lines × Follows awaited read (kept_from n lines) script
+-- the same of a line's words
+abbrev pub AreReadAs : List (List ℕ) → Result Statement LineFault → Type 0
+AreReadAs [] result = ⊥
+AreReadAs (word ∷ operands) result = AreReadBehind (keyword_of word) operands result
 
--- line n is refused for the fact
-abbrev pub IfRefused : ℕ → ScriptFault → Type 0 → Type 0
-IfRefused n (Bad line) P = (line.line ≡ n) × (line.why ≡ Word) × P
-IfRefused n (Memory error) P = ⊤
+-- the first word of a line that says this
+abbrev pub keyword_said : Statement → Keyword
+keyword_said (says.Lane lane) = Lane
+keyword_said (says.Operation (op.Begin wants)) = Begin
+keyword_said (says.Operation (op.Add id off len)) = Add
+keyword_said (says.Operation (op.Write id off bytes)) = Write
+keyword_said (says.Operation (op.Read id off len)) = Read
+keyword_said (says.Operation op.Commit) = Commit
 
--- the reader took this line: what the lines from it on say behind what was read is what the lines behind it say behind what is read now
-abbrev pub Takes : Reader → Reader → Numbered → Type 0
-Takes old new line = (lines : List Numbered) (script : List ScriptLine) → Follows old.awaited old.lines.items (line ∷ lines) script ↔ Follows new.awaited new.lines.items lines script
+-- a lane that is named is one of the 32
+abbrev pub HasLane : Statement → Type 0
+HasLane (says.Lane lane) = lane < 32
+HasLane (says.Operation operation) = ⊤
 
--- with this line what was read begins no script
-abbrev pub CannotTake : Reader → Numbered → Type 0
-CannotTake old line = (lines : List Numbered) (script : List ScriptLine) → ¬ Follows old.awaited old.lines.items (line ∷ lines) script
+-- what line n says was taken
+pub record Takes (old new : Reader) (n : ℕ) (statement : Statement) : Type 0 where
+  pub in_place : place_why old.context (keyword_said statement) ≡ None
+  pub context : new.context ≡ context_behind old.context n (Some statement)
+  pub said : new.lines.items ≡ old.lines.items ++ option_to_list (line_said old.context n statement)
 
--- the same of a line as it stands in the text, with number n
-abbrev pub Reads : Reader → Reader → ℕ → List ℕ → Type 0
-Reads old new n line = (lines : List (List ℕ)) (script : List ScriptLine) → Continues old.awaited old.lines.items n (line ∷ lines) script ↔ Continues new.awaited new.lines.items (n + 1) lines script
+-- what line n says is out of place
+abbrev pub IsOutOfPlace : Reader → ℕ → Statement → BadLine → Type 0
+IsOutOfPlace old n statement bad = (bad.line ≡ n) × (place_why old.context (keyword_said statement) ≡ Some bad.why)
 
--- with this line of the text what was read begins no script
-abbrev pub CannotRead : Reader → ℕ → List ℕ → Type 0
-CannotRead old n line = (lines : List (List ℕ)) (script : List ScriptLine) → ¬ Continues old.awaited old.lines.items n (line ∷ lines) script
+-- the fault of a line with the number n
+abbrev pub fault_at : LineFault → ℕ → ScriptFault
+fault_at (Bad why) n = script_fault.Bad (record { line = n; why = why })
+fault_at (Memory error) n = script_fault.Memory error
 
--- the reader read these lines: they and others are a script exactly where it continues what was read
-abbrev pub HasRead : Reader → List (List ℕ) → Type 0
-HasRead reader front = (lines : List (List ℕ)) (script : List ScriptLine) → IsScript (front ++ lines) script ↔ Continues reader.awaited reader.lines.items (length front + 1) lines script
+-- a line behind what was read
+abbrev pub next_line : Reader → ℕ → List ℕ → Line
+next_line reader n text = record { number = n; context = reader.context; text = text }
+
+-- one more line was read, and is not bad
+pub record Reads (old new : Reader) (line : Line) : Type 0 where
+  pub good : fault_of line ≡ None
+  pub context : new.context ≡ context_after line
+  pub said : new.lines.items ≡ old.lines.items ++ option_to_list (line_of line)
+
+-- these lines were read, and none is bad
+pub record HasRead (reader : Reader) (lines : List (List ℕ)) : Type 0 where
+  pub good : faults lines ≡ []
+  pub context : reader.context ≡ left lines
+  pub said : reader.lines.items ≡ filter_map line_of (lines_from start 1 lines)

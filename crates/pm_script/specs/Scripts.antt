@@ -1,93 +1,250 @@
 -- What a script is, and the first bad line of a text that is none: docs/COMMANDS.md, "Scripts".
-use Rattle.std.specs.Prelude.{◌≡◌, ℕ, ◌-◌, ◌*◌, ◌≤◌, ◌⊎◌, ◌&&◌, nat_le, if◌then◌else◌, List, [], ◌∷◌, ◌++◌, map, All, length, take, codes, Option, Some, None, Result, Err, alloc_error, ⊤}
-use Rattle.std.specs.List.{AllZip, enumerate_from, filter_map}
-use Rattle.std.specs.Result.{result_ok}
-use Rattle.hex.specs.Hex.{decode_of}
+use Rattle.std.specs.Prelude.{◌≡◌, ℕ, ◌+◌, ◌≤◌, ◌⊎◌, ◌&&◌, ◌==◌, max, nat_lt, not, Bool, true, false, if◌then◌else◌, List, [], ◌∷◌, ◌++◌, map, filter, All, Contains, length, codes, is_some, option_and_then, option_map, Option, Some, None, Result, Err, alloc_error, ⊤}
+use Rattle.std.specs.List.{find, filter_map, list_all, list_any}
+use Rattle.std.specs.Option.{option_map_or}
+use Rattle.std.specs.Str.{bytes_eq}
 use Rattle.pm_script.specs.Numbers.{number_of}
-use Rattle.pm_script.specs.Words.{words, IsText, is_skipped}
-use Rattle.pm_script.specs.declared.script.ScriptOp.{ScriptOp}
-use Rattle.pm_script.specs.declared.script.ScriptOp.TheVariants.{Begin, Add, Write, Commit}
-use Rattle.pm_script.specs.declared.script.ScriptLine.{ScriptLine}
+use Rattle.pm_script.specs.Operands.{bytes_of, id_of, want_of, size_of, is_number, is_size, is_hex, is_id, is_want}
+use Rattle.pm_script.specs.Words.{words, is_text, is_skipped}
+use Rattle.pm_script.specs.declared.context.OpenTransaction.{OpenTransaction}
 use Rattle.pm_script.specs.declared.fault.BadLine.{BadLine}
 use Rattle.pm_script.specs.declared.fault.ScriptFault.{ScriptFault}
 use Rattle.pm_script.specs.declared.fault.ScriptFault.TheVariants.{Bad, Memory}
-use Rattle.pm_script.specs.declared.fault.Why.TheVariants.{Word}
+use Rattle.pm_script.specs.declared.fault.Why.{Why}
+use Rattle.pm_script.specs.declared.fault.Why.TheVariants.{Text, Word, Count, Number, Hex, Letter, LaneNumber, NoLane, Inside, Outside, Open}
+use Rattle.pm_script.specs.declared.script.Script.{Script}
+use Rattle.pm_script.specs.declared.script.ScriptLine.{ScriptLine}
+use Rattle.pm_script.specs.declared.script.ScriptOp.{ScriptOp}
+use Rattle.pm_script.specs.declared.script.ScriptWant.{ScriptWant}
+use Rattle.pm_script.specs.declared.script.ScriptOp.TheVariants as op
+use Rattle.pm_script.specs.declared.statement.Keyword.{Keyword}
+use Rattle.pm_script.specs.declared.statement.Keyword.TheVariants.{Lane, Begin, Add, Write, Read, Commit}
+use Rattle.pm_script.specs.declared.statement.Statement.{Statement}
+use Rattle.pm_script.specs.declared.statement.Statement.TheVariants as says
 
--- the bytes that a word writes: 1 to 4,096 bytes of two hexadecimal digits each, in either case
-abbrev pub bytes_of : List ℕ → Option (List ℕ)
-bytes_of word = if nat_le 1 (length word) && nat_le (length word) (2 * 4096) then result_ok (decode_of word) else None
+-- a value found leads to the next
+infixl 10 ◌>>=◌
+abbrev ◌>>=◌ : {A B : Type 0} → Option A → (A → Option B) → Option B
+found >>= next = option_and_then next found
 
--- the line's words are `lane` and the number 0
-abbrev pub IsLane : List (List ℕ) → Type 0
-IsLane line = (lane : List ℕ) × (line ≡ codes "lane" ∷ lane ∷ []) × (number_of lane ≡ Some 0)
+-- ---- what a line says
 
--- the line's words say this operation: `begin root`, `add root OFF LEN`, `write root OFF HEX`, `commit`
-abbrev pub Says : List (List ℕ) → ScriptOp → Type 0
-Says line Begin = line ≡ codes "begin" ∷ codes "root" ∷ []
-Says line (Add off len) = (o l : List ℕ) × (line ≡ codes "add" ∷ codes "root" ∷ o ∷ l ∷ []) × (number_of o ≡ Some off) × (number_of l ≡ Some len)
-Says line (Write off bytes) = (o h : List ℕ) × (line ≡ codes "write" ∷ codes "root" ∷ o ∷ h ∷ []) × (number_of o ≡ Some off) × (bytes_of h ≡ Some bytes)
-Says line Commit = line ≡ codes "commit" ∷ []
+-- the first words of lines
+abbrev pub keywords : List (List ℕ × Keyword)
+keywords =
+    (codes "lane", Lane) ∷ (codes "begin", Begin) ∷ (codes "add", Add) ∷ (codes "write", Write) ∷ (codes "read", Read) ∷ (codes "commit", Commit) ∷ []
 
--- the words of a line, with its number
-abbrev pub Numbered : Type 0
-Numbered = ℕ × List (List ℕ)
+-- what a first word asks for
+abbrev pub keyword_of : List ℕ → Option Keyword
+keyword_of word = option_map (λ known. known.1) (find (λ (known : List ℕ × Keyword). bytes_eq word known.0) keywords)
 
--- a numbered line as its words, unless it is skipped
-abbrev pub kept : ℕ × List ℕ → Option Numbered
-kept line = if is_skipped (words line.1) then None else Some (line.0, words line.1)
+-- what the operands behind a first word say: `lane K`, `begin [ID or r:ID]..`, `add ID OFF LEN`, `write ID OFF HEX`, `read ID OFF LEN`, `commit`
+abbrev pub statement_of : Keyword → List (List ℕ) → Option Statement
+statement_of Lane (lane ∷ []) = option_map says.Lane (number_of lane)
+statement_of Begin wants = Some (says.Operation (op.Begin (filter_map want_of wants)))
+statement_of Add (id ∷ off ∷ len ∷ []) = do
+  id ← id_of id
+  off ← number_of off
+  len ← number_of len
+  Some (says.Operation (op.Add id off len))
+statement_of Write (id ∷ off ∷ hex ∷ []) = do
+  id ← id_of id
+  off ← number_of off
+  bytes ← bytes_of hex
+  Some (says.Operation (op.Write id off bytes))
+statement_of Read (id ∷ off ∷ len ∷ []) = do
+  id ← id_of id
+  off ← number_of off
+  len ← size_of len
+  Some (says.Operation (op.Read id off len))
+statement_of Commit [] = Some (says.Operation op.Commit)
+statement_of keyword operands = None
 
--- the lines that are not skipped, where the first line has the number n; each line counts
-abbrev pub kept_from : ℕ → List (List ℕ) → List Numbered
-kept_from n lines = filter_map kept (enumerate_from n lines)
+-- what a line says
+abbrev pub said : List (List ℕ) → Option Statement
+said [] = None
+said (word ∷ operands) = option_and_then (λ keyword. statement_of keyword operands) (keyword_of word)
 
--- the operation that the line says, with the line's number
-abbrev pub IsSaid : Numbered → ScriptLine → Type 0
-IsSaid line said = (said.line ≡ line.0) × Says line.1 said.operation
+-- ---- where a line stands
 
--- a range is recorded, or bytes are written
-abbrev pub IsChange : ScriptOp → Type 0
-IsChange (Add off len) = ⊤
-IsChange (Write off bytes) = ⊤
-IsChange Begin = ⊥
-IsChange Commit = ⊥
+-- what the lines so far leave: the present lane, if a line named one; one more than the greatest lane that was named, and at least 1;
+-- the transactions that are open, each with its lane and the line of its begin
+pub record Context : Type 0 where
+  pub lane : Option ℕ
+  pub lanes : ℕ
+  pub begun : List OpenTransaction
 
--- a begin, changes, and a commit
-abbrev pub IsTransaction : List ScriptOp → Type 0
-IsTransaction ops = (changes : List ScriptOp) × (ops ≡ Begin ∷ changes ++ Commit ∷ []) × All IsChange changes
+-- nothing was read
+abbrev pub start : Context
+start = record { lane = None; lanes = 1; begun = [] }
 
-abbrev pub operations : List ScriptLine → List ScriptOp
-operations script = map (λ line. line.operation) script
+abbrev pub is_of_lane : ℕ → OpenTransaction → Bool
+is_of_lane lane transaction = transaction.lane == lane
 
--- the lines of a text are this script
-pub record IsScript (lines : List (List ℕ)) (script : List ScriptLine) : Type 0 where
-  pub text : All IsText lines
-  -- the lines that are not skipped: the lane's, and those that say the script's operations, one each
-  pub lane : Numbered
-  pub rest : List Numbered
-  pub lines_kept : kept_from 1 lines ≡ lane ∷ rest
-  pub is_lane : IsLane lane.1
-  pub said : AllZip IsSaid rest script
-  pub whole : IsTransaction (operations script)
+-- a transaction of the present lane is open
+abbrev pub is_inside : Context → Bool
+is_inside context = option_map_or (λ lane. list_any (is_of_lane lane) context.begun) context.lane false
 
--- a script begins with these lines
-abbrev pub BeginsScript : List (List ℕ) → Type 0
-BeginsScript front = (rest : List (List ℕ)) × (script : List ScriptLine) × IsScript (front ++ rest) script
+-- the open transactions behind an operation of the lane on line n: a begin opens one, and a commit closes it
+abbrev pub begun_behind : ℕ → ℕ → ScriptOp → List OpenTransaction → List OpenTransaction
+begun_behind lane n (op.Begin wants) begun = begun ++ record { lane = lane; line = n } ∷ []
+begun_behind lane n op.Commit begun = filter (λ transaction. not (is_of_lane lane transaction)) begun
+begun_behind lane n operation begun = begun
 
--- a script begins with the lines before line n, and none with line n too
-pub record LeavesAt (lines : List (List ℕ)) (n : ℕ) : Type 0 where
-  pub from_1 : 1 ≤ n
-  pub there : n ≤ length lines
-  pub before : BeginsScript (take (n - 1) lines)
-  pub broken : ¬ BeginsScript (take n lines)
+-- what a line n leaves that says this
+abbrev pub context_behind : Context → ℕ → Option Statement → Context
+context_behind context n (Some (says.Lane lane)) = record context { lane = Some lane; lanes = max context.lanes (lane + 1) }
+context_behind context n (Some (says.Operation operation)) = record context { begun = option_map_or (λ lane. begun_behind lane n operation context.begun) context.lane context.begun }
+context_behind context n None = context
 
--- a script begins with the lines, and they are not one
-pub record IsUnfinished (lines : List (List ℕ)) : Type 0 where
-  pub begun : BeginsScript lines
-  pub no_script : (script : List ScriptLine) → ¬ IsScript lines script
+-- ---- why a line is bad
 
--- the first bad line of lines that are no script: the first with which none begins, and line 1 where lines are missing at the end alone
+-- the number of operands
+abbrev pub has_count : Keyword → ℕ → Bool
+has_count Lane n = n == 1
+has_count Begin n = true
+has_count Add n = n == 3
+has_count Write n = n == 3
+has_count Read n = n == 3
+has_count Commit n = n == 0
+
+-- each operand that is to be a number is one
+abbrev pub has_numbers : Keyword → List (List ℕ) → Bool
+has_numbers Lane (lane ∷ []) = is_number lane
+has_numbers Add (id ∷ off ∷ len ∷ []) = is_number off && is_number len
+has_numbers Write (id ∷ off ∷ hex ∷ []) = is_number off
+has_numbers Read (id ∷ off ∷ len ∷ []) = is_number off && is_size len
+has_numbers keyword operands = true
+
+-- what is to be bytes is
+abbrev pub has_hex : Keyword → List (List ℕ) → Bool
+has_hex Write (id ∷ off ∷ hex ∷ []) = is_hex hex
+has_hex keyword operands = true
+
+-- each operand that is to name an object does
+abbrev pub has_ids : Keyword → List (List ℕ) → Bool
+has_ids Begin wants = list_all is_want wants
+has_ids Add (id ∷ operands) = is_id id
+has_ids Write (id ∷ operands) = is_id id
+has_ids Read (id ∷ operands) = is_id id
+has_ids keyword operands = true
+
+-- there are 32 lanes
+abbrev pub is_lane : List ℕ → Bool
+is_lane word = option_map_or (λ lane. nat_lt lane 32) (number_of word) false
+
+abbrev pub has_lane_number : Keyword → List (List ℕ) → Bool
+has_lane_number Lane (lane ∷ []) = is_lane lane
+has_lane_number keyword operands = true
+
+-- a line other than `lane` has a lane
+abbrev pub has_lane : Context → Keyword → Bool
+has_lane context Lane = true
+has_lane context keyword = is_some context.lane
+
+-- a begin stands in no transaction
+abbrev pub may_begin : Context → Keyword → Bool
+may_begin context Begin = not (is_inside context)
+may_begin context keyword = true
+
+-- what a transaction has stands in one
+abbrev pub may_act : Context → Keyword → Bool
+may_act context Lane = true
+may_act context Begin = true
+may_act context keyword = is_inside context
+
+-- the reason of the first test that failed
+abbrev pub first_failed : List (Bool × Why) → Option Why
+first_failed [] = None
+first_failed (test ∷ tests) = if test.0 then first_failed tests else Some test.1
+
+-- the tests of a line by itself
+abbrev pub form_tests : Keyword → List (List ℕ) → List (Bool × Why)
+form_tests keyword operands =
+    (has_count keyword (length operands), Count)
+    ∷ (has_numbers keyword operands, Number)
+    ∷ (has_hex keyword operands, Hex)
+    ∷ (has_ids keyword operands, Letter)
+    ∷ (has_lane_number keyword operands, LaneNumber)
+    ∷ []
+
+-- the tests of a line in its place
+abbrev pub place_tests : Context → Keyword → List (Bool × Why)
+place_tests context keyword = (has_lane context keyword, NoLane) ∷ (may_begin context keyword, Inside) ∷ (may_act context keyword, Outside) ∷ []
+
+-- why these words are a bad line: the first word is none of a script's, or a test fails
+abbrev pub why_of_words : Context → List (List ℕ) → Option Why
+why_of_words context [] = None
+why_of_words context (word ∷ operands) = option_map_or (λ keyword. first_failed (form_tests keyword operands ++ place_tests context keyword)) (keyword_of word) (Some Word)
+
+-- why a line is bad: the first reason; a line that is skipped is bad for its bytes alone
+abbrev pub why_of : Context → List ℕ → Option Why
+why_of context text =
+    if not (is_text text) then Some Text else (if is_skipped (words text) then None else why_of_words context (words text))
+
+-- ---- the lines of a text in their places
+
+-- a line with its number and what the lines before it leave
+pub record Line : Type 0 where
+  pub number : ℕ
+  pub context : Context
+  pub text : List ℕ
+
+-- what a line leaves
+abbrev pub context_after : Line → Context
+context_after line = context_behind line.context line.number (said (words line.text))
+
+-- lines, the first of which has the number n and stands behind the context
+abbrev pub lines_from : Context → ℕ → List (List ℕ) → List Line
+lines_from context n [] = []
+lines_from context n (text ∷ texts) = record { number = n; context = context; text = text } ∷ lines_from (context_behind context n (said (words text))) (n + 1) texts
+
+-- what the last of such lines leaves
+abbrev pub context_from : Context → ℕ → List (List ℕ) → Context
+context_from context n [] = context
+context_from context n (text ∷ texts) = context_from (context_behind context n (said (words text))) (n + 1) texts
+
+-- a line's fault, if it is bad
+abbrev pub fault_of : Line → Option BadLine
+fault_of line = option_map (λ why. record { line = line.number; why = why }) (why_of line.context line.text)
+
+-- the bad lines of a text, in order
+abbrev pub faults : List (List ℕ) → List BadLine
+faults lines = filter_map fault_of (lines_from start 1 lines)
+
+-- what is left at the end of a text
+abbrev pub left : List (List ℕ) → Context
+left lines = context_from start 1 lines
+
+-- ---- scripts
+
+-- the line of a script that says this on line n, if it is an operation
+abbrev pub line_said : Context → ℕ → Statement → Option ScriptLine
+line_said context n (says.Operation operation) = option_map (λ lane. record { line = n; lane = lane; operation = operation }) context.lane
+line_said context n (says.Lane lane) = None
+
+-- the line of a script that a line is
+abbrev pub line_of : Line → Option ScriptLine
+line_of line = option_and_then (line_said line.context line.number) (said (words line.text))
+
+-- the lines of a text are this script: none is bad, each transaction is closed, and the operations are what the lines say, each with its line's number and lane
+pub record IsScript (lines : List (List ℕ)) (script : Script) : Type 0 where
+  pub good : faults lines ≡ []
+  pub closed : (left lines).begun ≡ []
+  pub lines_said : script.lines ≡ filter_map line_of (lines_from start 1 lines)
+  pub lanes_named : script.lanes ≡ (left lines).lanes
+
+-- the lines of the begins whose transactions are open
+abbrev pub begin_lines : List OpenTransaction → List ℕ
+begin_lines begun = map (λ (transaction : OpenTransaction). transaction.line) begun
+
+-- the least of them
+abbrev pub IsFirstOpen : List OpenTransaction → ℕ → Type 0
+IsFirstOpen begun line = Contains (begin_lines begun) line × All (λ other. line ≤ other) (begin_lines begun)
+
+-- the first bad line of a text: the first that is bad for a reason, and where none is, the first begin of a transaction that is left open
 abbrev pub IsBadLine : List (List ℕ) → BadLine → Type 0
-IsBadLine lines bad = (bad.why ≡ Word) × (LeavesAt lines bad.line ⊎ (IsUnfinished lines × (bad.line ≡ 1)))
+IsBadLine lines bad = ((others : List BadLine) × (faults lines ≡ bad ∷ others)) ⊎ ((faults lines ≡ []) × (bad.why ≡ Open) × IsFirstOpen (left lines).begun bad.line)
 
 -- the fact for a bad line
 abbrev pub IfBad : ScriptFault → (BadLine → Type 0) → Type 0
@@ -95,5 +252,31 @@ IfBad (Bad line) P = P line
 IfBad (Memory error) P = ⊤
 
 -- the answer is this, or there was no memory for it
-abbrev pub IsUnlessNoMemory : Result (List ScriptLine) ScriptFault → Result (List ScriptLine) ScriptFault → Type 0
+abbrev pub IsUnlessNoMemory : Result Script ScriptFault → Result Script ScriptFault → Type 0
 IsUnlessNoMemory result wanted = (result ≡ wanted) ⊎ (result ≡ Err (Memory alloc_error))
+
+-- ---- transactions
+
+-- what stands between a begin and its commit
+abbrev pub IsChange : ScriptOp → Type 0
+IsChange (op.Add id off len) = ⊤
+IsChange (op.Write id off bytes) = ⊤
+IsChange (op.Read id off len) = ⊤
+IsChange (op.Begin wants) = ⊥
+IsChange op.Commit = ⊥
+
+-- a begin, changes, and a commit
+abbrev pub IsTransaction : List ScriptOp → Type 0
+IsTransaction ops = (wants : List ScriptWant) × (changes : List ScriptOp) × (ops ≡ op.Begin wants ∷ changes ++ op.Commit ∷ []) × All IsChange changes
+
+-- nothing, or a transaction and then transactions
+pub data AreTransactions : List ScriptOp → Type 0 where
+  none : AreTransactions []
+  more : (one others : List ScriptOp) → IsTransaction one → AreTransactions others → AreTransactions (one ++ others)
+
+abbrev pub operations : List ScriptLine → List ScriptOp
+operations lines = map (λ (line : ScriptLine). line.operation) lines
+
+-- the lines of a lane
+abbrev pub of_lane : ℕ → List ScriptLine → List ScriptLine
+of_lane lane lines = filter (λ (line : ScriptLine). line.lane == lane) lines

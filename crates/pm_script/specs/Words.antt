@@ -1,7 +1,7 @@
 -- The lines and words of a script: docs/COMMANDS.md, "Scripts".
-use Rattle.std.specs.Prelude.{ℕ, ◌≤◌, ◌==◌, Bool, not, List, [], ◌∷◌, map, All, length, slice_index, true}
+use Rattle.std.specs.Prelude.{ℕ, nat_le, ◌&&◌, ◌==◌, Bool, not, List, [], ◌∷◌, map, length, slice_index, true}
 use Rattle.std.specs.Borrow.{Bor}
-use Rattle.std.specs.List.{filter, slice_split}
+use Rattle.std.specs.List.{filter, list_all, slice_split}
 
 -- the lines of a text: what its line feeds part
 abbrev pub lines : List ℕ → List (List ℕ)
@@ -12,8 +12,8 @@ abbrev pub words : List ℕ → List (List ℕ)
 words line = filter (λ word. not (length word == 0)) (slice_split (λ b. b == 32) line)
 
 -- bytes of 0x20 to 0x7E
-abbrev pub IsText : List ℕ → Type 0
-IsText line = All (λ b. (0x20 ≤ b) × (b ≤ 0x7e)) line
+abbrev pub is_text : List ℕ → Bool
+is_text line = list_all (λ b. nat_le 0x20 b && nat_le b 0x7e) line
 
 -- a line of these words says nothing: there are none, or the first begins with '#'
 abbrev pub is_skipped : List (List ℕ) → Bool

@@ -1,15 +1,47 @@
 ghost use Rattle.std.specs.Prelude.{◌≡◌, alloc_error};
+ghost use Rattle.pm_script.specs.Reading.{fault_at};
+ghost use Rattle.pm_script.specs.declared.fault.LineFault.TheVariants as line_fault;
 ghost use Rattle.pm_script.specs.declared.fault.ScriptFault.TheVariants.{Memory};
 
 use std::alloc::{AllocError, AllocFailed};
 use thiserror::Error;
 
-/// What is wrong with a line of a script.
+/// What is wrong with a line of a script, in the order in which one line is tried.
 #[derive(Clone, Copy, Debug, PartialEq, Eq, Error)]
 pub enum Why {
-    /// The line is not what the form of a script has in its place.
+    /// A byte is not one of 0x20 to 0x7E.
+    #[error("Text")]
+    Text,
+    /// The first word is none of a script's.
     #[error("Word")]
     Word,
+    /// The first word takes another number of operands.
+    #[error("Count")]
+    Count,
+    /// An operand is not the number that it is to be, or is out of its range.
+    #[error("Number")]
+    Number,
+    /// An operand is not 1 to 4,096 bytes of two hexadecimal digits each.
+    #[error("Hex")]
+    Hex,
+    /// An operand names no object.
+    #[error("Letter")]
+    Letter,
+    /// A lane of 32 or more.
+    #[error("LaneNumber")]
+    LaneNumber,
+    /// No lane was named before.
+    #[error("NoLane")]
+    NoLane,
+    /// A begin while a transaction of the lane is open.
+    #[error("Inside")]
+    Inside,
+    /// A change, a read or a commit while no transaction of the lane is open.
+    #[error("Outside")]
+    Outside,
+    /// The transaction that the line begins is never closed.
+    #[error("Open")]
+    Open,
 }
 
 /// The first bad line of a script.
@@ -45,5 +77,48 @@ impl<T: Drop> From<AllocFailed<T>> for ScriptFault {
 
     fn from(_: AllocFailed<T>) -> Self {
         ScriptFault::Memory(AllocError)
+    }
+}
+
+/// Why a line says nothing.
+#[derive(Clone, Copy, Debug, PartialEq, Eq)]
+pub enum LineFault {
+    Bad(Why),
+    Memory(AllocError),
+}
+
+impl LineFault {
+    /// The fault, where the line has this number.
+    pub fn at(self, line: u64) -> ScriptFault
+        ensures { result ≡ fault_at self line }
+    {
+        match self {
+            LineFault::Bad(why) => ScriptFault::Bad(BadLine { line, why }),
+            LineFault::Memory(error) => ScriptFault::Memory(error),
+        }
+    }
+}
+
+impl From<Why> for LineFault {
+    ghost from_gives = { λ why fault. fault ≡ line_fault.Bad why };
+
+    fn from(why: Why) -> Self {
+        LineFault::Bad(why)
+    }
+}
+
+impl From<AllocError> for LineFault {
+    ghost from_gives = { λ _ fault. fault ≡ line_fault.Memory alloc_error };
+
+    fn from(error: AllocError) -> Self {
+        LineFault::Memory(error)
+    }
+}
+
+impl<T: Drop> From<AllocFailed<T>> for LineFault {
+    ghost from_gives = { λ _ fault. fault ≡ line_fault.Memory alloc_error };
+
+    fn from(_: AllocFailed<T>) -> Self {
+        LineFault::Memory(AllocError)
     }
 }

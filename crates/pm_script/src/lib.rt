@@ -6,21 +6,26 @@
 //! "Numbers", and docs/COMMANDS.md, "Scripts".
 #![tactic(auto)]
 
+mod context;
 mod fault;
 mod laws;
 mod numbers;
-mod operations;
+mod operands;
 mod parsing;
 mod reader;
 mod script;
+mod statement;
 mod stopping;
 mod words;
 
 pub use fault::{BadLine, ScriptFault, Why};
-pub use laws::{one_reading_per_text, the_lines_of_a_script_rise};
+pub use laws::{
+    a_lanes_lines_are_transactions, one_lane_has_all_lines, one_reading_per_text,
+    the_lines_of_a_script_rise,
+};
 pub use numbers::{MAX_DIGITS, number};
 pub use parsing::parse;
-pub use script::{Script, ScriptLine, ScriptOp};
+pub use script::{Script, ScriptId, ScriptLine, ScriptOp, ScriptWant};
 pub use stopping::{stop_of, stops};
 
 #[cfg(test)]

@@ -1,10 +1,10 @@
-ghost use Rattle.std.specs.Prelude.{◌≡◌, List, Ok, Err, IfOk, IfErr};
+ghost use Rattle.std.specs.Prelude.{◌≡◌, Ok, Err, IfOk, IfErr};
 ghost use Rattle.pm_script.specs.Words.{lines, texts};
 ghost use Rattle.pm_script.specs.Scripts.{IsScript, IsBadLine, IfBad, IsUnlessNoMemory};
 ghost use Rattle.pm_script.specs.Reading.{HasRead};
 ghost use Rattle.pm_script.specs.declared.fault.BadLine.{BadLine};
 ghost use Rattle.pm_script.specs.declared.fault.ScriptFault.TheVariants.{Bad};
-ghost use Rattle.pm_script.specs.declared.script.ScriptLine.{ScriptLine};
+ghost use Rattle.pm_script.specs.declared.script.Script.{Script};
 
 use crate::fault::ScriptFault;
 use crate::reader::Reader;
@@ -19,7 +19,7 @@ pub fn parse(alloc: Global, text: &[u8]) -> Result<Script, ScriptFault>
     ensures bad { IfErr result (λ e. IfBad e (IsBadLine (lines text.now))) }
 
     // The one script or the one first bad line that the text has is the answer, unless there was no memory for it.
-    ensures again { (script : List ScriptLine) → IsScript (lines text.now) script → IsUnlessNoMemory result (Ok script) }
+    ensures again { (script : Script) → IsScript (lines text.now) script → IsUnlessNoMemory result (Ok script) }
     ensures exact { (line : BadLine) → IsBadLine (lines text.now) line → IsUnlessNoMemory result (Err (Bad line)) }
 {
     read_script(alloc, text)

@@ -1,17 +1,47 @@
-ghost use Rattle.std.specs.Prelude.{◌≡◌};
-
 use pm_objects::Sequence;
-use std::marker::Model;
 
-/// One operation of a script's transaction, on the root. Places and lengths are in bytes.
+/// An object that a line names.
+#[derive(Clone, Copy, Debug, PartialEq, Eq)]
+pub enum ScriptId {
+    /// The pool's root.
+    Root,
+    /// The object at this offset in the pool, in bytes. Nothing is known of the offset.
+    At(u64),
+}
+
+/// An object that a transaction locks.
+#[derive(Clone, Copy, Debug, PartialEq, Eq)]
+pub struct ScriptWant {
+    pub id: ScriptId,
+    /// Locked for writing, or else for reading.
+    pub write: bool,
+}
+
+/// One operation of a script. Places and lengths are in bytes, places from the object's first byte on.
 #[derive(Drop)]
 pub enum ScriptOp {
-    /// Opens the transaction, with the root's write lock.
-    Begin,
+    /// Opens a transaction with these locks, in the order in which the line has them.
+    Begin {
+        wants: Sequence<ScriptWant>,
+    },
     /// Records a range for an abort or a crash to restore.
-    Add { off: u64, len: u64 },
-    /// Writes bytes.
-    Write { off: u64, bytes: Sequence<u8> },
+    Add {
+        id: ScriptId,
+        off: u64,
+        len: u64,
+    },
+    /// Writes 1 to 4,096 bytes.
+    Write {
+        id: ScriptId,
+        off: u64,
+        bytes: Sequence<u8>,
+    },
+    /// Reads 1 to 4,096 bytes.
+    Read {
+        id: ScriptId,
+        off: u64,
+        len: u64,
+    },
     /// Ends the transaction; its changes are final.
     Commit,
 }
@@ -21,38 +51,16 @@ pub enum ScriptOp {
 pub struct ScriptLine {
     /// The line's number, from 1 on; skipped lines count.
     pub line: u64,
+    /// The lane whose operation it is, below the script's number of lanes.
+    pub lane: u64,
     pub operation: ScriptOp,
 }
 
-/// A script of one transaction of lane 0 on the root: docs/COMMANDS.md, "Scripts". Contracts see the list of its operations' lines.
+/// A script: docs/COMMANDS.md, "Scripts".
 #[derive(Drop)]
 pub struct Script {
-    lines: Sequence<ScriptLine>,
-}
-
-impl Model for Script {
-    ghost use Rattle.std.specs.Prelude.{List};
-    ghost use Rattle.pm_script.specs.declared.script.ScriptLine.{ScriptLine};
-
-    ghost Value = { List ScriptLine };
-
-    ghost view = { λ s. s.lines };
-}
-
-impl Script {
-    /// The script of these operations.
-    pub(crate) fn from_lines(lines: Vec<ScriptLine>) -> Script
-        ensures { result ≡ lines.items }
-    {
-        Script {
-            lines: Sequence::from_vec(lines),
-        }
-    }
-
     /// The lines of the operations, in order.
-    pub fn lines(&self) -> &[ScriptLine]
-        ensures { result.now ≡ self.now }
-    {
-        self.lines.as_slice()
-    }
+    pub lines: Sequence<ScriptLine>,
+    /// One more than the greatest lane that a line `lane` names: 1 to 32.
+    pub lanes: u64,
 }

@@ -1,6 +1,5 @@
-ghost use Rattle.std.specs.Prelude.{◌≡◌, IfOk, IfSome, IfNone};
-ghost use Rattle.std.specs.Bool.{Decides};
-ghost use Rattle.pm_script.specs.Words.{lines, words, texts, IsText, is_skipped};
+ghost use Rattle.std.specs.Prelude.{◌≡◌, IfOk, IfSome, IfNone, true, false};
+ghost use Rattle.pm_script.specs.Words.{lines, words, texts, is_text, is_skipped};
 
 use std::alloc::{AllocError, Global};
 use std::str;
@@ -14,8 +13,8 @@ pub fn lines_of(alloc: Global, text: &[u8]) -> Result<Vec<&[u8]>, AllocError>
 
 /// The line as a text, where its bytes are all of 0x20 to 0x7E.
 pub fn text_of(line: &[u8]) -> Option<&str>
-    ensures some { IfSome result (λ text. IsText line.now × (text.now ≡ line.now)) }
-    ensures none { IfNone result (¬ IsText line.now) }
+    ensures some { IfSome result (λ text. (is_text line.now ≡ true) × (text.now ≡ line.now)) }
+    ensures none { IfNone result (is_text line.now ≡ false) }
 {
     if are_text(line) {
         str::from_utf8(line).ok()
@@ -25,7 +24,7 @@ pub fn text_of(line: &[u8]) -> Option<&str>
 }
 
 fn are_text(line: &[u8]) -> bool
-    ensures { Decides result (IsText line.now) }
+    ensures { result ≡ is_text line.now }
 {
     line.iter().all(|byte| (0x20..=0x7E).contains(byte))
 }

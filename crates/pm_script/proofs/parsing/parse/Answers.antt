@@ -1,9 +1,6 @@
 use Rattle.pm_script.specs.Words.{lines}
-use Rattle.pm_script.proofs.Readings.{again, exact}
+use Rattle.pm_script.proofs.Readings.{exact}
 use Rattle.pm_script.proofs.parsing.parse.Goals as goal
-
-pub returns-clause-again : goal.returns-clause-again
-returns-clause-again c = again (lines c.args.text.now) c.read_script.result c.read_script.ensures.script c.read_script.ensures.bad
 
 pub returns-clause-exact : goal.returns-clause-exact
 returns-clause-exact c = exact (lines c.args.text.now) c.read_script.result c.read_script.ensures.script c.read_script.ensures.bad

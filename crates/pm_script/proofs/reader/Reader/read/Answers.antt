@@ -1,35 +1,37 @@
-use Rattle.std.proofs.Common.{◌≡◌, refl, sym, ap, ◌∙◌, subst}
+use Rattle.std.proofs.Common.{◌≡◌, true, false, Ok, sym, ap, ◌∙◌, subst}
+use Rattle.std.specs.Option.{IfSome}
 use Rattle.std.proofs.lemmas.Result.{on_ok_weaker}
-use Rattle.pm_script.specs.Reading.{IfRefused, CannotRead}
-use Rattle.pm_script.specs.Words.{texts, words}
-use Rattle.pm_script.proofs.Answering.{if_err, if_refused}
-use Rattle.pm_script.proofs.Following.{reads_skipped, reads_kept, cannot_read_kept, cannot_read_bytes}
+use Rattle.pm_script.specs.Reading.{AreReadAs}
+use Rattle.pm_script.specs.Words.{is_skipped, is_text, texts, words}
+use Rattle.pm_script.specs.declared.statement.Statement.{Statement}
+use Rattle.pm_script.proofs.Answering.{if_err_bad}
+use Rattle.pm_script.proofs.Judging.{words_lane, bad_place, taken_line}
 use Rattle.pm_script.proofs.reader.Reader.read.Goals as goal
-use Rattle.pm_script.proofs.reader.Reader.read.Goals.{After-is_skipped}
+use Rattle.pm_script.proofs.reader.Reader.read.Goals.{After-statement_of}
 
-pub returns-in_default-clause-bad : goal.returns-in_default-clause-bad
-returns-in_default-clause-bad c =
-    subst (λ fault. IfRefused c.args.number fault (CannotRead c.args.self.now c.args.number c.args.line.now)) (sym c.bad.ensures)
-    (refl, refl, cannot_read_bytes c.args.self.now c.args.number c.args.line.now c.in_default.ensures.none)
+is_good : (c : After-statement_of) → (is_text c.args.line.now ≡ true) × (c.in_ok-text.text.now ≡ c.args.line.now)
+is_good c = subst (λ found. IfSome found (λ text. (is_text c.args.line.now ≡ true) × (text.now ≡ c.args.line.now))) c.in_ok-text.ensures.ok_part c.text_of.ensures.some
 
-the_words : (c : After-is_skipped) → texts c.as_slice-words.result.now ≡ words c.args.line.now
-the_words c = ap texts c.as_slice-words.ensures.value ∙ c.in_ok-found.ensures ∙ ap words c.in-Some.ensures.some.1
+the_words : (c : After-statement_of) → texts c.in_ok-words.words.items ≡ words c.args.line.now
+the_words c = c.in_ok-words.ensures ∙ ap words (is_good c).1
 
-pub returns-then-is_skipped-clause-ok : goal.returns-then-is_skipped-clause-ok
-returns-then-is_skipped-clause-ok c =
-    let old = c.args.self.now in
-    let skipped = sym c.is_skipped.ensures ∙ c.if-is_skipped.true in
-    reads_skipped old old c.args.number c.args.line.now _ (the_words (goal.at.returns-then-is_skipped-clause-ok c).After-is_skipped) c.in-Some.ensures.some.0 skipped
+kept : (c : After-statement_of) → is_skipped (words c.args.line.now) ≡ false
+kept c = ap is_skipped (sym (the_words c) ∙ ap texts (sym c.deref.ensures.value)) ∙ sym c.is_skipped.ensures ∙ c.if-is_skipped.false
 
-pub returns-clause-ok : goal.returns-clause-ok
-returns-clause-ok c =
-    let said = sym c.is_skipped.ensures ∙ c.if-is_skipped.false in
+read : (c : After-statement_of) (statement : Statement) → AreReadAs (texts c.deref-2.result.now) (Ok statement) → AreReadAs (words c.args.line.now) (Ok statement)
+read c statement is = subst (λ line. AreReadAs line (Ok statement)) (ap texts c.deref-2.ensures.value ∙ the_words c) is
+
+pub take-requires : goal.take-requires
+take-requires c = words_lane (texts c.deref-2.result.now) c.in-Ok.statement c.in-Ok.ensures
+
+pub returns-in-Ok-clause-ok : goal.returns-in-Ok-clause-ok
+returns-in-Ok-clause-ok c =
+    let before = (goal.at.returns-in-Ok-clause-ok c).After-statement_of in
     on_ok_weaker c.take.result
-    (reads_kept c.args.self.now c.take.new.self c.args.number c.args.line.now _ (the_words (goal.at.returns-clause-ok c).After-is_skipped) c.in-Some.ensures.some.0 said)
-    c.take.ensures.ok
+    (λ takes. taken_line c.args.self.now c.args.number c.args.line.now (is_good before).0 (kept before) c.in-Ok.statement (read before c.in-Ok.statement c.in-Ok.ensures) c.take.new.self takes) c.take.ensures.ok
 
-pub returns-clause-bad : goal.returns-clause-bad
-returns-clause-bad c =
-    let said = sym c.is_skipped.ensures ∙ c.if-is_skipped.false in
-    let cannot = cannot_read_kept c.args.self.now c.take.new.self c.args.number c.args.line.now _ (the_words (goal.at.returns-clause-bad c).After-is_skipped) said in
-    if_err c.take.result (λ e refused. if_refused c.args.number e cannot refused) c.take.ensures.bad
+pub returns-in-Ok-clause-bad : goal.returns-in-Ok-clause-bad
+returns-in-Ok-clause-bad c =
+    let before = (goal.at.returns-in-Ok-clause-bad c).After-statement_of in
+    if_err_bad c.take.result
+    (λ bad out. bad_place c.args.self.now c.args.number c.args.line.now (is_good before).0 (kept before) c.in-Ok.statement (read before c.in-Ok.statement c.in-Ok.ensures) bad out) c.take.ensures.bad

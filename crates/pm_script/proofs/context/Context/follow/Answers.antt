@@ -1,0 +1,26 @@
+use Rattle.std.proofs.Common.{◌≡◌, ℕ, List, not, Some, sym, ap, ◌∙◌, rules, tests}
+use Rattle.std.specs.List.{filter}
+use Rattle.std.specs.Option.{option_map_or}
+use Rattle.std.proofs.lemmas.Fn.{filter_same}
+use Rattle.pm_script.specs.Scripts.{Context, begun_behind, context_behind, is_of_lane}
+use Rattle.pm_script.specs.declared.context.OpenTransaction.{OpenTransaction}
+use Rattle.pm_script.specs.declared.script.ScriptOp.{ScriptOp}
+use Rattle.pm_script.specs.declared.script.ScriptOp.TheVariants.{Commit}
+use Rattle.pm_script.specs.declared.statement.Statement.TheVariants as says
+use Rattle.pm_script.proofs.context.Context.follow.Goals as goal
+
+abbrev others : ℕ → List OpenTransaction → List OpenTransaction
+others lane begun = filter (λ (t : OpenTransaction). not (is_of_lane lane t)) begun
+
+-- what a commit leaves
+closed : (context : Context) (lane n : ℕ) (operation : ScriptOp) (kept : List OpenTransaction) → context.lane ≡ Some lane → operation ≡ Commit → kept ≡ others lane context.begun
+    → record context { begun = kept } ≡ context_behind context n (Some (says.Operation operation))
+closed context lane n operation kept present commit is =
+    ap (λ (begun : List OpenTransaction). record context { begun = begun })
+    (is ∙ sym (ap (λ op. option_map_or (λ l. begun_behind l n op context.begun) context.lane context.begun) commit ∙ ap (λ l. option_map_or (λ l. begun_behind l n Commit context.begun) l context.begun) present))
+
+pub returns-in-Commit : goal.returns-in-Commit
+returns-in-Commit c =
+    let kept = filter_same _ (λ (t : OpenTransaction). not (is_of_lane c.args.lane t)) _ (λ x b q r. search (rules, tests)) _ _ c.retain.ensures.filtered in
+    ap (λ (context : Context). record context { begun = c.retain.new.self.items }) c.self.view_is
+    ∙ closed c.args.self.now c.args.lane c.args.line c.args.operation.now c.retain.new.self.items c.requires c.in-Commit.is (kept ∙ ap (λ (context : Context). others c.args.lane context.begun) c.self.view_is)

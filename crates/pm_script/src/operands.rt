@@ -1,0 +1,62 @@
+ghost use Rattle.std.specs.Prelude.{◌≡◌, option_map, IfOk};
+ghost use Rattle.pm_script.specs.Operands.{bytes_of, id_of, want_of, wanted, size_of};
+
+use crate::numbers::number;
+use crate::script::{ScriptId, ScriptWant};
+use hex::FromHexError;
+use pm_objects::Sequence;
+use std::alloc::{AllocError, Global};
+
+/// The most bytes that a line writes or reads.
+const MAX_BYTES: usize = 4096;
+
+/// The object that a word names: `root`, or the number of its offset.
+pub fn id_of(word: &str) -> Option<ScriptId>
+    ensures { result ≡ id_of word.now }
+{
+    if word == "root" {
+        Some(ScriptId::Root)
+    } else {
+        number(word).map(ScriptId::At)
+    }
+}
+
+/// What a word of a begin wants: `r:ID` or `ID`.
+pub fn want_of(word: &str) -> Option<ScriptWant>
+    ensures { result ≡ want_of word.now }
+{
+    match word.strip_prefix("r:") {
+        Some(object) => wanted(object, false),
+        None => wanted(word, true),
+    }
+}
+
+fn wanted(object: &str, write: bool) -> Option<ScriptWant>
+    ensures { result ≡ option_map (wanted write) (id_of object.now) }
+{
+    Some(ScriptWant {
+        id: id_of(object)?,
+        write,
+    })
+}
+
+/// How many bytes a line reads, as its word writes it: 1 to 4,096.
+pub fn size_of(word: &str) -> Option<u64>
+    ensures { result ≡ size_of word.now }
+{
+    number(word).filter(|size| (1..=MAX_BYTES as u64).contains(size))
+}
+
+/// The bytes that the word writes in hexadecimal digits.
+pub fn bytes_of(alloc: Global, word: &str) -> Result<Option<Sequence<u8>>, AllocError>
+    ensures { IfOk result (λ found. found ≡ bytes_of word.now) }
+{
+    if word.is_empty() || word.len() > 2 * MAX_BYTES {
+        return Ok(None);
+    }
+    match hex::decode(alloc, word) {
+        Ok(bytes) => Ok(Some(Sequence::from_vec(bytes))),
+        Err(FromHexError::OutOfMemory) => Err(AllocError),
+        Err(_) => Ok(None),
+    }
+}

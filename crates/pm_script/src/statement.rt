@@ -1,0 +1,142 @@
+ghost use Rattle.std.specs.Prelude.{◌≡◌, ◌≢◌, []};
+ghost use Rattle.pm_script.specs.Reading.{AreReadAs, IsReadAs};
+ghost use Rattle.pm_script.specs.Scripts.{keyword_of};
+ghost use Rattle.pm_script.specs.Words.{texts};
+ghost use Rattle.pm_script.specs.declared.statement.Keyword.TheVariants as word;
+
+use crate::fault::{LineFault, Why};
+use crate::numbers::number;
+use crate::operands::{bytes_of, id_of, size_of, want_of};
+use crate::script::ScriptOp;
+use pm_objects::Sequence;
+use std::alloc::Global;
+
+/// How many lanes there are.
+const LANES: u64 = 32;
+
+/// The first word of a line.
+#[derive(Clone, Copy, Debug, PartialEq, Eq)]
+pub enum Keyword {
+    Lane,
+    Begin,
+    Add,
+    Write,
+    Read,
+    Commit,
+}
+
+/// What a line says.
+#[derive(Drop)]
+pub enum Statement {
+    /// The lines after it are this lane's.
+    Lane(u64),
+    Operation(ScriptOp),
+}
+
+/// What the words of a line say.
+pub fn statement_of(alloc: Global, words: &[&str]) -> Result<Statement, LineFault>
+    requires { texts words.now ≢ [] }
+    ensures { AreReadAs (texts words.now) result }
+{
+    let keyword = keyword_of(words[0]).ok_or(Why::Word)?;
+    let operands = &words[1..];
+    match keyword {
+        Keyword::Lane => lane_of(operands),
+        Keyword::Begin => begin_of(alloc, operands),
+        Keyword::Add => add_of(operands),
+        Keyword::Write => write_of(alloc, operands),
+        Keyword::Read => read_of(operands),
+        Keyword::Commit => commit_of(operands),
+    }
+}
+
+fn keyword_of(word: &str) -> Option<Keyword>
+    ensures { result ≡ keyword_of word.now }
+{
+    match word {
+        "lane" => Some(Keyword::Lane),
+        "begin" => Some(Keyword::Begin),
+        "add" => Some(Keyword::Add),
+        "write" => Some(Keyword::Write),
+        "read" => Some(Keyword::Read),
+        "commit" => Some(Keyword::Commit),
+        _ => None,
+    }
+}
+
+/// Reads `lane K`.
+fn lane_of(operands: &[&str]) -> Result<Statement, LineFault>
+    ensures { IsReadAs word.Lane (texts operands.now) result }
+{
+    let [lane] = operands else {
+        return Err(LineFault::Bad(Why::Count));
+    };
+    let lane = number(lane).ok_or(Why::Number)?;
+    if lane >= LANES {
+        return Err(LineFault::Bad(Why::LaneNumber));
+    }
+    Ok(Statement::Lane(lane))
+}
+
+/// Reads `begin [ID or r:ID]..`.
+fn begin_of(alloc: Global, operands: &[&str]) -> Result<Statement, LineFault>
+    ensures { IsReadAs word.Begin (texts operands.now) result }
+{
+    let mut wants = Vec::new(alloc);
+    for operand in operands {
+        let want = want_of(operand).ok_or(Why::Letter)?;
+        wants.push(want)?;
+    }
+    let wants = Sequence::from_vec(wants);
+    Ok(Statement::Operation(ScriptOp::Begin { wants }))
+}
+
+/// Reads `add ID OFF LEN`.
+fn add_of(operands: &[&str]) -> Result<Statement, LineFault>
+    ensures { IsReadAs word.Add (texts operands.now) result }
+{
+    let [id, off, len] = operands else {
+        return Err(LineFault::Bad(Why::Count));
+    };
+    let off = number(off).ok_or(Why::Number)?;
+    let len = number(len).ok_or(Why::Number)?;
+    let id = id_of(id).ok_or(Why::Letter)?;
+    Ok(Statement::Operation(ScriptOp::Add { id, off, len }))
+}
+
+/// Reads `write ID OFF HEX`.
+fn write_of(alloc: Global, operands: &[&str]) -> Result<Statement, LineFault>
+    ensures { IsReadAs word.Write (texts operands.now) result }
+{
+    let [id, off, hex] = operands else {
+        return Err(LineFault::Bad(Why::Count));
+    };
+    let off = number(off).ok_or(Why::Number)?;
+    let bytes = bytes_of(alloc, hex)?.ok_or(Why::Hex)?;
+    let id = id_of(id).ok_or(Why::Letter)?;
+    Ok(Statement::Operation(ScriptOp::Write { id, off, bytes }))
+}
+
+/// Reads `read ID OFF LEN`.
+fn read_of(operands: &[&str]) -> Result<Statement, LineFault>
+    ensures { IsReadAs word.Read (texts operands.now) result }
+{
+    let [id, off, len] = operands else {
+        return Err(LineFault::Bad(Why::Count));
+    };
+    let off = number(off).ok_or(Why::Number)?;
+    let len = size_of(len).ok_or(Why::Number)?;
+    let id = id_of(id).ok_or(Why::Letter)?;
+    Ok(Statement::Operation(ScriptOp::Read { id, off, len }))
+}
+
+/// Reads `commit`.
+fn commit_of(operands: &[&str]) -> Result<Statement, LineFault>
+    ensures { IsReadAs word.Commit (texts operands.now) result }
+{
+    if operands.is_empty() {
+        Ok(Statement::Operation(ScriptOp::Commit))
+    } else {
+        Err(LineFault::Bad(Why::Count))
+    }
+}
