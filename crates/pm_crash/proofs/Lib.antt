@@ -52,6 +52,7 @@ pub mod OnTheWay
 pub mod FirstLog
 pub mod TornSlots
 pub mod AtRest
+pub mod SameBlocks
 pub mod SoundPools
 pub mod Raises
 pub mod Raising

@@ -1,4 +1,4 @@
-ghost use Rattle.std.specs.Prelude.{◌≡◌, ℕ, ◌+◌, ◌/◌, [], ◌∷◌, length, IfOk, OnOk, OnErr};
+ghost use Rattle.std.specs.Prelude.{◌≡◌, ℕ, ◌+◌, ◌/◌, ◌<◌, [], ◌∷◌, length, slice_index, IfOk, OnOk, OnErr};
 ghost use Rattle.pm_view.specs.View.{View};
 
 use crate::changes::Changes;
@@ -78,6 +78,14 @@ impl SoloMem {
             zones,
             zone_locks,
         })
+    }
+
+    /// A word as it stands, by its number; to ask for it is no call of the lane.
+    pub fn word(&self, index: u64) -> u64
+        requires { index < length self.now.words }
+        ensures { result ≡ slice_index self.now.words index }
+    {
+        self.words[index as usize]
     }
 
     /// The words that a power failure leaves, where of the changes of a word as many are kept as `keep` says: 0 none, 1 all, else by

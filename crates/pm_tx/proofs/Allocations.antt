@@ -1,6 +1,8 @@
 -- Which words tell of the block at a line: the line's chunk's descriptor, and the bitmap of a run.
-use Rattle.std.proofs.Common.{◌≡◌, ◌≢◌, ⊎_elim, ℕ, ◌+◌, ◌-◌, ◌*◌, ◌/◌, ◌%◌, ◌≤◌, Bool, true, false, not, cond, eqb, leb, ◌&&◌, List, slice_index, Option, Some, None, refl, sym, ap, ◌∙◌, arith}
-use Rattle.std.proofs.lemmas.Bool.{and_parts, cases_eq, cond-false, cond-true, eq-eqb, leb-true, ne_eqb}
+use Rattle.std.proofs.Common.{◌≡◌, ◌≢◌, ⊎_elim, ℕ, ◌+◌, ◌-◌, ◌*◌, ◌/◌, ◌%◌, ◌≤◌, Bool, true, false, not, cond, eqb, leb, ◌&&◌, List, set, slice_index, Option, Some, None, refl, sym, ap, ◌∙◌, subst, arith}
+use Rattle.std.specs.Prelude.{IfSome}
+use Rattle.std.proofs.lemmas.Bool.{and_parts, cases_eq, cond-false, cond-true, eq-eqb, eqb-true, false≢true, leb-true, ne_eqb}
+use Rattle.std.proofs.lemmas.List.{get_or-set_other}
 use Rattle.pm_view.specs.Blocks.{bitmap_word, block_at, chunk_of, descriptor_word, has_block, is_chunk, is_huge, is_run, is_word, zone_of, zone_page}
 use Rattle.pm_view.specs.View.{Lock}
 use Rattle.pm_view.specs.Views.{with_block}
@@ -37,15 +39,34 @@ bitmap_apart lanes p q one two same =
       apart lanes q y c z d c1 c64 d1 d64 qq same = omega arith
 
 -- whether the word tells of blocks in a page
-abbrev tells : ℕ → List ℕ → ℕ → ℕ → Bool
+abbrev pub tells : ℕ → List ℕ → ℕ → ℕ → Bool
 tells lanes words q w = is_word (cond (not (is_chunk lanes q)) None (Some (cond (is_run (slice_index words (descriptor_word lanes q))) (bitmap_word q) (descriptor_word lanes q)))) w
 
-tells_not : (lanes : ℕ) (words : List ℕ) (q w : ℕ) → (is_chunk lanes q ≡ true → (bitmap_word q ≢ w) × (descriptor_word lanes q ≢ w)) → tells lanes words q w ≡ false
+-- the word is neither the descriptor of the page, where that is a chunk, nor its bitmap
+abbrev pub IsBeside : ℕ → ℕ → ℕ → Type 0
+IsBeside lanes q w = is_chunk lanes q ≡ true → (bitmap_word q ≢ w) × (descriptor_word lanes q ≢ w)
+
+pub tells_not : (lanes : ℕ) (words : List ℕ) (q w : ℕ) → IsBeside lanes q w → tells lanes words q w ≡ false
 tells_not lanes words q w apart = at (is_chunk lanes q) (is_run (slice_index words (descriptor_word lanes q))) apart where
   at : (chunk run : Bool) → (chunk ≡ true → (bitmap_word q ≢ w) × (descriptor_word lanes q ≢ w)) → is_word (cond (not chunk) None (Some (cond run (bitmap_word q) (descriptor_word lanes q)))) w ≡ false
   at false run apart = refl
   at true true apart = ne_eqb (bitmap_word q) w (apart refl).0
   at true false apart = ne_eqb (descriptor_word lanes q) w (apart refl).1
+
+-- the words of one chunk's descriptor and bitmap tell of no block in another
+pub descriptor_beside : (lanes page : ℕ) → is_chunk lanes page ≡ true → (q : ℕ) → q ≢ page → IsBeside lanes q (descriptor_word lanes page)
+descriptor_beside lanes page chunk q apart other = (bitmap_apart lanes page q chunk other, λ same. apart (descriptors_apart lanes q page other chunk same))
+
+pub bitmap_beside : (lanes page : ℕ) → is_chunk lanes page ≡ true → (q : ℕ) → q ≢ page → IsBeside lanes q (bitmap_word page)
+bitmap_beside lanes page chunk q apart other = (λ same. apart (let e : 512 * q ≡ 512 * page = same in omega (arith, e)), λ same. bitmap_apart lanes q page other chunk (sym same))
+
+-- what tells of a page's blocks: the descriptor of no run, and a run's bitmap
+pub descriptor_tells : (lanes page : ℕ) (words : List ℕ) → is_chunk lanes page ≡ true → is_run (slice_index words (descriptor_word lanes page)) ≡ false → tells lanes words page (descriptor_word lanes page) ≡ true
+descriptor_tells lanes page words chunk no_run =
+    (λ i. is_word (cond (not (chunk i)) None (Some (cond (no_run i) (bitmap_word page) (descriptor_word lanes page)))) (descriptor_word lanes page)) ∙ eq-eqb (descriptor_word lanes page) (descriptor_word lanes page) refl
+
+pub bitmap_tells : (lanes page : ℕ) (words : List ℕ) → is_chunk lanes page ≡ true → is_run (slice_index words (descriptor_word lanes page)) ≡ true → tells lanes words page (bitmap_word page) ≡ true
+bitmap_tells lanes page words chunk run = (λ i. is_word (cond (not (chunk i)) None (Some (cond (run i) (bitmap_word page) (descriptor_word lanes page)))) (bitmap_word page)) ∙ eq-eqb (bitmap_word page) (bitmap_word page) refl
 
 -- the block that begins in a page at a line of it
 abbrev begins : ℕ → List ℕ → ℕ → ℕ → Option ℕ
@@ -81,8 +102,8 @@ module _ (lanes page : ℕ) (chunk : is_chunk lanes page ≡ true) (words : List
     pub descriptor_marks : (b : ℕ) → is_run d ≡ false → (l : Lock) → with_block lanes words word l ≡ marked_lock page d b l
     descriptor_marks b no_run l =
         marks_so lanes page chunk words word d b
-        ((λ i. is_word (cond (not (chunk i)) None (Some (cond ((ap is_run there ∙ no_run) i) (bitmap_word page) word))) word) ∙ eq-eqb word word refl)
-        (λ q apart. tells_not lanes words q word (λ other. (bitmap_apart lanes page q chunk other, λ same. apart (descriptors_apart lanes q page other chunk same))))
+        (descriptor_tells lanes page words chunk (ap is_run there ∙ no_run))
+        (λ q apart. tells_not lanes words q word (descriptor_beside lanes page chunk q apart))
         (λ r.
         (λ i. cond (not (chunk i)) None (block_in (there i) (slice_index words (bitmap_word page)) r))
         ∙ (λ i. cond (no_run i && has_block (slice_index words (bitmap_word page)) (d / 256) r) (Some (d / 256)) (cond (is_huge d && eqb r 0) (Some (64 * (d / 256))) None))
@@ -97,26 +118,55 @@ module _ (lanes page : ℕ) (chunk : is_chunk lanes page ≡ true) (words : List
         ap (λ q. tells lanes words q word) same
         ∙ (λ i. is_word (cond (not (chunk i)) None (Some (cond ((ap is_run there ∙ run) i) (bitmap_word page) word))) word)
         ∙ ne_eqb (bitmap_word page) word (bitmap_apart lanes page page chunk chunk))
-        (λ (apart : q ≢ page). tells_not lanes words q word (λ other. (bitmap_apart lanes page q chunk other, λ same. apart (descriptors_apart lanes q page other chunk same))))
+        (λ (apart : q ≢ page). tells_not lanes words q word (descriptor_beside lanes page chunk q apart))
         (cases_eq q page)) l
 
     -- and its bitmap tells of them
     pub bitmap_marks : (b : ℕ) → slice_index words (bitmap_word page) ≡ b → is_run d ≡ true → (l : Lock) → with_block lanes words (bitmap_word page) l ≡ marked_lock page d b l
     bitmap_marks b bitmap run l =
         marks_so lanes page chunk words (bitmap_word page) d b
-        ((λ i. is_word (cond (not (chunk i)) None (Some (cond ((ap is_run there ∙ run) i) (bitmap_word page) word))) (bitmap_word page)) ∙ eq-eqb (bitmap_word page) (bitmap_word page) refl)
-        (λ q apart. tells_not lanes words q (bitmap_word page) (λ other. (λ same. apart (let e : 512 * q ≡ 512 * page = same in omega (arith, e)), λ same. bitmap_apart lanes q page other chunk (sym same))))
+        (bitmap_tells lanes page words chunk (ap is_run there ∙ run))
+        (λ q apart. tells_not lanes words q (bitmap_word page) (bitmap_beside lanes page chunk q apart))
         (λ r. λ i. cond (not (chunk i)) None (block_in (there i) (bitmap i) r))
         l
 
 -- the size of an object in a chunk tells of no block
+pub size_beside : (lanes line : ℕ) → is_chunk lanes (line / 64) ≡ true → (q : ℕ) → IsBeside lanes q (8 * line + 1)
+size_beside lanes line chunk q other = (
+  (λ same. let e : 512 * q ≡ 8 * line + 1 = same in omega (arith, e)),
+  λ same.
+      let a = chunk_at lanes (line / 64) chunk in let b = chunk_at lanes q other in
+      apart lanes line a.zone a.chunk b.zone b.chunk a.some a.few b.some b.few a.page_is (sym b.descriptor ∙ same),
+) where
+  apart : (lanes line y c z d : ℕ) → 1 ≤ c → c ≤ 64 → 1 ≤ d → d ≤ 64 → line / 64 ≡ 1 + 2 * lanes + 65 * y + c → 512 * (1 + 2 * lanes + 65 * z) + d - 1 ≡ 8 * line + 1 → ⊥
+  apart lanes line y c z d c1 c64 d1 d64 page same = omega arith
+
 pub size_marks_none : (lanes line : ℕ) → is_chunk lanes (line / 64) ≡ true → (words : List ℕ) (l : Lock) → with_block lanes words (8 * line + 1) l ≡ l
-size_marks_none lanes line chunk words l =
-    marks_none lanes (line / 64) chunk words (8 * line + 1) (λ q. tells_not lanes words q (8 * line + 1) (λ other. (
-      (λ same. let e : 512 * q ≡ 8 * line + 1 = same in omega (arith, e)),
-      λ same.
-          let a = chunk_at lanes (line / 64) chunk in let b = chunk_at lanes q other in
-          apart lanes line a.zone a.chunk b.zone b.chunk a.some a.few b.some b.few a.page_is (sym b.descriptor ∙ same),
-    ))) l where
-      apart : (lanes line y c z d : ℕ) → 1 ≤ c → c ≤ 64 → 1 ≤ d → d ≤ 64 → line / 64 ≡ 1 + 2 * lanes + 65 * y + c → 512 * (1 + 2 * lanes + 65 * z) + d - 1 ≡ 8 * line + 1 → ⊥
-      apart lanes line y c z d c1 c64 d1 d64 page same = omega arith
+size_marks_none lanes line chunk words l = marks_none lanes (line / 64) chunk words (8 * line + 1) (λ q. tells_not lanes words q (8 * line + 1) (size_beside lanes line chunk q)) l
+
+-- a word beside them may change
+pub block_beside : (lanes : ℕ) (words : List ℕ) (w x line : ℕ) → IsBeside lanes (line / 64) w → block_at lanes (set words w x) line ≡ block_at lanes words line
+block_beside lanes words w x line beside = at (is_chunk lanes (line / 64)) beside where
+  d : ℕ
+  d = descriptor_word lanes (line / 64)
+
+  b : ℕ
+  b = bitmap_word (line / 64)
+
+  begun : ℕ → ℕ → Option ℕ
+  begun descriptor bitmap = block_in descriptor bitmap (line % 64)
+
+  at : (chunk : Bool) → (chunk ≡ true → (b ≢ w) × (d ≢ w)) → cond (not chunk) None (begun (slice_index (set words w x) d) (slice_index (set words w x) b)) ≡ cond (not chunk) None (begun (slice_index words d) (slice_index words b))
+  at false apart = refl
+  at true apart = (λ i. begun (get_or-set_other words w d x 0 (apart refl).1 i) (get_or-set_other words w b x 0 (apart refl).0 i))
+
+-- a run whose blocks have no lines has no block of any
+pub empty_run : (lanes : ℕ) (words : List ℕ) (line d : ℕ) → slice_index words (descriptor_word lanes (line / 64)) ≡ d → is_run d ≡ true → d / 256 ≡ 0 → IfSome (block_at lanes words line) (λ lines. lines ≡ 0)
+empty_run lanes words line d there run none =
+    subst (λ n. IfSome (cond (not (is_chunk lanes (line / 64))) None (block_in n (slice_index words (bitmap_word (line / 64))) (line % 64))) (λ lines. lines ≡ 0)) (sym there)
+    (at (is_chunk lanes (line / 64)) (is_run d && has_block (slice_index words (bitmap_word (line / 64))) (d / 256) (line % 64)) (is_huge d) (eqb (line % 64) 0) (ne_eqb (d % 256) 2 (λ two. let one = eqb-true (d % 256) 1 run in omega (arith, one, two)))) where
+      at : (chunk begins huge first : Bool) → huge ≡ false → IfSome (cond (not chunk) None (cond begins (Some (d / 256)) (cond (huge && first) (Some (64 * (d / 256))) None))) (λ lines. lines ≡ 0)
+      at false begins huge first no_huge = tt
+      at true true huge first no_huge = none
+      at true false false first no_huge = tt
+      at true false true first no_huge = absurd (false≢true (sym no_huge))

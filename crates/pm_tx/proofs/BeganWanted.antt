@@ -1,18 +1,18 @@
 -- A lane that took the locks of a plan and found objects under them holds what the begin wants; one that found none is refused.
-use Rattle.std.proofs.Common.{◌≡◌, ◌⊎◌, ⊎_elim, inl, inr, ℕ, zero, suc, ◌+◌, ◌*◌, ◌/◌, ◌%◌, ◌<◌, ◌≤◌, Bool, true, false, not, cond, eqb, ◌&&◌, ◌||◌, Contains, IsTrue, List, [], ◌∷◌, map, length, slice_index, Some, None, refl, sym, ap, ◌∙◌, subst, arith}
+use Rattle.std.proofs.Common.{◌≡◌, ◌⊎◌, ⊎_elim, inl, inr, ℕ, zero, suc, ◌+◌, ◌*◌, ◌/◌, ◌%◌, ◌<◌, ◌≤◌, Bool, true, false, not, cond, eqb, ◌&&◌, ◌||◌, Any, Contains, IsTrue, List, [], ◌∷◌, map, length, slice_index, Some, None, refl, sym, ap, ◌∙◌, subst, arith}
 use Rattle.std.specs.List.{filter, list_any}
 use Rattle.std.specs.Prelude.{IfSome}
-use Rattle.std.proofs.lemmas.Bool.{and_from, and_parts, cases_Bool, eq-eqb, eqb-true, or_left, or_right}
+use Rattle.std.proofs.lemmas.Bool.{and_from, and_parts, cases_Bool, eq-eqb, eqb-true, false≢true, not-true, or_cases, or_left, or_right}
 use Rattle.std.proofs.lemmas.List.{length-map}
 use Rattle.std.proofs.lemmas.List.Elements.{All-contains}
-use Rattle.std.proofs.lemmas.List.Folds.{Any-from_list_any}
+use Rattle.std.proofs.lemmas.List.Folds.{Any-from_list_any, list_any_at}
 use Rattle.std.proofs.lemmas.Option.{none-some}
 use Rattle.pm_crash.proofs.Begun.{all_pass}
 use Rattle.pm_crash.proofs.SameLocks.{is_locked_after}
 use Rattle.pm_crash.specs.Locks.{AreSameLocks}
 use Rattle.pm_crash.specs.OpenCall.{locks_of}
 use Rattle.pm_crash.specs.OpenCall.{lock_of as model_lock}
-use Rattle.pm_crash.specs.Operations.{IsBeginReason, TakesWanted, wants_first}
+use Rattle.pm_crash.specs.Operations.{IsBeginReason, TakesWanted, is_placed, wants_first}
 use Rattle.pm_objects.specs.declared.calls.Want.{Want}
 use Rattle.pm_objects.specs.declared.refusal.Refusal.{Refusal}
 use Rattle.pm_objects.specs.declared.refusal.Refusal.TheVariants as refusal
@@ -24,7 +24,9 @@ use Rattle.pm_view.specs.View.{View, Lock}
 use Rattle.pm_world.specs.Opening.{Opening}
 use Rattle.pm_world.specs.declared.lane.HeldLock.{HeldLock}
 use Rattle.pm_world.specs.declared.lane.Lane.{Lane}
-use Rattle.pm_tx.specs.Begins.{FailsToBegin, HasRefused}
+use Rattle.pm_tx.specs.Begins.{FailsToBegin, HasFoundNone, IsRefusedAtOnce}
+use Rattle.pm_tx.specs.Lacking.{HoldsNoObject, LacksObject}
+use Rattle.pm_tx.proofs.LookedAlone.{any_lacks_same}
 use Rattle.pm_tx.proofs.PlannedLocks.{model_length}
 use Rattle.pm_tx.specs.AtWork.{FindsObject, FindsObjects}
 use Rattle.pm_tx.specs.Plans.{IsPlan, has_form, locks_of_form, model_locks}
@@ -59,6 +61,19 @@ wanted_locked (w ∷ wants) locks want there =
     (subst (λ (u : Want). (eqb w.id.off u.id.off && (w.write || not u.write)) ≡ true) here (and_from (eqb w.id.off w.id.off) (w.write || not w.write) (eq-eqb w.id.off w.id.off refl) (all_hold w.write)))))
     (λ (later : Contains wants want). wanted_locked wants (locked w.id.off w.write locks) want later)
     (member_cases w wants want there)
+
+-- and what is locked was locked before, or is wanted
+locked_wanted : (wants : List Want) (locks : List Locked) (off : ℕ) → is_locked (locked_all wants locks) off false ≡ true → (is_locked locks off false ≡ true) ⊎ Any (λ (want : Want). want.id.off ≡ off) wants
+unfolding locked_all
+locked_wanted [] locks off is = inl is
+locked_wanted (w ∷ wants) locks off is =
+    ⊎_elim
+    (λ (front : is_locked (locked w.id.off w.write locks) off false ≡ true).
+    ⊎_elim (λ (before : is_locked locks off false ≡ true). inl before)
+    (λ (here : (eqb w.id.off off && (w.write || not false)) ≡ true). inr (0, w, omega arith, refl, eqb-true w.id.off off (and_parts (eqb w.id.off off) (w.write || not false) here).0))
+    (or_cases (is_locked locks off false) (eqb w.id.off off && (w.write || not false)) (sym (is_locked_after w.id.off w.write locks off false) ∙ front)))
+    (λ (later : Any (λ (want : Want). want.id.off ≡ off) wants). inr (suc later.0, later.1, (let low = later.2 in omega (arith, low)), later.3, later.4))
+    (locked_wanted wants (locked w.id.off w.write locks) off is)
 
 -- a lock of an object is of the line before it
 locked_by : (locks : List Lock) (off : ℕ) (write : Bool) → is_locked (map model_lock locks) off write ≡ list_any (λ (l : Lock). eqb (64 * l.line + 64) off && (l.write || not write)) locks
@@ -112,6 +127,20 @@ module _ (pool : ℕ) (v : View) (wants : List Want) (plan : List HeldLock) (of_
         ap (λ n. is_chunk n (l.line / 64)) finds.lanes ∙ found_chunk o.lanes o.words l.line lines found;
   }
 
+  -- where it holds the lock of a line with no object, something wanted has none
+  pub lacks_wanted : HoldsNoObject v → Any (LacksObject v) wants
+  lacks_wanted holds =
+      let l : Lock = holds.lock in
+      let off : ℕ = 64 * l.line + 64 in
+      let there = holds.held in
+      let test : (eqb (64 * l.line + 64) off && (l.write || not false)) ≡ true = and_from (eqb (64 * l.line + 64) off) (l.write || not false) (eq-eqb off off refl) (or_right l.write true refl) in
+      let held : is_locked (locks_of v) off false ≡ true =
+      locked_by v.locks off false
+      ∙ list_any_at (λ (k : Lock). eqb (64 * k.line + 64) off && (k.write || not false)) v.locks there.0 l there.1 (ap (λ (k : Lock). eqb (64 * k.line + 64) off && (k.write || not false)) there.2 ∙ test) in
+      ⊎_elim (λ (none : is_locked [] off false ≡ true). absurd (false≢true none))
+      (λ (some : Any (λ (want : Want). want.id.off ≡ off) wants). (some.0, some.1, some.2, some.3, inr (record { line = l.line; place = some.4; none = holds.none })))
+      (locked_wanted wants [] off (sym (same_locks.same off false) ∙ held))
+
   -- a begin that wants something may be refused, since there is no object
   some_wanted : (wants : List Want) → 0 < length (locked_all wants []) → wants_first [] wants ≡ true
   unfolding locked_all
@@ -126,6 +155,10 @@ module _ (pool : ℕ) (v : View) (wants : List Want) (plan : List HeldLock) (of_
         let n = ap length same in let m = same_locks.count in let k = length-map v.locks model_lock in let few = count in let most = is.few in omega (arith, n, m, k, few, most)),
     inr (some_wanted wants (let m = same_locks.count in let k = length-map v.locks model_lock in omega (arith, m, k, some))),
   )
+
+-- where something wanted has no object as the begin is refused at once, it has none by the words of the view that the refusal leaves
+pub found_none : {M : Type 0} (at : M → View → Type 0) (lane : Lane M) (v : View) (wants : List Want) → IsRefusedAtOnce at lane v wants refusal.NoObject → Any (LacksObject v) wants → HasFoundNone at lane v wants
+found_none at lane v wants is lacks = let same = is.refused.same in record { refused = is.refused; lacking = any_lacks_same v is.refused.view same.lanes same.zones same.pool is.words wants lacks }
 
 -- the wants by the view's pool and shape
 module _ (pool lanes zones : ℕ) (v : View) (wants : List Want) (of_pool : v.pool ≡ pool) (of_lanes : v.lanes ≡ lanes) (of_zones : v.zones ≡ zones) where
@@ -142,11 +175,23 @@ module _ (pool lanes zones : ℕ) (v : View) (wants : List Want) (of_pool : v.po
     inl (by_view (λ p n z. IsTrue (list_any (λ (want : Want). not (has_form p n z want)) wants)) lack.1),
   )
 
+  -- a want without an object's form lacks an object
+  form_lacks : IsTrue (list_any (λ (want : Want). not (has_form pool lanes zones want)) wants) → Any (LacksObject v) wants
+  form_lacks lack =
+      let t = Any-from_list_any (λ (want : Want). not (is_placed v want)) wants (by_view (λ p n z. IsTrue (list_any (λ (want : Want). not (has_form p n z want)) wants)) lack) in
+      (t.0, t.1, t.2, t.3, inl (not-true (is_placed v t.1) t.4))
+
+  -- so does a begin that is refused for it
+  pub unplanned_lacks : {M : Type 0} (at : M → View → Type 0) (new : Lane M) (r : Refusal) → r ≡ refusal.NoObject → (r ≡ refusal.NoObject → (length (locks_of_form pool lanes zones wants) ≤ 64) × IsTrue (list_any (λ (want : Want). not (has_form pool lanes zones want)) wants))
+      → (IsBeginReason v 0 [] wants r → IsRefusedAtOnce at new v wants r) → HasFoundNone at new v wants
+  unplanned_lacks at new r is lack refuses =
+      found_none at new v wants (subst (λ q. IsBeginReason v 0 [] wants q → IsRefusedAtOnce at new v wants q) is refuses (form_reason (lack is))) (form_lacks (lack is).1)
+
   -- wants that have no plan are refused
   pub unplanned : {M : Type 0} (at : M → View → Type 0) (new : Lane M) (r : Refusal) → (r ≡ refusal.LocksFull) ⊎ (r ≡ refusal.NoObject) → (r ≡ refusal.LocksFull → 64 < length (locks_of_form pool lanes zones wants))
       → (r ≡ refusal.NoObject → (length (locks_of_form pool lanes zones wants) ≤ 64) × IsTrue (list_any (λ (want : Want). not (has_form pool lanes zones want)) wants))
-      → (IsBeginReason v 0 [] wants r → HasRefused at new v wants r) → FailsToBegin at new v wants r
+      → (IsBeginReason v 0 [] wants r → IsRefusedAtOnce at new v wants r) → FailsToBegin at new v wants r
   unplanned at new r (inl is) full lack refuses =
-      subst (FailsToBegin at new v wants) (sym is) (subst (λ q. IsBeginReason v 0 [] wants q → HasRefused at new v wants q) is refuses (full_reason (full is)))
+      subst (FailsToBegin at new v wants) (sym is) (subst (λ q. IsBeginReason v 0 [] wants q → IsRefusedAtOnce at new v wants q) is refuses (full_reason (full is))).refused
   unplanned at new r (inr is) full lack refuses =
-      subst (FailsToBegin at new v wants) (sym is) (subst (λ q. IsBeginReason v 0 [] wants q → HasRefused at new v wants q) is refuses (form_reason (lack is)))
+      subst (FailsToBegin at new v wants) (sym is) (subst (λ q. IsBeginReason v 0 [] wants q → IsRefusedAtOnce at new v wants q) is refuses (form_reason (lack is))).refused

@@ -25,13 +25,13 @@ use Rattle.pm_world.specs.declared.lane.HeldLock.{HeldLock}
 use Rattle.pm_world.specs.Sequences.{by_lane, by_view, in_turn, looks, one}
 use Rattle.pm_world.specs.declared.lane.Lane.{Lane}
 use Rattle.pm_world.specs.declared.lane.Stage.TheVariants as stage
-use Rattle.pm_tx.proofs.BeganWanted.{no_object, takes_wanted}
+use Rattle.pm_tx.proofs.BeganWanted.{found_none, lacks_wanted, no_object, takes_wanted}
 use Rattle.pm_tx.proofs.Beginnings.{may_tell}
 use Rattle.pm_tx.proofs.FoundObjects.{plan_lines, plan_models}
 use Rattle.pm_tx.proofs.Leads.{led_once, led_same, led_then, ready_led}
 use Rattle.pm_tx.specs.AtWork.{FindsObjects, IsAtWork}
 use Rattle.pm_tx.specs.Beginning.{IsBegunBy, takes}
-use Rattle.pm_tx.specs.Begins.{FailsToBegin, HasBegun, HasFound, HasLines, HasNotTaken, HasRefused, HasTaken, IsBeginCause, IsBusy, IsGivenBack, IsLed, IsStartedCause, LeavesLane}
+use Rattle.pm_tx.specs.Begins.{FailsToBegin, HasBegun, HasFound, HasFoundNone, HasLines, HasNotTaken, HasRefused, HasTaken, IsBeginCause, IsBusy, IsGivenBack, IsLed, IsRefusedAtOnce, IsStartedCause, LeavesLane}
 use Rattle.pm_tx.specs.Plans.{IsPlan, model_locks, unfound}
 use Rattle.pm_tx.specs.Resting.{IsAtRest}
 use Rattle.pm_tx.specs.Sequences.{sees_generation, starts}
@@ -62,6 +62,11 @@ refused_further at lane u v wants r led entries was = record {
   call = was.call;
   entries = was.entries ∙ ap (λ (es : List Numbered). es ++ record { number = lane.last; call = was.view.call } ∷ []) entries;
 }
+
+-- with what it lacked
+pub none_further : {M : Type 0} (at : M → View → Type 0) (lane : Lane M) (u v : View) (wants : List Want) → IsLed u v → v.entries ≡ u.entries → HasFoundNone at lane v wants → HasFoundNone at lane u wants
+unfolding refused_further
+none_further at lane u v wants led entries was = record { refused = refused_further at lane u v wants refusal.NoObject led entries was.refused; lacking = was.lacking }
 
 -- and what has begun from it, from the one before
 pub begun_further : {M : Type 0} (at : M → View → Type 0) (lane : Lane M) (u v : View) (wants : List Want) → IsLed u v → v.entries ≡ u.entries → HasBegun at lane v wants → HasBegun at lane u wants
@@ -115,8 +120,12 @@ module _ {M : Type 0} (at : M → View → Type 0) (old mid lane : Lane M) (want
   entries = f.entries ∙ t.entries
 
   -- there is no object under one of them
-  pub missing : all ≡ false → (new : Lane M) → (IsBeginReason f.view 0 [] wants refusal.NoObject → HasRefused at new f.view wants refusal.NoObject) → HasRefused at new v wants refusal.NoObject
-  missing none new refuses = refused_further at new v f.view wants refusal.NoObject led entries (refuses (no_object old.pool f.view wants plan of_pool plan_so models (f.some none)))
+  pub missing : all ≡ false → (new : Lane M) → (IsBeginReason f.view 0 [] wants refusal.NoObject → IsRefusedAtOnce at new f.view wants refusal.NoObject) → HasFoundNone at new v wants
+  missing none new refuses =
+      let holds = f.none none in
+      let low = holds.held.1 in
+      none_further at new v f.view wants led entries
+      (found_none at new f.view wants (refuses (no_object old.pool f.view wants plan of_pool plan_so models (omega (arith, low)))) (lacks_wanted old.pool f.view wants plan of_pool plan_so models holds))
 
   abbrev w : View
   w = after f.view (Tell (Begin wants) None)

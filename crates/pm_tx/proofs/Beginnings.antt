@@ -32,7 +32,7 @@ use Rattle.pm_world.specs.declared.lane.Stage.TheVariants as stage
 use Rattle.pm_world.proofs.Shapes.{IsOfSamePool}
 use Rattle.pm_tx.specs.AtWork.{IsAtWork, FindsObjects}
 use Rattle.pm_tx.specs.Beginning.{IsBegun}
-use Rattle.pm_tx.specs.Begins.{HasRefused}
+use Rattle.pm_tx.specs.Begins.{IsRefusedAtOnce}
 use Rattle.pm_tx.specs.Ending.{DrawEnded, IsAfterCall, IsOver, IsReadyForAny, IsTakenBack}
 use Rattle.pm_tx.specs.Sequences.{ends_call}
 use Rattle.pm_tx.proofs.Leads.{ready_led}
@@ -176,15 +176,22 @@ module _ {M : Type 0} (at : M → View → Type 0) (lane : Lane M) (v : View) (i
     unfolding ends_call in_turn one after_all
     mid_entries = refl
 
+    mid_words : mid.words ≡ v.words
+    unfolding ends_call in_turn one after_all
+    mid_words = refl
+
     -- a begin that was refused
     pub refused : IsBeginReason v 0 [] wants r → (new : Lane M) → new.last ≡ n → IsMade (at lane.memory) (at new.memory) (ends_call (Begin wants) (Some (Refused r)) n) → new.locks.items ≡ lane.locks.items
-        → new.records.items ≡ lane.records.items → new.drawn ≡ Some new.last → IsOfSamePool lane new → new.stopped ≡ lane.stopped → HasRefused at new v wants r
+        → new.records.items ≡ lane.records.items → new.drawn ≡ Some new.last → IsOfSamePool lane new → new.stopped ≡ lane.stopped → IsRefusedAtOnce at new v wants r
     refused reason new last made locks records drawn pool stops = record {
-      view = mid;
-      led = ready_led v ends ends_ready (ends_drawn reason) ends_uncounted;
-      same = over.lane;
-      over = refused_after new last made locks records drawn pool stops;
-      number = over.number ∙ ap Some (sym last);
-      call = mid_call;
-      entries = mid_entries ∙ ap (λ k. v.entries ++ record { number = k; call = mid.call } ∷ []) (sym last);
+      refused = record {
+        view = mid;
+        led = ready_led v ends ends_ready (ends_drawn reason) ends_uncounted;
+        same = over.lane;
+        over = refused_after new last made locks records drawn pool stops;
+        number = over.number ∙ ap Some (sym last);
+        call = mid_call;
+        entries = mid_entries ∙ ap (λ k. v.entries ++ record { number = k; call = mid.call } ∷ []) (sym last);
+      };
+      words = mid_words;
     }

@@ -1,7 +1,10 @@
 -- The locks that were taken for a plan are of its lines, and objects are looked for under them.
-use Rattle.std.proofs.Common.{◌≡◌, ℕ, ◌+◌, ◌*◌, ◌/◌, ◌<◌, Bool, true, false, List, [], ◌∷◌, map, drop, get_or, length, refl, sym, ap, ◌∙◌, subst, arith}
+use Rattle.std.proofs.Common.{◌≡◌, ◌⊎◌, ℕ, ◌+◌, ◌*◌, ◌/◌, ◌<◌, Bool, true, Contains, List, [], ◌∷◌, map, drop, get_or, length, Option, refl, sym, ap, ◌∙◌, subst, arith}
 use Rattle.std.specs.List.{AllByRecursion}
+use Rattle.std.specs.Prelude.{IfSome}
+use Rattle.std.proofs.Math.ListN.{get_or-map}
 use Rattle.std.proofs.lemmas.List.{length-map}
+use Rattle.std.proofs.lemmas.Simd.{map-map}
 use Rattle.pm_crash.specs.OpenCall.{lock_of as model_lock}
 use Rattle.pm_layout.specs.declared.shape.Shape.{Shape}
 use Rattle.pm_view.specs.Blocks.{is_chunk}
@@ -10,9 +13,11 @@ use Rattle.pm_world.specs.Lanes.{lock_of}
 use Rattle.pm_world.specs.declared.lane.HeldLock.{HeldLock}
 use Rattle.pm_world.specs.declared.lane.Lane.{Lane}
 use Rattle.pm_tx.proofs.Leads.{led_then}
+use Rattle.pm_tx.proofs.MarkedPages.{unfit_lacks}
 use Rattle.pm_tx.proofs.OnlyLooking.{begun_looks}
 use Rattle.pm_tx.specs.Beginning.{IsBegun}
 use Rattle.pm_tx.specs.Begins.{HasFound, HasLines, HasLooked, IsHeldBy, KnowsObjects}
+use Rattle.pm_tx.specs.Lacking.{IsMarked, pages_of}
 use Rattle.pm_tx.specs.Plans.{IsChunkLine, Rises, unfound}
 
 abbrev lines_in : List HeldLock → List ℕ
@@ -52,6 +57,13 @@ view_lines : (locks : List HeldLock) → map (λ (l : Lock). l.line) (map lock_o
 view_lines [] = refl
 view_lines (l ∷ locks) = (λ i. l.line ∷ view_lines locks i)
 
+-- what is in a list has its image in the map
+in_map : {X Y : Type 0} (f : X → Y) (xs : List X) (x : X) → Contains xs x → Contains (map f xs) (f x)
+in_map f xs x there =
+    let n = length-map xs f in
+    let low = there.1 in
+    (there.0, omega (arith, low, n), get_or-map f xs there.0 x ∙ ap f there.2)
+
 module _ {M : Type 0} (at : M → View → Type 0) (old lane : Lane M) (plan : List HeldLock) (rises : Rises plan) (chunks : AllByRecursion (IsChunkLine old.shape.lanes old.shape.zones) plan) (fields : lane ≡ record old { memory = lane.memory; locks = lane.locks }) where
   pub held_by : (v : View) → IsBegun at lane v → HasLines v plan → IsHeldBy v lane.locks.items
   held_by v is lines =
@@ -74,17 +86,26 @@ module _ {M : Type 0} (at : M → View → Type 0) (old lane : Lane M) (plan : L
         zones_few = omega (arith, b, most);
       }
 
-  module _ (v : View) (lines : HasLines v plan) (looked : HasLooked at lane v) where
+  module _ (v : View) (lines : HasLines v plan) (looked : HasLooked at lane v (pages_of plan)) where
     pub view_held : IsHeldBy looked.view lane.locks.items
     view_held = held_by looked.view looked.begun (looked.lines ∙ lines)
 
-    pub has_found : (memory : M) (all : Bool) → (all ≡ false → 0 < length lane.locks.items) → KnowsObjects (at memory) looked.view all → HasFound at (record lane { memory = memory }) v all
-    has_found memory all some k = record {
+    -- each lock is in a page that was looked at
+    lock_marked : (l : Lock) → Contains looked.view.locks l → IsMarked looked.view l
+    lock_marked l there =
+        let line : Contains (lines_in plan) l.line = subst (λ ls. Contains ls l.line) (looked.lines ∙ lines) (in_map (λ (k : Lock). k.line) looked.view.locks l there) in
+        let page : Contains (pages_of plan) (l.line / 64) = subst (λ ps. Contains ps (l.line / 64)) (map-map (λ n. n / 64) (λ (k : HeldLock). k.line) plan) (in_map (λ n. n / 64) (lines_in plan) l.line line) in
+        looked.marked (l.line / 64) page l there refl
+
+    pub has_found : (memory : M) (all : Bool) → KnowsObjects (at memory) looked.view all → HasFound at (record lane { memory = memory }) v all
+    has_found memory all k = record {
       view = k.view;
       led = led_then v looked.view k.view looked.led k.looks.led;
       begun = begun_looks at lane (record lane { memory = memory }) looked.view k.view looked.begun k.looks k.there (looked.begun.seen.locks ∙ sym k.locks) (ap (map (λ (l : Lock). l.line)) k.locks) refl;
       locks = ap (map model_lock) k.locks ∙ looked.locks;
       entries = ap (λ (u : View). u.entries) k.looks.same ∙ looked.entries;
       objects = k.objects;
-      some = λ none. (let low = some none in let n = length-map lane.locks.items lock_of in let e = ap length (looked.begun.seen.locks ∙ sym k.locks) in omega (arith, low, n, e));
+      none = λ no. unfit_lacks k.view
+          (λ l there. subst (λ (b : Option ℕ). (l.block ≡ b) ⊎ IfSome b (λ lines. lines ≡ 0)) (sym (k.blocks l.line)) (lock_marked l (subst (λ (ls : List Lock). Contains ls l) k.locks there)))
+          (k.unfit no);
     }

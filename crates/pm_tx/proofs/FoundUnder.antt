@@ -1,7 +1,9 @@
 -- What a chunk's descriptor and bitmap say is noted under each lock there.
-use Rattle.std.proofs.Common.{◌≡◌, ℕ, ◌+◌, ◌*◌, ◌/◌, ◌%◌, ◌<◌, ◌≤◌, Bool, true, false, cond, eqb, List, [], ◌∷◌, map, length, length-set, slice_index, refl, sym, ap, ◌∙◌, arith}
+use Rattle.std.proofs.Common.{◌≡◌, ◌≢◌, ⊎_elim, inr, ℕ, zero, suc, ◌+◌, ◌*◌, ◌/◌, ◌%◌, ◌<◌, ◌≤◌, Bool, true, false, cond, eqb, Contains, List, [], ◌∷◌, ◌++◌, map, take, get_or, length, length-set, slice_index, refl, sym, ap, ◌∙◌, subst, arith}
 use Rattle.std.specs.List.{refill}
-use Rattle.std.proofs.lemmas.List.{get_or-set_other, get_or-set_same, length-map}
+use Rattle.std.proofs.lemmas.Bool.{cases_eq}
+use Rattle.std.proofs.lemmas.List.{get_or-set_other, get_or-set_same, length-map, map-append, take_more}
+use Rattle.std.proofs.lemmas.List.Elements.{Contains-append_cases}
 use Rattle.pm_crash.specs.OpenCall.{lock_of as model_lock}
 use Rattle.pm_view.specs.Blocks.{bitmap_word, descriptor_word, is_chunk, is_run}
 use Rattle.pm_view.specs.Founds.{FoundAlone}
@@ -11,12 +13,14 @@ use Rattle.pm_view.specs.Views.{after, with_block}
 use Rattle.pm_world.specs.Lanes.{lock_of}
 use Rattle.pm_world.specs.declared.lane.HeldLock.{HeldLock}
 use Rattle.pm_world.specs.declared.lane.Lane.{Lane}
-use Rattle.pm_tx.proofs.Allocations.{bitmap_apart, bitmap_marks, chunk_at, descriptor_marks, marked_lock, run_marks_none}
+use Rattle.pm_tx.proofs.Allocations.{IsBeside, bitmap_apart, bitmap_beside, bitmap_marks, bitmap_tells, chunk_at, descriptor_beside, descriptor_marks, descriptor_tells, empty_run, marked_lock, run_marks_none, tells}
 use Rattle.pm_tx.proofs.Leads.{led_none, led_then}
+use Rattle.pm_tx.proofs.MarkedPages.{page_kept, page_noted}
 use Rattle.pm_tx.proofs.OnlyLooking.{begun_looks, looks_at, looks_then}
 use Rattle.pm_tx.proofs.PlannedLocks.{rewritten}
 use Rattle.pm_tx.specs.Beginning.{IsBegun}
 use Rattle.pm_tx.specs.Begins.{HasLooked, OnlyLooks, block_in, marked}
+use Rattle.pm_tx.specs.Lacking.{IsPageMarked, pages_of}
 
 -- maps that agree
 maps_same : {X Y : Type 0} (f g : X → Y) (xs : List X) → ((x : X) → f x ≡ g x) → map f xs ≡ map g xs
@@ -64,6 +68,15 @@ marked_models : (page d b : ℕ) (locks : List Lock) → map model_lock (map (ma
 marked_models page d b [] = refl
 marked_models page d b (l ∷ locks) = (λ i. marked_model page d b l i ∷ marked_models page d b locks i)
 
+-- the one page of a look
+one_page : (page p : ℕ) → Contains (page ∷ []) p → page ≡ p
+one_page page p (zero, low, is) = is
+one_page page p (suc k, low, is) = absurd (omega (arith, low))
+
+-- the pages of a plan, as far as one more lock
+pub pages_more : (plan : List HeldLock) (i : ℕ) (d : HeldLock) → i < length plan → pages_of (take (i + 1) plan) ≡ pages_of (take i plan) ++ (get_or plan i d).line / 64 ∷ []
+pages_more plan i d low = ap pages_of (take_more plan i d low) ∙ map-append (λ (l : HeldLock). l.line / 64) (take i plan) (get_or plan i d ∷ [])
+
 module _ {M : Type 0} (at : M → View → Type 0) (lane : Lane M) (v : View) (is : IsBegun at lane v) (page : ℕ) (chunk : is_chunk lane.shape.lanes page ≡ true) (inside : page < 1 + 2 * lane.shape.lanes + 65 * lane.shape.zones) where
   abbrev pub word : ℕ
   word = descriptor_word lane.shape.lanes page
@@ -81,6 +94,17 @@ module _ {M : Type 0} (at : M → View → Type 0) (lane : Lane M) (v : View) (i
   bitmap_behind : 512 * (1 + 2 * v.lanes) ≤ 512 * page
   bitmap_behind = let c = chunk_at lane.shape.lanes page chunk in let p = c.page_is in let lanes = is.seen.shape.lanes in omega (arith, p, lanes)
 
+  -- a page that is marked, in a view where the other pages are as they were
+  module _ (w : View) (marked : IsPageMarked w page) (kept : (p : ℕ) → p ≢ page → IsPageMarked v p → IsPageMarked w p) where
+    this_marked : (p : ℕ) → Contains (page ∷ []) p → IsPageMarked w p
+    this_marked p there = subst (IsPageMarked w) (one_page page p there) marked
+
+    all_kept : (p : ℕ) → IsPageMarked v p → IsPageMarked w p
+    all_kept p was = ⊎_elim (λ (same : p ≡ page). subst (IsPageMarked w) (sym same) marked) (λ (apart : p ≢ page). kept p apart was) (cases_eq p page)
+
+  by_view : (P : ℕ → Type 0) → P lane.shape.lanes → P v.lanes
+  by_view P so = subst P (sym is.seen.shape.lanes) so
+
   module _ (d : ℕ) (found : FoundAlone v (Load word d)) where
     abbrev pub m : View
     m = after v (Load word d)
@@ -90,6 +114,9 @@ module _ {M : Type 0} (at : M → View → Type 0) (lane : Lane M) (v : View) (i
 
     there : slice_index m.words word ≡ d
     there = get_or-set_same v.words word d 0 word_inside
+
+    others_kept : (p : ℕ) → p ≢ page → IsPageMarked v p → IsPageMarked m p
+    others_kept p apart = page_kept v word d p (by_view (λ n. IsBeside n p word) (descriptor_beside lane.shape.lanes page chunk p apart))
 
     -- the view's locks, by its own number of lanes
     abbrev by_lanes : ℕ → List ℕ → ℕ → List Lock → List Lock
@@ -101,7 +128,10 @@ module _ {M : Type 0} (at : M → View → Type 0) (lane : Lane M) (v : View) (i
           ap (λ lanes. by_lanes lanes m.words word v.locks) is.seen.shape.lanes
           ∙ maps_same (with_block lane.shape.lanes m.words word) (marked_lock page d b) v.locks (descriptor_marks lane.shape.lanes page chunk m.words d there b no_run)
 
-      pub chunk_looked : HasLooked at new v
+      no_run_marked : IsPageMarked m page
+      no_run_marked = page_noted v word d page (by_view (λ n. tells n m.words page word ≡ true) (descriptor_tells lane.shape.lanes page m.words chunk (ap is_run there ∙ no_run)))
+
+      pub chunk_looked : HasLooked at new v (page ∷ [])
       chunk_looked = record {
         view = m;
         led = first.led;
@@ -109,6 +139,8 @@ module _ {M : Type 0} (at : M → View → Type 0) (lane : Lane M) (v : View) (i
         lines = ap (map (λ (l : Lock). l.line)) locks_marked ∙ marked_lines page d b v.locks;
         locks = ap (map model_lock) locks_marked ∙ marked_models page d b v.locks;
         entries = refl;
+        marked = this_marked m no_run_marked others_kept;
+        keeps = all_kept m no_run_marked others_kept;
       }
 
     module _ (run : is_run d ≡ true) where
@@ -117,15 +149,20 @@ module _ {M : Type 0} (at : M → View → Type 0) (lane : Lane M) (v : View) (i
           ap (λ lanes. by_lanes lanes m.words word v.locks) is.seen.shape.lanes
           ∙ map_none (with_block lane.shape.lanes m.words word) v.locks (run_marks_none lane.shape.lanes page chunk m.words d there run)
 
-      -- the lane notes nothing
-      pub run_looked : (new : Lane M) → at new.memory m → new.locks.items ≡ lane.locks.items → new ≡ record lane { memory = new.memory; locks = new.locks } → HasLooked at new v
-      run_looked new memory locks fields = record {
+      empty_marked : d / 256 ≡ 0 → IsPageMarked m page
+      empty_marked none l held of_page = inr (empty_run m.lanes m.words l.line d (ap (λ q. slice_index m.words (descriptor_word m.lanes q)) of_page ∙ by_view (λ n. slice_index m.words (descriptor_word n page) ≡ d) there) run none)
+
+      -- of a run of no lines the lane notes nothing
+      pub run_looked : d / 256 ≡ 0 → (new : Lane M) → at new.memory m → new.locks.items ≡ lane.locks.items → new ≡ record lane { memory = new.memory; locks = new.locks } → HasLooked at new v (page ∷ [])
+      run_looked none new memory locks fields = record {
         view = m;
         led = first.led;
         begun = begun_looks at lane new v m is first memory (ap (map lock_of) locks ∙ is.seen.locks ∙ sym locks_stay) (ap (map (λ (l : Lock). l.line)) locks_stay) fields;
         lines = ap (map (λ (l : Lock). l.line)) locks_stay;
         locks = ap (map model_lock) locks_stay;
         entries = refl;
+        marked = this_marked m (empty_marked none) others_kept;
+        keeps = all_kept m (empty_marked none) others_kept;
       }
 
       module _ (b : ℕ) (also : FoundAlone m (Load (512 * page) b)) (new : Lane M) (memory : at new.memory (after m (Load (512 * page) b))) (locks : new.locks.items ≡ map (marked page d b) lane.locks.items)
@@ -151,7 +188,13 @@ module _ {M : Type 0} (at : M → View → Type 0) (lane : Lane M) (v : View) (i
             ∙ maps_same (with_block lane.shape.lanes w.words (bitmap_word page)) (marked_lock page d b) m.locks (bitmap_marks lane.shape.lanes page chunk w.words d still b bitmap_there run)
             ∙ ap (map (marked_lock page d b)) locks_stay
 
-        pub bitmap_looked : HasLooked at new v
+        run_marked : IsPageMarked w page
+        run_marked = page_noted m (512 * page) b page (by_view (λ n. tells n w.words page (512 * page) ≡ true) (bitmap_tells lane.shape.lanes page w.words chunk (ap is_run still ∙ run)))
+
+        others_still : (p : ℕ) → p ≢ page → IsPageMarked v p → IsPageMarked w p
+        others_still p apart was = page_kept m (512 * page) b p (by_view (λ n. IsBeside n p (512 * page)) (bitmap_beside lane.shape.lanes page chunk p apart)) (others_kept p apart was)
+
+        pub bitmap_looked : HasLooked at new v (page ∷ [])
         bitmap_looked = record {
           view = w;
           led = both.led;
@@ -159,18 +202,34 @@ module _ {M : Type 0} (at : M → View → Type 0) (lane : Lane M) (v : View) (i
           lines = ap (map (λ (l : Lock). l.line)) run_locks ∙ marked_lines page d b v.locks;
           locks = ap (map model_lock) run_locks ∙ marked_models page d b v.locks;
           entries = refl;
+          marked = this_marked w run_marked others_still;
+          keeps = all_kept w run_marked others_still;
         }
 
 -- one look after another
-pub looked_none : {M : Type 0} (at : M → View → Type 0) (lane : Lane M) (v : View) → IsBegun at lane v → HasLooked at lane v
-looked_none at lane v is = record { view = v; led = led_none v; begun = is; lines = refl; locks = refl; entries = refl }
+pub looked_none : {M : Type 0} (at : M → View → Type 0) (lane : Lane M) (v : View) → IsBegun at lane v → HasLooked at lane v []
+looked_none at lane v is = record {
+  view = v;
+  led = led_none v;
+  begun = is;
+  lines = refl;
+  locks = refl;
+  entries = refl;
+  marked = λ page there. absurd (let low = there.1 in omega (arith, low));
+  keeps = λ page was. was;
+}
 
-pub looked_then : {M : Type 0} (at : M → View → Type 0) (lane new : Lane M) (v : View) → (first : HasLooked at lane v) → HasLooked at new first.view → HasLooked at new v
-looked_then at lane new v first second = record {
+pub looked_then : {M : Type 0} (at : M → View → Type 0) (lane new : Lane M) (v : View) (pages more : List ℕ) → (first : HasLooked at lane v pages) → HasLooked at new first.view more → HasLooked at new v (pages ++ more)
+looked_then at lane new v pages more first second = record {
   view = second.view;
   led = led_then v first.view second.view first.led second.led;
   begun = second.begun;
   lines = second.lines ∙ first.lines;
   locks = second.locks ∙ first.locks;
   entries = second.entries ∙ first.entries;
+  marked = λ page there. ⊎_elim
+      (λ (before : Contains pages page). second.keeps page (first.marked page before))
+      (λ (now : Contains more page). second.marked page now)
+      (Contains-append_cases pages more page there);
+  keeps = λ page was. second.keeps page (first.keeps page was);
 }

@@ -1,5 +1,5 @@
 -- What the begin of an outermost transaction comes to: it has begun, found a lock of another lane, or was refused.
-use Rattle.std.specs.Prelude.{◌≡◌, ℕ, ◌+◌, ◌*◌, ◌<◌, ◌/◌, ◌%◌, ◌≤◌, ◌==◌, ◌&&◌, Bool, true, false, if◌then◌else◌, All, Contains, List, [], ◌∷◌, ◌++◌, length, map, Option, None, Some, slice_index}
+use Rattle.std.specs.Prelude.{◌≡◌, ℕ, ◌+◌, ◌*◌, ◌<◌, ◌/◌, ◌%◌, ◌≤◌, ◌==◌, ◌&&◌, Bool, true, false, if◌then◌else◌, All, Any, Contains, List, [], ◌∷◌, ◌++◌, length, map, Option, None, Some, slice_index}
 use Rattle.std.specs.List.{AllByRecursion}
 use Rattle.pm_crash.specs.Leading.{Leads}
 use Rattle.pm_crash.specs.Locks.{AreSameLocks}
@@ -12,7 +12,7 @@ use Rattle.pm_objects.specs.declared.history.Value.TheVariants.{Refused}
 use Rattle.pm_objects.specs.declared.refusal.Refusal.{Refusal}
 use Rattle.pm_objects.specs.declared.refusal.Refusal.TheVariants as refusal
 use Rattle.pm_undo.specs.Working.{FindsOpening}
-use Rattle.pm_view.specs.Blocks.{has_block, is_huge, is_run}
+use Rattle.pm_view.specs.Blocks.{block_at, has_block, is_huge, is_run}
 use Rattle.pm_view.specs.Constants.{IsSameLane}
 use Rattle.pm_view.specs.Counts.{counted}
 use Rattle.pm_view.specs.Steps.{Step}
@@ -25,6 +25,7 @@ use Rattle.pm_world.specs.declared.lane.Stage.TheVariants as stage
 use Rattle.pm_tx.specs.AtWork.{FindsObjects, IsAtWork}
 use Rattle.pm_tx.specs.Beginning.{IsBegun, IsSpent, takes}
 use Rattle.pm_tx.specs.Ending.{IsAfterCall}
+use Rattle.pm_tx.specs.Lacking.{HasUnfit, HoldsNoObject, IsPageMarked, LacksObject}
 use Rattle.pm_tx.specs.Plans.{IsChunkLine, Rises}
 use Rattle.pm_tx.specs.Resting.{IsAtRest}
 
@@ -67,6 +68,16 @@ pub record HasRefused {M : Type 0} (at : M → View → Type 0) (lane : Lane M) 
   pub number : view.number ≡ Some lane.last
   pub call : view.call ≡ record { operation = Begin wants; reply = Some (Refused r) } ∷ []
   pub entries : view.entries ≡ v.entries ++ record { number = lane.last; call = view.call } ∷ []
+
+-- it was refused at once: no word was looked at since this view
+pub record IsRefusedAtOnce {M : Type 0} (at : M → View → Type 0) (lane : Lane M) (v : View) (wants : List Want) (r : Refusal) : Type 0 where
+  pub refused : HasRefused at lane v wants r
+  pub words : refused.view.words ≡ v.words
+
+-- the begin was refused with NoObject, and by the words of the view at which it was, something wanted has no object
+pub record HasFoundNone {M : Type 0} (at : M → View → Type 0) (lane : Lane M) (v : View) (wants : List Want) : Type 0 where
+  pub refused : HasRefused at lane v wants refusal.NoObject
+  pub lacking : Any (LacksObject refused.view) wants
 
 -- what a begin that fails with this refusal leaves of the view
 abbrev pub FailsToBegin : {M : Type 0} → (M → View → Type 0) → Lane M → View → List Want → Refusal → Type 0
@@ -142,14 +153,16 @@ block_in descriptor bitmap line =
 abbrev pub marked : ℕ → ℕ → ℕ → HeldLock → HeldLock
 marked page descriptor bitmap l = if l.line / 64 == page then record l { block = block_in descriptor bitmap (l.line % 64) } else l
 
--- the call goes on with the same locks, and may have found blocks under them
-pub record HasLooked {M : Type 0} (at : M → View → Type 0) (lane : Lane M) (v : View) : Type 0 where
+-- the call goes on with the same locks, and noted under those of these pages which blocks begin there
+pub record HasLooked {M : Type 0} (at : M → View → Type 0) (lane : Lane M) (v : View) (pages : List ℕ) : Type 0 where
   pub view : View
   pub led : IsLed v view
   pub begun : IsBegun at lane view
   pub lines : map (λ (l : Lock). l.line) view.locks ≡ map (λ (l : Lock). l.line) v.locks
   pub locks : locks_of view ≡ locks_of v
   pub entries : view.entries ≡ v.entries
+  pub marked : (page : ℕ) → Contains pages page → IsPageMarked view page
+  pub keeps : (page : ℕ) → IsPageMarked v page → IsPageMarked view page
 
 -- these locks are the view's, of rising lines of chunks in the pool
 pub record IsHeldBy (v : View) (locks : List HeldLock) : Type 0 where
@@ -167,19 +180,21 @@ pub record OnlyLooks (v w : View) : Type 0 where
   pub front : (u : ℕ) → u < 512 * (1 + 2 * v.lanes) → slice_index w.words u ≡ slice_index v.words u
   pub remembers : (s : Step) → Contains v.seen s → Contains w.seen s
 
--- under each lock is an object that fits into its block, and its size is known; or under one there may be none
+-- under each lock is an object that fits into its block, and its size is known; or under one there is none. Which blocks there are stays
 pub record KnowsObjects (at : View → Type 0) (v : View) (all : Bool) : Type 0 where
   pub view : View
   pub looks : OnlyLooks v view
   pub there : at view
   pub locks : view.locks ≡ v.locks
+  pub blocks : (line : ℕ) → block_at view.lanes view.words line ≡ block_at v.lanes v.words line
   pub objects : all ≡ true → FindsObjects view
+  pub unfit : all ≡ false → HasUnfit view
 
 -- the view's locks are of the plan's lines
 abbrev pub HasLines : View → List HeldLock → Type 0
 HasLines v plan = map (λ (l : Lock). l.line) v.locks ≡ map (λ (l : HeldLock). l.line) plan
 
--- the call goes on with the same locks, and under each it may have found an object
+-- the call goes on with the same locks, and under each it found an object, or under one there is none
 pub record HasFound {M : Type 0} (at : M → View → Type 0) (lane : Lane M) (v : View) (all : Bool) : Type 0 where
   pub view : View
   pub led : IsLed v view
@@ -187,4 +202,4 @@ pub record HasFound {M : Type 0} (at : M → View → Type 0) (lane : Lane M) (v
   pub locks : locks_of view ≡ locks_of v
   pub entries : view.entries ≡ v.entries
   pub objects : all ≡ true → FindsObjects view
-  pub some : all ≡ false → 0 < length view.locks
+  pub none : all ≡ false → HoldsNoObject view

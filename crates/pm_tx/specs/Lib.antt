@@ -8,5 +8,6 @@ pub mod Calls
 pub mod Stages
 pub mod Beginning
 pub mod Plans
+pub mod Lacking
 pub mod Begins
 pub mod Generations

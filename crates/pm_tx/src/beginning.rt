@@ -1,10 +1,11 @@
-ghost use Rattle.std.specs.Prelude.{◌≡◌, ◌≤◌, Err, IfErr, OnOk, [], None, Some, false, true};
+ghost use Rattle.std.specs.Prelude.{◌≡◌, ◌≤◌, Any, Err, IfErr, OnOk, [], None, Some, false, true};
 ghost use Rattle.pm_crash.specs.Operations.{IsBeginReason, TakesWanted};
 ghost use Rattle.pm_objects.specs.declared.calls.Operation.TheVariants.{Begin};
 ghost use Rattle.pm_objects.specs.declared.history.TxErr.TheVariants as error;
 ghost use Rattle.pm_objects.specs.declared.history.Value.TheVariants.{Refused};
 ghost use Rattle.pm_objects.specs.declared.refusal.Refusal.TheVariants as refusal;
 ghost use Rattle.pm_undo.specs.Working.{FindsOpening};
+ghost use Rattle.pm_view.specs.Founds.{IsAlone};
 ghost use Rattle.pm_view.specs.Steps.Step.{Tell};
 ghost use Rattle.pm_view.specs.View.{View};
 ghost use Rattle.pm_view.specs.Views.{after};
@@ -14,7 +15,8 @@ ghost use Rattle.pm_world.specs.Sequences.{IsMade, one};
 ghost use Rattle.pm_world.specs.declared.lane.Stage.TheVariants as stage;
 ghost use Rattle.pm_tx.specs.AtWork.{IsAtWork, FindsObjects};
 ghost use Rattle.pm_tx.specs.Beginning.{IsBegun, IsLaneBegun};
-ghost use Rattle.pm_tx.specs.Begins.{FailsToBegin, HasBegun, HasRefused, IsBeginCause, IsStartedCause, LeavesLane};
+ghost use Rattle.pm_tx.specs.Begins.{FailsToBegin, HasBegun, HasFoundNone, IsBeginCause, IsRefusedAtOnce, IsStartedCause, LeavesLane};
+ghost use Rattle.pm_tx.specs.Lacking.{LacksObject};
 ghost use Rattle.pm_tx.specs.Plans.{IsPlan};
 ghost use Rattle.pm_tx.specs.Resting.{IsAtRest, IsLaneAtRest};
 ghost use Rattle.pm_tx.specs.Sequences.{ends_call};
@@ -59,7 +61,7 @@ pub fn refuse_call<M: LawfulMem>(lane: &mut Lane<M>, wants: &[Want], refusal: Re
     ensures made { IsMade (M.at lane.old.memory) (M.at lane.new.memory) (ends_call (Begin wants.now) (Some (Refused refusal)) lane.new.last) }
     ensures lane { lane.new ≡ record lane.old
         { memory = lane.new.memory; level = 1; stage = stage.OnAbort; error = error.Refused refusal; drawn = Some lane.new.last; last = lane.new.last } }
-    ensures refused { (v : View) → IsBegun M.at lane.old v → IsBeginReason v 0 [] wants.now refusal → HasRefused M.at lane.new v wants.now refusal }
+    ensures refused { (v : View) → IsBegun M.at lane.old v → IsBeginReason v 0 [] wants.now refusal → IsRefusedAtOnce M.at lane.new v wants.now refusal }
 {
     end_refused(lane, wants, refusal);
     lane.level = 1;
@@ -80,6 +82,7 @@ fn begin_planned<M: LawfulMem>(
     ensures begun { OnOk result ((v : View) → IsBegun M.at lane.old v → HasBegun M.at lane.new v wants.now) }
     ensures opened { OnOk result (lane.new ≡ record lane.old { memory = lane.new.memory; locks = lane.new.locks; level = 1; stage = stage.Work }) }
     ensures fails { IfErr result (λ r. (v : View) → IsBegun M.at lane.old v → FailsToBegin M.at lane.new v wants.now r) }
+    ensures lacks { result ≡ Err refusal.NoObject → (v : View) → IsBegun M.at lane.old v → HasFoundNone M.at lane.new v wants.now }
     ensures leaves { IfErr result (λ r. LeavesLane r lane.old lane.new) }
     ensures causes { IfErr result IsStartedCause }
 {
@@ -102,6 +105,7 @@ fn begin_started<M: LawfulMem>(lane: &mut Lane<M>, wants: &[Want]) -> Result<(),
     ensures begun { OnOk result ((v : View) → IsBegun M.at lane.old v → HasBegun M.at lane.new v wants.now) }
     ensures opened { OnOk result (lane.new ≡ record lane.old { memory = lane.new.memory; locks = lane.new.locks; level = 1; stage = stage.Work }) }
     ensures fails { IfErr result (λ r. (v : View) → IsBegun M.at lane.old v → FailsToBegin M.at lane.new v wants.now r) }
+    ensures lacks { result ≡ Err refusal.NoObject → (v : View) → IsBegun M.at lane.old v → HasFoundNone M.at lane.new v wants.now }
     ensures leaves { IfErr result (λ r. LeavesLane r lane.old lane.new) }
     ensures causes { IfErr result IsStartedCause }
 {
@@ -124,6 +128,8 @@ pub fn begin<M: LawfulMem>(lane: &mut Lane<M>, wants: &[Want]) -> Result<(), Ref
     ensures begun { OnOk result ((v : View) → IsAtRest M.at lane.old v → HasBegun M.at lane.new v wants.now) }
     ensures opened { OnOk result (lane.new ≡ record lane.old { memory = lane.new.memory; locks = lane.new.locks; level = 1; stage = stage.Work }) }
     ensures fails { IfErr result (λ r. (v : View) → IsAtRest M.at lane.old v → FailsToBegin M.at lane.new v wants.now r) }
+    ensures lacks { result ≡ Err refusal.NoObject → (v : View) → IsAtRest M.at lane.old v → HasFoundNone M.at lane.new v wants.now }
+    ensures missing { result ≡ Err refusal.NoObject → (v : View) → IsAtRest M.at lane.old v → IsAlone v → Any (LacksObject v) wants.now }
     ensures leaves { IfErr result (λ r. LeavesLane r lane.old lane.new) }
     ensures causes { IfErr result (IsBeginCause lane.old.stopped) }
 {

@@ -1,9 +1,10 @@
-ghost use Rattle.std.specs.Prelude.{◌≡◌, ◌+◌, ◌*◌, ◌^◌, ◌/◌, ◌<◌, ◌≤◌, false, length, map, true};
+ghost use Rattle.std.specs.Prelude.{◌≡◌, ◌+◌, ◌*◌, ◌^◌, ◌/◌, ◌<◌, ◌≤◌, [], ◌∷◌, map, true};
 ghost use Rattle.std.specs.List.{AllByRecursion};
 ghost use Rattle.pm_view.specs.Blocks.{descriptor_word, has_block, is_chunk, is_run};
 ghost use Rattle.pm_view.specs.View.{View};
 ghost use Rattle.pm_tx.specs.Beginning.{IsBegun, IsLaneBegun};
 ghost use Rattle.pm_tx.specs.Begins.{HasFound, HasLines, HasLooked, IsHeldBy, KnowsObjects, block_in, marked};
+ghost use Rattle.pm_tx.specs.Lacking.{pages_of};
 ghost use Rattle.pm_tx.specs.Plans.{IsChunkLine, Rises};
 
 use pm_world::{HeldLock, Lane, LawfulMem};
@@ -97,7 +98,7 @@ fn look_at_chunk<M: LawfulMem>(lane: &mut Lane<M>, page: u64)
     requires begun { IsLaneBegun M.at lane.old }
     requires chunk { is_chunk lane.old.shape.lanes page ≡ true }
     requires inside { page < 1 + 2 * lane.old.shape.lanes + 65 * lane.old.shape.zones }
-    ensures looked { (v : View) → IsBegun M.at lane.old v → HasLooked M.at lane.new v }
+    ensures looked { (v : View) → IsBegun M.at lane.old v → HasLooked M.at lane.new v (page ∷ []) }
     ensures else_same { lane.new ≡ record lane.old { memory = lane.new.memory; locks = lane.new.locks } }
 {
     let descriptor = lane.memory.load(descriptor_word(lane.shape.lanes, page));
@@ -113,7 +114,7 @@ fn look_at_chunk<M: LawfulMem>(lane: &mut Lane<M>, page: u64)
 fn find_blocks<M: LawfulMem>(lane: &mut Lane<M>, plan: &[HeldLock])
     requires begun { IsLaneBegun M.at lane.old }
     requires chunks { AllByRecursion (IsChunkLine lane.old.shape.lanes lane.old.shape.zones) plan.now }
-    ensures looked { (v : View) → IsBegun M.at lane.old v → HasLooked M.at lane.new v }
+    ensures looked { (v : View) → IsBegun M.at lane.old v → HasLooked M.at lane.new v (pages_of plan.now) }
     ensures else_same { lane.new ≡ record lane.old { memory = lane.new.memory; locks = lane.new.locks } }
 {
     for held in plan {
@@ -125,7 +126,6 @@ fn find_blocks<M: LawfulMem>(lane: &mut Lane<M>, plan: &[HeldLock])
 fn know_objects<M: LawfulMem>(mem: &mut M, locks: &[HeldLock]) -> bool
     requires held { (v : View) × (M.at mem.old v × IsHeldBy v locks.now) }
     ensures known { (v : View) → M.at mem.old v → IsHeldBy v locks.now → KnowsObjects (M.at mem.new) v result }
-    ensures some { result ≡ false → 0 < length locks.now }
 {
     for held in locks {
         let Some(lines) = held.block else {

@@ -2,7 +2,8 @@ use Rattle.pm_view.specs.View.{View}
 use Rattle.pm_tx.specs.Beginning.{IsBegun}
 use Rattle.pm_tx.specs.Begins.{FailsToBegin, HasBegun, IsStartedCause}
 use Rattle.pm_tx.specs.Resting.{IsAtRest}
-use Rattle.pm_tx.proofs.BeginPlanned.{begun_further, err_so, fails_further, no_locks, ok_so, started_led}
+use Rattle.pm_tx.proofs.BeginPlanned.{begun_further, err_so, fails_further, no_locks, none_further, ok_so, started_led}
+use Rattle.pm_tx.proofs.LookedAlone.{lacks_alone}
 use Rattle.pm_tx.proofs.beginning.begin.Goals as goal
 
 pub begin_started-requires-clause-free : goal.begin_started-requires-clause-free
@@ -27,3 +28,11 @@ returns-clause-fails g c =
     let s = c.in_ok-start.ensures.begun v rests in
     fails_further g.M.LaneMem.at c.begin_started.new.lane v _ c.args.wants.now r (started_led g.M.LaneMem.at c.args.lane.now c.start.new.lane v c.in_ok-start.field-0 s) s.entries cause (was _ s.begun))
     c.begin_started.ensures.causes c.begin_started.ensures.fails
+
+pub returns-clause-lacks : goal.returns-clause-lacks
+returns-clause-lacks g c same v rests =
+    let s = c.in_ok-start.ensures.begun v rests in
+    none_further g.M.LaneMem.at c.begin_started.new.lane v _ c.args.wants.now (started_led g.M.LaneMem.at c.args.lane.now c.start.new.lane v c.in_ok-start.field-0 s) s.entries (c.begin_started.ensures.lacks same _ s.begun)
+
+pub returns-clause-missing : goal.returns-clause-missing
+returns-clause-missing g c same v rests alone = lacks_alone g.M.LaneMem.at c.begin_started.new.lane v c.args.wants.now (returns-clause-lacks g c same v rests) alone

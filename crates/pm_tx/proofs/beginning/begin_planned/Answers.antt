@@ -1,4 +1,4 @@
-use Rattle.std.proofs.Common.{◌∙◌, ap}
+use Rattle.std.proofs.Common.{◌∙◌, ap, refl}
 use Rattle.pm_world.specs.declared.lane.Lane.{Lane}
 use Rattle.pm_tx.proofs.BeginPlanned.{begun, busy, missing, taken_lines}
 use Rattle.pm_tx.proofs.beginning.begin_planned.Goals as goal
@@ -21,13 +21,16 @@ refuse_call-requires g c =
     let f = c.find_objects.ensures.found t.view t.begun (taken_lines g.M.LaneMem.at c.take_all.new.lane r.0 c.args.plan.now t) in
     record { begun = (f.view, f.begun) }
 
-pub returns-then-not-find_objects-clause-fails : goal.returns-then-not-find_objects-clause-fails
-returns-then-not-find_objects-clause-fails g c v is =
+pub returns-then-not-find_objects-clause-lacks : goal.returns-then-not-find_objects-clause-lacks
+returns-then-not-find_objects-clause-lacks g c same v is =
     let t = c.take_all.ensures.taken c.if-not-take_all.false v is in
     let f = c.find_objects.ensures.found t.view t.begun (taken_lines g.M.LaneMem.at c.take_all.new.lane v c.args.plan.now t) in
     missing g.M.LaneMem.at c.args.lane.now c.take_all.new.lane c.find_objects.new.lane c.args.wants.now c.args.plan.now c.requires.plan (ap (λ (l : Lane g.row.M.Denot). l.pool) c.find_objects.ensures.else_same ∙ ap (λ (l : Lane g.row.M.Denot). l.pool) c.take_all.ensures.else_same)
     (ap (λ (l : Lane g.row.M.Denot). l.shape) c.find_objects.ensures.else_same ∙ ap (λ (l : Lane g.row.M.Denot). l.shape) c.take_all.ensures.else_same) v t c.find_objects.result f
     c.if-not-find_objects.true c.refuse_call.new.lane (c.refuse_call.ensures.refused f.view f.begun)
+
+pub returns-then-not-find_objects-clause-fails : goal.returns-then-not-find_objects-clause-fails
+returns-then-not-find_objects-clause-fails g c v is = (returns-then-not-find_objects-clause-lacks g c refl v is).refused
 
 pub open_call-requires : goal.open_call-requires
 open_call-requires g c =

@@ -1,5 +1,4 @@
-use Rattle.std.proofs.Common.{◌<◌, List, length, sym, subst}
-use Rattle.pm_world.specs.declared.lane.HeldLock.{HeldLock}
+use Rattle.std.proofs.Common.{sym, subst}
 use Rattle.pm_tx.specs.Begins.{IsHeldBy}
 use Rattle.pm_tx.proofs.FoundObjects.{has_found, view_held}
 use Rattle.pm_tx.proofs.finding.find_objects.Goals as goal
@@ -24,5 +23,4 @@ returns-clause-found g c v is lines =
     let looked = c.find_blocks.ensures.looked v is in
     let held = view_held g.M.LaneMem.at c.args.lane.now c.find_blocks.new.lane c.args.plan.now c.requires.rises c.requires.chunks c.find_blocks.ensures.else_same v lines looked in
     has_found g.M.LaneMem.at c.args.lane.now c.find_blocks.new.lane c.args.plan.now c.requires.rises c.requires.chunks c.find_blocks.ensures.else_same v lines looked c.know_objects.new.mem c.know_objects.result
-    (λ none. subst (λ (locks : List HeldLock). 0 < length locks) c.as_slice.ensures.value (c.know_objects.ensures.some none))
     (c.know_objects.ensures.known looked.view looked.begun.seen.memory (subst (IsHeldBy looked.view) (sym c.as_slice.ensures.value) held))

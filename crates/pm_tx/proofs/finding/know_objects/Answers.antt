@@ -1,7 +1,7 @@
-use Rattle.std.proofs.Common.{rules, ◌<◌, ◌+◌, ◌*◌, subst, arith, get_or}
+use Rattle.std.proofs.Common.{rules, ◌<◌, ◌≤◌, ◌+◌, ◌*◌, subst, arith, get_or}
 use Rattle.pm_view.specs.Steps.Step.{Load}
 use Rattle.pm_tx.specs.Sequences.{no_lock}
-use Rattle.pm_tx.proofs.KnownObjects.{knows_all, knows_more, knows_none, knows_not, word_fits, word_inside}
+use Rattle.pm_tx.proofs.KnownObjects.{knows_all, knows_more, knows_no_block, knows_none, knows_not, word_fits, word_inside}
 use Rattle.pm_tx.proofs.finding.know_objects.Goals as goal
 
 pub loop-held-init : goal.loop-held-init
@@ -26,11 +26,21 @@ load-size-requires g c found =
     g.met.M.LawfulMem.meets c.loop-held.mem t.view (Load (8 * (get_or c.args.locks.now c.loop-held.held-index no_lock).line + 1) found) t.there
     (word_inside r.0 c.args.locks.now r.1.1 c.loop-held.held-index c.loop-held-test.true (g.M.LaneMem.at c.loop-held.mem) t)
 
-pub returns-then-div_ceil-lines-clause-known : goal.returns-then-div_ceil-lines-clause-known
-returns-then-div_ceil-lines-clause-known g c v there is =
-    let t = c.loop-held.invariant v there is in
-    let made = c.load-size.ensures t.view t.there in
-    knows_not v c.args.locks.now is c.loop-held.held-index c.loop-held-test.true (g.M.LaneMem.at c.loop-held.mem) t c.load-size.result made.2 (g.M.LaneMem.at c.load-size.new.self) made.0
+pub returns-then-div_ceil-lines : goal.returns-then-div_ceil-lines
+returns-then-div_ceil-lines g c = record {
+  known = λ v there is.
+      let t = c.loop-held.invariant v there is in
+      let made = c.load-size.ensures t.view t.there in
+      knows_not v c.args.locks.now is c.loop-held.held-index c.loop-held-test.true (g.M.LaneMem.at c.loop-held.mem) t c.load-size.result made.2 c.in-Some.lines c.in-Some.is
+      (subst (λ n. c.in-Some.lines ≤ n) c.div_ceil.ensures c.if-div_ceil-lines.true) (g.M.LaneMem.at c.load-size.new.self) made.0;
+}
+
+pub returns-in_default : goal.returns-in_default
+returns-in_default g c = record {
+  known = λ v there is.
+      let t = c.loop-held.invariant v there is in
+      knows_no_block v c.args.locks.now is c.loop-held.held-index c.loop-held-test.true (g.M.LaneMem.at c.loop-held.mem) t c.in_default.not-Some;
+}
 
 pub loop-held-preserved : goal.loop-held-preserved
 loop-held-preserved g c v there is =
@@ -39,5 +49,5 @@ loop-held-preserved g c v there is =
     knows_more v c.args.locks.now is c.loop-held.held-index c.loop-held-test.true (g.M.LaneMem.at c.loop-held.mem) t c.load-size.result made.2 c.in-Some.lines c.in-Some.is
     (subst (λ n. n < c.in-Some.lines) c.div_ceil.ensures c.if-div_ceil-lines.false) (g.M.LaneMem.at c.load-size.new.self) made.0
 
-pub returns-clause-known : goal.returns-clause-known
-returns-clause-known g c v there is = knows_all (g.M.LaneMem.at c.loop-held.mem) v c.args.locks.now c.loop-held.held-index is.held (search rules) (c.loop-held.invariant v there is)
+pub returns : goal.returns
+returns g c = record { known = λ v there is. knows_all (g.M.LaneMem.at c.loop-held.mem) v c.args.locks.now c.loop-held.held-index is.held (search rules) (c.loop-held.invariant v there is) }

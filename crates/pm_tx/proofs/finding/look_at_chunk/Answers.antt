@@ -24,4 +24,4 @@ pub returns-else-descriptor-ne0-clause-looked : goal.returns-else-descriptor-ne0
 returns-else-descriptor-ne0-clause-looked g c v is =
     let d = c.load-descriptor.result in
     let made = subst (λ (w : ℕ). Made (g.M.LaneMem.at c.args.lane.now.memory) (g.M.LaneMem.at c.load-descriptor.new.self) (Load w d)) c.descriptor_word.ensures c.load-descriptor.ensures v is.seen.memory in
-    run_looked g.M.LaneMem.at c.args.lane.now v is c.args.page c.requires.chunk c.requires.inside d made.2 (eq-eqb (d % 256) 1 c.if-descriptor-ne-RUN.false) _ made.0 refl refl
+    run_looked g.M.LaneMem.at c.args.lane.now v is c.args.page c.requires.chunk c.requires.inside d made.2 (eq-eqb (d % 256) 1 c.if-descriptor-ne-RUN.false) c.if-descriptor-ne0.false _ made.0 refl refl
