@@ -1,4 +1,5 @@
 pub mod Outside
+pub mod Faults
 pub mod Plan
 pub mod MapShelf
 pub mod FailingShelf

@@ -1,6 +1,7 @@
 //! Named byte strings outside of the program.
-ghost use Rattle.std.specs.Prelude.{◌≡◌, ℕ, ◌≤◌, List, [], Option, OnOk, OnErr, IsErrOf};
+ghost use Rattle.std.specs.Prelude.{◌≡◌, ℕ, ◌≤◌, List, [], Option, Some, OnOk, OnErr, IsErrOf};
 ghost use Rattle.pm_shelf.specs.declared.shelf.ShelfFault.TheVariants.{Memory};
+ghost use Rattle.pm_shelf.specs.Faults.{shelf_fault_text};
 ghost use Rattle.pm_shelf.specs.Outside.{Rose, IsWhole, IsFront, IsMissing, IsThere, Adds, MayAddPart};
 
 use std::alloc::{AllocError, AllocFailed};
@@ -25,6 +26,8 @@ pub enum ShelfFault {
 }
 
 impl fmt::Display for ShelfFault {
+    ghost output = { λ fault. Some (shelf_fault_text fault) };
+
     fn fmt<W: fmt::Write>(&self, f: &mut fmt::Formatter<W>) -> fmt::Result {
         f.write_str(match self {
             ShelfFault::Failed => "the shelf failed",

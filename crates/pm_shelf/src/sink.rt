@@ -1,6 +1,7 @@
 //! A stream of bytes that the program prints.
-ghost use Rattle.std.specs.Prelude.{◌≡◌, ℕ, ◌≤◌, List, Option, OnOk, IsErrOf};
+ghost use Rattle.std.specs.Prelude.{◌≡◌, ℕ, ◌≤◌, List, Option, Some, OnOk, IsErrOf};
 ghost use Rattle.pm_shelf.specs.declared.sink.SinkFault.TheVariants.{Memory};
+ghost use Rattle.pm_shelf.specs.Faults.{sink_fault_text};
 ghost use Rattle.pm_shelf.specs.Outside.{Rose, gained, GainedPart};
 
 use std::alloc::AllocError;
@@ -17,6 +18,8 @@ pub enum SinkFault {
 }
 
 impl fmt::Display for SinkFault {
+    ghost output = { λ fault. Some (sink_fault_text fault) };
+
     fn fmt<W: fmt::Write>(&self, f: &mut fmt::Formatter<W>) -> fmt::Result {
         f.write_str(match self {
             SinkFault::Failed => "the output failed",
