@@ -1,6 +1,6 @@
--- While a lane that is alone records a range, or looks, no word outside of its area changes: it stores slot words of its area alone, up to the
+-- While a lane that is alone records a range, no word outside of its area changes: it stores slot words of its area alone, up to the
 -- last slot, since behind that it may store none.
-use Rattle.std.proofs.Common.{◌≡◌, ⊎_elim, ℕ, zero, suc, ◌+◌, ◌<◌, ◌≤◌, true, false, List, [], ◌∷◌, ◌++◌, length, map, take, set, slice_index, refl, sym, ap, ◌∙◌, subst, arith, get_or-set_other}
+use Rattle.std.proofs.Common.{◌≡◌, ⊎_elim, ℕ, ◌+◌, ◌<◌, ◌≤◌, true, false, List, [], ◌∷◌, length, map, take, set, slice_index, refl, sym, ap, ◌∙◌, subst, arith, get_or-set_other}
 use Rattle.std.specs.Option.{ForSome}
 use Rattle.std.proofs.lemmas.Bool.{cases_lt, false≢true}
 use Rattle.std.proofs.lemmas.List.{length-map, set-get_or}
@@ -12,7 +12,7 @@ use Rattle.pm_crash.specs.Leading.{Leads}
 use Rattle.pm_crash.proofs.AloneCourse.{Grows, StandsAlone, due_along, grows_along, number_along, stands_after, stands_at}
 use Rattle.pm_crash.proofs.AloneImages.{own_fits}
 use Rattle.pm_crash.proofs.AloneMemory.{memory_of}
-use Rattle.pm_crash.proofs.Leading.{leads_end}
+use Rattle.pm_crash.proofs.OnTheWay.{numbered_front}
 use Rattle.pm_memory.specs.Solo.{AreNumbered}
 use Rattle.pm_view.specs.Area.{Part, is_in_area, part_of}
 use Rattle.pm_view.specs.Area.Part.{OtherWord}
@@ -21,9 +21,9 @@ use Rattle.pm_view.specs.Log.{Phase}
 use Rattle.pm_view.specs.Log.Phase.{Idle, Open, Drawn, Sealing, Applying, Clearing, Retiring}
 use Rattle.pm_view.specs.Steps.{Step}
 use Rattle.pm_view.specs.Steps.Step.{Load, Store, Flush, Drain, Tell}
-use Rattle.pm_view.specs.View.{Numbered, View}
+use Rattle.pm_view.specs.View.{View}
 use Rattle.pm_view.specs.Views.{after, after_all}
-use Rattle.pm_view.proofs.SameLane.{same_lane-after, same_lane-after_all}
+use Rattle.pm_view.proofs.SameLane.{same_lane-after}
 use Rattle.pm_world.proofs.Exclusion.{writes_under}
 use Rattle.pm_world.specs.Lanes.{span_of}
 use Rattle.pm_world.specs.Lawful.{Allowed, MayWrite, StoreFits}
@@ -32,10 +32,10 @@ use Rattle.pm_world.specs.Sequences.{Ready}
 use Rattle.pm_world.specs.declared.lane.Span.{Span}
 use Rattle.pm_tx.proofs.Leading.{front_leads}
 use Rattle.pm_tx.specs.Ending.{DrawEnded}
-use Rattle.pm_tx.specs.Learning.{Looks}
 use Rattle.pm_tx.specs.Ranges.{adds_range}
 use Rattle.pm_undo.proofs.Areas.{in_area}
 use Rattle.pm_undo.specs.Working.{IsWorking}
+use Rattle.pm_exec.proofs.Along.{alone_along}
 use Rattle.pm_exec.proofs.FilledSlots.{Fills, Next, adds_fill, fills_first}
 use Rattle.pm_exec.proofs.UndrainedSlots.{alone_lane}
 
@@ -59,12 +59,6 @@ may_write v w x Sealing may = absurd may
 may_write v w x (Applying applied) may = absurd may
 may_write v w x Clearing may = absurd may
 may_write v w x Retiring may = absurd may
-
--- numbers that count on do so in front
-numbered_front : (n : ℕ) (xs ys : List Numbered) → AreNumbered n (xs ++ ys) → AreNumbered n xs
-unfolding AreNumbered
-numbered_front n [] ys numbered = tt
-numbered_front n (e ∷ xs) ys numbered = (numbered.0, numbered_front (n + 1) xs ys numbered.1)
 
 module _ (o : Opening) (header : Header) (pool : PoolView) where
   -- the word behind the last slot may not be stored
@@ -133,21 +127,4 @@ module _ (o : Opening) (header : Header) (pool : PoolView) where
       let count : length spans ≡ length v.log.records = ap length are ∙ length-map v.log.records span_of in
       let most = working.records.most in
       let some = fills_first _ _ all k (adds_fill spans id off len v lane) in
-      inside_along v (take k all) w _ some.0 stands (alone_at first before v leads begins.alone) lane on numbered within (omega (arith)) (omega (arith, count, most)) some.1
-    where
-      alone_at : (u : View) (steps : List Step) (w : View) → Leads u steps w → IsAlone u → IsAlone w
-      alone_at u steps w leads alone = ap (λ (x : View). x.table) (leads_end u w steps leads) ∙ ((same_lane-after_all u steps).table ∙ alone)
-
--- and behind looks
-looked_so : (n : ℕ) (v w : View) → Looks n v w → IsAlone v → AreSameOutside v w × IsAlone w
-unfolding Looks
-looked_so zero v w is alone = (λ i outside. ap (λ (u : View). slice_index u.words i) is, ap (λ (u : View). u.table) is ∙ alone)
-looked_so (suc n) v w t alone =
-    let m : View = t.0 in
-    let before = looked_so n v m t.3 alone in (
-      λ i outside. ap (λ (u : View). slice_index u.words i) t.6 ∙ (loaded_same m.words t.1 t.2 i (t.5.1 before.1) ∙ before.0 i outside),
-      ap (λ (u : View). u.table) t.6 ∙ before.1,
-    )
-
-pub looked_outside : (n : ℕ) (v w : View) → Looks n v w → IsAlone v → AreSameOutside v w
-looked_outside n v w looks alone = (looked_so n v w looks alone).0
+      inside_along v (take k all) w _ some.0 stands (alone_along first v before leads begins.alone) lane on numbered within (omega (arith)) (omega (arith, count, most)) some.1

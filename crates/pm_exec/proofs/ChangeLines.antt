@@ -1,6 +1,5 @@
 -- What a line that records or writes comes to, from a lane at work: it is done, or its call is given up for it, or the lane stops.
-use Rattle.std.proofs.Common.{◌≡◌, inl, ℕ, false, List, [], ◌∷◌, ◌++◌, map, slice_index, take, Option, None, Some, sym, ap, ◌∙◌, arith}
-use Rattle.std.proofs.lemmas.List.{map-append}
+use Rattle.std.proofs.Common.{◌≡◌, inl, inr, refl, subst, ℕ, ◌+◌, ◌<◌, length, false, List, [], ◌∷◌, ◌++◌, map, slice_index, take, Option, None, Some, sym, ap, ◌∙◌, arith}
 use Rattle.pm_crash.proofs.Leading.{leads_then}
 use Rattle.pm_crash.specs.Leading.{Leads}
 use Rattle.pm_image.specs.Logs.{generation_word}
@@ -9,8 +8,8 @@ use Rattle.pm_model.specs.Checks.{Range}
 use Rattle.pm_objects.specs.declared.history.TxErr.TheVariants as error
 use Rattle.pm_objects.specs.declared.history.Value.{Value}
 use Rattle.pm_objects.specs.declared.history.Value.TheVariants.{Refused}
-use Rattle.pm_objects.specs.declared.ids.Oid.{Oid}
 use Rattle.pm_objects.specs.declared.refusal.Refusal.{Refusal}
+use Rattle.pm_script.specs.declared.script.ScriptLine.{ScriptLine}
 use Rattle.pm_script.specs.declared.script.ScriptOp.{ScriptOp}
 use Rattle.pm_tx.proofs.GiveUpCourse.{gives_up_of}
 use Rattle.pm_tx.proofs.Leading.{ended_leads, ready_leads, stopped_leads}
@@ -27,6 +26,7 @@ use Rattle.pm_tx.specs.Sequences.{gives_up}
 use Rattle.pm_tx.specs.Stages.{is_work}
 use Rattle.pm_undo.specs.Working.{IsWorking}
 use Rattle.pm_view.specs.Area.{is_in_area}
+use Rattle.pm_view.specs.Counts.{counted}
 use Rattle.pm_view.specs.Log.{Log}
 use Rattle.pm_view.specs.Steps.{Step}
 use Rattle.pm_view.specs.View.{Numbered, Told, View}
@@ -34,11 +34,16 @@ use Rattle.pm_view.specs.Views.{after_all}
 use Rattle.pm_world.specs.Lanes.{span_of}
 use Rattle.pm_world.specs.Opening.{Opening}
 use Rattle.pm_world.specs.Records.{generation_of}
-use Rattle.pm_world.specs.Sequences.{Ready, Sequence}
+use Rattle.pm_world.specs.Sequences.{Ready, Sequence, by_view}
 use Rattle.pm_world.specs.declared.lane.Lane.{Lane}
+use Rattle.pm_world.specs.declared.lane.Span.{Span}
 use Rattle.pm_world.specs.declared.lane.Stage.TheVariants as stage
 use Rattle.pm_exec.specs.Calls.{operation_of}
-use Rattle.pm_exec.specs.Progress.{IsAtLine, IsCalmBehind, IsCut, IsOver, IsUntorn, done, refused, told_of}
+use Rattle.pm_exec.specs.Progress.{IsAtLine, IsCalmBehind, IsCut, IsGivenUpAt, AreToldDone, IsToldDone, IsUntorn, Values, numbered, refused, values_told}
+use Rattle.pm_exec.specs.Course.{IsFree, IsFrontOf, IsGivenUpMade, IsLineMade, IsRefusalMade, line_calls, refused_calls, spans_of}
+use Rattle.pm_exec.specs.declared.calls.Names.{Names}
+use Rattle.pm_exec.proofs.LineLists.{made_more, told_more}
+use Rattle.pm_tx.proofs.Leading.{looks_lead as looks_led}
 use Rattle.pm_exec.specs.Quiet.{IsQuiet}
 use Rattle.pm_exec.specs.Torn.{words_after}
 use Rattle.pm_exec.proofs.Along.{alone_along, lane_along}
@@ -47,10 +52,21 @@ use Rattle.pm_exec.proofs.QuietSequences.{quiet_in_give_up}
 use Rattle.pm_exec.proofs.LooksAlone.{IsSameBut, looks_same}
 use Rattle.pm_exec.proofs.UndrawnSteps.{IsUndrawn, Keeps, all_undrawn_keep, first_undrawn_keep}
 
-pub told_more_of : (root : Oid) (ops : List ScriptOp) (op : ScriptOp) → told_of root ops ++ done (operation_of root op) ∷ [] ≡ told_of root (ops ++ op ∷ [])
-told_more_of root ops op = sym (map-append (λ (o : ScriptOp). done (operation_of root o)) ops (op ∷ []))
+-- the first of some steps are the first of a sequence that has them here
+pub front_of : (u : View) (steps : List Step) (target : Sequence) (k : ℕ) → steps ≡ target u → k < length steps → counted (take (k + 1) steps) ≡ counted (take k steps) + 1 → IsFrontOf target u (after_all u (take k steps))
+front_of u steps target k here fewer due = record {
+  made = k;
+  fewer = subst (λ (s : List Step). k < length s) here fewer;
+  is = ap (λ (s : List Step). after_all u (take k s)) here;
+  due = subst (λ (s : List Step). counted (take (k + 1) s) ≡ counted (take k s) + 1) here due;
+}
 
-module _ (o : Opening) (first : View) (lane : Lane Solo) (root : Oid) (ops : List ScriptOp) (a : IsAtLine o first lane root ops) where
+-- a call is given up with the records that its view has
+pub gives_up_here : (names : Names) (op : ScriptOp) (r : Refusal) (n : ℕ) (u : View) (spans : List Span) → spans ≡ spans_of u → gives_up spans (operation_of names op) (Some (Refused r)) n u ≡ refused_calls names op r n u
+unfolding by_view
+gives_up_here names op r n u spans are = ap (λ (s : List Span). gives_up s (operation_of names op) (Some (Refused r)) n u) are
+
+module _ (o : Opening) (first : View) (lane : Lane Solo) (names : Names) (front : List ScriptLine) (values : Values) (a : IsAtLine o first lane names front values) where
   -- behind some looks
   module _ (n : ℕ) (u : View) (looks : Looks n a.view u) where
     same : IsSameBut a.view u
@@ -58,6 +74,9 @@ module _ (o : Opening) (first : View) (lane : Lane Solo) (root : Oid) (ops : Lis
 
     pub to_u : (steps : List Step) × (Leads first steps u)
     to_u = let l = looks_lead n a.view u looks in (a.steps ++ l.0, leads_then first a.view u a.steps l.0 a.leads l.1.0)
+
+    pub free_u : IsFree a.view u
+    free_u = let l = looks_led n a.view u looks in record { led = record { steps = l.0; leads = l.1.0; uncounted = l.1.1 }; undrawn = same.entries }
 
     pub lane_u : u.lane ≡ 0
     lane_u = same.lane ∙ a.of_lane
@@ -71,13 +90,13 @@ module _ (o : Opening) (first : View) (lane : Lane Solo) (root : Oid) (ops : Lis
     unended_u : is_ending u.log.phase ≡ false
     unended_u = ap (λ (l : Log). is_ending l.phase) log_u ∙ ap is_ending a.works.working.is_open
 
-    no_entries_u : u.entries ≡ []
-    no_entries_u = same.entries ∙ a.no_entries
+    pub entries_u : u.entries ≡ first.entries
+    entries_u = same.entries ∙ a.entries
 
-    told_u : u.call ≡ told_of root ops
-    told_u = same.call ∙ a.told
+    pub call_u : u.call ≡ a.view.call
+    call_u = same.call
 
-    pub words_u : (i : ℕ) → is_in_area 0 i ≡ false → slice_index u.words i ≡ words_after root ops (slice_index o.words) i
+    pub words_u : (i : ℕ) → is_in_area 0 i ≡ false → slice_index u.words i ≡ words_after names front (slice_index o.words) i
     words_u i outside = ap (λ (words : List ℕ). slice_index words i) same.words ∙ a.words i outside
 
     -- steps from there that leave the lane quiet
@@ -87,23 +106,25 @@ module _ (o : Opening) (first : View) (lane : Lane Solo) (root : Oid) (ops : Lis
     undrawn_u : u.number ≡ None
     undrawn_u = same.number ∙ a.works.working.undrawn
 
-    pub spans_u : lane.records.items ≡ map span_of u.log.records
+    pub spans_u : lane.records.items ≡ spans_of u
     spans_u = a.works.seen.records ∙ ap (λ (l : Log). map span_of l.records) (sym log_u)
 
     -- the line is done
-    module _ (new : Lane Solo) (steps : Sequence) (work : Each IsWork (steps u)) (undrawn : Each IsUndrawn (steps u)) (op : ScriptOp) where
+    module _ (new : Lane Solo) (steps : Sequence) (work : Each IsWork (steps u)) (undrawn : Each IsUndrawn (steps u)) (said : ScriptLine) where
       abbrev w : View
       w = after_all u (steps u)
 
       keeps : Keeps u w
       keeps = all_undrawn_keep u (steps u) undrawn
 
-      pub at_next : Ready u (steps u) → DrawEnded u (steps u) → IsAtWork o Sees new w → new.level ≡ 1 → w.call ≡ u.call ++ done (operation_of root op) ∷ []
-          → ((i : ℕ) → is_in_area 0 i ≡ false → slice_index w.words i ≡ words_after root (ops ++ op ∷ []) (slice_index o.words) i) → IsAtLine o first new root (ops ++ op ∷ [])
-      at_next ready draws works level told words =
+      pub at_next : Ready u (steps u) → DrawEnded u (steps u) → IsAtWork o Sees new w → new.level ≡ 1 → (t : Told) → IsToldDone names said.operation t → w.call ≡ u.call ++ t ∷ []
+          → ((i : ℕ) → is_in_area 0 i ≡ false → slice_index w.words i ≡ words_after names (front ++ said ∷ []) (slice_index o.words) i)
+          → (given : Values) → given ≡ values_told (front ++ said ∷ []) (a.view.call ++ t ∷ []) → IsLineMade names said.operation a.view w → IsAtLine o first new names (front ++ said ∷ []) given
+      at_next ready draws works level t is_done told words given gave made =
           let leads = ready_leads u (steps u) ready draws in
           let raised = raised_when_ready u (steps u) lane_u ready in
           let none = all_work_raises (steps u) work in
+          let call : w.call ≡ a.view.call ++ t ∷ [] = told ∙ ap (λ (ts : List Told). ts ++ t ∷ []) call_u in
           record {
             view = w;
             steps = to_u.0 ++ steps u;
@@ -112,70 +133,113 @@ module _ (o : Opening) (first : View) (lane : Lane Solo) (root : Oid) (ops : Lis
             alone = alone_along u w (steps u) leads same.alone;
             works = works;
             level = level;
-            told = told ∙ ap (λ (t : List Told). t ++ done (operation_of root op) ∷ []) told_u ∙ told_more_of root ops op;
-            no_entries = keeps.entries ∙ no_entries_u;
+            told = subst (AreToldDone names (front ++ said ∷ [])) (sym call) (told_more names front said a.view.call t a.told is_done);
+            gave = gave ∙ ap (values_told (front ++ said ∷ [])) (sym call);
+            entries = keeps.entries ∙ entries_u;
             generation = (let g = generation_u in omega (arith, raised, none, g));
             words = words;
+            made = made_more names front said first a.view w a.made made;
           }
 
       -- or the lane stopped in it
-      pub cut_in : (all : List ScriptOp) (stopped : IsStoppedIn Sees new u steps (operation_of root op) None) → IsUntorn o first root all (after_all u (take stopped.stops.made (steps u))) → IsCut o first new root all
-      cut_in all stopped untorn =
+      pub cut_in : (rest : List ScriptLine) (stopped : IsStoppedIn Sees new u steps (operation_of names said.operation) None) → IsUntorn o first names (front ++ said ∷ rest) (after_all u (take stopped.stops.made (steps u)))
+          → (number : ℕ) → steps u ≡ line_calls names said.operation number u → IsCut o first new names (front ++ said ∷ rest) values
+      cut_in rest stopped untorn number are =
           let k : ℕ = stopped.stops.made in
           let m : View = after_all u (take k (steps u)) in
           let kept : Keeps u m = first_undrawn_keep u (steps u) k undrawn in
           record {
             view = m;
             steps = to_u.0 ++ take k (steps u);
-            leads = leads_then first u m to_u.0 (take k (steps u)) to_u.1 (stopped_leads Sees new u steps (operation_of root op) None stopped);
+            leads = leads_then first u m to_u.0 (take k (steps u)) to_u.1 (stopped_leads Sees new u steps (operation_of names said.operation) None stopped);
             seen = stopped.stops.seen;
             drawn = stopped.drawn;
-            came = inl (kept.number ∙ undrawn_u, kept.entries ∙ no_entries_u);
+            came = inl (record { number = kept.number ∙ undrawn_u; entries = kept.entries ∙ entries_u });
             opening = unraised_first o u (steps u) k lane_u stopped.ready generation_u unended_u (all_work_raises (take k (steps u)) (each_first IsWork k (steps u) work));
             untorn = untorn;
             at_stop = stopped.stops.stopped;
+            stops = record {
+              front = front;
+              said = said;
+              rest = rest;
+              is = refl;
+              middle = a.view;
+              made = a.made;
+              start = u;
+              free = free_u;
+              number = number;
+              stops = inl (front_of u (steps u) (line_calls names said.operation number) k are stopped.stops.fewer stopped.stops.due);
+            };
           }
 
     -- the call is given up for it
-    module _ (new : Lane Solo) (op : ScriptOp) (range : Range) (working : IsWorking u) where
-      pub over_by : (r : Refusal) → IsGivenUpFor Sees new lane.records.items (operation_of root op) range r u → new.level ≡ 1 → new.stage ≡ stage.OnAbort → new.error ≡ error.Refused r
-          → IsOver first new (told_of root ops ++ refused (operation_of root op) r ∷ []) (error.Refused r)
-      over_by r g level at fails =
-          let steps : Sequence = gives_up lane.records.items (operation_of root op) (Some (Refused r)) new.last in
-          let e : IsEndedBy Sees new u steps (operation_of root op) (Some (Refused r)) = g.ended in
+    module _ (new : Lane Solo) (said : ScriptLine) (range : Range) (working : IsWorking u) where
+      pub over_by : (r : Refusal) → IsGivenUpFor Sees new lane.records.items (operation_of names said.operation) range r u → new.level ≡ 1 → new.stage ≡ stage.OnAbort → new.error ≡ error.Refused r
+          → ((w : View) → IsGivenUpMade names said.operation r a.view w → IsRefusalMade names said.operation r a.view w) → (rest : List ScriptLine) → IsGivenUpAt first new names (front ++ said ∷ rest) values said.line r
+      over_by r g level at fails refusal_made rest =
+          let steps : Sequence = gives_up lane.records.items (operation_of names said.operation) (Some (Refused r)) new.last in
+          let e : IsEndedBy Sees new u steps (operation_of names said.operation) (Some (Refused r)) = g.ended in
           let w : View = after_all u (steps u) in
+          let call : w.call ≡ a.view.call ++ refused (operation_of names said.operation) r ∷ [] = e.told ∙ ap (λ (t : List Told). t ++ refused (operation_of names said.operation) r ∷ []) call_u in
           record {
-            view = w;
-            steps = to_u.0 ++ steps u;
-            leads = leads_then first u w to_u.0 (steps u) to_u.1 (ended_leads Sees new u steps (operation_of root op) (Some (Refused r)) e);
-            behind = e.behind;
-            entries =
-                e.entries
-                ∙ ap (λ (es : List Numbered). es ++ record { number = new.last; call = w.call } ∷ []) no_entries_u
-                ∙ ap (λ (t : List Told). record { number = new.last; call = t } ∷ []) (e.told ∙ ap (λ (t : List Told). t ++ refused (operation_of root op) r ∷ []) told_u);
-            level = level;
-            left = ap is_work at;
-            fails = fails;
+            told = w.call;
+            at = record { front = front; said = said; rest = rest; is_lines = refl; of_line = refl; before = a.view.call; done = a.told; gave = a.gave; told_so = call };
+            over = record {
+              view = w;
+              steps = to_u.0 ++ steps u;
+              leads = leads_then first u w to_u.0 (steps u) to_u.1 (ended_leads Sees new u steps (operation_of names said.operation) (Some (Refused r)) e);
+              behind = e.behind;
+              entries = e.entries ∙ ap (λ (es : List Numbered). es ++ numbered new.last w.call ∷ []) entries_u;
+              level = level;
+              left = ap is_work at;
+              fails = fails;
+              made = record {
+                front = front;
+                said = said;
+                rest = rest;
+                is = refl;
+                middle = a.view;
+                made = a.made;
+                refused = refusal_made w (record {
+                  start = u;
+                  free = free_u;
+                  number = new.last;
+                  is = ap (after_all u) (gives_up_here names said.operation r new.last u lane.records.items spans_u);
+                });
+              };
+            };
           }
 
       -- or the lane stopped while it gave the call up
-      pub cut_by : (all : List ScriptOp) → IsStoppedFor Sees new lane.records.items (operation_of root op) range u → IsCut o first new root all
-      cut_by all s =
+      pub cut_by : (rest : List ScriptLine) → IsStoppedFor Sees new lane.records.items (operation_of names said.operation) range u → IsCut o first new names (front ++ said ∷ rest) values
+      cut_by rest s =
           let reply : Option Value = Some (Refused s.refusal) in
-          let steps : Sequence = gives_up lane.records.items (operation_of root op) reply new.last in
-          let stopped : IsStoppedIn Sees new u steps (operation_of root op) reply = s.stopped in
+          let steps : Sequence = gives_up lane.records.items (operation_of names said.operation) reply new.last in
+          let stopped : IsStoppedIn Sees new u steps (operation_of names said.operation) reply = s.stopped in
           let k : ℕ = stopped.stops.made in
           let m : View = after_all u (take k (steps u)) in
-          let kept : Keeps u m = give_up_keeps u lane_u lane.records.items (operation_of root op) reply new.last k stopped.stops.fewer in
+          let kept : Keeps u m = give_up_keeps u lane_u lane.records.items (operation_of names said.operation) reply new.last k stopped.stops.fewer in
           let no_entries = ap (λ (l : Log). l.entries) log_u ∙ a.works.no_entries in
           record {
             view = m;
             steps = to_u.0 ++ take k (steps u);
-            leads = leads_then first u m to_u.0 (take k (steps u)) to_u.1 (stopped_leads Sees new u steps (operation_of root op) reply stopped);
+            leads = leads_then first u m to_u.0 (take k (steps u)) to_u.1 (stopped_leads Sees new u steps (operation_of names said.operation) reply stopped);
             seen = stopped.stops.seen;
             drawn = stopped.drawn;
-            came = inl (kept.number ∙ undrawn_u, kept.entries ∙ no_entries_u);
-            opening = give_up_first o u (steps u) k lane_u stopped.ready generation_u (gives_up_of u lane.records.items (operation_of root op) reply new.last k lane_u working no_entries spans_u);
-            untorn = inl (calm_behind m working (λ quiet. quiet_in_give_up u lane.records.items (operation_of root op) reply new.last k quiet working spans_u));
+            came = inl (record { number = kept.number ∙ undrawn_u; entries = kept.entries ∙ entries_u });
+            opening = give_up_first o u (steps u) k lane_u stopped.ready generation_u (gives_up_of u lane.records.items (operation_of names said.operation) reply new.last k lane_u working no_entries spans_u);
+            untorn = inl (calm_behind m working (λ quiet. quiet_in_give_up u lane.records.items (operation_of names said.operation) reply new.last k quiet working spans_u));
             at_stop = stopped.stops.stopped;
+            stops = record {
+              front = front;
+              said = said;
+              rest = rest;
+              is = refl;
+              middle = a.view;
+              made = a.made;
+              start = u;
+              free = free_u;
+              number = new.last;
+              stops = inr (s.refusal, front_of u (steps u) (refused_calls names said.operation s.refusal new.last) k (gives_up_here names said.operation s.refusal new.last u lane.records.items spans_u) stopped.stops.fewer stopped.stops.due);
+            };
           }

@@ -1,68 +1,90 @@
--- A call that is over is closed by its end, and its run with it.
-use Rattle.std.proofs.Common.{◌≡◌, ◌≤◌, inl, inr, ℕ, List, ◌++◌, length, Some, refl, sym, ap, ◌∙◌, arith}
+-- A call that is over is answered: its locks are given back, by steps that are no counted calls.
+use Rattle.std.proofs.Common.{◌≡◌, ◌≤◌, inl, inr, ℕ, ◌+◌, Bool, true, false, cond, List, [], ◌∷◌, ◌++◌, length, refl, sym, ap, ◌∙◌, subst, arith}
+use Rattle.std.proofs.lemmas.Bool.{false≢true}
 use Rattle.pm_crash.proofs.Leading.{leads_then}
 use Rattle.pm_memory.specs.Solo.{Sees, Solo}
+use Rattle.pm_objects.specs.declared.history.Reply.{Reply}
 use Rattle.pm_objects.specs.declared.history.TxErr.{TxErr}
 use Rattle.pm_objects.specs.declared.history.TxErr.TheVariants as error
-use Rattle.pm_objects.specs.declared.ids.Oid.{Oid}
 use Rattle.pm_objects.specs.declared.refusal.Refusal.{Refusal}
 use Rattle.pm_script.specs.declared.script.ScriptLine.{ScriptLine}
-use Rattle.pm_text.specs.declared.report.LaneEnd.TheVariants as end
 use Rattle.pm_tx.proofs.Drawless.{drawless}
 use Rattle.pm_tx.proofs.Leading.{ready_leads}
+use Rattle.pm_tx.proofs.StepKinds.{Each, only_counted, only_one}
 use Rattle.pm_tx.specs.Ending.{IsClosedBy}
-use Rattle.pm_tx.specs.Sequences.{gives}
+use Rattle.pm_tx.specs.Sequences.{gives, line_at}
+use Rattle.pm_view.specs.Counts.{counted, is_counted}
 use Rattle.pm_view.specs.Steps.{Step}
+use Rattle.pm_view.specs.Steps.Step.{Give}
 use Rattle.pm_view.specs.View.{Told, View}
 use Rattle.pm_view.specs.Views.{after_all}
 use Rattle.pm_world.specs.Opening.{Opening}
+use Rattle.pm_world.specs.Sequences.{one}
+use Rattle.pm_world.specs.declared.lane.HeldLock.{HeldLock}
 use Rattle.pm_world.specs.declared.lane.Lane.{Lane}
-use Rattle.pm_exec.specs.Progress.{HasClosed, HasRun, IsOver, IsRefusedAt}
-use Rattle.pm_exec.proofs.QuietSlots.{quiet_between}
-use Rattle.pm_exec.specs.declared.ending.Ended.{Ended}
+use Rattle.pm_exec.specs.Course.{AreMade}
+use Rattle.pm_exec.specs.Progress.{HasEnded, IsAnswered, IsCommitted, IsCut, IsGivenUpAt, IsHalted, IsOver, IsRefusedAt, Values}
+use Rattle.pm_exec.specs.declared.calls.Names.{Names}
 
-pub closed : (first : View) (lane new : Lane Solo) (told : List Told) (error found : TxErr) (at : ℕ) → (over : IsOver first lane told error) → IsClosedBy Sees new over.view (gives lane.locks.items) → found ≡ lane.error
-    → HasClosed first new.memory told error at (record { end = end.Ended; number = Some lane.last; at = at; error = found })
-closed first lane new told error found at over c is =
+-- the step is no counted call
+abbrev IsUncounted : Step → Type 0
+IsUncounted s = is_counted s ≡ false
+
+-- one step more that is none
+one_more : (b : Bool) (n : ℕ) → b ≡ false → n ≡ 0 → cond b 1 0 + n ≡ 0
+one_more true n free none = absurd (false≢true (sym free))
+one_more false n free none = let e : 0 + n ≡ 0 = omega (arith, none) in e
+
+-- where each step is no counted call there is none
+none_counted : (steps : List Step) → Each IsUncounted steps → counted steps ≡ 0
+unfolding Each counted
+none_counted [] each = refl
+none_counted (s ∷ steps) each = one_more (is_counted s) (counted steps) each.0 (none_counted steps each.1)
+
+-- locks are given back without one
+gives_uncounted : (locks : List HeldLock) (v : View) → v.lane ≡ 0 → counted (gives locks v) ≡ 0
+unfolding gives
+gives_uncounted locks v lane = none_counted (gives locks v) (only_counted IsUncounted (λ i. one (Give (line_at locks i))) (length locks) (λ i below. only_one IsUncounted (Give (line_at locks i)) refl) v lane)
+
+-- the end answers the call, and the lane rests
+pub answered : (first : View) (lane new : Lane Solo) (names : Names) (lines : List ScriptLine) (told : List Told) (error found : TxErr) (reply : Reply) → (over : IsOver first lane names lines told error) → IsClosedBy Sees new over.view (gives lane.locks.items)
+    → found ≡ lane.error → HasEnded names lines error reply told → IsAnswered first new names lines lane.last found reply
+answered first lane new names lines told error found reply over c is so =
     let v : View = over.view in
     let steps : List Step = gives lane.locks.items v in
     let w : View = after_all v steps in
     let same = c.same in
-    let few : length w.entries ≤ length v.entries = (let e = ap (λ (u : View). length u.entries) same in omega (arith, e)) in
+    let entries : w.entries ≡ v.entries = ap (λ (u : View). u.entries) same in
+    let few : length w.entries ≤ length v.entries = omega (arith, ap length entries) in
+    let leads = ready_leads v steps c.ready (drawless v steps few) in
     record {
       view = w;
       steps = over.steps ++ steps;
-      leads = leads_then first v w over.steps steps over.leads (ready_leads v steps c.ready (drawless v steps few));
-      seen = c.rests.seen.memory;
-      number = lane.last;
-      numbered = refl;
-      entries = ap (λ (u : View). u.entries) same ∙ over.entries;
+      leads = leads_then first v w over.steps steps over.leads leads;
+      rests = c.rests;
       idle = ap (λ (u : View). u.log) same ∙ over.behind.log;
-      drained = ap (λ (u : View). u.changes) same ∙ over.behind.drained;
-      quiet = quiet_between w (c.rests.seen.memory.lane) (ap (λ (u : View). u.changes) same ∙ over.behind.drained) (ap (λ (u : View). u.log) same ∙ over.behind.log);
-      ends = refl;
-      fails = is ∙ over.fails;
-      at_line = refl;
+      told = told;
+      entries = entries ∙ over.entries;
+      so = subst (λ (e : TxErr). HasEnded names lines e reply told) (sym (is ∙ over.fails)) so;
+      made = record {
+        over = v;
+        made = subst (λ (e : TxErr). AreMade names lines e first v) (sym (is ∙ over.fails)) over.made;
+        closed = record { led = record { steps = steps; leads = leads; uncounted = gives_uncounted lane.locks.items v over.behind.seen.memory.lane }; undrawn = entries };
+      };
     }
 
--- what was given up at a line
-pub ran_refused : (o : Opening) (first : View) (m : Solo) (root : Oid) (script : List ScriptLine) (line : ℕ) (r : Refusal) (told : List Told) (ended : Ended) → IsRefusedAt script root line r told → HasClosed first m told (error.Refused r) line ended
-    → HasRun o first m root script ended
-ran_refused o first m root script line r told ended at c = record {
-  view = c.view;
-  steps = c.steps;
-  leads = c.leads;
-  seen = c.seen;
-  untorn = inl c.quiet;
-  at_stop = λ calls is. let clash : end.Ended ≡ end.Stopped calls = sym c.ends ∙ is in cc;
-  so = inl (record {
-    told = told;
-    number = c.number;
-    numbered = c.numbered;
-    entries = c.entries;
-    idle = c.idle;
-    drained = c.drained;
-    ends = c.ends;
-    so = inr (r, (c.fails, record { front = at.front; said = at.said; rest = at.rest; is_script = at.is_script; of_line = at.of_line ∙ sym c.at_line; told_so = at.told_so }));
-  });
-}
+-- what was given up at a line has ended with that line's reply
+pub ended_refused : (first : View) (lane : Lane Solo) (names : Names) (lines : List ScriptLine) (values : Values) (line : ℕ) (r : Refusal) (reply : Reply) → (g : IsGivenUpAt first lane names lines values line r) → reply.values ≡ values → reply.at ≡ line
+    → HasEnded names lines (error.Refused r) reply g.told
+ended_refused first lane names lines values line r reply g gave at =
+    inr (r, refl, subst (λ (n : ℕ). IsRefusedAt names lines n r reply.values g.told) (sym at) (subst (λ (vs : Values). IsRefusedAt names lines line r vs g.told) (sym gave) g.at))
+
+-- and one whose lines were all done with none
+pub ended_done : (first : View) (lane : Lane Solo) (names : Names) (lines : List ScriptLine) (values : Values) (reply : Reply) → (d : IsCommitted first lane names lines values) → reply.values ≡ values → reply.at ≡ 0 → HasEnded names lines error.None reply d.told
+ended_done first lane names lines values reply d gave at = inl (refl, at, d.done, gave ∙ d.gave)
+
+-- one in which the lane stopped is halted
+pub halted : (o : Opening) (first : View) (lane : Lane Solo) (names : Names) (lines : List ScriptLine) (values : Values) (reply : Reply) → IsCut o first lane names lines values → reply.values ≡ values → reply.at ≡ 0 → IsHalted o first lane names lines lane.drawn reply
+halted o first lane names lines values reply cut gave at = record { cut = subst (IsCut o first lane names lines) (sym gave) cut; unanswered = at; numbered = cut_drawn } where
+  cut_drawn : lane.drawn ≡ (subst (IsCut o first lane names lines) (sym gave) cut).view.number
+  cut_drawn = (subst (IsCut o first lane names lines) (sym gave) cut).drawn

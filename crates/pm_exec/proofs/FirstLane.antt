@@ -7,11 +7,11 @@ use Rattle.pm_memory.proofs.Unlocked.{sees_opened}
 use Rattle.pm_memory.specs.Solo.{Sees, Solo, opened, view_of}
 use Rattle.pm_objects.specs.declared.history.TxErr.TheVariants as error
 use Rattle.pm_objects.specs.declared.pool.PoolView.{PoolView}
-use Rattle.pm_view.specs.View.{View}
 use Rattle.pm_world.specs.Lanes.{IsIdle, IsOfShape, IsSeenAs}
 use Rattle.pm_world.specs.Opening.{IsSound}
 use Rattle.pm_world.specs.declared.lane.Lane.{Lane}
-use Rattle.pm_exec.specs.Progress.{IsFirst, first_view, opening_of}
+use Rattle.pm_exec.specs.Openings.{first_view, opening_of}
+use Rattle.pm_exec.specs.Progress.{IsStart}
 
 -- the memory of the words is seen as the first view
 sees_first : (pool : PoolView) (words : List ℕ) (stop : Option ℕ) → Sees (opened words stop) (first_view pool words stop)
@@ -43,9 +43,9 @@ seen_first pool image words stop m all is = subst (λ (n : Solo). Sees n (first_
 pub shaped_first : (pool : PoolView) (words : List ℕ) (stop : Option ℕ) (shape : Shape) → IsSound (opening_of pool words) → shape.lanes ≡ pool.lanes → shape.zones ≡ pool.zones → IsOfShape (first_view pool words stop) shape
 shaped_first pool words stop shape sound lanes zones = record { lanes = sym lanes; zones = sym zones; size = (let size = sound.size in omega (arith, size, lanes, zones)) }
 
-pub is_first : (pool : PoolView) (words : List ℕ) (stop : Option ℕ) (lane : Lane Solo) → IsSound (opening_of pool words) → IsShape pool.lanes pool.zones → IsSeenAs Sees lane (first_view pool words stop) → IsIdle lane → lane.error ≡ error.None
-    → IsFirst (opening_of pool words) lane (first_view pool words stop)
-is_first pool words stop lane sound shape seen idle unharmed = record {
+pub is_start : (pool : PoolView) (words : List ℕ) (stop : Option ℕ) (lane : Lane Solo) → IsSound (opening_of pool words) → IsShape pool.lanes pool.zones → IsSeenAs Sees lane (first_view pool words stop) → IsIdle lane → lane.error ≡ error.None
+    → IsStart (opening_of pool words) lane (first_view pool words stop)
+is_start pool words stop lane sound shape seen idle unharmed = record {
   rests = record {
     seen = seen;
     answered = idle.answered;
@@ -63,5 +63,4 @@ is_first pool words stop lane sound shape seen idle unharmed = record {
   zones = (let most = shape.zones_to in omega (arith, most));
   lanes_are = refl;
   words_are = refl;
-  no_entries = refl;
 }

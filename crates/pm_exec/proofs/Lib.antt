@@ -1,4 +1,4 @@
-pub mod LineWords
+pub mod FirstCall
 pub mod StoppedAdds
 pub mod AddedOutside
 pub mod FilledSlots
@@ -7,11 +7,13 @@ pub mod ScriptRecords
 pub mod QuietSlots
 pub mod UndrainedSlots
 pub mod ShownCalls
-pub mod Replayed
 pub mod Along
 pub mod UndrawnSteps
 pub mod CommitFront
 pub mod OpeningFound
+pub mod Standing
+pub mod CallParts
+pub mod CallsInTurn
 pub mod Begun
 pub mod LooksAlone
 pub mod ChangeLines
@@ -21,7 +23,11 @@ pub mod ScriptParts
 pub mod Closed
 pub mod Opened
 pub mod FirstLane
-pub mod RunHistory
-pub mod RunReplay
 pub mod Untorn
 pub mod StoppedEnd
+pub mod LineLists
+pub mod ReadLine
+pub mod RisingCalls
+pub mod ShownHistories
+pub mod EndedRuns
+pub mod RunEnds

@@ -17,7 +17,7 @@ use Rattle.pm_recover.proofs.Sound.{lanes_of_meaning, sound_if_meaning}
 use Rattle.pm_recover.specs.Recovery.{HasNoStrayRecord, IsCleanLog, IsRecovered}
 use Rattle.pm_world.specs.Opening.{IsSound}
 use Rattle.pm_world.specs.Opens.{IsClean}
-use Rattle.pm_exec.specs.Progress.{first_view, opening_of}
+use Rattle.pm_exec.specs.Openings.{first_view, opening_of}
 
 -- the pool of a meaning is of its shape
 zones_of_meaning : (image : List ℕ) (pool : PoolView) (is : IsMeaning image pool) → is.zones ≡ pool.zones

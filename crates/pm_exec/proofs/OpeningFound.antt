@@ -1,4 +1,4 @@
--- What a lane that is alone finds before its first counted call is as at the opening.
+-- What a lane that is alone finds under its locks is there at the opening, where its words have the blocks of the opening.
 use Rattle.std.proofs.Common.{◌≡◌, ℕ, ◌+◌, ◌<◌, Bool, true, false, cond, All, IfSome, List, [], ◌∷◌, length, set, slice_index, Option, Some, None, refl, sym, ap, ◌∙◌, subst, arith}
 use Rattle.std.proofs.lemmas.Bool.{false≢true}
 use Rattle.std.proofs.lemmas.List.{set-get_or}
@@ -21,69 +21,85 @@ use Rattle.pm_world.specs.Opening.{Opening}
 abbrev pub IsThere : Opening → Lock → Type 0
 IsThere o l = IfSome l.block (λ lines. block_at o.lanes o.words l.line ≡ Some lines)
 
--- no word has changed, and what was found under locks is there
-pub record IsUntouched (o : Opening) (v : View) : Type 0 where
+-- the lane is alone, its words are such as these, and what was found under locks is there
+pub record HasFound (o : Opening) (Kept : List ℕ → Type 0) (v : View) : Type 0 where
   pub lanes : v.lanes ≡ o.lanes
   pub alone : IsAlone v
-  pub words : v.words ≡ o.words
+  pub words : Kept v.words
   pub locks : All (IsThere o) v.locks
 
+-- no word has changed, and what was found under locks is there
+abbrev pub IsUntouched : Opening → View → Type 0
+IsUntouched o v = HasFound o (λ (words : List ℕ). words ≡ o.words) v
+
+-- what there is is itself
 itself : (b : Option ℕ) → IfSome b (λ lines. b ≡ Some lines)
 itself None = tt
 itself (Some lines) = refl
 
-module _ (o : Opening) where
+-- where such words have the blocks of the opening
+module _ (o : Opening) (Kept : List ℕ → Type 0) (same_blocks : (words : List ℕ) → Kept words → (line : ℕ) → block_at o.lanes words line ≡ block_at o.lanes o.words line) where
   -- a load finds what is there
-  found_there : (lanes : ℕ) (words : List ℕ) (w : ℕ) (l : Lock) → lanes ≡ o.lanes → words ≡ o.words → IsThere o l → IsThere o (with_block lanes words w l)
-  found_there lanes words w l lanes_are words_are there = at (is_word (allocation_word lanes words l.line) w) where
+  found_there : (lanes : ℕ) (words : List ℕ) (w : ℕ) (l : Lock) → lanes ≡ o.lanes → Kept words → IsThere o l → IsThere o (with_block lanes words w l)
+  found_there lanes words w l lanes_are kept there = at (is_word (allocation_word lanes words l.line) w) where
     at : (b : Bool) → IsThere o (cond b (record l { block = block_at lanes words l.line }) l)
     at true =
-        let e : block_at lanes words l.line ≡ block_at o.lanes o.words l.line = ap (λ n. block_at n words l.line) lanes_are ∙ ap (λ ws. block_at o.lanes ws l.line) words_are in
+        let e : block_at lanes words l.line ≡ block_at o.lanes o.words l.line = ap (λ n. block_at n words l.line) lanes_are ∙ same_blocks words kept l.line in
         subst (λ (b : Option ℕ). IfSome b (λ lines. block_at o.lanes o.words l.line ≡ Some lines)) (sym e) (itself (block_at o.lanes o.words l.line))
     at false = there
 
-  begun_untouched : (p : Phase) (v : View) → IsUntouched o v → IsUntouched o (begun p v)
-  begun_untouched Idle v is = record { lanes = is.lanes; alone = is.alone; words = is.words; locks = is.locks }
-  begun_untouched (Open slot pair) v is = is
-  begun_untouched Drawn v is = is
-  begun_untouched Sealing v is = is
-  begun_untouched (Applying applied) v is = is
-  begun_untouched Clearing v is = is
-  begun_untouched Retiring v is = is
+  -- a call that begins keeps it
+  begun_found : (p : Phase) (v : View) → HasFound o Kept v → HasFound o Kept (begun p v)
+  begun_found Idle v is = record { lanes = is.lanes; alone = is.alone; words = is.words; locks = is.locks }
+  begun_found (Open slot pair) v is = is
+  begun_found Drawn v is = is
+  begun_found Sealing v is = is
+  begun_found (Applying applied) v is = is
+  begun_found Clearing v is = is
+  begun_found Retiring v is = is
 
-  module _ (v : View) (is : IsUntouched o v) where
-    with_locks : (w : View) → w.lanes ≡ v.lanes → w.table ≡ v.table → w.words ≡ v.words → All (IsThere o) w.locks → IsUntouched o w
-    with_locks w lanes table words locks = record { lanes = lanes ∙ is.lanes; alone = table ∙ is.alone; words = words ∙ is.words; locks = locks }
+  module _ (v : View) (is : HasFound o Kept v) where
+    -- so do other locks
+    with_locks : (w : View) → w.lanes ≡ v.lanes → w.table ≡ v.table → w.words ≡ v.words → All (IsThere o) w.locks → HasFound o Kept w
+    with_locks w lanes table words locks = record { lanes = lanes ∙ is.lanes; alone = table ∙ is.alone; words = subst Kept (sym words) is.words; locks = locks }
 
-    untouched_after : (s : Step) → Allowed v s → FoundAlone v s → is_counted s ≡ false → IsUntouched o (after v s)
-    untouched_after (Load w x) may found free =
+    -- a step keeps it, if its store does
+    pub found_after : (s : Step) → Allowed v s → FoundAlone v s → ((w x : ℕ) → s ≡ Store w x → Kept (set v.words w x)) → HasFound o Kept (after v s)
+    found_after (Load w x) may found stores =
         let same : set v.words w x ≡ v.words = ap (set v.words w) (found is.alone) ∙ set-get_or v.words w 0 in
         with_locks (after v (Load w x)) refl refl same
         (All-map (IsThere o) (with_block v.lanes (set v.words w x) w) v.locks
-        (All-weaker (IsThere o) (λ (l : Lock). IsThere o (with_block v.lanes (set v.words w x) w l)) (λ l there. found_there v.lanes (set v.words w x) w l is.lanes (same ∙ is.words) there) v.locks is.locks))
-    untouched_after (Store w x) may found free = absurd (false≢true (sym free))
-    untouched_after (Or w bits x) may found free = absurd may
-    untouched_after (And w bits x) may found free = absurd may
-    untouched_after (Flush line) may found free = absurd (false≢true (sym free))
-    untouched_after Drain may found free = absurd (false≢true (sym free))
-    untouched_after (TakeWrite line true) may found free = with_locks (after v (TakeWrite line true)) refl refl refl (All-push (IsThere o) v.locks _ is.locks tt)
-    untouched_after (TakeWrite line false) may found free = with_locks (after v (TakeWrite line false)) refl refl refl is.locks
-    untouched_after (TakeRead line true) may found free = with_locks (after v (TakeRead line true)) refl refl refl (All-push (IsThere o) v.locks _ is.locks tt)
-    untouched_after (TakeRead line false) may found free = with_locks (after v (TakeRead line false)) refl refl refl is.locks
-    untouched_after (Raise line won) may found free = absurd may
-    untouched_after (Give line) may found free = with_locks (after v (Give line)) refl refl refl (All-filter _ (IsThere o) v.locks is.locks)
-    untouched_after (ZoneTry zone won) may found free = absurd may
-    untouched_after (ZoneGive zone) may found free = absurd may
-    untouched_after (Occupied at x) may found free = absurd may
-    untouched_after (Occupy at bits won) may found free = absurd may
-    untouched_after (Vacate at bits) may found free = absurd may
-    untouched_after (Draw n) may found free = with_locks (after v (Draw n)) refl refl refl is.locks
-    untouched_after (NumberSeen n) may found free =
-        let b = begun_untouched v.log.phase v is in
+        (All-weaker (IsThere o) (λ (l : Lock). IsThere o (with_block v.lanes (set v.words w x) w l)) (λ l there. found_there v.lanes (set v.words w x) w l is.lanes (subst Kept (sym same) is.words) there) v.locks is.locks))
+    found_after (Store w x) may found stores = record { lanes = is.lanes; alone = is.alone; words = stores w x refl; locks = is.locks }
+    found_after (Or w bits x) may found stores = absurd may
+    found_after (And w bits x) may found stores = absurd may
+    found_after (Flush line) may found stores = with_locks (after v (Flush line)) refl refl refl is.locks
+    found_after Drain may found stores = with_locks (after v Drain) refl refl refl is.locks
+    found_after (TakeWrite line true) may found stores = with_locks (after v (TakeWrite line true)) refl refl refl (All-push (IsThere o) v.locks _ is.locks tt)
+    found_after (TakeWrite line false) may found stores = with_locks (after v (TakeWrite line false)) refl refl refl is.locks
+    found_after (TakeRead line true) may found stores = with_locks (after v (TakeRead line true)) refl refl refl (All-push (IsThere o) v.locks _ is.locks tt)
+    found_after (TakeRead line false) may found stores = with_locks (after v (TakeRead line false)) refl refl refl is.locks
+    found_after (Raise line won) may found stores = absurd may
+    found_after (Give line) may found stores = with_locks (after v (Give line)) refl refl refl (All-filter _ (IsThere o) v.locks is.locks)
+    found_after (ZoneTry zone won) may found stores = absurd may
+    found_after (ZoneGive zone) may found stores = absurd may
+    found_after (Occupied at x) may found stores = absurd may
+    found_after (Occupy at bits won) may found stores = absurd may
+    found_after (Vacate at bits) may found stores = absurd may
+    found_after (Draw n) may found stores = with_locks (after v (Draw n)) refl refl refl is.locks
+    found_after (NumberSeen n) may found stores =
+        let b = begun_found v.log.phase v is in
         record { lanes = b.lanes; alone = b.alone; words = b.words; locks = b.locks }
-    untouched_after (StopSeen set) may found free = with_locks (after v (StopSeen set)) refl refl refl is.locks
-    untouched_after SetStop may found free = is
-    untouched_after (Tell operation reply) may found free = with_locks (after v (Tell operation reply)) refl refl refl is.locks
+    found_after (StopSeen set) may found stores = with_locks (after v (StopSeen set)) refl refl refl is.locks
+    found_after SetStop may found stores = is
+    found_after (Tell operation reply) may found stores = with_locks (after v (Tell operation reply)) refl refl refl is.locks
+
+module _ (o : Opening) where
+  -- a step that is no counted call stores nothing
+  untouched_after : (v : View) → IsUntouched o v → (s : Step) → Allowed v s → FoundAlone v s → is_counted s ≡ false → IsUntouched o (after v s)
+  untouched_after v is s may found free =
+      found_after o (λ (words : List ℕ). words ≡ o.words) (λ words same line. ap (λ (ws : List ℕ). block_at o.lanes ws line) same) v is s may found
+      (λ w x stores. absurd (false≢true (sym free ∙ ap is_counted stores)))
 
   -- where no step is a counted call none of them is
   free_first : (b : Bool) (n : ℕ) → cond b 1 0 + n ≡ 0 → b ≡ false
@@ -94,12 +110,14 @@ module _ (o : Opening) where
   free_rest true n none = let e : 1 + n ≡ 0 = none in omega (arith, e)
   free_rest false n none = let e : 0 + n ≡ 0 = none in omega (arith, e)
 
+  -- nor do all of these steps
   pub untouched_along : (v w : View) (steps : List Step) → Leads v steps w → counted steps ≡ 0 → IsUntouched o v → IsUntouched o w
   unfolding Leads counted
   untouched_along v w [] leads free is = subst (IsUntouched o) (sym leads) is
   untouched_along v w (s ∷ steps) leads free is =
       untouched_along (after v s) w steps leads.3 (free_rest (is_counted s) (counted steps) free) (untouched_after v is s leads.0 leads.1 (free_first (is_counted s) (counted steps) free))
 
+  -- where nothing is touched, what is found of blocks is as at the opening
   pub finds_opening : (v : View) → IsUntouched o v → v.lane < v.lanes → FindsOpening o v
   finds_opening v is lane = record {
     lane = lane;

@@ -2,27 +2,28 @@
 use Rattle.std.proofs.Common.{◌≡◌, ℕ, zero, suc, ◌+◌, ◌-◌, ◌<◌, ◌≤◌, All, List, [], ◌∷◌, ◌++◌, drop, get_or, length, take, Result, refl, sym, ap, ◌∙◌, subst, arith, length-append, append_assoc}
 use Rattle.std.proofs.Math.ListN.{get_or-map}
 use Rattle.std.proofs.Math.Seq.{take-length}
-use Rattle.std.proofs.lemmas.List.{length-map, map-append, take-append-drop, take-append-le, take_more}
+use Rattle.std.proofs.lemmas.List.{length-map, take-append-drop, take-append-le, take_more}
 use Rattle.std.proofs.lemmas.List.Elements.{All-get_or}
 use Rattle.pm_memory.specs.Solo.{Solo}
-use Rattle.pm_objects.specs.declared.ids.Oid.{Oid}
 use Rattle.pm_script.specs.Scripts.{IsChange, IsTransaction, operations}
 use Rattle.pm_script.specs.declared.script.ScriptLine.{ScriptLine}
 use Rattle.pm_script.specs.declared.script.ScriptOp.{ScriptOp}
 use Rattle.pm_script.specs.declared.script.ScriptOp.TheVariants as op
+use Rattle.pm_script.specs.declared.script.ScriptWant.{ScriptWant}
 use Rattle.pm_view.specs.View.{View}
 use Rattle.pm_world.specs.Opening.{Opening}
 use Rattle.pm_world.specs.declared.lane.Lane.{Lane}
-use Rattle.pm_exec.specs.Progress.{CameTo, IsAtLine, IsNotDone}
+use Rattle.pm_exec.specs.Progress.{CameTo, IsAtLine, IsNotDone, Values}
+use Rattle.pm_exec.specs.declared.calls.Names.{Names}
 use Rattle.pm_exec.specs.declared.lines.NotDone.{NotDone}
-use Rattle.pm_exec.proofs.CommitLine.{operations_more}
 
 pub record Parts (script : List ScriptLine) : Type 0 where
   pub begin : ScriptLine
   pub changes : List ScriptLine
   pub commit : ScriptLine
   pub is : script ≡ (begin ∷ changes) ++ commit ∷ []
-  pub begins : begin.operation ≡ op.Begin
+  pub wants : List ScriptWant
+  pub begins : begin.operation ≡ op.Begin wants
   pub are : All IsChange (operations changes)
   pub commits : commit.operation ≡ op.Commit
 
@@ -45,17 +46,18 @@ ends_with (x ∷ script) (o ∷ ops) same =
     record { before = x ∷ rest.before; last = rest.last; is = ap (λ (ls : List ScriptLine). x ∷ ls) rest.is; same = (λ i. head i ∷ rest.same i); commits = rest.commits }
 
 pub parts : (script : List ScriptLine) → IsTransaction (operations script) → Parts script
-parts [] t = absurd (let clash = t.1 in cc)
+parts [] t = absurd (let clash = t.2 in cc)
 parts (x ∷ script) t =
-    let same = t.1 in
-    let e : Ends script t.0 = ends_with script t.0 cc in
+    let same = t.2 in
+    let e : Ends script t.1 = ends_with script t.1 cc in
     record {
       begin = x;
       changes = e.before;
       commit = e.last;
       is = ap (λ (ls : List ScriptLine). x ∷ ls) e.is;
+      wants = t.0;
       begins = cc;
-      are = subst (All IsChange) (sym e.same) t.2;
+      are = subst (All IsChange) (sym e.same) t.3;
       commits = e.commits;
     }
 
@@ -80,32 +82,32 @@ module _ (script : List ScriptLine) (p : Parts script) where
   pub changes_are : All IsChange (operations (take (length script - 1 - 1) (drop 1 script)))
   changes_are = subst (λ (ls : List ScriptLine). All IsChange (operations ls)) (sym middle) p.are
 
-  module _ (o : Opening) (first : View) (root : Oid) where
-    pub begun_not : (new : Lane Solo) (why : NotDone) (said : ScriptLine) → said ≡ get_or script 0 said → ((rest : List ScriptLine) → IsNotDone o first new root (said ∷ rest) why) → IsNotDone o first new root script why
+  pub begins_there : (d : ScriptLine) → d ≡ get_or script 0 d → d.operation ≡ op.Begin p.wants
+  begins_there d is = ap (λ (l : ScriptLine). l.operation) (is ∙ first_line d) ∙ p.begins
+
+  module _ (o : Opening) (first : View) (names : Names) where
+    pub begun_not : (new : Lane Solo) (why : NotDone) (said : ScriptLine) → said ≡ get_or script 0 said → ((rest : List ScriptLine) → IsNotDone o first new names (said ∷ rest) [] why) → IsNotDone o first new names script [] why
     begun_not new why said is so =
-        subst (λ (ls : List ScriptLine). IsNotDone o first new root ls why) (ap (λ (s : ScriptLine). s ∷ (p.changes ++ p.commit ∷ [])) (is ∙ first_line said) ∙ sym p.is) (so (p.changes ++ p.commit ∷ []))
+        subst (λ (ls : List ScriptLine). IsNotDone o first new names ls [] why) (ap (λ (s : ScriptLine). s ∷ (p.changes ++ p.commit ∷ [])) (is ∙ first_line said) ∙ sym p.is) (so (p.changes ++ p.commit ∷ []))
 
-    front_is : op.Begin ∷ operations (take (length script - 1 - 1) (drop 1 script)) ≡ operations (p.begin ∷ p.changes)
-    front_is = (λ i. sym p.begins i ∷ operations (middle i))
+    pub begun_at : (mid : Lane Solo) (said : ScriptLine) → said ≡ get_or script 0 said → IsAtLine o first mid names (said ∷ []) [] → IsAtLine o first mid names (p.begin ∷ []) []
+    begun_at mid said is at = subst (λ (s : ScriptLine). IsAtLine o first mid names (s ∷ []) []) (is ∙ first_line said) at
 
-    begin_is : op.Begin ∷ [] ≡ operations (p.begin ∷ [])
-    begin_is = ap (λ (x : ScriptOp). x ∷ []) (sym p.begins)
+    pub changed_not : (mid new : Lane Solo) (values : Values) (why : NotDone) → IsAtLine o first mid names (p.begin ∷ []) []
+        → ((front rest : List ScriptLine) → IsAtLine o first mid names front [] → IsNotDone o first new names (front ++ take (length script - 1 - 1) (drop 1 script) ++ rest) values why) → IsNotDone o first new names script values why
+    changed_not mid new values why at so =
+        subst (λ (ls : List ScriptLine). IsNotDone o first new names ls values why) (ap (λ (ls : List ScriptLine). ((p.begin ∷ []) ++ ls) ++ p.commit ∷ []) middle ∙ sym p.is)
+        (so (p.begin ∷ []) (p.commit ∷ []) at)
 
-    pub changed_not : (mid new : Lane Solo) (why : NotDone) → IsAtLine o first mid root (op.Begin ∷ [])
-        → ((front rest : List ScriptLine) → IsAtLine o first mid root (operations front) → IsNotDone o first new root (front ++ take (length script - 1 - 1) (drop 1 script) ++ rest) why) → IsNotDone o first new root script why
-    changed_not mid new why at so =
-        subst (λ (ls : List ScriptLine). IsNotDone o first new root ls why) (ap (λ (ls : List ScriptLine). ((p.begin ∷ []) ++ ls) ++ p.commit ∷ []) middle ∙ sym p.is)
-        (so (p.begin ∷ []) (p.commit ∷ []) (subst (IsAtLine o first mid root) begin_is at))
+    pub committed_or_not : {T : Type 0} (mid new : Lane Solo) (values : Values) (result : Result T NotDone) → IsAtLine o first mid names (p.begin ∷ take (length script - 1 - 1) (drop 1 script)) values
+        → ((front : List ScriptLine) (said : ScriptLine) → IsAtLine o first mid names front values → said.operation ≡ op.Commit → CameTo o first new names (front ++ said ∷ []) values result) → CameTo o first new names script values result
+    committed_or_not mid new values result at so =
+        subst (λ (ls : List ScriptLine). CameTo o first new names ls values result) (sym p.is)
+        (so (p.begin ∷ p.changes) p.commit (subst (λ (ls : List ScriptLine). IsAtLine o first mid names (p.begin ∷ ls) values) middle at) p.commits)
 
-    pub committed_or_not : {T : Type 0} (mid new : Lane Solo) (result : Result T NotDone) → IsAtLine o first mid root (op.Begin ∷ operations (take (length script - 1 - 1) (drop 1 script)))
-        → ((front : List ScriptLine) (said : ScriptLine) → IsAtLine o first mid root (operations front) → said.operation ≡ op.Commit → CameTo o first new root (front ++ said ∷ []) result) → CameTo o first new root script result
-    committed_or_not mid new result at so =
-        subst (λ (ls : List ScriptLine). CameTo o first new root ls result) (sym p.is) (so (p.begin ∷ p.changes) p.commit (subst (IsAtLine o first mid root) front_is at) p.commits)
-
--- the first lines of some, and one more
-pub operations_taken : (lines : List ScriptLine) (i : ℕ) (said : ScriptLine) → i < length lines → said ≡ get_or lines i said → operations (take (i + 1) lines) ≡ operations (take i lines) ++ said.operation ∷ []
-operations_taken lines i said low is =
-    ap (λ (ls : List ScriptLine). operations ls) (take_more lines i said low ∙ ap (λ (s : ScriptLine). take i lines ++ s ∷ []) (sym is)) ∙ operations_more (take i lines) said
+-- the first of some lines, and one more
+pub lines_taken : (lines : List ScriptLine) (i : ℕ) (said : ScriptLine) → i < length lines → said ≡ get_or lines i said → take (i + 1) lines ≡ take i lines ++ said ∷ []
+lines_taken lines i said low is = take_more lines i said low ∙ ap (λ (s : ScriptLine). take i lines ++ s ∷ []) (sym is)
 
 -- a line stands between those before it and those behind
 pub between : (lines front rest : List ScriptLine) (i : ℕ) (said : ScriptLine) → i < length lines → said ≡ get_or lines i said → (front ++ take i lines) ++ said ∷ (drop (i + 1) lines ++ rest) ≡ front ++ lines ++ rest
@@ -130,6 +132,3 @@ taken_all [] zero past = refl
 taken_all [] (suc i) past = refl
 taken_all (l ∷ lines) zero past = absurd (omega (arith, past))
 taken_all (l ∷ lines) (suc i) past = ap (λ (ls : List ScriptLine). l ∷ ls) (taken_all lines i (omega (arith, past)))
-
-pub operations_both : (front lines : List ScriptLine) → operations front ++ operations lines ≡ operations (front ++ lines)
-operations_both front lines = sym (map-append (λ (l : ScriptLine). l.operation) front lines)

@@ -1,137 +1,175 @@
--- A script's transaction as the plain model's call: done, or refused an operation at some line.
-use Rattle.std.proofs.Common.{◌≡◌, ℕ, ◌-◌, List, [], ◌∷◌, ◌++◌, map, slice_index, None, Some, refl, sym, ap, ◌∙◌, subst, append-nil}
+-- A call of a script as the plain model's: its lines were done, or one of them was refused.
+use Rattle.std.proofs.Common.{◌≡◌, ⊎_elim, ℕ, ◌-◌, List, [], ◌∷◌, ◌++◌, map, slice_index, refl, sym, ap, ◌∙◌, subst, append-nil, append_assoc}
 use Rattle.std.specs.List.Sorted.{IsStrictlyIncreasing}
 use Rattle.std.proofs.lemmas.List.{length-map}
-use Rattle.pm_model.specs.Answers.{Told}
-use Rattle.pm_model.specs.Shown.{IsEntry, IsFateOf, IsShown, error_of, line_of_abort, values_of}
+use Rattle.pm_crash.specs.OpenCall.{told_of as model_told}
+use Rattle.pm_model.specs.Answers.{Told as Answered}
+use Rattle.pm_model.specs.Shown.{IsEntry, IsFateOf, IsShown, error_of, line_of_abort, values_at, values_of}
 use Rattle.pm_model.specs.Step.{Act}
+use Rattle.pm_objects.specs.declared.calls.Call.{Call}
+use Rattle.pm_objects.specs.declared.calls.Operation.{Operation}
 use Rattle.pm_objects.specs.declared.history.Entry.{Entry}
-use Rattle.pm_objects.specs.declared.history.Fate.TheVariants as fate
+use Rattle.pm_objects.specs.declared.history.Reply.{Reply}
+use Rattle.pm_objects.specs.declared.history.TxErr.{TxErr}
 use Rattle.pm_objects.specs.declared.history.TxErr.TheVariants as error
-use Rattle.pm_objects.specs.declared.history.Value.TheVariants.{Refused}
-use Rattle.pm_objects.specs.declared.ids.Oid.{Oid}
 use Rattle.pm_objects.specs.declared.refusal.Refusal.{Refusal}
 use Rattle.pm_script.specs.declared.script.ScriptLine.{ScriptLine}
 use Rattle.pm_script.specs.declared.script.ScriptOp.{ScriptOp}
-use Rattle.pm_script.specs.declared.script.ScriptOp.TheVariants.{Begin, Add, Write, Commit}
+use Rattle.pm_script.specs.declared.script.ScriptOp.TheVariants.{Begin, Add, Write, Read, Commit}
+use Rattle.pm_view.specs.View.{Told}
 use Rattle.pm_exec.specs.Calls.{call_of, numbers_of, operation_of}
+use Rattle.pm_exec.specs.Histories.{settled_fate}
+use Rattle.pm_exec.specs.Progress.{AreToldDone, HasEnded, IsRefusedAt, IsToldDone, Values, refused, values_told}
+use Rattle.pm_exec.specs.declared.calls.Names.{Names}
 
--- the line's operation, done
-abbrev pub done_at : Oid → ScriptLine → Told
-done_at root line = record { operation = operation_of root line.operation; reply = None }
+-- a done operation is no abort: it changes neither the error, nor the line that aborted
+record GoesOn (names : Names) (x : ScriptOp) (t : Told) : Type 0 where
+  of_line : t.operation ≡ operation_of names x
+  error : (rest : List Answered) → error_of (model_told t ∷ rest) ≡ error_of rest
+  line : (line : ℕ) (lines : List ℕ) (rest : List Answered) → line_of_abort (line ∷ lines) (model_told t ∷ rest) ≡ line_of_abort lines rest
 
-abbrev pub all_done : Oid → List ScriptLine → List Told
-all_done root lines = map (done_at root) lines
+goes_on : (names : Names) (x : ScriptOp) (t : Told) → IsToldDone names x t → GoesOn names x t
+unfolding error_of line_of_abort
+goes_on names (Begin wants) t is = subst (GoesOn names (Begin wants)) (sym is) (record { of_line = refl; error = λ rest. refl; line = λ line lines rest. refl })
+goes_on names (Add id off len) t is = subst (GoesOn names (Add id off len)) (sym is) (record { of_line = refl; error = λ rest. refl; line = λ line lines rest. refl })
+goes_on names (Write id off bytes) t is = subst (GoesOn names (Write id off bytes)) (sym is) (record { of_line = refl; error = λ rest. refl; line = λ line lines rest. refl })
+goes_on names (Read id off len) t is = subst (GoesOn names (Read id off len)) (sym is.1) (record { of_line = refl; error = λ rest. refl; line = λ line lines rest. refl })
+goes_on names Commit t is = subst (GoesOn names Commit) (sym is) (record { of_line = refl; error = λ rest. refl; line = λ line lines rest. refl })
 
--- the line's operation, refused
-abbrev pub refused_at : Oid → ScriptLine → Refusal → Told
-refused_at root line r = record { operation = operation_of root line.operation; reply = Some (Refused r) }
+abbrev operations_said : Names → List ScriptLine → List Operation
+operations_said names lines = map (λ (l : ScriptLine). operation_of names l.operation) lines
 
--- the lines in front are done, and this one is refused
-abbrev pub all_done_but : Oid → List ScriptLine → ScriptLine → Refusal → List Told
-all_done_but root front line r = all_done root front ++ refused_at root line r ∷ []
+-- lines that were done, and operations behind them
+module _ (names : Names) where
+  pub errors_behind : (front : List ScriptLine) (told : List Told) (rest : List Told) → AreToldDone names front told → error_of (map model_told (told ++ rest)) ≡ error_of (map model_told rest)
+  errors_behind [] [] rest are = refl
+  errors_behind [] (t ∷ told) rest are = absurd are
+  errors_behind (l ∷ front) [] rest are = absurd are
+  errors_behind (l ∷ front) (t ∷ told) rest are = (goes_on names l.operation t are.0).error (map model_told (told ++ rest)) ∙ errors_behind front told rest are.1
 
--- no operation of a script is an abort: it changes neither the error, nor the line that aborted
-error_goes_on : (root : Oid) (op : ScriptOp) (told : List Told) → error_of (record { operation = operation_of root op; reply = None } ∷ told) ≡ error_of told
-unfolding error_of
-error_goes_on root Begin told = refl
-error_goes_on root (Add off len) told = refl
-error_goes_on root (Write off bytes) told = refl
-error_goes_on root Commit told = refl
+  lines_behind : (front more : List ScriptLine) (told rest : List Told) → AreToldDone names front told
+      → line_of_abort (numbers_of (front ++ more)) (map model_told (told ++ rest)) ≡ line_of_abort (numbers_of more) (map model_told rest)
+  lines_behind [] more [] rest are = refl
+  lines_behind [] more (t ∷ told) rest are = absurd are
+  lines_behind (l ∷ front) more [] rest are = absurd are
+  lines_behind (l ∷ front) more (t ∷ told) rest are =
+      (goes_on names l.operation t are.0).line l.line (numbers_of (front ++ more)) (map model_told (told ++ rest)) ∙ lines_behind front more told rest are.1
 
-line_goes_on : (root : Oid) (op : ScriptOp) (line : ℕ) (lines : List ℕ) (told : List Told) → line_of_abort (line ∷ lines) (record { operation = operation_of root op; reply = None } ∷ told) ≡ line_of_abort lines told
-unfolding line_of_abort
-line_goes_on root Begin line lines told = refl
-line_goes_on root (Add off len) line lines told = refl
-line_goes_on root (Write off bytes) line lines told = refl
-line_goes_on root Commit line lines told = refl
+  values_behind : (front more : List ScriptLine) (told rest : List Told) → AreToldDone names front told → values_told (front ++ more) (told ++ rest) ≡ values_told front told ++ values_told more rest
+  unfolding values_of
+  values_behind [] more [] rest are = refl
+  values_behind [] more (t ∷ told) rest are = absurd are
+  values_behind (l ∷ front) more [] rest are = absurd are
+  values_behind (l ∷ front) more (t ∷ told) rest are =
+      ap (λ (vs : Values). values_at l.line t.reply ++ vs) (values_behind front more told rest are.1) ∙ sym (append_assoc (values_at l.line t.reply) (values_told front told) (values_told more rest))
 
-pub done_has_no_error : (root : Oid) (lines : List ScriptLine) → error_of (all_done root lines) ≡ error.None
-unfolding error_of
-done_has_no_error root [] = refl
-done_has_no_error root (l ∷ lines) = error_goes_on root l.operation (all_done root lines) ∙ done_has_no_error root lines
+  operations_behind : (front more : List ScriptLine) (told rest : List Told) (passed : List Operation) → AreToldDone names front told
+      → map (λ (t : Answered). t.operation) (map model_told rest) ++ passed ≡ operations_said names more
+      → map (λ (t : Answered). t.operation) (map model_told (told ++ rest)) ++ passed ≡ operations_said names (front ++ more)
+  operations_behind [] more [] rest passed are said = said
+  operations_behind [] more (t ∷ told) rest passed are said = absurd are
+  operations_behind (l ∷ front) more [] rest passed are said = absurd are
+  operations_behind (l ∷ front) more (t ∷ told) rest passed are said =
+      (λ i. (goes_on names l.operation t are.0).of_line i ∷ operations_behind front more told rest passed are.1 said i)
 
-pub refused_has_error : (root : Oid) (front : List ScriptLine) (line : ScriptLine) (r : Refusal) → error_of (all_done_but root front line r) ≡ error.Refused r
-unfolding error_of
-refused_has_error root [] line r = refl
-refused_has_error root (l ∷ front) line r = error_goes_on root l.operation (all_done_but root front line r) ∙ refused_has_error root front line r
-
-no_line_aborts : (root : Oid) (lines : List ScriptLine) → line_of_abort (numbers_of lines) (all_done root lines) ≡ 0
-unfolding line_of_abort
-no_line_aborts root [] = refl
-no_line_aborts root (l ∷ lines) = line_goes_on root l.operation l.line (numbers_of lines) (all_done root lines) ∙ no_line_aborts root lines
-
-this_line_aborts : (root : Oid) (front rest : List ScriptLine) (line : ScriptLine) (r : Refusal) → line_of_abort (numbers_of (front ++ line ∷ rest)) (all_done_but root front line r) ≡ line.line
-unfolding line_of_abort
-this_line_aborts root [] rest line r = refl
-this_line_aborts root (l ∷ front) rest line r = line_goes_on root l.operation l.line (numbers_of (front ++ line ∷ rest)) (all_done_but root front line r) ∙ this_line_aborts root front rest line r
-
-no_values : (root : Oid) (lines : List ScriptLine) → values_of (numbers_of lines) (all_done root lines) ≡ []
-unfolding values_of
-no_values root [] = refl
-no_values root (l ∷ lines) = no_values root lines
-
-no_values_but : (root : Oid) (front rest : List ScriptLine) (line : ScriptLine) (r : Refusal) → values_of (numbers_of (front ++ line ∷ rest)) (all_done_but root front line r) ≡ []
-unfolding values_of
-no_values_but root [] [] line r = refl
-no_values_but root [] (l ∷ rest) line r = refl
-no_values_but root (l ∷ front) rest line r = no_values_but root front rest line r
-
-operations_done : (root : Oid) (lines : List ScriptLine) → map (λ (t : Told). t.operation) (all_done root lines) ≡ map (λ (l : ScriptLine). operation_of root l.operation) lines
-operations_done root [] = refl
-operations_done root (l ∷ lines) = ap (λ os. operation_of root l.operation ∷ os) (operations_done root lines)
-
-operations_but : (root : Oid) (front rest : List ScriptLine) (line : ScriptLine) (r : Refusal)
-    → map (λ (t : Told). t.operation) (all_done_but root front line r) ++ map (λ (l : ScriptLine). operation_of root l.operation) rest ≡ map (λ (l : ScriptLine). operation_of root l.operation) (front ++ line ∷ rest)
-operations_but root [] rest line r = refl
-operations_but root (l ∷ front) rest line r = ap (λ os. operation_of root l.operation ∷ os) (operations_but root front rest line r)
-
--- the whole transaction was done
-pub shown_done : (root : Oid) (script : List ScriptLine) → IsStrictlyIncreasing (numbers_of script) → IsShown (call_of root script) (record { values = []; at = 0 }) (record { lane = 0; told = all_done root script })
-shown_done root script rising = record {
-  lines = numbers_of script;
-  one_each = length-map script (λ (l : ScriptLine). l.line) ∙ sym (length-map script (λ (l : ScriptLine). operation_of root l.operation));
-  rising = rising;
-  first = refl;
-  last = ap (λ n. slice_index (numbers_of script) (n - 1)) (length-map script (λ (l : ScriptLine). l.line));
-  lane = refl;
-  passed_over = [];
-  operations = append-nil _ ∙ operations_done root script;
-  whole = λ none. refl;
-  values = sym (no_values root script);
-  at = sym (no_line_aborts root script);
-}
-
--- it was refused at a line
-pub shown_refused : (root : Oid) (script front rest : List ScriptLine) (line : ScriptLine) (r : Refusal) → script ≡ front ++ line ∷ rest → IsStrictlyIncreasing (numbers_of script)
-    → IsShown (call_of root script) (record { values = []; at = line.line }) (record { lane = 0; told = all_done_but root front line r })
-shown_refused root script front rest line r parts rising =
-    subst (λ (all : List ScriptLine). IsShown (call_of root all) (record { values = []; at = line.line }) (record { lane = 0; told = all_done_but root front line r })) (sym parts) (record {
-      lines = numbers_of (front ++ line ∷ rest);
-      one_each = length-map (front ++ line ∷ rest) (λ (l : ScriptLine). l.line) ∙ sym (length-map (front ++ line ∷ rest) (λ (l : ScriptLine). operation_of root l.operation));
-      rising = subst (λ (all : List ScriptLine). IsStrictlyIncreasing (numbers_of all)) parts rising;
+  module _ (lines : List ScriptLine) (rising : IsStrictlyIncreasing (numbers_of lines)) where
+    shown_as : (reply : Reply) (told : List Told) (passed : List Operation) → map (λ (t : Answered). t.operation) (map model_told told) ++ passed ≡ operations_said names lines
+        → (error_of (map model_told told) ≡ error.None → passed ≡ []) → reply.values ≡ values_told lines told → reply.at ≡ line_of_abort (numbers_of lines) (map model_told told)
+        → IsShown (call_of names lines) reply (record { lane = 0; told = map model_told told })
+    shown_as reply told passed operations whole values at = record {
+      lines = numbers_of lines;
+      one_each = length-map lines (λ (l : ScriptLine). l.line) ∙ sym (length-map lines (λ (l : ScriptLine). operation_of names l.operation));
+      rising = rising;
       first = refl;
-      last = ap (λ n. slice_index (numbers_of (front ++ line ∷ rest)) (n - 1)) (length-map (front ++ line ∷ rest) (λ (l : ScriptLine). l.line));
+      last = ap (λ n. slice_index (numbers_of lines) (n - 1)) (length-map lines (λ (l : ScriptLine). l.line));
       lane = refl;
-      passed_over = map (λ (l : ScriptLine). operation_of root l.operation) rest;
-      operations = operations_but root front rest line r;
-      whole = λ none. absurd (let clash : error.Refused r ≡ error.None = sym (refused_has_error root front line r) ∙ none in cc);
-      values = sym (no_values_but root front rest line r);
-      at = sym (this_line_aborts root front rest line r);
-    })
-
-pub entry_done : (root : Oid) (script : List ScriptLine) (e : Entry) → IsStrictlyIncreasing (numbers_of script) → e.call ≡ call_of root script → e.reply ≡ record { values = []; at = 0 } → IsFateOf error.None e.fate
-    → IsEntry e (record { lane = 0; told = all_done root script })
-entry_done root script e rising call reply fate = record {
-  shown = subst (λ c. IsShown c e.reply (record { lane = 0; told = all_done root script })) (sym call) (subst (λ r. IsShown (call_of root script) r (record { lane = 0; told = all_done root script })) (sym reply) (shown_done root script rising));
-  fate = subst (λ x. IsFateOf x e.fate) (sym (done_has_no_error root script)) fate;
-}
-
-pub entry_refused : (root : Oid) (script front rest : List ScriptLine) (line : ScriptLine) (r : Refusal) (e : Entry) → script ≡ front ++ line ∷ rest → IsStrictlyIncreasing (numbers_of script) → e.call ≡ call_of root script
-    → e.reply ≡ record { values = []; at = line.line } → e.fate ≡ fate.Aborted (error.Refused r) → IsEntry e (record { lane = 0; told = all_done_but root front line r })
-entry_refused root script front rest line r e parts rising call reply is =
-    let act : Act = record { lane = 0; told = all_done_but root front line r } in
-    record {
-      shown = subst (λ c. IsShown c e.reply act) (sym call) (subst (λ a. IsShown (call_of root script) a act) (sym reply) (shown_refused root script front rest line r parts rising));
-      fate = subst (λ x. IsFateOf x e.fate) (sym (refused_has_error root front line r)) (subst (IsFateOf (error.Refused r)) (sym is) (refl, λ none. cc));
+      passed_over = passed;
+      operations = operations;
+      whole = whole;
+      values = values;
+      at = at;
     }
+
+    -- all lines were done
+    module _ (told : List Told) (are : AreToldDone names lines told) where
+      pub no_error : error_of (map model_told told) ≡ error.None
+      unfolding error_of
+      no_error = ap (λ (ts : List Told). error_of (map model_told ts)) (sym (append-nil told)) ∙ errors_behind lines told [] are
+
+      no_line : line_of_abort (numbers_of lines) (map model_told told) ≡ 0
+      unfolding line_of_abort
+      no_line =
+          ap (λ (ts : List Told). line_of_abort (numbers_of lines) (map model_told ts)) (sym (append-nil told))
+          ∙ (ap (λ (ls : List ScriptLine). line_of_abort (numbers_of ls) (map model_told (told ++ []))) (sym (append-nil lines)) ∙ lines_behind lines [] told [] are)
+
+      all_operations : map (λ (t : Answered). t.operation) (map model_told told) ++ [] ≡ operations_said names lines
+      all_operations =
+          ap (λ (ts : List Told). map (λ (t : Answered). t.operation) (map model_told ts) ++ []) (sym (append-nil told))
+          ∙ (operations_behind lines [] told [] [] are refl ∙ ap (operations_said names) (append-nil lines))
+
+      pub shown_done : (reply : Reply) → reply.at ≡ 0 → reply.values ≡ values_told lines told → IsShown (call_of names lines) reply (record { lane = 0; told = map model_told told })
+      shown_done reply at values = shown_as reply told [] all_operations (λ none. refl) values (at ∙ sym no_line)
+
+    -- one was refused
+    module _ (reply : Reply) (r : Refusal) (told : List Told) (at : IsRefusedAt names lines reply.at r reply.values told) where
+      abbrev last : Told
+      last = refused (operation_of names at.said.operation) r
+
+      pub refused_error : error_of (map model_told told) ≡ error.Refused r
+      unfolding error_of
+      refused_error = ap (λ (ts : List Told). error_of (map model_told ts)) at.told_so ∙ errors_behind at.front at.before (last ∷ []) at.done
+
+      refused_line : reply.at ≡ line_of_abort (numbers_of lines) (map model_told told)
+      unfolding line_of_abort
+      refused_line =
+          sym at.of_line
+          ∙ sym (ap (λ (ls : List ScriptLine). line_of_abort (numbers_of ls) (map model_told told)) at.is_lines
+          ∙ (ap (λ (ts : List Told). line_of_abort (numbers_of (at.front ++ at.said ∷ at.rest)) (map model_told ts)) at.told_so
+          ∙ lines_behind at.front (at.said ∷ at.rest) at.before (last ∷ []) at.done))
+
+      none_given : (rest : List ScriptLine) → values_told (at.said ∷ rest) (last ∷ []) ≡ []
+      unfolding values_of
+      none_given [] = refl
+      none_given (l ∷ rest) = refl
+
+      refused_values : reply.values ≡ values_told lines told
+      refused_values =
+          at.gave
+          ∙ sym (ap (λ (ls : List ScriptLine). values_told ls told) at.is_lines
+          ∙ (ap (values_told (at.front ++ at.said ∷ at.rest)) at.told_so
+          ∙ (values_behind at.front (at.said ∷ at.rest) at.before (last ∷ []) at.done
+          ∙ (ap (λ (vs : Values). values_told at.front at.before ++ vs) (none_given at.rest) ∙ append-nil (values_told at.front at.before)))))
+
+      refused_operations : map (λ (t : Answered). t.operation) (map model_told told) ++ operations_said names at.rest ≡ operations_said names lines
+      refused_operations =
+          ap (λ (ts : List Told). map (λ (t : Answered). t.operation) (map model_told ts) ++ operations_said names at.rest) at.told_so
+          ∙ (operations_behind at.front (at.said ∷ at.rest) at.before (last ∷ []) (operations_said names at.rest) at.done refl ∙ ap (operations_said names) (sym at.is_lines))
+
+      pub shown_refused : IsShown (call_of names lines) reply (record { lane = 0; told = map model_told told })
+      shown_refused =
+          shown_as reply told (operations_said names at.rest) refused_operations (λ none. absurd (let clash : error.Refused r ≡ error.None = sym refused_error ∙ none in cc)) refused_values refused_line
+
+    -- the entry of an answered call
+    pub entry_answered : (e : Entry) (why : TxErr) (told : List Told) → e.call ≡ call_of names lines → e.fate ≡ settled_fate why → HasEnded names lines why e.reply told → IsEntry e (record { lane = 0; told = map model_told told })
+    entry_answered e why told call fate ended =
+        let act : Act = record { lane = 0; told = map model_told told } in
+        ⊎_elim
+        (λ (t : (why ≡ error.None) × (e.reply.at ≡ 0) × AreToldDone names lines told × (e.reply.values ≡ values_told lines told)). record {
+          shown = subst (λ (c : Call). IsShown c e.reply act) (sym call) (shown_done told t.2 e.reply t.1 t.3);
+          fate = subst (λ x. IsFateOf x e.fate) (sym (no_error told t.2)) (subst (IsFateOf error.None) (sym (fate ∙ ap settled_fate t.0)) refl);
+        })
+        (λ (t : (r : Refusal) × (why ≡ error.Refused r) × IsRefusedAt names lines e.reply.at r e.reply.values told). record {
+          shown = subst (λ (c : Call). IsShown c e.reply act) (sym call) (shown_refused e.reply t.0 told t.2);
+          fate = subst (λ x. IsFateOf x e.fate) (sym (refused_error e.reply t.0 told t.2)) (subst (IsFateOf (error.Refused t.0)) (sym (fate ∙ ap settled_fate t.1)) (refl, λ none. cc));
+        })
+        ended
+
+    -- and of one that was not answered, all of whose lines were done
+    pub entry_open : (e : Entry) (told : List Told) → e.call ≡ call_of names lines → e.reply.at ≡ 0 → AreToldDone names lines told → e.reply.values ≡ values_told lines told → IsFateOf error.None e.fate
+        → IsEntry e (record { lane = 0; told = map model_told told })
+    entry_open e told call at are values fate =
+        let act : Act = record { lane = 0; told = map model_told told } in
+        record {
+          shown = subst (λ (c : Call). IsShown c e.reply act) (sym call) (shown_done told are e.reply at values);
+          fate = subst (λ x. IsFateOf x e.fate) (sym (no_error told are)) fate;
+        }

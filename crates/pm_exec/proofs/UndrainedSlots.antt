@@ -19,7 +19,6 @@ use Rattle.pm_view.specs.Steps.{Step}
 use Rattle.pm_view.specs.Steps.Step.{Load, Store, Or, And, Flush, Drain, TakeWrite, TakeRead, Raise, Give, ZoneTry, ZoneGive, Occupied, Occupy, Vacate, Draw, NumberSeen, StopSeen, SetStop, Tell}
 use Rattle.pm_view.specs.View.{View}
 use Rattle.pm_view.specs.Views.{after, begun, changed, log_after_drain}
-use Rattle.pm_view.proofs.SameLane.{same_lane-after_all}
 use Rattle.pm_world.specs.Lawful.{Allowed, EndsGeneration, StoreFits}
 use Rattle.pm_world.proofs.CrashLogs.{InSlots}
 use Rattle.pm_world.specs.Opening.{Opening}
@@ -27,10 +26,9 @@ use Rattle.pm_undo.specs.Working.{IsWorking}
 use Rattle.pm_undo.proofs.Areas.{slot_part}
 use Rattle.pm_crash.specs.Alone.{BeginsAlone}
 use Rattle.pm_crash.specs.Leading.{Leads}
-use Rattle.pm_crash.proofs.Leading.{leads_end}
 use Rattle.pm_crash.proofs.LogCourse.{Slotted, slotted}
+use Rattle.pm_exec.proofs.Along.{lane_along}
 use Rattle.pm_exec.specs.Quiet.{IsQuiet, MakesNone}
-use Rattle.pm_exec.proofs.QuietSlots.{quiet_between}
 
 -- how many words of slots may be undrained
 abbrev pub slot_words : Phase → Log → ℕ
@@ -180,7 +178,7 @@ drained_so false drained is = false≢true is
 
 module _ (o : Opening) (header : Header) (pool : PoolView) (v : View) (steps : List Step) (w : View) (begins : BeginsAlone o header pool v) (leads : Leads v steps w) where
   pub alone_lane : w.lane ≡ 0
-  alone_lane = ap (λ (u : View). u.lane) (leads_end v w steps leads) ∙ ((same_lane-after_all v steps).lane ∙ begins.fresh.lane.lane)
+  alone_lane = lane_along v w steps leads begins.fresh.lane.lane
 
   pub alone_first : HasFirst w
   alone_first = first_along v steps w leads (empty_first v.lane (slot_words v.log.phase v.log) v.changes begins.fresh.nothing_changed)
@@ -200,7 +198,3 @@ module _ (o : Opening) (header : Header) (pool : PoolView) (v : View) (steps : L
         (list_any-from_Any (is_in_line (slot_line w.lane slot)) w.changes (there.0, c, there.1, there.2, eq-eqb (c.word / 8) (slot_line w.lane slot) line));
     unbegun = subst (λ (p : Phase). MakesNone p) (sym working.is_open) tt;
   }
-
--- before its first step it is, too
-pub quiet_first : (o : Opening) (header : Header) (pool : PoolView) (v : View) → BeginsAlone o header pool v → IsQuiet v
-quiet_first o header pool v begins = quiet_between v begins.fresh.lane.lane begins.fresh.nothing_changed begins.fresh.idle

@@ -1,11 +1,12 @@
 -- Steps that draw no number and take and give no lock keep the entries, the number and the lines of the locks.
-use Rattle.std.proofs.Common.{◌≡◌, ◌⊎◌, ⊎_elim, inl, inr, ℕ, zero, suc, ◌+◌, ◌/◌, ◌<◌, Bool, true, false, cond, List, [], ◌∷◌, ◌++◌, length, map, take, None, refl, ◌∙◌, arith}
-use Rattle.pm_objects.specs.declared.calls.Operation.TheVariants.{AddRange, Write}
+use Rattle.std.proofs.Common.{◌≡◌, ◌⊎◌, ⊎_elim, inl, inr, ℕ, zero, suc, ◌+◌, ◌/◌, ◌<◌, Bool, true, false, cond, List, [], ◌∷◌, ◌++◌, length, map, take, None, Some, refl, ◌∙◌, arith}
+use Rattle.pm_objects.specs.declared.calls.Operation.TheVariants.{AddRange, Read, Write}
+use Rattle.pm_objects.specs.declared.history.Value.TheVariants.{Bytes}
 use Rattle.pm_objects.specs.declared.ids.Oid.{Oid}
 use Rattle.pm_crash.specs.Writes.{written_word}
-use Rattle.pm_tx.proofs.StepKinds.{Each, HasOnly, HasQuietSteps, each_first, only_counted, only_in_turn, only_one, only_persists, only_restores, only_settles, only_snapshots, only_stores, only_with_generation, only_with_word}
-use Rattle.pm_tx.specs.Ranges.{adds_range, writes_range}
-use Rattle.pm_tx.specs.Sequences.{takes_back, undoes, word_count, writes, writes_word}
+use Rattle.pm_tx.proofs.StepKinds.{Each, HasOnly, HasQuietSteps, each_first, only_counted, only_in_turn, only_looks_from, only_one, only_persists, only_restores, only_settles, only_snapshots, only_stores, only_with_generation, only_with_word}
+use Rattle.pm_tx.specs.Ranges.{adds_range, reads_range, writes_range}
+use Rattle.pm_tx.specs.Sequences.{reads, takes_back, undoes, word_count, writes, writes_word}
 use Rattle.pm_undo.specs.Sequences.{ends_generation, persists, restores, retires, snapshots}
 use Rattle.pm_view.specs.Area.{area_word}
 use Rattle.pm_view.specs.Blocks.{allocation_word, block_at, is_word}
@@ -84,6 +85,13 @@ writes_undrawn id off bytes =
     (λ i below. only_with_word IsUndrawn undrawn_steps (place / 8 + i) (λ x. stores (place / 8 + i) (written_word place bytes (place / 8 + i) x))
     (λ x. only_stores IsUndrawn undrawn_steps (place / 8 + i) (written_word place bytes (place / 8 + i) x) tt)))
     (only_one IsUndrawn (Tell (Write id off bytes) None) tt)
+
+pub reads_undrawn : (id : Oid) (off len : ℕ) (bytes : List ℕ) → HasOnly IsUndrawn (reads_range id off len bytes)
+unfolding reads_range reads
+reads_undrawn id off len bytes =
+    only_in_turn IsUndrawn (reads (id.off + off) len) (one (Tell (Read id off len) (Some (Bytes bytes))))
+    (only_looks_from IsUndrawn undrawn_steps ((id.off + off) / 8) (word_count (id.off + off) len))
+    (only_one IsUndrawn (Tell (Read id off len) (Some (Bytes bytes))) tt)
 
 pub settles_undrawn : HasOnly IsUndrawn settles
 settles_undrawn = only_settles IsUndrawn undrawn_steps

@@ -1,65 +1,77 @@
--- Wherever the lane of a run stops, a power failure tears no record of it that reads as one, where the script's records have no torn match.
-use Rattle.std.proofs.Common.{◌≡◌, ◌⊎◌, ⊎_elim, inr, ℕ, ◌≤◌, ◌+◌, List, [], ◌∷◌, slice_index, sym, ◌∙◌, subst, arith}
-use Rattle.std.specs.Option.{ForSome}
-use Rattle.pm_crash.proofs.CallWords.{behind_is_outside}
-use Rattle.pm_crash.specs.Alone.{GrowsFirst, WorksAlone, alone_views}
-use Rattle.pm_crash.specs.Writes.{words_written}
+-- Wherever the lane of a run stops in a call, a power failure tears no record of it that reads as one, where the records of that call's lines have no
+-- torn match over what the calls before it left.
+use Rattle.std.proofs.Common.{◌≡◌, ⊎_elim, inl, ℕ, ◌≤◌, Option, List, [], ◌∷◌, ◌++◌, length, slice_index, ◌∙◌, arith}
 use Rattle.pm_header.specs.declared.header.Header.{Header}
-use Rattle.pm_image.specs.Logs.{recovered_at}
-use Rattle.pm_memory.specs.Keep.{IsKeptImage}
-use Rattle.pm_memory.specs.Solo.{AreNumbered}
-use Rattle.pm_objects.specs.declared.ids.Oid.{Oid}
+use Rattle.pm_objects.specs.declared.history.Entry.{Entry}
+use Rattle.pm_objects.specs.declared.history.Value.{Value}
 use Rattle.pm_objects.specs.declared.pool.PoolView.{PoolView}
-use Rattle.pm_recover.specs.Recovery.{IsRecovered}
-use Rattle.pm_script.specs.Scripts.{operations}
+use Rattle.pm_memory.specs.Keep.{IsKeptImage}
+use Rattle.pm_memory.specs.Solo.{Solo}
+use Rattle.pm_crash.proofs.CallWords.{behind_is_outside}
+use Rattle.pm_crash.proofs.Leading.{leads_then}
+use Rattle.pm_crash.proofs.SeenAlone.{works_where_seen}
+use Rattle.pm_crash.proofs.TornSlots.{none_torn_behind}
+use Rattle.pm_crash.specs.Alone.{BeginsAlone, WorksAlone, alone_views, standing}
 use Rattle.pm_script.specs.declared.script.ScriptLine.{ScriptLine}
-use Rattle.pm_script.specs.declared.script.ScriptOp.{ScriptOp}
-use Rattle.pm_script.specs.declared.script.ScriptOp.TheVariants.{Begin, Add, Write, Commit}
-use Rattle.pm_tx.specs.Ranges.{adds_range}
-use Rattle.pm_view.specs.Steps.{Step}
+use Rattle.pm_view.specs.Constants.{IsSameLane}
+use Rattle.pm_view.specs.Log.{no_log}
+use Rattle.pm_view.specs.Log.Phase.{Idle}
 use Rattle.pm_view.specs.View.{View}
 use Rattle.pm_world.specs.Crash.{NoneTorn}
 use Rattle.pm_world.specs.Opening.{Opening}
-use Rattle.pm_exec.specs.Calls.{root_of}
-use Rattle.pm_exec.specs.Progress.{IsCalmBehind, IsInAdd, IsUntorn}
-use Rattle.pm_exec.specs.Quiet.{IsQuiet}
-use Rattle.pm_exec.specs.Torn.{HasNoTornMatch, words_after}
-use Rattle.pm_exec.proofs.LineWords.{AreBehind, written_alike}
+use Rattle.pm_world.specs.declared.lane.Lane.{Lane}
+use Rattle.pm_exec.proofs.Along.{same_along}
 use Rattle.pm_exec.proofs.QuietSlots.{none_torn_where_quiet}
-use Rattle.pm_exec.proofs.StoppedAdds.{none_torn_in_add}
-use Rattle.pm_exec.proofs.UndrainedSlots.{quiet_at_work}
+use Rattle.pm_exec.proofs.ScriptRecords.{is_record_of, may_pass, no_match_at}
+use Rattle.pm_exec.proofs.StoppedAdds.{words_in_add}
+use Rattle.pm_exec.proofs.UndrainedSlots.{alone_lane, quiet_at_work}
+use Rattle.pm_exec.specs.Calls.{names_of}
+use Rattle.pm_exec.specs.Openings.{first_view, opening_of}
+use Rattle.pm_exec.specs.Progress.{IsCalmBehind, IsCut, IsInAdd}
+use Rattle.pm_exec.specs.Running.{HasCalled}
+use Rattle.pm_exec.specs.Torn.{HasNoMatchAt, words_after}
 
--- what lines make of a word depends on that word alone
-pub alike_after : (root : Oid) (front : List ScriptOp) (v w : ℕ → ℕ) (i : ℕ) → v i ≡ w i → words_after root front v i ≡ words_after root front w i
-alike_after root [] v w i same = same
-alike_after root (Begin ∷ front) v w i same = alike_after root front v w i same
-alike_after root (Add off len ∷ front) v w i same = alike_after root front v w i same
-alike_after root (Write off bytes ∷ front) v w i same =
-    alike_after root front (words_written (root.off + off) bytes v) (words_written (root.off + off) bytes w) i (written_alike (root.off + off) bytes v w i same)
-alike_after root (Commit ∷ front) v w i same = alike_after root front v w i same
+module _ (pool : PoolView) (words : List ℕ) (stop : Option ℕ) (header : Header) (held : PoolView) (answered : List (List ScriptLine)) (history : List Entry) (before : View) (lane : Lane Solo)
+    (lines : List ScriptLine) (values : List (ℕ × Value)) (begins : BeginsAlone (opening_of pool words) header held (first_view pool words stop))
+    (called : HasCalled (first_view pool words stop) (names_of pool) answered history before) (idle : before.log ≡ no_log Idle) (drained : before.changes ≡ [])
+    (cut : IsCut (standing (opening_of pool words) before) before lane (names_of pool) lines values) where
+  abbrev o : Opening
+  o = opening_of pool words
 
-module _ (image : List ℕ) (pool : PoolView) (script : List ScriptLine) (o : Opening) (header : Header) (held : PoolView) (first : View) (steps : List Step) (w : View)
-    (none : HasNoTornMatch image pool script) (recovered : IsRecovered image o.words pool.lanes) (lanes : o.lanes ≡ pool.lanes) (works : WorksAlone o header held first steps w)
-    (grows : GrowsFirst o w w.log.phase) (keep : ℕ) (left : List ℕ) (kept : IsKeptImage keep w.words (w.changes ∷ []) left) where
-  some : 1 ≤ pool.lanes
-  some = subst (λ n. 1 ≤ n) lanes works.begins.holds.has_header.has_shape.shape.lanes_from
+  abbrev first : View
+  first = first_view pool words stop
 
-  -- while a range is recorded
-  in_add : IsInAdd o first (root_of pool) (operations script) w → NoneTorn o (alone_views o w) left
-  in_add a =
-      let all : List Step = adds_range a.spans (root_of pool) a.off a.len a.view in
-      let behind : AreBehind pool.lanes a.view.words (words_after (root_of pool) a.front (recovered_at image pool.lanes)) = λ i far.
-      a.words i (behind_is_outside 0 pool.lanes i (let m = some in omega (arith, m)) far) ∙ alike_after (root_of pool) a.front (slice_index o.words) (recovered_at image pool.lanes) i (recovered.words i (inr far)) in
-      subst (λ (u : View). AreNumbered 1 u.entries → ForSome u.stop (λ stop. u.calls ≤ stop) → GrowsFirst o u u.log.phase → IsKeptImage keep u.words (u.changes ∷ []) left → NoneTorn o (alone_views o u) left)
-      (sym a.is)
-      (λ numbered within first_ones image_kept.
-      none_torn_in_add image pool script a.front a.rest o header held first a.view a.steps a.spans (root_of pool) a.off a.len a.made none a.is_all recovered lanes works.begins a.leads a.working a.spans_are a.ready a.draws behind
-      numbered within first_ones keep left image_kept)
-      works.numbered works.within grows kept
+  abbrev w : View
+  w = cut.view
 
-  pub none_torn_in_run : IsQuiet w ⊎ IsUntorn o first (root_of pool) (operations script) w → NoneTorn o (alone_views o w) left
-  none_torn_in_run untorn =
-      ⊎_elim (λ (quiet : IsQuiet w). none_torn_where_quiet o w left quiet)
-      (⊎_elim (λ (c : IsCalmBehind first w). none_torn_where_quiet o w left (c.calm (quiet_at_work o header held first c.steps c.view works.begins c.leads c.working)))
-      (λ (a : IsInAdd o first (root_of pool) (operations script) w). in_add a))
-      untorn
+  -- up to the stop the lane works alone
+  works : WorksAlone o header held first (called.steps ++ cut.steps) w
+  works = works_where_seen o header held lane.memory first w (called.steps ++ cut.steps) begins (leads_then first before w called.steps cut.steps called.leads cut.leads) cut.seen
+
+  -- while a range is recorded, its record is of words that the lines in front make
+  in_add : (keep : ℕ) (left : List ℕ) → IsKeptImage keep w.words (w.changes ∷ []) left → (a : IsInAdd (standing o before) before (names_of pool) lines w) → HasNoMatchAt pool a.front before
+      → NoneTorn o (alone_views o w) left
+  in_add keep left kept a none =
+      let some : 1 ≤ pool.lanes = begins.holds.has_header.has_shape.shape.lanes_from in
+      let front : IsSameLane first before = same_along first before called.steps called.leads in
+      let behind : IsSameLane before w = same_along before w cut.steps cut.leads in
+      let made : ℕ → ℕ = words_after (names_of pool) a.front (slice_index before.words) in
+      none_torn_behind o header held first before w called.steps cut.steps keep left (is_record_of made pool.lanes (length before.words)) works called.leads
+      (record { empty = inl idle; drained = drained }) kept cut.opening.grows
+      (no_match_at pool a.front o before (alone_lane o header held first called.steps before begins called.leads) none)
+      (λ r. may_pass made pool.lanes (length before.words) w r (behind.lanes ∙ front.lanes) behind.size
+      (λ i far. words_in_add o (standing o before) header held first before w called.steps (called.steps ++ cut.steps) (names_of pool) lines works called.leads a i (behind_is_outside 0 pool.lanes i (omega (arith, some)) far)))
+
+  -- anywhere else it writes no slot
+  calm_behind : (left : List ℕ) → IsCalmBehind before w → NoneTorn o (alone_views o w) left
+  calm_behind left c =
+      none_torn_where_quiet o w left
+      (c.calm (quiet_at_work o header held first (called.steps ++ c.steps) c.view begins (leads_then first before c.view called.steps c.steps called.leads c.leads) c.working))
+
+  -- so wherever it stops: `none` is of the fronts of the call's lines
+  pub none_torn_where_stopped : (none : (front rest : List ScriptLine) → lines ≡ front ++ rest → HasNoMatchAt pool front before)
+      → (keep : ℕ) (left : List ℕ) → IsKeptImage keep w.words (w.changes ∷ []) left → NoneTorn o (alone_views o w) left
+  none_torn_where_stopped none keep left kept =
+      ⊎_elim (λ (c : IsCalmBehind before w). calm_behind left c)
+      (λ (a : IsInAdd (standing o before) before (names_of pool) lines w). in_add keep left kept a (none a.front a.rest a.is_all))
+      cut.untorn

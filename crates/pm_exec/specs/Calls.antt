@@ -1,13 +1,19 @@
--- The call that a script's transaction is, over a pool: docs/COMMANDS.md, "Scripts".
-use Rattle.std.specs.Prelude.{ℕ, ◌-◌, true, List, [], ◌∷◌, length, map, slice_index, Option, Some, None}
+-- The calls that a script's transactions are, over a pool: docs/COMMANDS.md, "Scripts".
+use Rattle.std.specs.Prelude.{ℕ, ◌-◌, Bool, true, false, if◌then◌else◌, List, [], ◌∷◌, length, map, slice_index, Option, Some, None}
+use Rattle.std.specs.List.{list_any}
 use Rattle.pm_objects.specs.declared.calls.Call.{Call}
 use Rattle.pm_objects.specs.declared.calls.Operation.{Operation}
 use Rattle.pm_objects.specs.declared.calls.Operation.TheVariants as operation
+use Rattle.pm_objects.specs.declared.calls.Want.{Want}
 use Rattle.pm_objects.specs.declared.ids.Oid.{Oid}
 use Rattle.pm_objects.specs.declared.pool.PoolView.{PoolView}
+use Rattle.pm_script.specs.declared.script.ScriptId.{ScriptId}
+use Rattle.pm_script.specs.declared.script.ScriptId.TheVariants.{Root, At}
 use Rattle.pm_script.specs.declared.script.ScriptLine.{ScriptLine}
 use Rattle.pm_script.specs.declared.script.ScriptOp.{ScriptOp}
-use Rattle.pm_script.specs.declared.script.ScriptOp.TheVariants.{Begin, Add, Write, Commit}
+use Rattle.pm_script.specs.declared.script.ScriptOp.TheVariants.{Begin, Add, Write, Read, Commit}
+use Rattle.pm_script.specs.declared.script.ScriptWant.{ScriptWant}
+use Rattle.pm_exec.specs.declared.calls.Names.{Names}
 
 -- the id at an offset of a pool; null where there is none
 abbrev pub id_at : ℕ → Option ℕ → Oid
@@ -18,23 +24,69 @@ id_at pool (Some off) = record { pool = pool; off = off }
 abbrev pub root_of : PoolView → Oid
 root_of pool = id_at pool.id pool.root
 
+-- what the ids of a script stand for
+abbrev pub names_of : PoolView → Names
+names_of pool = record { pool = pool.id; root = root_of pool }
+
+abbrev pub id_of : Names → ScriptId → Oid
+id_of names Root = names.root
+id_of names (At off) = record { pool = names.pool; off = off }
+
+abbrev pub want_of : Names → ScriptWant → Want
+want_of names want = record { id = id_of names want.id; write = want.write }
+
 -- the operation that a line says
-abbrev pub operation_of : Oid → ScriptOp → Operation
-operation_of root Begin = operation.Begin (record { id = root; write = true } ∷ [])
-operation_of root (Add off len) = operation.AddRange root off len
-operation_of root (Write off bytes) = operation.Write root off bytes
-operation_of root Commit = operation.Commit
+abbrev pub operation_of : Names → ScriptOp → Operation
+operation_of names (Begin wants) = operation.Begin (map (want_of names) wants)
+operation_of names (Add id off len) = operation.AddRange (id_of names id) off len
+operation_of names (Write id off bytes) = operation.Write (id_of names id) off bytes
+operation_of names (Read id off len) = operation.Read (id_of names id) off len
+operation_of names Commit = operation.Commit
+
+abbrev pub is_root : ScriptId → Bool
+is_root Root = true
+is_root (At off) = false
+
+-- the line has the word `root`
+abbrev pub has_root : ScriptOp → Bool
+has_root (Begin wants) = list_any (λ (want : ScriptWant). is_root want.id) wants
+has_root (Add id off len) = is_root id
+has_root (Write id off bytes) = is_root id
+has_root (Read id off len) = is_root id
+has_root Commit = false
+
+-- what the word `root` stood for in these lines, where one has it
+abbrev pub root_in : Names → List ScriptLine → Option ℕ
+root_in names lines = if list_any (λ (line : ScriptLine). has_root line.operation) lines then Some names.root.off else None
 
 -- the lines' numbers
 abbrev pub numbers_of : List ScriptLine → List ℕ
-numbers_of script = map (λ (line : ScriptLine). line.line) script
+numbers_of lines = map (λ (line : ScriptLine). line.line) lines
 
--- the transaction of lane 0, with its first and last line
-abbrev pub call_of : Oid → List ScriptLine → Call
-call_of root script = record {
+-- the transaction of lane 0 that these lines are
+abbrev pub call_of : Names → List ScriptLine → Call
+call_of names lines = record {
   lane = 0;
-  first = slice_index (numbers_of script) 0;
-  last = slice_index (numbers_of script) (length script - 1);
-  root = Some root.off;
-  operations = map (λ (line : ScriptLine). operation_of root line.operation) script;
+  first = slice_index (numbers_of lines) 0;
+  last = slice_index (numbers_of lines) (length lines - 1);
+  root = root_in names lines;
+  operations = map (λ (line : ScriptLine). operation_of names line.operation) lines;
 }
+
+abbrev pub is_commit : ScriptOp → Bool
+is_commit Commit = true
+is_commit op = false
+
+-- a line before the first of some transactions
+abbrev pub with_line : ScriptLine → List (List ScriptLine) → List (List ScriptLine)
+with_line line [] = (line ∷ []) ∷ []
+with_line line (first ∷ more) = (line ∷ first) ∷ more
+
+-- the transactions of a script: each ends with its commit
+unfoldable pub transactions : List ScriptLine → List (List ScriptLine)
+transactions [] = []
+transactions (line ∷ lines) = if is_commit line.operation then (line ∷ []) ∷ transactions lines else with_line line (transactions lines)
+
+-- the calls that a script is, over a pool
+abbrev pub script_calls : PoolView → List ScriptLine → List Call
+script_calls pool script = map (call_of (names_of pool)) (transactions script)

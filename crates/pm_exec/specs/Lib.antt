@@ -1,7 +1,10 @@
 pub mod Calls
+pub mod Course
 pub mod Histories
 pub mod Opening
+pub mod Openings
 pub mod Progress
 pub mod Quiet
+pub mod Running
 pub mod Runs
 pub mod Torn

@@ -1,26 +1,28 @@
--- How far a run has come: for the crate's own functions.
-use Rattle.std.specs.Prelude.{◌≡◌, ◌≢◌, ◌⊎◌, ℕ, ◌≤◌, ◌%◌, ◌^◌, true, false, List, [], ◌∷◌, ◌++◌, map, slice_index, take, Option, None, Some, Result, Ok, Err}
+-- How far a call of a run has come: for the crate's own functions.
+use Rattle.std.specs.Prelude.{◌≡◌, ◌≢◌, ◌⊎◌, ℕ, ◌≤◌, false, List, [], ◌∷◌, ◌++◌, map, slice_index, take, Option, None, Some, Result, Ok, Err, ⊤}
+use Rattle.std.specs.List.{AllZip}
 use Rattle.pm_crash.specs.Leading.{Leads}
+use Rattle.pm_crash.specs.OpenCall.{told_of as model_told}
 use Rattle.pm_image.specs.Logs.{generation_word}
 use Rattle.pm_memory.specs.Solo.{Sees, Solo}
+use Rattle.pm_model.specs.Shown.{values_of}
 use Rattle.pm_objects.specs.declared.calls.Operation.{Operation}
-use Rattle.pm_objects.specs.declared.calls.Want.{Want}
+use Rattle.pm_objects.specs.declared.calls.Operation.TheVariants as operation
+use Rattle.pm_objects.specs.declared.history.Reply.{Reply}
 use Rattle.pm_objects.specs.declared.history.TxErr.{TxErr}
 use Rattle.pm_objects.specs.declared.history.TxErr.TheVariants as error
-use Rattle.pm_objects.specs.declared.history.Value.TheVariants.{Refused}
+use Rattle.pm_objects.specs.declared.history.Value.{Value}
+use Rattle.pm_objects.specs.declared.history.Value.TheVariants.{Bytes, Refused}
 use Rattle.pm_objects.specs.declared.ids.Oid.{Oid}
-use Rattle.pm_objects.specs.declared.pool.PoolView.{PoolView}
 use Rattle.pm_objects.specs.declared.refusal.Refusal.{Refusal}
 use Rattle.pm_objects.specs.declared.refusal.Refusal.TheVariants as refusal
-use Rattle.pm_script.specs.Scripts.{operations}
 use Rattle.pm_script.specs.declared.script.ScriptLine.{ScriptLine}
 use Rattle.pm_script.specs.declared.script.ScriptOp.{ScriptOp}
-use Rattle.pm_text.specs.declared.report.LaneEnd.{LaneEnd}
-use Rattle.pm_text.specs.declared.report.LaneEnd.TheVariants as end
+use Rattle.pm_script.specs.declared.script.ScriptOp.TheVariants.{Read}
 use Rattle.pm_tx.specs.AtWork.{IsAtWork}
 use Rattle.pm_tx.specs.Ending.{DrawEnded, IsAfterCall}
 use Rattle.pm_tx.specs.Generations.{IsOfOpening}
-use Rattle.pm_tx.specs.Resting.{IsAtRest}
+use Rattle.pm_tx.specs.Resting.{IsAtRest, IsFresh}
 use Rattle.pm_tx.specs.Ranges.{adds_range}
 use Rattle.pm_tx.specs.Stages.{is_work}
 use Rattle.pm_undo.specs.Working.{IsWorking}
@@ -30,45 +32,53 @@ use Rattle.pm_view.specs.Founds.{IsAlone}
 use Rattle.pm_view.specs.Log.{no_log}
 use Rattle.pm_view.specs.Log.Phase.{Idle}
 use Rattle.pm_view.specs.Steps.{Step}
-use Rattle.pm_view.specs.View.{Told, View, blank}
+use Rattle.pm_view.specs.View.{Numbered, Told, View}
 use Rattle.pm_view.specs.Views.{after_all}
-use Rattle.pm_world.specs.Lanes.{span_of}
 use Rattle.pm_world.specs.Opening.{IsSound, Opening}
 use Rattle.pm_world.specs.Records.{generation_of}
 use Rattle.pm_world.specs.Sequences.{Ready}
 use Rattle.pm_world.specs.declared.lane.Lane.{Lane}
 use Rattle.pm_world.specs.declared.lane.Span.{Span}
-use Rattle.pm_exec.specs.Calls.{operation_of}
+use Rattle.pm_exec.specs.Calls.{id_of, numbers_of, operation_of}
+use Rattle.pm_exec.specs.Course.{AreMade, IsCallMade, IsFree, IsStoppedInCall, IsUsedUp, LinesMade, spans_of}
 use Rattle.pm_exec.specs.Quiet.{IsQuiet}
 use Rattle.pm_exec.specs.Torn.{words_after}
-use Rattle.pm_exec.specs.declared.ending.Ended.{Ended}
+use Rattle.pm_exec.specs.declared.calls.Names.{Names}
+use Rattle.pm_exec.specs.declared.ending.CallEnd.{CallEnd}
+use Rattle.pm_exec.specs.declared.ending.CallEnd.TheVariants as call_end
 use Rattle.pm_exec.specs.declared.lines.NotDone.{NotDone}
-use Rattle.pm_exec.specs.declared.lines.NotDone.TheVariants.{GivenUp, Stopped, Spent}
+use Rattle.pm_exec.specs.declared.lines.NotDone.TheVariants.{GivenUp, Stopped, Spent, Memory}
 
--- an operation that was done, and one that was refused so
+-- what lines gave
+abbrev pub Values : Type 0
+Values = List (ℕ × Value)
+
+-- an operation that was done without a value, and one that was refused so
 abbrev pub done : Operation → Told
 done op = record { operation = op; reply = None }
 
 abbrev pub refused : Operation → Refusal → Told
 refused op r = record { operation = op; reply = Some (Refused r) }
 
--- these operations of a script, each done
-abbrev pub told_of : Oid → List ScriptOp → List Told
-told_of root ops = map (λ (op : ScriptOp). done (operation_of root op)) ops
+-- the operation of a line was done: a read gave bytes, and another gave nothing
+abbrev pub IsToldDone : Names → ScriptOp → Told → Type 0
+IsToldDone names (Read id off len) t = (bytes : List ℕ) × (t ≡ record { operation = operation.Read (id_of names id) off len; reply = Some (Bytes bytes) })
+IsToldDone names op t = t ≡ done (operation_of names op)
 
--- what a transaction of a script wants: the root, for writing
-abbrev pub wants_of : Oid → List Want
-wants_of root = record { id = root; write = true } ∷ []
+-- these lines were done
+abbrev pub AreToldDone : Names → List ScriptLine → List Told → Type 0
+AreToldDone names lines told = AllZip (λ (line : ScriptLine) (t : Told). IsToldDone names line.operation t) lines told
 
--- what a run on a pool with these words begins from, and the view of lane 0 before its first step
-abbrev pub opening_of : PoolView → List ℕ → Opening
-opening_of pool words = record { lanes = pool.lanes; zones = pool.zones; words = words }
+-- what they gave
+abbrev pub values_told : List ScriptLine → List Told → Values
+values_told lines told = values_of (numbers_of lines) (map model_told told)
 
-abbrev pub first_view : PoolView → List ℕ → Option ℕ → View
-first_view pool words stop = record blank { lanes = pool.lanes; zones = pool.zones; pool = pool.id; words = words; stop = stop }
+-- a call as it is numbered
+abbrev pub numbered : ℕ → List Told → Numbered
+numbered n told = record { number = n; call = told }
 
--- the lane has made no step: it is alone over the words of the opening
-pub record IsFirst (o : Opening) (lane : Lane Solo) (v : View) : Type 0 where
+-- the lane rests, alone, before a call: o is the pool as it stands
+pub record IsStart (o : Opening) (lane : Lane Solo) (v : View) : Type 0 where
   pub rests : IsAtRest Sees lane v
   pub idle : v.log ≡ no_log Idle
   pub of_lane : v.lane ≡ 0
@@ -77,11 +87,10 @@ pub record IsFirst (o : Opening) (lane : Lane Solo) (v : View) : Type 0 where
   pub zones : o.zones ≤ 32
   pub lanes_are : v.lanes ≡ o.lanes
   pub words_are : v.words ≡ o.words
-  pub no_entries : v.entries ≡ []
 
--- from its first view steps led to one at which it is at work, with these operations done: outside of its area the words are what they make of
--- the opening's
-pub record IsAtLine (o : Opening) (first : View) (lane : Lane Solo) (root : Oid) (ops : List ScriptOp) : Type 0 where
+-- from the view before the call steps led to one at which the lane is at work, with these lines done, which gave these values: outside of its
+-- area the words are what the lines make of the pool's
+pub record IsAtLine (o : Opening) (first : View) (lane : Lane Solo) (names : Names) (front : List ScriptLine) (values : Values) : Type 0 where
   pub view : View
   pub steps : List Step
   pub leads : Leads first steps view
@@ -89,35 +98,45 @@ pub record IsAtLine (o : Opening) (first : View) (lane : Lane Solo) (root : Oid)
   pub alone : IsAlone view
   pub works : IsAtWork o Sees lane view
   pub level : lane.level ≡ 1
-  pub told : view.call ≡ told_of root ops
-  pub no_entries : view.entries ≡ []
+  pub told : AreToldDone names front view.call
+  pub gave : values ≡ values_told front view.call
+  pub entries : view.entries ≡ first.entries
   pub generation : generation_of view ≡ generation_word o.words 0
-  pub words : (i : ℕ) → is_in_area 0 i ≡ false → slice_index view.words i ≡ words_after root ops (slice_index o.words) i
+  pub words : (i : ℕ) → is_in_area 0 i ≡ false → slice_index view.words i ≡ words_after names front (slice_index o.words) i
+  pub made : LinesMade names front first view
 
-abbrev pub IsLaneAtLine : Lane Solo → Oid → Type 0
-IsLaneAtLine lane root = (o : Opening) × (first : View) × (ops : List ScriptOp) × IsAtLine o first lane root ops
+abbrev pub IsLaneWith : Lane Solo → Names → Values → Type 0
+IsLaneWith lane names values = (o : Opening) × (first : View) × (front : List ScriptLine) × IsAtLine o first lane names front values
+
+abbrev pub IsLaneAtLine : Lane Solo → Names → Type 0
+IsLaneAtLine lane names = (values : Values) × IsLaneWith lane names values
 
 -- its call is over, came to these operations with their replies, and has drawn a number; its locks are held still
-pub record IsOver (first : View) (lane : Lane Solo) (told : List Told) (error : TxErr) : Type 0 where
+pub record IsOver (first : View) (lane : Lane Solo) (names : Names) (lines : List ScriptLine) (told : List Told) (error : TxErr) : Type 0 where
   pub view : View
   pub steps : List Step
   pub leads : Leads first steps view
   pub behind : IsAfterCall Sees lane view
-  pub entries : view.entries ≡ record { number = lane.last; call = told } ∷ []
+  pub entries : view.entries ≡ first.entries ++ numbered lane.last told ∷ []
   pub level : lane.level ≡ 1
   pub left : is_work lane.stage ≡ false
   pub fails : lane.error ≡ error
+  pub made : AreMade names lines error first view
 
--- no number is drawn
-abbrev pub IsUndrawn : View → Type 0
-IsUndrawn v = (v.number ≡ None) × (v.entries ≡ [])
+-- the call has drawn no number
+pub record IsUndrawn (first v : View) : Type 0 where
+  pub number : v.number ≡ None
+  pub entries : v.entries ≡ first.entries
 
--- the call has drawn its number, and is not over
-pub record IsInFlight (v : View) (told : List Told) : Type 0 where
+-- the call of these lines has drawn its number, and is not over
+pub record IsInFlight (first : View) (names : Names) (lines : List ScriptLine) (values : Values) (v : View) : Type 0 where
   pub number : ℕ
   pub drawn : v.number ≡ Some number
-  pub entries : v.entries ≡ record { number = number; call = told } ∷ []
+  pub told : List Told
+  pub entries : v.entries ≡ first.entries ++ numbered number told ∷ []
   pub flies : v.log.phase ≢ Idle
+  pub done : AreToldDone names lines told
+  pub gave : values ≡ values_told lines told
 
 -- steps from a lane at work that leave it quiet, if it was
 pub record IsCalmBehind (first w : View) : Type 0 where
@@ -127,69 +146,75 @@ pub record IsCalmBehind (first w : View) : Type 0 where
   pub working : IsWorking view
   pub calm : IsQuiet view → IsQuiet w
 
--- some of the steps with which a range is recorded, behind the first of these operations
-pub record IsInAdd (o : Opening) (first : View) (root : Oid) (all : List ScriptOp) (w : View) : Type 0 where
-  pub front : List ScriptOp
-  pub rest : List ScriptOp
-  pub is_all : all ≡ front ++ rest
+-- some of the steps with which a range is recorded, behind the first of these lines
+pub record IsInAdd (o : Opening) (first : View) (names : Names) (lines : List ScriptLine) (w : View) : Type 0 where
+  pub front : List ScriptLine
+  pub rest : List ScriptLine
+  pub is_all : lines ≡ front ++ rest
   pub view : View
   pub steps : List Step
   pub leads : Leads first steps view
   pub working : IsWorking view
-  pub words : (i : ℕ) → is_in_area 0 i ≡ false → slice_index view.words i ≡ words_after root front (slice_index o.words) i
+  pub words : (i : ℕ) → is_in_area 0 i ≡ false → slice_index view.words i ≡ words_after names front (slice_index o.words) i
   pub spans : List Span
-  pub spans_are : spans ≡ map span_of view.log.records
+  pub spans_are : spans ≡ spans_of view
+  pub id : Oid
   pub off : ℕ
   pub len : ℕ
-  pub ready : Ready view (adds_range spans root off len view)
-  pub draws : DrawEnded view (adds_range spans root off len view)
+  pub ready : Ready view (adds_range spans id off len view)
+  pub draws : DrawEnded view (adds_range spans id off len view)
   pub made : ℕ
-  pub is : w ≡ after_all view (take made (adds_range spans root off len view))
+  pub is : w ≡ after_all view (take made (adds_range spans id off len view))
 
--- where it writes a slot, it records a range of a script of these operations
-abbrev pub IsUntorn : Opening → View → Oid → List ScriptOp → View → Type 0
-IsUntorn o first root all w = IsCalmBehind first w ⊎ IsInAdd o first root all w
+-- where it writes a slot, it records a range of these lines
+abbrev pub IsUntorn : Opening → View → Names → List ScriptLine → View → Type 0
+IsUntorn o first names lines w = IsCalmBehind first w ⊎ IsInAdd o first names lines w
 
--- it came to its stop before its call of these operations was over: that has drawn no number, or came to all of them
-pub record IsCut (o : Opening) (first : View) (lane : Lane Solo) (root : Oid) (all : List ScriptOp) : Type 0 where
+-- it came to its stop before its call of these lines was over: that has drawn no number, or came to all of them
+pub record IsCut (o : Opening) (first : View) (lane : Lane Solo) (names : Names) (lines : List ScriptLine) (values : Values) : Type 0 where
   pub view : View
   pub steps : List Step
   pub leads : Leads first steps view
   pub seen : Sees lane.memory view
   pub drawn : lane.drawn ≡ view.number
-  pub came : IsUndrawn view ⊎ IsInFlight view (told_of root all)
+  pub came : IsUndrawn first view ⊎ IsInFlight first names lines values view
   pub opening : IsOfOpening o view
-  pub untorn : IsUntorn o first root all view
+  pub untorn : IsUntorn o first names lines view
   pub at_stop : IsAtStop view
+  pub stops : IsStoppedInCall names lines first view
 
 -- it did not begin its call
-pub record IsUnbegun (o : Opening) (first : View) (lane : Lane Solo) : Type 0 where
+pub record IsUnbegun (first : View) (lane : Lane Solo) : Type 0 where
   pub view : View
-  pub steps : List Step
-  pub leads : Leads first steps view
+  pub free : IsFree first view
   pub seen : Sees lane.memory view
-  pub no_entries : view.entries ≡ []
-  pub opening : IsOfOpening o view
-  pub quiet : IsQuiet view
+  pub used_up : IsUsedUp first
+  pub fresh : IsFresh view
+  pub drained : view.changes ≡ []
 
--- some line of the script was refused so, and has this number; the lines before it were done
-pub record IsRefusedAt (script : List ScriptLine) (root : Oid) (line : ℕ) (r : Refusal) (told : List Told) : Type 0 where
+-- some of the lines was refused so, and has this number; those before it were done, gave these values, and came to this with it
+pub record IsRefusedAt (names : Names) (lines : List ScriptLine) (line : ℕ) (r : Refusal) (values : Values) (told : List Told) : Type 0 where
   pub front : List ScriptLine
   pub said : ScriptLine
   pub rest : List ScriptLine
-  pub is_script : script ≡ front ++ said ∷ rest
+  pub is_lines : lines ≡ front ++ said ∷ rest
   pub of_line : said.line ≡ line
-  pub told_so : told ≡ told_of root (operations front) ++ refused (operation_of root said.operation) r ∷ []
+  pub before : List Told
+  pub done : AreToldDone names front before
+  pub gave : values ≡ values_told front before
+  pub told_so : told ≡ before ++ refused (operation_of names said.operation) r ∷ []
 
 -- its call was given up at this line
-abbrev pub IsGivenUpAt : View → Lane Solo → Oid → List ScriptLine → ℕ → Refusal → Type 0
-IsGivenUpAt first lane root script line r = (told : List Told) × (IsRefusedAt script root line r told × IsOver first lane told (error.Refused r))
+pub record IsGivenUpAt (first : View) (lane : Lane Solo) (names : Names) (lines : List ScriptLine) (values : Values) (line : ℕ) (r : Refusal) : Type 0 where
+  pub told : List Told
+  pub at : IsRefusedAt names lines line r values told
+  pub over : IsOver first lane names lines told (error.Refused r)
 
--- behind these operations one answered so: the lane came to its stop, or gave its call up for it
-abbrev pub IsLineEnd : Opening → View → Lane Solo → Oid → List ScriptOp → ScriptOp → Refusal → Type 0
-IsLineEnd o first lane root ops op refusal.Stopped = (rest : List ScriptOp) → IsCut o first lane root (ops ++ op ∷ rest)
-IsLineEnd o first lane root ops op refusal.Spent = ⊥
-IsLineEnd o first lane root ops op r = IsOver first lane (told_of root ops ++ refused (operation_of root op) r ∷ []) (error.Refused r)
+-- behind these lines one answered so: the lane came to its stop, or gave its call up for it
+abbrev pub IsLineEnd : Opening → View → Lane Solo → Names → List ScriptLine → Values → ScriptLine → Refusal → Type 0
+IsLineEnd o first lane names front values said refusal.Stopped = (rest : List ScriptLine) → IsCut o first lane names (front ++ said ∷ rest) values
+IsLineEnd o first lane names front values said refusal.Spent = ⊥
+IsLineEnd o first lane names front values said r = (rest : List ScriptLine) → IsGivenUpAt first lane names (front ++ said ∷ rest) values said.line r
 
 -- why a line is not done, by what it answers
 abbrev pub not_done : ℕ → Refusal → NotDone
@@ -197,76 +222,51 @@ not_done line refusal.Stopped = Stopped
 not_done line refusal.Spent = Spent line
 not_done line r = GivenUp line r
 
--- the script's call was not committed, for this reason
-abbrev pub IsNotDone : Opening → View → Lane Solo → Oid → List ScriptLine → NotDone → Type 0
-IsNotDone o first lane root script (GivenUp line r) = IsGivenUpAt first lane root script line r
-IsNotDone o first lane root script Stopped = IsCut o first lane root (operations script)
-IsNotDone o first lane root script (Spent line) = IsUnbegun o first lane
+-- the call was not committed, for this reason
+abbrev pub IsNotDone : Opening → View → Lane Solo → Names → List ScriptLine → Values → NotDone → Type 0
+IsNotDone o first lane names lines values (GivenUp line r) = IsGivenUpAt first lane names lines values line r
+IsNotDone o first lane names lines values Stopped = IsCut o first lane names lines values
+IsNotDone o first lane names lines values (Spent line) = IsUnbegun first lane × (slice_index (numbers_of lines) 0 ≡ line)
+IsNotDone o first lane names lines values (Memory e) = ⊤
 
--- the script's call was committed, or was not
-abbrev pub CameTo : {T : Type 0} → Opening → View → Lane Solo → Oid → List ScriptLine → Result T NotDone → Type 0
-CameTo o first lane root script (Ok answer) = IsOver first lane (told_of root (operations script)) error.None
-CameTo o first lane root script (Err why) = IsNotDone o first lane root script why
-
--- its locks are given back behind its call, which came to these operations with their replies
-pub record HasClosed (first : View) (m : Solo) (told : List Told) (error : TxErr) (at : ℕ) (ended : Ended) : Type 0 where
-  pub view : View
-  pub steps : List Step
-  pub leads : Leads first steps view
-  pub seen : Sees m view
-  pub number : ℕ
-  pub numbered : ended.number ≡ Some number
-  pub entries : view.entries ≡ record { number = number; call = told } ∷ []
-  pub idle : view.log ≡ no_log Idle
-  pub drained : view.changes ≡ []
-  pub quiet : IsQuiet view
-  pub ends : ended.end ≡ end.Ended
-  pub fails : ended.error ≡ error
-  pub at_line : ended.at ≡ at
-
--- how an answered call ended: it was committed, or refused at some line
-abbrev pub HasEnded : List ScriptLine → Oid → Ended → List Told → Type 0
-HasEnded script root ended told =
-    ((ended.error ≡ error.None) × (ended.at ≡ 0) × (told ≡ told_of root (operations script)))
-    ⊎ ((r : Refusal) × ((ended.error ≡ error.Refused r) × IsRefusedAt script root ended.at r told))
-
--- the call was answered
-pub record IsAnswered (script : List ScriptLine) (root : Oid) (ended : Ended) (v : View) : Type 0 where
+-- all of its lines were done
+pub record IsCommitted (first : View) (lane : Lane Solo) (names : Names) (lines : List ScriptLine) (values : Values) : Type 0 where
   pub told : List Told
-  pub number : ℕ
-  pub numbered : ended.number ≡ Some number
-  pub entries : v.entries ≡ record { number = number; call = told } ∷ []
-  pub idle : v.log ≡ no_log Idle
-  pub drained : v.changes ≡ []
-  pub ends : ended.end ≡ end.Ended
-  pub so : HasEnded script root ended told
+  pub done : AreToldDone names lines told
+  pub gave : values ≡ values_told lines told
+  pub over : IsOver first lane names lines told error.None
 
--- the lane stopped while its call was in flight
-pub record IsFlying (o : Opening) (script : List ScriptLine) (root : Oid) (ended : Ended) (v : View) : Type 0 where
-  pub calls : ℕ
-  pub ends : ended.end ≡ end.Stopped calls
-  pub flies : IsInFlight v (told_of root (operations script))
-  pub numbered : ended.number ≡ v.number
-  pub at : ended.at ≡ 0
-  pub opening : IsOfOpening o v
+-- the call was committed, or was not
+abbrev pub CameTo : {T : Type 0} → Opening → View → Lane Solo → Names → List ScriptLine → Values → Result T NotDone → Type 0
+CameTo o first lane names lines values (Ok answer) = IsCommitted first lane names lines values
+CameTo o first lane names lines values (Err why) = IsNotDone o first lane names lines values why
 
--- no call drew a number, and the lane did not end
-pub record IsNothing (o : Opening) (ended : Ended) (v : View) : Type 0 where
-  pub unnumbered : ended.number ≡ None
-  pub no_entries : v.entries ≡ []
-  pub ends : ended.end ≢ end.Ended
-  pub opening : IsOfOpening o v
+-- how an answered call of these lines ended, with what it gave: all were done, or one was refused
+abbrev pub HasEnded : Names → List ScriptLine → TxErr → Reply → List Told → Type 0
+HasEnded names lines e reply told =
+    ((e ≡ error.None) × (reply.at ≡ 0) × AreToldDone names lines told × (reply.values ≡ values_told lines told))
+    ⊎ ((r : Refusal) × (e ≡ error.Refused r) × IsRefusedAt names lines reply.at r reply.values told)
 
--- a lane that stopped made as many counted calls as its stop number says, modulo 2^64
-abbrev pub EndsAtStop : Option ℕ → LaneEnd → Type 0
-EndsAtStop stop ended = (calls : ℕ) → ended ≡ end.Stopped calls → (n : ℕ) × ((stop ≡ Some n) × (calls ≡ n % 2 ^ 64))
-
--- the run has ended, and its memory is seen so
-pub record HasRun (o : Opening) (first : View) (m : Solo) (root : Oid) (script : List ScriptLine) (ended : Ended) : Type 0 where
+-- the call was answered, and the lane rests again
+pub record IsAnswered (first : View) (lane : Lane Solo) (names : Names) (lines : List ScriptLine) (number : ℕ) (e : TxErr) (reply : Reply) : Type 0 where
   pub view : View
   pub steps : List Step
   pub leads : Leads first steps view
-  pub seen : Sees m view
-  pub untorn : IsQuiet view ⊎ IsUntorn o first root (operations script) view
-  pub at_stop : EndsAtStop first.stop ended.end
-  pub so : IsAnswered script root ended view ⊎ (IsFlying o script root ended view ⊎ IsNothing o ended view)
+  pub rests : IsAtRest Sees lane view
+  pub idle : view.log ≡ no_log Idle
+  pub told : List Told
+  pub entries : view.entries ≡ first.entries ++ numbered number told ∷ []
+  pub so : HasEnded names lines e reply told
+  pub made : IsCallMade names lines e first view
+
+-- the lane stopped in the call
+pub record IsHalted (o : Opening) (first : View) (lane : Lane Solo) (names : Names) (lines : List ScriptLine) (number : Option ℕ) (reply : Reply) : Type 0 where
+  pub cut : IsCut o first lane names lines reply.values
+  pub unanswered : reply.at ≡ 0
+  pub numbered : number ≡ cut.view.number
+
+-- how a call of these lines ended
+abbrev pub HasCome : Opening → View → Lane Solo → Names → List ScriptLine → CallEnd → Type 0
+HasCome o first lane names lines (call_end.Answered number e reply) = IsAnswered first lane names lines number e reply
+HasCome o first lane names lines (call_end.Halted number reply) = IsHalted o first lane names lines number reply
+HasCome o first lane names lines (call_end.Unbegun line) = IsUnbegun first lane × (slice_index (numbers_of lines) 0 ≡ line)

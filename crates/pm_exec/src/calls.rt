@@ -1,90 +1,189 @@
-//! The call that a script's transaction is.
+//! The calls that a script's transactions are.
 
-ghost use Rattle.std.specs.Prelude.{◌≡◌, ◌≤◌, [], ◌∷◌, length, map, true, IfOk};
+ghost use Rattle.std.specs.Prelude.{◌≡◌, ◌≤◌, ◌<◌, ◌++◌, ◌∷◌, [], length, map, take, drop, IfOk};
 ghost use Rattle.pm_objects.specs.declared.calls.Operation.TheVariants as operation;
-ghost use Rattle.pm_exec.specs.Calls.{call_of, operation_of, root_of};
+ghost use Rattle.pm_exec.specs.Calls.{call_of, has_root, id_of, is_commit, is_root, names_of, operation_of, root_in, transactions, want_of};
 
 use pm_objects::{Call, Oid, Operation, PoolView, Sequence, Want};
-use pm_script::{Script, ScriptLine, ScriptOp};
+use pm_script::{ScriptId, ScriptLine, ScriptOp, ScriptWant};
 use std::alloc::{AllocError, Global};
 
-/// The id of the pool's root: null where there is none.
-pub(crate) fn root_of(pool: &PoolView) -> Oid
-    ensures { result ≡ root_of pool.now }
+/// What the ids of a script stand for.
+#[derive(Clone, Copy, Debug, PartialEq, Eq)]
+pub(crate) struct Names {
+    /// The pool's number.
+    pub(crate) pool: u64,
+    /// The pool's root: null where there is none.
+    pub(crate) root: Oid,
+}
+
+/// What ids stand for in a script that runs on this pool.
+pub(crate) fn names_of(pool: &PoolView) -> Names
+    ensures { result ≡ names_of pool.now }
 {
-    match pool.root {
+    let root = match pool.root {
         Some(off) => Oid { pool: pool.id, off },
         None => Oid::NULL,
+    };
+    Names {
+        pool: pool.id,
+        root,
     }
 }
 
-/// The operation that a line says, of the root with this id.
-fn operation_of(alloc: Global, root: Oid, operation: &ScriptOp) -> Result<Operation, AllocError>
-    ensures { IfOk result (λ op. op ≡ operation_of root operation.now) }
+/// The object that a script names so.
+pub(crate) fn id_of(names: Names, id: ScriptId) -> Oid
+    ensures { result ≡ id_of names id }
+{
+    match id {
+        ScriptId::Root => names.root,
+        ScriptId::At(off) => Oid {
+            pool: names.pool,
+            off,
+        },
+    }
+}
+
+/// The locks that a begin wants.
+pub(crate) fn wants_of(
+    alloc: Global,
+    names: Names,
+    wants: &[ScriptWant],
+) -> Result<Vec<Want>, AllocError>
+    ensures { IfOk result (λ all. all.items ≡ map (want_of names) wants.now) }
+{
+    let mut all = Vec::new(alloc);
+    for want in wants {
+        let id = id_of(names, want.id);
+        all.push(Want {
+            id,
+            write: want.write,
+        })?;
+    }
+    Ok(all)
+}
+
+/// The operation that a line says.
+fn operation_of(alloc: Global, names: Names, operation: &ScriptOp) -> Result<Operation, AllocError>
+    ensures { IfOk result (λ op. op ≡ operation_of names operation.now) }
 {
     match operation {
-        ScriptOp::Begin => begin_of(alloc, root),
-        ScriptOp::Add { off, len } => Ok(Operation::AddRange {
-            id: root,
+        ScriptOp::Begin { wants } => begin_of(alloc, names, wants.as_slice()),
+        ScriptOp::Add { id, off, len } => Ok(Operation::AddRange {
+            id: id_of(names, *id),
             off: *off,
             len: *len,
         }),
-        ScriptOp::Write { off, bytes } => write_of(alloc, root, *off, bytes.as_slice()),
+        ScriptOp::Write { id, off, bytes } => {
+            write_of(alloc, id_of(names, *id), *off, bytes.as_slice())
+        }
+        ScriptOp::Read { id, off, len } => Ok(Operation::Read {
+            id: id_of(names, *id),
+            off: *off,
+            len: *len,
+        }),
         ScriptOp::Commit => Ok(Operation::Commit),
     }
 }
 
-/// A begin with the write lock of the root.
-fn begin_of(alloc: Global, root: Oid) -> Result<Operation, AllocError>
-    ensures { IfOk result (λ op. op ≡ operation.Begin (record { id = root; write = true } ∷ [])) }
+/// A begin with these locks.
+fn begin_of(alloc: Global, names: Names, wants: &[ScriptWant]) -> Result<Operation, AllocError>
+    ensures { IfOk result (λ op. op ≡ operation.Begin (map (want_of names) wants.now)) }
 {
-    let want = Want {
-        id: root,
-        write: true,
-    };
-    let wants = Vec::from_slice(alloc, &[want])?;
+    let wants = wants_of(alloc, names, wants)?;
     Ok(Operation::Begin(Sequence::from_vec(wants)))
 }
 
 /// A write of these bytes.
-fn write_of(alloc: Global, root: Oid, off: u64, bytes: &[u8]) -> Result<Operation, AllocError>
-    ensures { IfOk result (λ op. op ≡ operation.Write root off bytes.now) }
+fn write_of(alloc: Global, id: Oid, off: u64, bytes: &[u8]) -> Result<Operation, AllocError>
+    ensures { IfOk result (λ op. op ≡ operation.Write id off bytes.now) }
 {
     let bytes = Sequence::from_vec(Vec::from_slice(alloc, bytes)?);
-    Ok(Operation::Write {
-        id: root,
-        off,
-        bytes,
-    })
+    Ok(Operation::Write { id, off, bytes })
 }
 
 /// The operations that the lines say.
 fn operations_of(
     alloc: Global,
-    root: Oid,
+    names: Names,
     lines: &[ScriptLine],
 ) -> Result<Vec<Operation>, AllocError>
-    ensures { IfOk result (λ all. all.items ≡ map (λ line. operation_of root line.operation) lines.now) }
+    ensures { IfOk result (λ all. all.items ≡ map (λ line. operation_of names line.operation) lines.now) }
 {
     let mut operations = Vec::new(alloc);
     for line in lines {
-        let operation = operation_of(alloc, root, &line.operation)?;
+        let operation = operation_of(alloc, names, &line.operation)?;
         operations.push(operation)?;
     }
     Ok(operations)
 }
 
-/// The script's transaction as a call, of the root with this id.
-pub(crate) fn call_of(alloc: Global, root: Oid, lines: &[ScriptLine]) -> Result<Call, AllocError>
-    requires { 1 ≤ length lines.now }
-    ensures { IfOk result (λ call. call ≡ call_of root lines.now) }
+fn is_root(id: ScriptId) -> bool
+    ensures { result ≡ is_root id }
 {
-    let operations = operations_of(alloc, root, lines)?;
+    match id {
+        ScriptId::Root => true,
+        ScriptId::At(_) => false,
+    }
+}
+
+/// Whether the line has the word `root`.
+fn has_root(operation: &ScriptOp) -> bool
+    ensures { result ≡ has_root operation.now }
+{
+    match operation {
+        ScriptOp::Begin { wants } => wants.as_slice().iter().any(|want| is_root(want.id)),
+        ScriptOp::Add { id, .. } => is_root(*id),
+        ScriptOp::Write { id, .. } => is_root(*id),
+        ScriptOp::Read { id, .. } => is_root(*id),
+        ScriptOp::Commit => false,
+    }
+}
+
+/// What the word `root` stands for in the lines, where one has it.
+fn root_in(names: Names, lines: &[ScriptLine]) -> Option<u64>
+    ensures { result ≡ root_in names lines.now }
+{
+    if lines.iter().any(|line| has_root(&line.operation)) {
+        Some(names.root.off)
+    } else {
+        None
+    }
+}
+
+/// The transaction of lane 0 that the lines are.
+pub(crate) fn call_of(alloc: Global, names: Names, lines: &[ScriptLine]) -> Result<Call, AllocError>
+    requires { 1 ≤ length lines.now }
+    ensures { IfOk result (λ call. call ≡ call_of names lines.now) }
+{
+    let operations = operations_of(alloc, names, lines)?;
     Ok(Call {
         lane: 0,
         first: lines[0].line,
         last: lines[lines.len() - 1].line,
-        root: Some(root.off),
+        root: root_in(names, lines),
         operations: Sequence::from_vec(operations),
     })
+}
+
+fn is_commit(operation: &ScriptOp) -> bool
+    ensures { result ≡ is_commit operation.now }
+{
+    match operation {
+        ScriptOp::Commit => true,
+        _ => false,
+    }
+}
+
+/// How many of the lines are the first transaction: those up to its commit, or all where there is none.
+pub(crate) fn first_call(lines: &[ScriptLine]) -> usize
+    requires { 1 ≤ length lines.now }
+    ensures some { 1 ≤ result }
+    ensures inside { result ≤ length lines.now }
+    ensures first { transactions lines.now ≡ take result lines.now ∷ transactions (drop result lines.now) }
+{
+    match lines.iter().position(|line| is_commit(&line.operation)) {
+        Some(index) => index + 1,
+        None => lines.len(),
+    }
 }

@@ -7,10 +7,11 @@
 
 mod calls;
 mod ending;
+mod executing;
 mod lines;
 mod opening;
 mod outcome;
 mod running;
 
+pub use executing::exec;
 pub use outcome::{OpenFault, Outcome};
-pub use running::exec;

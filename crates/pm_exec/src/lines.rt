@@ -1,22 +1,26 @@
-//! The work of a script's lines by lane 0.
+//! The work of a transaction's lines by lane 0.
 
-ghost use Rattle.std.specs.Prelude.{◌≡◌, ◌⊎◌, ◌<◌, ◌≤◌, ℕ, List, [], ◌∷◌, ◌++◌, length, IfErr, OnOk, OnErr, All};
+ghost use Rattle.std.specs.Prelude.{◌≡◌, ◌⊎◌, ◌<◌, ◌≤◌, ℕ, List, [], ◌∷◌, ◌++◌, length, map, IfErr, OnOk, OnErr, All};
 ghost use Rattle.pm_memory.specs.Solo.{Sees};
 ghost use Rattle.pm_objects.specs.declared.refusal.Refusal.TheVariants as refusal;
 ghost use Rattle.pm_script.specs.Scripts.{IsChange, IsTransaction, operations};
 ghost use Rattle.pm_script.specs.declared.script.ScriptLine.{ScriptLine};
 ghost use Rattle.pm_script.specs.declared.script.ScriptOp.{ScriptOp};
 ghost use Rattle.pm_script.specs.declared.script.ScriptOp.TheVariants as op;
+ghost use Rattle.pm_script.specs.declared.script.ScriptWant.{ScriptWant};
 ghost use Rattle.pm_tx.specs.Ending.{IsLaneAtWork};
 ghost use Rattle.pm_view.specs.View.{View};
 ghost use Rattle.pm_world.specs.Opening.{Opening};
-ghost use Rattle.pm_exec.specs.Progress.{CameTo, IsAtLine, IsFirst, IsLaneAtLine, IsNotDone, IsLineEnd, not_done};
+ghost use Rattle.pm_exec.specs.Calls.{want_of};
+ghost use Rattle.pm_exec.specs.Progress.{CameTo, IsAtLine, IsStart, IsLaneAtLine, IsLaneWith, IsNotDone, IsLineEnd, Values, not_done};
 
+use crate::calls::{Names, id_of, wants_of};
 use pm_memory::SoloMem;
-use pm_objects::{Oid, Refusal, Want};
-use pm_script::{ScriptLine, ScriptOp};
-use pm_tx::{add_range, begin, commit, write};
+use pm_objects::{Refusal, Sequence, Value, Want};
+use pm_script::{ScriptId, ScriptLine, ScriptOp};
+use pm_tx::{add_range, begin, commit, read, write};
 use pm_world::Lane;
+use std::alloc::{AllocError, AllocFailed, Global};
 
 /// Why a script's transaction was not committed.
 #[derive(Clone, Copy, Debug, PartialEq, Eq)]
@@ -27,6 +31,30 @@ pub(crate) enum NotDone {
     Stopped,
     /// At this line no generation or no number was left to the lane.
     Spent { line: u64 },
+    /// There was no memory for what the lines want or give.
+    Memory(AllocError),
+}
+
+impl From<AllocError> for NotDone {
+    ghost use Rattle.std.specs.Prelude.{◌≡◌, alloc_error};
+    ghost use Rattle.pm_exec.specs.declared.lines.NotDone.TheVariants.{Memory};
+
+    ghost from_gives = { λ _ why. why ≡ Memory alloc_error };
+
+    fn from(error: AllocError) -> Self {
+        NotDone::Memory(error)
+    }
+}
+
+impl<T: Drop> From<AllocFailed<T>> for NotDone {
+    ghost use Rattle.std.specs.Prelude.{◌≡◌, alloc_error};
+    ghost use Rattle.pm_exec.specs.declared.lines.NotDone.TheVariants.{Memory};
+
+    ghost from_gives = { λ _ why. why ≡ Memory alloc_error };
+
+    fn from(_: AllocFailed<T>) -> Self {
+        NotDone::Memory(AllocError)
+    }
 }
 
 /// Why the line with this number is not done, if it answers so.
@@ -40,92 +68,171 @@ fn not_done(line: u64, why: Refusal) -> NotDone
     }
 }
 
-/// Records a range of the root.
-fn add(lane: &mut Lane<SoloMem>, root: Oid, off: u64, len: u64) -> Result<(), Refusal>
-    requires at_work { IsLaneAtLine lane.old root }
-    ensures done { OnOk result ((o : Opening) (first : View) (ops : List ScriptOp) → IsAtLine o first lane.old root ops → IsAtLine o first lane.new root (ops ++ op.Add off len ∷ [])) }
-    ensures ends { IfErr result (λ r. (o : Opening) (first : View) (ops : List ScriptOp) → IsAtLine o first lane.old root ops → IsLineEnd o first lane.new root ops (op.Add off len) r) }
+/// Records the range that this line names.
+fn add_at(
+    lane: &mut Lane<SoloMem>,
+    names: Names,
+    said: &ScriptLine,
+    id: ScriptId,
+    off: u64,
+    len: u64,
+) -> Result<(), NotDone>
+    requires is_said { said.now.operation ≡ op.Add id off len }
+    requires at_work { IsLaneAtLine lane.old names }
+    ensures done { OnOk result ((o : Opening) (first : View) (front : List ScriptLine) (values : Values) → IsAtLine o first lane.old names front values
+        → IsAtLine o first lane.new names (front ++ said.now ∷ []) values) }
+    ensures ends { IfErr result (λ why. (o : Opening) (first : View) (front rest : List ScriptLine) (values : Values) → IsAtLine o first lane.old names front values
+        → IsNotDone o first lane.new names (front ++ said.now ∷ rest) values why) }
 {
-    add_range(lane, root, off, len)?;
-    Ok(())
-}
-
-/// Writes bytes of the root.
-fn put(lane: &mut Lane<SoloMem>, root: Oid, off: u64, bytes: &[u8]) -> Result<(), Refusal>
-    requires at_work { IsLaneAtLine lane.old root }
-    ensures done { OnOk result ((o : Opening) (first : View) (ops : List ScriptOp) → IsAtLine o first lane.old root ops → IsAtLine o first lane.new root (ops ++ op.Write off bytes.now ∷ [])) }
-    ensures ends { IfErr result (λ r. (o : Opening) (first : View) (ops : List ScriptOp) → IsAtLine o first lane.old root ops → IsLineEnd o first lane.new root ops (op.Write off bytes.now) r) }
-{
-    write(lane, root, off, bytes)?;
-    Ok(())
-}
-
-/// Records a range of the root, or writes bytes of it, as the operation says.
-fn change(lane: &mut Lane<SoloMem>, root: Oid, operation: &ScriptOp) -> Result<(), Refusal>
-    requires is_change { IsChange operation.now }
-    requires at_work { IsLaneAtLine lane.old root }
-    ensures done { OnOk result ((o : Opening) (first : View) (ops : List ScriptOp) → IsAtLine o first lane.old root ops → IsAtLine o first lane.new root (ops ++ operation.now ∷ [])) }
-    ensures ends { IfErr result (λ r. (o : Opening) (first : View) (ops : List ScriptOp) → IsAtLine o first lane.old root ops → IsLineEnd o first lane.new root ops operation.now r) }
-{
-    match operation {
-        ScriptOp::Add { off, len } => add(lane, root, *off, *len),
-        ScriptOp::Write { off, bytes } => put(lane, root, *off, bytes.as_slice()),
-        ScriptOp::Begin | ScriptOp::Commit => unreachable!(),
+    match add_range(lane, id_of(names, id), off, len) {
+        Ok(_) => Ok(()),
+        Err(why) => Err(not_done(said.line, why)),
     }
 }
 
-/// Makes the change of this line.
-fn change_at(lane: &mut Lane<SoloMem>, root: Oid, said: &ScriptLine) -> Result<(), NotDone>
-    requires is_change { IsChange said.now.operation }
-    requires at_work { IsLaneAtLine lane.old root }
-    ensures done { OnOk result ((o : Opening) (first : View) (ops : List ScriptOp) → IsAtLine o first lane.old root ops → IsAtLine o first lane.new root (ops ++ said.now.operation ∷ [])) }
-    ensures ends { IfErr result (λ why. (o : Opening) (first : View) (front rest : List ScriptLine) → IsAtLine o first lane.old root (operations front)
-        → IsNotDone o first lane.new root (front ++ said.now ∷ rest) why) }
+/// Writes the bytes that this line names.
+fn write_at(
+    lane: &mut Lane<SoloMem>,
+    names: Names,
+    said: &ScriptLine,
+    id: ScriptId,
+    off: u64,
+    bytes: &[u8],
+) -> Result<(), NotDone>
+    requires is_said { said.now.operation ≡ op.Write id off bytes.now }
+    requires at_work { IsLaneAtLine lane.old names }
+    ensures done { OnOk result ((o : Opening) (first : View) (front : List ScriptLine) (values : Values) → IsAtLine o first lane.old names front values
+        → IsAtLine o first lane.new names (front ++ said.now ∷ []) values) }
+    ensures ends { IfErr result (λ why. (o : Opening) (first : View) (front rest : List ScriptLine) (values : Values) → IsAtLine o first lane.old names front values
+        → IsNotDone o first lane.new names (front ++ said.now ∷ rest) values why) }
 {
-    match change(lane, root, &said.operation) {
+    match write(lane, id_of(names, id), off, bytes) {
         Ok(()) => Ok(()),
         Err(why) => Err(not_done(said.line, why)),
+    }
+}
+
+/// Reads the bytes that this line names, and adds them to what the lines gave.
+fn read_at(
+    alloc: Global,
+    lane: &mut Lane<SoloMem>,
+    names: Names,
+    said: &ScriptLine,
+    range: (ScriptId, u64, u64),
+    values: &mut Vec<(u64, Value)>,
+) -> Result<(), NotDone>
+    requires is_said { said.now.operation ≡ op.Read range.0 range.1 range.2 }
+    requires at_work { IsLaneWith lane.old names values.old.items }
+    ensures done { OnOk result ((o : Opening) (first : View) (front : List ScriptLine) → IsAtLine o first lane.old names front values.old.items
+        → IsAtLine o first lane.new names (front ++ said.now ∷ []) values.new.items) }
+    ensures ends { IfErr result (λ why. (o : Opening) (first : View) (front rest : List ScriptLine) → IsAtLine o first lane.old names front values.old.items
+        → IsNotDone o first lane.new names (front ++ said.now ∷ rest) values.new.items why) }
+{
+    let (id, off, len) = range;
+    let mut bytes = vec![in alloc; 0; len as usize]?;
+    match read(lane, id_of(names, id), off, bytes.as_mut_slice()) {
+        Ok(()) => {
+            let value = Value::Bytes(Sequence::from_vec(bytes));
+            values.push((said.line, value))?;
+            Ok(())
+        }
+        Err(why) => Err(not_done(said.line, why)),
+    }
+}
+
+/// Makes the change of this line: records a range, writes bytes or reads some.
+fn change_at(
+    alloc: Global,
+    lane: &mut Lane<SoloMem>,
+    names: Names,
+    said: &ScriptLine,
+    values: &mut Vec<(u64, Value)>,
+) -> Result<(), NotDone>
+    requires is_change { IsChange said.now.operation }
+    requires at_work { IsLaneWith lane.old names values.old.items }
+    ensures done { OnOk result ((o : Opening) (first : View) (front : List ScriptLine) → IsAtLine o first lane.old names front values.old.items
+        → IsAtLine o first lane.new names (front ++ said.now ∷ []) values.new.items) }
+    ensures ends { IfErr result (λ why. (o : Opening) (first : View) (front rest : List ScriptLine) → IsAtLine o first lane.old names front values.old.items
+        → IsNotDone o first lane.new names (front ++ said.now ∷ rest) values.new.items why) }
+{
+    match &said.operation {
+        ScriptOp::Add { id, off, len } => add_at(lane, names, said, *id, *off, *len),
+        ScriptOp::Write { id, off, bytes } => {
+            write_at(lane, names, said, *id, *off, bytes.as_slice())
+        }
+        ScriptOp::Read { id, off, len } => {
+            read_at(alloc, lane, names, said, (*id, *off, *len), values)
+        }
+        ScriptOp::Begin { .. } | ScriptOp::Commit => unreachable!(),
     }
 }
 
 /// Makes the changes of these lines, up to the first that is not done.
-fn change_all(lane: &mut Lane<SoloMem>, root: Oid, lines: &[ScriptLine]) -> Result<(), NotDone>
+fn change_all(
+    alloc: Global,
+    lane: &mut Lane<SoloMem>,
+    names: Names,
+    lines: &[ScriptLine],
+    values: &mut Vec<(u64, Value)>,
+) -> Result<(), NotDone>
     requires are_changes { All IsChange (operations lines.now) }
-    requires at_work { IsLaneAtLine lane.old root }
-    ensures at_work { OnOk result (IsLaneAtLine lane.new root) }
-    ensures done { OnOk result ((o : Opening) (first : View) (ops : List ScriptOp) → IsAtLine o first lane.old root ops → IsAtLine o first lane.new root (ops ++ operations lines.now)) }
-    ensures ends { IfErr result (λ why. (o : Opening) (first : View) (front rest : List ScriptLine) → IsAtLine o first lane.old root (operations front)
-        → IsNotDone o first lane.new root (front ++ lines.now ++ rest) why) }
+    requires at_work { IsLaneWith lane.old names values.old.items }
+    ensures at_work { OnOk result (IsLaneWith lane.new names values.new.items) }
+    ensures done { OnOk result ((o : Opening) (first : View) (front : List ScriptLine) → IsAtLine o first lane.old names front values.old.items
+        → IsAtLine o first lane.new names (front ++ lines.now) values.new.items) }
+    ensures ends { IfErr result (λ why. (o : Opening) (first : View) (front rest : List ScriptLine) → IsAtLine o first lane.old names front values.old.items
+        → IsNotDone o first lane.new names (front ++ lines.now ++ rest) values.new.items why) }
 {
     for said in lines {
-        change_at(lane, root, said)?;
+        change_at(alloc, lane, names, said, values)?;
     }
     Ok(())
 }
 
-/// Begins the transaction, at this line, with the root's write lock.
-fn begin_at(lane: &mut Lane<SoloMem>, root: Oid, said: &ScriptLine) -> Result<(), NotDone>
-    requires begins { said.now.operation ≡ op.Begin }
-    requires first { (o : Opening) × ((first : View) × IsFirst o lane.old first) }
-    ensures at_work { OnOk result (IsLaneAtLine lane.new root) }
-    ensures done { OnOk result ((o : Opening) (first : View) → IsFirst o lane.old first → IsAtLine o first lane.new root (op.Begin ∷ [])) }
-    ensures ends { IfErr result (λ why. (o : Opening) (first : View) (rest : List ScriptLine) → IsFirst o lane.old first → IsNotDone o first lane.new root (said.now ∷ rest) why) }
+/// Begins the transaction of this line, with the locks that it wants.
+fn begin_with(
+    lane: &mut Lane<SoloMem>,
+    names: Names,
+    said: &ScriptLine,
+    wants: &[Want],
+) -> Result<(), NotDone>
+    requires begins { (asked : List ScriptWant) × ((said.now.operation ≡ op.Begin asked) × (wants.now ≡ map (want_of names) asked)) }
+    requires first { (o : Opening) × ((first : View) × IsStart o lane.old first) }
+    ensures at_work { OnOk result (IsLaneWith lane.new names []) }
+    ensures done { OnOk result ((o : Opening) (first : View) → IsStart o lane.old first → IsAtLine o first lane.new names (said.now ∷ []) []) }
+    ensures ends { IfErr result (λ why. (o : Opening) (first : View) (rest : List ScriptLine) → IsStart o lane.old first → IsNotDone o first lane.new names (said.now ∷ rest) [] why) }
 {
-    let want = Want {
-        id: root,
-        write: true,
-    };
-    match begin(lane, &[want]) {
+    match begin(lane, wants) {
         Ok(()) => Ok(()),
         Err(why) => Err(not_done(said.line, why)),
     }
 }
 
+/// Begins the transaction, at this line.
+fn begin_at(
+    alloc: Global,
+    lane: &mut Lane<SoloMem>,
+    names: Names,
+    said: &ScriptLine,
+) -> Result<(), NotDone>
+    requires begins { (asked : List ScriptWant) × (said.now.operation ≡ op.Begin asked) }
+    requires first { (o : Opening) × ((first : View) × IsStart o lane.old first) }
+    ensures at_work { OnOk result (IsLaneWith lane.new names []) }
+    ensures done { OnOk result ((o : Opening) (first : View) → IsStart o lane.old first → IsAtLine o first lane.new names (said.now ∷ []) []) }
+    ensures ends { IfErr result (λ why. (o : Opening) (first : View) (rest : List ScriptLine) → IsStart o lane.old first → IsNotDone o first lane.new names (said.now ∷ rest) [] why) }
+{
+    let ScriptOp::Begin { wants } = &said.operation else {
+        unreachable!()
+    };
+    let wants = wants_of(alloc, names, wants.as_slice())?;
+    begin_with(lane, names, said, wants.as_slice())
+}
+
 /// Commits the transaction.
-fn commit_all(lane: &mut Lane<SoloMem>, root: Oid) -> Result<(), NotDone>
-    requires at_work { IsLaneAtLine lane.old root }
-    ensures { (o : Opening) (first : View) (front : List ScriptLine) (said : ScriptLine) → IsAtLine o first lane.old root (operations front) → said.operation ≡ op.Commit
-        → CameTo o first lane.new root (front ++ said ∷ []) result }
+fn commit_all(lane: &mut Lane<SoloMem>, names: Names) -> Result<(), NotDone>
+    requires at_work { IsLaneAtLine lane.old names }
+    ensures { (o : Opening) (first : View) (front : List ScriptLine) (values : Values) (said : ScriptLine) → IsAtLine o first lane.old names front values → said.operation ≡ op.Commit
+        → CameTo o first lane.new names (front ++ said ∷ []) values result }
 {
     match commit(lane) {
         Ok(()) => Ok(()),
@@ -133,17 +240,20 @@ fn commit_all(lane: &mut Lane<SoloMem>, root: Oid) -> Result<(), NotDone>
     }
 }
 
-/// Makes the transaction of a script on the root, up to the first line that is not done.
+/// Makes the transaction of these lines, up to the first that is not done; what they gave is added to the values.
 pub(crate) fn transact(
+    alloc: Global,
     lane: &mut Lane<SoloMem>,
-    root: Oid,
+    names: Names,
     lines: &[ScriptLine],
+    values: &mut Vec<(u64, Value)>,
 ) -> Result<(), NotDone>
     requires transaction { IsTransaction (operations lines.now) }
-    requires first { (o : Opening) × ((first : View) × IsFirst o lane.old first) }
-    ensures { (o : Opening) (first : View) → IsFirst o lane.old first → CameTo o first lane.new root lines.now result }
+    requires first { (o : Opening) × ((first : View) × IsStart o lane.old first) }
+    requires none { values.old.items ≡ [] }
+    ensures { (o : Opening) (first : View) → IsStart o lane.old first → CameTo o first lane.new names lines.now values.new.items result }
 {
-    begin_at(lane, root, &lines[0])?;
-    change_all(lane, root, &lines[1..lines.len() - 1])?;
-    commit_all(lane, root)
+    begin_at(alloc, lane, names, &lines[0])?;
+    change_all(alloc, lane, names, &lines[1..lines.len() - 1], values)?;
+    commit_all(lane, names)
 }

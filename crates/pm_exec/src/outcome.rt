@@ -24,6 +24,8 @@ pub enum OpenFault {
     Image(ImageFault),
     /// The pool has this layout name, and another was asked for.
     Layout(Sequence<u8>),
+    /// The script is of so many lanes, and fewer run on the pool.
+    Lanes { asked: u64, kept: u64 },
     /// There was no memory.
     Memory(AllocError),
 }

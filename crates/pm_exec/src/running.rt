@@ -1,106 +1,130 @@
-ghost use Rattle.std.specs.Prelude.{◌≡◌, ◌≢◌, ◌<◌, ◌==◌, not, ℕ, List, IfErr, IfOk, length, slice_index};
-ghost use Rattle.pm_layout.specs.Layout.{IsShape};
-ghost use Rattle.pm_image.specs.Means.{IsMeaning};
-ghost use Rattle.pm_objects.specs.declared.pool.PoolView.{PoolView};
-ghost use Rattle.pm_recover.specs.Recovery.{HasNoStrayRecord, IsRecovered};
-ghost use Rattle.std.specs.List.Sorted.{IsStrictlyIncreasing};
-ghost use Rattle.pm_script.specs.Scripts.{IsTransaction, operations};
-ghost use Rattle.pm_world.specs.Opening.{IsSound};
-ghost use Rattle.pm_exec.specs.Calls.{numbers_of};
-ghost use Rattle.pm_exec.specs.Opening.{IsOpenCause, IsOpened};
-ghost use Rattle.pm_exec.specs.Progress.{IsFirst, first_view, opening_of};
-ghost use Rattle.pm_exec.specs.Runs.{IsHistoryOf, LeavesReplay};
-ghost use Rattle.pm_exec.specs.Torn.{HasNoTornMatch};
+//! The run of a script's calls by lane 0, one after another.
 
-use crate::calls::{call_of, root_of};
-use crate::ending::{end_run, history_of};
-use crate::lines::transact;
-use crate::opening::open;
-use crate::outcome::{OpenFault, Outcome};
+ghost use Rattle.std.specs.Prelude.{◌≡◌, ◌++◌, ◌∷◌, [], List, IfOk, IfSome, IfNone};
+ghost use Rattle.pm_layout.specs.Layout.{IsShape};
+ghost use Rattle.pm_script.specs.Scripts.{AreTransactions, IsTransaction, operations};
+ghost use Rattle.pm_script.specs.declared.script.ScriptLine.{ScriptLine};
+ghost use Rattle.pm_view.specs.View.{View};
+ghost use Rattle.pm_world.specs.Opening.{IsSound, Opening};
+ghost use Rattle.pm_exec.specs.Calls.{call_of, transactions};
+ghost use Rattle.pm_exec.specs.declared.calls.Names.{Names};
+ghost use Rattle.pm_exec.specs.Openings.{first_view, opening_of};
+ghost use Rattle.pm_exec.specs.Progress.{IsStart};
+ghost use Rattle.pm_exec.specs.Running.{HasComeTo, HasHalted, HasRun, open_entry};
+
+use crate::calls::{Names, call_of, first_call};
+use crate::ending::{CallEnd, run_call, settled_fate};
 use pm_layout::Shape;
 use pm_memory::SoloMem;
-use pm_objects::PoolView;
+use pm_objects::{Call, Entry, Fate, PoolView, Reply};
 use pm_raw::RawImage;
-use pm_script::Script;
+use pm_script::ScriptLine;
+use pm_text::LaneEnd;
 use pm_world::Lane;
 use std::alloc::{AllocError, Global};
 
 /// The place of the generation of lane 0, in words.
-const GENERATION_WORD: u64 = 512;
+pub(crate) const GENERATION_WORD: u64 = 512;
 
-/// Opens the pool of an image, as recovery leaves it, and runs a script on it: lane 0 makes counted calls up to its stop number, if it has one,
-/// and of what is then undrained so much survives as `keep` says. An error is the first of the image's fault and another layout name than was
-/// asked for, or want of memory.
-pub fn exec(
-    alloc: Global,
-    image: RawImage,
-    script: &Script,
-    layout: &str,
-    stop: Option<u64>,
-    keep: u64,
-) -> Result<Outcome, OpenFault>
-    requires transaction { IsTransaction (operations script.now) }
-    requires rising { IsStrictlyIncreasing (numbers_of script.now) }
-    ensures opened { IfOk result (λ out. IsOpened image layout.now) }
-    ensures cause { IfErr result (IsOpenCause image layout.now) }
-    ensures size { IfOk result (λ out. length out.words.items ≡ length image) }
-    ensures history { IfOk result (λ out. (pool : PoolView) → IsMeaning image pool → IsHistoryOf pool script.now stop out.history.items out.end) }
-
-    // Taken for granted: no slot has a record of a generation to come, and no torn record's sum matches by chance.
-    ensures replay { IfOk result (λ out. (pool : PoolView) → IsMeaning image pool → HasNoStrayRecord image pool.lanes → HasNoTornMatch image pool script.now
-        → LeavesReplay image pool out.history.items out.words.items) }
-{
-    let mut image = image;
-    let pool = open(alloc, &mut image, layout)?;
-    let outcome = run(alloc, &image, &pool, script, stop, keep)?;
-    Ok(outcome)
+/// How a run came to its end, behind the calls that were answered.
+#[derive(Drop)]
+pub(crate) struct Halt {
+    pub(crate) end: LaneEnd,
+    /// The call that drew a number and was not answered, as lost.
+    pub(crate) is_open: Option<Entry>,
+    /// The lane's generation as its last call began: an image that has it still lacks that call's deciding store.
+    pub(crate) generation: u64,
 }
 
-/// Runs the script on the pool of a recovered image.
-fn run(
-    alloc: Global,
-    image: &RawImage,
-    pool: &PoolView,
-    script: &Script,
-    stop: Option<u64>,
-    keep: u64,
-) -> Result<Outcome, AllocError>
-    requires transaction { IsTransaction (operations script.now) }
-    requires rising { IsStrictlyIncreasing (numbers_of script.now) }
-    requires recovered { (before : List ℕ) × (IsMeaning before pool.now × IsRecovered before image.now pool.now.lanes) }
-    ensures size { IfOk result (λ out. length out.words.items ≡ length image.now) }
-    ensures history { IfOk result (λ out. IsHistoryOf pool.now script.now stop out.history.items out.end) }
-    ensures replay { IfOk result (λ out. (before : List ℕ) → IsMeaning before pool.now → IsRecovered before image.now pool.now.lanes → HasNoStrayRecord before pool.now.lanes
-        → HasNoTornMatch before pool.now script.now → LeavesReplay before pool.now out.history.items out.words.items) }
+/// The entry of a call that was not answered, as lost, if it drew a number.
+fn open_entry(number: Option<u64>, call: Call, reply: Reply) -> Option<Entry>
+    ensures { (names : Names) (lines : List ScriptLine) → call ≡ call_of names lines → result ≡ open_entry names lines number reply }
 {
-    let root = root_of(pool);
-    let lines = script.lines();
-    let call = call_of(alloc, root, lines)?;
-    let mut lane = open_lane(alloc, image, pool, stop)?;
-    let done = transact(&mut lane, root, lines);
-    let ended = end_run(&mut lane, done);
-    let words = lane.memory.survive(alloc, keep)?;
-    let decided = is_decided(words.as_slice(), image);
-    let history = history_of(alloc, &ended, call, decided)?;
-    Ok(Outcome {
-        words,
-        history,
-        end: ended.end,
+    let number = number?;
+    Some(Entry {
+        number,
+        call,
+        reply,
+        fate: Fate::Lost,
     })
 }
 
-/// Whether the words that are left have another generation of lane 0 than the recovered image has: then the lane's call was decided, and
-/// ended its generation.
-fn is_decided(left: &[u64], image: &RawImage) -> bool
-    requires left { 512 < length left.now }
-    requires opened { 512 < length image.now }
-    ensures { result ≡ not (slice_index left.now 512 == slice_index image.now 512) }
+/// Makes the call of these lines; once it is answered it is added to the history.
+fn run_next(
+    alloc: Global,
+    lane: &mut Lane<SoloMem>,
+    names: Names,
+    lines: &[ScriptLine],
+    history: &mut Vec<Entry>,
+) -> Result<Option<Halt>, AllocError>
+    requires transaction { IsTransaction (operations lines.now) }
+    requires start { (o : Opening) × ((first : View) × ((calls : List (List ScriptLine)) × HasComeTo o first lane.old names calls history.old.items)) }
+    ensures answered { IfOk result (λ halted. IfNone halted ((o : Opening) (first : View) (calls : List (List ScriptLine)) → HasComeTo o first lane.old names calls history.old.items
+        → HasComeTo o first lane.new names (calls ++ lines.now ∷ []) history.new.items)) }
+    ensures halted { IfOk result (λ halted. IfSome halted (λ halt. (o : Opening) (first : View) (calls : List (List ScriptLine)) → HasComeTo o first lane.old names calls history.old.items
+        → HasHalted o first lane.new names calls lines.now history.new.items halt)) }
 {
-    left[GENERATION_WORD as usize] != image.word(GENERATION_WORD)
+    let generation = lane.memory.word(GENERATION_WORD);
+    let call = call_of(alloc, names, lines)?;
+    match run_call(alloc, lane, names, lines)? {
+        CallEnd::Answered {
+            number,
+            error,
+            reply,
+        } => {
+            let fate = settled_fate(error);
+            history.push(Entry {
+                number,
+                call,
+                reply,
+                fate,
+            })?;
+            Ok(None)
+        }
+        CallEnd::Halted { number, reply } => Ok(Some(Halt {
+            end: LaneEnd::Stopped(lane.calls()),
+            is_open: open_entry(number, call, reply),
+            generation,
+        })),
+        CallEnd::Unbegun { line } => Ok(Some(Halt {
+            end: LaneEnd::Spent(line),
+            is_open: None,
+            generation,
+        })),
+    }
+}
+
+/// Makes the calls of these lines, one after another, up to the one in which the lane comes to its end; those that were answered are added to
+/// the history.
+pub(crate) fn run_all(
+    alloc: Global,
+    lane: &mut Lane<SoloMem>,
+    names: Names,
+    lines: &[ScriptLine],
+    history: &mut Vec<Entry>,
+) -> Result<Halt, AllocError>
+    requires transactions { AreTransactions (operations lines.now) }
+    requires start { (o : Opening) × ((first : View) × HasComeTo o first lane.old names [] history.old.items) }
+    ensures { IfOk result (λ halt. (o : Opening) (first : View) → HasComeTo o first lane.old names [] history.old.items
+        → HasRun o first lane.new names (transactions lines.now) history.new.items halt) }
+{
+    let mut rest = lines;
+    while !rest.is_empty() {
+        let (call, behind) = rest.split_at(first_call(rest));
+        if let Some(halt) = run_next(alloc, lane, names, call, history)? {
+            return Ok(halt);
+        }
+        rest = behind;
+    }
+    Ok(Halt {
+        end: LaneEnd::Ended,
+        is_open: None,
+        generation: 0,
+    })
 }
 
 /// Lane 0 of the pool, alone over the words of its recovered image.
-fn open_lane(
+pub(crate) fn open_lane(
     alloc: Global,
     image: &RawImage,
     pool: &PoolView,
@@ -108,7 +132,7 @@ fn open_lane(
 ) -> Result<Lane<SoloMem>, AllocError>
     requires shape { IsShape pool.now.lanes pool.now.zones }
     requires sound { IsSound (opening_of pool.now image.now) }
-    ensures { IfOk result (λ lane. IsFirst (opening_of pool.now image.now) lane (first_view pool.now image.now stop)) }
+    ensures { IfOk result (λ lane. IsStart (opening_of pool.now image.now) lane (first_view pool.now image.now stop)) }
 {
     let Ok(shape) = Shape::new(pool.lanes, pool.zones) else {
         unreachable!()

@@ -12,16 +12,16 @@ use Rattle.pm_image.specs.declared.fault.ImageFault.{ImageFault}
 use Rattle.pm_image.proofs.Meanings.{no_meaning_and_fault, one_meaning}
 use Rattle.pm_pool.specs.Created.{Wanted}
 use Rattle.pm_script.proofs.Readings.{not_both as no_script_and_bad_line}
-use Rattle.pm_script.specs.Scripts.{IsBadLine}
+use Rattle.pm_script.specs.Scripts.{IsBadLine, left}
 use Rattle.pm_script.specs.Words.{lines}
 use Rattle.pm_script.specs.declared.fault.BadLine.{BadLine}
 use Rattle.pm_shelf.specs.Outside.{Held, Rose, IsMissing, IsThere, IsWhole}
 use Rattle.pmempool.specs.Words.{Create, Exec, IsCreate, IsDump, IsExec}
 use Rattle.pmempool.specs.PoolFiles.{limit, BytesMean, BytesFail, IsFaulty}
 use Rattle.pmempool.specs.Refusals.{IsCause, IsGood}
-use Rattle.pmempool.specs.Executed.{CanRun, HasBadLine, IsOtherLayout, IsTooLongScript, script_limit}
+use Rattle.pmempool.specs.Executed.{CanRun, HasBadLine, HasMoreLanes, IsOtherLayout, IsTooLongScript, script_limit}
 use Rattle.pmempool.specs.Failures.{IsTooLong, IsDumpCause, failure_of}
-use Rattle.pmempool.specs.Answers.{IsBadScript, IsOfAnotherLayout, IsRefused, IsShownFaulty, IsUsage, IsNotRead, IsNotWritten, IsNotPrinted, Reads, ReadsFaulty, ReadsTooMuch, Writes}
+use Rattle.pmempool.specs.Answers.{IsBadScript, IsOfAnotherLayout, IsOfTooManyLanes, IsRefused, IsShownFaulty, IsUsage, IsNotRead, IsNotWritten, IsNotPrinted, Reads, ReadsFaulty, ReadsTooMuch, Writes}
 use Rattle.pmempool.specs.declared.failure.Refusal.{Refusal}
 use Rattle.pmempool.specs.declared.failure.Refusal.TheVariants.{BadShape, BadId, BadLayout, BadSize}
 use Rattle.pmempool.specs.declared.status.Status.{Status}
@@ -30,10 +30,10 @@ use Rattle.pmempool.proofs.OneCommand.{no_create_and_dump, no_create_and_exec, n
 
 -- what the statuses 1 and 4 say
 abbrev Refuses : List (List ℕ) → Option Held → Option Held → Option (List ℕ) → Option (List ℕ) → Type 0
-Refuses words held after told told_after = IsRefused words held after told told_after ⊎ IsShownFaulty words held after told told_after ⊎ IsOfAnotherLayout words held after told told_after
+Refuses words held after told told_after = IsRefused words held after told told_after ⊎ IsShownFaulty words held after told told_after ⊎ IsOfAnotherLayout words held after told told_after ⊎ IsOfTooManyLanes words held after told told_after
 
-abbrev WritesNot : List (List ℕ) → Option Held → ℕ → ℕ → ℕ → ℕ → Option (List ℕ) → Option (List ℕ) → Type 0
-WritesNot words held shelf shelf_after faults faults_after told told_after = IsNotWritten words held shelf shelf_after told told_after ⊎ IsNotPrinted words held faults faults_after told told_after
+abbrev WritesNot : List (List ℕ) → Option Held → Option Held → ℕ → ℕ → ℕ → ℕ → Option (List ℕ) → Option (List ℕ) → Type 0
+WritesNot words held after shelf shelf_after faults faults_after told told_after = IsNotWritten words held shelf shelf_after told told_after ⊎ IsNotPrinted words held after faults faults_after told told_after
 
 -- where the other statuses are ruled out
 done_or_no_memory : (result : Status) → (result ≡ status.Refused → ⊥) → (result ≡ status.Usage → ⊥) → (result ≡ status.ReadFault → ⊥) → (result ≡ status.WriteFault → ⊥) → (result ≡ status.BadScript → ⊥)
@@ -125,26 +125,27 @@ create_writes words c name is (inr run) = absurd (no_create_and_exec words c run
 create_refused : (words : List (List ℕ)) (old after : Option Held) (told told_after : Option (List ℕ)) (c : Create) → IsCreate words c → IsGood c.wanted → Refuses words old after told told_after → ⊥
 create_refused words old after told told_after c is good (inl one) = not_good one.asked.wanted one.refusal (subst IsGood (same_wanted words c one.asked is one.command) good) one.cause
 create_refused words old after told told_after c is good (inr (inl one)) = create_reads_no_fault words old c one.found is one.cause
-create_refused words old after told told_after c is good (inr (inr one)) = no_create_and_exec words c one.asked is one.command
+create_refused words old after told told_after c is good (inr (inr (inl one))) = no_create_and_exec words c one.asked is one.command
+create_refused words old after told told_after c is good (inr (inr (inr one))) = no_create_and_exec words c one.asked is one.command
 
-create_unwritten : (words : List (List ℕ)) (old : Option Held) (shelf shelf_after faults faults_after : ℕ) (told told_after : Option (List ℕ)) (c : Create) → IsCreate words c → ¬ IsThere old c.pool
-    → ¬ Rose shelf shelf_after → ¬ Rose faults faults_after → WritesNot words old shelf shelf_after faults faults_after told told_after → ⊥
-create_unwritten words old shelf shelf_after faults faults_after told told_after c is new calm still (inl one) =
+create_unwritten : (words : List (List ℕ)) (old after : Option Held) (shelf shelf_after faults faults_after : ℕ) (told told_after : Option (List ℕ)) (c : Create) → IsCreate words c → ¬ IsThere old c.pool
+    → ¬ Rose shelf shelf_after → ¬ Rose faults faults_after → WritesNot words old after shelf shelf_after faults faults_after told told_after → ⊥
+create_unwritten words old after shelf shelf_after faults faults_after told told_after c is new calm still (inl one) =
     ⊎_elim calm (λ (there : IsThere old one.name). new (subst (IsThere old) (create_writes words c one.name is one.writes) there)) one.cause
-create_unwritten words old shelf shelf_after faults faults_after told told_after c is new calm still (inr one) = still one.cause
+create_unwritten words old after shelf shelf_after faults faults_after told told_after c is new calm still (inr one) = still one.cause
 
 pub create_complete : (words : List (List ℕ)) (old after : Option Held) (shelf shelf_after : ℕ) (told told_after : Option (List ℕ)) (faults faults_after : ℕ) (result : Status)
     → (result ≡ status.Refused → Refuses words old after told told_after)
     → (result ≡ status.Usage → IsUsage words old after told told_after)
     → (result ≡ status.ReadFault → IsNotRead words old after shelf shelf_after told told_after)
-    → (result ≡ status.WriteFault → WritesNot words old shelf shelf_after faults faults_after told told_after)
+    → (result ≡ status.WriteFault → WritesNot words old after shelf shelf_after faults faults_after told told_after)
     → (result ≡ status.BadScript → IsBadScript words old after told told_after)
     → (c : Create) → IsCreate words c → IsGood c.wanted → ¬ IsThere old c.pool → ¬ Rose shelf shelf_after → ¬ Rose faults faults_after
     → (result ≡ status.Done) ⊎ (result ≡ status.NoMemory)
 create_complete words old after shelf shelf_after told told_after faults faults_after result refused usage unread unwritten bad c is good new calm still =
     done_or_no_memory result (λ at. create_refused words old after told told_after c is good (refused at)) (λ at. (usage at).command.no_create c is)
     (λ at. ⊎_elim (λ failed. create_reads_none words c (unread at).name is failed.0) (λ long. create_reads_no_more words old c (unread at).name is long.0) (unread at).cause)
-    (λ at. create_unwritten words old shelf shelf_after faults faults_after told told_after c is new calm still (unwritten at))
+    (λ at. create_unwritten words old after shelf shelf_after faults faults_after told told_after c is new calm still (unwritten at))
     (λ at. no_create_and_exec words c (bad at).asked is (bad at).command)
 
 -- `dump` reads its name alone, and writes none
@@ -170,7 +171,8 @@ dump_refused : (words : List (List ℕ)) (held : Held) (after : Option Held) (to
     → Refuses words (Some held) after told told_after → ⊥
 dump_refused words held after told told_after name bytes pool is there means (inl one) = no_create_and_dump words one.asked name one.command is
 dump_refused words held after told told_after name bytes pool is there means (inr (inl one)) = dump_reads_no_fault words held name bytes pool one.found is there means one.cause
-dump_refused words held after told told_after name bytes pool is there means (inr (inr one)) = no_dump_and_exec words name one.asked is one.command
+dump_refused words held after told told_after name bytes pool is there means (inr (inr (inl one))) = no_dump_and_exec words name one.asked is one.command
+dump_refused words held after told told_after name bytes pool is there means (inr (inr (inr one))) = no_dump_and_exec words name one.asked is one.command
 
 dump_unread : (words : List (List ℕ)) (held : Held) (after : Option Held) (shelf shelf_after : ℕ) (told told_after : Option (List ℕ)) (name bytes : List ℕ) (pool : PoolView)
     → IsDump words name → held name ≡ Some bytes → BytesMean bytes pool → ¬ Rose shelf shelf_after → IsNotRead words (Some held) after shelf shelf_after told told_after → ⊥
@@ -182,7 +184,7 @@ pub dump_complete : (words : List (List ℕ)) (old after : Option Held) (shelf s
     → (result ≡ status.Refused → Refuses words old after told told_after)
     → (result ≡ status.Usage → IsUsage words old after told told_after)
     → (result ≡ status.ReadFault → IsNotRead words old after shelf shelf_after told told_after)
-    → (result ≡ status.WriteFault → WritesNot words old shelf shelf_after faults faults_after told told_after)
+    → (result ≡ status.WriteFault → WritesNot words old after shelf shelf_after faults faults_after told told_after)
     → (result ≡ status.BadScript → IsBadScript words old after told told_after)
     → (held : Held) (name bytes : List ℕ) (pool : PoolView) → IsDump words name → old ≡ Some held → held name ≡ Some bytes → BytesMean bytes pool → ¬ Rose shelf shelf_after → ¬ Rose faults faults_after
     → (result ≡ status.Done) ⊎ (result ≡ status.NoMemory)
@@ -190,7 +192,7 @@ dump_complete words old after shelf shelf_after told told_after faults faults_af
     done_or_no_memory result (λ at. dump_refused words held after told told_after name bytes pool is there means (subst (λ (o : Option Held). Refuses words o after told told_after) tells (refused at)))
     (λ at. (usage at).command.no_dump name is)
     (λ at. dump_unread words held after shelf shelf_after told told_after name bytes pool is there means calm (subst (λ (o : Option Held). IsNotRead words o after shelf shelf_after told told_after) tells (unread at)))
-    (λ at. ⊎_elim (λ (one : IsNotWritten words old shelf shelf_after told told_after). dump_writes words name one.name is one.writes) (λ (one : IsNotPrinted words old faults faults_after told told_after). still one.cause) (unwritten at))
+    (λ at. ⊎_elim (λ (one : IsNotWritten words old shelf shelf_after told told_after). dump_writes words name one.name is one.writes) (λ (one : IsNotPrinted words old after faults faults_after told told_after). still one.cause) (unwritten at))
     (λ at. no_dump_and_exec words name (bad at).asked is (bad at).command)
 
 -- `exec` reads two names, and writes one
@@ -221,10 +223,20 @@ exec_of_its_layout words held e other kept is also can one =
     let pool : one.other.pool ≡ can.pool = one_meaning (words_of one.source) one.other.pool can.pool one.other.means means in
     one.other.other (sym one.other.named ∙ ap (λ (p : PoolView). p.name) pool ∙ can.named ∙ sym (same_layout words e other is also))
 
+exec_of_one_lane : (words : List (List ℕ)) (held : Held) (e other : Exec) (asked kept : ℕ) → IsExec words e → IsExec words other → CanRun held e → HasMoreLanes (Some held) other asked kept → ⊥
+exec_of_one_lane words held e other asked kept is also can one =
+    let same : one.script_text ≡ can.script_text = sym (same_bytes held e.script can.script_text one.script_text can.script_there (ap held (sym (same_script words e other is also)) ∙ one.whole_script.0)) in
+    let lanes : asked ≡ can.script.lanes = one.are.asked_for ∙ one.are.is_script.lanes_named ∙ ap (λ (bs : List ℕ). (left (lines bs)).lanes) same ∙ sym can.is_script.lanes_named in
+    let few : can.script.lanes ≤ 1 = can.few in
+    let one_kept : kept ≡ 1 = one.are.fewer.kept_so in
+    let more : kept < asked = one.are.fewer.more in
+    omega arith
+
 exec_refused : (words : List (List ℕ)) (held : Held) (after : Option Held) (told told_after : Option (List ℕ)) (e : Exec) → IsExec words e → CanRun held e → Refuses words (Some held) after told told_after → ⊥
 exec_refused words held after told told_after e is can (inl one) = no_create_and_exec words one.asked e one.command is
 exec_refused words held after told told_after e is can (inr (inl one)) = exec_reads_no_fault words held e one.found is can one.cause
-exec_refused words held after told told_after e is can (inr (inr one)) = exec_of_its_layout words held e one.asked one.kept_name is one.command can one.cause
+exec_refused words held after told told_after e is can (inr (inr (inl one))) = exec_of_its_layout words held e one.asked one.kept_name is one.command can one.cause
+exec_refused words held after told told_after e is can (inr (inr (inr one))) = exec_of_one_lane words held e one.asked one.lanes one.lanes_kept is one.command can one.cause
 
 exec_unread : (words : List (List ℕ)) (held : Held) (after : Option Held) (shelf shelf_after : ℕ) (told told_after : Option (List ℕ)) (e : Exec) → IsExec words e → CanRun held e → ¬ Rose shelf shelf_after
     → IsNotRead words (Some held) after shelf shelf_after told told_after → ⊥
@@ -232,11 +244,11 @@ exec_unread words held after shelf shelf_after told told_after e is can calm one
     ⊎_elim (λ failed. ⊎_elim calm (λ (missing : IsMissing (Some held) one.name). exec_misses_none words held e one.name is can failed.0 missing) failed.1)
     (λ long. exec_reads_no_more words held e one.name is can long.0) one.cause
 
-exec_unwritten : (words : List (List ℕ)) (held : Held) (shelf shelf_after faults faults_after : ℕ) (told told_after : Option (List ℕ)) (e : Exec) → IsExec words e → CanRun held e
-    → ¬ Rose shelf shelf_after → ¬ Rose faults faults_after → WritesNot words (Some held) shelf shelf_after faults faults_after told told_after → ⊥
-exec_unwritten words held shelf shelf_after faults faults_after told told_after e is can calm still (inl one) =
+exec_unwritten : (words : List (List ℕ)) (held : Held) (after : Option Held) (shelf shelf_after faults faults_after : ℕ) (told told_after : Option (List ℕ)) (e : Exec) → IsExec words e → CanRun held e
+    → ¬ Rose shelf shelf_after → ¬ Rose faults faults_after → WritesNot words (Some held) after shelf shelf_after faults faults_after told told_after → ⊥
+exec_unwritten words held after shelf shelf_after faults faults_after told told_after e is can calm still (inl one) =
     ⊎_elim calm (λ (there : IsThere (Some held) one.name). not_there held e.out can.absent (subst (IsThere (Some held)) (exec_writes words e one.name is one.writes) there)) one.cause
-exec_unwritten words held shelf shelf_after faults faults_after told told_after e is can calm still (inr one) = still one.cause
+exec_unwritten words held after shelf shelf_after faults faults_after told told_after e is can calm still (inr one) = still one.cause
 
 exec_has_no_bad_line : (words : List (List ℕ)) (held : Held) (e other : Exec) (bad : BadLine) → IsExec words e → IsExec words other → CanRun held e → HasBadLine (Some held) other bad → ⊥
 exec_has_no_bad_line words held e other bad is also can one =
@@ -247,7 +259,7 @@ pub exec_complete : (words : List (List ℕ)) (old after : Option Held) (shelf s
     → (result ≡ status.Refused → Refuses words old after told told_after)
     → (result ≡ status.Usage → IsUsage words old after told told_after)
     → (result ≡ status.ReadFault → IsNotRead words old after shelf shelf_after told told_after)
-    → (result ≡ status.WriteFault → WritesNot words old shelf shelf_after faults faults_after told told_after)
+    → (result ≡ status.WriteFault → WritesNot words old after shelf shelf_after faults faults_after told told_after)
     → (result ≡ status.BadScript → IsBadScript words old after told told_after)
     → (e : Exec) (held : Held) → IsExec words e → old ≡ Some held → CanRun held e → ¬ Rose shelf shelf_after → ¬ Rose faults faults_after
     → (result ≡ status.Done) ⊎ (result ≡ status.NoMemory)
@@ -255,5 +267,5 @@ exec_complete words old after shelf shelf_after told told_after faults faults_af
     done_or_no_memory result (λ at. exec_refused words held after told told_after e is can (subst (λ (o : Option Held). Refuses words o after told told_after) tells (refused at)))
     (λ at. (usage at).command.no_exec e is)
     (λ at. exec_unread words held after shelf shelf_after told told_after e is can calm (subst (λ (o : Option Held). IsNotRead words o after shelf shelf_after told told_after) tells (unread at)))
-    (λ at. exec_unwritten words held shelf shelf_after faults faults_after told told_after e is can calm still (subst (λ (o : Option Held). WritesNot words o shelf shelf_after faults faults_after told told_after) tells (unwritten at)))
+    (λ at. exec_unwritten words held after shelf shelf_after faults faults_after told told_after e is can calm still (subst (λ (o : Option Held). WritesNot words o after shelf shelf_after faults faults_after told told_after) tells (unwritten at)))
     (λ at. exec_has_no_bad_line words held e (bad at).asked (bad at).bad is (bad at).command can (subst (λ (o : Option Held). HasBadLine o (bad at).asked (bad at).bad) tells (bad at).cause))

@@ -2,6 +2,8 @@ pub mod Texts
 pub mod FileBytes
 pub mod OptionCounts
 pub mod OneCommand
+pub mod OneLane
 pub mod Running
+pub mod NewNames
 pub mod Printing
 pub mod Completeness

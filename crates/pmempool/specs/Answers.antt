@@ -7,15 +7,15 @@ use Rattle.pm_image.specs.declared.fault.ImageFault.{ImageFault}
 use Rattle.pm_shelf.specs.Outside.{Held, Rose, IsThere, IsMissing, Adds, gained, GainedPart}
 use Rattle.pm_text.specs.Lines.{GainedLines}
 use Rattle.pm_script.specs.declared.fault.BadLine.{BadLine}
-use Rattle.pmempool.specs.Executed.{HasBadLine, IsOtherLayout, IsRunOf, IsTooLongScript}
+use Rattle.pmempool.specs.Executed.{HasBadLine, HasMoreLanes, IsOtherLayout, IsRunOf, IsTooLongScript}
 use Rattle.pmempool.specs.Words.{Create, Exec, IsCreate, IsDump, IsExec, IsNoCommand}
 use Rattle.pmempool.specs.Refusals.{IsGood, IsCause}
 use Rattle.pmempool.specs.PoolFiles.{IsDumpOf, IsFaulty}
-use Rattle.pmempool.specs.Lines.{bad_script_line, created_line, other_layout_line, refused_line, faulty_line, usage_line, read_fault_line, too_long_line, write_fault_line, no_memory_line}
+use Rattle.pmempool.specs.Lines.{bad_script_line, created_line, fewer_lanes_line, other_layout_line, refused_line, faulty_line, usage_line, read_fault_line, too_long_line, write_fault_line, no_memory_line}
 use Rattle.pmempool.specs.Failures.{IsTooLong}
 use Rattle.pmempool.specs.declared.failure.Refusal.{Refusal}
 use Rattle.pmempool.specs.declared.failure.Failure.{Failure}
-use Rattle.pmempool.specs.declared.failure.Failure.TheVariants.{Usage, Refused, Faulty, OtherLayout, NotRead, TooLong, BadScript, NotWritten, NoMemory}
+use Rattle.pmempool.specs.declared.failure.Failure.TheVariants.{Usage, Refused, Faulty, OtherLayout, FewerLanes, NotRead, TooLong, BadScript, NotWritten, NoMemory}
 
 -- the bytes of the pool that is asked for
 abbrev pub pool_bytes : Create → List ℕ
@@ -91,6 +91,16 @@ pub record IsOfAnotherLayout (words : List (List ℕ)) (held after : Option Held
   pub kept : after ≡ held
   pub printed : told_after ≡ gained told (other_layout_line asked.layout kept_name)
 
+-- status 1 of `exec`: the script is of more lanes than run; nothing was written
+pub record IsOfTooManyLanes (words : List (List ℕ)) (held after : Option Held) (told told_after : Option (List ℕ)) : Type 0 where
+  pub asked : Exec
+  pub lanes : ℕ
+  pub lanes_kept : ℕ
+  pub command : IsExec words asked
+  pub cause : HasMoreLanes held asked lanes lanes_kept
+  pub kept : after ≡ held
+  pub printed : told_after ≡ gained told (fewer_lanes_line lanes lanes_kept)
+
 -- status 6: the script has a first bad line; nothing was written
 pub record IsBadScript (words : List (List ℕ)) (held after : Option Held) (told told_after : Option (List ℕ)) : Type 0 where
   pub asked : Exec
@@ -121,37 +131,39 @@ pub record IsNotWritten (words : List (List ℕ)) (held : Option Held) (faults f
   pub cause : Rose faults faults_after ⊎ IsThere held name
   pub printed : told_after ≡ gained told (write_fault_line name)
 
--- a text that a command of these words may print over what the shelf holds
-pub data MayPrint (words : List (List ℕ)) (held : Option Held) : List ℕ → Type 0 where
-  created_it : (asked : Create) → IsCreate words asked → IsGood asked.wanted → MayPrint words held (created_line asked.wanted)
-  dumped_it : (name text : List ℕ) → IsDump words name → IsDumpOf held name text → MayPrint words held text
-  ran_it : (asked : Exec) (written text : List ℕ) → IsExec words asked → IsRunOf held asked written text → MayPrint words held text
-  refused_it : (asked : Create) (refusal : Refusal) → IsCreate words asked → IsCause asked.wanted refusal → MayPrint words held (refused_line refusal)
-  faulty_it : (found : ImageFault) → ReadsFaulty words held found → MayPrint words held (faulty_line found)
-  other_layout : (asked : Exec) (kept : List ℕ) → IsExec words asked → IsOtherLayout held asked kept → MayPrint words held (other_layout_line asked.layout kept)
-  bad_script : (asked : Exec) (bad : BadLine) → IsExec words asked → HasBadLine held asked bad → MayPrint words held (bad_script_line bad)
-  no_command : IsNoCommand words → MayPrint words held usage_line
-  not_read : (name : List ℕ) → Reads words name → MayPrint words held (read_fault_line name)
-  too_long : (name : List ℕ) → ReadsTooMuch words held name → MayPrint words held (too_long_line name)
-  not_written : (name : List ℕ) → Writes words name → MayPrint words held (write_fault_line name)
-  no_memory : MayPrint words held no_memory_line
+-- a text that a command of these words may print, and what that command has left on the shelf: its text of a new pool or of a run is
+-- printed once the pool stands whole under its new name
+pub data MayPrint (words : List (List ℕ)) (held after : Option Held) : List ℕ → Type 0 where
+  created_it : (asked : Create) → IsCreate words asked → IsGood asked.wanted → Adds held after asked.pool (pool_bytes asked) → MayPrint words held after (created_line asked.wanted)
+  dumped_it : (name text : List ℕ) → IsDump words name → IsDumpOf held name text → after ≡ held → MayPrint words held after text
+  ran_it : (asked : Exec) (written text : List ℕ) → IsExec words asked → Adds held after asked.out written → IsRunOf held asked written text → MayPrint words held after text
+  refused_it : (asked : Create) (refusal : Refusal) → IsCreate words asked → IsCause asked.wanted refusal → after ≡ held → MayPrint words held after (refused_line refusal)
+  faulty_it : (found : ImageFault) → ReadsFaulty words held found → after ≡ held → MayPrint words held after (faulty_line found)
+  other_layout : (asked : Exec) (kept : List ℕ) → IsExec words asked → IsOtherLayout held asked kept → after ≡ held → MayPrint words held after (other_layout_line asked.layout kept)
+  fewer_lanes : (asked : Exec) (lanes lanes_kept : ℕ) → IsExec words asked → HasMoreLanes held asked lanes lanes_kept → after ≡ held → MayPrint words held after (fewer_lanes_line lanes lanes_kept)
+  bad_script : (asked : Exec) (bad : BadLine) → IsExec words asked → HasBadLine held asked bad → after ≡ held → MayPrint words held after (bad_script_line bad)
+  no_command : IsNoCommand words → after ≡ held → MayPrint words held after usage_line
+  not_read : (name : List ℕ) → Reads words name → after ≡ held → MayPrint words held after (read_fault_line name)
+  too_long : (name : List ℕ) → ReadsTooMuch words held name → after ≡ held → MayPrint words held after (too_long_line name)
+  not_written : (name : List ℕ) → Writes words name → MayPrint words held after (write_fault_line name)
+  no_memory : MayPrint words held after no_memory_line
 
 -- status 4 by the sink: it failed in this run, in the middle of such a text
-pub record IsNotPrinted (words : List (List ℕ)) (held : Option Held) (faults faults_after : ℕ) (told told_after : Option (List ℕ)) : Type 0 where
+pub record IsNotPrinted (words : List (List ℕ)) (held after : Option Held) (faults faults_after : ℕ) (told told_after : Option (List ℕ)) : Type 0 where
   pub cause : Rose faults faults_after
   pub text : List ℕ
-  pub of_command : MayPrint words held text
+  pub of_command : MayPrint words held after text
   pub part : GainedPart told told_after text
 
 -- the sink had no memory in the middle of such a text, of which it has whole lines
-pub record IsCutShort (words : List (List ℕ)) (held : Option Held) (told told_after : Option (List ℕ)) : Type 0 where
+pub record IsCutShort (words : List (List ℕ)) (held after : Option Held) (told told_after : Option (List ℕ)) : Type 0 where
   pub text : List ℕ
-  pub of_command : MayPrint words held text
+  pub of_command : MayPrint words held after text
   pub lines : GainedLines told told_after text
 
 -- status 5: no memory, which is told unless the sink has none
-abbrev pub IsNoMemory : List (List ℕ) → Option Held → Option (List ℕ) → Option (List ℕ) → Type 0
-IsNoMemory words held told told_after = (told_after ≡ gained told no_memory_line) ⊎ IsCutShort words held told told_after
+abbrev pub IsNoMemory : List (List ℕ) → Option Held → Option Held → Option (List ℕ) → Option (List ℕ) → Type 0
+IsNoMemory words held after told told_after = (told_after ≡ gained told no_memory_line) ⊎ IsCutShort words held after told told_after
 
 -- `create` was done, and this text tells of it
 pub record DidCreate (words : List (List ℕ)) (held after : Option Held) (text : List ℕ) : Type 0 where
@@ -185,6 +197,7 @@ DidFail words held after faults faults_after Usage = IsNoCommand words × (after
 DidFail words held after faults faults_after (Refused refusal) = (asked : Create) × IsCreate words asked × IsCause asked.wanted refusal × (after ≡ held)
 DidFail words held after faults faults_after (Faulty found) = ReadsFaulty words held found × (after ≡ held)
 DidFail words held after faults faults_after (OtherLayout asked kept) = (e : Exec) × IsExec words e × (asked.now ≡ e.layout) × IsOtherLayout held e kept × (after ≡ held)
+DidFail words held after faults faults_after (FewerLanes asked kept) = (e : Exec) × IsExec words e × HasMoreLanes held e asked kept × (after ≡ held)
 DidFail words held after faults faults_after (NotRead name) = Reads words name.now × (Rose faults faults_after ⊎ IsMissing held name.now) × (after ≡ held)
 DidFail words held after faults faults_after (TooLong name) = ReadsTooMuch words held name.now × (after ≡ held)
 DidFail words held after faults faults_after (BadScript bad) = (e : Exec) × IsExec words e × HasBadLine held e bad × (after ≡ held)

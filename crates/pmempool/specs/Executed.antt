@@ -4,45 +4,48 @@ use Rattle.pm_words.specs.Words.{bytes_of, words_of}
 use Rattle.pm_image.specs.Means.{IsMeaning}
 use Rattle.pm_objects.specs.declared.history.Entry.{Entry}
 use Rattle.pm_objects.specs.declared.pool.PoolView.{PoolView}
-use Rattle.pm_recover.specs.Recovery.{HasNoStrayRecord}
+use Rattle.pm_recover.specs.Recovery.{HasNoStrayRecord, IsRecovered}
 use Rattle.pm_script.specs.Scripts.{IsBadLine, IsScript}
 use Rattle.pm_script.specs.Words.{lines}
 use Rattle.pm_script.specs.declared.fault.BadLine.{BadLine}
-use Rattle.pm_script.specs.declared.script.ScriptLine.{ScriptLine}
-use Rattle.pm_shelf.specs.Outside.{Held, IsFront, IsMissing, IsThere, IsWhole, Rose}
+use Rattle.pm_script.specs.declared.script.Script.{Script}
+use Rattle.pm_shelf.specs.Outside.{Held, IsFront, IsMissing, IsThere, IsWhole, MayAddPart, Rose}
 use Rattle.pm_text.specs.Report.{report_text}
 use Rattle.pm_text.specs.declared.report.LaneEnd.{LaneEnd}
 use Rattle.std.specs.Borrow.{Bor}
 use Rattle.pm_exec.specs.declared.outcome.OpenFault.{OpenFault}
 use Rattle.pm_exec.specs.declared.outcome.OpenFault.TheVariants as opening
-use Rattle.pm_exec.specs.Opening.{IsOfOtherLayout, IsOpened}
-use Rattle.pm_exec.specs.Runs.{IsHistoryOf, LeavesReplay}
+use Rattle.pm_exec.specs.Opening.{HasFewerLanes, IsOfOtherLayout, IsOpened}
+use Rattle.pm_exec.specs.Runs.{IsHistoryOf, LeavesReplay, MakesCallsOf}
 use Rattle.pm_exec.specs.Torn.{HasNoTornMatch}
 use Rattle.pmempool.specs.Failures.{IsTooLong}
 use Rattle.pmempool.specs.PoolFiles.{BytesFail, BytesMean, IsFaulty, limit}
 use Rattle.pmempool.specs.Words.{Exec}
 use Rattle.pmempool.specs.declared.failure.Failure.{Failure}
-use Rattle.pmempool.specs.declared.failure.Failure.TheVariants.{Usage, Refused, Faulty, OtherLayout, NotRead, TooLong, BadScript, NotWritten, NoMemory}
+use Rattle.pmempool.specs.declared.failure.Failure.TheVariants.{Usage, Refused, Faulty, OtherLayout, FewerLanes, NotRead, TooLong, BadScript, NotWritten, NoMemory}
 
 -- the bytes of the longest script
 abbrev pub script_limit : ℕ
 script_limit = 1048576
 
--- a script's run on the pool of these bytes leaves these bytes and this text: the report of a history of the script's calls. What is left
--- stands for what was read after those of the calls that are not lost, one whole call after another. Taken for granted there: no slot of the
--- pool read has a record of a generation to come, and no torn record's sum matches by chance
+-- a script's run on the pool of these bytes leaves these bytes and this text: the report of a history of the script's calls. Lane 0 made the
+-- memory calls of the script's lines, one after another, up to its end, and what is left is the image that the keep number chooses of what was
+-- undrained there. It stands for what was read after those of the calls that are not lost, one whole call after another. Taken for granted
+-- there: no slot of the pool read has a record of a generation to come, and no torn record's sum matches by chance
 pub record IsRunOver (source script_text : List ℕ) (e : Exec) (written text : List ℕ) : Type 0 where
   pub in_words : length source % 8 ≡ 0
-  pub opened : IsOpened (words_of source) e.layout
-  pub script : List ScriptLine
+  pub script : Script
   pub is_script : IsScript (lines script_text) script
+  pub opened : IsOpened (words_of source) e.layout script.lanes
   pub image : List ℕ
   pub is_image : written ≡ bytes_of image
   pub history : List Entry
   pub end : LaneEnd
   pub is_report : text ≡ report_text history (end ∷ [])
-  pub calls : (pool : PoolView) → IsMeaning (words_of source) pool → IsHistoryOf pool script e.stop history end
-  pub replay : (pool : PoolView) → IsMeaning (words_of source) pool → HasNoStrayRecord (words_of source) pool.lanes → HasNoTornMatch (words_of source) pool script
+  pub calls : (pool : PoolView) → IsMeaning (words_of source) pool → IsHistoryOf pool script.lines e.stop history end
+  pub made : (pool : PoolView) → IsMeaning (words_of source) pool → MakesCallsOf (words_of source) pool script.lines e.stop e.keep history end image
+  pub replay : (pool : PoolView) → IsMeaning (words_of source) pool → HasNoStrayRecord (words_of source) pool.lanes
+      → ((words : List ℕ) → IsRecovered (words_of source) words pool.lanes → HasNoTornMatch words pool script.lines e.stop)
       → LeavesReplay (words_of source) pool history image
 
 -- so it does with what the shelf holds under the names of the pool and the script
@@ -53,6 +56,17 @@ pub record IsRunOf (held : Option Held) (e : Exec) (written text : List ℕ) : T
   pub whole_script : IsWhole held e.script script_limit script_text
   pub run : IsRunOver source script_text e written text
 
+-- the new name is as it was, or new with a front of the bytes that such a run leaves; every other name is as it was
+pub record AddsPartOfRun (held after : Option Held) (e : Exec) : Type 0 where
+  pub written : List ℕ
+  pub text : List ℕ
+  pub run : IsRunOf held e written text
+  pub part : MayAddPart held after e.out written
+
+-- the shelf is as it was, or has a part of a run more
+abbrev pub MayAddRun : Option Held → Option Held → Exec → Type 0
+MayAddRun held after e = (after ≡ held) ⊎ AddsPartOfRun held after e
+
 -- the name has the bytes of a pool of another layout name
 pub record IsOtherLayout (held : Option Held) (e : Exec) (kept : List ℕ) : Type 0 where
   pub source : List ℕ
@@ -60,13 +74,29 @@ pub record IsOtherLayout (held : Option Held) (e : Exec) (kept : List ℕ) : Typ
   pub in_words : length source % 8 ≡ 0
   pub other : IsOfOtherLayout (words_of source) e.layout kept
 
+-- the bytes are a pool of the layout name that was asked for, and the text is a script of more lanes than run
+pub record AreOfMoreLanes (source script_text : List ℕ) (e : Exec) (asked kept : ℕ) : Type 0 where
+  pub in_words : length source % 8 ≡ 0
+  pub script : Script
+  pub is_script : IsScript (lines script_text) script
+  pub asked_for : asked ≡ script.lanes
+  pub fewer : HasFewerLanes (words_of source) e.layout asked kept
+
+-- so do the names have a pool and a script
+pub record HasMoreLanes (held : Option Held) (e : Exec) (asked kept : ℕ) : Type 0 where
+  pub source : List ℕ
+  pub whole : IsWhole held e.pool limit source
+  pub script_text : List ℕ
+  pub whole_script : IsWhole held e.script script_limit script_text
+  pub are : AreOfMoreLanes source script_text e asked kept
+
 -- the name has a text that is no script, and this is its first bad line
 pub record HasBadLine (held : Option Held) (e : Exec) (bad : BadLine) : Type 0 where
   pub script_text : List ℕ
   pub whole : IsWhole held e.script script_limit script_text
   pub is_bad : IsBadLine (lines script_text) bad
 
--- a run is possible: the names have a pool of the layout and a script, and the new name is not there
+-- a run is possible: the names have a pool of the layout and a script of one lane, and the new name is not there
 pub record CanRun (held : Held) (e : Exec) : Type 0 where
   pub source : List ℕ
   pub pool_there : held e.pool ≡ Some source
@@ -76,8 +106,9 @@ pub record CanRun (held : Held) (e : Exec) : Type 0 where
   pub script_text : List ℕ
   pub script_there : held e.script ≡ Some script_text
   pub short : length script_text ≤ script_limit
-  pub script : List ScriptLine
+  pub script : Script
   pub is_script : IsScript (lines script_text) script
+  pub few : script.lanes ≤ 1
   pub absent : held e.out ≡ None
 
 -- the script's name has more bytes than a script
@@ -90,6 +121,7 @@ IsExecCause e held after faults faults_after Usage = ⊥
 IsExecCause e held after faults faults_after (Refused refusal) = ⊥
 IsExecCause e held after faults faults_after (Faulty found) = IsFaulty held e.pool found × (after ≡ held)
 IsExecCause e held after faults faults_after (OtherLayout asked kept) = (asked.now ≡ e.layout) × IsOtherLayout held e kept × (after ≡ held)
+IsExecCause e held after faults faults_after (FewerLanes asked kept) = HasMoreLanes held e asked kept × (after ≡ held)
 IsExecCause e held after faults faults_after (NotRead name) = ((name.now ≡ e.pool) ⊎ (name.now ≡ e.script)) × (Rose faults faults_after ⊎ IsMissing held name.now) × (after ≡ held)
 IsExecCause e held after faults faults_after (TooLong name) =
     (((name.now ≡ e.pool) × IsTooLong held name.now) ⊎ ((name.now ≡ e.script) × IsTooLongScript held name.now)) × (after ≡ held)
@@ -114,6 +146,7 @@ IsWriteCause name held faults faults_after failure = ⊥
 abbrev pub IsRunFault : List ℕ → List ℕ → Exec → Failure → Type 0
 IsRunFault source script_text e (Faulty found) = BytesFail source found
 IsRunFault source script_text e (OtherLayout asked kept) = (asked.now ≡ e.layout) × (length source % 8 ≡ 0) × IsOfOtherLayout (words_of source) e.layout kept
+IsRunFault source script_text e (FewerLanes asked kept) = AreOfMoreLanes source script_text e asked kept
 IsRunFault source script_text e (BadScript bad) = IsBadLine (lines script_text) bad
 IsRunFault source script_text e NoMemory = Unit {0}
 IsRunFault source script_text e failure = ⊥
@@ -122,4 +155,5 @@ IsRunFault source script_text e failure = ⊥
 abbrev pub open_failure : Bor (List ℕ) → OpenFault → Failure
 open_failure asked (opening.Image found) = Faulty found
 open_failure asked (opening.Layout kept) = OtherLayout asked kept
+open_failure asked (opening.Lanes wanted kept) = FewerLanes wanted kept
 open_failure asked (opening.Memory e) = NoMemory

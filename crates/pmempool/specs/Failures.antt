@@ -7,7 +7,7 @@ use Rattle.pmempool.specs.Words.{Create}
 use Rattle.pmempool.specs.Refusals.{IsGood, IsCause}
 use Rattle.pmempool.specs.PoolFiles.{limit, IsFaulty}
 use Rattle.pmempool.specs.declared.failure.Failure.{Failure}
-use Rattle.pmempool.specs.declared.failure.Failure.TheVariants.{Usage, Refused, Faulty, OtherLayout, NotRead, TooLong, BadScript, NotWritten, NoMemory}
+use Rattle.pmempool.specs.declared.failure.Failure.TheVariants.{Usage, Refused, Faulty, OtherLayout, FewerLanes, NotRead, TooLong, BadScript, NotWritten, NoMemory}
 
 -- of `create`, before anything is written
 abbrev pub IsCauseBefore : Create → Failure → Type 0
@@ -15,6 +15,7 @@ IsCauseBefore c Usage = ⊥
 IsCauseBefore c (Refused refusal) = IsCause c.wanted refusal
 IsCauseBefore c (Faulty found) = ⊥
 IsCauseBefore c (OtherLayout asked kept) = ⊥
+IsCauseBefore c (FewerLanes asked kept) = ⊥
 IsCauseBefore c (NotRead name) = ⊥
 IsCauseBefore c (TooLong name) = ⊥
 IsCauseBefore c (BadScript bad) = ⊥
@@ -27,6 +28,7 @@ IsCauseOf c held after faults faults_after Usage = ⊥
 IsCauseOf c held after faults faults_after (Refused refusal) = IsCause c.wanted refusal × (after ≡ held)
 IsCauseOf c held after faults faults_after (Faulty found) = ⊥
 IsCauseOf c held after faults faults_after (OtherLayout asked kept) = ⊥
+IsCauseOf c held after faults faults_after (FewerLanes asked kept) = ⊥
 IsCauseOf c held after faults faults_after (NotRead name) = ⊥
 IsCauseOf c held after faults faults_after (TooLong name) = ⊥
 IsCauseOf c held after faults faults_after (BadScript bad) = ⊥
@@ -43,6 +45,7 @@ IsDumpCause pool held faults faults_after Usage = ⊥
 IsDumpCause pool held faults faults_after (Refused refusal) = ⊥
 IsDumpCause pool held faults faults_after (Faulty found) = IsFaulty held pool found
 IsDumpCause pool held faults faults_after (OtherLayout asked kept) = ⊥
+IsDumpCause pool held faults faults_after (FewerLanes asked kept) = ⊥
 IsDumpCause pool held faults faults_after (NotRead name) = (name.now ≡ pool) × (Rose faults faults_after ⊎ IsMissing held pool)
 IsDumpCause pool held faults faults_after (TooLong name) = (name.now ≡ pool) × IsTooLong held pool
 IsDumpCause pool held faults faults_after (BadScript bad) = ⊥

@@ -8,8 +8,10 @@ use Rattle.pm_image.specs.declared.fault.ImageFault.{ImageFault}
 use Rattle.pmempool.specs.declared.failure.Refusal.{Refusal}
 use Rattle.pmempool.specs.declared.failure.Refusal.TheVariants.{BadShape, BadId, BadLayout, BadSize}
 use Rattle.pmempool.specs.declared.failure.Failure.{Failure}
-use Rattle.pmempool.specs.declared.failure.Failure.TheVariants.{Usage, Refused, Faulty, OtherLayout, NotRead, TooLong, BadScript, NotWritten, NoMemory}
+use Rattle.pmempool.specs.declared.failure.Failure.TheVariants.{Usage, Refused, Faulty, OtherLayout, FewerLanes, NotRead, TooLong, BadScript, NotWritten, NoMemory}
 use Rattle.pm_script.specs.declared.fault.BadLine.{BadLine}
+use Rattle.pm_script.specs.declared.fault.Why.{Why}
+use Rattle.pm_script.specs.declared.fault.Why.TheVariants as why
 use Rattle.pmempool.specs.declared.status.Status.{Status}
 use Rattle.pmempool.specs.declared.status.Status.TheVariants as status
 
@@ -33,12 +35,27 @@ faulty_line found = codes "refused " ++ fault_text found ++ codes "\n"
 abbrev pub other_layout_line : List ℕ → List ℕ → List ℕ
 other_layout_line asked kept = codes "refused Layout asked " ++ asked ++ codes " kept " ++ kept ++ codes "\n"
 
--- the script's first bad line
-abbrev pub bad_line_text : ℕ → List ℕ
-bad_line_text line = codes "bad script line " ++ (decimal line ++ codes " Word\n")
+-- the script is of more lanes than run
+abbrev pub fewer_lanes_line : ℕ → ℕ → List ℕ
+fewer_lanes_line asked kept = codes "refused Lanes asked " ++ (decimal asked ++ (codes " kept " ++ (decimal kept ++ codes "\n")))
 
+-- why a line is bad
+abbrev pub why_text : Why → List ℕ
+why_text why.Text = codes "Text"
+why_text why.Word = codes "Word"
+why_text why.Count = codes "Count"
+why_text why.Number = codes "Number"
+why_text why.Hex = codes "Hex"
+why_text why.Letter = codes "Letter"
+why_text why.LaneNumber = codes "LaneNumber"
+why_text why.NoLane = codes "NoLane"
+why_text why.Inside = codes "Inside"
+why_text why.Outside = codes "Outside"
+why_text why.Open = codes "Open"
+
+-- the script's first bad line
 abbrev pub bad_script_line : BadLine → List ℕ
-bad_script_line bad = bad_line_text bad.line
+bad_script_line bad = codes "bad script line " ++ (decimal bad.line ++ (codes " " ++ (why_text bad.why ++ codes "\n")))
 
 abbrev pub read_fault_line : List ℕ → List ℕ
 read_fault_line name = codes "read fault " ++ name ++ codes "\n"
@@ -58,6 +75,7 @@ failure_line Usage = usage_line
 failure_line (Refused refusal) = refused_line refusal
 failure_line (Faulty found) = faulty_line found
 failure_line (OtherLayout asked kept) = other_layout_line asked.now kept
+failure_line (FewerLanes asked kept) = fewer_lanes_line asked kept
 failure_line (NotRead name) = read_fault_line name.now
 failure_line (TooLong name) = too_long_line name.now
 failure_line (BadScript bad) = bad_script_line bad
@@ -70,6 +88,7 @@ failure_status Usage = status.Usage
 failure_status (Refused refusal) = status.Refused
 failure_status (Faulty found) = status.Refused
 failure_status (OtherLayout asked kept) = status.Refused
+failure_status (FewerLanes asked kept) = status.Refused
 failure_status (NotRead name) = status.ReadFault
 failure_status (TooLong name) = status.ReadFault
 failure_status (BadScript bad) = status.BadScript

@@ -3,7 +3,7 @@ ghost use Rattle.pm_words.specs.Words.{bytes_of};
 ghost use Rattle.pm_shelf.specs.Outside.{Adds, IsWhole, MayAddPart};
 ghost use Rattle.pm_text.specs.Report.{report_text};
 ghost use Rattle.pmempool.specs.Asked.{asked_run};
-ghost use Rattle.pmempool.specs.Executed.{IsExecCause, IsReadCause, IsRunFault, IsRunOf, IsRunOver, IsWriteCause, open_failure};
+ghost use Rattle.pmempool.specs.Executed.{IsExecCause, IsReadCause, IsRunFault, IsRunOf, IsRunOver, IsWriteCause, MayAddRun, open_failure};
 
 use crate::failure::Failure;
 use crate::image_bytes::{bytes_of_words, image_of};
@@ -27,7 +27,7 @@ pub fn run_exec<'a, S: Shelf>(
 ) -> Result<Vec<u8>, Failure<'a>>
     ensures ran { IfOk result (λ text. (written : List ℕ) × Adds (S.content shelf.old) (S.content shelf.new) words.now.out.now written × IsRunOf (S.content shelf.old) (asked_run words.now) written text.items) }
     ensures cause { IfErr result (IsExecCause (asked_run words.now) (S.content shelf.old) (S.content shelf.new) (S.faults shelf.old) (S.faults shelf.new)) }
-    ensures part { (written : List ℕ) × MayAddPart (S.content shelf.old) (S.content shelf.new) words.now.out.now written }
+    ensures part { MayAddRun (S.content shelf.old) (S.content shelf.new) (asked_run words.now) }
 {
     let left = run_files(alloc, words, shelf)?;
     put(words.out, &left.bytes, shelf)?;
@@ -130,6 +130,7 @@ fn open_failure(asked: &str, fault: OpenFault) -> Failure<'_>
     match fault {
         OpenFault::Image(found) => Failure::Faulty(found),
         OpenFault::Layout(kept) => Failure::OtherLayout { asked, kept },
+        OpenFault::Lanes { asked, kept } => Failure::FewerLanes { asked, kept },
         OpenFault::Memory(_) => Failure::NoMemory,
     }
 }

@@ -1,10 +1,10 @@
 ghost use Rattle.std.specs.Prelude.{◌≡◌, ◌++◌, IfOk, codes};
-ghost use Rattle.pmempool.specs.Lines.{bad_line_text, refusal_text, refused_line, faulty_line, failure_line, failure_status, other_layout_line};
+ghost use Rattle.pmempool.specs.Lines.{bad_script_line, refusal_text, refused_line, faulty_line, failure_line, failure_status, fewer_lanes_line, other_layout_line, why_text};
 
 use crate::status::Status;
 use pm_image::{ImageFault, text_of_fault};
 use pm_objects::Sequence;
-use pm_script::BadLine;
+use pm_script::{BadLine, Why};
 use std::alloc::{AllocError, Global};
 
 /// Which value of a command is refused.
@@ -43,6 +43,8 @@ pub enum Failure<'a> {
     Faulty(ImageFault),
     /// Another layout name was asked for than the pool has, which is kept.
     OtherLayout { asked: &'a str, kept: Sequence<u8> },
+    /// The script is of so many lanes, and fewer run: as many as are kept.
+    FewerLanes { asked: u64, kept: u64 },
     /// This name could not be read.
     NotRead(&'a str),
     /// This name has more bytes than what it is read for.
@@ -64,9 +66,10 @@ pub fn failure_line(alloc: Global, failure: &Failure<'_>) -> Result<Vec<u8>, All
         Failure::Refused(refusal) => refused_line(alloc, *refusal),
         Failure::Faulty(found) => faulty_line(alloc, *found),
         Failure::OtherLayout { asked, kept } => other_layout_line(alloc, asked, kept.as_slice()),
+        Failure::FewerLanes { asked, kept } => fewer_lanes_line(alloc, *asked, *kept),
         Failure::NotRead(name) => named_line(alloc, b"read fault ", name),
         Failure::TooLong(name) => named_line(alloc, b"too long ", name),
-        Failure::BadScript(bad) => bad_script_line(alloc, bad.line),
+        Failure::BadScript(bad) => bad_script_line(alloc, *bad),
         Failure::NotWritten(name) => named_line(alloc, b"write fault ", name),
         Failure::NoMemory => Vec::from_slice(alloc, b"no memory\n"),
     }
@@ -101,11 +104,39 @@ fn other_layout_line(alloc: Global, asked: &str, kept: &[u8]) -> Result<Vec<u8>,
     Ok(text)
 }
 
-/// The line of a script's first bad line.
-fn bad_script_line(alloc: Global, line: u64) -> Result<Vec<u8>, AllocError>
-    ensures { IfOk result (λ text. text.items ≡ bad_line_text line) }
+/// The line of a script that is of more lanes than run.
+fn fewer_lanes_line(alloc: Global, asked: u64, kept: u64) -> Result<Vec<u8>, AllocError>
+    ensures { IfOk result (λ text. text.items ≡ fewer_lanes_line asked kept) }
 {
-    let text = format!(in alloc; "bad script line {line} Word\n")?;
+    let text = format!(in alloc; "refused Lanes asked {asked} kept {kept}\n")?;
+    Ok(text.into_bytes())
+}
+
+/// Why a line of a script is bad, as it is printed.
+fn why_text(why: Why) -> &'static str
+    ensures { result.now ≡ why_text why }
+{
+    match why {
+        Why::Text => "Text",
+        Why::Word => "Word",
+        Why::Count => "Count",
+        Why::Number => "Number",
+        Why::Hex => "Hex",
+        Why::Letter => "Letter",
+        Why::LaneNumber => "LaneNumber",
+        Why::NoLane => "NoLane",
+        Why::Inside => "Inside",
+        Why::Outside => "Outside",
+        Why::Open => "Open",
+    }
+}
+
+/// The line of a script's first bad line.
+fn bad_script_line(alloc: Global, bad: BadLine) -> Result<Vec<u8>, AllocError>
+    ensures { IfOk result (λ text. text.items ≡ bad_script_line bad) }
+{
+    let line = bad.line;
+    let text = format!(in alloc; "bad script line {line} {}\n", why_text(bad.why))?;
     Ok(text.into_bytes())
 }
 
@@ -125,7 +156,10 @@ pub fn failure_status(failure: &Failure<'_>) -> Status
 {
     match failure {
         Failure::Usage => Status::Usage,
-        Failure::Refused(_) | Failure::Faulty(_) | Failure::OtherLayout { .. } => Status::Refused,
+        Failure::Refused(_)
+        | Failure::Faulty(_)
+        | Failure::OtherLayout { .. }
+        | Failure::FewerLanes { .. } => Status::Refused,
         Failure::NotRead(_) | Failure::TooLong(_) => Status::ReadFault,
         Failure::BadScript(_) => Status::BadScript,
         Failure::NotWritten(_) => Status::WriteFault,

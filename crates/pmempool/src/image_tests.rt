@@ -16,7 +16,7 @@ const TWO_LANES: &str = "create p --lanes 2 --zones 1 --id 7 --layout demo --roo
 const SHOWN: &str = "root 16512\nobject 16512 type 0 size 64\n";
 
 /// The bytes of a pool that the line makes.
-fn pool(alloc: Global, line: &str) -> Result<Vec<u8>, Fail> {
+pub fn pool(alloc: Global, line: &str) -> Result<Vec<u8>, Fail> {
     let mut shelf = MapShelf::new(alloc);
     let mut out = ListSink::new(alloc);
     let status = run(alloc, line, &mut shelf, &mut out)?;
@@ -28,7 +28,7 @@ fn pool(alloc: Global, line: &str) -> Result<Vec<u8>, Fail> {
 }
 
 /// Makes the word at this place another number.
-fn put(bytes: &mut [u8], place: usize, value: u64) {
+pub fn put(bytes: &mut [u8], place: usize, value: u64) {
     for (i, byte) in value.to_le_bytes().into_iter().enumerate() {
         if i < 8 && place < bytes.len() && i < bytes.len() - place {
             bytes[place + i] = byte;

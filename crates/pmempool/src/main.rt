@@ -27,7 +27,11 @@ mod image_tests;
 #[cfg(test)]
 mod run_tests;
 #[cfg(test)]
+mod script_tests;
+#[cfg(test)]
 mod tests;
+#[cfg(test)]
+mod transaction_tests;
 
 fn main(rt: HostRuntime) -> ExitCode {
     let mut shelf = FileShelf::new(&rt);

@@ -5,10 +5,10 @@ use std::alloc::{AllocError, Global};
 use std::test::Fail;
 
 /// A pool of 64 bytes in its root.
-const POOL: &str = "create p --lanes 1 --zones 1 --id 7 --layout demo --root 64";
+pub const POOL: &str = "create p --lanes 1 --zones 1 --id 7 --layout demo --root 64";
 
 /// Eight bytes of the root are recorded and written.
-const WRITE: &str = "lane 0\nbegin root\nadd root 0 8\nwrite root 0 0102030405060708\ncommit\n";
+pub const WRITE: &str = "lane 0\nbegin root\nadd root 0 8\nwrite root 0 0102030405060708\ncommit\n";
 
 /// The dump of the pool as it was made, and of one in which these bytes were written.
 const UNCHANGED: &str = "root 16512\nobject 16512 type 0 size 64\n";
@@ -16,8 +16,11 @@ const UNCHANGED: &str = "root 16512\nobject 16512 type 0 size 64\n";
 const WRITTEN: &str =
     "root 16512\nobject 16512 type 0 size 64\ndata 0 01020304050607080000000000000000\n";
 
+const WRITTEN_TWICE: &str =
+    "root 16512\nobject 16512 type 0 size 64\ndata 0 01020304050607081112131415161718\n";
+
 /// A shelf with the pool `p` and the script `s`.
-fn shelf_with(alloc: Global, pool: &str, script: &str) -> Result<MapShelf, Fail> {
+pub fn shelf_with(alloc: Global, pool: &str, script: &str) -> Result<MapShelf, Fail> {
     let mut shelf = MapShelf::new(alloc);
     let mut out = ListSink::new(alloc);
     let status = run(alloc, pool, &mut shelf, &mut out)?;
@@ -32,14 +35,14 @@ fn shelf_with(alloc: Global, pool: &str, script: &str) -> Result<MapShelf, Fail>
 }
 
 /// The status of a line of words, with what it prints.
-fn told(alloc: Global, line: &str, shelf: &mut MapShelf) -> Result<(u8, Vec<u8>), AllocError> {
+pub fn told(alloc: Global, line: &str, shelf: &mut MapShelf) -> Result<(u8, Vec<u8>), AllocError> {
     let mut out = ListSink::new(alloc);
     let status = run(alloc, line, shelf, &mut out)?;
     Ok((status.code(), Vec::from_slice(alloc, out.bytes())?))
 }
 
 /// Runs the script `s` on `p` with these options, and gives the report and the dump of the pool left.
-fn ran(alloc: Global, options: &str, shelf: &mut MapShelf) -> Result<(Vec<u8>, Vec<u8>), Fail> {
+pub fn ran(alloc: Global, options: &str, shelf: &mut MapShelf) -> Result<(Vec<u8>, Vec<u8>), Fail> {
     let line = format!(in alloc; "exec p --script s --out q --layout demo{options}")?;
     let (status, report) = told(alloc, line.as_str(), shelf)?;
     if status != 0 {
@@ -76,6 +79,43 @@ fn stops_of_a_write(rt: HostRuntime) -> Result<(), Fail> {
                 WRITTEN
             } else {
                 UNCHANGED
+            };
+            assert_eq!(rt; dump.as_slice(), left.as_bytes(), "{options}");
+        }
+    }
+    Ok(())
+}
+
+/// The same of the second of two writes: the first makes 16 counted calls, and is done.
+#[test]
+fn stops_of_a_second_write(rt: HostRuntime) -> Result<(), Fail> {
+    let alloc = rt.alloc();
+    let script = format!(in alloc;
+        "{WRITE}begin root\nadd root 8 8\nwrite root 8 1112131415161718\ncommit\n"
+    )?;
+    for stop in 16..33 {
+        for keep in [0, 1, 7] {
+            let mut shelf = shelf_with(alloc, POOL, script.as_str())?;
+            let options = format!(in alloc; " --stops 0:{stop} --keep {keep}")?;
+            let (report, dump) = ran(alloc, options.as_str(), &mut shelf)?;
+            let kept = keep == 1 && stop >= 30;
+            let second = match stop {
+                0..=28 => "",
+                29..=31 if kept => "2 lane 0 lines 6-9 kept root=16512\n",
+                29..=31 => "2 lane 0 lines 6-9 lost\n",
+                _ => "2 lane 0 lines 6-9 done root=16512\n",
+            };
+            let history = format!(in alloc; "1 lane 0 lines 2-5 done root=16512\n{second}")?;
+            let wanted = if stop < 32 {
+                format!(in alloc; "{history}lane 0 stopped after {stop} calls\n")?
+            } else {
+                format!(in alloc; "{history}lane 0 ended\n")?
+            };
+            assert_eq!(rt; report.as_slice(), wanted.as_bytes(), "{options}");
+            let left = if kept || stop == 32 {
+                WRITTEN_TWICE
+            } else {
+                WRITTEN
             };
             assert_eq!(rt; dump.as_slice(), left.as_bytes(), "{options}");
         }
@@ -120,6 +160,64 @@ fn counted_calls(rt: HostRuntime) -> Result<(), Fail> {
             assert_eq!(rt; report.as_slice(), wanted.as_bytes(), "{lines}");
         }
     }
+    Ok(())
+}
+
+/// A script that records 256 words and writes them three times, as bytes of these digits.
+fn three_writes(alloc: Global) -> Result<String, Fail> {
+    let mut script = String::from_str(alloc, "lane 0\nbegin root\nadd root 0 2048\n")?;
+    for digits in ["aa", "bb", "cc"] {
+        script.push_str("write root 0 ")?;
+        for _ in 0..2048 {
+            script.push_str(digits)?;
+        }
+        script.push_str("\n")?;
+    }
+    script.push_str("commit\n")?;
+    Ok(script)
+}
+
+/// The first bytes of the words 0, 1 and 255 of a root at 16448.
+const ROOM_PLACES: [usize; 3] = [16_448, 16_456, 18_488];
+
+/// A stop of such a script, what is kept, those bytes in the image that is left, and the line of the call. The records make 577 counted calls,
+/// and two writes 512, which are undrained then; before the third write's first store the 32 lines are flushed, and drained.
+const ROOM: [(u64, u64, [u8; 3], &str); 12] = [
+    (1088, 1, [0xBB, 0xBB, 0xAA], ""),
+    (1089, 0, [0x00, 0x00, 0x00], ""),
+    (1089, 1, [0xBB, 0xBB, 0xBB], ""),
+    (1121, 0, [0x00, 0x00, 0x00], ""),
+    (1121, 1, [0xBB, 0xBB, 0xBB], ""),
+    (1122, 0, [0xBB, 0xBB, 0xBB], ""),
+    (1123, 0, [0xBB, 0xBB, 0xBB], ""),
+    (1123, 1, [0xCC, 0xBB, 0xBB], ""),
+    (1377, 1, [0xCC, 0xCC, 0xBB], ""),
+    (1410, 0, [0xBB, 0xBB, 0xBB], ""),
+    (1411, 0, [0xCC, 0xCC, 0xCC], "1 lane 0 lines 2-7 lost\n"),
+    (1413, 0, [0xCC, 0xCC, 0xCC], "1 lane 0 lines 2-7 lost\n"),
+];
+
+/// Room for the 513th undrained change.
+#[test]
+fn room_for_a_change(rt: HostRuntime) -> Result<(), Fail> {
+    let alloc = rt.alloc();
+    let pool = "create p --lanes 1 --zones 1 --id 7 --layout demo --root 262080";
+    let script = three_writes(alloc)?;
+    for (stop, keep, bytes, call) in ROOM {
+        let mut shelf = shelf_with(alloc, pool, script.as_str())?;
+        let options = format!(in alloc; " --stops 0:{stop} --keep {keep}")?;
+        let (report, _) = ran(alloc, options.as_str(), &mut shelf)?;
+        let wanted = format!(in alloc; "{call}lane 0 stopped after {stop} calls\n")?;
+        assert_eq!(rt; report.as_slice(), wanted.as_bytes(), "{options}");
+        let left = shelf.get("q").ok_or("the image is there")?;
+        for (place, byte) in ROOM_PLACES.into_iter().zip(bytes) {
+            assert_eq!(rt; left.get(place).copied(), Some(byte), "{options}");
+        }
+    }
+    let mut shelf = shelf_with(alloc, pool, script.as_str())?;
+    let (report, _) = ran(alloc, " --stops 0:1414", &mut shelf)?;
+    let wanted: &[u8] = b"1 lane 0 lines 2-7 done root=16448\nlane 0 ended\n";
+    assert_eq!(rt; report.as_slice(), wanted);
     Ok(())
 }
 
@@ -223,7 +321,7 @@ fn refused_runs(rt: HostRuntime) -> Result<(), Fail> {
         (
             "exec p --script p --out q --layout demo",
             6,
-            "bad script line 1 Word\n",
+            "bad script line 1 Text\n",
         ),
         (
             "exec p --script s --out p --layout demo",

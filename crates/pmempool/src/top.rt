@@ -4,9 +4,9 @@ ghost use Rattle.pm_shelf.specs.Outside.{Held, Rose, IsThere, MayAddPart};
 ghost use Rattle.pmempool.specs.Words.{Create, Exec, IsCreate, IsDump, IsExec, IsNoCommand, texts};
 ghost use Rattle.pmempool.specs.Refusals.{IsGood};
 ghost use Rattle.pmempool.specs.PoolFiles.{BytesMean};
-ghost use Rattle.pmempool.specs.Executed.{CanRun};
+ghost use Rattle.pmempool.specs.Executed.{CanRun, MayAddRun};
 ghost use Rattle.pmempool.specs.Lines.{failure_line, failure_status, no_memory_line};
-ghost use Rattle.pmempool.specs.Answers.{pool_bytes, IsBadScript, IsDone, IsDumped, IsExecuted, IsOfAnotherLayout, IsRefused, IsShownFaulty, IsUsage, IsNotRead, IsNotWritten, IsNotPrinted, IsNoMemory, DidCommand, DidFail};
+ghost use Rattle.pmempool.specs.Answers.{pool_bytes, IsBadScript, IsDone, IsDumped, IsExecuted, IsOfAnotherLayout, IsOfTooManyLanes, IsRefused, IsShownFaulty, IsUsage, IsNotRead, IsNotWritten, IsNotPrinted, IsNoMemory, DidCommand, DidFail};
 ghost use Rattle.pmempool.specs.Saying.{Said};
 
 use crate::create_command::run_create;
@@ -31,19 +31,21 @@ pub fn top<S: Shelf, K: Sink>(alloc: Global, words: &[String], shelf: &mut S, ou
     ensures refused { result ≡ Status.Refused →
         IsRefused (texts words.now) (S.content shelf.old) (S.content shelf.new) (K.told out.old) (K.told out.new)
         ⊎ IsShownFaulty (texts words.now) (S.content shelf.old) (S.content shelf.new) (K.told out.old) (K.told out.new)
-        ⊎ IsOfAnotherLayout (texts words.now) (S.content shelf.old) (S.content shelf.new) (K.told out.old) (K.told out.new) }
+        ⊎ IsOfAnotherLayout (texts words.now) (S.content shelf.old) (S.content shelf.new) (K.told out.old) (K.told out.new)
+        ⊎ IsOfTooManyLanes (texts words.now) (S.content shelf.old) (S.content shelf.new) (K.told out.old) (K.told out.new) }
     ensures usage { result ≡ Status.Usage → IsUsage (texts words.now) (S.content shelf.old) (S.content shelf.new) (K.told out.old) (K.told out.new) }
     ensures read_fault { result ≡ Status.ReadFault →
         IsNotRead (texts words.now) (S.content shelf.old) (S.content shelf.new) (S.faults shelf.old) (S.faults shelf.new) (K.told out.old) (K.told out.new) }
     ensures write_fault { result ≡ Status.WriteFault →
         IsNotWritten (texts words.now) (S.content shelf.old) (S.faults shelf.old) (S.faults shelf.new) (K.told out.old) (K.told out.new)
-        ⊎ IsNotPrinted (texts words.now) (S.content shelf.old) (K.faults out.old) (K.faults out.new) (K.told out.old) (K.told out.new) }
-    ensures no_memory { result ≡ Status.NoMemory → IsNoMemory (texts words.now) (S.content shelf.old) (K.told out.old) (K.told out.new) }
+        ⊎ IsNotPrinted (texts words.now) (S.content shelf.old) (S.content shelf.new) (K.faults out.old) (K.faults out.new) (K.told out.old) (K.told out.new) }
+    ensures no_memory { result ≡ Status.NoMemory → IsNoMemory (texts words.now) (S.content shelf.old) (S.content shelf.new) (K.told out.old) (K.told out.new) }
     ensures bad_script { result ≡ Status.BadScript → IsBadScript (texts words.now) (S.content shelf.old) (S.content shelf.new) (K.told out.old) (K.told out.new) }
 
-    // Whatever the status: no name but the new pool's changes, and that is as it was, or new with a front of the pool.
+    // Whatever the status: no name but the new pool's changes, and that is as it was, or new with a front of the pool; a run's with a front
+    // of what the run leaves.
     ensures one_name { (c : Create) → IsCreate (texts words.now) c → MayAddPart (S.content shelf.old) (S.content shelf.new) c.pool (pool_bytes c) }
-    ensures exec_name { (e : Exec) → IsExec (texts words.now) e → (written : List ℕ) × MayAddPart (S.content shelf.old) (S.content shelf.new) e.out written }
+    ensures exec_name { (e : Exec) → IsExec (texts words.now) e → MayAddRun (S.content shelf.old) (S.content shelf.new) e }
     ensures dump_writes_none { (name : List ℕ) → IsDump (texts words.now) name → S.content shelf.new ≡ S.content shelf.old }
     ensures no_name { IsNoCommand (texts words.now) → S.content shelf.new ≡ S.content shelf.old }
 
@@ -58,7 +60,7 @@ pub fn top<S: Shelf, K: Sink>(alloc: Global, words: &[String], shelf: &mut S, ou
         → ¬ Rose (S.faults shelf.old) (S.faults shelf.new) → ¬ Rose (K.faults out.old) (K.faults out.new)
         → (result ≡ Status.Done) ⊎ (result ≡ Status.NoMemory) }
 
-    // A pool of the layout and a script under their names, a new name and no fault: done, or want of memory.
+    // A pool of the layout and a script of one lane under their names, a new name and no fault: done, or want of memory.
     ensures exec_complete { (e : Exec) (held : Held) → IsExec (texts words.now) e → S.content shelf.old ≡ Some held → CanRun held e
         → ¬ Rose (S.faults shelf.old) (S.faults shelf.new) → ¬ Rose (K.faults out.old) (K.faults out.new)
         → (result ≡ Status.Done) ⊎ (result ≡ Status.NoMemory) }
@@ -75,17 +77,18 @@ fn answer<S: Shelf, K: Sink>(alloc: Global, words: &[String], shelf: &mut S, out
     ensures refused { result ≡ Status.Refused →
         IsRefused (texts words.now) (S.content shelf.old) (S.content shelf.new) (K.told out.old) (K.told out.new)
         ⊎ IsShownFaulty (texts words.now) (S.content shelf.old) (S.content shelf.new) (K.told out.old) (K.told out.new)
-        ⊎ IsOfAnotherLayout (texts words.now) (S.content shelf.old) (S.content shelf.new) (K.told out.old) (K.told out.new) }
+        ⊎ IsOfAnotherLayout (texts words.now) (S.content shelf.old) (S.content shelf.new) (K.told out.old) (K.told out.new)
+        ⊎ IsOfTooManyLanes (texts words.now) (S.content shelf.old) (S.content shelf.new) (K.told out.old) (K.told out.new) }
     ensures usage { result ≡ Status.Usage → IsUsage (texts words.now) (S.content shelf.old) (S.content shelf.new) (K.told out.old) (K.told out.new) }
     ensures read_fault { result ≡ Status.ReadFault →
         IsNotRead (texts words.now) (S.content shelf.old) (S.content shelf.new) (S.faults shelf.old) (S.faults shelf.new) (K.told out.old) (K.told out.new) }
     ensures write_fault { result ≡ Status.WriteFault →
         IsNotWritten (texts words.now) (S.content shelf.old) (S.faults shelf.old) (S.faults shelf.new) (K.told out.old) (K.told out.new)
-        ⊎ IsNotPrinted (texts words.now) (S.content shelf.old) (K.faults out.old) (K.faults out.new) (K.told out.old) (K.told out.new) }
-    ensures no_memory { result ≡ Status.NoMemory → IsNoMemory (texts words.now) (S.content shelf.old) (K.told out.old) (K.told out.new) }
+        ⊎ IsNotPrinted (texts words.now) (S.content shelf.old) (S.content shelf.new) (K.faults out.old) (K.faults out.new) (K.told out.old) (K.told out.new) }
+    ensures no_memory { result ≡ Status.NoMemory → IsNoMemory (texts words.now) (S.content shelf.old) (S.content shelf.new) (K.told out.old) (K.told out.new) }
     ensures bad_script { result ≡ Status.BadScript → IsBadScript (texts words.now) (S.content shelf.old) (S.content shelf.new) (K.told out.old) (K.told out.new) }
     ensures one_name { (c : Create) → IsCreate (texts words.now) c → MayAddPart (S.content shelf.old) (S.content shelf.new) c.pool (pool_bytes c) }
-    ensures exec_name { (e : Exec) → IsExec (texts words.now) e → (written : List ℕ) × MayAddPart (S.content shelf.old) (S.content shelf.new) e.out written }
+    ensures exec_name { (e : Exec) → IsExec (texts words.now) e → MayAddRun (S.content shelf.old) (S.content shelf.new) e }
     ensures dump_writes_none { (name : List ℕ) → IsDump (texts words.now) name → S.content shelf.new ≡ S.content shelf.old }
     ensures no_name { IsNoCommand (texts words.now) → S.content shelf.new ≡ S.content shelf.old }
 {
@@ -104,7 +107,7 @@ fn run<'a, S: Shelf>(
     ensures did { IfOk result (λ text. DidCommand (texts words.now) (S.content shelf.old) (S.content shelf.new) text.items) }
     ensures failed { IfErr result (DidFail (texts words.now) (S.content shelf.old) (S.content shelf.new) (S.faults shelf.old) (S.faults shelf.new)) }
     ensures one_name { (c : Create) → IsCreate (texts words.now) c → MayAddPart (S.content shelf.old) (S.content shelf.new) c.pool (pool_bytes c) }
-    ensures exec_name { (e : Exec) → IsExec (texts words.now) e → (written : List ℕ) × MayAddPart (S.content shelf.old) (S.content shelf.new) e.out written }
+    ensures exec_name { (e : Exec) → IsExec (texts words.now) e → MayAddRun (S.content shelf.old) (S.content shelf.new) e }
     ensures dump_writes_none { (name : List ℕ) → IsDump (texts words.now) name → S.content shelf.new ≡ S.content shelf.old }
     ensures no_name { IsNoCommand (texts words.now) → S.content shelf.new ≡ S.content shelf.old }
 {

@@ -1,10 +1,8 @@
 use Rattle.std.proofs.Common.{◌++◌, ◌∷◌, [], ◌+◌, ◌<◌, List, length, take, drop, sym, ap, ◌∙◌, subst, append_assoc}
-use Rattle.pm_script.specs.Scripts.{operations}
-use Rattle.pm_script.specs.declared.script.ScriptLine.{ScriptLine}
-use Rattle.pm_script.specs.declared.script.ScriptOp.{ScriptOp}
-use Rattle.pm_exec.specs.Progress.{IsAtLine, IsNotDone}
 use Rattle.std.proofs.lemmas.Result.{err_from_is_err_and}
-use Rattle.pm_exec.proofs.ScriptParts.{between, change_at_index, operations_both, operations_taken, taken_all}
+use Rattle.pm_script.specs.declared.script.ScriptLine.{ScriptLine}
+use Rattle.pm_exec.specs.Progress.{IsAtLine, IsNotDone}
+use Rattle.pm_exec.proofs.ScriptParts.{between, change_at_index, lines_taken, taken_all}
 use Rattle.pm_exec.proofs.lines.change_all.Goals as goal
 
 pub change_at-requires-clause-is_change : goal.change_at-requires-clause-is_change
@@ -13,19 +11,20 @@ change_at-requires-clause-is_change c = change_at_index c.args.lines.now c.requi
 pub loop-said-preserved : goal.loop-said-preserved
 loop-said-preserved c =
     let low : c.loop-said.said-index < length c.args.lines.now = c.loop-said-test.true in
-    let more = operations_taken c.args.lines.now c.loop-said.said-index c.said-item.result low c.said-item.is in
+    let more = lines_taken c.args.lines.now c.loop-said.said-index c.said-item.result low c.said-item.is in
+    let inv = c.loop-said.invariant.1 in
     let at = c.loop-said.invariant.0 in (
-      (at.0, at.1, _, c.in_ok-change_at.ensures.done at.0 at.1 at.2 at.3),
-      λ o first ops a.
-          subst (λ (os : List ScriptOp). IsAtLine o first c.change_at.new.lane c.args.root os)
-          (append_assoc ops (operations (take c.loop-said.said-index c.args.lines.now)) (c.said-item.result.operation ∷ []) ∙ ap (λ (os : List ScriptOp). ops ++ os) (sym more))
-          (c.in_ok-change_at.ensures.done o first _ (c.loop-said.invariant.1 o first ops a)),
+      (at.0, at.1, _, c.in_ok-change_at.ensures.done at.0 at.1 _ at.3),
+      λ o first front a.
+          subst (λ (ls : List ScriptLine). IsAtLine o first c.change_at.new.lane c.args.names ls c.change_at.new.values.items)
+          (append_assoc front (take c.loop-said.said-index c.args.lines.now) (c.said-item.result ∷ []) ∙ ap (λ (ls : List ScriptLine). front ++ ls) (sym more))
+          (c.in_ok-change_at.ensures.done o first _ (inv o first front a)),
     )
 
 pub returns-clause-done : goal.returns-clause-done
-returns-clause-done c o first ops a =
-    subst (λ (os : List ScriptOp). IsAtLine o first c.loop-said.lane c.args.root os) (ap (λ (ls : List ScriptLine). ops ++ operations ls) (taken_all c.args.lines.now c.loop-said.said-index c.loop-said-test.false))
-    (c.loop-said.invariant.1 o first ops a)
+returns-clause-done c o first front a =
+    subst (λ (ls : List ScriptLine). IsAtLine o first c.loop-said.lane c.args.names ls c.loop-said.values.items) (ap (λ (ls : List ScriptLine). front ++ ls) (taken_all c.args.lines.now c.loop-said.said-index c.loop-said-test.false))
+    (c.loop-said.invariant.1 o first front a)
 
 pub returns-in_err-change_at-clause-ends : goal.returns-in_err-change_at-clause-ends
 returns-in_err-change_at-clause-ends c =
@@ -34,6 +33,5 @@ returns-in_err-change_at-clause-ends c =
     (λ o first front rest a.
     let low : c.loop-said.said-index < length c.args.lines.now = c.loop-said-test.true in
     let i = c.loop-said.said-index in
-    subst (λ (ls : List ScriptLine). IsNotDone o first c.change_at.new.lane c.args.root ls c.in_err-change_at.field-0.0) (between c.args.lines.now front rest i c.said-item.result low c.said-item.is)
-    (c.in_err-change_at.ensures.ends o first (front ++ take i c.args.lines.now) (drop (i + 1) c.args.lines.now ++ rest)
-    (subst (λ (os : List ScriptOp). IsAtLine o first c.loop-said.lane c.args.root os) (operations_both front (take i c.args.lines.now)) (c.loop-said.invariant.1 o first (operations front) a))))
+    subst (λ (ls : List ScriptLine). IsNotDone o first c.change_at.new.lane c.args.names ls c.change_at.new.values.items c.in_err-change_at.field-0.0) (between c.args.lines.now front rest i c.said-item.result low c.said-item.is)
+    (c.in_err-change_at.ensures.ends o first (front ++ take i c.args.lines.now) (drop (i + 1) c.args.lines.now ++ rest) (c.loop-said.invariant.1 o first front a)))

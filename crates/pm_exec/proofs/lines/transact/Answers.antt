@@ -1,7 +1,13 @@
-use Rattle.std.proofs.Common.{arith, rules}
+use Rattle.std.proofs.Common.{[], ◌∷◌, sym, subst, arith, rules}
 use Rattle.std.proofs.lemmas.Result.{err_from_is_err_and}
-use Rattle.pm_exec.proofs.ScriptParts.{begun_not, changed_not, changes_are, committed_or_not, parts, two}
+use Rattle.pm_exec.specs.Progress.{IsAtLine, IsNotDone, Values}
+use Rattle.pm_exec.proofs.ScriptParts.{begins_there, begun_at, begun_not, changed_not, changes_are, committed_or_not, parts, two}
 use Rattle.pm_exec.proofs.lines.transact.Goals as goal
+
+pub begin_at-requires-clause-begins : goal.begin_at-requires-clause-begins
+begin_at-requires-clause-begins c =
+    let p = parts c.args.lines.now c.requires.transaction in
+    (p.wants, begins_there c.args.lines.now p c.index-lines-0.result c.index-lines-0.is)
 
 pub slice_bounds-change_all-count : goal.slice_bounds-change_all-count
 slice_bounds-change_all-count c = let n = two c.args.lines.now (parts c.args.lines.now c.requires.transaction) in omega (arith, n)
@@ -16,15 +22,25 @@ pub returns-in_err-begin_at : goal.returns-in_err-begin_at
 returns-in_err-begin_at c o first is =
     let p = err_from_is_err_and c.from_residual.result c.from_residual.ensures.1 in
     rw (p.1, p.2)
-    (begun_not c.args.lines.now (parts c.args.lines.now c.requires.transaction) o first c.args.root c.begin_at.new.lane _ c.index-lines-0.result c.index-lines-0.is (λ rest. c.in_err-begin_at.ensures.ends o first rest is))
+    (subst (λ (vs : Values). IsNotDone o first c.begin_at.new.lane c.args.names c.args.lines.now vs c.in_err-begin_at.field-0.0) (sym c.requires.none)
+    (begun_not c.args.lines.now (parts c.args.lines.now c.requires.transaction) o first c.args.names c.begin_at.new.lane _ c.index-lines-0.result c.index-lines-0.is (λ rest. c.in_err-begin_at.ensures.ends o first rest is)))
 
 pub returns-in_err-change_all : goal.returns-in_err-change_all
 returns-in_err-change_all c o first is =
     let p = err_from_is_err_and c.from_residual-in_err-change_all.result c.from_residual-in_err-change_all.ensures.1 in
+    let script = c.args.lines.now in
+    let t = parts script c.requires.transaction in
     rw (p.1, p.2)
-    (changed_not c.args.lines.now (parts c.args.lines.now c.requires.transaction) o first c.args.root c.begin_at.new.lane c.change_all.new.lane _ (c.in_ok-begin_at.ensures.done o first is) (λ front rest at. c.in_err-change_all.ensures.ends o first front rest at))
+    (changed_not script t o first c.args.names c.begin_at.new.lane c.change_all.new.lane c.change_all.new.values.items _
+    (begun_at script t o first c.args.names c.begin_at.new.lane c.index-lines-0.result c.index-lines-0.is (c.in_ok-begin_at.ensures.done o first is))
+    (λ front rest at. c.in_err-change_all.ensures.ends o first front rest (subst (λ (vs : Values). IsAtLine o first c.begin_at.new.lane c.args.names front vs) (sym c.requires.none) at)))
 
 pub returns : goal.returns
 returns c o first is =
-    committed_or_not c.args.lines.now (parts c.args.lines.now c.requires.transaction) o first c.args.root c.change_all.new.lane c.commit_all.new.lane c.commit_all.result
-    (c.in_ok-change_all.ensures.done o first _ (c.in_ok-begin_at.ensures.done o first is)) (λ front said at commits. c.commit_all.ensures o first front said at commits)
+    let script = c.args.lines.now in
+    let t = parts script c.requires.transaction in
+    committed_or_not script t o first c.args.names c.change_all.new.lane c.commit_all.new.lane c.change_all.new.values.items c.commit_all.result
+    (c.in_ok-change_all.ensures.done o first (t.begin ∷ [])
+    (subst (λ (vs : Values). IsAtLine o first c.begin_at.new.lane c.args.names (t.begin ∷ []) vs) (sym c.requires.none)
+    (begun_at script t o first c.args.names c.begin_at.new.lane c.index-lines-0.result c.index-lines-0.is (c.in_ok-begin_at.ensures.done o first is))))
+    (λ front said at commits. c.commit_all.ensures o first front c.change_all.new.values.items said at commits)

@@ -1,8 +1,8 @@
 use Rattle.std.proofs.Common.{refl, rules}
 use Rattle.pm_memory.specs.Solo.{Solo}
 use Rattle.pm_world.specs.declared.lane.Lane.{Lane}
-use Rattle.pm_exec.specs.Progress.{first_view}
-use Rattle.pm_exec.proofs.FirstLane.{is_first, seen_first, shaped_first}
+use Rattle.pm_exec.specs.Openings.{first_view}
+use Rattle.pm_exec.proofs.FirstLane.{is_start, seen_first, shaped_first}
 use Rattle.pm_exec.proofs.running.open_lane.Goals as goal
 
 pub returns : goal.returns
@@ -13,4 +13,4 @@ returns c =
     let made : Lane Solo = c.new-lane.result in
     let sees = seen_first pool image c.in_ok-words.words.items c.args.stop c.in_ok-memory.memory (search rules) c.in_ok-memory.ensures in
     let s = c.new-lane.ensures.fits first sees refl (shaped_first pool image c.args.stop c.in-Ok.shape c.requires.sound c.in-Ok.ensures.lanes c.in-Ok.ensures.zones) refl refl refl in
-    is_first pool image c.args.stop made c.requires.sound c.requires.shape s.0 s.1 c.new-lane.ensures.unharmed
+    is_start pool image c.args.stop made c.requires.sound c.requires.shape s.0 s.1 c.new-lane.ensures.unharmed

@@ -1,6 +1,11 @@
-use Rattle.pmempool.specs.Asked.{IsCommand}
-use Rattle.pmempool.specs.Words.{texts}
+use Rattle.std.proofs.Common.{◌≡◌, subst}
+use Rattle.std.proofs.lemmas.Result.{IfErr-weaker}
+use Rattle.pmempool.specs.Asked.{IsCommand, asked_run}
+use Rattle.pmempool.specs.Words.{IsExec, texts}
+use Rattle.pmempool.specs.declared.options.Command.TheVariants as command
+use Rattle.pmempool.proofs.NewNames.{adds_that_run}
 use Rattle.pmempool.proofs.OneCommand.{is_a_command}
+use Rattle.pmempool.proofs.Printing.{exec_failed}
 use Rattle.pmempool.proofs.top.run.Goals as goal
 
 pub returns-in-Ok-run_create-clause-no_name : goal.returns-in-Ok-run_create-clause-no_name
@@ -17,3 +22,17 @@ pub returns-in-Some-Exec-clause-no_name : goal.returns-in-Some-Exec-clause-no_na
 returns-in-Some-Exec-clause-no_name g c = λ none.
     let is : IsCommand (texts c.args.words.now) c.in-Some-Exec.field-0 = rw c.in-Some-Exec.is at c.in-Ok.ensures.some in
     absurd (is_a_command _ c.in-Some-Exec.field-0 is none)
+
+pub returns-in-Some-Exec-clause-exec_name : goal.returns-in-Some-Exec-clause-exec_name
+returns-in-Some-Exec-clause-exec_name g c =
+    let some : IsCommand (texts c.args.words.now) c.in-Some-Exec.field-0 = rw c.in-Some-Exec.is at c.in-Ok.ensures.some in
+    let exec : c.in-Some-Exec.field-0 ≡ command.Exec c.in-Some-Exec.exec = rw c.in-Some-Exec.is at c.in-Some-Exec.field-0-is in
+    let is : IsExec (texts c.args.words.now) (asked_run c.in-Some-Exec.exec) = subst (IsCommand (texts c.args.words.now)) exec some in
+    adds_that_run _ _ _ _ is c.run_exec.ensures.part
+
+pub returns-in-Some-Exec-clause-failed : goal.returns-in-Some-Exec-clause-failed
+returns-in-Some-Exec-clause-failed g c =
+    let some : IsCommand (texts c.args.words.now) c.in-Some-Exec.field-0 = rw c.in-Some-Exec.is at c.in-Ok.ensures.some in
+    let exec : c.in-Some-Exec.field-0 ≡ command.Exec c.in-Some-Exec.exec = rw c.in-Some-Exec.is at c.in-Some-Exec.field-0-is in
+    let is : IsExec (texts c.args.words.now) (asked_run c.in-Some-Exec.exec) = subst (IsCommand (texts c.args.words.now)) exec some in
+    IfErr-weaker _ _ _ (exec_failed _ _ _ _ _ _ is) c.run_exec.ensures.cause

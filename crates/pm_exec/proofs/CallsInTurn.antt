@@ -1,0 +1,118 @@
+-- One more call of a run, behind those that were answered.
+use Rattle.std.proofs.Common.{◌≡◌, inl, inr, ℕ, ◌<◌, ◌%◌, ◌^◌, List, [], ◌∷◌, ◌++◌, length, slice_index, Option, None, refl, sym, ap, ◌∙◌, subst, arith}
+use Rattle.pm_crash.proofs.Leading.{leads_then}
+use Rattle.pm_crash.specs.Alone.{standing}
+use Rattle.pm_memory.specs.Solo.{Sees, Solo}
+use Rattle.pm_objects.specs.declared.calls.Call.{Call}
+use Rattle.pm_objects.specs.declared.history.Entry.{Entry}
+use Rattle.pm_objects.specs.declared.history.Fate.{Fate}
+use Rattle.pm_objects.specs.declared.history.Reply.{Reply}
+use Rattle.pm_objects.specs.declared.history.TxErr.{TxErr}
+use Rattle.pm_script.specs.declared.script.ScriptLine.{ScriptLine}
+use Rattle.pm_text.specs.declared.report.LaneEnd.TheVariants as end
+use Rattle.pm_view.specs.Area.{area_word}
+use Rattle.pm_view.specs.View.{Numbered, View}
+use Rattle.pm_world.specs.Opening.{Opening}
+use Rattle.pm_world.specs.Records.{generation_of}
+use Rattle.pm_world.specs.declared.lane.Lane.{Lane}
+use Rattle.pm_exec.specs.Calls.{call_of, numbers_of}
+use Rattle.pm_exec.specs.Course.{CallsMade, IsCallMade}
+use Rattle.pm_exec.specs.Histories.{settled_fate}
+use Rattle.pm_exec.specs.Progress.{IsAnswered, IsHalted, IsStart, IsUnbegun}
+use Rattle.pm_exec.specs.Running.{AreEntries, HasComeTo, HasHalted, IsEntryOf, open_entry}
+use Rattle.pm_exec.specs.declared.calls.Names.{Names}
+use Rattle.pm_exec.specs.declared.running.Halt.{Halt}
+use Rattle.pm_exec.proofs.Standing.{starts_again}
+
+-- its entry is the last
+entries_then : (names : Names) (calls : List (List ScriptLine)) (history : List Entry) (entries : List Numbered) (call : List ScriptLine) (e : Entry) (n : Numbered)
+    → AreEntries names calls history entries → IsEntryOf names call e n → AreEntries names (calls ++ call ∷ []) (history ++ e ∷ []) (entries ++ n ∷ [])
+entries_then names [] [] [] call e n are is = (is, tt)
+entries_then names [] [] (m ∷ entries) call e n are is = absurd are
+entries_then names [] (d ∷ history) entries call e n are is = absurd are
+entries_then names (c ∷ calls) [] entries call e n are is = absurd are
+entries_then names (c ∷ calls) (d ∷ history) [] call e n are is = absurd are
+entries_then names (c ∷ calls) (d ∷ history) (m ∷ entries) call e n are is = (are.0, entries_then names calls history entries call e n are.1 is)
+
+-- it is made behind the others
+made_then : (names : Names) (calls : List (List ScriptLine)) (history : List Entry) (call : List ScriptLine) (d : Entry) (e : TxErr) (u v w : View) → CallsMade names calls history u v → d.fate ≡ settled_fate e → IsCallMade names call e v w
+    → CallsMade names (calls ++ call ∷ []) (history ++ d ∷ []) u w
+unfolding CallsMade
+made_then names [] [] call d e u v w made settled is = (w, e, settled, subst (λ (m : View). IsCallMade names call e m w) made is, refl)
+made_then names [] (h ∷ history) call d e u v w made settled is = absurd made
+made_then names (c ∷ calls) [] call d e u v w made settled is = absurd made
+made_then names (c ∷ calls) (h ∷ history) call d e u v w made settled is = (made.0, made.1, made.2, made.3, made_then names calls history call d e made.0 v w made.4 settled is)
+
+module _ (o : Opening) (first : View) (lane : Lane Solo) (names : Names) (calls : List (List ScriptLine)) (history : List Entry) (h : HasComeTo o first lane names calls history) where
+  -- where those were answered, the lane may begin it
+  pub begins : IsStart (standing o h.answered.view) lane h.answered.view
+  begins = let a = h.answered in starts_again o first a.view a.called.steps h.opened a.called.leads lane a.rests a.idle
+
+  -- the word of its generation, as its memory has it
+  generation_seen : (found : ℕ) → found ≡ slice_index lane.memory.words 512 → found ≡ generation_of h.answered.view
+  generation_seen found is =
+      let v : View = h.answered.view in
+      is ∙ ap (λ (words : List ℕ). slice_index words 512) (sym h.answered.rests.seen.memory.words) ∙ ap (λ (n : ℕ). slice_index v.words (area_word n)) (sym begins.of_lane)
+
+  -- its memory has that word
+  pub generation_inside : 512 < length lane.memory.words
+  generation_inside =
+      let inside = h.answered.rests.place.inside in
+      let same = ap length h.answered.rests.seen.memory.words in
+      omega (arith, inside, same)
+
+  module _ (lines : List ScriptLine) (new : Lane Solo) where
+    -- it was answered too
+    pub one_more : (number : ℕ) (e : TxErr) (reply : Reply) (call : Call) (fate : Fate) → IsAnswered h.answered.view new names lines number e reply → call ≡ call_of names lines → fate ≡ settled_fate e
+        → HasComeTo o first new names (calls ++ lines ∷ []) (history ++ record { number = number; call = call; reply = reply; fate = fate } ∷ [])
+    one_more number e reply call fate x is settled =
+        let a = h.answered in
+        record {
+          opened = h.opened;
+          answered = record {
+            view = x.view;
+            called = record {
+              steps = a.called.steps ++ x.steps;
+              leads = leads_then first a.view x.view a.called.steps x.steps a.called.leads x.leads;
+              are = subst (AreEntries names (calls ++ lines ∷ []) (history ++ record { number = number; call = call; reply = reply; fate = fate } ∷ [])) (sym x.entries)
+                  (entries_then names calls history a.view.entries lines (record { number = number; call = call; reply = reply; fate = fate }) (record { number = number; call = x.told }) a.called.are
+                  (record { number = refl; call = is; error = e; ended = x.so; fate = settled }));
+              made = made_then names calls history lines (record { number = number; call = call; reply = reply; fate = fate }) e first a.view x.view a.called.made settled x.made;
+            };
+            rests = x.rests;
+            idle = x.idle;
+          };
+        }
+
+    -- in it the lane stopped
+    pub stopped_in : (number : Option ℕ) (reply : Reply) (made found : ℕ) (halt : Halt) → (x : IsHalted (standing o h.answered.view) h.answered.view new names lines number reply)
+        → ((v : View) → Sees new.memory v → made ≡ v.calls % 2 ^ 64) → found ≡ slice_index lane.memory.words 512
+        → halt.is_open ≡ open_entry names lines number reply → halt.generation ≡ found → halt.end ≡ end.Stopped made → HasHalted o first new names calls lines history halt
+    stopped_in number reply made found halt x counts is is_open generation ends = inl (record {
+      before = h.answered.view;
+      called = h.answered.called;
+      idle = h.answered.idle;
+      drained = h.answered.rests.drained;
+      number = number;
+      reply = reply;
+      halted = x;
+      is_open = is_open;
+      generation = generation ∙ generation_seen found is;
+      ends = ends ∙ ap (λ (n : ℕ). end.Stopped n) (counts x.cut.view x.cut.seen);
+    })
+
+    -- it could not begin
+    pub spent_at : (line found : ℕ) (halt : Halt) → IsUnbegun h.answered.view new → slice_index (numbers_of lines) 0 ≡ line → found ≡ slice_index lane.memory.words 512
+        → halt.is_open ≡ None → halt.generation ≡ found → halt.end ≡ end.Spent line → HasHalted o first new names calls lines history halt
+    spent_at line found halt x at is is_open generation ends = inr (record {
+      before = h.answered.view;
+      called = h.answered.called;
+      idle = h.answered.idle;
+      drained = h.answered.rests.drained;
+      unbegun = x;
+      is_open = is_open;
+      generation = generation ∙ generation_seen found is;
+      line = line;
+      of_line = at;
+      ends = ends;
+    })

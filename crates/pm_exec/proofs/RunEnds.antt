@@ -1,0 +1,202 @@
+-- What a run comes to: its history, the memory calls that it made, and the pool that its image means.
+use Rattle.std.proofs.Common.{◌≡◌, ⊎_elim, inl, ℕ, ◌+◌, ◌*◌, ◌<◌, ◌≤◌, ◌^◌, All, Bool, not, eqb, List, [], ◌∷◌, ◌++◌, length, map, take, Option, slice_index, slice_index_or, refl, sym, ap, ◌∙◌, subst, arith, append-nil}
+use Rattle.std.specs.List.Sorted.{IsStrictlyIncreasing}
+use Rattle.std.specs.Option.{ForSome}
+use Rattle.std.proofs.Math.Seq.{take-length}
+use Rattle.std.proofs.lemmas.Bool.{lt-ltb}
+use Rattle.std.proofs.lemmas.List.{length-map, map-append, take-append-le}
+use Rattle.pm_crash.proofs.AloneImages.{calls_meant, header_stays, size_stays}
+use Rattle.pm_crash.proofs.AtRest.{none_torn_at_rest}
+use Rattle.pm_crash.proofs.SeenAlone.{image_where_seen, works_where_seen}
+use Rattle.pm_crash.specs.Alone.{BeginsAlone, MeansCalls, Rests, WorksAlone, alone_views, kept_numbered}
+use Rattle.pm_header.specs.declared.header.Header.{Header}
+use Rattle.pm_image.specs.Blocks.{blocks}
+use Rattle.pm_image.specs.Contents.{offset_in}
+use Rattle.pm_image.specs.Logs.{recovered_at}
+use Rattle.pm_image.specs.Means.{IsMeaning}
+use Rattle.pm_memory.specs.Keep.{IsKeptImage}
+use Rattle.pm_model.specs.History.{is_lost}
+use Rattle.pm_objects.specs.Pool.{offsets}
+use Rattle.pm_objects.specs.declared.history.Entry.{Entry}
+use Rattle.pm_objects.specs.declared.pool.PoolView.{PoolView}
+use Rattle.pm_recover.proofs.Meaning.{front_stands}
+use Rattle.pm_recover.proofs.Sound.{sound_if_meaning}
+use Rattle.pm_recover.specs.Recovery.{HasNoStrayRecord, IsRecovered}
+use Rattle.pm_script.specs.declared.script.ScriptLine.{ScriptLine}
+use Rattle.pm_view.specs.View.{View}
+use Rattle.pm_world.specs.Crash.{NoneTorn, loses}
+use Rattle.pm_world.specs.Opening.{Opening}
+use Rattle.pm_world.specs.declared.lane.Lane.{Lane}
+use Rattle.pm_memory.specs.Solo.{Solo}
+use Rattle.pm_exec.specs.Calls.{call_of, names_of, numbers_of, transactions}
+use Rattle.pm_exec.specs.Histories.{closed_history}
+use Rattle.pm_exec.specs.Openings.{first_view, opening_of}
+use Rattle.pm_crash.specs.Leading.{Leads}
+use Rattle.pm_exec.specs.Course.{CallsMade}
+use Rattle.pm_exec.specs.Progress.{IsStart}
+use Rattle.pm_exec.specs.Running.{AreEntries, HasComeTo, HasRun}
+use Rattle.pm_exec.specs.Runs.{IsHistoryOf, LeavesReplay, MakesCalls}
+use Rattle.pm_exec.specs.Torn.{HasNoTornMatch}
+use Rattle.pm_exec.specs.declared.calls.Names.{Names}
+use Rattle.pm_exec.specs.declared.running.Halt.{Halt}
+use Rattle.pm_exec.proofs.Along.{same_along}
+use Rattle.pm_exec.proofs.EndedRuns.{IsCutAt, IsEnded, ended_run}
+use Rattle.pm_exec.proofs.Opened.{begins_alone, means_so, shape_of, size_of, words_long}
+use Rattle.pm_exec.proofs.RisingCalls.{transactions_rise}
+use Rattle.pm_exec.proofs.ShownHistories.{as_many, as_many_numbered, calls_are, numbers_count, shown_replay}
+use Rattle.pm_exec.proofs.StoppedEnd.{within_stop}
+use Rattle.pm_exec.proofs.Untorn.{none_torn_where_stopped}
+
+-- before the first call none was answered
+pub run_begins : (o : Opening) (first : View) (lane : Lane Solo) (names : Names) (history : List Entry) → first.entries ≡ [] → history ≡ [] → IsStart o lane first → HasComeTo o first lane names [] history
+unfolding Leads CallsMade
+run_begins o first lane names history entries none is = record {
+  opened = record { of_lane = is.of_lane; alone = is.alone; sound = is.sound; zones = is.zones; lanes_are = is.lanes_are; words_are = is.words_are; free = is.rests.free };
+  answered = record {
+    view = first;
+    called = record {
+      steps = [];
+      leads = refl;
+      are = subst (λ (es : List Entry). AreEntries names [] es first.entries) (sym none) (subst (AreEntries names [] []) (sym entries) tt);
+      made = subst (λ (es : List Entry). CallsMade names [] es first first) (sym none) refl;
+    };
+    rests = is.rests;
+    idle = is.idle;
+  };
+}
+
+-- the same of names and lines that are given otherwise
+pub run_of : (o : Opening) (first : View) (lane : Lane Solo) (history : List Entry) (halt : Halt) (names other : Names) (lines script : List ScriptLine) → names ≡ other → lines ≡ script
+    → HasRun o first lane names (transactions lines) history halt → HasRun o first lane other (transactions script) history halt
+run_of o first lane history halt names other lines script named are run =
+    subst (λ (ns : Names). HasRun o first lane ns (transactions script) history halt) named (subst (λ (ls : List ScriptLine). HasRun o first lane names (transactions ls) history halt) are run)
+
+-- recovery leaves the header page
+page_recovered : (image words : List ℕ) (pool : PoolView) → IsMeaning image pool → IsRecovered image words pool.lanes → (i : ℕ) → i < 512 → slice_index words i ≡ slice_index image i
+page_recovered image words pool means is i low = is.words i (inl (omega (arith, low))) ∙ front_stands image pool.lanes i (sound_if_meaning image pool means) (omega (arith, low))
+
+-- two pools of one length have as many lanes, and as many zones
+one_zones : (size lanes zones other_lanes other_zones : ℕ) → size ≡ 512 + 1024 * lanes + 33280 * zones → size ≡ 512 + 1024 * other_lanes + 33280 * other_zones → lanes ≤ 32 → other_lanes ≤ 32 → zones ≡ other_zones
+one_zones size lanes zones other_lanes other_zones one other few other_few = omega (arith, one, other, few, other_few)
+
+one_lanes : (size lanes zones other_lanes other_zones : ℕ) → size ≡ 512 + 1024 * lanes + 33280 * zones → size ≡ 512 + 1024 * other_lanes + 33280 * other_zones → zones ≡ other_zones → lanes ≡ other_lanes
+one_lanes size lanes zones other_lanes other_zones one other same = omega (arith, one, other, same)
+
+-- the first of mapped parts
+front_mapped : (names : Names) (xs ys : List (List ScriptLine)) (n : ℕ) → n ≡ length xs → map (call_of names) xs ≡ take n (map (call_of names) (xs ++ ys))
+front_mapped names xs ys n is =
+    let long = length-map xs (call_of names) in
+    sym (ap (λ (k : ℕ). take k (map (call_of names) (xs ++ ys))) is
+    ∙ (ap (take (length xs)) (map-append (call_of names) xs ys)
+    ∙ (take-append-le (length xs) (map (call_of names) xs) (map (call_of names) ys) (omega (arith, long))
+    ∙ (ap (λ (k : ℕ). take k (map (call_of names) xs)) (sym long) ∙ take-length (map (call_of names) xs)))))
+
+module _ (pool : PoolView) (words : List ℕ) (stop : Option ℕ) (script : List ScriptLine) (rising : IsStrictlyIncreasing (numbers_of script)) (fits : ForSome stop (λ n. n < 2 ^ 64)) (lane : Lane Solo) (history : List Entry)
+    (halt : Halt) (run : HasRun (opening_of pool words) (first_view pool words stop) lane (names_of pool) (transactions script) history halt) (decided : Bool) where
+  abbrev o : Opening
+  o = opening_of pool words
+
+  abbrev first : View
+  first = first_view pool words stop
+
+  abbrev names : Names
+  names = names_of pool
+
+  abbrev closed : List Entry
+  closed = closed_history history halt.is_open decided
+
+  e : IsEnded o first lane names (transactions script) decided halt.generation closed halt.end
+  e = ended_run o first names (transactions script) (transactions_rise script rising) decided lane history halt fits run
+
+  pub run_history : IsHistoryOf pool script stop closed halt.end
+  run_history = record {
+    is_history = record {
+      numbered = number_at;
+      answered = λ j k d before low same. let most = e.most in e.fates j d (omega (arith, before, low)) ∙ lt-ltb j (length e.answered) (omega (arith, before, low, most));
+    };
+    calls = calls_are names e.numbered closed e.last.entries e.shown ∙ front_mapped names e.numbered e.rest (length closed) (as_many names e.numbered closed e.last.entries e.shown) ∙ ap (λ (calls : List (List ScriptLine)). take (length closed) (map (call_of names) calls)) (sym e.calls_are);
+    whole = λ ended.
+        as_many names e.numbered closed e.last.entries e.shown
+        ∙ sym (ap (λ (calls : List (List ScriptLine)). length (map (call_of names) calls)) (e.calls_are ∙ ap (λ (rest : List (List ScriptLine)). e.numbered ++ rest) (e.whole ended) ∙ append-nil e.numbered) ∙ length-map e.numbered (call_of names));
+    answered = λ unstopped k d low. let many = e.unstopped unstopped in e.fates k d low ∙ lt-ltb k (length e.answered) (omega (arith, low, many));
+    at_stop = e.at_stop;
+  } where
+    number_at : (k : ℕ) (d : Entry) → k < length closed → (slice_index_or closed k d).number ≡ k + 1
+    number_at = numbers_count names e.numbered closed e.last.entries 1 e.shown e.seen.numbers
+
+  module _ (keep : ℕ) (left : List ℕ) (kept : IsKeptImage keep lane.memory.words (lane.memory.changes ∷ []) left) where
+    image_kept : IsKeptImage keep e.last.words (e.last.changes ∷ []) left
+    image_kept = image_where_seen lane.memory e.last keep left e.seen kept
+
+    pub run_size : length left ≡ length words
+    run_size = image_kept.size ∙ (same_along first e.last e.steps e.leads).size
+
+    module _ (decides : decided ≡ not (eqb (slice_index left 512) halt.generation)) where
+      losses : (header : Header) → BeginsAlone o header pool first → All (λ (x : Entry). is_lost x.fate ≡ loses left e.last x.number) closed
+      losses header begins k d low = e.fated header pool begins keep left image_kept decides k d low
+
+      pub run_made : MakesCalls words pool script stop keep closed halt.end left
+      run_made = record {
+        answered = e.answered;
+        behind = e.behind;
+        are = e.are;
+        ended = e.settled;
+        rest = e.others;
+        are_ended = e.settled_first;
+        middle = e.middle;
+        made = e.made;
+        last = e.last;
+        ends = e.ends;
+        within = within_stop first e.last e.steps lane.memory e.leads e.seen;
+        image = image_kept;
+        numbers = as_many_numbered names e.numbered closed e.last.entries e.shown;
+        fates = e.fates;
+        losses = losses;
+      }
+
+      module _ (before : List ℕ) (means : IsMeaning before pool) (recovered : IsRecovered before words pool.lanes) (past : HasNoStrayRecord before pool.lanes) (none : HasNoTornMatch words pool script stop) where
+        abbrev header : Header
+        header = (means_so before pool means words recovered past stop).header
+
+        begins : BeginsAlone o header pool first
+        begins = begins_alone before pool means words recovered past stop
+
+        works : WorksAlone o header pool first e.steps e.last
+        works = works_where_seen o header pool lane.memory first e.last e.steps begins e.leads e.seen
+
+        torn : NoneTorn o (alone_views o e.last) left
+        torn = ⊎_elim (λ (rests : Rests e.last). none_torn_at_rest o e.last left rests)
+            (λ (c : IsCutAt o first lane names (transactions script) e.last).
+            subst (λ (w : View). IsKeptImage keep w.words (w.changes ∷ []) left → NoneTorn o (alone_views o w) left) (sym c.is)
+            (λ cut_kept.
+            none_torn_where_stopped pool words stop header pool c.answered c.history c.before lane c.lines c.values begins c.called c.idle c.drained c.cut
+            (λ front rest is. none c.answered c.behind c.lines front rest c.history c.before c.are c.called.made is) keep left cut_kept)
+            image_kept)
+            e.stands
+
+        meant : MeansCalls left pool.lanes pool.zones pool (kept_numbered left e.last)
+        meant = calls_meant o header pool first e.last e.steps works keep left image_kept torn
+
+        left_long : length left ≡ 512 + 1024 * pool.lanes + 33280 * pool.zones
+        left_long = size_stays o header pool first e.last e.steps works keep left image_kept ∙ words_long before pool means words recovered
+
+        last_long : length left ≡ 512 + 1024 * meant.last.lanes + 33280 * meant.last.zones
+        last_long = size_of left meant.last meant.means
+
+        last_zones : pool.zones ≡ meant.last.zones
+        last_zones =
+            one_zones (length left) pool.lanes pool.zones meant.last.lanes meant.last.zones left_long last_long (shape_of before pool means).shape.lanes_to (shape_of left meant.last meant.means).shape.lanes_to
+
+        last_lanes : pool.lanes ≡ meant.last.lanes
+        last_lanes = one_lanes (length left) pool.lanes pool.zones meant.last.lanes meant.last.zones left_long last_long last_zones
+
+        pub run_replay : LeavesReplay before pool closed left
+        run_replay = record {
+          last = meant.last;
+          means = meant.means;
+          replays = shown_replay names left e.last e.numbered closed pool.lanes pool.zones pool e.shown (losses header begins) meant;
+          page = λ i low. header_stays o header pool first e.last e.steps works keep left image_kept i low ∙ page_recovered before words pool means recovered i low;
+          blocks =
+              subst (λ n. map offset_in (blocks (recovered_at left n) n meant.last.zones) ≡ offsets meant.last.objects) last_lanes
+              (subst (λ z. map offset_in (blocks (recovered_at left pool.lanes) pool.lanes z) ≡ offsets meant.last.objects) last_zones meant.blocks_are);
+        }

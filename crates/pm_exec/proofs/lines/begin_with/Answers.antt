@@ -1,0 +1,23 @@
+use Rattle.std.proofs.Common.{ap, ◌∷◌, [], Err}
+use Rattle.pm_memory.specs.Solo.{Solo}
+use Rattle.pm_world.specs.declared.lane.Lane.{Lane}
+use Rattle.pm_exec.proofs.Begun.{begun_at_line, not_begun}
+use Rattle.pm_exec.proofs.lines.begin_with.Goals as goal
+
+pub returns-in-Ok-clause-done : goal.returns-in-Ok-clause-done
+returns-in-Ok-clause-done c o first is =
+    let b = c.requires.begins in
+    begun_at_line o first c.args.lane.now c.begin.new.lane c.args.names is c.args.said.now b.0 b.1.0 c.args.wants.now b.1.1 (c.in-Ok.ensures.begun first is.rests) (ap (λ (l : Lane Solo). l.level) c.in-Ok.ensures.opened)
+
+pub returns-in-Ok-clause-at_work : goal.returns-in-Ok-clause-at_work
+returns-in-Ok-clause-at_work c =
+    let b = c.requires.begins in
+    let r = c.requires.first in
+    (r.0, r.1.0, c.args.said.now ∷ [], begun_at_line r.0 r.1.0 c.args.lane.now c.begin.new.lane c.args.names r.1.1 c.args.said.now b.0 b.1.0 c.args.wants.now b.1.1 (c.in-Ok.ensures.begun r.1.0 r.1.1.rests) (ap (λ (l : Lane Solo). l.level) c.in-Ok.ensures.opened))
+
+pub returns-in-Err-clause-ends : goal.returns-in-Err-clause-ends
+returns-in-Err-clause-ends c o first rest is =
+    let b = c.requires.begins in
+    rw c.not_done.ensures
+    (not_begun o first c.args.lane.now c.begin.new.lane c.args.names is c.args.said.now b.0 b.1.0 c.args.wants.now b.1.1 rest c.in-Err.why (λ same. c.in-Err.ensures.missing (ap Err same) first is.rests is.alone)
+    (c.in-Err.ensures.fails first is.rests) c.in-Err.ensures.leaves)

@@ -1,0 +1,157 @@
+-- The memory calls that the lines of a script make, where one lane is alone, and where it stops: docs/FORMAT.md, "Sequences".
+use Rattle.std.specs.Prelude.{Any, ◌≡◌, ◌⊎◌, ℕ, ◌+◌, ◌<◌, ◌≤◌, List, [], ◌∷◌, ◌++◌, length, map, take, Some, slice_index, ⊤}
+use Rattle.pm_objects.specs.declared.history.Value.TheVariants.{Refused}
+use Rattle.pm_objects.specs.declared.history.Entry.{Entry}
+use Rattle.pm_objects.specs.declared.history.TxErr.{TxErr}
+use Rattle.pm_objects.specs.declared.history.TxErr.TheVariants as error
+use Rattle.pm_objects.specs.declared.refusal.Refusal.{Refusal}
+use Rattle.pm_objects.specs.declared.refusal.Refusal.TheVariants as refusal
+use Rattle.pm_script.specs.declared.script.ScriptLine.{ScriptLine}
+use Rattle.pm_script.specs.declared.script.ScriptOp.{ScriptOp}
+use Rattle.pm_script.specs.declared.script.ScriptOp.TheVariants.{Begin, Add, Write, Read, Commit}
+use Rattle.pm_script.specs.declared.script.ScriptWant.{ScriptWant}
+use Rattle.pm_text.specs.declared.report.LaneEnd.{LaneEnd}
+use Rattle.pm_text.specs.declared.report.LaneEnd.TheVariants as end
+use Rattle.pm_tx.specs.Begins.{IsLed}
+use Rattle.pm_tx.specs.Lacking.{LacksObject}
+use Rattle.pm_tx.specs.Ranges.{adds_range, writes_range}
+use Rattle.pm_tx.specs.Sequences.{commits, gives_up}
+use Rattle.pm_view.specs.Counts.{counted}
+use Rattle.pm_view.specs.View.{View}
+use Rattle.pm_view.specs.Views.{after_all}
+use Rattle.pm_world.specs.Lanes.{span_of}
+use Rattle.pm_world.specs.Lawful.{generation_limit}
+use Rattle.pm_world.specs.Records.{generation_of}
+use Rattle.pm_world.specs.Sequences.{Sequence, by_view, nothing}
+use Rattle.pm_world.specs.declared.lane.Span.{Span}
+use Rattle.pm_exec.specs.Calls.{id_of, numbers_of, operation_of, want_of}
+use Rattle.pm_exec.specs.Histories.{settled_fate}
+use Rattle.pm_exec.specs.declared.calls.Names.{Names}
+
+-- steps that are no counted calls, and draw no number, lead from the one view to the other
+pub record IsFree (v w : View) : Type 0 where
+  pub led : IsLed v w
+  pub undrawn : w.entries ≡ v.entries
+
+-- the words that the call's records have
+abbrev pub spans_of : View → List Span
+spans_of v = map span_of v.log.records
+
+-- the memory calls of a line that is done, where its call draws this number: a begin and a read make no counted calls
+abbrev pub line_calls : Names → ScriptOp → ℕ → Sequence
+line_calls names (Begin wants) n = nothing
+line_calls names (Add id off len) n = by_view (λ v. adds_range (spans_of v) (id_of names id) off len)
+line_calls names (Write id off bytes) n = writes_range (id_of names id) off bytes
+line_calls names (Read id off len) n = nothing
+line_calls names Commit n = by_view (λ v. commits (spans_of v) n)
+
+-- the memory calls of a line that is refused so: what the transaction did is taken back, and the call draws this number
+abbrev pub refused_calls : Names → ScriptOp → Refusal → ℕ → Sequence
+refused_calls names op r n = by_view (λ v. gives_up (spans_of v) (operation_of names op) (Some (Refused r)) n)
+
+-- the line was done
+pub record IsLineMade (names : Names) (op : ScriptOp) (v w : View) : Type 0 where
+  pub start : View
+  pub free : IsFree v start
+  pub number : ℕ
+  pub is : w ≡ after_all start (line_calls names op number start)
+
+-- some lines were done, one after another
+unfoldable pub LinesMade : Names → List ScriptLine → View → View → Type 0
+LinesMade names [] v w = w ≡ v
+LinesMade names (line ∷ lines) v w = (m : View) × IsLineMade names line.operation v m × LinesMade names lines m w
+
+-- the line was refused so, and its call given up
+pub record IsGivenUpMade (names : Names) (op : ScriptOp) (r : Refusal) (v w : View) : Type 0 where
+  pub start : View
+  pub free : IsFree v start
+  pub number : ℕ
+  pub is : w ≡ after_all start (refused_calls names op r number start)
+
+-- why a begin of a lane that is alone may be refused: it wants too many locks, or something for which the pool's words have no object. No lock is
+-- another lane's
+abbrev pub IsBeginRefusal : Names → List ScriptWant → Refusal → View → Type 0
+IsBeginRefusal names wants refusal.LocksFull v = ⊤
+IsBeginRefusal names wants refusal.NoObject v = Any (LacksObject v) (map (want_of names) wants)
+IsBeginRefusal names wants r v = ⊥
+
+-- a begin that is refused makes no counted call
+abbrev pub IsRefusalMade : Names → ScriptOp → Refusal → View → View → Type 0
+IsRefusalMade names (Begin wants) r v w = IsLed v w × IsBeginRefusal names wants r v
+IsRefusalMade names op r v w = IsGivenUpMade names op r v w
+
+-- lines were done, and then one was refused so; those behind it are passed over
+pub record IsRefusedIn (names : Names) (lines : List ScriptLine) (r : Refusal) (v w : View) : Type 0 where
+  pub front : List ScriptLine
+  pub said : ScriptLine
+  pub rest : List ScriptLine
+  pub is : lines ≡ front ++ said ∷ rest
+  pub middle : View
+  pub made : LinesMade names front v middle
+  pub refused : IsRefusalMade names said.operation r middle w
+
+-- the lines of a call that ended with this error: all were done where there is none, or up to one that was refused so
+abbrev pub AreMade : Names → List ScriptLine → TxErr → View → View → Type 0
+AreMade names lines error.None v w = LinesMade names lines v w
+AreMade names lines (error.Refused r) v w = IsRefusedIn names lines r v w
+AreMade names lines e v w = ⊥
+
+-- a call was answered with this error: its lines were made, and its locks given back
+pub record IsCallMade (names : Names) (lines : List ScriptLine) (e : TxErr) (v w : View) : Type 0 where
+  pub over : View
+  pub made : AreMade names lines e v over
+  pub closed : IsFree over w
+
+-- calls were answered, one after another, as their entries say
+unfoldable pub CallsMade : Names → List (List ScriptLine) → List Entry → View → View → Type 0
+CallsMade names [] [] v w = w ≡ v
+CallsMade names (call ∷ calls) (entry ∷ history) v w =
+    (m : View) × (e : TxErr) × (entry.fate ≡ settled_fate e) × IsCallMade names call e v m × CallsMade names calls history m w
+CallsMade names calls history v w = ⊥
+
+-- some of the steps were made, the first of them, and the next is a counted call
+pub record IsFrontOf (steps : Sequence) (v w : View) : Type 0 where
+  pub made : ℕ
+  pub fewer : made < length (steps v)
+  pub is : w ≡ after_all v (take made (steps v))
+  pub due : counted (take (made + 1) (steps v)) ≡ counted (take made (steps v)) + 1
+
+-- some lines of a call were done, and in the next a counted call is due
+pub record IsStoppedInCall (names : Names) (lines : List ScriptLine) (v w : View) : Type 0 where
+  pub front : List ScriptLine
+  pub said : ScriptLine
+  pub rest : List ScriptLine
+  pub is : lines ≡ front ++ said ∷ rest
+  pub middle : View
+  pub made : LinesMade names front v middle
+  pub start : View
+  pub free : IsFree middle start
+  pub number : ℕ
+  pub stops : IsFrontOf (line_calls names said.operation number) start w ⊎ ((r : Refusal) × IsFrontOf (refused_calls names said.operation r number) start w)
+
+-- no generation is left to the lane, or no number
+abbrev pub IsUsedUp : View → Type 0
+IsUsedUp v = (generation_limit ≤ generation_of v) ⊎ (generation_limit ≤ length v.entries)
+
+-- the lane stops in the first of these calls
+pub record StopsInFirst (names : Names) (calls : List (List ScriptLine)) (stop : ℕ) (v w : View) : Type 0 where
+  pub call : List ScriptLine
+  pub behind : List (List ScriptLine)
+  pub are : calls ≡ call ∷ behind
+  pub stops : IsStoppedInCall names call v w
+  pub at_stop : w.calls ≡ stop
+
+-- the first of these calls, on this line, can't begin
+pub record IsSpentAt (calls : List (List ScriptLine)) (line : ℕ) (v w : View) : Type 0 where
+  pub call : List ScriptLine
+  pub behind : List (List ScriptLine)
+  pub are : calls ≡ call ∷ behind
+  pub of_line : slice_index (numbers_of call) 0 ≡ line
+  pub free : IsFree v w
+  pub used_up : IsUsedUp v
+
+-- how a lane with these calls left to it comes to this end
+abbrev pub ComesToEnd : Names → List (List ScriptLine) → LaneEnd → View → View → Type 0
+ComesToEnd names calls end.Ended v w = (calls ≡ []) × (w ≡ v)
+ComesToEnd names calls (end.Stopped stop) v w = StopsInFirst names calls stop v w
+ComesToEnd names calls (end.Spent line) v w = IsSpentAt calls line v w

@@ -1,0 +1,13 @@
+-- What a run on a pool begins from.
+use Rattle.std.specs.Prelude.{ℕ, List, Option}
+use Rattle.pm_objects.specs.declared.pool.PoolView.{PoolView}
+use Rattle.pm_view.specs.View.{View, blank}
+use Rattle.pm_world.specs.Opening.{Opening}
+
+-- the words of a pool, as recovery leaves them
+abbrev pub opening_of : PoolView → List ℕ → Opening
+opening_of pool words = record { lanes = pool.lanes; zones = pool.zones; words = words }
+
+-- the view of lane 0, alone, before its first step
+abbrev pub first_view : PoolView → List ℕ → Option ℕ → View
+first_view pool words stop = record blank { lanes = pool.lanes; zones = pool.zones; pool = pool.id; words = words; stop = stop }

@@ -1,0 +1,121 @@
+-- How far a run has come, call by call: for the crate's own functions.
+use Rattle.std.specs.Prelude.{◌≡◌, ◌⊎◌, ℕ, ◌≤◌, ◌%◌, ◌^◌, List, [], ◌∷◌, ◌++◌, slice_index, Option, None, Some, ⊤}
+use Rattle.pm_crash.specs.Alone.{standing}
+use Rattle.pm_crash.specs.Leading.{Leads}
+use Rattle.pm_memory.specs.Solo.{Sees, Solo}
+use Rattle.pm_objects.specs.declared.history.Entry.{Entry}
+use Rattle.pm_objects.specs.declared.history.Fate.TheVariants as fate
+use Rattle.pm_objects.specs.declared.history.Reply.{Reply}
+use Rattle.pm_objects.specs.declared.history.TxErr.{TxErr}
+use Rattle.pm_script.specs.declared.script.ScriptLine.{ScriptLine}
+use Rattle.pm_text.specs.declared.report.LaneEnd.TheVariants as end
+use Rattle.pm_tx.specs.Resting.{IsAtRest}
+use Rattle.pm_view.specs.Log.{no_log}
+use Rattle.pm_view.specs.Log.Phase.{Idle}
+use Rattle.pm_view.specs.Steps.{Step}
+use Rattle.pm_view.specs.View.{Numbered, View}
+use Rattle.pm_view.specs.Founds.{IsAlone}
+use Rattle.pm_world.specs.Opening.{IsSound, Opening}
+use Rattle.pm_world.specs.Records.{generation_of}
+use Rattle.pm_world.specs.declared.lane.Lane.{Lane}
+use Rattle.pm_exec.specs.Calls.{call_of, numbers_of}
+use Rattle.pm_exec.specs.Course.{CallsMade}
+use Rattle.pm_exec.specs.Histories.{settled_fate}
+use Rattle.pm_exec.specs.Progress.{HasEnded, IsHalted, IsUnbegun}
+use Rattle.pm_exec.specs.declared.calls.Names.{Names}
+use Rattle.pm_exec.specs.declared.running.Halt.{Halt}
+
+-- the entry of an answered call of these lines, as the lane's view has the call
+pub record IsEntryOf (names : Names) (lines : List ScriptLine) (e : Entry) (n : Numbered) : Type 0 where
+  pub number : e.number ≡ n.number
+  pub call : e.call ≡ call_of names lines
+  pub error : TxErr
+  pub ended : HasEnded names lines error e.reply n.call
+  pub fate : e.fate ≡ settled_fate error
+
+-- these calls were answered: each has its entry
+abbrev pub AreEntries : Names → List (List ScriptLine) → List Entry → List Numbered → Type 0
+AreEntries names [] [] [] = ⊤
+AreEntries names (call ∷ calls) (e ∷ history) (n ∷ entries) = IsEntryOf names call e n × AreEntries names calls history entries
+AreEntries names calls history entries = ⊥
+
+-- the view of lane 0, alone, over the words of a sound pool, before its first call
+pub record IsOpenedAs (o : Opening) (v : View) : Type 0 where
+  pub of_lane : v.lane ≡ 0
+  pub alone : IsAlone v
+  pub sound : IsSound o
+  pub zones : o.zones ≤ 32
+  pub lanes_are : v.lanes ≡ o.lanes
+  pub words_are : v.words ≡ o.words
+  pub free : v.locks ≡ []
+
+-- these calls were answered, one after another from the first view, and led to this view
+pub record HasCalled (first : View) (names : Names) (calls : List (List ScriptLine)) (history : List Entry) (view : View) : Type 0 where
+  pub steps : List Step
+  pub leads : Leads first steps view
+  pub are : AreEntries names calls history view.entries
+  pub made : CallsMade names calls history first view
+
+-- and the lane rests behind them
+pub record HasAnswered (first : View) (lane : Lane Solo) (names : Names) (calls : List (List ScriptLine)) (history : List Entry) : Type 0 where
+  pub view : View
+  pub called : HasCalled first names calls history view
+  pub rests : IsAtRest Sees lane view
+  pub idle : view.log ≡ no_log Idle
+
+-- so it did over the pool from whose words the first view is
+pub record HasComeTo (o : Opening) (first : View) (lane : Lane Solo) (names : Names) (calls : List (List ScriptLine)) (history : List Entry) : Type 0 where
+  pub opened : IsOpenedAs o first
+  pub answered : HasAnswered first lane names calls history
+
+-- the entry of a call that was not answered, as lost, if it drew a number
+abbrev pub open_entry : Names → List ScriptLine → Option ℕ → Reply → Option Entry
+open_entry names lines None reply = None
+open_entry names lines (Some n) reply = Some (record { number = n; call = call_of names lines; reply = reply; fate = fate.Lost })
+
+-- the lane stopped in the call of these lines, behind others
+pub record HasStopped (o : Opening) (first : View) (lane : Lane Solo) (names : Names) (answered : List (List ScriptLine)) (lines : List ScriptLine) (history : List Entry) (halt : Halt) : Type 0 where
+  pub before : View
+  pub called : HasCalled first names answered history before
+  pub idle : before.log ≡ no_log Idle
+  pub drained : before.changes ≡ []
+  pub number : Option ℕ
+  pub reply : Reply
+  pub halted : IsHalted (standing o before) before lane names lines number reply
+  pub is_open : halt.is_open ≡ open_entry names lines number reply
+  pub generation : halt.generation ≡ generation_of before
+  pub ends : halt.end ≡ end.Stopped (halted.cut.view.calls % 2 ^ 64)
+
+-- it could not begin the call of these lines
+pub record HasSpent (o : Opening) (first : View) (lane : Lane Solo) (names : Names) (answered : List (List ScriptLine)) (lines : List ScriptLine) (history : List Entry) (halt : Halt) : Type 0 where
+  pub before : View
+  pub called : HasCalled first names answered history before
+  pub idle : before.log ≡ no_log Idle
+  pub drained : before.changes ≡ []
+  pub unbegun : IsUnbegun before lane
+  pub is_open : halt.is_open ≡ None
+  pub generation : halt.generation ≡ generation_of before
+  pub line : ℕ
+  pub of_line : slice_index (numbers_of lines) 0 ≡ line
+  pub ends : halt.end ≡ end.Spent line
+
+abbrev pub HasHalted : Opening → View → Lane Solo → Names → List (List ScriptLine) → List ScriptLine → List Entry → Halt → Type 0
+HasHalted o first lane names answered lines history halt = HasStopped o first lane names answered lines history halt ⊎ HasSpent o first lane names answered lines history halt
+
+-- the lane was answered all calls
+pub record HasFinished (first : View) (lane : Lane Solo) (names : Names) (calls : List (List ScriptLine)) (history : List Entry) (halt : Halt) : Type 0 where
+  pub answered : HasAnswered first lane names calls history
+  pub is_open : halt.is_open ≡ None
+  pub ends : halt.end ≡ end.Ended
+
+-- or it came to its end in one of them
+pub record HasHaltedIn (o : Opening) (first : View) (lane : Lane Solo) (names : Names) (calls : List (List ScriptLine)) (history : List Entry) (halt : Halt) : Type 0 where
+  pub answered : List (List ScriptLine)
+  pub lines : List ScriptLine
+  pub behind : List (List ScriptLine)
+  pub are : calls ≡ answered ++ lines ∷ behind
+  pub halted : HasHalted o first lane names answered lines history halt
+
+-- so the run of these calls came to its end
+abbrev pub HasRun : Opening → View → Lane Solo → Names → List (List ScriptLine) → List Entry → Halt → Type 0
+HasRun o first lane names calls history halt = HasFinished first lane names calls history halt ⊎ HasHaltedIn o first lane names calls history halt
