@@ -10,7 +10,8 @@ build:
 	@cp crates/pmempool/out/pmempool build/pmempool
 
 # A pool is made and shown, and neither overwritten nor made of values out of range; a damaged one is told by its fault. Then a transaction
-# writes eight bytes of its root, and stops at some call: a power failure leaves the root unchanged, or changed as a whole.
+# writes eight bytes of its root, and stops at some call: a power failure leaves the root unchanged, or changed as a whole. Three more are run one
+# after another: what the first wrote is read, the second is refused a write that it did not record, and the third reads what stands.
 demo: build
 	@rm -f $(POOL) build/damaged.pool build/demo-*.pool
 	@printf 'lane 0\nbegin root\nadd root 0 8\nwrite root 0 0102030405060708\ncommit\n' > build/demo.script
@@ -29,6 +30,10 @@ demo: build
 	done; done
 	build/pmempool exec build/demo-11-1.pool --script build/demo.script --out build/demo-again.pool --layout demo
 	build/pmempool dump build/demo-again.pool
+	@printf 'lane 0\nbegin root\nadd root 8 2\nwrite root 8 cafe\nread root 0 10\ncommit\nbegin root\nadd root 0 8\nwrite root 60 ff\ncommit\nbegin r:root\nread root 8 2\ncommit\n' > build/demo-more.script
+	cat build/demo-more.script
+	build/pmempool exec build/demo-again.pool --script build/demo-more.script --out build/demo-more.pool --layout demo
+	build/pmempool dump build/demo-more.pool
 
 # Times beside `cp` of the same file, and the time of ten million stores by one lane alone.
 bench: build
