@@ -9,6 +9,8 @@ pub mod Gathering
 pub mod Logged
 pub mod Counting
 pub mod LogRows
+pub mod Masks
+pub mod Unsealed
 pub mod WholeImage
 pub mod Meanings
 pub mod Members

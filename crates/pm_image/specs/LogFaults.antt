@@ -11,13 +11,11 @@ use Rattle.pm_image.specs.declared.fault.ImageFault.{ImageFault}
 use Rattle.pm_image.specs.declared.fault.ImageFault.TheVariants as fault
 use Rattle.pm_image.specs.Logs.{area_word, generation_word, seal_word, is_sealed, entry_pair, entries, records, entries_for, covers}
 use Rattle.pm_image.specs.Steps.{valid_record}
-use Rattle.pm_image.specs.Narrowings.{takes_seal}
 
 -- the lane's generation is 1 to 2^62 and its seal at most 64
 unfoldable pub good_lane : List ℕ → ℕ → Bool
 good_lane image lane =
     nat_le 1 (generation_word image lane) && nat_le (generation_word image lane) (2 ^ 62) && nat_le (seal_word image lane) 64
-    && takes_seal (seal_word image lane)
 
 -- Lane: a generation or a seal out of range
 unfoldable pub lane_fault : List ℕ → ℕ → Option ImageFault

@@ -3,10 +3,6 @@ use Rattle.std.specs.Prelude.{ℕ, Bool, true, ◌==◌, ◌&&◌, nat_lt, if◌
 use Rattle.pm_image.specs.declared.block.Block.{Block}
 use Rattle.pm_image.specs.Contents.{header_word}
 
--- no lane is sealed: sealed logs come with the redo log
-abbrev pub takes_seal : ℕ → Bool
-takes_seal seal = seal == 0
-
 -- no chunk but the first is described: others come with the heap
 abbrev pub takes_chunk : ℕ → ℕ → Bool
 takes_chunk c descriptor = if c == 0 then true else descriptor == 0

@@ -55,3 +55,10 @@ pub record AreAsLogged (seen_entries : List Redo) (seen_records : List Undo) (es
 abbrev pub IfImage : MeansFault → (ImageFault → Type 0) → Type 0
 IfImage (Image found) P = P found
 IfImage Memory P = ⊤
+
+-- so many words are counted by the records that cover each, and by the entries for it
+pub record AreMarks (us : List Undo) (es : List Redo) (words : ℕ) (record_marks entry_marks : List ℕ) : Type 0 where
+  pub as_long : length record_marks ≡ words
+  pub entries_as_long : length entry_marks ≡ words
+  pub of_records : (i : ℕ) → i < words → slice_index record_marks i ≡ length (filter (λ u. covers u (8 * i)) us)
+  pub of_entries : (i : ℕ) → i < words → slice_index entry_marks i ≡ length (filter (λ e. e.place == 8 * i) es)

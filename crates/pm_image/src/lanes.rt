@@ -31,6 +31,9 @@ const RECORD_WORDS: u64 = 4;
 /// The most entries that a lane seals, and the number of its undo slots.
 pub const LOG_LENGTH: u64 = 64;
 
+/// The greatest generation; a lane that has it writes no more.
+pub const MAX_GENERATION: u64 = 1 << 62;
+
 /// How many entries the lane sealed; 0 where it sealed none.
 pub fn seal(image: &RawImage, lane: u64) -> u64
     requires { HasLanes image.now (lane + 1) }

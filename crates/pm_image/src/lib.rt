@@ -8,6 +8,7 @@
 
 mod block;
 mod chunks;
+mod clashes;
 mod fault;
 mod fault_text;
 mod lanes;
@@ -16,12 +17,17 @@ mod log_faults;
 mod meaning;
 mod objects;
 mod recovering;
+mod redo_faults;
 mod restoring;
+mod targets;
 
 pub use block::Block;
 pub use fault::{ImageFault, MeansFault};
 pub use fault_text::text_of_fault;
-pub use lanes::{LOG_LENGTH, generation_word, record_in_slot, valid_record};
+pub use lanes::{
+    LOG_LENGTH, MAX_GENERATION, generation, generation_word, is_sealed, record_in_slot,
+    valid_record,
+};
 pub use laws::{
     agreement_goes_back, contents_are_local, heaps_are_local, meanings_are_local,
     meanings_are_pools, meanings_read_the_heap, one_meaning_per_image, recovered_words_are_local,
@@ -29,6 +35,7 @@ pub use laws::{
 };
 pub use meaning::{blocks, means};
 pub use recovering::recovered;
+pub use restoring::sealed_entries;
 
 #[cfg(test)]
 mod tests;

@@ -153,7 +153,7 @@ fn sound_words(alloc: Global, image: &RawImage, shape: Shape) -> Result<RawImage
     ensures fault { IfErr result (λ e. IfImage e (λ found. log_fault image.now shape.lanes shape.zones ≡ Some found)) }
 {
     let logs = read_logs(alloc, image, shape.lanes)?;
-    if let Some(fault) = first_log_fault(alloc, image, shape, &logs.records)? {
+    if let Some(fault) = first_log_fault(alloc, image, shape, &logs)? {
         return Err(MeansFault::Image(fault));
     }
     let words = recovered_words(alloc, image, shape.lanes, &logs)?;

@@ -33,13 +33,34 @@ pub fn read_logs(alloc: Global, image: &RawImage, lanes: u64) -> Result<Logs, Al
     ensures entries { IfOk result (λ logs. logs.entries.items ≡ flat_map (entries image.now) (range_with_len 0 lanes)) }
     ensures records { IfOk result (λ logs. logs.records.items ≡ flat_map (records image.now) (range_with_len 0 lanes)) }
 {
-    let mut entries = Vec::new(alloc);
-    let mut records = Vec::new(alloc);
-    for lane in 0..lanes {
-        push_entries(image, lane, &mut entries)?;
-        push_records(image, lane, &mut records)?;
-    }
+    let entries = sealed_entries(alloc, image, lanes)?;
+    let records = valid_records(alloc, image, lanes)?;
     Ok(Logs { entries, records })
+}
+
+/// The entries of the sealed ones of so many lanes, in the order of lanes, each lane's in order. The error says that memory is
+/// lacking, and leaves nothing behind.
+pub fn sealed_entries(alloc: Global, image: &RawImage, lanes: u64) -> Result<Vec<Redo>, AllocError>
+    requires { HasLanes image.now lanes }
+    ensures { IfOk result (λ found. found.items ≡ flat_map (entries image.now) (range_with_len 0 lanes)) }
+{
+    let mut found = Vec::new(alloc);
+    for lane in 0..lanes {
+        push_entries(image, lane, &mut found)?;
+    }
+    Ok(found)
+}
+
+/// The valid undo records of so many lanes, in the order of lanes and slots.
+fn valid_records(alloc: Global, image: &RawImage, lanes: u64) -> Result<Vec<Undo>, AllocError>
+    requires { HasLanes image.now lanes }
+    ensures { IfOk result (λ found. found.items ≡ flat_map (records image.now) (range_with_len 0 lanes)) }
+{
+    let mut found = Vec::new(alloc);
+    for lane in 0..lanes {
+        push_records(image, lane, &mut found)?;
+    }
+    Ok(found)
 }
 
 /// Adds the lane's entries, if it is sealed.

@@ -1,6 +1,6 @@
 use Rattle.std.proofs.Common.{◌≡◌, ℕ, ◌+◌, ◌*◌, ◌<◌, ◌≤◌, cond, get_or, length}
 use Rattle.pm_image.specs.Logs.{covers}
-use Rattle.pm_image.proofs.log_faults.mark.Given as goal
+use Rattle.pm_image.proofs.clashes.mark_record.Given as goal
 
 abbrev pub invariant-loop-word : goal.invariant-loop-word
 invariant-loop-word l = record {

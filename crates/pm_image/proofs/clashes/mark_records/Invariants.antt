@@ -1,7 +1,7 @@
 use Rattle.std.proofs.Common.{◌≡◌, ℕ, ◌*◌, ◌<◌, get_or, length, take}
 use Rattle.std.specs.List.{filter}
 use Rattle.pm_image.specs.Logs.{covers}
-use Rattle.pm_image.proofs.log_faults.mark_all.Given as goal
+use Rattle.pm_image.proofs.clashes.mark_records.Given as goal
 
 abbrev pub invariant-loop-one : goal.invariant-loop-one
 invariant-loop-one l = record {

@@ -3,10 +3,10 @@ use Rattle.std.proofs.lemmas.Bool.{cases_lt}
 use Rattle.std.proofs.lemmas.List.{get_or_past}
 use Rattle.pm_image.specs.Logs.{covers}
 use Rattle.pm_image.proofs.Counting.{count_small}
-use Rattle.pm_image.proofs.log_faults.mark_all.Goals as goal
+use Rattle.pm_image.proofs.clashes.mark_records.Goals as goal
 
-pub mark-requires-clause-room : goal.mark-requires-clause-room
-mark-requires-clause-room c = λ i.
+pub mark_record-requires-clause-room : goal.mark_record-requires-clause-room
+mark_record-requires-clause-room c = λ i.
     ⊎_elim
     (λ (inside : i < length c.loop-one.marks). let counted = c.loop-one.invariant.counted i inside in let few = count_small (λ u. covers u (8 * i)) c.args.found.now c.loop-one.one-index in omega arith)
     (λ past. let none : get_or c.loop-one.marks i 0 ≡ 0 = get_or_past c.loop-one.marks i 0 past in omega arith)

@@ -1,7 +1,7 @@
 use Rattle.std.proofs.Common.{◌+◌, ℕ, Bool, refl, sym, ◌∙◌, arith}
 use Rattle.pm_image.specs.LogFaults.{in_chunk}
 use Rattle.pm_image.proofs.Ranges.{all_more, all_fails, all_at_end}
-use Rattle.pm_image.proofs.log_faults.are_in_chunks.Goals as goal
+use Rattle.pm_image.proofs.targets.are_in_chunks.Goals as goal
 
 pub loop-k-init : goal.loop-k-init
 loop-k-init c = refl

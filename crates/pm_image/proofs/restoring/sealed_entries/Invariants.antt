@@ -1,0 +1,7 @@
+use Rattle.std.proofs.Common.{◌≡◌}
+use Rattle.std.specs.List.{flat_map, range_with_len}
+use Rattle.pm_image.specs.Logs.{entries}
+use Rattle.pm_image.proofs.restoring.sealed_entries.Given as goal
+
+abbrev pub invariant-loop-lane : goal.invariant-loop-lane
+invariant-loop-lane l = l.found.items ≡ flat_map (entries l.image) (range_with_len 0 l.lane)
