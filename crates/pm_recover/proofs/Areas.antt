@@ -1,30 +1,28 @@
 -- Images that agree on a lane's area say the same of its log.
-use Rattle.std.proofs.Common.{◌≡◌, ℕ, ◌+◌, ◌*◌, ◌<◌, ◌≤◌, ◌&&◌, ◌||◌, not, cond, ltb, List, length, slice_index, sym, ◌∙◌, ap, arith}
+use Rattle.std.proofs.Common.{◌≡◌, ℕ, ◌+◌, ◌*◌, ◌<◌, ◌≤◌, ◌&&◌, ◌||◌, Bool, true, false, not, cond, leb, ltb, List, length, slice_index, refl, sym, ◌∙◌, ap, arith}
 use Rattle.std.specs.Option.{option_to_list}
 use Rattle.pm_record.specs.Undo.{is_record, undo_of}
 use Rattle.pm_record.specs.declared.undo.Undo.{Undo}
-use Rattle.pm_image.specs.Logs.{area_word, generation, generation_word, records, seal_word, slot_line, undo_slot}
+use Rattle.pm_image.specs.Logs.{area_word, generation, generation_word, is_sealed, records, seal_word, slot_line, undo_slot}
 use Rattle.pm_image.specs.Steps.{valid_record}
 use Rattle.pm_image.proofs.Gathering.{record_at, records_by_number}
 use Rattle.pm_image.proofs.Local.{flat_map_same, slot_same}
+use Rattle.pm_image.proofs.Redoing.{sealed_few}
 use Rattle.pm_recover.specs.Recovery.{generation_after, has_record, has_torn_slot, is_raised}
 use Rattle.pm_recover.proofs.Parts.{all_same}
-use Rattle.pm_recover.proofs.Slots.{generation_stands, of_generation}
+use Rattle.pm_recover.proofs.Slots.{generation_sealed, generation_unsealed, of_generation}
 
--- two images agree on the lane's area behind its generation
+-- two images agree on the lane's area behind its generation and its seal
 pub record SameLog (one other : List ℕ) (lane : ℕ) : Type 0 where
   pub long : area_word (lane + 1) ≤ length one
   pub as_long : area_word (lane + 1) ≤ length other
-  pub same : (i : ℕ) → area_word lane < i → i < area_word (lane + 1) → slice_index one i ≡ slice_index other i
+  pub same : (i : ℕ) → area_word lane + 1 < i → i < area_word (lane + 1) → slice_index one i ≡ slice_index other i
 
--- and on its generation, the lane not being sealed
+-- and on these
 pub record SameLane (one other : List ℕ) (lane : ℕ) : Type 0 where
   pub log : SameLog one other lane
   pub generation : generation_word one lane ≡ generation_word other lane
-  pub unsealed : seal_word one lane ≡ 0
-
-pub same_seal : (one other : List ℕ) (lane : ℕ) → SameLog one other lane → seal_word one lane ≡ seal_word other lane
-same_seal one other lane agree = agree.same (area_word lane + 1) (omega arith) (omega arith)
+  pub seal : seal_word one lane ≡ seal_word other lane
 
 pub same_slot : (one other : List ℕ) (lane slot : ℕ) → SameLog one other lane → slot < 64 → undo_slot one lane slot ≡ undo_slot other lane slot
 same_slot one other lane slot agree inside =
@@ -32,9 +30,26 @@ same_slot one other lane slot agree inside =
     let as_long : area_word (lane + 1) ≤ length other = agree.as_long in
     slot_same one other (8 * slot_line lane slot) (omega arith) (omega arith) (λ k from to. agree.same k (omega arith) (omega arith))
 
-same_generation : (one other : List ℕ) (lane : ℕ) → SameLane one other lane → generation one lane ≡ generation other lane
-same_generation one other lane agree =
-    generation_stands one lane agree.unsealed ∙ agree.generation ∙ sym (generation_stands other lane (sym (same_seal one other lane agree.log) ∙ agree.unsealed))
+pub same_sealed : (one other : List ℕ) (lane : ℕ) → SameLane one other lane → is_sealed one lane ≡ is_sealed other lane
+same_sealed one other lane agree = ap (λ (n : ℕ). leb 1 n && leb n 64) agree.seal
+
+-- the last entry's value, where there is one
+last_same : (one other : List ℕ) (lane : ℕ) → SameLane one other lane → is_sealed one lane ≡ true
+    → slice_index one (area_word lane + 7 + 2 * seal_word one lane) ≡ slice_index other (area_word lane + 7 + 2 * seal_word other lane)
+last_same one other lane agree sealed =
+    let few : seal_word one lane ≤ 64 = sealed_few one lane sealed in
+    agree.log.same (area_word lane + 7 + 2 * seal_word one lane) (omega arith) (omega arith)
+    ∙ ap (λ (n : ℕ). slice_index other (area_word lane + 7 + 2 * n)) agree.seal
+
+pub same_generation : (one other : List ℕ) (lane : ℕ) → SameLane one other lane → generation one lane ≡ generation other lane
+same_generation one other lane agree = go (is_sealed one lane) refl where
+  go : (b : Bool) → is_sealed one lane ≡ b → generation one lane ≡ generation other lane
+  go true sealed =
+      let also : is_sealed other lane ≡ true = sym (same_sealed one other lane agree) ∙ sealed in
+      generation_sealed one lane sealed ∙ last_same one other lane agree sealed ∙ sym (generation_sealed other lane also)
+  go false unsealed =
+      let also : is_sealed other lane ≡ false = sym (same_sealed one other lane agree) ∙ unsealed in
+      generation_unsealed one lane unsealed ∙ agree.generation ∙ sym (generation_unsealed other lane also)
 
 pub same_valid : (one other : List ℕ) (lane slot : ℕ) → SameLane one other lane → slot < 64 → valid_record one lane slot ≡ valid_record other lane slot
 same_valid one other lane slot agree inside =
@@ -60,11 +75,14 @@ same_recorded one other lane agree = ap (λ (us : List Undo). ltb 0 (length us))
 same_raised : (one other : List ℕ) (lane : ℕ) → SameLane one other lane → is_raised one lane ≡ is_raised other lane
 unfolding is_raised
 same_raised one other lane agree =
+    let sealed : is_sealed one lane ≡ is_sealed other lane = same_sealed one other lane agree in
     let recorded : has_record one lane ≡ has_record other lane = same_recorded one other lane agree in
     let torn : has_torn_slot one lane ≡ has_torn_slot other lane = same_torn one other lane agree.log in
-    (λ j. recorded j || (ltb (agree.generation j) 4611686018427387904 && torn j))
+    let generations : generation one lane ≡ generation other lane = same_generation one other lane agree in
+    (λ j. not (sealed j) && (recorded j || (ltb (generations j) 4611686018427387904 && torn j)))
 
 pub same_after : (one other : List ℕ) (lane : ℕ) → SameLane one other lane → generation_after one lane ≡ generation_after other lane
 same_after one other lane agree =
     let raised : is_raised one lane ≡ is_raised other lane = same_raised one other lane agree in
-    (λ j. cond (raised j) (agree.generation j + 1) (agree.generation j))
+    let generations : generation one lane ≡ generation other lane = same_generation one other lane agree in
+    (λ j. cond (raised j) (generations j + 1) (generations j))

@@ -1,53 +1,56 @@
 -- The logs of a recovered image are clean.
-use Rattle.std.proofs.Common.{◌≡◌, ◌≢◌, ⊎_elim, ℕ, ◌+◌, ◌*◌, ◌<◌, ◌≤◌, ◌&&◌, Bool, true, false, cond, ltb, List, [], length, Some, refl, sym, ◌∙◌, ap, subst, arith}
-use Rattle.std.proofs.lemmas.Bool.{and_left, cases_lt, le-ltb, or_from, or_parts}
+use Rattle.std.proofs.Common.{◌≡◌, ◌≢◌, ⊎_elim, ℕ, ◌+◌, ◌*◌, ◌<◌, ◌≤◌, ◌&&◌, ◌||◌, Bool, true, false, not, cond, ltb, List, [], length, Some, refl, sym, ◌∙◌, ap, subst, arith}
+use Rattle.std.proofs.lemmas.Bool.{and_left, and_right, cases_lt, false≢true, le-ltb, or_from, or_parts}
 use Rattle.pm_record.specs.Undo.{undo_of}
 use Rattle.pm_record.specs.declared.undo.Undo.{Undo}
-use Rattle.pm_image.specs.Logs.{generation, generation_word, records, seal_word, undo_slot}
+use Rattle.pm_image.specs.Logs.{generation, generation_word, is_sealed, records, undo_slot}
 use Rattle.pm_image.specs.Steps.{valid_record}
+use Rattle.pm_image.proofs.Unsealed.{not_sealed}
 use Rattle.pm_recover.specs.Recovery.{HasNoStrayRecord, IsCleanLog, IsRecovered, generation_after, has_record, has_torn_slot, is_raised}
 use Rattle.pm_recover.specs.Steps.{HasSoundLogs}
-use Rattle.pm_recover.proofs.Areas.{SameLog, same_seal, same_slot}
+use Rattle.pm_recover.proofs.Areas.{SameLog, same_slot}
 use Rattle.pm_recover.proofs.Slots.{generation_stands, no_record_in, no_records, none_recorded, not_valid, of_another, unrecorded, valid_if}
 
 -- the generation where the lane is raised, and where it is not
-pub after_raised : (image : List ℕ) (lane : ℕ) → is_raised image lane ≡ true → generation_after image lane ≡ generation_word image lane + 1
-after_raised image lane is = ap (λ (b : Bool). cond b (generation_word image lane + 1) (generation_word image lane)) is
+pub after_raised : (image : List ℕ) (lane : ℕ) → is_raised image lane ≡ true → generation_after image lane ≡ generation image lane + 1
+after_raised image lane is = ap (λ (b : Bool). cond b (generation image lane + 1) (generation image lane)) is
 
-pub after_kept : (image : List ℕ) (lane : ℕ) → is_raised image lane ≡ false → generation_after image lane ≡ generation_word image lane
-after_kept image lane is = ap (λ (b : Bool). cond b (generation_word image lane + 1) (generation_word image lane)) is
+pub after_kept : (image : List ℕ) (lane : ℕ) → is_raised image lane ≡ false → generation_after image lane ≡ generation image lane
+after_kept image lane is = ap (λ (b : Bool). cond b (generation image lane + 1) (generation image lane)) is
 
--- a lane that is not raised has no valid record
-none_if_kept : (image : List ℕ) (lane : ℕ) → is_raised image lane ≡ false → records image lane ≡ []
+-- a lane that is neither sealed nor raised has no valid record
+none_if_kept : (image : List ℕ) (lane : ℕ) → is_sealed image lane ≡ false → is_raised image lane ≡ false → records image lane ≡ []
 unfolding is_raised
-none_if_kept image lane is =
-    none_recorded image lane (or_parts (has_record image lane) (ltb (generation_word image lane) 4611686018427387904 && has_torn_slot image lane) is).0
+none_if_kept image lane unsealed is =
+    let left : Bool = has_record image lane || (ltb (generation image lane) 4611686018427387904 && has_torn_slot image lane) in
+    let none : left ≡ false = sym (ap (λ (b : Bool). not b && left) unsealed) ∙ is in
+    none_recorded image lane (or_parts (has_record image lane) (ltb (generation image lane) 4611686018427387904 && has_torn_slot image lane) none).0
 
 -- the last generation is not raised: no valid record is of it
-kept_at_last : (image : List ℕ) (lanes lane : ℕ) → HasSoundLogs image lanes → lane < lanes → 4611686018427387904 ≤ generation_word image lane → is_raised image lane ≡ false
+kept_at_last : (image : List ℕ) (lanes lane : ℕ) → HasSoundLogs image lanes → lane < lanes → 4611686018427387904 ≤ generation image lane → is_raised image lane ≡ false
 unfolding is_raised
 kept_at_last image lanes lane sound inside last =
     let none : records image lane ≡ [] = no_records image lane (λ slot in_slots. not_valid (generation image lane) (undo_of (undo_slot image lane slot)) (λ u is same.
     let valid : valid_record image lane slot ≡ Some u = valid_if (generation image lane) (undo_of (undo_slot image lane slot)) u is same in
     let small : u.generation < 4611686018427387904 = (sound.restorable lane slot u inside in_slots valid).raisable in
-    let stands : generation image lane ≡ generation_word image lane = generation_stands image lane (sound.unsealed lane inside) in
     absurd (omega arith))) in
-    or_from (has_record image lane) (ltb (generation_word image lane) 4611686018427387904 && has_torn_slot image lane) (unrecorded image lane none)
-    (and_left (ltb (generation_word image lane) 4611686018427387904) (has_torn_slot image lane) (le-ltb (generation_word image lane) 4611686018427387904 last))
+    and_right (not (is_sealed image lane)) (has_record image lane || (ltb (generation image lane) 4611686018427387904 && has_torn_slot image lane))
+    (or_from (has_record image lane) (ltb (generation image lane) 4611686018427387904 && has_torn_slot image lane) (unrecorded image lane none)
+    (and_left (ltb (generation image lane) 4611686018427387904) (has_torn_slot image lane) (le-ltb (generation image lane) 4611686018427387904 last)))
 
 pub last_after : (image : List ℕ) (lanes lane : ℕ) → HasSoundLogs image lanes → lane < lanes → generation_after image lane ≤ 4611686018427387904
 last_after image lanes lane sound inside =
     ⊎_elim
-    (λ (below : generation_word image lane < 4611686018427387904). one_more (is_raised image lane) below)
-    (λ (last : 4611686018427387904 ≤ generation_word image lane). subst (λ (n : ℕ). n ≤ 4611686018427387904) (sym (after_kept image lane (kept_at_last image lanes lane sound inside last))) (sound.last_generation lane inside))
-    (cases_lt (generation_word image lane) 4611686018427387904) where
-      one_more : (b : Bool) → generation_word image lane < 4611686018427387904 → cond b (generation_word image lane + 1) (generation_word image lane) ≤ 4611686018427387904
+    (λ (below : generation image lane < 4611686018427387904). one_more (is_raised image lane) below)
+    (λ (last : 4611686018427387904 ≤ generation image lane). subst (λ (n : ℕ). n ≤ 4611686018427387904) (sym (after_kept image lane (kept_at_last image lanes lane sound inside last))) (sound.last_generation lane inside))
+    (cases_lt (generation image lane) 4611686018427387904) where
+      one_more : (b : Bool) → generation image lane < 4611686018427387904 → cond b (generation image lane + 1) (generation image lane) ≤ 4611686018427387904
       one_more true below = omega arith
       one_more false below = omega arith
 
-pub not_less : (image : List ℕ) (lane : ℕ) → generation_word image lane ≤ generation_after image lane
+pub not_less : (image : List ℕ) (lane : ℕ) → generation image lane ≤ generation_after image lane
 not_less image lane = at (is_raised image lane) where
-  at : (b : Bool) → generation_word image lane ≤ cond b (generation_word image lane + 1) (generation_word image lane)
+  at : (b : Bool) → generation image lane ≤ cond b (generation image lane + 1) (generation image lane)
   at true = omega arith
   at false = omega arith
 
@@ -58,25 +61,24 @@ same_log before after lanes lane sound is inside =
     let long : length after ≡ length before = is.as_long in
     record { long = omega arith; as_long = omega arith; same = λ i from to. sym (is.areas lane i inside from to) }
 
-pub seal_kept : (before after : List ℕ) (lanes lane : ℕ) → HasSoundLogs before lanes → IsRecovered before after lanes → lane < lanes → seal_word after lane ≡ 0
-seal_kept before after lanes lane sound is inside = sym (same_seal before after lane (same_log before after lanes lane sound is inside)) ∙ sound.unsealed lane inside
-
 -- each record is of an earlier generation than the one after recovery
-earlier : (image : List ℕ) (lanes lane slot : ℕ) (u : Undo) → HasSoundLogs image lanes → HasNoStrayRecord image lanes → lane < lanes → slot < 64 → undo_of (undo_slot image lane slot) ≡ Some u
+earlier : (image : List ℕ) (lanes lane slot : ℕ) (u : Undo) → HasNoStrayRecord image lanes → lane < lanes → slot < 64 → undo_of (undo_slot image lane slot) ≡ Some u
     → u.generation < generation_after image lane
-earlier image lanes lane slot u sound past in_lanes in_slots is = go (is_raised image lane) refl where
-  go : (b : Bool) → is_raised image lane ≡ b → u.generation < generation_after image lane
-  go true raised =
-      let old : u.generation ≤ generation_word image lane = past.past lane slot u in_lanes in_slots is in
-      let next : generation_after image lane ≡ generation_word image lane + 1 = after_raised image lane raised in
+earlier image lanes lane slot u past in_lanes in_slots is = go (is_raised image lane) (is_sealed image lane) refl refl where
+  go : (raised sealed : Bool) → is_raised image lane ≡ raised → is_sealed image lane ≡ sealed → u.generation < generation_after image lane
+  go true sealed raised is_so =
+      let old : u.generation ≤ generation image lane = past.past lane slot u in_lanes in_slots is in
+      let next : generation_after image lane ≡ generation image lane + 1 = after_raised image lane raised in
       omega arith
-  go false kept =
-      let old : u.generation ≤ generation_word image lane = past.past lane slot u in_lanes in_slots is in
-      let still : generation_after image lane ≡ generation_word image lane = after_kept image lane kept in
-      let stands : generation image lane ≡ generation_word image lane = generation_stands image lane (sound.unsealed lane in_lanes) in
-      let other : u.generation ≡ generation image lane → ⊥ =
-      of_another (generation image lane) (undo_of (undo_slot image lane slot)) u (no_record_in image lane slot (none_if_kept image lane kept) in_slots) is in
-      let apart : u.generation ≢ generation_word image lane = λ same. other (same ∙ sym stands) in
+  go false true kept sealed =
+      let old : u.generation < generation image lane = past.sealed lane slot u in_lanes in_slots is sealed in
+      let still : generation_after image lane ≡ generation image lane = after_kept image lane kept in
+      omega arith
+  go false false kept unsealed =
+      let old : u.generation ≤ generation image lane = past.past lane slot u in_lanes in_slots is in
+      let still : generation_after image lane ≡ generation image lane = after_kept image lane kept in
+      let other : u.generation ≢ generation image lane =
+      of_another (generation image lane) (undo_of (undo_slot image lane slot)) u (no_record_in image lane slot (none_if_kept image lane unsealed kept) in_slots) is in
       omega arith
 
 pub clean : (before after : List ℕ) (lanes lane : ℕ) → HasSoundLogs before lanes → HasNoStrayRecord before lanes → IsRecovered before after lanes → lane < lanes → IsCleanLog after lane
@@ -84,14 +86,14 @@ clean before after lanes lane sound past is inside =
     let log : SameLog before after lane = same_log before after lanes lane sound is inside in
     let now : generation_word after lane ≡ generation_after before lane = is.generations lane inside in
     record {
-      unsealed = seal_kept before after lanes lane sound is inside;
+      unsealed = is.seals lane inside;
       first_generation =
-          let first : 1 ≤ generation_word before lane = sound.first_generation lane inside in
-          let more : generation_word before lane ≤ generation_after before lane = not_less before lane in
+          let first : 1 ≤ generation before lane = sound.first_generation lane inside in
+          let more : generation before lane ≤ generation_after before lane = not_less before lane in
           omega arith;
       last_generation = subst (λ (n : ℕ). n ≤ 4611686018427387904) (sym now) (last_after before lanes lane sound inside);
       stale = λ slot u in_slots read.
-          subst (λ (n : ℕ). u.generation < n) (sym now) (earlier before lanes lane slot u sound past inside in_slots (ap undo_of (same_slot before after lane slot log in_slots) ∙ read));
+          subst (λ (n : ℕ). u.generation < n) (sym now) (earlier before lanes lane slot u past inside in_slots (ap undo_of (same_slot before after lane slot log in_slots) ∙ read));
     }
 
 -- a clean log has no valid record
@@ -104,5 +106,9 @@ clean_has_none image lane clean =
 
 pub none_to_come : (image : List ℕ) (lanes : ℕ) → ((lane : ℕ) → lane < lanes → IsCleanLog image lane) → HasNoStrayRecord image lanes
 none_to_come image lanes all = record {
-  past = λ lane slot u in_lanes in_slots is. let old : u.generation < generation_word image lane = (all lane in_lanes).stale slot u in_slots is in omega arith;
+  past = λ lane slot u in_lanes in_slots is.
+      let old : u.generation < generation_word image lane = (all lane in_lanes).stale slot u in_slots is in
+      let stands : generation image lane ≡ generation_word image lane = generation_stands image lane (all lane in_lanes).unsealed in
+      omega arith;
+  sealed = λ lane slot u in_lanes in_slots is sealed. absurd (false≢true (sym (not_sealed image lane (all lane in_lanes).unsealed) ∙ sealed));
 }

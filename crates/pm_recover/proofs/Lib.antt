@@ -3,7 +3,9 @@ pub mod Slots
 pub mod Areas
 pub mod Sound
 pub mod PutBack
-pub mod Raising
+pub mod LogsEnded
+pub mod AppliedInTurn
+pub mod Targets
 pub mod Recovered
 pub mod Clean
 pub mod Meaning

@@ -5,11 +5,11 @@ use Rattle.std.specs.Option.{option_or, option_to_list}
 use Rattle.std.proofs.lemmas.Bool.{and_from, and_left, and_right, cases_lt, eq-eqb, le-leb, le-ltb, lt-leb, lt-ltb}
 use Rattle.std.proofs.lemmas.List.Folds.{find-append}
 use Rattle.pm_record.specs.declared.undo.Undo.{Undo}
-use Rattle.pm_image.specs.Logs.{area_word, covers, old_word, records, restored}
+use Rattle.pm_image.specs.Logs.{area_word, covers, generation, old_word, records, restored}
 use Rattle.pm_image.specs.Steps.{HasLanes, valid_record}
 use Rattle.pm_image.proofs.Gathering.{record_at, records_by_number}
 use Rattle.pm_recover.specs.Steps.{AreRestored, AreWritten, HasSoundLogs, IsRestorable}
-use Rattle.pm_recover.proofs.Areas.{SameLane, same_records, same_valid}
+use Rattle.pm_recover.proofs.Areas.{SameLane, same_generation, same_records, same_valid}
 use Rattle.pm_recover.proofs.Parts.{found_in_no_part}
 
 -- the record covers the word with this number
@@ -110,29 +110,29 @@ lanes_cover_none image lanes from n i sound few front =
 pub kept : (us : List Undo) (old new : List ℕ) (i : ℕ) → AreRestored us old new → i < length old → first_for us i ≡ None → slice_index new i ≡ slice_index old i
 kept us old new i is inside none = is.each i inside ∙ ap (λ (o : Option Undo). restored o (8 * i) (slice_index old i)) none
 
--- another image with the same words up to the last of so many areas
-pub record SameFront (one other : List ℕ) (lanes : ℕ) : Type 0 where
+-- another image with the same words in so many areas
+pub record SameAreas (one other : List ℕ) (lanes : ℕ) : Type 0 where
   pub as_long : length other ≡ length one
-  pub same : (i : ℕ) → i < area_word lanes → slice_index other i ≡ slice_index one i
+  pub same : (i : ℕ) → area_word 0 ≤ i → i < area_word lanes → slice_index other i ≡ slice_index one i
 
-pub same_lane : (one other : List ℕ) (lanes lane : ℕ) → HasSoundLogs one lanes → SameFront one other lanes → lane < lanes → SameLane one other lane
+pub same_lane : (one other : List ℕ) (lanes lane : ℕ) → HasSoundLogs one lanes → SameAreas one other lanes → lane < lanes → SameLane one other lane
 same_lane one other lanes lane sound front inside =
     let areas : 512 + 1024 * lanes ≤ length one = sound.has_lanes.areas in
     let long : length other ≡ length one = front.as_long in
     record {
-      log = record { long = omega arith; as_long = omega arith; same = λ i from to. sym (front.same i (omega arith)) };
-      generation = sym (front.same (area_word lane) (omega arith));
-      unsealed = sound.unsealed lane inside;
+      log = record { long = omega arith; as_long = omega arith; same = λ i from to. sym (front.same i (omega arith) (omega arith)) };
+      generation = sym (front.same (area_word lane) (omega arith) (omega arith));
+      seal = sym (front.same (area_word lane + 1) (omega arith) (omega arith));
     }
 
-pub sound_too : (one other : List ℕ) (lanes : ℕ) → HasSoundLogs one lanes → SameFront one other lanes → HasSoundLogs other lanes
+pub sound_too : (one other : List ℕ) (lanes : ℕ) → HasSoundLogs one lanes → SameAreas one other lanes → HasSoundLogs other lanes
 sound_too one other lanes sound front =
     let has : HasLanes one lanes = sound.has_lanes in
+    let generations : (lane : ℕ) → lane < lanes → generation one lane ≡ generation other lane = λ lane inside. same_generation one other lane (same_lane one other lanes lane sound front inside) in
     record {
       has_lanes = record { lanes_fit = has.lanes_fit; areas = subst (λ (n : ℕ). 512 + 1024 * lanes ≤ n) (sym front.as_long) has.areas; small = subst (λ (n : ℕ). n ≤ 1098240) (sym front.as_long) has.small };
-      unsealed = λ lane inside. front.same (area_word lane + 1) (omega arith) ∙ sound.unsealed lane inside;
-      first_generation = λ lane inside. subst (λ (n : ℕ). 1 ≤ n) (sym (front.same (area_word lane) (omega arith))) (sound.first_generation lane inside);
-      last_generation = λ lane inside. subst (λ (n : ℕ). n ≤ 4611686018427387904) (sym (front.same (area_word lane) (omega arith))) (sound.last_generation lane inside);
+      first_generation = λ lane inside. subst (λ (n : ℕ). 1 ≤ n) (generations lane inside) (sound.first_generation lane inside);
+      last_generation = λ lane inside. subst (λ (n : ℕ). n ≤ 4611686018427387904) (generations lane inside) (sound.last_generation lane inside);
       restorable = λ lane slot u in_lanes in_slots is.
           let known : IsRestorable one lanes u = sound.restorable lane slot u in_lanes in_slots (same_valid one other lane slot (same_lane one other lanes lane sound front in_lanes) in_slots ∙ is) in
           record { aligned = known.aligned; few = known.few; behind = known.behind; within = subst (λ (n : ℕ). u.place / 8 + u.count ≤ n) (sym front.as_long) known.within; raisable = known.raisable };
@@ -143,7 +143,6 @@ fewer_lanes image lanes n sound few =
     let has : HasLanes image lanes = sound.has_lanes in
     record {
       has_lanes = record { lanes_fit = omega arith; areas = omega arith; small = has.small };
-      unsealed = λ lane inside. sound.unsealed lane (omega arith);
       first_generation = λ lane inside. sound.first_generation lane (omega arith);
       last_generation = λ lane inside. sound.last_generation lane (omega arith);
       restorable = λ lane slot u in_lanes in_slots is.
@@ -151,17 +150,17 @@ fewer_lanes image lanes n sound few =
           record { aligned = known.aligned; few = known.few; behind = omega arith; within = known.within; raisable = known.raisable };
     }
 
-front_of_slots : (old now : List ℕ) (lanes lane from n : ℕ) → HasSoundLogs old lanes → lane < lanes → from + n ≤ 64 → AreRestored (flat_map (record_at old lane) (range_with_len from n)) old now → SameFront old now lanes
+front_of_slots : (old now : List ℕ) (lanes lane from n : ℕ) → HasSoundLogs old lanes → lane < lanes → from + n ≤ 64 → AreRestored (flat_map (record_at old lane) (range_with_len from n)) old now → SameAreas old now lanes
 front_of_slots old now lanes lane from n sound inside few is =
     let areas : 512 + 1024 * lanes ≤ length old = sound.has_lanes.areas in
-    record { as_long = is.as_long; same = λ i front. kept _ old now i is (omega arith) (slots_cover_none old lanes lane from n i sound inside few front) }
+    record { as_long = is.as_long; same = λ i from_areas front. kept _ old now i is (omega arith) (slots_cover_none old lanes lane from n i sound inside few front) }
 
-front_of_lanes : (old now : List ℕ) (lanes from n : ℕ) → HasSoundLogs old lanes → from + n ≤ lanes → AreRestored (flat_map (records old) (range_with_len from n)) old now → SameFront old now lanes
+front_of_lanes : (old now : List ℕ) (lanes from n : ℕ) → HasSoundLogs old lanes → from + n ≤ lanes → AreRestored (flat_map (records old) (range_with_len from n)) old now → SameAreas old now lanes
 front_of_lanes old now lanes from n sound few is =
     let areas : 512 + 1024 * lanes ≤ length old = sound.has_lanes.areas in
-    record { as_long = is.as_long; same = λ i front. kept _ old now i is (omega arith) (lanes_cover_none old lanes from n i sound few front) }
+    record { as_long = is.as_long; same = λ i from_areas front. kept _ old now i is (omega arith) (lanes_cover_none old lanes from n i sound few front) }
 
-pub front_of_all : (old now : List ℕ) (lanes : ℕ) → HasSoundLogs old lanes → AreRestored (flat_map (records old) (range_with_len 0 lanes)) old now → SameFront old now lanes
+pub front_of_all : (old now : List ℕ) (lanes : ℕ) → HasSoundLogs old lanes → AreRestored (flat_map (records old) (range_with_len 0 lanes)) old now → SameAreas old now lanes
 front_of_all old now lanes sound is = front_of_lanes old now lanes 0 lanes sound (omega arith) is
 
 -- once the records of the slots from one on are put back, the logs are sound as before, and the record of the slot before it comes first
@@ -171,7 +170,7 @@ sound_behind_slot old now lane from n sound few is = sound_too old now (lane + 1
 slot_before : (old now new : List ℕ) (lane slot n : ℕ) → HasSoundLogs old (lane + 1) → slot + 1 + n ≤ 64 → AreRestored (flat_map (record_at old lane) (range_with_len (slot + 1) n)) old now
     → AreRestored (option_to_list (valid_record now lane slot)) now new → AreRestored (flat_map (record_at old lane) (range_with_len slot (suc n))) old new
 slot_before old now new lane slot n sound few before is =
-    let front : SameFront old now (lane + 1) = front_of_slots old now (lane + 1) lane (slot + 1) n sound (omega arith) few before in
+    let front : SameAreas old now (lane + 1) = front_of_slots old now (lane + 1) lane (slot + 1) n sound (omega arith) few before in
     let same : valid_record old lane slot ≡ valid_record now lane slot = same_valid old now lane slot (same_lane old now (lane + 1) lane sound front (omega arith)) (omega arith) in
     restored_then (record_at old lane slot) (flat_map (record_at old lane) (range_with_len (slot + 1) n)) old now new before (subst (λ (o : Option Undo). AreRestored (option_to_list o) now new) (sym same) is)
 
@@ -193,7 +192,7 @@ sound_behind_lane old now lanes lane from n next sound few is =
 lane_before : (old now new : List ℕ) (lanes lane n : ℕ) → HasSoundLogs old lanes → lane + 1 + n ≤ lanes → AreRestored (flat_map (records old) (range_with_len (lane + 1) n)) old now
     → AreRestored (records now lane) now new → AreRestored (flat_map (records old) (range_with_len lane (suc n))) old new
 lane_before old now new lanes lane n sound few before is =
-    let front : SameFront old now lanes = front_of_lanes old now lanes (lane + 1) n sound few before in
+    let front : SameAreas old now lanes = front_of_lanes old now lanes (lane + 1) n sound few before in
     let same : records old lane ≡ records now lane = same_records old now lane (same_lane old now lanes lane sound front (omega arith)) in
     restored_then (records old lane) (flat_map (records old) (range_with_len (lane + 1) n)) old now new before (subst (λ (us : List Undo). AreRestored us now new) (sym same) is)
 

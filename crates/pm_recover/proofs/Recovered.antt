@@ -1,45 +1,68 @@
--- An image whose records are put back and whose generations are raised is recovered.
-use Rattle.std.proofs.Common.{◌≡◌, ◌≢◌, ◌⊎◌, ⊎_elim, inl, inr, ℕ, ◌*◌, ◌<◌, ◌≤◌, List, length, slice_index, sym, ◌∙◌, ap, subst, arith}
+-- An image whose records are put back, whose entries are applied and whose logs are ended is recovered.
+use Rattle.std.proofs.Common.{◌≡◌, ◌≢◌, ◌⊎◌, ⊎_elim, inl, inr, ℕ, ◌*◌, ◌<◌, ◌≤◌, ◌+◌, List, [], ◌∷◌, length, slice_index, Option, None, sym, ◌∙◌, ap, subst, arith}
 use Rattle.std.specs.List.{flat_map, range_with_len}
 use Rattle.std.proofs.lemmas.Bool.{cases_lt}
 use Rattle.std.proofs.lemmas.List.{get_or_past}
 use Rattle.pm_record.specs.declared.redo.Redo.{Redo}
-use Rattle.pm_image.specs.Logs.{area_word, record_for, records, recovered, recovered_at, recovered_by, recovered_words, restored}
+use Rattle.pm_record.specs.declared.undo.Undo.{Undo}
+use Rattle.pm_image.specs.Logs.{all_applied, area_word, entries, entries_for, record_for, records, recovered, recovered_at, recovered_by, recovered_words, restored}
 use Rattle.pm_image.proofs.InPlace.{recovered_in_place}
-use Rattle.pm_image.proofs.LogRows.{no_entries_for}
 use Rattle.pm_image.proofs.WholeImage.{length-recovered_words}
-use Rattle.pm_recover.specs.Recovery.{IsRecovered}
-use Rattle.pm_recover.specs.Steps.{AreRaised, AreRestored, HasSoundLogs}
+use Rattle.pm_recover.specs.Recovery.{IsOutside, IsRecovered}
+use Rattle.pm_recover.specs.Steps.{AreApplied, AreRestored, AreSettled, HasApartLogs, HasSoundLogs}
 use Rattle.pm_recover.proofs.Areas.{same_after}
-use Rattle.pm_recover.proofs.PutBack.{SameFront, front_of_all, first_for, same_lane}
+use Rattle.pm_recover.proofs.PutBack.{SameAreas, front_of_all, first_for, same_lane}
 
--- where no lane is sealed, records alone recover words
-pub by_records : (image : List ℕ) (lanes i : ℕ) → HasSoundLogs image lanes → recovered image lanes i ≡ restored (first_for (flat_map (records image) (range_with_len 0 lanes)) i) (8 * i) (slice_index image i)
+-- where no entry is for a word, records alone recover it
+pub by_records : (image : List ℕ) (lanes i : ℕ) → entries_for image lanes (8 * i) ≡ [] → recovered image lanes i ≡ restored (first_for (flat_map (records image) (range_with_len 0 lanes)) i) (8 * i) (slice_index image i)
 unfolding recovered record_for
-by_records image lanes i sound =
-    ap (λ (es : List Redo). recovered_by es (first_for (flat_map (records image) (range_with_len 0 lanes)) i) (8 * i) (slice_index image i)) (no_entries_for image lanes (8 * i) sound.unsealed)
+by_records image lanes i none =
+    ap (λ (es : List Redo). recovered_by es (first_for (flat_map (records image) (range_with_len 0 lanes)) i) (8 * i) (slice_index image i)) none
+
+-- entries applied to the image's word, where no record covers it or none of them is for it
+by_entries : (es : List Redo) (o : Option Undo) (place word now : ℕ) → now ≡ restored o place word → (es ≡ []) ⊎ (o ≡ None) → all_applied es now ≡ recovered_by es o place word
+by_entries [] o place word now is apart = is
+by_entries (e ∷ es) o place word now is (inl none) = absurd cc
+by_entries (e ∷ es) o place word now is (inr none) = ap (all_applied (e ∷ es)) (is ∙ ap (λ (r : Option Undo). restored r place word) none)
 
 -- a word past the end is 0 in every image
 pub past_end : (image : List ℕ) (lanes i : ℕ) → length image ≤ i → recovered_at image lanes i ≡ 0
 past_end image lanes i past = get_or_past (recovered_words image lanes) i 0 (subst (λ (n : ℕ). n ≤ i) (sym (length-recovered_words image lanes)) past)
 
-word_recovered : (old now : List ℕ) (lanes i : ℕ) → HasSoundLogs old lanes → AreRestored (flat_map (records old) (range_with_len 0 lanes)) old now → slice_index now i ≡ recovered_at old lanes i
-word_recovered old now lanes i sound is =
+word_made : (old now then : List ℕ) (lanes i : ℕ) → HasApartLogs old lanes → AreRestored (flat_map (records old) (range_with_len 0 lanes)) old now → AreApplied (flat_map (entries old) (range_with_len 0 lanes)) lanes now then
+    → i < length old → IsOutside lanes i → slice_index then i ≡ recovered old lanes i
+unfolding recovered entries_for record_for
+word_made old now then lanes i apart put_back applied inside outside =
+    applied.outside i (subst (λ (n : ℕ). i < n) (sym put_back.as_long) inside) outside
+    ∙ by_entries (entries_for old lanes (8 * i)) (record_for old lanes (8 * i)) (8 * i) (slice_index old i) (slice_index now i) (put_back.each i inside) (apart.apart i inside)
+
+word_recovered : (old now then : List ℕ) (lanes i : ℕ) → HasApartLogs old lanes → AreRestored (flat_map (records old) (range_with_len 0 lanes)) old now → AreApplied (flat_map (entries old) (range_with_len 0 lanes)) lanes now then
+    → IsOutside lanes i → slice_index then i ≡ recovered_at old lanes i
+word_recovered old now then lanes i apart put_back applied outside =
     ⊎_elim
-    (λ (inside : i < length old). is.each i inside ∙ sym (by_records old lanes i sound) ∙ sym (recovered_in_place old lanes i inside))
-    (λ (past : length old ≤ i). get_or_past now i 0 (subst (λ (n : ℕ). n ≤ i) (sym is.as_long) past) ∙ sym (past_end old lanes i past))
+    (λ (inside : i < length old). word_made old now then lanes i apart put_back applied inside outside ∙ sym (recovered_in_place old lanes i inside))
+    (λ (past : length old ≤ i). get_or_past then i 0 (subst (λ (n : ℕ). n ≤ i) (sym (applied.as_long ∙ put_back.as_long)) past) ∙ sym (past_end old lanes i past))
     (cases_lt i (length old))
 
-outside_areas : (lanes i : ℕ) → (i < area_word 0) ⊎ (area_word lanes ≤ i) → (lane : ℕ) → lane < lanes → i ≢ area_word lane
-outside_areas lanes i (inl before) lane inside here = omega arith
-outside_areas lanes i (inr behind) lane inside here = omega arith
+outside_areas : (lanes i : ℕ) → IsOutside lanes i → (lane : ℕ) → lane < lanes → (i ≢ area_word lane) × (i ≢ area_word lane + 1)
+outside_areas lanes i (inl before) lane inside = ((λ here. omega arith), (λ here. omega arith))
+outside_areas lanes i (inr behind) lane inside = ((λ here. omega arith), (λ here. omega arith))
 
-pub recovered_made : (old now new : List ℕ) (lanes : ℕ) → HasSoundLogs old lanes → AreRestored (flat_map (records old) (range_with_len 0 lanes)) old now → AreRaised now new lanes → IsRecovered old new lanes
-recovered_made old now new lanes sound put_back raised =
-    let front : SameFront old now lanes = front_of_all old now lanes sound put_back in
+-- what is restored and applied has the same areas
+pub same_areas : (old now then : List ℕ) (lanes : ℕ) → HasSoundLogs old lanes → AreRestored (flat_map (records old) (range_with_len 0 lanes)) old now → AreApplied (flat_map (entries old) (range_with_len 0 lanes)) lanes now then
+    → SameAreas old then lanes
+same_areas old now then lanes sound put_back applied =
+    let front : SameAreas old now lanes = front_of_all old now lanes sound put_back in
+    record { as_long = applied.as_long ∙ put_back.as_long; same = λ i from to. applied.inside i from to ∙ front.same i from to }
+
+pub recovered_made : (old now then new : List ℕ) (lanes : ℕ) → HasSoundLogs old lanes → HasApartLogs old lanes → AreRestored (flat_map (records old) (range_with_len 0 lanes)) old now
+    → AreApplied (flat_map (entries old) (range_with_len 0 lanes)) lanes now then → AreSettled then new lanes → IsRecovered old new lanes
+recovered_made old now then new lanes sound apart put_back applied settled =
+    let front : SameAreas old then lanes = same_areas old now then lanes sound put_back applied in
     record {
-      as_long = raised.as_long ∙ put_back.as_long;
-      words = λ i outside. raised.others i (outside_areas lanes i outside) ∙ word_recovered old now lanes i sound put_back;
-      areas = λ lane i inside from to. raised.others i (λ k near here. omega arith) ∙ front.same i (omega arith);
-      generations = λ lane inside. raised.raised lane inside ∙ sym (same_after old now lane (same_lane old now lanes lane sound front inside));
+      as_long = settled.as_long ∙ applied.as_long ∙ put_back.as_long;
+      words = λ i outside. settled.others i (outside_areas lanes i outside) ∙ word_recovered old now then lanes i apart put_back applied outside;
+      areas = λ lane i inside from to. settled.others i (λ k near. ((λ here. omega arith), (λ here. omega arith))) ∙ front.same i (omega arith) (omega arith);
+      seals = settled.seals;
+      generations = λ lane inside. settled.generations lane inside ∙ sym (same_after old then lane (same_lane old then lanes lane sound front inside));
     }

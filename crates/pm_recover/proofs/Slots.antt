@@ -5,10 +5,10 @@ use Rattle.std.proofs.lemmas.Bool.{eqb-true, eq-eqb, ne_eqb, false≢true, ltb-f
 use Rattle.std.proofs.lemmas.Option.{cond_some}
 use Rattle.pm_record.specs.Undo.{is_record, undo_in, undo_of}
 use Rattle.pm_record.specs.declared.undo.Undo.{Undo}
-use Rattle.pm_image.specs.Logs.{area_word, generation, generation_word, records, seal_word}
+use Rattle.pm_image.specs.Logs.{area_word, generation, generation_word, is_sealed, records, seal_word}
 use Rattle.pm_image.specs.Steps.{valid_record}
 use Rattle.pm_image.proofs.Gathering.{record_at, records_by_number}
-use Rattle.pm_image.proofs.LogRows.{not_sealed, nothing_in}
+use Rattle.pm_image.proofs.Unsealed.{not_sealed, nothing_in}
 use Rattle.pm_recover.specs.Recovery.{has_record}
 use Rattle.pm_recover.proofs.Parts.{empty_part}
 
@@ -34,10 +34,15 @@ of_another g o u none is same =
     let clash : None ≡ Some u = sym none ∙ valid_if g o u is same in
     absurd cc
 
--- a lane that is not sealed has the generation of its area
+-- a sealed lane has the generation of its last entry, and another the one of its area
+pub generation_sealed : (image : List ℕ) (lane : ℕ) → is_sealed image lane ≡ true → generation image lane ≡ slice_index image (area_word lane + 7 + 2 * seal_word image lane)
+generation_sealed image lane sealed = ap (λ (b : Bool). cond b (slice_index image (area_word lane + 7 + 2 * seal_word image lane)) (generation_word image lane)) sealed
+
+pub generation_unsealed : (image : List ℕ) (lane : ℕ) → is_sealed image lane ≡ false → generation image lane ≡ generation_word image lane
+generation_unsealed image lane unsealed = ap (λ (b : Bool). cond b (slice_index image (area_word lane + 7 + 2 * seal_word image lane)) (generation_word image lane)) unsealed
+
 pub generation_stands : (image : List ℕ) (lane : ℕ) → seal_word image lane ≡ 0 → generation image lane ≡ generation_word image lane
-generation_stands image lane none =
-    ap (λ (b : Bool). cond b (slice_index image (area_word lane + 7 + 2 * seal_word image lane)) (generation_word image lane)) (not_sealed image lane none)
+generation_stands image lane none = generation_unsealed image lane (not_sealed image lane none)
 
 nothing_listed : (o : Option Undo) → option_to_list o ≡ [] → o ≡ None
 nothing_listed None is = refl

@@ -1,11 +1,15 @@
 -- What recovery makes of an image: docs/FORMAT.md, "Recovery". Words go by their number, 8 bytes each.
-use Rattle.std.specs.Prelude.{◌≡◌, ◌⊎◌, ℕ, ◌+◌, ◌^◌, ◌<◌, ◌≤◌, Bool, false, not, ◌&&◌, ◌||◌, nat_lt, if◌then◌else◌, List, length, slice_index, Some}
+use Rattle.std.specs.Prelude.{◌≡◌, ◌⊎◌, ℕ, ◌+◌, ◌^◌, ◌<◌, ◌≤◌, Bool, false, true, not, ◌&&◌, ◌||◌, nat_lt, if◌then◌else◌, List, length, slice_index, Some}
 use Rattle.std.specs.List.{list_all, range_with_len}
 use Rattle.pm_objects.specs.declared.pool.PoolView.{PoolView}
 use Rattle.pm_record.specs.Undo.{is_record, undo_of}
 use Rattle.pm_record.specs.declared.undo.Undo.{Undo}
-use Rattle.pm_image.specs.Logs.{area_word, generation_word, seal_word, undo_slot, records, recovered_at}
+use Rattle.pm_image.specs.Logs.{area_word, generation, generation_word, is_sealed, seal_word, undo_slot, records, recovered_at}
 use Rattle.pm_image.specs.Means.{IsMeaning}
+
+-- the word is of no lane's area
+abbrev pub IsOutside : ℕ → ℕ → Type 0
+IsOutside lanes i = (i < area_word 0) ⊎ (area_word lanes ≤ i)
 
 -- the lane has a valid undo record
 unfoldable pub has_record : List ℕ → ℕ → Bool
@@ -15,25 +19,27 @@ has_record image lane = nat_lt 0 (length (records image lane))
 unfoldable pub has_torn_slot : List ℕ → ℕ → Bool
 has_torn_slot image lane = not (list_all (λ slot. is_record (undo_slot image lane slot)) (range_with_len 0 64))
 
--- recovery raises the lane's generation: it restores a record, or a slot is torn and there is a further generation
+-- recovery raises the lane's generation: the lane is not sealed, and a record of it is put back, or a slot is torn and there is a further generation
 unfoldable pub is_raised : List ℕ → ℕ → Bool
-is_raised image lane = has_record image lane || (nat_lt (generation_word image lane) (2 ^ 62) && has_torn_slot image lane)
+is_raised image lane = not (is_sealed image lane) && (has_record image lane || (nat_lt (generation image lane) (2 ^ 62) && has_torn_slot image lane))
 
--- the lane's generation after recovery
+-- the lane's generation after recovery: one more where it is raised, else the lane's, which a sealed lane's last entry sets
 abbrev pub generation_after : List ℕ → ℕ → ℕ
-generation_after image lane = if is_raised image lane then generation_word image lane + 1 else generation_word image lane
+generation_after image lane = if is_raised image lane then generation image lane + 1 else generation image lane
 
--- `after` is what recovery makes of the image `before` of so many lanes: outside of the lanes' areas it has the recovered words, and of an area the first word alone may differ, which is the
--- generation
+-- `after` is what recovery makes of the image `before` of so many lanes: outside of the lanes' areas it has the recovered words, and of an area the first two words alone may differ, which are the
+-- generation and the seal
 pub record IsRecovered (before after : List ℕ) (lanes : ℕ) : Type 0 where
   pub as_long : length after ≡ length before
-  pub words : (i : ℕ) → (i < area_word 0) ⊎ (area_word lanes ≤ i) → slice_index after i ≡ recovered_at before lanes i
-  pub areas : (lane i : ℕ) → lane < lanes → area_word lane < i → i < area_word (lane + 1) → slice_index after i ≡ slice_index before i
+  pub words : (i : ℕ) → IsOutside lanes i → slice_index after i ≡ recovered_at before lanes i
+  pub areas : (lane i : ℕ) → lane < lanes → area_word lane + 1 < i → i < area_word (lane + 1) → slice_index after i ≡ slice_index before i
+  pub seals : (lane : ℕ) → lane < lanes → seal_word after lane ≡ 0
   pub generations : (lane : ℕ) → lane < lanes → generation_word after lane ≡ generation_after before lane
 
--- no slot with a true sum is of a generation to come: to raise a generation wakes no old record
+-- no slot with a true sum is of a generation to come, nor, where the lane is sealed, of the one that its log ends with: to go on wakes no old record
 pub record HasNoStrayRecord (image : List ℕ) (lanes : ℕ) : Type 0 where
-  pub past : (lane slot : ℕ) (u : Undo) → lane < lanes → slot < 64 → undo_of (undo_slot image lane slot) ≡ Some u → u.generation ≤ generation_word image lane
+  pub past : (lane slot : ℕ) (u : Undo) → lane < lanes → slot < 64 → undo_of (undo_slot image lane slot) ≡ Some u → u.generation ≤ generation image lane
+  pub sealed : (lane slot : ℕ) (u : Undo) → lane < lanes → slot < 64 → undo_of (undo_slot image lane slot) ≡ Some u → is_sealed image lane ≡ true → u.generation < generation image lane
 
 -- no slot is torn
 pub record HasNoTornSlot (image : List ℕ) (lanes : ℕ) : Type 0 where

@@ -1,3 +1,6 @@
+ghost use Rattle.std.specs.Prelude.{◌≡◌};
+ghost use Rattle.pm_recover.specs.declared.fault.RecoverFault.TheVariants.{Memory};
+
 use pm_image::ImageFault;
 use std::alloc::AllocError;
 use thiserror::Error;
@@ -11,4 +14,12 @@ pub enum RecoverFault {
     /// There was no memory.
     #[error("no memory")]
     Memory(AllocError),
+}
+
+impl From<AllocError> for RecoverFault {
+    ghost from_gives = { λ e fault. fault ≡ Memory e };
+
+    fn from(e: AllocError) -> Self {
+        RecoverFault::Memory(e)
+    }
 }

@@ -4,12 +4,12 @@ ghost use Rattle.pm_image.specs.Logs.{area_word, records};
 ghost use Rattle.pm_image.specs.Means.{IsMeaning};
 ghost use Rattle.pm_recover.specs.Recovery.{HasNoStrayRecord, HasNoTornSlot, IsCleanLog, IsRecovered};
 
-/// A law: what an image means, it means once it is recovered, where it has no record of a generation to come. No code runs.
+/// A law: what an image means, it means once it is recovered, where it has no stray record. No code runs.
 pub fn recovery_keeps_the_meaning()
     ensures { (before after : List ℕ) (pool : PoolView) → IsMeaning before pool → HasNoStrayRecord before pool.lanes → IsRecovered before after pool.lanes → IsMeaning after pool }
 {}
 
-/// A law: a recovered image has no valid record, and none of a generation to come, where the image before had none of the latter. No code runs.
+/// A law: a recovered image has no valid record and no stray one, where the image before had no stray one. No code runs.
 pub fn recovery_leaves_no_record()
     ensures no_record { (before after : List ℕ) (pool : PoolView) (lane : ℕ) → IsMeaning before pool → HasNoStrayRecord before pool.lanes → IsRecovered before after pool.lanes
         → lane < pool.lanes → records after lane ≡ [] }

@@ -1,16 +1,17 @@
 //! Recovery: what the opening of a pool does with the logs that a power failure left.
 //!
-//! Promises whoever opens a pool that its words become the recovered words, that each lane which left a record or a torn slot
-//! has its next generation, and that the image means what it meant. An image with a fault stays as it is. It stands on
-//! `pm_image` for meaning and faults, `pm_record` for the records and `pm_raw` for the words; the definitions are in
+//! Promises whoever opens a pool that its words become the recovered words, that no lane is sealed any more, that each lane has
+//! the generation that it goes on with, and that the image means what it meant. An image with a fault stays as it is. It stands
+//! on `pm_image` for meaning and faults, `pm_record` for records and entries and `pm_raw` for the words; the definitions are in
 //! specs/Recovery.antt.
 #![tactic(auto)]
 
+mod applying;
 mod fault;
-mod generations;
 mod laws;
 mod recovering;
 mod restoring;
+mod settling;
 
 pub use fault::RecoverFault;
 pub use laws::{

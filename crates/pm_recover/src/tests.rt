@@ -15,6 +15,9 @@ const WORDS: u64 = 34_816;
 /// The word of the lane's generation.
 const GENERATION: u64 = 512;
 
+/// The word of its seal.
+const SEAL: u64 = 513;
+
 /// A word of the first chunk.
 const WORD: u64 = 2064;
 
@@ -138,6 +141,56 @@ fn slots(rt: HostRuntime) -> Result<(), Fail> {
     Ok(())
 }
 
+/// Seals the lane with these entries, each a place with its operation and a value.
+fn put_entries(image: &mut RawImage, entries: &[(u64, u64)])
+    requires { length image.old ≡ 34816 }
+    ensures { length image.new ≡ 34816 }
+{
+    let mut at = SEAL + 7;
+    for (place, value) in entries {
+        if at < WORDS - 1 {
+            image.set(at, *place);
+            image.set(at + 1, *value);
+            at += 2;
+        }
+    }
+    image.set(SEAL, entries.len() as u64);
+}
+
+/// Entries of the lane by hand, SET 0, OR 1 and AND 2: they are applied in order, the last one is the generation, and the lane is
+/// sealed no more. A torn slot, or a record of an earlier generation, counts for nothing then.
+#[test]
+fn entries(rt: HostRuntime) -> Result<(), Fail> {
+    let alloc = rt.alloc();
+    let place = 8 * WORD;
+    let table: [(&[(u64, u64)], &[Slot], &[(u64, u64)]); 4] = [
+        (&[(4096, 6)], &[(81, 5, 1)], &[(GENERATION, 6), (WORD, 9)]),
+        (
+            &[(place, 12), (place + 1, 3), (place + 2, 7), (4096, 6)],
+            &[(81, 5, 0)],
+            &[(GENERATION, 6), (WORD, 7), (WORD + 1, 0)],
+        ),
+        (
+            &[(place + 1, 6), (place + 8, 1), (4096, 6)],
+            &[],
+            &[(GENERATION, 6), (WORD, 15), (WORD + 1, 1)],
+        ),
+        (
+            &[(place, 1), (4096, 5)],
+            &[(81, 4, 0)],
+            &[(GENERATION, 5), (WORD, 1)],
+        ),
+    ];
+    for (what, (entries, slots, words)) in table.into_iter().enumerate() {
+        let mut image = pool(alloc, 5, slots)?;
+        put_entries(&mut image, entries);
+        assert_eq!(rt; recover(alloc, &mut image), Ok(()), "case {what}");
+        has_words(&rt, &image, &[(SEAL, 0)], what);
+        has_words(&rt, &image, words, what);
+    }
+    Ok(())
+}
+
 /// A pool whose lane left nothing stays, word for word.
 #[test]
 fn nothing_left(rt: HostRuntime) -> Result<(), Fail> {
@@ -174,7 +227,8 @@ fn faults(rt: HostRuntime) -> Result<(), Fail> {
     let alloc = rt.alloc();
     let table = [
         (0, 0, 5, ImageFault::Header(pm_header::HeaderFault::NotPool)),
-        (513, 1, 5, ImageFault::Lane(0)),
+        (513, 65, 5, ImageFault::Lane(0)),
+        (513, 1, 5, ImageFault::Redo { lane: 0, entry: 0 }),
         (512, 0, 5, ImageFault::Lane(0)),
         (512, 1 << 62, 1 << 62, ImageFault::Undo { lane: 0, slot: 0 }),
         (1536, 7, 5, ImageFault::Chunk { zone: 0, chunk: 0 }),

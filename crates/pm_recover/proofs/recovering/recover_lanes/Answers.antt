@@ -1,9 +1,16 @@
-use Rattle.pm_recover.proofs.Recovered.{recovered_made}
-use Rattle.pm_recover.proofs.PutBack.{sound_too, front_of_all}
+use Rattle.std.proofs.Common.{List, subst}
+use Rattle.pm_record.specs.declared.redo.Redo.{Redo}
+use Rattle.pm_recover.specs.Steps.{AreApplied}
+use Rattle.pm_recover.proofs.Recovered.{recovered_made, same_areas}
+use Rattle.pm_recover.proofs.PutBack.{sound_too}
 use Rattle.pm_recover.proofs.recovering.recover_lanes.Goals as goal
 
-pub raise_generations-requires : goal.raise_generations-requires
-raise_generations-requires c = sound_too c.args.image.now c.restore_all.new.image c.args.lanes c.requires (front_of_all c.args.image.now c.restore_all.new.image c.args.lanes c.requires c.restore_all.ensures)
+pub settle_lanes-requires : goal.settle_lanes-requires
+settle_lanes-requires c =
+    let applied = subst (λ (es : List Redo). AreApplied es c.args.lanes c.restore_all.new.image c.apply_all.new.image) c.requires.entries c.apply_all.ensures in
+    sound_too c.args.image.now c.apply_all.new.image c.args.lanes c.requires.sound (same_areas c.args.image.now c.restore_all.new.image c.apply_all.new.image c.args.lanes c.requires.sound c.restore_all.ensures applied)
 
 pub returns : goal.returns
-returns c = recovered_made c.args.image.now c.restore_all.new.image c.raise_generations.new.image c.args.lanes c.requires c.restore_all.ensures c.raise_generations.ensures
+returns c =
+    let applied = subst (λ (es : List Redo). AreApplied es c.args.lanes c.restore_all.new.image c.apply_all.new.image) c.requires.entries c.apply_all.ensures in
+    recovered_made c.args.image.now c.restore_all.new.image c.apply_all.new.image c.settle_lanes.new.image c.args.lanes c.requires.sound c.requires.apart c.restore_all.ensures applied c.settle_lanes.ensures

@@ -4,7 +4,7 @@ use Rattle.pm_image.specs.Logs.{undo_slot}
 use Rattle.pm_image.proofs.Ranges.{all_more, all_fails, all_at_end}
 use Rattle.pm_recover.specs.Recovery.{has_torn_slot}
 use Rattle.pm_recover.proofs.Slots.{sum_is}
-use Rattle.pm_recover.proofs.generations.has_torn_slot.Goals as goal
+use Rattle.pm_recover.proofs.settling.has_torn_slot.Goals as goal
 
 pub returns-then-is_none : goal.returns-then-is_none
 unfolding has_torn_slot

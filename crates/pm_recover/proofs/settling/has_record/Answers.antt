@@ -1,6 +1,6 @@
 use Rattle.std.proofs.Common.{sym, arith}
 use Rattle.pm_recover.proofs.Slots.{no_records, slot_recorded, unrecorded}
-use Rattle.pm_recover.proofs.generations.has_record.Goals as goal
+use Rattle.pm_recover.proofs.settling.has_record.Goals as goal
 
 pub returns-then-is_some : goal.returns-then-is_some
 returns-then-is_some c =
