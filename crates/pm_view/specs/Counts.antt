@@ -22,6 +22,36 @@ unfoldable pub counted : List Step → ℕ
 counted [] = 0
 counted (s ∷ steps) = (if is_counted s then 1 else 0) + counted steps
 
+-- the step is a store: of all bits of a word, or of some
+abbrev pub is_store : Step → Bool
+is_store (Store w x) = true
+is_store (Or w bits found) = true
+is_store (And w bits found) = true
+is_store s = false
+
+abbrev pub is_flush : Step → Bool
+is_flush (Flush line) = true
+is_flush s = false
+
+abbrev pub is_drain : Step → Bool
+is_drain Drain = true
+is_drain s = false
+
+-- how many of these steps are of a kind
+unfoldable pub among : (Step → Bool) → List Step → ℕ
+among kind [] = 0
+among kind (s ∷ steps) = (if kind s then 1 else 0) + among kind steps
+
+-- the stores, the flushes and the drains among these steps
+abbrev pub stores_among : List Step → ℕ
+stores_among steps = among is_store steps
+
+abbrev pub flushes_among : List Step → ℕ
+flushes_among steps = among is_flush steps
+
+abbrev pub drains_among : List Step → ℕ
+drains_among steps = among is_drain steps
+
 -- the lane may make one more counted call
 abbrev pub MayCount : View → Type 0
 MayCount v = ForSome v.stop (λ stop. v.calls < stop)
@@ -42,9 +72,13 @@ HasRoom changes = length changes < max_changes
 abbrev pub FlushesSome : ℕ → List Change → Type 0
 FlushesSome line changes = Any (λ (c : Change). IsTrue (is_in_line line c) × (c.flushed ≡ false)) changes
 
--- a drain is not idle
+-- a drain has something before it: a change is undrained
 abbrev pub DrainsSome : List Change → Type 0
 DrainsSome changes = 0 < length changes
+
+-- a drain is not idle: it makes a change persistent, which a flush has marked
+abbrev pub DropsSome : List Change → Type 0
+DropsSome changes = Any (λ (c : Change). c.flushed ≡ true) changes
 
 -- the line has an unflushed change
 abbrev pub is_unflushed : List Change → ℕ → Bool

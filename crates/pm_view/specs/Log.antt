@@ -79,7 +79,8 @@ log_changed phase log = log
 
 -- the log in this phase once nothing is undrained, where the call's number is drawn or not
 abbrev pub log_drained : Phase → Bool → Log → Log
-log_drained Sealing drawn log = record log { phase = Applying 0 }
+-- the call is decided: its records are void
+log_drained Sealing drawn log = record log { phase = Applying 0; records = [] }
 log_drained Clearing drawn log = no_log Idle
 log_drained Retiring true log = no_log Idle
 log_drained Retiring false log = no_log (Open [] [])
