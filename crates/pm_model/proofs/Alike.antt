@@ -15,10 +15,12 @@ use Rattle.pm_objects.specs.declared.history.Value.{Value}
 use Rattle.pm_objects.specs.declared.history.Value.TheVariants.{Bytes, Refused}
 use Rattle.pm_objects.specs.declared.pool.Object.{Object}
 use Rattle.pm_objects.specs.declared.refusal.Refusal.{Refusal}
-use Rattle.pm_model.specs.Transaction.{Transaction, at_rest, aborted, ended_inner, committed, is_working, is_locked}
+use Rattle.pm_model.specs.Actions.{Action, all_performed, number_bytes, with_actions}
+use Rattle.pm_model.specs.Actions.Action.{SetWord}
+use Rattle.pm_model.specs.Transaction.{Transaction, resting, aborted, ended_inner, committed, is_working, is_locked}
 use Rattle.pm_model.specs.Bytes.{bytes_at, put_object, with_bytes}
-use Rattle.pm_model.specs.Checks.{Range, wants_of, is_not_locked, first_refusal}
-use Rattle.pm_model.specs.Answers.{Told, value_of, error_for, performed, after_reply, after, IsDone, IsRefused, Answers}
+use Rattle.pm_model.specs.Checks.{Range, wants_of, is_action, is_not_locked, first_refusal}
+use Rattle.pm_model.specs.Answers.{Told, changes_nothing, value_of, error_for, performed, after_reply, after, IsDone, IsRefused, Answers}
 use Rattle.pm_model.specs.Step.{RunsOn}
 use Rattle.pm_model.specs.Names.{is_refusal, wants_taken, is_wanted}
 use Rattle.pm_model.proofs.Objects.{object_at-put}
@@ -39,10 +41,12 @@ after_value op (Some value) tx plain = refl
 pub done_is_plain : (tx : Transaction) (op : Operation) (reply : Option Value) → reply ≡ value_of tx op → is_refusal reply ≡ false
 done_is_plain tx op reply value = ap is_refusal value ∙ no_refusal tx op
 
--- a refusal that leaves a trace aborts
-pub after_refused : (op : Operation) (reply : Option Value) (tx : Transaction) (r : Refusal) → IsRefused r reply → after_reply op reply tx ≡ aborted (error.Refused r) tx
-after_refused op reply tx r is =
-    ap (λ (x : Option Value). after_reply op x tx) is.told ∙ ap (λ (b : Bool). cond b tx (aborted (error.Refused r) tx)) is.traced
+-- a refusal that leaves a trace aborts, but of an operation on the pending actions alone, which it leaves as it was
+pub after_refused : (op : Operation) (reply : Option Value) (tx : Transaction) (r : Refusal) → IsRefused r reply → after_reply op reply tx ≡ cond (is_action op) tx (aborted (error.Refused r) tx)
+after_refused op reply tx r is = ap (λ (x : Option Value). after_reply op x tx) is.told ∙ by_action (is_action op) where
+  by_action : (b : Bool) → cond (b || changes_nothing r) tx (aborted (error.Refused r) tx) ≡ cond b tx (aborted (error.Refused r) tx)
+  by_action true = refl
+  by_action false = ap (λ (c : Bool). cond c tx (aborted (error.Refused r) tx)) is.traced
 
 -- every lock that these operations take is in T, for writing if so asked
 abbrev pub TakesWithin : (ℕ → Bool) → Bool → List Told → Type 0
@@ -74,6 +78,19 @@ pub record Alike (T : ℕ → Bool) (root : Option ℕ) (tx other : Transaction)
 
 alike_along : (T : ℕ → Bool) (root : Option ℕ) (tx tx' other other' : Transaction) → tx ≡ tx' → other ≡ other' → Alike T root tx other → Alike T root tx' other'
 alike_along T root tx tx' other other' e f h = subst (λ (o : Transaction). Alike T root tx' o) f (subst (λ (t : Transaction). Alike T root t other) e h)
+
+-- objects with new bytes are the same where they were
+put_alike : (one other : Objects) (off at : ℕ) (bytes : List ℕ) (x : ℕ) → object_at one x ≡ object_at other x → object_at (put_object off at bytes one) x ≡ object_at (put_object off at bytes other) x
+put_alike one other off at bytes x same =
+    object_at-put off at bytes one x
+    ∙ (ap (λ (o : Option Object). cond (eqb x off) (option_map (with_bytes at bytes) o) o) same ∙ sym (object_at-put off at bytes other x))
+
+-- and so are objects on which the same actions were performed
+pub all_alike : (actions : List Action) (one other : Objects) (x : ℕ) → object_at one x ≡ object_at other x → object_at (all_performed actions one) x ≡ object_at (all_performed actions other) x
+unfolding all_performed
+all_alike [] one other x same = same
+all_alike (SetWord id off value ∷ actions) one other x same =
+    all_alike actions (put_object id.off off (number_bytes value) one) (put_object id.off off (number_bytes value) other) x (put_alike one other id.off off (number_bytes value) x same)
 
 module _ (T : ℕ → Bool) (root : Option ℕ) (tx : Transaction) (objects before : Objects)
     (now : (off : ℕ) → T off ≡ true → object_at objects off ≡ object_at tx.pool.objects off)
@@ -119,15 +136,12 @@ module _ (T : ℕ → Bool) (root : Option ℕ) (tx : Transaction) (objects befo
   abort_alike e = record { objects = before; before = before; is = refl; now = at_start; at_start = at_start; held = held }
 
   end_alike : (outermost : Bool) → Alike T root
-      (cond outermost (at_rest tx.pool) (ended_inner (committed tx)))
-      (cond outermost (at_rest (over tx objects before root).pool) (ended_inner (committed (over tx objects before root))))
-  end_alike true = record { objects = objects; before = objects; is = refl; now = now; at_start = now; held = λ off h. absurd (false≢true h) }
+      (cond outermost (resting (with_actions tx.moved tx.pool) tx.actions) (ended_inner (committed tx)))
+      (cond outermost (resting (with_actions tx.moved (over tx objects before root).pool) tx.actions) (ended_inner (committed (over tx objects before root))))
+  end_alike true =
+      let performed_alike_ : (x : ℕ) → T x ≡ true → object_at (all_performed tx.moved objects) x ≡ object_at (all_performed tx.moved tx.pool.objects) x = λ x inside. all_alike tx.moved objects tx.pool.objects x (now x inside) in
+      record { objects = all_performed tx.moved objects; before = all_performed tx.moved objects; is = refl; now = performed_alike_; at_start = performed_alike_; held = λ off h. absurd (false≢true h) }
   end_alike false = record { objects = objects; before = before; is = refl; now = now; at_start = at_start; held = held }
-
-  put_alike : (off at : ℕ) (bytes : List ℕ) (x : ℕ) → T x ≡ true → object_at (put_object off at bytes objects) x ≡ object_at (put_object off at bytes tx.pool.objects) x
-  put_alike off at bytes x inside =
-      object_at-put off at bytes objects x
-      ∙ (ap (λ (o : Option Object). cond (eqb x off) (option_map (with_bytes at bytes) o) o) (now x inside) ∙ sym (object_at-put off at bytes tx.pool.objects x))
 
   performed_alike : (op : Operation) → ((off : ℕ) → is_wanted (wants_of op) off false ≡ true → T off ≡ true) → Alike T root (performed op tx) (performed op (over tx objects before root))
   performed_alike (Begin wants) within = record {
@@ -143,7 +157,7 @@ module _ (T : ℕ → Bool) (root : Option ℕ) (tx : Transaction) (objects befo
     objects = put_object id.off off bytes objects;
     before = before;
     is = refl;
-    now = put_alike id.off off bytes;
+    now = λ x inside. put_alike objects tx.pool.objects id.off off bytes x (now x inside);
     at_start = at_start;
     held = held;
   }
@@ -159,9 +173,13 @@ module _ (T : ℕ → Bool) (root : Option ℕ) (tx : Transaction) (objects befo
       (sym (after_value t.operation t.reply tx plain)) (sym (after_value t.operation t.reply (over tx objects before root) plain))
       (performed_alike t.operation (takes_first T false t told within plain))
   after_alike t told within (Some r) is =
-      alike_along T root (aborted (error.Refused r) tx) (after t tx) (aborted (error.Refused r) (over tx objects before root)) (after t (over tx objects before root))
+      alike_along T root (cond (is_action t.operation) tx (aborted (error.Refused r) tx)) (after t tx)
+      (cond (is_action t.operation) (over tx objects before root) (aborted (error.Refused r) (over tx objects before root))) (after t (over tx objects before root))
       (sym (after_refused t.operation t.reply tx r is)) (sym (after_refused t.operation t.reply (over tx objects before root) r is))
-      (abort_alike (error.Refused r))
+      (refused_alike (is_action t.operation)) where
+        refused_alike : (b : Bool) → Alike T root (cond b tx (aborted (error.Refused r) tx)) (cond b (over tx objects before root) (aborted (error.Refused r) (over tx objects before root)))
+        refused_alike true = record { objects = objects; before = before; is = refl; now = now; at_start = at_start; held = held }
+        refused_alike false = abort_alike (error.Refused r)
 
 -- one operation answers alike, and leaves alike
 pub step_alike : (T : ℕ → Bool) (root : Option ℕ) (t : Told) (told : List Told) (tx other : Transaction) → TakesWithin T false (t ∷ told) → Alike T root tx other

@@ -1,16 +1,17 @@
 -- What an operation that is done has passed, and on what its answer depends.
-use Rattle.std.proofs.Common.{◌≡◌, ⊎_elim, ℕ, ◌+◌, List, [], ◌∷◌, length, Option, Some, None, Bool, true, false, cond, eqb, ltb, ◌&&◌, refl, sym, ◌∙◌, ap}
-use Rattle.std.specs.List.{find}
+use Rattle.std.proofs.Common.{◌≡◌, ⊎_elim, ℕ, ◌+◌, List, [], ◌∷◌, length, Option, Some, None, Bool, true, false, cond, eqb, ltb, ◌&&◌, ◌||◌, refl, sym, ◌∙◌, ap}
+use Rattle.std.specs.List.{find, list_any}
 use Rattle.std.specs.Option.{option_map, option_map_or}
-use Rattle.std.proofs.lemmas.Bool.{cases_Bool, not-false, and_parts}
+use Rattle.std.proofs.lemmas.Bool.{cases_Bool, not-false, and_parts, or_parts}
 use Rattle.pm_objects.specs.Pool.{Objects, object_at}
 use Rattle.pm_objects.specs.declared.calls.Operation.{Operation}
 use Rattle.pm_objects.specs.declared.pool.Object.{Object}
 use Rattle.pm_objects.specs.declared.refusal.Refusal.{Refusal}
 use Rattle.pm_objects.specs.declared.refusal.Refusal.TheVariants as refusal
 use Rattle.pm_model.specs.Transaction.{Transaction, is_locked}
+use Rattle.pm_model.specs.Actions.{Action, end_of, object_of, passes_object}
 use Rattle.pm_model.specs.Bytes.{bytes_of}
-use Rattle.pm_model.specs.Checks.{Seen, Range, range_of, needs_write, finds_no_work, finds_no_tx, is_spent, is_too_deep, passes_locks, is_lock_missing, is_not_locked, wants_no_place, is_busy, is_missing, passes_end_of, passes_end, is_not_added, passes_log, checks, first_refusal}
+use Rattle.pm_model.specs.Checks.{Seen, Range, range_of, needs_write, finds_no_work, finds_no_tx, is_spent, is_too_deep, passes_locks, is_lock_missing, is_publish, is_unaligned, is_unlocked_action, publishes_unlocked, publishes_past_end, passes_actions, is_not_locked, wants_no_place, is_busy, is_missing, passes_end_of, passes_end, is_not_added, passes_log, checks, first_refusal}
 use Rattle.pm_model.proofs.Locking.{is_locked_to_read}
 
 -- the transaction over other objects, of a pool with another root
@@ -28,6 +29,7 @@ rows seen tx op not_locked past_end =
     ∷ (refusal.Spent, is_spent seen tx)
     ∷ (refusal.Deep, is_too_deep tx op)
     ∷ (refusal.LocksFull, passes_locks tx op)
+    ∷ (refusal.Unaligned, is_unaligned op)
     ∷ (refusal.NotLocked, not_locked)
     ∷ (refusal.NoObject, wants_no_place tx op)
     ∷ (refusal.Busy, is_busy seen tx op)
@@ -35,6 +37,7 @@ rows seen tx op not_locked past_end =
     ∷ (refusal.OutOfRange, past_end)
     ∷ (refusal.NotAdded, is_not_added tx op)
     ∷ (refusal.LogFull, passes_log tx op)
+    ∷ (refusal.ActionsFull, passes_actions tx op)
     ∷ []
 
 first_row : List (Refusal × Bool) → Option Refusal
@@ -64,6 +67,30 @@ same_end tx objects before root write None same held = refl
 same_end tx objects before root write (Some range) same held =
     ap (λ (bytes : List ℕ). ltb (length bytes) (range.off + range.len)) (same_bytes objects tx.pool.objects range.id.off (same range.id.off (range_held tx write range held)))
 
+-- an action whose object is the same passes its end alike
+pub same_passes : (one other : Objects) (a : Action) → object_at one (object_of a).off ≡ object_at other (object_of a).off → passes_object one a ≡ passes_object other a
+same_passes one other a same = ap (λ (bytes : List ℕ). ltb (length bytes) (end_of a)) (same_bytes one other (object_of a).off same)
+
+-- an action under a lock is of a held object
+pub action_held : (tx : Transaction) (a : Action) → is_unlocked_action tx a ≡ false → is_locked tx.locks (object_of a).off true ≡ true
+action_held tx a held =
+    (and_parts (eqb (object_of a).pool tx.pool.id) (is_locked tx.locks (object_of a).off true) (not-false (eqb (object_of a).pool tx.pool.id && is_locked tx.locks (object_of a).off true) held)).1
+
+same_ends : (tx : Transaction) (objects : Objects) (actions : List Action) → ((off : ℕ) → is_locked tx.locks off false ≡ true → object_at objects off ≡ object_at tx.pool.objects off)
+    → list_any (is_unlocked_action tx) actions ≡ false → list_any (passes_object objects) actions ≡ list_any (passes_object tx.pool.objects) actions
+same_ends tx objects [] same held = refl
+same_ends tx objects (a ∷ actions) same held =
+    let t = or_parts (is_unlocked_action tx a) (list_any (is_unlocked_action tx) actions) held in
+    let off : ℕ = (object_of a).off in
+    let one : passes_object objects a ≡ passes_object tx.pool.objects a = same_passes objects tx.pool.objects a (same off (is_locked_to_read tx.locks off true (action_held tx a t.0))) in
+    let rest : list_any (passes_object objects) actions ≡ list_any (passes_object tx.pool.objects) actions = same_ends tx objects actions same t.1 in
+    (λ i. one i || rest i)
+
+same_published : (tx : Transaction) (objects before : Objects) (root : Option ℕ) (publishes : Bool) → ((off : ℕ) → is_locked tx.locks off false ≡ true → object_at objects off ≡ object_at tx.pool.objects off)
+    → (publishes && list_any (is_unlocked_action tx) tx.actions) ≡ false → (publishes && list_any (passes_object objects) tx.actions) ≡ (publishes && list_any (passes_object tx.pool.objects) tx.actions)
+same_published tx objects before root true same held = same_ends tx objects tx.actions same held
+same_published tx objects before root false same held = refl
+
 -- objects that are the same under all held locks have the same first refusal
 pub same_refusal : (seen : Seen) (tx : Transaction) (op : Operation) (objects before : Objects) (root : Option ℕ)
     → ((off : ℕ) → is_locked tx.locks off false ≡ true → object_at objects off ≡ object_at tx.pool.objects off)
@@ -71,14 +98,19 @@ pub same_refusal : (seen : Seen) (tx : Transaction) (op : Operation) (objects be
 unfolding first_refusal first_row rows
 same_refusal seen tx op objects before root same =
     end_under_lock seen tx op (is_not_locked tx op) (passes_end (over tx objects before root) op) (passes_end tx op)
-    (same_end tx objects before root (needs_write op) (range_of op) same)
+    (λ held.
+    let t = or_parts (publishes_unlocked tx op) (option_map_or (is_lock_missing tx (needs_write op)) (range_of op) false) held in
+    let one : publishes_past_end (over tx objects before root) op ≡ publishes_past_end tx op = same_published tx objects before root (is_publish op) same t.0 in
+    let other : option_map_or (passes_end_of (over tx objects before root)) (range_of op) false ≡ option_map_or (passes_end_of tx) (range_of op) false =
+    same_end tx objects before root (needs_write op) (range_of op) same t.1 in
+    (λ i. one i || other i))
 
 -- none of them passes the test
-NonePasses : {A : Type 0} → (A → Bool) → List A → Type 0
+unfoldable pub NonePasses : {A : Type 0} → (A → Bool) → List A → Type 0
 NonePasses p [] = Unit {0}
 NonePasses p (x ∷ xs) = (p x ≡ false) × NonePasses p xs
 
-none_passes : {A : Type 0} (p : A → Bool) (xs : List A) → find p xs ≡ None → NonePasses p xs
+pub none_passes : {A : Type 0} (p : A → Bool) (xs : List A) → find p xs ≡ None → NonePasses p xs
 unfolding NonePasses
 none_passes p [] none = tt
 none_passes p (x ∷ xs) none = ⊎_elim
@@ -86,7 +118,7 @@ none_passes p (x ∷ xs) none = ⊎_elim
     (λ (off : p x ≡ false). (off, none_passes p xs (sym (ap (λ (b : Bool). cond b (Some x) (find p xs)) off) ∙ none)))
     (cases_Bool (p x))
 
-unmapped : {A B : Type 0} (f : A → B) (o : Option A) → option_map f o ≡ None → o ≡ None
+pub unmapped : {A B : Type 0} (f : A → B) (o : Option A) → option_map f o ≡ None → o ≡ None
 unmapped f None none = refl
 unmapped f (Some x) none = absurd (let clash : Some (f x) ≡ None = none in cc)
 
@@ -97,7 +129,7 @@ passed_lock seen tx op none =
     let found : Option (Refusal × Bool) = find (λ (check : Refusal × Bool). check.1) (checks seen tx op) in
     let passed : NonePasses (λ (check : Refusal × Bool). check.1) (checks seen tx op) =
     none_passes (λ (check : Refusal × Bool). check.1) (checks seen tx op) (unmapped (λ (check : Refusal × Bool). check.0) found none) in
-    passed.1.1.1.1.1.0
+    passed.1.1.1.1.1.1.0
 
 pub passed_end : (seen : Seen) (tx : Transaction) (op : Operation) → first_refusal seen tx op ≡ None → passes_end tx op ≡ false
 unfolding first_refusal NonePasses
@@ -105,7 +137,7 @@ passed_end seen tx op none =
     let found : Option (Refusal × Bool) = find (λ (check : Refusal × Bool). check.1) (checks seen tx op) in
     let passed : NonePasses (λ (check : Refusal × Bool). check.1) (checks seen tx op) =
     none_passes (λ (check : Refusal × Bool). check.1) (checks seen tx op) (unmapped (λ (check : Refusal × Bool). check.0) found none) in
-    passed.1.1.1.1.1.1.1.1.1.0
+    passed.1.1.1.1.1.1.1.1.1.1.0
 
 -- an operation that is not refused misses no object
 pub passed_missing : (seen : Seen) (tx : Transaction) (op : Operation) → first_refusal seen tx op ≡ None → is_missing seen tx op ≡ false
@@ -114,4 +146,4 @@ passed_missing seen tx op none =
     let found : Option (Refusal × Bool) = find (λ (check : Refusal × Bool). check.1) (checks seen tx op) in
     let passed : NonePasses (λ (check : Refusal × Bool). check.1) (checks seen tx op) =
     none_passes (λ (check : Refusal × Bool). check.1) (checks seen tx op) (unmapped (λ (check : Refusal × Bool). check.0) found none) in
-    passed.1.1.1.1.1.1.1.1.0
+    passed.1.1.1.1.1.1.1.1.1.0

@@ -1,18 +1,20 @@
 -- How a transaction ends: its error is told by its operations, and with an error it changed nothing.
-use Rattle.std.proofs.Common.{◌≡◌, ◌≢◌, ⊎_elim, ◌⊎◌, inl, inr, ℕ, List, [], ◌∷◌, Option, Some, None, Bool, true, false, cond, leb, MatchOption, refl, sym, ◌∙◌, ap, subst}
+use Rattle.std.proofs.Common.{◌≡◌, ◌≢◌, ⊎_elim, ◌⊎◌, inl, inr, ℕ, List, [], ◌∷◌, Option, Some, None, Bool, true, false, IsTrue, cond, leb, MatchOption, refl, sym, ◌∙◌, ap, subst}
 use Rattle.std.proofs.lemmas.Bool.{false≢true}
 use Rattle.pm_objects.specs.declared.calls.Operation.{Operation}
-use Rattle.pm_objects.specs.declared.calls.Operation.TheVariants.{Begin, AddRange, Write, Commit, Abort}
+use Rattle.pm_objects.specs.declared.calls.Operation.TheVariants.{Begin, AddRange, Write, SetValue, Publish, Cancel, Commit, Abort}
 use Rattle.pm_objects.specs.declared.history.TxErr.{TxErr}
 use Rattle.pm_objects.specs.declared.history.TxErr.TheVariants as error
 use Rattle.pm_objects.specs.declared.history.Value.{Value}
 use Rattle.pm_objects.specs.declared.history.Value.TheVariants.{Refused}
 use Rattle.pm_objects.specs.declared.pool.PoolView.{PoolView}
 use Rattle.pm_objects.specs.declared.refusal.Refusal.{Refusal}
-use Rattle.pm_model.specs.Transaction.{Transaction, at_rest, aborted, ended_inner, committed}
-use Rattle.pm_model.specs.Checks.{first_refusal}
+use Rattle.pm_model.specs.Actions.{Action, with_actions}
+use Rattle.pm_model.specs.Outside.{Outside, after_outside, stands_outside}
+use Rattle.pm_model.specs.Transaction.{Transaction, resting, aborted, ended_inner, committed}
+use Rattle.pm_model.specs.Checks.{is_action, first_refusal}
 use Rattle.pm_model.specs.Answers.{Told, performed, error_for, after, IsDone, IsRefused}
-use Rattle.pm_model.specs.Step.{State, Act, RunsOn, Runs, Step}
+use Rattle.pm_model.specs.Step.{State, Act, RunsOn, RunsFrom, Step, TransactionStep}
 use Rattle.pm_model.specs.Names.{is_refusal}
 use Rattle.pm_model.specs.Shown.{error_by, error_of, is_abort}
 use Rattle.pm_model.proofs.Alike.{after_value, after_refused, done_is_plain}
@@ -37,8 +39,14 @@ plain_error op (Some (Refused r)) rest plain none = absurd (false≢true (sym pl
 plain_error (Abort errnum) reply rest plain none = absurd (false≢true (sym none))
 plain_error op reply rest plain none = refl
 
-refused_error : (op : Operation) (reply : Option Value) (rest : TxErr) (r : Refusal) → IsRefused r reply → error_by op reply rest ≡ error.Refused r
+refused_error : (op : Operation) (reply : Option Value) (rest : TxErr) (r : Refusal) → IsRefused r reply → error_by op reply rest ≡ cond (is_action op) rest (error.Refused r)
 refused_error op reply rest r is = ap (λ (o : Option Value). error_by op o rest) is.told
+
+no_abort : (op : Operation) → IsTrue (stands_outside op) → is_abort op ≡ false
+no_abort (SetValue id off value) stands = refl
+no_abort Publish stands = refl
+no_abort Cancel stands = refl
+no_abort op stands = absurd (false≢true stands)
 
 module _ (pool : PoolView) where
   -- behind an abort nothing runs
@@ -52,7 +60,7 @@ module _ (pool : PoolView) where
 
   -- behind the outermost commit nothing runs, and an inner one goes on
   ends_committed : (told : List Told) (tx last : Transaction) → IsWhole pool tx → ((next : Transaction) → IsWhole pool next → RunsOn next told last → EndsWith pool (error_of told) last)
-      → (outermost : Bool) → RunsOn (cond outermost (at_rest tx.pool) (ended_inner (committed tx))) told last → EndsWith pool (error_of told) last
+      → (outermost : Bool) → RunsOn (cond outermost (resting (with_actions tx.moved tx.pool) tx.actions) (ended_inner (committed tx))) told last → EndsWith pool (error_of told) last
   unfolding RunsOn error_of
   ends_committed [] tx last whole rest true runs = record { is = ap (λ (t : Transaction). t.error) runs.1; change = inl (ap (λ (t : Transaction). t.error) runs.1) }
   ends_committed (t ∷ told) tx last whole rest true runs = absurd (false≢true runs.0)
@@ -74,6 +82,15 @@ module _ (pool : PoolView) where
   goes_on (Write id off bytes) reply told tx last whole plain rest runs =
       subst (λ (e : TxErr). EndsWith pool e last) (sym (plain_error (Write id off bytes) reply (error_of told) plain refl))
       (rest (performed (Write id off bytes) tx) (record { unharmed = whole.unharmed; before = whole.before }) runs)
+  goes_on (SetValue id off value) reply told tx last whole plain rest runs =
+      subst (λ (e : TxErr). EndsWith pool e last) (sym (plain_error (SetValue id off value) reply (error_of told) plain refl))
+      (rest (performed (SetValue id off value) tx) (record { unharmed = whole.unharmed; before = whole.before }) runs)
+  goes_on Publish reply told tx last whole plain rest runs =
+      subst (λ (e : TxErr). EndsWith pool e last) (sym (plain_error Publish reply (error_of told) plain refl))
+      (rest (performed Publish tx) (record { unharmed = whole.unharmed; before = whole.before }) runs)
+  goes_on Cancel reply told tx last whole plain rest runs =
+      subst (λ (e : TxErr). EndsWith pool e last) (sym (plain_error Cancel reply (error_of told) plain refl))
+      (rest (performed Cancel tx) (record { unharmed = whole.unharmed; before = whole.before }) runs)
   goes_on op reply told tx last whole plain rest runs =
       subst (λ (e : TxErr). EndsWith pool e last) (sym (plain_error op reply (error_of told) plain refl)) (rest tx whole runs)
 
@@ -85,7 +102,10 @@ module _ (pool : PoolView) where
       goes_on t.operation t.reply told tx last whole plain rest (subst (λ (o : Transaction). RunsOn o told last) (after_value t.operation t.reply tx plain) runs)
   ends_by t told tx last whole (Some r) is rest runs =
       subst (λ (e : TxErr). EndsWith pool e last) (sym (refused_error t.operation t.reply (error_of told) r is))
-      (ends_aborted (error.Refused r) told tx last whole (subst (λ (o : Transaction). RunsOn o told last) (after_refused t.operation t.reply tx r is) runs))
+      (by_action (is_action t.operation) (subst (λ (o : Transaction). RunsOn o told last) (after_refused t.operation t.reply tx r is) runs)) where
+        by_action : (b : Bool) → RunsOn (cond b tx (aborted (error.Refused r) tx)) told last → EndsWith pool (cond b (error_of told) (error.Refused r)) last
+        by_action true goes = rest tx whole goes
+        by_action false goes = ends_aborted (error.Refused r) told tx last whole goes
 
   runs_on_end : (told : List Told) (tx last : Transaction) → IsWhole pool tx → RunsOn tx told last → EndsWith pool (error_of told) last
   unfolding RunsOn error_of
@@ -94,21 +114,31 @@ module _ (pool : PoolView) where
       ends_by t told tx last whole (first_refusal runs.1.seen tx t.operation) runs.1.answer (λ next still rest. runs_on_end told next last still rest) runs.2
 
 -- the end of a transaction
-pub runs_end : (pool : PoolView) (told : List Told) (last : Transaction) → Runs pool told last → EndsWith pool (error_of told) last
-unfolding Runs
-runs_end pool [] last runs = absurd runs
-runs_end pool (t ∷ told) last runs =
-    ends_by pool t told (at_rest pool) last (record { unharmed = refl; before = refl }) (first_refusal runs.0.seen (at_rest pool) t.operation) runs.0.answer
+pub runs_end : (pool : PoolView) (actions : List Action) (told : List Told) (last : Transaction) → RunsFrom (resting pool actions) told last → EndsWith pool (error_of told) last
+unfolding RunsFrom
+runs_end pool actions [] last runs = absurd runs
+runs_end pool actions (t ∷ told) last runs =
+    ends_by pool t told (resting pool actions) last (record { unharmed = refl; before = refl }) (first_refusal runs.0.seen (resting pool actions) t.operation) runs.0.answer
     (λ next still rest. runs_on_end pool told next last still rest) runs.1
 
--- a call that ended with an error changed nothing
-pub aborted_changes_nothing : (act : Act) (s t : State) → Step s act t → error_of act.told ≢ error.None → t ≡ s
-aborted_changes_nothing act s t step fails =
-    let end : EndsWith s.pool (error_of act.told) step.last = runs_end s.pool act.told step.last step.runs in
-    step.leaves ∙ ⊎_elim
-    (λ (none : step.last.error ≡ error.None). absurd (fails (sym end.is ∙ none)))
-    (λ (same : step.last.pool ≡ s.pool). ap (λ (p : PoolView). record s { pool = p }) same)
-    end.change
+-- an operation outside of a transaction that is told as an error left the pool
+refused_outside : (op : Operation) (reply : Option Value) (s : Outside) → IsTrue (stands_outside op) → error_by op reply error.None ≢ error.None → (after_outside op reply s).pool ≡ s.pool
+refused_outside op (Some (Refused r)) s stands fails = refl
+refused_outside op (Some value) s stands fails = absurd (fails (plain_error op (Some value) error.None refl (no_abort op stands)))
+refused_outside op None s stands fails = absurd (fails (plain_error op None error.None refl (no_abort op stands)))
 
-pub error_is_told : (act : Act) (s t : State) → (step : Step s act t) → step.last.error ≡ error_of act.told
-error_is_told act s t step = (runs_end s.pool act.told step.last step.runs).is
+-- a call that ended with an error changed no pool
+pub aborted_changes_nothing : (act : Act) (s t : State) → Step s act t → error_of act.told ≢ error.None → t.pool ≡ s.pool
+unfolding error_of
+aborted_changes_nothing act s t (inl step) fails =
+    let end : EndsWith s.pool (error_of act.told) step.last = runs_end s.pool act.actions act.told step.last step.runs in
+    ap (λ (v : State). v.pool) step.leaves.leaves ∙ ⊎_elim
+    (λ (none : step.last.error ≡ error.None). absurd (fails (sym end.is ∙ none)))
+    (λ (same : step.last.pool ≡ s.pool). same)
+    end.change
+aborted_changes_nothing act s t (inr step) fails =
+    ap (λ (v : State). v.pool) step.leaves.leaves
+    ∙ refused_outside step.operation step.reply (record { pool = s.pool; actions = act.actions }) step.answers.known (λ none. fails (ap error_of step.alone ∙ none))
+
+pub error_is_told : (act : Act) (s t : State) → (step : TransactionStep s act t) → step.last.error ≡ error_of act.told
+error_is_told act s t step = (runs_end s.pool act.actions act.told step.last step.runs).is

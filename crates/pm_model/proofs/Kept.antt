@@ -1,22 +1,28 @@
 -- A transaction keeps all but the objects that it locks for writing.
-use Rattle.std.proofs.Common.{◌≡◌, ⊎_elim, ℕ, ◌+◌, ◌≤◌, List, ◌∷◌, length, map, Bool, true, false, cond, eqb, leb, ◌&&◌, refl, sym, ◌∙◌, ap}
-use Rattle.std.specs.Option.{option_map}
-use Rattle.std.proofs.lemmas.Bool.{false≢true, ne_eqb, and_parts, not-false, ltb-false}
-use Rattle.pm_objects.specs.Pool.{offsets, object_at, all_members}
+use Rattle.std.proofs.Common.{◌≡◌, ⊎_elim, ℕ, ◌+◌, ◌/◌, ◌%◌, ◌^◌, ◌≤◌, All, List, [], ◌∷◌, length, map, Some, Bool, true, false, cond, eqb, leb, ltb, ◌&&◌, refl, sym, ◌∙◌, ap, arith}
+use Rattle.std.specs.List.{list_any}
+use Rattle.std.specs.Option.{option_map, option_map_or}
+use Rattle.std.proofs.lemmas.Bool.{cases_Bool, false≢true, ne_eqb, and_parts, or_parts, not-false, ltb-false}
+use Rattle.std.proofs.lemmas.List.Elements.{All-append, All-cons, All-head, All-nil, All-tail}
+use Rattle.std.proofs.lemmas.List.FromFn.{length-map-range_with_len}
+use Rattle.pm_objects.specs.Pool.{Objects, offsets, object_at, all_members}
 use Rattle.pm_objects.specs.declared.calls.Operation.{Operation}
-use Rattle.pm_objects.specs.declared.calls.Operation.TheVariants.{Begin, AddRange, Write, Commit, Abort}
+use Rattle.pm_objects.specs.declared.calls.Operation.TheVariants.{Begin, AddRange, Write, SetValue, Publish, Cancel, Commit, Abort}
 use Rattle.pm_objects.specs.declared.history.TxErr.{TxErr}
 use Rattle.pm_objects.specs.declared.history.TxErr.TheVariants as error
+use Rattle.pm_objects.specs.declared.pool.Object.{Object}
 use Rattle.pm_objects.specs.declared.pool.PoolView.{PoolView}
-use Rattle.pm_model.specs.Transaction.{Transaction, at_rest, aborted, ended_inner, committed, is_locked}
+use Rattle.pm_model.specs.Actions.{Action, all_performed, end_of, number_bytes, object_of, passes_object, with_actions}
+use Rattle.pm_model.specs.Actions.Action.{SetWord}
+use Rattle.pm_model.specs.Transaction.{Transaction, resting, aborted, ended_inner, committed, is_locked}
 use Rattle.pm_model.specs.Bytes.{put_object, with_bytes, bytes_of}
-use Rattle.pm_model.specs.Checks.{wants_of, is_not_locked, passes_end}
+use Rattle.pm_model.specs.Checks.{wants_of, is_not_locked, is_unlocked_action, passes_end}
 use Rattle.pm_model.specs.Answers.{Told, error_for, performed, after, Answers}
-use Rattle.pm_model.specs.Step.{Runs}
+use Rattle.pm_model.specs.Step.{RunsFrom}
 use Rattle.pm_model.specs.Names.{is_wanted}
 use Rattle.pm_model.proofs.Objects.{object_at-put, offsets-put, size_of, sizes-put, members-put}
 use Rattle.pm_model.proofs.Locking.{locked_all_from}
-use Rattle.pm_model.proofs.Asked.{passed_lock, passed_end}
+use Rattle.pm_model.proofs.Asked.{action_held, passed_lock, passed_end}
 use Rattle.pm_model.proofs.Alike.{TakesWithin, takes_first, takes_rest, done_is_plain}
 use Rattle.pm_model.proofs.Running.{after_cases, runs_keep}
 
@@ -28,52 +34,116 @@ pub record IsChangedIn (W : ℕ → Bool) (from to : PoolView) : Type 0 where
   pub sizes : map size_of to.objects ≡ map size_of from.objects
   pub members : all_members to.objects ≡ all_members from.objects
 
--- both pools of a transaction are so, and its locks for writing are in W
+-- how many bytes stand at an offset, by the sizes of objects
+abbrev size_in : ℕ → List (ℕ × ℕ) → ℕ
+size_in off [] = 0
+size_in off (e ∷ es) = cond (eqb e.0 off) e.1 (size_in off es)
+
+size_by : (objects : Objects) (off : ℕ) → length (bytes_of objects off) ≡ size_in off (map size_of objects)
+size_by [] off = refl
+size_by (e ∷ objects) off = ⊎_elim
+    (λ (here : eqb e.0 off ≡ true). ap (λ (b : Bool). length (option_map_or (λ (object : Object). object.bytes) (cond b (Some e.1) (object_at objects off)) [])) here
+    ∙ sym (ap (λ (b : Bool). cond b (length e.1.bytes) (size_in off (map size_of objects))) here))
+    (λ (other : eqb e.0 off ≡ false). ap (λ (b : Bool). length (option_map_or (λ (object : Object). object.bytes) (cond b (Some e.1) (object_at objects off)) [])) other
+    ∙ (size_by objects off ∙ sym (ap (λ (b : Bool). cond b (length e.1.bytes) (size_in off (map size_of objects))) other)))
+    (cases_Bool (eqb e.0 off))
+
+pub same_size : (one other : Objects) (off : ℕ) → map size_of one ≡ map size_of other → length (bytes_of one off) ≡ length (bytes_of other off)
+same_size one other off same = size_by one off ∙ (ap (size_in off) same ∙ sym (size_by other off))
+
+-- an action sets a word of an object in W, within it
+abbrev pub MayPerform : (ℕ → Bool) → PoolView → Action → Type 0
+MayPerform W from a = (W (object_of a).off ≡ true) × (passes_object from.objects a ≡ false)
+
+-- both pools of a transaction are so, its locks for writing are in W, and what was published in it is of objects there
 pub record Keeps (W : ℕ → Bool) (from : PoolView) (tx : Transaction) : Type 0 where
   pub now : IsChangedIn W from tx.pool
   pub at_start : IsChangedIn W from tx.before
   pub held : (off : ℕ) → is_locked tx.locks off true ≡ true → W off ≡ true
+  pub moved : All (MayPerform W from) tx.moved
 
-unchanged : (W : ℕ → Bool) (pool : PoolView) → IsChangedIn W pool pool
+pub unchanged : (W : ℕ → Bool) (pool : PoolView) → IsChangedIn W pool pool
 unchanged W pool = record { else = refl; outside = λ off none. refl; places = refl; sizes = refl; members = refl }
 
-pub keeps_at_rest : (W : ℕ → Bool) (pool : PoolView) → Keeps W pool (at_rest pool)
-keeps_at_rest W pool = record { now = unchanged W pool; at_start = unchanged W pool; held = λ off h. absurd (false≢true h) }
+pub keeps_at_rest : (W : ℕ → Bool) (pool : PoolView) (actions : List Action) → Keeps W pool (resting pool actions)
+keeps_at_rest W pool actions = record { now = unchanged W pool; at_start = unchanged W pool; held = λ off h. absurd (false≢true h); moved = All-nil (MayPerform W pool) }
+
+-- new bytes inside an object of W
+put_changed : (W : ℕ → Bool) (from pool : PoolView) → IsChangedIn W from pool → (off at : ℕ) (bytes : List ℕ) → W off ≡ true → at + length bytes ≤ length (bytes_of pool.objects off)
+    → IsChangedIn W from (record pool { objects = put_object off at bytes pool.objects })
+put_changed W from pool changed off at bytes inside fits = record {
+  else = ap (λ (p : PoolView). record p { objects = put_object off at bytes pool.objects }) changed.else;
+  outside = λ x none. object_at-put off at bytes pool.objects x
+      ∙ (ap (λ (b : Bool). cond b (option_map (with_bytes at bytes) (object_at pool.objects x)) (object_at pool.objects x)) (ne_eqb x off (λ e. false≢true (sym none ∙ (ap W e ∙ inside))))
+      ∙ changed.outside x none);
+  places = offsets-put off at bytes pool.objects ∙ changed.places;
+  sizes = sizes-put off at bytes pool.objects fits ∙ changed.sizes;
+  members = members-put off at bytes pool.objects ∙ changed.members;
+}
+
+eight_bytes : (value : ℕ) → length (number_bytes value) ≡ 8
+eight_bytes value = length-map-range_with_len (λ j. value / 256 ^ j % 256) 0 8
+
+-- what actions make of a pool
+pub actions_changed : (W : ℕ → Bool) (from : PoolView) (actions : List Action) (pool : PoolView) → IsChangedIn W from pool → All (MayPerform W from) actions → IsChangedIn W from (with_actions actions pool)
+unfolding all_performed
+actions_changed W from [] pool changed may = changed
+actions_changed W from (SetWord id off value ∷ actions) pool changed may =
+    let first = All-head (MayPerform W from) (SetWord id off value) actions may in
+    let eight = eight_bytes value in
+    let same = same_size pool.objects from.objects id.off changed.sizes in
+    let within : off + 8 ≤ length (bytes_of from.objects id.off) = ltb-false (length (bytes_of from.objects id.off)) (off + 8) first.1 in
+    actions_changed W from actions (record pool { objects = put_object id.off off (number_bytes value) pool.objects })
+    (put_changed W from pool changed id.off off (number_bytes value) first.0 (omega arith))
+    (All-tail (MayPerform W from) (SetWord id off value) actions may)
+
+-- what is published is of locked objects, within them
+published_within : (W : ℕ → Bool) (from : PoolView) (tx : Transaction) → IsChangedIn W from tx.pool → ((off : ℕ) → is_locked tx.locks off true ≡ true → W off ≡ true) → (actions : List Action)
+    → list_any (is_unlocked_action tx) actions ≡ false → list_any (passes_object tx.pool.objects) actions ≡ false → All (MayPerform W from) actions
+published_within W from tx changed held [] locked ends = All-nil (MayPerform W from)
+published_within W from tx changed held (a ∷ actions) locked ends =
+    let l = or_parts (is_unlocked_action tx a) (list_any (is_unlocked_action tx) actions) locked in
+    let e = or_parts (passes_object tx.pool.objects a) (list_any (passes_object tx.pool.objects) actions) ends in
+    All-cons (MayPerform W from) a actions
+    (held (object_of a).off (action_held tx a l.0), ap (λ (n : ℕ). ltb n (end_of a)) (sym (same_size tx.pool.objects from.objects (object_of a).off changed.sizes)) ∙ e.0)
+    (published_within W from tx changed held actions l.1 e.1)
 
 module _ (W : ℕ → Bool) (from : PoolView) (tx : Transaction) (keeps : Keeps W from tx) where
   abort_keeps : (e : TxErr) → Keeps W from (aborted e tx)
-  abort_keeps e = record { now = keeps.at_start; at_start = keeps.at_start; held = keeps.held }
+  abort_keeps e = record { now = keeps.at_start; at_start = keeps.at_start; held = keeps.held; moved = All-nil (MayPerform W from) }
 
-  end_keeps : (outermost : Bool) → Keeps W from (cond outermost (at_rest tx.pool) (ended_inner (committed tx)))
-  end_keeps true = record { now = keeps.now; at_start = keeps.now; held = λ off h. absurd (false≢true h) }
-  end_keeps false = record { now = keeps.now; at_start = keeps.at_start; held = keeps.held }
-
-  -- a place that is in W is no place outside
-  elsewhere : (off x : ℕ) → W off ≡ true → W x ≡ false → eqb x off ≡ false
-  elsewhere off x inside outside = ne_eqb x off (λ e. false≢true (sym outside ∙ (ap W e ∙ inside)))
+  end_keeps : (outermost : Bool) → Keeps W from (cond outermost (resting (with_actions tx.moved tx.pool) tx.actions) (ended_inner (committed tx)))
+  end_keeps true =
+      let changed = actions_changed W from tx.moved tx.pool keeps.now keeps.moved in
+      record { now = changed; at_start = changed; held = λ off h. absurd (false≢true h); moved = All-nil (MayPerform W from) }
+  end_keeps false = record { now = keeps.now; at_start = keeps.at_start; held = keeps.held; moved = keeps.moved }
 
   put_keeps : (off at : ℕ) (bytes : List ℕ) → W off ≡ true → at + length bytes ≤ length (bytes_of tx.pool.objects off) → IsChangedIn W from (record tx.pool { objects = put_object off at bytes tx.pool.objects })
-  put_keeps off at bytes inside fits = record {
-    else = ap (λ (p : PoolView). record p { objects = put_object off at bytes tx.pool.objects }) keeps.now.else;
-    outside = λ x none. object_at-put off at bytes tx.pool.objects x
-        ∙ (ap (λ (b : Bool). cond b (option_map (with_bytes at bytes) (object_at tx.pool.objects x)) (object_at tx.pool.objects x)) (elsewhere off x inside none)
-        ∙ keeps.now.outside x none);
-    places = offsets-put off at bytes tx.pool.objects ∙ keeps.now.places;
-    sizes = sizes-put off at bytes tx.pool.objects fits ∙ keeps.now.sizes;
-    members = members-put off at bytes tx.pool.objects ∙ keeps.now.members;
-  }
+  put_keeps off at bytes inside fits = put_changed W from tx.pool keeps.now off at bytes inside fits
 
   performed_keeps : (op : Operation) → is_not_locked tx op ≡ false → passes_end tx op ≡ false → ((off : ℕ) → is_wanted (wants_of op) off true ≡ true → W off ≡ true) → Keeps W from (performed op tx)
   performed_keeps (Begin wants) locked ends within = record {
     now = keeps.now;
     at_start = keeps.at_start;
     held = λ off h. ⊎_elim (λ (w : is_wanted wants off true ≡ true). within off w) (λ (old : is_locked tx.locks off true ≡ true). keeps.held off old) (locked_all_from wants tx.locks off true h);
+    moved = keeps.moved;
   }
-  performed_keeps (AddRange id off len) locked ends within = record { now = keeps.now; at_start = keeps.at_start; held = keeps.held }
+  performed_keeps (AddRange id off len) locked ends within = record { now = keeps.now; at_start = keeps.at_start; held = keeps.held; moved = keeps.moved }
   performed_keeps (Write id off bytes) locked ends within =
       let lock : is_locked tx.locks id.off true ≡ true =
       (and_parts (eqb id.pool tx.pool.id) (is_locked tx.locks id.off true) (not-false (eqb id.pool tx.pool.id && is_locked tx.locks id.off true) locked)).1 in
-      record { now = put_keeps id.off off bytes (keeps.held id.off lock) (ltb-false (length (bytes_of tx.pool.objects id.off)) (off + length bytes) ends); at_start = keeps.at_start; held = keeps.held }
+      record { now = put_keeps id.off off bytes (keeps.held id.off lock) (ltb-false (length (bytes_of tx.pool.objects id.off)) (off + length bytes) ends); at_start = keeps.at_start; held = keeps.held; moved = keeps.moved }
+  performed_keeps (SetValue id off value) locked ends within = record { now = keeps.now; at_start = keeps.at_start; held = keeps.held; moved = keeps.moved }
+  performed_keeps Publish locked ends within =
+      let l : list_any (is_unlocked_action tx) tx.actions ≡ false = (or_parts (list_any (is_unlocked_action tx) tx.actions) false locked).0 in
+      let e : list_any (passes_object tx.pool.objects) tx.actions ≡ false = (or_parts (list_any (passes_object tx.pool.objects) tx.actions) false ends).0 in
+      record {
+        now = keeps.now;
+        at_start = keeps.at_start;
+        held = keeps.held;
+        moved = All-append (MayPerform W from) tx.moved tx.actions keeps.moved (published_within W from tx keeps.now keeps.held tx.actions l e);
+      }
+  performed_keeps Cancel locked ends within = record { now = keeps.now; at_start = keeps.at_start; held = keeps.held; moved = keeps.moved }
   performed_keeps Commit locked ends within = end_keeps (leb tx.level 1)
   performed_keeps (Abort errnum) locked ends within = abort_keeps (error_for errnum)
   performed_keeps op locked ends within = keeps
@@ -85,13 +155,13 @@ after_keeps : (W : ℕ → Bool) (from : PoolView) (t : Told) (told : List Told)
     → StillKeeps W from (t ∷ told) tx → StillKeeps W from told (after t tx)
 after_keeps W from t told tx answers holds = (
   takes_rest W true t told holds.0,
-  after_cases (Keeps W from) t tx answers
+  after_cases (Keeps W from) t tx answers holds.1
       (λ seen none done. performed_keeps W from tx holds.1 t.operation (passed_lock seen tx t.operation none) (passed_end seen tx t.operation none)
       (takes_first W true t told holds.0 (done_is_plain tx t.operation t.reply done.value)))
       (λ r. abort_keeps W from tx holds.1 (error.Refused r)),
 )
 
 -- the pool at the end is the one at the start, but for objects in W
-pub run_keeps : (W : ℕ → Bool) (from : PoolView) (told : List Told) (last : Transaction) → TakesWithin W true told → Runs from told last → IsChangedIn W from last.pool
-run_keeps W from told last within runs =
-    (runs_keep (StillKeeps W from) (after_keeps W from) told from last runs (within, keeps_at_rest W from)).1.now
+pub run_keeps : (W : ℕ → Bool) (from : PoolView) (actions : List Action) (told : List Told) (last : Transaction) → TakesWithin W true told → RunsFrom (resting from actions) told last → IsChangedIn W from last.pool
+run_keeps W from actions told last within runs =
+    (runs_keep (StillKeeps W from) (after_keeps W from) told (resting from actions) last runs (within, keeps_at_rest W from actions)).1.now

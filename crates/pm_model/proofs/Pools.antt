@@ -12,7 +12,8 @@ use Rattle.pm_objects.specs.declared.pool.PoolView.{PoolView}
 use Rattle.pm_model.specs.Step.{State, Act, Step}
 use Rattle.pm_model.specs.Names.{locks}
 use Rattle.pm_model.proofs.Objects.{size_of, present}
-use Rattle.pm_model.proofs.Kept.{IsChangedIn, run_keeps}
+use Rattle.pm_model.proofs.Kept.{IsChangedIn}
+use Rattle.pm_model.proofs.Frames.{call_changed}
 
 some_from : {A : Type 0} (o p : Option A) → is_some o ≡ is_some p → IsSome p → IsSome o
 some_from o p same is = same ∙ is
@@ -57,6 +58,5 @@ module _ (from : PoolView) (objects : Objects) (places : offsets objects ≡ off
 
 pub keeps_pool : (act : Act) (s t : State) → Step s act t → IsPool s.pool → IsPool t.pool
 keeps_pool act s t step is =
-    let changed : IsChangedIn (λ off. locks act off true) s.pool step.last.pool = run_keeps (λ off. locks act off true) s.pool act.told step.last (λ off w. w) step.runs in
-    let pool : t.pool ≡ record s.pool { objects = step.last.pool.objects } = ap (λ (v : State). v.pool) step.leaves ∙ changed.else in
-    subst IsPool (sym pool) (still_pool s.pool step.last.pool.objects changed.places changed.sizes changed.members is)
+    let changed : IsChangedIn (λ off. locks act off true) s.pool t.pool = call_changed act s t step in
+    subst IsPool (sym changed.else) (still_pool s.pool t.pool.objects changed.places changed.sizes changed.members is)

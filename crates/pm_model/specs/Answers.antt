@@ -1,8 +1,8 @@
 -- What an operation of a transaction may answer, and what it leaves.
-use Rattle.std.specs.Prelude.{◌≡◌, ℕ, ◌+◌, ◌==◌, Bool, true, false, IsTrue, IsSome, All, if◌then◌else◌, List, ◌++◌, length, Option, None, Some, MatchOption}
+use Rattle.std.specs.Prelude.{◌≡◌, ℕ, ◌+◌, ◌==◌, ◌||◌, Bool, true, false, IsTrue, IsSome, All, if◌then◌else◌, List, [], ◌∷◌, ◌++◌, length, Option, None, Some, MatchOption}
 use Rattle.pm_objects.specs.Pool.{object_at}
 use Rattle.pm_objects.specs.declared.calls.Operation.{Operation}
-use Rattle.pm_objects.specs.declared.calls.Operation.TheVariants.{Begin, AddRange, Write, Read, Commit, Abort}
+use Rattle.pm_objects.specs.declared.calls.Operation.TheVariants.{Begin, AddRange, Write, Read, SetValue, Publish, Cancel, Commit, Abort}
 use Rattle.pm_objects.specs.declared.calls.Want.{Want}
 use Rattle.pm_objects.specs.declared.history.TxErr.{TxErr}
 use Rattle.pm_objects.specs.declared.history.TxErr.TheVariants as error
@@ -12,7 +12,8 @@ use Rattle.pm_objects.specs.declared.refusal.Refusal.{Refusal}
 use Rattle.pm_objects.specs.declared.refusal.Refusal.TheVariants as refusal
 use Rattle.pm_model.specs.Transaction.{Transaction, begun, committed, aborted, ended, is_locked}
 use Rattle.pm_model.specs.Bytes.{bytes_at, bytes_of, put_object, new_words, records_of}
-use Rattle.pm_model.specs.Checks.{Seen, Range, words_in, wants_of, first_refusal}
+use Rattle.pm_model.specs.Actions.Action.{SetWord}
+use Rattle.pm_model.specs.Checks.{Seen, Range, words_in, wants_of, is_action, first_refusal}
 
 -- an operation and its reply: a value, a refusal among them, or none where it is just done
 pub record Told : Type 0 where
@@ -25,6 +26,9 @@ is_known (Begin wants) = true
 is_known (AddRange id off len) = true
 is_known (Write id off bytes) = true
 is_known (Read id off len) = true
+is_known (SetValue id off value) = true
+is_known Publish = true
+is_known Cancel = true
 is_known Commit = true
 is_known (Abort errnum) = true
 is_known op = false
@@ -53,6 +57,9 @@ abbrev pub performed : Operation → Transaction → Transaction
 performed (Begin wants) tx = begun wants tx
 performed (AddRange id off len) tx = recorded (record { id = id; off = off; len = len }) tx
 performed (Write id off bytes) tx = written id.off off bytes tx
+performed (SetValue id off value) tx = record tx { actions = tx.actions ++ SetWord id off value ∷ [] }
+performed Publish tx = record tx { moved = tx.moved ++ tx.actions; actions = [] }
+performed Cancel tx = record tx { actions = [] }
 performed Commit tx = ended (committed tx)
 performed (Abort errnum) tx = aborted (error_for errnum) tx
 performed op tx = tx
@@ -65,13 +72,13 @@ changes_nothing refusal.NoTx = true
 changes_nothing refusal.Spent = true
 changes_nothing r = false
 
--- what a refused operation leaves: all of it is aborted, with the refusal as the error
-abbrev pub refused : Refusal → Transaction → Transaction
-refused r tx = if changes_nothing r then tx else aborted (error.Refused r) tx
+-- what a refused operation leaves: all of it is aborted, with the refusal as the error, but where it is on the pending actions alone
+abbrev pub refused : Operation → Refusal → Transaction → Transaction
+refused op r tx = if is_action op || changes_nothing r then tx else aborted (error.Refused r) tx
 
 -- what an operation with its reply leaves
 abbrev pub after_reply : Operation → Option Value → Transaction → Transaction
-after_reply op (Some (Refused r)) tx = refused r tx
+after_reply op (Some (Refused r)) tx = refused op r tx
 after_reply op reply tx = performed op tx
 
 abbrev pub after : Told → Transaction → Transaction

@@ -1,13 +1,14 @@
 -- Which refusals apply to an operation of a transaction, and in which order they are looked for.
-use Rattle.std.specs.Prelude.{ℕ, ◌+◌, ◌==◌, ◌&&◌, ◌||◌, not, nat_lt, nat_le, Bool, true, false, if◌then◌else◌, List, [], ◌∷◌, length, filter, find, Option, None, Some}
+use Rattle.std.specs.Prelude.{ℕ, ◌+◌, ◌%◌, ◌==◌, ◌&&◌, ◌||◌, not, nat_lt, nat_le, Bool, true, false, if◌then◌else◌, List, [], ◌∷◌, length, filter, find, Option, None, Some}
 use Rattle.std.specs.List.{list_any, list_all}
 use Rattle.std.specs.Option.{option_map, option_map_or}
 use Rattle.pm_objects.specs.declared.calls.Operation.{Operation}
-use Rattle.pm_objects.specs.declared.calls.Operation.TheVariants.{Begin, AddRange, Write, Read}
+use Rattle.pm_objects.specs.declared.calls.Operation.TheVariants.{Begin, AddRange, Write, Read, SetValue, Publish, Cancel}
 use Rattle.pm_objects.specs.declared.calls.Want.{Want}
 use Rattle.pm_objects.specs.declared.ids.Oid.{Oid}
 use Rattle.pm_objects.specs.declared.refusal.Refusal.{Refusal}
 use Rattle.pm_objects.specs.declared.refusal.Refusal.TheVariants as refusal
+use Rattle.pm_model.specs.Actions.{Action, max_actions, max_entries, object_of, passes_object}
 use Rattle.pm_model.specs.Places.{has_place}
 use Rattle.pm_model.specs.Transaction.{Transaction, is_working, is_locked, locked_all}
 use Rattle.pm_model.specs.Bytes.{bytes_of, covered_words, is_among, new_words, records_of}
@@ -53,6 +54,16 @@ abbrev pub is_write : Operation → Bool
 is_write (Write id off bytes) = true
 is_write op = false
 
+abbrev pub is_publish : Operation → Bool
+is_publish Publish = true
+is_publish op = false
+
+-- an operation on the pending actions alone: refused, it does not abort the transaction
+abbrev pub is_action : Operation → Bool
+is_action (SetValue id off value) = true
+is_action Cancel = true
+is_action op = false
+
 -- the operation needs the lock of its object for writing
 abbrev pub needs_write : Operation → Bool
 needs_write op = is_record op || is_write op
@@ -77,12 +88,24 @@ is_too_deep tx op = is_begin op && nat_le 64 tx.level
 abbrev pub passes_locks : Transaction → Operation → Bool
 passes_locks tx op = nat_lt 64 (length (locked_all (filter (λ (want : Want). has_place tx.pool want.id) (wants_of op)) tx.locks))
 
+-- Unaligned: a word to be set is not at a multiple of 8
+abbrev pub is_unaligned : Operation → Bool
+is_unaligned (SetValue id off value) = not (off % 8 == 0)
+is_unaligned op = false
+
 -- NotLocked: the lock that the access needs is not held. None is held of an id that has no place
 abbrev pub is_lock_missing : Transaction → Bool → Range → Bool
 is_lock_missing tx write range = not (range.id.pool == tx.pool.id && is_locked tx.locks range.id.off write)
 
+-- an action is published of an object that is not locked for writing
+abbrev pub is_unlocked_action : Transaction → Action → Bool
+is_unlocked_action tx a = not ((object_of a).pool == tx.pool.id && is_locked tx.locks (object_of a).off true)
+
+abbrev pub publishes_unlocked : Transaction → Operation → Bool
+publishes_unlocked tx op = is_publish op && list_any (is_unlocked_action tx) tx.actions
+
 abbrev pub is_not_locked : Transaction → Operation → Bool
-is_not_locked tx op = option_map_or (is_lock_missing tx (needs_write op)) (range_of op) false
+is_not_locked tx op = publishes_unlocked tx op || option_map_or (is_lock_missing tx (needs_write op)) (range_of op) false
 
 -- NoObject by place: a lock is wanted of an id that has no place
 abbrev pub wants_no_place : Transaction → Operation → Bool
@@ -106,8 +129,11 @@ is_missing seen tx op = takes_first_lock tx op && seen.missing
 abbrev pub passes_end_of : Transaction → Range → Bool
 passes_end_of tx range = nat_lt (length (bytes_of tx.pool.objects range.id.off)) (range.off + range.len)
 
+abbrev pub publishes_past_end : Transaction → Operation → Bool
+publishes_past_end tx op = is_publish op && list_any (passes_object tx.pool.objects) tx.actions
+
 abbrev pub passes_end : Transaction → Operation → Bool
-passes_end tx op = option_map_or (passes_end_of tx) (range_of op) false
+passes_end tx op = publishes_past_end tx op || option_map_or (passes_end_of tx) (range_of op) false
 
 -- NotAdded: a word to be written is not recorded
 abbrev pub has_unrecorded : Transaction → Range → Bool
@@ -123,6 +149,12 @@ overfills tx range = nat_lt 64 (tx.records + length (records_of (new_words tx.re
 abbrev pub passes_log : Transaction → Operation → Bool
 passes_log tx op = is_record op && option_map_or (overfills tx) (range_of op) false
 
+-- ActionsFull: one more action would be pending than may be, or the transaction would have more entries than its log holds
+abbrev pub passes_actions : Transaction → Operation → Bool
+passes_actions tx (SetValue id off value) = nat_le max_actions (length tx.actions)
+passes_actions tx Publish = nat_lt max_entries (length tx.moved + length tx.actions + 1)
+passes_actions tx op = false
+
 -- the checks in their order. Those of calls that are not here yet come with them, each at its place. A lane that was stopped answers
 -- Stopped before them all
 abbrev pub checks : Seen → Transaction → Operation → List (Refusal × Bool)
@@ -132,6 +164,7 @@ checks seen tx op =
     ∷ (refusal.Spent, is_spent seen tx)
     ∷ (refusal.Deep, is_too_deep tx op)
     ∷ (refusal.LocksFull, passes_locks tx op)
+    ∷ (refusal.Unaligned, is_unaligned op)
     ∷ (refusal.NotLocked, is_not_locked tx op)
     ∷ (refusal.NoObject, wants_no_place tx op)
     ∷ (refusal.Busy, is_busy seen tx op)
@@ -139,6 +172,7 @@ checks seen tx op =
     ∷ (refusal.OutOfRange, passes_end tx op)
     ∷ (refusal.NotAdded, is_not_added tx op)
     ∷ (refusal.LogFull, passes_log tx op)
+    ∷ (refusal.ActionsFull, passes_actions tx op)
     ∷ []
 
 -- the refusal of the first check that applies

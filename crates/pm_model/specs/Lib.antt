@@ -1,8 +1,10 @@
 pub mod Places
+pub mod Actions
 pub mod Transaction
 pub mod Bytes
 pub mod Checks
 pub mod Answers
+pub mod Outside
 pub mod Step
 pub mod Framed
 pub mod Names

@@ -7,7 +7,10 @@ use Rattle.pm_objects.specs.declared.calls.Want.{Want}
 use Rattle.pm_objects.specs.declared.history.Value.{Value}
 use Rattle.pm_objects.specs.declared.history.Value.TheVariants.{Refused}
 use Rattle.pm_objects.specs.declared.pool.Object.{Object}
+use Rattle.pm_objects.specs.declared.refusal.Refusal.TheVariants as refusal
+use Rattle.pm_model.specs.Actions.{Action}
 use Rattle.pm_model.specs.Checks.{wants_of}
+use Rattle.pm_model.specs.Outside.{wants_outside}
 use Rattle.pm_model.specs.Answers.{Told}
 use Rattle.pm_model.specs.Step.{State, Act, Step}
 use Rattle.pm_model.specs.Framed.{IsFramed, AreApart, AreAllApart, Follows}
@@ -26,7 +29,7 @@ pub data Content : Type 0 where
   FixedIs : ℕ → List ℕ → ℕ → ℕ → Content
   RootIs : Option ℕ → Content
   ObjectIs : Option Object → Content
-  ActionsAre : List Told → Content
+  ActionsAre : List Action → Content
 
 -- what a state has under a name
 abbrev pub content : State → Name → Content
@@ -52,19 +55,31 @@ wants_taken (t ∷ told) = (if is_refusal t.reply then [] else wants_of t.operat
 abbrev pub is_wanted : List Want → ℕ → Bool → Bool
 is_wanted wants off write = list_any (λ (want : Want). want.id.off == off && (want.write || not write)) wants
 
+-- no object was found
+abbrev pub is_missed : Option Value → Bool
+is_missed (Some (Refused refusal.NoObject)) = true
+is_missed reply = false
+
+-- what it locks where it is one operation outside of a transaction, and finds it there
+abbrev pub named_by : List Action → List Told → List Want
+named_by actions [] = []
+named_by actions (t ∷ told) = if is_missed t.reply then [] else wants_outside t.operation actions
+
 -- the call locks the object at the offset, for writing if so asked
 abbrev pub locks : Act → ℕ → Bool → Bool
-locks act off write = is_wanted (wants_taken act.told) off write
+locks act off write = is_wanted (named_by act.actions act.told ++ wants_taken act.told) off write
 
--- the call's written part
+-- the call's written part: its lane's pending actions, and what it locks for writing
 abbrev pub writes : Act → Name → Bool
 writes act (ObjectAt off) = locks act off true
+writes act (ActionsOf lane) = lane == act.lane
 writes act n = false
 
 -- its written and its read part
 abbrev pub touches : Act → Name → Bool
 touches act Fixed = true
 touches act (ObjectAt off) = locks act off false
+touches act (ActionsOf lane) = lane == act.lane
 touches act n = false
 
 -- a call reads and changes its parts alone

@@ -5,6 +5,7 @@ use Rattle.pm_objects.specs.declared.calls.Want.{Want}
 use Rattle.pm_objects.specs.declared.history.TxErr.{TxErr}
 use Rattle.pm_objects.specs.declared.history.TxErr.TheVariants as error
 use Rattle.pm_objects.specs.declared.pool.PoolView.{PoolView}
+use Rattle.pm_model.specs.Actions.{Action, with_actions}
 use Rattle.pm_model.specs.declared.stage.Stage.{Stage}
 use Rattle.pm_model.specs.declared.stage.Stage.TheVariants as stage
 
@@ -25,11 +26,19 @@ pub record Transaction : Type 0 where
   -- the words that were recorded, by their numbers in the pool, and in how many records
   pub recorded : List ℕ
   pub records : ℕ
+  -- the lane's pending actions, and those that were published in the transaction: they take effect when it is committed
+  pub actions : List Action
+  pub moved : List Action
   pub error : TxErr
 
--- no transaction is open
+-- no transaction is open, and these actions are pending
+abbrev pub resting : PoolView → List Action → Transaction
+resting pool actions =
+    record { before = pool; pool = pool; level = 0; stage = stage.None; locks = []; recorded = []; records = 0; actions = actions; moved = []; error = error.None }
+
+-- and none
 abbrev pub at_rest : PoolView → Transaction
-at_rest pool = record { before = pool; pool = pool; level = 0; stage = stage.None; locks = []; recorded = []; records = 0; error = error.None }
+at_rest pool = resting pool []
 
 abbrev pub is_working : Stage → Bool
 is_working stage.Work = true
@@ -63,17 +72,18 @@ begun wants tx = record tx { level = tx.level + 1; stage = stage.Work; locks = l
 abbrev pub committed : Transaction → Transaction
 committed tx = record tx { stage = stage.OnCommit }
 
--- all of it is given up for this reason. A refused outermost begin leaves level 1
+-- all of it is given up for this reason, what was published among it. A refused outermost begin leaves level 1
 abbrev pub aborted : TxErr → Transaction → Transaction
-aborted e tx = record tx { pool = tx.before; level = if tx.level == 0 then 1 else tx.level; stage = stage.OnAbort; error = e }
+aborted e tx = record tx { pool = tx.before; level = if tx.level == 0 then 1 else tx.level; stage = stage.OnAbort; moved = []; error = e }
 
 -- an inner level is ended: what is open goes on working, unless it was aborted
 abbrev pub ended_inner : Transaction → Transaction
 ended_inner tx = record tx { level = tx.level - 1; stage = if is_unharmed tx.error then stage.Work else stage.OnAbort }
 
--- one level less: at the outermost one the locks are given back, and no transaction is open
+-- one level less: at the outermost one what was published is performed, the locks are given back, and no transaction is open. Actions that are
+-- pending stay so
 abbrev pub ended : Transaction → Transaction
-ended tx = if nat_le tx.level 1 then at_rest tx.pool else ended_inner tx
+ended tx = if nat_le tx.level 1 then resting (with_actions tx.moved tx.pool) tx.actions else ended_inner tx
 
 -- one stage on: in work it commits, at rest it changes nothing
 abbrev pub processed_from : Stage → Transaction → Transaction

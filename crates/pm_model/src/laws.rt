@@ -5,7 +5,7 @@ ghost use Rattle.pm_objects.specs.declared.history.TxErr.TheVariants.{None};
 ghost use Rattle.pm_model.specs.Places.{can_begin, CanBegin};
 ghost use Rattle.pm_model.specs.Transaction.{Transaction};
 ghost use Rattle.pm_model.specs.Answers.{changes_nothing, is_known, Answers};
-ghost use Rattle.pm_model.specs.Step.{State, Act, Step};
+ghost use Rattle.pm_model.specs.Step.{State, Act, Step, TransactionStep};
 ghost use Rattle.pm_model.specs.Framed.{MayBeLeftOut, IsUnwritten};
 ghost use Rattle.pm_model.specs.Names.{Name, content, IsMap, writes, touches, IsFramedCall, Apart, ApartFromAll, Replays};
 ghost use Rattle.pm_model.specs.Shown.{error_of};
@@ -60,10 +60,10 @@ pub fn calls_keep_pools()
     ensures { (act : Act) (s t : State) → Step s act t → IsPool s.pool → IsPool t.pool }
 {}
 
-/// A law: a call's error is told by its operations, and a call that ended with one changed nothing. No code runs.
+/// A law: a transaction's error is told by its operations, and a call that is told as an error changed no pool. No code runs.
 pub fn aborted_calls_change_nothing()
-    ensures error { (act : Act) (s t : State) → (step : Step s act t) → step.last.error ≡ error_of act.told }
-    ensures unchanged { (act : Act) (s t : State) → Step s act t → error_of act.told ≢ None → t ≡ s }
+    ensures error { (act : Act) (s t : State) → (step : TransactionStep s act t) → step.last.error ≡ error_of act.told }
+    ensures unchanged { (act : Act) (s t : State) → Step s act t → error_of act.told ≢ None → t.pool ≡ s.pool }
 {}
 
 /// A law: what a lane answers that runs alone is an answer, where its refusal is one that leaves a trace. No code runs.

@@ -1,7 +1,7 @@
 ghost use Rattle.std.specs.Prelude.{◌≡◌, ◌↔◌, IsTrue};
 
 /// An object's id, as libpmemobj(7) has it: the pool's id, and the place in bytes of the object's first data byte.
-#[derive(Clone, Copy, Debug, PartialEq, Eq)]
+#[derive(Clone, Copy, Debug, PartialEq, Eq, Default)]
 pub struct Oid {
     /// The pool's id; 0 in the null id alone.
     pub pool: u64,
