@@ -7,9 +7,10 @@ ghost use Rattle.pm_record.specs.declared.redo.Redo.{Redo};
 const WORD_BYTES: u64 = 8;
 
 /// What an entry does to its word.
-#[derive(Clone, Copy, Debug, PartialEq, Eq)]
+#[derive(Clone, Copy, Debug, PartialEq, Eq, Default, Drop)]
 pub enum Op {
     /// The word becomes the value.
+    #[default]
     Set,
     /// The value's set bits are set.
     Or,
@@ -18,7 +19,7 @@ pub enum Op {
 }
 
 /// A change of one word.
-#[derive(Clone, Copy, Debug, PartialEq, Eq)]
+#[derive(Clone, Copy, Debug, PartialEq, Eq, Default, Drop)]
 pub struct Redo {
     /// The word's place, a byte offset; a multiple of 8 in an entry that is spelled.
     pub place: u64,

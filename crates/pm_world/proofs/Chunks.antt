@@ -2,18 +2,21 @@
 use Rattle.std.proofs.Common.{◌≡◌, ℕ, ◌+◌, ◌*◌, ◌/◌, ◌%◌, ◌<◌, ◌≤◌, inr, ⊎_elim, Bool, true, false, not, cond, leb, eqb, ◌&&◌, IsTrue, IfSome, List, length, slice_index, Option, Some, None, is_some, sym, ap, ◌∙◌, subst, arith}
 use Rattle.std.proofs.lemmas.Bool.{cases_Bool, cond-true, and_from, le-leb, and_parts, leb-true, eqb-true, false≢true, false_from_ne_true}
 use Rattle.std.proofs.lemmas.List.Folds.{Any-from_list_any}
+use Rattle.pm_view.specs.Area.{is_in_area}
 use Rattle.pm_view.specs.Blocks.{zone_page, chunk_of, is_chunk, is_word, allocation_word, descriptor_word, bitmap_word, is_run, is_huge, has_block, block_at}
 use Rattle.pm_view.specs.Held.{root_word, is_under_found}
 use Rattle.pm_view.specs.Log.{Final}
+use Rattle.pm_world.specs.Entries.{is_in_log}
 use Rattle.pm_world.specs.History.{Entry, settled, is_final}
 use Rattle.pm_world.specs.Memory.{Memory}
 use Rattle.pm_world.specs.Memory.Location.{PoolWord}
 use Rattle.pm_world.specs.Opening.{Opening, Guards, IsChunk, TellsOfBlocks}
-use Rattle.pm_world.specs.Records.{is_recorded, records_generation}
+use Rattle.pm_world.specs.Records.{records_generation}
 use Rattle.pm_world.specs.World.{Views, World}
+use Rattle.pm_world.proofs.Apart.{outside_behind}
 use Rattle.pm_world.proofs.Exclusion.{writes_under}
+use Rattle.pm_world.proofs.Pairs.{in_log_written}
 use Rattle.pm_world.proofs.Replays.{replayed-other}
-use Rattle.pm_world.proofs.Slots.{word_recorded, unrecorded}
 
 -- the block that begins at a line of a chunk, by the chunk's descriptor and the word of its bitmap
 abbrev block_of : ℕ → ℕ → ℕ → Option ℕ
@@ -86,8 +89,9 @@ opening_word o mem views log decided world w (page, (chunk, tells)) inside =
     let behind : 512 + 1024 * o.lanes ≤ w = ⊎_elim (λ (e : w ≡ descriptor_word o.lanes page). omega (arith, e, first)) (λ (t : (w ≡ bitmap_word page) × IsTrue (is_run (slice_index o.words (descriptor_word o.lanes page)))). let e = t.0 in omega (arith, e, low)) tells in
     let apart : (line : ℕ) → Guards o line w → ⊥ = λ line guard. world.sound.apart line w guard (page, (chunk, tells)) in
     world.each_word w (inr (behind, subst (λ n. w < n) size inside))
-    (λ j within. let fits = world.each_lane j within in unrecorded (views j) w (false_from_ne_true (is_recorded (views j).log.records w) (λ recorded.
-    let t = writes_under o mem j (views j) w fits.locks (word_recorded (settled o log decided) (views j) (records_generation (views j).log.phase (views j)) w fits.log recorded).fits.own in apart t.0 t.1)))
+    (λ j within. let fits = world.each_lane j within in false_from_ne_true (is_in_log (views j) w) (λ logged.
+    let out : is_in_area (views j).lane w ≡ false = ap (λ n. is_in_area n w) fits.lane.lane ∙ outside_behind o.lanes j w within behind in
+    let t = writes_under o mem j (views j) w fits.locks (in_log_written (settled o log decided) (views j) (records_generation (views j).log.phase (views j)) w fits.log fits.entries out logged) in apart t.0 t.1))
     ∙ replayed-other decided log w (slice_index o.words w) (λ e there. false_from_ne_true (is_final e.difference w) (λ final.
     let t = Any-from_list_any (λ (f : Final). eqb f.word w) e.difference final in
     let f : Final = t.1 in

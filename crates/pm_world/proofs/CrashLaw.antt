@@ -1,35 +1,45 @@
 -- Every image that survives means the history without the entries that it loses.
-use Rattle.std.proofs.Common.{◌≡◌, ℕ, ◌+◌, ◌-◌, ◌*◌, ◌/◌, ◌<◌, ◌≤◌, ◌⊎◌, inl, inr, ⊎_elim, leb, ltb, Bool, true, false, not, Contains, All, List, [], length, slice_get, slice_index, Option, Some, None, refl, sym, ap, ◌∙◌, subst, arith}
+use Rattle.std.proofs.Common.{◌≡◌, ◌≢◌, ℕ, suc, ◌+◌, ◌-◌, ◌*◌, ◌/◌, ◌<◌, ◌≤◌, ◌⊎◌, inl, inr, ⊎_elim, eqb, leb, ltb, Bool, true, false, not, ◌&&◌, Contains, All, List, [], ◌∷◌, drop, length, slice_get, slice_index, Option, Some, None, refl, sym, ap, ◌∙◌, subst, arith}
 use Rattle.std.specs.List.{list_any, range_with_len}
-use Rattle.std.proofs.lemmas.Bool.{cases_Bool, and_parts, leb-true, ltb-true, eq-eqb, ne_eqb, false≢true, false_from_ne_true, not_from_false}
+use Rattle.std.proofs.lemmas.Bool.{cases_Bool, and_from, and_parts, or_cases, or_from, or_left, or_parts, or_right, leb-true, ltb-true, eq-eqb, ne_eqb, false≢true, false_from_ne_true, not_from_false}
 use Rattle.std.proofs.lemmas.Option.{none-some}
-use Rattle.std.proofs.lemmas.List.Elements.{All-contains, All-weaker}
+use Rattle.std.proofs.lemmas.List.Elements.{All-contains, All-cons, All-nil, All-weaker}
 use Rattle.std.proofs.lemmas.List.Folds.{list_any_none}
+use Rattle.pm_record.specs.declared.redo.Redo.{Redo}
 use Rattle.pm_record.specs.declared.undo.Undo.{Undo}
+use Rattle.pm_view.specs.declared.change.Change.{Change}
+use Rattle.pm_view.specs.Area.{area_word, is_in_area}
 use Rattle.pm_view.specs.Changes.{is_in_line}
-use Rattle.pm_view.specs.Log.{Phase, Recorded}
+use Rattle.pm_view.specs.Log.{Phase, Recorded, Final}
 use Rattle.pm_view.specs.Log.Phase.{Idle, Open, Drawn, Sealing, Applying, Clearing, Retiring}
+use Rattle.pm_view.specs.Rights.{is_written}
 use Rattle.pm_view.specs.View.{View}
 use Rattle.pm_image.specs.Logs as logs
 use Rattle.pm_image.specs.Logs.{generation_word, old_word, recovered, slot_line}
 use Rattle.pm_image.specs.Reads.{IsHeapWord}
 use Rattle.pm_image.specs.Steps.{valid_record}
-use Rattle.pm_world.specs.Course.{flight_in, flight}
+use Rattle.pm_image.proofs.Redoing.{entries_unsealed}
+use Rattle.pm_world.specs.Course.{flight_in, flight, is_number}
 use Rattle.pm_world.specs.Crash.{NoneTorn, Survives, is_deciding_in, is_kept, loses}
-use Rattle.pm_world.specs.Fits.{PhaseFits, EndFits, RetiringChange}
-use Rattle.pm_world.specs.History.{Entry, Flies, replayed, settled}
+use Rattle.pm_world.specs.Entries.{HasNone, applied_in, is_entered, is_in_log, is_redoing, is_redone}
+use Rattle.pm_world.specs.Fits.{PhaseFits, EndFits, RetiringChange, SealChange, SealingFits}
+use Rattle.pm_world.specs.History.{Entry, Flies, is_final, made_final, replayed, settled}
 use Rattle.pm_world.specs.Laws.{CrashLaw}
 use Rattle.pm_world.specs.Memory.{Memory}
+use Rattle.pm_world.specs.Memory.Location.{PoolWord}
 use Rattle.pm_world.specs.Opening.{Opening}
-use Rattle.pm_world.specs.Records.{IsRecordAt, generation_of, is_recorded, is_drained_slot, is_logged, records_generation}
+use Rattle.pm_world.specs.Records.{IsRecordAt, difference_of, generation_of, is_recorded, is_drained_slot, is_logged, pool_entries, records_generation}
 use Rattle.pm_world.specs.World.{Views, World}
-use Rattle.pm_world.proofs.CrashLogs.{RecordOf, record_of, recorded_from, logged_recorded, not_logged, unrecorded_unlogged, GenerationIs}
-use Rattle.pm_world.proofs.CrashRecords.{recovered_is}
+use Rattle.pm_world.proofs.CrashEntries.{HasSealed, entries_read, generation_is, none_of, of_word, redone_word, some_of, some_sealed, unentered_word}
+use Rattle.pm_world.proofs.CrashLogs.{ChangeFits, GenerationIs, RecordOf, SealIs, entry_of_word, record_of, recorded_from, logged_recorded, not_logged, unrecorded_unlogged}
+use Rattle.pm_world.proofs.CrashRecords.{generation_unsealed, recovered_unentered, unsealed}
 use Rattle.pm_world.proofs.CrashReplays.{lane_some, kept_settled, kept_new}
 use Rattle.pm_world.proofs.CrashSays.{Says, slot_says, drained_valid}
-use Rattle.pm_world.proofs.CrashWords.{recorded_fits, recorded_writes, one_recorder, behind_areas, word_stays, seal_stays, generation_is}
-use Rattle.pm_world.proofs.Exclusion.{one_writer}
+use Rattle.pm_world.proofs.CrashWords.{recorded_fits, recorded_writes, one_recorder, behind_areas, entered_writes, fits_of, seal_is, word_stays}
+use Rattle.pm_world.proofs.Differences.{SetsWhole, difference-recorded, difference-unrecorded, difference-words, made_final-whole, pool_entries-final, pool_entries-makes}
+use Rattle.pm_world.proofs.Exclusion.{WritesUnder, one_writer}
 use Rattle.pm_world.proofs.Losses.{some_lane}
+use Rattle.pm_world.proofs.Replays.{made_final-other}
 
 -- with nothing undrained each slot is drained
 pub all_drained : (v : View) (slot : ℕ) → v.changes ≡ [] → is_drained_slot v slot ≡ true
@@ -42,10 +52,38 @@ retiring_drained v slot changes =
     (list_any_none (is_in_line (slot_line v.lane slot)) v.changes
     (All-weaker (RetiringChange v) (λ c. is_in_line (slot_line v.lane slot) c ≡ false) (λ c fits. let of = fits.of in ne_eqb (c.word / 8) (slot_line v.lane slot) (λ same. omega arith)) v.changes changes))
 
+-- while the seal is stored, no slot has a change
+pub seal_drained : (v : View) (old slot : ℕ) → All (SealChange v old) v.changes → is_drained_slot v slot ≡ true
+seal_drained v old slot changes =
+    not_from_false (list_any (is_in_line (slot_line v.lane slot)) v.changes)
+    (list_any_none (is_in_line (slot_line v.lane slot)) v.changes
+    (All-weaker (SealChange v old) (λ c. is_in_line (slot_line v.lane slot) c ≡ false) (λ c fits. let of = fits.of in ne_eqb (c.word / 8) (slot_line v.lane slot) (λ same. omega arith)) v.changes changes))
+
 no_record : (v : View) (slot : ℕ) (r : Recorded) → v.log.records ≡ [] → IsRecordAt v slot r → ⊥
 no_record v slot r none at = none-some r (sym (ap (λ records. slice_get records slot) none) ∙ at)
 
+-- there is some entry
+abbrev is_some_entry : List Redo → Bool
+is_some_entry [] = false
+is_some_entry (e ∷ es) = true
+
+no_entry : (es : List Redo) → is_some_entry es ≡ false → es ≡ []
+no_entry [] e = refl
+no_entry (x ∷ es) e = absurd (false≢true (sym e))
+
+drop_all : {X : Type 0} (xs : List X) → drop (length xs) xs ≡ []
+drop_all [] = refl
+drop_all (x ∷ xs) = drop_all xs
+
+-- what holds of each entry by its place holds of all
+all_entries : (entries : List Final) → ((i : ℕ) (f : Final) → slice_get entries i ≡ Some f → SetsWhole f) → All SetsWhole entries
+all_entries [] each = All-nil SetsWhole
+all_entries (f ∷ entries) each = All-cons SetsWhole f entries (each 0 f refl) (all_entries entries (λ i g at. each (suc i) g at))
+
 module _ (o : Opening) (mem : Memory) (views : Views) (log : List Entry) (decided : ℕ → Bool) (x : World o mem views log decided) (image : List ℕ) (survives : Survives o mem views image) (whole : NoneTorn o views image) where
+  whole_entries : (k : ℕ) → k < o.lanes → All SetsWhole (views k).log.entries
+  whole_entries k inside = all_entries (views k).log.entries (λ i f at. ((x.each_lane k inside).entries.each i f at).whole)
+
   module _ (w : ℕ) (heap : IsHeapWord o.lanes o.zones w) where
     -- the word after the entries that are not lost
     abbrev Kept : ℕ
@@ -55,61 +93,198 @@ module _ (o : Opening) (mem : Memory) (views : Views) (log : List Entry) (decide
     abbrev NoSlot : Type 0
     NoSlot = (lane slot : ℕ) (u : Undo) → lane < o.lanes → slot < 64 → valid_record image lane slot ≡ Some u → logs.covers u (8 * w) ≡ false
 
+    -- no entry that is sealed in the image is of the word
+    abbrev NoEntry : Type 0
+    NoEntry = (k : ℕ) → k < o.lanes → of_word w (logs.entries image k) ≡ []
+
     outside : (w < 512) ⊎ (512 + 1024 * o.lanes ≤ w)
     outside = ⊎_elim (λ (root : w ≡ 64). inl (omega arith)) (λ (zone : (512 + 1024 * o.lanes ≤ w) × (w < 512 + 1024 * o.lanes + 33280 * o.zones)). inr zone.0) heap
 
     inside_image : w < length o.words
     inside_image = let size = x.sound.size in ⊎_elim (λ (root : w ≡ 64). omega arith) (λ (zone : (512 + 1024 * o.lanes ≤ w) × (w < 512 + 1024 * o.lanes + 33280 * o.zones)). let high = zone.1 in omega arith) heap
 
-    -- no change of the word, and no lane's log would restore it
-    plain_settled : ((k : ℕ) → k < o.lanes → is_logged (views k) w ≡ false) → slice_index image w ≡ settled o log decided w
+    -- it is in no lane's area
+    elsewhere : (k : ℕ) → k < o.lanes → is_in_area (views k).lane w ≡ false
+    elsewhere k inside = false_from_ne_true (is_in_area (views k).lane w) (λ e.
+        let t = and_parts (leb (area_word (views k).lane) w) (ltb w (area_word (views k).lane + 1024)) e in
+        let low = leb-true (area_word (views k).lane) w t.0 in
+        let high = ltb-true w (area_word (views k).lane + 1024) t.1 in
+        let at = (x.each_lane k inside).lane.lane in
+        ⊎_elim (λ (front : w < 512). omega arith) (λ (back : 512 + 1024 * o.lanes ≤ w). omega arith) outside)
+
+    -- a lane whose call is of the word may write it
+    difference_writes : (k : ℕ) → k < o.lanes → is_final (difference_of (views k)) w ≡ true → WritesUnder o mem k w
+    difference_writes k inside e =
+        ⊎_elim (λ (recorded : is_recorded (views k).log.records w ≡ true). recorded_writes o mem views log decided x k w inside recorded)
+        (λ (entered : is_final (pool_entries (views k)) w ≡ true). entered_writes o mem views log decided x k w inside outside (sym (pool_entries-final (views k) w (elsewhere k inside)) ∙ entered))
+        (or_cases (is_recorded (views k).log.records w) (is_final (pool_entries (views k)) w) (sym (difference-words (views k) w) ∙ e))
+
+    redone_writes : (k : ℕ) → k < o.lanes → is_redone (views k) w ≡ true → WritesUnder o mem k w
+    redone_writes k inside e = entered_writes o mem views log decided x k w inside outside (and_parts (is_redoing (views k).log.phase) (is_entered (views k).log.entries w) e).1
+
+    -- a lane that would redo the word locked it for writing
+    redone_written : (j : ℕ) → j < o.lanes → is_redone (views j) w ≡ true → is_written (views j) w ≡ true
+    redone_written j low e =
+        let t = entry_of_word (views j).log.entries w (and_parts (is_redoing (views j).log.phase) (is_entered (views j).log.entries w) e).1 in
+        let lane = (x.each_lane j low).lane.lane in
+        ⊎_elim (λ (written : is_written (views j) t.held.word ≡ true). subst (λ u. is_written (views j) u ≡ true) t.of written)
+        (λ (own : t.held.word ≡ area_word (views j).lane). let same = t.of in absurd (⊎_elim (λ (front : w < 512). omega arith) (λ (back : 512 + 1024 * o.lanes ≤ w). omega arith) outside))
+        ((x.each_lane j low).entries.each t.place t.held t.at).of
+
+    -- the image has no entries of a lane, or has it sealed, with the lane's own
+    entries_cases : (j : ℕ) → j < o.lanes → (logs.entries image j ≡ []) ⊎ (HasSealed (views j).log.phase × (logs.seal_word image j ≡ length (views j).log.entries))
+    entries_cases j low = by_phase (views j).log.phase (seal_is o mem views log decided x image survives j low) where
+      none : logs.seal_word image j ≡ 0 → logs.entries image j ≡ []
+      none zero_seal = entries_unsealed image j (unsealed image j zero_seal)
+
+      by_phase : (phase : Phase) → SealIs (views j) (logs.seal_word image j) phase → (logs.entries image j ≡ []) ⊎ (HasSealed phase × (logs.seal_word image j ≡ length (views j).log.entries))
+      by_phase Idle seal = inl (none seal)
+      by_phase (Open slot pair) seal = inl (none seal)
+      by_phase Drawn seal = inl (none seal)
+      by_phase Sealing (inl full) = inr (tt, full)
+      by_phase Sealing (inr zero_seal) = inl (none zero_seal)
+      by_phase (Applying applied) seal = inr (tt, seal)
+      by_phase Clearing (inl full) = inr (tt, full)
+      by_phase Clearing (inr zero_seal) = inl (none zero_seal)
+      by_phase Retiring seal = inl (none seal)
+
+    -- none of a lane's sealed entries is of the word where none of its entries is
+    no_other : (j : ℕ) → j < o.lanes → (is_final (views j).log.entries w ≡ true → ⊥) → of_word w (logs.entries image j) ≡ []
+    no_other j low never =
+        ⊎_elim (λ (none : logs.entries image j ≡ []). ap (of_word w) none)
+        (λ (sealed : HasSealed (views j).log.phase × (logs.seal_word image j ≡ length (views j).log.entries)).
+        ap (of_word w) (entries_read o mem views log decided x image survives j low sealed.0 sealed.1) ∙ none_of (views j).log.entries w (false_from_ne_true (is_final (views j).log.entries w) never))
+        (entries_cases j low)
+
+    -- no change of the word, and it is in no lane's log
+    plain_settled : ((k : ℕ) → k < o.lanes → is_in_log (views k) w ≡ false) → slice_index image w ≡ settled o log decided w
     plain_settled unlogged =
-        word_stays o mem views log decided x image survives w inside_image outside (λ k c inside there is logged. false≢true (sym (unlogged k inside) ∙ logged))
+        word_stays o mem views log decided x image survives w inside_image outside
+        (λ k c inside there is logs_it. let t = or_parts (is_logged (views k) w) (is_redone (views k) w) (unlogged k inside) in
+        ⊎_elim (λ (logged : is_logged (views k) w ≡ true). false≢true (sym t.0 ∙ logged)) (λ (redone : (is_redone (views k) w ≡ true) × (is_written (views k) w ≡ true)). false≢true (sym t.1 ∙ redone.0)) logs_it)
         ∙ x.each_word w heap unlogged
 
-    -- nobody recorded the word
-    plain_unrecorded : ((k : ℕ) → k < o.lanes → is_recorded (views k).log.records w ≡ false) → slice_index image w ≡ Kept
-    plain_unrecorded none =
-        plain_settled (λ k inside. unrecorded_unlogged (views k) w (none k inside))
-        ∙ sym (kept_settled o mem views log decided x image w (λ k n inside recorded flies. absurd (false≢true (sym (none k inside) ∙ recorded))))
+    -- a sealed entry of the word in the image
+    entered_there : (k : ℕ) → k < o.lanes → HasSealed (views k).log.phase → logs.seal_word image k ≡ length (views k).log.entries → is_final (views k).log.entries w ≡ true → NoEntry → ⊥
+    entered_there k inside sealed full of none =
+        let t = some_of (views k).log.entries w of in
+        false≢true (ap is_some_entry (sym (none k inside) ∙ (ap (of_word w) (entries_read o mem views log decided x image survives k inside sealed full) ∙ t.2)))
 
-    module _ (k : ℕ) (inside : k < o.lanes) (t : RecordOf (views k) w) where
+    -- a call in flight that only enters the word, and whose entries are not sealed in the image, is lost
+    entered_lost : NoEntry → (k n : ℕ) (phase : Phase) → k < o.lanes → (views k).log.phase ≡ phase → HasNone phase (views k) → SealIs (views k) (logs.seal_word image k) phase
+        → is_final (views k).log.entries w ≡ true → flight_in phase (views k).number ≡ Some n → (is_number (views k).number n && not (is_deciding_in image (views k) phase)) ≡ true
+    entered_lost none k n Idle inside is without seal of flies = absurd (none-some n flies)
+    entered_lost none k n (Open slot pair) inside is without seal of flies = absurd (none-some n flies)
+    entered_lost none k n Drawn inside is without seal of flies = and_from (is_number (views k).number n) true (ap (λ m. is_number m n) flies ∙ eq-eqb n n refl) refl
+    entered_lost none k n Sealing inside is without seal of flies =
+        ⊎_elim (λ (full : logs.seal_word image k ≡ length (views k).log.entries). absurd (entered_there k inside (subst HasSealed (sym is) tt) full of none))
+        (λ (zero_seal : logs.seal_word image k ≡ 0).
+        and_from (is_number (views k).number n) (not (not (eqb (logs.seal_word image (views k).lane) 0))) (ap (λ m. is_number m n) flies ∙ eq-eqb n n refl)
+        (ap (λ b. not (not b)) (eq-eqb (logs.seal_word image (views k).lane) 0 (ap (logs.seal_word image) (x.each_lane k inside).lane.lane ∙ zero_seal)))) seal
+    entered_lost none k n (Applying applied) inside is without seal of flies = absurd (none-some n flies)
+    entered_lost none k n Clearing inside is without seal of flies = absurd (none-some n flies)
+    entered_lost none k n Retiring inside is without seal of flies = absurd (false≢true (ap (λ es. is_final es w) (sym without) ∙ of))
+
+    unrecorded_lost : NoEntry → ((k : ℕ) → k < o.lanes → is_recorded (views k).log.records w ≡ false) → (k n : ℕ) → k < o.lanes → is_final (difference_of (views k)) w ≡ true → flight (views k) ≡ Some n → loses image (views k) n ≡ true
+    unrecorded_lost none unrecorded k n inside of flies =
+        ⊎_elim (λ (recorded : is_recorded (views k).log.records w ≡ true). absurd (false≢true (sym (unrecorded k inside) ∙ recorded)))
+        (λ (entered : is_final (pool_entries (views k)) w ≡ true).
+        entered_lost none k n (views k).log.phase inside refl (x.each_lane k inside).entries.none (seal_is o mem views log decided x image survives k inside) (sym (pool_entries-final (views k) w (elsewhere k inside)) ∙ entered) flies)
+        (or_cases (is_recorded (views k).log.records w) (is_final (pool_entries (views k)) w) (sym (difference-words (views k) w) ∙ of))
+
+    -- nobody recorded the word, and one lane would redo it, whose seal the image does not have
+    plain_cleared : NoEntry → ((k : ℕ) → k < o.lanes → is_recorded (views k).log.records w ≡ false) → (k : ℕ) (phase : Phase) → k < o.lanes → (views k).log.phase ≡ phase → is_redone (views k) w ≡ true
+        → SealIs (views k) (logs.seal_word image k) phase → ((c : Change) → Contains (views k).changes c → ChangeFits (views k) c phase) → slice_index image w ≡ settled o log decided w
+    plain_cleared none unrecorded k Idle inside is redone seal fits = absurd (false≢true (ap is_redoing (sym is) ∙ (and_parts (is_redoing (views k).log.phase) _ redone).0))
+    plain_cleared none unrecorded k (Open slot pair) inside is redone seal fits = absurd (false≢true (ap is_redoing (sym is) ∙ (and_parts (is_redoing (views k).log.phase) _ redone).0))
+    plain_cleared none unrecorded k Drawn inside is redone seal fits = absurd (false≢true (ap is_redoing (sym is) ∙ (and_parts (is_redoing (views k).log.phase) _ redone).0))
+    plain_cleared none unrecorded k Sealing inside is redone seal fits = absurd (false≢true (ap is_redoing (sym is) ∙ (and_parts (is_redoing (views k).log.phase) _ redone).0))
+    plain_cleared none unrecorded k (Applying applied) inside is redone seal fits =
+        absurd (entered_there k inside (subst HasSealed (sym is) tt) seal (and_parts (is_redoing (views k).log.phase) (is_entered (views k).log.entries w) redone).1 none)
+    plain_cleared none unrecorded k Clearing inside is redone seal fits =
+        ⊎_elim (λ (full : logs.seal_word image k ≡ length (views k).log.entries).
+        absurd (entered_there k inside (subst HasSealed (sym is) tt) full (and_parts (is_redoing (views k).log.phase) (is_entered (views k).log.entries w) redone).1 none))
+        (λ (zero_seal : logs.seal_word image k ≡ 0).
+        let at = (x.each_lane k inside).lane.lane in
+        let mine = redone_writes k inside redone in
+        let stays = word_stays o mem views log decided x image survives w inside_image outside
+        (λ j c j_inside there of logs_it. ⊎_elim (λ (logged : is_logged (views j) w ≡ true). false≢true (sym (unrecorded j j_inside) ∙ logged_recorded (views j) w logged))
+        (λ (other : (is_redone (views j) w ≡ true) × (is_written (views j) w ≡ true)).
+        let same : j ≡ k = one_writer o mem j k w x.sound (redone_writes j j_inside other.0) mine in
+        let fit = fits c (subst (λ i. Contains (views i).changes c) same there) in
+        let seal_word_of = fit.of in
+        ⊎_elim (λ (front : w < 512). omega arith) (λ (back : 512 + 1024 * o.lanes ≤ w). omega arith) outside) logs_it) in
+        let r = (x.each_lane k inside).redone w redone (redone_written k inside redone) in
+        let all : drop (applied_in (views k).log.phase (views k)) (views k).log.entries ≡ [] = ap (λ p. drop (applied_in p (views k)) (views k).log.entries) is ∙ drop_all (views k).log.entries in
+        stays ∙ (sym (made_final-other [] w (mem (PoolWord w)) refl) ∙ (ap (λ es. made_final es w (mem (PoolWord w))) (sym all) ∙ r.rest))) seal
+    plain_cleared none unrecorded k Retiring inside is redone seal fits = absurd (false≢true (ap is_redoing (sym is) ∙ (and_parts (is_redoing (views k).log.phase) _ redone).0))
+
+    -- nobody recorded the word
+    plain_unrecorded : NoEntry → ((k : ℕ) → k < o.lanes → is_recorded (views k).log.records w ≡ false) → slice_index image w ≡ Kept
+    plain_unrecorded none unrecorded =
+        ⊎_elim (λ (some : list_any (λ k. is_redone (views k) w) (range_with_len 0 o.lanes) ≡ true).
+        let l = some_lane (λ k. is_redone (views k) w) 0 o.lanes some in
+        let inside : l.0 < o.lanes = omega (arith, l.2) in
+        plain_cleared none unrecorded l.0 (views l.0).log.phase inside refl l.3 (seal_is o mem views log decided x image survives l.0 inside) (λ c there. fits_of o mem views log decided x l.0 c inside there))
+        (λ (nobody : list_any (λ k. is_redone (views k) w) (range_with_len 0 o.lanes) ≡ false).
+        plain_settled (λ k inside. or_from (is_logged (views k) w) (is_redone (views k) w) (unrecorded_unlogged (views k) w (unrecorded k inside))
+        (false_from_ne_true (is_redone (views k) w) (λ redone. false≢true (sym nobody ∙ lane_some (λ j. is_redone (views j) w) o.lanes k inside redone)))))
+        (cases_Bool (list_any (λ k. is_redone (views k) w) (range_with_len 0 o.lanes)))
+        ∙ sym (kept_settled o mem views log decided x image w (unrecorded_lost none unrecorded))
+
+    module _ (none_there : NoEntry) (k : ℕ) (inside : k < o.lanes) (t : RecordOf (views k) w) where
       recorded : is_recorded (views k).log.records w ≡ true
       recorded = recorded_from (views k) w t.slot t.held t.at t.of
 
+      mine : WritesUnder o mem k w
+      mine = recorded_writes o mem views log decided x k w inside recorded
+
       only : (j : ℕ) → j < o.lanes → is_recorded (views j).log.records w ≡ true → j ≡ k
       only j j_inside other = one_recorder o mem views log decided x j k w j_inside inside other recorded
+
+      only_redone : (j : ℕ) → j < o.lanes → is_redone (views j) w ≡ true → j ≡ k
+      only_redone j j_inside other = one_writer o mem j k w x.sound (redone_writes j j_inside other) mine
+
+      of_difference : is_final (difference_of (views k)) w ≡ true
+      of_difference = difference-words (views k) w ∙ or_left (is_recorded (views k).log.records w) (is_final (pool_entries (views k)) w) recorded
 
       -- its call is not in flight, so the word is to be as it was settled
       kept_as_settled : ((n : ℕ) → flight (views k) ≡ Some n → ⊥) → Kept ≡ settled o log decided w
       kept_as_settled rests =
           kept_settled o mem views log decided x image w
-          (λ j n j_inside other flies. absurd (rests n (subst (λ i. flight (views i) ≡ Some n) (only j j_inside other) flies)))
+          (λ j n j_inside other flies. absurd (rests n (subst (λ i. flight (views i) ≡ Some n) (one_writer o mem j k w x.sound (difference_writes j j_inside other) mine) flies)))
+
+      -- nobody changed the word, where the lane's changes are of none of its log
+      stays : is_redoing (views k).log.phase ≡ false → ((c : Change) → Contains (views k).changes c → c.word ≡ w → ⊥) → slice_index image w ≡ mem (PoolWord w)
+      stays early away =
+          word_stays o mem views log decided x image survives w inside_image outside
+          (λ j c j_inside there of logs_it.
+          ⊎_elim (λ (logged : is_logged (views j) w ≡ true). let same = only j j_inside (logged_recorded (views j) w logged) in away c (subst (λ i. Contains (views i).changes c) same there) of)
+          (λ (redone : (is_redone (views j) w ≡ true) × (is_written (views j) w ≡ true)).
+          let same = only_redone j j_inside redone.0 in
+          false≢true (sym early ∙ subst (λ i. is_redoing (views i).log.phase ≡ true) same (and_parts (is_redoing (views j).log.phase) (is_entered (views j).log.entries w) redone.0).0)) logs_it)
 
       -- the record is not drained, so the word was not written
-      plain_undrained : is_drained_slot (views k) t.slot ≡ false → ((n : ℕ) → flight (views k) ≡ Some n → ⊥) → slice_index image w ≡ Kept
-      plain_undrained undrained rests =
+      plain_undrained : is_redoing (views k).log.phase ≡ false → is_drained_slot (views k) t.slot ≡ false → ((n : ℕ) → flight (views k) ≡ Some n → ⊥) → slice_index image w ≡ Kept
+      plain_undrained early undrained rests =
           let here : is_logged (views k) w ≡ false = not_logged (views k) w (λ slot r at of.
           let same : slot ≡ t.slot = (x.each_lane k inside).log.once slot t.slot r t.held w at t.at of t.of in
           ap (is_drained_slot (views k)) same ∙ undrained) in
-          plain_settled (λ j j_inside. false_from_ne_true (is_logged (views j) w) (λ logged.
+          plain_settled (λ j j_inside. or_from (is_logged (views j) w) (is_redone (views j) w)
+          (false_from_ne_true (is_logged (views j) w) (λ logged.
           let same = only j j_inside (logged_recorded (views j) w logged) in
           false≢true (sym here ∙ subst (λ i. is_logged (views i) w ≡ true) same logged)))
+          (false_from_ne_true (is_redone (views j) w) (λ redone.
+          let same = only_redone j j_inside redone in
+          false≢true (sym early ∙ subst (λ i. is_redoing (views i).log.phase ≡ true) same (and_parts (is_redoing (views j).log.phase) (is_entered (views j).log.entries w) redone).0))))
           ∙ sym (kept_as_settled rests)
 
-      -- the image has the next generation, and the word as the call left it
-      plain_ended : All (RetiringChange (views k)) (views k).changes → slice_index image w ≡ slice_index (views k).words w
-      plain_ended changes =
-          let fits = recorded_fits o mem views log decided x k w inside t in
-          let behind = behind_areas o mem views log decided x k w (recorded_writes o mem views log decided x k w inside recorded) in
-          let at = (x.each_lane k inside).lane.lane in
-          word_stays o mem views log decided x image survives w inside_image outside
-          (λ j c j_inside there is logged.
-          let same = only j j_inside (logged_recorded (views j) w logged) in
-          let fit = All-contains (RetiringChange (views k)) (views k).changes c changes (subst (λ i. Contains (views i).changes c) same there) in
-          let of = fit.of in
-          omega arith)
-          ∙ (x.each_lane k inside).picture.known w fits.known
+      -- the word as the call left it
+      plain_left : is_redoing (views k).log.phase ≡ false → ((c : Change) → Contains (views k).changes c → c.word ≡ w → ⊥) → slice_index image w ≡ slice_index (views k).words w
+      plain_left early away = stays early away ∙ (x.each_lane k inside).picture.known w (recorded_fits o mem views log decided x k w inside t).known
+
+      behind : 512 + 1024 * o.lanes ≤ w
+      behind = behind_areas o mem views log decided x k w mine
 
       plain_end : (number : Option ℕ) → (views k).number ≡ number → (views k).log.phase ≡ Retiring → is_deciding_in image (views k) Retiring ≡ true
           → EndFits (Flies log decided k) (views k) number → slice_index (views k).words w ≡ Kept
@@ -122,46 +297,69 @@ module _ (o : Opening) (mem : Memory) (views : Views) (log : List Entry) (decide
           sym (ap (slice_index (views k).words) same) ∙ (restored t.slot t.held (w - t.held.word) t.at (omega arith) ∙ (fits.before
           ∙ sym (kept_as_settled (λ n flies. none-some n (sym (ap (λ p. flight_in p (views k).number) ends ∙ is) ∙ flies)))))
       plain_end (Some n) is ends deciding flies =
-          sym (kept_new o mem views log decided x image k n w inside (ap (is_deciding_in image (views k)) ends ∙ deciding) flies recorded)
+          let unentered : (views k).log.entries ≡ [] = subst (λ p. HasNone p (views k)) ends (x.each_lane k inside).entries.none in
+          sym (kept_new o mem views log decided x image k n w (slice_index (views k).words w) inside (ap (is_deciding_in image (views k)) ends ∙ deciding) flies of_difference
+          (λ z. difference-recorded (views k) w z recorded ∙ (pool_entries-makes (views k) w (slice_index (views k).words w) (elsewhere k inside)
+          ∙ made_final-other (views k).log.entries w (slice_index (views k).words w) (ap (λ es. is_final es w) unentered))))
+
+      -- the seal is in the image, and no entry is of the word
+      plain_sealed : (views k).log.phase ≡ Sealing → SealingFits (Flies log decided k) (views k) → logs.seal_word image k ≡ length (views k).log.entries → logs.seal_word image k ≢ 0 → slice_index (views k).words w ≡ Kept
+      plain_sealed is fits full some =
+          let at = (x.each_lane k inside).lane.lane in
+          let unentered : is_final (views k).log.entries w ≡ false = false_from_ne_true (is_final (views k).log.entries w) (λ of. entered_there k inside (subst HasSealed (sym is) tt) full of none_there) in
+          let deciding : not (eqb (logs.seal_word image (views k).lane) 0) ≡ true = not_from_false (eqb (logs.seal_word image (views k).lane) 0) (ne_eqb (logs.seal_word image (views k).lane) 0 (λ zero_seal. some (sym (ap (logs.seal_word image) at) ∙ zero_seal))) in
+          sym (kept_new o mem views log decided x image k fits.number w (slice_index (views k).words w) inside (ap (is_deciding_in image (views k)) is ∙ deciding) fits.flying of_difference
+          (λ z. difference-recorded (views k) w z recorded ∙ (pool_entries-makes (views k) w (slice_index (views k).words w) (elsewhere k inside) ∙ made_final-other (views k).log.entries w (slice_index (views k).words w) unentered)))
 
       -- a drained record would be valid in the image
-      valid_there : (phase : Phase) → (views k).log.phase ≡ phase → is_drained_slot (views k) t.slot ≡ true → generation_word image k ≡ records_generation phase (views k) → NoSlot → ⊥
+      valid_there : (phase : Phase) → (views k).log.phase ≡ phase → is_drained_slot (views k) t.slot ≡ true → logs.generation image k ≡ records_generation phase (views k) → NoSlot → ⊥
       valid_there phase is drained same none =
           drained_valid o mem views log decided x image survives whole k w inside t drained (same ∙ ap (λ p. records_generation p (views k)) (sym is)) (λ slot u within valid. none k slot u inside within valid)
 
       -- without a valid slot the word is as it is to be, by how far the call has come
-      plain_recorded : (phase : Phase) → (views k).log.phase ≡ phase → PhaseFits (Flies log decided k) (views k) phase → GenerationIs (views k) (generation_word image k) phase → NoSlot → slice_index image w ≡ Kept
-      plain_recorded Idle is fits generation none = absurd (no_record (views k) t.slot t.held fits.no_records t.at)
-      plain_recorded (Open slot pair) is fits generation none =
+      plain_recorded : (phase : Phase) → (views k).log.phase ≡ phase → PhaseFits (Flies log decided k) (views k) phase → SealIs (views k) (logs.seal_word image k) phase
+          → GenerationIs (views k) (logs.seal_word image k) (logs.generation image k) phase → NoSlot → slice_index image w ≡ Kept
+      plain_recorded Idle is fits seal generation none = absurd (no_record (views k) t.slot t.held fits.no_records t.at)
+      plain_recorded (Open slot pair) is fits seal generation none =
           ⊎_elim (λ (drained : is_drained_slot (views k) t.slot ≡ true). absurd (valid_there (Open slot pair) is drained generation none))
-          (λ (undrained : is_drained_slot (views k) t.slot ≡ false). plain_undrained undrained (λ n flies. none-some n (sym (ap (λ p. flight_in p (views k).number) is) ∙ flies)))
+          (λ (undrained : is_drained_slot (views k) t.slot ≡ false). plain_undrained (ap is_redoing is) undrained (λ n flies. none-some n (sym (ap (λ p. flight_in p (views k).number) is) ∙ flies)))
           (cases_Bool (is_drained_slot (views k) t.slot))
-      plain_recorded Drawn is fits generation none = absurd (valid_there Drawn is (all_drained (views k) t.slot fits.drained) generation none)
-      plain_recorded Sealing is fits generation none = absurd fits
-      plain_recorded (Applying applied) is fits generation none = absurd fits
-      plain_recorded Clearing is fits generation none = absurd fits
-      plain_recorded Retiring is fits generation none =
+      plain_recorded Drawn is fits seal generation none = absurd (valid_there Drawn is (all_drained (views k) t.slot fits.drained) generation none)
+      plain_recorded Sealing is fits seal generation none =
+          let at = (x.each_lane k inside).lane.lane in
+          ⊎_elim (λ (lost : (logs.seal_word image k ≡ 0) × (logs.generation image k ≡ generation_of (views k))). absurd (valid_there Sealing is (seal_drained (views k) 0 t.slot fits.changes) lost.1 none))
+          (λ (kept : (logs.seal_word image k ≢ 0) × (logs.generation image k ≡ generation_of (views k) + 1)).
+          let full : logs.seal_word image k ≡ length (views k).log.entries = ⊎_elim (λ (f : logs.seal_word image k ≡ length (views k).log.entries). f) (λ (z : logs.seal_word image k ≡ 0). absurd (kept.0 z)) seal in
+          plain_left (ap is_redoing is) (λ c there of. let fit = All-contains (SealChange (views k) 0) (views k).changes c fits.changes there in let o_ = fit.of in let b = behind in omega arith)
+          ∙ plain_sealed is fits full kept.0) generation
+      plain_recorded (Applying applied) is fits seal generation none = absurd (no_record (views k) t.slot t.held fits.no_records t.at)
+      plain_recorded Clearing is fits seal generation none = absurd (no_record (views k) t.slot t.held fits.no_records t.at)
+      plain_recorded Retiring is fits seal generation none =
+          let at = (x.each_lane k inside).lane.lane in
           ⊎_elim
-          (λ (next : generation_word image k ≡ generation_of (views k)).
-          let deciding : is_deciding_in image (views k) Retiring ≡ true = eq-eqb (generation_word image (views k).lane) (generation_of (views k)) (ap (generation_word image) (x.each_lane k inside).lane.lane ∙ next) in
-          plain_ended fits.changes ∙ plain_end (views k).number refl is deciding fits.ends)
-          (λ (before : generation_word image k + 1 ≡ generation_of (views k)).
-          let last : generation_word image k ≡ generation_of (views k) - 1 = omega arith in
+          (λ (next : logs.generation image k ≡ generation_of (views k)).
+          let deciding : is_deciding_in image (views k) Retiring ≡ true = eq-eqb (generation_word image (views k).lane) (generation_of (views k))
+          (ap (generation_word image) at ∙ (sym (generation_unsealed image k seal) ∙ next)) in
+          plain_left (ap is_redoing is) (λ c there of. let fit = All-contains (RetiringChange (views k)) (views k).changes c fits.changes there in let o_ = fit.of in let b = behind in omega arith)
+          ∙ plain_end (views k).number refl is deciding fits.ends)
+          (λ (before : logs.generation image k + 1 ≡ generation_of (views k)).
+          let last : logs.generation image k ≡ generation_of (views k) - 1 = omega arith in
           absurd (valid_there Retiring is (retiring_drained (views k) t.slot fits.changes) last none))
           generation
 
-    by_recorder : NoSlot → list_any (λ k. is_recorded (views k).log.records w) (range_with_len 0 o.lanes) ≡ true → slice_index image w ≡ Kept
-    by_recorder none some =
+    by_recorder : NoEntry → NoSlot → list_any (λ k. is_recorded (views k).log.records w) (range_with_len 0 o.lanes) ≡ true → slice_index image w ≡ Kept
+    by_recorder none_there none some =
         let l = some_lane (λ k. is_recorded (views k).log.records w) 0 o.lanes some in
         let inside : l.0 < o.lanes = omega (arith, l.2) in
-        plain_recorded l.0 inside (record_of (views l.0) w l.3) (views l.0).log.phase refl (x.each_lane l.0 inside).phase (generation_is o mem views log decided x image survives l.0 inside) none
+        plain_recorded none_there l.0 inside (record_of (views l.0) w l.3) (views l.0).log.phase refl (x.each_lane l.0 inside).phase (seal_is o mem views log decided x image survives l.0 inside)
+        (generation_is o mem views log decided x image survives l.0 inside) none
 
-    -- without a valid slot the image has the word
-    plain : NoSlot → slice_index image w ≡ Kept
-    plain none =
-        ⊎_elim (by_recorder none)
+    -- without a valid slot, and an entry, the image has the word
+    plain : NoEntry → NoSlot → slice_index image w ≡ Kept
+    plain none_there none =
+        ⊎_elim (by_recorder none_there none)
         (λ (nobody : list_any (λ k. is_recorded (views k).log.records w) (range_with_len 0 o.lanes) ≡ false).
-        plain_unrecorded (λ k inside. false_from_ne_true (is_recorded (views k).log.records w) (λ recorder. false≢true (sym nobody ∙ lane_some (λ j. is_recorded (views j).log.records w) o.lanes k inside recorder))))
+        plain_unrecorded none_there (λ k inside. false_from_ne_true (is_recorded (views k).log.records w) (λ recorder. false≢true (sym nobody ∙ lane_some (λ j. is_recorded (views j).log.records w) o.lanes k inside recorder))))
         (cases_Bool (list_any (λ k. is_recorded (views k).log.records w) (range_with_len 0 o.lanes)))
 
     -- a valid slot says what the word was before its lane's call, which is lost
@@ -170,11 +368,70 @@ module _ (o : Opening) (mem : Memory) (views : Views) (log : List Entry) (decide
         let says : Says o mem views log decided x image survives whole k w u = slot_says o mem views log decided x image survives whole k slot w u inside within heap valid covering in
         says.was
         ∙ sym (kept_settled o mem views log decided x image w (λ j n j_inside other flies.
-        let same : j ≡ k = one_writer o mem j k w x.sound (recorded_writes o mem views log decided x j w j_inside other) says.writes in
+        let same : j ≡ k = one_writer o mem j k w x.sound (difference_writes j j_inside other) says.writes in
         subst (λ i. loses image (views i) n ≡ true) (sym same) (says.loses_flight n (subst (λ i. flight (views i) ≡ Some n) same flies))))
 
+    -- the lane's entries are sealed in the image, and one of them is of the word
+    module _ (k : ℕ) (inside : k < o.lanes) (of : is_final (views k).log.entries w ≡ true) where
+      enterer : WritesUnder o mem k w
+      enterer = entered_writes o mem views log decided x k w inside outside of
+
+      -- the call is decided: what its entries make of the word is settled
+      redoing_kept : (phase : Phase) → (views k).log.phase ≡ phase → is_redoing phase ≡ true → ((n : ℕ) → flight_in phase (views k).number ≡ Some n → ⊥) → made_final (views k).log.entries w (slice_index image w) ≡ Kept
+      redoing_kept phase is redoing rests =
+          let redone : is_redone (views k) w ≡ true = and_from (is_redoing (views k).log.phase) (is_entered (views k).log.entries w) (ap is_redoing is ∙ redoing) of in
+          ((x.each_lane k inside).redone w redone (redone_written k inside redone)).again (slice_index image w)
+          ∙ sym (kept_settled o mem views log decided x image w (λ j n low other flies.
+          let same : j ≡ k = one_writer o mem j k w x.sound (difference_writes j low other) enterer in
+          absurd (rests n (sym (ap (λ p. flight_in p (views k).number) is) ∙ subst (λ i. flight (views i) ≡ Some n) same flies))))
+
+      -- what the entries make of the word is what it is to be
+      redone_kept : (phase : Phase) → (views k).log.phase ≡ phase → HasSealed phase → PhaseFits (Flies log decided k) (views k) phase → logs.seal_word image k ≢ 0 → made_final (views k).log.entries w (slice_index image w) ≡ Kept
+      redone_kept Idle is sealed fits some = absurd sealed
+      redone_kept (Open slot pair) is sealed fits some = absurd sealed
+      redone_kept Drawn is sealed fits some = absurd sealed
+      redone_kept Sealing is sealed fits some =
+          let at = (x.each_lane k inside).lane.lane in
+          let all = whole_entries k inside in
+          let deciding : not (eqb (logs.seal_word image (views k).lane) 0) ≡ true = not_from_false (eqb (logs.seal_word image (views k).lane) 0) (ne_eqb (logs.seal_word image (views k).lane) 0 (λ zero_seal. some (sym (ap (logs.seal_word image) at) ∙ zero_seal))) in
+          let entered : is_final (pool_entries (views k)) w ≡ true = pool_entries-final (views k) w (elsewhere k inside) ∙ of in
+          let makes : (z : ℕ) → made_final (pool_entries (views k)) w z ≡ made_final (views k).log.entries w (slice_index image w) = λ z. pool_entries-makes (views k) w z (elsewhere k inside) ∙ made_final-whole (views k).log.entries w z (slice_index image w) all of in
+          sym (kept_new o mem views log decided x image k fits.number w (made_final (views k).log.entries w (slice_index image w)) inside (ap (is_deciding_in image (views k)) is ∙ deciding) fits.flying
+          (difference-words (views k) w ∙ or_right (is_recorded (views k).log.records w) (is_final (pool_entries (views k)) w) entered)
+          (λ z. ⊎_elim (λ (recorded : is_recorded (views k).log.records w ≡ true). difference-recorded (views k) w z recorded ∙ makes (slice_index (views k).words w))
+          (λ (unrecorded : is_recorded (views k).log.records w ≡ false). difference-unrecorded (views k) w z unrecorded ∙ makes z) (cases_Bool (is_recorded (views k).log.records w))))
+      redone_kept (Applying applied) is sealed fits some = redoing_kept (Applying applied) is refl (λ n flies. none-some n flies)
+      redone_kept Clearing is sealed fits some = redoing_kept Clearing is refl (λ n flies. none-some n flies)
+      redone_kept Retiring is sealed fits some = absurd sealed
+
+      others_none : (j : ℕ) → j < o.lanes → j ≢ k → of_word w (logs.entries image j) ≡ []
+      others_none j low other = no_other j low (λ of_other. other (one_writer o mem j k w x.sound (entered_writes o mem views log decided x j w low outside of_other) enterer))
+
+      crash_entered : HasSealed (views k).log.phase → logs.seal_word image k ≡ length (views k).log.entries → recovered image o.lanes w ≡ Kept
+      crash_entered sealed full =
+          redone_word image o.lanes w k (views k).log.entries inside (entries_read o mem views log decided x image survives k inside sealed full) (whole_entries k inside) of others_none
+          ∙ redone_kept (views k).log.phase refl sealed (x.each_lane k inside).phase (some_sealed o mem views log decided x image survives k inside (views k).log.phase refl sealed full)
+
+    crash_by_entry : list_any (λ j. is_some_entry (of_word w (logs.entries image j))) (range_with_len 0 o.lanes) ≡ true → recovered image o.lanes w ≡ Kept
+    crash_by_entry some =
+        let l = some_lane (λ j. is_some_entry (of_word w (logs.entries image j))) 0 o.lanes some in
+        let inside : l.0 < o.lanes = omega (arith, l.2) in
+        ⊎_elim (λ (none : logs.entries image l.0 ≡ []). absurd (false≢true (ap (λ es. is_some_entry (of_word w es)) (sym none) ∙ l.3)))
+        (λ (sealed : HasSealed (views l.0).log.phase × (logs.seal_word image l.0 ≡ length (views l.0).log.entries)).
+        ⊎_elim (λ (of : is_final (views l.0).log.entries w ≡ true). crash_entered l.0 inside of sealed.0 sealed.1)
+        (λ (never : is_final (views l.0).log.entries w ≡ false).
+        absurd (false≢true (ap is_some_entry (sym (no_other l.0 inside (λ of. false≢true (sym never ∙ of)))) ∙ l.3)))
+        (cases_Bool (is_final (views l.0).log.entries w)))
+        (entries_cases l.0 inside)
+
     crash_word : recovered image o.lanes w ≡ Kept
-    crash_word = recovered_is image o.lanes w Kept (seal_stays o mem views log decided x image survives) restored_kept plain
+    crash_word =
+        ⊎_elim crash_by_entry
+        (λ (nobody : list_any (λ j. is_some_entry (of_word w (logs.entries image j))) (range_with_len 0 o.lanes) ≡ false).
+        let none : NoEntry = λ k inside. no_entry (of_word w (logs.entries image k))
+        (false_from_ne_true (is_some_entry (of_word w (logs.entries image k))) (λ there. false≢true (sym nobody ∙ lane_some (λ j. is_some_entry (of_word w (logs.entries image j))) o.lanes k inside there))) in
+        recovered_unentered image o.lanes w Kept (unentered_word image o.lanes w none) restored_kept (plain none))
+        (cases_Bool (list_any (λ j. is_some_entry (of_word w (logs.entries image j))) (range_with_len 0 o.lanes)))
 
 pub crash_law : CrashLaw
 crash_law o mem views log decided image world survives whole w heap = crash_word o mem views log decided world image survives whole w heap

@@ -1,25 +1,30 @@
 -- What a lane's log says of its undrained changes and of the words that it recorded.
-use Rattle.std.proofs.Common.{◌≡◌, ◌≢◌, ℕ, zero, suc, ◌+◌, ◌-◌, ◌/◌, ◌<◌, ◌≤◌, ◌⊎◌, inl, inr, ⊎_elim, eqb, leb, ltb, Bool, true, false, cond, ◌&&◌, Contains, List, [], ◌∷◌, length, slice_index, slice_get, Some, refl, sym, ap, ◌∙◌, subst, arith}
+use Rattle.std.proofs.Common.{◌≡◌, ◌≢◌, ◌||◌, All, IsTrue, take, ℕ, zero, suc, ◌+◌, ◌-◌, ◌/◌, ◌<◌, ◌≤◌, ◌⊎◌, inl, inr, ⊎_elim, eqb, leb, ltb, Bool, true, false, cond, ◌&&◌, Contains, List, [], ◌∷◌, length, slice_index, slice_get, Some, refl, sym, ap, ◌∙◌, subst, arith}
 use Rattle.std.specs.List.{list_any}
-use Rattle.std.proofs.lemmas.Bool.{and_parts, or_cases, or_left, or_right, leb-true, ltb-true, eq-eqb, false≢true, false_from_ne_true, not-true}
+use Rattle.std.proofs.lemmas.Bool.{cases_Bool, and_from, eqb-true, and_parts, or_cases, or_left, or_right, leb-true, ltb-true, eq-eqb, false≢true, false_from_ne_true, not-true}
 use Rattle.std.proofs.lemmas.Option.{none-some, same_Some}
-use Rattle.std.proofs.lemmas.List.Elements.{All-contains}
-use Rattle.std.proofs.lemmas.List.Folds.{list_any-from_Any}
+use Rattle.std.proofs.lemmas.List.Elements.{All-contains, All-head, All-tail}
+use Rattle.std.proofs.lemmas.List.Folds.{list_any-append, list_any-from_Any}
 use Rattle.pm_view.specs.declared.change.Change.{Change}
-use Rattle.pm_view.specs.Area.{area_word, is_in_area, part_of}
+use Rattle.pm_view.specs.Area.{Part, area_word, is_in_area, part_in_area, part_of}
 use Rattle.pm_view.specs.Area.Part.{GenerationWord, SealWord, EntryWord, SlotWord, OtherWord}
 use Rattle.pm_view.specs.Bits.{all_bits}
 use Rattle.pm_view.specs.Changes.{is_in_line}
 use Rattle.pm_view.specs.Log.{Phase, Recorded, Final}
 use Rattle.pm_view.specs.Log.Phase.{Idle, Open, Drawn, Sealing, Applying, Clearing, Retiring}
+use Rattle.pm_view.specs.Rights.{is_written}
 use Rattle.pm_view.specs.View.{View}
 use Rattle.pm_image.specs.Logs.{slot_line}
-use Rattle.pm_world.specs.Fits.{OpenChange, RetiringChange, PhaseFits, RecordedWordFits, RecordFits}
-use Rattle.pm_world.specs.Records.{IsRecordAt, generation_of, covers, is_recorded, is_drained_slot, is_logged_from, is_logged}
+use Rattle.pm_world.specs.Entries.{AreWhole, ends_with, is_entered, is_redoing, is_redone}
+use Rattle.pm_world.specs.Fits.{OpenChange, RetiringChange, SealChange, AppliedChange, PhaseFits, RecordedWordFits, RecordFits}
+use Rattle.pm_world.specs.Records.{IsRecordAt, generation_of, records_generation, covers, is_recorded, is_drained_slot, is_logged_from, is_logged}
 
 -- what an undrained change is, by how far the call has come
 abbrev pub ChangeFits : View → Change → Phase → Type 0
 ChangeFits v c (Open slot pair) = OpenChange v c
+ChangeFits v c Sealing = SealChange v 0 c
+ChangeFits v c (Applying applied) = AppliedChange v applied c × AreWhole v (records_generation (Applying applied) v)
+ChangeFits v c Clearing = SealChange v (length v.log.entries) c
 ChangeFits v c Retiring = RetiringChange v c
 ChangeFits v c phase = ⊥
 
@@ -30,18 +35,18 @@ pub change_fits : (flies : ℕ → List Final → Type 0) (v : View) (c : Change
 change_fits flies v c Idle fits there = nothing_there v.changes c fits.drained there
 change_fits flies v c (Open slot pair) fits there = All-contains (OpenChange v) v.changes c fits.changes there
 change_fits flies v c Drawn fits there = nothing_there v.changes c fits.drained there
-change_fits flies v c Sealing fits there = fits
-change_fits flies v c (Applying applied) fits there = fits
-change_fits flies v c Clearing fits there = fits
+change_fits flies v c Sealing fits there = All-contains (SealChange v 0) v.changes c fits.changes there
+change_fits flies v c (Applying applied) fits there = (All-contains (AppliedChange v applied) v.changes c fits.changes there, fits.whole)
+change_fits flies v c Clearing fits there = All-contains (SealChange v (length v.log.entries)) v.changes c fits.changes there
 change_fits flies v c Retiring fits there = All-contains (RetiringChange v) v.changes c fits.changes there
 
 pub change_whole : (v : View) (c : Change) (phase : Phase) → ChangeFits v c phase → c.mask ≡ all_bits
 change_whole v c Idle fits = absurd fits
 change_whole v c (Open slot pair) fits = fits.whole
 change_whole v c Drawn fits = absurd fits
-change_whole v c Sealing fits = absurd fits
-change_whole v c (Applying applied) fits = absurd fits
-change_whole v c Clearing fits = absurd fits
+change_whole v c Sealing fits = fits.whole
+change_whole v c (Applying applied) fits = fits.0.whole
+change_whole v c Clearing fits = fits.whole
 change_whole v c Retiring fits = fits.whole
 
 -- a word of the undo slots
@@ -68,18 +73,112 @@ slot_part lane w e =
     let high = ltb-true (w - area_word lane) 648 s.1 in
     record { low = omega arith; high = omega arith }
 
--- a change is of a slot's word, of the generation, or of a word that the log would restore
-pub record ChangeLies (v : View) (c : Change) : Type 0 where
-  pub of : InSlots v.lane c.word ⊎ ((c.word ≡ area_word v.lane) ⊎ (is_logged v c.word ≡ true))
+entry_cases : (here generation seal entry slot : Bool) → cond here (cond generation GenerationWord (cond seal SealWord (cond entry EntryWord (cond slot SlotWord OtherWord)))) OtherWord ≡ EntryWord → (here ≡ true) × (entry ≡ true)
+entry_cases true true seal entry slot e = absurd cc
+entry_cases true false true entry slot e = absurd cc
+entry_cases true false false true slot e = (refl, refl)
+entry_cases true false false false true e = absurd cc
+entry_cases true false false false false e = absurd cc
+entry_cases false generation seal entry slot e = absurd cc
 
-pub change_lies : (v : View) (c : Change) (phase : Phase) → ChangeFits v c phase → ChangeLies v c
-change_lies v c Idle fits = absurd fits
-change_lies v c (Open slot pair) fits = record { of = ⊎_elim (λ (part : part_of v.lane c.word ≡ SlotWord). inl (slot_part v.lane c.word part)) (λ (logged : is_logged v c.word ≡ true). inr (inr logged)) fits.of }
-change_lies v c Drawn fits = absurd fits
-change_lies v c Sealing fits = absurd fits
-change_lies v c (Applying applied) fits = absurd fits
-change_lies v c Clearing fits = absurd fits
-change_lies v c Retiring fits = record { of = inr (inl fits.of) }
+-- a word of the entries' pairs
+pub record InPairs (lane w : ℕ) : Type 0 where
+  pub low : area_word lane + 8 ≤ w
+  pub high : w < area_word lane + 136
+
+pub entry_part : (lane w : ℕ) → part_of lane w ≡ EntryWord → InPairs lane w
+entry_part lane w e =
+    let t = entry_cases (is_in_area lane w) (eqb (w - area_word lane) 0) (eqb (w - area_word lane) 1) (leb 8 (w - area_word lane) && ltb (w - area_word lane) 136) (leb 136 (w - area_word lane) && ltb (w - area_word lane) 648) e in
+    let a = and_parts (leb (area_word lane) w) (ltb w (area_word lane + 1024)) t.0 in
+    let s = and_parts (leb 8 (w - area_word lane)) (ltb (w - area_word lane) 136) t.1 in
+    let from = leb-true (area_word lane) w a.0 in
+    let low = leb-true 8 (w - area_word lane) s.0 in
+    let high = ltb-true (w - area_word lane) 136 s.1 in
+    record { low = omega arith; high = omega arith }
+
+-- a word of the lane's area
+pub record InArea (lane w : ℕ) : Type 0 where
+  pub low : area_word lane ≤ w
+  pub high : w < area_word lane + 1024
+
+pub part_inside : (lane w : ℕ) (part : Part) → part_of lane w ≡ part → (part ≡ OtherWord → ⊥) → InArea lane w
+part_inside lane w part e other =
+    ⊎_elim (λ (inside : is_in_area lane w ≡ true).
+    let t = and_parts (leb (area_word lane) w) (ltb w (area_word lane + 1024)) inside in
+    let low = leb-true (area_word lane) w t.0 in
+    let high = ltb-true w (area_word lane + 1024) t.1 in
+    record { low = low; high = high })
+    (λ (outside : is_in_area lane w ≡ false). absurd (other (sym e ∙ ap (λ b. cond b (part_in_area (w - area_word lane)) OtherWord) outside)))
+    (cases_Bool (is_in_area lane w))
+
+-- an entry of some is one of all
+pub entered_front : (n : ℕ) (entries : List Final) (w : ℕ) → is_entered (take n entries) w ≡ true → is_entered entries w ≡ true
+entered_front zero entries w e = absurd (false≢true e)
+entered_front (suc n) [] w e = absurd (false≢true e)
+entered_front (suc n) (f ∷ entries) w e =
+    ⊎_elim (λ (here : eqb f.word w ≡ true). or_left (eqb f.word w) (is_entered entries w) here)
+    (λ (later : is_entered (take n entries) w ≡ true). or_right (eqb f.word w) (is_entered entries w) (entered_front n entries w later))
+    (or_cases (eqb f.word w) (is_entered (take n entries) w) e)
+
+-- an entry of the word, and its place
+pub record EntryOf (entries : List Final) (w : ℕ) : Type 0 where
+  pub place : ℕ
+  pub held : Final
+  pub at : slice_get entries place ≡ Some held
+  pub of : held.word ≡ w
+
+pub entry_of_word : (entries : List Final) (w : ℕ) → is_entered entries w ≡ true → EntryOf entries w
+entry_of_word [] w e = absurd (false≢true e)
+entry_of_word (f ∷ entries) w e =
+    ⊎_elim (λ (here : eqb f.word w ≡ true). record { place = 0; held = f; at = refl; of = eqb-true f.word w here })
+    (λ (later : is_entered entries w ≡ true). let t = entry_of_word entries w later in record { place = suc t.place; held = t.held; at = t.at; of = t.of })
+    (or_cases (eqb f.word w) (is_entered entries w) e)
+
+owned_word : (v : View) (front : List Final) (w : ℕ) → All (λ (f : Final). IsTrue (is_written v f.word)) front → is_entered front w ≡ true → is_written v w ≡ true
+owned_word v [] w owned e = absurd (false≢true e)
+owned_word v (f ∷ front) w owned e =
+    ⊎_elim (λ (here : eqb f.word w ≡ true). subst (λ u. is_written v u ≡ true) (eqb-true f.word w here) (All-head (λ (g : Final). IsTrue (is_written v g.word)) f front owned))
+    (λ (later : is_entered front w ≡ true). owned_word v front w (All-tail (λ (g : Final). IsTrue (is_written v g.word)) f front owned) later)
+    (or_cases (eqb f.word w) (is_entered front w) e)
+
+-- a word of an entry is one that the lane locked for writing, or its generation's
+pub whole_word : (v : View) (generation w : ℕ) → AreWhole v generation → is_entered v.log.entries w ≡ true → (is_written v w ≡ true) ⊎ (w ≡ area_word v.lane)
+whole_word v generation w whole e =
+    ⊎_elim (λ (early : is_entered whole.front w ≡ true). inl (owned_word v whole.front w whole.owned early))
+    (λ (last : (eqb (area_word v.lane) w || false) ≡ true).
+    ⊎_elim (λ (here : eqb (area_word v.lane) w ≡ true). inr (sym (eqb-true (area_word v.lane) w here))) (λ (never : false ≡ true). absurd (false≢true never)) (or_cases (eqb (area_word v.lane) w) false last))
+    (or_cases (is_entered whole.front w) (eqb (area_word v.lane) w || false)
+    (sym (list_any-append (λ (f : Final). eqb f.word w) whole.front (ends_with v generation ∷ [])) ∙ (ap (λ es. is_entered es w) (sym whole.are) ∙ e)))
+
+-- a change is of a word of the lane's area, of one that the log would restore, or of one that it would redo
+pub record ChangeLies (v : View) (c : Change) : Type 0 where
+  pub of : InArea v.lane c.word ⊎ ((is_logged v c.word ≡ true) ⊎ ((is_redone v c.word ≡ true) × (is_written v c.word ≡ true)))
+
+in_area : (lane w : ℕ) → area_word lane ≤ w → w < area_word lane + 1024 → InArea lane w
+in_area lane w low high = record { low = low; high = high }
+
+seal_lies : (v : View) (old : ℕ) (c : Change) → SealChange v old c → ChangeLies v c
+seal_lies v old c fits = let of = fits.of in record { of = inl (in_area v.lane c.word (omega arith) (omega arith)) }
+
+redone_from : (v : View) (applied w : ℕ) → v.log.phase ≡ Applying applied → is_entered v.log.entries w ≡ true → is_redone v w ≡ true
+redone_from v applied w is e = and_from (is_redoing v.log.phase) (is_entered v.log.entries w) (ap is_redoing is) e
+
+pub change_lies : (v : View) (c : Change) (phase : Phase) → v.log.phase ≡ phase → ChangeFits v c phase → ChangeLies v c
+change_lies v c Idle is fits = absurd fits
+change_lies v c (Open slot pair) is fits = record {
+  of = ⊎_elim (λ (part : part_of v.lane c.word ≡ SlotWord). inl (part_inside v.lane c.word SlotWord part (λ e. absurd cc)))
+      (λ (other : (part_of v.lane c.word ≡ EntryWord) ⊎ (is_logged v c.word ≡ true)).
+      ⊎_elim (λ (part : part_of v.lane c.word ≡ EntryWord). inl (part_inside v.lane c.word EntryWord part (λ e. absurd cc))) (λ (logged : is_logged v c.word ≡ true). inr (inl logged)) other) fits.of;
+}
+change_lies v c Drawn is fits = absurd fits
+change_lies v c Sealing is fits = seal_lies v 0 c fits
+change_lies v c (Applying applied) is fits =
+    let entered = entered_front applied v.log.entries c.word fits.0.of in
+    ⊎_elim (λ (written : is_written v c.word ≡ true). record { of = inr (inr (redone_from v applied c.word is entered, written)) })
+    (λ (own : c.word ≡ area_word v.lane). record { of = inl (in_area v.lane c.word (omega arith) (omega arith)) })
+    (whole_word v (records_generation (Applying applied) v) c.word fits.1 entered)
+change_lies v c Clearing is fits = seal_lies v (length v.log.entries) c fits
+change_lies v c Retiring is fits = let of = fits.of in record { of = inl (in_area v.lane c.word (omega arith) (omega arith)) }
 
 -- a record of the word, and its slot
 pub record RecordOf (v : View) (w : ℕ) : Type 0 where
@@ -158,7 +257,16 @@ drained_slot v slot c drained there same =
     false≢true (sym (not-true (list_any (is_in_line (slot_line v.lane slot)) v.changes) drained)
     ∙ list_any-from_Any (is_in_line (slot_line v.lane slot)) v.changes (there.0, c, there.1, there.2, eq-eqb (c.word / 8) (slot_line v.lane slot) same))
 
--- the generation that the image has is the view's, or the one before it while the generation ends
-abbrev pub GenerationIs : View → ℕ → Phase → Type 0
-GenerationIs v generation Retiring = (generation ≡ generation_of v) ⊎ (generation + 1 ≡ generation_of v)
-GenerationIs v generation phase = generation ≡ generation_of v
+-- the seal that the image has is the view's, or, while it is stored or cleared, the one before it
+abbrev pub SealIs : View → ℕ → Phase → Type 0
+SealIs v seal Sealing = (seal ≡ length v.log.entries) ⊎ (seal ≡ 0)
+SealIs v seal (Applying applied) = seal ≡ length v.log.entries
+SealIs v seal Clearing = (seal ≡ length v.log.entries) ⊎ (seal ≡ 0)
+SealIs v seal phase = seal ≡ 0
+
+-- the generation that the image has of the lane, with this seal: that of the view's records, or the next one where the call is decided in it
+abbrev pub GenerationIs : View → ℕ → ℕ → Phase → Type 0
+GenerationIs v seal generation Retiring = (generation ≡ generation_of v) ⊎ (generation + 1 ≡ generation_of v)
+GenerationIs v seal generation Sealing = ((seal ≡ 0) × (generation ≡ generation_of v)) ⊎ ((seal ≢ 0) × (generation ≡ generation_of v + 1))
+GenerationIs v seal generation (Applying applied) = generation ≡ records_generation (Applying applied) v
+GenerationIs v seal generation phase = generation ≡ generation_of v

@@ -109,7 +109,7 @@ record_for-cases image lanes place = by_lane (cases_found (is_of place) (records
       inl (record { none = λ lane slot u in_lanes inside valid. nowhere lane slot u (not_there.parts lane (omega arith) (omega arith)) inside valid (by_slot lane); nothing = not_there.whole })
   by_lane (inr there) = let high = there.high in inr (somewhere there.part there.element (omega arith) there.here there.whole (by_slot there.part))
 
-unsealed : (image : List ℕ) (lane : ℕ) → seal_word image lane ≡ 0 → is_sealed image lane ≡ false
+pub unsealed : (image : List ℕ) (lane : ℕ) → seal_word image lane ≡ 0 → is_sealed image lane ≡ false
 unsealed image lane zero_seal = ap (λ n. leb 1 n && leb n 64) zero_seal
 
 no_entries : (image : List ℕ) (from n : ℕ) → ((lane : ℕ) → lane < from + n → seal_word image lane ≡ 0) → flat_map (entries image) (range_with_len from n) ≡ []
@@ -122,17 +122,24 @@ no_entries_for : (image : List ℕ) (lanes place : ℕ) → ((lane : ℕ) → la
 unfolding entries_for
 no_entries_for image lanes place zeros = ap (filter (λ (e : Redo). eqb e.place place)) (no_entries image 0 lanes (λ lane inside. zeros lane (omega arith)))
 
--- the recovered word is y, where each valid record that covers it says y, and without one the image does
-pub recovered_is : (image : List ℕ) (lanes w y : ℕ) → ((lane : ℕ) → lane < lanes → seal_word image lane ≡ 0)
+-- the recovered word is y, where no sealed entry is of it, each valid record that covers it says y, and without one the image does
+pub recovered_unentered : (image : List ℕ) (lanes w y : ℕ) → entries_for image lanes (8 * w) ≡ []
     → ((lane slot : ℕ) (u : Undo) → lane < lanes → slot < 64 → valid_record image lane slot ≡ Some u → covers u (8 * w) ≡ true → old_word u (8 * w) ≡ y)
     → (((lane slot : ℕ) (u : Undo) → lane < lanes → slot < 64 → valid_record image lane slot ≡ Some u → covers u (8 * w) ≡ false) → slice_index image w ≡ y)
     → recovered image lanes w ≡ y
 unfolding recovered
-recovered_is image lanes w y zeros says plain =
-    ap (λ es. recovered_by es (record_for image lanes (8 * w)) (8 * w) (slice_index image w)) (no_entries_for image lanes (8 * w) zeros)
+recovered_unentered image lanes w y none says plain =
+    ap (λ es. recovered_by es (record_for image lanes (8 * w)) (8 * w) (slice_index image w)) none
     ∙ ⊎_elim (λ (nothing : NoneCovers image lanes (8 * w)). ap (λ r. restored r (8 * w) (slice_index image w)) nothing.nothing ∙ plain nothing.none)
     (λ (there : Covering image lanes (8 * w)). ap (λ r. restored r (8 * w) (slice_index image w)) there.first ∙ says there.lane there.slot there.found there.of_lane there.of_slot there.valid there.covering)
     (record_for-cases image lanes (8 * w))
+
+-- the same where no lane sealed anything
+pub recovered_is : (image : List ℕ) (lanes w y : ℕ) → ((lane : ℕ) → lane < lanes → seal_word image lane ≡ 0)
+    → ((lane slot : ℕ) (u : Undo) → lane < lanes → slot < 64 → valid_record image lane slot ≡ Some u → covers u (8 * w) ≡ true → old_word u (8 * w) ≡ y)
+    → (((lane slot : ℕ) (u : Undo) → lane < lanes → slot < 64 → valid_record image lane slot ≡ Some u → covers u (8 * w) ≡ false) → slice_index image w ≡ y)
+    → recovered image lanes w ≡ y
+recovered_is image lanes w y zeros says plain = recovered_unentered image lanes w y (no_entries_for image lanes (8 * w) zeros) says plain
 
 -- the generation of a lane that sealed nothing
 pub generation_unsealed : (image : List ℕ) (lane : ℕ) → seal_word image lane ≡ 0 → generation image lane ≡ generation_word image lane

@@ -14,9 +14,8 @@ use Rattle.pm_world.specs.Fits.{PhaseFits, EndFits}
 use Rattle.pm_world.specs.History.{Entry, Flies, is_final, made_final, replayed, settled}
 use Rattle.pm_world.specs.Memory.{Memory}
 use Rattle.pm_world.specs.Opening.{Opening}
-use Rattle.pm_world.specs.Records.{is_recorded, difference_of}
+use Rattle.pm_world.specs.Records.{difference_of}
 use Rattle.pm_world.specs.World.{Views, World}
-use Rattle.pm_world.proofs.Differences.{difference-recorded, difference-makes}
 use Rattle.pm_world.proofs.Histories.{one_entry}
 use Rattle.pm_world.proofs.Losses.{some_lane, loses-flight}
 use Rattle.pm_world.proofs.Replays.{replayed-same, replayed-last}
@@ -33,9 +32,9 @@ pub flies_of : (flies : ℕ → List Final → Type 0) (v : View) (n : ℕ) (pha
 flies_of flies v n Idle fits flight = absurd (none-some n flight)
 flies_of flies v n (Open slot pair) fits flight = absurd (none-some n flight)
 flies_of flies v n Drawn fits flight = subst (λ m. flies m (difference_of v)) (same_Some fits.number n (sym fits.drawn ∙ flight)) fits.flying
-flies_of flies v n Sealing fits flight = absurd fits
-flies_of flies v n (Applying applied) fits flight = absurd fits
-flies_of flies v n Clearing fits flight = absurd fits
+flies_of flies v n Sealing fits flight = subst (λ m. flies m (difference_of v)) (same_Some fits.number n (sym fits.drawn ∙ flight)) fits.flying
+flies_of flies v n (Applying applied) fits flight = absurd (none-some n flight)
+flies_of flies v n Clearing fits flight = absurd (none-some n flight)
 flies_of flies v n Retiring fits flight = subst (EndFits flies v) flight fits.ends
 
 module _ (o : Opening) (mem : Memory) (views : Views) (log : List Entry) (decided : ℕ → Bool) (x : World o mem views log decided) (image : List ℕ) where
@@ -55,8 +54,8 @@ module _ (o : Opening) (mem : Memory) (views : Views) (log : List Entry) (decide
   kept_from : (n : ℕ) → (is_lost o views image n ≡ true → ⊥) → is_kept o views image n ≡ true
   kept_from n never = not_from_false (is_lost o views image n) (false_from_ne_true (is_lost o views image n) never)
 
-  -- where the lane that recorded the word loses its call in flight, or has none, the word is as it was settled
-  pub kept_settled : (w : ℕ) → ((k n : ℕ) → k < o.lanes → is_recorded (views k).log.records w ≡ true → flight (views k) ≡ Some n → loses image (views k) n ≡ true)
+  -- where each lane whose call in flight is of the word loses it, the word is as it was settled
+  pub kept_settled : (w : ℕ) → ((k n : ℕ) → k < o.lanes → is_final (difference_of (views k)) w ≡ true → flight (views k) ≡ Some n → loses image (views k) n ≡ true)
       → replayed (is_kept o views image) log w (slice_index o.words w) ≡ settled o log decided w
   kept_settled w lost =
       replayed-same (is_kept o views image) decided log w (slice_index o.words w)
@@ -67,15 +66,14 @@ module _ (o : Opening) (mem : Memory) (views : Views) (log : List Entry) (decide
       let in_flight = fit.in_flight undecided in
       let f = flies_of (Flies log decided e.lane) (views e.lane) e.number (views e.lane).log.phase (x.each_lane e.lane fit.of_lane).phase in_flight in
       let same : f.entry ≡ e = one_entry 1 log f.entry e x.numbered f.there there f.has_number in
-      let recorded : is_recorded (views e.lane).log.records w ≡ true =
-      sym (difference-recorded (views e.lane) w) ∙ (ap (λ d. is_final d w) (sym f.has_difference) ∙ (ap (λ (d : Entry). is_final d.difference w) same ∙ of)) in
-      not_from_true (is_lost o views image e.number) (lane_some (λ k. loses image (views k) e.number) o.lanes e.lane fit.of_lane (lost e.lane e.number fit.of_lane recorded in_flight)) ∙ sym undecided)
+      let final : is_final (difference_of (views e.lane)) w ≡ true = ap (λ d. is_final d w) (sym f.has_difference) ∙ (ap (λ (d : Entry). is_final d.difference w) same ∙ of) in
+      not_from_true (is_lost o views image e.number) (lane_some (λ k. loses image (views k) e.number) o.lanes e.lane fit.of_lane (lost e.lane e.number fit.of_lane final in_flight)) ∙ sym undecided)
       (cases_Bool (decided e.number)))
 
-  -- where the image has the deciding store of the lane's call, the word is as the call left it
-  pub kept_new : (k n w : ℕ) → k < o.lanes → is_deciding_in image (views k) (views k).log.phase ≡ true → Flies log decided k n (difference_of (views k)) → is_recorded (views k).log.records w ≡ true
-      → replayed (is_kept o views image) log w (slice_index o.words w) ≡ slice_index (views k).words w
-  kept_new k n w inside deciding f recorded =
+  -- where the image has the deciding store of the lane's call, a word of the call is what the call makes of it
+  pub kept_new : (k n w y : ℕ) → k < o.lanes → is_deciding_in image (views k) (views k).log.phase ≡ true → Flies log decided k n (difference_of (views k)) → is_final (difference_of (views k)) w ≡ true
+      → ((z : ℕ) → made_final (difference_of (views k)) w z ≡ y) → replayed (is_kept o views image) log w (slice_index o.words w) ≡ y
+  kept_new k n w y inside deciding f final makes =
       let kept : is_kept o views image n ≡ true = kept_from n (λ is_lost_.
       let l = loser n is_lost_ in
       let same : l.flies.entry ≡ f.entry = one_entry 1 log l.flies.entry f.entry x.numbered l.flies.there f.there (l.flies.has_number ∙ sym f.has_number) in
@@ -83,7 +81,7 @@ module _ (o : Opening) (mem : Memory) (views : Views) (log : List Entry) (decide
       let losing = subst (λ j. loses image (views j) n ≡ true) who l.losing in
       let t = and_parts (is_number (views k).number n) (not (is_deciding_in image (views k) (views k).log.phase)) losing in
       false≢true (sym (not_from_true (is_deciding_in image (views k) (views k).log.phase) deciding) ∙ t.1)) in
-      replayed-last (is_kept o views image) 1 log w (slice_index o.words w) (slice_index (views k).words w) f.entry x.numbered f.there
+      replayed-last (is_kept o views image) 1 log w (slice_index o.words w) y f.entry x.numbered f.there
       (ap (is_kept o views image) f.has_number ∙ kept)
-      (λ z. ap (λ d. made_final d w z) f.has_difference ∙ difference-makes (views k) w z recorded)
-      (λ later there after. f.last later w there (subst (λ m. m < later.number) f.has_number after) (difference-recorded (views k) w ∙ recorded))
+      (λ z. ap (λ d. made_final d w z) f.has_difference ∙ makes z)
+      (λ later there after. f.last later w there (subst (λ m. m < later.number) f.has_number after) final)

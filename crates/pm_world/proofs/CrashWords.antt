@@ -1,26 +1,28 @@
 -- Which words of an image are as the lanes left them.
-use Rattle.std.proofs.Common.{◌≡◌, ◌≢◌, ℕ, ◌+◌, ◌-◌, ◌*◌, ◌<◌, ◌≤◌, ◌⊎◌, inl, inr, ⊎_elim, leb, ltb, Bool, true, All, Contains, List, [], ◌∷◌, length, take, drop, slice_index, slice_range, get_or, sym, ap, ◌∙◌, subst, arith}
+use Rattle.std.proofs.Common.{◌≡◌, ℕ, ◌+◌, ◌-◌, ◌*◌, ◌<◌, ◌≤◌, ◌⊎◌, inl, inr, ⊎_elim, leb, ltb, Bool, true, All, Contains, List, [], ◌∷◌, length, take, drop, slice_index, slice_range, get_or, refl, sym, ap, ◌∙◌, subst, arith}
 use Rattle.std.proofs.lemmas.Bool.{and_from, le-leb, lt-ltb}
 use Rattle.std.proofs.lemmas.List.{ext_get_or, get_or-take, get_or-drop, length-take, length-drop}
 use Rattle.std.proofs.lemmas.List.Elements.{All-head}
 use Rattle.pm_view.specs.declared.change.Change.{Change}
-use Rattle.pm_view.specs.Area.{area_word, is_in_area}
+use Rattle.pm_view.specs.Area.{area_word, is_in_area, part_of}
+use Rattle.pm_view.specs.Area.Part.{EntryWord, SlotWord}
 use Rattle.pm_view.specs.Log.{Phase}
 use Rattle.pm_view.specs.Log.Phase.{Idle, Open, Drawn, Sealing, Applying, Clearing, Retiring}
+use Rattle.pm_view.specs.Rights.{is_written}
 use Rattle.pm_view.specs.Survivors.{all_taken_back}
 use Rattle.pm_view.specs.View.{View}
 use Rattle.pm_view.proofs.Finding.{whole-taken_back}
-use Rattle.pm_image.specs.Logs.{generation, generation_word, seal_word, slot_line, undo_slot}
+use Rattle.pm_image.specs.Logs.{seal_word, slot_line, undo_slot}
 use Rattle.pm_world.specs.Crash.{IsUndrained, Survives}
 use Rattle.pm_world.specs.Fits.{LaneFits, RecordedWordFits}
 use Rattle.pm_world.specs.History.{Entry, Flies, settled}
 use Rattle.pm_world.specs.Memory.{Memory}
 use Rattle.pm_world.specs.Memory.Location.{PoolWord}
 use Rattle.pm_world.specs.Opening.{Opening}
-use Rattle.pm_world.specs.Records.{is_recorded, is_drained_slot, is_logged, generation_of}
+use Rattle.pm_world.specs.Entries.{is_entered, is_redone, seal_in}
+use Rattle.pm_world.specs.Records.{is_recorded, is_drained_slot, is_logged, records_generation}
 use Rattle.pm_world.specs.World.{Views, World}
-use Rattle.pm_world.proofs.CrashLogs.{ChangeFits, change_fits, change_whole, InSlots, change_lies, slot_part, RecordOf, record_of, recorded_word, logged_recorded, drained_slot, GenerationIs}
-use Rattle.pm_world.proofs.CrashRecords.{generation_unsealed}
+use Rattle.pm_world.proofs.CrashLogs.{ChangeFits, change_fits, change_whole, ChangeLies, InArea, change_lies, slot_part, entry_part, entered_front, entry_of_word, whole_word, RecordOf, record_of, recorded_word, logged_recorded, drained_slot, SealIs}
 use Rattle.pm_world.proofs.Exclusion.{WritesUnder, writes_under, one_writer}
 
 -- the word has the old value of an undrained change
@@ -54,11 +56,11 @@ module _ (o : Opening) (mem : Memory) (views : Views) (log : List Entry) (decide
   pub lane_fits : (k : ℕ) → k < o.lanes → LaneFits o mem (settled o log decided) (Flies log decided k) k (views k)
   lane_fits k inside = x.each_lane k inside
 
-  lane_is : (k : ℕ) → k < o.lanes → (views k).lane ≡ k
+  pub lane_is : (k : ℕ) → k < o.lanes → (views k).lane ≡ k
   lane_is k inside = (x.each_lane k inside).lane.lane
 
   -- a lane's change, by how far its call has come
-  fits_of : (k : ℕ) (c : Change) → k < o.lanes → Contains (views k).changes c → ChangeFits (views k) c (views k).log.phase
+  pub fits_of : (k : ℕ) (c : Change) → k < o.lanes → Contains (views k).changes c → ChangeFits (views k) c (views k).log.phase
   fits_of k c inside there = change_fits (Flies log decided k) (views k) c (views k).log.phase (x.each_lane k inside).phase there
 
   pub recorded_fits : (k w : ℕ) → k < o.lanes → (t : RecordOf (views k) w) → RecordedWordFits (settled o log decided) (views k) w (slice_index t.held.old (w - t.held.word))
@@ -74,29 +76,51 @@ module _ (o : Opening) (mem : Memory) (views : Views) (log : List Entry) (decide
   pub behind_areas : (k w : ℕ) → WritesUnder o mem k w → 512 + 1024 * o.lanes ≤ w
   behind_areas k w (line, guard, word) = x.sound.behind_areas line w guard
 
-  logged_behind : (k w : ℕ) → k < o.lanes → is_logged (views k) w ≡ true → 512 + 1024 * o.lanes ≤ w
+  pub logged_behind : (k w : ℕ) → k < o.lanes → is_logged (views k) w ≡ true → 512 + 1024 * o.lanes ≤ w
   logged_behind k w inside e = behind_areas k w (recorded_writes k w inside (logged_recorded (views k) w e))
 
-  -- a change outside of the areas is of a word that its lane's log would restore
-  change_outside : (k : ℕ) (c : Change) → k < o.lanes → Contains (views k).changes c → (c.word < 512) ⊎ (512 + 1024 * o.lanes ≤ c.word) → is_logged (views k) c.word ≡ true
+  pub written_under : (k w : ℕ) → k < o.lanes → is_written (views k) w ≡ true → WritesUnder o mem k w
+  written_under k w inside e = writes_under o mem k (views k) w (x.each_lane k inside).locks e
+
+  pub written_behind : (k w : ℕ) → k < o.lanes → is_written (views k) w ≡ true → 512 + 1024 * o.lanes ≤ w
+  written_behind k w inside e = behind_areas k w (written_under k w inside e)
+
+  -- the lane's log would restore the word, or redo it
+  abbrev pub Logs : ℕ → ℕ → Type 0
+  Logs k w = (is_logged (views k) w ≡ true) ⊎ ((is_redone (views k) w ≡ true) × (is_written (views k) w ≡ true))
+
+  logs_behind : (k w : ℕ) → k < o.lanes → Logs k w → 512 + 1024 * o.lanes ≤ w
+  logs_behind k w inside (inl logged) = logged_behind k w inside logged
+  logs_behind k w inside (inr redone) = written_behind k w inside redone.1
+
+  -- an entry of a word outside of the areas is of one that the lane may write
+  pub entered_writes : (k w : ℕ) → k < o.lanes → (w < 512) ⊎ (512 + 1024 * o.lanes ≤ w) → is_entered (views k).log.entries w ≡ true → WritesUnder o mem k w
+  entered_writes k w inside outside e =
+      let t = entry_of_word (views k).log.entries w e in
+      let at = lane_is k inside in
+      ⊎_elim (λ (written : is_written (views k) t.held.word ≡ true). written_under k w inside (subst (λ u. is_written (views k) u ≡ true) t.of written))
+      (λ (own : t.held.word ≡ area_word (views k).lane). let is = t.of in absurd (⊎_elim (λ (front : w < 512). omega arith) (λ (back : 512 + 1024 * o.lanes ≤ w). omega arith) outside))
+      ((x.each_lane k inside).entries.each t.place t.held t.at).of
+
+  lies : (k : ℕ) (c : Change) → k < o.lanes → Contains (views k).changes c → ChangeLies (views k) c
+  lies k c inside there = change_lies (views k) c (views k).log.phase refl (fits_of k c inside there)
+
+  -- a change outside of the areas is of a word of its lane's log
+  change_outside : (k : ℕ) (c : Change) → k < o.lanes → Contains (views k).changes c → (c.word < 512) ⊎ (512 + 1024 * o.lanes ≤ c.word) → Logs k c.word
   change_outside k c inside there outside =
       let at = lane_is k inside in
-      ⊎_elim (λ (slots : InSlots (views k).lane c.word). let low = slots.low in let high = slots.high in
+      ⊎_elim (λ (area : InArea (views k).lane c.word). let low = area.low in let high = area.high in
       absurd (⊎_elim (λ (front : c.word < 512). omega arith) (λ (back : 512 + 1024 * o.lanes ≤ c.word). omega arith) outside))
-      (λ (other : (c.word ≡ area_word (views k).lane) ⊎ (is_logged (views k) c.word ≡ true)).
-      ⊎_elim (λ (first : c.word ≡ area_word (views k).lane). absurd (⊎_elim (λ (front : c.word < 512). omega arith) (λ (back : 512 + 1024 * o.lanes ≤ c.word). omega arith) outside))
-      (λ (logged : is_logged (views k) c.word ≡ true). logged) other)
-      (change_lies (views k) c (views k).log.phase (fits_of k c inside there)).of
+      (λ (other : Logs k c.word). other)
+      (lies k c inside there).of
 
-  -- a change in an area is its lane's, and not of the seal
-  change_inside : (j k : ℕ) (c : Change) → j < o.lanes → k < o.lanes → Contains (views j).changes c → area_word k ≤ c.word → c.word < area_word k + 1024 → (j ≡ k) × (c.word ≢ area_word k + 1)
+  -- a change in an area is its lane's
+  change_inside : (j k : ℕ) (c : Change) → j < o.lanes → k < o.lanes → Contains (views j).changes c → area_word k ≤ c.word → c.word < area_word k + 1024 → j ≡ k
   change_inside j k c j_inside inside there low high =
       let at = lane_is j j_inside in
-      ⊎_elim (λ (slots : InSlots (views j).lane c.word). let from = slots.low in let to = slots.high in (let same : j ≡ k = omega arith in same, λ seal. omega arith))
-      (λ (other : (c.word ≡ area_word (views j).lane) ⊎ (is_logged (views j) c.word ≡ true)).
-      ⊎_elim (λ (first : c.word ≡ area_word (views j).lane). (let same : j ≡ k = omega arith in same, λ seal. omega arith))
-      (λ (logged : is_logged (views j) c.word ≡ true). absurd (let behind = logged_behind j c.word j_inside logged in omega arith)) other)
-      (change_lies (views j) c (views j).log.phase (fits_of j c j_inside there)).of
+      ⊎_elim (λ (area : InArea (views j).lane c.word). let from = area.low in let to = area.high in omega arith)
+      (λ (logs : Logs j c.word). absurd (let behind = logs_behind j c.word j_inside logs in omega arith))
+      (lies j c j_inside there).of
 
   module _ (image : List ℕ) (survives : Survives o mem views image) where
     left_cases : (w : ℕ) (lost : List Change) → All (IsUndrained views o.lanes w) lost → slice_index image w ≡ all_taken_back lost (mem (PoolWord w)) → (slice_index image w ≡ mem (PoolWord w)) ⊎ TakenBack views o.lanes image w
@@ -110,13 +134,13 @@ module _ (o : Opening) (mem : Memory) (views : Views) (log : List Entry) (decide
     word_left w inside = let l = survives.each w inside in left_cases w l.lost l.undrained l.left
 
     -- a word outside of the areas that nobody's change is of
-    pub word_stays : (w : ℕ) → w < length o.words → (w < 512) ⊎ (512 + 1024 * o.lanes ≤ w) → ((k : ℕ) (c : Change) → k < o.lanes → Contains (views k).changes c → c.word ≡ w → is_logged (views k) w ≡ true → ⊥)
+    pub word_stays : (w : ℕ) → w < length o.words → (w < 512) ⊎ (512 + 1024 * o.lanes ≤ w) → ((k : ℕ) (c : Change) → k < o.lanes → Contains (views k).changes c → c.word ≡ w → Logs k w → ⊥)
         → slice_index image w ≡ mem (PoolWord w)
     word_stays w inside outside away =
         ⊎_elim (λ (same : slice_index image w ≡ mem (PoolWord w)). same)
         (λ (t : TakenBack views o.lanes image w).
         let there : (t.change.word < 512) ⊎ (512 + 1024 * o.lanes ≤ t.change.word) = subst (λ u. (u < 512) ⊎ (512 + 1024 * o.lanes ≤ u)) (sym t.of_word) outside in
-        absurd (away t.lane t.change t.of_lane t.there t.of_word (subst (λ u. is_logged (views t.lane) u ≡ true) t.of_word (change_outside t.lane t.change t.of_lane t.there there))))
+        absurd (away t.lane t.change t.of_lane t.there t.of_word (subst (Logs t.lane) t.of_word (change_outside t.lane t.change t.of_lane t.there there))))
         (word_left w inside)
 
     -- a word of a lane's area is as the lane has it, or its own change of it was taken back
@@ -128,48 +152,46 @@ module _ (o : Opening) (mem : Memory) (views : Views) (log : List Entry) (decide
         ⊎_elim (λ (same : slice_index image w ≡ mem (PoolWord w)). inl (same ∙ (x.each_lane k inside).picture.area w here))
         (λ (t : TakenBack views o.lanes image w).
         let is = t.of_word in
-        let who : t.lane ≡ k = (change_inside t.lane k t.change t.of_lane inside t.there (omega arith) (omega arith)).0 in
+        let who : t.lane ≡ k = change_inside t.lane k t.change t.of_lane inside t.there (omega arith) (omega arith) in
         inr (record { change = t.change; there = subst (λ j. Contains (views j).changes t.change) who t.there; of_word = t.of_word; is_old = t.is_old }))
         (word_left w (omega arith))
 
-    pub seal_stays : (k : ℕ) → k < o.lanes → seal_word image k ≡ 0
-    seal_stays k inside =
+    -- by how far the lane's call has come, which seal the image has where a change of it was taken back
+    seal_before : (k : ℕ) (phase : Phase) → k < o.lanes → (t : OwnTakenBack (views k) image (area_word k + 1)) → ChangeFits (views k) t.change phase → SealIs (views k) (seal_word image k) phase
+    seal_before k Idle inside t fits = absurd fits
+    seal_before k (Open slot pair) inside t fits =
+        let is = t.of_word in let at = lane_is k inside in
+        absurd (⊎_elim (λ (part : part_of (views k).lane t.change.word ≡ SlotWord). let s = slot_part (views k).lane t.change.word part in let low = s.low in omega arith)
+        (λ (other : (part_of (views k).lane t.change.word ≡ EntryWord) ⊎ (is_logged (views k) t.change.word ≡ true)).
+        ⊎_elim (λ (part : part_of (views k).lane t.change.word ≡ EntryWord). let s = entry_part (views k).lane t.change.word part in let low = s.low in omega arith)
+        (λ (logged : is_logged (views k) t.change.word ≡ true). let behind = logged_behind k t.change.word inside logged in omega arith) other) fits.of)
+    seal_before k Drawn inside t fits = absurd fits
+    seal_before k Sealing inside t fits = inr (t.is_old ∙ fits.before)
+    seal_before k (Applying applied) inside t fits =
+        let is = t.of_word in let at = lane_is k inside in
+        absurd (⊎_elim (λ (written : is_written (views k) t.change.word ≡ true). let behind = written_behind k t.change.word inside written in omega arith)
+        (λ (own : t.change.word ≡ area_word (views k).lane). omega arith)
+        (whole_word (views k) (records_generation (Applying applied) (views k)) t.change.word fits.1 (entered_front applied (views k).log.entries t.change.word fits.0.of)))
+    seal_before k Clearing inside t fits = inl (t.is_old ∙ fits.before)
+    seal_before k Retiring inside t fits = let is = t.of_word in let at = lane_is k inside in let of = fits.of in absurd (omega arith)
+
+    seal_here : (v : View) (seal : ℕ) (phase : Phase) → seal ≡ seal_in phase v → SealIs v seal phase
+    seal_here v seal Idle e = e
+    seal_here v seal (Open slot pair) e = e
+    seal_here v seal Drawn e = e
+    seal_here v seal Sealing e = inl e
+    seal_here v seal (Applying applied) e = e
+    seal_here v seal Clearing e = inr e
+    seal_here v seal Retiring e = e
+
+    -- which seal the image has
+    pub seal_is : (k : ℕ) → k < o.lanes → SealIs (views k) (seal_word image k) (views k).log.phase
+    seal_is k inside =
         ⊎_elim (λ (same : slice_index image (area_word k + 1) ≡ slice_index (views k).words (area_word k + 1)).
-        same ∙ (ap (λ j. slice_index (views k).words (area_word j + 1)) (sym (lane_is k inside)) ∙ (x.each_lane k inside).log.unsealed))
-        (λ (t : OwnTakenBack (views k) image (area_word k + 1)). let is = t.of_word in absurd ((change_inside k k t.change inside inside t.there (omega arith) (omega arith)).1 t.of_word))
+        seal_here (views k) (seal_word image k) (views k).log.phase
+        (same ∙ (ap (λ j. slice_index (views k).words (area_word j + 1)) (sym (lane_is k inside)) ∙ (x.each_lane k inside).entries.seal)))
+        (λ (t : OwnTakenBack (views k) image (area_word k + 1)). seal_before k (views k).log.phase inside t (fits_of k t.change inside t.there))
         (area_left k (area_word k + 1) inside (omega arith) (omega arith))
-
-    pub generation_read : (k : ℕ) → k < o.lanes → generation image k ≡ generation_word image k
-    generation_read k inside = generation_unsealed image k (seal_stays k inside)
-
-    here_or_before : (k : ℕ) (phase : Phase) → k < o.lanes → ((c : Change) → Contains (views k).changes c → ChangeFits (views k) c phase) → (slice_index image (area_word k) ≡ generation_of (views k)) ⊎ OwnTakenBack (views k) image (area_word k)
-        → GenerationIs (views k) (generation_word image k) phase
-    here_or_before k Idle inside fits (inl same) = same
-    here_or_before k Idle inside fits (inr t) = absurd (fits t.change t.there)
-    here_or_before k (Open slot pair) inside fits (inl same) = same
-    here_or_before k (Open slot pair) inside fits (inr t) =
-        let is = t.of_word in
-        let at = lane_is k inside in
-        absurd (⊎_elim (λ part. let s = slot_part (views k).lane t.change.word part in let low = s.low in omega arith)
-        (λ logged. let behind = logged_behind k t.change.word inside logged in omega arith) (fits t.change t.there).of)
-    here_or_before k Drawn inside fits (inl same) = same
-    here_or_before k Drawn inside fits (inr t) = absurd (fits t.change t.there)
-    here_or_before k Sealing inside fits (inl same) = same
-    here_or_before k Sealing inside fits (inr t) = absurd (fits t.change t.there)
-    here_or_before k (Applying applied) inside fits (inl same) = same
-    here_or_before k (Applying applied) inside fits (inr t) = absurd (fits t.change t.there)
-    here_or_before k Clearing inside fits (inl same) = same
-    here_or_before k Clearing inside fits (inr t) = absurd (fits t.change t.there)
-    here_or_before k Retiring inside fits (inl same) = inl same
-    here_or_before k Retiring inside fits (inr t) = inr (ap (λ n. n + 1) t.is_old ∙ (fits t.change t.there).before)
-
-    -- which generation the image has
-    pub generation_is : (k : ℕ) → k < o.lanes → GenerationIs (views k) (generation_word image k) (views k).log.phase
-    generation_is k inside =
-        here_or_before k (views k).log.phase inside (λ c there. fits_of k c inside there)
-        (⊎_elim (λ (same : slice_index image (area_word k) ≡ slice_index (views k).words (area_word k)). inl (same ∙ ap (λ j. slice_index (views k).words (area_word j)) (sym (lane_is k inside))))
-        (λ (t : OwnTakenBack (views k) image (area_word k)). inr t)
-        (area_left k (area_word k) inside (omega arith) (omega arith)))
 
     -- a slot of which nothing is undrained
     pub slot_stays : (k slot : ℕ) → k < o.lanes → slot < 64 → is_drained_slot (views k) slot ≡ true → undo_slot image k slot ≡ undo_slot (views k).words (views k).lane slot

@@ -11,13 +11,15 @@ use Rattle.pm_view.specs.Log.Phase.{Idle, Open, Drawn, Sealing, Applying, Cleari
 use Rattle.pm_view.specs.Rights.{is_written}
 use Rattle.pm_view.specs.Steps.{Step}
 use Rattle.pm_view.specs.View.{View, Told, Numbered}
-use Rattle.pm_world.specs.Fits.{ShowsHold, LockFits, LogFits, PhaseFits, EndFits, LaneFits}
+use Rattle.pm_world.specs.Entries.{is_redone}
+use Rattle.pm_world.specs.Fits.{ShowsHold, LockFits, LogFits, PhaseFits, EndFits, EntriesFit, LaneFits, RedoneWord}
 use Rattle.pm_world.specs.Laws.{with_view}
 use Rattle.pm_world.specs.Memory.{Memory}
 use Rattle.pm_world.specs.Memory.Location.{PoolWord, LockWord}
 use Rattle.pm_world.specs.Opening.{Opening}
 use Rattle.pm_world.specs.Records.{records_generation, used_slots, difference_of}
 use Rattle.pm_world.specs.World.{Views}
+use Rattle.pm_world.proofs.Pairs.{redone_kept}
 
 ends_kept : (flies flies' : ℕ → List Final → Type 0) (v : View) → ((n : ℕ) → flies n (difference_of v) → flies' n (difference_of v)) → (number : Option ℕ) → EndFits flies v number → EndFits flies' v number
 ends_kept flies flies' v same None ends = ends
@@ -28,9 +30,10 @@ pub phase_kept : (flies flies' : ℕ → List Final → Type 0) (v : View) → (
 phase_kept flies flies' v same Idle fits = fits
 phase_kept flies flies' v same (Open slot pair) fits = fits
 phase_kept flies flies' v same Drawn fits = record { number = fits.number; drawn = fits.drawn; flying = same fits.number fits.flying; drained = fits.drained }
-phase_kept flies flies' v same Sealing fits = absurd fits
-phase_kept flies flies' v same (Applying applied) fits = absurd fits
-phase_kept flies flies' v same Clearing fits = absurd fits
+phase_kept flies flies' v same Sealing fits =
+    record { number = fits.number; drawn = fits.drawn; flying = same fits.number fits.flying; changes = fits.changes; whole = fits.whole; below = fits.below }
+phase_kept flies flies' v same (Applying applied) fits = fits
+phase_kept flies flies' v same Clearing fits = fits
 phase_kept flies flies' v same Retiring fits = record { changes = fits.changes; ends = ends_kept flies flies' v same v.number fits.ends }
 
 -- what the records are of is settled as before
@@ -45,23 +48,24 @@ log_kept settled settled' v generation same fits = record {
   };
   once = fits.once;
   stale = fits.stale;
-  unsealed = fits.unsealed;
-  no_entries = fits.no_entries;
 }
 
--- The lane that makes no step: its area and what it knows are the same, its locks stay, and what it may write is settled as before.
+-- The lane that makes no step: its area, what it knows and what it may write are the same, its locks stay, and what it may write is settled as before.
 pub lane_kept : (o : Opening) (old new : Memory) (settled settled' : ℕ → ℕ) (flies flies' : ℕ → List Final → Type 0) (j : ℕ) (v : View)
     → ((w : ℕ) → IsTrue (is_in_area v.lane w) → new (PoolWord w) ≡ old (PoolWord w))
     → ((w : ℕ) → Contains v.known w → new (PoolWord w) ≡ old (PoolWord w))
+    → ((w : ℕ) → IsTrue (is_written v w) → new (PoolWord w) ≡ old (PoolWord w))
     → ((line : ℕ) (write : Bool) → ShowsHold j write (old (LockWord line)) → ShowsHold j write (new (LockWord line)))
     → ((w : ℕ) → IsTrue (is_written v w) → settled' w ≡ settled w)
     → ((n : ℕ) → flies n (difference_of v) → flies' n (difference_of v))
     → LaneFits o old settled flies j v → LaneFits o new settled' flies' j v
-lane_kept o old new settled settled' flies flies' j v area known shows same flying fits = record {
+lane_kept o old new settled settled' flies flies' j v area known written shows same flying fits = record {
   lane = fits.lane;
   picture = record { area = λ w inside. area w inside ∙ fits.picture.area w inside; known = λ w there. known w there ∙ fits.picture.known w there; held = fits.picture.held; descriptors = fits.picture.descriptors };
   locks = All-weaker (LockFits o old j) (LockFits o new j) (λ l f. record { shows = shows l.line l.write f.shows; found = f.found }) v.locks fits.locks;
   log = log_kept settled settled' v (records_generation v.log.phase v) same fits.log;
+  entries = fits.entries;
+  redone = λ w again own. redone_kept old new settled settled' v w (written w own) (same w own) (fits.redone w again own);
   phase = phase_kept flies flies' v flying v.log.phase fits.phase;
   blocks = fits.blocks;
   first_generation = fits.first_generation;
@@ -105,8 +109,6 @@ log_again settled v changes calls phase seen call number entries actions generat
   };
   once = fits.once;
   stale = λ slot u low high there. fits.stale slot u (subst (λ n. n ≤ slot) used_here low) high there;
-  unsealed = fits.unsealed;
-  no_entries = fits.no_entries;
 }
   where
     used_here : used_slots phase (coursed v changes calls (in_phase phase v.log) seen call number entries actions) ≡ used_slots v.log.phase v
@@ -126,14 +128,18 @@ log_again settled v changes calls phase seen call number entries actions generat
 pub coursed_fits : (o : Opening) (mem : Memory) (settled : ℕ → ℕ) (flies : ℕ → List Final → Type 0) (k : ℕ) (v : View) (changes : List Change) (calls : ℕ) (log : Log) (seen : List Step) (call : List Told) (number : Option ℕ) (entries : List Numbered) (actions : List Told)
     → {before : ℕ → ℕ} {flew : ℕ → List Final → Type 0} → LaneFits o mem before flew k v
     → LogFits settled (coursed v changes calls log seen call number entries actions) (records_generation log.phase (coursed v changes calls log seen call number entries actions))
+    → EntriesFit (coursed v changes calls log seen call number entries actions)
+    → ((w : ℕ) → IsTrue (is_redone (coursed v changes calls log seen call number entries actions) w) → IsTrue (is_written v w) → RedoneWord mem settled (coursed v changes calls log seen call number entries actions) w)
     → PhaseFits flies (coursed v changes calls log seen call number entries actions) log.phase
     → length changes ≤ max_changes → ForSome v.stop (λ stop. calls ≤ stop)
     → LaneFits o mem settled flies k (coursed v changes calls log seen call number entries actions)
-coursed_fits o mem settled flies k v changes calls log seen call number entries actions fits log_fits phase_fits room within = record {
+coursed_fits o mem settled flies k v changes calls log seen call number entries actions fits log_fits entries_fit redone phase_fits room within = record {
   lane = record { lanes = fits.lane.lanes; zones = fits.lane.zones; lane = fits.lane.lane; size = fits.lane.size };
   picture = record { area = fits.picture.area; known = fits.picture.known; held = fits.picture.held; descriptors = fits.picture.descriptors };
   locks = fits.locks;
   log = log_fits;
+  entries = entries_fit;
+  redone = redone;
   phase = phase_fits;
   blocks = record { reserved = fits.blocks.reserved; freed = fits.blocks.freed };
   first_generation = fits.first_generation;

@@ -1,5 +1,6 @@
 pub mod Apart
 pub mod Chunks
+pub mod CrashEntries
 pub mod CrashLaw
 pub mod CrashLogs
 pub mod CrashRecords
@@ -7,8 +8,10 @@ pub mod CrashReplays
 pub mod CrashSays
 pub mod CrashSpellings
 pub mod CrashWords
+pub mod Decided
 pub mod Differences
 pub mod Draws
+pub mod Emptied
 pub mod Exclusion
 pub mod Frame
 pub mod Going
@@ -19,6 +22,7 @@ pub mod Longer
 pub mod Losses
 pub mod Numbers
 pub mod OpeningLaw
+pub mod Pairs
 pub mod Parts
 pub mod Recoursed
 pub mod Relocked
@@ -36,7 +40,10 @@ pub mod StepSeen
 pub mod StepSetStop
 pub mod StepStore
 pub mod StepTake
+pub mod StoreEntry
 pub mod StoreGeneration
+pub mod StorePair
+pub mod StoreSeal
 pub mod StoreSlot
 pub mod StoreWord
 pub mod Stored

@@ -35,9 +35,9 @@ in_flight : (image : List ℕ) (flies : ℕ → List Final → Type 0) (v : View
 in_flight image flies v n Idle fits number e = absurd (false≢true e)
 in_flight image flies v n (Open slot pair) fits number e = absurd (false≢true e)
 in_flight image flies v n Drawn fits number e = (subst (λ m. flies m (difference_of v)) (some-same fits.number n (sym fits.drawn ∙ number)) fits.flying, number)
-in_flight image flies v n Sealing fits number e = absurd fits
-in_flight image flies v n (Applying applied) fits number e = absurd fits
-in_flight image flies v n Clearing fits number e = absurd fits
+in_flight image flies v n Sealing fits number e = (subst (λ m. flies m (difference_of v)) (some-same fits.number n (sym fits.drawn ∙ number)) fits.flying, number)
+in_flight image flies v n (Applying applied) fits number e = absurd (false≢true e)
+in_flight image flies v n Clearing fits number e = absurd (false≢true e)
 in_flight image flies v n Retiring fits number e = (subst (EndFits flies v) number fits.ends, number)
 
 pub loses-flight : (image : List ℕ) (flies : ℕ → List Final → Type 0) (v : View) (n : ℕ) → PhaseFits flies v v.log.phase → loses image v n ≡ true → flies n (difference_of v) × (flight_in v.log.phase v.number ≡ Some n)
@@ -52,7 +52,7 @@ flight-number : (phase : Phase) (number : Option ℕ) (n : ℕ) → flight_in ph
 flight-number Idle number n e = absurd (none-some n e)
 flight-number (Open slot pair) number n e = absurd (none-some n e)
 flight-number Drawn number n e = e
-flight-number Sealing number n e = absurd (none-some n e)
+flight-number Sealing number n e = e
 flight-number (Applying applied) number n e = absurd (none-some n e)
 flight-number Clearing number n e = absurd (none-some n e)
 flight-number Retiring number n e = e

@@ -1,9 +1,9 @@
 -- Over the words that recovery leaves a world begins.
-use Rattle.std.proofs.Common.{◌≡◌, ℕ, zero, suc, ◌+◌, ◌^◌, ◌<◌, ◌≤◌, inl, false, if◌then◌else◌, Contains, List, [], length, slice_get, slice_index, Option, is_none, refl, sym, ap, ◌∙◌, subst, arith}
+use Rattle.std.proofs.Common.{◌≡◌, ℕ, zero, suc, ◌+◌, ◌^◌, ◌<◌, ◌≤◌, inl, false, ◌&&◌, if◌then◌else◌, Contains, List, [], length, slice_get, slice_index, Option, is_none, refl, sym, ap, ◌∙◌, subst, arith}
 use Rattle.std.specs.Int.{bit_at}
 use Rattle.std.specs.List.{list_any}
 use Rattle.std.specs.Option.{ForSome}
-use Rattle.std.proofs.lemmas.Bool.{cond-false, and_right}
+use Rattle.std.proofs.lemmas.Bool.{cond-false, and_right, false≢true}
 use Rattle.std.proofs.lemmas.List.Elements.{All-nil, All-same}
 use Rattle.std.proofs.lemmas.Nat.Bits.{bit_at-zero}
 use Rattle.std.proofs.lemmas.Option.{none-some}
@@ -13,7 +13,8 @@ use Rattle.pm_view.specs.Log.{Recorded, Final, Log}
 use Rattle.pm_view.specs.Log.Phase.{Idle}
 use Rattle.pm_view.specs.View.{View}
 use Rattle.pm_image.specs.Logs.{generation_word, undo_slot}
-use Rattle.pm_world.specs.Fits.{PictureFits, LockFits, LogFits, IdleFits, PhaseFits, LaneFits}
+use Rattle.pm_world.specs.Entries.{HasNone, is_entered, is_redoing, seal_in}
+use Rattle.pm_world.specs.Fits.{EntriesFit, PictureFits, LockFits, LogFits, IdleFits, PhaseFits, LaneFits}
 use Rattle.pm_world.specs.History.{Flies, settled, replayed, AreNumbered, entries_by}
 use Rattle.pm_world.specs.Memory.{Memory}
 use Rattle.pm_world.specs.Opening.{Opening}
@@ -62,8 +63,17 @@ module _ (o : Opening) (mem : Memory) (k : ℕ) (v : View) (clean : IsClean o k)
     each = λ slot r at. absurd (no_record slot r at);
     once = λ slot other r q w at at' of of'. absurd (no_record slot r at);
     stale = λ slot u used inside stands. subst (λ g. u.generation < g) (sym (ap (λ p. records_generation p v) phase_is ∙ generation_is)) (clean.stale slot u inside (ap undo_of (sym (slot_is slot)) ∙ stands));
-    unsealed = word_is (area_word v.lane + 1) ∙ (ap (λ j. slice_index o.words (area_word j + 1)) fresh.lane.lane ∙ clean.unsealed);
-    no_entries = ap (λ (l : Log). l.entries) fresh.idle;
+  }
+
+  entries_none : v.log.entries ≡ []
+  entries_none = ap (λ (l : Log). l.entries) fresh.idle
+
+  fresh_entries : EntriesFit v
+  fresh_entries = record {
+    most = let none : length v.log.entries ≡ 0 = ap length entries_none in omega arith;
+    each = λ i f at. absurd (none-some f (sym (ap (λ entries. slice_get entries i) entries_none) ∙ at));
+    seal = word_is (area_word v.lane + 1) ∙ (ap (λ j. slice_index o.words (area_word j + 1)) fresh.lane.lane ∙ (clean.unsealed ∙ ap (λ p. seal_in p v) (sym phase_is)));
+    none = subst (λ p. HasNone p v) (sym phase_is) entries_none;
   }
 
   pub fresh_lane : (settled : ℕ → ℕ) (flies : ℕ → List Final → Type 0) → LaneFits o mem settled flies k v
@@ -72,6 +82,8 @@ module _ (o : Opening) (mem : Memory) (k : ℕ) (v : View) (clean : IsClean o k)
     picture = fresh_picture;
     locks = All-same (LockFits o mem k) v.locks [] fresh.no_locks (All-nil (LockFits o mem k));
     log = fresh_log settled;
+    entries = fresh_entries;
+    redone = λ w again. absurd (false≢true (sym (ap (λ p. is_redoing p && is_entered v.log.entries w) phase_is) ∙ again));
     phase = subst (PhaseFits flies v) (sym phase_is) (let idle : IdleFits v = record { no_records = records_none; drained = fresh.nothing_changed } in idle);
     blocks = record { reserved = fresh.nothing_reserved; freed = fresh.nothing_freed };
     first_generation = let is = generation_is in let first = clean.first_generation in omega arith;

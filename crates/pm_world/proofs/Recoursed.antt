@@ -1,13 +1,15 @@
 -- A step that changes no word and leaves the lane's log, locks, number and entries, but for which of its changes are undrained.
-use Rattle.std.proofs.Common.{◌≡◌, ℕ, ◌+◌, ◌<◌, ◌≤◌, ⊎_elim, Bool, true, ◌&&◌, All, List, [], ◌∷◌, length, Option, Some, None, refl, sym, ap, ◌∙◌, subst, arith}
+use Rattle.std.proofs.Common.{◌≡◌, ℕ, ◌+◌, ◌<◌, ◌≤◌, ◌⊎◌, inl, inr, ⊎_elim, IsTrue, Bool, true, ◌&&◌, All, List, [], ◌∷◌, length, Option, Some, None, refl, sym, ap, ◌∙◌, subst, arith}
 use Rattle.std.specs.Option.{ForSome}
-use Rattle.std.proofs.lemmas.Bool.{and_parts, and_from, or_cases, or_left, or_right, false≢true, false_from_ne_true}
+use Rattle.std.proofs.lemmas.Bool.{and_parts, and_from, or_cases, or_left, or_right}
 use Rattle.pm_view.specs.declared.change.Change.{Change}
+use Rattle.pm_view.specs.Area.{part_of}
+use Rattle.pm_view.specs.Area.Part.{EntryWord, SlotWord}
 use Rattle.pm_view.specs.Log.{Phase, Recorded, Final}
 use Rattle.pm_view.specs.Log.Phase.{Idle, Open, Drawn, Sealing, Applying, Clearing, Retiring}
 use Rattle.pm_view.specs.Steps.{Step}
 use Rattle.pm_view.specs.View.{View, Told}
-use Rattle.pm_world.specs.Fits.{LaneFits, LogFits, PhaseFits, EndFits, OpenChange, RetiringChange}
+use Rattle.pm_world.specs.Fits.{LaneFits, LogFits, PhaseFits, EndFits, OpenChange, RetiringChange, SealChange, AppliedChange}
 use Rattle.pm_world.specs.History.{Entry, Flies, settled}
 use Rattle.pm_world.specs.Laws.{with_view}
 use Rattle.pm_world.specs.Lawful.{generation_limit}
@@ -17,6 +19,7 @@ use Rattle.pm_world.specs.Opening.{Opening}
 use Rattle.pm_world.specs.Records.{covers, is_drained_slot, is_logged_from, is_logged, records_generation, used_slots}
 use Rattle.pm_world.specs.World.{Views, World, may_draw_count}
 use Rattle.pm_world.proofs.Frame.{coursed, coursed_fits, log_again}
+use Rattle.pm_world.proofs.Pairs.{entries_again, redone_again, in_log_before}
 use Rattle.pm_world.proofs.Worlds.{own, still}
 
 -- where no slot is undrained that was drained, a word that the log would restore is one still
@@ -39,6 +42,15 @@ logged_upto v v' slot (r ∷ records) drained w e =
     (λ (later : is_logged_from v (slot + 1) records w ≡ true). or_right (covers r w && is_drained_slot v' slot) (is_logged_from v' (slot + 1) records w) (logged_upto v v' (slot + 1) records (λ s low. drained s (omega arith)) w later))
     (or_cases (covers r w && is_drained_slot v slot) (is_logged_from v (slot + 1) records w) e)
 
+-- a change of a slot, of a pair or of a word that the log would restore is one still
+pub open_again : (v v' : View) (c : Change) → v'.lane ≡ v.lane → ((w : ℕ) → is_logged v w ≡ true → is_logged v' w ≡ true) → OpenChange v c → OpenChange v' c
+open_again v v' c lane logged of = record {
+  whole = of.whole;
+  of = ⊎_elim (λ (slot : part_of v.lane c.word ≡ SlotWord). inl (ap (λ l. part_of l c.word) lane ∙ slot))
+      (λ (other : (part_of v.lane c.word ≡ EntryWord) ⊎ IsTrue (is_logged v c.word)). inr (⊎_elim (λ (pair : part_of v.lane c.word ≡ EntryWord). inl (ap (λ l. part_of l c.word) lane ∙ pair))
+      (λ (there : is_logged v c.word ≡ true). inr (logged c.word there)) other)) of.of;
+}
+
 ends_again : (flies : ℕ → List Final → Type 0) (v : View) (changes : List Change) (calls : ℕ) (seen : List Step) (call : List Told) (actions : List Told) (number : Option ℕ)
     → EndFits flies v number → EndFits flies (coursed v changes calls v.log seen call v.number v.entries actions) number
 ends_again flies v changes calls seen call actions None ends = ends
@@ -50,6 +62,8 @@ pub record Leaves (v v' : View) (changes : List Change) : Type 0 where
   pub none : v.changes ≡ [] → changes ≡ []
   pub open_ : All (OpenChange v) v.changes → All (OpenChange v') changes
   pub retiring : All (RetiringChange v) v.changes → All (RetiringChange v') changes
+  pub sealed : (old : ℕ) → All (SealChange v old) v.changes → All (SealChange v' old) changes
+  pub applied : (n : ℕ) → All (AppliedChange v n) v.changes → All (AppliedChange v' n) changes
   pub fewer : length changes ≤ length v.changes
 
 phase_again : (flies : ℕ → List Final → Type 0) (v : View) (changes : List Change) (calls : ℕ) (seen : List Step) (call : List Told) (actions : List Told)
@@ -57,11 +71,28 @@ phase_again : (flies : ℕ → List Final → Type 0) (v : View) (changes : List
     → (phase : Phase) → PhaseFits flies v phase → PhaseFits flies (coursed v changes calls v.log seen call v.number v.entries actions) phase
 phase_again flies v changes calls seen call actions leaves Idle fits = record { no_records = fits.no_records; drained = leaves.none fits.drained }
 phase_again flies v changes calls seen call actions leaves (Open slot pair) fits =
-    record { undrawn = fits.undrawn; short = fits.short; stands = fits.stands; changes = leaves.open_ fits.changes; no_pair = fits.no_pair }
+    record { undrawn = fits.undrawn; short = fits.short; stands = fits.stands; short_pair = fits.short_pair; in_pairs = fits.in_pairs; pair_stands = fits.pair_stands; changes = leaves.open_ fits.changes }
 phase_again flies v changes calls seen call actions leaves Drawn fits = record { number = fits.number; drawn = fits.drawn; flying = fits.flying; drained = leaves.none fits.drained }
-phase_again flies v changes calls seen call actions leaves Sealing fits = absurd fits
-phase_again flies v changes calls seen call actions leaves (Applying applied) fits = absurd fits
-phase_again flies v changes calls seen call actions leaves Clearing fits = absurd fits
+phase_again flies v changes calls seen call actions leaves Sealing fits = record {
+  number = fits.number;
+  drawn = fits.drawn;
+  flying = fits.flying;
+  changes = leaves.sealed 0 fits.changes;
+  whole = record { front = fits.whole.front; are = fits.whole.are; owned = fits.whole.owned };
+  below = fits.below;
+}
+phase_again flies v changes calls seen call actions leaves (Applying applied) fits = record {
+  no_records = fits.no_records;
+  most = fits.most;
+  changes = leaves.applied applied fits.changes;
+  whole = record { front = fits.whole.front; are = fits.whole.are; owned = fits.whole.owned };
+  last = fits.last;
+}
+phase_again flies v changes calls seen call actions leaves Clearing fits = record {
+  no_records = fits.no_records;
+  changes = leaves.sealed (length v.log.entries) fits.changes;
+  whole = record { front = fits.whole.front; are = fits.whole.are; owned = fits.whole.owned };
+}
 phase_again flies v changes calls seen call actions leaves Retiring fits = record { changes = leaves.retiring fits.changes; ends = ends_again flies v changes calls seen call actions v.number fits.ends }
 
 -- how many slots are used, by the records alone
@@ -98,7 +129,9 @@ module _ (o : Opening) (old : Memory) (views : Views) (log : List Entry) (decide
       (coursed_fits o old (settled o log decided) (Flies log decided k) k v changes calls v.log seen call v.number v.entries actions mine
       (subst (LogFits (settled o log decided) v') (sym (generation_again v changes calls seen call actions v.log.phase))
       (log_again (settled o log decided) v changes calls v.log.phase seen call v.number v.entries actions (records_generation v.log.phase v) refl mine.log))
+      (entries_again v v' refl refl (λ w low high. refl) (λ w own_word. own_word) refl refl mine.entries)
+      (λ w again own_word. redone_again old (settled o log decided) v v' w refl (mine.redone w again own_word))
       (phase_again (Flies log decided k) v changes calls seen call actions leaves v.log.phase mine.phase)
       (let few = leaves.fewer in let room = mine.room in omega arith) within)
-      (λ w no. false_from_ne_true (is_logged v w) (λ yes. false≢true (sym no ∙ logged_more v v' leaves.slots 0 v.log.records w yes)))
+      (λ w. in_log_before v v' w (logged_more v v' leaves.slots 0 v.log.records w) (λ e. e))
       refl (λ n flying. flying) room refl refl more

@@ -1,7 +1,7 @@
 -- The lane's own facts where its locks, what it knows and what it saw change, and no word does.
-use Rattle.std.proofs.Common.{◌≡◌, ◌≢◌, ℕ, ◌+◌, ◌-◌, ◌<◌, ◌≤◌, inl, inr, ⊎_elim, le_refl, Bool, true, IsTrue, All, Contains, List, Option, Some, None, refl, sym, ap, ◌∙◌, subst}
+use Rattle.std.proofs.Common.{◌≡◌, ◌≢◌, ℕ, ◌+◌, ◌-◌, ◌<◌, ◌≤◌, inl, inr, ⊎_elim, le_refl, Bool, true, false, cond, eqb, ◌&&◌, IsTrue, All, Contains, List, length, refl, sym, ap, ◌∙◌, subst}
 use Rattle.std.specs.Int.{bit_at}
-use Rattle.std.proofs.lemmas.Bool.{cases_eq}
+use Rattle.std.proofs.lemmas.Bool.{cases_eq, false≢true}
 use Rattle.std.proofs.lemmas.List.Elements.{All-weaker}
 use Rattle.pm_view.specs.Counts.{IsAtStop}
 use Rattle.pm_view.specs.Held.{is_held}
@@ -10,9 +10,11 @@ use Rattle.pm_view.specs.Log.Phase.{Idle, Open, Drawn, Sealing, Applying, Cleari
 use Rattle.pm_view.specs.Rights.{is_written}
 use Rattle.pm_view.specs.Steps.{Step}
 use Rattle.pm_view.specs.View.{View, Lock}
-use Rattle.pm_world.specs.Fits.{ShowsHold, LockFits, LaneFits, LogFits, PhaseFits, EndFits, OpenChange, RetiringChange}
+use Rattle.pm_world.specs.Entries.{is_entered, is_redoing}
+use Rattle.pm_world.specs.Fits.{ShowsHold, LockFits, LaneFits, EntriesFit, LogFits, PhaseFits, OpenChange}
 use Rattle.pm_world.specs.History.{Entry, Flies, settled}
 use Rattle.pm_world.specs.Laws.{with_view}
+use Rattle.pm_world.specs.Lawful.{IsEarly}
 use Rattle.pm_world.specs.Memory.{Memory, IsSameBut}
 use Rattle.pm_world.specs.Memory.Location.{PoolWord, LockWord, CommitCounter, StopWord}
 use Rattle.pm_world.specs.Opening.{Opening}
@@ -27,48 +29,51 @@ use Rattle.pm_world.proofs.Worlds.{quiet, unlogged_before, room_kept, at_stop_ke
 abbrev pub relocked : View → List Lock → List ℕ → List Step → View
 relocked v locks known seen = record v { locks = locks; known = known; seen = seen }
 
-pub generation_same : (phase : Phase) (v v' : View) → generation_of v' ≡ generation_of v → records_generation phase v' ≡ records_generation phase v
-generation_same Idle v v' same = same
-generation_same (Open slot pair) v v' same = same
-generation_same Drawn v v' same = same
-generation_same Sealing v v' same = same
-generation_same (Applying applied) v v' same = same
-generation_same Clearing v v' same = same
-generation_same Retiring v v' same = ap (λ n. n - 1) same
+pub generation_same : (phase : Phase) (v v' : View) → generation_of v' ≡ generation_of v → v'.log.entries ≡ v.log.entries → records_generation phase v' ≡ records_generation phase v
+generation_same Idle v v' same entries = same
+generation_same (Open slot pair) v v' same entries = same
+generation_same Drawn v v' same entries = same
+generation_same Sealing v v' same entries = same
+generation_same (Applying applied) v v' same entries = λ i. cond (eqb applied (length (entries i))) (same i) (same i + 1)
+generation_same Clearing v v' same entries = same
+generation_same Retiring v v' same entries = ap (λ n. n - 1) same
 
 module _ (v : View) (locks : List Lock) (known : List ℕ) (seen : List Step) where
   abbrev v' : View
   v' = relocked v locks known seen
 
-  ends_relocked : (flies : ℕ → List Final → Type 0) (number : Option ℕ) → EndFits flies v number → EndFits flies v' number
-  ends_relocked flies None ends = ends
-  ends_relocked flies (Some n) ends = ends
-
   open_relocked : All (OpenChange v) v.changes → All (OpenChange v') v.changes
   open_relocked all = All-weaker (OpenChange v) (OpenChange v') (λ c of. record { whole = of.whole; of = of.of }) v.changes all
 
-  phase_relocked : (flies : ℕ → List Final → Type 0) (phase : Phase) → PhaseFits flies v phase → PhaseFits flies v' phase
-  phase_relocked flies Idle fits = record { no_records = fits.no_records; drained = fits.drained }
-  phase_relocked flies (Open slot pair) fits = record { undrawn = fits.undrawn; short = fits.short; stands = fits.stands; changes = open_relocked fits.changes; no_pair = fits.no_pair }
-  phase_relocked flies Drawn fits = record { number = fits.number; drawn = fits.drawn; flying = fits.flying; drained = fits.drained }
-  phase_relocked flies Sealing fits = absurd fits
-  phase_relocked flies (Applying applied) fits = absurd fits
-  phase_relocked flies Clearing fits = absurd fits
-  phase_relocked flies Retiring fits = record {
-    changes = All-weaker (RetiringChange v) (RetiringChange v') (λ c of. record { whole = of.whole; of = of.of; before = of.before }) v.changes fits.changes;
-    ends = ends_relocked flies v.number fits.ends;
-  }
+  phase_relocked : (flies : ℕ → List Final → Type 0) (phase : Phase) → IsEarly phase → PhaseFits flies v phase → PhaseFits flies v' phase
+  phase_relocked flies Idle early fits = record { no_records = fits.no_records; drained = fits.drained }
+  phase_relocked flies (Open slot pair) early fits =
+      record { undrawn = fits.undrawn; short = fits.short; stands = fits.stands; short_pair = fits.short_pair; in_pairs = fits.in_pairs; pair_stands = fits.pair_stands; changes = open_relocked fits.changes }
+  phase_relocked flies Drawn early fits = absurd early
+  phase_relocked flies Sealing early fits = absurd early
+  phase_relocked flies (Applying applied) early fits = absurd early
+  phase_relocked flies Clearing early fits = absurd early
+  phase_relocked flies Retiring early fits = absurd early
 
-  -- what is known stays so and is held; what the records are of may still be written, and is known
-  pub relocked_fits : (o : Opening) (old new : Memory) (settled : ℕ → ℕ) (flies : ℕ → List Final → Type 0) (k : ℕ) → ((w : ℕ) → new (PoolWord w) ≡ old (PoolWord w))
+  none_redone : (phase : Phase) → IsEarly phase → is_redoing phase ≡ false
+  none_redone Idle early = refl
+  none_redone (Open slot pair) early = refl
+  none_redone Drawn early = absurd early
+  none_redone Sealing early = absurd early
+  none_redone (Applying applied) early = absurd early
+  none_redone Clearing early = absurd early
+  none_redone Retiring early = absurd early
+
+  -- In a phase where locks come and go: what is known stays so and is held; what the records are of may still be written, and is known
+  pub relocked_fits : (o : Opening) (old new : Memory) (settled : ℕ → ℕ) (flies : ℕ → List Final → Type 0) (k : ℕ) → IsEarly v.log.phase → ((w : ℕ) → new (PoolWord w) ≡ old (PoolWord w))
       → ((w : ℕ) → Contains known w → Contains v.known w) → ((w : ℕ) → Contains known w → IsTrue (is_held v' w)) → All (LockFits o new k) locks
       → ((slot : ℕ) (r : Recorded) → IsRecordAt v slot r → (w : ℕ) → IsTrue (is_written v w) → Contains v.known w → IsTrue (is_written v' w) × Contains known w)
-      → LaneFits o old settled flies k v → LaneFits o new settled flies k v'
-  relocked_fits o old new settled flies k same fewer held locks_fit kept fits = record {
+      → EntriesFit v' → LaneFits o old settled flies k v → LaneFits o new settled flies k v'
+  relocked_fits o old new settled flies k early same fewer held locks_fit kept entries_fit fits = record {
     lane = record { lanes = fits.lane.lanes; zones = fits.lane.zones; lane = fits.lane.lane; size = fits.lane.size };
     picture = record { area = λ w inside. same w ∙ fits.picture.area w inside; known = λ w there. same w ∙ fits.picture.known w (fewer w there); held = held; descriptors = fits.picture.descriptors };
     locks = locks_fit;
-    log = subst (LogFits settled v') (sym (generation_same v.log.phase v v' refl)) (let f = fits.log in record {
+    log = subst (LogFits settled v') (sym (generation_same v.log.phase v v' refl refl)) (let f = fits.log in record {
       most = f.most;
       stored = f.stored;
       each = λ slot r there. let g = f.each slot r there in record {
@@ -78,10 +83,10 @@ module _ (v : View) (locks : List Lock) (known : List ℕ) (seen : List Step) wh
       };
       once = f.once;
       stale = λ slot u low. f.stale slot u (subst (λ n. n ≤ slot) (used_again v.log.phase v v' refl) low);
-      unsealed = f.unsealed;
-      no_entries = f.no_entries;
     });
-    phase = phase_relocked flies v.log.phase fits.phase;
+    entries = entries_fit;
+    redone = λ w again. absurd (false≢true (sym (ap (λ b. b && is_entered v.log.entries w) (none_redone v.log.phase early)) ∙ again));
+    phase = phase_relocked flies v.log.phase early fits.phase;
     blocks = record { reserved = fits.blocks.reserved; freed = fits.blocks.freed };
     first_generation = fits.first_generation;
     last_generation = fits.last_generation;
@@ -101,7 +106,7 @@ module _ (o : Opening) (old : Memory) (views : Views) (log : List Entry) (decide
       let v'' : View = relocked v locks known seen in
       quiet o old views log decided world k inside v is v'' new
       (λ j low other. lane_kept o old new (settled o log decided) (settled o log decided) (Flies log decided j) (Flies log decided j) j (views j)
-      (λ w in_area. same (PoolWord w) (pool-lock w line)) (λ w there. same (PoolWord w) (pool-lock w line))
+      (λ w in_area. same (PoolWord w) (pool-lock w line)) (λ w there. same (PoolWord w) (pool-lock w line)) (λ w written. same (PoolWord w) (pool-lock w line))
       (λ at write held. ⊎_elim (λ (this : at ≡ line). subst (λ l. ShowsHold j write (new (LockWord l))) (sym this) (shows j write low other (subst (λ l. ShowsHold j write (old (LockWord l))) this held)))
       (λ (differ : at ≢ line). subst (ShowsHold j write) (sym (same (LockWord at) (other_lock at line differ))) held) (cases_eq at line))
       (λ w written. refl) (λ n flies. flies) (world.each_lane j low))

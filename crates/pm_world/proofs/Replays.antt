@@ -1,6 +1,7 @@
 -- What a history makes of one word.
 use Rattle.std.proofs.Common.{◌≡◌, ℕ, zero, suc, ◌+◌, ◌<◌, ⊎_elim, eqb, Bool, true, false, cond, ◌||◌, Contains, List, [], ◌∷◌, ◌++◌, refl, sym, ap, ◌∙◌, arith}
 use Rattle.std.proofs.lemmas.Bool.{cases_Bool, cond-true, cond-false, false≢true}
+use Rattle.pm_view.specs.Bits.{with_bits}
 use Rattle.pm_view.specs.Log.{Final}
 use Rattle.pm_world.specs.History.{Entry, made_final, is_final, replayed, AreNumbered}
 use Rattle.pm_world.proofs.Histories.{number_from}
@@ -13,6 +14,12 @@ made_final-other (f ∷ difference) w x other =
     ⊎_elim (λ (here : eqb f.word w ≡ true). absurd (false≢true (sym other ∙ ap (λ b. b || is_final difference w) here)))
     (λ (there : eqb f.word w ≡ false). ap (made_final difference w) (cond-false _ _ _ there) ∙ made_final-other difference w x (sym (ap (λ b. b || is_final difference w) there) ∙ other))
     (cases_Bool (eqb f.word w))
+
+-- one difference after another
+pub made_final-append : (first second : List Final) (w x : ℕ) → made_final (first ++ second) w x ≡ made_final second w (made_final first w x)
+unfolding made_final
+made_final-append [] second w x = refl
+made_final-append (f ∷ first) second w x = made_final-append first second w (cond (eqb f.word w) (with_bits f.mask f.bits x) x)
 
 -- the entry is of other words, or is left out
 passed_over : (keep : ℕ → Bool) (e : Entry) (w x : ℕ) → is_final e.difference w ≡ false → cond (keep e.number) (made_final e.difference w x) x ≡ x

@@ -128,8 +128,8 @@ module _ (old : View → Type 0) (n : ℕ) (counts : (v : View) → old v → n 
   some_undrained some v seen = cond-false (eqb (length v.changes) 0) [] (Drain ∷ []) (let c = counts v seen in grind (arith, nat_tests))
 
   pub may_drain : n ≢ 0 → IsReady old drains → (v : View) × (old v × Allowed v Drain)
-  unfolding IsReady
-  may_drain some r = (r.0, (r.1.0, (let c = counts r.0 r.1.0 in omega (arith, c, some))))
+  unfolding IsReady Ready
+  may_drain some r = (r.0, (r.1.0, (subst (Ready r.0) (some_undrained some r.0 r.1.0) r.1.1).0))
 
   pub drains_once : {T : Type 0} (new : View → Type 0) (result : Result T Stopped) → n ≢ 0 → MadeOrStopped old new (λ _. Drain) result → Runs old new drains result
   unfolding Runs after_all

@@ -1,11 +1,12 @@
 -- A draw keeps the world, and adds the lane's call to its history.
-use Rattle.std.proofs.Common.{◌≡◌, ◌≢◌, ℕ, zero, suc, ◌+◌, ◌-◌, ◌<◌, ◌≤◌, inl, inr, ⊎_elim, le_refl, Bool, true, false, cond, eqb, ◌&&◌, ◌||◌, IsTrue, All, Contains, List, [], ◌∷◌, ◌++◌, length, map, flat_map, slice_get, slice_index, ◌^◌, Some, is_none, refl, sym, ap, ◌∙◌, subst, arith, eq-eqb, ne_eqb, append-nil, length-append}
+use Rattle.std.proofs.Common.{◌≡◌, ◌≢◌, ℕ, zero, suc, ◌+◌, ◌-◌, ◌<◌, ◌≤◌, inl, inr, ⊎_elim, le_refl, Bool, true, false, cond, eqb, ◌&&◌, ◌||◌, IsTrue, All, Any, Contains, List, [], ◌∷◌, ◌++◌, length, map, flat_map, slice_get, slice_index, ◌^◌, Some, is_none, refl, sym, ap, ◌∙◌, subst, arith, eq-eqb, ne_eqb, append-nil, length-append}
 use Rattle.std.specs.Int.{bit_at}
 use Rattle.std.specs.List.{list_any, range_with_len}
 use Rattle.std.proofs.lemmas.Option.{none-some}
-use Rattle.std.proofs.lemmas.Bool.{cases_Bool, cond-true, cond-false, and_from, lt-ltb, false≢true, false_from_ne_true}
+use Rattle.std.proofs.lemmas.Bool.{cases_Bool, cond-true, cond-false, and_from, lt-ltb, or_right, false≢true, false_from_ne_true}
 use Rattle.std.proofs.lemmas.List.Elements.{All-weaker, Contains-append_left, Contains-push, Contains-push_cases}
 use Rattle.std.proofs.lemmas.List.Folds.{list_any_at}
+use Rattle.pm_view.specs.Area.{is_in_area}
 use Rattle.pm_view.specs.Counts.{IsAtStop}
 use Rattle.pm_view.specs.Log.{Phase, Recorded, Final, log_drawn, phase_drawn}
 use Rattle.pm_view.specs.Log.Phase.{Idle, Drawn}
@@ -13,6 +14,7 @@ use Rattle.pm_view.specs.Rights.{is_written}
 use Rattle.pm_view.specs.Steps.Step.{Draw, NumberSeen}
 use Rattle.pm_view.specs.View.{View, Numbered}
 use Rattle.pm_world.specs.Course.{flight, flight_in, entry_of, is_empty}
+use Rattle.pm_world.specs.Entries.{HasNone, is_redoing, seal_in}
 use Rattle.pm_world.specs.Fits.{LaneFits, LogFits, PhaseFits, ShowsHold}
 use Rattle.pm_world.specs.History.{Entry, Flies, settled, is_final, AreNumbered, entries_by}
 use Rattle.pm_world.specs.Laws.{Keeps, with_view}
@@ -20,17 +22,18 @@ use Rattle.pm_world.specs.Lawful.{MayDraw, generation_limit}
 use Rattle.pm_world.specs.Memory.{Memory, Becomes}
 use Rattle.pm_world.specs.Memory.Location.{PoolWord, LockWord, CommitCounter, StopWord}
 use Rattle.pm_world.specs.Opening.{Opening, Guards}
-use Rattle.pm_world.specs.Records.{generation_of, finals_of, records_generation, used_slots, difference_of}
+use Rattle.pm_world.specs.Records.{generation_of, finals_of, is_recorded, pool_entries, records_generation, used_slots, difference_of}
 use Rattle.pm_world.specs.World.{Views, World, EntryFits, is_low, may_draw, may_draw_count}
-use Rattle.pm_world.proofs.Differences.{difference-recorded}
+use Rattle.pm_world.proofs.Apart.{outside_behind}
+use Rattle.pm_world.proofs.Differences.{difference-words, difference-unentered, pool_entries-final}
 use Rattle.pm_world.proofs.Draws.{draws_fewer}
 use Rattle.pm_world.proofs.Exclusion.{writes_under, one_writer}
 use Rattle.pm_world.proofs.Frame.{coursed, in_phase, lane_kept, log_again, coursed_fits, view_here, view_all}
 use Rattle.pm_world.proofs.Locations.{pool-counter, lock-counter, stop-counter}
 use Rattle.pm_world.proofs.Longer.{replayed-skip, empty-other, numbered-more, entries_by-more}
 use Rattle.pm_world.proofs.Numbers.{number_upto, own_below}
+use Rattle.pm_world.proofs.Pairs.{difference-written, entries_sealed, in_log_before, none_redone}
 use Rattle.pm_world.proofs.Replays.{made_final-other, replayed-same}
-use Rattle.pm_world.proofs.Slots.{word_recorded}
 use Rattle.pm_world.proofs.Worlds.{own, own_numbers, each_lane', unlogged_here, unlogged_else, unlogged_before, hold_kept, entry_kept, at_stop_kept, stop_kept}
 
 or_false : (b : Bool) → (b || false) ≡ b
@@ -42,9 +45,9 @@ and_false true = refl
 and_false false = refl
 
 -- a record is of some word
-some_finals : (words : List ℕ) (from n : ℕ) (rest : List Final) → 1 ≤ n → is_empty (map (λ w. record { word = w; mask = 2 ^ 64 - 1; bits = slice_index words w }) (range_with_len from n) ++ rest) ≡ false
-some_finals words from zero rest some = absurd (omega arith)
-some_finals words from (suc n) rest some = refl
+some_finals : (words : List ℕ) (from n : ℕ) (rest more : List Final) → 1 ≤ n → is_empty ((map (λ w. record { word = w; mask = 2 ^ 64 - 1; bits = slice_index words w }) (range_with_len from n) ++ rest) ++ more) ≡ false
+some_finals words from zero rest more some = absurd (omega arith)
+some_finals words from (suc n) rest more some = refl
 
 module _ (o : Opening) (old : Memory) (views : Views) (log : List Entry) (decided : ℕ → Bool) (world : World o old views log decided) (k : ℕ) (inside : k < o.lanes) (v : View) (is : views k ≡ v)
     (new : Memory) (n : ℕ) (moves : Becomes CommitCounter n old new) (next : n ≡ old CommitCounter + 1) (may : MayDraw v) where
@@ -90,7 +93,7 @@ module _ (o : Opening) (old : Memory) (views : Views) (log : List Entry) (decide
 
   -- a word of the call's difference is one that the lane writes
   written : (w : ℕ) → is_final (difference_of v) w ≡ true → IsTrue (is_written v w)
-  written w final = (word_recorded S v (generation_of v) w open_log (sym (difference-recorded v w) ∙ final)).fits.own
+  written w final = difference-written S v (generation_of v) w open_log mine.entries final
 
   others_fly : (j : ℕ) → j < o.lanes → j ≢ k → (m : ℕ) → Flies log decided j m (difference_of (views j)) → Flies log' decided' j m (difference_of (views j))
   others_fly j low other m fl =
@@ -104,7 +107,7 @@ module _ (o : Opening) (old : Memory) (views : Views) (log : List Entry) (decide
         last = λ later w there after final.
             ⊎_elim (λ (before : Contains log later). fl.last later w before after final)
             (λ (this : entry_of v n ≡ later). false_from_ne_true (is_final later.difference w) (λ again. other (one_writer o old j k w world.sound
-            (writes_under o old j (views j) w fits.locks (word_recorded S (views j) (records_generation (views j).log.phase (views j)) w fits.log (sym (difference-recorded (views j) w) ∙ final)).fits.own)
+            (writes_under o old j (views j) w fits.locks (difference-written S (views j) (records_generation (views j).log.phase (views j)) w fits.log fits.entries final))
             (writes_under o old k v w mine.locks (written w (ap (λ (e : Entry). is_final e.difference w) this ∙ again))))))
             (Contains-push_cases log (entry_of v n) later there);
       }
@@ -140,14 +143,14 @@ module _ (o : Opening) (old : Memory) (views : Views) (log : List Entry) (decide
 
   -- the call is decided at once, or is to be decided
   draws_to : (phase : Phase) → ((u : View) → records_generation phase u ≡ generation_of u) → ((u : View) → used_slots phase u ≡ length u.log.records)
-      → PhaseFits (Flies log' decided' k) (view' phase) phase → (is_empty (difference_of v) ≡ false → flight_in phase (Some n) ≡ Some n)
+      → 0 ≡ seal_in phase (view' phase) → HasNone phase (view' phase) → is_redoing phase ≡ false → PhaseFits (Flies log' decided' k) (view' phase) phase → (is_empty (difference_of v) ≡ false → flight_in phase (Some n) ≡ Some n)
       → World o new (with_view views k (view' phase)) log' decided'
-  draws_to phase generation used fits flies =
+  draws_to phase generation used seal none quiet fits flies =
       let v' : View = view' phase in
       let same = moves.0 in
       let keeps : (j : ℕ) (u : View) (flew flies : ℕ → List Final → Type 0) → ((m : ℕ) → flew m (difference_of u) → flies m (difference_of u)) → LaneFits o old S flew j u → LaneFits o new (settled o log' decided') flies j u =
       λ j u flew flies' on. lane_kept o old new S (settled o log' decided') flew flies' j u
-      (λ w in_area. same (PoolWord w) (pool-counter w)) (λ w known. same (PoolWord w) (pool-counter w)) (λ line write. subst (ShowsHold j write) (sym (same (LockWord line) (lock-counter line)))) (λ w own_word. settles w) on in
+      (λ w in_area. same (PoolWord w) (pool-counter w)) (λ w known. same (PoolWord w) (pool-counter w)) (λ w own_word. same (PoolWord w) (pool-counter w)) (λ line write. subst (ShowsHold j write) (sym (same (LockWord line) (lock-counter line)))) (λ w own_word. settles w) on in
       record {
         sound = world.sound;
         each_lane = each_lane' o old views log decided world k inside v is v' new (settled o log' decided') (λ j. Flies log' decided' j)
@@ -155,9 +158,12 @@ module _ (o : Opening) (old : Memory) (views : Views) (log : List Entry) (decide
             (keeps k v' (Flies log' decided' k) (Flies log' decided' k) (λ m flying. flying)
             (coursed_fits o old S (Flies log' decided' k) k v v.changes v.calls (in_phase phase v.log) v.seen v.call (Some n) (v.entries ++ record { number = n; call = v.call } ∷ []) v.actions mine
             (subst (LogFits S v') (sym (generation v')) (log_again S v v.changes v.calls phase v.seen v.call (Some n) (v.entries ++ record { number = n; call = v.call } ∷ []) v.actions (generation_of v) (used v ∙ sym (ap (λ p. used_slots p v) may.is_open)) open_log))
+            (entries_sealed v v' refl refl (λ w low high. refl) (λ w own_word. own_word) (mine.entries.seal ∙ (ap (λ p. seal_in p v) may.is_open ∙ seal)) none mine.entries)
+            (λ w again. absurd (false≢true (sym (none_redone v' w quiet) ∙ again)))
             fits mine.room mine.within));
         each_word = λ w heap all. same (PoolWord w) (pool-counter w) ∙ (world.each_word w heap
-            (unlogged_before o old views log decided world k inside v is v' w (unlogged_here o old views log decided world k inside v is v' w all) (unlogged_else o old views log decided world k inside v is v' w all)) ∙ sym (settles w));
+            (unlogged_before o old views log decided world k inside v is v' w (in_log_before v v' w (λ e. e) (λ redone. absurd (false≢true (sym (none_redone v w (ap is_redoing may.is_open)) ∙ redone)))
+            (unlogged_here o old views log decided world k inside v is v' w all)) (unlogged_else o old views log decided world k inside v is v' w all)) ∙ sym (settles w));
         each_line = λ line bit set. hold_kept o old views log decided world k inside v is v' line bit (λ there. there) (world.each_line line bit (subst (λ m. bit_at m bit ≡ 1) (same (LockWord line) (lock-counter line)) set));
         each_entry = λ e there. ⊎_elim (λ (before : Contains log e). entry_kept o old views log decided world k inside v is v' e decided' (λ open_. sym (old_number e before) ∙ open_)
             (λ open_ flying. absurd (none-some e.number (sym (ap (λ p. flight_in p v.number) may.is_open) ∙ flying))) (world.each_entry e before))
@@ -178,18 +184,32 @@ module _ (o : Opening) (old : Memory) (views : Views) (log : List Entry) (decide
             (λ (t : (j : ℕ) × (j < o.lanes) × IsAtStop (views j)). inr (at_stop_kept o old views log decided world k inside v is v' (stop_kept v v' refl (le_refl v.calls)) t)) world.stop_word;
       }
 
-  draws_with : (records : List Recorded) → v.log.records ≡ records → World o new (with_view views k (view' (phase_drawn records []))) log' decided'
-  draws_with [] e = draws_to Idle (λ u. refl) (λ u. refl) (record { no_records = e; drained = may.drained })
-      (λ some. absurd (false≢true (sym some ∙ ap (λ rs. is_empty (flat_map (finals_of v.words) rs)) e)))
-  draws_with (r ∷ records) e =
-      let some : is_empty (difference_of v) ≡ false = ap (λ rs. is_empty (flat_map (finals_of v.words) rs)) e ∙ some_finals v.words r.word (length r.old) (flat_map (finals_of v.words) records) (open_log.each 0 r (ap (λ rs. slice_get rs 0) e)).some in
-      draws_to Drawn (λ u. refl) (λ u. refl) (record { number = n; drawn = refl; flying = this_flies some; drained = may.drained }) (λ _. refl)
+  -- an entry of a word that the lane writes is one of the difference
+  some_entries : Any (λ (f : Final). IsTrue (is_written v f.word)) v.log.entries → is_empty (difference_of v) ≡ false
+  some_entries (i, f, low, at, own_word) =
+      let under = writes_under o old k v f.word mine.locks own_word in
+      let behind = world.sound.behind_areas under.0 f.word under.1 in
+      let out : is_in_area v.lane f.word ≡ false = ap (λ j. is_in_area j f.word) mine.lane.lane ∙ outside_behind o.lanes k f.word inside behind in
+      let listed : is_final v.log.entries f.word ≡ true = list_any_at (λ (g : Final). eqb g.word f.word) v.log.entries i f low (ap (λ (g : Final). eqb g.word f.word) at ∙ eq-eqb f.word f.word refl) in
+      false_from_ne_true (is_empty (difference_of v)) (λ empty. false≢true (sym (empty-other (difference_of v) f.word empty)
+      ∙ (difference-words v f.word ∙ or_right (is_recorded v.log.records f.word) (is_final (pool_entries v) f.word) (pool_entries-final v f.word out ∙ listed))))
 
-  drawn_log : log_drawn v.log.phase v.log ≡ in_phase (phase_drawn v.log.records []) v.log
-  drawn_log = ap (λ p. log_drawn p v.log) may.is_open ∙ ap (λ entries. in_phase (phase_drawn v.log.records entries) v.log) mine.log.no_entries
+  to_decide : is_empty (difference_of v) ≡ false → World o new (with_view views k (view' Drawn)) log' decided'
+  to_decide some = draws_to Drawn (λ u. refl) (λ u. refl) refl tt refl (record { number = n; drawn = refl; flying = this_flies some; drained = may.drained }) (λ _. refl)
+
+  draws_with : (records : List Recorded) (entries : List Final) → v.log.records ≡ records → v.log.entries ≡ entries → World o new (with_view views k (view' (phase_drawn records entries))) log' decided'
+  draws_with [] [] e f = draws_to Idle (λ u. refl) (λ u. refl) refl f refl (record { no_records = e; drained = may.drained })
+      (λ some. absurd (false≢true (sym some ∙ (ap is_empty (difference-unentered v f) ∙ ap (λ rs. is_empty (flat_map (finals_of v.words) rs)) e))))
+  draws_with [] (g ∷ entries) e f = to_decide (⊎_elim (λ (none : v.log.entries ≡ []). let both : length v.log.entries ≡ length (g ∷ entries) = ap length f in let empty : length v.log.entries ≡ 0 = ap length none in absurd (omega arith)) some_entries may.entered)
+  draws_with (r ∷ records) entries e f =
+      to_decide (ap (λ rs. is_empty (flat_map (finals_of v.words) rs ++ pool_entries v)) e
+      ∙ some_finals v.words r.word (length r.old) (flat_map (finals_of v.words) records) (pool_entries v) (open_log.each 0 r (ap (λ rs. slice_get rs 0) e)).some)
+
+  drawn_log : log_drawn v.log.phase v.log ≡ in_phase (phase_drawn v.log.records v.log.entries) v.log
+  drawn_log = ap (λ p. log_drawn p v.log) may.is_open
 
   drawn_world : World o new (with_view views k (record v { log = log_drawn v.log.phase v.log; number = Some n; entries = v.entries ++ record { number = n; call = v.call } ∷ [] })) log' decided'
-  drawn_world = subst (λ l. World o new (with_view views k (record v { log = l; number = Some n; entries = v.entries ++ record { number = n; call = v.call } ∷ [] })) log' decided') (sym drawn_log) (draws_with v.log.records refl)
+  drawn_world = subst (λ l. World o new (with_view views k (record v { log = l; number = Some n; entries = v.entries ++ record { number = n; call = v.call } ∷ [] })) log' decided') (sym drawn_log) (draws_with v.log.records v.log.entries refl refl)
 
   own_drawn : All (λ (e : Numbered). e.number < n) v.entries
   own_drawn = let l = last in All-weaker (λ (e : Numbered). e.number < 1 + length log) (λ (e : Numbered). e.number < n) (λ e low. omega arith) v.entries

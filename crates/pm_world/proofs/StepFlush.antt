@@ -1,19 +1,19 @@
 -- A flush keeps the world.
-use Rattle.std.proofs.Common.{◌≡◌, ℕ, ◌+◌, ◌⊎◌, inl, inr, ⊎_elim, IsTrue, le_of_eq, Bool, true, false, not, cond, ◌||◌, List, [], ◌∷◌, map, refl, sym, ap, ◌∙◌, arith}
+use Rattle.std.proofs.Common.{◌≡◌, ℕ, ◌+◌, le_of_eq, Bool, true, false, not, cond, ◌||◌, List, [], ◌∷◌, map, take, refl, sym, ap, ◌∙◌, arith}
 use Rattle.std.specs.List.{list_any}
 use Rattle.std.proofs.lemmas.List.{length-map}
 use Rattle.std.proofs.lemmas.List.Elements.{All-map, All-weaker}
 use Rattle.pm_view.specs.declared.change.Change.{Change}
-use Rattle.pm_view.specs.Area.{area_word, part_of}
-use Rattle.pm_view.specs.Area.Part.{SlotWord}
+use Rattle.pm_view.specs.Area.{area_word}
 use Rattle.pm_view.specs.Changes.{is_in_line, mark, flushed}
 use Rattle.pm_view.specs.Steps.Step.{Flush}
 use Rattle.pm_view.specs.View.{View}
 use Rattle.pm_image.specs.Logs.{slot_line}
-use Rattle.pm_world.specs.Fits.{OpenChange, RetiringChange}
+use Rattle.pm_world.specs.Entries.{is_entered}
+use Rattle.pm_world.specs.Fits.{OpenChange, RetiringChange, SealChange, AppliedChange}
 use Rattle.pm_world.specs.Laws.{Keeps}
 use Rattle.pm_world.specs.Records.{is_drained_slot, is_logged, generation_of}
-use Rattle.pm_world.proofs.Recoursed.{Leaves, logged_more, recoursed}
+use Rattle.pm_world.proofs.Recoursed.{Leaves, logged_more, open_again, recoursed}
 use Rattle.pm_world.proofs.Worlds.{room_kept}
 
 marked_line : (line : ℕ) (c : Change) (b : Bool) → is_in_line line (cond b (record c { flushed = true }) c) ≡ is_in_line line c
@@ -31,16 +31,23 @@ slots_marked line calls v slot e = ap not (any_marked line (slot_line v.lane slo
 logged_marked : (line calls : ℕ) (v : View) (w : ℕ) → is_logged v w ≡ true → is_logged (record v { changes = flushed line v.changes; calls = calls }) w ≡ true
 logged_marked line calls v w e = logged_more v (record v { changes = flushed line v.changes; calls = calls }) (slots_marked line calls v) 0 v.log.records w e
 
-of_marked : (v v' : View) (c : Change) → v'.lane ≡ v.lane → ((w : ℕ) → is_logged v w ≡ true → is_logged v' w ≡ true) → (part_of v.lane c.word ≡ SlotWord) ⊎ IsTrue (is_logged v c.word) → (part_of v'.lane c.word ≡ SlotWord) ⊎ IsTrue (is_logged v' c.word)
-of_marked v v' c lane logged of = ⊎_elim (λ (slot : part_of v.lane c.word ≡ SlotWord). inl (ap (λ l. part_of l c.word) lane ∙ slot)) (λ (there : is_logged v c.word ≡ true). inr (logged c.word there)) of
-
 open_marked : (v v' : View) (c : Change) → v'.lane ≡ v.lane → ((w : ℕ) → is_logged v w ≡ true → is_logged v' w ≡ true) → OpenChange v c → (b : Bool) → OpenChange v' (cond b (record c { flushed = true }) c)
-open_marked v v' c lane logged of true = record { whole = of.whole; of = of_marked v v' c lane logged of.of }
-open_marked v v' c lane logged of false = record { whole = of.whole; of = of_marked v v' c lane logged of.of }
+open_marked v v' c lane logged of true = record { whole = of.whole; of = (open_again v v' c lane logged of).of }
+open_marked v v' c lane logged of false = record { whole = of.whole; of = (open_again v v' c lane logged of).of }
 
 retiring_marked : (v v' : View) (c : Change) → v'.lane ≡ v.lane → generation_of v' ≡ generation_of v → RetiringChange v c → (b : Bool) → RetiringChange v' (cond b (record c { flushed = true }) c)
 retiring_marked v v' c lane generation of true = record { whole = of.whole; of = of.of ∙ ap area_word (sym lane); before = of.before ∙ sym generation }
 retiring_marked v v' c lane generation of false = record { whole = of.whole; of = of.of ∙ ap area_word (sym lane); before = of.before ∙ sym generation }
+
+sealed_marked : (v v' : View) (old : ℕ) (c : Change) → v'.lane ≡ v.lane → SealChange v old c → (b : Bool) → SealChange v' old (cond b (record c { flushed = true }) c)
+sealed_marked v v' old c lane of true = record { whole = of.whole; of = of.of ∙ ap (λ l. area_word l + 1) (sym lane); before = of.before }
+sealed_marked v v' old c lane of false = record { whole = of.whole; of = of.of ∙ ap (λ l. area_word l + 1) (sym lane); before = of.before }
+
+applied_marked : (v v' : View) (n : ℕ) (c : Change) → v'.lane ≡ v.lane → generation_of v' ≡ generation_of v → v'.log.entries ≡ v.log.entries → AppliedChange v n c → (b : Bool) → AppliedChange v' n (cond b (record c { flushed = true }) c)
+applied_marked v v' n c lane generation entries of true =
+    record { whole = of.whole; of = ap (λ fs. is_entered (take n fs) c.word) entries ∙ of.of; next = λ here. of.next (here ∙ ap area_word lane) ∙ sym generation }
+applied_marked v v' n c lane generation entries of false =
+    record { whole = of.whole; of = ap (λ fs. is_entered (take n fs) c.word) entries ∙ of.of; next = λ here. of.next (here ∙ ap area_word lane) ∙ sym generation }
 
 pub flushes : (line : ℕ) → Keeps (Flush line)
 flushes line o old new views log decided k v world inside is lawful same =
@@ -50,6 +57,8 @@ flushes line o old new views log decided k v world inside is lawful same =
       none = λ empty. ap (map (mark line)) empty;
       open_ = λ all. All-map (OpenChange v') (mark line) v.changes (All-weaker (OpenChange v) (λ c. OpenChange v' (mark line c)) (λ c of. open_marked v v' c refl (logged_marked line (v.calls + 1) v) of (is_in_line line c)) v.changes all);
       retiring = λ all. All-map (RetiringChange v') (mark line) v.changes (All-weaker (RetiringChange v) (λ c. RetiringChange v' (mark line c)) (λ c of. retiring_marked v v' c refl refl of (is_in_line line c)) v.changes all);
+      sealed = λ before all. All-map (SealChange v' before) (mark line) v.changes (All-weaker (SealChange v before) (λ c. SealChange v' before (mark line c)) (λ c of. sealed_marked v v' before c refl of (is_in_line line c)) v.changes all);
+      applied = λ n all. All-map (AppliedChange v' n) (mark line) v.changes (All-weaker (AppliedChange v n) (λ c. AppliedChange v' n (mark line c)) (λ c of. applied_marked v v' n c refl refl refl of (is_in_line line c)) v.changes all);
       fewer = le_of_eq (length-map v.changes (mark line));
     } in (
       recoursed o old views log decided world k inside v is new (flushed line v.changes) (v.calls + 1) v.seen v.call v.actions same leaves

@@ -14,10 +14,11 @@ use Rattle.pm_view.specs.Rights.{is_written}
 use Rattle.pm_view.specs.Steps.Step.{Give}
 use Rattle.pm_view.specs.View.{View, Lock}
 use Rattle.pm_memory.specs.LockWords.{without_lane}
-use Rattle.pm_world.specs.Fits.{ShowsHold, LockFits, LaneFits, PhaseFits}
+use Rattle.pm_world.specs.Entries.{HasNone}
+use Rattle.pm_world.specs.Fits.{EntriesFit, ShowsHold, LockFits, LaneFits, PhaseFits}
 use Rattle.pm_world.specs.History.{Entry, Flies, settled}
 use Rattle.pm_world.specs.Laws.{Keeps, with_view}
-use Rattle.pm_world.specs.Lawful.{MayGive, GiveFits}
+use Rattle.pm_world.specs.Lawful.{IsEarly, MayGive, GiveFits}
 use Rattle.pm_world.specs.Memory.{Memory, Becomes}
 use Rattle.pm_world.specs.Memory.Location.{PoolWord, LockWord}
 use Rattle.pm_world.specs.Opening.{Opening}
@@ -26,6 +27,7 @@ use Rattle.pm_world.specs.World.{Views, World, IsHold, hold_bit}
 use Rattle.pm_world.proofs.Frame.{view_else}
 use Rattle.pm_world.proofs.LockBits.{no_two_holds, given_shows, given_bits}
 use Rattle.pm_world.proofs.Locations.{pool-lock, other_lock}
+use Rattle.pm_world.proofs.Pairs.{entries_again, no_entries, none_again, seal_again}
 use Rattle.pm_world.proofs.Relocked.{relocked, relocked_fits, relocks}
 use Rattle.pm_world.proofs.Stored.{written_under}
 use Rattle.pm_world.proofs.Worlds.{own, hold_kept}
@@ -86,26 +88,42 @@ module _ (o : Opening) (old : Memory) (views : Views) (log : List Entry) (decide
   hold : (l : Lock) × (Contains v.locks l × (l.line ≡ line))
   hold = let t = Any-from_list_any (λ (l : Lock). eqb l.line line) v.locks may.held in (t.1, ((t.0, t.2, t.3), eqb-true t.1.line line t.4))
 
-  -- no record, or nothing was found under the lock
-  unused : (phase : Phase) → v.log.phase ≡ phase → (v.log.records ≡ []) ⊎ All (λ (l : Lock). l.line ≡ line → l.block ≡ None) v.locks
-  unused Idle e = inl (subst (PhaseFits (Flies log decided k) v) e mine.phase).no_records
-  unused (Open slot pair) e = inr (subst (λ p. All (λ (l : Lock). l.line ≡ line → GiveFits v l p) v.locks) e may.fits)
-  unused Drawn e = absurd (All-contains (λ (l : Lock). l.line ≡ line → ⊥) v.locks hold.0 (subst (λ p. All (λ (l : Lock). l.line ≡ line → GiveFits v l p) v.locks) e may.fits) hold.1.0 hold.1.1)
-  unused Sealing e = absurd (subst (PhaseFits (Flies log decided k) v) e mine.phase)
-  unused (Applying applied) e = absurd (subst (PhaseFits (Flies log decided k) v) e mine.phase)
-  unused Clearing e = absurd (subst (PhaseFits (Flies log decided k) v) e mine.phase)
-  unused Retiring e = absurd (All-contains (λ (l : Lock). l.line ≡ line → ⊥) v.locks hold.0 (subst (λ p. All (λ (l : Lock). l.line ≡ line → GiveFits v l p) v.locks) e may.fits) hold.1.0 hold.1.1)
+  -- in other phases no lock goes back
+  no_give : All (λ (l : Lock). l.line ≡ line → ⊥) v.locks → ⊥
+  no_give none = All-contains (λ (l : Lock). l.line ≡ line → ⊥) v.locks hold.0 none hold.1.0 hold.1.1
+
+  -- nothing is in the log, or nothing was found under the lock
+  unused : (phase : Phase) → v.log.phase ≡ phase → IsEarly phase × (((v.log.records ≡ []) × (v.log.entries ≡ [])) ⊎ All (λ (l : Lock). l.line ≡ line → l.block ≡ None) v.locks)
+  unused Idle e = (tt, inl ((subst (PhaseFits (Flies log decided k) v) e mine.phase).no_records, subst (λ p. HasNone p v) e mine.entries.none))
+  unused (Open slot pair) e = (tt, inr (subst (λ p. All (λ (l : Lock). l.line ≡ line → GiveFits v l p) v.locks) e may.fits))
+  unused Drawn e = absurd (no_give (subst (λ p. All (λ (l : Lock). l.line ≡ line → GiveFits v l p) v.locks) e may.fits))
+  unused Sealing e = absurd (no_give (subst (λ p. All (λ (l : Lock). l.line ≡ line → GiveFits v l p) v.locks) e may.fits))
+  unused (Applying applied) e = absurd (no_give (subst (λ p. All (λ (l : Lock). l.line ≡ line → GiveFits v l p) v.locks) e may.fits))
+  unused Clearing e = absurd (no_give (subst (λ p. All (λ (l : Lock). l.line ≡ line → GiveFits v l p) v.locks) e may.fits))
+  unused Retiring e = absurd (no_give (subst (λ p. All (λ (l : Lock). l.line ≡ line → GiveFits v l p) v.locks) e may.fits))
+
+  -- what is written stays so, where nothing was found under the lock
+  still_written : All (λ (l : Lock). l.line ≡ line → l.block ≡ None) v.locks → (w : ℕ) → IsTrue (is_written v w) → IsTrue (is_written bare w)
+  still_written found w written = list_any-filter (λ (l : Lock). l.write && is_some l.block && is_under w l) (λ (l : Lock). not (eqb l.line line)) v.locks
+      (λ n d low under. not_from_false (eqb (get_or v.locks n d).line line) (ne_eqb (get_or v.locks n d).line line (λ same. no_block (get_or v.locks n d) w (found n d low same) under))) written
 
   -- what is recorded may still be written, and is known
   kept : (slot : ℕ) (r : Recorded) → IsRecordAt v slot r → (w : ℕ) → IsTrue (is_written v w) → Contains v.known w → IsTrue (is_written bare w) × Contains (filter (is_held bare) v.known) w
   kept slot r there w written known =
-      ⊎_elim (λ (none : v.log.records ≡ []). absurd (none-some r (sym (ap (λ rs. slice_get rs slot) none) ∙ there)))
+      ⊎_elim (λ (none : (v.log.records ≡ []) × (v.log.entries ≡ [])). absurd (none-some r (sym (ap (λ rs. slice_get rs slot) none.0) ∙ there)))
       (λ (found : All (λ (l : Lock). l.line ≡ line → l.block ≡ None) v.locks).
-      let still : is_written bare w ≡ true = list_any-filter (λ (l : Lock). l.write && is_some l.block && is_under w l) (λ (l : Lock). not (eqb l.line line)) v.locks
-      (λ n d low under. not_from_false (eqb (get_or v.locks n d).line line) (ne_eqb (get_or v.locks n d).line line (λ same. no_block (get_or v.locks n d) w (found n d low same) under))) written in
+      let still : is_written bare w ≡ true = still_written found w written in
       let held : is_held bare w ≡ true = or_left (is_in_area v.lane w || list_any (is_under w) others) (is_reserved bare w) (or_right (is_in_area v.lane w) (list_any (is_under w) others) (written_under others w still)) in
       (still, contains-filter (is_held bare) v.known w known held))
-      (unused v.log.phase refl)
+      (unused v.log.phase refl).1
+
+  entries_kept : EntriesFit (relocked v others (filter (is_held bare) v.known) v.seen)
+  entries_kept =
+      let v' : View = relocked v others (filter (is_held bare) v.known) v.seen in
+      ⊎_elim (λ (none : (v.log.records ≡ []) × (v.log.entries ≡ [])).
+      no_entries v v' none.1 refl (mine.entries.seal ∙ sym (seal_again v.log.phase v v' refl)) (none_again v.log.phase v v' refl mine.entries.none))
+      (λ (found : All (λ (l : Lock). l.line ≡ line → l.block ≡ None) v.locks). entries_again v v' refl refl (λ w low high. refl) (still_written found) refl refl mine.entries)
+      (unused v.log.phase refl).1
 
   -- the other lanes' holds of the line stay
   shows_on : (j : ℕ) (write : Bool) → j < o.lanes → j ≢ k → ShowsHold j write (old (LockWord line)) → ShowsHold j write (new (LockWord line))
@@ -142,7 +160,7 @@ module _ (o : Opening) (old : Memory) (views : Views) (log : List Entry) (decide
 
   given : World o new (with_view views k (relocked v others known v.seen)) log decided
   given = relocks o old views log decided world k inside v is new line others known v.seen moves.0 shows_on
-      (relocked_fits v others known v.seen o old new (settled o log decided) (Flies log decided k) k (λ w. moves.0 (PoolWord w) (pool-lock w line))
+      (relocked_fits v others known v.seen o old new (settled o log decided) (Flies log decided k) k (unused v.log.phase refl).0 (λ w. moves.0 (PoolWord w) (pool-lock w line))
       (filter-contains (is_held bare) v.known)
       (λ w there. filter-passed (is_held bare) v.known w there)
       (λ n d low.
@@ -150,7 +168,7 @@ module _ (o : Opening) (old : Memory) (views : Views) (log : List Entry) (decide
       let f = All-filter (λ (m : Lock). not (eqb m.line line)) (LockFits o old k) v.locks mine.locks n d low in
       let apart = eqb-false l.line line (not-true (eqb l.line line) (filter_passes (λ (m : Lock). not (eqb m.line line)) v.locks n d low)) in
       record { shows = subst (ShowsHold k l.write) (sym (moves.0 (LockWord l.line) (other_lock l.line line apart))) f.shows; found = f.found })
-      kept mine)
+      kept entries_kept mine)
       lines (λ can. can)
 
 pub gives : (line : ℕ) → Keeps (Give line)

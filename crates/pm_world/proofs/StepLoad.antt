@@ -1,8 +1,8 @@
 -- A load keeps the world: what it finds is what the lane's view knows, and of a word that tells of a block what the view's locks then say.
-use Rattle.std.proofs.Common.{◌≡◌, ◌≢◌, ℕ, zero, suc, ◌+◌, ◌*◌, ◌/◌, ◌<◌, ◌≤◌, ◌⊎◌, inl, inr, ⊎_elim, le_refl, Bool, true, false, cond, eqb, leb, ltb, ◌&&◌, ◌||◌, All, Any, Contains, List, [], ◌∷◌, length, map, set, slice_get, slice_index, get_or, Option, Some, None, is_some, refl, sym, ap, ◌∙◌, subst, arith, length-set, get_or-set_same, get_or-set_other}
+use Rattle.std.proofs.Common.{◌≡◌, ◌≢◌, ℕ, zero, suc, ◌+◌, ◌*◌, ◌/◌, ◌<◌, ◌≤◌, ◌⊎◌, inl, inr, ⊎_elim, le_refl, Bool, true, false, cond, eqb, leb, ltb, ◌&&◌, ◌||◌, IsTrue, All, Any, Contains, List, [], ◌∷◌, ◌++◌, length, map, set, slice_get, slice_index, get_or, Option, Some, None, is_some, refl, sym, ap, ◌∙◌, subst, arith, length-set, get_or-set_same, get_or-set_other}
 use Rattle.std.specs.Int.{bit_at}
 use Rattle.std.specs.List.{list_any}
-use Rattle.std.proofs.lemmas.Bool.{cases_eq, cases_lt, cases_Bool, cond-true, cond-false, and_from, le-leb, lt-ltb, and_cases, or_cases, or_left, or_right, leb-false, ltb-false, eqb-true}
+use Rattle.std.proofs.lemmas.Bool.{cases_eq, cases_lt, cases_Bool, cond-true, cond-false, and_from, and_parts, le-leb, lt-ltb, and_cases, or_cases, or_left, or_right, leb-false, ltb-false, eqb-true}
 use Rattle.std.proofs.lemmas.List.{length-map, get_or-map, set-get_or}
 use Rattle.std.proofs.lemmas.List.Elements.{All-map, All-weaker, All-head, All-tail}
 use Rattle.std.proofs.lemmas.List.Folds.{Any-from_list_any}
@@ -19,18 +19,21 @@ use Rattle.pm_view.specs.Steps.Step.{Load}
 use Rattle.pm_view.specs.View.{View, Lock}
 use Rattle.pm_view.specs.Views.{with_block, with_seen, loaded}
 use Rattle.pm_image.specs.Logs.{undo_slot}
-use Rattle.pm_world.specs.Fits.{ShowsHold, LockFits, LaneFits, LogFits, PhaseFits, EndFits, OpenChange, RetiringChange}
+use Rattle.pm_world.specs.Entries.{AreWhole, entry_word, is_entered, is_redoing, is_redone}
+use Rattle.pm_world.specs.Fits.{EntriesFit, ShowsHold, LockFits, LaneFits, LogFits, PhaseFits, EndFits, RedoneWord, OpenChange, RetiringChange, SealChange, AppliedChange}
 use Rattle.pm_world.specs.History.{Entry, Flies, settled}
 use Rattle.pm_world.specs.Laws.{Keeps, with_view}
 use Rattle.pm_world.specs.Lawful.{generation_limit}
 use Rattle.pm_world.specs.Memory.{Memory, IsSame}
 use Rattle.pm_world.specs.Memory.Location.{PoolWord, LockWord, CommitCounter, StopWord}
 use Rattle.pm_world.specs.Opening.{Opening, IsChunk}
-use Rattle.pm_world.specs.Records.{generation_of, slot_word, difference_of, records_generation}
+use Rattle.pm_world.specs.Records.{generation_of, slot_word, pool_entries, difference_of, records_generation}
 use Rattle.pm_world.specs.World.{Views, World, hold_bit}
 use Rattle.pm_world.proofs.Apart.{held_core}
 use Rattle.pm_world.proofs.Chunks.{told_by_bitmap, block_same, under_found, written_found, found_block, opening_word}
+use Rattle.pm_world.proofs.Exclusion.{writes_under}
 use Rattle.pm_world.proofs.Frame.{lane_kept}
+use Rattle.pm_world.proofs.Pairs.{entered, entries_again, redone_again, redone_kept, whole_again}
 use Rattle.pm_world.proofs.Recoursed.{used_again}
 use Rattle.pm_world.proofs.Relocked.{generation_same}
 use Rattle.pm_world.proofs.Stored.{slot_set_other}
@@ -164,7 +167,7 @@ module _ (o : Opening) (old : Memory) (views : Views) (log : List Entry) (decide
   recorded_same slot r i there low = agrees (r.word + i) (mine.picture.known (r.word + i) ((mine.log.each slot r there).each i low).known)
 
   same_difference : difference_of v' ≡ difference_of v
-  same_difference = difference_same v.words words' v.log.records recorded_same
+  same_difference = ap (λ difference. difference ++ pool_entries v) (difference_same v.words words' v.log.records recorded_same)
 
   log_now : LogFits (settled o log decided) v' (records_generation v.log.phase v)
   log_now = let fits = mine.log in record {
@@ -177,13 +180,33 @@ module _ (o : Opening) (old : Memory) (views : Views) (log : List Entry) (decide
     };
     once = fits.once;
     stale = λ s u low high there. fits.stale s u (subst (λ n. n ≤ s) (used_again v.log.phase v v' refl) low) high (ap undo_of (sym (slot_same s high)) ∙ there);
-    unsealed = area_same (area_word v.lane + 1) (omega arith) (omega arith) ∙ fits.unsealed;
-    no_entries = fits.no_entries;
   }
+
+  pairs_same : (u : ℕ) → 520 + 1024 * v.lane ≤ u → u < 648 + 1024 * v.lane → slice_index words' u ≡ slice_index v.words u
+  pairs_same u low high = area_same u (omega arith) (omega arith)
+
+  entries_now : EntriesFit v'
+  entries_now = entries_again v v' refl refl pairs_same written_now refl (area_same (area_word v.lane + 1) (omega arith) (omega arith)) mine.entries
+
+  whole_now : (g : ℕ) → AreWhole v g → AreWhole v' g
+  whole_now g whole = whole_again v v' refl refl pairs_same written_now g whole
+
+  -- what may be written now and is redone could be written before
+  redone_now : (u : ℕ) → IsTrue (is_redone v' u) → IsTrue (is_written v' u) → RedoneWord new (settled o log decided) v' u
+  redone_now u again own_word =
+      ⊎_elim (λ (before : IsTrue (is_written v u)). redone_kept old new (settled o log decided) (settled o log decided) v' u (same (PoolWord u)) refl
+      (redone_again old (settled o log decided) v v' u refl (mine.redone u again before)))
+      (λ (generation : u ≡ area_word v.lane).
+      let under = writes_under o new k v' u locks_fit own_word in
+      let behind = world.sound.behind_areas under.0 u under.1 in let lane = mine.lane.lane in absurd (omega arith))
+      (entered v u mine.entries (and_parts (is_redoing v.log.phase) (is_entered v.log.entries u) again).1)
 
   ends_now : (number : Option ℕ) → EndFits (Flies log decided k) v number → EndFits (Flies log decided k) v' number
   ends_now None restored = λ slot r i there low. recorded_same slot r i there low ∙ restored slot r i there low
   ends_now (Some n) flying = subst (Flies log decided k n) (sym same_difference) flying
+
+  sealed_now : (before : ℕ) → All (SealChange v before) v.changes → All (SealChange v' before) v.changes
+  sealed_now before all = All-weaker (SealChange v before) (SealChange v' before) (λ c of. record { whole = of.whole; of = of.of; before = of.before }) v.changes all
 
   phase_now : (phase : Phase) → v.log.phase ≡ phase → PhaseFits (Flies log decided k) v phase → PhaseFits (Flies log decided k) v' phase
   phase_now Idle e fits = record { no_records = fits.no_records; drained = fits.drained }
@@ -195,12 +218,32 @@ module _ (o : Opening) (old : Memory) (views : Views) (log : List Entry) (decide
         (λ (full : 64 ≤ length v.log.records). area_same (slot_word v.lane (length v.log.records) + i) (omega (arith, full, most, low, short)) (omega (arith, full, most, low, short)) ∙ fits.stands i low)
         (cases_lt (length v.log.records) 64);
     changes = All-weaker (OpenChange v) (OpenChange v') (λ c of. record { whole = of.whole; of = of.of }) v.changes fits.changes;
-    no_pair = fits.no_pair;
+    short_pair = fits.short_pair;
+    in_pairs = fits.in_pairs;
+    pair_stands = λ i low. let room = fits.in_pairs in area_same (entry_word v.lane (length v.log.entries) + i) (omega (arith, room, low)) (omega (arith, room, low)) ∙ fits.pair_stands i low;
   }
   phase_now Drawn e fits = record { number = fits.number; drawn = fits.drawn; flying = subst (Flies log decided k fits.number) (sym same_difference) fits.flying; drained = fits.drained }
-  phase_now Sealing e fits = absurd fits
-  phase_now (Applying applied) e fits = absurd fits
-  phase_now Clearing e fits = absurd fits
+  phase_now Sealing e fits = record {
+    number = fits.number;
+    drawn = fits.drawn;
+    flying = subst (Flies log decided k fits.number) (sym same_difference) fits.flying;
+    changes = sealed_now 0 fits.changes;
+    whole = whole_now (generation_of v' + 1) (subst (λ g. AreWhole v (g + 1)) (sym generation) fits.whole);
+    below = subst (λ g. g < generation_limit) (sym generation) fits.below;
+  }
+  phase_now (Applying applied) e fits =
+      let g : records_generation (Applying applied) v' ≡ records_generation (Applying applied) v = generation_same (Applying applied) v v' generation refl in record {
+        no_records = fits.no_records;
+        most = fits.most;
+        changes = All-weaker (AppliedChange v applied) (AppliedChange v' applied) (λ c of. record { whole = of.whole; of = of.of; next = λ at. of.next at ∙ sym generation }) v.changes fits.changes;
+        whole = whole_now (records_generation (Applying applied) v') (subst (AreWhole v) (sym g) fits.whole);
+        last = subst (λ n. n ≤ generation_limit) (sym g) fits.last;
+      }
+  phase_now Clearing e fits = record {
+    no_records = fits.no_records;
+    changes = sealed_now (length v.log.entries) fits.changes;
+    whole = whole_now (generation_of v') (subst (AreWhole v) (sym generation) fits.whole);
+  }
   phase_now Retiring e fits = record {
     changes = All-weaker (RetiringChange v) (RetiringChange v') (λ c of. record { whole = of.whole; of = of.of; before = of.before ∙ sym generation }) v.changes fits.changes;
     ends = ends_now v.number fits.ends;
@@ -216,7 +259,9 @@ module _ (o : Opening) (old : Memory) (views : Views) (log : List Entry) (decide
       descriptors = descriptors_now;
     };
     locks = locks_fit;
-    log = subst (LogFits (settled o log decided) v') (sym (generation_same v.log.phase v v' generation)) log_now;
+    log = subst (LogFits (settled o log decided) v') (sym (generation_same v.log.phase v v' generation refl)) log_now;
+    entries = entries_now;
+    redone = redone_now;
     phase = phase_now v.log.phase refl mine.phase;
     blocks = record { reserved = mine.blocks.reserved; freed = mine.blocks.freed };
     first_generation = subst (λ g. 1 ≤ g) (sym generation) mine.first_generation;
@@ -229,7 +274,7 @@ module _ (o : Opening) (old : Memory) (views : Views) (log : List Entry) (decide
   loads_word =
       quiet o old views log decided world k inside v is v' new
       (λ j low other. lane_kept o old new (settled o log decided) (settled o log decided) (Flies log decided j) (Flies log decided j) j (views j)
-      (λ u area. same (PoolWord u)) (λ u known. same (PoolWord u)) (λ line write. subst (ShowsHold j write) (sym (same (LockWord line)))) (λ u written. refl) (λ n flies. flies) (world.each_lane j low))
+      (λ u area. same (PoolWord u)) (λ u known. same (PoolWord u)) (λ u written. same (PoolWord u)) (λ line write. subst (ShowsHold j write) (sym (same (LockWord line)))) (λ u written. refl) (λ n flies. flies) (world.each_lane j low))
       loaded_fits
       (λ u heap un others. same (PoolWord u) ∙ world.each_word u heap (unlogged_before o old views log decided world k inside v is v' u un others))
       (λ line bit set. hold_kept o old views log decided world k inside v is v' line bit

@@ -2,7 +2,7 @@
 use Rattle.std.proofs.Common.{◌≡◌, ℕ, ◌+◌, ◌<◌, ◌≤◌, ◌⊎◌, inl, inr, ⊎_elim, le_refl, Bool, true, false, ltb, All, Option, None, is_none, List, [], ◌∷◌, ◌++◌, length, refl, sym, ap, ◌∙◌, subst, arith}
 use Rattle.std.specs.List.{list_any}
 use Rattle.std.proofs.lemmas.Option.{none-some}
-use Rattle.std.proofs.lemmas.Bool.{cases_lt, le-ltb, and_parts, and_from, or_cases, ltb-true, false≢true}
+use Rattle.std.proofs.lemmas.Bool.{cases_lt, le-ltb, and_parts, and_from, or_cases, or_from, ltb-true, false≢true}
 use Rattle.std.proofs.lemmas.List.Folds.{list_any-append}
 use Rattle.std.proofs.lemmas.List.Elements.{All-nil, All-same, All-weaker}
 use Rattle.pm_objects.specs.declared.calls.Operation.{Operation}
@@ -14,6 +14,7 @@ use Rattle.pm_view.specs.Steps.Step.{NumberSeen, StopSeen, Tell}
 use Rattle.pm_view.specs.View.{View, Told, Numbered}
 use Rattle.pm_view.specs.Views.{with_seen, begun, actions_told}
 use Rattle.pm_world.specs.Course.{flight_in}
+use Rattle.pm_world.specs.Entries.{is_redoing, is_redone, seal_in}
 use Rattle.pm_world.specs.Fits.{OpenChange, LaneFits, LogFits, PhaseFits}
 use Rattle.pm_world.specs.History.{Entry, Flies, settled}
 use Rattle.pm_world.specs.Laws.{Keeps, with_view}
@@ -21,11 +22,12 @@ use Rattle.pm_world.specs.Lawful.{generation_limit}
 use Rattle.pm_world.specs.Memory.{Memory, IsSame}
 use Rattle.pm_world.specs.Memory.Location.{CommitCounter}
 use Rattle.pm_world.specs.Opening.{Opening}
-use Rattle.pm_world.specs.Records.{generation_of, records_generation, used_slots, is_logged_from}
+use Rattle.pm_world.specs.Records.{generation_of, records_generation, used_slots, is_logged_from, is_logged}
 use Rattle.pm_world.specs.World.{Views, World, is_low, may_draw, may_draw_count}
 use Rattle.pm_world.proofs.Draws.{draws_at_most}
 use Rattle.pm_world.proofs.Frame.{coursed_fits}
 use Rattle.pm_world.proofs.Numbers.{own_below}
+use Rattle.pm_world.proofs.Pairs.{no_entries, none_redone}
 use Rattle.pm_world.proofs.Recoursed.{Leaves, recoursed}
 use Rattle.pm_world.proofs.Worlds.{own, own_numbers, still, room_kept}
 
@@ -48,6 +50,8 @@ module _ (o : Opening) (old : Memory) (views : Views) (log : List Entry) (decide
         none = λ empty. empty;
         open_ = λ all n d low. let c = all n d low in record { whole = c.whole; of = c.of };
         retiring = λ all n d low. let c = all n d low in record { whole = c.whole; of = c.of; before = c.before };
+        sealed = λ before all n d low. let c = all n d low in record { whole = c.whole; of = c.of; before = c.before };
+        applied = λ count all n d low. let c = all n d low in record { whole = c.whole; of = c.of; next = c.next };
         fewer = le_refl (length v.changes);
       } in
       let mine : LaneFits o old (settled o log decided) (Flies log decided k) k v = own o old views log decided world k inside v is in
@@ -84,12 +88,20 @@ module _ (o : Opening) (old : Memory) (views : Views) (log : List Entry) (decide
         each = λ slot r there. absurd (none-some r there);
         once = λ slot other r q w there. absurd (none-some r there);
         stale = λ slot u low high there. log_fits.stale slot u (subst (λ p. used_slots p v ≤ slot) (sym idle) (let none = ap length idle_fits.no_records in omega arith)) high there;
-        unsealed = log_fits.unsealed;
-        no_entries = refl;
       })
-      (record { undrawn = refl; short = omega arith; stands = λ i low. absurd (omega arith); changes = All-same (OpenChange v') v.changes [] idle_fits.drained (All-nil (OpenChange v')); no_pair = refl })
+      (no_entries v v' refl refl (mine.entries.seal ∙ ap (λ p. seal_in p v) idle) tt)
+      (λ w again. absurd (false≢true again))
+      (record {
+        undrawn = refl;
+        short = omega arith;
+        stands = λ i low. absurd (omega arith);
+        short_pair = omega arith;
+        in_pairs = omega arith;
+        pair_stands = λ i low. absurd (omega arith);
+        changes = All-same (OpenChange v') v.changes [] idle_fits.drained (All-nil (OpenChange v'));
+      })
       mine.room mine.within)
-      (λ w un. ap (λ records. is_logged_from v 0 records w) idle_fits.no_records) refl
+      (λ w un. or_from (is_logged v w) (is_redone v w) (ap (λ records. is_logged_from v 0 records w) idle_fits.no_records) (none_redone v w (ap is_redoing idle))) refl
       (λ m flying. absurd (none-some m (sym (ap (λ p. flight_in p v.number) idle) ∙ flying)))
       (low_room v' n seen (λ can. inl (let t = or_cases (is_low (NumberSeen n)) false can in ⊎_elim (λ (low : ltb n generation_limit ≡ true). ltb-true n generation_limit low) (λ (none : false ≡ true). absurd (false≢true none)) t))) refl refl (le_refl v.calls)
 

@@ -16,9 +16,9 @@ sets_stop o old new views log decided k v world inside is lawful moves =
     let same = moves.0 in (
       quiet o old views log decided world k inside v is v new
           (λ j low other. lane_kept o old new (settled o log decided) (settled o log decided) (Flies log decided j) (Flies log decided j) j (views j)
-          (λ w in_area. same (PoolWord w) (pool-stop w)) (λ w known. same (PoolWord w) (pool-stop w)) (λ line write. subst (ShowsHold j write) (sym (same (LockWord line) (lock-stop line)))) (λ w own_word. refl) (λ n flies. flies) (world.each_lane j low))
+          (λ w in_area. same (PoolWord w) (pool-stop w)) (λ w known. same (PoolWord w) (pool-stop w)) (λ w own_word. same (PoolWord w) (pool-stop w)) (λ line write. subst (ShowsHold j write) (sym (same (LockWord line) (lock-stop line)))) (λ w own_word. refl) (λ n flies. flies) (world.each_lane j low))
           (lane_kept o old new (settled o log decided) (settled o log decided) (Flies log decided k) (Flies log decided k) k v
-          (λ w in_area. same (PoolWord w) (pool-stop w)) (λ w known. same (PoolWord w) (pool-stop w)) (λ line write. subst (ShowsHold k write) (sym (same (LockWord line) (lock-stop line)))) (λ w own_word. refl) (λ n flies. flies) (own o old views log decided world k inside v is))
+          (λ w in_area. same (PoolWord w) (pool-stop w)) (λ w known. same (PoolWord w) (pool-stop w)) (λ w own_word. same (PoolWord w) (pool-stop w)) (λ line write. subst (ShowsHold k write) (sym (same (LockWord line) (lock-stop line)))) (λ w own_word. refl) (λ n flies. flies) (own o old views log decided world k inside v is))
           (λ w heap un others. same (PoolWord w) (pool-stop w) ∙ world.each_word w heap (unlogged_before o old views log decided world k inside v is v w un others))
           (λ line bit set. hold_kept o old views log decided world k inside v is v line bit (λ there. there) (world.each_line line bit (subst (λ n. bit_at n bit ≡ 1) (same (LockWord line) (lock-stop line)) set)))
           (λ n flying. flying) (same CommitCounter counter-stop) (room_kept o old views log decided world k inside v is v (λ can. can)) refl

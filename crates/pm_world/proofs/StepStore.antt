@@ -1,4 +1,5 @@
--- A store keeps the world: of a word whose record is drained, of the next generation, and of the next word of a record.
+-- A store keeps the world: of a word whose record is drained, of the next generation, of the next word of a record or of an entry, of the seal, and of
+-- the word of an entry that is applied.
 use Rattle.std.proofs.Common.{◌≡◌, ℕ, ◌<◌, Bool, List, length, slice_index, refl}
 use Rattle.pm_view.specs.Area.{Part, part_of}
 use Rattle.pm_view.specs.Area.Part.{GenerationWord, SealWord, EntryWord, SlotWord, OtherWord}
@@ -17,6 +18,9 @@ use Rattle.pm_world.specs.Memory.Location.{PoolWord}
 use Rattle.pm_world.specs.Opening.{Opening}
 use Rattle.pm_world.specs.World.{Views, World}
 use Rattle.pm_world.proofs.StoreGeneration.{stores_generation, stores_last}
+use Rattle.pm_world.proofs.StoreEntry.{stores_entry}
+use Rattle.pm_world.proofs.StorePair.{stores_pair}
+use Rattle.pm_world.proofs.StoreSeal.{clears_seal, stores_seal}
 use Rattle.pm_world.proofs.StoreSlot.{stores_slot}
 use Rattle.pm_world.proofs.StoreWord.{stores_word}
 
@@ -28,15 +32,19 @@ module _ (o : Opening) (old : Memory) (views : Views) (log : List Entry) (decide
   by_part (Open slot pair) e OtherWord f fits = stores_word o old views log decided world k inside v is new w x moves in_pool may room slot pair e fits
   by_part (Open slot pair) e GenerationWord f fits = stores_last o old views log decided world k inside v is new w x moves in_pool may room slot pair e f fits
   by_part (Open slot pair) e SealWord f fits = absurd fits
-  by_part (Open slot pair) e EntryWord f fits = absurd fits
+  by_part (Open slot pair) e EntryWord f fits = stores_pair o old views log decided world k inside v is new w x moves in_pool may room slot pair e f fits
   by_part Drawn e GenerationWord f fits = stores_generation o old views log decided world k inside v is new w x moves in_pool may room e f fits
-  by_part Drawn e SealWord f fits = absurd fits
+  by_part Drawn e SealWord f fits = stores_seal o old views log decided world k inside v is new w x moves in_pool may room e f fits
   by_part Drawn e EntryWord f fits = absurd fits
   by_part Drawn e SlotWord f fits = absurd fits
   by_part Drawn e OtherWord f fits = absurd fits
   by_part Idle e part f fits = absurd fits
   by_part Sealing e part f fits = absurd fits
-  by_part (Applying applied) e part f fits = absurd fits
+  by_part (Applying applied) e OtherWord f fits = stores_entry o old views log decided world k inside v is new w x moves in_pool may room applied e fits
+  by_part (Applying applied) e GenerationWord f fits = stores_entry o old views log decided world k inside v is new w x moves in_pool may room applied e fits
+  by_part (Applying applied) e SealWord f fits = clears_seal o old views log decided world k inside v is new w x moves in_pool may room applied e f fits
+  by_part (Applying applied) e EntryWord f fits = absurd fits
+  by_part (Applying applied) e SlotWord f fits = absurd fits
   by_part Clearing e part f fits = absurd fits
   by_part Retiring e part f fits = absurd fits
 

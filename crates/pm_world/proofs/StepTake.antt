@@ -15,7 +15,7 @@ use Rattle.pm_view.specs.View.{View, Lock}
 use Rattle.pm_world.specs.Fits.{ShowsHold, LockFits, LaneFits}
 use Rattle.pm_world.specs.History.{Entry, Flies, settled}
 use Rattle.pm_world.specs.Laws.{Keeps, with_view}
-use Rattle.pm_world.specs.Lawful.{is_holder}
+use Rattle.pm_world.specs.Lawful.{IsEarly, is_holder}
 use Rattle.pm_world.specs.Memory.{Memory, IsSameBut}
 use Rattle.pm_world.specs.Memory.Location.{PoolWord, LockWord}
 use Rattle.pm_world.specs.Opening.{Opening}
@@ -24,6 +24,7 @@ use Rattle.pm_world.proofs.Apart.{held_core}
 use Rattle.pm_world.proofs.Frame.{view_here}
 use Rattle.pm_world.proofs.LockBits.{free_shows_none, taken_write, taken_read, written_bits, read_shows, read_shows_on, read_bits}
 use Rattle.pm_world.proofs.Locations.{pool-lock, other_lock}
+use Rattle.pm_world.proofs.Pairs.{entries_again}
 use Rattle.pm_world.proofs.Relocked.{relocked, relocked_fits, relocks}
 use Rattle.pm_world.proofs.StepSeen.{told, not_low_more}
 use Rattle.pm_world.proofs.Worlds.{own, hold_kept, room_kept}
@@ -42,12 +43,12 @@ module _ (o : Opening) (old : Memory) (views : Views) (log : List Entry) (decide
   mine = own o old views log decided world k inside v is
 
   -- the lock is won: its word shows the hold, those of the others stay, and no other bit is set
-  wins : (new : Memory) (line : ℕ) (write : Bool) (s : Step) → is_low s ≡ false → IsSameBut (LockWord line) old new → is_holder v.locks line ≡ false
+  wins : (new : Memory) (line : ℕ) (write : Bool) (s : Step) → is_low s ≡ false → IsEarly v.log.phase → IsSameBut (LockWord line) old new → is_holder v.locks line ≡ false
       → ShowsHold k write (new (LockWord line))
       → ((j : ℕ) (held : Bool) → j < o.lanes → j ≢ k → ShowsHold j held (old (LockWord line)) → ShowsHold j held (new (LockWord line)))
       → ((bit : ℕ) → bit_at (new (LockWord line)) bit ≡ 1 → (bit ≡ hold_bit k write) ⊎ (bit_at (old (LockWord line)) bit ≡ 1))
       → World o new (with_view views k (record v { locks = v.locks ++ record { line = line; write = write; block = None } ∷ []; seen = v.seen ++ s ∷ [] })) log decided
-  wins new line write s other_step same free shows others bits =
+  wins new line write s other_step early same free shows others bits =
       let l : Lock = record { line = line; write = write; block = None } in
       let locks : List Lock = v.locks ++ l ∷ [] in
       let v' : View = relocked v locks v.known (v.seen ++ s ∷ []) in
@@ -56,7 +57,7 @@ module _ (o : Opening) (old : Memory) (views : Views) (log : List Entry) (decide
       let holds : (at bit : ℕ) → IsHold views o.lanes at bit → IsHold (with_view views k v') o.lanes at bit =
       λ at bit. hold_kept o old views log decided world k inside v is v' at bit (any-left (λ (m : Lock). (m.line ≡ at) × (bit ≡ hold_bit k m.write)) v.locks (l ∷ [])) in
       relocks o old views log decided world k inside v is new line locks v.known (v.seen ++ s ∷ []) same others
-      (relocked_fits v locks v.known (v.seen ++ s ∷ []) o old new (settled o log decided) (Flies log decided k) k (λ w. same (PoolWord w) (pool-lock w line))
+      (relocked_fits v locks v.known (v.seen ++ s ∷ []) o old new (settled o log decided) (Flies log decided k) k early (λ w. same (PoolWord w) (pool-lock w line))
       (λ w there. there)
       (λ w there. or_left (is_in_area v.lane w || list_any (is_under w) locks) (is_reserved v' w)
       (⊎_elim (λ (area : is_in_area v.lane w ≡ true). or_left (is_in_area v.lane w) (list_any (is_under w) locks) area)
@@ -66,6 +67,7 @@ module _ (o : Opening) (old : Memory) (views : Views) (log : List Entry) (decide
       (λ n d low. let f = mine.locks n d low in record { shows = subst (ShowsHold k (get_or v.locks n d).write) (sym (same (LockWord (get_or v.locks n d).line) (other_lock (get_or v.locks n d).line line (differs n d low)))) f.shows; found = f.found })
       (record { shows = shows; found = tt }))
       (λ slot r there w written known. (list_any-left (λ (m : Lock). m.write && is_some m.block && is_under w m) v.locks (l ∷ []) written, known))
+      (entries_again v v' refl refl (λ w low high. refl) (λ w written. list_any-left (λ (m : Lock). m.write && is_some m.block && is_under w m) v.locks (l ∷ []) written) refl refl mine.entries)
       mine)
       (λ at bit set. ⊎_elim
       (λ (this : at ≡ line). ⊎_elim
@@ -81,7 +83,7 @@ module _ (o : Opening) (old : Memory) (views : Views) (log : List Entry) (decide
 pub takes_write : (line : ℕ) (won : Bool) → Keeps (TakeWrite line won)
 takes_write line true o old new views log decided k v world inside is lawful moves =
     let t = taken_write k (old (LockWord line)) (new (LockWord line)) moves.1 in (
-      wins o old views log decided world k inside v is new line true (TakeWrite line true) refl moves.0 lawful.allowed.free t.1
+      wins o old views log decided world k inside v is new line true (TakeWrite line true) refl lawful.allowed.early moves.0 lawful.allowed.free t.1
           (λ j held low other shows. absurd (free_shows_none j held (subst (ShowsHold j held) t.0 shows)))
           (λ bit set. inl (written_bits k (new (LockWord line)) bit t.1 set)),
       tt,
@@ -96,7 +98,7 @@ pub takes_read : (line : ℕ) (won : Bool) → Keeps (TakeRead line won)
 takes_read line true o old new views log decided k v world inside is lawful moves =
     let t = taken_read k (old (LockWord line)) (new (LockWord line)) moves.1 in
     let most = world.sound.most_lanes in (
-      wins o old views log decided world k inside v is new line false (TakeRead line true) refl moves.0 lawful.allowed.free (subst (ShowsHold k false) (sym t.1) (read_shows k (old (LockWord line)) (omega arith) t.0))
+      wins o old views log decided world k inside v is new line false (TakeRead line true) refl lawful.allowed.early moves.0 lawful.allowed.free (subst (ShowsHold k false) (sym t.1) (read_shows k (old (LockWord line)) (omega arith) t.0))
           (λ j held low other shows. subst (ShowsHold j held) (sym t.1) (read_shows_on j k (old (LockWord line)) held (omega arith) t.0 shows))
           (λ bit set. read_bits k (old (LockWord line)) bit (ap (λ n. bit_at n bit) (sym t.1) ∙ set)),
       tt,

@@ -1,7 +1,7 @@
 -- A store of the next generation: it ends a call that has drawn, or one that is given up.
 use Rattle.std.proofs.Common.{◌≡◌, ◌≢◌, ℕ, zero, suc, ◌+◌, ◌-◌, ◌*◌, ◌^◌, ◌<◌, ◌≤◌, ◌⊎◌, inl, ⊎_elim, Bool, true, IsTrue, List, [], ◌∷◌, ◌++◌, length, map, flat_map, slice_get, slice_index, Some, refl, sym, ap, ◌∙◌, subst, arith}
 use Rattle.std.specs.List.{range_with_len}
-use Rattle.std.proofs.lemmas.Bool.{false≢true, false_from_ne_true}
+use Rattle.std.proofs.lemmas.Bool.{and_parts, false≢true}
 use Rattle.std.proofs.lemmas.List.Elements.{All-nil, All-push, All-same}
 use Rattle.std.proofs.lemmas.Option.{none-some}
 use Rattle.pm_view.specs.Area.{area_word, is_in_area, part_of}
@@ -14,6 +14,7 @@ use Rattle.pm_view.specs.Rights.{is_written}
 use Rattle.pm_view.specs.View.{View}
 use Rattle.pm_view.specs.Views.{changed}
 use Rattle.pm_world.specs.Course.{flight_in}
+use Rattle.pm_world.specs.Entries.{is_entered, is_redoing, seal_in}
 use Rattle.pm_world.specs.Fits.{RetiringChange, EndFits, LaneFits, LogFits, PhaseFits}
 use Rattle.pm_world.specs.History.{Entry, Flies, settled}
 use Rattle.pm_world.specs.Laws.{with_view}
@@ -21,13 +22,14 @@ use Rattle.pm_world.specs.Lawful.{EndsGeneration, GivesUp}
 use Rattle.pm_world.specs.Memory.{Memory, Becomes}
 use Rattle.pm_world.specs.Memory.Location.{PoolWord}
 use Rattle.pm_world.specs.Opening.{Opening}
-use Rattle.pm_world.specs.Records.{IsRecordAt, generation_of, finals_of, difference_of, is_logged, records_generation, used_slots}
+use Rattle.pm_world.specs.Records.{IsRecordAt, generation_of, finals_of, pool_entries, difference_of, records_generation, used_slots}
 use Rattle.pm_world.specs.World.{Views, World}
 use Rattle.pm_world.proofs.Exclusion.{writes_under}
 use Rattle.pm_world.proofs.Frame.{in_phase}
+use Rattle.pm_world.proofs.Pairs.{in_log_before}
 use Rattle.pm_world.proofs.Parts.{generation_part}
 use Rattle.pm_world.proofs.Recoursed.{logged_upto}
-use Rattle.pm_world.proofs.Stored.{other_word, this_word, log_beside, stored_fits, stored_world}
+use Rattle.pm_world.proofs.Stored.{other_word, this_word, log_beside, entries_beside, stored_fits, stored_world}
 use Rattle.pm_world.proofs.StoreWord.{drained_more}
 use Rattle.pm_world.proofs.Worlds.{own}
 
@@ -50,7 +52,7 @@ module _ (o : Opening) (old : Memory) (views : Views) (log : List Entry) (decide
   mine : LaneFits o old (settled o log decided) (Flies log decided k) k v
   mine = own o old views log decided world k inside v is
 
-  module _ (part : part_of v.lane w ≡ GenerationWord) (ends : EndsGeneration v x) (first : (phase : Phase) → v.log.phase ≡ phase → (records_generation phase v ≡ generation_of v) × (used_slots phase v ≡ length v.log.records)) where
+  module _ (part : part_of v.lane w ≡ GenerationWord) (ends : EndsGeneration v x) (first : (phase : Phase) → v.log.phase ≡ phase → (records_generation phase v ≡ generation_of v) × (used_slots phase v ≡ length v.log.records) × (seal_in phase v ≡ 0)) where
     at : (is_in_area v.lane w ≡ true) × (w ≡ area_word v.lane)
     at = generation_part v.lane w part
 
@@ -73,7 +75,7 @@ module _ (o : Opening) (old : Memory) (views : Views) (log : List Entry) (decide
         let behind = world.sound.behind_areas under.0 (r.word + i) under.1 in let lane = mine.lane.lane in let here = at.1 in absurd (omega arith))
 
     same_difference : difference_of view' ≡ difference_of v
-    same_difference = difference_same v.words view'.words v.log.records recorded_word
+    same_difference = ap (λ difference. difference ++ pool_entries v) (difference_same v.words view'.words v.log.records recorded_word)
 
     retires : EndFits (Flies log decided k) view' v.number → ((n : ℕ) → flight_in v.log.phase v.number ≡ Some n → v.number ≡ Some n)
         → World o new (with_view views k view') log decided
@@ -86,7 +88,10 @@ module _ (o : Opening) (old : Memory) (views : Views) (log : List Entry) (decide
         stored_world o old views log decided world k inside v is new w x moves in_pool right may room (in_phase Retiring v.log)
         (stored_fits o old views log decided world k inside v is new w x moves in_pool right may room (in_phase Retiring v.log)
         (subst (LogFits (settled o log decided) view') earlier
-        (log_beside o old views log decided world k inside v is new w x moves in_pool right may room Retiring (generation_of v) (λ s low. inl (omega arith)) (λ same. absurd (omega arith)) (sym t.1) before))
+        (log_beside o old views log decided world k inside v is new w x moves in_pool right may room Retiring (generation_of v) (λ s low. inl (omega arith)) (sym t.1) before))
+        (entries_beside o old views log decided world k inside v is new w x moves in_pool right may room Retiring (inl (omega arith))
+        (others (area_word v.lane + 1) (λ same. absurd (omega arith)) ∙ (mine.entries.seal ∙ t.2)) ends.unentered)
+        (λ u again. absurd (false≢true again))
         (record {
           changes = All-push (RetiringChange view') v.changes (store_change w (slice_index v.words w) x) (All-same (RetiringChange view') v.changes [] ends.drained (All-nil (RetiringChange view')))
               (record { whole = refl; of = here; before = let e = ap (slice_index v.words) here in omega arith });
@@ -96,27 +101,28 @@ module _ (o : Opening) (old : Memory) (views : Views) (log : List Entry) (decide
         flies
         (λ u heap un. (
           (λ same. ⊎_elim (λ (root : u ≡ 64). absurd (omega arith)) (λ (t : (512 + 1024 * o.lanes ≤ u) × (u < _)). let low = t.0 in absurd (omega arith)) heap),
-          false_from_ne_true (is_logged v u) (λ there. false≢true (sym un ∙ logged_upto v view' 0 v.log.records
-              (λ s low. drained_more v.lane s v.changes (store_change w (slice_index v.words w) x) (λ same. absurd (omega arith))) u there)),
+          in_log_before v view' u
+              (logged_upto v view' 0 v.log.records (λ s low. drained_more v.lane s v.changes (store_change w (slice_index v.words w) x) (λ same. absurd (omega arith))) u)
+              (λ redone. absurd (false≢true (sym (ap (λ fs. is_entered fs u) ends.unentered) ∙ (and_parts (is_redoing v.log.phase) (is_entered v.log.entries u) redone).1))) un,
         ))
 
   -- after the draw
   pub stores_generation : v.log.phase ≡ Drawn → part_of v.lane w ≡ GenerationWord → EndsGeneration v x → World o new (with_view views k (changed v w x (store_change w (slice_index v.words w) x) (in_phase Retiring v.log))) log decided
   stores_generation e part ends =
       let fits = subst (PhaseFits (Flies log decided k) v) e mine.phase in
-      let first : (phase : Phase) → v.log.phase ≡ phase → (records_generation phase v ≡ generation_of v) × (used_slots phase v ≡ length v.log.records) =
-      λ phase is_phase. subst (λ p. (records_generation p v ≡ generation_of v) × (used_slots p v ≡ length v.log.records)) (sym e ∙ is_phase) (refl, refl) in
+      let first : (phase : Phase) → v.log.phase ≡ phase → (records_generation phase v ≡ generation_of v) × (used_slots phase v ≡ length v.log.records) × (seal_in phase v ≡ 0) =
+      λ phase is_phase. subst (λ p. (records_generation p v ≡ generation_of v) × (used_slots p v ≡ length v.log.records) × (seal_in p v ≡ 0)) (sym e ∙ is_phase) (refl, refl, refl) in
       retires part ends first
       (subst (EndFits (Flies log decided k) (view' part ends first)) (sym fits.drawn) (subst (Flies log decided k fits.number) (sym (same_difference part ends first)) fits.flying))
       (λ n flying. sym (ap (λ p. flight_in p v.number) e) ∙ flying)
 
   -- of a call that is given up
-  pub stores_last : (slot pair : List ℕ) → v.log.phase ≡ Open slot pair → part_of v.lane w ≡ GenerationWord → GivesUp v x slot → World o new (with_view views k (changed v w x (store_change w (slice_index v.words w) x) (in_phase Retiring v.log))) log decided
+  pub stores_last : (slot pair : List ℕ) → v.log.phase ≡ Open slot pair → part_of v.lane w ≡ GenerationWord → GivesUp v x slot pair → World o new (with_view views k (changed v w x (store_change w (slice_index v.words w) x) (in_phase Retiring v.log))) log decided
   stores_last slot pair e part gives =
       let fits = subst (PhaseFits (Flies log decided k) v) e mine.phase in
       let whole : v.log.phase ≡ Open [] pair = e ∙ ap (λ s. Open s pair) gives.whole in
-      let first : (phase : Phase) → v.log.phase ≡ phase → (records_generation phase v ≡ generation_of v) × (used_slots phase v ≡ length v.log.records) =
-      λ phase is_phase. subst (λ p. (records_generation p v ≡ generation_of v) × (used_slots p v ≡ length v.log.records)) (sym whole ∙ is_phase) (refl, refl) in
+      let first : (phase : Phase) → v.log.phase ≡ phase → (records_generation phase v ≡ generation_of v) × (used_slots phase v ≡ length v.log.records) × (seal_in phase v ≡ 0) =
+      λ phase is_phase. subst (λ p. (records_generation p v ≡ generation_of v) × (used_slots p v ≡ length v.log.records) × (seal_in p v ≡ 0)) (sym whole ∙ is_phase) (refl, refl, refl) in
       retires part gives.ends first
       (subst (EndFits (Flies log decided k) (view' part gives.ends first)) (sym fits.undrawn) (λ s r i there low. recorded_word part gives.ends first s r i there low ∙ gives.restored s r i there low))
       (λ n flying. absurd (none-some n (sym (ap (λ p. flight_in p v.number) e) ∙ flying)))

@@ -1,7 +1,7 @@
 -- A store of the next word of a record's slot.
-use Rattle.std.proofs.Common.{◌≡◌, ◌≢◌, ℕ, zero, suc, ◌+◌, ◌-◌, ◌*◌, ◌/◌, ◌<◌, ◌≤◌, ◌⊎◌, inl, inr, ⊎_elim, Bool, true, eqb, leb, ltb, ◌&&◌, IsTrue, All, Contains, List, [], ◌∷◌, ◌++◌, length, take, drop, replicate, slice_get, slice_index, slice_range, get_or, Some, refl, sym, ap, ◌∙◌, subst, arith, length-append}
+use Rattle.std.proofs.Common.{◌≡◌, ◌≢◌, ℕ, zero, suc, ◌+◌, ◌-◌, ◌*◌, ◌/◌, ◌<◌, ◌≤◌, ◌⊎◌, inl, inr, ⊎_elim, Bool, true, false, eqb, leb, ltb, ◌&&◌, IsTrue, All, Contains, List, [], ◌∷◌, ◌++◌, length, take, drop, replicate, slice_get, slice_index, slice_range, get_or, Some, refl, sym, ap, ◌∙◌, subst, arith, length-append}
 use Rattle.std.specs.List.{list_any}
-use Rattle.std.proofs.lemmas.Bool.{cases_lt, and_parts, or_cases, or_left, or_right, eqb-true, leb-true, ltb-true, false≢true, false_from_ne_true}
+use Rattle.std.proofs.lemmas.Bool.{cases_lt, and_parts, or_cases, or_from, or_left, or_right, eqb-true, leb-true, ltb-true, false≢true, false_from_ne_true}
 use Rattle.std.proofs.lemmas.List.{take_all, length-take-le, length-drop, length-replicate, length-set, get_or-take, get_or-drop, get_or_append_left, get_or_push, ext_get_or}
 use Rattle.std.proofs.lemmas.List.Elements.{All-push, All-weaker}
 use Rattle.std.proofs.lemmas.List.Folds.{list_any_at, Any-from_list_any}
@@ -20,7 +20,8 @@ use Rattle.pm_view.specs.View.{View}
 use Rattle.pm_view.specs.Views.{changed}
 use Rattle.pm_image.specs.Logs.{undo_slot, slot_line}
 use Rattle.pm_world.specs.Course.{flight_in}
-use Rattle.pm_world.specs.Fits.{OpenChange, OpenFits, LaneFits, LogFits, PhaseFits, RecordFits, RecordedWordFits}
+use Rattle.pm_world.specs.Entries.{HasNone, entry_word, is_in_log, is_redoing, is_redone, seal_in}
+use Rattle.pm_world.specs.Fits.{EntriesFit, OpenChange, OpenFits, LaneFits, LogFits, PhaseFits, RecordFits, RecordedWordFits}
 use Rattle.pm_world.specs.History.{Entry, Flies, settled}
 use Rattle.pm_world.specs.Laws.{with_view}
 use Rattle.pm_world.specs.Lawful.{AppendsToSlot, generation_limit}
@@ -29,12 +30,13 @@ use Rattle.pm_world.specs.Memory.Location.{PoolWord}
 use Rattle.pm_world.specs.Opening.{Opening}
 use Rattle.pm_world.specs.Records.{IsRecordAt, generation_of, slot_word, covers, is_recorded, is_drained_slot, is_logged_from, is_logged, spelled, records_generation, used_slots}
 use Rattle.pm_world.specs.World.{Views, World}
-use Rattle.pm_world.proofs.Apart.{area_bounds}
+use Rattle.pm_world.proofs.Apart.{area_bounds, outside_behind}
 use Rattle.pm_world.proofs.Exclusion.{writes_under, one_writer}
 use Rattle.pm_world.proofs.Frame.{in_phase}
+use Rattle.pm_world.proofs.Pairs.{entries_sealed, in_log_before, in_log_written, none_redone}
 use Rattle.pm_world.proofs.Parts.{slot_part}
-use Rattle.pm_world.proofs.Recoursed.{logged_upto}
-use Rattle.pm_world.proofs.Slots.{word_recorded, unrecorded}
+use Rattle.pm_world.proofs.Recoursed.{logged_upto, open_again}
+use Rattle.pm_world.proofs.Slots.{unrecorded}
 use Rattle.pm_world.proofs.Stored.{slot_set_other, other_word, this_word, known_more, stored_fits, stored_world}
 use Rattle.pm_world.proofs.StoreWord.{drained_more}
 use Rattle.pm_world.proofs.Worlds.{own, unlogged_before}
@@ -83,7 +85,7 @@ used-most : (slot pair : List ℕ) (v : View) → used_slots (Open slot pair) v 
 used-most [] pair v = omega arith
 used-most (y ∷ slot) pair v = omega arith
 
-get-push_cases : {X : Type 0} (xs : List X) (y : X) (i : ℕ) (x : X) → slice_get (xs ++ y ∷ []) i ≡ Some x → (slice_get xs i ≡ Some x) ⊎ ((i ≡ length xs) × (y ≡ x))
+pub get-push_cases : {X : Type 0} (xs : List X) (y : X) (i : ℕ) (x : X) → slice_get (xs ++ y ∷ []) i ≡ Some x → (slice_get xs i ≡ Some x) ⊎ ((i ≡ length xs) × (y ≡ x))
 get-push_cases [] y zero x e = inr (refl, same_Some y x e)
 get-push_cases [] y (suc i) x e = absurd (none-some x e)
 get-push_cases (z ∷ xs) y zero x e = inl e
@@ -155,8 +157,18 @@ module _ (o : Opening) (old : Memory) (views : Views) (log : List Entry) (decide
     stale s u low high there =
         open_log.stale s u (subst (λ p. used_slots p v ≤ s) (sym open_) (let most = used-most slot pair v in omega arith)) high (ap undo_of (sym (slot_same s (λ same. absurd (omega arith)))) ∙ there)
 
-    unsealed : slice_index (view' v.log).words (area_word v.lane + 1) ≡ 0
-    unsealed = others (area_word v.lane + 1) (λ same. let here = adds.at in absurd (omega arith)) ∙ open_log.unsealed
+    -- the entries stand, and the seal is 0
+    entries_stand : (lg : Log) → lg.entries ≡ v.log.entries → 0 ≡ seal_in lg.phase (view' lg) → HasNone lg.phase (view' lg) → EntriesFit (view' lg)
+    entries_stand lg same seal none =
+        let here = adds.at in
+        entries_sealed v (view' lg) refl same (λ u low high. others u (λ this. absurd (omega arith))) (λ u own_word. own_word)
+        (others (area_word v.lane + 1) (λ this. absurd (omega arith)) ∙ (mine.entries.seal ∙ (ap (λ p. seal_in p v) open_ ∙ seal))) none mine.entries
+
+    -- the pair in the making stands
+    pair_stands : (i : ℕ) → i < length pair → slice_index (view' v.log).words (entry_word v.lane (length v.log.entries) + i) ≡ slice_index pair i
+    pair_stands i low =
+        let here = adds.at in let room = open_fits.in_pairs in
+        others (entry_word v.lane (length v.log.entries) + i) (λ this. absurd (omega arith)) ∙ open_fits.pair_stands i low
 
     -- the slots of records stay drained
     logged_same : (lg : Log) (u : ℕ) → is_logged v u ≡ true → is_logged_from (view' lg) 0 v.log.records u ≡ true
@@ -175,20 +187,21 @@ module _ (o : Opening) (old : Memory) (views : Views) (log : List Entry) (decide
 
     changes_fit : (lg : Log) → ((u : ℕ) → is_logged v u ≡ true → is_logged (view' lg) u ≡ true) → All (OpenChange (view' lg)) (view' lg).changes
     changes_fit lg logged = All-push (OpenChange (view' lg)) v.changes (store_change w (slice_index v.words w) x)
-        (All-weaker (OpenChange v) (OpenChange (view' lg)) (λ c of. record { whole = of.whole; of = ⊎_elim (λ (in_slot : part_of v.lane c.word ≡ SlotWord). inl in_slot) (λ (there : is_logged v c.word ≡ true). inr (logged c.word there)) of.of }) v.changes open_fits.changes)
+        (All-weaker (OpenChange v) (OpenChange (view' lg)) (λ c of. open_again v (view' lg) c refl logged of) v.changes open_fits.changes)
         (record { whole = refl; of = inl part })
 
-    goes_on : (lg : Log) → LogFits (settled o log decided) (view' lg) (records_generation lg.phase (view' lg)) → PhaseFits (Flies log decided k) (view' lg) lg.phase → ((u : ℕ) → is_logged v u ≡ true → is_logged (view' lg) u ≡ true)
+    goes_on : (lg : Log) → LogFits (settled o log decided) (view' lg) (records_generation lg.phase (view' lg)) → EntriesFit (view' lg) → is_redoing lg.phase ≡ false → PhaseFits (Flies log decided k) (view' lg) lg.phase → ((u : ℕ) → is_logged v u ≡ true → is_logged (view' lg) u ≡ true)
         → World o new (with_view views k (view' lg)) log decided
-    goes_on lg log_fits phase_fits logged =
+    goes_on lg log_fits entries_fit quiet phase_fits logged =
         stored_world o old views log decided world k inside v is new w x moves in_pool right may room lg
-        (stored_fits o old views log decided world k inside v is new w x moves in_pool right may room lg log_fits phase_fits
+        (stored_fits o old views log decided world k inside v is new w x moves in_pool right may room lg log_fits entries_fit
+        (λ u again. absurd (false≢true (sym (none_redone (view' lg) u quiet) ∙ again))) phase_fits
         (subst (λ g. 1 ≤ g) (sym (generation lg)) mine.first_generation) (subst (λ g. g ≤ generation_limit) (sym (generation lg)) mine.last_generation))
         (λ n flying. absurd (none-some n (sym (ap (λ p. flight_in p v.number) open_) ∙ flying)))
         (λ u heap un. (
           (λ same. let b = area_bounds v.lane w (slot_part v.lane w part) in let b₀ = b.0 in let b₁ = b.1 in let lane = mine.lane.lane in
               ⊎_elim (λ (root : u ≡ 64). absurd (omega arith)) (λ (t : (512 + 1024 * o.lanes ≤ u) × (u < _)). let low = t.0 in absurd (omega arith)) heap),
-          false_from_ne_true (is_logged v u) (λ there. false≢true (sym un ∙ logged u there)),
+          in_log_before v (view' lg) u (logged u) (λ redone. absurd (false≢true (sym (none_redone v u (ap is_redoing open_)) ∙ redone))) un,
         ))
 
     -- the record is not whole yet
@@ -206,15 +219,16 @@ module _ (o : Opening) (old : Memory) (views : Views) (log : List Entry) (decide
           };
           once = open_log.once;
           stale = λ s u low. stale s u (subst (λ n. n ≤ s) (used-more slot pair x (view' lg)) low);
-          unsealed = unsealed;
-          no_entries = open_log.no_entries;
         }))
+        (entries_stand lg refl refl tt) refl
         (record {
           undrawn = open_fits.undrawn;
           short = let size = length-append slot (x ∷ []) in omega (arith, size, short);
           stands = stands;
           changes = changes_fit lg (logged_same lg);
-          no_pair = open_fits.no_pair;
+          short_pair = open_fits.short_pair;
+          in_pairs = open_fits.in_pairs;
+          pair_stands = pair_stands;
         })
         (logged_same lg)
 
@@ -232,9 +246,10 @@ module _ (o : Opening) (old : Memory) (views : Views) (log : List Entry) (decide
           own = can.own;
           known = known;
           before = sym can.present ∙ (sym (mine.picture.known u known) ∙ world.each_word u (inr (behind, subst (λ n. u < n) size within))
-              (unlogged_before o old views log decided world k inside v is v u (unrecorded v u can.new)
-              (λ j low' other. let fits = world.each_lane j low' in unrecorded (views j) u (false_from_ne_true (is_recorded (views j).log.records u) (λ recorded. other (one_writer o old j k u world.sound
-              (writes_under o old j (views j) u fits.locks (word_recorded (settled o log decided) (views j) (records_generation (views j).log.phase (views j)) u fits.log recorded).fits.own) under))))));
+              (unlogged_before o old views log decided world k inside v is v u (or_from (is_logged v u) (is_redone v u) (unrecorded v u can.new) (none_redone v u (ap is_redoing open_)))
+              (λ j low' other. let fits = world.each_lane j low' in false_from_ne_true (is_in_log (views j) u) (λ logged. other (one_writer o old j k u world.sound
+              (writes_under o old j (views j) u fits.locks (in_log_written (settled o log decided) (views j) (records_generation (views j).log.phase (views j)) u fits.log fits.entries
+              (ap (λ n. is_in_area n u) fits.lane.lane ∙ outside_behind o.lanes j u low' behind) logged)) under)))));
         }
 
     new_only : (s u : ℕ) (r : Recorded) → IsRecordAt v s r → covers r u ≡ true → covers adds.next u ≡ true → ⊥
@@ -286,15 +301,16 @@ module _ (o : Opening) (old : Memory) (views : Views) (log : List Entry) (decide
               (get-push_cases v.log.records adds.next other q there'))
               (get-push_cases v.log.records adds.next s r there);
           stale = λ s u low. stale s u (omega (arith, longer, low));
-          unsealed = unsealed;
-          no_entries = open_log.no_entries;
         }))
+        (entries_stand lg refl refl tt) refl
         (record {
           undrawn = open_fits.undrawn;
           short = omega arith;
           stands = λ i low. absurd (omega arith);
           changes = changes_fit lg logged;
-          no_pair = open_fits.no_pair;
+          short_pair = open_fits.short_pair;
+          in_pairs = open_fits.in_pairs;
+          pair_stands = pair_stands;
         })
         logged
 

@@ -1,12 +1,11 @@
 -- A store of a word whose record is drained, under a lock held for writing.
-use Rattle.std.proofs.Common.{◌≡◌, ◌≢◌, ℕ, ◌+◌, ◌*◌, ◌/◌, ◌<◌, ◌≤◌, ◌⊎◌, inl, inr, ⊎_elim, Bool, true, false, not, IsTrue, List, [], ◌∷◌, ◌++◌, length, slice_index, refl, sym, ap, ◌∙◌, subst, arith, ne_eqb}
+use Rattle.std.proofs.Common.{◌≡◌, ◌≢◌, ℕ, ◌+◌, ◌*◌, ◌/◌, ◌<◌, ◌≤◌, ◌⊎◌, inr, Bool, true, false, not, IsTrue, List, [], ◌∷◌, ◌++◌, length, slice_index, refl, sym, ap, ◌∙◌, subst, arith, ne_eqb}
 use Rattle.std.specs.List.{list_any}
-use Rattle.std.proofs.lemmas.Bool.{not-true, not_from_false, or_from, false≢true, false_from_ne_true}
+use Rattle.std.proofs.lemmas.Bool.{not-true, not_from_false, or_from, or_parts, false≢true}
 use Rattle.std.proofs.lemmas.List.Elements.{All-push, All-weaker}
 use Rattle.std.proofs.lemmas.List.Folds.{list_any-append}
 use Rattle.pm_view.specs.declared.change.Change.{Change}
-use Rattle.pm_view.specs.Area.{area_word, is_in_area, part_of}
-use Rattle.pm_view.specs.Area.Part.{SlotWord}
+use Rattle.pm_view.specs.Area.{area_word, is_in_area}
 use Rattle.pm_view.specs.Changes.{store_change, is_in_line}
 use Rattle.pm_view.specs.Counts.{MayCount, HasRoom}
 use Rattle.pm_view.specs.Log.Phase.{Open}
@@ -14,6 +13,7 @@ use Rattle.pm_view.specs.Rights.{is_written}
 use Rattle.pm_view.specs.View.{View}
 use Rattle.pm_view.specs.Views.{changed}
 use Rattle.pm_image.specs.Logs.{slot_line}
+use Rattle.pm_world.specs.Entries.{entry_word, is_redoing, is_redone}
 use Rattle.pm_world.specs.Fits.{OpenChange, LaneFits, LogFits, PhaseFits}
 use Rattle.pm_world.specs.History.{Entry, Flies, settled}
 use Rattle.pm_world.specs.Laws.{with_view}
@@ -24,7 +24,8 @@ use Rattle.pm_world.specs.Opening.{Opening}
 use Rattle.pm_world.specs.Records.{generation_of, slot_word, is_logged, records_generation}
 use Rattle.pm_world.specs.World.{Views, World}
 use Rattle.pm_world.proofs.Exclusion.{writes_under}
-use Rattle.pm_world.proofs.Recoursed.{logged_upto, used_again}
+use Rattle.pm_world.proofs.Pairs.{entries_again, in_log_before, none_redone}
+use Rattle.pm_world.proofs.Recoursed.{logged_upto, open_again, used_again}
 use Rattle.pm_world.proofs.Stored.{other_word, log_beside, stored_fits, stored_world}
 use Rattle.pm_world.proofs.Worlds.{own}
 
@@ -54,16 +55,24 @@ module _ (o : Opening) (old : Memory) (views : Views) (log : List Entry) (decide
       stored_world o old views log decided world k inside v is new w x moves in_pool right may room v.log
       (stored_fits o old views log decided world k inside v is new w x moves in_pool right may room v.log
       (subst (LogFits (settled o log decided) v') (subst (λ p. records_generation p v ≡ records_generation p v') (sym e) (sym generation))
-      (log_beside o old views log decided world k inside v is new w x moves in_pool right may room v.log.phase (records_generation v.log.phase v) apart (λ same. absurd (omega arith)) (used_again v.log.phase v v' refl) mine.log))
+      (log_beside o old views log decided world k inside v is new w x moves in_pool right may room v.log.phase (records_generation v.log.phase v) apart (used_again v.log.phase v v' refl) mine.log))
+      (entries_again v v' refl refl (λ u low high. others u (λ same. absurd (omega arith))) (λ u own_word. own_word) refl (others (area_word v.lane + 1) (λ same. absurd (omega arith))) mine.entries)
+      (λ u again. absurd (false≢true (sym (none_redone v u (ap is_redoing e)) ∙ again)))
       (subst (PhaseFits (Flies log decided k) v') (sym e) (record {
         undrawn = fits.undrawn;
         short = fits.short;
         stands = λ i low. others (slot_word v.lane (length v.log.records) + i) (λ same. absurd (let short = fits.short in omega arith)) ∙ fits.stands i low;
+        short_pair = fits.short_pair;
+        in_pairs = fits.in_pairs;
+        pair_stands = λ i low. let short = fits.short_pair in let few = mine.entries.most in
+            others (entry_word v.lane (length v.log.entries) + i) (λ same. absurd (omega arith)) ∙ fits.pair_stands i low;
         changes = All-push (OpenChange v') v.changes (store_change w (slice_index v.words w) x)
-            (All-weaker (OpenChange v) (OpenChange v') (λ c of. record { whole = of.whole; of = ⊎_elim (λ (in_slot : part_of v.lane c.word ≡ SlotWord). inl in_slot) (λ (there : is_logged v c.word ≡ true). inr (logged c.word there)) of.of }) v.changes fits.changes)
-            (record { whole = refl; of = inr (logged w writes.logged) });
-        no_pair = fits.no_pair;
+            (All-weaker (OpenChange v) (OpenChange v') (λ c of. open_again v v' c refl logged of) v.changes fits.changes)
+            (record { whole = refl; of = inr (inr (logged w writes.logged)) });
       }))
       (subst (λ g. 1 ≤ g) (sym generation) mine.first_generation) (subst (λ g. g ≤ generation_limit) (sym generation) mine.last_generation))
       (λ n flying. flying)
-      (λ u heap un. ((λ this. false≢true (sym un ∙ ap (is_logged v') this ∙ logged w writes.logged)), false_from_ne_true (is_logged v u) (λ there. false≢true (sym un ∙ logged u there))))
+      (λ u heap un. (
+        (λ this. false≢true (sym (or_parts (is_logged v' u) (is_redone v' u) un).0 ∙ ap (is_logged v') this ∙ logged w writes.logged)),
+        in_log_before v v' u (logged u) (λ redone. redone) un,
+      ))

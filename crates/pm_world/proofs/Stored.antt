@@ -1,5 +1,5 @@
 -- What every store of a lane owes and keeps, at a word of its area or under a lock that it holds for writing.
-use Rattle.std.proofs.Common.{◌≡◌, ◌≢◌, ℕ, ◌+◌, ◌-◌, ◌*◌, ◌<◌, ◌≤◌, ◌⊎◌, inl, inr, ⊎_elim, Bool, true, false, IsTrue, is_some, ◌&&◌, ◌||◌, Contains, List, [], ◌∷◌, length, take, drop, set, slice_index, slice_range, Some, refl, sym, ap, ◌∙◌, subst, arith, length-set, length-append, get_or-set_same, get_or-set_other, zero, suc}
+use Rattle.std.proofs.Common.{◌≡◌, ◌≢◌, ℕ, ◌+◌, ◌-◌, ◌*◌, ◌<◌, ◌≤◌, ◌⊎◌, inl, inr, ⊎_elim, Bool, true, false, IsTrue, is_some, ◌&&◌, ◌||◌, Contains, List, [], ◌∷◌, length, take, drop, set, slice_get, slice_index, slice_range, Some, refl, sym, ap, ◌∙◌, subst, arith, length-set, length-append, get_or-set_same, get_or-set_other, zero, suc}
 use Rattle.std.proofs.lemmas.Bool.{cases_eq, and_parts, or_cases, or_left, or_right}
 use Rattle.std.proofs.lemmas.List.{drop-set-lt, drop-set-add, take-set-le}
 use Rattle.std.proofs.lemmas.List.Elements.{All-weaker}
@@ -10,7 +10,7 @@ use Rattle.pm_view.specs.Blocks.{descriptor_word}
 use Rattle.pm_view.specs.Changes.{store_change}
 use Rattle.pm_view.specs.Counts.{MayCount, HasRoom, IsAtStop}
 use Rattle.pm_view.specs.Held.{is_held, is_under, is_reserved}
-use Rattle.pm_view.specs.Log.{Phase, Log}
+use Rattle.pm_view.specs.Log.{Phase, Log, Recorded}
 use Rattle.pm_record.specs.Undo.{undo_of}
 use Rattle.std.proofs.lemmas.Option.{slice_get_within}
 use Rattle.pm_view.specs.Rights.{is_written}
@@ -19,19 +19,21 @@ use Rattle.pm_view.specs.Views.{changed}
 use Rattle.pm_image.specs.Logs.{undo_slot, slot_line}
 use Rattle.pm_image.specs.Reads.{IsHeapWord}
 use Rattle.pm_world.specs.Course.{flight}
-use Rattle.pm_world.specs.Fits.{LaneFits, LockFits, LogFits, PhaseFits, ShowsHold}
+use Rattle.pm_world.specs.Entries.{HasNone, is_in_log, is_redone, seal_in}
+use Rattle.pm_world.specs.Fits.{EntriesFit, LaneFits, LockFits, LogFits, RedoneWord, PhaseFits, ShowsHold}
 use Rattle.pm_world.specs.History.{Entry, Flies, settled}
 use Rattle.pm_world.specs.Laws.{with_view}
 use Rattle.pm_world.specs.Lawful.{generation_limit}
 use Rattle.pm_world.specs.Memory.{Memory, Becomes}
 use Rattle.pm_world.specs.Memory.Location.{PoolWord, LockWord, CommitCounter, StopWord}
 use Rattle.pm_world.specs.Opening.{Opening, IsChunk}
-use Rattle.pm_world.specs.Records.{generation_of, is_logged, records_generation, used_slots}
+use Rattle.pm_world.specs.Records.{IsRecordAt, generation_of, records_generation, used_slots}
 use Rattle.pm_world.specs.World.{Views, World}
-use Rattle.pm_world.proofs.Apart.{area_bounds, IsOwn, area_apart, held_apart, held_core}
+use Rattle.pm_world.proofs.Apart.{area_bounds, IsOwn, area_apart, held_apart, held_core, written_apart}
 use Rattle.pm_world.proofs.Exclusion.{WritesUnder, writes_under}
 use Rattle.pm_world.proofs.Frame.{lane_kept, in_phase}
 use Rattle.pm_world.proofs.Locations.{other_pool, lock-pool, counter-pool, stop-pool}
+use Rattle.pm_world.proofs.Pairs.{entries_sealed}
 use Rattle.pm_world.proofs.Worlds.{own, quiet, unlogged_before, hold_kept, room_kept, at_stop_kept, stop_kept}
 
 -- words from one on, where another word is stored
@@ -73,6 +75,7 @@ module _ (o : Opening) (old : Memory) (views : Views) (log : List Entry) (decide
       lane_kept o old new (settled o log decided) (settled o log decided) (Flies log decided j) (Flies log decided j) j (views j)
       (λ u in_area. same u (λ this. area_apart o old j k w world.sound low inside other owned (ap (λ n. is_in_area n w) (sym fits.lane.lane) ∙ subst (λ z. IsTrue (is_in_area (views j).lane z)) this in_area)))
       (λ u known. same u (λ this. held_apart o old (settled o log decided) (Flies log decided j) j k w (views j) world.sound low inside other owned fits (subst (λ z. IsTrue (is_held (views j) z)) this (fits.picture.held u known))))
+      (λ u written. same u (λ this. written_apart o old j k w (views j) world.sound inside other owned fits.locks (subst (λ z. IsTrue (is_written (views j) z)) this written)))
       (λ line write. subst (λ word. ShowsHold j write word) (sym (moves.0 (LockWord line) (lock-pool line w)))) (λ u written. refl) (λ n flies. flies) fits
 
   -- a word of the view, and of the memory
@@ -105,9 +108,11 @@ module _ (o : Opening) (old : Memory) (views : Views) (log : List Entry) (decide
       (λ (written : is_written v w ≡ true). or_right (is_in_area v.lane w) (list_any (is_under w) v.locks) (written_under v.locks w written)) right)
 
   -- the lane's own facts after the store, from those of its log
-  pub stored_fits : (lg : Log) → LogFits (settled o log decided) (stored_view lg) (records_generation lg.phase (stored_view lg)) → PhaseFits (Flies log decided k) (stored_view lg) lg.phase
+  pub stored_fits : (lg : Log) → LogFits (settled o log decided) (stored_view lg) (records_generation lg.phase (stored_view lg)) → EntriesFit (stored_view lg)
+      → ((u : ℕ) → IsTrue (is_redone (stored_view lg) u) → IsTrue (is_written v u) → RedoneWord new (settled o log decided) (stored_view lg) u)
+      → PhaseFits (Flies log decided k) (stored_view lg) lg.phase
       → 1 ≤ generation_of (stored_view lg) → generation_of (stored_view lg) ≤ generation_limit → LaneFits o new (settled o log decided) (Flies log decided k) k (stored_view lg)
-  stored_fits lg log_fits phase_fits first last = record {
+  stored_fits lg log_fits entries_fit redone phase_fits first last = record {
     lane = record { lanes = mine.lane.lanes; zones = mine.lane.zones; lane = mine.lane.lane; size = length-set v.words w x ∙ mine.lane.size };
     picture = record {
       area = λ u in_area. word_now u (λ differ. mine.picture.area u in_area);
@@ -119,6 +124,8 @@ module _ (o : Opening) (old : Memory) (views : Views) (log : List Entry) (decide
     };
     locks = All-weaker (LockFits o old k) (LockFits o new k) (λ l f. record { shows = subst (λ word. ShowsHold k l.write word) (sym (moves.0 (LockWord l.line) (lock-pool l.line w))) f.shows; found = f.found }) v.locks mine.locks;
     log = log_fits;
+    entries = entries_fit;
+    redone = redone;
     phase = phase_fits;
     blocks = record { reserved = mine.blocks.reserved; freed = mine.blocks.freed };
     first_generation = first;
@@ -130,7 +137,7 @@ module _ (o : Opening) (old : Memory) (views : Views) (log : List Entry) (decide
   -- the world after it
   pub stored_world : (lg : Log) → LaneFits o new (settled o log decided) (Flies log decided k) k (stored_view lg)
       → ((n : ℕ) → flight v ≡ Some n → flight (stored_view lg) ≡ Some n)
-      → ((u : ℕ) → IsHeapWord o.lanes o.zones u → is_logged (stored_view lg) u ≡ false → (u ≢ w) × (is_logged v u ≡ false))
+      → ((u : ℕ) → IsHeapWord o.lanes o.zones u → is_in_log (stored_view lg) u ≡ false → (u ≢ w) × (is_in_log v u ≡ false))
       → World o new (with_view views k (stored_view lg)) log decided
   stored_world lg fits flies words =
       let v' : View = stored_view lg in
@@ -142,18 +149,28 @@ module _ (o : Opening) (old : Memory) (views : Views) (log : List Entry) (decide
       (λ (t : (j : ℕ) × (j < o.lanes) × IsAtStop (views j)). inr (at_stop_kept o old views log decided world k inside v is v' (stop_kept v v' refl (omega arith)) t)) world.stop_word)
 
   -- the log after a store of a word of no slot
-  pub log_beside : (phase : Phase) (generation : ℕ) → ((slot : ℕ) → slot < 64 → (w < 8 * slot_line v.lane slot) ⊎ (8 * slot_line v.lane slot + 8 ≤ w)) → area_word v.lane + 1 ≢ w
+  pub log_with : (lg : Log) (generation : ℕ) → lg.records ≡ v.log.records → ((slot : ℕ) → slot < 64 → (w < 8 * slot_line v.lane slot) ⊎ (8 * slot_line v.lane slot + 8 ≤ w))
+      → used_slots lg.phase (stored_view lg) ≡ used_slots v.log.phase v → LogFits (settled o log decided) v generation → LogFits (settled o log decided) (stored_view lg) generation
+  log_with lg generation records apart used fits =
+      let before : (slot : ℕ) (r : Recorded) → IsRecordAt (stored_view lg) slot r → IsRecordAt v slot r = λ slot r there. ap (λ rs. slice_get rs slot) (sym records) ∙ there in record {
+        most = subst (λ (rs : List Recorded). length rs ≤ 64) (sym records) fits.most;
+        stored = λ slot r there. let at = before slot r there in let low = slice_get_within v.log.records slot r at in let most = fits.most in slot_set_other v.words w x v.lane slot (apart slot (omega arith)) ∙ fits.stored slot r at;
+        each = λ slot r there. let f = fits.each slot r (before slot r there) in record {
+          some = f.some;
+          most = f.most;
+          each = λ i low. let e = f.each i low in record { own = e.own; known = known_more (r.word + i) e.known; before = e.before };
+        };
+        once = λ slot other r q u there there'. fits.once slot other r q u (before slot r there) (before other q there');
+        stale = λ slot u low high there. fits.stale slot u (subst (λ n. n ≤ slot) used low) high (ap undo_of (sym (slot_set_other v.words w x v.lane slot (apart slot high))) ∙ there);
+      }
+
+  pub log_beside : (phase : Phase) (generation : ℕ) → ((slot : ℕ) → slot < 64 → (w < 8 * slot_line v.lane slot) ⊎ (8 * slot_line v.lane slot + 8 ≤ w))
       → used_slots phase (stored_view (in_phase phase v.log)) ≡ used_slots v.log.phase v → LogFits (settled o log decided) v generation → LogFits (settled o log decided) (stored_view (in_phase phase v.log)) generation
-  log_beside phase generation apart seal used fits = record {
-    most = fits.most;
-    stored = λ slot r there. let low = slice_get_within v.log.records slot r there in let most = fits.most in slot_set_other v.words w x v.lane slot (apart slot (omega arith)) ∙ fits.stored slot r there;
-    each = λ slot r there. let f = fits.each slot r there in record {
-      some = f.some;
-      most = f.most;
-      each = λ i low. let e = f.each i low in record { own = e.own; known = known_more (r.word + i) e.known; before = e.before };
-    };
-    once = fits.once;
-    stale = λ slot u low high there. fits.stale slot u (subst (λ n. n ≤ slot) used low) high (ap undo_of (sym (slot_set_other v.words w x v.lane slot (apart slot high))) ∙ there);
-    unsealed = other_word (area_word v.lane + 1) seal ∙ fits.unsealed;
-    no_entries = fits.no_entries;
-  }
+  log_beside phase generation apart used fits = log_with (in_phase phase v.log) generation refl apart used fits
+
+  -- the entries after a store of a word of no pair, in this phase
+  pub entries_beside : (phase : Phase) → (w < 520 + 1024 * v.lane) ⊎ (648 + 1024 * v.lane ≤ w) → slice_index (set v.words w x) (area_word v.lane + 1) ≡ seal_in phase (stored_view (in_phase phase v.log))
+      → HasNone phase (stored_view (in_phase phase v.log)) → EntriesFit (stored_view (in_phase phase v.log))
+  entries_beside phase apart seal none = entries_sealed v (stored_view (in_phase phase v.log)) refl refl
+      (λ u low high. other_word u (λ same. ⊎_elim (λ (below : w < 520 + 1024 * v.lane). absurd (omega arith)) (λ (above : 648 + 1024 * v.lane ≤ w). absurd (omega arith)) apart))
+      (λ u own_word. own_word) seal none mine.entries

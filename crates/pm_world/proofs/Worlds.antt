@@ -7,6 +7,7 @@ use Rattle.pm_view.specs.Log.{Final}
 use Rattle.pm_view.specs.View.{View, Lock}
 use Rattle.pm_image.specs.Reads.{IsHeapWord}
 use Rattle.pm_world.specs.Course.{flight}
+use Rattle.pm_world.specs.Entries.{is_in_log}
 use Rattle.pm_world.specs.Fits.{LaneFits, ShowsHold}
 use Rattle.pm_world.specs.History.{Entry, Flies, settled, entries_by}
 use Rattle.pm_world.specs.Laws.{with_view}
@@ -14,7 +15,6 @@ use Rattle.pm_world.specs.Lawful.{generation_limit}
 use Rattle.pm_world.specs.Memory.{Memory, IsSame}
 use Rattle.pm_world.specs.Memory.Location.{PoolWord, LockWord, CommitCounter, StopWord}
 use Rattle.pm_world.specs.Opening.{Opening}
-use Rattle.pm_world.specs.Records.{is_logged}
 use Rattle.pm_world.specs.World.{Views, World, EntryFits, IsHold, hold_bit, may_draw, may_draw_count}
 use Rattle.pm_world.proofs.Draws.{draws_no_more}
 use Rattle.pm_world.proofs.Frame.{lane_kept, view_here, view_else, view_all}
@@ -39,17 +39,17 @@ module _ (o : Opening) (old : Memory) (views : Views) (log : List Entry) (decide
         → (j : ℕ) → j < o.lanes → LaneFits o new settled' (flies' j) j (with_view views k v' j)
     each_lane' new settled' flies' others here j low = view_all (λ i u. LaneFits o new settled' (flies' i) i u) views k v' here j (λ other. others j low other)
 
-    -- no lane's log would restore the word, as the views are now
-    pub unlogged_here : (w : ℕ) → ((j : ℕ) → j < o.lanes → is_logged (with_view views k v' j) w ≡ false) → is_logged v' w ≡ false
-    unlogged_here w all = subst (λ u. is_logged u w ≡ false) (view_here views k v') (all k inside)
+    -- no lane's log would restore or redo the word, as the views are now
+    pub unlogged_here : (w : ℕ) → ((j : ℕ) → j < o.lanes → is_in_log (with_view views k v' j) w ≡ false) → is_in_log v' w ≡ false
+    unlogged_here w all = subst (λ u. is_in_log u w ≡ false) (view_here views k v') (all k inside)
 
-    pub unlogged_else : (w : ℕ) → ((j : ℕ) → j < o.lanes → is_logged (with_view views k v' j) w ≡ false) → (j : ℕ) → j < o.lanes → j ≢ k → is_logged (views j) w ≡ false
-    unlogged_else w all j low other = subst (λ u. is_logged u w ≡ false) (view_else views k v' j other) (all j low)
+    pub unlogged_else : (w : ℕ) → ((j : ℕ) → j < o.lanes → is_in_log (with_view views k v' j) w ≡ false) → (j : ℕ) → j < o.lanes → j ≢ k → is_in_log (views j) w ≡ false
+    unlogged_else w all j low other = subst (λ u. is_in_log u w ≡ false) (view_else views k v' j other) (all j low)
 
-    -- and as they were, if the lane's log did not restore it
-    pub unlogged_before : (w : ℕ) → is_logged v w ≡ false → ((j : ℕ) → j < o.lanes → j ≢ k → is_logged (views j) w ≡ false) → (j : ℕ) → j < o.lanes → is_logged (views j) w ≡ false
+    -- and as they were, if the lane's log did neither
+    pub unlogged_before : (w : ℕ) → is_in_log v w ≡ false → ((j : ℕ) → j < o.lanes → j ≢ k → is_in_log (views j) w ≡ false) → (j : ℕ) → j < o.lanes → is_in_log (views j) w ≡ false
     unlogged_before w here others j low =
-        ⊎_elim (λ (same : j ≡ k). subst (λ i. is_logged (views i) w ≡ false) (sym same) (subst (λ u. is_logged u w ≡ false) (sym is) here))
+        ⊎_elim (λ (same : j ≡ k). subst (λ i. is_in_log (views i) w ≡ false) (sym same) (subst (λ u. is_in_log u w ≡ false) (sym is) here))
         (λ (other : j ≢ k). others j low other) (cases_eq j k)
 
     pub hold_kept : (line bit : ℕ) → (Any (λ (l : Lock). (l.line ≡ line) × (bit ≡ hold_bit k l.write)) v.locks → Any (λ (l : Lock). (l.line ≡ line) × (bit ≡ hold_bit k l.write)) v'.locks)
@@ -85,7 +85,7 @@ module _ (o : Opening) (old : Memory) (views : Views) (log : List Entry) (decide
     pub quiet : (new : Memory)
         → ((j : ℕ) → j < o.lanes → j ≢ k → LaneFits o new (settled o log decided) (Flies log decided j) j (views j))
         → LaneFits o new (settled o log decided) (Flies log decided k) k v'
-        → ((w : ℕ) → IsHeapWord o.lanes o.zones w → is_logged v' w ≡ false → ((j : ℕ) → j < o.lanes → j ≢ k → is_logged (views j) w ≡ false) → new (PoolWord w) ≡ settled o log decided w)
+        → ((w : ℕ) → IsHeapWord o.lanes o.zones w → is_in_log v' w ≡ false → ((j : ℕ) → j < o.lanes → j ≢ k → is_in_log (views j) w ≡ false) → new (PoolWord w) ≡ settled o log decided w)
         → ((line bit : ℕ) → bit_at (new (LockWord line)) bit ≡ 1 → IsHold (with_view views k v') o.lanes line bit)
         → ((n : ℕ) → flight v ≡ Some n → flight v' ≡ Some n)
         → new CommitCounter ≡ old CommitCounter
@@ -110,7 +110,7 @@ module _ (o : Opening) (old : Memory) (views : Views) (log : List Entry) (decide
     -- a step that changes no word
     pub still : (new : Memory) → IsSame old new
         → LaneFits o old (settled o log decided) (Flies log decided k) k v'
-        → ((w : ℕ) → is_logged v' w ≡ false → is_logged v w ≡ false)
+        → ((w : ℕ) → is_in_log v' w ≡ false → is_in_log v w ≡ false)
         → v'.locks ≡ v.locks
         → ((n : ℕ) → flight v ≡ Some n → flight v' ≡ Some n)
         → old CommitCounter + may_draw_count (with_view views k v') o.lanes < generation_limit + 32
@@ -118,9 +118,9 @@ module _ (o : Opening) (old : Memory) (views : Views) (log : List Entry) (decide
         → World o new (with_view views k v') log decided
     still new same here logs locks flying room entries stop more = quiet new
         (λ j low other. lane_kept o old new (settled o log decided) (settled o log decided) (Flies log decided j) (Flies log decided j) j (views j)
-        (λ w in_area. same (PoolWord w)) (λ w known. same (PoolWord w)) (λ line write. subst (ShowsHold j write) (sym (same (LockWord line)))) (λ w own_word. refl) (λ n flies. flies) (world.each_lane j low))
+        (λ w in_area. same (PoolWord w)) (λ w known. same (PoolWord w)) (λ w own_word. same (PoolWord w)) (λ line write. subst (ShowsHold j write) (sym (same (LockWord line)))) (λ w own_word. refl) (λ n flies. flies) (world.each_lane j low))
         (lane_kept o old new (settled o log decided) (settled o log decided) (Flies log decided k) (Flies log decided k) k v'
-        (λ w in_area. same (PoolWord w)) (λ w known. same (PoolWord w)) (λ line write. subst (ShowsHold k write) (sym (same (LockWord line)))) (λ w own_word. refl) (λ n flies. flies) here)
+        (λ w in_area. same (PoolWord w)) (λ w known. same (PoolWord w)) (λ w own_word. same (PoolWord w)) (λ line write. subst (ShowsHold k write) (sym (same (LockWord line)))) (λ w own_word. refl) (λ n flies. flies) here)
         (λ w heap here_un others. same (PoolWord w) ∙ world.each_word w heap (unlogged_before w (logs w here_un) others))
         (λ line bit set. hold_kept line bit (subst (λ ls. Any (λ (l : Lock). (l.line ≡ line) × (bit ≡ hold_bit k l.write)) ls) (sym locks)) (world.each_line line bit (subst (λ n. bit_at n bit ≡ 1) (same (LockWord line)) set)))
         flying (same CommitCounter) room entries

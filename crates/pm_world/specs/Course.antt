@@ -3,16 +3,17 @@ use Rattle.std.specs.Prelude.{ℕ, ◌==◌, ◌&&◌, ◌||◌, Bool, true, fal
 use Rattle.pm_view.specs.declared.change.Change.{Change}
 use Rattle.pm_view.specs.Changes.{drained}
 use Rattle.pm_view.specs.Log.{Phase, Final}
-use Rattle.pm_view.specs.Log.Phase.{Drawn, Retiring}
+use Rattle.pm_view.specs.Log.Phase.{Drawn, Sealing, Retiring}
 use Rattle.pm_view.specs.Steps.{Step}
 use Rattle.pm_view.specs.Steps.Step.{Drain, Draw}
 use Rattle.pm_view.specs.View.{View}
 use Rattle.pm_world.specs.History.{Entry}
 use Rattle.pm_world.specs.Records.{difference_of}
 
--- the number of a lane's call in flight: drawn, its deciding store not drained. With the redo log: while it seals
+-- the number of a lane's call in flight: drawn, its deciding store not drained
 abbrev pub flight_in : Phase → Option ℕ → Option ℕ
 flight_in Drawn number = number
+flight_in Sealing number = number
 flight_in Retiring number = number
 flight_in phase number = None
 

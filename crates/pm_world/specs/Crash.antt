@@ -4,9 +4,9 @@ use Rattle.std.specs.List.{list_any, range_with_len}
 use Rattle.pm_record.specs.declared.undo.Undo.{Undo}
 use Rattle.pm_view.specs.declared.change.Change.{Change}
 use Rattle.pm_view.specs.Log.{Phase, Recorded}
-use Rattle.pm_view.specs.Log.Phase.{Idle, Drawn, Retiring}
+use Rattle.pm_view.specs.Log.Phase.{Idle, Drawn, Sealing, Retiring}
 use Rattle.pm_view.specs.View.{View}
-use Rattle.pm_image.specs.Logs.{undo_slot, generation_word, recovered}
+use Rattle.pm_image.specs.Logs.{undo_slot, generation_word, recovered, seal_word}
 use Rattle.pm_image.specs.Reads.{IsHeapWord}
 use Rattle.pm_image.specs.Steps.{valid_record}
 use Rattle.pm_view.specs.Survivors.{all_taken_back}
@@ -51,9 +51,10 @@ pub record IsWhole (v : View) (image : List ℕ) (slot : ℕ) : Type 0 where
 abbrev pub NoneTorn : Opening → Views → List ℕ → Type 0
 NoneTorn o views image = (k slot : ℕ) (u : Undo) → k < o.lanes → slot < 64 → IsBeingWritten (views k) slot → valid_record image k slot ≡ Some u → IsWhole (views k) image slot
 
--- the image has the deciding store of the lane's call. With the redo log: the seal
+-- the image has the deciding store of the lane's call: the seal of one with entries, the next generation of another
 abbrev pub is_deciding_in : List ℕ → View → Phase → Bool
 is_deciding_in image v Drawn = false
+is_deciding_in image v Sealing = not (seal_word image v.lane == 0)
 is_deciding_in image v Retiring = generation_word image v.lane == generation_of v
 is_deciding_in image v phase = true
 

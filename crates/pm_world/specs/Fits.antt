@@ -1,22 +1,24 @@
 -- How a lane's view fits the memory: what it knows, what it holds, and its log by how far its call has come.
-use Rattle.std.specs.Prelude.{◌≡◌, ℕ, ◌+◌, ◌^◌, ◌<◌, ◌≤◌, ◌⊎◌, Bool, true, false, IsTrue, IfSome, All, Contains, List, [], length, slice_index, Option, Some, None}
+use Rattle.std.specs.Prelude.{◌≡◌, ℕ, ◌+◌, ◌*◌, ◌^◌, ◌<◌, ◌≤◌, ◌⊎◌, Bool, true, false, IsTrue, IfSome, All, Contains, List, [], drop, length, slice_index, take, Option, Some, None}
 use Rattle.std.specs.Option.{ForSome}
 use Rattle.std.specs.Int.{bit_at}
 use Rattle.pm_record.specs.Undo.{undo_of}
 use Rattle.pm_record.specs.declared.undo.Undo.{Undo}
 use Rattle.pm_view.specs.declared.change.Change.{Change}
 use Rattle.pm_view.specs.Area.{area_word, is_in_area, part_of}
-use Rattle.pm_view.specs.Area.Part.{SlotWord}
+use Rattle.pm_view.specs.Area.Part.{EntryWord, SlotWord}
 use Rattle.pm_view.specs.Bits.{all_bits}
 use Rattle.pm_view.specs.Blocks.{block_at, descriptor_word}
 use Rattle.pm_view.specs.Counts.{max_changes}
 use Rattle.pm_view.specs.Held.{is_held}
 use Rattle.pm_view.specs.Log.{Phase, Recorded, Final}
-use Rattle.pm_view.specs.Log.Phase.{Idle, Open, Drawn, Retiring}
+use Rattle.pm_view.specs.Log.Phase.{Idle, Open, Drawn, Sealing, Applying, Clearing, Retiring}
 use Rattle.pm_view.specs.Rights.{is_written}
 use Rattle.pm_view.specs.View.{View, Lock}
 use Rattle.pm_image.specs.Logs.{undo_slot}
 use Rattle.pm_memory.specs.LockWords.{writer_bit}
+use Rattle.pm_world.specs.Entries.{AreWhole, EntryStands, HasNone, IsEntryAt, applied_in, entry_word, is_entered, is_redone, seal_in}
+use Rattle.pm_world.specs.History.{made_final}
 use Rattle.pm_world.specs.Lawful.{generation_limit}
 use Rattle.pm_world.specs.Memory.{Memory}
 use Rattle.pm_world.specs.Memory.Location.{PoolWord, LockWord}
@@ -67,27 +69,38 @@ pub record LogFits (settled : ℕ → ℕ) (v : View) (generation : ℕ) : Type 
   pub each : (slot : ℕ) (r : Recorded) → IsRecordAt v slot r → RecordFits settled v r
   pub once : (slot other : ℕ) (r q : Recorded) (w : ℕ) → IsRecordAt v slot r → IsRecordAt v other q → IsTrue (covers r w) → IsTrue (covers q w) → slot ≡ other
   pub stale : (slot : ℕ) (u : Undo) → used_slots v.log.phase v ≤ slot → slot < 64 → undo_of (undo_slot v.words v.lane slot) ≡ Some u → u.generation < generation
-  -- with the redo log: the seal and the entries
-  pub unsealed : slice_index v.words (area_word v.lane + 1) ≡ 0
-  pub no_entries : v.log.entries ≡ []
+
+-- the redo log: its entries stand in their pairs, and the seal says how many of them are sealed
+pub record EntriesFit (v : View) : Type 0 where
+  pub most : length v.log.entries ≤ 64
+  pub each : (i : ℕ) (f : Final) → IsEntryAt v i f → EntryStands v i f
+  pub seal : slice_index v.words (area_word v.lane + 1) ≡ seal_in v.log.phase v
+  pub none : HasNone v.log.phase v
+
+-- a word that the log would redo: with all entries, or with those that are not applied yet, it is what it is to be
+pub record RedoneWord (mem : Memory) (settled : ℕ → ℕ) (v : View) (w : ℕ) : Type 0 where
+  pub again : (x : ℕ) → made_final v.log.entries w x ≡ settled w
+  pub rest : made_final (drop (applied_in v.log.phase v) v.log.entries) w (mem (PoolWord w)) ≡ settled w
 
 -- nothing is open
 pub record IdleFits (v : View) : Type 0 where
   pub no_records : v.log.records ≡ []
   pub drained : v.changes ≡ []
 
--- an undrained change while the log may grow: a store of a slot's word, or of a word that the log would restore
+-- an undrained change while the log may grow: a store of a slot's or a pair's word, or of a word that the log would restore
 pub record OpenChange (v : View) (c : Change) : Type 0 where
   pub whole : c.mask ≡ all_bits
-  pub of : (part_of v.lane c.word ≡ SlotWord) ⊎ IsTrue (is_logged v c.word)
+  pub of : (part_of v.lane c.word ≡ SlotWord) ⊎ ((part_of v.lane c.word ≡ EntryWord) ⊎ IsTrue (is_logged v c.word))
 
--- the log may grow: these words of the next record stand in their slot
+-- the log may grow: these words of the next record stand in their slot, and these of the next entry in its pair
 pub record OpenFits (v : View) (slot pair : List ℕ) : Type 0 where
   pub undrawn : v.number ≡ None
   pub short : length slot < 8
   pub stands : (i : ℕ) → i < length slot → slice_index v.words (slot_word v.lane (length v.log.records) + i) ≡ slice_index slot i
+  pub short_pair : length pair < 2
+  pub in_pairs : 2 * length v.log.entries + length pair ≤ 128
+  pub pair_stands : (i : ℕ) → i < length pair → slice_index v.words (entry_word v.lane (length v.log.entries) + i) ≡ slice_index pair i
   pub changes : All (OpenChange v) v.changes
-  pub no_pair : pair ≡ []
 
 -- the number is drawn
 pub record DrawnFits (flies : ℕ → List Final → Type 0) (v : View) : Type 0 where
@@ -112,13 +125,50 @@ pub record RetiringFits (flies : ℕ → List Final → Type 0) (v : View) : Typ
   pub changes : All (RetiringChange v) v.changes
   pub ends : EndFits flies v v.number
 
--- by how far the lane's call has come; with the redo log: sealing, applying, clearing
+-- an undrained change of the seal, from this
+pub record SealChange (v : View) (old : ℕ) (c : Change) : Type 0 where
+  pub whole : c.mask ≡ all_bits
+  pub of : c.word ≡ area_word v.lane + 1
+  pub before : c.old ≡ old
+
+-- the seal is stored: the number is drawn, and the last entry ends the generation
+pub record SealingFits (flies : ℕ → List Final → Type 0) (v : View) : Type 0 where
+  pub number : ℕ
+  pub drawn : v.number ≡ Some number
+  pub flying : flies number (difference_of v)
+  pub changes : All (SealChange v 0) v.changes
+  pub whole : AreWhole v (generation_of v + 1)
+  pub below : generation_of v < generation_limit
+
+-- an undrained change while entries are applied: of a word of one that is; of the generation it is that of the next one over the last
+pub record AppliedChange (v : View) (applied : ℕ) (c : Change) : Type 0 where
+  pub whole : c.mask ≡ all_bits
+  pub of : IsTrue (is_entered (take applied v.log.entries) c.word)
+  pub next : c.word ≡ area_word v.lane → c.old + 1 ≡ generation_of v
+
+-- so many entries are applied, the seal being drained; no records are left
+pub record ApplyingFits (v : View) (applied : ℕ) : Type 0 where
+  pub no_records : v.log.records ≡ []
+  pub most : applied ≤ length v.log.entries
+  pub changes : All (AppliedChange v applied) v.changes
+  pub whole : AreWhole v (records_generation (Applying applied) v)
+  pub last : records_generation (Applying applied) v ≤ generation_limit
+
+-- the seal 0 is stored, and the generation is the next one
+pub record ClearingFits (v : View) : Type 0 where
+  pub no_records : v.log.records ≡ []
+  pub changes : All (SealChange v (length v.log.entries)) v.changes
+  pub whole : AreWhole v (generation_of v)
+
+-- by how far the lane's call has come
 abbrev pub PhaseFits : (ℕ → List Final → Type 0) → View → Phase → Type 0
 PhaseFits flies v Idle = IdleFits v
 PhaseFits flies v (Open slot pair) = OpenFits v slot pair
 PhaseFits flies v Drawn = DrawnFits flies v
 PhaseFits flies v Retiring = RetiringFits flies v
-PhaseFits flies v phase = ⊥
+PhaseFits flies v Sealing = SealingFits flies v
+PhaseFits flies v (Applying applied) = ApplyingFits v applied
+PhaseFits flies v Clearing = ClearingFits v
 
 -- with the heap: what the lane reserved and freed
 pub record HasNoBlocks (v : View) : Type 0 where
@@ -132,6 +182,8 @@ pub record LaneFits (o : Opening) (mem : Memory) (settled : ℕ → ℕ) (flies 
   pub picture : PictureFits o mem v
   pub locks : All (LockFits o mem k) v.locks
   pub log : LogFits settled v (records_generation v.log.phase v)
+  pub entries : EntriesFit v
+  pub redone : (w : ℕ) → IsTrue (is_redone v w) → IsTrue (is_written v w) → RedoneWord mem settled v w
   pub phase : PhaseFits flies v v.log.phase
   pub blocks : HasNoBlocks v
   pub first_generation : 1 ≤ generation_of v

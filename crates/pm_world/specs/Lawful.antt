@@ -1,18 +1,20 @@
 -- Which steps a lane may make, by its own view alone, whatever a load or a lock answers. A step that no line allows comes with its stage:
--- entries, the seal, ORs and ANDs, occupancy, zones and raises.
-use Rattle.std.specs.Prelude.{◌≡◌, ℕ, ◌+◌, ◌/◌, ◌^◌, ◌<◌, ◌≤◌, ◌==◌, Bool, true, false, IsTrue, All, Contains, List, [], ◌∷◌, ◌++◌, length, take, slice_index, None}
+-- ORs and ANDs, occupancy, zones and raises.
+use Rattle.std.specs.Prelude.{◌≡◌, ◌⊎◌, ℕ, ◌+◌, ◌/◌, ◌^◌, ◌<◌, ◌≤◌, ◌==◌, Bool, true, false, IsTrue, All, Any, Contains, List, [], ◌∷◌, ◌++◌, length, take, slice_index, None}
 use Rattle.std.specs.List.{list_any}
+use Rattle.pm_record.specs.Redo.{redo_words}
 use Rattle.pm_view.specs.declared.change.Change.{Change}
 use Rattle.pm_view.specs.Area.{Part, part_of}
-use Rattle.pm_view.specs.Area.Part.{GenerationWord, SlotWord, OtherWord}
-use Rattle.pm_view.specs.Counts.{is_counted, MayCount, IsAtStop, HasRoom, FlushesSome, DrainsSome}
+use Rattle.pm_view.specs.Area.Part.{GenerationWord, SealWord, EntryWord, SlotWord, OtherWord}
+use Rattle.pm_view.specs.Counts.{is_counted, MayCount, IsAtStop, HasRoom, FlushesSome, DropsSome}
 use Rattle.pm_view.specs.Held.{is_under, is_known}
-use Rattle.pm_view.specs.Log.{Phase, Recorded}
-use Rattle.pm_view.specs.Log.Phase.{Idle, Open, Drawn}
+use Rattle.pm_view.specs.Log.{Phase, Recorded, Final}
+use Rattle.pm_view.specs.Log.Phase.{Idle, Open, Drawn, Applying}
 use Rattle.pm_view.specs.Rights.{is_written}
 use Rattle.pm_view.specs.Steps.{Step}
 use Rattle.pm_view.specs.Steps.Step.{Load, Store, Flush, Drain, TakeWrite, TakeRead, Give, Draw, NumberSeen, StopSeen, SetStop, Tell}
 use Rattle.pm_view.specs.View.{View, Lock}
+use Rattle.pm_world.specs.Entries.{AreWhole, IsEnterable, IsEntryAt, entry_word, set_word, setting}
 use Rattle.pm_world.specs.Records.{generation_of, slot_word, is_recorded, is_logged, spelled, AreRestored}
 
 -- generations, and the numbers after which a call begins, are below this
@@ -41,29 +43,63 @@ pub record AppendsToSlot (v : View) (w x : ℕ) (slot : List ℕ) : Type 0 where
   pub free : length v.log.records < 64
   pub below : generation_of v < generation_limit
 
+-- x is the next word of an entry's pair: the pairs are taken in order, and their words too, and the entry sets a word that it may be of
+pub record AppendsToPair (v : View) (w x : ℕ) (pair : List ℕ) : Type 0 where
+  pub word : ℕ
+  pub value : ℕ
+  pub may : IsEnterable v word
+  pub spells : pair ++ x ∷ [] ≡ take (length pair + 1) (redo_words (setting word value))
+  pub at : w ≡ entry_word v.lane (length v.log.entries) + length pair
+  pub free : length v.log.entries < 64
+  pub below : generation_of v < generation_limit
+
 -- the word may be written: it is under a write lock, and its record is drained
 pub record MayWrite (v : View) (w : ℕ) : Type 0 where
   pub own : IsTrue (is_written v w)
   pub logged : IsTrue (is_logged v w)
 
--- x ends the generation: it is the next one, and nothing is undrained
+-- x ends the generation of a call without entries: it is the next one, and nothing is undrained
 pub record EndsGeneration (v : View) (x : ℕ) : Type 0 where
   pub next : x ≡ generation_of v + 1
   pub below : generation_of v < generation_limit
   pub drained : v.changes ≡ []
+  pub unentered : v.log.entries ≡ []
 
--- x ends the generation of a call that is given up: every recorded word has its old value, and no record is in the making
-pub record GivesUp (v : View) (x : ℕ) (slot : List ℕ) : Type 0 where
+-- x seals the entries: it is their number, the last of them ends the generation, and nothing is undrained
+pub record SealsEntries (v : View) (x : ℕ) : Type 0 where
+  pub all : x ≡ length v.log.entries
+  pub whole : AreWhole v (generation_of v + 1)
+  pub below : generation_of v < generation_limit
+  pub drained : v.changes ≡ []
+
+-- the next entry makes word w be x
+abbrev pub IsNextEntry : View → ℕ → ℕ → ℕ → Type 0
+IsNextEntry v applied w x = IsEntryAt v applied (set_word w x)
+
+-- x clears the seal: all entries are applied, and nothing is undrained
+pub record ClearsSeal (v : View) (x applied : ℕ) : Type 0 where
+  pub zero : x ≡ 0
+  pub all : applied ≡ length v.log.entries
+  pub drained : v.changes ≡ []
+
+-- x ends the generation of a call that is given up: every recorded word has its old value, and no record and no entry is in the making
+pub record GivesUp (v : View) (x : ℕ) (slot pair : List ℕ) : Type 0 where
   pub ends : EndsGeneration v x
   pub restored : AreRestored v
   pub whole : slot ≡ []
+  pub no_pair : pair ≡ []
 
 -- by how far the call has come, and what the word is to the lane
 abbrev pub StoreFits : View → ℕ → ℕ → Phase → Part → Type 0
 StoreFits v w x (Open slot pair) SlotWord = AppendsToSlot v w x slot
 StoreFits v w x (Open slot pair) OtherWord = MayWrite v w
-StoreFits v w x (Open slot pair) GenerationWord = GivesUp v x slot
+StoreFits v w x (Open slot pair) EntryWord = AppendsToPair v w x pair
+StoreFits v w x (Open slot pair) GenerationWord = GivesUp v x slot pair
 StoreFits v w x Drawn GenerationWord = EndsGeneration v x
+StoreFits v w x Drawn SealWord = SealsEntries v x
+StoreFits v w x (Applying applied) OtherWord = IsNextEntry v applied w x
+StoreFits v w x (Applying applied) GenerationWord = IsNextEntry v applied w x
+StoreFits v w x (Applying applied) SealWord = ClearsSeal v x applied
 StoreFits v w x phase part = ⊥
 
 pub record MayStore (v : View) (w x : ℕ) : Type 0 where
@@ -105,6 +141,8 @@ pub record MayDraw (v : View) : Type 0 where
   pub found : ℕ
   pub seen : Contains v.seen (NumberSeen found)
   pub below : found < generation_limit
+  -- where it has entries, one of them at least changes the pool
+  pub entered : (v.log.entries ≡ []) ⊎ Any (λ (f : Final). IsTrue (is_written v f.word)) v.log.entries
 
 -- operations are told while the call is open
 abbrev pub MayTell : Phase → Type 0
@@ -116,7 +154,7 @@ abbrev pub Allowed : View → Step → Type 0
 Allowed v (Load w found) = w < length v.words
 Allowed v (Store w x) = MayStore v w x
 Allowed v (Flush line) = FlushesSome line v.changes
-Allowed v Drain = DrainsSome v.changes
+Allowed v Drain = DropsSome v.changes
 Allowed v (TakeWrite line won) = MayTake v line
 Allowed v (TakeRead line won) = MayTake v line
 Allowed v (Give line) = MayGive v line

@@ -10,6 +10,7 @@ pub mod Moves
 pub mod Opening
 pub mod Opens
 pub mod Records
+pub mod Entries
 pub mod Sequences
 pub mod Solo
 pub mod World

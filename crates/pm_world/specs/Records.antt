@@ -1,12 +1,12 @@
 -- A lane's undo records as its view has them: which words they are of, and how they stand in their slots.
-use Rattle.std.specs.Prelude.{◌≡◌, ℕ, ◌+◌, ◌-◌, ◌*◌, ◌<◌, Bool, false, not, ◌&&◌, ◌||◌, nat_le, nat_lt, List, [], ◌∷◌, ◌++◌, length, map, replicate, slice_get, slice_index, Some, flat_map}
-use Rattle.std.specs.List.{list_any, range_with_len}
+use Rattle.std.specs.Prelude.{◌≡◌, ℕ, ◌+◌, ◌-◌, ◌*◌, ◌<◌, ◌==◌, Bool, false, not, ◌&&◌, ◌||◌, nat_le, nat_lt, if◌then◌else◌, List, [], ◌∷◌, ◌++◌, length, map, replicate, slice_get, slice_index, Some, flat_map}
+use Rattle.std.specs.List.{filter, list_any, range_with_len}
 use Rattle.pm_record.specs.Undo.{undo_words}
-use Rattle.pm_view.specs.Area.{area_word}
+use Rattle.pm_view.specs.Area.{area_word, is_in_area}
 use Rattle.pm_view.specs.Bits.{all_bits}
 use Rattle.pm_view.specs.Changes.{is_in_line}
 use Rattle.pm_view.specs.Log.{Phase, Recorded, Final}
-use Rattle.pm_view.specs.Log.Phase.{Open, Retiring}
+use Rattle.pm_view.specs.Log.Phase.{Open, Applying, Retiring}
 use Rattle.pm_view.specs.View.{View}
 use Rattle.pm_image.specs.Logs.{slot_line}
 
@@ -47,9 +47,11 @@ is_logged v w = is_logged_from v 0 v.log.records w
 abbrev pub spelled : ℕ → Recorded → List ℕ
 spelled generation r = undo_words (record { generation = generation; place = 8 * r.word; count = length r.old; old = r.old ++ replicate (4 - length r.old) 0 })
 
--- the generation of the log's records: the lane's, or the one that it ends
+-- the generation of the log's records: the lane's, or the one that it ends; once the seal is drained that which the last entry sets, and no
+-- record is of it
 abbrev pub records_generation : Phase → View → ℕ
 records_generation Retiring v = generation_of v - 1
+records_generation (Applying applied) v = if applied == length v.log.entries then generation_of v else generation_of v + 1
 records_generation phase v = generation_of v
 
 -- how many slots have words of this generation, that of a record in the making among them
@@ -61,9 +63,14 @@ used_slots phase v = length v.log.records
 abbrev pub finals_of : List ℕ → Recorded → List Final
 finals_of words r = map (λ w. record { word = w; mask = all_bits; bits = slice_index words w }) (range_with_len r.word (length r.old))
 
--- what the open call makes final: the words that it recorded, as it left them. Entries and the words of new blocks come with their stages.
+-- the entries of words outside of the lane's area: all but that of its generation
+abbrev pub pool_entries : View → List Final
+pool_entries v = filter (λ (f : Final). not (is_in_area v.lane f.word)) v.log.entries
+
+-- what the open call makes final: the words that it recorded, as it left them, and then what its entries make. The words of new blocks come with
+-- the heap.
 abbrev pub difference_of : View → List Final
-difference_of v = flat_map (finals_of v.words) v.log.records
+difference_of v = flat_map (finals_of v.words) v.log.records ++ pool_entries v
 
 -- every recorded word has its old value again
 abbrev pub AreRestored : View → Type 0

@@ -2,7 +2,8 @@
 use Rattle.std.specs.Prelude.{◌≡◌, ℕ, ◌/◌, ◌<◌, ◌==◌, false, List, [], ◌∷◌, length, slice_index}
 use Rattle.std.proofs.Common.{refl, sym, subst, ◌∙◌, arith}
 use Rattle.std.proofs.lemmas.Bool.{cond-false, or_parts}
-use Rattle.pm_view.specs.Counts.{HasRoom, FlushesSome, DrainsSome}
+use Rattle.pm_view.specs.declared.change.Change.{Change}
+use Rattle.pm_view.specs.Counts.{HasRoom, FlushesSome, DrainsSome, DropsSome}
 use Rattle.pm_view.specs.Steps.{Step}
 use Rattle.pm_view.specs.Steps.Step.{Load, Store, Or, And, Flush, Drain, TakeWrite, TakeRead, Raise, Give, ZoneTry, ZoneGive, Occupied, Occupy, Vacate, Draw, NumberSeen, StopSeen, SetStop, Tell}
 use Rattle.pm_view.specs.View.{View, Lock}
@@ -20,13 +21,18 @@ free m v line sees inside none = sees.locks line inside ∙ no_hold v.locks line
       let t = or_parts (l.line == line) (is_holder locks line) e in
       cond-false _ _ (lock_word locks line) t.0 ∙ no_hold locks line t.1
 
+-- where a drain drops a change, one is undrained
+pub some_undrained : (changes : List Change) → DropsSome changes → DrainsSome changes
+some_undrained [] drops = absurd (let none = drops.2 in omega (arith, none))
+some_undrained (c ∷ changes) drops = omega arith
+
 pub meets_solo : (m : Solo) (v : View) (s : Step) → Sees m v → Allowed v s → CanStep m s
 meets_solo m v (Load w found) sees may = subst (λ (words : List ℕ). w < length words) sees.words may
 meets_solo m v (Store w x) sees may = (subst (λ (words : List ℕ). w < length words) sees.words may.inside, subst HasRoom sees.changes may.room)
 meets_solo m v (Or w bits found) sees may = absurd may
 meets_solo m v (And w bits found) sees may = absurd may
 meets_solo m v (Flush line) sees may = subst (FlushesSome line) sees.changes may
-meets_solo m v Drain sees may = subst DrainsSome sees.changes may
+meets_solo m v Drain sees may = subst DrainsSome sees.changes (some_undrained v.changes may)
 meets_solo m v (TakeWrite line won) sees may = let inside = near m v line sees may.inside in (inside, free m v line sees inside may.free)
 meets_solo m v (TakeRead line won) sees may = let inside = near m v line sees may.inside in (inside, free m v line sees inside may.free)
 meets_solo m v (Raise line won) sees may = absurd may

@@ -7,12 +7,16 @@ use crate::LawfulMem;
 use arrayvec::ArrayVec;
 use pm_layout::Shape;
 use pm_objects::TxErr;
+use pm_record::Redo;
 
 /// Locks of lines that a lane holds at most.
 pub const MAX_LOCKS: usize = 64;
 
 /// Undo records of a generation at most.
 pub const MAX_RECORDS: usize = 64;
+
+/// Redo entries of a call at most, that of its generation among them.
+pub const MAX_ENTRIES: usize = 64;
 
 /// A held lock of a line.
 #[derive(Clone, Copy, Debug, PartialEq, Eq, Default, Drop)]
@@ -55,6 +59,8 @@ pub struct Lane<M> {
     pub locks: ArrayVec<HeldLock, 64>,
     /// The undo records of its generation, in the order of their slots.
     pub records: ArrayVec<Span, 64>,
+    /// The redo entries of its call, in the order of their pairs.
+    pub entries: ArrayVec<Redo, 64>,
     /// The transaction's level, 0 to 64, and its stage.
     pub level: u64,
     pub stage: Stage,
@@ -73,6 +79,7 @@ impl<M: LawfulMem> Lane<M> {
         ensures fits { (v : View) → M.at memory v → v.pool ≡ pool → IsOfShape v shape → v.locks ≡ [] → v.log.records ≡ [] → v.entries ≡ []
             → IsSeenAs M.at result v × IsIdle result }
         ensures unharmed { result.error ≡ error.None }
+        ensures unentered { result.entries.items ≡ [] }
     {
         Lane {
             memory,
@@ -80,6 +87,7 @@ impl<M: LawfulMem> Lane<M> {
             shape,
             locks: ArrayVec::new(),
             records: ArrayVec::new(),
+            entries: ArrayVec::new(),
             level: 0,
             stage: Stage::None,
             error: TxErr::None,

@@ -12,7 +12,7 @@ mod laws;
 mod sequences;
 mod solo;
 
-pub use lane::{HeldLock, Lane, MAX_LOCKS, MAX_RECORDS, Span, Stage};
+pub use lane::{HeldLock, Lane, MAX_ENTRIES, MAX_LOCKS, MAX_RECORDS, Span, Stage};
 pub use lawful_mem::LawfulMem;
 pub use laws::{
     a_crash_keeps_whole_calls, an_acknowledged_call_is_kept, lawful_steps_keep_the_world,

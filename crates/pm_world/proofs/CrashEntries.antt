@@ -1,0 +1,276 @@
+-- What an image has of a lane's redo log: which entries are sealed in it, the lane's generation, and the recovered word where a sealed entry is of it.
+use Rattle.std.proofs.Common.{◌≡◌, ◌≢◌, ℕ, zero, suc, ◌+◌, ◌*◌, ◌/◌, ◌%◌, ◌<◌, ◌≤◌, ◌⊎◌, inl, inr, ⊎_elim, eqb, leb, Bool, true, false, cond, All, Contains, List, [], ◌∷◌, ◌++◌, length, length-append, map, slice_get, slice_index, Option, Some, refl, sym, ap, ◌∙◌, subst, arith}
+use Rattle.std.specs.List.{cons_option, filter, filter_map, flat_map, range_with_len}
+use Rattle.std.specs.Option.{option_map}
+use Rattle.std.proofs.lemmas.Bool.{cases_Bool, cases_eq, cond-true, cond-false, or_cases, or_parts, and_from, le-leb, eq-eqb, ne_eqb, false≢true}
+use Rattle.std.proofs.lemmas.List.Elements.{All-head, All-tail, filter-append}
+use Rattle.std.proofs.lemmas.Option.{none-some}
+use Rattle.pm_record.specs.Redo.{applied, op_of, redo_of, redo_words}
+use Rattle.pm_record.specs.declared.redo.Op.TheVariants.{Set}
+use Rattle.pm_record.specs.declared.redo.Redo.{Redo}
+use Rattle.pm_view.specs.declared.change.Change.{Change}
+use Rattle.pm_view.specs.Area.{area_word, part_of}
+use Rattle.pm_view.specs.Area.Part.{EntryWord}
+use Rattle.pm_view.specs.Log.{Phase, Final}
+use Rattle.pm_view.specs.Log.Phase.{Idle, Open, Drawn, Sealing, Applying, Clearing, Retiring}
+use Rattle.pm_view.specs.View.{View}
+use Rattle.pm_image.specs.Logs.{all_applied, entries, entries_for, entry_pair, generation, is_sealed, record_for, recovered, recovered_by, seal_word}
+use Rattle.pm_image.proofs.Redoing.{entries_sealed}
+use Rattle.pm_world.specs.Crash.{Survives}
+use Rattle.pm_world.specs.Entries.{AreWhole, IsEntryAt, ends_with, entry_word, setting}
+use Rattle.pm_world.specs.Fits.{PhaseFits}
+use Rattle.pm_world.specs.History.{Entry, Flies, is_final, made_final}
+use Rattle.pm_world.specs.Memory.{Memory}
+use Rattle.pm_world.specs.Opening.{Opening}
+use Rattle.pm_world.specs.Records.{generation_of, is_logged, records_generation}
+use Rattle.pm_world.specs.World.{Views, World}
+use Rattle.pm_world.proofs.CrashLogs.{ChangeFits, GenerationIs, SealIs, entered_front, entry_part, slot_part, whole_word}
+use Rattle.pm_world.proofs.CrashRecords.{generation_unsealed}
+use Rattle.pm_world.proofs.CrashWords.{OwnTakenBack, area_left, fits_of, lane_is, logged_behind, seal_is, written_behind}
+use Rattle.pm_world.proofs.Differences.{SetsWhole, made_whole}
+
+-- the entry that an image has for one of a lane's
+abbrev pub redo_for : Final → Redo
+redo_for f = setting f.word f.bits
+
+-- the entries of a word
+abbrev pub of_word : ℕ → List Redo → List Redo
+of_word w es = filter (λ (e : Redo). eqb e.place (8 * w)) es
+
+pub setting_again : (w x : ℕ) → redo_of (redo_words (setting w x)) ≡ Some (setting w x)
+setting_again w x =
+    let code : (8 * w + 0) % 8 ≡ 0 = omega arith in
+    let place : (8 * w + 0) / 8 * 8 ≡ 8 * w = omega arith in
+    ap (λ c. option_map (λ op. record { place = (8 * w + 0) / 8 * 8; op = op; value = x }) (op_of c)) code ∙ ap (λ (p : ℕ). let e : Redo = record { place = p; op = Set; value = x } in Some e) place
+
+-- entries that are read one after another
+read_all : (read : ℕ → Option Redo) (fs : List Final) (from : ℕ) → ((i : ℕ) (f : Final) → slice_get fs i ≡ Some f → read (from + i) ≡ Some (redo_for f)) → filter_map read (range_with_len from (length fs)) ≡ map redo_for fs
+read_all read [] from each = refl
+read_all read (f ∷ fs) from each =
+    let here : from + 0 ≡ from = omega arith in
+    ap (λ o. cons_option o (filter_map read (range_with_len (from + 1) (length fs)))) (ap read (sym here) ∙ each 0 f refl)
+    ∙ ap (λ (es : List Redo). redo_for f ∷ es) (read_all read fs (from + 1) (λ i g at. let next : from + 1 + i ≡ from + suc i = omega arith in ap read next ∙ each (suc i) g at))
+
+place_same : (u w : ℕ) → eqb (8 * u) (8 * w) ≡ eqb u w
+place_same u w =
+    ⊎_elim (λ (same : u ≡ w). eq-eqb (8 * u) (8 * w) (ap (λ n. 8 * n) same) ∙ sym (eq-eqb u w same))
+    (λ (differ : u ≢ w). ne_eqb (8 * u) (8 * w) (λ e. differ (omega arith)) ∙ sym (ne_eqb u w differ))
+    (cases_eq u w)
+
+-- what they make of a word
+applied_all : (fs : List Final) (w x : ℕ) → All SetsWhole fs → all_applied (of_word w (map redo_for fs)) x ≡ made_final fs w x
+unfolding made_final
+applied_all [] w x whole = refl
+applied_all (f ∷ fs) w x whole =
+    let rest = All-tail SetsWhole f fs whole in
+    ⊎_elim
+    (λ (here : eqb f.word w ≡ true).
+    ap (λ b. all_applied (cond b (redo_for f ∷ of_word w (map redo_for fs)) (of_word w (map redo_for fs))) x) (place_same f.word w ∙ here)
+    ∙ (applied_all fs w f.bits rest ∙ ap (made_final fs w) (sym (cond-true _ _ _ here ∙ made_whole f x (All-head SetsWhole f fs whole)))))
+    (λ (other : eqb f.word w ≡ false).
+    ap (λ b. all_applied (cond b (redo_for f ∷ of_word w (map redo_for fs)) (of_word w (map redo_for fs))) x) (place_same f.word w ∙ other)
+    ∙ (applied_all fs w x rest ∙ ap (made_final fs w) (sym (cond-false _ _ _ other))))
+    (cases_Bool (eqb f.word w))
+
+-- none is of the word
+pub none_of : (fs : List Final) (w : ℕ) → is_final fs w ≡ false → of_word w (map redo_for fs) ≡ []
+none_of [] w e = refl
+none_of (f ∷ fs) w e =
+    let t = or_parts (eqb f.word w) (is_final fs w) e in
+    ap (λ b. cond b (redo_for f ∷ of_word w (map redo_for fs)) (of_word w (map redo_for fs))) (place_same f.word w ∙ t.0) ∙ none_of fs w t.1
+
+-- some is
+pub some_of : (fs : List Final) (w : ℕ) → is_final fs w ≡ true → (e : Redo) × (es : List Redo) × (of_word w (map redo_for fs) ≡ e ∷ es)
+some_of [] w e = absurd (false≢true e)
+some_of (f ∷ fs) w e =
+    ⊎_elim
+    (λ (here : eqb f.word w ≡ true). (redo_for f, of_word w (map redo_for fs), ap (λ b. cond b (redo_for f ∷ of_word w (map redo_for fs)) (of_word w (map redo_for fs))) (place_same f.word w ∙ here)))
+    (λ (other : eqb f.word w ≡ false).
+    let later : is_final fs w ≡ true = ⊎_elim (λ (h : eqb f.word w ≡ true). absurd (false≢true (sym other ∙ h))) (λ (l : is_final fs w ≡ true). l) (or_cases (eqb f.word w) (is_final fs w) e) in
+    let t = some_of fs w later in
+    (t.0, t.1, ap (λ b. cond b (redo_for f ∷ of_word w (map redo_for fs)) (of_word w (map redo_for fs))) (place_same f.word w ∙ other) ∙ t.2))
+    (cases_Bool (eqb f.word w))
+
+-- no part has what passes the test
+no_part : (p : Redo → Bool) (f : ℕ → List Redo) (from n : ℕ) → ((j : ℕ) → from ≤ j → j < from + n → filter p (f j) ≡ []) → filter p (flat_map f (range_with_len from n)) ≡ []
+no_part p f from zero none = refl
+no_part p f from (suc n) none =
+    filter-append p (f from) (flat_map f (range_with_len (from + 1) n))
+    ∙ (ap (λ (es : List Redo). es ++ filter p (flat_map f (range_with_len (from + 1) n))) (none from (omega arith) (omega arith)) ∙ no_part p f (from + 1) n (λ j low high. none j (omega arith) (omega arith)))
+
+append_none : (xs : List Redo) → xs ++ [] ≡ xs
+append_none [] = refl
+append_none (x ∷ xs) = ap (λ (ys : List Redo). x ∷ ys) (append_none xs)
+
+-- one part alone has it
+one_part : (p : Redo → Bool) (f : ℕ → List Redo) (from n k : ℕ) → from ≤ k → k < from + n → ((j : ℕ) → from ≤ j → j < from + n → j ≢ k → filter p (f j) ≡ []) → filter p (flat_map f (range_with_len from n)) ≡ filter p (f k)
+one_part p f from zero k low high none = absurd (omega arith)
+one_part p f from (suc n) k low high none =
+    filter-append p (f from) (flat_map f (range_with_len (from + 1) n))
+    ∙ ⊎_elim
+    (λ (here : from ≡ k). ap (λ (es : List Redo). filter p (f from) ++ es) (no_part p f (from + 1) n (λ j l h. none j (omega arith) (omega arith) (λ same. omega arith)))
+    ∙ (append_none (filter p (f from)) ∙ ap (λ j. filter p (f j)) here))
+    (λ (later : from ≢ k). ap (λ (es : List Redo). es ++ filter p (flat_map f (range_with_len (from + 1) n))) (none from (omega arith) (omega arith) later)
+    ∙ one_part p f (from + 1) n k (omega arith) (omega arith) (λ j l h other. none j (omega arith) (omega arith) other))
+    (cases_eq from k)
+
+-- no sealed entry is of the word
+pub unentered_word : (image : List ℕ) (lanes w : ℕ) → ((j : ℕ) → j < lanes → of_word w (entries image j) ≡ []) → entries_for image lanes (8 * w) ≡ []
+unfolding entries_for
+unentered_word image lanes w none = no_part (λ (e : Redo). eqb e.place (8 * w)) (entries image) 0 lanes (λ j low high. none j (omega arith))
+
+-- one lane alone has sealed entries of the word: they make the recovered word
+pub redone_word : (image : List ℕ) (lanes w k : ℕ) (fs : List Final) → k < lanes → entries image k ≡ map redo_for fs → All SetsWhole fs → is_final fs w ≡ true
+    → ((j : ℕ) → j < lanes → j ≢ k → of_word w (entries image j) ≡ []) → recovered image lanes w ≡ made_final fs w (slice_index image w)
+unfolding recovered entries_for
+redone_word image lanes w k fs inside are whole of others =
+    let t = some_of fs w of in
+    let mine : entries_for image lanes (8 * w) ≡ of_word w (map redo_for fs) = one_part (λ (e : Redo). eqb e.place (8 * w)) (entries image) 0 lanes k (omega arith) (omega arith) (λ j low high other. others j (omega arith) other) ∙ ap (of_word w) are in
+    ap (λ es. recovered_by es (record_for image lanes (8 * w)) (8 * w) (slice_index image w)) (mine ∙ t.2)
+    ∙ (ap (λ es. all_applied es (slice_index image w)) (sym t.2) ∙ applied_all fs w (slice_index image w) whole)
+
+last_at : (front : List Final) (f : Final) → slice_get (front ++ f ∷ []) (length front) ≡ Some f
+last_at [] f = refl
+last_at (g ∷ front) f = last_at front f
+
+length_last : (front : List Final) (f : Final) → length (front ++ f ∷ []) ≡ length front + 1
+length_last front f = length-append front (f ∷ [])
+
+-- the lane's seal is or may be in the image
+abbrev pub HasSealed : Phase → Type 0
+HasSealed Sealing = Unit {0}
+HasSealed (Applying applied) = Unit {0}
+HasSealed Clearing = Unit {0}
+HasSealed phase = ⊥
+
+-- the generation that the last entry sets
+abbrev pub sealed_generation : Phase → View → ℕ
+sealed_generation Sealing v = generation_of v + 1
+sealed_generation phase v = records_generation phase v
+
+module _ (o : Opening) (mem : Memory) (views : Views) (log : List Entry) (decided : ℕ → Bool) (x : World o mem views log decided) where
+  pub whole_of : (k : ℕ) (phase : Phase) → HasSealed phase → PhaseFits (Flies log decided k) (views k) phase → AreWhole (views k) (sealed_generation phase (views k))
+  whole_of k Idle sealed fits = absurd sealed
+  whole_of k (Open slot pair) sealed fits = absurd sealed
+  whole_of k Drawn sealed fits = absurd sealed
+  whole_of k Sealing sealed fits = fits.whole
+  whole_of k (Applying applied) sealed fits = fits.whole
+  whole_of k Clearing sealed fits = fits.whole
+  whole_of k Retiring sealed fits = absurd sealed
+
+  module _ (image : List ℕ) (survives : Survives o mem views image) where
+    no_pair_change : (k : ℕ) (phase : Phase) (i : ℕ) → k < o.lanes → HasSealed phase → area_word k + 8 ≤ i → i < area_word k + 136 → (t : OwnTakenBack (views k) image i) → ChangeFits (views k) t.change phase → ⊥
+    no_pair_change k Idle i inside sealed low high t fits = sealed
+    no_pair_change k (Open slot pair) i inside sealed low high t fits = sealed
+    no_pair_change k Drawn i inside sealed low high t fits = sealed
+    no_pair_change k Sealing i inside sealed low high t fits = let at = lane_is o mem views log decided x k inside in let is = t.of_word in let of = fits.of in omega arith
+    no_pair_change k (Applying applied) i inside sealed low high t fits =
+        let at = lane_is o mem views log decided x k inside in let is = t.of_word in
+        ⊎_elim (λ written. let behind = written_behind o mem views log decided x k t.change.word inside written in omega arith)
+        (λ (own : t.change.word ≡ area_word (views k).lane). omega arith)
+        (whole_word (views k) (records_generation (Applying applied) (views k)) t.change.word fits.1 (entered_front applied (views k).log.entries t.change.word fits.0.of))
+    no_pair_change k Clearing i inside sealed low high t fits = let at = lane_is o mem views log decided x k inside in let is = t.of_word in let of = fits.of in omega arith
+    no_pair_change k Retiring i inside sealed low high t fits = sealed
+
+    -- the words of the entries' pairs are as the lane left them
+    pair_stays : (k : ℕ) (i : ℕ) → k < o.lanes → HasSealed (views k).log.phase → area_word k + 8 ≤ i → i < area_word k + 136 → slice_index image i ≡ slice_index (views k).words i
+    pair_stays k i inside sealed low high =
+        ⊎_elim (λ (same : slice_index image i ≡ slice_index (views k).words i). same)
+        (λ (t : OwnTakenBack (views k) image i). absurd (no_pair_change k (views k).log.phase i inside sealed low high t (fits_of o mem views log decided x k t.change inside t.there)))
+        (area_left o mem views log decided x image survives k i inside (omega arith) (omega arith))
+
+    -- each entry is read as it was written
+    pub entry_read : (k i : ℕ) (f : Final) → k < o.lanes → HasSealed (views k).log.phase → i < 64 → IsEntryAt (views k) i f → entry_pair image k i ≡ redo_words (redo_for f)
+    entry_read k i f inside sealed low at =
+        let lane = lane_is o mem views log decided x k inside in
+        let stands = (x.each_lane k inside).entries.each i f at in
+        let next : area_word k + 9 + 2 * i ≡ area_word k + 8 + 2 * i + 1 = omega arith in
+        let one : slice_index image (area_word k + 8 + 2 * i) ≡ slice_index (views k).words (area_word k + 8 + 2 * i) = pair_stays k (area_word k + 8 + 2 * i) inside sealed (omega arith) (omega arith) in
+        let other : slice_index image (area_word k + 9 + 2 * i) ≡ slice_index (views k).words (area_word k + 8 + 2 * i + 1) = ap (slice_index image) next ∙ pair_stays k (area_word k + 8 + 2 * i + 1) inside sealed (omega arith) (omega arith) in
+        (λ t. one t ∷ other t ∷ [])
+        ∙ (ap (λ (j : ℕ). let pair : List ℕ = slice_index (views k).words (entry_word j i) ∷ slice_index (views k).words (entry_word j i + 1) ∷ [] in pair) (sym lane) ∙ stands.spells)
+
+    module _ (k : ℕ) (inside : k < o.lanes) (sealed : HasSealed (views k).log.phase) (full : seal_word image k ≡ length (views k).log.entries) where
+      whole : AreWhole (views k) (sealed_generation (views k).log.phase (views k))
+      whole = whole_of k (views k).log.phase sealed (x.each_lane k inside).phase
+
+      long : length (views k).log.entries ≡ length whole.front + 1
+      long = ap length whole.are ∙ length_last whole.front (ends_with (views k) (sealed_generation (views k).log.phase (views k)))
+
+      is_sealed_there : is_sealed image k ≡ true
+      is_sealed_there =
+          let most = (x.each_lane k inside).entries.most in let n = long in
+          and_from (leb 1 (seal_word image k)) (leb (seal_word image k) 64) (le-leb 1 (seal_word image k) (omega arith)) (le-leb (seal_word image k) 64 (omega arith))
+
+      -- the sealed entries of the image are the lane's
+      pub entries_read : entries image k ≡ map redo_for (views k).log.entries
+      entries_read =
+          sym (entries_sealed image k is_sealed_there)
+          ∙ (ap (λ n. filter_map (λ i. redo_of (entry_pair image k i)) (range_with_len 0 n)) full
+          ∙ read_all (λ i. redo_of (entry_pair image k i)) (views k).log.entries 0
+          (λ i f at. let low = within (views k).log.entries i f at in let most = (x.each_lane k inside).entries.most in
+          let first : 0 + i ≡ i = omega arith in
+          ap (λ j. redo_of (entry_pair image k j)) first ∙ (ap redo_of (entry_read k i f inside sealed (omega arith) at) ∙ setting_again f.word f.bits))) where
+            within : (fs : List Final) (i : ℕ) (f : Final) → slice_get fs i ≡ Some f → i < length fs
+            within [] i f at = absurd (none-some f at)
+            within (g ∷ fs) zero f at = omega arith
+            within (g ∷ fs) (suc i) f at = let l = within fs i f at in omega arith
+
+      -- and its generation is that which the last one sets
+      pub generation_sealed : generation image k ≡ sealed_generation (views k).log.phase (views k)
+      generation_sealed =
+          let g : ℕ = sealed_generation (views k).log.phase (views k) in
+          let most = (x.each_lane k inside).entries.most in let n = long in
+          let at : IsEntryAt (views k) (length whole.front) (ends_with (views k) g) = ap (λ fs. slice_get fs (length whole.front)) whole.are ∙ last_at whole.front (ends_with (views k) g) in
+          let place : area_word k + 7 + 2 * seal_word image k ≡ area_word k + 9 + 2 * length whole.front = omega arith in
+          cond-true _ _ _ is_sealed_there
+          ∙ (ap (slice_index image) place ∙ ap (λ (pair : List ℕ). slice_index pair 1) (entry_read k (length whole.front) (ends_with (views k) g) inside sealed (omega arith) at))
+
+    module _ (k : ℕ) (inside : k < o.lanes) where
+      at : (views k).lane ≡ k
+      at = lane_is o mem views log decided x k inside
+
+      -- the generation's word is the lane's, or a change of it was taken back
+      here : (slice_index image (area_word k) ≡ generation_of (views k)) ⊎ OwnTakenBack (views k) image (area_word k)
+      here =
+          ⊎_elim (λ (same : slice_index image (area_word k) ≡ slice_index (views k).words (area_word k)). inl (same ∙ ap (λ j. slice_index (views k).words (area_word j)) (sym at)))
+          (λ (t : OwnTakenBack (views k) image (area_word k)). inr t)
+          (area_left o mem views log decided x image survives k (area_word k) inside (omega arith) (omega arith))
+
+      -- with nothing sealed, and no change of the word
+      kept : seal_word image k ≡ 0 → ((t : OwnTakenBack (views k) image (area_word k)) → ⊥) → generation image k ≡ generation_of (views k)
+      kept none never =
+          generation_unsealed image k none
+          ∙ ⊎_elim (λ (same : slice_index image (area_word k) ≡ generation_of (views k)). same) (λ (t : OwnTakenBack (views k) image (area_word k)). absurd (never t)) here
+
+      sealed_by : (phase : Phase) → (views k).log.phase ≡ phase → HasSealed phase → seal_word image k ≡ length (views k).log.entries → generation image k ≡ sealed_generation phase (views k)
+      sealed_by phase is sealed full = generation_sealed k inside (subst HasSealed (sym is) sealed) full ∙ ap (λ p. sealed_generation p (views k)) is
+
+      pub some_sealed : (phase : Phase) → (views k).log.phase ≡ phase → HasSealed phase → seal_word image k ≡ length (views k).log.entries → seal_word image k ≢ 0
+      some_sealed phase is sealed full none =
+          let w = whole_of k phase sealed (subst (PhaseFits (Flies log decided k) (views k)) is (x.each_lane k inside).phase) in
+          let n = ap length w.are ∙ length_last w.front (ends_with (views k) (sealed_generation phase (views k))) in
+          absurd (omega arith)
+
+      by_phase : (phase : Phase) → (views k).log.phase ≡ phase → SealIs (views k) (seal_word image k) phase → ((c : Change) → Contains (views k).changes c → ChangeFits (views k) c phase)
+          → GenerationIs (views k) (seal_word image k) (generation image k) phase
+      by_phase Idle is seal fits = kept seal (λ t. fits t.change t.there)
+      by_phase (Open slot pair) is seal fits = kept seal (λ t.
+          let of_word = t.of_word in let lane = at in
+          ⊎_elim (λ part. let s = slot_part (views k).lane t.change.word part in let low = s.low in omega arith)
+          (λ (other : (part_of (views k).lane t.change.word ≡ EntryWord) ⊎ (is_logged (views k) t.change.word ≡ true)).
+          ⊎_elim (λ (part : part_of (views k).lane t.change.word ≡ EntryWord). let s = entry_part (views k).lane t.change.word part in let low = s.low in omega arith)
+          (λ (logged : is_logged (views k) t.change.word ≡ true). let behind = logged_behind o mem views log decided x k t.change.word inside logged in omega arith) other) (fits t.change t.there).of)
+      by_phase Drawn is seal fits = kept seal (λ t. fits t.change t.there)
+      by_phase Sealing is (inl full) fits = inr (some_sealed Sealing is tt full, sealed_by Sealing is tt full)
+      by_phase Sealing is (inr none) fits = inl (none, kept none (λ t. let of_word = t.of_word in let lane = at in let of = (fits t.change t.there).of in omega arith))
+      by_phase (Applying applied) is seal fits = sealed_by (Applying applied) is tt seal
+      by_phase Clearing is (inl full) fits = sealed_by Clearing is tt full
+      by_phase Clearing is (inr none) fits = kept none (λ t. let of_word = t.of_word in let lane = at in let of = (fits t.change t.there).of in omega arith)
+      by_phase Retiring is seal fits =
+          ⊎_elim (λ (same : slice_index image (area_word k) ≡ generation_of (views k)). inl (generation_unsealed image k seal ∙ same))
+          (λ (t : OwnTakenBack (views k) image (area_word k)). inr (ap (λ n. n + 1) (generation_unsealed image k seal ∙ t.is_old) ∙ (fits t.change t.there).before)) here
+
+      -- which generation the image has, by how far the lane's call has come
+      pub generation_is : GenerationIs (views k) (seal_word image k) (generation image k) (views k).log.phase
+      generation_is = by_phase (views k).log.phase refl (seal_is o mem views log decided x image survives k inside) (λ c there. fits_of o mem views log decided x k c inside there)

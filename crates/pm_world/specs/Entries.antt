@@ -1,0 +1,89 @@
+-- A lane's redo entries as its view has them: how they stand in its area, and which words they give after a power failure. So far each entry
+-- sets a whole word; those that set or clear bits come with the heap, whose bitmaps lanes share.
+use Rattle.std.specs.Prelude.{◌≡◌, ◌⊎◌, ℕ, ◌+◌, ◌*◌, ◌==◌, Bool, true, false, ◌&&◌, ◌||◌, IsTrue, All, List, [], ◌∷◌, ◌++◌, length, slice_get, slice_index, Some}
+use Rattle.std.specs.List.{list_any}
+use Rattle.pm_record.specs.Redo.{redo_words}
+use Rattle.pm_record.specs.declared.redo.Op.TheVariants.{Set}
+use Rattle.pm_record.specs.declared.redo.Redo.{Redo}
+use Rattle.pm_view.specs.Area.{area_word}
+use Rattle.pm_view.specs.Bits.{all_bits}
+use Rattle.pm_view.specs.Log.{Phase, Final}
+use Rattle.pm_view.specs.Log.Phase.{Idle, Sealing, Applying, Clearing, Retiring}
+use Rattle.pm_view.specs.Rights.{is_written}
+use Rattle.pm_view.specs.View.{View}
+use Rattle.pm_world.specs.Records.{is_logged}
+
+-- the first word of an entry's pair
+abbrev pub entry_word : ℕ → ℕ → ℕ
+entry_word lane i = area_word lane + 8 + 2 * i
+
+-- the word becomes x
+abbrev pub set_word : ℕ → ℕ → Final
+set_word w x = record { word = w; mask = all_bits; bits = x }
+
+-- the entry that ends a generation: the lane's generation becomes this
+abbrev pub ends_with : View → ℕ → Final
+ends_with v generation = set_word (area_word v.lane) generation
+
+-- the entry stands in this pair
+abbrev pub IsEntryAt : View → ℕ → Final → Type 0
+IsEntryAt v i f = slice_get v.log.entries i ≡ Some f
+
+-- the two words of a pair, as the view has them
+abbrev pub pair_at : View → ℕ → List ℕ
+pair_at v i = slice_index v.words (entry_word v.lane i) ∷ slice_index v.words (entry_word v.lane i + 1) ∷ []
+
+-- the redo entry that sets a word
+abbrev pub setting : ℕ → ℕ → Redo
+setting w x = record { place = 8 * w; op = Set; value = x }
+
+-- an entry may be of a word that the lane locked for writing, or of its own generation
+abbrev pub IsEnterable : View → ℕ → Type 0
+IsEnterable v w = IsTrue (is_written v w) ⊎ (w ≡ area_word v.lane)
+
+-- the entry sets a word that it may be of, and its pair spells it
+pub record EntryStands (v : View) (i : ℕ) (f : Final) : Type 0 where
+  pub whole : f.mask ≡ all_bits
+  pub of : IsEnterable v f.word
+  pub spells : pair_at v i ≡ redo_words (setting f.word f.bits)
+
+-- one of these entries is of word w
+abbrev pub is_entered : List Final → ℕ → Bool
+is_entered entries w = list_any (λ (f : Final). f.word == w) entries
+
+-- the entries are of words that the lane locked for writing, and the last one, behind them, sets the lane's generation to this
+pub record AreWhole (v : View) (generation : ℕ) : Type 0 where
+  pub front : List Final
+  pub are : v.log.entries ≡ front ++ ends_with v generation ∷ []
+  pub owned : All (λ (f : Final). IsTrue (is_written v f.word)) front
+
+-- the seal is drained, and not yet cleared for good: the lane's call is decided by it
+abbrev pub is_redoing : Phase → Bool
+is_redoing (Applying applied) = true
+is_redoing Clearing = true
+is_redoing phase = false
+
+-- the lane's log would redo word w after a power failure
+abbrev pub is_redone : View → ℕ → Bool
+is_redone v w = is_redoing v.log.phase && is_entered v.log.entries w
+
+-- the lane's log would restore word w, or redo it
+abbrev pub is_in_log : View → ℕ → Bool
+is_in_log v w = is_logged v w || is_redone v w
+
+-- how many of the entries are applied: all while the seal is cleared
+abbrev pub applied_in : Phase → View → ℕ
+applied_in (Applying applied) v = applied
+applied_in phase v = length v.log.entries
+
+-- what the seal's word holds
+abbrev pub seal_in : Phase → View → ℕ
+seal_in Sealing v = length v.log.entries
+seal_in (Applying applied) v = length v.log.entries
+seal_in phase v = 0
+
+-- there are no entries in these phases
+abbrev pub HasNone : Phase → View → Type 0
+HasNone Idle v = v.log.entries ≡ []
+HasNone Retiring v = v.log.entries ≡ []
+HasNone phase v = Unit {0}
