@@ -1,6 +1,7 @@
 pub mod Planning
 pub mod Looking
 pub mod Recording
+pub mod Dropping
 pub mod Fitting
 pub mod Settled
 pub mod Areas

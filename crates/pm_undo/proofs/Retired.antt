@@ -6,7 +6,7 @@ use Rattle.pm_view.specs.declared.change.Change.{Change}
 use Rattle.pm_view.specs.Area.{area_word, is_in_area}
 use Rattle.pm_view.specs.Area.Part.{GenerationWord}
 use Rattle.pm_view.specs.Changes.{drained, flushed, store_change}
-use Rattle.pm_view.specs.Counts.{FlushesSome, DrainsSome}
+use Rattle.pm_view.specs.Counts.{FlushesSome, DropsSome}
 use Rattle.pm_view.specs.Held.{is_known}
 use Rattle.pm_view.specs.Log.{Phase, log_stored, log_drained, no_log}
 use Rattle.pm_view.specs.Log.Phase.{Idle, Open, Drawn, Retiring}
@@ -19,6 +19,7 @@ use Rattle.pm_world.specs.Sequences.{by_lane, by_view, in_turn, looks, one, stor
 use Rattle.pm_world.proofs.Going.{Goes, goes_then}
 use Rattle.pm_undo.specs.Sequences.{ends_generation, persists, retires, with_generation}
 use Rattle.pm_undo.specs.Working.{HasArea, HasMadeRoom, IsRetired, IsSettled, IsWorking, TellsNoBlock}
+use Rattle.pm_undo.proofs.Dropping.{flush_drops}
 use Rattle.pm_undo.proofs.Areas.{area_tells_nothing, generation_in_area, generation_word}
 use Rattle.pm_undo.proofs.Staying.{looked, looks_so, same_call-then, same_changed, same_coursed, same_looked}
 use Rattle.pm_undo.proofs.Storing.{Is, goes_from, goes_stores}
@@ -77,8 +78,8 @@ module _ (v : View) (area : HasArea v) (none : v.changes ≡ []) where
   some_unflushed : FlushesSome (g / 8) v₂.changes
   some_unflushed = subst (λ cs. FlushesSome (g / 8) (cs ++ c ∷ [])) (sym none) (0, c, omega arith, refl, (eq-eqb (g / 8) (g / 8) refl, refl))
 
-  some_undrained : DrainsSome v₃.changes
-  some_undrained = subst (λ cs. 0 < length (flushed (g / 8) (cs ++ c ∷ []))) (sym none) (omega arith)
+  some_dropped : DropsSome v₃.changes
+  some_dropped = flush_drops (g / 8) v₂.changes some_unflushed
 
   module _ (fits : StoreFits v₁ g x v.log.phase GenerationWord) where
     may : (m : View) → HasMadeRoom v₁ m → MayStore m g x × Is v₂ (after m (Store g x))
@@ -96,7 +97,7 @@ module _ (v : View) (area : HasArea v) (none : v.changes ≡ []) where
         (goes_stores (Is v₁) (Is v₂) g x (λ u m is made. may m (subst (λ w. HasMadeRoom w m) is made)))
         (goes_then (Is v₂) (Is v₃) (Is v₄) (one (Flush (g / 8))) (one Drain)
         (goes_from v₂ (Is v₃) (one (Flush (g / 8))) ((some_unflushed, tt, tt), refl))
-        (goes_from v₃ (Is v₄) (one Drain) ((some_undrained, tt, tt), refl))))
+        (goes_from v₃ (Is v₄) (one Drain) ((some_dropped, tt, tt), refl))))
 
     module _ (ending : log_stored v.log.phase GenerationWord x v.log ≡ record v.log { phase = Retiring }) (number : Bool) (has : is_some v.number ≡ number) where
       log_ended : v₃.log ≡ record v.log { phase = Retiring }
@@ -121,17 +122,17 @@ module _ (v : View) (area : HasArea v) (none : v.changes ≡ []) where
       goes_retired = let r = ends v refl in (r.0, subst (IsRetired (ended number) v) (sym r.1) retired)
 
 -- a call that is given up, once its words are put back
-pub retire_given_up : (v : View) → IsWorking v → v.changes ≡ [] → AreRestored v → Ready v (retires v) × IsRetired (Open [] []) v (after_all v (retires v))
-retire_given_up v working none restored =
+pub retire_given_up : (v : View) → IsWorking v → v.changes ≡ [] → v.log.entries ≡ [] → AreRestored v → Ready v (retires v) × IsRetired (Open [] []) v (after_all v (retires v))
+retire_given_up v working none unentered restored =
     let open_ = working.is_open in
     goes_retired v working.area none
     (subst (λ p. StoreFits (v₁ v working.area none) (g v working.area none) (x v working.area none) p GenerationWord) (sym open_)
-    (record { ends = record { next = refl; below = working.area.below; drained = none }; restored = restored; whole = refl }))
+    (record { ends = record { next = refl; below = working.area.below; drained = none; unentered = unentered }; restored = restored; whole = refl; no_pair = refl }))
     (ap (λ p. log_stored p GenerationWord (x v working.area none) v.log) open_) false (ap is_some working.undrawn)
 
 -- a call that drew its number
-pub retire_drawn : (v : View) → HasArea v → v.log.phase ≡ Drawn → IsTrue (is_some v.number) → v.changes ≡ [] → Ready v (retires v) × IsRetired Idle v (after_all v (retires v))
-retire_drawn v area drawn number none =
+pub retire_drawn : (v : View) → HasArea v → v.log.phase ≡ Drawn → IsTrue (is_some v.number) → v.changes ≡ [] → v.log.entries ≡ [] → Ready v (retires v) × IsRetired Idle v (after_all v (retires v))
+retire_drawn v area drawn number none unentered =
     goes_retired v area none
-    (subst (λ p. StoreFits (v₁ v area none) (g v area none) (x v area none) p GenerationWord) (sym drawn) (record { next = refl; below = area.below; drained = none }))
+    (subst (λ p. StoreFits (v₁ v area none) (g v area none) (x v area none) p GenerationWord) (sym drawn) (record { next = refl; below = area.below; drained = none; unentered = unentered }))
     (ap (λ p. log_stored p GenerationWord (x v area none) v.log) drawn) true number

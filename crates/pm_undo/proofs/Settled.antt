@@ -14,6 +14,7 @@ use Rattle.pm_view.specs.View.{View}
 use Rattle.pm_view.specs.Views.{after, after_all, log_after_drain}
 use Rattle.pm_world.specs.Sequences.{flushes, drains, settles, makes_room, in_turn, Ready}
 use Rattle.pm_world.proofs.Sequencing.{ready_both}
+use Rattle.pm_undo.proofs.Dropping.{emptied_drops}
 use Rattle.pm_undo.specs.Working.{HasMadeRoom, IsSettled, log_settled}
 
 -- what passes a test stands first of those that do
@@ -107,7 +108,7 @@ settle_behind v w marked = at (eqb (length w.changes) 0) refl where
       (tt, marked.same ∙ ap (λ changes. record v { changes = changes; calls = w.calls }) (length_zero w.changes zero_) ∙ ap (λ log. record v { changes = []; calls = w.calls; log = log }) (sym (log_kept v.changes v (sym many ∙ zero_))))
   at false b =
       let some : 0 < length w.changes = (let no = eqb-false (length w.changes) 0 b in omega (arith, no)) in (
-        (some, tt, tt),
+        (emptied_drops w.changes marked.none some, tt, tt),
         ap (λ left. record w { changes = left; calls = w.calls + 1; log = log_after_drain left w }) marked.none
             ∙ ap (λ (u : View). record u { changes = []; calls = w.calls + 1; log = log_after_drain [] u }) marked.same
             ∙ ap (λ log. record v { changes = []; calls = w.calls + 1; log = log }) (sym (log_moved v.changes v (omega (arith, some, many)))),

@@ -12,7 +12,7 @@ use Rattle.pm_view.specs.Area.{area_word, is_in_area, part_of}
 use Rattle.pm_view.specs.Area.Part.{SlotWord}
 use Rattle.pm_view.specs.Blocks.{allocation_word, is_word}
 use Rattle.pm_view.specs.Changes.{flushed, store_change}
-use Rattle.pm_view.specs.Counts.{HasRoom, is_unflushed}
+use Rattle.pm_view.specs.Counts.{DropsSome, HasRoom, is_unflushed}
 use Rattle.pm_view.specs.Log.{Log, Recorded, log_stored, with_slot}
 use Rattle.pm_view.specs.Log.Phase.{Open}
 use Rattle.pm_view.specs.Steps.Step.{Store, Flush}
@@ -25,11 +25,12 @@ use Rattle.pm_world.specs.declared.lane.Span.{Span}
 use Rattle.pm_world.proofs.Going.{Goes, goes_by_view, goes_counted, goes_one, goes_then, goes_weaker}
 use Rattle.pm_undo.specs.Sequences.{looks_from, no_span, recorded_in, span_at, stores_from, writes_record, writes_records, writes_slot}
 use Rattle.pm_undo.specs.Working.{CanSnapshot, HasArea, HasMadeRoom, HasRecords, IsSameCall, IsSettled, IsUserWord, IsWorking, KeepsOutside, TellsNoBlock}
+use Rattle.pm_undo.proofs.Dropping.{flush_drops}
 use Rattle.pm_undo.proofs.Areas.{allocation_kept, in_area, slot_part}
 use Rattle.pm_undo.proofs.Kept.{area_kept, range_is, recorded_at, records_kept, user_word_kept, written_kept}
 use Rattle.pm_undo.proofs.Restored.{open_settled}
 use Rattle.pm_undo.proofs.Retired.{may_look}
-use Rattle.pm_undo.proofs.Settled.{may_flush, same_many}
+use Rattle.pm_undo.proofs.Settled.{may_flush}
 use Rattle.pm_undo.proofs.Slots.{last_or_before, length_spelled, slot_anew, slot_short, slot_whole, with_record}
 use Rattle.pm_undo.proofs.Staying.{looked, same_call, same_call-then, same_changed, same_coursed, same_looked, same_settled}
 use Rattle.pm_undo.proofs.Storing.{Is, goes_stores}
@@ -58,7 +59,7 @@ pub record IsLogging (v : View) (planned : List Span) (k : ℕ) (u : View) : Typ
   pub entries : u.log.entries ≡ v.log.entries
   pub has : HasRecords u
   pub clean : (slot : ℕ) → slot < length v.log.records + k → is_unflushed u.changes (slot_line v.lane slot) ≡ false
-  pub some : 0 < k → 0 < length u.changes
+  pub some : 0 < k → DropsSome u.changes
   pub free : (j i : ℕ) → k ≤ j → j < length planned → i < (span_at planned j).count → is_recorded u.log.records ((span_at planned j).word + i) ≡ false
 
 -- of a slot so many words are written, from this view on
@@ -336,15 +337,11 @@ module _ (v : View) (working : IsWorking v) (planned : List Span) (plan : IsPlan
                 (λ (this : t ≡ slot). ap (λ z. is_unflushed (flushed (slot_line v.lane slot) m.changes) (slot_line v.lane z)) this ∙ flush_cleans (slot_line v.lane slot) m.changes)
                 (λ (lower : t < slot). flush_keeps_clean (slot_line v.lane slot) (slot_line v.lane t) m.changes (q.clean t lower))
                 (eq-or-lt_of_le (let e : t ≤ slot = omega (arith, under) in e));
-            some = λ more. (let n = same_many (slot_line v.lane slot) m.changes in let some = some_changes (slot_line v.lane slot) m.changes (at.1 (let e = eight in omega (arith, e))) in omega (arith, n, some));
+            some = λ more. flush_drops (slot_line v.lane slot) m.changes (may_flush m.changes (slot_line v.lane slot) (at.1 (let e = eight in omega (arith, e))));
             free = λ j i from to low. ap (λ l. is_recorded l ((span_at planned j).word + i)) rs
                 ∙ (list_any-append (λ (z : Recorded). covers z ((span_at planned j).word + i)) b.log.records (r ∷ [])
                 ∙ or_from _ _ (p.free j i (omega (arith, from)) to low) (or_from _ false (not_covered ((span_at planned j).word + i) (let behind = plan.apart k j (omega (arith, from)) to in let e = size in omega (arith, behind, e))) refl));
           } where
-            some_changes : (line : ℕ) (changes : List Change) → is_unflushed changes line ≡ true → 0 < length changes
-            some_changes line [] e = absurd (false≢true e)
-            some_changes line (c ∷ changes) e = omega arith
-
             not_covered : (z : ℕ) → r.word + length r.old ≤ z → covers r z ≡ false
             not_covered z high = ap (λ t. leb r.word z && t) (le-ltb z (r.word + length r.old) high) ∙ none (leb r.word z) where
               none : (t : Bool) → (t && false) ≡ false

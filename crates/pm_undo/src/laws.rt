@@ -29,15 +29,17 @@ pub fn room_may_be_made()
     ensures { (v : View) → Ready v (makes_room v) × HasMadeRoom v (after_all v (makes_room v)) }
 {}
 
-/// A law: a lane at work whose recorded words have their old values again, with nothing undrained, may end its generation, and then has an
-/// open call with no records. No code runs.
+/// A law: a lane at work without redo entries whose recorded words have their old values again, with nothing undrained, may end its
+/// generation, and then has an open call with no records. No code runs.
 pub fn a_call_given_up_may_retire()
-    ensures { (v : View) → IsWorking v → v.changes ≡ [] → AreRestored v → Ready v (retires v) × IsRetired (Open [] []) v (after_all v (retires v)) }
+    ensures { (v : View) → IsWorking v → v.changes ≡ [] → v.log.entries ≡ [] → AreRestored v
+        → Ready v (retires v) × IsRetired (Open [] []) v (after_all v (retires v)) }
 {}
 
-/// A law: a lane that drew its number with records and has nothing undrained may end its generation, and then no call is open. No code runs.
+/// A law: a lane that drew its number with records alone and has nothing undrained may end its generation, and then no call is open. No code
+/// runs.
 pub fn a_drawn_call_may_retire()
-    ensures { (v : View) → HasArea v → v.log.phase ≡ Drawn → IsTrue (is_some v.number) → v.changes ≡ []
+    ensures { (v : View) → HasArea v → v.log.phase ≡ Drawn → IsTrue (is_some v.number) → v.changes ≡ [] → v.log.entries ≡ []
         → Ready v (retires v) × IsRetired Idle v (after_all v (retires v)) }
 {}
 

@@ -24,5 +24,5 @@ pub use laws::{
 };
 pub use plan::is_recorded;
 pub use restoring::restore;
-pub use retiring::retire;
+pub use retiring::{persist, retire};
 pub use snapshotting::snapshot;

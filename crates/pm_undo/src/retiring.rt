@@ -19,9 +19,10 @@ fn flush<M: LawfulMem>(mem: &mut M, line: u64) -> Result<(), Stopped>
     mem.flush(line)
 }
 
-/// Flushes a line and drains it.
+/// Flushes a line in which something is unflushed, and drains it. Makes exactly the memory calls of `persists`, or the first of them up to the
+/// lane's stop.
 #[tactic(auto, using(pm_world::proofs::Sequencing::runs_then, pm_world::proofs::Sequencing::runs_err, pm_world::proofs::Sequencing::runs_one, pm_world::proofs::Sequencing::allowed_one, pm_world::proofs::Sequencing::ready_first, pm_world::proofs::Sequencing::ready_then), unfolding(crate::specs::Sequences::persists))]
-fn persist<M: LawfulMem>(mem: &mut M, line: u64) -> Result<(), Stopped>
+pub fn persist<M: LawfulMem>(mem: &mut M, line: u64) -> Result<(), Stopped>
     requires { IsReady (M.at mem.old) (persists line) }
     ensures { Runs (M.at mem.old) (M.at mem.new) (persists line) result }
 {

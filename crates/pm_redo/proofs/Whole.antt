@@ -1,0 +1,42 @@
+-- Entries that are of words of the pool, and then end the generation, are whole.
+use Rattle.std.proofs.Common.{◌≡◌, ℕ, ◌+◌, ◌*◌, ◌/◌, ◌&&◌, true, All, List, [], ◌∷◌, ◌++◌, map, is_some, IsTrue, refl, sym, subst, ap, ◌∙◌, arith}
+use Rattle.std.specs.List.{list_any}
+use Rattle.std.proofs.lemmas.List.Elements.{All-cons, All-head, All-nil, All-tail}
+use Rattle.pm_record.specs.declared.redo.Redo.{Redo}
+use Rattle.pm_view.specs.Area.{area_word, is_in_area}
+use Rattle.pm_view.specs.Held.{is_under}
+use Rattle.pm_view.specs.Log.{Final}
+use Rattle.pm_view.specs.Rights.{is_written}
+use Rattle.pm_view.specs.View.{View, Lock}
+use Rattle.pm_world.specs.Entries.{AreWhole, ends_with, set_word}
+use Rattle.pm_world.specs.Records.{generation_of}
+use Rattle.pm_undo.specs.Working.{IsSameCall}
+use Rattle.pm_redo.specs.Entering.{AreEntered, IsOfPool, ending, final_of}
+
+map_append : (front : List Redo) (e : Redo) → map final_of (front ++ e ∷ []) ≡ map final_of front ++ final_of e ∷ []
+map_append [] e = refl
+map_append (x ∷ front) e = ap (λ (fs : List Final). final_of x ∷ fs) (map_append front e)
+
+owned : (v : View) (front : List Redo) → All (IsOfPool v) front → All (λ (f : Final). IsTrue (is_written v f.word)) (map final_of front)
+owned v [] each = All-nil (λ (f : Final). IsTrue (is_written v f.word))
+owned v (e ∷ front) each =
+    All-cons (λ (f : Final). IsTrue (is_written v f.word)) (final_of e) (map final_of front) (All-head (IsOfPool v) e front each).own (owned v front (All-tail (IsOfPool v) e front each))
+
+pub ending_final : (v : View) → final_of (ending v) ≡ ends_with v (generation_of v + 1)
+ending_final v = ap (λ (w : ℕ). set_word w (generation_of v + 1)) (let e : 8 * area_word v.lane / 8 ≡ area_word v.lane = omega arith in e)
+
+pub logged_front : (v : View) (entries : List Redo) → (a : AreEntered v entries) → v.log.entries ≡ map final_of a.front ++ ends_with v (generation_of v + 1) ∷ []
+logged_front v entries a =
+    a.logged ∙ (ap (λ (es : List Redo). map final_of es) a.are ∙ (map_append a.front (ending v) ∙ ap (λ (f : Final). map final_of a.front ++ f ∷ []) (ending_final v)))
+
+pub entered_whole : (v : View) (entries : List Redo) → AreEntered v entries → AreWhole v (generation_of v + 1)
+entered_whole v entries a = record { front = map final_of a.front; are = logged_front v entries a; owned = owned v a.front a.each }
+
+-- what the entries are of stays so in the same call
+pub of_pool_kept : (v w : View) (e : Redo) → IsSameCall v w → IsOfPool v e → IsOfPool w e
+of_pool_kept v w e call o = record {
+  setting = o.setting;
+  own = subst (λ (locks : List Lock). list_any (λ (l : Lock). l.write && is_some l.block && is_under (e.place / 8) l) locks ≡ true) (sym call.locks) o.own;
+  outside = ap (λ j. is_in_area j (e.place / 8)) call.lane.lane ∙ o.outside;
+  inside = let size = call.lane.size in let inside = o.inside in omega (arith, size, inside);
+}

@@ -1,0 +1,51 @@
+ghost use Rattle.std.specs.Prelude.{◌≡◌, ◌≤◌, length};
+ghost use Rattle.std.specs.List.{All};
+ghost use Rattle.pm_world.specs.Sequences.{IsReady, Runs};
+ghost use Rattle.pm_redo.specs.Entering.{IsSetting};
+ghost use Rattle.pm_redo.specs.Sequences.{applies, applies_each, applies_entry};
+
+use crate::places::WORD_BYTES;
+use pm_memory::Stopped;
+use pm_record::Redo;
+use pm_world::{Lane, LawfulMem, settle, store};
+
+/// Sets the entry's word.
+#[tactic(auto, unfolding(crate::specs::Sequences::applies_entry))]
+fn apply<M: LawfulMem>(mem: &mut M, entry: Redo) -> Result<(), Stopped>
+    requires { IsReady (M.at mem.old) (applies_entry entry) }
+    ensures { Runs (M.at mem.old) (M.at mem.new) (applies_entry entry) result }
+{
+    store(mem, entry.place / WORD_BYTES, entry.value)
+}
+
+/// Applies the entries, in order.
+fn apply_each<M: LawfulMem>(mem: &mut M, entries: &[Redo]) -> Result<(), Stopped>
+    requires ready { IsReady (M.at mem.old) (applies_each entries.now) }
+    ensures { Runs (M.at mem.old) (M.at mem.new) (applies_each entries.now) result }
+{
+    for entry in entries {
+        apply(mem, *entry)?;
+    }
+    Ok(())
+}
+
+/// Applies the entries, in order, and makes that persistent.
+#[tactic(auto, using(pm_world::proofs::Sequencing::runs_then, pm_world::proofs::Sequencing::runs_err, pm_world::proofs::Sequencing::ready_first, pm_world::proofs::Sequencing::ready_then), unfolding(crate::specs::Sequences::applies))]
+pub fn apply_entries<M: LawfulMem>(mem: &mut M, entries: &[Redo]) -> Result<(), Stopped>
+    requires ready { IsReady (M.at mem.old) (applies entries.now) }
+    ensures { Runs (M.at mem.old) (M.at mem.new) (applies entries.now) result }
+{
+    apply_each(mem, entries)?;
+    settle(mem)
+}
+
+/// Applies the sealed entries, in order, each of which sets a word, and makes that persistent. Makes exactly the memory calls of `applies`, or the
+/// first of them up to the lane's stop.
+pub fn apply_all<M: LawfulMem>(lane: &mut Lane<M>) -> Result<(), Stopped>
+    requires sets { All IsSetting lane.old.entries.items }
+    requires ready { IsReady (M.at lane.old.memory) (applies lane.old.entries.items) }
+    ensures ran { Runs (M.at lane.old.memory) (M.at lane.new.memory) (applies lane.old.entries.items) result }
+    ensures else_same { lane.new ≡ record lane.old { memory = lane.new.memory } }
+{
+    apply_entries(&mut lane.memory, lane.entries.as_slice())
+}
