@@ -98,6 +98,7 @@ add_keeps_open v next id off len level some is_open adds =
           (λ (new : is_recorded added i ≡ true). new_is_outside v next id off len level i is_open adds new)
           (or_cases (is_recorded v.log.records i) (is_recorded added i) (sym (recorded_after v next id off len i adds) ∙ is));
       before = add_back v next id off len adds;
+      entries = adds.entries;
     })
     (λ w header pool same_id before next_before c.
     let object : IsObjectOf v w c.tx id held.lock.line = object_under v w header pool level id true is_open before c held adds.range.size_known in
@@ -112,8 +113,8 @@ add_keeps_open v next id off len level some is_open adds =
     let all : length next.log.records ≡ length v.log.records + length added = ap (λ (rs : List Recorded). length rs) adds.records ∙ length-append v.log.records added in
     record {
       answers =
-          answers_done c.tx (AddRange id off len) None refl (record { no_wants = refl; no_begin = refl })
-          (passes_all c.tx (AddRange id off len) works (record { no_wants = refl; no_begin = refl })
+          answers_done c.tx (AddRange id off len) None refl (record { no_wants = refl; no_begin = refl; aligned = refl; no_more = λ tx. refl; no_action = refl })
+          (passes_all c.tx (AddRange id off len) works (record { no_wants = refl; no_begin = refl; aligned = refl; no_more = λ tx. refl; no_action = refl })
           (held_is_locked v id true c.tx held c.locks (same_pool v w header c.tx c.holds same_id))
           (le-ltb (length (bytes_of c.tx.pool.objects id.off)) (off + len) (omega arith))
           refl
@@ -131,6 +132,8 @@ add_keeps_open v next id off len level some is_open adds =
       levels = c.levels;
       stands = refl;
       fails = refl;
+      actions = refl;
+      moved = refl;
       blocks_stay = ap (λ (f : ℕ → ℕ). blocks f v.lanes v.zones) same;
       sizes_stay = λ block there. ap (λ (f : ℕ → ℕ). size_in f block) same;
     })

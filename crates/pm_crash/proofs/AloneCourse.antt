@@ -199,7 +199,7 @@ module _ (o : Opening) (header : Header) (pool : PoolView) where
         let g = stands.goes in
         let here : (with_view stands.views 0 next) 0 ≡ next = view_here stands.views 0 next in
         let range : InRange (memory_of next (PoolWord (area_word 0))) next next.log.phase =
-        carried (memory_of v (PoolWord (area_word 0))) (memory_of next (PoolWord (area_word 0))) v next v.log.phase refl refl refl (all_of v.changes)
+        carried (memory_of v (PoolWord (area_word 0))) (memory_of next (PoolWord (area_word 0))) v next v.log.phase refl refl refl refl (all_of v.changes)
         (subst (λ (u : View). InRange (memory_of v (PoolWord (area_word 0))) u u.log.phase) stands.here g.range) in
         record {
           views = with_view stands.views 0 next;
@@ -232,7 +232,7 @@ module _ (o : Opening) (header : Header) (pool : PoolView) where
     -- a call that draws is a step of the model
     owes : IsEndedCall v → IsModelStep v
     owes (inl whole) = whole_steps v whole
-    owes (inr (e, given_up, none)) = given_up_steps v e given_up none
+    owes (inr (e, given_up, none, unentered)) = given_up_steps v e given_up none unentered
 
     -- each step that it may make
     pub stands_after : (s : Step) → IsAlone v → Allowed v s → FoundAlone v s → DrawsEnded v s → (is_counted s ≡ true → MayCount v) → ((n : ℕ) → s ≡ Draw n → n ≡ length v.entries + 1)

@@ -10,7 +10,7 @@ use Rattle.pm_objects.specs.declared.pool.PoolView.{PoolView}
 use Rattle.pm_image.specs.declared.block.Block.{Block}
 use Rattle.pm_image.specs.Blocks.{blocks}
 use Rattle.pm_image.specs.Contents.{object_in, objects_in, offset_in}
-use Rattle.pm_image.specs.Logs.{generation_word, recovered_at}
+use Rattle.pm_image.specs.Logs.{generation, generation_word, recovered_at, seal_word}
 use Rattle.pm_image.specs.Means.{pool_in}
 use Rattle.pm_image.proofs.Members.{first_member, later_member, member_cases, member_kept, no_member}
 use Rattle.pm_model.specs.History.{opened}
@@ -23,15 +23,17 @@ use Rattle.pm_view.specs.Log.Phase.{Idle, Open, Drawn, Sealing, Applying, Cleari
 use Rattle.pm_view.specs.Steps.{Step}
 use Rattle.pm_view.specs.View.{Numbered, View}
 use Rattle.pm_memory.specs.Keep.{IsKeptImage, kept}
-use Rattle.pm_world.specs.Course.{is_number}
+use Rattle.pm_world.specs.Course.{flight, flight_in, is_number}
 use Rattle.pm_world.specs.Crash.{IsBeingWritten, IsUndrained, IsWhole, NoneTorn, Survives, is_deciding_in, is_kept, is_lost, loses}
-use Rattle.pm_world.specs.Fits.{LaneFits, PhaseFits}
+use Rattle.pm_world.specs.Fits.{LaneFits}
 use Rattle.pm_world.specs.History.{Entry, Flies, entries_by, settled}
 use Rattle.pm_world.specs.Opening.{Opening}
 use Rattle.pm_world.specs.Records.{generation_of, records_generation}
-use Rattle.pm_world.proofs.CrashLogs.{GenerationIs}
-use Rattle.pm_world.proofs.CrashWords.{generation_is}
-use Rattle.pm_crash.specs.Alone.{BeginsAlone, MeansCalls, WorksAlone, act_of_numbered, alone_views, kept_numbered}
+use Rattle.pm_world.proofs.CrashEntries.{generation_is}
+use Rattle.pm_world.proofs.CrashLogs.{GenerationIs, SealIs}
+use Rattle.pm_world.proofs.CrashRecords.{generation_unsealed}
+use Rattle.pm_world.proofs.CrashWords.{seal_is}
+use Rattle.pm_crash.specs.Alone.{BeginsAlone, IsUnsealed, MeansCalls, WorksAlone, act_of_numbered, alone_views, kept_numbered}
 use Rattle.pm_crash.specs.HeldHistory.{act_of_entry}
 use Rattle.pm_crash.specs.OneLane.{HoldsReplay, Moment, kept_entries}
 use Rattle.pm_crash.specs.OpenCall.{told_of}
@@ -55,7 +57,7 @@ first_alone p (suc n) some others = ap (λ (b : Bool). p 0 || b) (none_later p 1
 
 -- the entries of one lane's history are its view's
 act_of_lane : (e : Entry) → e.lane ≡ 0 → act_of_entry e ≡ act_of_numbered (record { number = e.number; call = e.call })
-act_of_lane e is = ap (λ (n : ℕ). let act : Act = record { lane = n; told = map told_of e.call } in act) is
+act_of_lane e is = ap (λ (n : ℕ). let act : Act = record { lane = n; actions = []; told = map told_of e.call } in act) is
 
 kept_same : (keep other : ℕ → Bool) (log : List Entry) → ((n : ℕ) → keep n ≡ other n) → ((e : Entry) → Contains log e → e.lane ≡ 0)
     → map act_of_entry (filter (λ (e : Entry). keep e.number) log) ≡ map act_of_numbered (filter (λ (e : Numbered). other e.number) (entries_by 0 log))
@@ -189,30 +191,75 @@ module _ (o : Opening) (header : Header) (pool : PoolView) (w : View) (s : Stand
     header_page survives i low = front_survives o (memory_of w) s.views s.log s.decided s.goes.world image survives i low ∙ s.goes.front i low
 
     -- a call in flight is lost where the generation of its records is the image's still
-    lost_in : (n : ℕ) (phase : Phase) → PhaseFits (Flies s.log s.decided 0) w phase → phase ≢ Idle → w.number ≡ Some n → GenerationIs w (generation_word image 0) phase
-        → not (is_deciding_in image w phase) ≡ eqb (generation_word image 0) (records_generation phase w)
-    lost_in n Idle fits busy number generation = absurd (busy refl)
-    lost_in n (Open slot pair) fits busy number generation = absurd (none-some n (sym fits.undrawn ∙ number))
-    lost_in n Drawn fits busy number generation = sym (eq-eqb (generation_word image 0) (generation_of w) generation)
-    lost_in n Sealing fits busy number generation = absurd fits
-    lost_in n (Applying applied) fits busy number generation = absurd fits
-    lost_in n Clearing fits busy number generation = absurd fits
-    lost_in n Retiring fits busy number generation =
+    lost_in : (n : ℕ) (phase : Phase) → flight_in phase w.number ≡ Some n → SealIs w (seal_word image 0) phase → GenerationIs w (seal_word image 0) (generation image 0) phase
+        → not (is_deciding_in image w phase) ≡ eqb (generation image 0) (records_generation phase w)
+    lost_in n Idle flies seal is = absurd (none-some n flies)
+    lost_in n (Open slot pair) flies seal is = absurd (none-some n flies)
+    lost_in n Drawn flies seal is = sym (eq-eqb (generation image 0) (generation_of w) is)
+    lost_in n Sealing flies seal is =
+        ap (λ (lane : ℕ). not (not (eqb (seal_word image lane) 0))) own_fits.lane.lane
+        ∙ ⊎_elim
+        (λ (lost : (seal_word image 0 ≡ 0) × (generation image 0 ≡ generation_of w)).
+        ap (λ (b : Bool). not (not b)) (eq-eqb (seal_word image 0) 0 lost.0) ∙ sym (eq-eqb (generation image 0) (generation_of w) lost.1))
+        (λ (kept : (seal_word image 0 ≢ 0) × (generation image 0 ≡ generation_of w + 1)).
+        let next = kept.1 in
+        ap (λ (b : Bool). not (not b)) (ne_eqb (seal_word image 0) 0 kept.0) ∙ sym (ne_eqb (generation image 0) (generation_of w) (λ same. omega (arith, same, next))))
+        is
+    lost_in n (Applying applied) flies seal is = absurd (none-some n flies)
+    lost_in n Clearing flies seal is = absurd (none-some n flies)
+    lost_in n Retiring flies seal is =
         let some : 1 ≤ generation_of w = own_fits.first_generation in
+        let word : generation image 0 ≡ generation_word image 0 = generation_unsealed image 0 seal in
         ap (λ (lane : ℕ). not (eqb (generation_word image lane) (generation_of w))) own_fits.lane.lane
         ∙ ⊎_elim
-        (λ (next : generation_word image 0 ≡ generation_of w).
-        ap not (eq-eqb (generation_word image 0) (generation_of w) next) ∙ sym (ne_eqb (generation_word image 0) (generation_of w - 1) (λ same. omega arith)))
-        (λ (last : generation_word image 0 + 1 ≡ generation_of w).
-        ap not (ne_eqb (generation_word image 0) (generation_of w) (λ same. omega arith)) ∙ sym (eq-eqb (generation_word image 0) (generation_of w - 1) (omega arith)))
-        generation
+        (λ (next : generation image 0 ≡ generation_of w).
+        ap not (eq-eqb (generation_word image 0) (generation_of w) (sym word ∙ next)) ∙ sym (ne_eqb (generation image 0) (generation_of w - 1) (λ same. omega arith)))
+        (λ (last : generation image 0 + 1 ≡ generation_of w).
+        ap not (ne_eqb (generation_word image 0) (generation_of w) (λ same. omega arith)) ∙ sym (eq-eqb (generation image 0) (generation_of w - 1) (omega arith)))
+        is
 
-    pub lost_by_generation : Survives o (memory_of w) s.views image → (n : ℕ) → w.number ≡ Some n → w.log.phase ≢ Idle → loses image w n ≡ eqb (generation_word image 0) (records_generation w.log.phase w)
-    lost_by_generation survives n number busy =
-        let generation : GenerationIs w (generation_word image 0) w.log.phase =
-        subst (λ (u : View). GenerationIs u (generation_word image 0) u.log.phase) s.here (generation_is o (memory_of w) s.views s.log s.decided s.goes.world image survives 0 s.goes.in_lanes) in
-        let here : is_number w.number n ≡ true = ap (λ (m : Option ℕ). is_number m n) number ∙ eq-eqb n n refl in
-        ap (λ (b : Bool). b && not (is_deciding_in image w w.log.phase)) here ∙ lost_in n w.log.phase own_fits.phase busy number generation
+    number_in : (n : ℕ) (phase : Phase) → flight_in phase w.number ≡ Some n → w.number ≡ Some n
+    number_in n Idle flies = absurd (none-some n flies)
+    number_in n (Open slot pair) flies = absurd (none-some n flies)
+    number_in n Drawn flies = flies
+    number_in n Sealing flies = flies
+    number_in n (Applying applied) flies = absurd (none-some n flies)
+    number_in n Clearing flies = absurd (none-some n flies)
+    number_in n Retiring flies = flies
+
+    own_seal : Survives o (memory_of w) s.views image → SealIs w (seal_word image 0) w.log.phase
+    own_seal survives = subst (λ (u : View). SealIs u (seal_word image 0) u.log.phase) s.here (seal_is o (memory_of w) s.views s.log s.decided s.goes.world image survives 0 s.goes.in_lanes)
+
+    pub lost_by_generation : Survives o (memory_of w) s.views image → (n : ℕ) → flight w ≡ Some n → loses image w n ≡ eqb (generation image 0) (records_generation w.log.phase w)
+    lost_by_generation survives n flies =
+        let is : GenerationIs w (seal_word image 0) (generation image 0) w.log.phase =
+        subst (λ (u : View). GenerationIs u (seal_word image 0) (generation image 0) u.log.phase) s.here (generation_is o (memory_of w) s.views s.log s.decided s.goes.world image survives 0 s.goes.in_lanes) in
+        let here : is_number w.number n ≡ true = ap (λ (m : Option ℕ). is_number m n) (number_in n w.log.phase flies) ∙ eq-eqb n n refl in
+        ap (λ (b : Bool). b && not (is_deciding_in image w w.log.phase)) here ∙ lost_in n w.log.phase flies (own_seal survives) is
+
+    flies_unsealed : (n : ℕ) (phase : Phase) → IsUnsealed phase → w.number ≡ Some n → flight_in phase w.number ≡ Some n
+    flies_unsealed n Idle unsealed number = absurd unsealed
+    flies_unsealed n (Open slot pair) unsealed number = absurd unsealed
+    flies_unsealed n Drawn unsealed number = number
+    flies_unsealed n Sealing unsealed number = absurd unsealed
+    flies_unsealed n (Applying applied) unsealed number = absurd unsealed
+    flies_unsealed n Clearing unsealed number = absurd unsealed
+    flies_unsealed n Retiring unsealed number = number
+
+    no_seal : (phase : Phase) → IsUnsealed phase → SealIs w (seal_word image 0) phase → seal_word image 0 ≡ 0
+    no_seal Idle unsealed seal = seal
+    no_seal (Open slot pair) unsealed seal = seal
+    no_seal Drawn unsealed seal = seal
+    no_seal Sealing unsealed seal = absurd unsealed
+    no_seal (Applying applied) unsealed seal = absurd unsealed
+    no_seal Clearing unsealed seal = absurd unsealed
+    no_seal Retiring unsealed seal = seal
+
+    -- without a seal the image's generation is its word
+    pub lost_by_word : Survives o (memory_of w) s.views image → (n : ℕ) → w.number ≡ Some n → IsUnsealed w.log.phase → loses image w n ≡ eqb (generation_word image 0) (records_generation w.log.phase w)
+    lost_by_word survives n number unsealed =
+        lost_by_generation survives n (flies_unsealed n w.log.phase unsealed number)
+        ∙ ap (λ g. eqb g (records_generation w.log.phase w)) (generation_unsealed image 0 (no_seal w.log.phase unsealed (own_seal survives)))
 
 module _ (o : Opening) (header : Header) (pool : PoolView) (v w : View) (steps : List Step) (works : WorksAlone o header pool v steps w) (keep : ℕ) (image : List ℕ) (is : IsKeptImage keep w.words (w.changes ∷ []) image) where
   stands : StandsAlone o header pool w
@@ -230,15 +277,15 @@ module _ (o : Opening) (header : Header) (pool : PoolView) (v w : View) (steps :
   pub size_stays : length image ≡ length o.words
   size_stays = left_so.size
 
-  pub fate : (n : ℕ) → w.number ≡ Some n → w.log.phase ≢ Idle → loses image w n ≡ eqb (generation_word image 0) (records_generation w.log.phase w)
+  pub fate : (n : ℕ) → flight w ≡ Some n → loses image w n ≡ eqb (generation image 0) (records_generation w.log.phase w)
   fate = lost_by_generation o header pool w stands image left_so
 
   -- where the generation of its records is this one
-  fate_by : (generation n : ℕ) → w.number ≡ Some n → w.log.phase ≢ Idle → records_generation w.log.phase w ≡ generation → loses image w n ≡ eqb (generation_word image 0) generation
-  fate_by generation n number busy same = fate n number busy ∙ ap (eqb (generation_word image 0)) same
+  fate_by : (g n : ℕ) → w.number ≡ Some n → IsUnsealed w.log.phase → records_generation w.log.phase w ≡ g → loses image w n ≡ eqb (generation_word image 0) g
+  fate_by g n number unsealed same = lost_by_word o header pool w stands image left_so n number unsealed ∙ ap (eqb (generation_word image 0)) same
 
-  pub first_fate : (n : ℕ) → w.number ≡ Some n → w.log.phase ≢ Idle → records_generation w.log.phase w ≡ generation_word o.words 0 → loses image w n ≡ eqb (generation_word image 0) (generation_word o.words 0)
+  pub first_fate : (n : ℕ) → w.number ≡ Some n → IsUnsealed w.log.phase → records_generation w.log.phase w ≡ generation_word o.words 0 → loses image w n ≡ eqb (generation_word image 0) (generation_word o.words 0)
   first_fate = fate_by (generation_word o.words 0)
 
-  pub since_fate : (b : View) (n : ℕ) → w.number ≡ Some n → w.log.phase ≢ Idle → records_generation w.log.phase w ≡ generation_of b → loses image w n ≡ eqb (generation_word image 0) (generation_of b)
+  pub since_fate : (b : View) (n : ℕ) → w.number ≡ Some n → IsUnsealed w.log.phase → records_generation w.log.phase w ≡ generation_of b → loses image w n ≡ eqb (generation_word image 0) (generation_of b)
   since_fate b = fate_by (generation_of b)

@@ -117,6 +117,7 @@ begin_opens v wants begins = record {
   in_lanes = begins.in_lanes;
   few = begins.takes.few;
   chunks = begins.takes.chunks;
+  unentered = begins.no_entries;
   outside = λ i is. absurd (let clash : false ≡ true = sym (ap (λ (records : List Recorded). is_recorded records i) begins.no_records) ∙ is in cc);
   comes = λ w header pool holds id before.
       let told : Answered = record { operation = Begin wants; reply = None } in
@@ -133,6 +134,8 @@ begin_opens v wants begins = record {
         levels = refl;
         stands = refl;
         fails = refl;
+        no_actions = refl;
+        nothing_moved = refl;
         blocks_stay = ap (λ (f : ℕ → ℕ). blocks f v.lanes v.zones) same;
         sizes_stay = λ block there. ap (λ (f : ℕ → ℕ). size_in f block) same;
       };

@@ -1,6 +1,6 @@
 -- What the lane knows of the words of its open call, and the object under a lock that it holds.
 use Rattle.std.proofs.Common.{◌≡◌, ⊎_elim, ℕ, ◌+◌, ◌*◌, ◌/◌, ◌<◌, ◌≤◌, ◌&&◌, ◌||◌, Bool, true, false, not, eqb, leb, ltb, List, [], ◌∷◌, length, map, slice_index, Option, Some, refl, sym, ◌∙◌, ap, subst, arith}
-use Rattle.std.specs.List.{Contains}
+use Rattle.std.specs.List.{Contains, filter}
 use Rattle.std.specs.Option.{option_map_or}
 use Rattle.std.proofs.lemmas.Bool.{and_from, and_parts, and_right, cases_Bool, cond-false, cond-true, eq-eqb, le-ltb, leb-true, or_left, or_right}
 use Rattle.std.proofs.lemmas.List.{length-map}
@@ -18,11 +18,13 @@ use Rattle.pm_model.specs.Transaction.{Transaction, is_locked}
 use Rattle.pm_model.specs.Bytes.{bytes_of, covered_words}
 use Rattle.pm_view.specs.Area.{area_word, is_in_area}
 use Rattle.pm_view.specs.Blocks.{chunk_of, is_chunk, zone_page}
+use Rattle.pm_view.specs.Log.{Final}
 use Rattle.pm_view.specs.View.{View, Lock}
+use Rattle.pm_world.specs.History.{made_final}
 use Rattle.pm_world.specs.Records.{is_recorded}
 use Rattle.pm_crash.specs.Locks.{AreSameLocks}
 use Rattle.pm_crash.specs.Held.{HoldsPool}
-use Rattle.pm_crash.specs.OpenCall.{IsBefore, call_words, ComesTo, IsOpen, lock_of, locks_of, block_at_line}
+use Rattle.pm_crash.specs.OpenCall.{IsBefore, call_words, ComesTo, IsOpen, lock_of, locks_of, block_at_line, made_words}
 use Rattle.pm_crash.specs.Operations.{IsHeld}
 use Rattle.pm_crash.proofs.Covered.{covered_has_byte}
 use Rattle.pm_crash.proofs.ObjectsOfBlocks.{object_is_there}
@@ -33,6 +35,17 @@ recorded_call_word v w i is = cond-true (is_recorded v.log.records i) (slice_ind
 
 pub other_call_word : (v : View) (w : ℕ → ℕ) (i : ℕ) → is_recorded v.log.records i ≡ false → call_words v w i ≡ w i
 other_call_word v w i is = cond-false (is_recorded v.log.records i) (slice_index v.words i) (w i) is
+
+-- without entries no word is made another
+pub made_unentered : (v : View) → v.log.entries ≡ [] → (w : ℕ → ℕ) → made_words v w ≡ call_words v w
+unfolding made_final
+made_unentered v none w = (λ j i. at i j) where
+  at : (i : ℕ) → made_words v w i ≡ call_words v w i
+  at i = ap (λ (entries : List Final). made_final (filter (λ (f : Final). not (is_in_area v.lane f.word)) entries) i (call_words v w i)) none
+
+-- where the words that were stored and the entries are the same, so are those that are made
+pub same_made_words : (v next : View) → next.lane ≡ v.lane → next.log.entries ≡ v.log.entries → (w : ℕ → ℕ) → call_words next w ≡ call_words v w → made_words next w ≡ made_words v w
+same_made_words v next lane entries w same = (λ j i. made_final (filter (λ (f : Final). not (is_in_area (lane j) f.word)) (entries j)) i (same j i))
 
 -- a known word outside the lane's area is as the lane has it
 pub known_call_word : (v : View) (w : ℕ → ℕ) (i : ℕ) → IsBefore v w → Contains v.known i → is_in_area v.lane i ≡ false → call_words v w i ≡ slice_index v.words i

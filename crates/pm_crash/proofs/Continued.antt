@@ -65,6 +65,8 @@ pub record Continues (v next : View) (w : ℕ → ℕ) (header : Header) (op : O
   pub levels : (after_reply op reply tx).level ≡ to
   pub stands : (after_reply op reply tx).stage ≡ tx.stage
   pub fails : (after_reply op reply tx).error ≡ tx.error
+  pub actions : (after_reply op reply tx).actions ≡ tx.actions
+  pub moved : (after_reply op reply tx).moved ≡ tx.moved
   pub blocks_stay : blocks (call_words next w) v.lanes v.zones ≡ blocks (call_words v w) v.lanes v.zones
   pub sizes_stay : (block : Block) → Contains (blocks w v.lanes v.zones) block → size_in (call_words next w) block ≡ size_in (call_words v w) block
 
@@ -85,6 +87,8 @@ next_comes v next level to op reply w header pool lane call c on =
       levels = on.levels;
       stands = on.stands ∙ c.stands;
       fails = on.fails ∙ c.fails;
+      no_actions = on.actions ∙ c.no_actions;
+      nothing_moved = on.moved ∙ c.nothing_moved;
       blocks_stay =
           two_same (λ (lanes zones : ℕ). blocks (call_words next w) lanes zones ≡ blocks w lanes zones) v.lanes next.lanes v.zones next.zones (sym lane.lanes) (sym lane.zones)
           (on.blocks_stay ∙ c.blocks_stay);
@@ -97,6 +101,7 @@ next_comes v next level to op reply w header pool lane call c on =
 pub record GoesBack (v next : View) : Type 0 where
   pub outside : (i : ℕ) → is_recorded next.log.records i ≡ true → is_in_area v.lane i ≡ false
   pub before : (w : ℕ → ℕ) → IsBefore next w → IsBefore v w
+  pub entries : next.log.entries ≡ v.log.entries
 
 pub still_open : (v next : View) (level to : ℕ) (op : Operation) (reply : Option Value) → IsOpen v level stage.Work error.None → Tells v next op reply → GoesBack v next
     → ((w : ℕ → ℕ) (header : Header) (pool : PoolView) → v.pool ≡ header.id → IsBefore v w → IsBefore next w → (c : ComesTo v w header pool level stage.Work error.None)
@@ -111,6 +116,7 @@ still_open v next level to op reply is_open tells back continues =
       few = subst (λ (locks : List Lock). length locks ≤ 64) (sym tells.locks) is_open.few;
       chunks = λ l lines held found. ap (λ (n : ℕ). is_chunk n (l.line / 64)) lanes ∙ is_open.chunks l lines (subst (λ (locks : List Lock). Contains locks l) tells.locks held) found;
       outside = λ i is. ap (λ (n : ℕ). is_in_area n i) lane ∙ back.outside i is;
+      unentered = back.entries ∙ is_open.unentered;
       comes = λ w header pool holds id before.
           let old_id : v.pool ≡ header.id = sym tells.keeps.pool ∙ id in
           let old_before : IsBefore v w = back.before w before in

@@ -1,7 +1,7 @@
 -- As a lane draws, where no other lane has a call: the words after the whole history are those before its call.
 use Rattle.std.proofs.Common.{◌≡◌, ◌≢◌, ⊎_elim, inl, inr, ℕ, ◌+◌, ◌/◌, ◌<◌, ◌||◌, true, false, eqb, leb, IfSome, List, [], slice_index, Option, Some, None, refl, sym, ◌∙◌, ap, subst, arith}
 use Rattle.std.specs.List.{Contains, list_any}
-use Rattle.std.proofs.lemmas.Bool.{and_parts, cases_Bool, cases_eq, eqb-true, false_from_ne_true, false≢true, leb-true, or_cases}
+use Rattle.std.proofs.lemmas.Bool.{and_parts, and_right, cases_Bool, cases_eq, eqb-true, false_from_ne_true, false≢true, leb-true, or_cases, or_from}
 use Rattle.std.proofs.lemmas.List.Elements.{All-contains}
 use Rattle.std.proofs.lemmas.List.Folds.{Any-from_list_any}
 use Rattle.std.proofs.lemmas.Option.{none-some}
@@ -15,12 +15,14 @@ use Rattle.pm_view.specs.Log.{Final, Recorded}
 use Rattle.pm_view.specs.Log.Phase.{Open}
 use Rattle.pm_view.specs.View.{View, Lock, Taken}
 use Rattle.pm_world.specs.Course.{flight, flight_in}
+use Rattle.pm_world.specs.Entries.{is_entered, is_in_log, is_redoing, is_redone}
 use Rattle.pm_world.specs.Fits.{LaneFits, LockFits}
 use Rattle.pm_world.specs.History.{Entry, Flies, is_final, settled}
 use Rattle.pm_world.specs.Opening.{Guards, IsChunk, IsSound, Opening, TellsOfBlocks}
 use Rattle.pm_world.specs.Records.{is_logged, is_recorded}
 use Rattle.pm_world.specs.World.{World}
 use Rattle.pm_world.proofs.CrashLogs.{unrecorded_unlogged}
+use Rattle.pm_world.proofs.Pairs.{none_redone}
 use Rattle.pm_world.proofs.Replays.{replayed-other, replayed-same}
 use Rattle.pm_crash.specs.Lines.{AgreeAtLine}
 use Rattle.pm_crash.specs.OneLane.{Moment}
@@ -94,7 +96,7 @@ module _ (o : Opening) (k : ℕ) (m : Moment) (world : World o m.memory m.views 
       found_is_block o.words (words_after (slice_index o.words) m.log) o.lanes o.zones line lines none agree
       (found_within o.words o.lanes o.zones line lines (omega arith) found) found
 
-  module _ (alone : (e : Entry) → Contains m.log e → e.lane ≡ k) (others : (j : ℕ) → j < o.lanes → j ≢ k → (m.views j).log.records ≡ []) (is_open : v.log.phase ≡ Open [] []) where
+  module _ (alone : (e : Entry) → Contains m.log e → e.lane ≡ k) (others : (j : ℕ) → j < o.lanes → j ≢ k → (m.views j).log.records ≡ []) (unentered : (j : ℕ) → j < o.lanes → j ≢ k → (m.views j).log.entries ≡ []) (is_open : v.log.phase ≡ Open [] []) where
     all_decided : (e : Entry) → Contains m.log e → m.decided e.number ≡ true
     all_decided e there = ⊎_elim
         (λ (yes : m.decided e.number ≡ true). yes)
@@ -106,10 +108,11 @@ module _ (o : Opening) (k : ℕ) (m : Moment) (world : World o m.memory m.views 
     settled_is : (i : ℕ) → settled o m.log m.decided i ≡ words_after (slice_index o.words) m.log i
     settled_is i = replayed-same m.decided every m.log i (slice_index o.words i) (λ e there of. all_decided e there)
 
-    unlogged : (i : ℕ) → is_recorded v.log.records i ≡ false → (j : ℕ) → j < o.lanes → is_logged (m.views j) i ≡ false
+    unlogged : (i : ℕ) → is_recorded v.log.records i ≡ false → (j : ℕ) → j < o.lanes → is_in_log (m.views j) i ≡ false
     unlogged i none j low = ⊎_elim
-        (λ (same : j ≡ k). subst (λ n. is_logged (m.views n) i ≡ false) (sym same) (unrecorded_unlogged v i none))
-        (λ (other : j ≢ k). unrecorded_unlogged (m.views j) i (ap (λ (records : List Recorded). is_recorded records i) (others j low other)))
+        (λ (same : j ≡ k). subst (λ n. is_in_log (m.views n) i ≡ false) (sym same) (or_from (is_logged v i) (is_redone v i) (unrecorded_unlogged v i none) (none_redone v i (ap is_redoing is_open))))
+        (λ (other : j ≢ k). or_from (is_logged (m.views j) i) (is_redone (m.views j) i) (unrecorded_unlogged (m.views j) i (ap (λ (records : List Recorded). is_recorded records i) (others j low other)))
+        (and_right (is_redoing (m.views j).log.phase) (is_entered (m.views j).log.entries i) (ap (λ (entries : List Final). is_entered entries i) (unentered j low other))))
         (cases_eq j k)
 
     pub drawn_before : heap_fault (words_after (slice_index o.words) m.log) o.lanes o.zones ≡ None → IsBefore v (words_after (slice_index o.words) m.log)

@@ -1,9 +1,9 @@
 -- The log of a lane that is alone, while its generation is that of an origin, the pool at the opening or where the lane rested: what it has not
 -- written yet is as it was, so is what its undrained stores found in the slots, and the words of a record in the making are those of a record
 -- that may be made.
-use Rattle.std.proofs.Common.{◌≡◌, ◌≢◌, ⊎_elim, ℕ, ◌+◌, ◌*◌, ◌<◌, ◌≤◌, Bool, true, false, not, eqb, cond, ◌&&◌, ◌||◌, List, [], ◌∷◌, ◌++◌, length, take, get_or, slice_index, None, Some, is_some, refl, sym, ◌∙◌, ap, subst, arith, length-append, get_or-set_same, get_or-set_other, ne_eqb}
+use Rattle.std.proofs.Common.{◌≡◌, ◌≢◌, ◌⊎◌, inl, inr, ⊎_elim, ℕ, ◌+◌, ◌*◌, ◌<◌, ◌≤◌, Bool, true, false, not, eqb, cond, ◌&&◌, ◌||◌, List, [], ◌∷◌, ◌++◌, length, take, get_or, slice_index, None, Some, is_some, refl, sym, ◌∙◌, ap, subst, arith, length-append, get_or-set_same, get_or-set_other, eq-eqb, ne_eqb}
 use Rattle.std.specs.List.{All, Contains, filter, list_any}
-use Rattle.std.proofs.lemmas.Bool.{cases_lt, false≢true, not_from_false, or_cases, or_left, or_right, eqb-true}
+use Rattle.std.proofs.lemmas.Bool.{cases_lt, cond-false, cond-true, false≢true, not_from_false, or_cases, or_left, or_right, eqb-true}
 use Rattle.std.proofs.lemmas.List.{take_all}
 use Rattle.std.proofs.lemmas.List.Elements.{Contains-append_cases}
 use Rattle.pm_header.specs.declared.header.Header.{Header}
@@ -16,30 +16,34 @@ use Rattle.pm_view.specs.Area.Part.{EntryWord, GenerationWord, OtherWord, SealWo
 use Rattle.pm_view.specs.Changes.{drained, is_in_line, mark, store_change}
 use Rattle.pm_view.specs.Founds.{FoundAlone, IsAlone}
 use Rattle.pm_view.specs.Held.{is_held, is_known, is_reserved, is_under}
-use Rattle.pm_view.specs.Log.{Final, Log, Phase, Recorded, log_drained, log_drawn, log_stored, phase_drawn, with_slot}
+use Rattle.pm_view.specs.Log.{Final, Log, Phase, Recorded, log_drained, log_drawn, log_stored, phase_drawn, with_pair, with_slot}
 use Rattle.pm_view.specs.Log.Phase.{Idle, Open, Drawn, Sealing, Applying, Clearing, Retiring}
 use Rattle.pm_view.specs.Rights.{is_written}
 use Rattle.pm_view.specs.Steps.{Step}
 use Rattle.pm_view.specs.Steps.Step.{Load, Store, Or, And, Flush, Drain, TakeWrite, TakeRead, Raise, Give, ZoneTry, ZoneGive, Occupied, Occupy, Vacate, Draw, NumberSeen, StopSeen, SetStop, Tell}
 use Rattle.pm_view.specs.View.{Lock, View}
 use Rattle.pm_view.specs.Views.{after, begun, changed, log_after_drain, with_seen}
-use Rattle.pm_world.specs.Fits.{LaneFits, PhaseFits}
+use Rattle.pm_world.specs.Entries.{ends_with}
+use Rattle.pm_world.specs.Fits.{ApplyingFits, LaneFits, PhaseFits, SealingFits}
 use Rattle.pm_world.specs.History.{Flies, settled}
-use Rattle.pm_world.specs.Lawful.{Allowed, AppendsToSlot, CanRecord, EndsGeneration, GiveFits, MayGive, MayWrite, StoreFits}
+use Rattle.pm_world.specs.Lawful.{Allowed, AppendsToPair, AppendsToSlot, CanRecord, EndsGeneration, GiveFits, IsNextEntry, MayGive, MayWrite, StoreFits}
 use Rattle.pm_world.specs.Opening.{Opening}
-use Rattle.pm_world.specs.Records.{generation_of, is_recorded, spelled}
+use Rattle.pm_world.specs.Records.{generation_of, is_recorded, records_generation, spelled}
 use Rattle.pm_world.proofs.CrashLogs.{InSlots, logged_recorded}
 use Rattle.pm_world.proofs.CrashWords.{behind_areas}
 use Rattle.pm_world.proofs.Exclusion.{writes_under}
-use Rattle.pm_world.proofs.Parts.{generation_part}
+use Rattle.pm_world.proofs.Parts.{generation_part, seal_part}
+use Rattle.pm_world.proofs.Relocked.{generation_same}
 use Rattle.pm_world.proofs.StepGive.{list_any-filter, no_block}
 use Rattle.pm_world.proofs.StepLoad.{written_now}
 use Rattle.pm_world.proofs.StepTake.{list_any-left}
 use Rattle.pm_world.proofs.Frame.{in_phase}
+use Rattle.pm_world.proofs.StoreEntry.{applied_generation}
 use Rattle.pm_world.proofs.StoreSlot.{length-spelled, with_record, with_slot-short, with_slot-whole}
 use Rattle.pm_world.proofs.Stored.{written_under}
 use Rattle.pm_crash.proofs.AloneCourse.{StandsAlone}
 use Rattle.pm_crash.proofs.AloneImages.{own_fits}
+use Rattle.pm_crash.proofs.LogCourse.{Paired, paired}
 use Rattle.pm_crash.proofs.AloneMemory.{load_moves, load_words, memory_of}
 
 -- from this word on the slots are as at the origin, and so is what undrained stores found in them
@@ -63,8 +67,13 @@ abbrev pub FirstLog : Opening → View → Phase → Type 0
 FirstLog o v Idle = Since o v 648
 FirstLog o v (Open slot pair) = Since o v (648 + 8 * length v.log.records + length slot) × (1 ≤ length slot → Making v slot)
 FirstLog o v Drawn = generation_word o.words 0 ≤ generation_of v
+FirstLog o v Sealing = generation_word o.words 0 ≤ generation_of v
+FirstLog o v (Applying applied) = generation_word o.words 0 < records_generation (Applying applied) v
+FirstLog o v Clearing = generation_word o.words 0 < generation_of v
 FirstLog o v Retiring = generation_word o.words 0 < generation_of v
-FirstLog o v phase = Unit {0}
+
+not_applying : (slot pair : List ℕ) (applied : ℕ) → Open slot pair ≡ Applying applied → ⊥
+not_applying slot pair applied e = absurd cc
 
 -- a change of the same word found the same
 record OldOf (changes : List Change) (c : Change) : Type 0 where
@@ -76,17 +85,18 @@ record OldOf (changes : List Change) (c : Change) : Type 0 where
 itself : (changes : List Change) (c : Change) → Contains changes c → OldOf changes c
 itself changes c there = record { change = c; there = there; word = refl; old = refl }
 
--- a step that leaves the area, the records, and what its undrained stores found
+-- a step that leaves the generation, the slots, the records, and what its undrained stores found
 record Carries (v w : View) : Type 0 where
   lane : w.lane ≡ v.lane
-  area : (i : ℕ) → 512 ≤ i → i < 1536 → slice_index w.words i ≡ slice_index v.words i
+  area : (i : ℕ) → (i ≡ 512) ⊎ (648 ≤ i) → i < 1536 → slice_index w.words i ≡ slice_index v.words i
   olds : (c : Change) → Contains w.changes c → InSlots 0 c.word → OldOf v.changes c
   records : w.log.records ≡ v.log.records
+  entries : (applied : ℕ) → v.log.phase ≡ Applying applied → w.log.entries ≡ v.log.entries
   can : (slot pair : List ℕ) → v.log.phase ≡ Open slot pair → (r : Recorded) → CanRecord v r → CanRecord w r
 
 same_generation : (v w : View) → v.lane ≡ 0 → Carries v w → generation_of w ≡ generation_of v
 same_generation v w zero carries =
-    ap (λ (n : ℕ). slice_index w.words (area_word n)) carries.lane ∙ carries.area (area_word v.lane) (omega (arith, zero)) (omega (arith, zero))
+    ap (λ (n : ℕ). slice_index w.words (area_word n)) carries.lane ∙ carries.area (area_word v.lane) (inl (omega (arith, zero))) (omega (arith, zero))
 
 since_on : (o : Opening) (v w : View) (end : ℕ) → v.lane ≡ 0 → Carries v w → 648 ≤ end → Since o v end → Since o w end
 since_on o v w end zero carries low since =
@@ -96,7 +106,7 @@ since_on o v w end zero carries low since =
       first = λ is.
           let un = since.first (sym same ∙ is) in
           record {
-            beyond = λ i from high. carries.area i (omega arith) (omega arith) ∙ un.beyond i from high;
+            beyond = λ i from high. carries.area i (inr (omega arith)) (omega arith) ∙ un.beyond i from high;
             olds = λ c there slots.
                 let d = carries.olds c there slots in
                 sym d.old ∙ un.olds d.change d.there (subst (InSlots 0) (sym d.word) slots) ∙ ap (slice_index o.words) d.word;
@@ -113,9 +123,10 @@ first_on o v w zero carries (Open slot pair) is first = (
       record { next = m.next; can = carries.can slot pair is m.next m.can; spells = subst (λ (g : ℕ). slot ≡ take (length slot) (spelled g m.next)) (sym (same_generation v w zero carries)) m.spells },
 )
 first_on o v w zero carries Drawn is first = let same = same_generation v w zero carries in omega (arith, same, first)
-first_on o v w zero carries Sealing is first = tt
-first_on o v w zero carries (Applying applied) is first = tt
-first_on o v w zero carries Clearing is first = tt
+first_on o v w zero carries Sealing is first = let same = same_generation v w zero carries in omega (arith, same, first)
+first_on o v w zero carries (Applying applied) is first =
+    subst (λ g. generation_word o.words 0 < g) (sym (generation_same (Applying applied) v w (same_generation v w zero carries) (carries.entries applied is))) first
+first_on o v w zero carries Clearing is first = let same = same_generation v w zero carries in omega (arith, same, first)
 first_on o v w zero carries Retiring is first = let same = same_generation v w zero carries in omega (arith, same, first)
 
 -- a record that may be made may be made still
@@ -159,13 +170,14 @@ module _ (o : Opening) (header : Header) (pool : PoolView) (v : View) (stands : 
       omega arith
 
   -- a step that tells something and no more, or leaves fewer changes
-  quiet : (w : View) → w.lane ≡ v.lane → w.words ≡ v.words → w.log.records ≡ v.log.records → ((c : Change) → Contains w.changes c → OldOf v.changes c)
+  quiet : (w : View) → w.lane ≡ v.lane → w.words ≡ v.words → w.log.records ≡ v.log.records → w.log.entries ≡ v.log.entries → ((c : Change) → Contains w.changes c → OldOf v.changes c)
       → ((u : ℕ) → is_written v u ≡ true → is_written w u ≡ true) → ((u : ℕ) → is_written v u ≡ true → is_known v u ≡ true → is_known w u ≡ true) → Carries v w
-  quiet w lane words records olds written known = record {
+  quiet w lane words records entries olds written known = record {
     lane = lane;
     area = λ i low high. ap (λ (ws : List ℕ). slice_index ws i) words;
     olds = λ c there slots. olds c there;
     records = records;
+    entries = λ applied is. entries;
     can = λ slot pair is. can_on v w records written known (λ u own new. ap (λ (ws : List ℕ). slice_index ws u) words);
   }
 
@@ -177,12 +189,12 @@ module _ (o : Opening) (header : Header) (pool : PoolView) (v : View) (stands : 
     load_carries : (w x : ℕ) → w < length v.words → x ≡ slice_index v.words w → Carries v (after v (Load w x))
     load_carries w x inside found =
         let moves = load_moves v w x found in
-        quiet (after v (Load w x)) refl (load_words v w x found) refl (itself v.changes)
+        quiet (after v (Load w x)) refl (load_words v w x found) refl refl (itself v.changes)
         (written_now o (memory_of v) stands.views stands.log stands.decided stands.goes.world 0 stands.goes.in_lanes v stands.here (memory_of (after v (Load w x))) w x moves.0 moves.1 inside)
         (λ u own. known_more (is_in_area v.lane u) (is_held v w) w v.known u)
 
     flush_carries : (line : ℕ) → Carries v (after v (Flush line))
-    flush_carries line = quiet (after v (Flush line)) refl refl refl
+    flush_carries line = quiet (after v (Flush line)) refl refl refl refl
         (λ c there.
         let d = member_made (mark line) v.changes c there in
         let same = marked line d.0 (is_in_line line d.0) in
@@ -191,16 +203,16 @@ module _ (o : Opening) (header : Header) (pool : PoolView) (v : View) (stands : 
 
     lock_carries : (w : View) (l : Lock) → w ≡ record v { locks = v.locks ++ l ∷ []; seen = w.seen } → Carries v w
     lock_carries w l is = subst (Carries v) (sym is)
-        (quiet (record v { locks = v.locks ++ l ∷ []; seen = w.seen }) refl refl refl (itself v.changes)
+        (quiet (record v { locks = v.locks ++ l ∷ []; seen = w.seen }) refl refl refl refl (itself v.changes)
         (λ u own. list_any-left (λ (k : Lock). k.write && is_some k.block && is_under u k) v.locks (l ∷ []) own) (λ u own is_. is_))
 
     take_write_carries : (line : ℕ) (won : Bool) → Carries v (after v (TakeWrite line won))
     take_write_carries line true = lock_carries (after v (TakeWrite line true)) (record { line = line; write = true; block = None }) refl
-    take_write_carries line false = quiet (after v (TakeWrite line false)) refl refl refl (itself v.changes) (λ u own. own) (λ u own is. is)
+    take_write_carries line false = quiet (after v (TakeWrite line false)) refl refl refl refl (itself v.changes) (λ u own. own) (λ u own is. is)
 
     take_read_carries : (line : ℕ) (won : Bool) → Carries v (after v (TakeRead line won))
     take_read_carries line true = lock_carries (after v (TakeRead line true)) (record { line = line; write = false; block = None }) refl
-    take_read_carries line false = quiet (after v (TakeRead line false)) refl refl refl (itself v.changes) (λ u own. own) (λ u own is. is)
+    take_read_carries line false = quiet (after v (TakeRead line false)) refl refl refl refl (itself v.changes) (λ u own. own) (λ u own is. is)
 
     module _ (line : ℕ) (may : MayGive v line) where
       abbrev others : List Lock
@@ -230,6 +242,7 @@ module _ (o : Opening) (header : Header) (pool : PoolView) (v : View) (stands : 
         area = λ i low high. refl;
         olds = λ c there slots. itself v.changes c there;
         records = refl;
+        entries = λ applied is. refl;
         can = λ slot pair is. can_on v (after v (Give line)) refl (still_written slot pair is) (λ u own known. still_known u (still_written slot pair is u own) known) (λ u own new. refl);
       }
 
@@ -308,12 +321,38 @@ module _ (o : Opening) (header : Header) (pool : PoolView) (v : View) (stands : 
           let far = behind w may.own in
           record {
             lane = refl;
-            area = λ i low high. other_word i (λ e. omega (arith, e, far, high));
+            area = λ i part high. other_word i (λ e. omega (arith, e, far, high));
             olds = new_changes (λ (c : Change). InSlots 0 c.word → OldOf v.changes c) (λ c there slots. itself v.changes c there) (λ slots. absurd (let high = slots.high in omega (arith, far, high)));
             records = refl;
+            entries = λ applied is. refl;
             can = λ slot pair is. can_on v (stored v.log) refl (λ u own. own) (λ u own. known_more (is_in_area v.lane u) true w v.known u)
                 (λ u own new. other_word u (λ e. false≢true (sym new ∙ (ap (is_recorded v.log.records) e ∙ logged_recorded v w may.logged))));
           }
+
+      -- a word of the area that is neither the generation nor of a slot
+      area_carries : (lg : Log) → 513 ≤ w → w < 648 → lg.records ≡ v.log.records → ((applied : ℕ) → v.log.phase ≡ Applying applied → lg.entries ≡ v.log.entries) → Carries v (stored lg)
+      area_carries lg low high records entries = record {
+        lane = refl;
+        area = λ i part below. other_word i (λ e. ⊎_elim (λ (first : i ≡ 512). omega (arith, e, first, low)) (λ (far : 648 ≤ i). omega (arith, e, far, high)) part);
+        olds = new_changes (λ (c : Change). InSlots 0 c.word → OldOf v.changes c) (λ c there slots. itself v.changes c there) (λ slots. absurd (let from = slots.low in omega (arith, from, high)));
+        records = records;
+        entries = entries;
+        can = λ slot pair is. can_on v (stored lg) records (λ u own. own) (λ u own. known_more (is_in_area v.lane u) true w v.known u)
+            (λ u own new. other_word u (λ e. let far = behind u own in omega (arith, e, far, high)));
+      }
+
+      -- a pair's next word
+      in_pair : (slot pair : List ℕ) → v.log.phase ≡ Open slot pair → AppendsToPair v w y pair → length pair < 2 → FirstLog origin v (Open slot pair)
+          → FirstLog origin (stored (with_pair v.log slot (pair ++ y ∷ []))) (with_pair v.log slot (pair ++ y ∷ [])).phase
+      in_pair slot pair is may short first =
+          let lg : Log = with_pair v.log slot (pair ++ y ∷ []) in
+          let p : Paired v.log slot (pair ++ y ∷ []) = paired v.log slot (pair ++ y ∷ []) in
+          let at = may.at in
+          let free = may.free in
+          let zero = fits.lane.lane in
+          let now : FirstLog origin (stored lg) (Open slot pair) = first_on origin v (stored lg) zero (area_carries lg (omega (arith, at, zero)) (omega (arith, at, zero, free, short)) p.same (λ applied none. absurd (not_applying slot pair applied (sym is ∙ none))))
+          (Open slot pair) is first in
+          subst (FirstLog origin (stored lg)) (sym p.is_open) (now.0, now.1)
 
       -- the next generation
       raises : part_of v.lane w ≡ GenerationWord → EndsGeneration v y → generation_word origin.words 0 ≤ generation_of v → (lg : Log) → generation_word origin.words 0 < generation_of (stored lg)
@@ -323,21 +362,39 @@ module _ (o : Opening) (header : Header) (pool : PoolView) (v : View) (stands : 
           let is : generation_of (stored lg) ≡ y = ap (λ (i : ℕ). slice_index (stored lg).words i) (sym at) ∙ get_or-set_same v.words w y 0 inside in
           omega (arith, is, next, least)
 
+      -- the seal
+      sealed : (bound : ℕ → Type 0) (phase : Phase) → part_of v.lane w ≡ SealWord → bound (generation_of v) → bound (generation_of (stored (in_phase phase v.log)))
+      sealed bound phase part holds =
+          let at = (seal_part v.lane w part).1 in
+          subst bound (sym (other_word (area_word v.lane) (λ e. omega (arith, e, at)))) holds
+
+      -- an entry's word
+      applies : (applied : ℕ) → ApplyingFits v applied → IsNextEntry v applied w y → generation_word origin.words 0 < records_generation (Applying applied) v
+          → generation_word origin.words 0 < records_generation (Applying (applied + 1)) (stored (in_phase (Applying (applied + 1)) v.log))
+      applies applied fit next first =
+          subst (λ g. generation_word origin.words 0 < g)
+          (sym (applied_generation v applied w y (store_change w (slice_index v.words w) y) fit next inside (λ own e. let far = behind w own in let zero = fits.lane.lane in omega (arith, e, far, zero)))) first
+
       store_first : (p : Phase) (part : Part) → v.log.phase ≡ p → part_of v.lane w ≡ part → StoreFits v w y p part → PhaseFits (Flies stands.log stands.decided 0) v p → FirstLog origin v p
           → FirstLog origin (stored (log_stored p part y v.log)) (log_stored p part y v.log).phase
       store_first Idle part is of may fit first = absurd may
       store_first (Open slot pair) GenerationWord is of may fit first = raises of may.ends first.0.least (record v.log { phase = Retiring })
       store_first (Open slot pair) SealWord is of may fit first = absurd may
-      store_first (Open slot pair) EntryWord is of may fit first = absurd may
+      store_first (Open slot pair) EntryWord is of may fit first = in_pair slot pair is may fit.short_pair first
       store_first (Open slot pair) SlotWord is of may fit first = in_slot slot pair may fit.short first
       store_first (Open slot pair) OtherWord is of may fit first = first_still (stored v.log) (object_carries may) refl (subst (FirstLog origin v) (sym is) first)
       store_first Drawn GenerationWord is of may fit first = raises of may first (record v.log { phase = Retiring })
-      store_first Drawn SealWord is of may fit first = absurd may
+      store_first Drawn SealWord is of may fit first = sealed (λ g. generation_word origin.words 0 ≤ g) Sealing of first
       store_first Drawn EntryWord is of may fit first = absurd may
       store_first Drawn SlotWord is of may fit first = absurd may
       store_first Drawn OtherWord is of may fit first = absurd may
       store_first Sealing part is of may fit first = absurd may
-      store_first (Applying applied) part is of may fit first = absurd may
+      store_first (Applying applied) GenerationWord is of may fit first = applies applied fit may first
+      store_first (Applying applied) SealWord is of may fit first =
+          sealed (λ g. generation_word origin.words 0 < g) Clearing of (subst (λ g. generation_word origin.words 0 < g) (cond-true _ (generation_of v) (generation_of v + 1) (eq-eqb applied (length v.log.entries) may.all)) first)
+      store_first (Applying applied) EntryWord is of may fit first = absurd may
+      store_first (Applying applied) SlotWord is of may fit first = absurd may
+      store_first (Applying applied) OtherWord is of may fit first = applies applied fit may first
       store_first Clearing part is of may fit first = absurd may
       store_first Retiring part is of may fit first = absurd may
 
@@ -346,15 +403,19 @@ module _ (o : Opening) (header : Header) (pool : PoolView) (v : View) (stands : 
     emptied changes lg = record v { changes = changes; calls = v.calls + 1; log = lg }
 
     empty_carries : (left : List Change) → ((c : Change) → Contains left c → Contains v.changes c) → Carries v (emptied left v.log)
-    empty_carries left among = quiet (emptied left v.log) refl refl refl (λ c there. itself v.changes c (among c there)) (λ u own. own) (λ u own is. is)
+    empty_carries left among = quiet (emptied left v.log) refl refl refl refl (λ c there. itself v.changes c (among c there)) (λ u own. own) (λ u own is. is)
 
     drained_first : (p : Phase) (drawn : Bool) → v.log.phase ≡ p → FirstLog origin v p → FirstLog origin (emptied [] (log_drained p drawn v.log)) (log_drained p drawn v.log).phase
     drained_first Idle drawn is first = first_still (emptied [] v.log) (empty_carries [] (λ c there. absurd (no_member c there))) refl (subst (FirstLog origin v) (sym is) first)
     drained_first (Open slot pair) drawn is first = first_still (emptied [] v.log) (empty_carries [] (λ c there. absurd (no_member c there))) refl (subst (FirstLog origin v) (sym is) first)
     drained_first Drawn drawn is first = first_still (emptied [] v.log) (empty_carries [] (λ c there. absurd (no_member c there))) refl (subst (FirstLog origin v) (sym is) first)
-    drained_first Sealing drawn is first = tt
+    drained_first Sealing drawn is first =
+        let sealing : SealingFits (Flies stands.log stands.decided 0) v = subst (PhaseFits (Flies stands.log stands.decided 0) v) is fits.phase in
+        let whole = sealing.whole in
+        let size : length v.log.entries ≡ length whole.front + 1 = ap length whole.are ∙ length-append whole.front (ends_with v (generation_of v + 1) ∷ []) in
+        subst (λ g. generation_word origin.words 0 < g) (sym (cond-false _ (generation_of v) (generation_of v + 1) (ne_eqb 0 (length v.log.entries) (λ none. omega (arith, none, size))))) (omega (arith, first))
     drained_first (Applying applied) drawn is first = first_still (emptied [] v.log) (empty_carries [] (λ c there. absurd (no_member c there))) refl (subst (FirstLog origin v) (sym is) first)
-    drained_first Clearing drawn is first = absurd (subst (PhaseFits (Flies stands.log stands.decided 0) v) is fits.phase)
+    drained_first Clearing drawn is first = record { least = omega arith; first = λ now. absurd (omega arith) }
     drained_first Retiring true is first = record { least = omega arith; first = λ now. absurd (omega arith) }
     drained_first Retiring false is first = (record { least = omega arith; first = λ now. absurd (omega arith) }, λ some. absurd (omega arith))
 
@@ -364,7 +425,7 @@ module _ (o : Opening) (header : Header) (pool : PoolView) (v : View) (stands : 
 
     -- a number is seen: a call begins, or nothing of the log changes
     still_seen : (n : ℕ) → Carries v (with_seen (NumberSeen n) v)
-    still_seen n = quiet (with_seen (NumberSeen n) v) refl refl refl (itself v.changes) (λ u own. own) (λ u own is. is)
+    still_seen n = quiet (with_seen (NumberSeen n) v) refl refl refl refl (itself v.changes) (λ u own. own) (λ u own is. is)
 
     seen_first : (n : ℕ) (p : Phase) → v.log.phase ≡ p → FirstLog origin v p → FirstLog origin (with_seen (NumberSeen n) (begun p v)) (begun p v).log.phase
     seen_first n Idle is first =
@@ -398,7 +459,7 @@ module _ (o : Opening) (header : Header) (pool : PoolView) (v : View) (stands : 
         (drawn_first n (log_drawn (Open [] []) v.log) v.log.records v.log.entries refl (subst (FirstLog origin v) is first).0)
 
     told_carries : (w : View) → w ≡ record v { seen = w.seen; call = w.call; actions = w.actions } → Carries v w
-    told_carries w is = subst (Carries v) (sym is) (quiet (record v { seen = w.seen; call = w.call; actions = w.actions }) refl refl refl (itself v.changes) (λ u own. own) (λ u own is_. is_))
+    told_carries w is = subst (Carries v) (sym is) (quiet (record v { seen = w.seen; call = w.call; actions = w.actions }) refl refl refl refl (itself v.changes) (λ u own. own) (λ u own is_. is_))
 
     pub first_after : (s : Step) → Allowed v s → FoundAlone v s → FirstLog origin v v.log.phase → FirstLog origin (after v s) (after v s).log.phase
     first_after (Load w x) may found first = first_still (after v (Load w x)) (load_carries w x may (found alone)) refl first

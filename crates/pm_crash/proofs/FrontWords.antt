@@ -1,28 +1,31 @@
 -- No lane changes a word before the lanes' areas, so every image has the header page.
-use Rattle.std.proofs.Common.{◌≡◌, inl, ℕ, ◌*◌, ◌<◌, ◌≤◌, Bool, true, false, List, length, slice_index, take, refl, sym, ◌∙◌, ap, subst, arith}
+use Rattle.std.proofs.Common.{◌≡◌, inl, ⊎_elim, IsTrue, ℕ, ◌*◌, ◌<◌, ◌≤◌, Bool, true, false, List, length, slice_index, take, refl, sym, ◌∙◌, ap, subst, arith}
 use Rattle.std.proofs.lemmas.List.{ext_get_or, get_or-take, length-take}
 use Rattle.pm_header.specs.Pairs.{IsHeaderIn}
 use Rattle.pm_header.specs.declared.header.Header.{Header}
 use Rattle.pm_image.specs.Means.{HasHeader, page}
-use Rattle.pm_view.specs.Area.{Part, part_of}
+use Rattle.pm_view.specs.Area.{Part, area_word, part_of}
 use Rattle.pm_view.specs.Area.Part.{EntryWord, GenerationWord, OtherWord, SealWord, SlotWord}
 use Rattle.pm_view.specs.Log.{Phase}
 use Rattle.pm_view.specs.Log.Phase.{Idle, Open, Drawn, Sealing, Applying, Clearing, Retiring}
+use Rattle.pm_view.specs.Rights.{is_written}
 use Rattle.pm_view.specs.Steps.{Step}
 use Rattle.pm_view.specs.Steps.Step.{Load, Store, Or, And, Flush, Drain, TakeWrite, TakeRead, Raise, Give, ZoneTry, ZoneGive, Occupied, Occupy, Vacate, Draw, NumberSeen, StopSeen, SetStop, Tell}
 use Rattle.pm_world.specs.Crash.{Survives}
+use Rattle.pm_world.specs.Entries.{is_redone, set_word}
 use Rattle.pm_world.specs.History.{Entry}
 use Rattle.pm_world.specs.Lawful.{IsLawful, StoreFits}
 use Rattle.pm_world.specs.Memory.{Memory}
 use Rattle.pm_world.specs.Memory.Location.{PoolWord}
 use Rattle.pm_world.specs.Moves.{Moves}
 use Rattle.pm_world.specs.Opening.{Opening}
+use Rattle.pm_world.specs.Records.{is_logged}
 use Rattle.pm_world.specs.World.{Views, World}
 use Rattle.pm_world.proofs.CrashLogs.{logged_recorded}
 use Rattle.pm_world.proofs.CrashWords.{behind_areas, recorded_writes, word_stays}
-use Rattle.pm_world.proofs.Exclusion.{writes_under}
+use Rattle.pm_world.proofs.Exclusion.{WritesUnder, writes_under}
 use Rattle.pm_world.proofs.Locations.{other_pool, pool-counter, pool-lock, pool-stop}
-use Rattle.pm_world.proofs.Parts.{generation_part}
+use Rattle.pm_world.proofs.Parts.{generation_part, seal_part}
 
 -- a list's front is another's, where its words are
 pub front_same : (one other : List ℕ) → 512 ≤ length one → length other ≡ length one → ((i : ℕ) → i < 512 → slice_index other i ≡ slice_index one i) → page other ≡ page one
@@ -38,17 +41,24 @@ module _ (o : Opening) (mem : Memory) (views : Views) (log : List Entry) (decide
     store_behind w x' Idle part is fits = absurd fits
     store_behind w x' (Open slot pair) GenerationWord is fits = let at = (generation_part (views k).lane w is).1 in omega arith
     store_behind w x' (Open slot pair) SealWord is fits = absurd fits
-    store_behind w x' (Open slot pair) EntryWord is fits = absurd fits
+    store_behind w x' (Open slot pair) EntryWord is fits = let at = fits.at in omega arith
     store_behind w x' (Open slot pair) SlotWord is fits = let at = fits.at in omega arith
     store_behind w x' (Open slot pair) OtherWord is fits =
         let behind = behind_areas o mem views log decided x k w (writes_under o mem k (views k) w (x.each_lane k inside).locks fits.own) in omega arith
     store_behind w x' Drawn GenerationWord is fits = let at = (generation_part (views k).lane w is).1 in omega arith
-    store_behind w x' Drawn SealWord is fits = absurd fits
+    store_behind w x' Drawn SealWord is fits = let at = (seal_part (views k).lane w is).1 in omega arith
     store_behind w x' Drawn EntryWord is fits = absurd fits
     store_behind w x' Drawn SlotWord is fits = absurd fits
     store_behind w x' Drawn OtherWord is fits = absurd fits
     store_behind w x' Sealing part is fits = absurd fits
-    store_behind w x' (Applying applied) part is fits = absurd fits
+    store_behind w x' (Applying applied) GenerationWord is fits = let at = (generation_part (views k).lane w is).1 in omega arith
+    store_behind w x' (Applying applied) SealWord is fits = let at = (seal_part (views k).lane w is).1 in omega arith
+    store_behind w x' (Applying applied) EntryWord is fits = absurd fits
+    store_behind w x' (Applying applied) SlotWord is fits = absurd fits
+    store_behind w x' (Applying applied) OtherWord is fits =
+        ⊎_elim (λ (own : IsTrue (is_written (views k) w)).
+        let behind = behind_areas o mem views log decided x k w (writes_under o mem k (views k) w (x.each_lane k inside).locks own) in omega arith)
+        (λ (generation : w ≡ area_word (views k).lane). omega arith) ((x.each_lane k inside).entries.each applied (set_word w x') fits).of
     store_behind w x' Clearing part is fits = absurd fits
     store_behind w x' Retiring part is fits = absurd fits
 
@@ -84,8 +94,10 @@ module _ (o : Opening) (mem : Memory) (views : Views) (log : List Entry) (decide
   front_survives image survives i low =
       let size = x.sound.size in
       word_stays o mem views log decided x image survives i (omega arith) (inl low)
-      (λ k c inside there is logged.
-      let behind = behind_areas o mem views log decided x k i (recorded_writes o mem views log decided x k i inside (logged_recorded (views k) i logged)) in omega arith)
+      (λ k c inside there is logs.
+      let writes : WritesUnder o mem k i = ⊎_elim (λ (logged : is_logged (views k) i ≡ true). recorded_writes o mem views log decided x k i inside (logged_recorded (views k) i logged))
+      (λ (redone : (is_redone (views k) i ≡ true) × (is_written (views k) i ≡ true)). writes_under o mem k (views k) i (x.each_lane k inside).locks redone.1) logs in
+      let behind = behind_areas o mem views log decided x k i writes in omega arith)
 
   pub header_survives : (header : Header) (image : List ℕ) → Survives o mem views image → ((i : ℕ) → i < 512 → mem (PoolWord i) ≡ slice_index o.words i) → HasHeader o.words o.lanes o.zones header
       → HasHeader image o.lanes o.zones header

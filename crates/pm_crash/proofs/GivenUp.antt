@@ -1,6 +1,6 @@
 -- A refused operation, and an abort, give up the call: the model's pool is as before it, and so are the words.
-use Rattle.std.proofs.Common.{◌++◌, ◌≡◌, ◌≢◌, ⊎_elim, ℕ, ◌+◌, ◌*◌, ◌<◌, ◌≤◌, ◌&&◌, Bool, true, false, not, eqb, leb, ltb, List, [], ◌∷◌, length, slice_get, slice_index, Option, Some, None, MatchOption, refl, sym, ◌∙◌, ap, subst, arith}
-use Rattle.std.specs.List.{Contains, list_all}
+use Rattle.std.proofs.Common.{◌++◌, ◌≡◌, ◌≢◌, ⊎_elim, ℕ, ◌+◌, ◌*◌, ◌<◌, ◌≤◌, ◌&&◌, ◌||◌, Bool, cond, inl, true, false, not, eqb, leb, ltb, List, [], ◌∷◌, length, slice_get, slice_index, Option, Some, None, MatchOption, refl, sym, ◌∙◌, ap, subst, arith}
+use Rattle.std.specs.List.{Contains, list_all, list_any}
 use Rattle.std.specs.Option.{option_map_or}
 use Rattle.std.proofs.lemmas.Bool.{and_from, and_left, and_right, cases_eq, false≢true, le-leb, le-ltb, lt-ltb, ne_eqb}
 use Rattle.pm_header.specs.declared.header.Header.{Header}
@@ -18,9 +18,10 @@ use Rattle.pm_image.proofs.Members.{member_cases, no_member}
 use Rattle.pm_model.specs.declared.stage.Stage.TheVariants as stage
 use Rattle.pm_model.specs.Transaction.{Transaction, aborted, at_rest, is_locked, is_working}
 use Rattle.pm_model.specs.Bytes.{bytes_of, is_among, new_words, records_of}
-use Rattle.pm_model.specs.Checks.{Range, range_of, is_record, is_write, needs_write, is_lock_missing, is_not_locked, passes_end_of, passes_end, has_unrecorded, is_not_added, overfills, passes_log, first_refusal, words_in}
+use Rattle.pm_model.specs.Actions.{passes_object}
+use Rattle.pm_model.specs.Checks.{Range, range_of, is_publish, is_unlocked_action, is_record, is_write, needs_write, is_lock_missing, is_not_locked, passes_end_of, passes_end, has_unrecorded, is_not_added, overfills, passes_log, first_refusal, words_in}
 use Rattle.pm_model.specs.Answers.{Told as Answered, Answers, IsDone, IsRefused, after_reply, changes_nothing, error_for, is_known}
-use Rattle.pm_model.specs.Step.{Runs, Step}
+use Rattle.pm_model.specs.Step.{Runs, Step, State, with_pending}
 use Rattle.pm_model.specs.History.{opened}
 use Rattle.pm_model.proofs.Alike.{after_refused}
 use Rattle.pm_view.specs.Area.{is_in_area}
@@ -37,7 +38,7 @@ use Rattle.pm_crash.proofs.Continued.{answers_done, told_once_more, two_same}
 use Rattle.pm_crash.proofs.KeptWords.{found_back, same_found}
 use Rattle.pm_crash.proofs.Passing.{fails_added, fails_end, fails_lock, fails_room, passes_all, unhindered, AsksNoLock, Works}
 use Rattle.pm_crash.proofs.RecordedWords.{among_recorded}
-use Rattle.pm_crash.proofs.Runs.{runs_once_more, runs_to_end}
+use Rattle.pm_crash.proofs.Runs.{opened_left, runs_once_more, runs_to_end}
 
 -- what was before the call, for the view before it was taken back
 pub taken_back : (v next : View) → KeepsLane v next → KeepsFound v next → TakesBack v next → ((i : ℕ) → is_recorded v.log.records i ≡ true → is_in_area v.lane i ≡ false)
@@ -74,9 +75,9 @@ outside_taken_back v next lane back outside i is = ⊎_elim
 
 -- the operations on ranges ask for no lock, and are known
 ranged_asks : (op : Operation) (range : Range) → range_of op ≡ Some range → AsksNoLock op
-ranged_asks (AddRange id off len) range is = record { no_wants = refl; no_begin = refl }
-ranged_asks (Write id off bytes) range is = record { no_wants = refl; no_begin = refl }
-ranged_asks (Read id off len) range is = record { no_wants = refl; no_begin = refl }
+ranged_asks (AddRange id off len) range is = record { no_wants = refl; no_begin = refl; aligned = refl; no_more = λ tx. refl; no_action = refl }
+ranged_asks (Write id off bytes) range is = record { no_wants = refl; no_begin = refl; aligned = refl; no_more = λ tx. refl; no_action = refl }
+ranged_asks (Read id off len) range is = record { no_wants = refl; no_begin = refl; aligned = refl; no_more = λ tx. refl; no_action = refl }
 ranged_asks op range is = absurd cc
 
 ranged_known : (op : Operation) (range : Range) → range_of op ≡ Some range → is_known op ≡ true
@@ -85,16 +86,24 @@ ranged_known (Write id off bytes) range is = refl
 ranged_known (Read id off len) range is = refl
 ranged_known op range is = absurd cc
 
+ranged_publishes_none : (op : Operation) (range : Range) → range_of op ≡ Some range → is_publish op ≡ false
+ranged_publishes_none (AddRange id off len) range is = refl
+ranged_publishes_none (Write id off bytes) range is = refl
+ranged_publishes_none (Read id off len) range is = refl
+ranged_publishes_none op range is = absurd cc
+
 record_is_no_write : (op : Operation) → is_record op ≡ true → is_write op ≡ false
 record_is_no_write (Write id off bytes) is = absurd (false≢true is)
 record_is_no_write op is = refl
 
 -- the checks of an operation on a range
 lock_check : (tx : Transaction) (op : Operation) (range : Range) → range_of op ≡ Some range → is_not_locked tx op ≡ is_lock_missing tx (needs_write op) range
-lock_check tx op range is = ap (λ (r : Option Range). option_map_or (is_lock_missing tx (needs_write op)) r false) is
+lock_check tx op range is = ap (λ (b : Bool). (b && list_any (is_unlocked_action tx) tx.actions) || option_map_or (is_lock_missing tx (needs_write op)) (range_of op) false) (ranged_publishes_none op range is)
+    ∙ ap (λ (r : Option Range). option_map_or (is_lock_missing tx (needs_write op)) r false) is
 
 end_check : (tx : Transaction) (op : Operation) (range : Range) → range_of op ≡ Some range → passes_end tx op ≡ passes_end_of tx range
-end_check tx op range is = ap (λ (r : Option Range). option_map_or (passes_end_of tx) r false) is
+end_check tx op range is = ap (λ (b : Bool). (b && list_any (passes_object tx.pool.objects) tx.actions) || option_map_or (passes_end_of tx) (range_of op) false) (ranged_publishes_none op range is)
+    ∙ ap (λ (r : Option Range). option_map_or (passes_end_of tx) r false) is
 
 added_check : (tx : Transaction) (op : Operation) (range : Range) → range_of op ≡ Some range → is_not_added tx op ≡ (is_write op && has_unrecorded tx range)
 added_check tx op range is = ap (λ (r : Option Range). is_write op && option_map_or (has_unrecorded tx) r false) is
@@ -203,6 +212,7 @@ comes_to_nothing v next op reply level e w header pool call c answers aborts =
           (runs_once_more (told_in v) (record { operation = op; reply = reply }) pool c.tx c.runs (ap is_working c.stands) answers);
       stands = ap (λ (x : Transaction). x.stage) aborts;
       fails = ap (λ (x : Transaction). x.error) aborts;
+      no_actions = ap (λ (x : Transaction). x.actions) aborts ∙ c.no_actions;
       unchanged = ap (λ (x : Transaction). x.pool) aborts ∙ c.before;
     }
 
@@ -237,16 +247,18 @@ refusal_gives_up v next op range r level some is_open refuses =
       records = c.records;
       long = λ write held size_known. (object_under v w header pool level range.id write is_open before c held size_known).long;
     } in
-    let is : IsAbortedFor c.tx op r = by_reason v w header op range c.tx r asked refuses.reason in
-    (refused_answers c.tx op r (ranged_known op range refuses.is_range) is, after_refused op (Some (Refused r)) c.tx r (record { traced = is.traced; told = refl })))
+    let is : IsAbortedFor c.tx op r = by_reason v w header op range c.tx r asked refuses.reason in (
+      refused_answers c.tx op r (ranged_known op range refuses.is_range) is,
+      after_refused op (Some (Refused r)) c.tx r (record { traced = is.traced; told = refl }) ∙ ap (λ (b : Bool). cond b c.tx (aborted (error.Refused r) c.tx)) (ranged_asks op range refuses.is_range).no_action,
+    ))
 
 -- an abort that is asked for
 pub abort_gives_up : (v next : View) (errnum level : ℕ) → 1 ≤ level → IsOpen v level stage.Work error.None → Tells v next (Abort errnum) None → TakesBack v next → IsGivenUp next (error_for errnum)
 abort_gives_up v next errnum level some is_open tells back =
     gives_up v next (Abort errnum) None level (error_for errnum) is_open tells.keeps (same_found v next tells.locks) tells.call back
     (λ w header pool same_id before c. (
-      answers_done c.tx (Abort errnum) None refl (record { no_wants = refl; no_begin = refl })
-          (passes_all c.tx (Abort errnum) (call_works v w header pool level some is_open c) (record { no_wants = refl; no_begin = refl }) refl refl refl refl) refl,
+      answers_done c.tx (Abort errnum) None refl (record { no_wants = refl; no_begin = refl; aligned = refl; no_more = λ tx. refl; no_action = refl })
+          (passes_all c.tx (Abort errnum) (call_works v w header pool level some is_open c) (record { no_wants = refl; no_begin = refl; aligned = refl; no_more = λ tx. refl; no_action = refl }) refl refl refl refl) refl,
       refl,
     ))
 
@@ -263,8 +275,8 @@ pub given_up_changes_nothing : (v : View) (e : TxErr) → IsGivenUp v e → (w :
     → Step (opened pool) (act_of v) (opened pool)
 given_up_changes_nothing v e given_up w header pool holds id before =
     let c : ComesToNothing v pool e = given_up.comes w header pool holds id before in
-    record {
+    inl (record {
       last = c.tx;
       runs = aborted_runs (told_in v) pool c.tx c.runs c.stands;
-      leaves = ap opened (sym c.unchanged);
-    }
+      leaves = record { pending = refl; leaves = opened_left v.lane pool ∙ (λ i. let s : State = record { pool = sym c.unchanged i; actions = with_pending (λ lane. []) v.lane (sym c.no_actions i) } in s) };
+    })

@@ -20,6 +20,7 @@ use Rattle.pm_view.specs.Steps.Step.{Drain, Draw}
 use Rattle.pm_view.specs.View.{View}
 use Rattle.pm_world.specs.Course.{decided_after, entry_of, flight, flight_in, is_decided_by_drain, is_empty, log_after}
 use Rattle.pm_world.specs.Crash.{NoneTorn, Survives, is_kept, is_lost, loses}
+use Rattle.pm_world.specs.Entries.{is_redoing}
 use Rattle.pm_world.specs.History.{Entry, Flies, replayed}
 use Rattle.pm_world.specs.Lawful.{IsLawful}
 use Rattle.pm_world.specs.Memory.{Memory}
@@ -95,17 +96,17 @@ draw_left o log v n header pool keep left held =
 
 -- a draw of an ended call leaves it so
 pub draw_stays_held : (o : Opening) (mem : Memory) (views : Views) (log : List Entry) (decided later : ℕ → Bool) → World o mem views log decided → (k n : ℕ) → k < o.lanes → flight (views k) ≡ None
-    → KeepsDecided decided later → (header : Header) (pool : PoolView) → (views k).pool ≡ header.id → IsEndedCall (views k) → IsHeldHistory o log decided header pool
+    → is_redoing (views k).log.phase ≡ false → KeepsDecided decided later → (header : Header) (pool : PoolView) → (views k).pool ≡ header.id → IsEndedCall (views k) → IsHeldHistory o log decided header pool
     → IsHeldHistory o (log ++ entry_of (views k) n ∷ []) later header pool
-draw_stays_held o mem views log decided later world k n inside idle more header pool id ended history = record {
+draw_stays_held o mem views log decided later world k n inside idle still more header pool id ended history = record {
   each = λ keep keeps.
       let decides : KeepsDecided decided keep = λ m is. keeps m (more m is) in
       let held : HoldReplay (kept_words o keep log) o keep log header pool = history.each keep decides in
       ⊎_elim
       (λ (kept : keep n ≡ true). draw_kept o log (views k) n header pool keep kept held (⊎_elim
-      (λ (whole : IsWholeCall (views k)). whole_draws o mem views log decided world keep k n inside idle decides header held.last held.holds id kept whole)
-      (λ (given_up : (e : TxErr) × IsGivenUp (views k) e × ((views k).log.records ≡ [])).
-      given_up_draws o mem views log decided world keep k n inside idle decides header held.last held.holds id given_up.0 kept given_up.1 given_up.2)
+      (λ (whole : IsWholeCall (views k)). whole_draws o mem views log decided world keep k n inside idle still decides header held.last held.holds id kept whole)
+      (λ (given_up : (e : TxErr) × IsGivenUp (views k) e × ((views k).log.records ≡ []) × ((views k).log.entries ≡ [])).
+      given_up_draws o mem views log decided world keep k n inside idle still decides header held.last held.holds id given_up.0 kept given_up.1 given_up.2 given_up.3)
       ended))
       (λ (left : keep n ≡ false). draw_left o log (views k) n header pool keep left held)
       (cases_Bool (keep n));
@@ -146,7 +147,7 @@ pub step_stays_held : (o : Opening) (mem : Memory) (views : Views) (log : List E
     → (header : Header) (pool : PoolView) → (views k).pool ≡ header.id → DrawsEnded (views k) s → IsHeldHistory o log decided header pool
     → IsHeldHistory o (log_after log (views k) s) (decided_after decided (views k) s) header pool
 step_stays_held o mem views log decided world k (Draw n) inside lawful header pool id ended history =
-    draw_stays_held o mem views log decided (decided_after decided (views k) (Draw n)) world k n inside (ap (λ (phase : Phase). flight_in phase (views k).number) lawful.allowed.is_open)
+    draw_stays_held o mem views log decided (decided_after decided (views k) (Draw n)) world k n inside (ap (λ (phase : Phase). flight_in phase (views k).number) lawful.allowed.is_open) (ap is_redoing lawful.allowed.is_open)
     (λ m is. or_left (decided m) (eqb n m && is_empty (difference_of (views k))) is) header pool id ended history
 step_stays_held o mem views log decided world k Drain inside lawful header pool id ended history =
     stays_held o log decided (decided_after decided (views k) Drain) header pool history (λ m is. or_left (decided m) (is_decided_by_drain (drained (views k).changes) (views k) m) is)

@@ -1,16 +1,17 @@
 -- The logs of an image that a power failure leaves have no fault.
-use Rattle.std.proofs.Common.{◌≡◌, ◌⊎◌, ⊎_elim, inl, inr, ℕ, ◌+◌, ◌-◌, ◌*◌, ◌/◌, ◌%◌, ◌<◌, ◌≤◌, ◌&&◌, Bool, true, false, not, eqb, leb, ltb, IsTrue, List, [], ◌∷◌, get_or, length, slice_get, slice_index, Option, Some, None, refl, sym, ◌∙◌, ap, subst, arith}
-use Rattle.std.specs.List.{Contains, filter, flat_map, list_all, list_any, range_with_len}
+use Rattle.std.proofs.Common.{◌≡◌, ◌≢◌, ◌⊎◌, ⊎_elim, inl, inr, ℕ, ◌+◌, ◌-◌, ◌*◌, ◌/◌, ◌%◌, ◌<◌, ◌≤◌, ◌&&◌, ◌||◌, Bool, true, false, not, eqb, leb, ltb, IsTrue, List, [], ◌∷◌, get_or, length, slice_get, slice_index, Option, Some, None, refl, sym, ◌∙◌, ap, subst, arith}
+use Rattle.std.specs.List.{Contains, flat_map, list_all, list_any, range_with_len}
 use Rattle.std.specs.Option.{option_map_or}
-use Rattle.std.proofs.lemmas.Bool.{and_from, and_parts, cases_Bool, cases_lt, eq-eqb, eqb-true, false≢true, le-leb, le-ltb, leb-true, lt-ltb, ltb-true, ne_eqb, not_from_true}
+use Rattle.std.proofs.lemmas.Bool.{and_from, and_parts, and_right, cases_Bool, cases_lt, eq-eqb, eqb-true, false≢true, le-leb, le-ltb, leb-true, lt-ltb, ltb-true, ne_eqb, not_from_true, or_from}
 use Rattle.std.proofs.lemmas.List.Folds.{Any-from_list_any}
 use Rattle.std.proofs.lemmas.Option.{none-some, same_Some, slice_get-get_or, slice_get_within}
 use Rattle.pm_record.specs.Undo.{undo_of}
+use Rattle.pm_record.specs.declared.redo.Redo.{Redo}
 use Rattle.pm_record.specs.declared.undo.Undo.{Undo}
 use Rattle.pm_image.specs.HeapFaults.{heap_fault}
-use Rattle.pm_image.specs.LogFaults.{bad_slot, good_lane, good_record, in_chunk, log_fault}
+use Rattle.pm_image.specs.LogFaults.{bad_entry, bad_slot, clashes, good_lane, good_record, in_chunk, lanes_clash, log_fault, records_for}
 use Rattle.pm_image.specs.Logs as logs
-use Rattle.pm_image.specs.Logs.{generation_word, records, seal_word, slot_line, undo_slot}
+use Rattle.pm_image.specs.Logs.{entries, entries_for, generation, generation_word, records, seal_word, slot_line, undo_slot}
 use Rattle.pm_image.specs.Steps.{valid_record}
 use Rattle.pm_image.proofs.Firsts.{none_passes}
 use Rattle.pm_image.proofs.Gathering.{record_at, records_by_number}
@@ -31,23 +32,26 @@ use Rattle.pm_world.specs.Memory.Location.{PoolWord}
 use Rattle.pm_world.specs.Opening.{Opening}
 use Rattle.pm_world.specs.Records.{IsRecordAt, covers, generation_of, is_drained_slot, records_generation, spelled, used_slots}
 use Rattle.pm_world.specs.World.{Views, World}
-use Rattle.pm_world.proofs.CrashLogs.{ChangeFits, GenerationIs, change_fits, recorded_from, recorded_word}
+use Rattle.pm_world.proofs.CrashEntries.{HasSealed, generation_is}
+use Rattle.pm_world.proofs.CrashLogs.{ChangeFits, GenerationIs, change_fits, drained_slot, recorded_from, recorded_word}
 use Rattle.pm_world.proofs.CrashSpellings.{covers_back, undo_from, undo_of-spelled, valid_parts}
-use Rattle.pm_world.proofs.CrashWords.{generation_is, generation_read, seal_stays, slot_stays}
+use Rattle.pm_world.proofs.CrashWords.{slot_stays}
 use Rattle.pm_world.proofs.Exclusion.{WritesUnder, one_writer, writes_under}
 use Rattle.pm_crash.proofs.AtMostOne.{all_pass, at_most_one, one_or_none, passing, passing_one, some_part}
 use Rattle.pm_crash.proofs.Guarded.{guarded_in_chunk}
+use Rattle.pm_crash.proofs.ImageEntries.{drained, entry_passes, enters, no_lanes_clash, seal_few, word_in_range}
 use Rattle.pm_crash.proofs.LogCourse.{InRange, IsUnwritten}
 use Rattle.pm_crash.proofs.LogCourse as course
 
-generation_from : (v : View) (g : ℕ) (phase : Phase) → 1 ≤ generation_of v → GenerationIs v g phase → records_generation phase v ≤ g
-generation_from v g Idle first is = omega arith
-generation_from v g (Open slot pair) first is = omega arith
-generation_from v g Drawn first is = omega arith
-generation_from v g Sealing first is = omega arith
-generation_from v g (Applying applied) first is = omega arith
-generation_from v g Clearing first is = omega arith
-generation_from v g Retiring first is = ⊎_elim (λ (same : g ≡ generation_of v). omega arith) (λ (before : g + 1 ≡ generation_of v). omega arith) is
+generation_from : (v : View) (seal g : ℕ) (phase : Phase) → 1 ≤ generation_of v → GenerationIs v seal g phase → records_generation phase v ≤ g
+generation_from v seal g Idle first is = omega arith
+generation_from v seal g (Open slot pair) first is = omega arith
+generation_from v seal g Drawn first is = omega arith
+generation_from v seal g Sealing first is =
+    ⊎_elim (λ (lost : (seal ≡ 0) × (g ≡ generation_of v)). let same = lost.1 in omega arith) (λ (kept : (seal ≢ 0) × (g ≡ generation_of v + 1)). let next = kept.1 in omega arith) is
+generation_from v seal g (Applying applied) first is = omega arith
+generation_from v seal g Clearing first is = omega arith
+generation_from v seal g Retiring first is = ⊎_elim (λ (same : g ≡ generation_of v). omega arith) (λ (before : g + 1 ≡ generation_of v). omega arith) is
 
 used_upto : (v : View) (phase : Phase) → used_slots phase v ≤ length v.log.records + 1
 used_upto v Idle = omega arith
@@ -59,31 +63,19 @@ used_upto v (Applying applied) = omega arith
 used_upto v Clearing = omega arith
 used_upto v Retiring = omega arith
 
--- a lane's generation in the image
-in_range : (flies : ℕ → List Final → Type 0) (v : View) (g : ℕ) (phase : Phase) → 1 ≤ generation_of v → generation_of v ≤ generation_limit → PhaseFits flies v phase → GenerationIs v g phase → InRange (generation_of v) v phase
-    → (1 ≤ g) × (g ≤ 4611686018427387904)
-in_range flies v g Idle first last fits is range = (omega arith, omega arith)
-in_range flies v g (Open slot pair) first last fits is range = (omega arith, omega arith)
-in_range flies v g Drawn first last fits is range = (omega arith, omega arith)
-in_range flies v g Sealing first last fits is range = absurd fits
-in_range flies v g (Applying applied) first last fits is range = absurd fits
-in_range flies v g Clearing first last fits is range = absurd fits
-in_range flies v g Retiring first last fits is range =
-    ⊎_elim (λ (same : g ≡ generation_of v). (omega arith, omega arith)) (λ (before : g + 1 ≡ generation_of v). (omega (arith, before, range), omega (arith, before, last))) is
-
 -- a slot of a change is that of a record, or the next one
-undrained_upto : (flies : ℕ → List Final → Type 0) (v : View) (c : Change) (slot : ℕ) (phase : Phase) → PhaseFits flies v phase → ChangeFits v c phase → InRange (generation_of v) v phase → Contains v.changes c → slot < 64
+undrained_upto : (flies : ℕ → List Final → Type 0) (v : View) (c : Change) (slot : ℕ) (phase : Phase) → (HasSealed phase → is_drained_slot v slot ≡ true) → PhaseFits flies v phase → ChangeFits v c phase → InRange (generation_of v) v phase → Contains v.changes c → slot < 64
     → c.word / 8 ≡ slot_line v.lane slot → slot ≤ length v.log.records
-undrained_upto flies v c slot Idle fits change range there within line = absurd change
-undrained_upto flies v c slot (Open words pair) fits change range there within line =
+undrained_upto flies v c slot Idle drained fits change range there within line = absurd change
+undrained_upto flies v c slot (Open words pair) drained fits change range there within line =
     let short = fits.short in
     let bound = range.1 c there (record { low = omega (arith, line); high = omega (arith, line, within) }) in
     omega (arith, short, bound, line)
-undrained_upto flies v c slot Drawn fits change range there within line = absurd change
-undrained_upto flies v c slot Sealing fits change range there within line = absurd change
-undrained_upto flies v c slot (Applying applied) fits change range there within line = absurd change
-undrained_upto flies v c slot Clearing fits change range there within line = absurd change
-undrained_upto flies v c slot Retiring fits change range there within line = let of = change.of in absurd (omega (arith, of, line))
+undrained_upto flies v c slot Drawn drained fits change range there within line = absurd change
+undrained_upto flies v c slot Sealing drained fits change range there within line = absurd (drained_slot v slot c (drained tt) there line)
+undrained_upto flies v c slot (Applying applied) drained fits change range there within line = absurd (drained_slot v slot c (drained tt) there line)
+undrained_upto flies v c slot Clearing drained fits change range there within line = absurd (drained_slot v slot c (drained tt) there line)
+undrained_upto flies v c slot Retiring drained fits change range there within line = let of = change.of in absurd (omega (arith, of, line))
 
 -- nothing of a slot is undrained where nothing is
 all_drained : (v : View) (slot : ℕ) → v.changes ≡ [] → is_drained_slot v slot ≡ true
@@ -96,24 +88,24 @@ no_record v slot r none at = none-some r (sym (ap (λ records. slice_get records
 abbrev Stored : View → ℕ → Recorded → Type 0
 Stored v slot r = IsRecordAt v slot r ⊎ ((slot ≡ length v.log.records) × CanRecord v r × IsBeingWritten v slot)
 
-no_slot : (v : View) (slot : ℕ) (r : Recorded) → v.log.records ≡ [] → v.changes ≡ [] → used_slots v.log.phase v ≡ length v.log.records → Stored v slot r → ⊥
+no_slot : (v : View) (slot : ℕ) (r : Recorded) → v.log.records ≡ [] → is_drained_slot v slot ≡ true → used_slots v.log.phase v ≡ length v.log.records → Stored v slot r → ⊥
 no_slot v slot r none drained used (inl at) = no_record v slot r none at
-no_slot v slot r none drained used (inr (last, can, inl undrained)) = false≢true (sym undrained ∙ all_drained v slot drained)
+no_slot v slot r none drained used (inr (last, can, inl undrained)) = false≢true (sym undrained ∙ drained)
 no_slot v slot r none drained used (inr (last, can, inr (past, making))) = omega (arith, past, making, used)
 
 -- the generation of a record that the log has can be raised
-raisable : (flies : ℕ → List Final → Type 0) (v : View) (slot : ℕ) (r : Recorded) (phase : Phase) → v.log.phase ≡ phase → PhaseFits flies v phase → InRange (generation_of v) v phase → generation_of v ≤ generation_limit → Stored v slot r
+raisable : (flies : ℕ → List Final → Type 0) (v : View) (slot : ℕ) (r : Recorded) (phase : Phase) → v.log.phase ≡ phase → (HasSealed phase → is_drained_slot v slot ≡ true) → PhaseFits flies v phase → InRange (generation_of v) v phase → generation_of v ≤ generation_limit → Stored v slot r
     → records_generation phase v < 4611686018427387904
-raisable flies v slot r Idle is fits range last stored = absurd (no_slot v slot r fits.no_records fits.drained (ap (λ p. used_slots p v) is) stored)
-raisable flies v slot r (Open words pair) is fits range last stored = ⊎_elim
+raisable flies v slot r Idle is drained fits range last stored = absurd (no_slot v slot r fits.no_records (all_drained v slot fits.drained) (ap (λ p. used_slots p v) is) stored)
+raisable flies v slot r (Open words pair) is drained fits range last stored = ⊎_elim
     (λ (low : generation_of v < generation_limit). omega (arith, low))
-    (λ (un : IsUnwritten v words). absurd (no_slot v slot r un.no_records un.no_changes (ap (λ p. used_slots p v) is ∙ ap (λ (ws : List ℕ). used_slots (Open ws pair) v) un.no_slot) stored))
+    (λ (un : IsUnwritten v words). absurd (no_slot v slot r un.no_records (all_drained v slot un.no_changes) (ap (λ p. used_slots p v) is ∙ ap (λ (ws : List ℕ). used_slots (Open ws pair) v) un.no_slot) stored))
     range.0
-raisable flies v slot r Drawn is fits range last stored = omega (arith, range)
-raisable flies v slot r Sealing is fits range last stored = absurd fits
-raisable flies v slot r (Applying applied) is fits range last stored = absurd fits
-raisable flies v slot r Clearing is fits range last stored = absurd fits
-raisable flies v slot r Retiring is fits range last stored = omega (arith, range, last)
+raisable flies v slot r Drawn is drained fits range last stored = omega (arith, range)
+raisable flies v slot r Sealing is drained fits range last stored = let below = fits.below in omega (arith, below)
+raisable flies v slot r (Applying applied) is drained fits range last stored = absurd (no_slot v slot r fits.no_records (drained tt) (ap (λ p. used_slots p v) is) stored)
+raisable flies v slot r Clearing is drained fits range last stored = absurd (no_slot v slot r fits.no_records (drained tt) (ap (λ p. used_slots p v) is) stored)
+raisable flies v slot r Retiring is drained fits range last stored = omega (arith, range, last)
 
 module _ (o : Opening) (mem : Memory) (views : Views) (log : List Entry) (decided : ℕ → Bool) (x : World o mem views log decided) (image : List ℕ) (survives : Survives o mem views image) (whole : NoneTorn o views image)
     (ranges : (j : ℕ) → j < o.lanes → InRange (mem (PoolWord (area_word j))) (views j) (views j).log.phase) (none : heap_fault (slice_index o.words) o.lanes o.zones ≡ None) where
@@ -128,13 +120,14 @@ module _ (o : Opening) (mem : Memory) (views : Views) (log : List Entry) (decide
   lane_good j inside =
       let g : ℕ = generation_word image j in
       let s : ℕ = seal_word image j in
-      let zero : seal_word image j ≡ 0 = seal_stays o mem views log decided x image survives j inside in
-      let both = in_range (Flies log decided j) (views j) g (views j).log.phase (fits j inside).first_generation (fits j inside).last_generation (fits j inside).phase (generation_is o mem views log decided x image survives j inside) (range_of j inside) in
-      and_from (leb 1 g && leb g 4611686018427387904 && leb s 64) (eqb s 0)
-      (and_from (leb 1 g && leb g 4611686018427387904) (leb s 64)
+      let both = word_in_range o mem views log decided x image survives range_of none j inside in
+      and_from (leb 1 g && leb g 4611686018427387904) (leb s 64)
       (and_from (leb 1 g) (leb g 4611686018427387904) (le-leb 1 g both.0) (le-leb g 4611686018427387904 both.1))
-      (le-leb s 64 (omega (arith, zero))))
-      (eq-eqb s 0 zero)
+      (le-leb s 64 (seal_few o mem views log decided x image survives range_of none j inside))
+
+  -- from the store of the seal on its slots are drained
+  sealed_drained : (j slot : ℕ) → j < o.lanes → slot < 64 → HasSealed (views j).log.phase → is_drained_slot (views j) slot ≡ true
+  sealed_drained j slot inside within sealed = drained o mem views log decided x image survives range_of none j slot (views j).log.phase inside within sealed (fits j inside).phase
 
   -- what a valid slot has
   record Valid (j slot : ℕ) (u : Undo) : Type 0 where
@@ -206,8 +199,8 @@ module _ (o : Opening) (mem : Memory) (views : Views) (log : List Entry) (decide
         let stays = slot_stays o mem views log decided x image survives j slot inside within drained in
         let p = valid_parts image j slot u valid in
         let old = (fits j inside).log.stale slot u past within (ap undo_of (sym stays) ∙ p.stands) in
-        let now : u.generation ≡ generation_word image j = p.present ∙ generation_read o mem views log decided x image survives j inside in
-        let least = generation_from v (generation_word image j) v.log.phase (fits j inside).first_generation (generation_is o mem views log decided x image survives j inside) in
+        let now : u.generation ≡ generation image j = p.present in
+        let least = generation_from v (seal_word image j) (generation image j) v.log.phase (fits j inside).first_generation (generation_is o mem views log decided x image survives j inside) in
         omega (arith, old, now, least)
 
     undrained_valid : length v.log.records ≤ slot → is_drained_slot v slot ≡ false → Valid j slot u
@@ -218,7 +211,7 @@ module _ (o : Opening) (mem : Memory) (views : Views) (log : List Entry) (decide
         let there : Contains v.changes c = (t.0, t.2, t.3) in
         let line : c.word / 8 ≡ slot_line v.lane slot = eqb-true (c.word / 8) (slot_line v.lane slot) t.4 in
         written_valid past
-        (undrained_upto (Flies log decided j) v c slot v.log.phase (fits j inside).phase (change_fits (Flies log decided j) v c v.log.phase (fits j inside).phase there) (range_of j inside) there within line)
+        (undrained_upto (Flies log decided j) v c slot v.log.phase (sealed_drained j slot inside within) (fits j inside).phase (change_fits (Flies log decided j) v c v.log.phase (fits j inside).phase there) (range_of j inside) there within line)
         (inl undrained) where
           not_false : (b : Bool) → not b ≡ false → b ≡ true
           not_false true e = refl
@@ -250,7 +243,7 @@ module _ (o : Opening) (mem : Memory) (views : Views) (log : List Entry) (decide
         let n : ℕ = length r.old in
         let some = valid_slot.some in
         let most = valid_slot.most in
-        let low = raisable (Flies log decided j) v slot r v.log.phase refl (fits j inside).phase (range_of j inside) (fits j inside).last_generation valid_slot.stored in
+        let low = raisable (Flies log decided j) v slot r v.log.phase refl (sealed_drained j slot inside within) (fits j inside).phase (range_of j inside) (fits j inside).last_generation valid_slot.stored in
         let g : ℕ = records_generation v.log.phase v in
         let place : 8 * r.word / 8 ≡ r.word = omega arith in
         and_from (leb 1 n && leb n 4 && eqb (8 * r.word % 8) 0 && list_all (λ k. in_chunk o.lanes o.zones (8 * r.word / 8 + k)) (range_with_len 0 n)) (not (eqb g 4611686018427387904))
@@ -335,10 +328,44 @@ module _ (o : Opening) (mem : Memory) (views : Views) (log : List Entry) (decide
     no_clash = le-ltb 1 (passing p (flat_map (records image) (range_with_len 0 o.lanes)))
         (at_most_one p (records image) 0 o.lanes (λ j low. lane_few j (omega (arith, low))) (λ j k low other_low. one_lane j k (omega (arith, low)) (omega (arith, other_low))))
 
+    -- where a valid slot is of the word, no sealed entry is
+    no_entry_there : 1 ≤ passing p (flat_map (records image) (range_with_len 0 o.lanes)) → length (entries_for image o.lanes (8 * i)) ≤ 0
+    unfolding entries_for
+    no_entry_there some =
+        ⊎_elim (λ (entered : 0 < length (entries_for image o.lanes (8 * i))).
+        let t = some_part p (records image) 0 o.lanes some in
+        let e = some_part (λ (r : Redo). eqb r.place (8 * i)) (entries image) 0 o.lanes (omega (arith, entered)) in
+        let j : ℕ = t.0 in
+        let k : ℕ = e.0 in
+        let inside : j < o.lanes = omega (arith, t.2) in
+        let other_inside : k < o.lanes = omega (arith, e.2) in
+        let a : Covering j = lane_covering j t.3 in
+        let writing = writes j a.slot a.found inside a.low a.valid i (covered j a.slot a.found inside a.low a.valid i a.covering) in
+        let enters_it = enters o mem views log decided x image survives range_of none k i other_inside (λ empty. let nothing : passing (λ (r : Redo). eqb r.place (8 * i)) (entries image k) ≡ 0 = ap length empty in let one = e.3 in omega (arith, nothing, one)) in
+        absurd (⊎_elim (λ (two : WritesUnder o mem k i).
+        let same : j ≡ k = one_writer o mem j k i x.sound writing two in
+        enters_it.no_slot a.slot a.found a.low (subst (λ (n : ℕ). valid_record image n a.slot ≡ Some a.found) same a.valid))
+        (λ (area : i ≡ area_word k). let behind = x.sound.behind_areas writing.0 i writing.1 in omega (arith, behind, area, other_inside)) enters_it.writes))
+        (λ (few : length (entries_for image o.lanes (8 * i)) ≤ 0). few) (cases_lt 0 (length (entries_for image o.lanes (8 * i))))
+
+    record_or_entry : (ltb 0 (passing p (flat_map (records image) (range_with_len 0 o.lanes))) && ltb 0 (length (entries_for image o.lanes (8 * i)))) ≡ false
+    record_or_entry =
+        let n : ℕ = passing p (flat_map (records image) (range_with_len 0 o.lanes)) in
+        let m : ℕ = length (entries_for image o.lanes (8 * i)) in
+        ⊎_elim (λ (some : 0 < n). and_right (ltb 0 n) (ltb 0 m) (le-ltb 0 m (no_entry_there (omega (arith, some)))))
+        (λ (few : n ≤ 0). ap (λ (b : Bool). b && ltb 0 m) (le-ltb 0 n few)) (cases_lt 0 n)
+
+    no_clashes : clashes image o.lanes (8 * i) ≡ false
+    unfolding clashes records_for
+    no_clashes =
+        let n : ℕ = passing p (flat_map (records image) (range_with_len 0 o.lanes)) in
+        let both : Bool = ltb 0 n && ltb 0 (length (entries_for image o.lanes (8 * i))) in
+        or_from (ltb 1 n || both) (lanes_clash image o.lanes (8 * i)) (or_from (ltb 1 n) both no_clash record_or_entry) (no_lanes_clash o mem views log decided x image survives range_of none i)
+
   pub no_log_fault : log_fault image o.lanes o.zones ≡ None
   no_log_fault =
-      sym (clash_row image o.lanes o.zones (flat_map (records image) (range_with_len 0 o.lanes)) None
+      sym (clash_row image o.lanes o.zones None
       (none_passes (λ j. not (good_lane image j)) o.lanes (λ j inside. not_from_true (good_lane image j) (lane_good j inside)))
+      (none_passes (λ n. bad_entry image o.lanes o.zones (n / 64) (n % 64)) (64 * o.lanes) (λ n inside. entry_passes o mem views log decided x image survives range_of none (n / 64) (n % 64) (omega arith)))
       (none_passes (λ n. bad_slot image o.lanes o.zones (n / 64) (n % 64)) (64 * o.lanes) (λ n inside. slot_passes (n / 64) (n % 64) (omega arith) (omega arith)))
-      refl
-      (none_passes (λ i. ltb 1 (length (filter (λ u. logs.covers u (8 * i)) (flat_map (records image) (range_with_len 0 o.lanes))))) (length image) (λ i inside. no_clash i)))
+      (none_passes (λ i. clashes image o.lanes (8 * i)) (length image) (λ i inside. no_clashes i)))

@@ -1,7 +1,7 @@
 -- What a lane looks at is in no other lane's call in flight, so whichever of these are left out, the words may be those before its open call.
 use Rattle.std.proofs.Common.{◌≡◌, ◌≢◌, inl, inr, ⊎_elim, ℕ, ◌+◌, ◌/◌, ◌<◌, Bool, true, false, not, cond, eqb, IsTrue, IfSome, List, [], ◌∷◌, ◌++◌, length, slice_index, Option, Some, None, refl, sym, ◌∙◌, ap, subst, arith}
 use Rattle.std.specs.List.{Contains, list_any}
-use Rattle.std.proofs.lemmas.Bool.{and_parts, cases_Bool, cases_eq, cond-true, eqb-true, false_from_ne_true, false≢true, or_cases}
+use Rattle.std.proofs.lemmas.Bool.{and_parts, cases_Bool, cases_eq, cond-true, eqb-true, or_from, false_from_ne_true, false≢true, or_cases}
 use Rattle.std.proofs.lemmas.List.Elements.{All-contains}
 use Rattle.std.proofs.lemmas.List.Folds.{Any-from_list_any}
 use Rattle.std.proofs.lemmas.Option.{none-some}
@@ -14,23 +14,24 @@ use Rattle.pm_view.specs.Held.{is_held, is_under, is_under_found, root_word}
 use Rattle.pm_view.specs.Log.{Final}
 use Rattle.pm_view.specs.View.{View, Lock}
 use Rattle.pm_world.specs.Course.{entry_of, flight}
+use Rattle.pm_world.specs.Entries.{is_in_log, is_redoing, is_redone}
 use Rattle.pm_world.specs.Fits.{LaneFits, LockFits, RecordedWordFits}
 use Rattle.pm_world.specs.History.{Entry, Flies, is_final, made_final, replayed, settled}
 use Rattle.pm_world.specs.Memory.{Memory}
 use Rattle.pm_world.specs.Opening.{Guards, IsChunk, Opening, TellsOfBlocks}
 use Rattle.pm_world.specs.Records.{difference_of, is_logged, is_recorded, records_generation}
 use Rattle.pm_world.specs.World.{Views, World}
-use Rattle.pm_world.proofs.Apart.{held_apart, held_core}
+use Rattle.pm_world.proofs.Apart.{heap_outside, held_apart, held_core}
 use Rattle.pm_world.proofs.Chunks.{chunk_here}
 use Rattle.pm_world.proofs.CrashReplays.{flies_of}
-use Rattle.pm_world.proofs.Differences.{difference-recorded}
+use Rattle.pm_world.proofs.Pairs.{difference-written, in_log_written, none_redone}
 use Rattle.pm_world.proofs.Exclusion.{WritesUnder, writes_under}
 use Rattle.pm_world.proofs.Histories.{one_entry}
 use Rattle.pm_world.proofs.Replays.{replayed-other, replayed-same}
-use Rattle.pm_world.proofs.Slots.{unrecorded, word_recorded}
+use Rattle.pm_world.proofs.Slots.{unrecorded}
 use Rattle.pm_crash.specs.Draws.{KeepsDecided, kept_words}
 use Rattle.pm_crash.specs.Lines.{AgreeAtLine}
-use Rattle.pm_crash.specs.OpenCall.{IsBefore, block_at_line, call_words}
+use Rattle.pm_crash.specs.OpenCall.{IsBefore, block_at_line, made_words}
 use Rattle.pm_crash.proofs.Continued.{two_same}
 use Rattle.pm_crash.proofs.Differing.{difference_makes_call}
 use Rattle.pm_crash.proofs.FoundBlocks.{found_is_block, found_within}
@@ -42,7 +43,7 @@ last_makes keep [] e i x kept = cond-true (keep e.number) (made_final e.differen
 last_makes keep (d ∷ log) e i x kept = last_makes keep log e i (cond (keep d.number) (made_final d.difference i x) x) kept
 
 pub drawn_makes_words : (keep : ℕ → Bool) (log : List Entry) (v : View) (n i : ℕ) (start : ℕ → ℕ) → keep n ≡ true
-    → replayed keep (log ++ entry_of v n ∷ []) i (start i) ≡ call_words v (λ j. replayed keep log j (start j)) i
+    → replayed keep (log ++ entry_of v n ∷ []) i (start i) ≡ made_words v (λ j. replayed keep log j (start j)) i
 drawn_makes_words keep log v n i start kept = last_makes keep log (entry_of v n) i (start i) kept ∙ difference_makes_call v (λ j. replayed keep log j (start j)) i
 
 -- a block is found in a chunk alone
@@ -54,17 +55,17 @@ module _ (o : Opening) (mem : Memory) (views : Views) (log : List Entry) (decide
   abbrev words_kept : ℕ → ℕ
   words_kept = kept_words o keep log
 
-  -- a word that an entry not decided makes final is recorded by its lane, under its lock for writing
+  -- a word that an entry not decided makes final is one that its lane holds for writing
   undecided_writes : (e : Entry) (i : ℕ) → Contains log e → decided e.number ≡ false → is_final e.difference i ≡ true → WritesUnder o mem e.lane i
   undecided_writes e i there undecided final =
       let fit = x.each_entry e there in
       let lane_fits : LaneFits o mem (settled o log decided) (Flies log decided e.lane) e.lane (views e.lane) = x.each_lane e.lane fit.of_lane in
       let f : Flies log decided e.lane e.number (difference_of (views e.lane)) = flies_of (Flies log decided e.lane) (views e.lane) e.number (views e.lane).log.phase lane_fits.phase (fit.in_flight undecided) in
       let same : f.entry ≡ e = one_entry 1 log f.entry e x.numbered f.there there f.has_number in
-      let recorded : is_recorded (views e.lane).log.records i ≡ true =
-      sym (difference-recorded (views e.lane) i) ∙ (ap (λ (d : List Final). is_final d i) (sym f.has_difference) ∙ (ap (λ (d : Entry). is_final d.difference i) same ∙ final)) in
+      let of : is_final (difference_of (views e.lane)) i ≡ true =
+      (ap (λ (d : List Final). is_final d i) (sym f.has_difference) ∙ (ap (λ (d : Entry). is_final d.difference i) same ∙ final)) in
       writes_under o mem e.lane (views e.lane) i lane_fits.locks
-      (word_recorded (settled o log decided) (views e.lane) (records_generation (views e.lane).log.phase (views e.lane)) i lane_fits.log recorded).fits.own
+      (difference-written (settled o log decided) (views e.lane) (records_generation (views e.lane).log.phase (views e.lane)) i lane_fits.log lane_fits.entries of)
 
   -- what a lane holds whose own call is not in flight is as it is settled, whatever of those in flight is left out
   held_is_settled : (k i : ℕ) → k < o.lanes → flight (views k) ≡ None → KeepsDecided decided keep → IsTrue (is_held (views k) i) → words_kept i ≡ settled o log decided i
@@ -113,19 +114,20 @@ module _ (o : Opening) (mem : Memory) (views : Views) (log : List Entry) (decide
           inr (x.sound.behind_areas line i guard, omega arith)
 
   -- a known word that the lane did not record has its settled value
-  known_is_settled : (k i : ℕ) → k < o.lanes → Contains (views k).known i → is_in_area (views k).lane i ≡ false → is_recorded (views k).log.records i ≡ false
+  known_is_settled : (k i : ℕ) → k < o.lanes → is_redoing (views k).log.phase ≡ false → Contains (views k).known i → is_in_area (views k).lane i ≡ false → is_recorded (views k).log.records i ≡ false
       → settled o log decided i ≡ slice_index (views k).words i
-  known_is_settled k i inside known outside none =
+  known_is_settled k i inside still known outside none =
       let fits = x.each_lane k inside in
       let held : IsTrue (is_held (views k) i) = fits.picture.held i known in
-      let unlogged : (j : ℕ) → j < o.lanes → is_logged (views j) i ≡ false = λ j within. unrecorded (views j) i (⊎_elim
-      (λ (own : k ≡ j). ap (λ (n : ℕ). is_recorded (views n).log.records i) (sym own) ∙ none)
-      (λ (other : k ≢ j). false_from_ne_true (is_recorded (views j).log.records i) (λ recorded.
+      let unlogged : (j : ℕ) → j < o.lanes → is_in_log (views j) i ≡ false = λ j within. ⊎_elim
+      (λ (own : k ≡ j). ap (λ (n : ℕ). is_in_log (views n) i) (sym own) ∙ or_from (is_logged (views k) i) (is_redone (views k) i) (unrecorded (views k) i none) (none_redone (views k) i still))
+      (λ (other : k ≢ j). false_from_ne_true (is_in_log (views j) i) (λ logged.
       let its = x.each_lane j within in
+      let away : is_in_area (views j).lane i ≡ false = ap (λ (n : ℕ). is_in_area n i) its.lane.lane ∙ heap_outside o.lanes o.zones j i within (held_in_heap k i inside outside held) in
       let writes : WritesUnder o mem j i =
-      writes_under o mem j (views j) i its.locks (word_recorded (settled o log decided) (views j) (records_generation (views j).log.phase (views j)) i its.log recorded).fits.own in
+      writes_under o mem j (views j) i its.locks (in_log_written (settled o log decided) (views j) (records_generation (views j).log.phase (views j)) i its.log its.entries away logged) in
       held_apart o mem (settled o log decided) (Flies log decided k) k j i (views k) x.sound inside within other (inr writes) fits held))
-      (cases_eq k j)) in
+      (cases_eq k j) in
       sym (x.each_word i (held_in_heap k i inside outside held) unlogged) ∙ fits.picture.known i known
 
   -- the block that was found under a lock is there
@@ -145,14 +147,14 @@ module _ (o : Opening) (mem : Memory) (views : Views) (log : List Entry) (decide
       } in
       found_is_block o.words words_kept o.lanes o.zones l.line lines none agree (found_within o.words o.lanes o.zones l.line lines (omega arith) found) found
 
-  pub past_calls_in_flight : (k : ℕ) → k < o.lanes → flight (views k) ≡ None → KeepsDecided decided keep → heap_fault words_kept o.lanes o.zones ≡ None → IsBefore (views k) words_kept
-  past_calls_in_flight k inside idle keeps none =
+  pub past_calls_in_flight : (k : ℕ) → k < o.lanes → flight (views k) ≡ None → is_redoing (views k).log.phase ≡ false → KeepsDecided decided keep → heap_fault words_kept o.lanes o.zones ≡ None → IsBefore (views k) words_kept
+  past_calls_in_flight k inside idle still keeps none =
       let fits = x.each_lane k inside in
       record {
         recorded = λ slot r i at low.
             let word : RecordedWordFits (settled o log decided) (views k) (r.word + i) (slice_index r.old i) = (fits.log.each slot r at).each i low in
             held_is_settled k (r.word + i) inside idle keeps (fits.picture.held (r.word + i) word.known) ∙ sym word.before;
-        known = λ i known outside unrecorded. held_is_settled k i inside idle keeps (fits.picture.held i known) ∙ known_is_settled k i inside known outside unrecorded;
+        known = λ i known outside unrecorded. held_is_settled k i inside idle keeps (fits.picture.held i known) ∙ known_is_settled k i inside still known outside unrecorded;
         found = λ l lines held block.
             two_same (λ (n m : ℕ). Contains (blocks words_kept n m) (block_at_line l.line lines)) o.lanes (views k).lanes o.zones (views k).zones (sym fits.lane.lanes) (sym fits.lane.zones)
             (found_is_there k l lines inside none held block);

@@ -54,6 +54,7 @@ pub goes_back : (v next : View) → KeepsLane v next → KeepsFound v next → K
 goes_back v next lane finds logs stay outside = record {
   outside = λ i is. outside i (sym (ap (λ (records : List Recorded). is_recorded records i) logs.records) ∙ is);
   before = before_back v next lane finds logs stay;
+  entries = logs.entries;
 }
 
 -- the words of the call after, by the records before

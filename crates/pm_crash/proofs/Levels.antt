@@ -22,7 +22,8 @@ use Rattle.pm_image.specs.Blocks.{blocks}
 use Rattle.pm_image.specs.Contents.{size_in}
 use Rattle.pm_model.specs.declared.stage.Stage.TheVariants as stage
 use Rattle.pm_model.specs.Places.{can_begin, has_place}
-use Rattle.pm_model.specs.Transaction.{Transaction, at_rest, committed, ended_inner, is_unharmed, locked_all}
+use Rattle.pm_model.specs.Actions.{with_actions}
+use Rattle.pm_model.specs.Transaction.{Transaction, resting, committed, ended_inner, is_unharmed, locked_all}
 use Rattle.pm_model.specs.Checks.{is_too_deep, passes_locks, wants_no_place, first_refusal}
 use Rattle.pm_model.specs.Answers.{IsDone, IsRefused, after_reply}
 use Rattle.pm_view.specs.Log.{Recorded}
@@ -42,7 +43,7 @@ use Rattle.pm_crash.proofs.Passing.{no_tx, no_work, not_busy, not_missing, not_s
 
 -- an inner commit leaves one level less, and changes nothing else
 commits_inner : (tx : Transaction) (level : ℕ) → 1 ≤ level → tx.level ≡ level + 1 → after_reply Commit None tx ≡ ended_inner (committed tx)
-commits_inner tx level some levels = cond-false (leb tx.level 1) (at_rest tx.pool) (ended_inner (committed tx)) (lt-leb tx.level 1 (omega arith))
+commits_inner tx level some levels = cond-false (leb tx.level 1) (resting (with_actions tx.moved tx.pool) tx.actions) (ended_inner (committed tx)) (lt-leb tx.level 1 (omega arith))
 
 pub inner_commit_keeps_open : (v next : View) (level : ℕ) → 1 ≤ level → IsOpen v (level + 1) stage.Work error.None → Tells v next Commit None → KeepsLog v next → KeepsWords v next
     → IsOpen next level stage.Work error.None
@@ -56,7 +57,7 @@ inner_commit_keeps_open v next level some is_open tells logs keeps =
     let works : Works c.tx = call_works v w header pool (level + 1) (omega arith) is_open c in
     record {
       answers =
-          answers_done c.tx Commit None refl (record { no_wants = refl; no_begin = refl }) (passes_all c.tx Commit works (record { no_wants = refl; no_begin = refl }) refl refl refl refl) refl;
+          answers_done c.tx Commit None refl (record { no_wants = refl; no_begin = refl; aligned = refl; no_more = λ tx. refl; no_action = refl }) (passes_all c.tx Commit works (record { no_wants = refl; no_begin = refl; aligned = refl; no_more = λ tx. refl; no_action = refl }) refl refl refl refl) refl;
       holds =
           subst (λ (x : Transaction). HoldsPool (call_words next w) v.lanes v.zones header x.pool) (sym ends)
           (subst (λ (f : ℕ → ℕ). HoldsPool f v.lanes v.zones header c.tx.pool) (sym same) c.holds);
@@ -67,6 +68,8 @@ inner_commit_keeps_open v next level some is_open tells logs keeps =
       levels = ap (λ (x : Transaction). x.level) ends ∙ omega arith;
       stands = ap (λ (x : Transaction). x.stage) ends ∙ ap (λ (e : TxErr). cond (is_unharmed e) stage.Work stage.OnAbort) c.fails ∙ sym c.stands;
       fails = ap (λ (x : Transaction). x.error) ends;
+      actions = ap (λ (x : Transaction). x.actions) ends;
+      moved = ap (λ (x : Transaction). x.moved) ends;
       blocks_stay = ap (λ (f : ℕ → ℕ). blocks f v.lanes v.zones) same;
       sizes_stay = λ block there. ap (λ (f : ℕ → ℕ). size_in f block) same;
     })
@@ -153,6 +156,8 @@ further_continues v next wants level some shallow is_open begins w header pool i
       levels = omega arith;
       stands = sym c.stands;
       fails = refl;
+      actions = refl;
+      moved = refl;
       blocks_stay = ap (λ (f : ℕ → ℕ). blocks f v.lanes v.zones) same;
       sizes_stay = λ block there. ap (λ (f : ℕ → ℕ). size_in f block) same;
     }
@@ -168,6 +173,7 @@ further_begin_opens v next wants level some shallow is_open begins =
       few = begins.takes.few;
       chunks = begins.takes.chunks;
       outside = outside_kept v next begins.keeps begins.logs is_open.outside;
+      unentered = begins.logs.entries ∙ is_open.unentered;
       comes = λ w header pool holds id before.
           let old_id : v.pool ≡ header.id = sym begins.keeps.pool ∙ id in
           let old_before : IsBefore v w = before_back v next begins.keeps begins.finds begins.logs (λ i outside none. begins.words.words i outside) w before in

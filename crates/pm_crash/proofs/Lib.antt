@@ -1,4 +1,5 @@
 pub mod Covered
+pub mod BusyCalls
 pub mod Bytewise
 pub mod Includes
 pub mod Standing
@@ -43,6 +44,7 @@ pub mod SameLocks
 pub mod FrontWords
 pub mod LogCourse
 pub mod AtMostOne
+pub mod ImageEntries
 pub mod ImageLogs
 pub mod Leading
 pub mod AloneMemory

@@ -1,6 +1,6 @@
 -- A lane's generation and its undrained slot words along its course: while a log is written its generation can be raised, and what is undrained
 -- of slots is of the log's records or of the one in the making.
-use Rattle.std.proofs.Common.{◌≡◌, ◌≢◌, ◌⊎◌, ⊎_elim, inl, inr, ℕ, ◌+◌, ◌*◌, ◌<◌, ◌≤◌, Bool, true, false, leb, ltb, cond, ◌/◌, not, take, Some, List, [], ◌∷◌, ◌++◌, length, slice_index, is_some, refl, sym, ◌∙◌, ap, subst, arith}
+use Rattle.std.proofs.Common.{◌≡◌, ◌≢◌, ◌⊎◌, ⊎_elim, inl, inr, IsTrue, ℕ, ◌+◌, ◌*◌, ◌<◌, ◌≤◌, Bool, true, false, leb, ltb, cond, ◌/◌, not, take, Some, List, [], ◌∷◌, ◌++◌, length, slice_index, is_some, refl, sym, ◌∙◌, ap, subst, arith}
 use Rattle.std.specs.List.{Contains}
 use Rattle.std.proofs.lemmas.Bool.{and_from, false≢true, le-leb, lt-ltb}
 use Rattle.std.proofs.lemmas.List.{length-append}
@@ -10,15 +10,17 @@ use Rattle.pm_view.specs.declared.change.Change.{Change}
 use Rattle.pm_view.specs.Area.{Part, area_word, is_in_area, part_of}
 use Rattle.pm_view.specs.Area.Part.{EntryWord, GenerationWord, OtherWord, SealWord, SlotWord}
 use Rattle.pm_view.specs.Changes.{drained, flushed, is_in_line, mark, store_change}
-use Rattle.pm_view.specs.Log.{Final, Log, Phase, Recorded, log_drained, log_drawn, log_stored, phase_drawn, with_slot}
+use Rattle.pm_view.specs.Log.{Final, Log, Phase, Recorded, log_drained, log_drawn, log_stored, phase_drawn, with_pair, with_slot}
 use Rattle.pm_view.specs.Log.Phase.{Idle, Open, Drawn, Sealing, Applying, Clearing, Retiring}
+use Rattle.pm_view.specs.Rights.{is_written}
 use Rattle.pm_view.specs.Steps.{Step}
 use Rattle.pm_view.specs.Steps.Step.{Load, Store, Or, And, Flush, Drain, TakeWrite, TakeRead, Raise, Give, ZoneTry, ZoneGive, Occupied, Occupy, Vacate, Draw, NumberSeen, StopSeen, SetStop, Tell}
 use Rattle.pm_view.specs.View.{View}
 use Rattle.pm_view.specs.Views.{after, begun, changed, log_after_drain}
-use Rattle.pm_world.specs.Fits.{LaneFits, PhaseFits}
+use Rattle.pm_world.specs.Entries.{ends_with}
+use Rattle.pm_world.specs.Fits.{LaneFits, OpenFits, PhaseFits, SealingFits}
 use Rattle.pm_world.specs.History.{Entry, Flies, settled}
-use Rattle.pm_world.specs.Lawful.{EndsGeneration, IsLawful, StoreFits, generation_limit}
+use Rattle.pm_world.specs.Lawful.{IsLawful, IsNextEntry, StoreFits, generation_limit}
 use Rattle.pm_world.specs.Memory.{Memory}
 use Rattle.pm_world.specs.Memory.Location.{PoolWord}
 use Rattle.pm_world.specs.Moves.{Moves}
@@ -29,11 +31,13 @@ use Rattle.pm_world.proofs.CrashLogs.{InSlots, logged_recorded}
 use Rattle.pm_world.proofs.CrashWords.{behind_areas}
 use Rattle.pm_world.proofs.Exclusion.{writes_under}
 use Rattle.pm_world.proofs.Locations.{other_pool, pool-counter, pool-lock, pool-stop}
-use Rattle.pm_world.proofs.Parts.{generation_part}
+use Rattle.pm_world.proofs.Parts.{generation_part, seal_part}
+use Rattle.pm_world.proofs.StoreEntry.{next_entry}
 
 -- nothing of the log is written yet
 pub record IsUnwritten (v : View) (slot : List ℕ) : Type 0 where
   pub no_records : v.log.records ≡ []
+  pub no_entries : v.log.entries ≡ []
   pub no_slot : slot ≡ []
   pub no_changes : v.changes ≡ []
 
@@ -45,6 +49,8 @@ SlotsFit v slot = (c : Change) → Contains v.changes c → InSlots v.lane c.wor
 abbrev pub InRange : ℕ → View → Phase → Type 0
 InRange g v (Open slot pair) = ((g < generation_limit) ⊎ IsUnwritten v slot) × SlotsFit v slot
 InRange g v Drawn = g < generation_limit
+InRange g v (Applying applied) = applied ≡ length v.log.entries → 2 ≤ g
+InRange g v Clearing = 2 ≤ g
 InRange g v Retiring = 2 ≤ g
 InRange g v phase = Unit {0}
 
@@ -53,11 +59,11 @@ pub record Among (changes others : List Change) : Type 0 where
   pub none : others ≡ [] → changes ≡ []
   pub from : (c : Change) → Contains changes c → (d : Change) × Contains others d × (d.word ≡ c.word)
 
-pub carried : (g g' : ℕ) (v v' : View) (phase : Phase) → g' ≡ g → v'.lane ≡ v.lane → v'.log.records ≡ v.log.records → Among v'.changes v.changes → InRange g v phase → InRange g' v' phase
-carried g g' v v' Idle same lane records among range = tt
-carried g g' v v' (Open slot pair) same lane records among range = (
+pub carried : (g g' : ℕ) (v v' : View) (phase : Phase) → g' ≡ g → v'.lane ≡ v.lane → v'.log.records ≡ v.log.records → v'.log.entries ≡ v.log.entries → Among v'.changes v.changes → InRange g v phase → InRange g' v' phase
+carried g g' v v' Idle same lane records entries among range = tt
+carried g g' v v' (Open slot pair) same lane records entries among range = (
   ⊎_elim (λ (low : g < generation_limit). inl (subst (λ n. n < generation_limit) (sym same) low))
-      (λ (un : IsUnwritten v slot). inr (record { no_records = records ∙ un.no_records; no_slot = un.no_slot; no_changes = among.none un.no_changes })) range.0,
+      (λ (un : IsUnwritten v slot). inr (record { no_records = records ∙ un.no_records; no_entries = entries ∙ un.no_entries; no_slot = un.no_slot; no_changes = among.none un.no_changes })) range.0,
   λ c there slots.
       let d = among.from c there in
       let is : d.0.word ≡ c.word = d.2 in
@@ -66,11 +72,11 @@ carried g g' v v' (Open slot pair) same lane records among range = (
       let count : length v'.log.records ≡ length v.log.records = ap length records in
       omega (arith, low, is, lane, count),
 )
-carried g g' v v' Drawn same lane records among range = subst (λ n. n < generation_limit) (sym same) range
-carried g g' v v' Sealing same lane records among range = tt
-carried g g' v v' (Applying applied) same lane records among range = tt
-carried g g' v v' Clearing same lane records among range = tt
-carried g g' v v' Retiring same lane records among range = subst (λ n. 2 ≤ n) (sym same) range
+carried g g' v v' Drawn same lane records entries among range = subst (λ n. n < generation_limit) (sym same) range
+carried g g' v v' Sealing same lane records entries among range = tt
+carried g g' v v' (Applying applied) same lane records entries among range = λ all. subst (λ n. 2 ≤ n) (sym same) (range (all ∙ ap length entries))
+carried g g' v v' Clearing same lane records entries among range = subst (λ n. 2 ≤ n) (sym same) range
+carried g g' v v' Retiring same lane records entries among range = subst (λ n. 2 ≤ n) (sym same) range
 
 pub all_of : (changes : List Change) → Among changes changes
 all_of changes = record { none = λ e. e; from = λ c there. (c, there, refl) }
@@ -112,6 +118,18 @@ slotted log (a ∷ b ∷ c ∷ d ∷ e ∷ f ∷ g ∷ h ∷ []) pair =
     let more = length-append log.records (record { word = b / 8; old = take c (d ∷ e ∷ f ∷ g ∷ []) } ∷ []) in record { slot = []; is_open = refl; count = omega (arith, more) }
 slotted log (a ∷ b ∷ c ∷ d ∷ e ∷ f ∷ g ∷ h ∷ i ∷ s) pair = record { slot = a ∷ b ∷ c ∷ d ∷ e ∷ f ∷ g ∷ h ∷ i ∷ s; is_open = refl; count = refl }
 
+-- a word more in the pair: an entry more, or a longer pair
+pub record Paired (log : Log) (slot s : List ℕ) : Type 0 where
+  pub pair : List ℕ
+  pub is_open : (with_pair log slot s).phase ≡ Open slot pair
+  pub same : (with_pair log slot s).records ≡ log.records
+
+pub paired : (log : Log) (slot s : List ℕ) → Paired log slot s
+paired log slot [] = record { pair = []; is_open = refl; same = refl }
+paired log slot (a ∷ []) = record { pair = a ∷ []; is_open = refl; same = refl }
+paired log slot (a ∷ b ∷ []) = record { pair = []; is_open = refl; same = refl }
+paired log slot (a ∷ b ∷ c ∷ s) = record { pair = a ∷ b ∷ c ∷ s; is_open = refl; same = refl }
+
 drawn_range : (g : ℕ) (v : View) (records : List Recorded) (entries : List Final) → g < generation_limit → InRange g v (phase_drawn records entries)
 drawn_range g v [] [] low = tt
 drawn_range g v [] (f ∷ entries) low = low
@@ -138,7 +156,7 @@ module _ (o : Opening) (mem : Memory) (views : Views) (log : List Entry) (decide
     g' = new (PoolWord (area_word k))
 
     still : (v' : View) → g' ≡ g → v'.lane ≡ v.lane → v'.log ≡ v.log → Among v'.changes v.changes → InRange g v v.log.phase → InRange g' v' v'.log.phase
-    still v' same lane logs among range = subst (InRange g' v') (ap (λ (l : Log). l.phase) (sym logs)) (carried g g' v v' v.log.phase same lane (ap (λ (l : Log). l.records) logs) among range)
+    still v' same lane logs among range = subst (InRange g' v') (ap (λ (l : Log). l.phase) (sym logs)) (carried g g' v v' v.log.phase same lane (ap (λ (l : Log). l.records) logs) (ap (λ (l : Log). l.entries) logs) among range)
 
     module _ (w y : ℕ) (lawful : IsLawful v (Store w y)) (moves : Moves k (Store w y) mem new) where
       abbrev stored : Log → View
@@ -147,12 +165,10 @@ module _ (o : Opening) (mem : Memory) (views : Views) (log : List Entry) (decide
       kept_generation : w ≢ area_word k → g' ≡ g
       kept_generation differ = moves.0 (PoolWord (area_word k)) (other_pool (area_word k) w (λ e. differ (sym e)))
 
-      raised : part_of v.lane w ≡ GenerationWord → EndsGeneration v y → 2 ≤ g'
-      raised part ends =
-          let at : w ≡ area_word v.lane = (generation_part v.lane w part).1 in
+      raised : w ≡ area_word v.lane → y ≡ generation_of v + 1 → 2 ≤ g'
+      raised at next =
           let lane = fits.lane.lane in
           let first = fits.first_generation in
-          let next = ends.next in
           let is : g' ≡ y = ap (λ n. new (PoolWord n)) (let e : area_word k ≡ w = omega (arith, at, lane) in e) ∙ moves.1 in
           omega (arith, is, next, first)
 
@@ -178,6 +194,30 @@ module _ (o : Opening) (mem : Memory) (views : Views) (log : List Entry) (decide
                 (Contains-append_cases v.changes (store_change w (slice_index v.words w) y ∷ []) c there),
           )
 
+      -- a pair's next word
+      in_pair : (slot pair : List ℕ) → v.log.phase ≡ Open slot pair → StoreFits v w y (Open slot pair) EntryWord → OpenFits v slot pair → InRange g v (Open slot pair)
+          → InRange g' (stored (with_pair v.log slot (pair ++ y ∷ []))) (with_pair v.log slot (pair ++ y ∷ [])).phase
+      in_pair slot pair is may open_fits range =
+          let p : Paired v.log slot (pair ++ y ∷ []) = paired v.log slot (pair ++ y ∷ []) in
+          let at = may.at in
+          let lane = fits.lane.lane in
+          let same : g' ≡ g = kept_generation (λ e. omega (arith, e, at, lane)) in
+          let now = generation_is in
+          let below = may.below in
+          let free = may.free in
+          let short = open_fits.short_pair in
+          let count : length (with_pair v.log slot (pair ++ y ∷ [])).records ≡ length v.log.records = ap length p.same in
+          subst (InRange g' (stored (with_pair v.log slot (pair ++ y ∷ [])))) (sym p.is_open) (
+            inl (omega (arith, same, now, below)),
+            λ c there slots. ⊎_elim
+                (λ (old : Contains v.changes c). let low = range.1 c old slots in omega (arith, low, count))
+                (λ (last : Contains (store_change w (slice_index v.words w) y ∷ []) c).
+                let word : w ≡ c.word = ap (λ (d : Change). d.word) (only_member (store_change w (slice_index v.words w) y) c last) in
+                let low = slots.low in
+                absurd (omega (arith, word, at, low, free, short)))
+                (Contains-append_cases v.changes (store_change w (slice_index v.words w) y ∷ []) c there),
+          )
+
       -- a word that the log would restore
       in_object : (slot pair : List ℕ) → v.log.phase ≡ Open slot pair → StoreFits v w y (Open slot pair) OtherWord → InRange g v (Open slot pair) → InRange g' (stored v.log) (Open slot pair)
       in_object slot pair is may range =
@@ -195,20 +235,33 @@ module _ (o : Opening) (mem : Memory) (views : Views) (log : List Entry) (decide
                 (Contains-append_cases v.changes (store_change w (slice_index v.words w) y ∷ []) c there),
           )
 
+      -- an entry's word: the last is the generation
+      in_entry : (applied : ℕ) → v.log.phase ≡ Applying applied → IsNextEntry v applied w y → applied + 1 ≡ length v.log.entries → 2 ≤ g'
+      in_entry applied is next all =
+          ⊎_elim (λ (t : IsTrue (is_written v w) × (applied + 1 < length v.log.entries)). let more = t.1 in absurd (omega (arith, more, all)))
+          (λ (t : (w ≡ area_word v.lane) × (y ≡ generation_of v + 1) × (applied + 1 ≡ length v.log.entries)). raised t.0 t.1)
+          (next_entry v applied w y (subst (PhaseFits (Flies log decided k) v) is fits.phase) next)
+
       stored_range : (p : Phase) (part : Part) → v.log.phase ≡ p → part_of v.lane w ≡ part → StoreFits v w y p part → InRange g v p → InRange g' (stored (log_stored p part y v.log)) (log_stored p part y v.log).phase
       stored_range Idle part is of may range = absurd may
-      stored_range (Open slot pair) GenerationWord is of may range = raised of may.ends
+      stored_range (Open slot pair) GenerationWord is of may range = raised (generation_part v.lane w of).1 may.ends.next
       stored_range (Open slot pair) SealWord is of may range = absurd may
-      stored_range (Open slot pair) EntryWord is of may range = absurd may
+      stored_range (Open slot pair) EntryWord is of may range = in_pair slot pair is may (subst (PhaseFits (Flies log decided k) v) is fits.phase) range
       stored_range (Open slot pair) SlotWord is of may range = in_slot slot pair is may range
       stored_range (Open slot pair) OtherWord is of may range = subst (InRange g' (stored v.log)) (sym is) (in_object slot pair is may range)
-      stored_range Drawn GenerationWord is of may range = raised of may
-      stored_range Drawn SealWord is of may range = absurd may
+      stored_range Drawn GenerationWord is of may range = raised (generation_part v.lane w of).1 may.next
+      stored_range Drawn SealWord is of may range = tt
       stored_range Drawn EntryWord is of may range = absurd may
       stored_range Drawn SlotWord is of may range = absurd may
       stored_range Drawn OtherWord is of may range = absurd may
       stored_range Sealing part is of may range = absurd may
-      stored_range (Applying applied) part is of may range = absurd may
+      stored_range (Applying applied) GenerationWord is of may range = in_entry applied is may
+      stored_range (Applying applied) SealWord is of may range =
+          let at = (seal_part v.lane w of).1 in let lane = fits.lane.lane in
+          subst (λ n. 2 ≤ n) (sym (kept_generation (λ e. omega (arith, e, at, lane)))) (range may.all)
+      stored_range (Applying applied) EntryWord is of may range = absurd may
+      stored_range (Applying applied) SlotWord is of may range = absurd may
+      stored_range (Applying applied) OtherWord is of may range = in_entry applied is may
       stored_range Clearing part is of may range = absurd may
       stored_range Retiring part is of may range = absurd may
 
@@ -219,26 +272,30 @@ module _ (o : Opening) (mem : Memory) (views : Views) (log : List Entry) (decide
     drained_range : (p : Phase) (drawn : Bool) → v.log.phase ≡ p → g' ≡ g → InRange g v p → InRange g' (emptied [] (log_drained p drawn v.log)) (log_drained p drawn v.log).phase
     drained_range Idle drawn is same range = subst (InRange g' (emptied [] v.log)) (sym is) tt
     drained_range (Open slot pair) drawn is same range =
-        subst (InRange g' (emptied [] v.log)) (sym is) (carried g g' v (emptied [] v.log) (Open slot pair) same refl refl (record { none = λ e. refl; from = λ c there. absurd (no_member c there) }) range)
+        subst (InRange g' (emptied [] v.log)) (sym is) (carried g g' v (emptied [] v.log) (Open slot pair) same refl refl refl (record { none = λ e. refl; from = λ c there. absurd (no_member c there) }) range)
     drained_range Drawn drawn is same range = subst (InRange g' (emptied [] v.log)) (sym is) (subst (λ n. n < generation_limit) (sym same) range)
-    drained_range Sealing drawn is same range = tt
-    drained_range (Applying applied) drawn is same range = subst (InRange g' (emptied [] v.log)) (sym is) tt
+    drained_range Sealing drawn is same range = λ none.
+        let sealing : SealingFits (Flies log decided k) v = subst (PhaseFits (Flies log decided k) v) is fits.phase in
+        let whole = sealing.whole in
+        let size : length v.log.entries ≡ length whole.front + 1 = ap length whole.are ∙ length-append whole.front (ends_with v (generation_of v + 1) ∷ []) in
+        absurd (omega (arith, none, size))
+    drained_range (Applying applied) drawn is same range = subst (InRange g' (emptied [] v.log)) (sym is) (λ all. subst (λ n. 2 ≤ n) (sym same) (range all))
     drained_range Clearing drawn is same range = tt
     drained_range Retiring true is same range = tt
-    drained_range Retiring false is same range = (inr (record { no_records = refl; no_slot = refl; no_changes = refl }), λ c there. absurd (no_member c there))
+    drained_range Retiring false is same range = (inr (record { no_records = refl; no_entries = refl; no_slot = refl; no_changes = refl }), λ c there. absurd (no_member c there))
 
     drain_range : (left : List Change) → Among left v.changes → g' ≡ g → InRange g v v.log.phase → InRange g' (emptied left (log_after_drain left v)) (log_after_drain left v).phase
     drain_range [] among same range = drained_range v.log.phase (is_some v.number) refl same range
-    drain_range (c ∷ left) among same range = carried g g' v (emptied (c ∷ left) v.log) v.log.phase same refl refl among range
+    drain_range (c ∷ left) among same range = carried g g' v (emptied (c ∷ left) v.log) v.log.phase same refl refl refl among range
 
     begun_range : (n : ℕ) (p : Phase) → v.log.phase ≡ p → PhaseFits (Flies log decided k) v p → g' ≡ g → InRange g v p → InRange g' (begun p v) (begun p v).log.phase
-    begun_range n Idle is may same range = (inr (record { no_records = refl; no_slot = refl; no_changes = may.drained }), λ c there slots. absurd (no_member c (subst (λ (cs : List Change). Contains cs c) may.drained there)))
-    begun_range n (Open slot pair) is may same range = subst (InRange g' v) (sym is) (carried g g' v v (Open slot pair) same refl refl (all_of v.changes) range)
-    begun_range n Drawn is may same range = subst (InRange g' v) (sym is) (carried g g' v v Drawn same refl refl (all_of v.changes) range)
+    begun_range n Idle is may same range = (inr (record { no_records = refl; no_entries = refl; no_slot = refl; no_changes = may.drained }), λ c there slots. absurd (no_member c (subst (λ (cs : List Change). Contains cs c) may.drained there)))
+    begun_range n (Open slot pair) is may same range = subst (InRange g' v) (sym is) (carried g g' v v (Open slot pair) same refl refl refl (all_of v.changes) range)
+    begun_range n Drawn is may same range = subst (InRange g' v) (sym is) (carried g g' v v Drawn same refl refl refl (all_of v.changes) range)
     begun_range n Sealing is may same range = subst (InRange g' v) (sym is) tt
-    begun_range n (Applying applied) is may same range = subst (InRange g' v) (sym is) tt
-    begun_range n Clearing is may same range = subst (InRange g' v) (sym is) tt
-    begun_range n Retiring is may same range = subst (InRange g' v) (sym is) (carried g g' v v Retiring same refl refl (all_of v.changes) range)
+    begun_range n (Applying applied) is may same range = subst (InRange g' v) (sym is) (carried g g' v v (Applying applied) same refl refl refl (all_of v.changes) range)
+    begun_range n Clearing is may same range = subst (InRange g' v) (sym is) (carried g g' v v Clearing same refl refl refl (all_of v.changes) range)
+    begun_range n Retiring is may same range = subst (InRange g' v) (sym is) (carried g g' v v Retiring same refl refl refl (all_of v.changes) range)
 
     draw_range : (n : ℕ) (p : Phase) → p ≡ Open [] [] → g' ≡ g → InRange g v p → InRange g' (record v { log = log_drawn p v.log; number = Some n; entries = v.entries ++ record { number = n; call = v.call } ∷ [] }) (log_drawn p v.log).phase
     draw_range n p is same range =
@@ -246,7 +303,7 @@ module _ (o : Opening) (mem : Memory) (views : Views) (log : List Entry) (decide
         (let open_range : InRange g v (Open [] []) = subst (InRange g v) is range in
         let drawn : View = record v { log = log_drawn (Open [] []) v.log; number = Some n; entries = v.entries ++ record { number = n; call = v.call } ∷ [] } in
         ⊎_elim (λ (low : g < generation_limit). drawn_range g' drawn v.log.records v.log.entries (subst (λ m. m < generation_limit) (sym same) low))
-        (λ (un : IsUnwritten v []). subst (InRange g' drawn) (λ i. phase_drawn (sym un.no_records i) (sym fits.log.no_entries i)) tt) open_range.0)
+        (λ (un : IsUnwritten v []). subst (InRange g' drawn) (λ i. phase_drawn (sym un.no_records i) (sym un.no_entries i)) tt) open_range.0)
 
     pub range_after : (s : Step) → IsLawful v s → Moves k s mem new → InRange g v v.log.phase → InRange g' (after v s) (after v s).log.phase
     range_after (Load w found) lawful moves range = still (after v (Load w found)) (moves.0 (PoolWord (area_word k))) refl refl (all_of v.changes) range
@@ -268,7 +325,7 @@ module _ (o : Opening) (mem : Memory) (views : Views) (log : List Entry) (decide
     range_after (Vacate at bits) lawful moves range = absurd moves
     range_after (Draw n) lawful moves range = draw_range n v.log.phase lawful.allowed.is_open (moves.0.0 (PoolWord (area_word k)) (pool-counter (area_word k))) range
     range_after (NumberSeen n) lawful moves range =
-        carried g' g' (begun v.log.phase v) (after v (NumberSeen n)) (begun v.log.phase v).log.phase refl refl refl (all_of (begun v.log.phase v).changes)
+        carried g' g' (begun v.log.phase v) (after v (NumberSeen n)) (begun v.log.phase v).log.phase refl refl refl refl (all_of (begun v.log.phase v).changes)
         (begun_range n v.log.phase refl fits.phase (moves.0 (PoolWord (area_word k))) range)
     range_after (StopSeen set) lawful moves range = still (after v (StopSeen set)) (moves.0 (PoolWord (area_word k))) refl refl (all_of v.changes) range
     range_after SetStop lawful moves range = still (after v SetStop) (moves.0 (PoolWord (area_word k)) (pool-stop (area_word k))) refl refl (all_of v.changes) range

@@ -17,6 +17,7 @@ use Rattle.pm_view.specs.View.{View}
 use Rattle.pm_view.specs.Views.{after, begun}
 use Rattle.pm_view.proofs.SameLane.{same_lane-after}
 use Rattle.pm_world.specs.Course.{entry_of, log_after}
+use Rattle.pm_world.specs.Entries.{HasNone}
 use Rattle.pm_world.specs.Fits.{PhaseFits}
 use Rattle.pm_world.specs.History.{Entry, Flies, made_final, replayed}
 use Rattle.pm_world.specs.Laws.{Keeps}
@@ -37,7 +38,7 @@ use Rattle.pm_world.proofs.StepStore.{stores}
 use Rattle.pm_world.proofs.StepTake.{takes_read, takes_write}
 use Rattle.pm_crash.specs.Held.{HoldsPool}
 use Rattle.pm_crash.specs.OneLane.{Begins, HoldsReplay, IsCourse, Makes, Moment, Move, beginning, moved}
-use Rattle.pm_crash.specs.OpenCall.{MakesStep, call_words}
+use Rattle.pm_crash.specs.OpenCall.{MakesStep, made_words}
 use Rattle.pm_crash.proofs.CleanWords.{clean_words_hold, world_begins}
 use Rattle.pm_crash.proofs.Continued.{two_same}
 use Rattle.pm_crash.proofs.Differing.{difference_makes_call}
@@ -146,6 +147,9 @@ module _ (o : Opening) (k : ℕ) (header : Header) (pool : PoolView) (m : Moment
   idle_records : (j : ℕ) → j < o.lanes → j ≢ k → (m.views j).log.records ≡ []
   idle_records j low other = (subst (PhaseFits (Flies m.log m.decided j) (m.views j)) (g.others j low other) (g.world.each_lane j low).phase).no_records
 
+  idle_entries : (j : ℕ) → j < o.lanes → j ≢ k → (m.views j).log.entries ≡ []
+  idle_entries j low other = subst (λ (p : Phase). HasNone p (m.views j)) (g.others j low other) (g.world.each_lane j low).entries.none
+
   module _ (s : Move) (makes : Makes k m s) where
     world_goes : World o (moved k m s).memory (moved k m s).views (moved k m s).log (moved k m s).decided
     world_goes = (keeps_each s.step o m.memory s.memory m.views m.log m.decided k (m.views k) g.world g.in_lanes refl makes.lawful makes.moves).0
@@ -201,11 +205,11 @@ module _ (o : Opening) (k : ℕ) (header : Header) (pool : PoolView) (m : Moment
         two_same (λ (a b : ℕ). HoldsPool words a b header reached_all.last) o.lanes v.lanes o.zones v.zones (sym here.lanes) (sym here.zones) reached_all.holds in
         let step : MakesStep v words header reached_all.last =
         makes.paid words header reached_all.last holds g.of_pool
-        (drawn_before o k m g.world g.in_lanes g.alone idle_records makes.lawful.allowed.is_open reached_all.holds.no_fault) in
-        let made : HoldsPool (call_words v words) o.lanes o.zones header step.next =
-        two_same (λ (a b : ℕ). HoldsPool (call_words v words) a b header step.next) v.lanes o.lanes v.zones o.zones here.lanes here.zones step.holds in
+        (drawn_before o k m g.world g.in_lanes g.alone idle_records idle_entries makes.lawful.allowed.is_open reached_all.holds.no_fault) in
+        let made : HoldsPool (made_words v words) o.lanes o.zones header step.next =
+        two_same (λ (a b : ℕ). HoldsPool (made_words v words) a b header step.next) v.lanes o.lanes v.zones o.zones here.lanes here.zones step.holds in
         holds_once_more (slice_index o.words) o.lanes o.zones header pool step.next m.log (entry_of v n) reached_all step.steps
-        (held_by_heap (call_words v words) (λ i. made_final (difference_of v) i (words i)) o.lanes o.zones header step.next made (λ i heap. difference_makes_call v words i))
+        (held_by_heap (made_words v words) (λ i. made_final (difference_of v) i (words i)) o.lanes o.zones header step.next made (λ i heap. difference_makes_call v words i))
 
     goes_drawn : Goes o k header pool (moved k m (record { step = Draw n; memory = memory }))
     goes_drawn = record {

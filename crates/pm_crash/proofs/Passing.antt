@@ -11,7 +11,7 @@ use Rattle.pm_model.specs.declared.stage.Stage.{Stage}
 use Rattle.pm_model.specs.declared.stage.Stage.TheVariants as stage
 use Rattle.pm_model.specs.Places.{has_place}
 use Rattle.pm_model.specs.Transaction.{Transaction, is_working, locked_all}
-use Rattle.pm_model.specs.Checks.{Seen, wants_of, is_begin, finds_no_work, finds_no_tx, is_spent, is_too_deep, passes_locks, is_not_locked, wants_no_place, takes_lock, is_busy, takes_first_lock, is_missing, passes_end, is_not_added, passes_log, first_refusal}
+use Rattle.pm_model.specs.Checks.{Seen, wants_of, is_begin, is_action, is_unaligned, passes_actions, finds_no_work, finds_no_tx, is_spent, is_too_deep, passes_locks, is_not_locked, wants_no_place, takes_lock, is_busy, takes_first_lock, is_missing, passes_end, is_not_added, passes_log, first_refusal}
 
 -- what a lane saw that nothing hindered
 abbrev pub unhindered : Seen
@@ -23,10 +23,13 @@ pub record Works (tx : Transaction) : Type 0 where
   pub working : tx.stage ≡ stage.Work
   pub few : length tx.locks ≤ 64
 
--- the operation asks for no lock
+-- the operation asks for no lock, and is about no pending action
 pub record AsksNoLock (op : Operation) : Type 0 where
   pub no_wants : wants_of op ≡ []
   pub no_begin : is_begin op ≡ false
+  pub aligned : is_unaligned op ≡ false
+  pub no_more : (tx : Transaction) → passes_actions tx op ≡ false
+  pub no_action : is_action op ≡ false
 
 pub no_work : (tx : Transaction) → Works tx → finds_no_work tx ≡ false
 no_work tx works = and_right (leb 1 tx.level) (not (is_working tx.stage)) (ap (λ (s : Stage). not (is_working s)) works.working)
@@ -73,6 +76,7 @@ four_checks tx op works asks =
     ∷ (refusal.Spent, not_spent tx j)
     ∷ (refusal.Deep, not_deep tx op asks j)
     ∷ (refusal.LocksFull, few_locks tx op works asks j)
+    ∷ (refusal.Unaligned, asks.aligned j)
     ∷ (refusal.NotLocked, is_not_locked tx op)
     ∷ (refusal.NoObject, has_places tx op asks j)
     ∷ (refusal.Busy, not_busy tx op j)
@@ -80,6 +84,7 @@ four_checks tx op works asks =
     ∷ (refusal.OutOfRange, passes_end tx op)
     ∷ (refusal.NotAdded, is_not_added tx op)
     ∷ (refusal.LogFull, passes_log tx op)
+    ∷ (refusal.ActionsFull, asks.no_more tx j)
     ∷ [])))
 
 pub passes_all : (tx : Transaction) (op : Operation) → Works tx → AsksNoLock op → is_not_locked tx op ≡ false → passes_end tx op ≡ false → is_not_added tx op ≡ false → passes_log tx op ≡ false

@@ -1,5 +1,5 @@
 -- A lane that is alone raises its generation by one with each store of it, and with nothing else.
-use Rattle.std.proofs.Common.{◌≡◌, ◌≢◌, ℕ, ◌+◌, ◌*◌, ◌<◌, ◌≤◌, Bool, false, cond, List, [], ◌∷◌, length, slice_index, refl, sym, ◌∙◌, ap, arith, eq-eqb, ne_eqb, get_or-set_same, get_or-set_other}
+use Rattle.std.proofs.Common.{◌≡◌, ◌≢◌, ⊎_elim, IsTrue, ℕ, ◌+◌, ◌*◌, ◌<◌, ◌≤◌, Bool, false, cond, List, [], ◌∷◌, length, slice_index, refl, sym, ◌∙◌, ap, subst, arith, eq-eqb, ne_eqb, get_or-set_same, get_or-set_other}
 use Rattle.std.specs.Option.{ForSome}
 use Rattle.pm_header.specs.declared.header.Header.{Header}
 use Rattle.pm_objects.specs.declared.pool.PoolView.{PoolView}
@@ -9,16 +9,20 @@ use Rattle.pm_view.specs.Area.Part.{EntryWord, GenerationWord, OtherWord, SealWo
 use Rattle.pm_view.specs.Founds.{FoundAlone, IsAlone}
 use Rattle.pm_view.specs.Log.{Phase}
 use Rattle.pm_view.specs.Log.Phase.{Idle, Open, Drawn, Sealing, Applying, Clearing, Retiring}
+use Rattle.pm_view.specs.Rights.{is_written}
 use Rattle.pm_view.specs.Steps.{Step}
 use Rattle.pm_view.specs.Steps.Step.{Load, Store, Or, And, Flush, Drain, TakeWrite, TakeRead, Raise, Give, ZoneTry, ZoneGive, Occupied, Occupy, Vacate, Draw, NumberSeen, StopSeen, SetStop, Tell}
 use Rattle.pm_view.specs.View.{View}
 use Rattle.pm_view.specs.Views.{after, begun}
 use Rattle.pm_view.proofs.SameLane.{same_lane-after}
 use Rattle.pm_memory.specs.Solo.{AreNumbered}
-use Rattle.pm_world.specs.Lawful.{Allowed, EndsGeneration, StoreFits}
+use Rattle.pm_world.specs.Fits.{PhaseFits}
+use Rattle.pm_world.specs.History.{Flies}
+use Rattle.pm_world.specs.Lawful.{Allowed, IsNextEntry, StoreFits}
 use Rattle.pm_world.specs.Opening.{Opening}
 use Rattle.pm_world.specs.Records.{generation_of}
-use Rattle.pm_world.proofs.Parts.{generation_part}
+use Rattle.pm_world.proofs.Parts.{generation_part, seal_part}
+use Rattle.pm_world.proofs.StoreEntry.{next_entry}
 use Rattle.pm_crash.specs.Alone.{WorksAlone, is_raise, raises}
 use Rattle.pm_crash.specs.Leading.{Leads}
 use Rattle.pm_crash.proofs.AloneCourse.{StandsAlone, due_along, grows_along, number_along, stands_after, stands_first}
@@ -50,36 +54,45 @@ module _ (o : Opening) (header : Header) (pool : PoolView) where
           let at = lane in
           still (Store w y) (ne_eqb w 512 differ) (get_or-set_other v.words w (area_word v.lane) y 0 (λ e. differ (omega (arith, e, at))))
 
-      raised : part_of v.lane w ≡ GenerationWord → EndsGeneration v y → generation_of (after v (Store w y)) ≡ generation_of v + raise_by (Store w y)
-      raised part ends =
-          let at : w ≡ area_word v.lane = (generation_part v.lane w part).1 in
+      raised : w ≡ area_word v.lane → y ≡ generation_of v + 1 → generation_of (after v (Store w y)) ≡ generation_of v + raise_by (Store w y)
+      raised at next =
           let zero = lane in
           let here : w ≡ 512 = omega (arith, at, zero) in
           let one : raise_by (Store w y) ≡ 1 = ap (λ (b : Bool). cond b 1 0) (eq-eqb w 512 here) in
           let is : generation_of (after v (Store w y)) ≡ y = ap (λ (i : ℕ). slice_index (after v (Store w y)).words i) (sym at) ∙ get_or-set_same v.words w y 0 inside in
-          let next = ends.next in
           omega (arith, is, next, one)
 
-      stored : (p : Phase) (part : Part) → part_of v.lane w ≡ part → StoreFits v w y p part → generation_of (after v (Store w y)) ≡ generation_of v + raise_by (Store w y)
-      stored Idle part of may = absurd may
-      stored (Open slot pair) GenerationWord of may = raised of may.ends
-      stored (Open slot pair) SealWord of may = absurd may
-      stored (Open slot pair) EntryWord of may = absurd may
-      stored (Open slot pair) SlotWord of may = other (λ e. let at = may.at in omega (arith, e, at))
-      stored (Open slot pair) OtherWord of may = other (λ e. let far = behind o header pool v stands alone w may.own in omega (arith, e, far))
-      stored Drawn GenerationWord of may = raised of may
-      stored Drawn SealWord of may = absurd may
-      stored Drawn EntryWord of may = absurd may
-      stored Drawn SlotWord of may = absurd may
-      stored Drawn OtherWord of may = absurd may
-      stored Sealing part of may = absurd may
-      stored (Applying applied) part of may = absurd may
-      stored Clearing part of may = absurd may
-      stored Retiring part of may = absurd may
+      -- an entry's word
+      applied_entry : (applied : ℕ) → v.log.phase ≡ Applying applied → IsNextEntry v applied w y → generation_of (after v (Store w y)) ≡ generation_of v + raise_by (Store w y)
+      applied_entry applied is next =
+          ⊎_elim (λ (t : IsTrue (is_written v w) × (applied + 1 < length v.log.entries)). other (λ e. let far = behind o header pool v stands alone w t.0 in omega (arith, e, far)))
+          (λ (t : (w ≡ area_word v.lane) × (y ≡ generation_of v + 1) × (applied + 1 ≡ length v.log.entries)). raised t.0 t.1)
+          (next_entry v applied w y (subst (PhaseFits (Flies stands.log stands.decided 0) v) is (own_fits o header pool v stands).phase) next)
+
+      stored : (p : Phase) (part : Part) → v.log.phase ≡ p → part_of v.lane w ≡ part → StoreFits v w y p part → generation_of (after v (Store w y)) ≡ generation_of v + raise_by (Store w y)
+      stored Idle part is of may = absurd may
+      stored (Open slot pair) GenerationWord is of may = raised (generation_part v.lane w of).1 may.ends.next
+      stored (Open slot pair) SealWord is of may = absurd may
+      stored (Open slot pair) EntryWord is of may = other (λ e. let at = may.at in omega (arith, e, at))
+      stored (Open slot pair) SlotWord is of may = other (λ e. let at = may.at in omega (arith, e, at))
+      stored (Open slot pair) OtherWord is of may = other (λ e. let far = behind o header pool v stands alone w may.own in omega (arith, e, far))
+      stored Drawn GenerationWord is of may = raised (generation_part v.lane w of).1 may.next
+      stored Drawn SealWord is of may = other (λ e. let at = (seal_part v.lane w of).1 in omega (arith, e, at))
+      stored Drawn EntryWord is of may = absurd may
+      stored Drawn SlotWord is of may = absurd may
+      stored Drawn OtherWord is of may = absurd may
+      stored Sealing part is of may = absurd may
+      stored (Applying applied) GenerationWord is of may = applied_entry applied is may
+      stored (Applying applied) SealWord is of may = other (λ e. let at = (seal_part v.lane w of).1 in omega (arith, e, at))
+      stored (Applying applied) EntryWord is of may = absurd may
+      stored (Applying applied) SlotWord is of may = absurd may
+      stored (Applying applied) OtherWord is of may = applied_entry applied is may
+      stored Clearing part is of may = absurd may
+      stored Retiring part is of may = absurd may
 
     raised_after : (s : Step) → Allowed v s → FoundAlone v s → generation_of (after v s) ≡ generation_of v + raise_by s
     raised_after (Load w x) may found = still (Load w x) refl (ap (λ (words : List ℕ). slice_index words (area_word v.lane)) (load_words v w x (found alone)))
-    raised_after (Store w y) may found = stored w y may.inside v.log.phase (part_of v.lane w) refl may.fits
+    raised_after (Store w y) may found = stored w y may.inside v.log.phase (part_of v.lane w) refl refl may.fits
     raised_after (Or w bits found) may f = absurd may
     raised_after (And w bits found) may f = absurd may
     raised_after (Flush line) may found = still (Flush line) refl refl

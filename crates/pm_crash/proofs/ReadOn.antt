@@ -57,8 +57,8 @@ read_keeps_open v next id off len level some is_open reads =
     let long : length (bytes_of c.tx.pool.objects id.off) ≡ slice_index v.words (8 * held.lock.line + 1) = object.long in
     let same : call_words next w ≡ call_words v w = same_call_words v next reads.logs reads.keeps is_open.outside w in
     let answers : Answers c.tx (Read id off len) (Some (Bytes bytes)) =
-    answers_done c.tx (Read id off len) (Some (Bytes bytes)) refl (record { no_wants = refl; no_begin = refl })
-    (passes_all c.tx (Read id off len) works (record { no_wants = refl; no_begin = refl })
+    answers_done c.tx (Read id off len) (Some (Bytes bytes)) refl (record { no_wants = refl; no_begin = refl; aligned = refl; no_more = λ tx. refl; no_action = refl })
+    (passes_all c.tx (Read id off len) works (record { no_wants = refl; no_begin = refl; aligned = refl; no_more = λ tx. refl; no_action = refl })
     (held_is_locked v id false c.tx held c.locks (same_pool v w header c.tx c.holds same_id))
     (le-ltb (length (bytes_of c.tx.pool.objects id.off)) (off + len) (omega arith)) refl refl)
     (ap (λ (bs : List ℕ). Some (Bytes bs)) (seen_is_read v next id off len level w header pool is_open reads before c)) in
@@ -72,6 +72,8 @@ read_keeps_open v next id off len level some is_open reads =
       levels = c.levels;
       stands = refl;
       fails = refl;
+      actions = refl;
+      moved = refl;
       blocks_stay = ap (λ (f : ℕ → ℕ). blocks f v.lanes v.zones) same;
       sizes_stay = λ block there. ap (λ (f : ℕ → ℕ). size_in f block) same;
     })

@@ -180,6 +180,7 @@ call_refused v wants r refuses = record {
         runs = subst (λ (ts : List Answered). RunsTo pool ts last) (sym (ap (map told_of) refuses.call)) (runs_first told pool (begin_refused_answers (at_rest pool) wants r is));
         stands = ap (λ (x : Transaction). x.stage) aborts;
         fails = ap (λ (x : Transaction). x.error) aborts;
+        no_actions = ap (λ (x : Transaction). x.actions) aborts;
         unchanged = ap (λ (x : Transaction). x.pool) aborts;
       };
 }

@@ -1,10 +1,12 @@
 -- A transaction goes on by one operation more, and where it works no longer it has run.
-use Rattle.std.proofs.Common.{◌≡◌, List, [], ◌∷◌, ◌++◌, true, false, refl, sym, ◌∙◌, ap, subst}
+use Rattle.std.proofs.Common.{◌≡◌, ℕ, Bool, cond, eqb, List, [], ◌∷◌, ◌++◌, true, false, refl, sym, ◌∙◌, ap, subst}
 use Rattle.std.proofs.lemmas.Bool.{false≢true}
 use Rattle.pm_objects.specs.declared.pool.PoolView.{PoolView}
 use Rattle.pm_model.specs.Transaction.{Transaction, at_rest, is_working}
 use Rattle.pm_model.specs.Answers.{Told as Answered, Answers, after}
-use Rattle.pm_model.specs.Step.{Runs, RunsOn}
+use Rattle.pm_model.specs.Actions.{Action}
+use Rattle.pm_model.specs.History.{opened}
+use Rattle.pm_model.specs.Step.{Runs, RunsFrom, RunsOn, with_pending}
 use Rattle.pm_crash.specs.OpenCall.{GoesOn, RunsTo}
 
 goes_on_once : (told : List Answered) (t : Answered) (tx now : Transaction) → GoesOn tx told now → is_working now.stage ≡ true → Answers now t.operation t.reply
@@ -36,7 +38,7 @@ ends_on (t ∷ told) tx last goes idle = (goes.0, goes.1, ends_on told (after t 
 
 -- what ran to an end, by one operation at least, has run
 pub runs_to_end : (t : Answered) (told : List Answered) (pool : PoolView) (last : Transaction) → RunsTo pool (t ∷ told) last → is_working last.stage ≡ false → Runs pool (t ∷ told) last
-unfolding RunsTo Runs
+unfolding RunsTo RunsFrom
 runs_to_end t told pool last runs idle = (runs.0, ends_on told (after t (at_rest pool)) last runs.1 idle)
 
 pub runs_some : (told : List Answered) (pool : PoolView) (last : Transaction) → RunsTo pool told last → is_working last.stage ≡ false → (told ≡ [] → ⊥) → Runs pool told last
@@ -46,3 +48,13 @@ runs_some (t ∷ told) pool last runs idle some = runs_to_end t told pool last r
 
 pub has_run : (pool : PoolView) (told : List Answered) (last : Transaction) → RunsTo pool told last → is_working last.stage ≡ false → (told ≡ [] → ⊥) → Runs pool told last
 has_run pool told last runs idle some = runs_some told pool last runs idle some
+
+no_pending : (lane k : ℕ) → with_pending (λ j. []) lane [] k ≡ []
+no_pending lane k = either (eqb k lane) where
+  either : (b : Bool) → cond {A = List Action} b [] [] ≡ []
+  either true = refl
+  either false = refl
+
+-- a pool as it is opened is one where a lane left no actions
+pub opened_left : (lane : ℕ) (pool : PoolView) → opened pool ≡ record { pool = pool; actions = with_pending (λ j. []) lane [] }
+opened_left lane pool = (λ i. record { pool = pool; actions = λ k. sym (no_pending lane k) i })

@@ -1,5 +1,5 @@
 -- Where nothing is told, a call stays what it came to.
-use Rattle.std.proofs.Common.{◌≡◌, true, false, ℕ, ◌/◌, ◌<◌, ◌≤◌, List, length, map, sym, ◌∙◌, ap, subst, arith}
+use Rattle.std.proofs.Common.{◌≡◌, true, false, ℕ, ◌/◌, ◌<◌, ◌≤◌, List, [], length, map, sym, ◌∙◌, ap, subst, arith}
 use Rattle.std.specs.List.{Contains}
 use Rattle.pm_header.specs.declared.header.Header.{Header}
 use Rattle.pm_objects.specs.declared.history.TxErr.{TxErr}
@@ -16,9 +16,9 @@ use Rattle.pm_view.specs.Blocks.{is_chunk}
 use Rattle.pm_view.specs.Log.{Recorded}
 use Rattle.pm_view.specs.View.{View, Lock}
 use Rattle.pm_world.specs.Records.{is_recorded}
-use Rattle.pm_crash.proofs.CallWords.{locks_kept}
+use Rattle.pm_crash.proofs.CallWords.{locks_kept, same_made_words}
 use Rattle.pm_crash.specs.Held.{HoldsPool}
-use Rattle.pm_crash.specs.OpenCall.{IsBefore, ComesTo, ComesToNothing, IsGivenUp, IsOpen, IsWholeCall, MakesStep, RunsTo, act_of, call_words, told_in, told_of, words_recorded}
+use Rattle.pm_crash.specs.OpenCall.{IsBefore, ComesTo, ComesToNothing, IsGivenUp, IsOpen, IsWholeCall, MakesStep, RunsTo, act_of, call_words, made_words, told_in, told_of, words_recorded}
 use Rattle.pm_crash.specs.Operations.{KeepsKnown, KeepsLog, KeepsWords, TakesBack, TellsNothing}
 use Rattle.pm_crash.proofs.Continued.{two_same}
 use Rattle.pm_crash.proofs.GivenUp.{outside_taken_back, taken_back}
@@ -28,7 +28,7 @@ same_told : (v next : View) → TellsNothing v next → told_in next ≡ told_in
 same_told v next quiet = ap (map told_of) quiet.call
 
 same_act : (v next : View) → TellsNothing v next → act_of next ≡ act_of v
-same_act v next quiet = (λ j. record { lane = quiet.keeps.lane j; told = same_told v next quiet j })
+same_act v next quiet = (λ j. record { lane = quiet.keeps.lane j; actions = []; told = same_told v next quiet j })
 
 quiet_back : (v next : View) → TellsNothing v next → KeepsLog v next → KeepsKnown v next → (w : ℕ → ℕ) → IsBefore next w → IsBefore v w
 quiet_back v next quiet logs words = known_back v next quiet.keeps (same_found v next quiet.locks) logs (λ i known outside none. words.known i outside known)
@@ -36,10 +36,10 @@ quiet_back v next quiet logs words = known_back v next quiet.keeps (same_found v
 quiet_holds : (v next : View) → TellsNothing v next → (w : ℕ → ℕ) (header : Header) (pool : PoolView) → HoldsPool w next.lanes next.zones header pool → HoldsPool w v.lanes v.zones header pool
 quiet_holds v next quiet w header pool holds = two_same (λ (n m : ℕ). HoldsPool w n m header pool) next.lanes v.lanes next.zones v.zones quiet.keeps.lanes quiet.keeps.zones holds
 
-quiet_made : (v next : View) (w : ℕ → ℕ) (header : Header) (pool : PoolView) → TellsNothing v next → call_words next w ≡ call_words v w → HoldsPool (call_words v w) v.lanes v.zones header pool
-    → HoldsPool (call_words next w) next.lanes next.zones header pool
-quiet_made v next w header pool quiet same holds =
-    two_same (λ (n m : ℕ). HoldsPool (call_words next w) n m header pool) v.lanes next.lanes v.zones next.zones (sym quiet.keeps.lanes) (sym quiet.keeps.zones)
+quiet_made : (v next : View) (made made' : ℕ → ℕ) (header : Header) (pool : PoolView) → TellsNothing v next → made' ≡ made → HoldsPool made v.lanes v.zones header pool
+    → HoldsPool made' next.lanes next.zones header pool
+quiet_made v next made made' header pool quiet same holds =
+    two_same (λ (n m : ℕ). HoldsPool made' n m header pool) v.lanes next.lanes v.zones next.zones (sym quiet.keeps.lanes) (sym quiet.keeps.zones)
     (subst (λ (f : ℕ → ℕ). HoldsPool f v.lanes v.zones header pool) (sym same) holds)
 
 open_stays_so : (v next : View) (level : ℕ) (at_stage : Stage) (e : TxErr) (w : ℕ → ℕ) (header : Header) (pool : PoolView) → TellsNothing v next → KeepsLog v next → call_words next w ≡ call_words v w
@@ -48,7 +48,7 @@ open_stays_so v next level at_stage e w header pool quiet logs same c =
     record {
       tx = c.tx;
       runs = subst (λ (told : List Answered). RunsTo pool told c.tx) (sym (same_told v next quiet)) c.runs;
-      holds = quiet_made v next w header c.tx.pool quiet same c.holds;
+      holds = quiet_made v next (call_words v w) (call_words next w) header c.tx.pool quiet same c.holds;
       before = c.before;
       locks = locks_kept c.tx v next quiet.locks c.locks;
       recorded = c.recorded ∙ ap words_recorded (sym logs.records);
@@ -56,6 +56,8 @@ open_stays_so v next level at_stage e w header pool quiet logs same c =
       levels = c.levels;
       stands = c.stands;
       fails = c.fails;
+      no_actions = c.no_actions;
+      nothing_moved = c.nothing_moved;
       blocks_stay =
           two_same (λ (n m : ℕ). blocks (call_words next w) n m ≡ blocks w n m) v.lanes next.lanes v.zones next.zones (sym quiet.keeps.lanes) (sym quiet.keeps.zones)
           (ap (λ (f : ℕ → ℕ). blocks f v.lanes v.zones) same ∙ c.blocks_stay);
@@ -74,6 +76,7 @@ open_learns v next level at_stage e is_open quiet logs words =
       few = subst (λ (locks : List Lock). length locks ≤ 64) (sym quiet.locks) is_open.few;
       chunks = λ l lines held found. ap (λ (n : ℕ). is_chunk n (l.line / 64)) lanes ∙ is_open.chunks l lines (subst (λ (locks : List Lock). Contains locks l) quiet.locks held) found;
       outside = outside_kept v next quiet.keeps logs is_open.outside;
+      unentered = logs.entries ∙ is_open.unentered;
       comes = λ w header pool holds id before.
           open_stays_so v next level at_stage e w header pool quiet logs (same_known_words v next logs words is_open.outside w)
           (is_open.comes w header pool (quiet_holds v next quiet w header pool holds) (sym quiet.keeps.pool ∙ id) (quiet_back v next quiet logs words w before));
@@ -87,7 +90,8 @@ whole_learns v next whole quiet logs words = record {
       whole.makes w header pool (quiet_holds v next quiet w header pool holds) (sym quiet.keeps.pool ∙ id) (quiet_back v next quiet logs words w before) in
       record {
         next = made.next;
-        holds = quiet_made v next w header made.next quiet (same_known_words v next logs words whole.outside w) made.holds;
+        holds = quiet_made v next (made_words v w) (made_words next w) header made.next quiet
+            (same_made_words v next quiet.keeps.lane logs.entries w (same_known_words v next logs words whole.outside w)) made.holds;
         steps = subst (λ (act : Act). Step (opened pool) act (opened made.next)) (sym (same_act v next quiet)) made.steps;
       };
 }
@@ -110,6 +114,7 @@ still_given_up v next e given_up quiet outside back = record {
         runs = subst (λ (told : List Answered). RunsTo pool told c.tx) (sym (same_told v next quiet)) c.runs;
         stands = c.stands;
         fails = c.fails;
+        no_actions = c.no_actions;
         unchanged = c.unchanged;
       };
 }

@@ -2,15 +2,16 @@
 use Rattle.std.proofs.Common.{◌≡◌, ◌≢◌, ◌⊎◌, ⊎_elim, inl, inr, ℕ, zero, suc, ◌+◌, ◌-◌, ◌*◌, ◌/◌, ◌<◌, ◌≤◌, Bool, true, false, not, eqb, leb, ltb, IsTrue, List, [], ◌∷◌, ◌++◌, length, take, drop, slice_get, slice_index, slice_range, Some, refl, sym, ◌∙◌, ap, subst, arith, eq-eqb}
 use Rattle.std.specs.List.{Contains, list_all, list_any, range_with_len}
 use Rattle.std.specs.Option.{ForSome}
-use Rattle.std.proofs.lemmas.Bool.{cases_eq, cases_lt, and_from, eqb-true, false≢true, le-leb, lt-ltb}
+use Rattle.std.proofs.lemmas.Bool.{cases_eq, cases_lt, and_from, eqb-true, false≢true, le-leb, lt-ltb, ne_eqb, not_from_false, or_from}
 use Rattle.std.proofs.lemmas.List.{ext_get_or, get_or-drop, get_or-take, length-drop, length-take}
-use Rattle.std.proofs.lemmas.List.Folds.{Any-from_list_any}
+use Rattle.std.proofs.lemmas.List.Folds.{Any-from_list_any, list_any_none}
+use Rattle.std.proofs.lemmas.List.Elements.{All-weaker}
 use Rattle.std.proofs.lemmas.Option.{cond_some}
 use Rattle.pm_header.specs.declared.header.Header.{Header}
 use Rattle.pm_objects.specs.declared.pool.PoolView.{PoolView}
 use Rattle.pm_record.specs.Undo.{is_record, undo_in, undo_of}
 use Rattle.pm_record.specs.declared.undo.Undo.{Undo}
-use Rattle.pm_image.specs.Logs.{generation_word, slot_line, undo_slot}
+use Rattle.pm_image.specs.Logs.{generation, generation_word, seal_word, slot_line, undo_slot}
 use Rattle.pm_image.specs.Reads.{IsHeapWord}
 use Rattle.pm_image.proofs.Members.{no_member}
 use Rattle.pm_image.specs.Steps.{valid_record}
@@ -28,17 +29,20 @@ use Rattle.pm_view.proofs.SameLane.{same_lane-after}
 use Rattle.pm_memory.specs.Keep.{IsKeptImage}
 use Rattle.pm_memory.specs.Solo.{AreNumbered}
 use Rattle.pm_world.specs.Crash.{IsBeingWritten, IsWhole, NoneTorn, Survives}
-use Rattle.pm_world.specs.Fits.{LaneFits, OpenFits, PhaseFits, RecordFits}
+use Rattle.pm_world.specs.Entries.{is_in_log, is_redoing, is_redone}
+use Rattle.pm_world.specs.Fits.{AppliedChange, ApplyingFits, LaneFits, OpenFits, PhaseFits, RecordFits}
 use Rattle.pm_world.specs.History.{Flies, settled}
 use Rattle.pm_world.specs.Lawful.{CanRecord}
 use Rattle.pm_world.specs.Memory.Location.{PoolWord}
 use Rattle.pm_world.specs.Opening.{Opening}
 use Rattle.pm_world.specs.Records.{IsRecordAt, covers, generation_of, is_drained_slot, is_logged, records_generation, slot_word, spelled, used_slots}
-use Rattle.pm_world.proofs.CrashLaw.{all_drained, retiring_drained}
-use Rattle.pm_world.proofs.CrashLogs.{GenerationIs, not_logged}
+use Rattle.pm_world.proofs.CrashEntries.{generation_is}
+use Rattle.pm_world.proofs.CrashLaw.{all_drained, retiring_drained, seal_drained}
+use Rattle.pm_world.proofs.CrashLogs.{GenerationIs, entered_front, not_logged, whole_word}
 use Rattle.pm_world.proofs.CrashSpellings.{valid_parts}
-use Rattle.pm_world.proofs.CrashWords.{OwnTakenBack, area_left, generation_is, generation_read}
+use Rattle.pm_world.proofs.CrashWords.{OwnTakenBack, area_left}
 use Rattle.pm_world.proofs.Exclusion.{writes_under}
+use Rattle.pm_world.proofs.Pairs.{none_redone}
 use Rattle.pm_world.proofs.StoreSlot.{length-spelled}
 use Rattle.pm_crash.specs.Alone.{GrowsFirst, HasNoTornMatch, MayRecord, Rests, WorksAlone, alone_views, idle_view, is_of_words, standing}
 use Rattle.pm_crash.specs.Leading.{Leads}
@@ -162,8 +166,8 @@ module _ (o : Opening) (header : Header) (pool : PoolView) (w : View) (s : Stand
   can_may r can = may_record r can.some can.most (λ i low. (can.each i low).own) (λ i low. (can.each i low).present)
 
   -- an undrained record's words have not been written
-  undrained_may : (slot : ℕ) (r : Recorded) → IsRecordAt w slot r → is_drained_slot w slot ≡ false → MayRecord w r
-  undrained_may slot r at undrained =
+  undrained_may : (slot : ℕ) (r : Recorded) → is_redoing w.log.phase ≡ false → IsRecordAt w slot r → is_drained_slot w slot ≡ false → MayRecord w r
+  undrained_may slot r still at undrained =
       may_record r record_fits.some record_fits.most (λ i low. (record_fits.each i low).own)
       (λ i low. s.goes.world.each_word (r.word + i) (heap i low) (unlogged i low) ∙ sym (record_fits.each i low).before)
     where
@@ -185,10 +189,11 @@ module _ (o : Opening) (header : Header) (pool : PoolView) (w : View) (s : Stand
           let same : other ≡ slot = fits.log.once other slot q r (r.word + i) there at of (covered i low) in
           ap (is_drained_slot w) same ∙ undrained)
 
-      unlogged : (i : ℕ) → i < length r.old → (k : ℕ) → k < o.lanes → is_logged (s.views k) (r.word + i) ≡ false
+      unlogged : (i : ℕ) → i < length r.old → (k : ℕ) → k < o.lanes → is_in_log (s.views k) (r.word + i) ≡ false
       unlogged i low k inside = ⊎_elim
-          (λ (same : k ≡ 0). ap (λ (n : ℕ). is_logged (s.views n) (r.word + i)) same ∙ ap (λ (u : View). is_logged u (r.word + i)) s.here ∙ own_unlogged i low)
-          (λ (other : k ≢ 0). ap (λ (u : View). is_logged u (r.word + i)) (s.others k other))
+          (λ (same : k ≡ 0). ap (λ (n : ℕ). is_in_log (s.views n) (r.word + i)) same ∙ ap (λ (u : View). is_in_log u (r.word + i)) s.here
+          ∙ or_from (is_logged w (r.word + i)) (is_redone w (r.word + i)) (own_unlogged i low) (none_redone w (r.word + i) still))
+          (λ (other : k ≢ 0). ap (λ (u : View). is_in_log u (r.word + i)) (s.others k other))
           (cases_eq k 0)
 
   -- an image, and a slot as it was at the origin
@@ -283,6 +288,18 @@ module _ (o : Opening) (header : Header) (pool : PoolView) (w : View) (s : Stand
         let below : slot < used_slots phase w = subst (λ (p : Phase). slot < used_slots p w) is more.1 in let from = more.0 in omega (arith, below, from, used))
         being)
 
+    -- while entries are applied, no slot has a change
+    applied_drained : (applied : ℕ) → ApplyingFits w applied → is_drained_slot w slot ≡ true
+    applied_drained applied fit =
+        let lane = fits.lane.lane in
+        let some = s.goes.in_lanes in
+        not_from_false (list_any (is_in_line (slot_line w.lane slot)) w.changes)
+        (list_any_none (is_in_line (slot_line w.lane slot)) w.changes
+        (All-weaker (AppliedChange w applied) (λ c. is_in_line (slot_line w.lane slot) c ≡ false) (λ c of. ne_eqb (c.word / 8) (slot_line w.lane slot) (λ same. ⊎_elim
+        (λ (own : is_written w c.word ≡ true). let far = (lies c.word own).0 in omega (arith, same, far, lane, some, within))
+        (λ (own : c.word ≡ area_word w.lane). omega (arith, same, own, lane))
+        (whole_word w (records_generation (Applying applied) w) c.word fit.whole (entered_front applied w.log.entries c.word of.of)))) w.changes fit.changes))
+
     -- the log may grow, at the origin's generation
     module _ (test : Recorded → Bool) (none : HasNoTornMatch origin test) (passes : (r : Recorded) → MayRecord w r → test r ≡ true) (u : Undo) (valid : valid_record image 0 slot ≡ Some u)
         (making pair : List ℕ) (is : w.log.phase ≡ Open making pair) (open_fits : OpenFits w making pair) (now : generation_of w ≡ generation_word origin.words 0)
@@ -292,10 +309,10 @@ module _ (o : Opening) (header : Header) (pool : PoolView) (w : View) (s : Stand
 
       begins_so : slice_index found 0 ≡ generation_word origin.words 0
       begins_so =
-          let generation_there : generation_word image 0 ≡ generation_of w =
-          subst (GenerationIs w (generation_word image 0)) is
-          (subst (λ (x : View). GenerationIs x (generation_word image 0) x.log.phase) s.here (generation_is o (memory_of w) s.views s.log s.decided s.goes.world image survives 0 s.goes.in_lanes)) in
-          sym read_back.begun ∙ (valid_parts image 0 slot u valid).present ∙ generation_read o (memory_of w) s.views s.log s.decided s.goes.world image survives 0 s.goes.in_lanes ∙ generation_there ∙ now
+          let generation_there : generation image 0 ≡ generation_of w =
+          subst (GenerationIs w (seal_word image 0) (generation image 0)) is
+          (subst (λ (x : View). GenerationIs x (seal_word image 0) (generation image 0) x.log.phase) s.here (generation_is o (memory_of w) s.views s.log s.decided s.goes.world image survives 0 s.goes.in_lanes)) in
+          sym read_back.begun ∙ (valid_parts image 0 slot u valid).present ∙ generation_there ∙ now
 
       -- it holds the record so
       holds_so : (r : Recorded) → IsRecordAt w slot r ⊎ ((length w.log.records ≤ slot) × CanRecord w r) → found ≡ spelled (generation_word origin.words 0) r → IsWhole w image slot
@@ -312,7 +329,7 @@ module _ (o : Opening) (header : Header) (pool : PoolView) (w : View) (s : Stand
       stored_whole : slot < length w.log.records → is_drained_slot w slot ≡ false → IsWhole w image slot
       stored_whole low undrained =
           let t = record_there w.log.records slot low in
-          let may = undrained_may slot t.0 t.1 undrained in
+          let may = undrained_may slot t.0 (ap is_redoing is) t.1 undrained in
           let stored : undo_slot w.words 0 slot ≡ spelled (generation_word origin.words 0) t.0 =
           ap (λ (lane : ℕ). undo_slot w.words lane slot) (sym fits.lane.lane)
           ∙ fits.log.stored slot t.0 t.1
@@ -364,9 +381,9 @@ module _ (o : Opening) (header : Header) (pool : PoolView) (w : View) (s : Stand
         (λ (empty : (making ≡ []) × (w.log.records ≡ [])). absurd (nothing_here making empty.0 empty.1 here))
         grows
     whole_in test none passes u valid Drawn is fit first grows being = none_here Drawn is refl (all_drained w slot fit.drained) being
-    whole_in test none passes u valid Sealing is fit first grows being = absurd fit
-    whole_in test none passes u valid (Applying applied) is fit first grows being = absurd fit
-    whole_in test none passes u valid Clearing is fit first grows being = absurd fit
+    whole_in test none passes u valid Sealing is fit first grows being = none_here Sealing is refl (seal_drained w 0 slot fit.changes) being
+    whole_in test none passes u valid (Applying applied) is fit first grows being = none_here (Applying applied) is refl (applied_drained applied fit) being
+    whole_in test none passes u valid Clearing is fit first grows being = none_here Clearing is refl (seal_drained w (length w.log.entries) slot fit.changes) being
     whole_in test none passes u valid Retiring is fit first grows being = none_here Retiring is refl (retiring_drained w slot fit.changes) being
 
 -- a lane that makes no step writes no slot

@@ -86,8 +86,8 @@ write_keeps_open v next id off level bytes some is_open writes =
     λ i there. ap (λ (ws : List ℕ). is_among ws i) c.recorded ∙ among_recorded v.log.records i ∙ writes.added i there in
     record {
       answers =
-          answers_done c.tx (Write id off bytes) None refl (record { no_wants = refl; no_begin = refl })
-          (passes_all c.tx (Write id off bytes) works (record { no_wants = refl; no_begin = refl })
+          answers_done c.tx (Write id off bytes) None refl (record { no_wants = refl; no_begin = refl; aligned = refl; no_more = λ tx. refl; no_action = refl })
+          (passes_all c.tx (Write id off bytes) works (record { no_wants = refl; no_begin = refl; aligned = refl; no_more = λ tx. refl; no_action = refl })
           (held_is_locked v id true c.tx held c.locks (same_pool v w header c.tx c.holds same_id))
           (le-ltb (length (bytes_of c.tx.pool.objects id.off)) (off + length bytes) (omega arith))
           (ap not (all_among c.tx.recorded (covered_words (id.off + off) (length bytes)) among)) refl)
@@ -102,6 +102,8 @@ write_keeps_open v next id off level bytes some is_open writes =
       levels = c.levels;
       stands = refl;
       fails = refl;
+      actions = refl;
+      moved = refl;
       blocks_stay = blocks_same words (call_words next w) v.lanes v.zones (heads_kept words (call_words next w) v.lanes v.zones block c.holds.no_fault object.is_there keeps);
       sizes_stay = λ other there.
           sizes_kept words (call_words next w) v.lanes v.zones block other c.holds.no_fault object.is_there keeps (subst (λ (bs : List Block). Contains bs other) (sym c.blocks_stay) there);

@@ -15,7 +15,7 @@ use Rattle.pm_model.specs.Step.{Act}
 use Rattle.pm_record.specs.Undo.{is_record}
 use Rattle.pm_view.specs.Founds.{IsAlone}
 use Rattle.pm_view.specs.Log.{Phase, Recorded, no_log}
-use Rattle.pm_view.specs.Log.Phase.{Idle, Open}
+use Rattle.pm_view.specs.Log.Phase.{Idle, Open, Drawn, Retiring}
 use Rattle.pm_view.specs.Rights.{is_written}
 use Rattle.pm_view.specs.Area.{area_word}
 use Rattle.pm_view.specs.Steps.{Step}
@@ -63,13 +63,19 @@ pub record Rests (b : View) : Type 0 where
   pub empty : (b.log ≡ no_log Idle) ⊎ (b.log ≡ no_log (Open [] []))
   pub drained : b.changes ≡ []
 
+-- a call that has drawn its number is decided by no seal so far: its next generation is to be stored, or is stored and not drained
+abbrev pub IsUnsealed : Phase → Type 0
+IsUnsealed Drawn = Unit {0}
+IsUnsealed Retiring = Unit {0}
+IsUnsealed phase = ⊥
+
 -- the calls that drew a number and that the image does not lose, in order
 abbrev pub kept_numbered : List ℕ → View → List Numbered
 kept_numbered image w = filter (λ (e : Numbered). not (loses image w e.number)) w.entries
 
 -- such a call as the model's
 abbrev pub act_of_numbered : Numbered → Act
-act_of_numbered e = record { lane = 0; told = map told_of e.call }
+act_of_numbered e = record { lane = 0; actions = []; told = map told_of e.call }
 
 -- these calls, one whole call after another, lead from the one pool to another, which the image means; and the allocated blocks of its
 -- recovered words are those of that pool's objects, in order

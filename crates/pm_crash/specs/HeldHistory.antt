@@ -17,7 +17,7 @@ use Rattle.pm_crash.specs.OpenCall.{IsGivenUp, IsWholeCall, told_of}
 
 -- the entry's call as the model's
 abbrev pub act_of_entry : Entry → Act
-act_of_entry e = record { lane = e.lane; told = map told_of e.call }
+act_of_entry e = record { lane = e.lane; actions = []; told = map told_of e.call }
 
 -- the calls that are kept, in their order
 abbrev pub kept_acts : (ℕ → Bool) → List Entry → List Act
@@ -35,7 +35,7 @@ pub record IsHeldHistory (o : Opening) (log : List Entry) (decided : ℕ → Boo
 
 -- the view's call may enter the history: it is whole, or was given up and taken back
 abbrev pub IsEndedCall : View → Type 0
-IsEndedCall v = IsWholeCall v ⊎ ((e : TxErr) × IsGivenUp v e × (v.log.records ≡ []))
+IsEndedCall v = IsWholeCall v ⊎ ((e : TxErr) × IsGivenUp v e × (v.log.records ≡ []) × (v.log.entries ≡ []))
 
 -- a draw is of an ended call
 abbrev pub DrawsEnded : View → Step → Type 0

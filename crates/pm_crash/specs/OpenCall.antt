@@ -18,7 +18,8 @@ use Rattle.pm_view.specs.Area.{is_in_area}
 use Rattle.pm_view.specs.Blocks.{is_chunk}
 use Rattle.pm_view.specs.Log.{Recorded}
 use Rattle.pm_view.specs.View.{View, Lock, Told}
-use Rattle.pm_world.specs.Records.{IsRecordAt, is_recorded}
+use Rattle.pm_world.specs.History.{made_final}
+use Rattle.pm_world.specs.Records.{IsRecordAt, is_recorded, pool_entries}
 use Rattle.pm_crash.specs.Locks.{AreSameLocks}
 use Rattle.pm_crash.specs.Held.{HoldsPool}
 
@@ -29,9 +30,9 @@ told_of t = record { operation = t.operation; reply = t.reply }
 abbrev pub told_in : View → List Answered
 told_in v = map told_of v.call
 
--- the open call as the model's
+-- the open call as the model's: no actions were pending as it began
 abbrev pub act_of : View → Act
-act_of v = record { lane = v.lane; told = told_in v }
+act_of v = record { lane = v.lane; actions = []; told = told_in v }
 
 -- the lock of a line is that of the object whose block begins there
 abbrev pub lock_of : Lock → Locked
@@ -62,9 +63,13 @@ pub record IsBefore (v : View) (w : ℕ → ℕ) : Type 0 where
   pub known : (i : ℕ) → Contains v.known i → is_in_area v.lane i ≡ false → is_recorded v.log.records i ≡ false → w i ≡ slice_index v.words i
   pub found : (l : Lock) (lines : ℕ) → Contains v.locks l → l.block ≡ Some lines → Contains (blocks w v.lanes v.zones) (block_at_line l.line lines)
 
--- the words as the open call has made them of those before it: what it recorded is as it left it
+-- the words as the open call has stored them over those before it: what it recorded is as it left it
 abbrev pub call_words : View → (ℕ → ℕ) → ℕ → ℕ
 call_words v w i = if is_recorded v.log.records i then slice_index v.words i else w i
+
+-- the words as the call makes them of those before it: those, with what its entries make of them
+abbrev pub made_words : View → (ℕ → ℕ) → ℕ → ℕ
+made_words v w i = made_final (pool_entries v) i (call_words v w i)
 
 -- the transaction comes from one state to another by these operations with their replies, in work before each
 unfoldable pub GoesOn : Transaction → List Answered → Transaction → Type 0
@@ -89,16 +94,21 @@ pub record ComesTo (v : View) (w : ℕ → ℕ) (header : Header) (pool : PoolVi
   pub levels : tx.level ≡ level
   pub stands : tx.stage ≡ at_stage
   pub fails : tx.error ≡ error
+  -- pending actions come with the calls that make them
+  pub no_actions : tx.actions ≡ []
+  pub nothing_moved : tx.moved ≡ []
   pub blocks_stay : blocks (call_words v w) v.lanes v.zones ≡ blocks w v.lanes v.zones
   pub sizes_stay : (block : Block) → Contains (blocks w v.lanes v.zones) block → size_in (call_words v w) block ≡ size_in w block
 
 -- the lane has a call open at this level, in this stage and with this error, whatever pool the words before it hold. It holds 64 locks at
--- most, each of a line of a chunk where it found a block there, and recorded no word of its own area
+-- most, each of a line of a chunk where it found a block there, recorded no word of its own area, and has no redo entries: a transaction makes
+-- none
 pub record IsOpen (v : View) (level : ℕ) (at_stage : Stage) (error : TxErr) : Type 0 where
   pub in_lanes : v.lane < v.lanes
   pub few : length v.locks ≤ 64
   pub chunks : (l : Lock) (lines : ℕ) → Contains v.locks l → l.block ≡ Some lines → is_chunk v.lanes (l.line / 64) ≡ true
   pub outside : (i : ℕ) → is_recorded v.log.records i ≡ true → is_in_area v.lane i ≡ false
+  pub unentered : v.log.entries ≡ []
   pub comes : (w : ℕ → ℕ) (header : Header) (pool : PoolView) → HoldsPool w v.lanes v.zones header pool → v.pool ≡ header.id → IsBefore v w
       → ComesTo v w header pool level at_stage error
 
@@ -108,6 +118,7 @@ pub record ComesToNothing (v : View) (pool : PoolView) (error : TxErr) : Type 0 
   pub runs : RunsTo pool (told_in v) tx
   pub stands : tx.stage ≡ stage.OnAbort
   pub fails : tx.error ≡ error
+  pub no_actions : tx.actions ≡ []
   pub unchanged : tx.pool ≡ pool
 
 -- the lane's call was aborted with this error, whatever pool the words before it hold. It recorded no word of its own area
@@ -119,7 +130,7 @@ pub record IsGivenUp (v : View) (error : TxErr) : Type 0 where
 -- the call makes a step of the plain model: from words that hold a pool it makes words that hold the next one
 pub record MakesStep (v : View) (w : ℕ → ℕ) (header : Header) (pool : PoolView) : Type 0 where
   pub next : PoolView
-  pub holds : HoldsPool (call_words v w) v.lanes v.zones header next
+  pub holds : HoldsPool (made_words v w) v.lanes v.zones header next
   pub steps : Step (opened pool) (act_of v) (opened next)
 
 -- the lane's call is whole, and a step of the plain model, whatever pool the words before it hold. It recorded no word of its own area

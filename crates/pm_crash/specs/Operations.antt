@@ -52,9 +52,10 @@ pub record KeepsKnown (v next : View) : Type 0 where
   pub known : (i : ℕ) → is_in_area v.lane i ≡ false → Contains v.known i → slice_index next.words i ≡ slice_index v.words i
   pub recorded : (i : ℕ) → is_in_area v.lane i ≡ false → is_recorded v.log.records i ≡ true → slice_index next.words i ≡ slice_index v.words i
 
--- nor was a word recorded
+-- nor was a word recorded or entered
 pub record KeepsLog (v next : View) : Type 0 where
   pub records : next.log.records ≡ v.log.records
+  pub entries : next.log.entries ≡ v.log.entries
 
 -- the lane holds the lock of the object, for writing if so asked, and found its block
 pub record IsHeld (v : View) (id : Oid) (write : Bool) : Type 0 where
@@ -109,6 +110,7 @@ pub record AddsRange (v next : View) (id : Oid) (off len : ℕ) : Type 0 where
   pub range : HasRange v id off len true
   pub added : List Recorded
   pub records : next.log.records ≡ v.log.records ++ added
+  pub entries : next.log.entries ≡ v.log.entries
   pub extents : map extent added ≡ records_of (new_words (words_recorded v.log.records) (covered_words (id.off + off) len))
   pub present : (r : Recorded) → Contains added r → IsPresent v r
   pub room : length v.log.records + length added ≤ 64
@@ -170,10 +172,11 @@ pub record TakesWanted (v : View) (before : List Locked) (wants : List Want) : T
   pub wanted : (want : Want) → Contains wants want → IsWantHeld v want
   pub chunks : (l : Lock) (lines : ℕ) → Contains v.locks l → l.block ≡ Some lines → is_chunk v.lanes (l.line / 64) ≡ true
 
--- the lane began a call with the locks that were wanted, and told so. It recorded nothing yet
+-- the lane began a call with the locks that were wanted, and told so. It recorded and entered nothing yet
 pub record BeginsCall (v : View) (wants : List Want) : Type 0 where
   pub call : v.call ≡ record { operation = Begin wants; reply = None } ∷ []
   pub no_records : v.log.records ≡ []
+  pub no_entries : v.log.entries ≡ []
   pub in_lanes : v.lane < v.lanes
   pub takes : TakesWanted v [] wants
 

@@ -21,12 +21,12 @@ ghost use Rattle.pm_world.specs.History.{made_final};
 ghost use Rattle.pm_world.specs.Records.{difference_of};
 ghost use Rattle.pm_crash.specs.Held.{HoldsPool};
 ghost use Rattle.pm_crash.specs.Locks.{AreSameLocks};
-ghost use Rattle.pm_crash.specs.OpenCall.{IsBefore, IsGivenUp, IsOpen, IsWholeCall, RunsTo, act_of, call_words, lock_wanted};
+ghost use Rattle.pm_crash.specs.OpenCall.{IsBefore, IsGivenUp, IsOpen, IsWholeCall, RunsTo, act_of, lock_wanted, made_words};
 ghost use Rattle.pm_crash.specs.Operations.{AddsRange, BeginsCall, BeginsLevel, KeepsKnown, KeepsLog, KeepsWords, ReadsBytes, Refuses, RefusesCall, RefusesLevel, TakesBack, Tells, TellsNothing, WritesBytes};
 
 /// A law: the words that a call makes of those before it are what its difference makes of them. No code runs.
 pub fn a_call_makes_its_difference()
-    ensures { (v : View) (w : ℕ → ℕ) (i : ℕ) → made_final (difference_of v) i (w i) ≡ call_words v w i }
+    ensures { (v : View) (w : ℕ → ℕ) (i : ℕ) → made_final (difference_of v) i (w i) ≡ made_words v w i }
 {}
 
 /// A law: a call that commits its outermost level is whole: a step of the plain model, to the pool that its words hold. No code runs.

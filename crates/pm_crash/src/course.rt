@@ -30,7 +30,7 @@ pub fn a_recovered_pool_opens_a_world()
 /// record. No code runs.
 pub fn an_ended_call_is_a_model_step()
     ensures whole { (v : View) → IsWholeCall v → IsModelStep v }
-    ensures given_up { (v : View) (e : TxErr) → IsGivenUp v e → v.log.records ≡ [] → IsModelStep v }
+    ensures given_up { (v : View) (e : TxErr) → IsGivenUp v e → v.log.records ≡ [] → v.log.entries ≡ [] → IsModelStep v }
 {}
 
 /// A law: where one lane alone makes steps, every image that a power failure leaves means the pool to which the entries that it does not lose

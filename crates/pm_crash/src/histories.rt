@@ -1,4 +1,4 @@
-ghost use Rattle.std.specs.Prelude.{◌≡◌, ℕ, ◌<◌, true, Bool, List, [], slice_index, None};
+ghost use Rattle.std.specs.Prelude.{◌≡◌, ℕ, ◌<◌, true, false, Bool, List, [], slice_index, None};
 ghost use Rattle.pm_header.specs.declared.header.Header.{Header};
 ghost use Rattle.pm_objects.specs.declared.history.TxErr.{TxErr};
 ghost use Rattle.pm_objects.specs.declared.pool.PoolView.{PoolView};
@@ -7,6 +7,7 @@ ghost use Rattle.pm_image.specs.Logs.{recovered_at};
 ghost use Rattle.pm_view.specs.Steps.{Step};
 ghost use Rattle.pm_world.specs.Course.{decided_after, flight, log_after};
 ghost use Rattle.pm_world.specs.Crash.{NoneTorn, Survives, is_kept};
+ghost use Rattle.pm_world.specs.Entries.{is_redoing};
 ghost use Rattle.pm_world.specs.History.{Entry};
 ghost use Rattle.pm_world.specs.Lawful.{IsLawful};
 ghost use Rattle.pm_world.specs.Memory.{Memory};
@@ -18,11 +19,11 @@ ghost use Rattle.pm_crash.specs.HeldHistory.{DrawsEnded, HoldReplay, IsHeldHisto
 ghost use Rattle.pm_crash.specs.OpenCall.{IsBefore, IsGivenUp, IsWholeCall};
 
 /// A law: whatever of the calls in flight is left out, the words that the others make of the opening's may be those before the open call of
-/// a lane, if they have no fault. No code runs.
+/// a lane that redoes nothing, if they have no fault. No code runs.
 pub fn a_lane_looks_past_calls_in_flight()
     ensures { (o : Opening) (mem : Memory) (views : Views) (log : List Entry) (decided : ℕ → Bool)
         → World o mem views log decided → (keep : ℕ → Bool) (k : ℕ) → k < o.lanes → flight (views k) ≡ None
-        → KeepsDecided decided keep → heap_fault (kept_words o keep log) o.lanes o.zones ≡ None
+        → is_redoing (views k).log.phase ≡ false → KeepsDecided decided keep → heap_fault (kept_words o keep log) o.lanes o.zones ≡ None
         → IsBefore (views k) (kept_words o keep log) }
 {}
 
@@ -31,13 +32,13 @@ pub fn a_lane_looks_past_calls_in_flight()
 pub fn a_drawn_call_is_a_step()
     ensures whole { (o : Opening) (mem : Memory) (views : Views) (log : List Entry) (decided : ℕ → Bool)
         → World o mem views log decided → (keep : ℕ → Bool) (k n : ℕ) → k < o.lanes → flight (views k) ≡ None
-        → KeepsDecided decided keep → (header : Header) (pool : PoolView) → HoldsPool (kept_words o keep log) o.lanes o.zones header pool
+        → is_redoing (views k).log.phase ≡ false → KeepsDecided decided keep → (header : Header) (pool : PoolView) → HoldsPool (kept_words o keep log) o.lanes o.zones header pool
         → (views k).pool ≡ header.id → keep n ≡ true → IsWholeCall (views k)
         → DrawsStep o keep log (views k) n header pool }
     ensures given_up { (o : Opening) (mem : Memory) (views : Views) (log : List Entry) (decided : ℕ → Bool)
         → World o mem views log decided → (keep : ℕ → Bool) (k n : ℕ) → k < o.lanes → flight (views k) ≡ None
-        → KeepsDecided decided keep → (header : Header) (pool : PoolView) → HoldsPool (kept_words o keep log) o.lanes o.zones header pool
-        → (views k).pool ≡ header.id → (e : TxErr) → keep n ≡ true → IsGivenUp (views k) e → (views k).log.records ≡ []
+        → is_redoing (views k).log.phase ≡ false → KeepsDecided decided keep → (header : Header) (pool : PoolView) → HoldsPool (kept_words o keep log) o.lanes o.zones header pool
+        → (views k).pool ≡ header.id → (e : TxErr) → keep n ≡ true → IsGivenUp (views k) e → (views k).log.records ≡ [] → (views k).log.entries ≡ []
         → DrawsStep o keep log (views k) n header pool }
 {}
 

@@ -8,6 +8,7 @@
 #![tactic(auto)]
 
 mod alone;
+mod bounds;
 mod calls;
 mod course;
 mod histories;
@@ -18,6 +19,7 @@ pub use alone::{
     a_lane_alone_leaves_its_whole_calls, a_pool_stays_sound, no_record_is_torn,
     no_record_is_torn_behind_a_rest,
 };
+pub use bounds::no_counted_call_is_idle;
 pub use calls::{
     a_begin_opens, a_call_given_up_changes_nothing, a_call_makes_its_difference,
     a_call_stays_while_its_lane_learns, a_call_stays_while_nothing_is_told, a_commit_is_a_step,
