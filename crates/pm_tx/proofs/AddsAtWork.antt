@@ -125,6 +125,7 @@ module _ {M : Type 0} (o : Opening) (at : M → View → Type 0) (lane : Lane M)
             range = can.range;
             added = map (recorded_in v) plan;
             records = made.1.records;
+            entries = made.1.entries;
             extents = extents_planned v (id.off + off) len;
             present = present_planned v (id.off + off) len can.known;
             room = (let n = length-map plan (recorded_in v) in omega (arith, n, room));

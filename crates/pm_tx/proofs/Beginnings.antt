@@ -109,6 +109,7 @@ module _ {M : Type 0} (at : M → View → Type 0) (lane : Lane M) (v : View) (i
         is_open = begin_opens next wants (record {
           call = ap (λ (told : List Told). told ++ record { operation = Begin wants; reply = None } ∷ []) is.untold;
           no_records = no_records;
+          no_entries = ap (λ (log : Log). log.entries) is.log;
           in_lanes = is.area.lane;
           takes = record {
             few = takes.few;
@@ -157,6 +158,7 @@ module _ {M : Type 0} (at : M → View → Type 0) (lane : Lane M) (v : View) (i
           error.Refused r,
           call_refused (after v (Tell (Begin wants) (Some (Refused r)))) wants r (record { call = told_so; no_records = no_records; reason = reason_at r reason }),
           no_records,
+          ap (λ (log : Log). log.entries) is.log,
         ),
         tt,
       ),

@@ -71,6 +71,7 @@ module _ (v m : View) (working : IsWorking v) (no_entries : v.log.entries ≡ []
     found = may.found;
     seen = call.seen (NumberSeen may.found) may.seen;
     below = may.below;
+    entered = inl (ap (λ (l : Log). l.entries) log ∙ no_entries);
   }
 
   end_ready : (n : ℕ) → Ready m (ends_call Commit None n m)
@@ -87,7 +88,7 @@ module _ (v m : View) (working : IsWorking v) (no_entries : v.log.entries ≡ []
       }
 
   keeps_log : KeepsLog v told
-  keeps_log = record { records = ap (λ (l : Log). l.records) log }
+  keeps_log = record { records = ap (λ (l : Log). l.records) log; entries = ap (λ (l : Log). l.entries) log }
 
   keeps_words : KeepsWords v told
   keeps_words = record { words = λ i outside. ap (λ (u : View). slice_index u.words i) settled }
@@ -143,7 +144,7 @@ module _ (v m : View) (working : IsWorking v) (no_entries : v.log.entries ≡ []
     refl,
     refl,
   )
-  tail (r ∷ records) are n = behind (retire_drawn (drawn n) (area n) (ap (λ (l : Log). (log_drawn l.phase l).phase) (log_of (r ∷ records) are)) refl gone) where
+  tail (r ∷ records) are n = behind (retire_drawn (drawn n) (area n) (ap (λ (l : Log). (log_drawn l.phase l).phase) (log_of (r ∷ records) are)) refl gone (ap (λ (l : Log). (log_drawn l.phase l).entries) (log_of (r ∷ records) are))) where
     behind : Ready (drawn n) (retires (drawn n)) × IsRetired Idle (drawn n) (after_all (drawn n) (retires (drawn n)))
         → Ready (drawn n) (retires (drawn n)) × IsOver v (after_all (drawn n) (retires (drawn n))) n × ((after_all (drawn n) (retires (drawn n))).entries ≡ (drawn n).entries)
         × ((after_all (drawn n) (retires (drawn n))).call ≡ (drawn n).call)
@@ -292,7 +293,7 @@ module _ {M : Type 0} (at : M → View → Type 0) (lane : Lane M) (o : Opening)
     is_open =
         inner_commit_keeps_open v (after v (Tell Commit None)) (lane.level - 1) (omega (arith, inner)) (subst (λ level. IsOpen v level model_stage.Work error.None) (let e : lane.level ≡ lane.level - 1 + 1 = omega (arith, inner) in e) is.is_open)
         (record { keeps = record { lanes = refl; zones = refl; pool = refl; lane = refl; known = λ i there. there }; locks = refl; call = refl })
-        (record { records = refl }) (record { words = λ i outside. refl });
+        (record { records = refl; entries = refl }) (record { words = λ i outside. refl });
     may_come = (let m = is.may_come in record { found = m.found; seen = m.seen; below = m.below });
     lines = (let l = is.lines in record { inside = l.inside; once = l.once });
     objects = λ l held. let f = is.objects l held in record { lines = f.lines; block = f.block; known = f.known; fits = f.fits };

@@ -61,6 +61,7 @@ module _ (v m : View) (working : IsWorking v) (may : MayCome v) (back : IsTakenB
     found = may.found;
     seen = back.call.seen (NumberSeen may.found) may.seen;
     below = may.below;
+    entered = inl (ap (λ (log : Log). log.entries) back.log);
   }
 
   pub end_ready : (n : ℕ) → Ready m (ends_call operation reply n m)
@@ -103,7 +104,7 @@ module _ (v m : View) (working : IsWorking v) (may : MayCome v) (back : IsTakenB
 
   pub end_is_drawn : (error : TxErr) → GivesUpBy v operation reply error → (n : ℕ) → DrawEnded m (ends_call operation reply n m)
   unfolding ends_call in_turn one DrawEnded after_all
-  end_is_drawn error why n = (tt, (inr (error, why told tells taken_back, ap (λ (log : Log). log.records) back.log), tt))
+  end_is_drawn error why n = (tt, (inr (error, why told tells taken_back, ap (λ (log : Log). log.records) back.log, ap (λ (log : Log). log.entries) back.log), tt))
 
 end_is_two : (m : View) (operation : Operation) (reply : Option Value) (n : ℕ) → length (ends_call operation reply n m) ≡ 2
 unfolding ends_call in_turn one
@@ -205,7 +206,7 @@ pub place_at_work : (v : View) → IsWorking v → HasPlace v
 place_at_work v working = let area = working.area in record { lane = area.lane; few = area.few; inside = area.inside }
 
 pub is_working_lane : {M : Type 0} (at : M → View → Type 0) (lane : Lane M) (o : Opening) (v : View) → IsAtWork o at lane v → IsWorkingLane at lane
-is_working_lane at lane o v is = (v, (is.seen, is.working))
+is_working_lane at lane o v is = (v, (is.seen, is.working, is.no_entries))
 
 module _ {M : Type 0} (at : M → View → Type 0) (lane : Lane M) (o : Opening) (v : View) (is : IsAtWork o at lane v) (operation : Operation) (reply : Option Value) where
   abbrev pub spans : List Span

@@ -99,7 +99,7 @@ module _ {M : Type 0} (o : Opening) (lane : Lane M) (m : View) (work : IsAtWork 
       (opening_learned m word x plain.0 o work.opening) learned.working (ap (λ (l : Log). l.entries) learned.log ∙ work.no_entries)
       (open_learns m (after m (Load word x)) lane.level _ _ work.is_open
       (record { keeps = record { lanes = call.lane.lanes; zones = call.lane.zones; pool = call.lane.pool; lane = call.lane.lane; known = call.remembers }; locks = call.locks; call = call.call })
-      (record { records = ap (λ (l : Log). l.records) learned.log })
+      (record { records = ap (λ (l : Log). l.records) learned.log; entries = ap (λ (l : Log). l.entries) learned.log })
       (record {
         known = λ i outside there. learned.same i (listed_is_known m i there);
         recorded = λ i outside is. let t = is_of m.log.records i is in learned.same i (work.working.records.each t.slot t.recorded i t.there t.covering).known;

@@ -2,19 +2,20 @@
 use Rattle.std.proofs.Common.{◌≡◌, inl, inr, ℕ, ◌+◌, ◌-◌, false, List, [], ◌∷◌, take, None, refl, sym, ap, ◌∙◌, subst, arith}
 use Rattle.std.proofs.lemmas.Bool.{false≢true}
 use Rattle.std.proofs.lemmas.Option.{none-some}
-use Rattle.pm_crash.specs.Alone.{GrowsFirst, raises}
+use Rattle.pm_crash.specs.Alone.{GrowsFirst, IsUnsealed, raises}
 use Rattle.pm_image.specs.Logs.{generation_word}
 use Rattle.pm_view.specs.Log.{Final, Log, Phase, Recorded, no_log, phase_drawn}
 use Rattle.pm_view.specs.Log.Phase.{Idle, Open, Drawn, Sealing, Applying, Clearing, Retiring}
 use Rattle.pm_view.specs.Steps.{Step}
 use Rattle.pm_view.specs.View.{View}
 use Rattle.pm_view.specs.Views.{after_all}
+use Rattle.pm_world.specs.Entries.{is_redoing}
 use Rattle.pm_world.specs.Opening.{Opening}
 use Rattle.pm_world.specs.Records.{generation_of, records_generation}
 use Rattle.pm_world.specs.Sequences.{Ready}
-use Rattle.pm_tx.proofs.ReadyGenerations.{looks_generation, raised_when_ready, ready_first_of}
+use Rattle.pm_tx.proofs.ReadyGenerations.{applies_none, applies_none_first, looks_generation, raised_when_ready, ready_first_of, unraised_when_ready}
 use Rattle.pm_tx.proofs.Unended.{unended_along}
-use Rattle.pm_tx.specs.Generations.{is_ending, IsCommitting, IsGivingUp, IsOfOpening}
+use Rattle.pm_tx.specs.Generations.{AppliesNone, is_ending, IsCommitting, IsGivingUp, IsOfOpening}
 use Rattle.pm_tx.specs.Learning.{Looks}
 
 module _ (o : Opening) (w : View) where
@@ -35,13 +36,18 @@ module _ (o : Opening) (w : View) where
   drawn_generation [] (e ∷ entries) = refl
   drawn_generation (r ∷ records) entries = refl
 
-  unended_generation : (p : Phase) → is_ending p ≡ false → records_generation p w ≡ generation_of w
-  unended_generation Retiring unended = absurd (false≢true (sym unended))
-  unended_generation p unended = refl
+  unended_generation : (p : Phase) → IsUnsealed p → is_ending p ≡ false → records_generation p w ≡ generation_of w
+  unended_generation Idle flies unended = absurd flies
+  unended_generation (Open slot pair) flies unended = absurd flies
+  unended_generation Drawn flies unended = refl
+  unended_generation Sealing flies unended = absurd flies
+  unended_generation (Applying applied) flies unended = absurd flies
+  unended_generation Clearing flies unended = absurd flies
+  unended_generation Retiring flies unended = absurd (false≢true (sym unended))
 
   -- while the generation is the opening's, and not ended
   unended_first : is_ending w.log.phase ≡ false → generation_of w ≡ generation_word o.words 0 → IsOfOpening o w
-  unended_first unended first = record { grows = grows_in w.log.phase first; in_flight = λ n drawn flies. unended_generation w.log.phase unended ∙ first }
+  unended_first unended first = record { grows = grows_in w.log.phase first; in_flight = λ n drawn flies. unended_generation w.log.phase flies unended ∙ first }
 
   phase_first : (p : Phase) → w.log.phase ≡ p → records_generation p w ≡ generation_of w → generation_of w ≡ generation_word o.words 0 → IsOfOpening o w
   phase_first p is same first = record {
@@ -50,7 +56,7 @@ module _ (o : Opening) (w : View) where
   }
 
   idle_first : w.log.phase ≡ Idle → IsOfOpening o w
-  idle_first is = record { grows = grows_as Idle is tt; in_flight = λ n drawn flies. absurd (flies is) }
+  idle_first is = record { grows = grows_as Idle is tt; in_flight = λ n drawn flies. absurd (subst IsUnsealed is flies) }
 
   retiring_first : w.log.phase ≡ Retiring → generation_of w ≡ generation_word o.words 0 + 1 → IsOfOpening o w
   retiring_first is next = record {
@@ -84,20 +90,42 @@ module _ (o : Opening) (w : View) where
     giving_up_first (inr (one, inr (inl (is, number)))) = emptied_first is number
     giving_up_first (inr (one, inr (inr is))) = idle_first is
 
+-- in these phases no entry is applied
+drawn_still : (records : List Recorded) (entries : List Final) → is_redoing (phase_drawn records entries) ≡ false
+drawn_still [] [] = refl
+drawn_still [] (e ∷ entries) = refl
+drawn_still (r ∷ records) entries = refl
+
+committing_still : (v : View) (r : ℕ) (w : View) → IsCommitting v r w → is_redoing w.log.phase ≡ false
+committing_still v r w (inl (none, inl is)) = ap is_redoing is
+committing_still v r w (inl (none, inr is)) = ap is_redoing is ∙ drawn_still v.log.records v.log.entries
+committing_still v r w (inr (one, number, inl is)) = ap is_redoing is
+committing_still v r w (inr (one, number, inr is)) = ap is_redoing is
+
+giving_up_still : (v : View) (r : ℕ) (w : View) → IsGivingUp v r w → is_redoing w.log.phase ≡ false
+giving_up_still v r w (inl (none, inl (is, records))) = ap is_redoing is
+giving_up_still v r w (inl (none, inr (is, records))) = ap is_redoing is
+giving_up_still v r w (inr (one, inl (is, number))) = ap is_redoing is
+giving_up_still v r w (inr (one, inr (inl (is, number)))) = ap (λ (l : Log). is_redoing l.phase) is
+giving_up_still v r w (inr (one, inr (inr is))) = ap is_redoing is
+
 module _ (o : Opening) (v : View) (steps : List Step) (k : ℕ) (lane : v.lane ≡ 0) (ready : Ready v steps) (first : generation_of v ≡ generation_word o.words 0) where
-  raised_first : generation_of (after_all v (take k steps)) ≡ generation_word o.words 0 + raises (take k steps)
-  raised_first = let e = raised_when_ready v (take k steps) lane (ready_first_of k v steps ready) in omega (arith, e, first)
+  raised_first : AppliesNone v steps → generation_of (after_all v (take k steps)) ≡ generation_word o.words 0 + raises (take k steps)
+  raised_first none = let e = raised_when_ready v (take k steps) lane (ready_first_of k v steps ready) (applies_none_first k v steps none) in omega (arith, e, first)
 
-  pub commit_first : IsCommitting v (raises (take k steps)) (after_all v (take k steps)) → IsOfOpening o (after_all v (take k steps))
-  commit_first is = committing_first o (after_all v (take k steps)) v (raises (take k steps)) raised_first is
+  -- wherever it stops
+  pub commit_first : ((i : ℕ) → IsCommitting v (raises (take i steps)) (after_all v (take i steps))) → IsOfOpening o (after_all v (take k steps))
+  commit_first is = committing_first o (after_all v (take k steps)) v (raises (take k steps))
+      (raised_first (applies_none v steps (λ i. committing_still v (raises (take i steps)) (after_all v (take i steps)) (is i)))) (is k)
 
-  pub give_up_first : IsGivingUp v (raises (take k steps)) (after_all v (take k steps)) → IsOfOpening o (after_all v (take k steps))
-  give_up_first is = giving_up_first o (after_all v (take k steps)) v (raises (take k steps)) raised_first is
+  pub give_up_first : ((i : ℕ) → IsGivingUp v (raises (take i steps)) (after_all v (take i steps))) → IsOfOpening o (after_all v (take k steps))
+  give_up_first is = giving_up_first o (after_all v (take k steps)) v (raises (take k steps))
+      (raised_first (applies_none v steps (λ i. giving_up_still v (raises (take i steps)) (after_all v (take i steps)) (is i)))) (is k)
 
   pub unraised_first : is_ending v.log.phase ≡ false → raises (take k steps) ≡ 0 → IsOfOpening o (after_all v (take k steps))
   unraised_first unended none = unended_first o (after_all v (take k steps))
       (unended_along v (take k steps) lane unended (ready_first_of k v steps ready) none)
-      (let e : generation_of (after_all v (take k steps)) ≡ generation_word o.words 0 = omega (arith, raised_first, none) in e)
+      (unraised_when_ready v (take k steps) lane (ready_first_of k v steps ready) none ∙ first)
 
 -- looks go on so
 pub looks_first : (o : Opening) (n : ℕ) (v w : View) → Looks n v w → is_ending v.log.phase ≡ false → generation_of v ≡ generation_word o.words 0 → IsOfOpening o w

@@ -139,7 +139,7 @@ module _ {M : Type 0} (o : Opening) (at : M → View → Type 0) (lane : Lane M)
             locks = call.locks;
             call = ap (λ (told : List Told). told ++ record { operation = Read id off len; reply = Some (Bytes bytes) } ∷ []) call.call ∙ ap (λ bs. v.call ++ record { operation = Read id off len; reply = Some (Bytes bs) } ∷ []) is;
           };
-          logs = record { records = ap (λ (l : Log). l.records) made.1.log };
+          logs = record { records = ap (λ (l : Log). l.records) made.1.log; entries = ap (λ (l : Log). l.entries) made.1.log };
           keeps = record { words = λ i outside. ap (λ ws. slice_index ws i) made.1.words };
           range = can.range;
           known = can.known;

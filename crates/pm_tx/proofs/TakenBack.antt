@@ -71,13 +71,13 @@ module _ (v : View) (working : IsWorking v) where
           };
         }
 
-  undo_lawful : Ready v (undoes (map span_of v.log.records) v) × IsTakenBack v (after_all v (undoes (map span_of v.log.records) v))
+  undo_lawful : v.log.entries ≡ [] → Ready v (undoes (map span_of v.log.records) v) × IsTakenBack v (after_all v (undoes (map span_of v.log.records) v))
   unfolding undoes in_turn
-  undo_lawful =
+  undo_lawful unentered =
       let spans : List Span = map span_of v.log.records in
       let back = restore_lawful v working in
       let m : View = after_all v (restores spans v) in
-      let gone = retire_given_up m back.1.working back.1.drained back.1.restored in
+      let gone = retire_given_up m back.1.working back.1.drained (ap (λ (l : Log). l.entries) back.1.log ∙ unentered) back.1.restored in
       (ready_both v (restores spans v) (retires m) back.0 gone.0, subst (IsTakenBack v) (sym (after_all-append v (restores spans v) (retires m))) (retired_is_taken_back m (after_all m (retires m)) back.1 gone.1))
 
   log_stays : (changes : List Change) → log_settled changes v ≡ v.log
@@ -118,4 +118,4 @@ unfolding takes_back
 take_back_lawful v working no_entries = at (map span_of v.log.records) refl where
   at : (spans : List Span) → map span_of v.log.records ≡ spans → Ready v (takes_back spans v) × IsTakenBack v (after_all v (takes_back spans v))
   at [] none = let s = settle_lawful v in (s.0, settled_is_taken_back v working (no_spans v.log.records none) no_entries (after_all v (settles v)) s.1)
-  at (s ∷ spans) are = subst (λ spans. Ready v (undoes spans v) × IsTakenBack v (after_all v (undoes spans v))) are (undo_lawful v working)
+  at (s ∷ spans) are = subst (λ spans. Ready v (undoes spans v) × IsTakenBack v (after_all v (undoes spans v))) are (undo_lawful v working no_entries)

@@ -1,10 +1,11 @@
 -- A lane at work may put its records back, and then end them.
-use Rattle.std.proofs.Common.{◌≡◌, List, [], ◌∷◌, length, Ok, refl, sym, subst, arith}
+use Rattle.std.proofs.Common.{◌≡◌, List, [], ◌∷◌, length, Ok, refl, sym, ap, ◌∙◌, subst, arith}
 use Rattle.pm_undo.proofs.Restored.{restore_lawful}
 use Rattle.pm_undo.proofs.Retired.{retire_given_up}
 use Rattle.pm_undo.proofs.Settled.{settle_lawful}
 use Rattle.pm_undo.specs.Sequences.{restores, retires}
 use Rattle.pm_undo.specs.Working.{IsPutBack, IsSeenWithArea}
+use Rattle.pm_view.specs.Log.{Log}
 use Rattle.pm_view.specs.View.{View}
 use Rattle.pm_view.specs.Views.{after_all}
 use Rattle.pm_world.specs.Sequences.{IsReady, Ready, Runs, settles}
@@ -42,7 +43,7 @@ module _ {M : Type 0} (at : M → View → Type 0) (lane : Lane M) (is : IsWorki
 
     pub retire_ready : IsReady mid retires
     unfolding IsReady
-    retire_ready = (after_all v (restores spans v), (there, (retire_given_up (after_all v (restores spans v)) back.1.working back.1.drained back.1.restored).0))
+    retire_ready = (after_all v (restores spans v), (there, (retire_given_up (after_all v (restores spans v)) back.1.working back.1.drained (ap (λ (l : Log). l.entries) back.1.log ∙ is.1.2) back.1.restored).0))
 
 pub takes_none : (spans : List Span) → length spans ≡ 0 → takes_back spans ≡ settles
 unfolding takes_back

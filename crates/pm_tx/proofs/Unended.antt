@@ -8,7 +8,7 @@ use Rattle.pm_view.specs.declared.change.Change.{Change}
 use Rattle.pm_view.specs.Area.{Part, area_word, part_of}
 use Rattle.pm_view.specs.Area.Part.{EntryWord, GenerationWord, OtherWord, SealWord, SlotWord}
 use Rattle.pm_view.specs.Changes.{drained}
-use Rattle.pm_view.specs.Log.{Final, Log, Phase, Recorded, log_drained, log_drawn, log_stored, phase_drawn, with_slot}
+use Rattle.pm_view.specs.Log.{Final, Log, Phase, Recorded, log_drained, log_drawn, log_stored, phase_drawn, with_pair, with_slot}
 use Rattle.pm_view.specs.Log.Phase.{Idle, Open, Drawn, Sealing, Applying, Clearing, Retiring}
 use Rattle.pm_view.specs.Steps.{Step}
 use Rattle.pm_view.specs.Steps.Step.{Load, Store, Or, And, Flush, Drain, TakeWrite, TakeRead, Raise, Give, ZoneTry, ZoneGive, Occupied, Occupy, Vacate, Draw, NumberSeen, StopSeen, SetStop, Tell}
@@ -31,6 +31,12 @@ slot_unended log (a ∷ b ∷ c ∷ d ∷ e ∷ f ∷ g ∷ []) pair = refl
 slot_unended log (a ∷ b ∷ c ∷ d ∷ e ∷ f ∷ g ∷ h ∷ []) pair = refl
 slot_unended log (a ∷ b ∷ c ∷ d ∷ e ∷ f ∷ g ∷ h ∷ i ∷ slot) pair = refl
 
+pair_unended : (log : Log) (slot pair : List ℕ) → is_ending (with_pair log slot pair).phase ≡ false
+pair_unended log slot [] = refl
+pair_unended log slot (a ∷ []) = refl
+pair_unended log slot (a ∷ b ∷ []) = refl
+pair_unended log slot (a ∷ b ∷ c ∷ pair) = refl
+
 drawn_unended : (records : List Recorded) (entries : List Final) → is_ending (phase_drawn records entries) ≡ false
 drawn_unended [] [] = refl
 drawn_unended [] (e ∷ entries) = refl
@@ -42,15 +48,19 @@ module _ (v : View) (unended : is_ending v.log.phase ≡ false) where
   stored_unended w x (Open slot pair) OtherWord fits other = unended
   stored_unended w x (Open slot pair) GenerationWord fits other = absurd (other refl)
   stored_unended w x (Open slot pair) SealWord fits other = absurd fits
-  stored_unended w x (Open slot pair) EntryWord fits other = absurd fits
+  stored_unended w x (Open slot pair) EntryWord fits other = pair_unended v.log slot (pair ++ x ∷ [])
   stored_unended w x Drawn GenerationWord fits other = absurd (other refl)
-  stored_unended w x Drawn SealWord fits other = absurd fits
+  stored_unended w x Drawn SealWord fits other = refl
   stored_unended w x Drawn EntryWord fits other = absurd fits
   stored_unended w x Drawn SlotWord fits other = absurd fits
   stored_unended w x Drawn OtherWord fits other = absurd fits
   stored_unended w x Idle part fits other = absurd fits
   stored_unended w x Sealing part fits other = absurd fits
-  stored_unended w x (Applying applied) part fits other = absurd fits
+  stored_unended w x (Applying applied) GenerationWord fits other = absurd (other refl)
+  stored_unended w x (Applying applied) SealWord fits other = refl
+  stored_unended w x (Applying applied) EntryWord fits other = absurd fits
+  stored_unended w x (Applying applied) SlotWord fits other = absurd fits
+  stored_unended w x (Applying applied) OtherWord fits other = refl
   stored_unended w x Clearing part fits other = absurd fits
   stored_unended w x Retiring part fits other = absurd fits
 

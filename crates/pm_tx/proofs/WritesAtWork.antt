@@ -59,7 +59,7 @@ module _ {M : Type 0} (o : Opening) (at : M → View → Type 0) (lane : Lane M)
           locks = has.call.locks;
           call = ap (λ (told : List Told). told ++ record { operation = Write id off bytes; reply = None } ∷ []) has.call.call;
         };
-        logs = record { records = ap (λ (l : Log). l.records) has.log };
+        logs = record { records = ap (λ (l : Log). l.records) has.log; entries = ap (λ (l : Log). l.entries) has.log };
         range = can.range;
         are_bytes = are;
         added = can.added;

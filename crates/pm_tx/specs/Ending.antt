@@ -24,9 +24,9 @@ use Rattle.pm_tx.specs.AtWork.{HoldsLines, IsAtWork}
 use Rattle.pm_tx.specs.Resting.{HasPlace, IsAtRest}
 use Rattle.pm_tx.specs.Sequences.{commits, decides, ends_call, retires_any}
 
--- some view that the lane may be seen as is at work
+-- some view that the lane may be seen as is at work, without redo entries
 abbrev pub IsWorkingLane : {M : Type 0} → (M → View → Type 0) → Lane M → Type 0
-IsWorkingLane at lane = (v : View) × (IsSeenAs at lane v × IsWorking v)
+IsWorkingLane at lane = (v : View) × (IsSeenAs at lane v × IsWorking v × (v.log.entries ≡ []))
 
 -- the call is open still, with every recorded word as it was, no records, and nothing undrained
 pub record IsTakenBack (v w : View) : Type 0 where

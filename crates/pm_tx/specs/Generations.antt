@@ -1,10 +1,13 @@
 -- How often a transaction ends the generation of its lane's log, and where its call stands then.
-use Rattle.std.specs.Prelude.{◌≡◌, ◌≢◌, ◌⊎◌, ℕ, Bool, true, false, [], None, Some, is_some}
-use Rattle.pm_crash.specs.Alone.{GrowsFirst}
+use Rattle.std.specs.Prelude.{◌≡◌, ◌⊎◌, ℕ, Bool, true, false, List, [], ◌∷◌, None, Some, is_some}
+use Rattle.pm_crash.specs.Alone.{GrowsFirst, IsUnsealed}
 use Rattle.pm_image.specs.Logs.{generation_word}
 use Rattle.pm_view.specs.Log.{Phase, no_log, phase_drawn}
 use Rattle.pm_view.specs.Log.Phase.{Idle, Open, Retiring}
+use Rattle.pm_view.specs.Steps.{Step}
 use Rattle.pm_view.specs.View.{View}
+use Rattle.pm_view.specs.Views.{after}
+use Rattle.pm_world.specs.Entries.{is_redoing}
 use Rattle.pm_world.specs.Opening.{Opening}
 use Rattle.pm_world.specs.Records.{records_generation}
 
@@ -27,8 +30,13 @@ IsGivingUp v raised w =
     ((raised ≡ 0) × (((w.log.phase ≡ Open [] []) × (w.log.records ≡ v.log.records)) ⊎ ((w.log.phase ≡ Idle) × (v.log.records ≡ []))))
     ⊎ ((raised ≡ 1) × (((w.log.phase ≡ Retiring) × (w.number ≡ None)) ⊎ (((w.log ≡ no_log (Open [] [])) × (w.number ≡ None)) ⊎ (w.log.phase ≡ Idle))))
 
--- while the lane's log may grow it is of the opening's generation, or nothing of it is written yet; and the records of a call in flight are of
--- the opening's generation
+-- no entry is applied on the way of these steps
+unfoldable pub AppliesNone : View → List Step → Type 0
+AppliesNone v [] = Unit {0}
+AppliesNone v (s ∷ steps) = (is_redoing v.log.phase ≡ false) × AppliesNone (after v s) steps
+
+-- while the lane's log may grow it is of the opening's generation, or nothing of it is written yet; and the records of a call in flight
+-- that has no seal are of the opening's generation
 pub record IsOfOpening (o : Opening) (w : View) : Type 0 where
   pub grows : GrowsFirst o w w.log.phase
-  pub in_flight : (n : ℕ) → w.number ≡ Some n → w.log.phase ≢ Idle → records_generation w.log.phase w ≡ generation_word o.words 0
+  pub in_flight : (n : ℕ) → w.number ≡ Some n → IsUnsealed w.log.phase → records_generation w.log.phase w ≡ generation_word o.words 0

@@ -19,7 +19,7 @@ ghost use Rattle.pm_world.specs.declared.lane.HeldLock.{HeldLock};
 ghost use Rattle.pm_world.specs.declared.lane.Span.{Span};
 ghost use Rattle.pm_tx.specs.Beginning.{takes};
 ghost use Rattle.pm_tx.specs.Ending.{DrawEnded};
-ghost use Rattle.pm_tx.specs.Generations.{IsCommitting, IsGivingUp, IsOfOpening, is_ending};
+ghost use Rattle.pm_tx.specs.Generations.{AppliesNone, IsCommitting, IsGivingUp, IsOfOpening, is_ending};
 ghost use Rattle.pm_tx.specs.Learning.{Looks};
 ghost use Rattle.pm_tx.specs.Ranges.{CanWrite, adds_range, reads_range, writes_range};
 ghost use Rattle.pm_tx.specs.Sequences.{commits, ends_call, gives, gives_up, starts};
@@ -58,11 +58,15 @@ pub fn a_call_given_up_ends_one_generation()
         → IsGivingUp v (raises (take k (gives_up spans operation reply n v))) (after_all v (take k (gives_up spans operation reply n v))) }
 {}
 
-/// A law: steps that lane 0 may make raise its generation by one with each store of it, and with nothing else; looks keep it. No code runs.
+/// A law: steps that lane 0 may make, none of which applies an entry, raise its generation by one with each store of it, and with nothing
+/// else; whatever is applied, steps without such a store keep it, and so do looks. No code runs.
 pub fn a_generation_rises_with_its_stores()
-    ensures steps { (v : View) (steps : List Step) (k : ℕ) → v.lane ≡ 0 → Ready v steps
+    ensures steps { (v : View) (steps : List Step) (k : ℕ) → v.lane ≡ 0 → Ready v steps → AppliesNone v steps
         → generation_of (after_all v (take k steps)) ≡ generation_of v + raises (take k steps) }
-    ensures all { (v : View) (steps : List Step) → v.lane ≡ 0 → Ready v steps → generation_of (after_all v steps) ≡ generation_of v + raises steps }
+    ensures all { (v : View) (steps : List Step) → v.lane ≡ 0 → Ready v steps → AppliesNone v steps
+        → generation_of (after_all v steps) ≡ generation_of v + raises steps }
+    ensures unraised { (v : View) (steps : List Step) → v.lane ≡ 0 → Ready v steps → raises steps ≡ 0
+        → generation_of (after_all v steps) ≡ generation_of v }
     ensures looks { (n : ℕ) (v w : View) → Looks n v w → generation_of w ≡ generation_of v }
 {}
 

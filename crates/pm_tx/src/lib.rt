@@ -10,6 +10,7 @@
 mod aborting;
 mod adding;
 mod beginning;
+mod bounds;
 mod checking;
 mod committing;
 mod ending;
@@ -33,6 +34,7 @@ mod writing;
 pub use aborting::abort;
 pub use adding::{add_range, do_add};
 pub use beginning::{begin, open_call, refuse_call};
+pub use bounds::a_call_makes_few_stores;
 pub use checking::{check_range, check_words, check_write};
 pub use committing::commit;
 pub use ending_level::end;

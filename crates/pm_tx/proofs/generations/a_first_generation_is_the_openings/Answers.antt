@@ -8,7 +8,7 @@ pub returns : goal.returns
 returns c = record {
   unraised = λ o v steps k lane unended first ready none. unraised_first o v steps k lane ready first unended none;
   looks = looks_first;
-  commits = λ o v spans n k lane working are first ready. commit_first o v (commits spans n v) k lane ready first (commits_of v spans n k lane working are);
+  commits = λ o v spans n k lane working are first ready. commit_first o v (commits spans n v) k lane ready first (λ i. commits_of v spans n i lane working are);
   gives_up = λ o v spans operation reply n k lane working none are first ready.
-      give_up_first o v (gives_up spans operation reply n v) k lane ready first (gives_up_of v spans operation reply n k lane working none are);
+      give_up_first o v (gives_up spans operation reply n v) k lane ready first (λ i. gives_up_of v spans operation reply n i lane working none are);
 }
