@@ -1,5 +1,5 @@
 -- A range that is recorded, written or read at work.
-use Rattle.std.proofs.Common.{◌≡◌, ◌≢◌, ◌⊎◌, ⊎_elim, inl, inr, ℕ, ◌+◌, Bool, false, cond, eqb, List, [], ◌∷◌, ◌++◌, length, slice_index, take, None, Some, refl, sym, ap, ◌∙◌, subst}
+use Rattle.std.proofs.Common.{◌≡◌, ◌≢◌, ◌⊎◌, ⊎_elim, inl, inr, ℕ, ◌+◌, ◌*◌, ◌≤◌, Bool, false, cond, eqb, List, [], ◌∷◌, ◌++◌, length, slice_index, take, None, Some, refl, sym, ap, ◌∙◌, subst, arith}
 use Rattle.pm_crash.specs.Writes.{words_written, written_word}
 use Rattle.pm_memory.specs.Solo.{Sees, Solo}
 use Rattle.pm_model.specs.Bytes.{covered_words, is_among}
@@ -12,6 +12,12 @@ use Rattle.pm_objects.specs.declared.refusal.Refusal.{Refusal}
 use Rattle.pm_objects.specs.declared.refusal.Refusal.TheVariants as refusal
 use Rattle.pm_script.specs.declared.script.ScriptOp.{ScriptOp}
 use Rattle.pm_script.specs.declared.script.ScriptOp.TheVariants as op
+use Rattle.pm_crash.specs.OpenCall.{words_recorded}
+use Rattle.pm_tx.proofs.LineStores.{add_stores, write_stores}
+use Rattle.pm_tx.proofs.PlannedWords.{plan_short}
+use Rattle.pm_tx.specs.Sequences.{word_count}
+use Rattle.pm_view.specs.Counts.{stores_among}
+use Rattle.pm_view.specs.Log.{Recorded}
 use Rattle.pm_tx.proofs.StepKinds.{Each}
 use Rattle.pm_tx.proofs.Unraised.{IsWork, added_outside, adds_work, writes_work}
 use Rattle.pm_tx.specs.Calls.{HasLooked, IsGivenUpFor, IsStoppedAt}
@@ -30,6 +36,8 @@ use Rattle.pm_script.specs.declared.script.ScriptWant.{ScriptWant}
 use Rattle.pm_world.specs.declared.lane.Lane.{Lane}
 use Rattle.pm_world.specs.declared.lane.Stage.{Stage}
 use Rattle.pm_world.specs.declared.lane.Stage.TheVariants as stage
+use Rattle.pm_exec.specs.Bounds.{most_stores}
+use Rattle.pm_exec.proofs.FewStores.{added_count}
 use Rattle.pm_exec.specs.Calls.{id_of, operation_of}
 use Rattle.pm_script.specs.declared.script.ScriptId.{ScriptId}
 use Rattle.pm_script.specs.declared.script.ScriptLine.{ScriptLine}
@@ -88,6 +96,16 @@ module _ (o : Opening) (first : View) (lane : Lane Solo) (names : Names) (front 
         ap (λ (s : List Span). adds_range s place off len u) (spans_u o first lane names front values a n u looks)
         ∙ (ap (λ (i : Oid). adds_range (spans_of u) i off len u) place_is ∙ ap (λ (x : ScriptOp). line_calls names x 0 u) (sym is))
 
+    abbrev covered : ℕ
+    covered = word_count (place.off + off) len
+
+    -- eight stores for each record, and a record for each word at most
+    add_stored : (u : View) → stores_among (adds_range lane.records.items place off len u) ≤ 8 * covered
+    add_stored u = let all = add_stores lane.records.items place off len u in let few = plan_short lane.records.items (place.off + off) len in omega (arith, all, few)
+
+    add_good : most_stores names said.operation ≡ 9 * covered
+    add_good = ap (most_stores names) is ∙ ap (λ (i : Oid). 9 * word_count (i.off + off) len) (sym place_is)
+
     added : (n : ℕ) (u : View) → (looks : Looks n a.view u) → HasAddedRange o Sees new u lane.records.items place off len → new.level ≡ 1 → IsAtLine o first new names (front ++ said ∷ []) values
     added n u looks h level =
         let lane_is = lane_u o first lane names front values a n u looks in
@@ -99,6 +117,7 @@ module _ (o : Opening) (first : View) (lane : Lane Solo) (names : Names) (front 
         h.added.keeps.words i (ap (λ k. is_in_area k i) lane_is ∙ outside) ∙ (words_u o first lane names front values a n u looks i outside ∙ sym (words_more names front said (slice_index o.words) i ∙ ap (λ (x : ScriptOp). words_by names x (words_after names front (slice_index o.words)) i) is)))
         values (gave_nothing names front said a.view.call t values a.told refl a.gave)
         (record { start = u; free = free_u o first lane names front values a n u looks; number = 0; is = ap (after_all u) (adds_here n u looks) })
+        (let grown = added_count u (after_all u (steps u)) place off len h.added in let stored = add_stored u in let good = add_good in omega (arith, grown, stored, good))
 
     pub add_done : HasLooked a.view (λ w. CanAdd w place off len × HasAddedRange o Sees new w lane.records.items place off len) → new.level ≡ 1 → IsAtLine o first new names (front ++ said ∷ []) values
     add_done t level = added t.loads t.view t.looks t.holds.1 level
@@ -129,7 +148,8 @@ module _ (o : Opening) (first : View) (lane : Lane Solo) (names : Names) (front 
           is = refl;
         } in
         ⊎_elim
-        (λ in_steps. cut_in o first lane names front values a t.loads t.view t.looks new (adds_range spans place off len) (adds_work spans place off len t.view lane_is) (adds_undrawn spans place off len t.view lane_is) said rest in_steps.1 (inr (in_add in_steps.1)) 0 (adds_here t.loads t.view t.looks))
+        (λ in_steps. cut_in o first lane names front values a t.loads t.view t.looks new (adds_range spans place off len) (adds_work spans place off len t.view lane_is) (adds_undrawn spans place off len t.view lane_is) said rest in_steps.1 (inr (in_add in_steps.1)) 0 (adds_here t.loads t.view t.looks)
+        (let stored = add_stored t.view in let good = add_good in omega (arith, stored, good)))
         (λ for_reason. cut_by o first lane names front values a t.loads t.view t.looks new said (record { id = place; off = off; len = len }) t.working rest for_reason)
         t.holds
 
@@ -142,6 +162,9 @@ module _ (o : Opening) (first : View) (lane : Lane Solo) (names : Names) (front 
 
     writes_here : (u : View) → steps u ≡ line_calls names said.operation 0 u
     writes_here u = ap (λ (i : Oid). writes_range i off bytes u) target_is ∙ ap (λ (x : ScriptOp). line_calls names x 0 u) (sym is)
+
+    write_stored : (u : View) → stores_among (steps u) ≡ most_stores names said.operation
+    write_stored u = write_stores target off bytes u ∙ ap (λ (i : Oid). word_count (i.off + off) (length bytes)) target_is ∙ sym (ap (most_stores names) is)
 
     work : (n : ℕ) (u : View) → Looks n a.view u → IsWorking u → CanWrite u target off (length bytes) → Each IsWork (steps u)
     work n u looks working can = writes_work target off bytes (added_outside u (target.off + off) (length bytes) (lane_u o first lane names front values a n u looks) working can.added) u (lane_u o first lane names front values a n u looks)
@@ -164,6 +187,7 @@ module _ (o : Opening) (first : View) (lane : Lane Solo) (names : Names) (front 
         ∙ sym (words_more names front said (slice_index o.words) i ∙ ap (λ (x : ScriptOp). words_by names x (words_after names front (slice_index o.words)) i) is))))
         values (gave_nothing names front said a.view.call told values a.told refl a.gave)
         (record { start = u; free = free_u o first lane names front values a t.loads u t.looks; number = 0; is = ap (after_all u) (writes_here u) })
+        (let same = ap (λ (rs : List Recorded). length (words_recorded rs)) h.written.logs.records in let stored = write_stored u in omega (arith, same, stored))
 
     pub write_cut : (rest : List ScriptLine) → HasLooked a.view (IsStoppedAt Sees new lane.records.items (operation.Write target off bytes) (record { id = target; off = off; len = length bytes }) (λ u. CanWrite u target off (length bytes)) steps) → IsCut o first new names (front ++ said ∷ rest) values
     write_cut rest so =
@@ -172,7 +196,8 @@ module _ (o : Opening) (first : View) (lane : Lane Solo) (names : Names) (front 
         let lane_is = lane_u o first lane names front values a t.loads u t.looks in
         ⊎_elim
         (λ in_steps. cut_in o first lane names front values a t.loads u t.looks new steps (work t.loads u t.looks t.working in_steps.0) (writes_undrawn target off bytes u lane_is) said rest in_steps.1
-        (inl (calm_behind o first lane names front values a t.loads u t.looks (after_all u (take in_steps.1.stops.made (steps u))) t.working (λ quiet. quiet_in_write u target off bytes in_steps.1.stops.made quiet t.working in_steps.0))) 0 (writes_here u))
+        (inl (calm_behind o first lane names front values a t.loads u t.looks (after_all u (take in_steps.1.stops.made (steps u))) t.working (λ quiet. quiet_in_write u target off bytes in_steps.1.stops.made quiet t.working in_steps.0))) 0 (writes_here u)
+        (let stored = write_stored u in omega (arith, stored)))
         (λ for_reason. cut_by o first lane names front values a t.loads u t.looks new said (record { id = target; off = off; len = length bytes }) t.working rest for_reason)
         t.holds
 

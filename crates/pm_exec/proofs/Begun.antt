@@ -28,6 +28,7 @@ use Rattle.pm_world.specs.Records.{generation_of}
 use Rattle.pm_world.specs.Sequences.{Ready, Sequence, by_lane, by_view, in_turn, looks, nothing, one}
 use Rattle.pm_world.specs.declared.lane.Lane.{Lane}
 use Rattle.pm_world.specs.declared.lane.Stage.TheVariants as stage
+use Rattle.pm_exec.proofs.FewStores.{idle_count, led_count, led_stores}
 use Rattle.pm_exec.specs.Calls.{operation_of, want_of}
 use Rattle.pm_exec.specs.Torn.{words_after, words_by}
 use Rattle.pm_model.specs.Shown.{values_of}
@@ -148,6 +149,7 @@ module _ (o : Opening) (first : View) (lane new : Lane Solo) (names : Names) (is
           generation = ap (λ n. slice_index w.words (area_word n)) lane_is ∙ ap (λ (words : List ℕ). slice_index words (area_word 0)) untouched.words;
           words = λ i outside. ap (λ (words : List ℕ). slice_index words i) untouched.words ∙ sym (begin_writes_none (slice_index o.words) i);
           made = line_made w b.led b.entries;
+          few = (let none = led_stores first w b.led in let kept = led_count first w b.led in let before = idle_count first is.idle in omega (arith, none, kept, before));
         }
 
     module _ (rest : List ScriptLine) where
@@ -171,6 +173,7 @@ module _ (o : Opening) (first : View) (lane new : Lane Solo) (names : Names) (is
           left = ap is_work at;
           fails = fails;
           made = record { front = []; said = said; rest = rest; is = refl; middle = first; made = refl; refused = refused_led r b.view b.led why };
+          few = (let none = led_stores first b.view b.led in omega (arith, none));
         };
       }
 

@@ -15,6 +15,8 @@ use Rattle.pm_view.specs.View.{Numbered, View}
 use Rattle.pm_world.specs.Opening.{Opening}
 use Rattle.pm_world.specs.Records.{generation_of}
 use Rattle.pm_world.specs.declared.lane.Lane.{Lane}
+use Rattle.pm_tx.proofs.StoreCounts.{stores_append}
+use Rattle.pm_exec.proofs.FewStores.{calls_more}
 use Rattle.pm_exec.specs.Calls.{call_of, numbers_of}
 use Rattle.pm_exec.specs.Course.{CallsMade, IsCallMade}
 use Rattle.pm_exec.specs.Histories.{settled_fate}
@@ -78,6 +80,7 @@ module _ (o : Opening) (first : View) (lane : Lane Solo) (names : Names) (calls 
                   (entries_then names calls history a.view.entries lines (record { number = number; call = call; reply = reply; fate = fate }) (record { number = number; call = x.told }) a.called.are
                   (record { number = refl; call = is; error = e; ended = x.so; fate = settled }));
               made = made_then names calls history lines (record { number = number; call = call; reply = reply; fate = fate }) e first a.view x.view a.called.made settled x.made;
+              few = (let both = stores_append a.called.steps x.steps in let before = a.called.few in let here = x.few in let more = calls_more names calls lines in omega (arith, both, before, here, more));
             };
             rests = x.rests;
             idle = x.idle;

@@ -1,10 +1,13 @@
 -- What a line that records or writes comes to, from a lane at work: it is done, or its call is given up for it, or the lane stops.
-use Rattle.std.proofs.Common.{◌≡◌, inl, inr, refl, subst, ℕ, ◌+◌, ◌<◌, length, false, List, [], ◌∷◌, ◌++◌, map, slice_index, take, Option, None, Some, sym, ap, ◌∙◌, arith}
+use Rattle.std.proofs.Common.{◌≡◌, inl, inr, refl, subst, ℕ, ◌+◌, ◌≤◌, length, false, List, [], ◌∷◌, ◌++◌, map, slice_index, take, Option, None, Some, sym, ap, ◌∙◌, arith}
 use Rattle.pm_crash.proofs.Leading.{leads_then}
 use Rattle.pm_crash.specs.Leading.{Leads}
 use Rattle.pm_image.specs.Logs.{generation_word}
+use Rattle.pm_memory.specs.Runs.{Stops}
 use Rattle.pm_memory.specs.Solo.{Sees, Solo}
 use Rattle.pm_model.specs.Checks.{Range}
+use Rattle.pm_crash.specs.OpenCall.{words_recorded}
+use Rattle.pm_objects.specs.declared.calls.Operation.{Operation}
 use Rattle.pm_objects.specs.declared.history.TxErr.TheVariants as error
 use Rattle.pm_objects.specs.declared.history.Value.{Value}
 use Rattle.pm_objects.specs.declared.history.Value.TheVariants.{Refused}
@@ -14,9 +17,11 @@ use Rattle.pm_script.specs.declared.script.ScriptOp.{ScriptOp}
 use Rattle.pm_tx.proofs.GiveUpCourse.{gives_up_of}
 use Rattle.pm_tx.proofs.Leading.{ended_leads, ready_leads, stopped_leads}
 use Rattle.pm_tx.proofs.OpeningGeneration.{give_up_first, unraised_first}
-use Rattle.pm_tx.proofs.ReadyGenerations.{looks_generation, raised_when_ready}
+use Rattle.pm_tx.proofs.ReadyGenerations.{looks_generation, unraised_when_ready}
 use Rattle.pm_tx.proofs.StepKinds.{Each, each_first}
-use Rattle.pm_tx.proofs.Unraised.{IsWork, all_work_raises, looks_lead}
+use Rattle.pm_tx.proofs.LineStores.{give_up_few}
+use Rattle.pm_tx.proofs.StoreCounts.{stores_append, stores_counted, stores_first}
+use Rattle.pm_tx.proofs.Unraised.{IsWork, all_work_raises}
 use Rattle.pm_tx.specs.AtWork.{IsAtWork}
 use Rattle.pm_tx.specs.Calls.{IsGivenUpFor, IsStoppedFor}
 use Rattle.pm_tx.specs.Ending.{DrawEnded, IsEndedBy, IsStoppedIn}
@@ -24,9 +29,10 @@ use Rattle.pm_tx.specs.Generations.{is_ending}
 use Rattle.pm_tx.specs.Learning.{Looks}
 use Rattle.pm_tx.specs.Sequences.{gives_up}
 use Rattle.pm_tx.specs.Stages.{is_work}
+use Rattle.pm_undo.specs.Spans.{words_in}
 use Rattle.pm_undo.specs.Working.{IsWorking}
 use Rattle.pm_view.specs.Area.{is_in_area}
-use Rattle.pm_view.specs.Counts.{counted}
+use Rattle.pm_view.specs.Counts.{stores_among}
 use Rattle.pm_view.specs.Log.{Log}
 use Rattle.pm_view.specs.Steps.{Step}
 use Rattle.pm_view.specs.View.{Numbered, Told, View}
@@ -38,6 +44,8 @@ use Rattle.pm_world.specs.Sequences.{Ready, Sequence, by_view}
 use Rattle.pm_world.specs.declared.lane.Lane.{Lane}
 use Rattle.pm_world.specs.declared.lane.Span.{Span}
 use Rattle.pm_world.specs.declared.lane.Stage.TheVariants as stage
+use Rattle.pm_exec.specs.Bounds.{most_stores, recorded_count, stores_of_call, stores_of_lines}
+use Rattle.pm_exec.proofs.FewStores.{lines_more, lines_within, spans_count}
 use Rattle.pm_exec.specs.Calls.{operation_of}
 use Rattle.pm_exec.specs.Progress.{IsAtLine, IsCalmBehind, IsCut, IsGivenUpAt, AreToldDone, IsToldDone, IsUntorn, Values, numbered, refused, values_told}
 use Rattle.pm_exec.specs.Course.{IsFree, IsFrontOf, IsGivenUpMade, IsLineMade, IsRefusalMade, line_calls, refused_calls, spans_of}
@@ -53,13 +61,10 @@ use Rattle.pm_exec.proofs.LooksAlone.{IsSameBut, looks_same}
 use Rattle.pm_exec.proofs.UndrawnSteps.{IsUndrawn, Keeps, all_undrawn_keep, first_undrawn_keep}
 
 -- the first of some steps are the first of a sequence that has them here
-pub front_of : (u : View) (steps : List Step) (target : Sequence) (k : ℕ) → steps ≡ target u → k < length steps → counted (take (k + 1) steps) ≡ counted (take k steps) + 1 → IsFrontOf target u (after_all u (take k steps))
-front_of u steps target k here fewer due = record {
-  made = k;
-  fewer = subst (λ (s : List Step). k < length s) here fewer;
-  is = ap (λ (s : List Step). after_all u (take k s)) here;
-  due = subst (λ (s : List Step). counted (take (k + 1) s) ≡ counted (take k s) + 1) here due;
-}
+pub front_of : (new : View → Type 0) (u : View) (steps : List Step) (target : Sequence) → steps ≡ target u → (stops : Stops new u steps) → IsFrontOf target u (after_all u (take stops.made steps))
+front_of new u steps target here stops =
+    let w : View = after_all u (take stops.made steps) in
+    subst (Stops (λ (x : View). w ≡ x) u) here (record { made = stops.made; fewer = stops.fewer; seen = refl; stopped = stops.stopped; due = stops.due })
 
 -- a call is given up with the records that its view has
 pub gives_up_here : (names : Names) (op : ScriptOp) (r : Refusal) (n : ℕ) (u : View) (spans : List Span) → spans ≡ spans_of u → gives_up spans (operation_of names op) (Some (Refused r)) n u ≡ refused_calls names op r n u
@@ -73,7 +78,7 @@ module _ (o : Opening) (first : View) (lane : Lane Solo) (names : Names) (front 
     same = looks_same n a.view u looks a.alone
 
     pub to_u : (steps : List Step) × (Leads first steps u)
-    to_u = let l = looks_lead n a.view u looks in (a.steps ++ l.0, leads_then first a.view u a.steps l.0 a.leads l.1.0)
+    to_u = let l = looks_led n a.view u looks in (a.steps ++ l.0, leads_then first a.view u a.steps l.0 a.leads l.1.0)
 
     pub free_u : IsFree a.view u
     free_u = let l = looks_led n a.view u looks in record { led = record { steps = l.0; leads = l.1.0; uncounted = l.1.1 }; undrawn = same.entries }
@@ -89,6 +94,19 @@ module _ (o : Opening) (first : View) (lane : Lane Solo) (names : Names) (front 
 
     unended_u : is_ending u.log.phase ≡ false
     unended_u = ap (λ (l : Log). is_ending l.phase) log_u ∙ ap is_ending a.works.working.is_open
+
+    pub few_u : stores_among to_u.0 + recorded_count u ≤ stores_of_lines names front
+    unfolding to_u
+    few_u =
+        let l = looks_led n a.view u looks in
+        let both = stores_append a.steps l.0 in let none = stores_counted l.0 in let free = l.1.1 in
+        let same = ap (λ (log : Log). length (words_recorded log.records)) log_u in
+        let before = a.few in omega (arith, both, none, free, same, before)
+
+    -- steps behind them that store at most as much as the line is good for
+    few_in : (said : ScriptLine) (rest : List ScriptLine) (steps : List Step) → stores_among steps ≤ recorded_count u + most_stores names said.operation + 1 → stores_among (to_u.0 ++ steps) ≤ stores_of_call names (front ++ said ∷ rest)
+    few_in said rest steps few =
+        let both = stores_append to_u.0 steps in let before = few_u in let within = lines_within names front rest said in omega (arith, both, before, within, few)
 
     pub entries_u : u.entries ≡ first.entries
     entries_u = same.entries ∙ a.entries
@@ -119,11 +137,11 @@ module _ (o : Opening) (first : View) (lane : Lane Solo) (names : Names) (front 
 
       pub at_next : Ready u (steps u) → DrawEnded u (steps u) → IsAtWork o Sees new w → new.level ≡ 1 → (t : Told) → IsToldDone names said.operation t → w.call ≡ u.call ++ t ∷ []
           → ((i : ℕ) → is_in_area 0 i ≡ false → slice_index w.words i ≡ words_after names (front ++ said ∷ []) (slice_index o.words) i)
-          → (given : Values) → given ≡ values_told (front ++ said ∷ []) (a.view.call ++ t ∷ []) → IsLineMade names said.operation a.view w → IsAtLine o first new names (front ++ said ∷ []) given
-      at_next ready draws works level t is_done told words given gave made =
+          → (given : Values) → given ≡ values_told (front ++ said ∷ []) (a.view.call ++ t ∷ []) → IsLineMade names said.operation a.view w
+          → stores_among (steps u) + recorded_count w ≤ recorded_count u + most_stores names said.operation → IsAtLine o first new names (front ++ said ∷ []) given
+      at_next ready draws works level t is_done told words given gave made few =
           let leads = ready_leads u (steps u) ready draws in
-          let raised = raised_when_ready u (steps u) lane_u ready in
-          let none = all_work_raises (steps u) work in
+          let raised = unraised_when_ready u (steps u) lane_u ready (all_work_raises (steps u) work) in
           let call : w.call ≡ a.view.call ++ t ∷ [] = told ∙ ap (λ (ts : List Told). ts ++ t ∷ []) call_u in
           record {
             view = w;
@@ -136,15 +154,16 @@ module _ (o : Opening) (first : View) (lane : Lane Solo) (names : Names) (front 
             told = subst (AreToldDone names (front ++ said ∷ [])) (sym call) (told_more names front said a.view.call t a.told is_done);
             gave = gave ∙ ap (values_told (front ++ said ∷ [])) (sym call);
             entries = keeps.entries ∙ entries_u;
-            generation = (let g = generation_u in omega (arith, raised, none, g));
+            generation = (let g = generation_u in omega (arith, raised, g));
             words = words;
             made = made_more names front said first a.view w a.made made;
+            few = (let both = stores_append to_u.0 (steps u) in let before = few_u in let more = lines_more names front said in omega (arith, both, before, more, few));
           }
 
       -- or the lane stopped in it
       pub cut_in : (rest : List ScriptLine) (stopped : IsStoppedIn Sees new u steps (operation_of names said.operation) None) → IsUntorn o first names (front ++ said ∷ rest) (after_all u (take stopped.stops.made (steps u)))
-          → (number : ℕ) → steps u ≡ line_calls names said.operation number u → IsCut o first new names (front ++ said ∷ rest) values
-      cut_in rest stopped untorn number are =
+          → (number : ℕ) → steps u ≡ line_calls names said.operation number u → stores_among (steps u) ≤ most_stores names said.operation → IsCut o first new names (front ++ said ∷ rest) values
+      cut_in rest stopped untorn number are few =
           let k : ℕ = stopped.stops.made in
           let m : View = after_all u (take k (steps u)) in
           let kept : Keeps u m = first_undrawn_keep u (steps u) k undrawn in
@@ -168,12 +187,18 @@ module _ (o : Opening) (first : View) (lane : Lane Solo) (names : Names) (front 
               start = u;
               free = free_u;
               number = number;
-              stops = inl (front_of u (steps u) (line_calls names said.operation number) k are stopped.stops.fewer stopped.stops.due);
+              stops = inl (front_of (Sees new.memory) u (steps u) (line_calls names said.operation number) are stopped.stops);
             };
+            few = few_in said rest (take k (steps u)) (let part = stores_first k (steps u) in omega (arith, part, few));
           }
 
     -- the call is given up for it
     module _ (new : Lane Solo) (said : ScriptLine) (range : Range) (working : IsWorking u) where
+      given_up_few : (operation : Operation) (reply : Option Value) (number : ℕ) → stores_among (gives_up lane.records.items operation reply number u) ≤ recorded_count u + most_stores names said.operation + 1
+      given_up_few operation reply number =
+          let few = give_up_few lane.records.items operation reply number u in
+          let spans = ap (λ (s : List Span). length (words_in s)) spans_u in let same = spans_count u.log.records in omega (arith, few, spans, same)
+
       pub over_by : (r : Refusal) → IsGivenUpFor Sees new lane.records.items (operation_of names said.operation) range r u → new.level ≡ 1 → new.stage ≡ stage.OnAbort → new.error ≡ error.Refused r
           → ((w : View) → IsGivenUpMade names said.operation r a.view w → IsRefusalMade names said.operation r a.view w) → (rest : List ScriptLine) → IsGivenUpAt first new names (front ++ said ∷ rest) values said.line r
       over_by r g level at fails refusal_made rest =
@@ -207,6 +232,7 @@ module _ (o : Opening) (first : View) (lane : Lane Solo) (names : Names) (front 
                   is = ap (after_all u) (gives_up_here names said.operation r new.last u lane.records.items spans_u);
                 });
               };
+              few = few_in said rest (steps u) (given_up_few (operation_of names said.operation) (Some (Refused r)) new.last);
             };
           }
 
@@ -227,7 +253,7 @@ module _ (o : Opening) (first : View) (lane : Lane Solo) (names : Names) (front 
             seen = stopped.stops.seen;
             drawn = stopped.drawn;
             came = inl (record { number = kept.number ∙ undrawn_u; entries = kept.entries ∙ entries_u });
-            opening = give_up_first o u (steps u) k lane_u stopped.ready generation_u (gives_up_of u lane.records.items (operation_of names said.operation) reply new.last k lane_u working no_entries spans_u);
+            opening = give_up_first o u (steps u) k lane_u stopped.ready generation_u (λ i. gives_up_of u lane.records.items (operation_of names said.operation) reply new.last i lane_u working no_entries spans_u);
             untorn = inl (calm_behind m working (λ quiet. quiet_in_give_up u lane.records.items (operation_of names said.operation) reply new.last k quiet working spans_u));
             at_stop = stopped.stops.stopped;
             stops = record {
@@ -240,6 +266,7 @@ module _ (o : Opening) (first : View) (lane : Lane Solo) (names : Names) (front 
               start = u;
               free = free_u;
               number = new.last;
-              stops = inr (s.refusal, front_of u (steps u) (refused_calls names said.operation s.refusal new.last) k (gives_up_here names said.operation s.refusal new.last u lane.records.items spans_u) stopped.stops.fewer stopped.stops.due);
+              stops = inr (s.refusal, front_of (Sees new.memory) u (steps u) (refused_calls names said.operation s.refusal new.last) (gives_up_here names said.operation s.refusal new.last u lane.records.items spans_u) stopped.stops);
             };
+            few = few_in said rest (take k (steps u)) (let part = stores_first k (steps u) in let all = given_up_few (operation_of names said.operation) reply new.last in omega (arith, part, all));
           }

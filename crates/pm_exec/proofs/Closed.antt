@@ -22,6 +22,7 @@ use Rattle.pm_world.specs.Opening.{Opening}
 use Rattle.pm_world.specs.Sequences.{one}
 use Rattle.pm_world.specs.declared.lane.HeldLock.{HeldLock}
 use Rattle.pm_world.specs.declared.lane.Lane.{Lane}
+use Rattle.pm_tx.proofs.StoreCounts.{stores_append, stores_counted}
 use Rattle.pm_exec.specs.Course.{AreMade}
 use Rattle.pm_exec.specs.Progress.{HasEnded, IsAnswered, IsCommitted, IsCut, IsGivenUpAt, IsHalted, IsOver, IsRefusedAt, Values}
 use Rattle.pm_exec.specs.declared.calls.Names.{Names}
@@ -71,6 +72,7 @@ answered first lane new names lines told error found reply over c is so =
         made = subst (λ (e : TxErr). AreMade names lines e first v) (sym (is ∙ over.fails)) over.made;
         closed = record { led = record { steps = steps; leads = leads; uncounted = gives_uncounted lane.locks.items v over.behind.seen.memory.lane }; undrawn = entries };
       };
+      few = (let both = stores_append over.steps steps in let counts = stores_counted steps in let none = gives_uncounted lane.locks.items v over.behind.seen.memory.lane in let before = over.few in omega (arith, both, counts, none, before));
     }
 
 -- what was given up at a line has ended with that line's reply

@@ -1,6 +1,7 @@
 -- Where a commit stops behind its draw its call is in flight; and where one that is given up stops, it has drawn no number.
-use Rattle.std.proofs.Common.{◌≡◌, ◌≢◌, ⊎_elim, ℕ, zero, suc, ◌+◌, ◌/◌, ◌<◌, cond, ltb, List, [], ◌∷◌, ◌++◌, is_some, length, map, take, Option, Some, None, refl, sym, ap, ◌∙◌, subst, arith}
+use Rattle.std.proofs.Common.{◌≡◌, ⊎_elim, ℕ, zero, suc, ◌+◌, ◌/◌, ◌<◌, cond, ltb, List, [], ◌∷◌, ◌++◌, is_some, length, map, take, Option, Some, None, refl, sym, ap, ◌∙◌, subst, arith}
 use Rattle.std.proofs.lemmas.Option.{none-some}
+use Rattle.pm_crash.specs.Alone.{IsUnsealed}
 use Rattle.pm_objects.specs.declared.calls.Operation.{Operation}
 use Rattle.pm_objects.specs.declared.calls.Operation.TheVariants.{Commit}
 use Rattle.pm_objects.specs.declared.history.Value.{Value}
@@ -15,7 +16,7 @@ use Rattle.pm_view.specs.Area.{Part, area_word, part_of}
 use Rattle.pm_view.specs.Area.Part.{GenerationWord}
 use Rattle.pm_view.specs.Counts.{max_changes}
 use Rattle.pm_view.specs.Log.{Log, Phase, Recorded, log_drained, log_drawn, log_stored, phase_drawn}
-use Rattle.pm_view.specs.Log.Phase.{Drawn, Idle, Open, Retiring}
+use Rattle.pm_view.specs.Log.Phase.{Drawn, Open, Retiring}
 use Rattle.pm_view.specs.Steps.{Step}
 use Rattle.pm_view.specs.Steps.Step.{Load, Store, Flush, Drain, Draw, Tell}
 use Rattle.pm_view.specs.View.{View}
@@ -39,29 +40,23 @@ retires_are m none =
     let w : ℕ = area_word m.lane in
     ap (λ (room : List Step). Load w (generation_of m) ∷ ((room ++ Store w (generation_of m + 1) ∷ []) ++ Flush (w / 8) ∷ Drain ∷ [])) (no_room_made (after m (Load w (generation_of m))) none)
 
-drawn_flies : Drawn ≢ Idle
-drawn_flies same = cc
-
-retiring_flies : Retiring ≢ Idle
-retiring_flies same = cc
-
 -- the log once the next generation is stored
 stored_log : (m : View) (x : ℕ) → m.log.phase ≡ Drawn → (log_stored m.log.phase (part_of m.lane (area_word m.lane)) x m.log).phase ≡ Retiring
 stored_log m x is = ap (λ (part : Part). (log_stored m.log.phase part x m.log).phase) (generation_word m.lane) ∙ ap (λ (p : Phase). (log_stored p GenerationWord x m.log).phase) is
 
 -- before the last of them the call is in flight
 ends_fly : (m : View) (j x : ℕ) → m.log.phase ≡ Drawn → j < 4
-    → (after_all m (take j (Load (area_word m.lane) x ∷ Store (area_word m.lane) (x + 1) ∷ Flush (area_word m.lane / 8) ∷ Drain ∷ []))).log.phase ≢ Idle
+    → IsUnsealed (after_all m (take j (Load (area_word m.lane) x ∷ Store (area_word m.lane) (x + 1) ∷ Flush (area_word m.lane / 8) ∷ Drain ∷ []))).log.phase
 unfolding after_all
-ends_fly m zero x is below = λ idle. drawn_flies (sym is ∙ idle)
-ends_fly m (suc zero) x is below = λ idle. drawn_flies (sym is ∙ idle)
-ends_fly m (suc (suc zero)) x is below = λ idle. retiring_flies (sym (stored_log m (x + 1) is) ∙ idle)
-ends_fly m (suc (suc (suc zero))) x is below = λ idle. retiring_flies (sym (stored_log m (x + 1) is) ∙ idle)
+ends_fly m zero x is below = subst IsUnsealed (sym is) tt
+ends_fly m (suc zero) x is below = subst IsUnsealed (sym is) tt
+ends_fly m (suc (suc zero)) x is below = subst IsUnsealed (sym (stored_log m (x + 1) is)) tt
+ends_fly m (suc (suc (suc zero))) x is below = subst IsUnsealed (sym (stored_log m (x + 1) is)) tt
 ends_fly m (suc (suc (suc (suc j)))) x is below = absurd (omega (arith, below))
 
-retires_fly : (m : View) (j : ℕ) → m.log.phase ≡ Drawn → m.changes ≡ [] → j < length (retires m) → (after_all m (take j (retires m))).log.phase ≢ Idle
+retires_fly : (m : View) (j : ℕ) → m.log.phase ≡ Drawn → m.changes ≡ [] → j < length (retires m) → IsUnsealed (after_all m (take j (retires m))).log.phase
 retires_fly m j is none =
-    subst (λ (steps : List Step). j < length steps → (after_all m (take j steps)).log.phase ≢ Idle) (sym (retires_are m none)) (ends_fly m j (generation_of m) is)
+    subst (λ (steps : List Step). j < length steps → IsUnsealed (after_all m (take j steps)).log.phase) (sym (retires_are m none)) (ends_fly m j (generation_of m) is)
 
 -- the records of a call at work are the same once all is persistent
 settled_log : (v : View) → v.log.phase ≡ Open [] [] → (changes : List Change) → log_settled changes v ≡ v.log
@@ -96,25 +91,25 @@ module _ (v : View) (lane : v.lane ≡ 0) (working : IsWorking v) (n : ℕ) wher
   unfolding after_all
   behind_draw = after_all-append v (settles v) (Tell Commit None ∷ Draw n ∷ [])
 
-  any_flies : (records : List Recorded) → v.log.records ≡ records → (j : ℕ) → j < length (retires_any (map span_of records) drawn) → (after_all drawn (take j (retires_any (map span_of records) drawn))).log.phase ≢ Idle
+  any_flies : (records : List Recorded) → v.log.records ≡ records → (j : ℕ) → j < length (retires_any (map span_of records) drawn) → IsUnsealed (after_all drawn (take j (retires_any (map span_of records) drawn))).log.phase
   unfolding retires_any nothing
   any_flies [] are j below = absurd (omega (arith, below))
   any_flies (r ∷ records) are j below = retires_fly drawn j (drawn_phase ∙ ap (λ (rs : List Recorded). phase_drawn rs v.log.entries) are) drawn_drained below
 
   pub commit_flies : (spans : List Span) (k number : ℕ) → spans ≡ map span_of v.log.records → k < length (commits spans n v) → (after_all v (take k (commits spans n v))).number ≡ Some number
-      → (after_all v (take k (commits spans n v))).log.phase ≢ Idle
+      → IsUnsealed (after_all v (take k (commits spans n v))).log.phase
   commit_flies spans k number are below some =
       let ys : List Step = retires_any spans drawn in
       let all : List Step = settles v ++ Tell Commit None ∷ Draw n ∷ ys in
       let same = commits_are spans in
       let w : View = after_all v (take k all) in
       let w_is : after_all v (take k (commits spans n v)) ≡ w = ap (λ (steps : List Step). after_all v (take k steps)) same in
-      subst (λ (u : View). u.log.phase ≢ Idle) (sym w_is)
+      subst (λ (u : View). IsUnsealed u.log.phase) (sym w_is)
       (⊎_elim
       (λ (keeps : Keeps v w). absurd (none-some number (sym working.undrawn ∙ (sym keeps.number ∙ (sym (ap (λ (u : View). u.number) w_is) ∙ some)))))
       (λ (behind : (j : ℕ) × ((j < length ys) × (w ≡ after_all (after_all v (settles v ++ Tell Commit None ∷ Draw n ∷ [])) (take j ys)))).
-      subst (λ (u : View). u.log.phase ≢ Idle) (sym (behind.1.1 ∙ ap (λ (u : View). after_all u (take behind.0 ys)) behind_draw))
-      (subst (λ (s : List Span). behind.0 < length (retires_any s drawn) → (after_all drawn (take behind.0 (retires_any s drawn))).log.phase ≢ Idle) (sym are) (any_flies v.log.records refl behind.0) behind.1.0))
+      subst (λ (u : View). IsUnsealed u.log.phase) (sym (behind.1.1 ∙ ap (λ (u : View). after_all u (take behind.0 ys)) behind_draw))
+      (subst (λ (s : List Span). behind.0 < length (retires_any s drawn) → IsUnsealed (after_all drawn (take behind.0 (retires_any s drawn))).log.phase) (sym are) (any_flies v.log.records refl behind.0) behind.1.0))
       (before_or_behind v (settles v) (Tell Commit None) (Draw n) ys k (settles_undrawn v lane) tt (subst (λ (steps : List Step). k < length steps) same below)))
 
 -- a call that is given up draws its number last

@@ -1,7 +1,8 @@
 -- What a commit comes to, from a lane at work.
-use Rattle.std.proofs.Common.{◌≡◌, ◌≢◌, ⊎_elim, inl, inr, ℕ, ◌<◌, List, [], ◌∷◌, ◌++◌, length, take, None, Some, refl, sym, ap, ◌∙◌, subst}
+use Rattle.std.proofs.Common.{◌≡◌, ⊎_elim, inl, inr, ℕ, ◌<◌, List, [], ◌∷◌, ◌++◌, length, take, None, Some, refl, sym, ap, ◌∙◌, subst, ◌≤◌, arith}
 use Rattle.std.proofs.lemmas.Option.{none-some}
 use Rattle.pm_crash.proofs.Leading.{leads_then}
+use Rattle.pm_crash.specs.Alone.{IsUnsealed}
 use Rattle.pm_memory.specs.Solo.{Sees, Solo}
 use Rattle.pm_objects.specs.declared.calls.Operation.TheVariants.{Commit}
 use Rattle.pm_script.specs.declared.script.ScriptLine.{ScriptLine}
@@ -13,7 +14,6 @@ use Rattle.pm_tx.proofs.OpeningGeneration.{commit_first}
 use Rattle.pm_tx.specs.Ending.{IsDrawnAs, IsEndedBy, IsStoppedIn}
 use Rattle.pm_tx.specs.Sequences.{commits}
 use Rattle.pm_tx.specs.Stages.{is_work}
-use Rattle.pm_view.specs.Log.Phase.{Idle}
 use Rattle.pm_view.specs.View.{Numbered, Told, View}
 use Rattle.pm_view.specs.Views.{after_all}
 use Rattle.pm_world.specs.Opening.{Opening}
@@ -21,6 +21,12 @@ use Rattle.pm_world.specs.Sequences.{Sequence, by_view}
 use Rattle.pm_world.specs.declared.lane.Span.{Span}
 use Rattle.pm_world.specs.declared.lane.Lane.{Lane}
 use Rattle.pm_world.specs.declared.lane.Stage.TheVariants as stage
+use Rattle.pm_tx.proofs.StoreCounts.{stores_append, stores_first}
+use Rattle.pm_tx.proofs.LineStores.{commit_few}
+use Rattle.pm_view.specs.Counts.{stores_among}
+use Rattle.pm_view.specs.Steps.{Step}
+use Rattle.pm_exec.specs.Bounds.{stores_of_call}
+use Rattle.pm_exec.proofs.FewStores.{lines_within}
 use Rattle.pm_exec.specs.Course.{IsFree, line_calls}
 use Rattle.pm_exec.specs.Progress.{AreToldDone, IsAtLine, IsCommitted, IsCut, IsInFlight, IsToldDone, Values, done, numbered, values_told}
 use Rattle.pm_exec.specs.declared.calls.Names.{Names}
@@ -51,6 +57,11 @@ module _ (o : Opening) (first : View) (lane : Lane Solo) (names : Names) (front 
   unfolding by_view
   commits_here = ap (λ (s : List Span). commits s new.last v) a.works.seen.records ∙ ap (λ (x : ScriptOp). line_calls names x new.last v) (sym is)
 
+  -- one store more, of the generation
+  few_in : (more : List Step) → stores_among more ≤ 1 → stores_among (a.steps ++ more) ≤ stores_of_call names (front ++ said ∷ [])
+  few_in more few =
+      let both = stores_append a.steps more in let before = a.few in let within = lines_within names front [] said in omega (arith, both, before, within, few)
+
   -- it is over
   pub committed : IsEndedBy Sees new v steps Commit None → new ≡ record lane { memory = new.memory; records = new.records; stage = stage.OnCommit; drawn = Some new.last; last = new.last }
       → IsCommitted first new names (front ++ said ∷ []) values
@@ -70,6 +81,7 @@ module _ (o : Opening) (first : View) (lane : Lane Solo) (names : Names) (front 
           left = ap (λ (l : Lane Solo). is_work l.stage) fields;
           fails = ap (λ (l : Lane Solo). l.error) fields ∙ a.works.unharmed;
           made = made_more names front said first v w a.made (record { start = v; free = at_once; number = new.last; is = ap (after_all v) commits_here });
+          few = few_in (steps v) (commit_few lane.records.items new.last v);
         };
       }
 
@@ -89,7 +101,7 @@ module _ (o : Opening) (first : View) (lane : Lane Solo) (names : Names) (front 
             (λ (drawn : (n : ℕ) × IsDrawnAs v w n). inr (in_flight k w refl drawn.0 drawn.1 s.stops.fewer
             (⊎_elim (λ (none : w.number ≡ None). absurd (none-some drawn.0 (sym none ∙ drawn.1.number))) (λ (told : w.call ≡ v.call ++ done Commit ∷ []). told) s.came.told)))
             s.came.entries;
-        opening = commit_first o v (steps v) k a.of_lane s.ready a.generation (commits_of v lane.records.items new.last k a.of_lane a.works.working a.works.seen.records);
+        opening = commit_first o v (steps v) k a.of_lane s.ready a.generation (λ i. commits_of v lane.records.items new.last i a.of_lane a.works.working a.works.seen.records);
         untorn = inl (record { view = v; steps = a.steps; leads = a.leads; working = a.works.working; calm = λ quiet. quiet_in_commit v lane.records.items new.last k quiet });
         at_stop = s.stops.stopped;
         stops = record {
@@ -102,8 +114,9 @@ module _ (o : Opening) (first : View) (lane : Lane Solo) (names : Names) (front 
           start = v;
           free = at_once;
           number = new.last;
-          stops = inl (front_of v (steps v) (line_calls names said.operation new.last) k commits_here s.stops.fewer s.stops.due);
+          stops = inl (front_of (Sees new.memory) v (steps v) (line_calls names said.operation new.last) commits_here s.stops);
         };
+        few = few_in (take k (steps v)) (let part = stores_first k (steps v) in let all = commit_few lane.records.items new.last v in omega (arith, part, all));
       }
     where
       in_flight : (k : ℕ) (w : View) → after_all v (take k (steps v)) ≡ w → (n : ℕ) → IsDrawnAs v w n → k < length (steps v) → w.call ≡ v.call ++ done Commit ∷ [] → IsInFlight first names (front ++ said ∷ []) values w
@@ -112,7 +125,7 @@ module _ (o : Opening) (first : View) (lane : Lane Solo) (names : Names) (front 
         drawn = drawn.number;
         told = w.call;
         entries = drawn.entries ∙ ap (λ (es : List Numbered). es ++ numbered n w.call ∷ []) a.entries;
-        flies = subst (λ (u : View). u.number ≡ Some n → u.log.phase ≢ Idle) is (commit_flies v a.of_lane a.works.working new.last lane.records.items k n a.works.seen.records fewer) drawn.number;
+        flies = subst (λ (u : View). u.number ≡ Some n → IsUnsealed u.log.phase) is (commit_flies v a.of_lane a.works.working new.last lane.records.items k n a.works.seen.records fewer) drawn.number;
         done = told_is w.call told;
         gave = gave_is w.call told;
       }

@@ -24,6 +24,10 @@ use Rattle.pm_view.specs.Log.{Log, no_log}
 use Rattle.pm_view.specs.Log.Phase.{Idle}
 use Rattle.pm_world.specs.Crash.{loses}
 use Rattle.pm_world.specs.Records.{generation_of}
+use Rattle.pm_tx.proofs.StoreCounts.{stores_append}
+use Rattle.pm_view.specs.Counts.{stores_among}
+use Rattle.pm_exec.specs.Bounds.{stores_of_call, stores_of_calls}
+use Rattle.pm_exec.proofs.FewStores.{calls_within, led_stores}
 use Rattle.pm_exec.proofs.Along.{lane_along}
 use Rattle.pm_objects.specs.declared.history.TxErr.{TxErr}
 use Rattle.pm_objects.specs.declared.history.TxErr.TheVariants as error
@@ -43,7 +47,7 @@ use Rattle.pm_exec.specs.declared.calls.Names.{Names}
 use Rattle.pm_exec.specs.declared.running.Halt.{Halt}
 use Rattle.pm_exec.proofs.RisingCalls.{AreRising}
 use Rattle.pm_exec.proofs.ShownCalls.{entry_open}
-use Rattle.pm_exec.proofs.ShownHistories.{AreShown, IsShownAs, Rises, numbers_count, shown_answered, shown_more}
+use Rattle.pm_exec.proofs.ShownHistories.{AreShown, IsShownAs, Rises, numbers_count, shown_answered, shown_more, as_many}
 use Rattle.pm_exec.proofs.StoppedEnd.{counted_exactly, stopped_at}
 
 -- an answered call's entry is not lost
@@ -71,14 +75,6 @@ settled_at names (call ∷ calls) [] entries are k d low = absurd are
 settled_at names (call ∷ calls) (e ∷ history) [] are k d low = absurd are
 settled_at names (call ∷ calls) (e ∷ history) (n ∷ entries) are zero d low = settled are.0.error e.fate are.0.fate
 settled_at names (call ∷ calls) (e ∷ history) (n ∷ entries) are (suc k) d low = settled_at names calls history entries are.1 k d (omega (arith, low))
-
-entries_as_many : (names : Names) (calls : List (List ScriptLine)) (history : List Entry) (entries : List Numbered) → AreEntries names calls history entries → length history ≡ length calls
-entries_as_many names [] [] [] are = refl
-entries_as_many names [] [] (n ∷ entries) are = absurd are
-entries_as_many names [] (e ∷ history) entries are = absurd are
-entries_as_many names (call ∷ calls) [] entries are = absurd are
-entries_as_many names (call ∷ calls) (e ∷ history) [] are = absurd are
-entries_as_many names (call ∷ calls) (e ∷ history) (n ∷ entries) are = let rest = entries_as_many names calls history entries are.1 in omega (arith, rest)
 
 rising_front : (calls more : List (List ScriptLine)) → AreRising (calls ++ more) → AreRising calls
 rising_front [] more rising = All-nil Rises
@@ -122,6 +118,7 @@ pub record IsEnded (o : Opening) (first : View) (lane : Lane Solo) (names : Name
   pub last : View
   pub steps : List Step
   pub leads : Leads first steps last
+  pub few : stores_among steps ≤ stores_of_calls names all
   pub seen : Sees lane.memory last
   pub ends : ComesToEnd names behind ended middle last
   pub numbered : List (List ScriptLine)
@@ -146,7 +143,7 @@ module _ (o : Opening) (first : View) (names : Names) (all : List (List ScriptLi
     all_shown = shown_answered names calls history entries calls_rise entered
 
     pub as_many_calls : length history ≡ length calls
-    as_many_calls = entries_as_many names calls history entries entered
+    as_many_calls = as_many names calls history entries all_shown
 
     pub all_answered : (k : ℕ) (d : Entry) → k < length history → is_answered (slice_index_or history k d).fate ≡ ltb k (length calls)
     all_answered k d low = (settled_at names calls history entries entered k d low).0 ∙ sym (lt-ltb k (length calls) (let many = as_many_calls in omega (arith, low, many)))
@@ -177,6 +174,7 @@ module _ (o : Opening) (first : View) (names : Names) (all : List (List ScriptLi
         last = view;
         steps = called.steps;
         leads = called.leads;
+        few = called.few;
         seen = f.answered.rests.seen.memory;
         ends = (refl, refl);
         numbered = all;
@@ -194,6 +192,9 @@ module _ (o : Opening) (first : View) (names : Names) (all : List (List ScriptLi
 
   -- one could not begin
   module _ (lane : Lane Solo) (answered : List (List ScriptLine)) (lines : List ScriptLine) (behind : List (List ScriptLine)) (are : all ≡ answered ++ lines ∷ behind) (history : List Entry) (halt : Halt) where
+    stores_within : stores_of_calls names answered + stores_of_call names lines ≤ stores_of_calls names all
+    stores_within = subst (λ (calls : List (List ScriptLine)). stores_of_calls names answered + stores_of_call names lines ≤ stores_of_calls names calls) (sym are) (calls_within names answered behind lines)
+
     pub ended_spent : HasSpent o first lane names answered lines history halt → IsEnded o first lane names all decided halt.generation (closed_history history halt.is_open decided) halt.end
     ended_spent s =
         let view : View = s.unbegun.view in
@@ -213,6 +214,7 @@ module _ (o : Opening) (first : View) (names : Names) (all : List (List ScriptLi
           last = view;
           steps = called.steps ++ s.unbegun.free.led.steps;
           leads = leads_then first s.before view called.steps s.unbegun.free.led.steps called.leads s.unbegun.free.led.leads;
+          few = (let both = stores_append called.steps s.unbegun.free.led.steps in let none = led_stores s.before view s.unbegun.free.led in let before = called.few in let within = stores_within in omega (arith, both, none, before, within));
           seen = s.unbegun.seen;
           ends = record { call = lines; behind = behind; are = refl; of_line = s.of_line; free = s.unbegun.free; used_up = s.unbegun.used_up };
           numbered = answered;
@@ -268,6 +270,7 @@ module _ (o : Opening) (first : View) (names : Names) (all : List (List ScriptLi
             last = last;
             steps = s.called.steps ++ s.halted.cut.steps;
             leads = to_last;
+            few = (let both = stores_append s.called.steps s.halted.cut.steps in let before = s.called.few in let here = s.halted.cut.few in let within = stores_within in omega (arith, both, before, here, within));
             seen = s.halted.cut.seen;
             ends = record { call = lines; behind = behind; are = refl; stops = s.halted.cut.stops; at_stop = sym exact };
             numbered = numbered;

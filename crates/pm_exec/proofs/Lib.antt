@@ -31,3 +31,6 @@ pub mod RisingCalls
 pub mod ShownHistories
 pub mod EndedRuns
 pub mod RunEnds
+pub mod FewStores
+pub mod LineStores
+pub mod EnteredWords

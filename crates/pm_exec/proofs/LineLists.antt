@@ -17,20 +17,20 @@ told_more names (l ∷ front) said (x ∷ told) t are is = (are.0, told_more nam
 
 -- what they gave
 pub gave_more : (names : Names) (front : List ScriptLine) (said : ScriptLine) (told : List Told) (t : Told) → AreToldDone names front told
-    → values_told (front ++ said ∷ []) (told ++ t ∷ []) ≡ values_told front told ++ values_at said.line t.reply
+    → values_told (front ++ said ∷ []) (told ++ t ∷ []) ≡ values_told front told ++ values_at said.line t.operation t.reply
 unfolding values_of
 gave_more names [] said [] t are = append-nil _
 gave_more names [] said (x ∷ told) t are = absurd are
 gave_more names (l ∷ front) said [] t are = absurd are
 gave_more names (l ∷ front) said (x ∷ told) t are =
-    ap (λ (vs : Values). values_at l.line x.reply ++ vs) (gave_more names front said told t are.1)
-    ∙ sym (append_assoc (values_at l.line x.reply) (values_told front told) (values_at said.line t.reply))
+    ap (λ (vs : Values). values_at l.line x.operation x.reply ++ vs) (gave_more names front said told t are.1)
+    ∙ sym (append_assoc (values_at l.line x.operation x.reply) (values_told front told) (values_at said.line t.operation t.reply))
 
 -- a line that gives nothing
 pub gave_nothing : (names : Names) (front : List ScriptLine) (said : ScriptLine) (told : List Told) (t : Told) (values : Values) → AreToldDone names front told → t.reply ≡ None → values ≡ values_told front told
     → values ≡ values_told (front ++ said ∷ []) (told ++ t ∷ [])
 gave_nothing names front said told t values are none gave =
-    gave ∙ sym (gave_more names front said told t are ∙ (ap (λ r. values_told front told ++ values_at said.line r) none ∙ append-nil (values_told front told)))
+    gave ∙ sym (gave_more names front said told t are ∙ (ap (λ r. values_told front told ++ values_at said.line t.operation r) none ∙ append-nil (values_told front told)))
 
 -- what they made of the words
 pub words_more : (names : Names) (front : List ScriptLine) (said : ScriptLine) (w : ℕ → ℕ) (i : ℕ) → words_after names (front ++ said ∷ []) w i ≡ words_by names said.operation (words_after names front w) i

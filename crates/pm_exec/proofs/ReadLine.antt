@@ -28,6 +28,9 @@ use Rattle.pm_view.specs.Views.{after_all}
 use Rattle.pm_world.specs.Opening.{Opening}
 use Rattle.pm_world.specs.Sequences.{Sequence, counted, in_turn, looks, nothing, one}
 use Rattle.pm_world.specs.declared.lane.Lane.{Lane}
+use Rattle.pm_tx.proofs.LineStores.{read_stores}
+use Rattle.pm_crash.specs.OpenCall.{words_recorded}
+use Rattle.pm_view.specs.Log.{Recorded}
 use Rattle.pm_exec.specs.Calls.{id_of, operation_of}
 use Rattle.pm_exec.specs.Course.{IsFree, IsLineMade, line_calls}
 use Rattle.pm_exec.specs.Progress.{IsAtLine, IsCut, IsToldDone, Values}
@@ -106,6 +109,7 @@ module _ (o : Opening) (first : View) (lane : Lane Solo) (names : Names) (front 
         (values ++ (said.line, Bytes bytes) ∷ [])
         (ap (λ (vs : Values). vs ++ (said.line, Bytes bytes) ∷ []) a.gave ∙ sym (gave_more names front said a.view.call told a.told))
         (line_made (after_all u (steps u)) (free_behind t.loads u t.looks h))
+        (let same = ap (λ (rs : List Recorded). length (words_recorded rs)) h.read.logs.records in let stored = read_stores place off len bytes u in omega (arith, same, stored))
 
   pub read_cut : (rest : List ScriptLine) → HasLooked a.view (λ w. IsStoppedFor Sees new lane.records.items (operation.Read place off len) (record { id = place; off = off; len = len }) w) → IsCut o first new names (front ++ said ∷ rest) values
   read_cut rest so =

@@ -1,5 +1,5 @@
 -- What a run comes to: its history, the memory calls that it made, and the pool that its image means.
-use Rattle.std.proofs.Common.{◌≡◌, ⊎_elim, inl, ℕ, ◌+◌, ◌*◌, ◌<◌, ◌≤◌, ◌^◌, All, Bool, not, eqb, List, [], ◌∷◌, ◌++◌, length, map, take, Option, slice_index, slice_index_or, refl, sym, ap, ◌∙◌, subst, arith, append-nil}
+use Rattle.std.proofs.Common.{◌≡◌, ◌≢◌, ⊎_elim, inl, ℕ, ◌+◌, ◌*◌, ◌<◌, ◌≤◌, ◌^◌, All, Bool, not, eqb, List, [], ◌∷◌, ◌++◌, length, map, take, Option, slice_index, slice_index_or, refl, sym, ap, ◌∙◌, subst, arith, append-nil}
 use Rattle.std.specs.List.Sorted.{IsStrictlyIncreasing}
 use Rattle.std.specs.Option.{ForSome}
 use Rattle.std.proofs.Math.Seq.{take-length}
@@ -19,8 +19,8 @@ use Rattle.pm_model.specs.History.{is_lost}
 use Rattle.pm_objects.specs.Pool.{offsets}
 use Rattle.pm_objects.specs.declared.history.Entry.{Entry}
 use Rattle.pm_objects.specs.declared.pool.PoolView.{PoolView}
-use Rattle.pm_recover.proofs.Meaning.{front_stands}
-use Rattle.pm_recover.proofs.Sound.{sound_if_meaning}
+use Rattle.pm_recover.proofs.Meaning.{page_stands}
+use Rattle.pm_recover.proofs.Sound.{header_if_meaning, sound_if_meaning}
 use Rattle.pm_recover.specs.Recovery.{HasNoStrayRecord, IsRecovered}
 use Rattle.pm_script.specs.declared.script.ScriptLine.{ScriptLine}
 use Rattle.pm_view.specs.View.{View}
@@ -28,6 +28,9 @@ use Rattle.pm_world.specs.Crash.{NoneTorn, loses}
 use Rattle.pm_world.specs.Opening.{Opening}
 use Rattle.pm_world.specs.declared.lane.Lane.{Lane}
 use Rattle.pm_memory.specs.Solo.{Solo}
+use Rattle.pm_view.specs.Counts.{among}
+use Rattle.pm_exec.specs.Bounds.{IsBounded, stores_of_script}
+use Rattle.pm_exec.proofs.FewStores.{bounded, calls_bounded}
 use Rattle.pm_exec.specs.Calls.{call_of, names_of, numbers_of, transactions}
 use Rattle.pm_exec.specs.Histories.{closed_history}
 use Rattle.pm_exec.specs.Openings.{first_view, opening_of}
@@ -49,9 +52,9 @@ use Rattle.pm_exec.proofs.Untorn.{none_torn_where_stopped}
 
 -- before the first call none was answered
 pub run_begins : (o : Opening) (first : View) (lane : Lane Solo) (names : Names) (history : List Entry) → first.entries ≡ [] → history ≡ [] → IsStart o lane first → HasComeTo o first lane names [] history
-unfolding Leads CallsMade
+unfolding Leads CallsMade among
 run_begins o first lane names history entries none is = record {
-  opened = record { of_lane = is.of_lane; alone = is.alone; sound = is.sound; zones = is.zones; lanes_are = is.lanes_are; words_are = is.words_are; free = is.rests.free };
+  opened = record { of_lane = is.of_lane; alone = is.alone; sound = is.sound; zones = is.zones; lanes_are = is.lanes_are; words_are = is.words_are; idle = is.idle; free = is.rests.free };
   answered = record {
     view = first;
     called = record {
@@ -59,6 +62,7 @@ run_begins o first lane names history entries none is = record {
       leads = refl;
       are = subst (λ (es : List Entry). AreEntries names [] es first.entries) (sym none) (subst (AreEntries names [] []) (sym entries) tt);
       made = subst (λ (es : List Entry). CallsMade names [] es first first) (sym none) refl;
+      few = omega arith;
     };
     rests = is.rests;
     idle = is.idle;
@@ -71,9 +75,10 @@ pub run_of : (o : Opening) (first : View) (lane : Lane Solo) (history : List Ent
 run_of o first lane history halt names other lines script named are run =
     subst (λ (ns : Names). HasRun o first lane ns (transactions script) history halt) named (subst (λ (ls : List ScriptLine). HasRun o first lane names (transactions ls) history halt) are run)
 
--- recovery leaves the header page
-page_recovered : (image words : List ℕ) (pool : PoolView) → IsMeaning image pool → IsRecovered image words pool.lanes → (i : ℕ) → i < 512 → slice_index words i ≡ slice_index image i
-page_recovered image words pool means is i low = is.words i (inl (omega (arith, low))) ∙ front_stands image pool.lanes i (sound_if_meaning image pool means) (omega (arith, low))
+-- recovery leaves the header page, but for the root's word
+page_recovered : (image words : List ℕ) (pool : PoolView) → IsMeaning image pool → IsRecovered image words pool.lanes → (i : ℕ) → i < 512 → i ≢ 64 → slice_index words i ≡ slice_index image i
+page_recovered image words pool means is i low other =
+    is.words i (inl (omega (arith, low))) ∙ page_stands image pool.lanes i (sound_if_meaning image pool means) (header_if_meaning image pool means) low other
 
 -- two pools of one length have as many lanes, and as many zones
 one_zones : (size lanes zones other_lanes other_zones : ℕ) → size ≡ 512 + 1024 * lanes + 33280 * zones → size ≡ 512 + 1024 * other_lanes + 33280 * other_zones → lanes ≤ 32 → other_lanes ≤ 32 → zones ≡ other_zones
@@ -128,6 +133,9 @@ module _ (pool : PoolView) (words : List ℕ) (stop : Option ℕ) (script : List
     image_kept : IsKeptImage keep e.last.words (e.last.changes ∷ []) left
     image_kept = image_where_seen lane.memory e.last keep left e.seen kept
 
+    bound : IsBounded first e.last (stores_of_script names script)
+    bound = bounded first e.last (stores_of_script names script) e.steps refl e.leads e.few
+
     pub run_size : length left ≡ length words
     run_size = image_kept.size ∙ (same_along first e.last e.steps e.leads).size
 
@@ -149,6 +157,8 @@ module _ (pool : PoolView) (words : List ℕ) (stop : Option ℕ) (script : List
         ends = e.ends;
         within = within_stop first e.last e.steps lane.memory e.leads e.seen;
         image = image_kept;
+        bound = bound;
+        few = calls_bounded first e.last (stores_of_script names script) refl bound;
         numbers = as_many_numbered names e.numbered closed e.last.entries e.shown;
         fates = e.fates;
         losses = losses;
@@ -195,7 +205,8 @@ module _ (pool : PoolView) (words : List ℕ) (stop : Option ℕ) (script : List
           last = meant.last;
           means = meant.means;
           replays = shown_replay names left e.last e.numbered closed pool.lanes pool.zones pool e.shown (losses header begins) meant;
-          page = λ i low. header_stays o header pool first e.last e.steps works keep left image_kept i low ∙ page_recovered before words pool means recovered i low;
+          page = λ i low other. header_stays o header pool first e.last e.steps works keep left image_kept i low ∙ page_recovered before words pool means recovered i low other;
+          root = header_stays o header pool first e.last e.steps works keep left image_kept 64 (omega arith) ∙ recovered.words 64 (inl (omega arith));
           blocks =
               subst (λ n. map offset_in (blocks (recovered_at left n) n meant.last.zones) ≡ offsets meant.last.objects) last_lanes
               (subst (λ z. map offset_in (blocks (recovered_at left pool.lanes) pool.lanes z) ≡ offsets meant.last.objects) last_zones meant.blocks_are);

@@ -1,15 +1,20 @@
 -- A call of a script as the plain model's: its lines were done, or one of them was refused.
-use Rattle.std.proofs.Common.{◌≡◌, ⊎_elim, ℕ, ◌-◌, List, [], ◌∷◌, ◌++◌, map, slice_index, refl, sym, ap, ◌∙◌, subst, append-nil, append_assoc}
+use Rattle.std.proofs.Common.{◌≡◌, ⊎_elim, ℕ, ◌-◌, ◌&&◌, ◌||◌, not, Bool, true, false, cond, List, [], ◌∷◌, ◌++◌, map, slice_index, refl, sym, ap, ◌∙◌, subst, append-nil, append_assoc}
 use Rattle.std.specs.List.Sorted.{IsStrictlyIncreasing}
 use Rattle.std.proofs.lemmas.List.{length-map}
 use Rattle.pm_crash.specs.OpenCall.{told_of as model_told}
 use Rattle.pm_model.specs.Answers.{Told as Answered}
-use Rattle.pm_model.specs.Shown.{IsEntry, IsFateOf, IsShown, error_of, line_of_abort, values_at, values_of}
+use Rattle.pm_model.specs.Checks.{is_action}
+use Rattle.pm_model.specs.Names.{is_refusal}
+use Rattle.pm_model.specs.Outside.{stands_outside}
+use Rattle.pm_model.specs.Shown.{IsEntry, IsFate, IsFateOf, IsShown, aborts, answer_of, error_of, is_abort, is_outside, line_of_abort, values_at, values_of}
 use Rattle.pm_model.specs.Step.{Act}
 use Rattle.pm_objects.specs.declared.calls.Call.{Call}
 use Rattle.pm_objects.specs.declared.calls.Operation.{Operation}
 use Rattle.pm_objects.specs.declared.history.Entry.{Entry}
+use Rattle.pm_objects.specs.declared.history.Fate.{Fate}
 use Rattle.pm_objects.specs.declared.history.Reply.{Reply}
+use Rattle.pm_objects.specs.declared.history.Value.TheVariants.{Refused}
 use Rattle.pm_objects.specs.declared.history.TxErr.{TxErr}
 use Rattle.pm_objects.specs.declared.history.TxErr.TheVariants as error
 use Rattle.pm_objects.specs.declared.refusal.Refusal.{Refusal}
@@ -36,6 +41,25 @@ goes_on names (Write id off bytes) t is = subst (GoesOn names (Write id off byte
 goes_on names (Read id off len) t is = subst (GoesOn names (Read id off len)) (sym is.1) (record { of_line = refl; error = λ rest. refl; line = λ line lines rest. refl })
 goes_on names Commit t is = subst (GoesOn names Commit) (sym is) (record { of_line = refl; error = λ rest. refl; line = λ line lines rest. refl })
 
+-- no line of a script is a call outside of a transaction, or is of the pending actions
+inside : (names : Names) (x : ScriptOp) → stands_outside (operation_of names x) ≡ false
+inside names (Begin wants) = refl
+inside names (Add id off len) = refl
+inside names (Write id off bytes) = refl
+inside names (Read id off len) = refl
+inside names Commit = refl
+
+no_action : (names : Names) (x : ScriptOp) → is_action (operation_of names x) ≡ false
+no_action names (Begin wants) = refl
+no_action names (Add id off len) = refl
+no_action names (Write id off bytes) = refl
+no_action names (Read id off len) = refl
+no_action names Commit = refl
+
+abbrev begins_outside : List Operation → Bool
+begins_outside [] = false
+begins_outside (op ∷ ops) = stands_outside op
+
 abbrev operations_said : Names → List ScriptLine → List Operation
 operations_said names lines = map (λ (l : ScriptLine). operation_of names l.operation) lines
 
@@ -61,7 +85,7 @@ module _ (names : Names) where
   values_behind [] more (t ∷ told) rest are = absurd are
   values_behind (l ∷ front) more [] rest are = absurd are
   values_behind (l ∷ front) more (t ∷ told) rest are =
-      ap (λ (vs : Values). values_at l.line t.reply ++ vs) (values_behind front more told rest are.1) ∙ sym (append_assoc (values_at l.line t.reply) (values_told front told) (values_told more rest))
+      ap (λ (vs : Values). values_at l.line t.operation t.reply ++ vs) (values_behind front more told rest are.1) ∙ sym (append_assoc (values_at l.line t.operation t.reply) (values_told front told) (values_told more rest))
 
   operations_behind : (front more : List ScriptLine) (told rest : List Told) (passed : List Operation) → AreToldDone names front told
       → map (λ (t : Answered). t.operation) (map model_told rest) ++ passed ≡ operations_said names more
@@ -72,10 +96,18 @@ module _ (names : Names) where
   operations_behind (l ∷ front) more (t ∷ told) rest passed are said =
       (λ i. (goes_on names l.operation t are.0).of_line i ∷ operations_behind front more told rest passed are.1 said i)
 
+  said_inside : (lines : List ScriptLine) → begins_outside (operations_said names lines) ≡ false
+  said_inside [] = refl
+  said_inside (l ∷ lines) = inside names l.operation
+
+  told_inside : (lines : List ScriptLine) (told : List Answered) (passed : List Operation) → map (λ (t : Answered). t.operation) told ++ passed ≡ operations_said names lines → is_outside told ≡ false
+  told_inside lines [] passed said = refl
+  told_inside lines (t ∷ told) passed said = ap begins_outside said ∙ said_inside lines
+
   module _ (lines : List ScriptLine) (rising : IsStrictlyIncreasing (numbers_of lines)) where
     shown_as : (reply : Reply) (told : List Told) (passed : List Operation) → map (λ (t : Answered). t.operation) (map model_told told) ++ passed ≡ operations_said names lines
         → (error_of (map model_told told) ≡ error.None → passed ≡ []) → reply.values ≡ values_told lines told → reply.at ≡ line_of_abort (numbers_of lines) (map model_told told)
-        → IsShown (call_of names lines) reply (record { lane = 0; told = map model_told told })
+        → IsShown (call_of names lines) reply (record { lane = 0; actions = []; told = map model_told told })
     shown_as reply told passed operations whole values at = record {
       lines = numbers_of lines;
       one_each = length-map lines (λ (l : ScriptLine). l.line) ∙ sym (length-map lines (λ (l : ScriptLine). operation_of names l.operation));
@@ -86,8 +118,8 @@ module _ (names : Names) where
       passed_over = passed;
       operations = operations;
       whole = whole;
-      values = values;
-      at = at;
+      values = values ∙ sym (ap (λ b. cond (b && is_refusal (answer_of (map model_told told))) [] (values_told lines told)) (told_inside lines (map model_told told) passed operations));
+      at = at ∙ sym (ap (λ b. cond b 0 (line_of_abort (numbers_of lines) (map model_told told))) (told_inside lines (map model_told told) passed operations));
     }
 
     -- all lines were done
@@ -107,7 +139,10 @@ module _ (names : Names) where
           ap (λ (ts : List Told). map (λ (t : Answered). t.operation) (map model_told ts) ++ []) (sym (append-nil told))
           ∙ (operations_behind lines [] told [] [] are refl ∙ ap (operations_said names) (append-nil lines))
 
-      pub shown_done : (reply : Reply) → reply.at ≡ 0 → reply.values ≡ values_told lines told → IsShown (call_of names lines) reply (record { lane = 0; told = map model_told told })
+      pub all_inside : is_outside (map model_told told) ≡ false
+      all_inside = told_inside lines (map model_told told) [] all_operations
+
+      pub shown_done : (reply : Reply) → reply.at ≡ 0 → reply.values ≡ values_told lines told → IsShown (call_of names lines) reply (record { lane = 0; actions = []; told = map model_told told })
       shown_done reply at values = shown_as reply told [] all_operations (λ none. refl) values (at ∙ sym no_line)
 
     -- one was refused
@@ -117,7 +152,13 @@ module _ (names : Names) where
 
       pub refused_error : error_of (map model_told told) ≡ error.Refused r
       unfolding error_of
-      refused_error = ap (λ (ts : List Told). error_of (map model_told ts)) at.told_so ∙ errors_behind at.front at.before (last ∷ []) at.done
+      refused_error =
+          ap (λ (ts : List Told). error_of (map model_told ts)) at.told_so
+          ∙ errors_behind at.front at.before (last ∷ []) at.done
+          ∙ ap (λ b. cond b error.None (error.Refused r)) (no_action names at.said.operation)
+
+      aborts_last : aborts (model_told last) ≡ true
+      aborts_last = ap (λ b. (not b && true) || is_abort last.operation) (no_action names at.said.operation)
 
       refused_line : reply.at ≡ line_of_abort (numbers_of lines) (map model_told told)
       unfolding line_of_abort
@@ -125,12 +166,18 @@ module _ (names : Names) where
           sym at.of_line
           ∙ sym (ap (λ (ls : List ScriptLine). line_of_abort (numbers_of ls) (map model_told told)) at.is_lines
           ∙ (ap (λ (ts : List Told). line_of_abort (numbers_of (at.front ++ at.said ∷ at.rest)) (map model_told ts)) at.told_so
-          ∙ lines_behind at.front (at.said ∷ at.rest) at.before (last ∷ []) at.done))
+          ∙ (lines_behind at.front (at.said ∷ at.rest) at.before (last ∷ []) at.done
+          ∙ ap (λ b. cond b at.said.line (line_of_abort (numbers_of at.rest) [])) aborts_last)))
+
+      nothing_told : (rest : List ScriptLine) → values_of (numbers_of rest) [] ≡ []
+      unfolding values_of
+      nothing_told [] = refl
+      nothing_told (l ∷ rest) = refl
 
       none_given : (rest : List ScriptLine) → values_told (at.said ∷ rest) (last ∷ []) ≡ []
       unfolding values_of
-      none_given [] = refl
-      none_given (l ∷ rest) = refl
+      none_given rest =
+          ap (λ b. cond b ((at.said.line, Refused r) ∷ []) [] ++ values_of (numbers_of rest) []) (no_action names at.said.operation) ∙ nothing_told rest
 
       refused_values : reply.values ≡ values_told lines told
       refused_values =
@@ -145,31 +192,40 @@ module _ (names : Names) where
           ap (λ (ts : List Told). map (λ (t : Answered). t.operation) (map model_told ts) ++ operations_said names at.rest) at.told_so
           ∙ (operations_behind at.front (at.said ∷ at.rest) at.before (last ∷ []) (operations_said names at.rest) at.done refl ∙ ap (operations_said names) (sym at.is_lines))
 
-      pub shown_refused : IsShown (call_of names lines) reply (record { lane = 0; told = map model_told told })
+      pub refused_inside : is_outside (map model_told told) ≡ false
+      refused_inside = told_inside lines (map model_told told) (operations_said names at.rest) refused_operations
+
+      pub shown_refused : IsShown (call_of names lines) reply (record { lane = 0; actions = []; told = map model_told told })
       shown_refused =
           shown_as reply told (operations_said names at.rest) refused_operations (λ none. absurd (let clash : error.Refused r ≡ error.None = sym refused_error ∙ none in cc)) refused_values refused_line
 
+    -- the fate of a call that stands in a transaction
+    fate_inside : (told : List Told) (fate : Fate) → is_outside (map model_told told) ≡ false → IsFateOf (error_of (map model_told told)) fate → IsFate (is_outside (map model_told told)) (map model_told told) fate
+    fate_inside told fate within is = subst (λ b. IsFate b (map model_told told) fate) (sym within) is
+
     -- the entry of an answered call
-    pub entry_answered : (e : Entry) (why : TxErr) (told : List Told) → e.call ≡ call_of names lines → e.fate ≡ settled_fate why → HasEnded names lines why e.reply told → IsEntry e (record { lane = 0; told = map model_told told })
+    pub entry_answered : (e : Entry) (why : TxErr) (told : List Told) → e.call ≡ call_of names lines → e.fate ≡ settled_fate why → HasEnded names lines why e.reply told → IsEntry e (record { lane = 0; actions = []; told = map model_told told })
     entry_answered e why told call fate ended =
-        let act : Act = record { lane = 0; told = map model_told told } in
+        let act : Act = record { lane = 0; actions = []; told = map model_told told } in
         ⊎_elim
         (λ (t : (why ≡ error.None) × (e.reply.at ≡ 0) × AreToldDone names lines told × (e.reply.values ≡ values_told lines told)). record {
           shown = subst (λ (c : Call). IsShown c e.reply act) (sym call) (shown_done told t.2 e.reply t.1 t.3);
-          fate = subst (λ x. IsFateOf x e.fate) (sym (no_error told t.2)) (subst (IsFateOf error.None) (sym (fate ∙ ap settled_fate t.0)) refl);
+          fate = fate_inside told e.fate (all_inside told t.2) (subst (λ x. IsFateOf x e.fate) (sym (no_error told t.2)) (subst (IsFateOf error.None) (sym (fate ∙ ap settled_fate t.0)) refl));
         })
         (λ (t : (r : Refusal) × (why ≡ error.Refused r) × IsRefusedAt names lines e.reply.at r e.reply.values told). record {
           shown = subst (λ (c : Call). IsShown c e.reply act) (sym call) (shown_refused e.reply t.0 told t.2);
-          fate = subst (λ x. IsFateOf x e.fate) (sym (refused_error e.reply t.0 told t.2)) (subst (IsFateOf (error.Refused t.0)) (sym (fate ∙ ap settled_fate t.1)) (refl, λ none. cc));
+          fate =
+              fate_inside told e.fate (refused_inside e.reply t.0 told t.2)
+              (subst (λ x. IsFateOf x e.fate) (sym (refused_error e.reply t.0 told t.2)) (subst (IsFateOf (error.Refused t.0)) (sym (fate ∙ ap settled_fate t.1)) (refl, λ none. cc)));
         })
         ended
 
     -- and of one that was not answered, all of whose lines were done
     pub entry_open : (e : Entry) (told : List Told) → e.call ≡ call_of names lines → e.reply.at ≡ 0 → AreToldDone names lines told → e.reply.values ≡ values_told lines told → IsFateOf error.None e.fate
-        → IsEntry e (record { lane = 0; told = map model_told told })
+        → IsEntry e (record { lane = 0; actions = []; told = map model_told told })
     entry_open e told call at are values fate =
-        let act : Act = record { lane = 0; told = map model_told told } in
+        let act : Act = record { lane = 0; actions = []; told = map model_told told } in
         record {
           shown = subst (λ (c : Call). IsShown c e.reply act) (sym call) (shown_done told are e.reply at values);
-          fate = subst (λ x. IsFateOf x e.fate) (sym (no_error told are)) fate;
+          fate = fate_inside told e.fate (all_inside told are) (subst (λ x. IsFateOf x e.fate) (sym (no_error told are)) fate);
         }

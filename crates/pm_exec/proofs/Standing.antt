@@ -8,15 +8,16 @@ use Rattle.pm_crash.specs.Alone.{standing}
 use Rattle.pm_crash.specs.Leading.{Leads}
 use Rattle.pm_memory.specs.Solo.{Sees, Solo}
 use Rattle.pm_tx.specs.Resting.{IsAtRest}
+use Rattle.pm_undo.proofs.Areas.{generation_in_area}
 use Rattle.pm_undo.proofs.Lockings.{found_guards}
 use Rattle.pm_undo.specs.Working.{FindsOpening}
 use Rattle.pm_view.proofs.SameLane.{same_lane-after}
-use Rattle.pm_view.specs.Area.{Part, is_in_area, part_of}
+use Rattle.pm_view.specs.Area.{Part, area_word, is_in_area, part_of}
 use Rattle.pm_view.specs.Area.Part.{GenerationWord, SealWord, EntryWord, SlotWord, OtherWord}
 use Rattle.pm_view.specs.Blocks.{bitmap_word, descriptor_word, is_run}
 use Rattle.pm_view.specs.Founds.{FoundAlone}
 use Rattle.pm_view.specs.Held.{is_under_found}
-use Rattle.pm_view.specs.Log.{Phase, no_log}
+use Rattle.pm_view.specs.Log.{Log, Phase, no_log}
 use Rattle.pm_view.specs.Log.Phase.{Idle, Open, Drawn, Sealing, Applying, Clearing, Retiring}
 use Rattle.pm_view.specs.Rights.{is_written}
 use Rattle.pm_view.specs.Steps.{Step}
@@ -24,13 +25,15 @@ use Rattle.pm_view.specs.Steps.Step.{Store}
 use Rattle.pm_view.specs.View.{Lock, View}
 use Rattle.pm_view.specs.Views.{after}
 use Rattle.pm_world.proofs.Apart.{area_bounds}
-use Rattle.pm_world.proofs.Parts.{generation_part, slot_part}
+use Rattle.pm_world.proofs.Parts.{entry_part, generation_part, seal_part, slot_part}
+use Rattle.pm_world.specs.Entries.{IsEnterable, set_word}
 use Rattle.pm_world.specs.Lawful.{Allowed, StoreFits}
 use Rattle.pm_world.specs.Opening.{IsSound, Opening, TellsOfBlocks}
 use Rattle.pm_world.specs.declared.lane.Lane.{Lane}
 use Rattle.pm_exec.specs.Progress.{IsStart}
 use Rattle.pm_exec.specs.Running.{IsOpenedAs}
 use Rattle.pm_exec.proofs.Along.{alone_along, lane_along}
+use Rattle.pm_exec.proofs.EnteredWords.{NoneEnters, enters_after, none_entered}
 use Rattle.pm_exec.proofs.OpeningFound.{HasFound, IsThere, found_after}
 
 -- as many words as at the opening, and what tells of blocks is the same
@@ -49,7 +52,7 @@ tells_behind o w (page, (chunk, tells)) =
     let some = chunk.1 in
     ⊎_elim (λ (descriptor : w ≡ descriptor_word o.lanes page). omega (arith, descriptor, some)) (λ (bitmap : (w ≡ bitmap_word page) × IsTrue (is_run (slice_index o.words (descriptor_word o.lanes page)))). let e = bitmap.0 in omega (arith, e, first)) tells
 
-module _ (o : Opening) (sound : IsSound o) (v : View) (is : Stands o v) (lane : v.lane < o.lanes) where
+module _ (o : Opening) (sound : IsSound o) (v : View) (is : Stands o v) (entered : NoneEnters (TellsOfBlocks o) v.log.entries) (lane : v.lane < o.lanes) where
   -- what the view finds of blocks is as at the opening
   finds : FindsOpening o v
   finds = record {
@@ -71,21 +74,30 @@ module _ (o : Opening) (sound : IsSound o) (v : View) (is : Stands o v) (lane : 
       let l : Lock = t.1 in
       sound.apart l.line w (found_guards o v finds l w (t.0, t.2, t.3) l.write t.4)
 
+  -- nor one that an entry may be of
+  enterable : (w : ℕ) → IsEnterable v w → TellsOfBlocks o w → ⊥
+  enterable w = ⊎_elim (λ (own : IsTrue (is_written v w)). locked w own)
+      (λ (generation : w ≡ area_word v.lane). in_area w (ap (is_in_area v.lane) generation ∙ generation_in_area v.lane))
+
   -- so none is stored that does
   stored : (w x : ℕ) (phase : Phase) (part : Part) → part_of v.lane w ≡ part → StoreFits v w x phase part → TellsOfBlocks o w → ⊥
   stored w x (Open slot pair) SlotWord at fits = in_area w (slot_part v.lane w at)
   stored w x (Open slot pair) OtherWord at fits = locked w fits.own
   stored w x (Open slot pair) GenerationWord at fits = in_area w (generation_part v.lane w at).0
   stored w x (Open slot pair) SealWord at fits = absurd fits
-  stored w x (Open slot pair) EntryWord at fits = absurd fits
+  stored w x (Open slot pair) EntryWord at fits = in_area w (entry_part v.lane w at)
   stored w x Drawn GenerationWord at fits = in_area w (generation_part v.lane w at).0
   stored w x Drawn SlotWord at fits = absurd fits
   stored w x Drawn OtherWord at fits = absurd fits
-  stored w x Drawn SealWord at fits = absurd fits
+  stored w x Drawn SealWord at fits = in_area w (seal_part v.lane w at).0
   stored w x Drawn EntryWord at fits = absurd fits
   stored w x Idle part at fits = absurd fits
   stored w x Sealing part at fits = absurd fits
-  stored w x (Applying applied) part at fits = absurd fits
+  stored w x (Applying applied) GenerationWord at fits = in_area w (generation_part v.lane w at).0
+  stored w x (Applying applied) SealWord at fits = in_area w (seal_part v.lane w at).0
+  stored w x (Applying applied) EntryWord at fits = absurd fits
+  stored w x (Applying applied) SlotWord at fits = absurd fits
+  stored w x (Applying applied) OtherWord at fits = entered applied (set_word w x) fits
   stored w x Clearing part at fits = absurd fits
   stored w x Retiring part at fits = absurd fits
 
@@ -102,11 +114,12 @@ module _ (o : Opening) (sound : IsSound o) (v : View) (is : Stands o v) (lane : 
       found_after o (TellsAsOpened o) (λ words tells line. same_blocks o words tells.telling line) v is s may found (λ w x stores. tells_after w x (subst (Allowed v) stores may))
 
 -- and so do all, one after another
-pub stands_along : (o : Opening) → IsSound o → (v w : View) (steps : List Step) → Leads v steps w → v.lane < o.lanes → Stands o v → Stands o w
+pub stands_along : (o : Opening) → IsSound o → (v w : View) (steps : List Step) → Leads v steps w → v.lane < o.lanes → Stands o v → NoneEnters (TellsOfBlocks o) v.log.entries → Stands o w
 unfolding Leads
-stands_along o sound v w [] leads lane is = subst (Stands o) (sym leads) is
-stands_along o sound v w (s ∷ steps) leads lane is =
-    stands_along o sound (after v s) w steps leads.3 (subst (λ (n : ℕ). n < o.lanes) (sym (same_lane-after v s).lane) lane) (stands_after o sound v is lane s leads.0 leads.1)
+stands_along o sound v w [] leads lane is entered = subst (Stands o) (sym leads) is
+stands_along o sound v w (s ∷ steps) leads lane is entered =
+    stands_along o sound (after v s) w steps leads.3 (subst (λ (n : ℕ). n < o.lanes) (sym (same_lane-after v s).lane) lane) (stands_after o sound v is entered lane s leads.0 leads.1)
+    (enters_after (TellsOfBlocks o) v entered (enterable o sound v is entered lane) s leads.0)
 
 module _ (o : Opening) (first v : View) (steps : List Step) (opened : IsOpenedAs o first) (leads : Leads first steps v) where
   -- from the first view of a run on
@@ -118,6 +131,7 @@ module _ (o : Opening) (first v : View) (steps : List Step) (opened : IsOpenedAs
         words = record { size = ap length opened.words_are; telling = λ i tells. ap (λ (words : List ℕ). slice_index words i) opened.words_are };
         locks = subst (All (IsThere o)) (sym opened.free) (All-nil (IsThere o));
       })
+      (subst (λ (l : Log). NoneEnters (TellsOfBlocks o) l.entries) (sym opened.idle) (none_entered (TellsOfBlocks o)))
 
   -- a lane that rests again may begin its next call, over the pool as it stands
   pub starts_again : (lane : Lane Solo) → IsAtRest Sees lane v → v.log ≡ no_log Idle → IsStart (standing o v) lane v

@@ -13,7 +13,7 @@ use Rattle.pm_view.specs.declared.change.Change.{Change}
 use Rattle.pm_view.specs.Area.{Part, area_word, part_of}
 use Rattle.pm_view.specs.Area.Part.{EntryWord, GenerationWord, OtherWord, SealWord, SlotWord}
 use Rattle.pm_view.specs.Changes.{drained, flushed, is_in_line, mark, store_change}
-use Rattle.pm_view.specs.Log.{Log, Phase, log_drawn, log_stored, with_slot}
+use Rattle.pm_view.specs.Log.{Log, Phase, Recorded, log_drawn, log_stored, with_pair, with_slot}
 use Rattle.pm_view.specs.Log.Phase.{Idle, Open, Drawn, Sealing, Applying, Clearing, Retiring}
 use Rattle.pm_view.specs.Steps.{Step}
 use Rattle.pm_view.specs.Steps.Step.{Load, Store, Or, And, Flush, Drain, TakeWrite, TakeRead, Raise, Give, ZoneTry, ZoneGive, Occupied, Occupy, Vacate, Draw, NumberSeen, StopSeen, SetStop, Tell}
@@ -26,7 +26,7 @@ use Rattle.pm_undo.specs.Working.{IsWorking}
 use Rattle.pm_undo.proofs.Areas.{slot_part}
 use Rattle.pm_crash.specs.Alone.{BeginsAlone}
 use Rattle.pm_crash.specs.Leading.{Leads}
-use Rattle.pm_crash.proofs.LogCourse.{Slotted, slotted}
+use Rattle.pm_crash.proofs.LogCourse.{Paired, Slotted, paired, slotted}
 use Rattle.pm_exec.proofs.Along.{lane_along}
 use Rattle.pm_exec.specs.Quiet.{IsQuiet, MakesNone}
 
@@ -85,6 +85,12 @@ slot_not_other lane w part slots = let clash : SlotWord ≡ OtherWord = sym (in_
 slot_not_generation : (lane w : ℕ) → part_of lane w ≡ GenerationWord → InSlots lane w → ⊥
 slot_not_generation lane w part slots = let clash : SlotWord ≡ GenerationWord = sym (in_slots_part lane w slots) ∙ part in cc
 
+slot_not_seal : (lane w : ℕ) → part_of lane w ≡ SealWord → InSlots lane w → ⊥
+slot_not_seal lane w part slots = let clash : SlotWord ≡ SealWord = sym (in_slots_part lane w slots) ∙ part in cc
+
+slot_not_entry : (lane w : ℕ) → part_of lane w ≡ EntryWord → InSlots lane w → ⊥
+slot_not_entry lane w part slots = let clash : SlotWord ≡ EntryWord = sym (in_slots_part lane w slots) ∙ part in cc
+
 module _ (v : View) (w x : ℕ) where
   abbrev change : Change
   change = store_change w (slice_index v.words w) x
@@ -104,6 +110,14 @@ module _ (v : View) (w x : ℕ) where
       (one_more v.lane all v.changes change (wider v.lane (8 * length v.log.records + length slot) all v.changes (omega (arith, count, more)) first)
       (λ slots. omega (arith, at, count, more)))
 
+  -- a pair's next word
+  in_pair : (slot pair : List ℕ) → part_of v.lane w ≡ EntryWord → AreFirst v.lane (slot_words (Open slot pair) v.log) v.changes → HasFirst (stored (with_pair v.log slot (pair ++ x ∷ [])))
+  in_pair slot pair part first =
+      let p : Paired v.log slot (pair ++ x ∷ []) = paired v.log slot (pair ++ x ∷ []) in
+      subst (λ (q : Phase). AreFirst v.lane (slot_words q (with_pair v.log slot (pair ++ x ∷ []))) (v.changes ++ change ∷ [])) (sym p.is_open)
+      (subst (λ (rs : List Recorded). AreFirst v.lane (8 * length rs + length slot) (v.changes ++ change ∷ [])) (sym p.same)
+      (one_more v.lane (8 * length v.log.records + length slot) v.changes change first (λ slots. absurd (slot_not_entry v.lane w part slots))))
+
   -- the generation, with nothing undrained
   ends_first : (count : ℕ) → part_of v.lane w ≡ GenerationWord → EndsGeneration v x → AreFirst v.lane count (v.changes ++ change ∷ [])
   ends_first count part ends =
@@ -113,18 +127,22 @@ module _ (v : View) (w x : ℕ) where
   store_first Idle part is of may first = absurd may
   store_first (Open slot pair) GenerationWord is of may first = ends_first 0 of may.ends
   store_first (Open slot pair) SealWord is of may first = absurd may
-  store_first (Open slot pair) EntryWord is of may first = absurd may
+  store_first (Open slot pair) EntryWord is of may first = in_pair slot pair of first
   store_first (Open slot pair) SlotWord is of may first = in_slot slot pair may first
   store_first (Open slot pair) OtherWord is of may first =
       subst (λ (p : Phase). AreFirst v.lane (slot_words p v.log) (v.changes ++ change ∷ [])) (sym is)
       (one_more v.lane (8 * length v.log.records + length slot) v.changes change first (λ slots. absurd (slot_not_other v.lane w of slots)))
   store_first Drawn GenerationWord is of may first = ends_first 0 of may
-  store_first Drawn SealWord is of may first = absurd may
+  store_first Drawn SealWord is of may first = one_more v.lane 0 v.changes change first (λ slots. absurd (slot_not_seal v.lane w of slots))
   store_first Drawn EntryWord is of may first = absurd may
   store_first Drawn SlotWord is of may first = absurd may
   store_first Drawn OtherWord is of may first = absurd may
   store_first Sealing part is of may first = absurd may
-  store_first (Applying applied) part is of may first = absurd may
+  store_first (Applying applied) GenerationWord is of may first = one_more v.lane 0 v.changes change first (λ slots. absurd (slot_not_generation v.lane w of slots))
+  store_first (Applying applied) SealWord is of may first = one_more v.lane 0 v.changes change first (λ slots. absurd (slot_not_seal v.lane w of slots))
+  store_first (Applying applied) EntryWord is of may first = absurd may
+  store_first (Applying applied) SlotWord is of may first = absurd may
+  store_first (Applying applied) OtherWord is of may first = one_more v.lane 0 v.changes change first (λ slots. absurd (slot_not_other v.lane w of slots))
   store_first Clearing part is of may first = absurd may
   store_first Retiring part is of may first = absurd may
 

@@ -1,5 +1,6 @@
 -- The memory calls that the lines of a script make, where one lane is alone, and where it stops: docs/FORMAT.md, "Sequences".
-use Rattle.std.specs.Prelude.{Any, ◌≡◌, ◌⊎◌, ℕ, ◌+◌, ◌<◌, ◌≤◌, List, [], ◌∷◌, ◌++◌, length, map, take, Some, slice_index, ⊤}
+use Rattle.std.specs.Prelude.{Any, ◌≡◌, ◌⊎◌, ℕ, ◌≤◌, List, [], ◌∷◌, ◌++◌, length, map, Some, slice_index, ⊤}
+use Rattle.pm_memory.specs.Runs.{Stops}
 use Rattle.pm_objects.specs.declared.history.Value.TheVariants.{Refused}
 use Rattle.pm_objects.specs.declared.history.Entry.{Entry}
 use Rattle.pm_objects.specs.declared.history.TxErr.{TxErr}
@@ -16,7 +17,6 @@ use Rattle.pm_tx.specs.Begins.{IsLed}
 use Rattle.pm_tx.specs.Lacking.{LacksObject}
 use Rattle.pm_tx.specs.Ranges.{adds_range, writes_range}
 use Rattle.pm_tx.specs.Sequences.{commits, gives_up}
-use Rattle.pm_view.specs.Counts.{counted}
 use Rattle.pm_view.specs.View.{View}
 use Rattle.pm_view.specs.Views.{after_all}
 use Rattle.pm_world.specs.Lanes.{span_of}
@@ -109,12 +109,9 @@ CallsMade names (call ∷ calls) (entry ∷ history) v w =
     (m : View) × (e : TxErr) × (entry.fate ≡ settled_fate e) × IsCallMade names call e v m × CallsMade names calls history m w
 CallsMade names calls history v w = ⊥
 
--- some of the steps were made, the first of them, and the next is a counted call
-pub record IsFrontOf (steps : Sequence) (v w : View) : Type 0 where
-  pub made : ℕ
-  pub fewer : made < length (steps v)
-  pub is : w ≡ after_all v (take made (steps v))
-  pub due : counted (take (made + 1) (steps v)) ≡ counted (take made (steps v)) + 1
+-- some of the steps were made, the first of them, up to this view, where the lane is at its stop number and the next is a counted call
+abbrev pub IsFrontOf : Sequence → View → View → Type 0
+IsFrontOf steps v w = Stops (λ u. w ≡ u) v (steps v)
 
 -- some lines of a call were done, and in the next a counted call is due
 pub record IsStoppedInCall (names : Names) (lines : List ScriptLine) (v w : View) : Type 0 where

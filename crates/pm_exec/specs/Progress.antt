@@ -1,6 +1,7 @@
 -- How far a call of a run has come: for the crate's own functions.
-use Rattle.std.specs.Prelude.{◌≡◌, ◌≢◌, ◌⊎◌, ℕ, ◌≤◌, false, List, [], ◌∷◌, ◌++◌, map, slice_index, take, Option, None, Some, Result, Ok, Err, ⊤}
+use Rattle.std.specs.Prelude.{◌≡◌, ◌⊎◌, ℕ, ◌+◌, ◌≤◌, false, List, [], ◌∷◌, ◌++◌, map, slice_index, take, Option, None, Some, Result, Ok, Err, ⊤}
 use Rattle.std.specs.List.{AllZip}
+use Rattle.pm_crash.specs.Alone.{IsUnsealed}
 use Rattle.pm_crash.specs.Leading.{Leads}
 use Rattle.pm_crash.specs.OpenCall.{told_of as model_told}
 use Rattle.pm_image.specs.Logs.{generation_word}
@@ -27,7 +28,7 @@ use Rattle.pm_tx.specs.Ranges.{adds_range}
 use Rattle.pm_tx.specs.Stages.{is_work}
 use Rattle.pm_undo.specs.Working.{IsWorking}
 use Rattle.pm_view.specs.Area.{is_in_area}
-use Rattle.pm_view.specs.Counts.{IsAtStop}
+use Rattle.pm_view.specs.Counts.{IsAtStop, stores_among}
 use Rattle.pm_view.specs.Founds.{IsAlone}
 use Rattle.pm_view.specs.Log.{no_log}
 use Rattle.pm_view.specs.Log.Phase.{Idle}
@@ -39,6 +40,7 @@ use Rattle.pm_world.specs.Records.{generation_of}
 use Rattle.pm_world.specs.Sequences.{Ready}
 use Rattle.pm_world.specs.declared.lane.Lane.{Lane}
 use Rattle.pm_world.specs.declared.lane.Span.{Span}
+use Rattle.pm_exec.specs.Bounds.{recorded_count, stores_of_call, stores_of_lines}
 use Rattle.pm_exec.specs.Calls.{id_of, numbers_of, operation_of}
 use Rattle.pm_exec.specs.Course.{AreMade, IsCallMade, IsFree, IsStoppedInCall, IsUsedUp, LinesMade, spans_of}
 use Rattle.pm_exec.specs.Quiet.{IsQuiet}
@@ -104,6 +106,7 @@ pub record IsAtLine (o : Opening) (first : View) (lane : Lane Solo) (names : Nam
   pub generation : generation_of view ≡ generation_word o.words 0
   pub words : (i : ℕ) → is_in_area 0 i ≡ false → slice_index view.words i ≡ words_after names front (slice_index o.words) i
   pub made : LinesMade names front first view
+  pub few : stores_among steps + recorded_count view ≤ stores_of_lines names front
 
 abbrev pub IsLaneWith : Lane Solo → Names → Values → Type 0
 IsLaneWith lane names values = (o : Opening) × (first : View) × (front : List ScriptLine) × IsAtLine o first lane names front values
@@ -122,6 +125,7 @@ pub record IsOver (first : View) (lane : Lane Solo) (names : Names) (lines : Lis
   pub left : is_work lane.stage ≡ false
   pub fails : lane.error ≡ error
   pub made : AreMade names lines error first view
+  pub few : stores_among steps ≤ stores_of_call names lines
 
 -- the call has drawn no number
 pub record IsUndrawn (first v : View) : Type 0 where
@@ -134,7 +138,7 @@ pub record IsInFlight (first : View) (names : Names) (lines : List ScriptLine) (
   pub drawn : v.number ≡ Some number
   pub told : List Told
   pub entries : v.entries ≡ first.entries ++ numbered number told ∷ []
-  pub flies : v.log.phase ≢ Idle
+  pub flies : IsUnsealed v.log.phase
   pub done : AreToldDone names lines told
   pub gave : values ≡ values_told lines told
 
@@ -182,6 +186,7 @@ pub record IsCut (o : Opening) (first : View) (lane : Lane Solo) (names : Names)
   pub untorn : IsUntorn o first names lines view
   pub at_stop : IsAtStop view
   pub stops : IsStoppedInCall names lines first view
+  pub few : stores_among steps ≤ stores_of_call names lines
 
 -- it did not begin its call
 pub record IsUnbegun (first : View) (lane : Lane Solo) : Type 0 where
@@ -209,12 +214,6 @@ pub record IsGivenUpAt (first : View) (lane : Lane Solo) (names : Names) (lines 
   pub told : List Told
   pub at : IsRefusedAt names lines line r values told
   pub over : IsOver first lane names lines told (error.Refused r)
-
--- behind these lines one answered so: the lane came to its stop, or gave its call up for it
-abbrev pub IsLineEnd : Opening → View → Lane Solo → Names → List ScriptLine → Values → ScriptLine → Refusal → Type 0
-IsLineEnd o first lane names front values said refusal.Stopped = (rest : List ScriptLine) → IsCut o first lane names (front ++ said ∷ rest) values
-IsLineEnd o first lane names front values said refusal.Spent = ⊥
-IsLineEnd o first lane names front values said r = (rest : List ScriptLine) → IsGivenUpAt first lane names (front ++ said ∷ rest) values said.line r
 
 -- why a line is not done, by what it answers
 abbrev pub not_done : ℕ → Refusal → NotDone
@@ -258,6 +257,7 @@ pub record IsAnswered (first : View) (lane : Lane Solo) (names : Names) (lines :
   pub entries : view.entries ≡ first.entries ++ numbered number told ∷ []
   pub so : HasEnded names lines e reply told
   pub made : IsCallMade names lines e first view
+  pub few : stores_among steps ≤ stores_of_call names lines
 
 -- the lane stopped in the call
 pub record IsHalted (o : Opening) (first : View) (lane : Lane Solo) (names : Names) (lines : List ScriptLine) (number : Option ℕ) (reply : Reply) : Type 0 where

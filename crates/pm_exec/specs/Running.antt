@@ -10,6 +10,7 @@ use Rattle.pm_objects.specs.declared.history.TxErr.{TxErr}
 use Rattle.pm_script.specs.declared.script.ScriptLine.{ScriptLine}
 use Rattle.pm_text.specs.declared.report.LaneEnd.TheVariants as end
 use Rattle.pm_tx.specs.Resting.{IsAtRest}
+use Rattle.pm_view.specs.Counts.{stores_among}
 use Rattle.pm_view.specs.Log.{no_log}
 use Rattle.pm_view.specs.Log.Phase.{Idle}
 use Rattle.pm_view.specs.Steps.{Step}
@@ -18,6 +19,7 @@ use Rattle.pm_view.specs.Founds.{IsAlone}
 use Rattle.pm_world.specs.Opening.{IsSound, Opening}
 use Rattle.pm_world.specs.Records.{generation_of}
 use Rattle.pm_world.specs.declared.lane.Lane.{Lane}
+use Rattle.pm_exec.specs.Bounds.{stores_of_calls}
 use Rattle.pm_exec.specs.Calls.{call_of, numbers_of}
 use Rattle.pm_exec.specs.Course.{CallsMade}
 use Rattle.pm_exec.specs.Histories.{settled_fate}
@@ -47,6 +49,7 @@ pub record IsOpenedAs (o : Opening) (v : View) : Type 0 where
   pub zones : o.zones ≤ 32
   pub lanes_are : v.lanes ≡ o.lanes
   pub words_are : v.words ≡ o.words
+  pub idle : v.log ≡ no_log Idle
   pub free : v.locks ≡ []
 
 -- these calls were answered, one after another from the first view, and led to this view
@@ -55,6 +58,7 @@ pub record HasCalled (first : View) (names : Names) (calls : List (List ScriptLi
   pub leads : Leads first steps view
   pub are : AreEntries names calls history view.entries
   pub made : CallsMade names calls history first view
+  pub few : stores_among steps ≤ stores_of_calls names calls
 
 -- and the lane rests behind them
 pub record HasAnswered (first : View) (lane : Lane Solo) (names : Names) (calls : List (List ScriptLine)) (history : List Entry) : Type 0 where

@@ -1,5 +1,5 @@
 -- What a run of a script comes to: its history, how the lane ended, and the image that it leaves.
-use Rattle.std.specs.Prelude.{◌≡◌, ℕ, ◌<◌, ◌≤◌, nat_lt, true, All, List, [], ◌∷◌, ◌++◌, Option, Some, length, map, slice_index, slice_index_or, take}
+use Rattle.std.specs.Prelude.{◌≡◌, ◌≢◌, ℕ, ◌*◌, ◌<◌, ◌≤◌, nat_lt, true, All, List, [], ◌∷◌, ◌++◌, Option, Some, length, map, slice_index, slice_index_or, take}
 use Rattle.pm_crash.specs.Alone.{BeginsAlone}
 use Rattle.pm_header.specs.declared.header.Header.{Header}
 use Rattle.pm_image.specs.Blocks.{blocks}
@@ -17,6 +17,7 @@ use Rattle.pm_text.specs.declared.report.LaneEnd.{LaneEnd}
 use Rattle.pm_text.specs.declared.report.LaneEnd.TheVariants as end
 use Rattle.pm_view.specs.View.{View}
 use Rattle.pm_world.specs.Crash.{loses}
+use Rattle.pm_exec.specs.Bounds.{IsBounded, stores_of_script}
 use Rattle.pm_exec.specs.Calls.{names_of, script_calls, transactions}
 use Rattle.pm_exec.specs.Course.{CallsMade, ComesToEnd}
 use Rattle.pm_exec.specs.Openings.{first_view, opening_of}
@@ -31,12 +32,13 @@ pub record IsHistoryOf (pool : PoolView) (script : List ScriptLine) (stop : Opti
   pub at_stop : (calls : ℕ) → ended ≡ end.Stopped calls → stop ≡ Some calls
 
 -- what is written means the pool to which the calls of the history lead that are not lost, one whole call after another; its header page is
--- that of the image read; and its allocated blocks are those of its objects, in rising place
+-- that of the image read, but for the root's word, which is the recovered one; and its allocated blocks are those of its objects, in rising place
 pub record LeavesReplay (image : List ℕ) (pool : PoolView) (history : List Entry) (written : List ℕ) : Type 0 where
   pub last : PoolView
   pub means : IsMeaning written last
   pub replays : ReplaysEntries pool (without_lost history) last
-  pub page : (i : ℕ) → i < 512 → slice_index written i ≡ slice_index image i
+  pub page : (i : ℕ) → i < 512 → i ≢ 64 → slice_index written i ≡ slice_index image i
+  pub root : slice_index written 64 ≡ recovered_at image pool.lanes 64
   pub blocks : map offset_in (blocks (recovered_at written last.lanes) last.lanes last.zones) ≡ offsets last.objects
 
 -- the lane made the memory calls of the script's lines, one after another, up to its end: from the words that recovery left it came to a view
@@ -58,6 +60,10 @@ pub record MakesCalls (words : List ℕ) (pool : PoolView) (script : List Script
   -- the calls that drew a number are the history's, and those that were made whole are answered, and no other
   pub numbers : length history ≡ length last.entries
   pub fates : (k : ℕ) (d : Entry) → k < length history → is_answered (slice_index_or history k d).fate ≡ nat_lt k (length answered)
+  -- no flush and no drain of its is idle, and it makes no more stores than the script is good for; so its counted calls are at most three times
+  -- as many
+  pub bound : IsBounded (first_view pool words stop) last (stores_of_script (names_of pool) script)
+  pub few : last.calls ≤ 3 * stores_of_script (names_of pool) script
   -- where the run began with clean logs, a call is lost exactly where what is written lacks its deciding store
   pub losses : (header : Header) → BeginsAlone (opening_of pool words) header pool (first_view pool words stop) → All (λ (e : Entry). is_lost e.fate ≡ loses written last e.number) history
 

@@ -40,7 +40,7 @@ pub fn exec(
     ensures history { IfOk result (λ out. (pool : PoolView) → IsMeaning image pool → IsHistoryOf pool script.now.lines stop out.history.items out.end) }
     ensures made { IfOk result (λ out. (pool : PoolView) → IsMeaning image pool → MakesCallsOf image pool script.now.lines stop keep out.history.items out.end out.words.items) }
 
-    // Taken for granted: no slot has a record of a generation to come, and no torn record's sum matches by chance.
+    // Taken for granted: no slot has a stray record, and no torn record's sum matches by chance.
     ensures replay { IfOk result (λ out. (pool : PoolView) → IsMeaning image pool → HasNoStrayRecord image pool.lanes
         → ((words : List ℕ) → IsRecovered image words pool.lanes → HasNoTornMatch words pool script.now.lines stop)
         → LeavesReplay image pool out.history.items out.words.items) }

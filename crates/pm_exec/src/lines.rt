@@ -12,7 +12,7 @@ ghost use Rattle.pm_tx.specs.Ending.{IsLaneAtWork};
 ghost use Rattle.pm_view.specs.View.{View};
 ghost use Rattle.pm_world.specs.Opening.{Opening};
 ghost use Rattle.pm_exec.specs.Calls.{want_of};
-ghost use Rattle.pm_exec.specs.Progress.{CameTo, IsAtLine, IsStart, IsLaneAtLine, IsLaneWith, IsNotDone, IsLineEnd, Values, not_done};
+ghost use Rattle.pm_exec.specs.Progress.{CameTo, IsAtLine, IsStart, IsLaneAtLine, IsLaneWith, IsNotDone, Values, not_done};
 
 use crate::calls::{Names, id_of, wants_of};
 use pm_memory::SoloMem;

@@ -31,7 +31,7 @@ script_limit = 1048576
 -- a script's run on the pool of these bytes leaves these bytes and this text: the report of a history of the script's calls. Lane 0 made the
 -- memory calls of the script's lines, one after another, up to its end, and what is left is the image that the keep number chooses of what was
 -- undrained there. It stands for what was read after those of the calls that are not lost, one whole call after another. Taken for granted
--- there: no slot of the pool read has a record of a generation to come, and no torn record's sum matches by chance
+-- there: no slot of the pool read has a stray record, and no torn record's sum matches by chance
 pub record IsRunOver (source script_text : List ℕ) (e : Exec) (written text : List ℕ) : Type 0 where
   pub in_words : length source % 8 ≡ 0
   pub script : Script
@@ -82,7 +82,7 @@ pub record AreOfMoreLanes (source script_text : List ℕ) (e : Exec) (asked kept
   pub asked_for : asked ≡ script.lanes
   pub fewer : HasFewerLanes (words_of source) e.layout asked kept
 
--- so do the names have a pool and a script
+-- the names have such a pool and such a script
 pub record HasMoreLanes (held : Option Held) (e : Exec) (asked kept : ℕ) : Type 0 where
   pub source : List ℕ
   pub whole : IsWhole held e.pool limit source

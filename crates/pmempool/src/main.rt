@@ -29,6 +29,8 @@ mod run_tests;
 #[cfg(test)]
 mod script_tests;
 #[cfg(test)]
+mod sealed_tests;
+#[cfg(test)]
 mod tests;
 #[cfg(test)]
 mod transaction_tests;

@@ -1,0 +1,327 @@
+//! Pools with lanes sealed by hand, each with the text that docs/FORMAT.md's rules give it.
+use crate::image_tests::{DEMO, SHOWN, TWO_LANES, pool, put, record_at, shows_changed};
+use crate::run_tests::ran;
+use pm_shelf::{MapShelf, Shelf};
+use std::alloc::Global;
+use std::process::Abort;
+use std::test::Fail;
+
+/// A log: its entries, each a place with its operation (SET 0, OR 1, AND 2) and a value.
+type Log = &'static [(u64, u64)];
+
+/// Words that are changed beside, each with its place.
+type Words = &'static [(usize, u64)];
+
+/// The places of two lanes' areas.
+const AREA: usize = 4096;
+
+const SECOND_AREA: usize = 12_288;
+
+/// Seals the lane whose area begins there, with this log.
+fn put_log(bytes: &mut [u8], area: usize, log: &[(u64, u64)]) {
+    for (i, (place, value)) in log.iter().enumerate() {
+        if i < 64 && area < 1 << 32 {
+            put(bytes, area + 64 + 16 * i, *place);
+            put(bytes, area + 72 + 16 * i, *value);
+            put(bytes, area + 8, i as u64 + 1);
+        }
+    }
+}
+
+/// Good logs of one lane: entries on bytes, in order, over a word twice, and in the last word of the pool; on the root's word, on descriptors, on the bitmap and
+/// on the header line of an object; and each generation that the last entry may set.
+#[test]
+fn one_log(rt: HostRuntime) -> Result<(), Fail> {
+    let alloc = rt.alloc();
+    let made = pool(alloc, DEMO)?;
+    let seven =
+        "root 16512\nobject 16512 type 0 size 64\ndata 0 07000000000000000000000000000000\n";
+    let table: [(Log, Words, &str); 15] = [
+        (&[(4096, 2)], &[], SHOWN),
+        (&[(16_512, 7), (4096, 2)], &[], seven),
+        (&[(16_512, 7), (4096, 2)], &[(4096, 2)], seven),
+        (&[(16_512, 4), (16_513, 3), (4096, 2)], &[], seven),
+        (&[(16_513, 8), (16_512, 7), (4096, 2)], &[], seven),
+        (&[(16_513, 7), (16_513, 7), (4096, 2)], &[], seven),
+        (&[(16_514, 7), (4096, 2)], &[(16_512, 255)], seven),
+        (
+            &[(278_520, 9), (12_792, 0), (16_384, 1), (4096, 2)],
+            &[],
+            SHOWN,
+        ),
+        (&[(4096, 1 << 62)], &[(4096, (1 << 62) - 1)], SHOWN),
+        (&[(4096, 1 << 62)], &[(4096, 1 << 62)], SHOWN),
+        (
+            &[(512, 0), (4096, 2)],
+            &[],
+            "root none\nobject 16512 type 0 size 64\n",
+        ),
+        (&[(512, 16_512), (4096, 2)], &[(512, 16_448)], SHOWN),
+        (&[(512, 0), (12_288, 0), (4096, 2)], &[], "root none\n"),
+        (
+            &[(16_448, 9), (16_456, 8), (4096, 2)],
+            &[],
+            "root 16512\nobject 16512 type 9 size 8\n",
+        ),
+        (&[(16_512, 7), (4096, 2)], &[(5184, 1), (5240, 1)], seven),
+    ];
+    for (log, words, text) in table {
+        let mut bytes = made.to_vec(alloc)?;
+        put_log(&mut bytes, AREA, log);
+        shows_changed(&rt, alloc, &bytes, words, 0, text)?;
+    }
+    Ok(())
+}
+
+/// A log of 64 entries: 63 over the eight words of the root, in turn, and the generation's.
+#[test]
+fn longest_log(rt: HostRuntime) -> Result<(), Fail> {
+    let alloc = rt.alloc();
+    let mut bytes = pool(alloc, DEMO)?;
+    for i in 0..63 {
+        put(&mut bytes, 4160 + 16 * i, 16_512 + 8 * (i as u64 % 8));
+        put(&mut bytes, 4168 + 16 * i, i as u64 + 1);
+    }
+    let last = [(5168, 4096), (5176, 2), (4104, 64)];
+    let text =
+        "root 16512\nobject 16512 type 0 size 64\ndata 0 39000000000000003a00000000000000\ndata 16 3b000000000000003c00000000000000\ndata 32 3d000000000000003e00000000000000\ndata 48 3f000000000000003800000000000000\n";
+    shows_changed(&rt, alloc, &bytes, &last, 0, text)?;
+    shows_changed(
+        &rt,
+        alloc,
+        &bytes,
+        &[(4104, 64)],
+        1,
+        "refused Redo lane 0 entry 63\n",
+    )?;
+    shows_changed(&rt, alloc, &bytes, &[(4104, 65)], 1, "refused Lane 0\n")
+}
+
+/// Entries that no log has: of no operation, at places where none may be, or that end no log.
+#[test]
+fn bad_entries(rt: HostRuntime) -> Result<(), Fail> {
+    let alloc = rt.alloc();
+    let made = pool(alloc, DEMO)?;
+    for place in [
+        16_515,
+        16_519,
+        0,
+        504,
+        520,
+        4096,
+        4104,
+        4112,
+        4160,
+        5184,
+        12_280,
+        12_800,
+        16_376,
+        278_528,
+        u64::MAX - 7,
+    ] {
+        let mut bytes = made.to_vec(alloc)?;
+        put_log(&mut bytes, AREA, &[(place, 1), (4096, 2)]);
+        shows_changed(&rt, alloc, &bytes, &[], 1, "refused Redo lane 0 entry 0\n")?;
+        put_log(&mut bytes, AREA, &[(16_512, 1), (place, 2), (4096, 2)]);
+        let text = "refused Redo lane 0 entry 1\n";
+        shows_changed(&rt, alloc, &bytes, &[], 1, text)?;
+    }
+    let table: [(Log, Words); 10] = [
+        (&[(16_512, 1)], &[]),
+        (&[(4097, 2)], &[]),
+        (&[(4098, 2)], &[]),
+        (&[(4099, 2)], &[]),
+        (&[(4096, 1)], &[]),
+        (&[(4096, 3)], &[]),
+        (&[(4096, 2)], &[(4096, 3)]),
+        (&[(4096, (1 << 62) + 1)], &[(4096, 1 << 62)]),
+        (&[(12_288, 2)], &[]),
+        (&[(0, 0)], &[]),
+    ];
+    for (log, words) in table {
+        let mut bytes = made.to_vec(alloc)?;
+        put_log(&mut bytes, AREA, log);
+        shows_changed(
+            &rt,
+            alloc,
+            &bytes,
+            words,
+            1,
+            "refused Redo lane 0 entry 0\n",
+        )?;
+    }
+    Ok(())
+}
+
+/// Logs of two lanes: the first fault of rows and lanes, entries on one word with a common bit or without one, and records beside entries.
+#[test]
+fn two_logs(rt: HostRuntime) -> Result<(), Fail> {
+    let alloc = rt.alloc();
+    let made = pool(alloc, TWO_LANES)?;
+    let changed =
+        "root 24704\nobject 24704 type 0 size 64\ndata 0 f0010000000000000000000000000000\n";
+    let clash = "refused Clash 24704\n";
+    let table: [(Log, Log, u8, &str); 16] = [
+        (
+            &[(24_704, 1), (4096, 2)],
+            &[(24_704, 1), (12_288, 2)],
+            1,
+            clash,
+        ),
+        (
+            &[(24_705, 1), (4096, 2)],
+            &[(24_705, 3), (12_288, 2)],
+            1,
+            clash,
+        ),
+        (
+            &[(24_706, u64::MAX - 1), (4096, 2)],
+            &[(24_706, u64::MAX - 1), (12_288, 2)],
+            1,
+            clash,
+        ),
+        (
+            &[(24_704, 0), (4096, 2)],
+            &[(24_705, 1), (12_288, 2)],
+            1,
+            clash,
+        ),
+        (
+            &[(24_712, 1), (24_705, 4), (24_705, 2), (4096, 2)],
+            &[(24_712, 1), (24_705, 2), (12_288, 2)],
+            1,
+            clash,
+        ),
+        (
+            &[(513, 1), (4096, 2)],
+            &[(513, 1), (12_288, 2)],
+            1,
+            "refused Clash 512\n",
+        ),
+        (
+            &[(24_705, 0x100), (4096, 2)],
+            &[(24_706, u64::MAX - 15), (12_288, 2)],
+            0,
+            changed,
+        ),
+        (
+            &[(24_704, 0x1f0), (4096, 2)],
+            &[(24_705, 0), (12_288, 2)],
+            0,
+            changed,
+        ),
+        (
+            &[(24_706, u64::MAX), (4096, 2)],
+            &[(24_704, 0x1f0), (12_288, 2)],
+            0,
+            changed,
+        ),
+        (
+            &[(24_704, 0x1f0), (4096, 2)],
+            &[(24_712, 0), (12_288, 2)],
+            0,
+            changed,
+        ),
+        (
+            &[(12_288, 2)],
+            &[(12_288, 2)],
+            1,
+            "refused Redo lane 0 entry 0\n",
+        ),
+        (
+            &[(4096, 2)],
+            &[(4096, 2)],
+            1,
+            "refused Redo lane 1 entry 0\n",
+        ),
+        (
+            &[(24_704, 1), (4096, 9)],
+            &[(0, 0), (12_288, 2)],
+            1,
+            "refused Redo lane 0 entry 1\n",
+        ),
+        (
+            &[(24_704, 1), (4096, 2)],
+            &[(24_704, 1), (12_288, 9)],
+            1,
+            "refused Redo lane 1 entry 1\n",
+        ),
+        (&[(20_488, 513), (4096, 2)], &[], 1, "refused Chunk 0 1\n"),
+        (
+            &[],
+            &[(12_288, 2)],
+            0,
+            "root 24704\nobject 24704 type 0 size 64\ndata 0 ff000000000000000000000000000000\n",
+        ),
+    ];
+    for (first, second, code, text) in table {
+        let mut bytes = made.to_vec(alloc)?;
+        put_log(&mut bytes, AREA, first);
+        put_log(&mut bytes, SECOND_AREA, second);
+        shows_changed(&rt, alloc, &bytes, &[(24_704, 255)], code, text)?;
+    }
+    Ok(())
+}
+
+/// Valid records beside entries, of the same lane and of another: a word that has both clashes, also where the entry has no bits.
+#[test]
+fn records_beside_entries(rt: HostRuntime) -> Result<(), Fail> {
+    let alloc = rt.alloc();
+    let made = pool(alloc, TWO_LANES)?;
+    let apart =
+        "root 24704\nobject 24704 type 0 size 64\ndata 0 07000000000000000900000000000000\n";
+    let shown =
+        "root 24704\nobject 24704 type 0 size 64\ndata 0 07000000000000000000000000000000\n";
+    let clash = "refused Clash 24704\n";
+    let lanes = "refused Lane 1\n";
+    let table = [
+        (24_704, 5184, [2, 24_704, 1, 0, 0, 0, 0], 1, clash),
+        (24_705, 5184, [2, 24_704, 1, 0, 0, 0, 0], 1, clash),
+        (24_704, 13_376, [1, 24_696, 2, 0, 0, 0, 0], 1, clash),
+        (24_704, 13_376, [1, 24_712, 1, 9, 0, 0, 0], 0, apart),
+        (24_704, 5184, [2, 24_712, 1, 9, 0, 0, 0], 0, apart),
+        (24_704, 5184, [1, 24_704, 1, 9, 0, 0, 0], 0, shown),
+        (24_704, 5184, [3, 24_704, 1, 9, 0, 0, 0], 0, shown),
+        (24_704, 12_288, [0, 0, 0, 0, 0, 0, 0], 1, lanes),
+        (
+            4096,
+            5184,
+            [2, 24_704, 0, 0, 0, 0, 0],
+            1,
+            "refused Redo lane 0 entry 0\n",
+        ),
+    ];
+    for (place, at, record, code, text) in table {
+        let mut bytes = made.to_vec(alloc)?;
+        put_log(&mut bytes, AREA, &[(place, 7), (4096, 2)]);
+        shows_changed(&rt, alloc, &bytes, &record_at(at, record), code, text)?;
+    }
+    Ok(())
+}
+
+/// A run begins behind the entries of the pool that it opens, and with their generation; what it is opened with has no seal any more.
+#[test]
+fn runs(rt: HostRuntime) -> Result<(), Fail> {
+    let alloc = rt.alloc();
+    let mut bytes = pool(alloc, DEMO)?;
+    put_log(&mut bytes, AREA, &[(16_512, 7), (16_521, 1), (4096, 2)]);
+    let mut shelf = MapShelf::new(alloc);
+    shelf.write("p", &bytes).ok().ok_or("a new name")?;
+    let script = "lane 0\nbegin root\nread root 0 9\nadd root 16 8\nwrite root 16 0102\ncommit\n";
+    shelf
+        .write("s", script.as_bytes())
+        .ok()
+        .ok_or("a new name")?;
+    let (report, dump) = ran(alloc, "", &mut shelf)?;
+    let wanted: &[u8] = b"1 lane 0 lines 2-6 done root=16512 3=070000000000000001\nlane 0 ended\n";
+    assert_eq!(rt; report.as_slice(), wanted);
+    let text =
+        "root 16512\nobject 16512 type 0 size 64\ndata 0 07000000000000000100000000000000\ndata 16 01020000000000000000000000000000\n";
+    assert_eq!(rt; dump.as_slice(), text.as_bytes());
+    let left = shelf.get("q").ok_or("the pool is there")?.to_vec(alloc)?;
+    shows_changed(&rt, alloc, &left, &[(4096, 4)], 0, text)?;
+    assert!(rt;
+        left.get(4096..4112) == Some([3, 0, 0, 0, 0, 0, 0, 0, 0, 0, 0, 0, 0, 0, 0, 0].as_slice())
+    );
+    Ok(())
+}
