@@ -1,0 +1,29 @@
+-- A lane's pending actions, as the plain model and a redo log have them.
+use Rattle.std.specs.Prelude.{◌+◌, false, List, map, Option, None, Some, Result, Ok, Err}
+use Rattle.pm_objects.specs.declared.refusal.Refusal.{Refusal}
+use Rattle.pm_record.specs.declared.redo.Op.TheVariants.{Set}
+use Rattle.pm_record.specs.declared.redo.Redo.{Redo}
+use Rattle.pm_model.specs.Actions.{Action}
+use Rattle.pm_model.specs.Actions.Action.{SetWord}
+use Rattle.pm_model.specs.Checks.{Seen}
+use Rattle.pm_action.specs.declared.actions.SetAction.{SetAction}
+
+-- an action of the model's, and all of a list
+abbrev pub action_of : SetAction → Action
+action_of a = SetWord a.id a.off a.value
+
+abbrev pub pending_of : List SetAction → List Action
+pending_of actions = map action_of actions
+
+-- the entry that performs it
+abbrev pub redo_for : SetAction → Redo
+redo_for a = record { place = a.id.off + a.off; op = Set; value = a.value }
+
+-- the reason of an answer that refuses
+abbrev pub refusal_in : {T : Type 0} → Result T Refusal → Option Refusal
+refusal_in (Ok done) = None
+refusal_in (Err reason) = Some reason
+
+-- the lane sees nothing that hinders the call: it has generations and numbers left, and misses no object
+abbrev pub unhindered : Seen
+unhindered = record { spent = false; busy = false; missing = false }

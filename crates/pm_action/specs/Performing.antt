@@ -1,0 +1,30 @@
+-- Actions as the redo entries that perform them.
+use Rattle.std.specs.Prelude.{◌≡◌, ℕ, ◌+◌, ◌/◌, ◌%◌, ◌^◌, ◌<◌, ◌≤◌, List, map, Contains}
+use Rattle.pm_image.specs.declared.block.Block.{Block}
+use Rattle.pm_image.specs.Blocks.{blocks}
+use Rattle.pm_image.specs.Contents.{offset_in, size_in}
+use Rattle.pm_model.specs.Actions.{Action, end_of, object_of}
+use Rattle.pm_model.specs.Actions.Action.{SetWord}
+use Rattle.pm_view.specs.Log.{Final}
+use Rattle.pm_world.specs.Entries.{set_word}
+use Rattle.pm_world.specs.History.{made_final}
+
+-- the word that an action sets, and what it becomes
+abbrev pub entry_for : Action → Final
+entry_for (SetWord id off value) = set_word ((id.off + off) / 8) value
+
+-- the number is a word's, at a multiple of eight bytes
+abbrev pub IsWord : Action → Type 0
+IsWord (SetWord id off value) = (off % 8 ≡ 0) × (value < 2 ^ 64)
+
+-- the action lies in the object of a block that the words have
+pub record CanPerform (w : ℕ → ℕ) (lanes zones : ℕ) (a : Action) : Type 0 where
+  pub block : Block
+  pub is_there : Contains (blocks w lanes zones) block
+  pub begins : offset_in block ≡ (object_of a).off
+  pub inside : end_of a ≤ size_in w block
+  pub whole : IsWord a
+
+-- the words with the actions' entries applied, in their order
+abbrev pub performed : List Action → (ℕ → ℕ) → ℕ → ℕ
+performed actions w i = made_final (map entry_for actions) i (w i)
