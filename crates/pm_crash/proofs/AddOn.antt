@@ -1,7 +1,7 @@
 -- A range whose new words are recorded as they are is the model's, and changes no word of the call.
 use Rattle.std.proofs.Common.{◌≡◌, ⊎_elim, ℕ, ◌+◌, ◌-◌, ◌*◌, ◌<◌, ◌≤◌, ◌||◌, Bool, true, false, leb, ltb, List, ◌++◌, length, slice_get, slice_index, Some, None, refl, sym, ◌∙◌, ap, subst, arith}
 use Rattle.std.proofs.lemmas.Bool.{and_parts, cases_Bool, le-ltb, leb-true, ltb-true, or_from, or_left, or_right, or_cases}
-use Rattle.std.proofs.lemmas.List.{length-append}
+use Rattle.std.proofs.lemmas.List.{append-nil, length-append}
 use Rattle.std.proofs.lemmas.List.Folds.{list_any-append}
 use Rattle.pm_objects.specs.declared.calls.Operation.TheVariants.{AddRange}
 use Rattle.pm_objects.specs.declared.history.TxErr.TheVariants as error
@@ -23,6 +23,8 @@ use Rattle.pm_crash.proofs.Continued.{answers_done, still_open}
 use Rattle.pm_crash.proofs.KeptWords.{found_back, same_found}
 use Rattle.pm_crash.proofs.NewRecords.{new_is_covered, number_of_new, recorded_member, slot_added, slot_kept, words_of_all, words_of_new}
 use Rattle.pm_crash.proofs.Passing.{passes_all, Works}
+use Rattle.std.proofs.lemmas.List.Elements.{All-nil}
+use Rattle.pm_crash.specs.Performing.{CanPerform}
 
 -- a word is recorded after where it was before, or is new
 recorded_after : (v next : View) (id : Oid) (off len i : ℕ) → (adds : AddsRange v next id off len) → is_recorded next.log.records i ≡ (is_recorded v.log.records i || is_recorded adds.added i)
@@ -133,7 +135,8 @@ add_keeps_open v next id off len level some is_open adds =
       stands = refl;
       fails = refl;
       actions = refl;
-      moved = refl;
+      moved = sym (append-nil c.tx.moved);
+      performable = All-nil (CanPerform w v.lanes v.zones);
       blocks_stay = ap (λ (f : ℕ → ℕ). blocks f v.lanes v.zones) same;
       sizes_stay = λ block there. ap (λ (f : ℕ → ℕ). size_in f block) same;
     })

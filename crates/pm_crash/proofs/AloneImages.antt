@@ -1,7 +1,8 @@
 -- What a power failure leaves of the work of a lane that is alone.
 use Rattle.std.proofs.Common.{◌≡◌, ◌≢◌, ◌⊎◌, ⊎_elim, ℕ, zero, suc, ◌+◌, ◌-◌, ◌<◌, ◌≤◌, Bool, true, false, not, eqb, ◌||◌, ◌&&◌, List, [], ◌∷◌, length, map, drop, slice_index, Option, Some, None, refl, sym, ◌∙◌, ap, subst, arith, eq-eqb, ne_eqb}
 use Rattle.std.specs.List.{Contains, filter, list_any, range_with_len}
-use Rattle.std.proofs.lemmas.Bool.{and_parts, cases_Bool, cases_eq, cond-false, cond-true, eqb-true, false_from_ne_true, false≢true}
+use Rattle.std.proofs.lemmas.Bool.{and_from, and_left, and_parts, and_right, cases_Bool, cases_eq, cond-false, cond-true, eqb-true, false_from_ne_true, false≢true}
+use Rattle.std.proofs.lemmas.List.{length-append}
 use Rattle.std.proofs.lemmas.List.Elements.{All-contains_itself, All-weaker}
 use Rattle.std.proofs.lemmas.Option.{none-some}
 use Rattle.pm_header.specs.declared.header.Header.{Header}
@@ -15,7 +16,7 @@ use Rattle.pm_image.specs.Means.{pool_in}
 use Rattle.pm_image.proofs.Members.{first_member, later_member, member_cases, member_kept, no_member}
 use Rattle.pm_model.specs.History.{opened}
 use Rattle.pm_model.specs.Names.{Replays}
-use Rattle.pm_model.specs.Step.{Act}
+use Rattle.pm_model.specs.Step.{Act, State}
 use Rattle.pm_view.specs.declared.change.Change.{Change}
 use Rattle.pm_view.specs.Changes.{changes_of}
 use Rattle.pm_view.specs.Log.{Phase}
@@ -25,7 +26,8 @@ use Rattle.pm_view.specs.View.{Numbered, View}
 use Rattle.pm_memory.specs.Keep.{IsKeptImage, kept}
 use Rattle.pm_world.specs.Course.{flight, flight_in, is_number}
 use Rattle.pm_world.specs.Crash.{IsBeingWritten, IsUndrained, IsWhole, NoneTorn, Survives, is_deciding_in, is_kept, is_lost, loses}
-use Rattle.pm_world.specs.Fits.{LaneFits}
+use Rattle.pm_world.specs.Entries.{AreWhole}
+use Rattle.pm_world.specs.Fits.{LaneFits, PhaseFits}
 use Rattle.pm_world.specs.History.{Entry, Flies, entries_by, settled}
 use Rattle.pm_world.specs.Opening.{Opening}
 use Rattle.pm_world.specs.Records.{generation_of, records_generation}
@@ -33,12 +35,12 @@ use Rattle.pm_world.proofs.CrashEntries.{generation_is}
 use Rattle.pm_world.proofs.CrashLogs.{GenerationIs, SealIs}
 use Rattle.pm_world.proofs.CrashRecords.{generation_unsealed}
 use Rattle.pm_world.proofs.CrashWords.{seal_is}
-use Rattle.pm_crash.specs.Alone.{BeginsAlone, IsUnsealed, MeansCalls, WorksAlone, act_of_numbered, alone_views, kept_numbered}
-use Rattle.pm_crash.specs.HeldHistory.{act_of_entry}
+use Rattle.pm_crash.specs.Alone.{BeginsAlone, IsDrawnAt, IsUnsealed, MeansCalls, WorksAlone, alone_views, kept_numbered}
 use Rattle.pm_crash.specs.OneLane.{HoldsReplay, Moment, kept_entries}
-use Rattle.pm_crash.specs.OpenCall.{told_of}
+use Rattle.pm_crash.specs.Pending.{acts_alone, state_after, state_alone}
 use Rattle.pm_crash.proofs.AloneCourse.{StandsAlone, alone_else, stands_at}
 use Rattle.pm_crash.proofs.AloneMemory.{memory_of}
+use Rattle.pm_crash.proofs.HistoryActs.{acts_of_all, state_of_one}
 use Rattle.pm_crash.proofs.FrontWords.{front_survives}
 use Rattle.pm_crash.proofs.KeptEntries.{image_means, image_replays}
 
@@ -56,11 +58,8 @@ first_alone p zero some others = absurd (omega arith)
 first_alone p (suc n) some others = ap (λ (b : Bool). p 0 || b) (none_later p 1 n (omega arith) others) ∙ or_false (p 0)
 
 -- the entries of one lane's history are its view's
-act_of_lane : (e : Entry) → e.lane ≡ 0 → act_of_entry e ≡ act_of_numbered (record { number = e.number; call = e.call })
-act_of_lane e is = ap (λ (n : ℕ). let act : Act = record { lane = n; actions = []; told = map told_of e.call } in act) is
-
 kept_same : (keep other : ℕ → Bool) (log : List Entry) → ((n : ℕ) → keep n ≡ other n) → ((e : Entry) → Contains log e → e.lane ≡ 0)
-    → map act_of_entry (filter (λ (e : Entry). keep e.number) log) ≡ map act_of_numbered (filter (λ (e : Numbered). other e.number) (entries_by 0 log))
+    → entries_by 0 (filter (λ (e : Entry). keep e.number) log) ≡ filter (λ (e : Numbered). other e.number) (entries_by 0 log)
 unfolding entries_by
 kept_same keep other [] same alone = refl
 kept_same keep other (e ∷ log) same alone =
@@ -72,14 +71,14 @@ kept_same keep other (e ∷ log) same alone =
     let ours : List Entry = filter (λ (x : Entry). keep x.number) log in
     ⊎_elim
     (λ (yes_ : keep e.number ≡ true).
-    ap (map act_of_entry) (cond-true (keep e.number) (e ∷ ours) ours yes_)
-    ∙ ap (λ (a : Act). a ∷ map act_of_entry ours) (act_of_lane e is)
-    ∙ ap (λ (acts : List Act). act_of_numbered d ∷ acts) rest
-    ∙ sym (ap (map act_of_numbered) (ap (filter passes) entries ∙ cond-true (other e.number) (d ∷ filter passes (entries_by 0 log)) (filter passes (entries_by 0 log)) (sym (same e.number) ∙ yes_))))
+    ap (entries_by 0) (cond-true (keep e.number) (e ∷ ours) ours yes_)
+    ∙ cond-true (eqb e.lane 0) (d ∷ entries_by 0 ours) (entries_by 0 ours) (eq-eqb e.lane 0 is)
+    ∙ ap (λ (es : List Numbered). d ∷ es) rest
+    ∙ sym (ap (filter passes) entries ∙ cond-true (other e.number) (d ∷ filter passes (entries_by 0 log)) (filter passes (entries_by 0 log)) (sym (same e.number) ∙ yes_)))
     (λ (no_ : keep e.number ≡ false).
-    ap (map act_of_entry) (cond-false (keep e.number) (e ∷ ours) ours no_)
+    ap (entries_by 0) (cond-false (keep e.number) (e ∷ ours) ours no_)
     ∙ rest
-    ∙ sym (ap (map act_of_numbered) (ap (filter passes) entries ∙ cond-false (other e.number) (d ∷ filter passes (entries_by 0 log)) (filter passes (entries_by 0 log)) (sym (same e.number) ∙ no_))))
+    ∙ sym (ap (filter passes) entries ∙ cond-false (other e.number) (d ∷ filter passes (entries_by 0 log)) (filter passes (entries_by 0 log)) (sym (same e.number) ∙ no_)))
     (cases_Bool (keep e.number))
 
 -- the objects of blocks stand at the blocks' offsets
@@ -123,6 +122,10 @@ passing_member {X = X} p (y ∷ xs) x there = ⊎_elim
     (member_cases y (filter p xs) x (subst (λ (ys : List X). Contains ys x) (cond-true (p y) (y ∷ filter p xs) (filter p xs) passes) there)))
     (λ (fails : p y ≡ false). passing_member p xs x (subst (λ (ys : List X). Contains ys x) (cond-false (p y) (y ∷ filter p xs) (filter p xs) fails) there))
     (cases_Bool (p y))
+
+-- a log that ends its generation has an entry
+whole_some : (v : View) {generation : ℕ} → AreWhole v generation → 1 ≤ length v.log.entries
+whole_some v whole = let long = ap length whole.are ∙ length-append whole.front (_ ∷ []) in omega (arith, long)
 
 module _ (o : Opening) (header : Header) (pool : PoolView) (w : View) (s : StandsAlone o header pool w) where
   abbrev now : Moment
@@ -170,18 +173,23 @@ module _ (o : Opening) (header : Header) (pool : PoolView) (w : View) (s : Stand
         first_alone (λ k. loses image (s.views k) n) o.lanes (let low = s.goes.in_lanes in omega arith) (λ k other. ap (λ (x : View). loses image x n) (s.others k other))
         ∙ ap (λ (x : View). loses image x n) s.here
 
-    kept_calls : map act_of_entry (kept_entries o now image) ≡ map act_of_numbered (kept_numbered image w)
+    kept_calls : entries_by 0 (kept_entries o now image) ≡ kept_numbered image w
     kept_calls =
         kept_same (is_kept o s.views image) (λ n. not (loses image w n)) s.log (λ n. ap not (lost_own n)) s.goes.alone
-        ∙ ap (λ (es : List Numbered). map act_of_numbered (filter (λ (e : Numbered). not (loses image w e.number)) es))
-        (s.goes.world.own_entries 0 s.goes.in_lanes ∙ ap (λ (u : View). u.entries) s.here)
+        ∙ ap (filter (λ (e : Numbered). not (loses image w e.number))) (s.goes.world.own_entries 0 s.goes.in_lanes ∙ ap (λ (u : View). u.entries) s.here)
+
+    kept_alone : (e : Entry) → Contains (kept_entries o now image) e → e.lane ≡ 0
+    kept_alone e there = s.goes.alone e (member_kept (λ (d : Entry). is_kept o s.views image d.number) s.log e there)
 
     pub image_calls : (v : View) → BeginsAlone o header pool v → Survives o (memory_of w) s.views image → NoneTorn o s.views image → MeansCalls image o.lanes o.zones pool (kept_numbered image w)
     image_calls v begins survives whole =
         let held : HoldsReplay (recovered_at image o.lanes) o.lanes o.zones header pool (kept_entries o now image) = image_replays o 0 header pool now s.goes image survives whole in
         record {
           last = held.last;
-          replays = subst (λ (acts : List Act). Replays (opened pool) acts (opened held.last)) kept_calls held.replays;
+          replays =
+              subst (λ (calls : List Numbered). Replays (opened pool) (acts_alone calls) (state_alone held.last calls)) kept_calls
+              (subst (λ (s : State). Replays (opened pool) (acts_alone (entries_by 0 (kept_entries o now image))) s) (state_of_one held.last (kept_entries o now image) kept_alone)
+              (subst (λ (acts : List Act). Replays (opened pool) acts (state_after held.last (kept_entries o now image))) (acts_of_all (kept_entries o now image) kept_alone) held.replays));
           means = image_means o 0 header pool now s.goes image begins.holds begins.clean survives whole held;
           blocks_are = blocks_offsets (recovered_at image o.lanes) o.lanes o.zones header held.last held.holds.is_pool;
         }
@@ -255,6 +263,56 @@ module _ (o : Opening) (header : Header) (pool : PoolView) (w : View) (s : Stand
     no_seal Clearing unsealed seal = absurd unsealed
     no_seal Retiring unsealed seal = seal
 
+    own_generation : Survives o (memory_of w) s.views image → GenerationIs w (seal_word image 0) (generation image 0) w.log.phase
+    own_generation survives =
+        subst (λ (u : View). GenerationIs u (seal_word image 0) (generation image 0) u.log.phase) s.here (generation_is o (memory_of w) s.views s.log s.decided s.goes.world image survives 0 s.goes.in_lanes)
+
+    -- what the words of the image tell of a call that began with generation g
+    abbrev is_unmade : ℕ → Bool
+    is_unmade g = eqb (seal_word image 0) 0 && eqb (generation_word image 0) g
+
+    unmade : (g : ℕ) → seal_word image 0 ≡ 0 → generation image 0 ≡ g → is_unmade g ≡ true
+    unmade g seal is = and_from (eqb (seal_word image 0) 0) (eqb (generation_word image 0) g) (eq-eqb (seal_word image 0) 0 seal) (eq-eqb (generation_word image 0) g (sym (generation_unsealed image 0 seal) ∙ is))
+
+    made_by_seal : (g : ℕ) → seal_word image 0 ≢ 0 → is_unmade g ≡ false
+    made_by_seal g sealed = and_left (eqb (seal_word image 0) 0) (eqb (generation_word image 0) g) (ne_eqb (seal_word image 0) 0 sealed)
+
+    made_by_word : (g : ℕ) → generation image 0 ≢ g → is_unmade g ≡ false
+    made_by_word g other = ⊎_elim
+        (λ (seal : seal_word image 0 ≡ 0). and_right (eqb (seal_word image 0) 0) (eqb (generation_word image 0) g) (ne_eqb (generation_word image 0) g (λ same. other (generation_unsealed image 0 seal ∙ same))))
+        (λ (sealed : seal_word image 0 ≢ 0). made_by_seal g sealed)
+        (cases_eq (seal_word image 0) 0)
+
+    undecided_by_words : (g : ℕ) (phase : Phase) → IsDrawnAt g w phase → PhaseFits (Flies s.log s.decided 0) w phase → SealIs w (seal_word image 0) phase → GenerationIs w (seal_word image 0) (generation image 0) phase
+        → not (is_deciding_in image w phase) ≡ is_unmade g
+    undecided_by_words g Idle drawn fits seal is = sym (made_by_word g (λ same. omega (arith, is, drawn, same)))
+    undecided_by_words g (Open slot pair) drawn fits seal is = absurd drawn
+    undecided_by_words g Drawn drawn fits seal is = sym (unmade g seal (is ∙ drawn))
+    undecided_by_words g Sealing drawn fits seal is =
+        ap (λ (lane : ℕ). not (not (eqb (seal_word image lane) 0))) own_fits.lane.lane
+        ∙ ⊎_elim
+        (λ (lost : (seal_word image 0 ≡ 0) × (generation image 0 ≡ generation_of w)). ap (λ (b : Bool). not (not b)) (eq-eqb (seal_word image 0) 0 lost.0) ∙ sym (unmade g lost.0 (lost.1 ∙ drawn)))
+        (λ (kept : (seal_word image 0 ≢ 0) × (generation image 0 ≡ generation_of w + 1)). ap (λ (b : Bool). not (not b)) (ne_eqb (seal_word image 0) 0 kept.0) ∙ sym (made_by_seal g kept.0))
+        is
+    undecided_by_words g (Applying applied) drawn fits seal is =
+        let some : 1 ≤ length w.log.entries = whole_some w fits.whole in
+        sym (made_by_seal g (λ none. omega (arith, some, seal, none)))
+    undecided_by_words g Clearing drawn fits seal is = sym (made_by_word g (λ same. omega (arith, is, drawn, same)))
+    undecided_by_words g Retiring drawn fits seal is =
+        let word : generation image 0 ≡ generation_word image 0 = generation_unsealed image 0 seal in
+        ap (λ (lane : ℕ). not (eqb (generation_word image lane) (generation_of w))) own_fits.lane.lane
+        ∙ ⊎_elim
+        (λ (next : generation image 0 ≡ generation_of w).
+        ap not (eq-eqb (generation_word image 0) (generation_of w) (sym word ∙ next)) ∙ sym (made_by_word g (λ same. omega (arith, next, drawn, same))))
+        (λ (last : generation image 0 + 1 ≡ generation_of w).
+        ap not (ne_eqb (generation_word image 0) (generation_of w) (λ same. omega arith)) ∙ sym (unmade g seal (omega (arith, last, drawn))))
+        is
+
+    pub lost_by_words : Survives o (memory_of w) s.views image → (g n : ℕ) → w.number ≡ Some n → IsDrawnAt g w w.log.phase → loses image w n ≡ is_unmade g
+    lost_by_words survives g n number drawn =
+        let here : is_number w.number n ≡ true = ap (λ (m : Option ℕ). is_number m n) number ∙ eq-eqb n n refl in
+        ap (λ (b : Bool). b && not (is_deciding_in image w w.log.phase)) here ∙ undecided_by_words g w.log.phase drawn own_fits.phase (own_seal survives) (own_generation survives)
+
     -- without a seal the image's generation is its word
     pub lost_by_word : Survives o (memory_of w) s.views image → (n : ℕ) → w.number ≡ Some n → IsUnsealed w.log.phase → loses image w n ≡ eqb (generation_word image 0) (records_generation w.log.phase w)
     lost_by_word survives n number unsealed =
@@ -283,6 +341,9 @@ module _ (o : Opening) (header : Header) (pool : PoolView) (v w : View) (steps :
   -- where the generation of its records is this one
   fate_by : (g n : ℕ) → w.number ≡ Some n → IsUnsealed w.log.phase → records_generation w.log.phase w ≡ g → loses image w n ≡ eqb (generation_word image 0) g
   fate_by g n number unsealed same = lost_by_word o header pool w stands image left_so n number unsealed ∙ ap (eqb (generation_word image 0)) same
+
+  pub words_fate : (g n : ℕ) → w.number ≡ Some n → IsDrawnAt g w w.log.phase → loses image w n ≡ (eqb (seal_word image 0) 0 && eqb (generation_word image 0) g)
+  words_fate = lost_by_words o header pool w stands image left_so
 
   pub first_fate : (n : ℕ) → w.number ≡ Some n → IsUnsealed w.log.phase → records_generation w.log.phase w ≡ generation_word o.words 0 → loses image w n ≡ eqb (generation_word image 0) (generation_word o.words 0)
   first_fate = fate_by (generation_word o.words 0)

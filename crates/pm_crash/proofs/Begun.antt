@@ -1,11 +1,11 @@
 -- A call that has begun with the locks that it wanted is the model's transaction at its first level.
 use Rattle.std.proofs.Common.{◌≡◌, ℕ, ◌≤◌, Bool, true, false, not, eqb, ltb, cond, List, [], ◌∷◌, length, map, get_or, slice_index, Option, None, MatchOption, refl, sym, ◌∙◌, ap, subst, arith}
 use Rattle.std.specs.Prelude.{IsSome}
-use Rattle.std.specs.List.{Contains, filter, find, list_any}
+use Rattle.std.specs.List.{All, Contains, filter, find, list_any}
 use Rattle.std.specs.Option.{option_map}
 use Rattle.std.proofs.lemmas.Bool.{and_from, and_right, cond-true, eq-eqb, le-ltb, or_from}
 use Rattle.std.proofs.lemmas.List.{length-map}
-use Rattle.std.proofs.lemmas.List.Elements.{Contains-get_or}
+use Rattle.std.proofs.lemmas.List.Elements.{All-nil, Contains-get_or}
 use Rattle.pm_header.specs.declared.header.Header.{Header}
 use Rattle.pm_objects.specs.Pool.{object_at}
 use Rattle.pm_objects.specs.declared.calls.Operation.{Operation}
@@ -20,8 +20,9 @@ use Rattle.pm_image.specs.Blocks.{blocks}
 use Rattle.pm_image.specs.Contents.{size_in}
 use Rattle.pm_image.proofs.Members.{first_member, later_member}
 use Rattle.pm_model.specs.declared.stage.Stage.TheVariants as stage
+use Rattle.pm_model.specs.Actions.{Action}
 use Rattle.pm_model.specs.Places.{can_begin, has_place}
-use Rattle.pm_model.specs.Transaction.{Transaction, at_rest, locked_all}
+use Rattle.pm_model.specs.Transaction.{Transaction, locked_all, resting}
 use Rattle.pm_model.specs.Checks.{passes_locks, wants_no_place, takes_first_lock, is_missing, first_refusal}
 use Rattle.pm_model.specs.Answers.{Told as Answered, Answers, IsDone, IsRefused, after}
 use Rattle.pm_view.specs.Log.{Recorded}
@@ -29,10 +30,13 @@ use Rattle.pm_view.specs.View.{View}
 use Rattle.pm_world.specs.Records.{is_recorded}
 use Rattle.pm_crash.proofs.SameLocks.{turned_locks}
 use Rattle.pm_crash.specs.Held.{HoldsPool}
-use Rattle.pm_crash.specs.OpenCall.{IsBefore, IsOpen, RunsTo, block_at_line, call_words, told_of, words_recorded, lock_of, locks_of}
+use Rattle.pm_crash.specs.OpenCall.{IsBefore, IsOpen, RunsTo, block_at_line, call_words, words_recorded, lock_of, locks_of}
+use Rattle.pm_crash.specs.Pending.{pending_before, told_of}
+use Rattle.pm_crash.specs.Performing.{CanPerform}
 use Rattle.pm_crash.specs.Operations.{BeginsCall, IsHeld, IsWantHeld}
 use Rattle.pm_crash.proofs.ObjectsOfBlocks.{object_is_there}
 use Rattle.pm_crash.proofs.Passing.{unhindered}
+use Rattle.pm_crash.proofs.PendingOn.{pending_first, published_first}
 use Rattle.pm_crash.proofs.Runs.{runs_first}
 
 -- what all pass is filtered by nothing, and none fails it
@@ -47,11 +51,11 @@ none_fails p (x ∷ xs) passes =
     or_from (not (p x)) (list_any (λ y. not (p y)) xs) (ap not (passes x (first_member x xs))) (none_fails p xs (λ y there. passes y (later_member x xs y there)))
 
 -- the checks of a begin where no transaction is open
-begin_passes : (pool : PoolView) (wants : List Want) → ((want : Want) → Contains wants want → has_place pool want.id ≡ true) → length (locked_all wants []) ≤ 64
-    → first_refusal unhindered (at_rest pool) (Begin wants) ≡ None
+begin_passes : (pool : PoolView) (actions : List Action) (wants : List Want) → ((want : Want) → Contains wants want → has_place pool want.id ≡ true) → length (locked_all wants []) ≤ 64
+    → first_refusal unhindered (resting pool actions) (Begin wants) ≡ None
 unfolding first_refusal
-begin_passes pool wants places few =
-    let tx : Transaction = at_rest pool in
+begin_passes pool actions wants places few =
+    let tx : Transaction = resting pool actions in
     let op : Operation = Begin wants in
     let placed : Want → Bool = λ want. has_place pool want.id in
     let locks : passes_locks tx op ≡ false =
@@ -74,7 +78,7 @@ begin_passes pool wants places few =
     ∷ [])))
 
 -- what is wanted has a place in the pool that the words hold
-wanted_has_place : (v : View) (w : ℕ → ℕ) (header : Header) (pool : PoolView) (want : Want) → HoldsPool w v.lanes v.zones header pool → v.pool ≡ header.id → IsWantHeld v want
+pub wanted_has_place : (v : View) (w : ℕ → ℕ) (header : Header) (pool : PoolView) (want : Want) → HoldsPool w v.lanes v.zones header pool → v.pool ≡ header.id → IsWantHeld v want
     → has_place pool want.id ≡ true
 wanted_has_place v w header pool want holds id wanted =
     and_from (eqb want.id.pool pool.id) (can_begin pool.lanes pool.zones want.id.off)
@@ -82,28 +86,28 @@ wanted_has_place v w header pool want holds id wanted =
     (ap (λ (p : PoolView). can_begin p.lanes p.zones want.id.off) holds.is_pool ∙ wanted.place)
 
 -- and an object is there
-wanted_is_there : (v : View) (w : ℕ → ℕ) (header : Header) (pool : PoolView) (want : Want) → HoldsPool w v.lanes v.zones header pool → IsBefore v w → IsWantHeld v want
+pub wanted_is_there : (v : View) (w : ℕ → ℕ) (header : Header) (pool : PoolView) (want : Want) → HoldsPool w v.lanes v.zones header pool → IsBefore v w → IsWantHeld v want
     → IsSome (object_at pool.objects want.id.off)
 wanted_is_there v w header pool want holds before wanted =
     let held : IsHeld v want.id want.write = wanted.held in
     let object = object_is_there w v.lanes v.zones header pool (block_at_line held.lock.line held.lines) holds (before.found held.lock held.lines held.held held.block) in
     subst (λ (o : Option Object). IsSome o) (sym (ap (object_at pool.objects) held.place ∙ object.found)) refl
 
-begin_answers : (v : View) (wants : List Want) (w : ℕ → ℕ) (header : Header) (pool : PoolView) → BeginsCall v wants → HoldsPool w v.lanes v.zones header pool → v.pool ≡ header.id → IsBefore v w
-    → Answers (at_rest pool) (Begin wants) None
-begin_answers v wants w header pool begins holds id before =
+begin_answers : (v : View) (wants : List Want) (w : ℕ → ℕ) (header : Header) (pool : PoolView) (actions : List Action) → BeginsCall v wants → HoldsPool w v.lanes v.zones header pool → v.pool ≡ header.id → IsBefore v w
+    → Answers (resting pool actions) (Begin wants) None
+begin_answers v wants w header pool actions begins holds id before =
     let long : length (locked_all wants []) ≡ length v.locks = sym begins.takes.locks.count ∙ length-map v.locks lock_of in
     let few : length v.locks ≤ 64 = begins.takes.few in
-    let passes : first_refusal unhindered (at_rest pool) (Begin wants) ≡ None =
-    begin_passes pool wants (λ want there. wanted_has_place v w header pool want holds id (begins.takes.wanted want there)) (omega arith) in
-    let done : IsDone (at_rest pool) (Begin wants) None = record {
+    let passes : first_refusal unhindered (resting pool actions) (Begin wants) ≡ None =
+    begin_passes pool actions wants (λ want there. wanted_has_place v w header pool want holds id (begins.takes.wanted want there)) (omega arith) in
+    let done : IsDone (resting pool actions) (Begin wants) None = record {
       there = λ k d inside first. wanted_is_there v w header pool (get_or wants k d) holds before (begins.takes.wanted (get_or wants k d) (Contains-get_or wants k d inside));
       value = refl;
     } in
     record {
       known = refl;
       seen = unhindered;
-      answer = subst (λ (fr : Option Refusal). MatchOption fr (IsDone (at_rest pool) (Begin wants) None) (λ r. IsRefused r None)) (sym passes) done;
+      answer = subst (λ (fr : Option Refusal). MatchOption fr (IsDone (resting pool actions) (Begin wants) None) (λ r. IsRefused r None)) (sym passes) done;
     }
 
 -- nothing is recorded, so the words are those from before
@@ -121,11 +125,11 @@ begin_opens v wants begins = record {
   outside = λ i is. absurd (let clash : false ≡ true = sym (ap (λ (records : List Recorded). is_recorded records i) begins.no_records) ∙ is in cc);
   comes = λ w header pool holds id before.
       let told : Answered = record { operation = Begin wants; reply = None } in
-      let tx : Transaction = after told (at_rest pool) in
+      let tx : Transaction = after told (resting pool (pending_before v)) in
       let same : call_words v w ≡ w = no_call_words v begins.no_records w in
       record {
         tx = tx;
-        runs = subst (λ (ts : List Answered). RunsTo pool ts tx) (sym (ap (map told_of) begins.call)) (runs_first told pool (begin_answers v wants w header pool begins holds id before));
+        runs = subst (λ (ts : List Answered). RunsTo pool (pending_before v) ts tx) (sym (ap (map told_of) begins.call)) (runs_first told pool (pending_before v) (begin_answers v wants w header pool (pending_before v) begins holds id before));
         holds = subst (λ (f : ℕ → ℕ). HoldsPool f v.lanes v.zones header pool) (sym same) holds;
         before = refl;
         locks = turned_locks (locks_of v) (locked_all wants []) begins.takes.locks;
@@ -134,8 +138,9 @@ begin_opens v wants begins = record {
         levels = refl;
         stands = refl;
         fails = refl;
-        no_actions = refl;
-        nothing_moved = refl;
+        actions = sym (pending_first v (record { operation = Begin wants; reply = None }) begins.call);
+        moved = sym (published_first v (record { operation = Begin wants; reply = None }) begins.call);
+        performable = subst (All (CanPerform w v.lanes v.zones)) (sym (published_first v (record { operation = Begin wants; reply = None }) begins.call)) (All-nil (CanPerform w v.lanes v.zones));
         blocks_stay = ap (λ (f : ℕ → ℕ). blocks f v.lanes v.zones) same;
         sizes_stay = λ block there. ap (λ (f : ℕ → ℕ). size_in f block) same;
       };

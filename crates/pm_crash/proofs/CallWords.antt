@@ -111,20 +111,23 @@ pub record IsObjectOf (v : View) (w : ℕ → ℕ) (tx : Transaction) (id : Oid)
   pub bytes : bytes_of tx.pool.objects id.off ≡ bytes_in (call_words v w) block
   pub long : length (bytes_of tx.pool.objects id.off) ≡ slice_index v.words (8 * line + 1)
 
-pub object_under : (v : View) (w : ℕ → ℕ) (header : Header) (pool : PoolView) (level : ℕ) (id : Oid) (write : Bool) → IsOpen v level stage.Work error.None → IsBefore v w
-    → (c : ComesTo v w header pool level stage.Work error.None) → (held : IsHeld v id write) → Contains v.known (8 * held.lock.line + 1) → IsObjectOf v w c.tx id held.lock.line
-object_under v w header pool level id write is_open before c held size_known =
+-- it is there for each transaction whose pool those words hold, where blocks stayed
+pub object_found : (v : View) (w : ℕ → ℕ) (header : Header) (tx : Transaction) (id : Oid) (write : Bool) → v.lane < v.lanes
+    → ((l : Lock) (n : ℕ) → Contains v.locks l → l.block ≡ Some n → is_chunk v.lanes (l.line / 64) ≡ true) → IsBefore v w
+    → HoldsPool (call_words v w) v.lanes v.zones header tx.pool → blocks (call_words v w) v.lanes v.zones ≡ blocks w v.lanes v.zones
+    → (held : IsHeld v id write) → Contains v.known (8 * held.lock.line + 1) → IsObjectOf v w tx id held.lock.line
+object_found v w header tx id write in_lanes chunks before holds blocks_stay held size_known =
     let line : ℕ = held.lock.line in
     let block : Block = block_at_line line held.lines in
     let words : ℕ → ℕ = call_words v w in
     let was_there : Contains (blocks w v.lanes v.zones) block = before.found held.lock held.lines held.held held.block in
-    let is_there : Contains (blocks words v.lanes v.zones) block = subst (λ (bs : List Block). Contains bs block) (sym c.blocks_stay) was_there in
-    let outside : is_in_area v.lane (8 * line + 1) ≡ false = under_is_outside v held.lock held.lines (8 * line + 1) is_open.in_lanes is_open.chunks held.held held.block (omega arith) in
+    let is_there : Contains (blocks words v.lanes v.zones) block = subst (λ (bs : List Block). Contains bs block) (sym blocks_stay) was_there in
+    let outside : is_in_area v.lane (8 * line + 1) ≡ false = under_is_outside v held.lock held.lines (8 * line + 1) in_lanes chunks held.held held.block (omega arith) in
     let header_word : 64 * line / 8 + 1 ≡ 8 * line + 1 = omega arith in
     let size : size_in words block ≡ slice_index v.words (8 * line + 1) = ap words header_word ∙ known_call_word v w (8 * line + 1) before size_known outside in
-    let object = object_is_there words v.lanes v.zones header c.tx.pool block c.holds is_there in
-    let bytes : bytes_of c.tx.pool.objects id.off ≡ bytes_in words block =
-    ap (bytes_of c.tx.pool.objects) held.place ∙ ap (λ (o : Option Object). option_map_or (λ (x : Object). x.bytes) o []) object.found in
+    let object = object_is_there words v.lanes v.zones header tx.pool block holds is_there in
+    let bytes : bytes_of tx.pool.objects id.off ≡ bytes_in words block =
+    ap (bytes_of tx.pool.objects) held.place ∙ ap (λ (o : Option Object). option_map_or (λ (x : Object). x.bytes) o []) object.found in
     record {
       block = block;
       is_there = is_there;
@@ -135,6 +138,10 @@ object_under v w header pool level id write is_open before c held size_known =
       bytes = bytes;
       long = ap length bytes ∙ object.size ∙ size;
     }
+
+pub object_under : (v : View) (w : ℕ → ℕ) (header : Header) (pool : PoolView) (level : ℕ) (id : Oid) (write : Bool) → IsOpen v level stage.Work error.None → IsBefore v w
+    → (c : ComesTo v w header pool level stage.Work error.None) → (held : IsHeld v id write) → Contains v.known (8 * held.lock.line + 1) → IsObjectOf v w c.tx id held.lock.line
+object_under v w header pool level id write is_open before c = object_found v w header c.tx id write is_open.in_lanes is_open.chunks before c.holds c.blocks_stay
 
 -- the transaction works
 pub call_works : (v : View) (w : ℕ → ℕ) (header : Header) (pool : PoolView) (level : ℕ) → 1 ≤ level → IsOpen v level stage.Work error.None → (c : ComesTo v w header pool level stage.Work error.None) → Works c.tx

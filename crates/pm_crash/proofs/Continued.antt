@@ -3,7 +3,7 @@ use Rattle.std.proofs.Common.{◌≡◌, ℕ, ◌<◌, ◌≤◌, ◌/◌, true,
 use Rattle.std.specs.Prelude.{IsTrue, IsSome}
 use Rattle.std.specs.List.{All, Contains}
 use Rattle.std.proofs.lemmas.List.{map-append}
-use Rattle.std.proofs.lemmas.List.Elements.{All-nil}
+use Rattle.std.proofs.lemmas.List.Elements.{All-append, All-nil}
 use Rattle.pm_header.specs.declared.header.Header.{Header}
 use Rattle.pm_objects.specs.Pool.{object_at}
 use Rattle.pm_objects.specs.declared.calls.Operation.{Operation}
@@ -16,8 +16,9 @@ use Rattle.pm_image.specs.declared.block.Block.{Block}
 use Rattle.pm_image.specs.Blocks.{blocks}
 use Rattle.pm_image.specs.Contents.{size_in}
 use Rattle.pm_model.specs.declared.stage.Stage.TheVariants as stage
+use Rattle.pm_model.specs.Actions.{Action}
 use Rattle.pm_model.specs.Transaction.{Transaction, is_locked, is_working}
-use Rattle.pm_model.specs.Checks.{first_refusal}
+use Rattle.pm_model.specs.Checks.{first_refusal, wants_of}
 use Rattle.pm_model.specs.Answers.{Told as Answered, Answers, IsDone, IsRefused, after_reply, is_known, value_of}
 use Rattle.pm_view.specs.Area.{is_in_area}
 use Rattle.pm_view.specs.Blocks.{is_chunk}
@@ -25,18 +26,21 @@ use Rattle.pm_view.specs.View.{View, Lock}
 use Rattle.pm_world.specs.Records.{is_recorded}
 use Rattle.pm_crash.specs.Locks.{AreSameLocks}
 use Rattle.pm_crash.specs.Held.{HoldsPool}
-use Rattle.pm_crash.specs.OpenCall.{IsBefore, call_words, ComesTo, IsOpen, RunsTo, told_in, told_of, locks_of, words_recorded}
+use Rattle.pm_crash.specs.OpenCall.{IsBefore, call_words, ComesTo, IsOpen, RunsTo, locks_of, words_recorded}
 use Rattle.pm_crash.specs.Operations.{KeepsLane, Tells}
 use Rattle.pm_crash.proofs.Passing.{unhindered, AsksNoLock}
+use Rattle.pm_crash.specs.Pending.{pending_before, pending_behind, pending_in, published_by, published_in, told_in, told_of}
+use Rattle.pm_crash.specs.Performing.{CanPerform}
+use Rattle.pm_crash.proofs.PendingOn.{pending_once_more, published_once_more, same_before}
 use Rattle.pm_crash.proofs.Runs.{runs_once_more}
 
 -- an operation that asks for no lock, and is not refused, answers its value
-pub answers_done : (tx : Transaction) (op : Operation) (reply : Option Value) → IsTrue (is_known op) → AsksNoLock op → first_refusal unhindered tx op ≡ None → reply ≡ value_of tx op
+pub answers_value : (tx : Transaction) (op : Operation) (reply : Option Value) → IsTrue (is_known op) → wants_of op ≡ [] → first_refusal unhindered tx op ≡ None → reply ≡ value_of tx op
     → Answers tx op reply
-answers_done tx op reply known asks none value =
+answers_value tx op reply known no_wants none value =
     let done : IsDone tx op reply = record {
       there =
-          subst (λ (wants : List Want). All (λ (want : Want). is_locked tx.locks want.id.off false ≡ false → IsSome (object_at tx.pool.objects want.id.off)) wants) (sym asks.no_wants)
+          subst (λ (wants : List Want). All (λ (want : Want). is_locked tx.locks want.id.off false ≡ false → IsSome (object_at tx.pool.objects want.id.off)) wants) (sym no_wants)
           (All-nil (λ (want : Want). is_locked tx.locks want.id.off false ≡ false → IsSome (object_at tx.pool.objects want.id.off)));
       value = value;
     } in
@@ -46,6 +50,10 @@ answers_done tx op reply known asks none value =
       answer = subst (λ (fr : Option Refusal). MatchOption fr (IsDone tx op reply) (λ r. IsRefused r reply)) (sym none) done;
     }
 
+pub answers_done : (tx : Transaction) (op : Operation) (reply : Option Value) → IsTrue (is_known op) → AsksNoLock op → first_refusal unhindered tx op ≡ None → reply ≡ value_of tx op
+    → Answers tx op reply
+answers_done tx op reply known asks = answers_value tx op reply known asks.no_wants
+
 pub two_same : (P : ℕ → ℕ → Type 0) (a b c d : ℕ) → a ≡ b → c ≡ d → P a c → P b d
 two_same P a b c d e f holds = subst (λ (n : ℕ). P n d) e (subst (P a) f holds)
 
@@ -53,6 +61,13 @@ two_same P a b c d e f holds = subst (λ (n : ℕ). P n d) e (subst (P a) f hold
 pub told_once_more : (v next : View) (op : Operation) (reply : Option Value) → next.call ≡ v.call ++ record { operation = op; reply = reply } ∷ []
     → told_in next ≡ told_in v ++ record { operation = op; reply = reply } ∷ []
 told_once_more v next op reply call = ap (map told_of) call ∙ map-append told_of v.call (record { operation = op; reply = reply } ∷ [])
+
+-- what ran to a transaction, for a view that has these operations and the same calls before
+pub runs_told : {told : List Answered} (v next : View) (pool : PoolView) (tx : Transaction) → next.entries ≡ v.entries → told_in next ≡ told → RunsTo pool (pending_before v) told tx
+    → RunsTo pool (pending_before next) (told_in next) tx
+runs_told {told = before} v next pool tx entries told runs =
+    subst (λ (ts : List Answered). RunsTo pool (pending_before next) ts tx) (sym told)
+    (subst (λ (actions : List Action). RunsTo pool actions before tx) (sym (same_before v next entries)) runs)
 
 -- the model's transaction goes on by the operation, with the words that the lane made
 pub record Continues (v next : View) (w : ℕ → ℕ) (header : Header) (op : Operation) (reply : Option Value) (to : ℕ) (tx : Transaction) : Type 0 where
@@ -65,10 +80,21 @@ pub record Continues (v next : View) (w : ℕ → ℕ) (header : Header) (op : O
   pub levels : (after_reply op reply tx).level ≡ to
   pub stands : (after_reply op reply tx).stage ≡ tx.stage
   pub fails : (after_reply op reply tx).error ≡ tx.error
-  pub actions : (after_reply op reply tx).actions ≡ tx.actions
-  pub moved : (after_reply op reply tx).moved ≡ tx.moved
+  pub actions : (after_reply op reply tx).actions ≡ pending_behind op reply tx.actions
+  pub moved : (after_reply op reply tx).moved ≡ tx.moved ++ published_by op reply tx.actions
+  pub performable : All (CanPerform w v.lanes v.zones) (published_by op reply tx.actions)
   pub blocks_stay : blocks (call_words next w) v.lanes v.zones ≡ blocks (call_words v w) v.lanes v.zones
   pub sizes_stay : (block : Block) → Contains (blocks w v.lanes v.zones) block → size_in (call_words next w) block ≡ size_in (call_words v w) block
+
+-- what was published before the operation, and by it, lies in objects of the pool
+performed_on : {level : ℕ} {header : Header} {pool : PoolView} (v next : View) (op : Operation) (reply : Option Value) (w : ℕ → ℕ) → KeepsLane v next
+    → next.call ≡ v.call ++ record { operation = op; reply = reply } ∷ [] → (c : ComesTo v w header pool level stage.Work error.None) → All (CanPerform w v.lanes v.zones) (published_by op reply c.tx.actions)
+    → All (CanPerform w next.lanes next.zones) (published_in next)
+performed_on v next op reply w lane call c more =
+    two_same (λ (lanes zones : ℕ). All (CanPerform w lanes zones) (published_in next)) v.lanes next.lanes v.zones next.zones (sym lane.lanes) (sym lane.zones)
+    (subst (All (CanPerform w v.lanes v.zones)) (sym (published_once_more v next op reply lane.entries call))
+    (All-append (CanPerform w v.lanes v.zones) (published_in v) (published_by op reply (pending_in v)) c.performable
+    (subst (λ (actions : List Action). All (CanPerform w v.lanes v.zones) (published_by op reply actions)) c.actions more)))
 
 pub next_comes : (v next : View) (level to : ℕ) (op : Operation) (reply : Option Value) (w : ℕ → ℕ) (header : Header) (pool : PoolView) → KeepsLane v next
     → next.call ≡ v.call ++ record { operation = op; reply = reply } ∷ [] → (c : ComesTo v w header pool level stage.Work error.None) → Continues v next w header op reply to c.tx → ComesTo next w header pool to stage.Work error.None
@@ -77,8 +103,8 @@ next_comes v next level to op reply w header pool lane call c on =
     record {
       tx = tx;
       runs =
-          subst (λ (told : List Answered). RunsTo pool told tx) (sym (told_once_more v next op reply call))
-          (runs_once_more (told_in v) (record { operation = op; reply = reply }) pool c.tx c.runs (ap is_working c.stands) on.answers);
+          runs_told v next pool tx lane.entries (told_once_more v next op reply call)
+          (runs_once_more (told_in v) (record { operation = op; reply = reply }) pool (pending_before v) c.tx c.runs (ap is_working c.stands) on.answers);
       holds = two_same (λ (lanes zones : ℕ). HoldsPool (call_words next w) lanes zones header tx.pool) v.lanes next.lanes v.zones next.zones (sym lane.lanes) (sym lane.zones) on.holds;
       before = on.before ∙ c.before;
       locks = on.locks;
@@ -87,8 +113,9 @@ next_comes v next level to op reply w header pool lane call c on =
       levels = on.levels;
       stands = on.stands ∙ c.stands;
       fails = on.fails ∙ c.fails;
-      no_actions = on.actions ∙ c.no_actions;
-      nothing_moved = on.moved ∙ c.nothing_moved;
+      actions = on.actions ∙ ap (pending_behind op reply) c.actions ∙ sym (pending_once_more v next op reply lane.entries call);
+      moved = on.moved ∙ (λ j. c.moved j ++ published_by op reply (c.actions j)) ∙ sym (published_once_more v next op reply lane.entries call);
+      performable = performed_on v next op reply w lane call c on.performable;
       blocks_stay =
           two_same (λ (lanes zones : ℕ). blocks (call_words next w) lanes zones ≡ blocks w lanes zones) v.lanes next.lanes v.zones next.zones (sym lane.lanes) (sym lane.zones)
           (on.blocks_stay ∙ c.blocks_stay);

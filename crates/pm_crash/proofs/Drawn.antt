@@ -1,5 +1,7 @@
 -- A lane that draws a whole call adds a step of the model to the history, whatever of the calls in flight is left out.
-use Rattle.std.proofs.Common.{◌≡◌, ℕ, ◌<◌, Bool, true, false, List, [], ◌∷◌, ◌++◌, slice_index, None, sym, ◌∙◌, subst}
+use Rattle.std.proofs.Common.{◌≡◌, ⊎_elim, ℕ, ◌<◌, Bool, true, false, List, [], ◌∷◌, ◌++◌, slice_index, None, sym, ◌∙◌, ap, subst}
+use Rattle.std.proofs.lemmas.Bool.{cases_Bool}
+use Rattle.std.proofs.lemmas.Option.{none-some}
 use Rattle.pm_header.specs.declared.header.Header.{Header}
 use Rattle.pm_objects.specs.declared.history.TxErr.{TxErr}
 use Rattle.pm_objects.specs.declared.pool.PoolView.{PoolView}
@@ -12,11 +14,13 @@ use Rattle.pm_world.specs.Opening.{Opening}
 use Rattle.pm_world.specs.World.{Views, World}
 use Rattle.pm_crash.specs.Held.{HoldsPool}
 use Rattle.pm_crash.specs.OpenCall.{IsBefore, IsGivenUp, IsWholeCall, MakesStep, made_words}
-use Rattle.pm_crash.specs.Draws.{DrawsStep, KeepsDecided, kept_words}
+use Rattle.pm_crash.specs.Draws.{DrawsStep, KeepsDecided, kept_log, kept_words}
+use Rattle.pm_crash.specs.Pending.{pending_after, pending_before, pending_from}
 use Rattle.pm_crash.proofs.Begun.{no_call_words}
 use Rattle.pm_crash.proofs.CallWords.{made_unentered}
 use Rattle.pm_crash.proofs.Continued.{two_same}
 use Rattle.pm_crash.proofs.GivenUp.{given_up_changes_nothing}
+use Rattle.pm_crash.proofs.HistoryActs.{own_entries_pass, turns_history}
 use Rattle.pm_crash.proofs.InFlight.{drawn_makes_words, past_calls_in_flight}
 
 -- the words with the drawn call are those that it makes
@@ -38,15 +42,24 @@ module _ (o : Opening) (mem : Memory) (views : Views) (log : List Entry) (decide
       subst (λ (f : ℕ → ℕ). HoldsPool f o.lanes o.zones header next) (sym (with_drawn o keep log (views k) n kept))
       (two_same (λ (a b : ℕ). HoldsPool (made_words (views k) (kept_words o keep log)) a b header next) (views k).lanes o.lanes (views k).zones o.zones (x.each_lane k inside).lane.lanes (x.each_lane k inside).lane.zones after)
 
+  -- its earlier calls are decided, and so kept
+  pub own : pending_after (kept_log keep log) (views k).lane ≡ pending_before (views k)
+  own =
+      ap (pending_after (kept_log keep log)) (x.each_lane k inside).lane.lane
+      ∙ ap (pending_from []) (own_entries_pass k keep log (λ e there of. ⊎_elim
+      (λ (is_decided : decided e.number ≡ true). keeps e.number is_decided)
+      (λ (undecided : decided e.number ≡ false). absurd (none-some e.number (sym idle ∙ (ap (λ (j : ℕ). flight (views j)) (sym of) ∙ (x.each_entry e there).in_flight undecided))))
+      (cases_Bool (decided e.number))) ∙ x.own_entries k inside)
+
   pub whole_draws : keep n ≡ true → IsWholeCall (views k) → DrawsStep o keep log (views k) n header pool
   whole_draws kept whole =
       let step : MakesStep (views k) (kept_words o keep log) header pool = whole.makes (kept_words o keep log) header pool of_view id before in
-      record { next = step.next; holds = made step.next kept step.holds; steps = step.steps }
+      record { next = step.next; holds = made step.next kept step.holds; steps = turns_history (views k) n pool step.next (kept_log keep log) own step.steps }
 
   pub given_up_draws : (e : TxErr) → keep n ≡ true → IsGivenUp (views k) e → (views k).log.records ≡ [] → (views k).log.entries ≡ [] → DrawsStep o keep log (views k) n header pool
   given_up_draws e kept given_up none unentered =
       record {
         next = pool;
         holds = made pool kept (subst (λ (f : ℕ → ℕ). HoldsPool f (views k).lanes (views k).zones header pool) (sym (made_unentered (views k) unentered (kept_words o keep log) ∙ no_call_words (views k) none (kept_words o keep log))) of_view);
-        steps = given_up_changes_nothing (views k) e given_up (kept_words o keep log) header pool of_view id before;
+        steps = turns_history (views k) n pool pool (kept_log keep log) own (given_up_changes_nothing (views k) e given_up (kept_words o keep log) header pool of_view id before);
       }

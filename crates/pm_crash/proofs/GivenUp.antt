@@ -16,13 +16,12 @@ use Rattle.pm_objects.specs.declared.refusal.Refusal.{Refusal}
 use Rattle.pm_objects.specs.declared.refusal.Refusal.TheVariants as refusal
 use Rattle.pm_image.proofs.Members.{member_cases, no_member}
 use Rattle.pm_model.specs.declared.stage.Stage.TheVariants as stage
-use Rattle.pm_model.specs.Transaction.{Transaction, aborted, at_rest, is_locked, is_working}
+use Rattle.pm_model.specs.Transaction.{Transaction, aborted, is_locked, is_working, resting}
 use Rattle.pm_model.specs.Bytes.{bytes_of, is_among, new_words, records_of}
-use Rattle.pm_model.specs.Actions.{passes_object}
+use Rattle.pm_model.specs.Actions.{Action, passes_object}
 use Rattle.pm_model.specs.Checks.{Range, range_of, is_publish, is_unlocked_action, is_record, is_write, needs_write, is_lock_missing, is_not_locked, passes_end_of, passes_end, has_unrecorded, is_not_added, overfills, passes_log, first_refusal, words_in}
 use Rattle.pm_model.specs.Answers.{Told as Answered, Answers, IsDone, IsRefused, after_reply, changes_nothing, error_for, is_known}
-use Rattle.pm_model.specs.Step.{Runs, Step, State, with_pending}
-use Rattle.pm_model.specs.History.{opened}
+use Rattle.pm_model.specs.Step.{RunsFrom, State, with_pending}
 use Rattle.pm_model.proofs.Alike.{after_refused}
 use Rattle.pm_view.specs.Area.{is_in_area}
 use Rattle.pm_view.specs.Log.{Recorded}
@@ -31,14 +30,16 @@ use Rattle.pm_world.specs.Records.{covers, is_recorded}
 use Rattle.pm_world.proofs.CrashLogs.{recorded_from}
 use Rattle.pm_crash.specs.Locks.{AreSameLocks}
 use Rattle.pm_crash.specs.Held.{HoldsPool}
-use Rattle.pm_crash.specs.OpenCall.{IsBefore, ComesTo, ComesToNothing, IsGivenUp, IsOpen, RunsTo, act_of, locks_of, told_in, words_recorded}
+use Rattle.pm_crash.specs.OpenCall.{IsBefore, ComesTo, ComesToNothing, IsGivenUp, IsOpen, RunsTo, Turns, locks_of, words_recorded}
+use Rattle.pm_crash.specs.Pending.{pending_before, pending_behind, pending_in, told_in}
 use Rattle.pm_crash.specs.Operations.{HasRange, KeepsFound, IsHeld, IsNotAdded, IsNotHeld, IsReason, Overfills, Refuses, KeepsLane, TakesBack, Tells}
 use Rattle.pm_crash.proofs.CallWords.{call_works, held_is_locked, object_under, same_pool}
-use Rattle.pm_crash.proofs.Continued.{answers_done, told_once_more, two_same}
+use Rattle.pm_crash.proofs.Continued.{answers_done, runs_told, told_once_more, two_same}
 use Rattle.pm_crash.proofs.KeptWords.{found_back, same_found}
 use Rattle.pm_crash.proofs.Passing.{fails_added, fails_end, fails_lock, fails_room, passes_all, unhindered, AsksNoLock, Works}
 use Rattle.pm_crash.proofs.RecordedWords.{among_recorded}
-use Rattle.pm_crash.proofs.Runs.{opened_left, runs_once_more, runs_to_end}
+use Rattle.pm_crash.proofs.Runs.{runs_once_more, runs_to_end}
+use Rattle.pm_crash.proofs.PendingOn.{pending_once_more}
 
 -- what was before the call, for the view before it was taken back
 pub taken_back : (v next : View) → KeepsLane v next → KeepsFound v next → TakesBack v next → ((i : ℕ) → is_recorded v.log.records i ≡ true → is_in_area v.lane i ≡ false)
@@ -138,19 +139,19 @@ asked_end v w header op range tx asked has =
     let inside : range.off + range.len ≤ slice_index v.words (8 * has.object.lock.line + 1) = has.inside in
     end_check tx op range asked.is_range ∙ le-ltb (length (bytes_of tx.pool.objects range.id.off)) (range.off + range.len) (omega arith)
 
--- the operation is refused for the reason, and so the whole transaction is aborted
-record IsAbortedFor (tx : Transaction) (op : Operation) (r : Refusal) : Type 0 where
-  refused_first : first_refusal unhindered tx op ≡ Some r
-  traced : changes_nothing r ≡ false
+-- the operation is refused for the reason, which leaves a trace
+pub record IsRefusedFor (tx : Transaction) (op : Operation) (r : Refusal) : Type 0 where
+  pub refused_first : first_refusal unhindered tx op ≡ Some r
+  pub traced : changes_nothing r ≡ false
 
-lock_is_missing : (v : View) (tx : Transaction) (id : Oid) (write : Bool) → tx.pool.id ≡ v.pool → AreSameLocks tx.locks (locks_of v) → IsNotHeld v id write → not (eqb id.pool tx.pool.id && is_locked tx.locks id.off write) ≡ true
+pub lock_is_missing : (v : View) (tx : Transaction) (id : Oid) (write : Bool) → tx.pool.id ≡ v.pool → AreSameLocks tx.locks (locks_of v) → IsNotHeld v id write → not (eqb id.pool tx.pool.id && is_locked tx.locks id.off write) ≡ true
 lock_is_missing v tx id write of_pool locks unheld =
     ap not (⊎_elim
     (λ (same : id.pool ≡ tx.pool.id). and_right (eqb id.pool tx.pool.id) (is_locked tx.locks id.off write) (locks.same id.off write ∙ unheld (same ∙ of_pool)))
     (λ (other : id.pool ≢ tx.pool.id). and_left (eqb id.pool tx.pool.id) (is_locked tx.locks id.off write) (ne_eqb id.pool tx.pool.id other))
     (cases_eq id.pool tx.pool.id))
 
-by_reason : (v : View) (w : ℕ → ℕ) (header : Header) (op : Operation) (range : Range) (tx : Transaction) (r : Refusal) → Asked v w header op range tx → IsReason v op range r → IsAbortedFor tx op r
+by_reason : (v : View) (w : ℕ → ℕ) (header : Header) (op : Operation) (range : Range) (tx : Transaction) (r : Refusal) → Asked v w header op range tx → IsReason v op range r → IsRefusedFor tx op r
 by_reason v w header op range tx refusal.NotLocked asked reason = record {
   refused_first =
       fails_lock tx op asked.works (ranged_asks op range asked.is_range)
@@ -191,7 +192,7 @@ by_reason v w header op range tx refusal.LogFull asked reason =
     }
 by_reason v w header op range tx r asked reason = absurd reason
 
-refused_answers : (tx : Transaction) (op : Operation) (r : Refusal) → is_known op ≡ true → IsAbortedFor tx op r → Answers tx op (Some (Refused r))
+pub refused_answers : (tx : Transaction) (op : Operation) (r : Refusal) → is_known op ≡ true → IsRefusedFor tx op r → Answers tx op (Some (Refused r))
 refused_answers tx op r known is = record {
   known = known;
   seen = unhindered;
@@ -202,27 +203,27 @@ refused_answers tx op r known is = record {
 
 -- a call that was aborted came to nothing
 comes_to_nothing : (v next : View) (op : Operation) (reply : Option Value) (level : ℕ) (e : TxErr) (w : ℕ → ℕ) (header : Header) (pool : PoolView)
-    → next.call ≡ v.call ++ record { operation = op; reply = reply } ∷ [] → (c : ComesTo v w header pool level stage.Work error.None) → Answers c.tx op reply → after_reply op reply c.tx ≡ aborted e c.tx → ComesToNothing next pool e
-comes_to_nothing v next op reply level e w header pool call c answers aborts =
+    → next.entries ≡ v.entries → ((actions : List Action) → pending_behind op reply actions ≡ actions) → next.call ≡ v.call ++ record { operation = op; reply = reply } ∷ [] → (c : ComesTo v w header pool level stage.Work error.None) → Answers c.tx op reply → after_reply op reply c.tx ≡ aborted e c.tx → ComesToNothing next pool e
+comes_to_nothing v next op reply level e w header pool entries kept call c answers aborts =
     let last : Transaction = after_reply op reply c.tx in
     record {
       tx = last;
       runs =
-          subst (λ (told : List Answered). RunsTo pool told last) (sym (told_once_more v next op reply call))
-          (runs_once_more (told_in v) (record { operation = op; reply = reply }) pool c.tx c.runs (ap is_working c.stands) answers);
+          runs_told v next pool last entries (told_once_more v next op reply call)
+          (runs_once_more (told_in v) (record { operation = op; reply = reply }) pool (pending_before v) c.tx c.runs (ap is_working c.stands) answers);
       stands = ap (λ (x : Transaction). x.stage) aborts;
       fails = ap (λ (x : Transaction). x.error) aborts;
-      no_actions = ap (λ (x : Transaction). x.actions) aborts ∙ c.no_actions;
+      actions = ap (λ (x : Transaction). x.actions) aborts ∙ c.actions ∙ sym (pending_once_more v next op reply entries call ∙ kept (pending_in v));
       unchanged = ap (λ (x : Transaction). x.pool) aborts ∙ c.before;
     }
 
 -- so a call is given up by an operation that aborts it
 pub gives_up : (v next : View) (op : Operation) (reply : Option Value) (level : ℕ) (e : TxErr) → IsOpen v level stage.Work error.None → KeepsLane v next → KeepsFound v next
-    → next.call ≡ v.call ++ record { operation = op; reply = reply } ∷ [] → TakesBack v next
+    → ((actions : List Action) → pending_behind op reply actions ≡ actions) → next.call ≡ v.call ++ record { operation = op; reply = reply } ∷ [] → TakesBack v next
     → ((w : ℕ → ℕ) (header : Header) (pool : PoolView) → v.pool ≡ header.id → IsBefore v w → (c : ComesTo v w header pool level stage.Work error.None)
     → Answers c.tx op reply × (after_reply op reply c.tx ≡ aborted e c.tx))
     → IsGivenUp next e
-gives_up v next op reply level e is_open lane finds call back aborts = record {
+gives_up v next op reply level e is_open lane finds kept call back aborts = record {
   outside = outside_taken_back v next lane back is_open.outside;
   comes = λ w header pool holds id before.
       let old_id : v.pool ≡ header.id = sym lane.pool ∙ id in
@@ -230,13 +231,13 @@ gives_up v next op reply level e is_open lane finds call back aborts = record {
       let old_holds : HoldsPool w v.lanes v.zones header pool = two_same (λ (n m : ℕ). HoldsPool w n m header pool) next.lanes v.lanes next.zones v.zones lane.lanes lane.zones holds in
       let c : ComesTo v w header pool level stage.Work error.None = is_open.comes w header pool old_holds old_id old_before in
       let how = aborts w header pool old_id old_before c in
-      comes_to_nothing v next op reply level e w header pool call c how.0 how.1;
+      comes_to_nothing v next op reply level e w header pool lane.entries kept call c how.0 how.1;
 }
 
 pub refusal_gives_up : (v next : View) (op : Operation) (range : Range) (r : Refusal) (level : ℕ) → 1 ≤ level → IsOpen v level stage.Work error.None → Refuses v next op range r
     → IsGivenUp next (error.Refused r)
 refusal_gives_up v next op range r level some is_open refuses =
-    gives_up v next op (Some (Refused r)) level (error.Refused r) is_open refuses.tells.keeps (same_found v next refuses.tells.locks) refuses.tells.call refuses.takes_back
+    gives_up v next op (Some (Refused r)) level (error.Refused r) is_open refuses.tells.keeps (same_found v next refuses.tells.locks) (λ actions. refl) refuses.tells.call refuses.takes_back
     (λ w header pool same_id before c.
     let asked : Asked v w header op range c.tx = record {
       works = call_works v w header pool level some is_open c;
@@ -247,7 +248,7 @@ refusal_gives_up v next op range r level some is_open refuses =
       records = c.records;
       long = λ write held size_known. (object_under v w header pool level range.id write is_open before c held size_known).long;
     } in
-    let is : IsAbortedFor c.tx op r = by_reason v w header op range c.tx r asked refuses.reason in (
+    let is : IsRefusedFor c.tx op r = by_reason v w header op range c.tx r asked refuses.reason in (
       refused_answers c.tx op r (ranged_known op range refuses.is_range) is,
       after_refused op (Some (Refused r)) c.tx r (record { traced = is.traced; told = refl }) ∙ ap (λ (b : Bool). cond b c.tx (aborted (error.Refused r) c.tx)) (ranged_asks op range refuses.is_range).no_action,
     ))
@@ -255,7 +256,7 @@ refusal_gives_up v next op range r level some is_open refuses =
 -- an abort that is asked for
 pub abort_gives_up : (v next : View) (errnum level : ℕ) → 1 ≤ level → IsOpen v level stage.Work error.None → Tells v next (Abort errnum) None → TakesBack v next → IsGivenUp next (error_for errnum)
 abort_gives_up v next errnum level some is_open tells back =
-    gives_up v next (Abort errnum) None level (error_for errnum) is_open tells.keeps (same_found v next tells.locks) tells.call back
+    gives_up v next (Abort errnum) None level (error_for errnum) is_open tells.keeps (same_found v next tells.locks) (λ actions. refl) tells.call back
     (λ w header pool same_id before c. (
       answers_done c.tx (Abort errnum) None refl (record { no_wants = refl; no_begin = refl; aligned = refl; no_more = λ tx. refl; no_action = refl })
           (passes_all c.tx (Abort errnum) (call_works v w header pool level some is_open c) (record { no_wants = refl; no_begin = refl; aligned = refl; no_more = λ tx. refl; no_action = refl }) refl refl refl refl) refl,
@@ -263,20 +264,20 @@ abort_gives_up v next errnum level some is_open tells back =
     ))
 
 -- what was given up has run, and is a step that changes nothing
-aborted_runs : (told : List Answered) (pool : PoolView) (last : Transaction) → RunsTo pool told last → last.stage ≡ stage.OnAbort → Runs pool told last
+aborted_runs : (told : List Answered) (pool : PoolView) (actions : List Action) (last : Transaction) → RunsTo pool actions told last → last.stage ≡ stage.OnAbort → RunsFrom (resting pool actions) told last
 unfolding RunsTo
-aborted_runs [] pool last runs stands =
-    let rests : last ≡ at_rest pool = runs in
+aborted_runs [] pool actions last runs stands =
+    let rests : last ≡ resting pool actions = runs in
     let clash : stage.None ≡ stage.OnAbort = sym (ap (λ (x : Transaction). x.stage) rests) ∙ stands in
     absurd cc
-aborted_runs (t ∷ told) pool last runs stands = runs_to_end t told pool last runs (ap is_working stands)
+aborted_runs (t ∷ told) pool actions last runs stands = runs_to_end t told pool actions last runs (ap is_working stands)
 
 pub given_up_changes_nothing : (v : View) (e : TxErr) → IsGivenUp v e → (w : ℕ → ℕ) (header : Header) (pool : PoolView) → HoldsPool w v.lanes v.zones header pool → v.pool ≡ header.id → IsBefore v w
-    → Step (opened pool) (act_of v) (opened pool)
-given_up_changes_nothing v e given_up w header pool holds id before =
+    → Turns v pool pool
+given_up_changes_nothing v e given_up w header pool holds id before = λ actions own.
     let c : ComesToNothing v pool e = given_up.comes w header pool holds id before in
     inl (record {
       last = c.tx;
-      runs = aborted_runs (told_in v) pool c.tx c.runs c.stands;
-      leaves = record { pending = refl; leaves = opened_left v.lane pool ∙ (λ i. let s : State = record { pool = sym c.unchanged i; actions = with_pending (λ lane. []) v.lane (sym c.no_actions i) } in s) };
+      runs = aborted_runs (told_in v) pool (pending_before v) c.tx c.runs c.stands;
+      leaves = record { pending = own; leaves = (λ i. let s : State = record { pool = sym c.unchanged i; actions = with_pending actions v.lane (sym c.actions i) } in s) };
     })

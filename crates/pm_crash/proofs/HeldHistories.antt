@@ -1,8 +1,8 @@
 -- A history stays one of the plain model as calls are drawn and decided, and what a power failure leaves holds what its kept calls made.
-use Rattle.std.proofs.Common.{◌≡◌, ⊎_elim, ℕ, ◌+◌, ◌*◌, ◌<◌, ◌≤◌, Bool, true, false, cond, eqb, ◌&&◌, List, [], ◌∷◌, ◌++◌, length, map, slice_index, None, refl, sym, ◌∙◌, ap, subst, arith}
+use Rattle.std.proofs.Common.{◌≡◌, ⊎_elim, ℕ, ◌+◌, ◌*◌, ◌<◌, ◌≤◌, Bool, true, false, cond, eqb, ◌&&◌, List, [], ◌∷◌, ◌++◌, length, slice_index, None, refl, sym, ◌∙◌, ap, subst, arith}
 use Rattle.std.specs.List.{filter}
 use Rattle.std.proofs.lemmas.Bool.{cases_Bool, cond-false, cond-true, false_from_ne_true, false≢true, not_from_false, or_left}
-use Rattle.std.proofs.lemmas.List.{append-nil, map-append}
+use Rattle.std.proofs.lemmas.List.{append-nil}
 use Rattle.pm_header.specs.declared.header.Header.{Header}
 use Rattle.pm_objects.specs.declared.history.TxErr.{TxErr}
 use Rattle.pm_objects.specs.declared.pool.PoolView.{PoolView}
@@ -30,17 +30,19 @@ use Rattle.pm_world.specs.World.{Views, World}
 use Rattle.pm_world.proofs.CrashLaw.{crash_law}
 use Rattle.pm_world.proofs.Losses.{loses-flight, some_lane}
 use Rattle.pm_world.proofs.Replays.{replayed-more}
-use Rattle.pm_crash.specs.Draws.{DrawsStep, KeepsDecided, kept_words}
+use Rattle.pm_crash.specs.Draws.{DrawsStep, KeepsDecided, kept_log, kept_words}
 use Rattle.pm_crash.specs.Held.{HoldsPool}
-use Rattle.pm_crash.specs.HeldHistory.{DrawsEnded, HoldReplay, IsEndedCall, IsHeldHistory, act_of_entry, kept_acts}
-use Rattle.pm_crash.specs.OpenCall.{IsGivenUp, IsWholeCall, act_of}
-use Rattle.pm_crash.proofs.Drawn.{given_up_draws, whole_draws}
+use Rattle.pm_crash.specs.HeldHistory.{DrawsEnded, HoldReplay, IsEndedCall, IsHeldHistory}
+use Rattle.pm_crash.specs.OpenCall.{IsGivenUp, IsWholeCall}
+use Rattle.pm_crash.specs.Pending.{act_of, acts_of, pending_after, pending_before, state_after}
+use Rattle.pm_crash.proofs.Drawn.{given_up_draws, own, whole_draws}
+use Rattle.pm_crash.proofs.HistoryActs.{act_drawn, acts_further, replays_none}
 use Rattle.pm_crash.proofs.HeapWordsAlone.{held_by_heap}
 
 -- an opening's words hold its pool, with no call made
 pub begins_held : (o : Opening) (decided : ℕ → Bool) (header : Header) (pool : PoolView) → HoldsPool (slice_index o.words) o.lanes o.zones header pool → IsHeldHistory o [] decided header pool
 unfolding replayed
-begins_held o decided header pool holds = record { each = λ keep keeps. record { last = pool; holds = holds; replays = refl } }
+begins_held o decided header pool holds = record { each = λ keep keeps. record { last = pool; holds = holds; replays = replays_none pool } }
 
 -- a step that decides calls leaves it so
 pub stays_held : (o : Opening) (log : List Entry) (decided later : ℕ → Bool) (header : Header) (pool : PoolView) → IsHeldHistory o log decided header pool → KeepsDecided decided later
@@ -59,14 +61,11 @@ filter_more keep (d ∷ log) e = ⊎_elim
     ∙ sym (ap (λ (l : List Entry). l ++ cond (keep e.number) (e ∷ []) []) (cond-false (keep d.number) (d ∷ filter (λ (c : Entry). keep c.number) log) (filter (λ (c : Entry). keep c.number) log) left)))
     (cases_Bool (keep d.number))
 
-acts_more : (keep : ℕ → Bool) (log : List Entry) (e : Entry) → keep e.number ≡ true → kept_acts keep (log ++ e ∷ []) ≡ kept_acts keep log ++ act_of_entry e ∷ []
-acts_more keep log e kept =
-    ap (map act_of_entry) (filter_more keep log e ∙ ap (λ (l : List Entry). filter (λ (d : Entry). keep d.number) log ++ l) (cond-true (keep e.number) (e ∷ []) [] kept))
-    ∙ map-append act_of_entry (filter (λ (d : Entry). keep d.number) log) (e ∷ [])
+kept_more : (keep : ℕ → Bool) (log : List Entry) (e : Entry) → keep e.number ≡ true → kept_log keep (log ++ e ∷ []) ≡ kept_log keep log ++ e ∷ []
+kept_more keep log e kept = filter_more keep log e ∙ ap (λ (l : List Entry). kept_log keep log ++ l) (cond-true (keep e.number) (e ∷ []) [] kept)
 
-acts_same : (keep : ℕ → Bool) (log : List Entry) (e : Entry) → keep e.number ≡ false → kept_acts keep (log ++ e ∷ []) ≡ kept_acts keep log
-acts_same keep log e left =
-    ap (map act_of_entry)
+kept_still : (keep : ℕ → Bool) (log : List Entry) (e : Entry) → keep e.number ≡ false → kept_log keep (log ++ e ∷ []) ≡ kept_log keep log
+kept_still keep log e left =
     (filter_more keep log e ∙ ap (λ (l : List Entry). filter (λ (d : Entry). keep d.number) log ++ l) (cond-false (keep e.number) (e ∷ []) [] left) ∙ append-nil (filter (λ (d : Entry). keep d.number) log))
 
 -- one step more
@@ -75,13 +74,15 @@ replays_more [] a s t u replays step = (u, subst (λ (x : State). Step x a u) re
 replays_more (b ∷ calls) a s t u replays step = (replays.0, replays.1, replays_more calls a replays.0 t u replays.2 step)
 
 draw_kept : (o : Opening) (log : List Entry) (v : View) (n : ℕ) (header : Header) (pool : PoolView) (keep : ℕ → Bool) → keep n ≡ true → (held : HoldReplay (kept_words o keep log) o keep log header pool)
-    → DrawsStep o keep log v n header held.last → HoldReplay (kept_words o keep (log ++ entry_of v n ∷ [])) o keep (log ++ entry_of v n ∷ []) header pool
-draw_kept o log v n header pool keep kept held draws = record {
+    → pending_after (kept_log keep log) v.lane ≡ pending_before v → DrawsStep o keep log v n header held.last → HoldReplay (kept_words o keep (log ++ entry_of v n ∷ [])) o keep (log ++ entry_of v n ∷ []) header pool
+draw_kept o log v n header pool keep kept held own draws = record {
   last = draws.next;
   holds = draws.holds;
   replays =
-      subst (λ (calls : List Act). Replays (opened pool) calls (opened draws.next)) (sym (acts_more keep log (entry_of v n) kept))
-      (replays_more (kept_acts keep log) (act_of v) (opened pool) (opened held.last) (opened draws.next) held.replays draws.steps);
+      subst (λ (l : List Entry). Replays (opened pool) (acts_of l) (state_after draws.next l)) (sym (kept_more keep log (entry_of v n) kept))
+      (subst (λ (calls : List Act). Replays (opened pool) calls (state_after draws.next (kept_log keep log ++ entry_of v n ∷ [])))
+      ((λ j. acts_of (kept_log keep log) ++ sym (act_drawn v n (kept_log keep log) own) j ∷ []) ∙ sym (acts_further [] (kept_log keep log) (entry_of v n)))
+      (replays_more (acts_of (kept_log keep log)) (act_of v) (opened pool) (state_after held.last (kept_log keep log)) (state_after draws.next (kept_log keep log ++ entry_of v n ∷ [])) held.replays draws.steps));
 }
 
 draw_left : (o : Opening) (log : List Entry) (v : View) (n : ℕ) (header : Header) (pool : PoolView) (keep : ℕ → Bool) → keep n ≡ false → HoldReplay (kept_words o keep log) o keep log header pool
@@ -91,7 +92,7 @@ draw_left o log v n header pool keep left held =
     record {
       last = held.last;
       holds = subst (λ (f : ℕ → ℕ). HoldsPool f o.lanes o.zones header held.last) (sym same) held.holds;
-      replays = subst (λ (calls : List Act). Replays (opened pool) calls (opened held.last)) (sym (acts_same keep log (entry_of v n) left)) held.replays;
+      replays = subst (λ (l : List Entry). Replays (opened pool) (acts_of l) (state_after held.last l)) (sym (kept_still keep log (entry_of v n) left)) held.replays;
     }
 
 -- a draw of an ended call leaves it so
@@ -103,7 +104,7 @@ draw_stays_held o mem views log decided later world k n inside idle still more h
       let decides : KeepsDecided decided keep = λ m is. keeps m (more m is) in
       let held : HoldReplay (kept_words o keep log) o keep log header pool = history.each keep decides in
       ⊎_elim
-      (λ (kept : keep n ≡ true). draw_kept o log (views k) n header pool keep kept held (⊎_elim
+      (λ (kept : keep n ≡ true). draw_kept o log (views k) n header pool keep kept held (own o mem views log decided world keep k n inside idle still decides header held.last held.holds id) (⊎_elim
       (λ (whole : IsWholeCall (views k)). whole_draws o mem views log decided world keep k n inside idle still decides header held.last held.holds id kept whole)
       (λ (given_up : (e : TxErr) × IsGivenUp (views k) e × ((views k).log.records ≡ []) × ((views k).log.entries ≡ [])).
       given_up_draws o mem views log decided world keep k n inside idle still decides header held.last held.holds id given_up.0 kept given_up.1 given_up.2 given_up.3)

@@ -25,44 +25,44 @@ found_back v next lane finds w before l lines held block =
     (before.found found.lock lines found.held found.block))
 
 -- where no word is newly recorded, and those that are known and are not recorded stay
-pub known_back : (v next : View) → KeepsLane v next → KeepsFound v next → KeepsLog v next
+pub known_back : (v next : View) → KeepsLane v next → KeepsFound v next → next.log.records ≡ v.log.records
     → ((i : ℕ) → Contains v.known i → is_in_area v.lane i ≡ false → is_recorded v.log.records i ≡ false → slice_index next.words i ≡ slice_index v.words i)
     → (w : ℕ → ℕ) → IsBefore next w → IsBefore v w
 known_back v next lane finds logs stay w before =
     record {
-      recorded = λ slot r i at inside. before.recorded slot r i (ap (λ (records : List Recorded). slice_get records slot) logs.records ∙ at) inside;
+      recorded = λ slot r i at inside. before.recorded slot r i (ap (λ (records : List Recorded). slice_get records slot) logs ∙ at) inside;
       known = λ i known outside none.
-          before.known i (lane.known i known) (ap (λ (n : ℕ). is_in_area n i) lane.lane ∙ outside) (ap (λ (records : List Recorded). is_recorded records i) logs.records ∙ none)
+          before.known i (lane.known i known) (ap (λ (n : ℕ). is_in_area n i) lane.lane ∙ outside) (ap (λ (records : List Recorded). is_recorded records i) logs ∙ none)
           ∙ stay i known outside none;
       found = found_back v next lane finds w before;
     }
 
-pub before_back : (v next : View) → KeepsLane v next → KeepsFound v next → KeepsLog v next
+pub before_back : (v next : View) → KeepsLane v next → KeepsFound v next → next.log.records ≡ v.log.records
     → ((i : ℕ) → is_in_area v.lane i ≡ false → is_recorded v.log.records i ≡ false → slice_index next.words i ≡ slice_index v.words i)
     → (w : ℕ → ℕ) → IsBefore next w → IsBefore v w
 before_back v next lane finds logs stay = known_back v next lane finds logs (λ i known. stay i)
 
 -- nor is a word of the lane's own area recorded
-pub outside_kept : (v next : View) → KeepsLane v next → KeepsLog v next → ((i : ℕ) → is_recorded v.log.records i ≡ true → is_in_area v.lane i ≡ false)
+pub outside_kept : (v next : View) → KeepsLane v next → next.log.records ≡ v.log.records → ((i : ℕ) → is_recorded v.log.records i ≡ true → is_in_area v.lane i ≡ false)
     → (i : ℕ) → is_recorded next.log.records i ≡ true → is_in_area next.lane i ≡ false
 outside_kept v next lane logs outside i is =
-    ap (λ (n : ℕ). is_in_area n i) lane.lane ∙ outside i (sym (ap (λ (records : List Recorded). is_recorded records i) logs.records) ∙ is)
+    ap (λ (n : ℕ). is_in_area n i) lane.lane ∙ outside i (sym (ap (λ (records : List Recorded). is_recorded records i) logs) ∙ is)
 
 pub goes_back : (v next : View) → KeepsLane v next → KeepsFound v next → KeepsLog v next
     → ((i : ℕ) → is_in_area v.lane i ≡ false → is_recorded v.log.records i ≡ false → slice_index next.words i ≡ slice_index v.words i)
     → ((i : ℕ) → is_recorded v.log.records i ≡ true → is_in_area v.lane i ≡ false) → GoesBack v next
 goes_back v next lane finds logs stay outside = record {
   outside = λ i is. outside i (sym (ap (λ (records : List Recorded). is_recorded records i) logs.records) ∙ is);
-  before = before_back v next lane finds logs stay;
+  before = before_back v next lane finds logs.records stay;
   entries = logs.entries;
 }
 
 -- the words of the call after, by the records before
-pub same_records : (v next : View) (w : ℕ → ℕ) (i : ℕ) → KeepsLog v next → call_words next w i ≡ cond (is_recorded v.log.records i) (slice_index next.words i) (w i)
-same_records v next w i logs = ap (λ (records : List Recorded). cond (is_recorded records i) (slice_index next.words i) (w i)) logs.records
+pub same_records : (v next : View) (w : ℕ → ℕ) (i : ℕ) → next.log.records ≡ v.log.records → call_words next w i ≡ cond (is_recorded v.log.records i) (slice_index next.words i) (w i)
+same_records v next w i logs = ap (λ (records : List Recorded). cond (is_recorded records i) (slice_index next.words i) (w i)) logs
 
 -- where the recorded words and the log stay, the words of the call do
-same_call_word : (v next : View) → KeepsLog v next → KeepsKnown v next → ((i : ℕ) → is_recorded v.log.records i ≡ true → is_in_area v.lane i ≡ false)
+same_call_word : (v next : View) → next.log.records ≡ v.log.records → KeepsKnown v next → ((i : ℕ) → is_recorded v.log.records i ≡ true → is_in_area v.lane i ≡ false)
     → (w : ℕ → ℕ) (i : ℕ) → call_words next w i ≡ call_words v w i
 same_call_word v next logs keeps outside w i =
     same_records v next w i logs
@@ -74,13 +74,13 @@ same_call_word v next logs keeps outside w i =
     cond-false (is_recorded v.log.records i) (slice_index next.words i) (w i) is ∙ sym (cond-false (is_recorded v.log.records i) (slice_index v.words i) (w i) is))
     (cases_Bool (is_recorded v.log.records i))
 
-pub same_known_words : (v next : View) → KeepsLog v next → KeepsKnown v next → ((i : ℕ) → is_recorded v.log.records i ≡ true → is_in_area v.lane i ≡ false)
+pub same_known_words : (v next : View) → next.log.records ≡ v.log.records → KeepsKnown v next → ((i : ℕ) → is_recorded v.log.records i ≡ true → is_in_area v.lane i ≡ false)
     → (w : ℕ → ℕ) → call_words next w ≡ call_words v w
 same_known_words v next logs keeps outside w = (λ j i. same_call_word v next logs keeps outside w i j)
 
 pub keeps_known : (v next : View) → KeepsWords v next → KeepsKnown v next
 keeps_known v next keeps = record { known = λ i outside known. keeps.words i outside; recorded = λ i outside is. keeps.words i outside }
 
-pub same_call_words : (v next : View) → KeepsLog v next → KeepsWords v next → ((i : ℕ) → is_recorded v.log.records i ≡ true → is_in_area v.lane i ≡ false)
+pub same_call_words : (v next : View) → next.log.records ≡ v.log.records → KeepsWords v next → ((i : ℕ) → is_recorded v.log.records i ≡ true → is_in_area v.lane i ≡ false)
     → (w : ℕ → ℕ) → call_words next w ≡ call_words v w
 same_call_words v next logs keeps = same_known_words v next logs (keeps_known v next keeps)

@@ -4,8 +4,8 @@ use Rattle.std.specs.Prelude.{IsSome}
 use Rattle.std.specs.List.{Contains, find}
 use Rattle.std.specs.Option.{option_map}
 use Rattle.std.proofs.lemmas.Bool.{and_from, cond-false, eq-eqb, le-ltb, lt-leb}
-use Rattle.std.proofs.lemmas.List.{length-map}
-use Rattle.std.proofs.lemmas.List.Elements.{Contains-get_or}
+use Rattle.std.proofs.lemmas.List.{append-nil, length-map}
+use Rattle.std.proofs.lemmas.List.Elements.{All-nil, Contains-get_or}
 use Rattle.pm_header.specs.declared.header.Header.{Header}
 use Rattle.pm_objects.specs.Pool.{object_at}
 use Rattle.pm_objects.specs.declared.calls.Operation.{Operation}
@@ -40,6 +40,7 @@ use Rattle.pm_crash.proofs.Continued.{answers_done, next_comes, still_open, two_
 use Rattle.pm_crash.proofs.KeptWords.{before_back, goes_back, outside_kept, same_call_words, same_found}
 use Rattle.pm_crash.proofs.ObjectsOfBlocks.{object_is_there}
 use Rattle.pm_crash.proofs.Passing.{no_tx, no_work, not_busy, not_missing, not_spent, passes_all, unhindered, Works}
+use Rattle.pm_crash.specs.Performing.{CanPerform}
 
 -- an inner commit leaves one level less, and changes nothing else
 commits_inner : (tx : Transaction) (level : ℕ) → 1 ≤ level → tx.level ≡ level + 1 → after_reply Commit None tx ≡ ended_inner (committed tx)
@@ -51,7 +52,7 @@ inner_commit_keeps_open v next level some is_open tells logs keeps =
     still_open v next (level + 1) level Commit None is_open tells
     (goes_back v next tells.keeps (same_found v next tells.locks) logs (λ i outside none. keeps.words i outside) is_open.outside)
     (λ w header pool same_id before next_before c.
-    let same : call_words next w ≡ call_words v w = same_call_words v next logs keeps is_open.outside w in
+    let same : call_words next w ≡ call_words v w = same_call_words v next logs.records keeps is_open.outside w in
     let levels : c.tx.level ≡ level + 1 = c.levels in
     let ends : after_reply Commit None c.tx ≡ ended_inner (committed c.tx) = commits_inner c.tx level some levels in
     let works : Works c.tx = call_works v w header pool (level + 1) (omega arith) is_open c in
@@ -69,7 +70,8 @@ inner_commit_keeps_open v next level some is_open tells logs keeps =
       stands = ap (λ (x : Transaction). x.stage) ends ∙ ap (λ (e : TxErr). cond (is_unharmed e) stage.Work stage.OnAbort) c.fails ∙ sym c.stands;
       fails = ap (λ (x : Transaction). x.error) ends;
       actions = ap (λ (x : Transaction). x.actions) ends;
-      moved = ap (λ (x : Transaction). x.moved) ends;
+      moved = ap (λ (x : Transaction). x.moved) ends ∙ sym (append-nil c.tx.moved);
+      performable = All-nil (CanPerform w v.lanes v.zones);
       blocks_stay = ap (λ (f : ℕ → ℕ). blocks f v.lanes v.zones) same;
       sizes_stay = λ block there. ap (λ (f : ℕ → ℕ). size_in f block) same;
     })
@@ -141,7 +143,7 @@ further_continues v next wants level some shallow is_open begins w header pool i
       there = λ k d inside first. (there (get_or wants k d) (Contains-get_or wants k d inside)).there;
       value = refl;
     } in
-    let same : call_words next w ≡ call_words v w = same_call_words v next begins.logs begins.words is_open.outside w in
+    let same : call_words next w ≡ call_words v w = same_call_words v next begins.logs.records begins.words is_open.outside w in
     record {
       answers = record {
         known = refl;
@@ -157,7 +159,8 @@ further_continues v next wants level some shallow is_open begins w header pool i
       stands = sym c.stands;
       fails = refl;
       actions = refl;
-      moved = refl;
+      moved = sym (append-nil c.tx.moved);
+      performable = All-nil (CanPerform w v.lanes v.zones);
       blocks_stay = ap (λ (f : ℕ → ℕ). blocks f v.lanes v.zones) same;
       sizes_stay = λ block there. ap (λ (f : ℕ → ℕ). size_in f block) same;
     }
@@ -172,11 +175,11 @@ further_begin_opens v next wants level some shallow is_open begins =
       in_lanes = omega arith;
       few = begins.takes.few;
       chunks = begins.takes.chunks;
-      outside = outside_kept v next begins.keeps begins.logs is_open.outside;
+      outside = outside_kept v next begins.keeps begins.logs.records is_open.outside;
       unentered = begins.logs.entries ∙ is_open.unentered;
       comes = λ w header pool holds id before.
           let old_id : v.pool ≡ header.id = sym begins.keeps.pool ∙ id in
-          let old_before : IsBefore v w = before_back v next begins.keeps begins.finds begins.logs (λ i outside none. begins.words.words i outside) w before in
+          let old_before : IsBefore v w = before_back v next begins.keeps begins.finds begins.logs.records (λ i outside none. begins.words.words i outside) w before in
           let old_holds : HoldsPool w v.lanes v.zones header pool = two_same (λ (n m : ℕ). HoldsPool w n m header pool) next.lanes v.lanes next.zones v.zones begins.keeps.lanes begins.keeps.zones holds in
           let c : ComesTo v w header pool level stage.Work error.None = is_open.comes w header pool old_holds old_id old_before in
           next_comes v next level (level + 1) (Begin wants) None w header pool begins.keeps begins.call c (further_continues v next wants level some shallow is_open begins w header pool old_id before c);

@@ -1,4 +1,5 @@
 pub mod Covered
+pub mod SetWords
 pub mod BusyCalls
 pub mod Bytewise
 pub mod Includes
@@ -8,12 +9,14 @@ pub mod Apart
 pub mod Walks
 pub mod OneObject
 pub mod Written
+pub mod Performed
 pub mod ObjectsOfBlocks
 pub mod Classes
 pub mod FoundBlocks
 pub mod HeapWordsAlone
 pub mod Passing
 pub mod Runs
+pub mod PendingOn
 pub mod CallWords
 pub mod Continued
 pub mod KeptWords
@@ -28,8 +31,12 @@ pub mod GivenUp
 pub mod Begun
 pub mod Levels
 pub mod RefusedBegin
+pub mod NamedObjects
+pub mod ActionsOn
+pub mod ActionsOutside
 pub mod Staying
 pub mod RisingWants
+pub mod HistoryActs
 pub mod LongerReplays
 pub mod DrawnWords
 pub mod OneCourse

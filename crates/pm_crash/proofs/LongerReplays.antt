@@ -1,7 +1,6 @@
 -- What a history makes of words, and of a pool, with one more entry; and a history without the entries that are left out.
-use Rattle.std.proofs.Common.{◌≡◌, ℕ, Bool, true, false, cond, List, [], ◌∷◌, ◌++◌, map, refl, sym, ◌∙◌, subst}
+use Rattle.std.proofs.Common.{◌≡◌, ℕ, Bool, true, false, cond, List, [], ◌∷◌, ◌++◌, refl, sym, ◌∙◌, subst}
 use Rattle.std.specs.List.{filter}
-use Rattle.std.proofs.lemmas.List.{map-append}
 use Rattle.pm_header.specs.declared.header.Header.{Header}
 use Rattle.pm_objects.specs.declared.pool.PoolView.{PoolView}
 use Rattle.pm_model.specs.Step.{Act, State, Step}
@@ -9,9 +8,10 @@ use Rattle.pm_model.specs.History.{opened}
 use Rattle.pm_model.specs.Names.{Replays}
 use Rattle.pm_world.specs.History.{Entry, made_final, replayed}
 use Rattle.pm_crash.specs.Held.{HoldsPool}
-use Rattle.pm_crash.specs.HeldHistory.{act_of_entry}
+use Rattle.pm_crash.specs.Pending.{act_behind, acts_of, state_after}
 use Rattle.pm_crash.specs.OneLane.{HoldsReplay}
 use Rattle.pm_crash.proofs.HeapWordsAlone.{held_by_heap}
+use Rattle.pm_crash.proofs.HistoryActs.{acts_further}
 
 -- no entry is left out
 abbrev pub every : ℕ → Bool
@@ -32,13 +32,13 @@ replays_once_more (b ∷ acts) a s m t replays step = (replays.0, replays.1, rep
 
 -- the entry that comes last makes its step
 pub holds_once_more : (w : ℕ → ℕ) (lanes zones : ℕ) (header : Header) (pool next : PoolView) (log : List Entry) (e : Entry) → (before : HoldsReplay (words_after w log) lanes zones header pool log)
-    → Step (opened before.last) (act_of_entry e) (opened next) → HoldsPool (λ i. made_final e.difference i (words_after w log i)) lanes zones header next
+    → Step (state_after before.last log) (act_behind log e) (state_after next (log ++ e ∷ [])) → HoldsPool (λ i. made_final e.difference i (words_after w log i)) lanes zones header next
     → HoldsReplay (words_after w (log ++ e ∷ [])) lanes zones header pool (log ++ e ∷ [])
 holds_once_more w lanes zones header pool next log e before step holds = record {
   last = next;
   replays =
-      subst (λ (acts : List Act). Replays (opened pool) acts (opened next)) (sym (map-append act_of_entry log (e ∷ [])))
-      (replays_once_more (map act_of_entry log) (act_of_entry e) (opened pool) (opened before.last) (opened next) before.replays step);
+      subst (λ (acts : List Act). Replays (opened pool) acts (state_after next (log ++ e ∷ []))) (sym (acts_further [] log e))
+      (replays_once_more (acts_of log) (act_behind log e) (opened pool) (state_after before.last log) (state_after next (log ++ e ∷ [])) before.replays step);
   holds =
       held_by_heap (λ i. made_final e.difference i (words_after w log i)) (words_after w (log ++ e ∷ [])) lanes zones header next holds
       (λ i heap. replayed_once_more log e i (w i));

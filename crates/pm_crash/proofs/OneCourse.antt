@@ -11,6 +11,7 @@ use Rattle.pm_image.proofs.Members.{no_member, only_member}
 use Rattle.pm_view.specs.Area.{area_word}
 use Rattle.pm_view.specs.Log.{Phase}
 use Rattle.pm_view.specs.Log.Phase.{Idle, Open, Drawn, Sealing, Applying, Clearing, Retiring}
+use Rattle.pm_model.specs.Step.{Act, Step as CallStep}
 use Rattle.pm_view.specs.Steps.{Step}
 use Rattle.pm_view.specs.Steps.Step.{Load, Store, Or, And, Flush, Drain, TakeWrite, TakeRead, Raise, Give, ZoneTry, ZoneGive, Occupied, Occupy, Vacate, Draw, NumberSeen, StopSeen, SetStop, Tell}
 use Rattle.pm_view.specs.View.{View}
@@ -39,12 +40,14 @@ use Rattle.pm_world.proofs.StepTake.{takes_read, takes_write}
 use Rattle.pm_crash.specs.Held.{HoldsPool}
 use Rattle.pm_crash.specs.OneLane.{Begins, HoldsReplay, IsCourse, Makes, Moment, Move, beginning, moved}
 use Rattle.pm_crash.specs.OpenCall.{MakesStep, made_words}
+use Rattle.pm_crash.specs.Pending.{pending_after, pending_before, pending_from, state_after}
 use Rattle.pm_crash.proofs.CleanWords.{clean_words_hold, world_begins}
 use Rattle.pm_crash.proofs.Continued.{two_same}
 use Rattle.pm_crash.proofs.Differing.{difference_makes_call}
 use Rattle.pm_crash.proofs.DrawnWords.{drawn_before}
 use Rattle.pm_crash.proofs.FrontWords.{front_stays}
 use Rattle.pm_crash.proofs.HeapWordsAlone.{held_by_heap}
+use Rattle.pm_crash.proofs.HistoryActs.{act_drawn, replays_none, turns_history}
 use Rattle.pm_crash.proofs.LogCourse.{InRange, range_after}
 use Rattle.pm_crash.proofs.LongerReplays.{holds_once_more, words_after}
 
@@ -141,7 +144,7 @@ goes_first o memory views k header pool b = record {
   reached = λ n low. nothing (take n []) (take_all n [] (omega arith));
 } where
   nothing : (log : List Entry) → log ≡ [] → Reaches o header pool log
-  nothing log none = subst (Reaches o header pool) (sym none) (record { last = pool; replays = refl; holds = clean_words_hold o header pool b.holds b.clean })
+  nothing log none = subst (Reaches o header pool) (sym none) (record { last = pool; replays = replays_none pool; holds = clean_words_hold o header pool b.holds b.clean })
 
 module _ (o : Opening) (k : ℕ) (header : Header) (pool : PoolView) (m : Moment) (g : Goes o k header pool m) where
   idle_records : (j : ℕ) → j < o.lanes → j ≢ k → (m.views j).log.records ≡ []
@@ -208,7 +211,10 @@ module _ (o : Opening) (k : ℕ) (header : Header) (pool : PoolView) (m : Moment
         (drawn_before o k m g.world g.in_lanes g.alone idle_records idle_entries makes.lawful.allowed.is_open reached_all.holds.no_fault) in
         let made : HoldsPool (made_words v words) o.lanes o.zones header step.next =
         two_same (λ (a b : ℕ). HoldsPool (made_words v words) a b header step.next) v.lanes o.lanes v.zones o.zones here.lanes here.zones step.holds in
-        holds_once_more (slice_index o.words) o.lanes o.zones header pool step.next m.log (entry_of v n) reached_all step.steps
+        let own : pending_after m.log v.lane ≡ pending_before v =
+        ap (pending_after m.log) here.lane ∙ ap (pending_from []) (g.world.own_entries k g.in_lanes) in
+        holds_once_more (slice_index o.words) o.lanes o.zones header pool step.next m.log (entry_of v n) reached_all
+        (subst (λ (act : Act). CallStep (state_after reached_all.last m.log) act (state_after step.next longer)) (sym (act_drawn v n m.log own)) (turns_history v n reached_all.last step.next m.log own step.steps))
         (held_by_heap (made_words v words) (λ i. made_final (difference_of v) i (words i)) o.lanes o.zones header step.next made (λ i heap. difference_makes_call v words i))
 
     goes_drawn : Goes o k header pool (moved k m (record { step = Draw n; memory = memory }))

@@ -23,7 +23,12 @@ pub record Works (tx : Transaction) : Type 0 where
   pub working : tx.stage ≡ stage.Work
   pub few : length tx.locks ≤ 64
 
--- the operation asks for no lock, and is about no pending action
+-- the operation asks for no lock
+pub record WantsNone (op : Operation) : Type 0 where
+  pub no_wants : wants_of op ≡ []
+  pub no_begin : is_begin op ≡ false
+
+-- and is about no pending action
 pub record AsksNoLock (op : Operation) : Type 0 where
   pub no_wants : wants_of op ≡ []
   pub no_begin : is_begin op ≡ false
@@ -40,16 +45,16 @@ at_level tx works = let some : 1 ≤ tx.level = works.level in ne_eqb tx.level 0
 pub no_tx : (tx : Transaction) (op : Operation) → Works tx → finds_no_tx tx op ≡ false
 no_tx tx op works = and_left (eqb tx.level 0) (not (is_begin op)) (at_level tx works)
 
-not_deep : (tx : Transaction) (op : Operation) → AsksNoLock op → is_too_deep tx op ≡ false
+not_deep : (tx : Transaction) (op : Operation) → WantsNone op → is_too_deep tx op ≡ false
 not_deep tx op asks = and_left (is_begin op) (leb 64 tx.level) asks.no_begin
 
-few_locks : (tx : Transaction) (op : Operation) → Works tx → AsksNoLock op → passes_locks tx op ≡ false
+few_locks : (tx : Transaction) (op : Operation) → Works tx → WantsNone op → passes_locks tx op ≡ false
 unfolding locked_all
 few_locks tx op works asks =
     ap (λ (wants : List Want). ltb 64 (length (locked_all (filter (λ (want : Want). has_place tx.pool want.id) wants) tx.locks))) asks.no_wants
     ∙ le-ltb 64 (length tx.locks) works.few
 
-has_places : (tx : Transaction) (op : Operation) → AsksNoLock op → wants_no_place tx op ≡ false
+has_places : (tx : Transaction) (op : Operation) → WantsNone op → wants_no_place tx op ≡ false
 has_places tx op asks = ap (λ (wants : List Want). list_any (λ (want : Want). not (has_place tx.pool want.id)) wants) asks.no_wants
 
 pub not_busy : (tx : Transaction) (op : Operation) → is_busy unhindered tx op ≡ false
@@ -61,51 +66,62 @@ not_missing tx op = and_right (takes_first_lock tx op) false refl
 pub not_spent : (tx : Transaction) → is_spent unhindered tx ≡ false
 not_spent tx = and_right (eqb tx.level 0) false refl
 
--- the first refusal, by what the checks of locks, ends, words and room say
-first_of_four : Bool → Bool → Bool → Bool → Option Refusal
-first_of_four not_locked past_end not_added overfull = option_map (λ (check : Refusal × Bool). check.0) (find (λ (check : Refusal × Bool). check.1)
-    ((refusal.NotLocked, not_locked) ∷ (refusal.OutOfRange, past_end) ∷ (refusal.NotAdded, not_added) ∷ (refusal.LogFull, overfull) ∷ []))
+-- the first refusal, by what the checks of places, locks, ends, words, room and pending actions say
+unfoldable pub first_of_six : Bool → Bool → Bool → Bool → Bool → Bool → Option Refusal
+first_of_six unaligned not_locked past_end not_added overfull actions_full = option_map (λ (check : Refusal × Bool). check.0) (find (λ (check : Refusal × Bool). check.1)
+    ((refusal.Unaligned, unaligned) ∷ (refusal.NotLocked, not_locked) ∷ (refusal.OutOfRange, past_end) ∷ (refusal.NotAdded, not_added) ∷ (refusal.LogFull, overfull) ∷ (refusal.ActionsFull, actions_full) ∷ []))
 
-four_checks : (tx : Transaction) (op : Operation) → Works tx → AsksNoLock op
-    → first_refusal unhindered tx op ≡ first_of_four (is_not_locked tx op) (passes_end tx op) (is_not_added tx op) (passes_log tx op)
-unfolding first_refusal first_of_four
-four_checks tx op works asks =
+pub six_checks : (tx : Transaction) (op : Operation) → Works tx → WantsNone op
+    → first_refusal unhindered tx op ≡ first_of_six (is_unaligned op) (is_not_locked tx op) (passes_end tx op) (is_not_added tx op) (passes_log tx op) (passes_actions tx op)
+unfolding first_refusal first_of_six
+six_checks tx op works wants =
     (λ j. option_map (λ (check : Refusal × Bool). check.0) (find (λ (check : Refusal × Bool). check.1)
     ((refusal.NotWork, no_work tx works j)
     ∷ (refusal.NoTx, no_tx tx op works j)
     ∷ (refusal.Spent, not_spent tx j)
-    ∷ (refusal.Deep, not_deep tx op asks j)
-    ∷ (refusal.LocksFull, few_locks tx op works asks j)
-    ∷ (refusal.Unaligned, asks.aligned j)
+    ∷ (refusal.Deep, not_deep tx op wants j)
+    ∷ (refusal.LocksFull, few_locks tx op works wants j)
+    ∷ (refusal.Unaligned, is_unaligned op)
     ∷ (refusal.NotLocked, is_not_locked tx op)
-    ∷ (refusal.NoObject, has_places tx op asks j)
+    ∷ (refusal.NoObject, has_places tx op wants j)
     ∷ (refusal.Busy, not_busy tx op j)
     ∷ (refusal.NoObject, not_missing tx op j)
     ∷ (refusal.OutOfRange, passes_end tx op)
     ∷ (refusal.NotAdded, is_not_added tx op)
     ∷ (refusal.LogFull, passes_log tx op)
-    ∷ (refusal.ActionsFull, asks.no_more tx j)
+    ∷ (refusal.ActionsFull, passes_actions tx op)
     ∷ [])))
+
+-- about no pending action, by four of them
+first_of_four : Bool → Bool → Bool → Bool → Option Refusal
+first_of_four not_locked past_end not_added overfull = first_of_six false not_locked past_end not_added overfull false
+
+four_checks : (tx : Transaction) (op : Operation) → Works tx → AsksNoLock op
+    → first_refusal unhindered tx op ≡ first_of_four (is_not_locked tx op) (passes_end tx op) (is_not_added tx op) (passes_log tx op)
+unfolding first_of_four
+four_checks tx op works asks =
+    six_checks tx op works (record { no_wants = asks.no_wants; no_begin = asks.no_begin })
+    ∙ (λ j. first_of_six (asks.aligned j) (is_not_locked tx op) (passes_end tx op) (is_not_added tx op) (passes_log tx op) (asks.no_more tx j))
 
 pub passes_all : (tx : Transaction) (op : Operation) → Works tx → AsksNoLock op → is_not_locked tx op ≡ false → passes_end tx op ≡ false → is_not_added tx op ≡ false → passes_log tx op ≡ false
     → first_refusal unhindered tx op ≡ None
-unfolding first_of_four
+unfolding first_of_six first_of_four
 passes_all tx op works asks locked ends added room = four_checks tx op works asks ∙ (λ j. first_of_four (locked j) (ends j) (added j) (room j))
 
 pub fails_lock : (tx : Transaction) (op : Operation) → Works tx → AsksNoLock op → is_not_locked tx op ≡ true → first_refusal unhindered tx op ≡ Some refusal.NotLocked
-unfolding first_of_four
+unfolding first_of_six first_of_four
 fails_lock tx op works asks fails = four_checks tx op works asks ∙ (λ j. first_of_four (fails j) (passes_end tx op) (is_not_added tx op) (passes_log tx op))
 
 pub fails_end : (tx : Transaction) (op : Operation) → Works tx → AsksNoLock op → is_not_locked tx op ≡ false → passes_end tx op ≡ true → first_refusal unhindered tx op ≡ Some refusal.OutOfRange
-unfolding first_of_four
+unfolding first_of_six first_of_four
 fails_end tx op works asks locked fails = four_checks tx op works asks ∙ (λ j. first_of_four (locked j) (fails j) (is_not_added tx op) (passes_log tx op))
 
 pub fails_added : (tx : Transaction) (op : Operation) → Works tx → AsksNoLock op → is_not_locked tx op ≡ false → passes_end tx op ≡ false → is_not_added tx op ≡ true
     → first_refusal unhindered tx op ≡ Some refusal.NotAdded
-unfolding first_of_four
+unfolding first_of_six first_of_four
 fails_added tx op works asks locked ends fails = four_checks tx op works asks ∙ (λ j. first_of_four (locked j) (ends j) (fails j) (passes_log tx op))
 
 pub fails_room : (tx : Transaction) (op : Operation) → Works tx → AsksNoLock op → is_not_locked tx op ≡ false → passes_end tx op ≡ false → is_not_added tx op ≡ false → passes_log tx op ≡ true
     → first_refusal unhindered tx op ≡ Some refusal.LogFull
-unfolding first_of_four
+unfolding first_of_six first_of_four
 fails_room tx op works asks locked ends added fails = four_checks tx op works asks ∙ (λ j. first_of_four (locked j) (ends j) (added j) (fails j))

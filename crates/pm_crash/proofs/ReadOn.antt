@@ -25,6 +25,9 @@ use Rattle.pm_crash.proofs.Continued.{answers_done, still_open}
 use Rattle.pm_crash.proofs.KeptWords.{goes_back, same_call_words, same_found}
 use Rattle.pm_crash.proofs.ObjectBytes.{range_is_read}
 use Rattle.pm_crash.proofs.Passing.{passes_all, Works}
+use Rattle.std.proofs.lemmas.List.Elements.{All-nil}
+use Rattle.std.proofs.lemmas.List.{append-nil}
+use Rattle.pm_crash.specs.Performing.{CanPerform}
 
 -- the bytes seen are the model's
 seen_is_read : (v next : View) (id : Oid) (off len level : ℕ) (w : ℕ → ℕ) (header : Header) (pool : PoolView) → IsOpen v level stage.Work error.None → (reads : ReadsBytes v next id off len) → IsBefore v w
@@ -55,7 +58,7 @@ read_keeps_open v next id off len level some is_open reads =
     let works : Works c.tx = call_works v w header pool level some is_open c in
     let inside : off + len ≤ slice_index v.words (8 * held.lock.line + 1) = reads.range.inside in
     let long : length (bytes_of c.tx.pool.objects id.off) ≡ slice_index v.words (8 * held.lock.line + 1) = object.long in
-    let same : call_words next w ≡ call_words v w = same_call_words v next reads.logs reads.keeps is_open.outside w in
+    let same : call_words next w ≡ call_words v w = same_call_words v next reads.logs.records reads.keeps is_open.outside w in
     let answers : Answers c.tx (Read id off len) (Some (Bytes bytes)) =
     answers_done c.tx (Read id off len) (Some (Bytes bytes)) refl (record { no_wants = refl; no_begin = refl; aligned = refl; no_more = λ tx. refl; no_action = refl })
     (passes_all c.tx (Read id off len) works (record { no_wants = refl; no_begin = refl; aligned = refl; no_more = λ tx. refl; no_action = refl })
@@ -73,7 +76,8 @@ read_keeps_open v next id off len level some is_open reads =
       stands = refl;
       fails = refl;
       actions = refl;
-      moved = refl;
+      moved = sym (append-nil c.tx.moved);
+      performable = All-nil (CanPerform w v.lanes v.zones);
       blocks_stay = ap (λ (f : ℕ → ℕ). blocks f v.lanes v.zones) same;
       sizes_stay = λ block there. ap (λ (f : ℕ → ℕ). size_in f block) same;
     })

@@ -12,7 +12,7 @@ use Rattle.pm_objects.specs.declared.refusal.Refusal.{Refusal}
 use Rattle.pm_objects.specs.declared.refusal.Refusal.TheVariants as refusal
 use Rattle.pm_model.specs.declared.stage.Stage.TheVariants as stage
 use Rattle.pm_model.specs.Places.{can_begin, has_place}
-use Rattle.pm_model.specs.Transaction.{Transaction, Lock as Locked, aborted, at_rest, locked_all}
+use Rattle.pm_model.specs.Transaction.{Transaction, Lock as Locked, aborted, locked_all, resting}
 use Rattle.pm_model.specs.Checks.{Seen, finds_no_work, passes_locks, wants_no_place, takes_lock, takes_first_lock, first_refusal}
 use Rattle.pm_model.specs.Answers.{Told as Answered, Answers, IsDone, IsRefused, after, after_reply, changes_nothing}
 use Rattle.pm_model.proofs.Alike.{after_refused}
@@ -21,11 +21,13 @@ use Rattle.pm_view.specs.View.{View}
 use Rattle.pm_world.specs.Records.{is_recorded}
 use Rattle.pm_crash.proofs.SameLocks.{same_locks, wanted_alike}
 use Rattle.pm_crash.specs.Locks.{AreSameLocks}
-use Rattle.pm_crash.specs.OpenCall.{IsGivenUp, IsOpen, RunsTo, locks_of, told_of}
+use Rattle.pm_crash.specs.OpenCall.{IsGivenUp, IsOpen, RunsTo, locks_of}
+use Rattle.pm_crash.specs.Pending.{pending_before, told_of}
 use Rattle.pm_crash.specs.Operations.{IsBeginReason, RefusesCall, RefusesLevel, is_placed, lacks_place, locks_wanted, wants_first, wants_more}
 use Rattle.pm_crash.proofs.CallWords.{call_works, same_pool}
 use Rattle.pm_crash.proofs.GivenUp.{gives_up}
 use Rattle.pm_crash.proofs.Passing.{no_work}
+use Rattle.pm_crash.proofs.PendingOn.{pending_first}
 use Rattle.pm_crash.proofs.Runs.{runs_first}
 
 -- the first refusal of a begin, by what the checks of depth, locks and places say
@@ -165,22 +167,23 @@ call_refused v wants r refuses = record {
   outside = λ i is. absurd (let clash : false ≡ true = sym (ap (λ (records : List Recorded). is_recorded records i) refuses.no_records) ∙ is in cc);
   comes = λ w header pool holds id before.
       let told : Answered = record { operation = Begin wants; reply = Some (Refused r) } in
-      let at : IsAt v 0 [] (at_rest pool) = record {
+      let rest : Transaction = resting pool (pending_before v) in
+      let at : IsAt v 0 [] rest = record {
         works = refl;
         levels = refl;
         locks = same_locks [];
         placed =
             same_places v pool (ap (λ (p : PoolView). p.id) holds.is_pool ∙ sym id) (ap (λ (p : PoolView). p.lanes) holds.is_pool) (ap (λ (p : PoolView). p.zones) holds.is_pool);
       } in
-      let is : IsBeginRefused (at_rest pool) wants r = begin_refused v 0 [] (at_rest pool) wants r at refuses.reason in
-      let last : Transaction = after told (at_rest pool) in
-      let aborts : last ≡ aborted (error.Refused r) (at_rest pool) = begin_refused_aborts (at_rest pool) wants r is in
+      let is : IsBeginRefused rest wants r = begin_refused v 0 [] rest wants r at refuses.reason in
+      let last : Transaction = after told rest in
+      let aborts : last ≡ aborted (error.Refused r) rest = begin_refused_aborts rest wants r is in
       record {
         tx = last;
-        runs = subst (λ (ts : List Answered). RunsTo pool ts last) (sym (ap (map told_of) refuses.call)) (runs_first told pool (begin_refused_answers (at_rest pool) wants r is));
+        runs = subst (λ (ts : List Answered). RunsTo pool (pending_before v) ts last) (sym (ap (map told_of) refuses.call)) (runs_first told pool (pending_before v) (begin_refused_answers rest wants r is));
         stands = ap (λ (x : Transaction). x.stage) aborts;
         fails = ap (λ (x : Transaction). x.error) aborts;
-        no_actions = ap (λ (x : Transaction). x.actions) aborts;
+        actions = ap (λ (x : Transaction). x.actions) aborts ∙ sym (pending_first v (record { operation = Begin wants; reply = Some (Refused r) }) refuses.call);
         unchanged = ap (λ (x : Transaction). x.pool) aborts;
       };
 }
@@ -188,7 +191,7 @@ call_refused v wants r refuses = record {
 pub level_refused : (v next : View) (level : ℕ) (wants : List Want) (r : Refusal) → 1 ≤ level → IsOpen v level stage.Work error.None → RefusesLevel v next level wants r
     → IsGivenUp next (error.Refused r)
 level_refused v next level wants r some is_open refuses =
-    gives_up v next (Begin wants) (Some (Refused r)) level (error.Refused r) is_open refuses.keeps refuses.finds refuses.call refuses.takes_back
+    gives_up v next (Begin wants) (Some (Refused r)) level (error.Refused r) is_open refuses.keeps refuses.finds (λ actions. refl) refuses.call refuses.takes_back
     (λ w header pool same_id before c.
     let at : IsAt v level (locks_of v) c.tx = record {
       works = no_work c.tx (call_works v w header pool level some is_open c);

@@ -1,12 +1,11 @@
 -- A transaction goes on by one operation more, and where it works no longer it has run.
-use Rattle.std.proofs.Common.{◌≡◌, ℕ, Bool, cond, eqb, List, [], ◌∷◌, ◌++◌, true, false, refl, sym, ◌∙◌, ap, subst}
+use Rattle.std.proofs.Common.{◌≡◌, List, [], ◌∷◌, ◌++◌, true, false, refl, sym, ◌∙◌, ap, subst}
 use Rattle.std.proofs.lemmas.Bool.{false≢true}
 use Rattle.pm_objects.specs.declared.pool.PoolView.{PoolView}
-use Rattle.pm_model.specs.Transaction.{Transaction, at_rest, is_working}
+use Rattle.pm_model.specs.Transaction.{Transaction, resting, is_working}
 use Rattle.pm_model.specs.Answers.{Told as Answered, Answers, after}
 use Rattle.pm_model.specs.Actions.{Action}
-use Rattle.pm_model.specs.History.{opened}
-use Rattle.pm_model.specs.Step.{Runs, RunsFrom, RunsOn, with_pending}
+use Rattle.pm_model.specs.Step.{RunsFrom, RunsOn}
 use Rattle.pm_crash.specs.OpenCall.{GoesOn, RunsTo}
 
 goes_on_once : (told : List Answered) (t : Answered) (tx now : Transaction) → GoesOn tx told now → is_working now.stage ≡ true → Answers now t.operation t.reply
@@ -18,18 +17,18 @@ goes_on_once [] t tx now goes works answers =
 goes_on_once (u ∷ told) t tx now goes works answers = (goes.0, goes.1, goes_on_once told t (after u tx) now goes.2 works answers)
 
 -- one operation more in a transaction that works
-pub runs_once_more : (told : List Answered) (t : Answered) (pool : PoolView) (now : Transaction) → RunsTo pool told now → is_working now.stage ≡ true → Answers now t.operation t.reply
-    → RunsTo pool (told ++ t ∷ []) (after t now)
+pub runs_once_more : (told : List Answered) (t : Answered) (pool : PoolView) (actions : List Action) (now : Transaction) → RunsTo pool actions told now → is_working now.stage ≡ true → Answers now t.operation t.reply
+    → RunsTo pool actions (told ++ t ∷ []) (after t now)
 unfolding RunsTo
-runs_once_more [] t pool now runs works answers =
-    let rest : now ≡ at_rest pool = runs in
+runs_once_more [] t pool actions now runs works answers =
+    let rest : now ≡ resting pool actions = runs in
     absurd (false≢true (ap (λ (x : Transaction). is_working x.stage) (sym rest) ∙ works))
-runs_once_more (u ∷ told) t pool now runs works answers = (runs.0, goes_on_once told t (after u (at_rest pool)) now runs.1 works answers)
+runs_once_more (u ∷ told) t pool actions now runs works answers = (runs.0, goes_on_once told t (after u (resting pool actions)) now runs.1 works answers)
 
 -- the first operation of all
-pub runs_first : (t : Answered) (pool : PoolView) → Answers (at_rest pool) t.operation t.reply → RunsTo pool (t ∷ []) (after t (at_rest pool))
+pub runs_first : (t : Answered) (pool : PoolView) (actions : List Action) → Answers (resting pool actions) t.operation t.reply → RunsTo pool actions (t ∷ []) (after t (resting pool actions))
 unfolding RunsTo GoesOn
-runs_first t pool answers = (answers, refl)
+runs_first t pool actions answers = (answers, refl)
 
 ends_on : (told : List Answered) (tx last : Transaction) → GoesOn tx told last → is_working last.stage ≡ false → RunsOn tx told last
 unfolding GoesOn RunsOn
@@ -37,24 +36,14 @@ ends_on [] tx last goes idle = let same : last ≡ tx = goes in (ap (λ (x : Tra
 ends_on (t ∷ told) tx last goes idle = (goes.0, goes.1, ends_on told (after t tx) last goes.2 idle)
 
 -- what ran to an end, by one operation at least, has run
-pub runs_to_end : (t : Answered) (told : List Answered) (pool : PoolView) (last : Transaction) → RunsTo pool (t ∷ told) last → is_working last.stage ≡ false → Runs pool (t ∷ told) last
+pub runs_to_end : (t : Answered) (told : List Answered) (pool : PoolView) (actions : List Action) (last : Transaction) → RunsTo pool actions (t ∷ told) last → is_working last.stage ≡ false → RunsFrom (resting pool actions) (t ∷ told) last
 unfolding RunsTo RunsFrom
-runs_to_end t told pool last runs idle = (runs.0, ends_on told (after t (at_rest pool)) last runs.1 idle)
+runs_to_end t told pool actions last runs idle = (runs.0, ends_on told (after t (resting pool actions)) last runs.1 idle)
 
-pub runs_some : (told : List Answered) (pool : PoolView) (last : Transaction) → RunsTo pool told last → is_working last.stage ≡ false → (told ≡ [] → ⊥) → Runs pool told last
+pub runs_some : (told : List Answered) (pool : PoolView) (actions : List Action) (last : Transaction) → RunsTo pool actions told last → is_working last.stage ≡ false → (told ≡ [] → ⊥) → RunsFrom (resting pool actions) told last
 unfolding RunsTo
-runs_some [] pool last runs idle some = absurd (some refl)
-runs_some (t ∷ told) pool last runs idle some = runs_to_end t told pool last runs idle
+runs_some [] pool actions last runs idle some = absurd (some refl)
+runs_some (t ∷ told) pool actions last runs idle some = runs_to_end t told pool actions last runs idle
 
-pub has_run : (pool : PoolView) (told : List Answered) (last : Transaction) → RunsTo pool told last → is_working last.stage ≡ false → (told ≡ [] → ⊥) → Runs pool told last
-has_run pool told last runs idle some = runs_some told pool last runs idle some
-
-no_pending : (lane k : ℕ) → with_pending (λ j. []) lane [] k ≡ []
-no_pending lane k = either (eqb k lane) where
-  either : (b : Bool) → cond {A = List Action} b [] [] ≡ []
-  either true = refl
-  either false = refl
-
--- a pool as it is opened is one where a lane left no actions
-pub opened_left : (lane : ℕ) (pool : PoolView) → opened pool ≡ record { pool = pool; actions = with_pending (λ j. []) lane [] }
-opened_left lane pool = (λ i. record { pool = pool; actions = λ k. sym (no_pending lane k) i })
+pub has_run : (pool : PoolView) (actions : List Action) (told : List Answered) (last : Transaction) → RunsTo pool actions told last → is_working last.stage ≡ false → (told ≡ [] → ⊥) → RunsFrom (resting pool actions) told last
+has_run pool actions told last runs idle some = runs_some told pool actions last runs idle some

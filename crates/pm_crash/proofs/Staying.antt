@@ -1,6 +1,6 @@
 -- Where nothing is told, a call stays what it came to.
-use Rattle.std.proofs.Common.{◌≡◌, true, false, ℕ, ◌/◌, ◌<◌, ◌≤◌, List, [], length, map, sym, ◌∙◌, ap, subst, arith}
-use Rattle.std.specs.List.{Contains}
+use Rattle.std.proofs.Common.{◌≡◌, true, false, ℕ, ◌/◌, ◌<◌, ◌≤◌, List, length, map, sym, ◌∙◌, ap, subst, arith}
+use Rattle.std.specs.List.{All, Contains}
 use Rattle.pm_header.specs.declared.header.Header.{Header}
 use Rattle.pm_objects.specs.declared.history.TxErr.{TxErr}
 use Rattle.pm_objects.specs.declared.pool.PoolView.{PoolView}
@@ -8,9 +8,8 @@ use Rattle.pm_image.specs.declared.block.Block.{Block}
 use Rattle.pm_image.specs.Blocks.{blocks}
 use Rattle.pm_image.specs.Contents.{size_in}
 use Rattle.pm_model.specs.declared.stage.Stage.{Stage}
-use Rattle.pm_model.specs.Answers.{Told as Answered}
-use Rattle.pm_model.specs.Step.{Act, Step}
-use Rattle.pm_model.specs.History.{opened}
+use Rattle.pm_model.specs.Actions.{Action}
+use Rattle.pm_model.specs.Step.{Act, State, Step, with_pending}
 use Rattle.pm_view.specs.Area.{is_in_area}
 use Rattle.pm_view.specs.Blocks.{is_chunk}
 use Rattle.pm_view.specs.Log.{Recorded}
@@ -18,9 +17,12 @@ use Rattle.pm_view.specs.View.{View, Lock}
 use Rattle.pm_world.specs.Records.{is_recorded}
 use Rattle.pm_crash.proofs.CallWords.{locks_kept, same_made_words}
 use Rattle.pm_crash.specs.Held.{HoldsPool}
-use Rattle.pm_crash.specs.OpenCall.{IsBefore, ComesTo, ComesToNothing, IsGivenUp, IsOpen, IsWholeCall, MakesStep, RunsTo, act_of, call_words, made_words, told_in, told_of, words_recorded}
+use Rattle.pm_crash.specs.OpenCall.{IsBefore, ComesTo, ComesToNothing, IsGivenUp, IsOpen, IsWholeCall, MakesStep, call_words, made_words, words_recorded}
+use Rattle.pm_crash.specs.Pending.{act_of, pending_in, published_in, told_in, told_of}
+use Rattle.pm_crash.specs.Performing.{CanPerform}
 use Rattle.pm_crash.specs.Operations.{KeepsKnown, KeepsLog, KeepsWords, TakesBack, TellsNothing}
-use Rattle.pm_crash.proofs.Continued.{two_same}
+use Rattle.pm_crash.proofs.Continued.{runs_told, two_same}
+use Rattle.pm_crash.proofs.PendingOn.{pending_same, published_same, same_before}
 use Rattle.pm_crash.proofs.GivenUp.{outside_taken_back, taken_back}
 use Rattle.pm_crash.proofs.KeptWords.{keeps_known, known_back, outside_kept, same_known_words, same_found}
 
@@ -28,10 +30,19 @@ same_told : (v next : View) → TellsNothing v next → told_in next ≡ told_in
 same_told v next quiet = ap (map told_of) quiet.call
 
 same_act : (v next : View) → TellsNothing v next → act_of next ≡ act_of v
-same_act v next quiet = (λ j. record { lane = quiet.keeps.lane j; actions = []; told = same_told v next quiet j })
+same_act v next quiet = (λ j. record { lane = quiet.keeps.lane j; actions = same_before v next quiet.keeps.entries j; told = same_told v next quiet j })
+
+-- the step that it makes is the same
+turned : (v next : View) → TellsNothing v next → (pool last : PoolView) (actions : ℕ → List Action) → Step (record { pool = pool; actions = actions }) (act_of v) (record { pool = last; actions = with_pending actions v.lane (pending_in v) })
+    → Step (record { pool = pool; actions = actions }) (act_of next) (record { pool = last; actions = with_pending actions next.lane (pending_in next) })
+turned v next quiet pool last actions step =
+    let left : State = record { pool = last; actions = with_pending actions v.lane (pending_in v) } in
+    subst (λ (s : State). Step (record { pool = pool; actions = actions }) (act_of next) s)
+    (λ j. let s : State = record { pool = last; actions = with_pending actions (sym quiet.keeps.lane j) (sym (pending_same v next quiet.keeps.entries quiet.call) j) } in s)
+    (subst (λ (act : Act). Step (record { pool = pool; actions = actions }) act left) (sym (same_act v next quiet)) step)
 
 quiet_back : (v next : View) → TellsNothing v next → KeepsLog v next → KeepsKnown v next → (w : ℕ → ℕ) → IsBefore next w → IsBefore v w
-quiet_back v next quiet logs words = known_back v next quiet.keeps (same_found v next quiet.locks) logs (λ i known outside none. words.known i outside known)
+quiet_back v next quiet logs words = known_back v next quiet.keeps (same_found v next quiet.locks) logs.records (λ i known outside none. words.known i outside known)
 
 quiet_holds : (v next : View) → TellsNothing v next → (w : ℕ → ℕ) (header : Header) (pool : PoolView) → HoldsPool w next.lanes next.zones header pool → HoldsPool w v.lanes v.zones header pool
 quiet_holds v next quiet w header pool holds = two_same (λ (n m : ℕ). HoldsPool w n m header pool) next.lanes v.lanes next.zones v.zones quiet.keeps.lanes quiet.keeps.zones holds
@@ -47,7 +58,7 @@ open_stays_so : (v next : View) (level : ℕ) (at_stage : Stage) (e : TxErr) (w 
 open_stays_so v next level at_stage e w header pool quiet logs same c =
     record {
       tx = c.tx;
-      runs = subst (λ (told : List Answered). RunsTo pool told c.tx) (sym (same_told v next quiet)) c.runs;
+      runs = runs_told v next pool c.tx quiet.keeps.entries (same_told v next quiet) c.runs;
       holds = quiet_made v next (call_words v w) (call_words next w) header c.tx.pool quiet same c.holds;
       before = c.before;
       locks = locks_kept c.tx v next quiet.locks c.locks;
@@ -56,8 +67,11 @@ open_stays_so v next level at_stage e w header pool quiet logs same c =
       levels = c.levels;
       stands = c.stands;
       fails = c.fails;
-      no_actions = c.no_actions;
-      nothing_moved = c.nothing_moved;
+      actions = c.actions ∙ sym (pending_same v next quiet.keeps.entries quiet.call);
+      moved = c.moved ∙ sym (published_same v next quiet.keeps.entries quiet.call);
+      performable =
+          two_same (λ (n m : ℕ). All (CanPerform w n m) (published_in next)) v.lanes next.lanes v.zones next.zones (sym quiet.keeps.lanes) (sym quiet.keeps.zones)
+          (subst (All (CanPerform w v.lanes v.zones)) (sym (published_same v next quiet.keeps.entries quiet.call)) c.performable);
       blocks_stay =
           two_same (λ (n m : ℕ). blocks (call_words next w) n m ≡ blocks w n m) v.lanes next.lanes v.zones next.zones (sym quiet.keeps.lanes) (sym quiet.keeps.zones)
           (ap (λ (f : ℕ → ℕ). blocks f v.lanes v.zones) same ∙ c.blocks_stay);
@@ -75,24 +89,24 @@ open_learns v next level at_stage e is_open quiet logs words =
       in_lanes = omega arith;
       few = subst (λ (locks : List Lock). length locks ≤ 64) (sym quiet.locks) is_open.few;
       chunks = λ l lines held found. ap (λ (n : ℕ). is_chunk n (l.line / 64)) lanes ∙ is_open.chunks l lines (subst (λ (locks : List Lock). Contains locks l) quiet.locks held) found;
-      outside = outside_kept v next quiet.keeps logs is_open.outside;
+      outside = outside_kept v next quiet.keeps logs.records is_open.outside;
       unentered = logs.entries ∙ is_open.unentered;
       comes = λ w header pool holds id before.
-          open_stays_so v next level at_stage e w header pool quiet logs (same_known_words v next logs words is_open.outside w)
+          open_stays_so v next level at_stage e w header pool quiet logs (same_known_words v next logs.records words is_open.outside w)
           (is_open.comes w header pool (quiet_holds v next quiet w header pool holds) (sym quiet.keeps.pool ∙ id) (quiet_back v next quiet logs words w before));
     }
 
 pub whole_learns : (v next : View) → IsWholeCall v → TellsNothing v next → KeepsLog v next → KeepsKnown v next → IsWholeCall next
 whole_learns v next whole quiet logs words = record {
-  outside = outside_kept v next quiet.keeps logs whole.outside;
+  outside = outside_kept v next quiet.keeps logs.records whole.outside;
   makes = λ w header pool holds id before.
       let made : MakesStep v w header pool =
       whole.makes w header pool (quiet_holds v next quiet w header pool holds) (sym quiet.keeps.pool ∙ id) (quiet_back v next quiet logs words w before) in
       record {
         next = made.next;
         holds = quiet_made v next (made_words v w) (made_words next w) header made.next quiet
-            (same_made_words v next quiet.keeps.lane logs.entries w (same_known_words v next logs words whole.outside w)) made.holds;
-        steps = subst (λ (act : Act). Step (opened pool) act (opened made.next)) (sym (same_act v next quiet)) made.steps;
+            (same_made_words v next quiet.keeps.lane logs.entries w (same_known_words v next logs.records words whole.outside w)) made.holds;
+        steps = λ actions own. turned v next quiet pool made.next actions (made.steps actions (ap actions (sym quiet.keeps.lane) ∙ own ∙ same_before v next quiet.keeps.entries));
       };
 }
 
@@ -111,10 +125,10 @@ still_given_up v next e given_up quiet outside back = record {
       let c : ComesToNothing v pool e = given_up.comes w header pool (quiet_holds v next quiet w header pool holds) (sym quiet.keeps.pool ∙ id) (back w before) in
       record {
         tx = c.tx;
-        runs = subst (λ (told : List Answered). RunsTo pool told c.tx) (sym (same_told v next quiet)) c.runs;
+        runs = runs_told v next pool c.tx quiet.keeps.entries (same_told v next quiet) c.runs;
         stands = c.stands;
         fails = c.fails;
-        no_actions = c.no_actions;
+        actions = c.actions ∙ sym (pending_same v next quiet.keeps.entries quiet.call);
         unchanged = c.unchanged;
       };
 }
@@ -124,4 +138,4 @@ given_up_stays v next e given_up quiet back =
     still_given_up v next e given_up quiet (outside_taken_back v next quiet.keeps back given_up.outside) (taken_back v next quiet.keeps (same_found v next quiet.locks) back given_up.outside)
 
 pub given_up_learns : (v next : View) (e : TxErr) → IsGivenUp v e → TellsNothing v next → KeepsLog v next → KeepsKnown v next → IsGivenUp next e
-given_up_learns v next e given_up quiet logs words = still_given_up v next e given_up quiet (outside_kept v next quiet.keeps logs given_up.outside) (quiet_back v next quiet logs words)
+given_up_learns v next e given_up quiet logs words = still_given_up v next e given_up quiet (outside_kept v next quiet.keeps logs.records given_up.outside) (quiet_back v next quiet logs words)

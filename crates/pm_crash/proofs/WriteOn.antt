@@ -29,6 +29,9 @@ use Rattle.pm_crash.proofs.OneObject.{sizes_kept}
 use Rattle.pm_crash.proofs.Passing.{passes_all, Works}
 use Rattle.pm_crash.proofs.RecordedWords.{among_recorded}
 use Rattle.pm_crash.proofs.Written.{write_keeps_others, written_pool}
+use Rattle.std.proofs.lemmas.List.Elements.{All-nil}
+use Rattle.std.proofs.lemmas.List.{append-nil}
+use Rattle.pm_crash.specs.Performing.{CanPerform}
 
 -- the words of the call after the write are those before it with the bytes written
 made_written : (v next : View) (id : Oid) (off : ℕ) (bytes : List ℕ) (w : ℕ → ℕ) → ((i : ℕ) → is_recorded v.log.records i ≡ true → is_in_area v.lane i ≡ false) → WritesBytes v next id off bytes → IsWritten (call_words v w) (call_words next w) (id.off + off) bytes
@@ -38,12 +41,12 @@ made_written v next id off bytes w outside writes =
     record {
       covered = λ i there.
           let added : is_recorded v.log.records i ≡ true = writes.added i there in
-          same_records v next w i writes.logs
+          same_records v next w i writes.logs.records
           ∙ cond-true (is_recorded v.log.records i) (slice_index next.words i) (w i) added
           ∙ writes.written i (outside i added)
           ∙ view_written.covered i there
           ∙ ap (written_word place bytes i) (sym (recorded_call_word v w i added));
-      others = λ i never. same_records v next w i writes.logs ∙ ⊎_elim
+      others = λ i never. same_records v next w i writes.logs.records ∙ ⊎_elim
           (λ (is : is_recorded v.log.records i ≡ true).
           cond-true (is_recorded v.log.records i) (slice_index next.words i) (w i) is ∙ writes.written i (outside i is) ∙ view_written.others i never ∙ sym (recorded_call_word v w i is))
           (λ (is : is_recorded v.log.records i ≡ false). cond-false (is_recorded v.log.records i) (slice_index next.words i) (w i) is ∙ sym (other_call_word v w i is))
@@ -103,7 +106,8 @@ write_keeps_open v next id off level bytes some is_open writes =
       stands = refl;
       fails = refl;
       actions = refl;
-      moved = refl;
+      moved = sym (append-nil c.tx.moved);
+      performable = All-nil (CanPerform w v.lanes v.zones);
       blocks_stay = blocks_same words (call_words next w) v.lanes v.zones (heads_kept words (call_words next w) v.lanes v.zones block c.holds.no_fault object.is_there keeps);
       sizes_stay = λ other there.
           sizes_kept words (call_words next w) v.lanes v.zones block other c.holds.no_fault object.is_there keeps (subst (λ (bs : List Block). Contains bs other) (sym c.blocks_stay) there);

@@ -11,11 +11,10 @@ use Rattle.pm_image.specs.Logs.{generation_word, recovered_at, undo_slot}
 use Rattle.pm_image.specs.Means.{IsMeaning}
 use Rattle.pm_model.specs.History.{opened}
 use Rattle.pm_model.specs.Names.{Replays}
-use Rattle.pm_model.specs.Step.{Act}
 use Rattle.pm_record.specs.Undo.{is_record}
 use Rattle.pm_view.specs.Founds.{IsAlone}
 use Rattle.pm_view.specs.Log.{Phase, Recorded, no_log}
-use Rattle.pm_view.specs.Log.Phase.{Idle, Open, Drawn, Retiring}
+use Rattle.pm_view.specs.Log.Phase.{Applying, Clearing, Drawn, Idle, Open, Retiring, Sealing}
 use Rattle.pm_view.specs.Rights.{is_written}
 use Rattle.pm_view.specs.Area.{area_word}
 use Rattle.pm_view.specs.Steps.{Step}
@@ -29,7 +28,7 @@ use Rattle.pm_world.specs.Records.{generation_of, spelled}
 use Rattle.pm_world.specs.World.{Views}
 use Rattle.pm_crash.specs.Held.{HoldsImage}
 use Rattle.pm_crash.specs.Leading.{Leads}
-use Rattle.pm_crash.specs.OpenCall.{told_of}
+use Rattle.pm_crash.specs.Pending.{acts_alone, state_alone}
 
 -- the image holds a pool and each log is clean; the view is that of lane 0 before its first step, of this pool, and of no table
 pub record BeginsAlone (o : Opening) (header : Header) (pool : PoolView) (v : View) : Type 0 where
@@ -69,19 +68,26 @@ IsUnsealed Drawn = Unit {0}
 IsUnsealed Retiring = Unit {0}
 IsUnsealed phase = ⊥
 
+-- a call whose lane was of this generation as it began has drawn its number, and its deciding store is to come, is made, or is drained; or its log
+-- is over
+abbrev pub IsDrawnAt : ℕ → View → Phase → Type 0
+IsDrawnAt g w Drawn = generation_of w ≡ g
+IsDrawnAt g w Sealing = generation_of w ≡ g
+IsDrawnAt g w (Applying applied) = Unit {0}
+IsDrawnAt g w Clearing = generation_of w ≡ g + 1
+IsDrawnAt g w Retiring = generation_of w ≡ g + 1
+IsDrawnAt g w Idle = generation_of w ≡ g + 1
+IsDrawnAt g w phase = ⊥
+
 -- the calls that drew a number and that the image does not lose, in order
 abbrev pub kept_numbered : List ℕ → View → List Numbered
 kept_numbered image w = filter (λ (e : Numbered). not (loses image w e.number)) w.entries
-
--- such a call as the model's
-abbrev pub act_of_numbered : Numbered → Act
-act_of_numbered e = record { lane = 0; actions = []; told = map told_of e.call }
 
 -- these calls, one whole call after another, lead from the one pool to another, which the image means; and the allocated blocks of its
 -- recovered words are those of that pool's objects, in order
 pub record MeansCalls (image : List ℕ) (lanes zones : ℕ) (pool : PoolView) (calls : List Numbered) : Type 0 where
   pub last : PoolView
-  pub replays : Replays (opened pool) (map act_of_numbered calls) (opened last)
+  pub replays : Replays (opened pool) (acts_alone calls) (state_alone last calls)
   pub means : IsMeaning image last
   pub blocks_are : map offset_in (blocks (recovered_at image lanes) lanes zones) ≡ offsets last.objects
 

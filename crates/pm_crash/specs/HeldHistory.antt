@@ -1,33 +1,25 @@
 -- A world's history as the plain model's: whichever of the calls in flight are left out, the others were made one whole call after another.
-use Rattle.std.specs.Prelude.{◌≡◌, ◌⊎◌, ℕ, Bool, List, [], map, filter}
+use Rattle.std.specs.Prelude.{◌≡◌, ◌⊎◌, ℕ, Bool, List, []}
 use Rattle.pm_header.specs.declared.header.Header.{Header}
 use Rattle.pm_objects.specs.declared.history.TxErr.{TxErr}
 use Rattle.pm_objects.specs.declared.pool.PoolView.{PoolView}
 use Rattle.pm_model.specs.History.{opened}
 use Rattle.pm_model.specs.Names.{Replays}
-use Rattle.pm_model.specs.Step.{Act}
 use Rattle.pm_view.specs.Steps.{Step}
 use Rattle.pm_view.specs.Steps.Step.{Draw}
 use Rattle.pm_view.specs.View.{View}
 use Rattle.pm_world.specs.History.{Entry}
 use Rattle.pm_world.specs.Opening.{Opening}
-use Rattle.pm_crash.specs.Draws.{KeepsDecided, kept_words}
+use Rattle.pm_crash.specs.Draws.{KeepsDecided, kept_log, kept_words}
 use Rattle.pm_crash.specs.Held.{HoldsPool}
-use Rattle.pm_crash.specs.OpenCall.{IsGivenUp, IsWholeCall, told_of}
-
--- the entry's call as the model's
-abbrev pub act_of_entry : Entry → Act
-act_of_entry e = record { lane = e.lane; actions = []; told = map told_of e.call }
-
--- the calls that are kept, in their order
-abbrev pub kept_acts : (ℕ → Bool) → List Entry → List Act
-kept_acts keep log = map act_of_entry (filter (λ (e : Entry). keep e.number) log)
+use Rattle.pm_crash.specs.OpenCall.{IsGivenUp, IsWholeCall}
+use Rattle.pm_crash.specs.Pending.{acts_of, state_after}
 
 -- the words hold what the kept calls make of a pool, one whole call after another
 pub record HoldReplay (w : ℕ → ℕ) (o : Opening) (keep : ℕ → Bool) (log : List Entry) (header : Header) (pool : PoolView) : Type 0 where
   pub last : PoolView
   pub holds : HoldsPool w o.lanes o.zones header last
-  pub replays : Replays (opened pool) (kept_acts keep log) (opened last)
+  pub replays : Replays (opened pool) (acts_of (kept_log keep log)) (state_after last (kept_log keep log))
 
 -- so it is whichever calls are kept, the decided ones among them
 pub record IsHeldHistory (o : Opening) (log : List Entry) (decided : ℕ → Bool) (header : Header) (pool : PoolView) : Type 0 where

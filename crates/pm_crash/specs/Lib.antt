@@ -1,3 +1,5 @@
+pub mod Pending
+pub mod Performing
 pub mod Draws
 pub mod Held
 pub mod Leading
@@ -8,4 +10,5 @@ pub mod OneLane
 pub mod Locks
 pub mod OpenCall
 pub mod Operations
+pub mod OnActions
 pub mod Writes

@@ -1,5 +1,5 @@
 -- The course of a world in which one lane makes steps, and what its history makes of the pool that the world began from.
-use Rattle.std.specs.Prelude.{◌≡◌, ℕ, ◌<◌, Bool, false, List, [], ◌∷◌, map}
+use Rattle.std.specs.Prelude.{◌≡◌, ℕ, ◌<◌, Bool, false, List, [], ◌∷◌}
 use Rattle.std.specs.List.{filter}
 use Rattle.pm_header.specs.declared.header.Header.{Header}
 use Rattle.pm_objects.specs.declared.pool.PoolView.{PoolView}
@@ -20,7 +20,7 @@ use Rattle.pm_world.specs.Moves.{Moves}
 use Rattle.pm_world.specs.Opening.{Opening}
 use Rattle.pm_world.specs.Opens.{IsClean, IsFresh, IsOpened}
 use Rattle.pm_world.specs.World.{Views}
-use Rattle.pm_crash.specs.HeldHistory.{act_of_entry}
+use Rattle.pm_crash.specs.Pending.{acts_of, state_after}
 use Rattle.pm_crash.specs.Held.{HoldsImage, HoldsPool}
 use Rattle.pm_crash.specs.OpenCall.{IsBefore, MakesStep}
 
@@ -86,11 +86,11 @@ kept_entries o m image = filter (λ (e : Entry). is_kept o m.views image e.numbe
 -- these entries, one whole call after another, lead from the one pool to another, and that one the words hold
 pub record HoldsReplay (w : ℕ → ℕ) (lanes zones : ℕ) (header : Header) (pool : PoolView) (entries : List Entry) : Type 0 where
   pub last : PoolView
-  pub replays : Replays (opened pool) (map act_of_entry entries) (opened last)
+  pub replays : Replays (opened pool) (acts_of entries) (state_after last entries)
   pub holds : HoldsPool w lanes zones header last
 
 -- these entries, one whole call after another, lead from the one pool to another, and that one the image means
 pub record MeansReplay (image : List ℕ) (pool : PoolView) (entries : List Entry) : Type 0 where
   pub last : PoolView
-  pub replays : Replays (opened pool) (map act_of_entry entries) (opened last)
+  pub replays : Replays (opened pool) (acts_of entries) (state_after last entries)
   pub means : IsMeaning image last

@@ -1,5 +1,5 @@
 -- A lane's open call, by its view alone: the words that it makes, and what the plain model's transaction has come to.
-use Rattle.std.specs.Prelude.{◌≡◌, ℕ, ◌+◌, ◌*◌, ◌/◌, ◌<◌, ◌≤◌, true, false, if◌then◌else◌, List, [], ◌∷◌, map, length, slice_index, flat_map, Contains, Some}
+use Rattle.std.specs.Prelude.{◌≡◌, ℕ, ◌+◌, ◌*◌, ◌/◌, ◌<◌, ◌≤◌, true, false, if◌then◌else◌, List, [], ◌∷◌, map, length, slice_index, flat_map, All, Contains, Some}
 use Rattle.std.specs.List.{range_with_len}
 use Rattle.pm_header.specs.declared.header.Header.{Header}
 use Rattle.pm_objects.specs.declared.calls.Want.{Want}
@@ -10,29 +10,20 @@ use Rattle.pm_image.specs.Blocks.{blocks}
 use Rattle.pm_image.specs.Contents.{size_in}
 use Rattle.pm_model.specs.declared.stage.Stage.{Stage}
 use Rattle.pm_model.specs.declared.stage.Stage.TheVariants as stage
-use Rattle.pm_model.specs.Transaction.{Transaction, Lock as Locked, at_rest, is_working}
+use Rattle.pm_model.specs.Transaction.{Transaction, Lock as Locked, resting, is_working}
 use Rattle.pm_model.specs.Answers.{Told as Answered, Answers, after}
-use Rattle.pm_model.specs.Step.{Act, Step}
-use Rattle.pm_model.specs.History.{opened}
+use Rattle.pm_model.specs.Actions.{Action}
+use Rattle.pm_model.specs.Step.{Step, with_pending}
 use Rattle.pm_view.specs.Area.{is_in_area}
 use Rattle.pm_view.specs.Blocks.{is_chunk}
 use Rattle.pm_view.specs.Log.{Recorded}
-use Rattle.pm_view.specs.View.{View, Lock, Told}
+use Rattle.pm_view.specs.View.{View, Lock}
 use Rattle.pm_world.specs.History.{made_final}
 use Rattle.pm_world.specs.Records.{IsRecordAt, is_recorded, pool_entries}
 use Rattle.pm_crash.specs.Locks.{AreSameLocks}
 use Rattle.pm_crash.specs.Held.{HoldsPool}
-
--- the operations of the open call with their replies, as the model has them
-abbrev pub told_of : Told → Answered
-told_of t = record { operation = t.operation; reply = t.reply }
-
-abbrev pub told_in : View → List Answered
-told_in v = map told_of v.call
-
--- the open call as the model's: no actions were pending as it began
-abbrev pub act_of : View → Act
-act_of v = record { lane = v.lane; actions = []; told = told_in v }
+use Rattle.pm_crash.specs.Pending.{act_of, pending_before, pending_in, published_in, told_in}
+use Rattle.pm_crash.specs.Performing.{CanPerform}
 
 -- the lock of a line is that of the object whose block begins there
 abbrev pub lock_of : Lock → Locked
@@ -71,21 +62,27 @@ call_words v w i = if is_recorded v.log.records i then slice_index v.words i els
 abbrev pub made_words : View → (ℕ → ℕ) → ℕ → ℕ
 made_words v w i = made_final (pool_entries v) i (call_words v w i)
 
+-- the call turns the one pool into the other, as the plain model does, whatever is pending for other lanes
+abbrev pub Turns : View → PoolView → PoolView → Type 0
+Turns v pool next = (actions : ℕ → List Action) → actions v.lane ≡ pending_before v
+    → Step (record { pool = pool; actions = actions }) (act_of v) (record { pool = next; actions = with_pending actions v.lane (pending_in v) })
+
 -- the transaction comes from one state to another by these operations with their replies, in work before each
 unfoldable pub GoesOn : Transaction → List Answered → Transaction → Type 0
 GoesOn tx [] now = now ≡ tx
 GoesOn tx (t ∷ told) now = (is_working tx.stage ≡ true) × Answers tx t.operation t.reply × GoesOn (after t tx) told now
 
--- these operations with their replies, from a pool where none is open, lead to this state of a transaction
-unfoldable pub RunsTo : PoolView → List Answered → Transaction → Type 0
-RunsTo pool [] now = now ≡ at_rest pool
-RunsTo pool (t ∷ told) now = Answers (at_rest pool) t.operation t.reply × GoesOn (after t (at_rest pool)) told now
+-- these operations with their replies, from a pool where none is open and these actions are pending, lead to this state of a transaction
+unfoldable pub RunsTo : PoolView → List Action → List Answered → Transaction → Type 0
+RunsTo pool actions [] now = now ≡ resting pool actions
+RunsTo pool actions (t ∷ told) now = Answers (resting pool actions) t.operation t.reply × GoesOn (after t (resting pool actions)) told now
 
 -- what the open call came to, from words that hold a pool: the model's transaction, whose copy of the pool is that of the words made so
--- far, with the locks and the records that the lane has. The words have the blocks that they had, of their sizes
+-- far, with the locks and the records that the lane has, and its pending actions. The words have the blocks that they had, of their sizes, and
+-- each action that the call published lies in one of them
 pub record ComesTo (v : View) (w : ℕ → ℕ) (header : Header) (pool : PoolView) (level : ℕ) (at_stage : Stage) (error : TxErr) : Type 0 where
   pub tx : Transaction
-  pub runs : RunsTo pool (told_in v) tx
+  pub runs : RunsTo pool (pending_before v) (told_in v) tx
   pub holds : HoldsPool (call_words v w) v.lanes v.zones header tx.pool
   pub before : tx.before ≡ pool
   pub locks : AreSameLocks tx.locks (locks_of v)
@@ -94,15 +91,14 @@ pub record ComesTo (v : View) (w : ℕ → ℕ) (header : Header) (pool : PoolVi
   pub levels : tx.level ≡ level
   pub stands : tx.stage ≡ at_stage
   pub fails : tx.error ≡ error
-  -- pending actions come with the calls that make them
-  pub no_actions : tx.actions ≡ []
-  pub nothing_moved : tx.moved ≡ []
+  pub actions : tx.actions ≡ pending_in v
+  pub moved : tx.moved ≡ published_in v
+  pub performable : All (CanPerform w v.lanes v.zones) (published_in v)
   pub blocks_stay : blocks (call_words v w) v.lanes v.zones ≡ blocks w v.lanes v.zones
   pub sizes_stay : (block : Block) → Contains (blocks w v.lanes v.zones) block → size_in (call_words v w) block ≡ size_in w block
 
 -- the lane has a call open at this level, in this stage and with this error, whatever pool the words before it hold. It holds 64 locks at
--- most, each of a line of a chunk where it found a block there, recorded no word of its own area, and has no redo entries: a transaction makes
--- none
+-- most, each of a line of a chunk where it found a block there, recorded no word of its own area, and has no redo entries: they come with the commit
 pub record IsOpen (v : View) (level : ℕ) (at_stage : Stage) (error : TxErr) : Type 0 where
   pub in_lanes : v.lane < v.lanes
   pub few : length v.locks ≤ 64
@@ -115,10 +111,10 @@ pub record IsOpen (v : View) (level : ℕ) (at_stage : Stage) (error : TxErr) : 
 -- what a call that was given up came to: the pool is as before it
 pub record ComesToNothing (v : View) (pool : PoolView) (error : TxErr) : Type 0 where
   pub tx : Transaction
-  pub runs : RunsTo pool (told_in v) tx
+  pub runs : RunsTo pool (pending_before v) (told_in v) tx
   pub stands : tx.stage ≡ stage.OnAbort
   pub fails : tx.error ≡ error
-  pub no_actions : tx.actions ≡ []
+  pub actions : tx.actions ≡ pending_in v
   pub unchanged : tx.pool ≡ pool
 
 -- the lane's call was aborted with this error, whatever pool the words before it hold. It recorded no word of its own area
@@ -131,7 +127,7 @@ pub record IsGivenUp (v : View) (error : TxErr) : Type 0 where
 pub record MakesStep (v : View) (w : ℕ → ℕ) (header : Header) (pool : PoolView) : Type 0 where
   pub next : PoolView
   pub holds : HoldsPool (made_words v w) v.lanes v.zones header next
-  pub steps : Step (opened pool) (act_of v) (opened next)
+  pub steps : Turns v pool next
 
 -- the lane's call is whole, and a step of the plain model, whatever pool the words before it hold. It recorded no word of its own area
 pub record IsWholeCall (v : View) : Type 0 where

@@ -3,7 +3,7 @@ use Rattle.std.specs.Prelude.{◌≡◌, ◌⊎◌, ℕ, ◌+◌, ◌*◌, ◌/�
 use Rattle.std.specs.List.{list_any}
 use Rattle.pm_words.specs.Words.{bytes_of, AreBytes}
 use Rattle.pm_objects.specs.declared.calls.Operation.{Operation}
-use Rattle.pm_objects.specs.declared.calls.Operation.TheVariants.{AddRange, Begin, Read, Write}
+use Rattle.pm_objects.specs.declared.calls.Operation.TheVariants.{AddRange, Begin, Commit, Read, Write}
 use Rattle.pm_objects.specs.declared.calls.Want.{Want}
 use Rattle.pm_objects.specs.declared.history.Value.{Value}
 use Rattle.pm_objects.specs.declared.history.Value.TheVariants.{Bytes, Refused}
@@ -18,17 +18,20 @@ use Rattle.pm_view.specs.Area.{is_in_area}
 use Rattle.pm_view.specs.Blocks.{is_chunk}
 use Rattle.pm_view.specs.Log.{Recorded}
 use Rattle.pm_view.specs.View.{View, Lock}
-use Rattle.pm_world.specs.Records.{IsRecordAt, is_recorded}
+use Rattle.pm_world.specs.Records.{IsRecordAt, is_recorded, pool_entries}
 use Rattle.pm_crash.specs.Locks.{AreSameLocks}
 use Rattle.pm_crash.specs.OpenCall.{locks_of, words_recorded}
+use Rattle.pm_crash.specs.Pending.{published_in}
+use Rattle.pm_crash.specs.Performing.{entry_for}
 use Rattle.pm_crash.specs.Writes.{words_written}
 
--- the lane is the same, and knows what it knew
+-- the lane is the same, knows what it knew, and drew no number
 pub record KeepsLane (v next : View) : Type 0 where
   pub lanes : next.lanes ≡ v.lanes
   pub zones : next.zones ≡ v.zones
   pub pool : next.pool ≡ v.pool
   pub lane : next.lane ≡ v.lane
+  pub entries : next.entries ≡ v.entries
   pub known : (i : ℕ) → Contains v.known i → Contains next.known i
 
 -- the operation is told with its reply, under the locks that are held
@@ -218,6 +221,13 @@ wants_more before wants = list_any (λ (want : Want). not (is_locked before want
 
 abbrev pub wants_first : List Locked → List Want → Bool
 wants_first before wants = list_any (λ (want : Want). not (is_locked before want.id.off false)) wants
+
+-- the outermost level is committed, and that is told: the log has what it had, and behind it an entry for each action that the call published
+pub record CommitsCall (v next : View) : Type 0 where
+  pub tells : Tells v next Commit None
+  pub records : next.log.records ≡ v.log.records
+  pub words : KeepsWords v next
+  pub entries : pool_entries next ≡ map entry_for (published_in v)
 
 -- why a begin at this level, with these locks held, is refused: for its depth, for too many locks, since something wanted has not the form
 -- of an object's id, since a lock that it tried was another lane's, or since it found no object under one that it took. What it saw of other

@@ -1,7 +1,7 @@
-ghost use Rattle.std.specs.Prelude.{◌≡◌, ◌≢◌, ◌⊎◌, ◌==◌, ℕ, ◌+◌, ◌<◌, Bool, true, false, List, [], ◌∷◌, ◌++◌, length, slice_index, Some};
+ghost use Rattle.std.specs.Prelude.{◌≡◌, ◌≢◌, ◌⊎◌, ◌==◌, ◌&&◌, ℕ, ◌+◌, ◌<◌, Bool, true, false, List, [], ◌∷◌, ◌++◌, length, slice_index, Some};
 ghost use Rattle.pm_header.specs.declared.header.Header.{Header};
 ghost use Rattle.pm_objects.specs.declared.pool.PoolView.{PoolView};
-ghost use Rattle.pm_image.specs.Logs.{generation, generation_word};
+ghost use Rattle.pm_image.specs.Logs.{generation, generation_word, seal_word};
 ghost use Rattle.pm_view.specs.Log.{Recorded};
 ghost use Rattle.pm_view.specs.Log.Phase.{Idle};
 ghost use Rattle.pm_view.specs.Steps.{Step};
@@ -11,7 +11,7 @@ ghost use Rattle.pm_world.specs.Course.{flight};
 ghost use Rattle.pm_world.specs.Crash.{NoneTorn, loses};
 ghost use Rattle.pm_world.specs.Opening.{IsSound, Opening};
 ghost use Rattle.pm_world.specs.Records.{generation_of, records_generation};
-ghost use Rattle.pm_crash.specs.Alone.{GrowsFirst, HasNoTornMatch, IsUnsealed, MayRecord, MeansCalls, Rests, WorksAlone, alone_views, is_of_words, kept_numbered, raises, standing};
+ghost use Rattle.pm_crash.specs.Alone.{GrowsFirst, HasNoTornMatch, IsDrawnAt, IsUnsealed, MayRecord, MeansCalls, Rests, WorksAlone, alone_views, is_of_words, kept_numbered, raises, standing};
 ghost use Rattle.pm_crash.specs.Leading.{Leads};
 
 /// A law: where one lane works alone, each image that a power failure leaves of its words means the pool to which the calls that it does
@@ -32,8 +32,9 @@ pub fn a_lane_alone_leaves_its_whole_calls()
 
 /// A law: no image loses a call that has ended, or one behind which the lane drew another number. A call in flight is lost exactly where
 /// the image has the generation of the call's records still: a lane's that is sealed in the image is the next one. So where the call has no
-/// seal, and that generation is the opening's or that of a view on the way, it is lost exactly where the image has that generation. No code
-/// runs.
+/// seal, and that generation is the opening's or that of a view on the way, it is lost exactly where the image has that generation. Of a call
+/// that began with some generation and drew its number, sealed or not, the words tell: it is lost exactly where the image has no seal and that
+/// generation still. No code runs.
 pub fn a_call_in_flight_is_lost_by_its_generation()
     ensures ended { (w : View) (image : List ℕ) (n : ℕ) → (w.log.phase ≡ Idle) ⊎ (w.number ≢ Some n) → loses image w n ≡ false }
     ensures in_flight { (o : Opening) (header : Header) (pool : PoolView) (v w : View) (steps : List Step) (keep : ℕ) (image : List ℕ) (n : ℕ)
@@ -43,6 +44,9 @@ pub fn a_call_in_flight_is_lost_by_its_generation()
         → WorksAlone o header pool v steps w → IsKeptImage keep w.words (w.changes ∷ []) image → w.number ≡ Some n → IsUnsealed w.log.phase
         → records_generation w.log.phase w ≡ generation_word o.words 0
         → loses image w n ≡ (generation_word image 0 == generation_word o.words 0) }
+    ensures by_words { (o : Opening) (header : Header) (pool : PoolView) (v w : View) (steps : List Step) (keep : ℕ) (image : List ℕ) (g n : ℕ)
+        → WorksAlone o header pool v steps w → IsKeptImage keep w.words (w.changes ∷ []) image → w.number ≡ Some n → IsDrawnAt g w w.log.phase
+        → loses image w n ≡ (seal_word image 0 == 0 && generation_word image 0 == g) }
     ensures since { (o : Opening) (header : Header) (pool : PoolView) (v b w : View) (steps : List Step) (keep : ℕ) (image : List ℕ) (n : ℕ)
         → WorksAlone o header pool v steps w → IsKeptImage keep w.words (w.changes ∷ []) image → w.number ≡ Some n → IsUnsealed w.log.phase
         → records_generation w.log.phase w ≡ generation_of b → loses image w n ≡ (generation_word image 0 == generation_of b) }

@@ -11,28 +11,28 @@ ghost use Rattle.pm_objects.specs.declared.pool.PoolView.{PoolView};
 ghost use Rattle.pm_objects.specs.declared.refusal.Refusal.{Refusal};
 ghost use Rattle.pm_model.specs.declared.stage.Stage.{Stage};
 ghost use Rattle.pm_model.specs.declared.stage.Stage.TheVariants as stage;
-ghost use Rattle.pm_model.specs.Transaction.{Lock, Transaction, is_working, locked_all};
+ghost use Rattle.pm_model.specs.Transaction.{Lock, Transaction, is_working, locked_all, resting};
 ghost use Rattle.pm_model.specs.Checks.{Range};
 ghost use Rattle.pm_model.specs.Answers.{Told as Answered, error_for};
-ghost use Rattle.pm_model.specs.Step.{Runs, Step};
-ghost use Rattle.pm_model.specs.History.{opened};
+ghost use Rattle.pm_model.specs.Actions.{Action};
+ghost use Rattle.pm_model.specs.Step.{RunsFrom};
 ghost use Rattle.pm_view.specs.View.{View};
 ghost use Rattle.pm_world.specs.History.{made_final};
 ghost use Rattle.pm_world.specs.Records.{difference_of};
 ghost use Rattle.pm_crash.specs.Held.{HoldsPool};
 ghost use Rattle.pm_crash.specs.Locks.{AreSameLocks};
-ghost use Rattle.pm_crash.specs.OpenCall.{IsBefore, IsGivenUp, IsOpen, IsWholeCall, RunsTo, act_of, lock_wanted, made_words};
-ghost use Rattle.pm_crash.specs.Operations.{AddsRange, BeginsCall, BeginsLevel, KeepsKnown, KeepsLog, KeepsWords, ReadsBytes, Refuses, RefusesCall, RefusesLevel, TakesBack, Tells, TellsNothing, WritesBytes};
+ghost use Rattle.pm_crash.specs.OpenCall.{IsBefore, IsGivenUp, IsOpen, IsWholeCall, RunsTo, Turns, lock_wanted, made_words};
+ghost use Rattle.pm_crash.specs.Operations.{AddsRange, BeginsCall, BeginsLevel, CommitsCall, KeepsKnown, KeepsLog, KeepsWords, ReadsBytes, Refuses, RefusesCall, RefusesLevel, TakesBack, Tells, TellsNothing, WritesBytes};
 
 /// A law: the words that a call makes of those before it are what its difference makes of them. No code runs.
 pub fn a_call_makes_its_difference()
     ensures { (v : View) (w : ℕ → ℕ) (i : ℕ) → made_final (difference_of v) i (w i) ≡ made_words v w i }
 {}
 
-/// A law: a call that commits its outermost level is whole: a step of the plain model, to the pool that its words hold. No code runs.
+/// A law: a call that commits its outermost level, with an entry for each action that it published, is whole: a step of the plain model, to the
+/// pool that its words hold. No code runs.
 pub fn a_commit_is_a_step()
-    ensures { (v next : View) → IsOpen v 1 stage.Work error.None → Tells v next Commit None → KeepsLog v next
-        → KeepsWords v next → IsWholeCall next }
+    ensures { (v next : View) → IsOpen v 1 stage.Work error.None → CommitsCall v next → IsWholeCall next }
 {}
 
 /// A law: bytes that a lane writes into words of an object that it holds and has recorded are the plain model's write. No code runs.
@@ -49,8 +49,8 @@ pub fn a_read_tells_the_bytes()
 
 /// A law: what a transaction came to by some operations, where it works no longer, is where they run to. No code runs.
 pub fn a_transaction_that_rests_has_run()
-    ensures { (pool : PoolView) (told : List Answered) (last : Transaction) → RunsTo pool told last
-        → is_working last.stage ≡ false → told ≢ [] → Runs pool told last }
+    ensures { (pool : PoolView) (actions : List Action) (told : List Answered) (last : Transaction) → RunsTo pool actions told last
+        → is_working last.stage ≡ false → told ≢ [] → RunsFrom (resting pool actions) told last }
 {}
 
 /// A law: a lane that began a call, with the locks that it wanted, has it open at the first level. No code runs.
@@ -81,7 +81,7 @@ pub fn an_abort_gives_up()
 pub fn a_call_given_up_changes_nothing()
     ensures { (v : View) (e : TxErr) → IsGivenUp v e → (w : ℕ → ℕ) (header : Header) (pool : PoolView)
         → HoldsPool w v.lanes v.zones header pool → v.pool ≡ header.id → IsBefore v w
-        → Step (opened pool) (act_of v) (opened pool) }
+        → Turns v pool pool }
 {}
 
 /// A law: wants of rising offsets are each a lock of its own, in their order. No code runs.

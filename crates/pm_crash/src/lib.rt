@@ -7,6 +7,7 @@
 //! `pm_image` for the meaning of words, `pm_model` for calls, `pm_view` for what a lane has, `pm_world` for records; docs/MODEL.md.
 #![tactic(auto)]
 
+mod actions;
 mod alone;
 mod bounds;
 mod calls;
@@ -14,6 +15,11 @@ mod course;
 mod histories;
 mod laws;
 
+pub use actions::{
+    a_call_on_actions_is_a_step, a_call_on_actions_keeps_the_call, a_publish_is_a_step,
+    a_publish_moves_actions, a_refused_publish_gives_up, a_refused_publish_is_a_step,
+    entries_perform_actions,
+};
 pub use alone::{
     a_call_in_flight_is_lost_by_its_generation, a_generation_rises_with_each_store_of_it,
     a_lane_alone_leaves_its_whole_calls, a_pool_stays_sound, no_record_is_torn,

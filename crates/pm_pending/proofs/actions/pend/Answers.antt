@@ -1,9 +1,9 @@
 use Rattle.std.proofs.Common.{◌%◌, ◌≤◌, ◌<◌, true, false, not, leb, length, rules, ap, arith}
 use Rattle.std.proofs.lemmas.Bool.{eq-eqb, le-leb, lt-leb, ne_eqb}
 use Rattle.std.proofs.lemmas.List.{length-map}
-use Rattle.pm_action.specs.Pending.{action_of, pending_of}
-use Rattle.pm_action.proofs.Refused.{set_refused}
-use Rattle.pm_action.proofs.actions.pend.Goals as goal
+use Rattle.pm_pending.specs.Pending.{action_of, pending_of}
+use Rattle.pm_pending.proofs.Refused.{set_refused}
+use Rattle.pm_pending.proofs.actions.pend.Goals as goal
 
 pub returns-then-action-ne0-clause-answers : goal.returns-then-action-ne0-clause-answers
 returns-then-action-ne0-clause-answers c = λ pool.

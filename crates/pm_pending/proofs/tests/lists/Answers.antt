@@ -1,7 +1,7 @@
 use Rattle.std.proofs.Common.{◌+◌, ◌^◌, ◌<◌, [], sym, subst, arith}
 use Rattle.std.proofs.lemmas.List.Elements.{All-cons, All-nil}
-use Rattle.pm_action.specs.declared.actions.SetAction.{SetAction}
-use Rattle.pm_action.proofs.tests.lists.Goals as goal
+use Rattle.pm_pending.specs.declared.actions.SetAction.{SetAction}
+use Rattle.pm_pending.proofs.tests.lists.Goals as goal
 
 pub list_entries-requires-clause-places : goal.list_entries-requires-clause-places
 list_entries-requires-clause-places g c =

@@ -6,7 +6,7 @@ use Rattle.pm_record.specs.declared.redo.Redo.{Redo}
 use Rattle.pm_model.specs.Actions.{Action}
 use Rattle.pm_model.specs.Actions.Action.{SetWord}
 use Rattle.pm_model.specs.Checks.{Seen}
-use Rattle.pm_action.specs.declared.actions.SetAction.{SetAction}
+use Rattle.pm_pending.specs.declared.actions.SetAction.{SetAction}
 
 -- an action of the model's, and all of a list
 abbrev pub action_of : SetAction → Action
@@ -15,9 +15,13 @@ action_of a = SetWord a.id a.off a.value
 abbrev pub pending_of : List SetAction → List Action
 pending_of actions = map action_of actions
 
--- the entry that performs it
+-- the redo entry that performs an action of the model's: it sets the word that the action is of
+abbrev pub entry_of : Action → Redo
+entry_of (SetWord id off value) = record { place = id.off + off; op = Set; value = value }
+
+-- and one of the list's
 abbrev pub redo_for : SetAction → Redo
-redo_for a = record { place = a.id.off + a.off; op = Set; value = a.value }
+redo_for a = entry_of (action_of a)
 
 -- the reason of an answer that refuses
 abbrev pub refusal_in : {T : Type 0} → Result T Refusal → Option Refusal

@@ -2,8 +2,9 @@ ghost use Rattle.std.specs.Prelude.{◌≡◌, ◌+◌, ◌^◌, ◌<◌, ◌≤
 ghost use Rattle.pm_objects.specs.declared.calls.Operation.TheVariants.{SetValue};
 ghost use Rattle.pm_objects.specs.declared.pool.PoolView.{PoolView};
 ghost use Rattle.pm_model.specs.Outside.{Outside, refusal_outside};
-ghost use Rattle.pm_action.specs.declared.actions.SetAction.{SetAction};
-ghost use Rattle.pm_action.specs.Pending.{pending_of, redo_for, refusal_in, unhindered};
+ghost use Rattle.pm_crash.specs.OnActions.{set_refusal};
+ghost use Rattle.pm_pending.specs.declared.actions.SetAction.{SetAction};
+ghost use Rattle.pm_pending.specs.Pending.{pending_of, redo_for, refusal_in, unhindered};
 
 use arrayvec::ArrayVec;
 use pm_objects::{Oid, Refusal};
@@ -44,6 +45,7 @@ impl SetAction {
 /// the refusals of the plain model's call, whatever the pool; each leaves the list as it was. pmemobj_set_value(3).
 pub fn pend(actions: &mut ArrayVec<SetAction, 63>, action: SetAction) -> Result<(), Refusal>
     ensures answers { (pool : PoolView) → refusal_outside unhindered (record { pool = pool; actions = pending_of actions.old.items }) (SetValue action.id action.off action.value) ≡ refusal_in result }
+    ensures reason { refusal_in result ≡ set_refusal action.off (pending_of actions.old.items) }
     ensures done { OnOk result (actions.new.items ≡ actions.old.items ++ action ∷ []) }
     ensures unchanged { OnErr result (actions.new ≡ actions.old) }
 {
@@ -57,12 +59,11 @@ pub fn pend(actions: &mut ArrayVec<SetAction, 63>, action: SetAction) -> Result<
     Ok(())
 }
 
-/// Lists the entries of the actions, in their order, as those of a lane that has none.
+/// Lists the entries of the actions, in their order, behind those that the lane has. The one that ends its generation still fits behind them.
 pub fn list_entries<M>(lane: &mut Lane<M>, actions: &[SetAction])
-    requires few { length actions.now ≤ 63 }
-    requires none { lane.old.entries.items ≡ [] }
+    requires few { length lane.old.entries.items + length actions.now ≤ 63 }
     requires places { All (λ (a : SetAction). a.id.off + a.off < 2 ^ 64) actions.now }
-    ensures listed { lane.new.entries.items ≡ map redo_for actions.now }
+    ensures listed { lane.new.entries.items ≡ lane.old.entries.items ++ map redo_for actions.now }
     ensures else_same { lane.new ≡ record lane.old { entries = lane.new.entries } }
 {
     for action in actions {

@@ -19,8 +19,8 @@ use Rattle.pm_crash.proofs.Apart.{heads_kept}
 use Rattle.pm_crash.proofs.ObjectBytes.{begins_word}
 use Rattle.pm_crash.proofs.OneObject.{sizes_kept}
 use Rattle.pm_crash.proofs.Written.{write_keeps_others, written_pool}
-use Rattle.pm_action.specs.Performing.{CanPerform, performed}
-use Rattle.pm_action.proofs.SetWords.{number_has_bytes, set_is_written}
+use Rattle.pm_crash.specs.Performing.{CanPerform, performed}
+use Rattle.pm_crash.proofs.SetWords.{number_has_bytes, set_is_written}
 
 -- the words with one action's entry applied
 abbrev made : Action → (ℕ → ℕ) → ℕ → ℕ

@@ -1,5 +1,5 @@
-use Rattle.pm_action.proofs.Performed.{performs}
-use Rattle.pm_action.proofs.laws.entries_perform_actions.Goals as goal
+use Rattle.pm_crash.proofs.Performed.{performs}
+use Rattle.pm_crash.proofs.actions.entries_perform_actions.Goals as goal
 
 pub returns-clause-pool : goal.returns-clause-pool
 returns-clause-pool c = λ w lanes zones header pool actions holds can. (performs w lanes zones header pool actions holds can).holds

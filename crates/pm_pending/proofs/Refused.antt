@@ -10,7 +10,7 @@ use Rattle.pm_objects.specs.declared.refusal.Refusal.TheVariants as refusal
 use Rattle.pm_model.specs.Actions.{Action, max_actions}
 use Rattle.pm_model.specs.Checks.{is_unaligned}
 use Rattle.pm_model.specs.Outside.{refusal_outside}
-use Rattle.pm_action.specs.Pending.{unhindered}
+use Rattle.pm_pending.specs.Pending.{unhindered}
 
 -- the checks that may fail, one of the place and one of room
 abbrev first_of : Bool → Bool → Option Refusal

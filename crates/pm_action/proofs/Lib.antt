@@ -1,3 +1,0 @@
-pub mod SetWords
-pub mod Performed
-pub mod Refused

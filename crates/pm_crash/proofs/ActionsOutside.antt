@@ -1,0 +1,240 @@
+-- The calls on pending actions outside of a transaction, each of one operation, are steps of the plain model.
+use Rattle.std.proofs.Common.{◌≡◌, ⊎_elim, inr, ℕ, ◌≤◌, ◌%◌, Bool, cond, true, false, not, eqb, leb, List, [], ◌∷◌, length, map, get_or, Option, Some, None, MatchOption, refl, sym, ◌∙◌, ap, subst, arith}
+use Rattle.std.specs.Prelude.{IsSome}
+use Rattle.std.specs.List.{find, list_any}
+use Rattle.std.specs.Option.{option_map}
+use Rattle.std.proofs.lemmas.Bool.{and_from, and_right, cases_Bool, le-leb}
+use Rattle.std.proofs.lemmas.List.{length-map}
+use Rattle.std.proofs.lemmas.List.Elements.{All-nil, Contains-get_or}
+use Rattle.pm_header.specs.declared.header.Header.{Header}
+use Rattle.pm_objects.specs.Pool.{object_at}
+use Rattle.pm_objects.specs.declared.calls.Operation.{Operation}
+use Rattle.pm_objects.specs.declared.calls.Operation.TheVariants.{SetValue, Publish, Cancel}
+use Rattle.pm_objects.specs.declared.calls.Want.{Want}
+use Rattle.pm_objects.specs.declared.history.Value.{Value}
+use Rattle.pm_objects.specs.declared.history.Value.TheVariants.{Refused}
+use Rattle.pm_objects.specs.declared.ids.Oid.{Oid}
+use Rattle.pm_objects.specs.declared.pool.PoolView.{PoolView}
+use Rattle.pm_objects.specs.declared.refusal.Refusal.{Refusal}
+use Rattle.pm_objects.specs.declared.refusal.Refusal.TheVariants as refusal
+use Rattle.pm_image.specs.Blocks.{blocks}
+use Rattle.pm_image.specs.Contents.{size_in}
+use Rattle.pm_model.specs.Actions.{Action, max_actions, object_of, passes_object, wants_for, with_actions}
+use Rattle.pm_model.specs.Answers.{changes_nothing}
+use Rattle.pm_model.specs.Checks.{Seen, is_unaligned}
+use Rattle.pm_model.specs.Outside.{AnswersOutside, AreNamed, IsDoneOutside, IsRefusedOutside, Outside, after_outside, has_no_room, names_missing, names_no_place, names_past_end, refusal_outside, stands_outside}
+use Rattle.pm_model.specs.Places.{has_place}
+use Rattle.pm_model.specs.Step.{State, with_pending}
+use Rattle.pm_model.specs.Transaction.{resting}
+use Rattle.pm_view.specs.Log.{Recorded}
+use Rattle.pm_view.specs.View.{View}
+use Rattle.pm_world.specs.History.{made_final}
+use Rattle.pm_world.specs.Records.{is_recorded}
+use Rattle.pm_crash.specs.Held.{HoldsPool}
+use Rattle.pm_crash.specs.OnActions.{ChangesPendingOutside, HoldsNamed, IsOutsideReason, PublishesOutside, RefusesOutside, set_refusal}
+use Rattle.pm_crash.specs.OpenCall.{IsBefore, IsWholeCall, call_words, made_words}
+use Rattle.pm_crash.specs.Pending.{pending_before, pending_behind, told_of}
+use Rattle.pm_crash.specs.Performing.{performed}
+use Rattle.pm_crash.proofs.Begun.{no_call_words, none_fails, wanted_has_place, wanted_is_there}
+use Rattle.pm_crash.proofs.CallWords.{made_unentered, object_found}
+use Rattle.pm_crash.proofs.NamedObjects.{all_perform, none_passes_end, one_passes_end, FindsObjects}
+use Rattle.pm_crash.proofs.PendingOn.{pending_first}
+use Rattle.pm_crash.proofs.Performed.{Performs, performs}
+
+-- ---- a call of one operation
+
+-- what the lane's call begins from
+abbrev outside_of : View → PoolView → Outside
+outside_of v pool = record { pool = pool; actions = pending_before v }
+
+-- the model answers so, and the words that the call makes hold what it leaves
+record GoesOutside (v : View) (w : ℕ → ℕ) (header : Header) (pool : PoolView) (op : Operation) (reply : Option Value) : Type 0 where
+  answers : AnswersOutside (outside_of v pool) op reply
+  holds : HoldsPool (made_words v w) v.lanes v.zones header (after_outside op reply (outside_of v pool)).pool
+  leaves : (after_outside op reply (outside_of v pool)).actions ≡ pending_behind op reply (pending_before v)
+
+goes_whole : (v : View) (op : Operation) (reply : Option Value) → v.call ≡ record { operation = op; reply = reply } ∷ [] → v.log.records ≡ []
+    → ((w : ℕ → ℕ) (header : Header) (pool : PoolView) → HoldsPool w v.lanes v.zones header pool → v.pool ≡ header.id → IsBefore v w → GoesOutside v w header pool op reply)
+    → IsWholeCall v
+goes_whole v op reply call no_records goes = record {
+  outside = λ i is. absurd (let clash : false ≡ true = sym (ap (λ (records : List Recorded). is_recorded records i) no_records) ∙ is in cc);
+  makes = λ w header pool holds id before.
+      let how : GoesOutside v w header pool op reply = goes w header pool holds id before in
+      let next : PoolView = (after_outside op reply (outside_of v pool)).pool in
+      record {
+        next = next;
+        holds = how.holds;
+        steps = λ actions own. inr (record {
+          operation = op;
+          reply = reply;
+          alone = ap (map told_of) call;
+          answers = how.answers;
+          leaves = record {
+            pending = own;
+            leaves = (λ j. let s : State = record { pool = next; actions = with_pending actions v.lane ((pending_first v (record { operation = op; reply = reply }) call ∙ sym how.leaves) j) } in s);
+          };
+        });
+      };
+}
+
+-- the first refusal, by what the checks say
+first_outside : Bool → Bool → Bool → Bool → Bool → Option Refusal
+first_outside unaligned no_place missing past_end full = option_map (λ (check : Refusal × Bool). check.0) (find (λ (check : Refusal × Bool). check.1)
+    ((refusal.Unaligned, unaligned) ∷ (refusal.NoObject, no_place) ∷ (refusal.NoObject, missing) ∷ (refusal.OutOfRange, past_end) ∷ (refusal.ActionsFull, full) ∷ []))
+
+-- what a lane saw that found an object or not
+abbrev found_missing : Bool → Seen
+found_missing missing = record { spent = false; busy = false; missing = missing }
+
+five_checks : (missing : Bool) (s : Outside) (op : Operation)
+    → refusal_outside (found_missing missing) s op ≡ first_outside (is_unaligned op) (names_no_place s op) (names_missing (found_missing missing) s op) (names_past_end s op) (has_no_room s op)
+unfolding refusal_outside first_outside
+five_checks missing s op = refl
+
+-- it answers what it has come to
+answers_outside : (s : Outside) (op : Operation) (reply : Option Value) (missing : Bool) → stands_outside op ≡ true → AreNamed s op → refusal_outside (found_missing missing) s op ≡ None → reply ≡ None
+    → AnswersOutside s op reply
+answers_outside s op reply missing known named none value = record {
+  known = known;
+  seen = found_missing missing;
+  answer = subst (λ (fr : Option Refusal). MatchOption fr (IsDoneOutside s op reply) (λ r. IsRefusedOutside r reply)) (sym none) (record { there = named; value = value });
+}
+
+refused_outside : (s : Outside) (op : Operation) (missing : Bool) (r : Refusal) → stands_outside op ≡ true → refusal_outside (found_missing missing) s op ≡ Some r → changes_nothing r ≡ false
+    → AnswersOutside s op (Some (Refused r))
+refused_outside s op missing r known first traced = record {
+  known = known;
+  seen = found_missing missing;
+  answer =
+      subst (λ (fr : Option Refusal). MatchOption fr (IsDoneOutside s op (Some (Refused r))) (λ (x : Refusal). IsRefusedOutside x (Some (Refused r)))) (sym first) (record { traced = traced; told = refl });
+}
+
+-- ---- on the pending actions alone
+
+-- the model answers so, and leaves the pool and what is pending
+record ChangesAlone (s : Outside) (op : Operation) (reply : Option Value) : Type 0 where
+  answers : AnswersOutside s op reply
+  leaves : after_outside op reply s ≡ record s { actions = pending_behind op reply s.actions }
+
+-- a set-value is refused by the two checks on it
+set_changes : (s : Outside) (id : Oid) (off value : ℕ) (reply : Option Value) → reply ≡ option_map Refused (set_refusal off s.actions) → ChangesAlone s (SetValue id off value) reply
+unfolding first_outside
+set_changes s id off value reply told = by_tests (not (eqb (off % 8) 0)) (leb max_actions (length s.actions)) (five_checks false s op) told where
+  op : Operation
+  op = SetValue id off value
+
+  by_tests : (unaligned full : Bool) → refusal_outside (found_missing false) s op ≡ first_outside unaligned false false false full
+      → reply ≡ option_map Refused (cond unaligned (Some refusal.Unaligned) (cond full (Some refusal.ActionsFull) None)) → ChangesAlone s op reply
+  by_tests true full first told = subst (ChangesAlone s op) (sym told) (record { answers = refused_outside s op false refusal.Unaligned refl first refl; leaves = refl })
+  by_tests false true first told = subst (ChangesAlone s op) (sym told) (record { answers = refused_outside s op false refusal.ActionsFull refl first refl; leaves = refl })
+  by_tests false false first told = subst (ChangesAlone s op) (sym told)
+      (record { answers = answers_outside s op None false refl (All-nil (λ (want : Want). IsSome (object_at s.pool.objects want.id.off))) first refl; leaves = refl })
+
+-- a cancel is not refused
+cancel_changes : (s : Outside) → ChangesAlone s Cancel None
+unfolding first_outside
+cancel_changes s = record {
+  answers = answers_outside s Cancel None false refl (All-nil (λ (want : Want). IsSome (object_at s.pool.objects want.id.off))) (five_checks false s Cancel) refl;
+  leaves = refl;
+}
+
+-- so it is a step, where the lane recorded and entered nothing
+changes_whole : (v : View) (op : Operation) (reply : Option Value) → v.call ≡ record { operation = op; reply = reply } ∷ [] → v.log.records ≡ [] → v.log.entries ≡ []
+    → ((w : ℕ → ℕ) (header : Header) (pool : PoolView) → HoldsPool w v.lanes v.zones header pool → v.pool ≡ header.id → IsBefore v w → ChangesAlone (outside_of v pool) op reply)
+    → IsWholeCall v
+changes_whole v op reply call no_records no_entries changes =
+    goes_whole v op reply call no_records
+    (λ w header pool holds id before.
+    let how : ChangesAlone (outside_of v pool) op reply = changes w header pool holds id before in
+    let same : made_words v w ≡ w = made_unentered v no_entries w ∙ no_call_words v no_records w in
+    record {
+      answers = how.answers;
+      holds =
+          subst (λ (s : Outside). HoldsPool (made_words v w) v.lanes v.zones header s.pool) (sym how.leaves) (subst (λ (f : ℕ → ℕ). HoldsPool f v.lanes v.zones header pool) (sym same) holds);
+      leaves = ap (λ (s : Outside). s.actions) how.leaves;
+    })
+
+pub change_is_step : (v : View) (op : Operation) (reply : Option Value) → ChangesPendingOutside v op reply → IsWholeCall v
+change_is_step v (SetValue id off value) reply changes =
+    changes_whole v (SetValue id off value) reply changes.call changes.no_records changes.no_entries (λ w header pool holds same_id before. set_changes (outside_of v pool) id off value reply changes.answer)
+change_is_step v Cancel reply changes =
+    changes_whole v Cancel reply changes.call changes.no_records changes.no_entries (λ w header pool holds same_id before. subst (ChangesAlone (outside_of v pool) Cancel) (sym changes.answer) (cancel_changes (outside_of v pool)))
+change_is_step v op reply changes = absurd changes.answer
+
+-- ---- a publish
+
+module _ (v : View) (w : ℕ → ℕ) (header : Header) (pool : PoolView) (no_records : v.log.records ≡ []) (named : HoldsNamed v) (holds : HoldsPool w v.lanes v.zones header pool) (before : IsBefore v w) where
+  -- the lane finds each object that it holds among the pool's
+  finds_named : FindsObjects v w (resting pool [])
+  finds_named =
+      let same : call_words v w ≡ w = no_call_words v no_records w in
+      record {
+        under = λ id write.
+            object_found v w header (resting pool []) id write named.in_lanes named.takes.chunks before (subst (λ (f : ℕ → ℕ). HoldsPool f v.lanes v.zones header pool) (sym same) holds)
+            (ap (λ (f : ℕ → ℕ). blocks f v.lanes v.zones) same);
+        sizes = λ block there. ap (λ (f : ℕ → ℕ). size_in f block) same;
+      }
+
+  -- what the actions name has a place, and is there
+  named_have_places : v.pool ≡ header.id → names_no_place (outside_of v pool) Publish ≡ false
+  named_have_places id =
+      none_fails (λ (want : Want). has_place pool want.id) (wants_for (pending_before v)) (λ want there. wanted_has_place v w header pool want holds id (named.takes.wanted want there))
+
+  named_are_there : AreNamed (outside_of v pool) Publish
+  named_are_there k d inside =
+      let wants : List Want = wants_for (pending_before v) in
+      wanted_is_there v w header pool (get_or wants k d) holds before (named.takes.wanted (get_or wants k d) (Contains-get_or wants k d inside))
+
+  -- so a publish is refused at most for an end that is passed
+  by_ends : (past : Bool) → v.pool ≡ header.id → list_any (passes_object pool.objects) (pending_before v) ≡ past → refusal_outside (found_missing false) (outside_of v pool) Publish ≡ first_outside false false false past false
+  by_ends past id ends =
+      five_checks false (outside_of v pool) Publish
+      ∙ (λ j. first_outside false (named_have_places id j) (and_right (leb 1 (length (wants_for (pending_before v)))) false refl j) (ends j) false)
+
+pub publish_is_step : (v : View) → PublishesOutside v → IsWholeCall v
+unfolding first_outside
+publish_is_step v publishes =
+    goes_whole v Publish None publishes.call publishes.no_records
+    (λ w header pool holds id before.
+    let actions : List Action = pending_before v in
+    let finds : FindsObjects v w (resting pool []) = finds_named v w header pool publishes.no_records publishes.holds holds before in
+    let passes : refusal_outside (found_missing false) (outside_of v pool) Publish ≡ None =
+    by_ends v w header pool publishes.no_records publishes.holds holds before false id (none_passes_end v w (resting pool []) finds actions publishes.each) in
+    let same : made_words v w ≡ performed actions w = (λ j i. made_final (publishes.entries j) i (no_call_words v publishes.no_records w j i)) in
+    let performs_all : Performs w v.lanes v.zones header pool actions = performs w v.lanes v.zones header pool actions holds (all_perform v w (resting pool []) finds actions publishes.each) in
+    record {
+      answers = answers_outside (outside_of v pool) Publish None false refl (named_are_there v w header pool publishes.no_records publishes.holds holds before) passes refl;
+      holds = subst (λ (f : ℕ → ℕ). HoldsPool f v.lanes v.zones header (with_actions actions pool)) (sym same) performs_all.holds;
+      leaves = refl;
+    })
+
+-- ---- a publish that is refused
+
+-- where an action is pending, an object may be missing: one has no place, or is not there
+missing_answers : (s : Outside) → 1 ≤ length s.actions → AnswersOutside s Publish (Some (Refused refusal.NoObject))
+unfolding first_outside
+missing_answers s some = ⊎_elim
+    (λ (lacks : names_no_place s Publish ≡ true).
+    refused_outside s Publish false refusal.NoObject refl
+    (five_checks false s Publish ∙ (λ j. first_outside false (lacks j) (names_missing (found_missing false) s Publish) (names_past_end s Publish) false)) refl)
+    (λ (placed : names_no_place s Publish ≡ false).
+    let long = length-map s.actions (λ (a : Action). let want : Want = record { id = object_of a; write = true } in want) in
+    let named : names_missing (found_missing true) s Publish ≡ true = and_from (leb 1 (length (wants_for s.actions))) true (le-leb 1 (length (wants_for s.actions)) (omega (arith, long, some))) refl in
+    refused_outside s Publish true refusal.NoObject refl
+    (five_checks true s Publish ∙ (λ j. first_outside false (placed j) (named j) (names_past_end s Publish) false)) refl)
+    (cases_Bool (names_no_place s Publish))
+
+outside_refused : (v : View) (r : Refusal) (w : ℕ → ℕ) (header : Header) (pool : PoolView) → v.log.records ≡ [] → IsOutsideReason v r → HoldsPool w v.lanes v.zones header pool → v.pool ≡ header.id → IsBefore v w
+    → AnswersOutside (outside_of v pool) Publish (Some (Refused r))
+unfolding first_outside
+outside_refused v refusal.NoObject w header pool no_records reason holds id before = missing_answers (outside_of v pool) reason
+outside_refused v refusal.OutOfRange w header pool no_records reason holds id before =
+    let finds : FindsObjects v w (resting pool []) = finds_named v w header pool no_records reason.0 holds before in
+    refused_outside (outside_of v pool) Publish false refusal.OutOfRange refl
+    (by_ends v w header pool no_records reason.0 holds before true id (one_passes_end v w (resting pool []) finds (pending_before v) reason.1)) refl
+outside_refused v r w header pool no_records reason holds id before = absurd reason
+
+pub refused_publish_is_step : (v : View) (r : Refusal) → RefusesOutside v r → IsWholeCall v
+refused_publish_is_step v r refuses =
+    changes_whole v Publish (Some (Refused r)) refuses.call refuses.no_records refuses.no_entries
+    (λ w header pool holds id before. record { answers = outside_refused v r w header pool refuses.no_records refuses.reason holds id before; leaves = refl })

@@ -1,0 +1,106 @@
+-- What a lane's view shows of a call on pending actions, inside of a transaction and outside.
+use Rattle.std.specs.Prelude.{◌≡◌, ℕ, ◌+◌, ◌%◌, ◌==◌, ◌<◌, ◌≤◌, not, nat_le, true, All, if◌then◌else◌, List, [], ◌∷◌, length, map, option_map, Option, Some, None}
+use Rattle.std.specs.List.{Any}
+use Rattle.pm_objects.specs.declared.calls.Operation.{Operation}
+use Rattle.pm_objects.specs.declared.calls.Operation.TheVariants.{SetValue, Publish, Cancel}
+use Rattle.pm_objects.specs.declared.history.Value.{Value}
+use Rattle.pm_objects.specs.declared.history.Value.TheVariants.{Refused}
+use Rattle.pm_objects.specs.declared.refusal.Refusal.{Refusal}
+use Rattle.pm_objects.specs.declared.refusal.Refusal.TheVariants as refusal
+use Rattle.pm_model.specs.Actions.{Action, max_actions, max_entries, object_of, wants_for}
+use Rattle.pm_model.specs.Actions.Action.{SetWord}
+use Rattle.pm_view.specs.View.{View}
+use Rattle.pm_world.specs.Records.{pool_entries}
+use Rattle.pm_crash.specs.Operations.{HasRange, IsHeld, IsNotHeld, KeepsLog, KeepsWords, PassesEnd, TakesBack, TakesWanted, Tells}
+use Rattle.pm_crash.specs.Pending.{pending_before, pending_in, published_in}
+use Rattle.pm_crash.specs.Performing.{IsWord, entry_for}
+
+-- ---- what is asked of the actions alone
+
+-- why a set-value at an offset is refused, if it is, where these actions are pending: it is at no multiple of eight bytes, or there is no
+-- room for one more
+abbrev pub set_refusal : ℕ → List Action → Option Refusal
+set_refusal off actions = if not (off % 8 == 0) then Some refusal.Unaligned else if nat_le max_actions (length actions) then Some refusal.ActionsFull else None
+
+-- what a call on the pending actions alone answers, whatever the pool
+abbrev pub IsPendingAnswer : List Action → Operation → Option Value → Type 0
+IsPendingAnswer actions (SetValue id off value) reply = reply ≡ option_map Refused (set_refusal off actions)
+IsPendingAnswer actions Cancel reply = reply ≡ None
+IsPendingAnswer actions op reply = ⊥
+
+-- ---- in a transaction
+
+-- the lane told such a call, and did nothing else
+pub record ChangesPending (v next : View) (op : Operation) (reply : Option Value) : Type 0 where
+  pub tells : Tells v next op reply
+  pub logs : KeepsLog v next
+  pub words : KeepsWords v next
+  pub answer : IsPendingAnswer (pending_in v) op reply
+
+-- the lane holds the action's object for writing, and what it sets is a word of that object
+abbrev pub CanSet : View → Action → Type 0
+CanSet v (SetWord id off value) = HasRange v id off 8 true × IsWord (SetWord id off value)
+
+-- it holds the object, and the action passes its end
+abbrev pub PassesObject : View → Action → Type 0
+PassesObject v (SetWord id off value) = PassesEnd v id off 8 true
+
+-- so many entries the transaction would have with all that is pending, that of its lane's generation among them
+abbrev pub entries_wanted : View → ℕ
+entries_wanted v = length (published_in v) + length (pending_in v) + 1
+
+-- what is pending can be published, the lane told so, and did nothing else
+pub record MovesActions (v next : View) : Type 0 where
+  pub tells : Tells v next Publish None
+  pub logs : KeepsLog v next
+  pub words : KeepsWords v next
+  pub each : All (CanSet v) (pending_in v)
+  pub room : entries_wanted v ≤ max_entries
+
+-- why a publish in a transaction is refused: the first of these that holds of all that is pending
+abbrev pub IsPublishReason : View → Refusal → Type 0
+IsPublishReason v refusal.NotLocked = Any (λ (a : Action). IsNotHeld v (object_of a) true) (pending_in v)
+IsPublishReason v refusal.OutOfRange = All (λ (a : Action). IsHeld v (object_of a) true) (pending_in v) × Any (PassesObject v) (pending_in v)
+IsPublishReason v refusal.ActionsFull = All (CanSet v) (pending_in v) × (max_entries < entries_wanted v)
+IsPublishReason v r = ⊥
+
+-- the lane refused a publish, took back what the call did, and told so
+pub record RefusesPublish (v next : View) (r : Refusal) : Type 0 where
+  pub reason : IsPublishReason v r
+  pub tells : Tells v next Publish (Some (Refused r))
+  pub takes_back : TakesBack v next
+
+-- ---- outside of a transaction
+
+-- a call on the pending actions alone is told, and is all of the call
+pub record ChangesPendingOutside (v : View) (op : Operation) (reply : Option Value) : Type 0 where
+  pub call : v.call ≡ record { operation = op; reply = reply } ∷ []
+  pub no_records : v.log.records ≡ []
+  pub no_entries : v.log.entries ≡ []
+  pub answer : IsPendingAnswer (pending_before v) op reply
+
+-- the lane holds the objects of all pending actions, and found each
+pub record HoldsNamed (v : View) : Type 0 where
+  pub in_lanes : v.lane < v.lanes
+  pub takes : TakesWanted v [] (wants_for (pending_before v))
+
+-- what is pending is published: the lane has an entry for each action, in their order
+pub record PublishesOutside (v : View) : Type 0 where
+  pub call : v.call ≡ record { operation = Publish; reply = None } ∷ []
+  pub no_records : v.log.records ≡ []
+  pub holds : HoldsNamed v
+  pub each : All (CanSet v) (pending_before v)
+  pub entries : pool_entries v ≡ map entry_for (pending_before v)
+
+-- why a publish outside is refused: an object is missing, which the model allows wherever an action names one; or an action passes its end
+abbrev pub IsOutsideReason : View → Refusal → Type 0
+IsOutsideReason v refusal.NoObject = 1 ≤ length (pending_before v)
+IsOutsideReason v refusal.OutOfRange = HoldsNamed v × Any (PassesObject v) (pending_before v)
+IsOutsideReason v r = ⊥
+
+-- the lane refused to publish what is pending, and told so
+pub record RefusesOutside (v : View) (r : Refusal) : Type 0 where
+  pub call : v.call ≡ record { operation = Publish; reply = Some (Refused r) } ∷ []
+  pub no_records : v.log.records ≡ []
+  pub no_entries : v.log.entries ≡ []
+  pub reason : IsOutsideReason v r
