@@ -46,6 +46,9 @@ use Rattle.pm_tx.proofs.Fronts.{front_undrawn}
 use Rattle.pm_tx.specs.Ending.{DrawEnded}
 use Rattle.pm_tx.specs.AtWork.{IsAtWork}
 use Rattle.pm_tx.specs.Ranges.{CanAdd, HasAddedRange, StopsUndrawn, adds_range}
+use Rattle.pm_crash.proofs.PendingOn.{published_once_more}
+use Rattle.pm_crash.specs.Pending.{published_in}
+use Rattle.std.proofs.lemmas.List.{append-nil}
 
 -- a word in the list is known
 pub listed_is_known : (v : View) (u : ℕ) → Contains v.known u → is_known v u ≡ true
@@ -117,7 +120,7 @@ module _ {M : Type 0} (o : Opening) (at : M → View → Type 0) (lane : Lane M)
           let call = made.1.stays.call in
           record {
             tells = record {
-              keeps = record { lanes = call.lane.lanes; zones = call.lane.zones; pool = call.lane.pool; lane = call.lane.lane; known = call.remembers };
+              keeps = record { lanes = call.lane.lanes; zones = call.lane.zones; pool = call.lane.pool; lane = call.lane.lane; entries = call.entries; known = call.remembers };
               locks = call.locks;
               call = ap (λ (told : List Told). told ++ record { operation = AddRange id off len; reply = None } ∷ []) call.call;
             };
@@ -171,6 +174,7 @@ module _ {M : Type 0} (o : Opening) (at : M → View → Type 0) (lane : Lane M)
           opening
           (tell_works u (AddRange id off len) None made.1.working)
           (made.1.entries ∙ work.no_entries)
+          (published_once_more v w (AddRange id off len) None added.tells.keeps.entries added.tells.call ∙ append-nil (published_in v))
           (add_keeps_open v w id off len lane.level work.level work.is_open added) in
           record {
             ready = add_may_be_made;

@@ -49,7 +49,7 @@ member_cases w wants want (zero, low, is) = inl is
 member_cases w wants want (suc k, low, is) = inr (k, omega (arith, low), is)
 
 -- and what is wanted is locked
-wanted_locked : (wants : List Want) (locks : List Locked) (want : Want) → Contains wants want → is_locked (locked_all wants locks) want.id.off want.write ≡ true
+pub wanted_locked : (wants : List Want) (locks : List Locked) (want : Want) → Contains wants want → is_locked (locked_all wants locks) want.id.off want.write ≡ true
 unfolding locked_all
 wanted_locked [] locks want there = absurd (let low = there.1 in omega (arith, low))
 wanted_locked (w ∷ wants) locks want there =
@@ -76,7 +76,7 @@ locked_wanted (w ∷ wants) locks off is =
     (locked_wanted wants (locked w.id.off w.write locks) off is)
 
 -- a lock of an object is of the line before it
-locked_by : (locks : List Lock) (off : ℕ) (write : Bool) → is_locked (map model_lock locks) off write ≡ list_any (λ (l : Lock). eqb (64 * l.line + 64) off && (l.write || not write)) locks
+pub locked_by : (locks : List Lock) (off : ℕ) (write : Bool) → is_locked (map model_lock locks) off write ≡ list_any (λ (l : Lock). eqb (64 * l.line + 64) off && (l.write || not write)) locks
 locked_by [] off write = refl
 locked_by (l ∷ locks) off write = ap (λ b. (eqb (64 * l.line + 64) off && (l.write || not write)) || b) (locked_by locks off write)
 
@@ -93,10 +93,10 @@ found_chunk lanes words line lines found = ⊎_elim
     (cases_Bool (is_chunk lanes (line / 64)))
 
 module _ (pool : ℕ) (v : View) (wants : List Want) (plan : List HeldLock) (of_pool : v.pool ≡ pool) (is : IsPlan pool v.lanes v.zones wants plan) (models : locks_of v ≡ model_locks plan) where
-  same_locks : AreSameLocks (locks_of v) (locked_all wants [])
+  pub same_locks : AreSameLocks (locks_of v) (locked_all wants [])
   same_locks = subst (λ (locks : List Locked). AreSameLocks locks (locked_all wants [])) (sym models) is.same
 
-  count : length v.locks ≡ length plan
+  pub count : length v.locks ≡ length plan
   count = sym (length-map v.locks model_lock) ∙ ap length models ∙ model_length plan
 
   pub takes_wanted : FindsObjects v → (o : Opening) → FindsOpening o v → TakesWanted v [] wants
@@ -176,7 +176,7 @@ module _ (pool lanes zones : ℕ) (v : View) (wants : List Want) (of_pool : v.po
   )
 
   -- a want without an object's form lacks an object
-  form_lacks : IsTrue (list_any (λ (want : Want). not (has_form pool lanes zones want)) wants) → Any (LacksObject v) wants
+  pub form_lacks : IsTrue (list_any (λ (want : Want). not (has_form pool lanes zones want)) wants) → Any (LacksObject v) wants
   form_lacks lack =
       let t = Any-from_list_any (λ (want : Want). not (is_placed v want)) wants (by_view (λ p n z. IsTrue (list_any (λ (want : Want). not (has_form p n z want)) wants)) lack) in
       (t.0, t.1, t.2, t.3, inl (not-true (is_placed v t.1) t.4))

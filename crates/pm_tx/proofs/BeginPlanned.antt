@@ -101,22 +101,22 @@ taken_lines at lane v plan t = ap (map (λ (l : Lock). l.line)) t.locks_are ∙ 
 
 module _ {M : Type 0} (at : M → View → Type 0) (old mid lane : Lane M) (wants : List Want) (plan : List HeldLock) (is : IsPlan old.pool old.shape.lanes old.shape.zones wants plan) (pool : lane.pool ≡ old.pool) (shape : lane.shape ≡ old.shape) (v : View)
     (t : HasTaken at mid v (map lock_of (map unfound plan))) (all : Bool) (f : HasFound at lane t.view all) where
-  of_pool : f.view.pool ≡ old.pool
+  pub of_pool : f.view.pool ≡ old.pool
   of_pool = f.begun.seen.pool ∙ pool
 
-  plan_so : IsPlan old.pool f.view.lanes f.view.zones wants plan
+  pub plan_so : IsPlan old.pool f.view.lanes f.view.zones wants plan
   plan_so =
       let lanes = f.begun.seen.shape.lanes ∙ ap (λ (s : Shape). s.lanes) shape in
       let zones = f.begun.seen.shape.zones ∙ ap (λ (s : Shape). s.zones) shape in
       subst (λ n. IsPlan old.pool n f.view.zones wants plan) (sym lanes) (subst (λ z. IsPlan old.pool old.shape.lanes z wants plan) (sym zones) is)
 
-  models : locks_of f.view ≡ model_locks plan
+  pub models : locks_of f.view ≡ model_locks plan
   models = f.locks ∙ ap (map model_lock) t.locks_are ∙ plan_models plan
 
-  led : IsLed v f.view
+  pub led : IsLed v f.view
   led = led_then v t.view f.view t.led f.led
 
-  entries : f.view.entries ≡ v.entries
+  pub entries : f.view.entries ≡ v.entries
   entries = f.entries ∙ t.entries
 
   -- there is no object under one of them

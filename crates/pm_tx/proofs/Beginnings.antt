@@ -37,15 +37,17 @@ use Rattle.pm_tx.specs.Ending.{DrawEnded, IsAfterCall, IsOver, IsReadyForAny, Is
 use Rattle.pm_tx.specs.Sequences.{ends_call}
 use Rattle.pm_tx.proofs.Leads.{ready_led}
 use Rattle.pm_tx.proofs.GivenUp.{after_over, end_is_over, end_ready, place_at_work}
+use Rattle.pm_crash.proofs.PendingOn.{published_first}
+use Rattle.pm_tx.proofs.GoingOn.{lists_none}
 
 module _ {M : Type 0} (at : M → View → Type 0) (lane : Lane M) (v : View) (is : IsBegun at lane v) where
-  no_records : v.log.records ≡ []
+  pub no_records : v.log.records ≡ []
   no_records = ap (λ (log : Log). log.records) is.log
 
   none_recorded : (slot : ℕ) (r : Recorded) → IsRecordAt v slot r → ⊥
   none_recorded slot r there = none-some r (subst (λ (records : List Recorded). slice_get records slot ≡ Some r) no_records there)
 
-  works : IsWorking v
+  pub works : IsWorking v
   works = record {
     is_open = ap (λ (log : Log). log.phase) is.log;
     undrawn = is.undrawn;
@@ -62,7 +64,7 @@ module _ {M : Type 0} (at : M → View → Type 0) (lane : Lane M) (v : View) (i
   }
 
   -- there is nothing to be taken back
-  taken : IsTakenBack v v
+  pub taken : IsTakenBack v v
   taken = record {
     call = same_call v;
     log = is.log;
@@ -75,7 +77,7 @@ module _ {M : Type 0} (at : M → View → Type 0) (lane : Lane M) (v : View) (i
     };
   }
 
-  no_spans : lane.records.items ≡ []
+  pub no_spans : lane.records.items ≡ []
   no_spans = is.seen.records ∙ ap (map span_of) no_records
 
   pub may_tell : MayTell v.log.phase
@@ -106,6 +108,8 @@ module _ {M : Type 0} (at : M → View → Type 0) (lane : Lane M) (v : View) (i
         opening = record { lane = finds.lane; lanes = finds.lanes; size = finds.size; descriptors = finds.descriptors; locks = finds.locks };
         working = tell_works v (Begin wants) None works;
         no_entries = ap (λ (log : Log). log.entries) is.log;
+        published = lists_none (record lane { memory = memory; level = 1; stage = stage.Work }) next is.unlisted
+            (published_first next (record { operation = Begin wants; reply = None }) (ap (λ (told : List Told). told ++ record { operation = Begin wants; reply = None } ∷ []) is.untold));
         is_open = begin_opens next wants (record {
           call = ap (λ (told : List Told). told ++ record { operation = Begin wants; reply = None } ∷ []) is.untold;
           no_records = no_records;
@@ -140,11 +144,11 @@ module _ {M : Type 0} (at : M → View → Type 0) (lane : Lane M) (v : View) (i
     ends_ready = end_ready v v works is.may_come taken (Begin wants) (Some (Refused r)) n
 
     -- once it has drawn its number, the lane's call is over
-    refused_after : (new : Lane M) → new.last ≡ n → IsMade (at lane.memory) (at new.memory) (ends_call (Begin wants) (Some (Refused r)) n) → new.locks.items ≡ lane.locks.items → new.records.items ≡ lane.records.items
+    refused_after : (new : Lane M) → new.last ≡ n → IsMade (at lane.memory) (at new.memory) (ends_call (Begin wants) (Some (Refused r)) n) → new.locks.items ≡ lane.locks.items → new.records.items ≡ lane.records.items → new.entries ≡ lane.entries
         → new.drawn ≡ Some new.last → IsOfSamePool lane new → new.stopped ≡ lane.stopped → IsAfterCall at new mid
     unfolding Runs
-    refused_after new last made locks records drawn pool stops =
-        after_over at lane new v mid is.seen is.lines (made v is.seen.memory ends_ready) (subst (IsOver v mid) (sym last) over) locks (records ∙ no_spans) drawn pool (stops ∙ is.unstopped) (place_at_work v works)
+    refused_after new last made locks records listed drawn pool stops =
+        after_over at lane new v mid is.seen is.lines (made v is.seen.memory ends_ready) (subst (IsOver v mid) (sym last) over) locks (records ∙ no_spans) (ap (λ es. es.items) listed ∙ is.unlisted) drawn pool (stops ∙ is.unstopped) (place_at_work v works)
 
     told_so : v.call ++ record { operation = Begin wants; reply = Some (Refused r) } ∷ [] ≡ record { operation = Begin wants; reply = Some (Refused r) } ∷ []
     told_so = ap (λ (told : List Told). told ++ record { operation = Begin wants; reply = Some (Refused r) } ∷ []) is.untold
@@ -184,13 +188,13 @@ module _ {M : Type 0} (at : M → View → Type 0) (lane : Lane M) (v : View) (i
 
     -- a begin that was refused
     pub refused : IsBeginReason v 0 [] wants r → (new : Lane M) → new.last ≡ n → IsMade (at lane.memory) (at new.memory) (ends_call (Begin wants) (Some (Refused r)) n) → new.locks.items ≡ lane.locks.items
-        → new.records.items ≡ lane.records.items → new.drawn ≡ Some new.last → IsOfSamePool lane new → new.stopped ≡ lane.stopped → IsRefusedAtOnce at new v wants r
-    refused reason new last made locks records drawn pool stops = record {
+        → new.records.items ≡ lane.records.items → new.entries ≡ lane.entries → new.drawn ≡ Some new.last → IsOfSamePool lane new → new.stopped ≡ lane.stopped → IsRefusedAtOnce at new v wants r
+    refused reason new last made locks records listed drawn pool stops = record {
       refused = record {
         view = mid;
         led = ready_led v ends ends_ready (ends_drawn reason) ends_uncounted;
         same = over.lane;
-        over = refused_after new last made locks records drawn pool stops;
+        over = refused_after new last made locks records listed drawn pool stops;
         number = over.number ∙ ap Some (sym last);
         call = mid_call;
         entries = mid_entries ∙ ap (λ k. v.entries ++ record { number = k; call = mid.call } ∷ []) (sym last);

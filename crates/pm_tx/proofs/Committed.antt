@@ -1,9 +1,19 @@
 -- A call at work may be committed, and then it is over.
-use Rattle.std.proofs.Common.{◌≡◌, ◌⊎◌, ⊎_elim, take, append_assoc, ℕ, ◌+◌, ◌-◌, ◌≤◌, inl, inr, true, List, [], ◌∷◌, ◌++◌, map, length, slice_index, Err, None, Ok, OnErr, Result, Some, refl, sym, ap, ◌∙◌, subst, arith}
+use Rattle.std.proofs.Common.{◌≡◌, ◌⊎◌, ⊎_elim, not, take, append_assoc, ℕ, ◌+◌, ◌-◌, ◌≤◌, inl, inr, true, All, List, [], ◌∷◌, ◌++◌, map, length, slice_index, Err, None, Ok, OnErr, Result, Some, refl, sym, ap, ◌∙◌, subst, arith}
+use Rattle.std.specs.List.{filter}
+use Rattle.std.proofs.lemmas.List.Elements.{All-weaker}
 use Rattle.pm_crash.proofs.Committed.{commit_is_whole}
 use Rattle.pm_crash.proofs.Levels.{inner_commit_keeps_open}
 use Rattle.pm_crash.specs.OpenCall.{IsOpen}
-use Rattle.pm_crash.specs.Operations.{KeepsLog, KeepsWords, Tells}
+use Rattle.pm_crash.specs.Operations.{Tells}
+use Rattle.pm_crash.specs.Performing.{entry_for}
+use Rattle.pm_crash.proofs.Staying.{open_stays}
+use Rattle.pm_model.specs.Actions.{Action}
+use Rattle.pm_model.specs.Actions.Action.{SetWord}
+use Rattle.pm_pending.specs.Pending.{entry_of}
+use Rattle.pm_record.specs.declared.redo.Redo.{Redo}
+use Rattle.pm_redo.proofs.Whole.{of_pool_kept}
+use Rattle.pm_redo.specs.Entering.{IsOfPool, final_of}
 use Rattle.pm_memory.specs.Runs.{Made}
 use Rattle.pm_model.specs.declared.stage.Stage.TheVariants as model_stage
 use Rattle.pm_objects.specs.declared.calls.Operation.TheVariants.{Commit}
@@ -19,13 +29,14 @@ use Rattle.pm_undo.specs.Working.{HasArea, IsRetired, IsSameCall, IsSettled, IsW
 use Rattle.pm_view.proofs.SameLane.{same_lane-then}
 use Rattle.pm_view.proofs.Sequences.{after_all-append}
 use Rattle.pm_view.specs.Constants.{IsSameLane}
-use Rattle.pm_view.specs.Log.{Log, Phase, Recorded, log_drawn}
+use Rattle.pm_view.specs.Area.{is_in_area}
+use Rattle.pm_view.specs.Log.{Final, Log, Phase, Recorded, log_drawn}
 use Rattle.pm_view.specs.Log.Phase.{Idle, Open}
 use Rattle.pm_view.specs.Steps.{Step}
 use Rattle.pm_view.specs.Steps.Step.{Draw, NumberSeen, Tell}
 use Rattle.pm_view.specs.View.{Numbered, Told, View}
 use Rattle.pm_view.specs.Views.{after, after_all}
-use Rattle.pm_world.proofs.Sequencing.{ready_both}
+use Rattle.pm_world.proofs.Sequencing.{ready_both, ready_left}
 use Rattle.pm_world.specs.Lanes.{last_number_of, span_of}
 use Rattle.pm_world.specs.Lawful.{MayDraw, MayTell}
 use Rattle.pm_world.specs.Opening.{Opening}
@@ -35,17 +46,45 @@ use Rattle.pm_world.specs.declared.lane.Span.{Span}
 use Rattle.pm_world.specs.declared.lane.Stage.TheVariants as stage
 use Rattle.pm_world.proofs.Shapes.{IsOfSamePool}
 use Rattle.pm_tx.specs.AtWork.{IsAtWork, MayCome}
-use Rattle.pm_tx.specs.Ending.{DrawEnded, IsDecidable, IsDrawnOrNot, IsEndedBy, IsOver, IsStoppedIn, StopsDrawn, drawn_more, drawn_view, told_more}
-use Rattle.pm_tx.proofs.Fronts.{HasDrawnNone, HasStayedDrawn, front_drawn, front_undrawn, stopped_left, stopped_right}
+use Rattle.pm_tx.specs.Ending.{CanDecide, DrawEnded, IsDecidable, IsDrawnBy, IsEndedBy, IsOver, IsStoppedIn, IsUndrawn, StopsDrawn, decided_view, drawn_more, drawn_view, told_more}
+use Rattle.pm_tx.specs.Publishing.{IsWholeOnceLogged, MayPublish, published_view}
+use Rattle.pm_tx.proofs.Fronts.{front_drawn, front_undrawn, stopped_left, stopped_right}
+use Rattle.pm_tx.proofs.Published.{performing_drawn, publish_drawn, publish_last, publish_lawful, written}
 use Rattle.pm_memory.specs.Runs.{Stops}
-use Rattle.pm_tx.specs.Sequences.{commits, decides, ends_call, retires_any}
+use Rattle.pm_tx.specs.Sequences.{commits, completes, decides, decides_all, ends_call, logs_listed, performs_logged, publishes, retires_any}
 use Rattle.pm_tx.proofs.Drawless.{drawless, drawn_in_turn}
-use Rattle.pm_tx.proofs.GivenUp.{IsLast, after_over, last_behind, place_at_work, undrawn_lane}
+use Rattle.pm_tx.proofs.GivenUp.{after_over, last_behind, place_at_work, undrawn_lane}
+use Rattle.pm_crash.proofs.PendingOn.{published_once_more, published_same}
+use Rattle.pm_crash.specs.Pending.{published_in}
+use Rattle.std.proofs.lemmas.List.{append-nil}
+use Rattle.pm_tx.proofs.GoingOn.{lists_on}
+use Rattle.pm_view.proofs.SameLane.{same_lane-after}
 
--- the steps of a commit, in its parts
-commits_in_parts : (v : View) (spans : List Span) (n : ℕ) → commits spans n v ≡ (settles v ++ ends_call Commit None n (after_all v (settles v))) ++ retires_any spans (drawn_view v n)
-unfolding commits decides in_turn
-commits_in_parts v spans n = sym (append_assoc (settles v) (ends_call Commit None n (after_all v (settles v))) (retires_any spans (drawn_view v n)))
+-- what entries make final that stand for actions
+pub finals_for : (actions : List Action) → map final_of (map entry_of actions) ≡ map entry_for actions
+finals_for [] = refl
+finals_for (SetWord id off value ∷ actions) = ap (λ (fs : List Final). entry_for (SetWord id off value) ∷ fs) (finals_for actions)
+
+-- a call that logged what it published is whole once its commit is told
+whole_once_logged : (v : View) → IsOpen v 1 model_stage.Work error.None → (entries : List Redo) → entries ≡ map entry_of (published_in v) → IsWholeOnceLogged v entries Commit
+whole_once_logged v is_open entries listed next t =
+    commit_is_whole v next is_open (record { tells = t.tells; records = t.records; words = t.words; entries = t.logged ∙ (ap (map final_of) listed ∙ finals_for (published_in v)) })
+
+-- the steps of deciding a call, in their parts
+decides_in_parts : (m : View) (spans : List Span) (entries : List Redo) (n : ℕ) → decides_all spans entries n m
+    ≡ logs_listed entries m ++ (ends_call Commit None n (after_all m (logs_listed entries m)) ++ completes spans entries (decided_view m entries n))
+unfolding decides_all decides publishes logs_listed completes in_turn nothing after_all
+decides_in_parts m spans [] n = refl
+decides_in_parts m spans (e ∷ entries) n = refl
+
+-- from the view where all is persistent the call may be decided, and this is what that leaves of the view before
+record IsDeciding (v m : View) (spans : List Span) (entries : List Redo) (n : ℕ) : Type 0 where
+  ready : Ready m (decides_all spans entries n m)
+  over : IsOver v (after_all m (decides_all spans entries n m)) n
+  last : IsDrawnBy v (after_all m (decides_all spans entries n m)) Commit None n
+  draws : DrawEnded m (decides_all spans entries n m)
+  still : (after_all m (logs_listed entries m)).entries ≡ m.entries
+  behind : (k : ℕ) → IsDrawnBy v (after_all (decided_view m entries n) (take k (completes spans entries (decided_view m entries n)))) Commit None n
 
 module _ (v m : View) (working : IsWorking v) (no_entries : v.log.entries ≡ []) (may : MayCome v) (settled : IsSettled v m) where
   call : IsSameCall v m
@@ -82,20 +121,28 @@ module _ (v m : View) (working : IsWorking v) (no_entries : v.log.entries ≡ []
   tells =
       let lane = call.lane in
       record {
-        keeps = record { lanes = lane.lanes; zones = lane.zones; pool = lane.pool; lane = lane.lane; known = call.remembers };
+        keeps = record { lanes = lane.lanes; zones = lane.zones; pool = lane.pool; lane = lane.lane; entries = call.entries; known = call.remembers };
         locks = call.locks;
         call = ap (λ (told : List Told). told ++ record { operation = Commit; reply = None } ∷ []) call.call;
       }
 
-  keeps_log : KeepsLog v told
-  keeps_log = record { records = ap (λ (l : Log). l.records) log; entries = ap (λ (l : Log). l.entries) log }
-
-  keeps_words : KeepsWords v told
-  keeps_words = record { words = λ i outside. ap (λ (u : View). slice_index u.words i) settled }
-
-  end_drawn : IsOpen v 1 model_stage.Work error.None → (n : ℕ) → DrawEnded m (ends_call Commit None n m)
+  -- a call that published nothing needs no entry
+  end_drawn : IsOpen v 1 model_stage.Work error.None → published_in v ≡ [] → (n : ℕ) → DrawEnded m (ends_call Commit None n m)
   unfolding ends_call in_turn one DrawEnded after_all
-  end_drawn is_open n = (tt, (inl (commit_is_whole v told is_open tells keeps_log keeps_words), tt))
+  end_drawn is_open nothing_published n = (
+    tt,
+    (
+      inl (commit_is_whole v told is_open (record {
+        tells = tells;
+        records = ap (λ (l : Log). l.records) log;
+        words = record { words = λ i outside. ap (λ (u : View). slice_index u.words i) settled };
+        entries =
+            ap (λ (l : Log). filter (λ (f : Final). not (is_in_area m.lane f.word)) l.entries) log
+            ∙ (ap (filter (λ (f : Final). not (is_in_area m.lane f.word))) no_entries ∙ sym (ap (map entry_for) nothing_published));
+      })),
+      tt,
+    ),
+  )
 
   is_drawn : (n : ℕ) → after_all m (ends_call Commit None n m) ≡ drawn n
   unfolding ends_call in_turn one after_all
@@ -164,114 +211,214 @@ module _ (v m : View) (working : IsWorking v) (no_entries : v.log.entries ≡ []
       (ready_both m ends (retires_any spans (after_all m ends)) (end_ready n) t.0, subst (λ (w : View). IsOver v w n) (sym (after_all-append m ends (retires_any spans (after_all m ends)))) t.1)
 
   -- the call came to the commit, and its entry is the last
-  drawn_last : (n : ℕ) → IsLast v (drawn n) n Commit None
-  drawn_last n = (ap (λ (told : List Told). told_more told Commit None) call.call, ap (λ (entries : List Numbered). drawn_more entries n told.call) call.entries)
+  drawn_last : (n : ℕ) → IsDrawnBy v (drawn n) Commit None n
+  drawn_last n = (
+    ap (λ (told : List Told). told_more told Commit None) call.call,
+    record { number = refl; entries = ap (λ (entries : List Numbered). drawn_more entries n told.call) call.entries },
+  )
 
-  last_then : (n : ℕ) (d w : View) → IsLast v d n Commit None → w.entries ≡ d.entries → w.call ≡ d.call → IsLast v w n Commit None
-  last_then n d w last entries call = (call ∙ last.0, entries ∙ (last.1 ∙ ap (λ (told : List Told). drawn_more v.entries n told) (sym call)))
+  last_then : (n : ℕ) (d w : View) → IsDrawnBy v d Commit None n → w.number ≡ Some n → w.entries ≡ d.entries → w.call ≡ d.call → IsDrawnBy v w Commit None n
+  last_then n d w last number entries call = (
+    call ∙ last.0,
+    record { number = number; entries = entries ∙ (last.1.entries ∙ ap (λ (told : List Told). drawn_more v.entries n told) (sym call)) },
+  )
 
   abbrev behind_draw : ℕ → View
   behind_draw n = after_all m (ends_call Commit None n m)
 
-  ended_last : (n : ℕ) → IsLast v (behind_draw n) n Commit None
-  ended_last n = subst (λ (w : View). IsLast v w n Commit None) (sym (is_drawn n)) (drawn_last n)
+  ended_last : (n : ℕ) → IsDrawnBy v (behind_draw n) Commit None n
+  ended_last n = subst (λ (w : View). IsDrawnBy v w Commit None n) (sym (is_drawn n)) (drawn_last n)
 
-  decided_last : (n : ℕ) → IsLast v (after_all m (decides spans n m)) n Commit None
+  decided_last : (n : ℕ) → IsDrawnBy v (after_all m (decides spans n m)) Commit None n
   unfolding decides in_turn
   decided_last n =
       let t = tail_behind n in
-      subst (λ (w : View). IsLast v w n Commit None) (sym (after_all-append m (ends_call Commit None n m) (retires_any spans (behind_draw n))))
-      (last_then n (behind_draw n) (after_all (behind_draw n) (retires_any spans (behind_draw n))) (ended_last n) t.2 t.3)
+      subst (λ (w : View). IsDrawnBy v w Commit None n) (sym (after_all-append m (ends_call Commit None n m) (retires_any spans (behind_draw n))))
+      (last_then n (behind_draw n) (after_all (behind_draw n) (retires_any spans (behind_draw n))) (ended_last n) t.1.number t.2 t.3)
 
   -- behind the draw it stays so, wherever the lane stops
-  tail_front : (n made : ℕ) → HasStayedDrawn (behind_draw n) (after_all (behind_draw n) (take made (retires_any spans (behind_draw n)))) n
-  tail_front n made =
-      let t = tail_behind n in
-      front_drawn (behind_draw n) (retires_any spans (behind_draw n)) made n (let e = ap length t.2 in omega (arith, e)) t.1.number (let e = ap length t.3 in omega (arith, e))
-
-  front_is_drawn : (n made : ℕ) → IsDrawnOrNot v (after_all (behind_draw n) (take made (retires_any spans (behind_draw n)))) Commit None
+  front_is_drawn : (n made : ℕ) → IsDrawnBy v (after_all (behind_draw n) (take made (retires_any spans (behind_draw n)))) Commit None n
   front_is_drawn n made =
       let w : View = after_all (behind_draw n) (take made (retires_any spans (behind_draw n))) in
-      let stays = tail_front n made in
-      let last = last_then n (behind_draw n) w (ended_last n) stays.1 stays.2 in
-      record { told = inr last.0; entries = inr (n, record { number = stays.0; entries = last.1 }) }
+      let t = tail_behind n in
+      let stays = front_drawn (behind_draw n) (retires_any spans (behind_draw n)) made n (let e = ap length t.2 in omega (arith, e)) t.1.number (let e = ap length t.3 in omega (arith, e)) in
+      last_then n (behind_draw n) w (ended_last n) stays.0 stays.1 stays.2
 
-  decided_drawn : IsOpen v 1 model_stage.Work error.None → (n : ℕ) → DrawEnded m (decides spans n m)
+  decided_drawn : IsOpen v 1 model_stage.Work error.None → published_in v ≡ [] → (n : ℕ) → DrawEnded m (decides spans n m)
   unfolding decides in_turn
-  decided_drawn is_open n =
+  decided_drawn is_open nothing_published n =
       let ends : List Step = ends_call Commit None n m in
-      drawn_in_turn m ends (retires_any spans (after_all m ends)) (end_drawn is_open n) (drawless (after_all m ends) (retires_any spans (after_all m ends)) (let e = ap length (tail_behind n).2 in omega (arith, e)))
+      drawn_in_turn m ends (retires_any spans (after_all m ends)) (end_drawn is_open nothing_published n) (drawless (after_all m ends) (retires_any spans (after_all m ends)) (let e = ap length (tail_behind n).2 in omega (arith, e)))
 
-module _ (v : View) (working : IsWorking v) (no_entries : v.log.entries ≡ []) (may : MayCome v) (n : ℕ) where
+  -- without entries the call may be decided so
+  deciding_none : IsOpen v 1 model_stage.Work error.None → published_in v ≡ [] → (n : ℕ) → IsDeciding v m spans [] n
+  unfolding decides_all logs_listed completes nothing after_all
+  deciding_none is_open nothing_published n = record {
+    ready = (decided_lawful n).0;
+    over = (decided_lawful n).1;
+    last = decided_last n;
+    draws = decided_drawn is_open nothing_published n;
+    still = refl;
+    behind = front_is_drawn n;
+  }
+
+  can_decide_none : CanDecide m spans []
+  can_decide_none = ((settled_works v m working settled).area, λ n. (decided_lawful n).0)
+
+  -- and entries that are listed may be published
+  pub may_publish : (entries : List Redo) → 1 ≤ length entries → length entries ≤ 63 → All (IsOfPool v) entries → MayPublish m entries
+  may_publish entries some few each =
+      let area = (settled_works v m working settled).area in
+      let none : m.log.entries ≡ [] = ap (λ (l : Log). l.entries) log ∙ no_entries in
+      record {
+        ready = record {
+          entering = record { is_open = ap (λ (l : Log). l.phase) log ∙ working.is_open; undrawn = call.number ∙ working.undrawn; area = area; few = (let count = ap length gone in omega (arith, count)) };
+          none = none;
+        };
+        place = record { lane = area.lane; few = area.few; inside = area.inside };
+        some = some;
+        few = few;
+        each = All-weaker (IsOfPool v) (IsOfPool m) (λ e o. of_pool_kept v m e call o) entries each;
+        may_come = record { found = may.found; seen = call.seen (NumberSeen may.found) may.seen; below = may.below };
+      }
+
+  -- the call is open as it was
+  open_settled_still : IsOpen v 1 model_stage.Work error.None → IsOpen m 1 model_stage.Work error.None
+  open_settled_still is_open =
+      let lane = call.lane in
+      open_stays v m 1 model_stage.Work error.None is_open
+      (record { keeps = record { lanes = lane.lanes; zones = lane.zones; pool = lane.pool; lane = lane.lane; entries = call.entries; known = call.remembers }; locks = call.locks; call = call.call })
+      (record { records = ap (λ (l : Log). l.records) log; entries = ap (λ (l : Log). l.entries) log }) (record { words = λ i outside. ap (λ (u : View). slice_index u.words i) settled })
+
+  over_before : (w : View) (n : ℕ) → IsOver m w n → IsOver v w n
+  over_before w n over = record { lane = same_lane-then v m w call.lane over.lane; locks = over.locks ∙ call.locks; log = over.log; drained = over.drained; number = over.number; last = over.last }
+
+  last_before : (w : View) (n : ℕ) → IsDrawnBy m w Commit None n → IsDrawnBy v w Commit None n
+  last_before w n last = (
+    last.0 ∙ ap (λ (told : List Told). told_more told Commit None) call.call,
+    record { number = last.1.number; entries = last.1.entries ∙ ap (λ (entries : List Numbered). drawn_more entries n w.call) call.entries },
+  )
+
+  deciding_some : (spans : List Span) (e : Redo) (entries : List Redo) → length (e ∷ entries) ≤ 63 → All (IsOfPool v) (e ∷ entries) → IsOpen v 1 model_stage.Work error.None → e ∷ entries ≡ map entry_of (published_in v) → (n : ℕ)
+      → IsDeciding v m spans (e ∷ entries) n
+  unfolding decides_all logs_listed completes
+  deciding_some spans e entries few each is_open listed n =
+      let all : List Redo = e ∷ entries in
+      let mays : MayPublish m all = may_publish all (omega arith) few each in
+      let lawful = publish_lawful m all mays Commit n in
+      let whole = whole_once_logged m (open_settled_still is_open) all (listed ∙ ap (map entry_of) (sym (published_same v m call.entries call.call))) in
+      record {
+        ready = lawful.0;
+        over = over_before (after_all m (publishes all Commit n m)) n lawful.1;
+        last = last_before (after_all m (publishes all Commit n m)) n (publish_last m all mays Commit n);
+        draws = publish_drawn m all mays Commit n whole;
+        still = (written m all mays).1.call.entries;
+        behind = λ k. last_before (after_all (published_view m all Commit n) (take k (performs_logged all (published_view m all Commit n)))) n (performing_drawn m all mays Commit n k);
+      }
+
+-- what a commit leaves, once the call may be decided behind it
+module _ (v : View) (working : IsWorking v) (spans : List Span) (entries : List Redo) (n : ℕ) (deciding : IsDeciding v (after_all v (settles v)) spans entries n) where
   abbrev mid : View
   mid = after_all v (settles v)
 
-  commit_lawful : Ready v (commits (map span_of v.log.records) n v) × IsOver v (after_all v (commits (map span_of v.log.records) n v)) n
+  abbrev first : List Step
+  first = settles v
+
+  commit_lawful : Ready v (commits spans entries n v) × IsOver v (after_all v (commits spans entries n v)) n
   unfolding commits in_turn
-  commit_lawful =
-      let first = settle_lawful v in
-      let second = decided_lawful v mid working no_entries may first.1 n in
-      (ready_both v (settles v) (decides (map span_of v.log.records) n mid) first.0 second.0, subst (λ (w : View). IsOver v w n) (sym (after_all-append v (settles v) (decides (map span_of v.log.records) n mid))) second.1)
+  commit_lawful = (
+    ready_both v first (decides_all spans entries n mid) (settle_lawful v).0 deciding.ready,
+    subst (λ (w : View). IsOver v w n) (sym (after_all-append v first (decides_all spans entries n mid))) deciding.over,
+  )
 
-  commit_last : IsLast v (after_all v (commits (map span_of v.log.records) n v)) n Commit None
+  commit_last : IsDrawnBy v (after_all v (commits spans entries n v)) Commit None n
   unfolding commits in_turn
-  commit_last =
-      let first = settle_lawful v in
-      subst (λ (w : View). IsLast v w n Commit None) (sym (after_all-append v (settles v) (decides (map span_of v.log.records) n mid))) (decided_last v mid working no_entries may first.1 n)
+  commit_last = subst (λ (w : View). IsDrawnBy v w Commit None n) (sym (after_all-append v first (decides_all spans entries n mid))) deciding.last
 
-  -- while all is made persistent nothing is drawn
-  settling_undrawn : (made : ℕ) → HasDrawnNone v (after_all v (take made (settles v)))
-  settling_undrawn made = let first = settle_lawful v in let same = ap (λ (u : View). length u.entries) first.1 in front_undrawn v (settles v) made (omega (arith, same)) working.undrawn
+  settled_few : length mid.entries ≤ length v.entries
+  settled_few = let same = ap (λ (u : View). length u.entries) (settle_lawful v).1 in omega (arith, same)
 
-  behind_commit : (made : ℕ) → (HasStayedDrawn (drawn_view v n) (after_all (drawn_view v n) (take made (retires_any (map span_of v.log.records) (drawn_view v n)))) n)
-      × IsDrawnOrNot v (after_all (drawn_view v n) (take made (retires_any (map span_of v.log.records) (drawn_view v n)))) Commit None
-  behind_commit made = let first = settle_lawful v in (tail_front v mid working no_entries may first.1 n made, front_is_drawn v mid working no_entries may first.1 n made)
-
-  commit_drawn : IsOpen v 1 model_stage.Work error.None → DrawEnded v (commits (map span_of v.log.records) n v)
+  commit_drawn : DrawEnded v (commits spans entries n v)
   unfolding commits in_turn
-  commit_drawn is_open =
-      let first = settle_lawful v in
-      let same = ap (λ (u : View). length u.entries) first.1 in
-      drawn_in_turn v (settles v) (decides (map span_of v.log.records) n mid) (drawless v (settles v) (omega (arith, same))) (decided_drawn v mid working no_entries may first.1 is_open n)
+  commit_drawn = drawn_in_turn v first (decides_all spans entries n mid) (drawless v first settled_few) deciding.draws
+
+  -- all is made persistent, and the entries are logged
+  abbrev readied : List Step
+  readied = in_turn settles (logs_listed entries) v
+
+  readied_there : after_all v readied ≡ after_all mid (logs_listed entries mid)
+  unfolding in_turn
+  readied_there = after_all-append v first (logs_listed entries mid)
+
+  -- so far nothing is drawn
+  readied_undrawn : (made : ℕ) → IsUndrawn v (after_all v (take made readied))
+  readied_undrawn made =
+      front_undrawn v readied made
+      (let there = ap (λ (u : View). length u.entries) readied_there in let same = ap length deciding.still in let few = settled_few in omega (arith, there, same, few))
+      working.undrawn
+
+  abbrev ends : List Step
+  ends = ends_call Commit None n (after_all mid (logs_listed entries mid))
+
+  abbrev completing : List Step
+  completing = completes spans entries (drawn_view v entries n)
+
+  readied_first : commits spans entries n v ≡ readied ++ (ends ++ completing)
+  unfolding commits in_turn
+  readied_first = ap (λ (steps : List Step). first ++ steps) (decides_in_parts mid spans entries n) ∙ sym (append_assoc first (logs_listed entries mid) (ends ++ completing))
+
+  tail_last : commits spans entries n v ≡ (readied ++ ends) ++ completing
+  tail_last = readied_first ∙ sym (append_assoc readied ends completing)
+
+  drawn_there : after_all v (readied ++ ends) ≡ drawn_view v entries n
+  drawn_there = after_all-append v readied ends ∙ ap (λ (u : View). after_all u ends) readied_there
+
+  behind_is_drawn : (made : ℕ) → IsDrawnBy v (after_all (drawn_view v entries n) (take made completing)) Commit None n
+  behind_is_drawn made = deciding.behind made
 
 module _ {M : Type 0} (at : M → View → Type 0) (lane : Lane M) (o : Opening) (v : View) (is : IsAtWork o at lane v) where
   abbrev pub records : List Span
   records = lane.records.items
 
-  committing_lawful : (n : ℕ) → Ready v (commits records n v) × IsOver v (after_all v (commits records n v)) n
-  committing_lawful n =
-      subst (λ (spans : List Span). Ready v (commits spans n v) × IsOver v (after_all v (commits spans n v)) n) (sym is.seen.records) (commit_lawful v is.working is.no_entries is.may_come n)
+  abbrev pub listed : List Redo
+  listed = lane.entries.items
 
-  committing_last : (n : ℕ) → IsLast v (after_all v (commits records n v)) n Commit None
-  committing_last n = subst (λ (spans : List Span). IsLast v (after_all v (commits spans n v)) n Commit None) (sym is.seen.records) (commit_last v is.working is.no_entries is.may_come n)
+  abbrev settled_view : View
+  settled_view = after_all v (settles v)
 
-  ending_behind : (n made : ℕ) → (HasStayedDrawn (drawn_view v n) (after_all (drawn_view v n) (take made (retires_any records (drawn_view v n)))) n)
-      × IsDrawnOrNot v (after_all (drawn_view v n) (take made (retires_any records (drawn_view v n)))) Commit None
-  ending_behind n made = subst
-      (λ (spans : List Span). (HasStayedDrawn (drawn_view v n) (after_all (drawn_view v n) (take made (retires_any spans (drawn_view v n)))) n)
-      × IsDrawnOrNot v (after_all (drawn_view v n) (take made (retires_any spans (drawn_view v n)))) Commit None)
-      (sym is.seen.records) (behind_commit v is.working is.no_entries is.may_come n made)
+  -- nothing was published where nothing is listed
+  nothing_published : lane.entries.items ≡ [] → published_in v ≡ []
+  nothing_published none = no_entries (published_in v) (sym is.published.listed ∙ none) where
+    no_entries : (actions : List Action) → map entry_of actions ≡ [] → actions ≡ []
+    no_entries [] none = refl
+    no_entries (a ∷ actions) none = absurd (let many = ap length none in omega (arith, many))
 
-  committing_drawn : lane.level ≡ 1 → (n : ℕ) → DrawEnded v (commits records n v)
-  committing_drawn outer n =
-      subst (λ (spans : List Span). DrawEnded v (commits spans n v)) (sym is.seen.records)
-      (commit_drawn v is.working is.no_entries is.may_come n (subst (λ level. IsOpen v level model_stage.Work error.None) outer is.is_open))
+  -- once all is persistent the call may be decided
+  can_decide : CanDecide settled_view records listed
+  can_decide = at_entries lane.entries.items refl where
+    at_entries : (entries : List Redo) → lane.entries.items ≡ entries → CanDecide settled_view records entries
+    at_entries [] are = subst (λ (spans : List Span). CanDecide settled_view spans []) (sym is.seen.records) (can_decide_none v settled_view is.working is.no_entries is.may_come (settle_lawful v).1)
+    at_entries (e ∷ entries) are =
+        may_publish v settled_view is.working is.no_entries is.may_come (settle_lawful v).1 (e ∷ entries) (omega arith)
+        (subst (λ (es : List Redo). length es ≤ 63) are is.published.few) (subst (All (IsOfPool v)) are is.published.of_pool)
 
-  -- once all is persistent, the call may be decided
-  pub decidable : (behind : View → Type 0) → Runs {T = Unit {0}} (at lane.memory) behind settles (Ok tt) → IsDecidable behind records
+  module _ (outer : lane.level ≡ 1) (n : ℕ) where
+    open_at_one : IsOpen v 1 model_stage.Work error.None
+    open_at_one = subst (λ level. IsOpen v level model_stage.Work error.None) outer is.is_open
+
+    deciding : IsDeciding v settled_view records listed n
+    deciding = at_entries lane.entries.items refl where
+      at_entries : (entries : List Redo) → lane.entries.items ≡ entries → IsDeciding v settled_view records entries n
+      at_entries [] are =
+          subst (λ (spans : List Span). IsDeciding v settled_view spans [] n) (sym is.seen.records)
+          (deciding_none v settled_view is.working is.no_entries is.may_come (settle_lawful v).1 open_at_one (nothing_published are) n)
+      at_entries (e ∷ entries) are =
+          deciding_some v settled_view is.working is.no_entries is.may_come (settle_lawful v).1 records e entries
+          (subst (λ (es : List Redo). length es ≤ 63) are is.published.few) (subst (All (IsOfPool v)) are is.published.of_pool) open_at_one (sym are ∙ is.published.listed) n
+
+  pub decidable : (behind : View → Type 0) → Runs {T = Unit {0}} (at lane.memory) behind settles (Ok tt) → IsDecidable behind records listed
   unfolding Runs
-  decidable behind ran =
-      let first = settle_lawful v in
-      let m : View = after_all v (settles v) in (
-        m,
-        (
-          ran v is.seen.memory first.0,
-          (
-            (settled_works v m is.working first.1).area,
-            λ n. subst (λ (spans : List Span). Ready m (decides spans n m)) (sym is.seen.records) (decided_lawful v m is.working is.no_entries is.may_come first.1 n).0,
-          ),
-        ),
-      )
+  decidable behind ran = (settled_view, (ran v is.seen.memory (settle_lawful v).0, can_decide))
 
   -- a commit may be told
   pub may_tell : MayTell v.log.phase
@@ -290,9 +437,10 @@ module _ {M : Type 0} (at : M → View → Type 0) (lane : Lane M) (o : Opening)
     opening = (let f = is.opening in record { lane = f.lane; lanes = f.lanes; size = f.size; descriptors = f.descriptors; locks = f.locks });
     working = tell_works v Commit None is.working;
     no_entries = is.no_entries;
+    published = lists_on lane (record lane { memory = memory; level = lane.level - 1; stage = stage.Work }) v (after v (Tell Commit None)) refl (same_lane-after v (Tell Commit None)) refl (published_once_more v (after v (Tell Commit None)) Commit None refl refl ∙ append-nil (published_in v)) is.published;
     is_open =
         inner_commit_keeps_open v (after v (Tell Commit None)) (lane.level - 1) (omega (arith, inner)) (subst (λ level. IsOpen v level model_stage.Work error.None) (let e : lane.level ≡ lane.level - 1 + 1 = omega (arith, inner) in e) is.is_open)
-        (record { keeps = record { lanes = refl; zones = refl; pool = refl; lane = refl; known = λ i there. there }; locks = refl; call = refl })
+        (record { keeps = record { lanes = refl; zones = refl; pool = refl; lane = refl; entries = refl; known = λ i there. there }; locks = refl; call = refl })
         (record { records = refl; entries = refl }) (record { words = λ i outside. refl });
     may_come = (let m = is.may_come in record { found = m.found; seen = m.seen; below = m.below });
     lines = (let l = is.lines in record { inside = l.inside; once = l.once });
@@ -301,48 +449,58 @@ module _ {M : Type 0} (at : M → View → Type 0) (lane : Lane M) (o : Opening)
   }
 
   module _ (outer : lane.level ≡ 1) (new : Lane M) where
+    abbrev decides_so : IsDeciding v settled_view records listed new.last
+    decides_so = deciding outer new.last
+
     -- it was committed
-    pub committed : Runs {T = Unit {0}} (at lane.memory) (at new.memory) (commits records new.last) (Ok tt) → new.locks.items ≡ lane.locks.items → new.records.items ≡ [] → new.drawn ≡ Some new.last → IsOfSamePool lane new → new.stopped ≡ lane.stopped
-        → IsEndedBy at new v (commits records new.last) Commit None
+    pub committed : Runs {T = Unit {0}} (at lane.memory) (at new.memory) (commits records listed new.last) (Ok tt) → new.locks.items ≡ lane.locks.items → new.records.items ≡ [] → new.entries.items ≡ [] → new.drawn ≡ Some new.last → IsOfSamePool lane new → new.stopped ≡ lane.stopped
+        → IsEndedBy at new v (commits records listed new.last) Commit None
     unfolding Runs
-    committed ran locks none drawn pool stops =
-        let lawful = committing_lawful new.last in
-        let last = committing_last new.last in
+    committed ran locks none unlisted drawn pool stops =
+        let lawful = commit_lawful v is.working records listed new.last decides_so in
+        let last = commit_last v is.working records listed new.last decides_so in
         record {
           ready = lawful.0;
-          draws = committing_drawn outer new.last;
-          behind = after_over at lane new v (after_all v (commits records new.last v)) is.seen is.lines (ran v is.seen.memory lawful.0) lawful.1 locks none drawn pool (stops ∙ is.unstopped) (place_at_work v is.working);
+          draws = commit_drawn v is.working records listed new.last decides_so;
+          behind = after_over at lane new v (after_all v (commits records listed new.last v)) is.seen is.lines (ran v is.seen.memory lawful.0) lawful.1 locks none unlisted drawn pool (stops ∙ is.unstopped) (place_at_work v is.working);
           over = lawful.1;
           told = last.0;
-          entries = last.1;
+          entries = last.1.entries;
         }
 
-    -- it stopped while all was made persistent
-    pub stopped_settling : IsStopped (at lane.memory) (at new.memory) settles → new.stopped ≡ true → new.drawn ≡ lane.drawn → IsStoppedIn at new v (commits records new.last) Commit None
-    unfolding Runs commits in_turn
-    stopped_settling stops says drawn =
-        let first = settle_lawful v in
-        let s : Stops (at new.memory) v (settles v) = stops.1 v is.seen.memory first.0 in
-        let rest : List Step = decides records new.last (after_all v (settles v)) in
-        let undrawn = settling_undrawn v is.working is.no_entries is.may_come new.last s.made in
-        stopped_left at new v (commits records new.last) Commit None (settles v) rest refl (committing_lawful new.last).0 (committing_drawn outer new.last) s says
+    -- it stopped before the draw
+    stopped_undrawn : IsStopped (at lane.memory) (at new.memory) (in_turn settles (logs_listed listed)) → new.stopped ≡ true → new.drawn ≡ lane.drawn → IsStoppedIn at new v (commits records listed new.last) Commit None
+    unfolding Runs
+    stopped_undrawn stops says drawn =
+        let lawful = commit_lawful v is.working records listed new.last decides_so in
+        let first : List Step = in_turn settles (logs_listed listed) v in
+        let ends : List Step = ends_call Commit None new.last (after_all settled_view (logs_listed listed settled_view)) in
+        let rest : List Step = ends ++ completes records listed (drawn_view v listed new.last) in
+        let are = readied_first v is.working records listed new.last decides_so in
+        let s : Stops (at new.memory) v first = stops.1 v is.seen.memory (ready_left v first rest (subst (Ready v) are lawful.0)) in
+        let undrawn = readied_undrawn v is.working records listed new.last decides_so s.made in
+        stopped_left at new v (commits records listed new.last) Commit None first rest are lawful.0 (commit_drawn v is.working records listed new.last decides_so) s says
         (drawn ∙ (undrawn_lane at lane v is.seen is.working.undrawn ∙ sym undrawn.0)) (record { told = inl undrawn.0; entries = inl undrawn })
 
     -- it stopped behind the draw
-    pub stopped_retiring : StopsDrawn (at lane.memory) (at new.memory) records new.last → new.stopped ≡ true → new.drawn ≡ Some new.last → IsStoppedIn at new v (commits records new.last) Commit None
-    stopped_retiring stops says drawn =
-        let s : Stops (at new.memory) (drawn_view v new.last) (retires_any records (drawn_view v new.last)) = stops v is.seen.memory (committing_lawful new.last).0 in
-        let behind = ending_behind new.last s.made in
-        stopped_right at new v (commits records new.last) Commit None (settles v ++ ends_call Commit None new.last (after_all v (settles v))) (drawn_view v new.last) (retires_any records (drawn_view v new.last))
-        (after_all-append v (settles v) (ends_call Commit None new.last (after_all v (settles v)))) (commits_in_parts v records new.last) (committing_lawful new.last).0 (committing_drawn outer new.last) s says
-        (drawn ∙ sym behind.0.0) behind.1
+    stopped_drawn : StopsDrawn (at lane.memory) (at new.memory) records listed new.last → new.stopped ≡ true → new.drawn ≡ Some new.last → IsStoppedIn at new v (commits records listed new.last) Commit None
+    stopped_drawn stops says drawn =
+        let lawful = commit_lawful v is.working records listed new.last decides_so in
+        let d : View = drawn_view v listed new.last in
+        let tail : List Step = completes records listed d in
+        let ends : List Step = ends_call Commit None new.last (after_all settled_view (logs_listed listed settled_view)) in
+        let s : Stops (at new.memory) d tail = stops v is.seen.memory lawful.0 in
+        let behind = behind_is_drawn v is.working records listed new.last decides_so s.made in
+        stopped_right at new v (commits records listed new.last) Commit None (in_turn settles (logs_listed listed) v ++ ends) d tail
+        (drawn_there v is.working records listed new.last decides_so) (tail_last v is.working records listed new.last decides_so) lawful.0 (commit_drawn v is.working records listed new.last decides_so) s says
+        (drawn ∙ sym behind.1.number) (record { told = inr behind.0; entries = inr (new.last, behind.1) })
 
     -- it stopped in one of the two
-    pub stopped_committing : ((new.drawn ≡ lane.drawn) × IsStopped (at lane.memory) (at new.memory) settles) ⊎ ((new.drawn ≡ Some new.last) × StopsDrawn (at lane.memory) (at new.memory) records new.last) → new.stopped ≡ true
-        → IsStoppedIn at new v (commits records new.last) Commit None
+    pub stopped_committing : ((new.drawn ≡ lane.drawn) × IsStopped (at lane.memory) (at new.memory) (in_turn settles (logs_listed listed))) ⊎ ((new.drawn ≡ Some new.last) × StopsDrawn (at lane.memory) (at new.memory) records listed new.last) → new.stopped ≡ true
+        → IsStoppedIn at new v (commits records listed new.last) Commit None
     stopped_committing where_ says =
-        ⊎_elim (λ (first : (new.drawn ≡ lane.drawn) × IsStopped (at lane.memory) (at new.memory) settles). stopped_settling first.1 says first.0)
-        (λ (behind : (new.drawn ≡ Some new.last) × StopsDrawn (at lane.memory) (at new.memory) records new.last). stopped_retiring behind.1 says behind.0) where_
+        ⊎_elim (λ (first : (new.drawn ≡ lane.drawn) × IsStopped (at lane.memory) (at new.memory) (in_turn settles (logs_listed listed))). stopped_undrawn first.1 says first.0)
+        (λ (behind : (new.drawn ≡ Some new.last) × StopsDrawn (at lane.memory) (at new.memory) records listed new.last). stopped_drawn behind.1 says behind.0) where_
 
 pub made_told : (old new : View → Type 0) → Made old new (Tell Commit None) → IsMade old new (one (Tell Commit None))
 unfolding Runs one after_all

@@ -1,12 +1,12 @@
 -- What holds of a view and of each that a sequence leads to, with how many stores of the generation came before it.
-use Rattle.std.proofs.Common.{◌≡◌, ℕ, zero, suc, ◌+◌, List, [], ◌∷◌, ◌++◌, take, slice_index, sym, subst, arith}
+use Rattle.std.proofs.Common.{◌≡◌, ℕ, zero, suc, ◌+◌, ◌<◌, List, [], ◌∷◌, ◌++◌, take, slice_index, sym, subst, arith}
 use Rattle.pm_crash.proofs.Raises.{raise_by, raises_append}
 use Rattle.pm_crash.specs.Alone.{raises}
 use Rattle.pm_view.proofs.Sequences.{after_all-append}
 use Rattle.pm_view.specs.Steps.{Step}
 use Rattle.pm_view.specs.View.{View}
 use Rattle.pm_view.specs.Views.{after, after_all}
-use Rattle.pm_world.specs.Sequences.{Sequence, by_lane, by_view, in_turn, looks, nothing, one, with_word}
+use Rattle.pm_world.specs.Sequences.{Sequence, by_lane, by_view, counted, in_turn, looks, nothing, one, with_word}
 use Rattle.pm_tx.proofs.StepKinds.{Each, HasOnly}
 
 -- it holds of the view and of each that the steps lead to
@@ -69,6 +69,14 @@ module _ (I : ℕ → View → Type 0) where
 
   pub course_weaker : (P Q R : ℕ → View → Type 0) (steps : Sequence) → ((r : ℕ) (v : View) → Q r v → R r v) → Course P steps Q → Course P steps R
   course_weaker P Q R steps behind course r v p = let c = course r v p in (c.0, behind (r + raises (steps v)) (after_all v (steps v)) c.1)
+
+  -- sequences one after another, where each leads on from the one before
+  pub course_counted : (P : ℕ → ℕ → View → Type 0) (steps : ℕ → Sequence) (n : ℕ) → ((r : ℕ) (v : View) → P 0 r v → I r v) → ((k : ℕ) → k < n → Course (P k) (steps k) (P (k + 1))) → Course (P 0) (counted steps n) (P n)
+  unfolding counted
+  course_counted P steps zero holds each = course_nothing (P 0) holds
+  course_counted P steps (suc n) holds each =
+      course_in_turn (P 0) (P n) (P (suc n)) (counted steps n) (steps n) (course_counted P steps n holds (λ k below. each k (omega (arith, below))))
+      (course_weaker (P n) (P (n + 1)) (P (suc n)) (steps n) (λ r v p. subst (λ k. P k r v) (let e : n + 1 ≡ suc n = omega arith in e) p) (each n (omega arith)))
 
   pub course_by_lane : (P Q : ℕ → View → Type 0) (steps : ℕ → Sequence) → ((r : ℕ) (v : View) → P r v → v.lane ≡ 0) → Course P (steps 0) Q → Course P (by_lane steps) Q
   unfolding by_lane by_view

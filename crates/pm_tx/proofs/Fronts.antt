@@ -9,7 +9,7 @@ use Rattle.pm_view.proofs.Sequences.{after_all-append}
 use Rattle.pm_view.specs.Counts.{IsAtStop, counted}
 use Rattle.pm_world.specs.Sequences.{Ready, Sequence}
 use Rattle.pm_world.specs.declared.lane.Lane.{Lane}
-use Rattle.pm_tx.specs.Ending.{DrawEnded, IsDrawnOrNot, IsStoppedIn}
+use Rattle.pm_tx.specs.Ending.{DrawEnded, IsDrawnOrNot, IsStoppedIn, IsUndrawn}
 use Rattle.std.proofs.lemmas.Option.{none-some}
 use Rattle.pm_view.specs.Log.{Phase}
 use Rattle.pm_view.specs.Log.Phase.{Idle, Open, Drawn, Sealing, Applying, Clearing, Retiring}
@@ -20,11 +20,7 @@ use Rattle.pm_view.specs.Views.{after, after_all, begun}
 use Rattle.pm_tx.proofs.Drawless.{kept, kept_by_all}
 use Rattle.pm_tx.proofs.Leads.{counted_then}
 
--- no number is drawn, and the entries are those that were there
-abbrev pub HasDrawnNone : View → View → Type 0
-HasDrawnNone v w = (w.number ≡ None) × (w.entries ≡ v.entries)
-
-begun_undrawn : (phase : Phase) (v : View) → v.number ≡ None → HasDrawnNone v (begun phase v)
+begun_undrawn : (phase : Phase) (v : View) → v.number ≡ None → IsUndrawn v (begun phase v)
 begun_undrawn Idle v none = (refl, refl)
 begun_undrawn (Open slot pair) v none = (none, refl)
 begun_undrawn Drawn v none = (none, refl)
@@ -34,7 +30,7 @@ begun_undrawn Clearing v none = (none, refl)
 begun_undrawn Retiring v none = (none, refl)
 
 -- a step without a new entry draws none
-step_undrawn : (v : View) (s : Step) → length (after v s).entries ≤ length v.entries → v.number ≡ None → HasDrawnNone v (after v s)
+step_undrawn : (v : View) (s : Step) → length (after v s).entries ≤ length v.entries → v.number ≡ None → IsUndrawn v (after v s)
 step_undrawn v (Load w x) few none = (none, refl)
 step_undrawn v (Store w x) few none = (none, refl)
 step_undrawn v (Or w bits found) few none = (none, refl)
@@ -57,13 +53,13 @@ step_undrawn v SetStop few none = (none, refl)
 step_undrawn v (Tell operation reply) few none = (none, refl)
 
 -- nor do the first of steps that lead to no new entry
-pub front_undrawn : (v : View) (steps : List Step) (made : ℕ) → length (after_all v steps).entries ≤ length v.entries → v.number ≡ None → HasDrawnNone v (after_all v (take made steps))
+pub front_undrawn : (v : View) (steps : List Step) (made : ℕ) → length (after_all v steps).entries ≤ length v.entries → v.number ≡ None → IsUndrawn v (after_all v (take made steps))
 unfolding after_all
 front_undrawn v steps zero few none = (none, refl)
 front_undrawn v [] (suc made) few none = (none, refl)
 front_undrawn v (s ∷ steps) (suc made) few none =
     let a = kept v s in let b = kept_by_all (after v s) steps in
-    let one : HasDrawnNone v (after v s) = step_undrawn v s (omega (arith, b, few)) none in
+    let one : IsUndrawn v (after v s) = step_undrawn v s (omega (arith, b, few)) none in
     let rest = front_undrawn (after v s) steps made (omega (arith, a, few)) one.0 in
     (rest.0, rest.1 ∙ one.1)
 

@@ -150,10 +150,10 @@ module _ {M : Type 0} (at : M → View → Type 0) (lane : Lane M) (v : View) (i
   unfolding IsReady
   give_ready = (v, (is.seen.memory, lawful.0))
 
-  pub closed : (new : Lane M) → Runs {T = Unit {0}} (at lane.memory) (at new.memory) (gives lane.locks.items) (Ok tt) → new.locks.items ≡ [] → new.records.items ≡ lane.records.items → new.drawn ≡ None → new.last ≡ lane.last → IsOfSamePool lane new → new.error ≡ error.None → new.stopped ≡ lane.stopped
+  pub closed : (new : Lane M) → Runs {T = Unit {0}} (at lane.memory) (at new.memory) (gives lane.locks.items) (Ok tt) → new.locks.items ≡ [] → new.records.items ≡ lane.records.items → new.entries ≡ lane.entries → new.drawn ≡ None → new.last ≡ lane.last → IsOfSamePool lane new → new.error ≡ error.None → new.stopped ≡ lane.stopped
       → IsClosedBy at new v (gives lane.locks.items)
   unfolding Runs
-  closed new ran none records drawn last pool unharmed stops =
+  closed new ran none records listed drawn last pool unharmed stops =
       let w : View = after_all v (gives locks v) in
       let same = lawful.1 in
       record {
@@ -171,6 +171,7 @@ module _ {M : Type 0} (at : M → View → Type 0) (lane : Lane M) (v : View) (i
           answered = drawn;
           unharmed = unharmed;
           unstopped = stops ∙ is.unstopped;
+          unlisted = ap (λ es. es.items) listed ∙ is.unlisted;
           fresh = inl (ap (λ (u : View). u.log) same ∙ is.log);
           drained = ap (λ (u : View). u.changes) same ∙ is.drained;
           free = ap (λ (u : View). u.locks) same;
@@ -193,7 +194,7 @@ counted_gives locks v (suc n) =
     let both = counted_then steps (Give (line_at locks n) ∷ []) in
     omega (arith, rest, both)
 
-none_counted : (locks : List HeldLock) (v : View) → counted_calls (gives locks v) ≡ 0
+pub none_counted : (locks : List HeldLock) (v : View) → counted_calls (gives locks v) ≡ 0
 unfolding gives
 none_counted locks v = counted_gives locks v (length locks)
 
@@ -213,10 +214,10 @@ module _ {M : Type 0} (at : M → View → Type 0) (lane : Lane M) (v : View) (i
   unfolding IsReady
   back_ready = (v, (is.begun.seen.memory, back.0))
 
-  pub given_back : (new : Lane M) → IsMade (at lane.memory) (at new.memory) (gives lane.locks.items) → new.locks.items ≡ [] → new.records.items ≡ lane.records.items → new.drawn ≡ lane.drawn → new.last ≡ lane.last → IsOfSamePool lane new → new.error ≡ lane.error → new.stopped ≡ lane.stopped
+  pub given_back : (new : Lane M) → IsMade (at lane.memory) (at new.memory) (gives lane.locks.items) → new.locks.items ≡ [] → new.records.items ≡ lane.records.items → new.entries ≡ lane.entries → new.drawn ≡ lane.drawn → new.last ≡ lane.last → IsOfSamePool lane new → new.error ≡ lane.error → new.stopped ≡ lane.stopped
       → IsGivenBack at new v
   unfolding Runs
-  given_back new made none records drawn last pool error stops =
+  given_back new made none records listed drawn last pool error stops =
       let w : View = after_all v (gives taken v) in
       let same = back.1 in
       let b : IsBegun at lane v = is.begun in
@@ -238,6 +239,7 @@ module _ {M : Type 0} (at : M → View → Type 0) (lane : Lane M) (v : View) (i
           answered = drawn ∙ unanswered lane.drawn v.number b.seen.drawn b.undrawn;
           unharmed = error ∙ b.unharmed;
           unstopped = stops ∙ b.unstopped;
+          unlisted = ap (λ es. es.items) listed ∙ b.unlisted;
           fresh = inr (ap (λ (u : View). u.log) same ∙ b.log, ap (λ (u : View). u.number) same ∙ b.undrawn, ap (λ (u : View). u.call) same ∙ b.untold);
           drained = ap (λ (u : View). u.changes) same ∙ b.drained;
           free = ap (λ (u : View). u.locks) same;

@@ -32,8 +32,8 @@ use Rattle.std.proofs.lemmas.Bool.{cases_lt}
 use Rattle.std.proofs.lemmas.List.{take-append-le}
 use Rattle.std.proofs.Math.Seq.{take-append-add}
 use Rattle.std.proofs.lemmas.Option.{none-some}
-use Rattle.pm_tx.proofs.Fronts.{HasDrawnNone, front_undrawn}
-use Rattle.pm_tx.specs.Ending.{told_more, drawn_more, DrawEnded, GivesUpBy, IsAfterCall, IsEndedBy, IsOver, IsReadyForAny, IsStoppedIn, IsTakenBack, IsWorkingLane}
+use Rattle.pm_tx.proofs.Fronts.{front_undrawn}
+use Rattle.pm_tx.specs.Ending.{told_more, drawn_more, DrawEnded, GivesUpBy, IsAfterCall, IsEndedBy, IsOver, IsReadyForAny, IsStoppedIn, IsTakenBack, IsUndrawn, IsWorkingLane}
 use Rattle.pm_tx.specs.Resting.{HasPlace}
 use Rattle.pm_tx.specs.Sequences.{ends_call, gives_up, takes_back}
 use Rattle.pm_tx.proofs.Drawless.{drawless, drawn_in_turn}
@@ -85,7 +85,7 @@ module _ (v m : View) (working : IsWorking v) (may : MayCome v) (back : IsTakenB
   tells =
       let lane = back.call.lane in
       record {
-        keeps = record { lanes = lane.lanes; zones = lane.zones; pool = lane.pool; lane = lane.lane; known = back.call.remembers };
+        keeps = record { lanes = lane.lanes; zones = lane.zones; pool = lane.pool; lane = lane.lane; entries = back.call.entries; known = back.call.remembers };
         locks = back.call.locks;
         call = ap (λ (call : List Told). call ++ record { operation = operation; reply = reply } ∷ []) back.call.call;
       }
@@ -99,7 +99,7 @@ module _ (v m : View) (working : IsWorking v) (may : MayCome v) (back : IsTakenB
   end_is_last n = let call = ap (λ (call : List Told). told_more call operation reply) back.call.call in (call, ap (λ (entries : List Numbered). drawn_more entries n told.call) back.call.entries)
 
   -- before the draw none is drawn
-  pub told_is_undrawn : HasDrawnNone v told
+  pub told_is_undrawn : IsUndrawn v told
   told_is_undrawn = (back.call.number ∙ working.undrawn, back.call.entries)
 
   pub end_is_drawn : (error : TxErr) → GivesUpBy v operation reply error → (n : ℕ) → DrawEnded m (ends_call operation reply n m)
@@ -144,18 +144,18 @@ module _ (v : View) (working : IsWorking v) (none : v.log.entries ≡ []) (may :
   first_few = let e = ap length taken.1.call.entries in omega (arith, e)
 
   -- a stop comes before the draw
-  pub give_up_undrawn : (made : ℕ) → made < length (gives_up (map span_of v.log.records) operation reply n v) → HasDrawnNone v (after_all v (take made (gives_up (map span_of v.log.records) operation reply n v)))
+  pub give_up_undrawn : (made : ℕ) → made < length (gives_up (map span_of v.log.records) operation reply n v) → IsUndrawn v (after_all v (take made (gives_up (map span_of v.log.records) operation reply n v)))
   unfolding gives_up in_turn
   give_up_undrawn made fewer = ⊎_elim
       (λ (behind : length first < made).
       let k : ℕ = made - length first in
       let at : made ≡ length first + k = omega (arith, behind) in
       let one : k ≡ 1 = (let all = length-append first second in let two = end_is_two mid operation reply n in omega (arith, fewer, all, two, behind)) in
-      subst (λ (steps : List Step). HasDrawnNone v (after_all v steps)) (sym (ap (λ j. take j (first ++ second)) at ∙ take-append-add first second k))
-      (subst (λ (w : View). HasDrawnNone v w) (sym (after_all-append v first (take k second)))
-      (subst (λ j. HasDrawnNone v (after_all mid (take j second))) (sym one) (told_undrawn mid operation reply n (HasDrawnNone v) (told_is_undrawn v mid working may taken.1 operation reply)))))
+      subst (λ (steps : List Step). IsUndrawn v (after_all v steps)) (sym (ap (λ j. take j (first ++ second)) at ∙ take-append-add first second k))
+      (subst (λ (w : View). IsUndrawn v w) (sym (after_all-append v first (take k second)))
+      (subst (λ j. IsUndrawn v (after_all mid (take j second))) (sym one) (told_undrawn mid operation reply n (IsUndrawn v) (told_is_undrawn v mid working may taken.1 operation reply)))))
       (λ (front : made ≤ length first).
-      subst (λ (steps : List Step). HasDrawnNone v (after_all v steps)) (sym (take-append-le made first second front)) (front_undrawn v first made first_few working.undrawn))
+      subst (λ (steps : List Step). IsUndrawn v (after_all v steps)) (sym (take-append-le made first second front)) (front_undrawn v first made first_few working.undrawn))
       (cases_lt (length first) made)
 
   pub give_up_drawn : (error : TxErr) → GivesUpBy v operation reply error → DrawEnded v (gives_up (map span_of v.log.records) operation reply n v)
@@ -182,11 +182,12 @@ seen_over at lane new v w seen memory over locks none drawn pool = record {
   last = sym over.last;
 }
 
-pub after_over : {M : Type 0} (at : M → View → Type 0) (lane new : Lane M) (v w : View) → IsSeenAs at lane v → HoldsLines v → at new.memory w → IsOver v w new.last → new.locks.items ≡ lane.locks.items → new.records.items ≡ []
+pub after_over : {M : Type 0} (at : M → View → Type 0) (lane new : Lane M) (v w : View) → IsSeenAs at lane v → HoldsLines v → at new.memory w → IsOver v w new.last → new.locks.items ≡ lane.locks.items → new.records.items ≡ [] → new.entries.items ≡ []
     → new.drawn ≡ Some new.last → IsOfSamePool lane new → new.stopped ≡ false → HasPlace v → IsAfterCall at new w
-after_over at lane new v w seen lines memory over locks none drawn pool unstopped place = record {
+after_over at lane new v w seen lines memory over locks none unlisted drawn pool unstopped place = record {
   seen = seen_over at lane new v w seen memory over locks none drawn pool;
   unstopped = unstopped;
+  unlisted = unlisted;
   log = over.log;
   drained = over.drained;
   lines = record {
@@ -226,9 +227,9 @@ module _ {M : Type 0} (at : M → View → Type 0) (lane : Lane M) (o : Opening)
   pub giving_up_last : (n : ℕ) → IsLast v (after_all v (gives_up spans operation reply n v)) n operation reply
   giving_up_last n = subst (λ (spans : List Span). IsLast v (after_all v (giving_steps n spans)) n operation reply) (sym same) (give_up_last v is.working is.no_entries is.may_come operation reply n)
 
-  giving_up_undrawn : (n made : ℕ) → made < length (gives_up spans operation reply n v) → HasDrawnNone v (after_all v (take made (gives_up spans operation reply n v)))
+  giving_up_undrawn : (n made : ℕ) → made < length (gives_up spans operation reply n v) → IsUndrawn v (after_all v (take made (gives_up spans operation reply n v)))
   giving_up_undrawn n made =
-      subst (λ (spans : List Span). made < length (giving_steps n spans) → HasDrawnNone v (after_all v (take made (giving_steps n spans)))) (sym same) (give_up_undrawn v is.working is.no_entries is.may_come operation reply n made)
+      subst (λ (spans : List Span). made < length (giving_steps n spans) → IsUndrawn v (after_all v (take made (giving_steps n spans)))) (sym same) (give_up_undrawn v is.working is.no_entries is.may_come operation reply n made)
 
   pub giving_up_drawn : (error : TxErr) → GivesUpBy v operation reply error → (n : ℕ) → DrawEnded v (gives_up spans operation reply n v)
   giving_up_drawn error why n =
@@ -247,17 +248,17 @@ module _ {M : Type 0} (at : M → View → Type 0) (lane : Lane M) (o : Opening)
 
   module _ (error : TxErr) (why : GivesUpBy v operation reply error) (new : Lane M) where
     -- it was given up
-    pub given_up : Runs {T = Unit {0}} (at lane.memory) (at new.memory) (gives_up spans operation reply new.last) (Ok tt) → new.locks.items ≡ lane.locks.items → new.records.items ≡ [] → new.drawn ≡ Some new.last → IsOfSamePool lane new → new.stopped ≡ lane.stopped
+    pub given_up : Runs {T = Unit {0}} (at lane.memory) (at new.memory) (gives_up spans operation reply new.last) (Ok tt) → new.locks.items ≡ lane.locks.items → new.records.items ≡ [] → new.entries.items ≡ [] → new.drawn ≡ Some new.last → IsOfSamePool lane new → new.stopped ≡ lane.stopped
         → IsEndedBy at new v (gives_up spans operation reply new.last) operation reply
     unfolding Runs
-    given_up ran locks none drawn pool stops =
+    given_up ran locks none unlisted drawn pool stops =
         let lawful = giving_up_lawful new.last in
         let over = lawful.1 in
         let last = giving_up_last new.last in
         record {
           ready = lawful.0;
           draws = giving_up_drawn error why new.last;
-          behind = after_over at lane new v (after_all v (gives_up spans operation reply new.last v)) is.seen is.lines (ran v is.seen.memory lawful.0) over locks none drawn pool (stops ∙ is.unstopped) (place_at_work v is.working);
+          behind = after_over at lane new v (after_all v (gives_up spans operation reply new.last v)) is.seen is.lines (ran v is.seen.memory lawful.0) over locks none unlisted drawn pool (stops ∙ is.unstopped) (place_at_work v is.working);
           over = over;
           told = last.0;
           entries = last.1;

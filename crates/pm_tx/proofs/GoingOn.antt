@@ -1,5 +1,5 @@
 -- A lane at work stays so by what keeps its locks, what it found under them, and its call.
-use Rattle.std.proofs.Common.{◌≡◌, ℕ, ◌+◌, ◌*◌, All, Contains, [], map, slice_index, Some, sym, ap, ◌∙◌, subst, arith, ◌<◌, ◌/◌, length}
+use Rattle.std.proofs.Common.{◌≡◌, refl, ℕ, ◌+◌, ◌*◌, All, Contains, [], map, slice_index, Some, sym, ap, ◌∙◌, subst, arith, ◌<◌, ◌≤◌, ◌/◌, ◌&&◌, List, is_some, length}
 use Rattle.std.specs.Prelude.{nat_eq}
 use Rattle.std.specs.List.{IsDistinct}
 use Rattle.std.specs.Option.{ForSome}
@@ -16,12 +16,23 @@ use Rattle.pm_world.specs.Opening.{Opening}
 use Rattle.pm_world.specs.declared.lane.Lane.{Lane}
 use Rattle.pm_world.proofs.Shapes.{shape_seen}
 use Rattle.pm_tx.specs.AtWork.{FindsObject, IsAtWork}
+use Rattle.std.proofs.lemmas.List.Elements.{All-nil, All-weaker}
+use Rattle.pm_crash.specs.Pending.{published_in}
+use Rattle.pm_pending.specs.Pending.{entry_of}
+use Rattle.pm_redo.specs.Entering.{IsOfPool}
+use Rattle.pm_record.specs.declared.redo.Redo.{Redo}
+use Rattle.pm_tx.specs.AtWork.{ListsPublished}
+use Rattle.pm_view.specs.Area.{is_in_area}
+use Rattle.std.specs.Prelude.{IsTrue}
+use Rattle.std.specs.List.{list_any}
+use Rattle.pm_view.specs.Held.{is_under}
 
 -- the lane's fields but for its memory and its records
 pub record HasSameFields {M : Type 0} (lane next : Lane M) : Type 0 where
   pub pool : next.pool ≡ lane.pool
   pub shape : next.shape ≡ lane.shape
   pub locks : next.locks ≡ lane.locks
+  pub entries : next.entries ≡ lane.entries
   pub level : next.level ≡ lane.level
   pub stage : next.stage ≡ lane.stage
   pub error : next.error ≡ lane.error
@@ -34,6 +45,7 @@ fields_same {M} lane next same = record {
   pool = ap (λ (l : Lane M). l.pool) same;
   shape = ap (λ (l : Lane M). l.shape) same;
   locks = ap (λ (l : Lane M). l.locks) same;
+  entries = ap (λ (l : Lane M). l.entries) same;
   level = ap (λ (l : Lane M). l.level) same;
   stage = ap (λ (l : Lane M). l.stage) same;
   error = ap (λ (l : Lane M). l.error) same;
@@ -63,10 +75,37 @@ objects_kept v w call sizes = record {
   sizes = sizes;
 }
 
-pub goes_on : {M : Type 0} (o : Opening) (at : M → View → Type 0) (lane next : Lane M) (v w : View) → IsAtWork o at lane v → HasSameFields lane next → KeepsObjects v w
-    → at next.memory w → next.records.items ≡ map span_of w.log.records → All IsSpan next.records.items → FindsOpening o w → IsWorking w → w.log.entries ≡ []
+-- an entry of a word of the pool stays one under the same locks
+pub of_pool_on : (v w : View) → IsSameLane v w → w.locks ≡ v.locks → (e : Redo) → IsOfPool v e → IsOfPool w e
+of_pool_on v w lane locks e is = record {
+  setting = is.setting;
+  own = subst (λ (held : List Lock). IsTrue (list_any (λ (l : Lock). l.write && is_some l.block && is_under (e.place / 8) l) held)) (sym locks) is.own;
+  outside = ap (λ (k : ℕ). is_in_area k (e.place / 8)) lane.lane ∙ is.outside;
+  inside = (let low = is.inside in let size = lane.size in omega (arith, low, size));
+}
+
+-- where nothing is published and no entry listed
+pub lists_none : {M : Type 0} (lane : Lane M) (v : View) → lane.entries.items ≡ [] → published_in v ≡ [] → ListsPublished lane v
+lists_none lane v none nothing = record {
+  listed = none ∙ sym (ap (map entry_of) nothing);
+  few = (let long = ap (λ (es : List Redo). length es) none in omega (arith, long));
+  of_pool = subst (All (IsOfPool v)) (sym none) (All-nil (IsOfPool v));
+}
+
+-- where the lane lists the same entries, and published the same
+pub lists_on : {M : Type 0} (lane next : Lane M) (v w : View) → next.entries ≡ lane.entries → IsSameLane v w → w.locks ≡ v.locks → published_in w ≡ published_in v
+    → ListsPublished lane v → ListsPublished next w
+lists_on lane next v w entries same locks published lists = record {
+  listed = ap (λ es. es.items) entries ∙ lists.listed ∙ sym (ap (map entry_of) published);
+  few = subst (λ es. length es.items ≤ 63) (sym entries) lists.few;
+  of_pool = subst (λ es. All (IsOfPool w) es.items) (sym entries) (All-weaker (IsOfPool v) (IsOfPool w) (of_pool_on v w same locks) lane.entries.items lists.of_pool);
+}
+
+-- and by what it lists of the entries of its call
+pub goes_on_listing : {M : Type 0} (o : Opening) (at : M → View → Type 0) (lane next : Lane M) (v w : View) → IsAtWork o at lane v → HasSameFields (record lane { entries = next.entries }) next → KeepsObjects v w
+    → at next.memory w → next.records.items ≡ map span_of w.log.records → All IsSpan next.records.items → FindsOpening o w → IsWorking w → w.log.entries ≡ [] → ListsPublished next w
     → IsOpen w lane.level model_stage.Work error.None → IsAtWork o at next w
-goes_on o at lane next v w work fields keeps seen records spans opening working no_entries is_open = record {
+goes_on_listing o at lane next v w work fields keeps seen records spans opening working no_entries published is_open = record {
   seen = record {
     memory = seen;
     pool = keeps.lane.pool ∙ (work.seen.pool ∙ sym fields.pool);
@@ -86,6 +125,7 @@ goes_on o at lane next v w work fields keeps seen records spans opening working 
   opening = opening;
   working = working;
   no_entries = no_entries;
+  published = published;
   is_open = subst (λ n. IsOpen w n model_stage.Work error.None) (sym fields.level) is_open;
   may_come = record { found = work.may_come.found; seen = keeps.seen _ work.may_come.seen; below = work.may_come.below };
   lines = record {
@@ -102,3 +142,12 @@ goes_on o at lane next v w work fields keeps seen records spans opening working 
         fits = (let same = keeps.sizes l held in let most = object.fits in omega (arith, same, most));
       };
 }
+
+-- where it lists the same
+pub goes_on : {M : Type 0} (o : Opening) (at : M → View → Type 0) (lane next : Lane M) (v w : View) → IsAtWork o at lane v → HasSameFields lane next → KeepsObjects v w
+    → at next.memory w → next.records.items ≡ map span_of w.log.records → All IsSpan next.records.items → FindsOpening o w → IsWorking w → w.log.entries ≡ [] → published_in w ≡ published_in v
+    → IsOpen w lane.level model_stage.Work error.None → IsAtWork o at next w
+goes_on o at lane next v w work fields keeps seen records spans opening working no_entries published is_open =
+    let but_entries : HasSameFields (record lane { entries = next.entries }) next =
+    record { pool = fields.pool; shape = fields.shape; locks = fields.locks; entries = refl; level = fields.level; stage = fields.stage; error = fields.error; drawn = fields.drawn; last = fields.last; stopped = fields.stopped } in
+    goes_on_listing o at lane next v w work but_entries keeps seen records spans opening working no_entries (lists_on lane next v w fields.entries keeps.lane keeps.locks published work.published) is_open

@@ -46,14 +46,11 @@ line_locked (l ∷ locks) line off write is =
     ∙ ap (λ b. is_lock_of line write l || b) (line_locked locks line off write is)
 
 module _ {M : Type 0} (o : Opening) (at : M → View → Type 0) (lane : Lane M) (v : View) (work : IsAtWork o at lane v) where
+  pub is_not_held : (id : Oid) (write : Bool) → (id.pool ≡ lane.pool → is_locked (map lock_of (map view_lock lane.locks.items)) id.off write ≡ false) → IsNotHeld v id write
+  is_not_held id write none same = ap (λ locks. is_locked (map lock_of locks) id.off write) (sym work.seen.locks) ∙ none (same ∙ work.seen.pool)
+
   pub not_held : (id : Oid) (write : Bool) → (id.pool ≡ lane.pool → is_locked (map lock_of (map view_lock lane.locks.items)) id.off write ≡ false) → HasChecked o at lane v (λ w. IsNotHeld w id write)
-  not_held id write none = record {
-    loads = 0;
-    view = v;
-    looks = looks_none v;
-    works = work;
-    holds = λ same. ap (λ locks. is_locked (map lock_of locks) id.off write) (sym work.seen.locks) ∙ none (same ∙ work.seen.pool);
-  }
+  not_held id write none = record { loads = 0; view = v; looks = looks_none v; works = work; holds = is_not_held id write none }
 
   module _ (line : ℕ) (write : Bool) (holds : list_any (is_lock_of line write) lane.locks.items ≡ true) where
     held_lock : (l : Lock) × Contains v.locks l × (l.line ≡ line) × ((l.write || not write) ≡ true)
@@ -73,6 +70,20 @@ module _ {M : Type 0} (o : Opening) (at : M → View → Type 0) (lane : Lane M)
         let low = (locked_is_plain o work.sound v work.opening t.0 (8 * t.0.line + 1) t.1 (is_found v work.objects t.0 t.1) (size_under v work.objects t.0 t.1)).1 in
         let same = t.2 in omega (arith, low, same)
 
+    pub object_held : (id : Oid) → id.pool ≡ lane.pool → id.off ≡ 64 * line + 64 → IsHeld v id write
+    object_held id of_pool place =
+        let t = held_lock in
+        let object : FindsObject v t.0 = work.objects t.0 t.1 in
+        record {
+          lock = t.0;
+          lines = object.lines;
+          held = t.1;
+          block = object.block;
+          allows = t.3;
+          of_pool = of_pool ∙ sym work.seen.pool;
+          place = place ∙ ap (λ n. 64 * n + 64) (sym t.2);
+        }
+
     module _ (x : ℕ) (finds : FindsKnown v (8 * line + 1) x) where
       size_is : x ≡ slice_index v.words (8 * held_lock.0.line + 1)
       size_is =
@@ -83,20 +94,6 @@ module _ {M : Type 0} (o : Opening) (at : M → View → Type 0) (lane : Lane M)
       -- it finds what the view has, since the view knows it
       finds_so : Finds v (8 * line + 1) x
       finds_so = (finds, λ alone. let t = held_lock in size_is ∙ ap (λ n. slice_index v.words (8 * n + 1)) t.2)
-
-      object_held : (id : Oid) → id.pool ≡ lane.pool → id.off ≡ 64 * line + 64 → IsHeld v id write
-      object_held id of_pool place =
-          let t = held_lock in
-          let object : FindsObject v t.0 = work.objects t.0 t.1 in
-          record {
-            lock = t.0;
-            lines = object.lines;
-            held = t.1;
-            block = object.block;
-            allows = t.3;
-            of_pool = of_pool ∙ sym work.seen.pool;
-            place = place ∙ ap (λ n. 64 * n + 64) (sym t.2);
-          }
 
       pub has_range : (id : Oid) (off len : ℕ) → id.pool ≡ lane.pool → id.off ≡ 64 * line + 64 → off + len ≤ x → HasRange v id off len write
       unfolding object_held

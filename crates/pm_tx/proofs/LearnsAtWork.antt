@@ -10,7 +10,7 @@ use Rattle.pm_model.specs.Bytes.{is_among}
 use Rattle.pm_undo.specs.Spans.{words_in}
 use Rattle.pm_world.specs.Records.{is_recorded}
 use Rattle.pm_tx.proofs.PlannedRecords.{words_same}
-use Rattle.pm_crash.specs.Operations.{HasRange, PassesEnd}
+use Rattle.pm_crash.specs.Operations.{HasRange, IsHeld, PassesEnd}
 use Rattle.pm_objects.specs.declared.ids.Oid.{Oid}
 use Rattle.pm_view.specs.Area.{is_in_area}
 use Rattle.pm_view.specs.Founds.{FindsKnown}
@@ -36,6 +36,7 @@ use Rattle.pm_tx.specs.Learning.{Finds, HasChecked, Learns, Looks}
 use Rattle.pm_tx.specs.Ranges.{KnowsRange}
 use Rattle.pm_tx.specs.Sequences.{word_count}
 use Rattle.pm_tx.proofs.WrittenBytes.{counted_covered, covered_counted}
+use Rattle.pm_crash.proofs.PendingOn.{published_same}
 
 -- a word that is known and not of the lane's area is in the list
 pub known_is_listed : (v : View) (u : ℕ) → is_in_area v.lane u ≡ false → is_known v u ≡ true → Contains v.known u
@@ -63,6 +64,7 @@ forget o at other lane v work there = record {
   opening = work.opening;
   working = work.working;
   no_entries = work.no_entries;
+  published = work.published;
   is_open = work.is_open;
   may_come = work.may_come;
   lines = work.lines;
@@ -70,7 +72,7 @@ forget o at other lane v work there = record {
 }
 
 pub same_fields : {M : Type 0} (lane : Lane M) → HasSameFields lane lane
-same_fields lane = record { pool = refl; shape = refl; locks = refl; level = refl; stage = refl; error = refl; drawn = refl; last = refl; stopped = refl }
+same_fields lane = record { pool = refl; shape = refl; locks = refl; entries = refl; level = refl; stage = refl; error = refl; drawn = refl; last = refl; stopped = refl }
 
 module _ {M : Type 0} (o : Opening) (lane : Lane M) (m : View) (work : IsAtWork o Anywhere lane m) (l : Lock) (held : Contains m.locks l) (word x : ℕ) (under : is_under word l ≡ true) (finds : FindsKnown m word x) where
   plain : IsPlain m word × (word < length m.words) × (is_in_area m.lane word ≡ false) × (is_held m word ≡ true)
@@ -96,9 +98,9 @@ module _ {M : Type 0} (o : Opening) (lane : Lane M) (m : View) (work : IsAtWork 
       let call = learned.call in
       goes_on o Anywhere lane lane m (after m (Load word x)) work (same_fields lane) objects_learned tt
       (work.seen.records ∙ ap (λ (l : Log). map span_of l.records) (sym learned.log)) work.spans
-      (opening_learned m word x plain.0 o work.opening) learned.working (ap (λ (l : Log). l.entries) learned.log ∙ work.no_entries)
+      (opening_learned m word x plain.0 o work.opening) learned.working (ap (λ (l : Log). l.entries) learned.log ∙ work.no_entries) (published_same m (after m (Load word x)) call.entries call.call)
       (open_learns m (after m (Load word x)) lane.level _ _ work.is_open
-      (record { keeps = record { lanes = call.lane.lanes; zones = call.lane.zones; pool = call.lane.pool; lane = call.lane.lane; known = call.remembers }; locks = call.locks; call = call.call })
+      (record { keeps = record { lanes = call.lane.lanes; zones = call.lane.zones; pool = call.lane.pool; lane = call.lane.lane; entries = call.entries; known = call.remembers }; locks = call.locks; call = call.call })
       (record { records = ap (λ (l : Log). l.records) learned.log; entries = ap (λ (l : Log). l.entries) learned.log })
       (record {
         known = λ i outside there. learned.same i (listed_is_known m i there);
@@ -148,33 +150,31 @@ words_learned o lane v l held first (suc n) w work under t =
       looks = (m, first + n, t.1, before.looks, look_in_pool o lane m before.works l there (first + n) t.1 last t.3.0, t.3, refl);
     })
 
+-- the object stays held
+pub held_kept : (v w : View) (id : Oid) (write : Bool) → KeepsObjects v w → IsHeld v id write → IsHeld w id write
+held_kept v w id write keeps object = record {
+  lock = object.lock;
+  lines = object.lines;
+  held = subst (λ locks. Contains locks object.lock) (sym keeps.locks) object.held;
+  block = object.block;
+  allows = object.allows;
+  of_pool = object.of_pool ∙ sym keeps.lane.pool;
+  place = object.place;
+}
+
 -- the range stays one of the object
 pub range_kept : (v w : View) (id : Oid) (off len : ℕ) (write : Bool) → KeepsObjects v w → HasRange v id off len write → HasRange w id off len write
+unfolding held_kept
 range_kept v w id off len write keeps range = record {
-  object = record {
-    lock = range.object.lock;
-    lines = range.object.lines;
-    held = subst (λ locks. Contains locks range.object.lock) (sym keeps.locks) range.object.held;
-    block = range.object.block;
-    allows = range.object.allows;
-    of_pool = range.object.of_pool ∙ sym keeps.lane.pool;
-    place = range.object.place;
-  };
+  object = held_kept v w id write keeps range.object;
   size_known = keeps.remembers (8 * range.object.lock.line + 1) range.size_known;
   inside = (let same = keeps.sizes range.object.lock range.object.held in let low = range.inside in omega (arith, same, low));
 }
 
 pub end_kept : (v w : View) (id : Oid) (off len : ℕ) (write : Bool) → KeepsObjects v w → PassesEnd v id off len write → PassesEnd w id off len write
+unfolding held_kept
 end_kept v w id off len write keeps passes = record {
-  object = record {
-    lock = passes.object.lock;
-    lines = passes.object.lines;
-    held = subst (λ locks. Contains locks passes.object.lock) (sym keeps.locks) passes.object.held;
-    block = passes.object.block;
-    allows = passes.object.allows;
-    of_pool = passes.object.of_pool ∙ sym keeps.lane.pool;
-    place = passes.object.place;
-  };
+  object = held_kept v w id write keeps passes.object;
   size_known = keeps.remembers (8 * passes.object.lock.line + 1) passes.size_known;
   outside = (let same = keeps.sizes passes.object.lock passes.object.held in let high = passes.outside in omega (arith, same, high));
 }
@@ -197,7 +197,7 @@ looks_once v word x low finds = (v, word, x, refl, low, finds, refl)
 pub moved : {M : Type 0} (o : Opening) (at : M → View → Type 0) (lane next : Lane M) (w : View) → IsAtWork o Anywhere lane w → HasSameFields lane next → next.records ≡ lane.records → at next.memory w → IsAtWork o at next w
 moved o at lane next w work fields records seen =
     forget o Anywhere at next w
-    (goes_on o Anywhere lane next w w work fields (same_objects w) tt (ap (λ rs. rs.items) records ∙ work.seen.records) (subst (λ rs. All IsSpan rs.items) (sym records) work.spans) work.opening work.working work.no_entries work.is_open) seen
+    (goes_on o Anywhere lane next w w work fields (same_objects w) tt (ap (λ rs. rs.items) records ∙ work.seen.records) (subst (λ rs. All IsSpan rs.items) (sym records) work.spans) work.opening work.working work.no_entries refl work.is_open) seen
 
 -- a check after a check
 pub checked_then : {M : Type 0} (o : Opening) (at : M → View → Type 0) (lane next : Lane M) (v : View) (P Q : View → Type 0) → (first : HasChecked o at lane v P) → HasChecked o at next first.view Q → HasChecked o at next v Q

@@ -19,7 +19,7 @@ use Rattle.pm_world.specs.declared.lane.Lane.{Lane}
 use Rattle.pm_tx.specs.Begins.{HasFoundNone, IsLed}
 use Rattle.pm_tx.specs.Lacking.{HasNoObject, LacksObject}
 
-begun_words : (p : Phase) (v : View) → (begun p v).words ≡ v.words
+pub begun_words : (p : Phase) (v : View) → (begun p v).words ≡ v.words
 begun_words Idle v = refl
 begun_words p v = refl
 
@@ -43,7 +43,7 @@ leads_words v w (s ∷ steps) leads none alone =
     let free = none_counted (is_counted s) (counted steps) none in
     leads_words (after v s) w steps leads.3 free.1 ((same_lane-after v s).table ∙ alone) ∙ step_words v s leads.1 free.0 alone
 
-led_words : (v w : View) → IsLed v w → IsAlone v → w.words ≡ v.words
+pub led_words : (v w : View) → IsLed v w → IsAlone v → w.words ≡ v.words
 led_words v w led alone = leads_words v w led.steps led.leads led.uncounted alone
 
 -- what is missing depends on the pool and its words alone

@@ -83,6 +83,7 @@ begun_looks {M} at lane new v w is looks there held lines fields =
       };
       unharmed = ap (λ (l : Lane M). l.error) fields ∙ is.unharmed;
       unstopped = ap (λ (l : Lane M). l.stopped) fields ∙ is.unstopped;
+      unlisted = ap (λ (l : Lane M). l.entries.items) fields ∙ is.unlisted;
       log = ap (λ (z : View). z.log) same ∙ is.log;
       undrawn = ap (λ (z : View). z.number) same ∙ is.undrawn;
       drained = ap (λ (z : View). z.changes) same ∙ is.drained;

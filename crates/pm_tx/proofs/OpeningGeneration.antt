@@ -1,9 +1,10 @@
 -- While a lane's first generation lasts, and as it ends, its log and its records are of the opening's.
-use Rattle.std.proofs.Common.{◌≡◌, inl, inr, ℕ, ◌+◌, ◌-◌, false, List, [], ◌∷◌, take, None, refl, sym, ap, ◌∙◌, subst, arith}
+use Rattle.std.proofs.Common.{◌≡◌, inl, inr, ℕ, ◌+◌, ◌-◌, false, List, [], ◌∷◌, length, take, None, refl, sym, ap, ◌∙◌, subst, arith}
 use Rattle.std.proofs.lemmas.Bool.{false≢true}
 use Rattle.std.proofs.lemmas.Option.{none-some}
 use Rattle.pm_crash.specs.Alone.{GrowsFirst, IsUnsealed, raises}
 use Rattle.pm_image.specs.Logs.{generation_word}
+use Rattle.pm_record.specs.declared.redo.Redo.{Redo}
 use Rattle.pm_view.specs.Log.{Final, Log, Phase, Recorded, no_log, phase_drawn}
 use Rattle.pm_view.specs.Log.Phase.{Idle, Open, Drawn, Sealing, Applying, Clearing, Retiring}
 use Rattle.pm_view.specs.Steps.{Step}
@@ -15,8 +16,18 @@ use Rattle.pm_world.specs.Records.{generation_of, records_generation}
 use Rattle.pm_world.specs.Sequences.{Ready}
 use Rattle.pm_tx.proofs.ReadyGenerations.{applies_none, applies_none_first, looks_generation, raised_when_ready, ready_first_of, unraised_when_ready}
 use Rattle.pm_tx.proofs.Unended.{unended_along}
-use Rattle.pm_tx.specs.Generations.{AppliesNone, is_ending, IsCommitting, IsGivingUp, IsOfOpening}
+use Rattle.pm_tx.specs.Generations.{AppliesNone, is_ending, IsApplied, IsCommitting, IsGivingUp, IsLogging, IsOfOpening, IsPublishing, IsUnapplied}
 use Rattle.pm_tx.specs.Learning.{Looks}
+
+logging_unended : (p : Phase) → IsLogging p → is_ending p ≡ false
+logging_unended (Open slot pair) logging = refl
+logging_unended p logging = absurd logging
+
+unapplied_unended : (count : ℕ) (p : Phase) → IsUnapplied count p → is_ending p ≡ false
+unapplied_unended count Drawn unapplied = refl
+unapplied_unended count Sealing unapplied = refl
+unapplied_unended count (Applying applied) unapplied = refl
+unapplied_unended count p unapplied = absurd unapplied
 
 module _ (o : Opening) (w : View) where
   grows_in : (p : Phase) → generation_of w ≡ generation_word o.words 0 → GrowsFirst o w p
@@ -70,6 +81,18 @@ module _ (o : Opening) (w : View) where
     in_flight = λ n drawn flies. absurd (none-some n (sym none ∙ drawn));
   }
 
+  -- once the entry of the generation is applied, no more is asked
+  applied_first : (all : ℕ) (p : Phase) → w.log.phase ≡ p → IsApplied all p → IsOfOpening o w
+  applied_first all Idle is applied = idle_first is
+  applied_first all (Applying k) is applied = record { grows = grows_as (Applying k) is tt; in_flight = λ n drawn flies. absurd (subst IsUnsealed is flies) }
+  applied_first all Clearing is applied = record { grows = grows_as Clearing is tt; in_flight = λ n drawn flies. absurd (subst IsUnsealed is flies) }
+  applied_first all p is applied = absurd applied
+
+  publishing_first : (count r : ℕ) → (r ≡ 0 → generation_of w ≡ generation_word o.words 0) → IsPublishing count r w → IsOfOpening o w
+  publishing_first count r first (inl (none, inl (number, logging))) = unended_first (logging_unended w.log.phase logging) (first none)
+  publishing_first count r first (inl (none, inr (number, unapplied))) = unended_first (unapplied_unended count w.log.phase unapplied) (first none)
+  publishing_first count r first (inr (one, number, applied)) = applied_first (count + 1) w.log.phase refl applied
+
   module _ (v : View) (r : ℕ) (first : generation_of w ≡ generation_word o.words 0 + r) where
     none_yet : r ≡ 0 → generation_of w ≡ generation_word o.words 0
     none_yet none = omega (arith, first, none)
@@ -77,7 +100,7 @@ module _ (o : Opening) (w : View) where
     once : r ≡ 1 → generation_of w ≡ generation_word o.words 0 + 1
     once one = omega (arith, first, one)
 
-    pub committing_first : IsCommitting v r w → IsOfOpening o w
+    pub committing_first : IsCommitting v [] r w → IsOfOpening o w
     committing_first (inl (none, inl is)) = phase_first (Open [] []) is refl (none_yet none)
     committing_first (inl (none, inr is)) = phase_first (phase_drawn v.log.records v.log.entries) is (drawn_generation v.log.records v.log.entries) (none_yet none)
     committing_first (inr (one, number, inl is)) = retiring_first is (once one)
@@ -96,7 +119,7 @@ drawn_still [] [] = refl
 drawn_still [] (e ∷ entries) = refl
 drawn_still (r ∷ records) entries = refl
 
-committing_still : (v : View) (r : ℕ) (w : View) → IsCommitting v r w → is_redoing w.log.phase ≡ false
+committing_still : (v : View) (r : ℕ) (w : View) → IsCommitting v [] r w → is_redoing w.log.phase ≡ false
 committing_still v r w (inl (none, inl is)) = ap is_redoing is
 committing_still v r w (inl (none, inr is)) = ap is_redoing is ∙ drawn_still v.log.records v.log.entries
 committing_still v r w (inr (one, number, inl is)) = ap is_redoing is
@@ -114,9 +137,14 @@ module _ (o : Opening) (v : View) (steps : List Step) (k : ℕ) (lane : v.lane �
   raised_first none = let e = raised_when_ready v (take k steps) lane (ready_first_of k v steps ready) (applies_none_first k v steps none) in omega (arith, e, first)
 
   -- wherever it stops
-  pub commit_first : ((i : ℕ) → IsCommitting v (raises (take i steps)) (after_all v (take i steps))) → IsOfOpening o (after_all v (take k steps))
-  commit_first is = committing_first o (after_all v (take k steps)) v (raises (take k steps))
+  pub publish_first : (count : ℕ) → IsPublishing count (raises (take k steps)) (after_all v (take k steps)) → IsOfOpening o (after_all v (take k steps))
+  publish_first count is = publishing_first o (after_all v (take k steps)) count (raises (take k steps))
+      (λ none. unraised_when_ready v (take k steps) lane (ready_first_of k v steps ready) none ∙ first) is
+
+  pub commit_first : (entries : List Redo) → ((i : ℕ) → IsCommitting v entries (raises (take i steps)) (after_all v (take i steps))) → IsOfOpening o (after_all v (take k steps))
+  commit_first [] is = committing_first o (after_all v (take k steps)) v (raises (take k steps))
       (raised_first (applies_none v steps (λ i. committing_still v (raises (take i steps)) (after_all v (take i steps)) (is i)))) (is k)
+  commit_first (e ∷ entries) is = publish_first (length (e ∷ entries)) (is k)
 
   pub give_up_first : ((i : ℕ) → IsGivingUp v (raises (take i steps)) (after_all v (take i steps))) → IsOfOpening o (after_all v (take k steps))
   give_up_first is = giving_up_first o (after_all v (take k steps)) v (raises (take k steps))

@@ -41,6 +41,9 @@ use Rattle.pm_tx.proofs.Drawless.{drawless}
 use Rattle.pm_tx.specs.AtWork.{IsAtWork}
 use Rattle.pm_tx.specs.Ranges.{HasReadRange, KnowsRange, reads_range}
 use Rattle.pm_tx.specs.Sequences.{byte_in, reads, word_count}
+use Rattle.pm_crash.proofs.PendingOn.{published_once_more}
+use Rattle.pm_crash.specs.Pending.{published_in}
+use Rattle.std.proofs.lemmas.List.{append-nil}
 
 -- the bytes that stand from a place on are those of the words that cover them
 some_seen : (v : View) (id : Oid) (off len : ℕ) (told : List ℕ) → 0 < len → id.off % 8 ≡ 0 → length told ≡ len → ((k : ℕ) → k < len → slice_index told k ≡ byte_in v.words (id.off + off + k)) → told ≡ bytes_seen v id off len
@@ -135,7 +138,7 @@ module _ {M : Type 0} (o : Opening) (at : M → View → Type 0) (lane : Lane M)
         let call = made.1.call in
         let read : ReadsBytes v w id off len = record {
           tells = record {
-            keeps = record { lanes = call.lane.lanes; zones = call.lane.zones; pool = call.lane.pool; lane = call.lane.lane; known = call.remembers };
+            keeps = record { lanes = call.lane.lanes; zones = call.lane.zones; pool = call.lane.pool; lane = call.lane.lane; entries = call.entries; known = call.remembers };
             locks = call.locks;
             call = ap (λ (told : List Told). told ++ record { operation = Read id off len; reply = Some (Bytes bytes) } ∷ []) call.call ∙ ap (λ bs. v.call ++ record { operation = Read id off len; reply = Some (Bytes bs) } ∷ []) is;
           };
@@ -157,7 +160,7 @@ module _ {M : Type 0} (o : Opening) (at : M → View → Type 0) (lane : Lane M)
           sizes = λ l held. ap (λ ws. slice_index ws (8 * l.line + 1)) made.1.words;
         })
         seen (ap (λ rs. rs.items) records ∙ (work.seen.records ∙ ap (λ (l : Log). map span_of l.records) (sym made.1.log))) (subst (λ rs. All IsSpan rs.items) (sym records) work.spans)
-        opening (tell_works u (Read id off len) (Some (Bytes bytes)) made.1.working) (ap (λ (l : Log). l.entries) made.1.log ∙ work.no_entries)
+        opening (tell_works u (Read id off len) (Some (Bytes bytes)) made.1.working) (ap (λ (l : Log). l.entries) made.1.log ∙ work.no_entries) (published_once_more v w (Read id off len) _ read.tells.keeps.entries read.tells.call ∙ append-nil (published_in v))
         (read_keeps_open v w id off len lane.level work.level work.is_open read) in
         record {
           ready = read_may_be_made;

@@ -65,7 +65,7 @@ log_ended false = no_log (Open [] [])
 abbrev pub HasRetired : Bool → ℕ → View → Type 0
 HasRetired number r w = (r ≡ 1) × ((w.log.phase ≡ Retiring) ⊎ (w.log ≡ log_ended number)) × (is_some w.number ≡ number)
 
-none_raised : (s : Step) → raise_by s ≡ 0 → (r raised : ℕ) → r ≡ raised → r + raise_by s ≡ raised
+pub none_raised : (s : Step) → raise_by s ≡ 0 → (r raised : ℕ) → r ≡ raised → r + raise_by s ≡ raised
 none_raised s none r raised is = (let e : r + raise_by s ≡ raised = omega (arith, none, is) in e)
 
 module _ (raised : ℕ) (log : Log) (number : Bool) (steady : IsSteady log.phase) where

@@ -89,6 +89,7 @@ module _ {M : Type 0} (at : M → View → Type 0) (lane : Lane M) (v : View) (i
     answered = is.answered;
     unharmed = is.unharmed;
     unstopped = is.unstopped;
+    unlisted = is.unlisted;
     fresh = is.fresh;
     drained = is.drained;
     free = is.free;
@@ -146,6 +147,7 @@ module _ {M : Type 0} (at : M → View → Type 0) (lane : Lane M) (v : View) (i
         answered = is.answered;
         unharmed = is.unharmed;
         unstopped = is.unstopped;
+        unlisted = is.unlisted;
         fresh = inr (refl, refl, refl);
         drained = is.drained;
         free = is.free;
@@ -162,6 +164,7 @@ module _ {M : Type 0} (at : M → View → Type 0) (lane : Lane M) (v : View) (i
         seen = seen_so;
         unharmed = is.unharmed;
         unstopped = is.unstopped;
+        unlisted = is.unlisted;
         log = refl;
         undrawn = refl;
         drained = is.drained;

@@ -50,12 +50,13 @@ module _ {M : Type 0} (at : M → View → Type 0) (lane : Lane M) (v : View) (i
   abbrev tried : List Step → List Lock → View
   tried seen locks = record v { locks = locks; seen = seen }
 
-  begun_with : (new : Lane M) (s : Step) (locks : List Lock) → at new.memory (tried (v.seen ++ s ∷ []) locks) → map lock_of new.locks.items ≡ locks → new.records.items ≡ lane.records.items → new.drawn ≡ lane.drawn → new.last ≡ lane.last → IsOfSamePool lane new
+  begun_with : (new : Lane M) (s : Step) (locks : List Lock) → at new.memory (tried (v.seen ++ s ∷ []) locks) → map lock_of new.locks.items ≡ locks → new.records.items ≡ lane.records.items → new.entries ≡ lane.entries → new.drawn ≡ lane.drawn → new.last ≡ lane.last → IsOfSamePool lane new
       → new.error ≡ lane.error → new.stopped ≡ lane.stopped → HoldsLines (record v { locks = locks }) → IsBegun at new (tried (v.seen ++ s ∷ []) locks)
-  begun_with new s locks there held records drawn last pool error stopped lines = record {
+  begun_with new s locks there held records entries drawn last pool error stopped lines = record {
     seen = record { memory = there; locks = held; records = records ∙ is.seen.records; drawn = λ number some. is.seen.drawn number (sym drawn ∙ some); last = last ∙ is.seen.last; pool = is.seen.pool ∙ sym pool.pool; shape = shape_seen lane new v (tried (v.seen ++ s ∷ []) locks) pool (record { lanes = refl; zones = refl; pool = refl; lane = refl; stop = refl; table = refl; size = refl }) is.seen.shape };
     unharmed = error ∙ is.unharmed;
     unstopped = stopped ∙ is.unstopped;
+    unlisted = ap (λ es. es.items) entries ∙ is.unlisted;
     log = is.log;
     undrawn = is.undrawn;
     drained = is.drained;
@@ -66,8 +67,8 @@ module _ {M : Type 0} (at : M → View → Type 0) (lane : Lane M) (v : View) (i
   }
 
   pub not_taken : (memory : M) (write : Bool) → at memory (after v (takes line write false)) → IsBegun at (record lane { memory = memory }) (after v (takes line write false))
-  not_taken memory true there = begun_with (record lane { memory = memory }) (TakeWrite line false) v.locks there is.seen.locks refl refl refl (record { pool = refl; shape = refl }) refl refl is.lines
-  not_taken memory false there = begun_with (record lane { memory = memory }) (TakeRead line false) v.locks there is.seen.locks refl refl refl (record { pool = refl; shape = refl }) refl refl is.lines
+  not_taken memory true there = begun_with (record lane { memory = memory }) (TakeWrite line false) v.locks there is.seen.locks refl refl refl refl (record { pool = refl; shape = refl }) refl refl is.lines
+  not_taken memory false there = begun_with (record lane { memory = memory }) (TakeRead line false) v.locks there is.seen.locks refl refl refl refl (record { pool = refl; shape = refl }) refl refl is.lines
 
   abbrev one_more : Bool → List Lock
   one_more write = v.locks ++ record { line = line; write = write; block = None } ∷ []
@@ -78,9 +79,9 @@ module _ {M : Type 0} (at : M → View → Type 0) (lane : Lane M) (v : View) (i
       ∙ (map-append lock_of lane.locks.items (record { line = line; write = write; block = None } ∷ [])
       ∙ ap (λ (locks : List Lock). locks ++ record { line = line; write = write; block = None } ∷ []) is.seen.locks)
 
-  pub is_taken : (new : Lane M) (write : Bool) → at new.memory (after v (takes line write true)) → new.locks.items ≡ lane.locks.items ++ record { line = line; write = write; block = None } ∷ [] → new.records.items ≡ lane.records.items
+  pub is_taken : (new : Lane M) (write : Bool) → at new.memory (after v (takes line write true)) → new.locks.items ≡ lane.locks.items ++ record { line = line; write = write; block = None } ∷ [] → new.records.items ≡ lane.records.items → new.entries ≡ lane.entries
       → new.drawn ≡ lane.drawn → new.last ≡ lane.last → IsOfSamePool lane new → new.error ≡ lane.error → new.stopped ≡ lane.stopped → IsBegun at new (after v (takes line write true))
-  is_taken new true there pushed records drawn last pool error stopped =
-      begun_with new (TakeWrite line true) (one_more true) there (held_more new true pushed) records drawn last pool error stopped (more_lines v (record { line = line; write = true; block = None }) is.lines free)
-  is_taken new false there pushed records drawn last pool error stopped =
-      begun_with new (TakeRead line true) (one_more false) there (held_more new false pushed) records drawn last pool error stopped (more_lines v (record { line = line; write = false; block = None }) is.lines free)
+  is_taken new true there pushed records entries drawn last pool error stopped =
+      begun_with new (TakeWrite line true) (one_more true) there (held_more new true pushed) records entries drawn last pool error stopped (more_lines v (record { line = line; write = true; block = None }) is.lines free)
+  is_taken new false there pushed records entries drawn last pool error stopped =
+      begun_with new (TakeRead line true) (one_more false) there (held_more new false pushed) records entries drawn last pool error stopped (more_lines v (record { line = line; write = false; block = None }) is.lines free)

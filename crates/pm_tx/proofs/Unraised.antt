@@ -45,7 +45,7 @@ IsWork (NumberSeen n) = Unit {0}
 IsWork (Tell operation reply) = Unit {0}
 IsWork s = ⊥
 
-quiet_work : HasQuietSteps IsWork
+pub quiet_work : HasQuietSteps IsWork
 quiet_work = record { load = λ w x. tt; flush = λ line. tt; drain = tt }
 
 pub work_raises : (s : Step) → IsWork s → is_raise s ≡ false

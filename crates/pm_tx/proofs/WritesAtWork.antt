@@ -29,6 +29,9 @@ use Rattle.pm_tx.specs.AtWork.{IsAtWork}
 use Rattle.pm_tx.specs.Ending.{DrawEnded}
 use Rattle.pm_tx.specs.Ranges.{CanWrite, HasWrittenRange, StopsUndrawn, writes_range}
 use Rattle.pm_tx.specs.Sequences.{word_count, writes}
+use Rattle.pm_crash.proofs.PendingOn.{published_once_more}
+use Rattle.pm_crash.specs.Pending.{published_in}
+use Rattle.std.proofs.lemmas.List.{append-nil}
 
 module _ {M : Type 0} (o : Opening) (at : M → View → Type 0) (lane : Lane M) (v : View) (work : IsAtWork o at lane v) (id : Oid) (off : ℕ) (bytes : List ℕ) (can : CanWrite v id off (length bytes)) where
   made : Ready v (writes (id.off + off) bytes v) × HasWritten o work.sound (id.off + off) bytes v can.added (word_count (id.off + off) (length bytes)) (after_all v (writes (id.off + off) bytes v))
@@ -55,7 +58,7 @@ module _ {M : Type 0} (o : Opening) (at : M → View → Type 0) (lane : Lane M)
       let has = made.1 in
       record {
         tells = record {
-          keeps = record { lanes = has.call.lane.lanes; zones = has.call.lane.zones; pool = has.call.lane.pool; lane = has.call.lane.lane; known = has.call.remembers };
+          keeps = record { lanes = has.call.lane.lanes; zones = has.call.lane.zones; pool = has.call.lane.pool; lane = has.call.lane.lane; entries = has.call.entries; known = has.call.remembers };
           locks = has.call.locks;
           call = ap (λ (told : List Told). told ++ record { operation = Write id off bytes; reply = None } ∷ []) has.call.call;
         };
@@ -106,6 +109,7 @@ module _ {M : Type 0} (o : Opening) (at : M → View → Type 0) (lane : Lane M)
       opening
       (tell_works (after_all v (writes (id.off + off) bytes v)) (Write id off bytes) None has.working)
       (ap (λ (l : Log). l.entries) has.log ∙ work.no_entries)
+      (published_once_more v last (Write id off bytes) None written.tells.keeps.entries written.tells.call ∙ append-nil (published_in v))
       (write_keeps_open v last id off lane.level bytes work.level work.is_open written) in
       record {
         ready = write_may_be_made;

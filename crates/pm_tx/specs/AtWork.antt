@@ -2,10 +2,13 @@
 use Rattle.std.specs.Prelude.{◌≡◌, ℕ, ◌+◌, ◌*◌, ◌/◌, ◌<◌, ◌≤◌, false, [], All, Contains, Some, length, map, nat_eq, slice_index}
 use Rattle.std.specs.List.{IsDistinct}
 use Rattle.pm_crash.specs.OpenCall.{IsOpen}
+use Rattle.pm_crash.specs.Pending.{published_in}
 use Rattle.pm_model.specs.declared.stage.Stage.TheVariants as model_stage
 use Rattle.pm_objects.specs.declared.history.TxErr.TheVariants as error
 use Rattle.pm_view.specs.Steps.Step.{NumberSeen}
 use Rattle.pm_view.specs.View.{View, Lock}
+use Rattle.pm_pending.specs.Pending.{entry_of}
+use Rattle.pm_redo.specs.Entering.{IsOfPool}
 use Rattle.pm_undo.specs.Spans.{IsSpan}
 use Rattle.pm_undo.specs.Working.{FindsOpening, IsWorking}
 use Rattle.pm_world.specs.Lanes.{IsSeenAs}
@@ -35,6 +38,13 @@ pub record FindsObject (v : View) (l : Lock) : Type 0 where
 abbrev pub FindsObjects : View → Type 0
 FindsObjects v = (l : Lock) → Contains v.locks l → FindsObject v l
 
+-- the entries that the lane lists are those of the actions that its call published, in their order, each of a word of the pool that it locked for
+-- writing; and the one that ends its generation fits behind them
+pub record ListsPublished {M : Type 0} (lane : Lane M) (v : View) : Type 0 where
+  pub listed : lane.entries.items ≡ map entry_of (published_in v)
+  pub few : length lane.entries.items ≤ 63
+  pub of_pool : All (IsOfPool v) lane.entries.items
+
 -- the lane has a transaction open, in work: its fields say so, its view may record and write, and its call came to what the plain model has
 pub record IsAtWork {M : Type 0} (o : Opening) (at : M → View → Type 0) (lane : Lane M) (v : View) : Type 0 where
   pub seen : IsSeenAs at lane v
@@ -48,6 +58,7 @@ pub record IsAtWork {M : Type 0} (o : Opening) (at : M → View → Type 0) (lan
   pub opening : FindsOpening o v
   pub working : IsWorking v
   pub no_entries : v.log.entries ≡ []
+  pub published : ListsPublished lane v
   pub is_open : IsOpen v lane.level model_stage.Work error.None
   pub may_come : MayCome v
   pub lines : HoldsLines v

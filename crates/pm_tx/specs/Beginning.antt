@@ -18,11 +18,12 @@ use Rattle.pm_tx.specs.Ending.{DrawEnded}
 use Rattle.pm_tx.specs.Resting.{IsAtRest}
 use Rattle.pm_tx.specs.Sequences.{sees_generation, starts}
 
--- the call is open, with nothing told, recorded or undrained; the lane may hold locks
+-- the call is open, with nothing told, recorded, listed or undrained; the lane may hold locks
 pub record IsBegun {M : Type 0} (at : M → View → Type 0) (lane : Lane M) (v : View) : Type 0 where
   pub seen : IsSeenAs at lane v
   pub unharmed : lane.error ≡ error.None
   pub unstopped : lane.stopped ≡ false
+  pub unlisted : lane.entries.items ≡ []
   pub log : v.log ≡ no_log (Open [] [])
   pub undrawn : v.number ≡ None
   pub drained : v.changes ≡ []

@@ -22,7 +22,9 @@ use Rattle.pm_world.specs.declared.lane.Lane.{Lane}
 use Rattle.pm_world.specs.declared.lane.Span.{Span}
 use Rattle.pm_tx.specs.AtWork.{HoldsLines, IsAtWork}
 use Rattle.pm_tx.specs.Resting.{HasPlace, IsAtRest}
-use Rattle.pm_tx.specs.Sequences.{commits, decides, ends_call, retires_any}
+use Rattle.pm_tx.specs.Publishing.{MayPublish}
+use Rattle.pm_record.specs.declared.redo.Redo.{Redo}
+use Rattle.pm_tx.specs.Sequences.{commits, completes, decides, decides_all, ends_call, logs_listed}
 
 -- some view that the lane may be seen as is at work, without redo entries
 abbrev pub IsWorkingLane : {M : Type 0} → (M → View → Type 0) → Lane M → Type 0
@@ -48,21 +50,31 @@ IsLaneAtWork at lane = (o : Opening) × ((v : View) × IsAtWork o at lane v)
 unfoldable pub IsReadyForAny : (View → Type 0) → (ℕ → Sequence) → Type 0
 IsReadyForAny at steps = (v : View) × (at v × ((n : ℕ) → Ready v (steps n v)))
 
--- the memory may be seen as a view with its area, from which a call with these records may be decided, whatever number it draws
-abbrev pub IsDecidable : (View → Type 0) → List Span → Type 0
-IsDecidable at spans = (v : View) × (at v × (HasArea v × ((n : ℕ) → Ready v (decides spans n v))))
+-- with these records and these redo entries the call may be decided, whatever number it draws: the entries may be published, or, without any, the
+-- records ended
+abbrev pub CanDecide : View → List Span → List Redo → Type 0
+CanDecide v spans [] = HasArea v × ((n : ℕ) → Ready v (decides spans n v))
+CanDecide v spans (e ∷ entries) = MayPublish v (e ∷ entries)
 
--- the view once all is persistent, the commit is told and the call drew this number
-abbrev pub drawn_view : View → ℕ → View
-drawn_view v n = after_all (after_all v (settles v)) (ends_call Commit None n (after_all v (settles v)))
+-- the memory may be seen as a view from which a call with these records and these redo entries may be decided
+abbrev pub IsDecidable : (View → Type 0) → List Span → List Redo → Type 0
+IsDecidable at spans entries = (v : View) × (at v × CanDecide v spans entries)
 
--- from each such view the call ended, and the lane stopped behind that
-abbrev pub StopsEnded : (View → Type 0) → (View → Type 0) → List Span → ℕ → Type 0
-StopsEnded old new spans n = (v : View) → old v → Ready v (decides spans n v) → Stops new (after_all v (ends_call Commit None n v)) (retires_any spans (after_all v (ends_call Commit None n v)))
+-- the view once the entries are logged, the commit is told and the call drew this number
+abbrev pub decided_view : View → List Redo → ℕ → View
+decided_view v entries n = after_all (after_all v (logs_listed entries v)) (ends_call Commit None n (after_all v (logs_listed entries v)))
+
+-- and the one where all was made persistent before
+abbrev pub drawn_view : View → List Redo → ℕ → View
+drawn_view v entries n = decided_view (after_all v (settles v)) entries n
+
+-- from each such view the call drew this number, and the lane stopped behind that
+abbrev pub StopsEnded : (View → Type 0) → (View → Type 0) → List Span → List Redo → ℕ → Type 0
+StopsEnded old new spans entries n = (v : View) → old v → Ready v (decides_all spans entries n v) → Stops new (decided_view v entries n) (completes spans entries (decided_view v entries n))
 
 -- from each such view the commit drew this number, and the lane stopped behind that
-abbrev pub StopsDrawn : (View → Type 0) → (View → Type 0) → List Span → ℕ → Type 0
-StopsDrawn old new spans n = (v : View) → old v → Ready v (commits spans n v) → Stops new (drawn_view v n) (retires_any spans (drawn_view v n))
+abbrev pub StopsDrawn : (View → Type 0) → (View → Type 0) → List Span → List Redo → ℕ → Type 0
+StopsDrawn old new spans entries n = (v : View) → old v → Ready v (commits spans entries n v) → Stops new (drawn_view v entries n) (completes spans entries (drawn_view v entries n))
 
 -- once it is taken back and this operation is told, the call is given up with this error
 abbrev pub GivesUpBy : View → Operation → Option Value → TxErr → Type 0
@@ -77,10 +89,12 @@ pub record IsOver (v w : View) (n : ℕ) : Type 0 where
   pub number : w.number ≡ Some n
   pub last : last_number_of w.entries ≡ n
 
--- the lane is between its call and the end of its transaction: no call is open, nothing is undrained, and it holds its locks still
+-- the lane is between its call and the end of its transaction: no call is open, no entry is listed, nothing is undrained, and it holds its locks
+-- still
 pub record IsAfterCall {M : Type 0} (at : M → View → Type 0) (lane : Lane M) (v : View) : Type 0 where
   pub seen : IsSeenAs at lane v
   pub unstopped : lane.stopped ≡ false
+  pub unlisted : lane.entries.items ≡ []
   pub log : v.log ≡ no_log Idle
   pub drained : v.changes ≡ []
   pub lines : HoldsLines v
@@ -111,6 +125,14 @@ pub record IsEndedBy {M : Type 0} (at : M → View → Type 0) (lane : Lane M) (
 pub record IsDrawnAs (v w : View) (n : ℕ) : Type 0 where
   pub number : w.number ≡ Some n
   pub entries : w.entries ≡ drawn_more v.entries n w.call
+
+-- and came to this operation with its reply
+abbrev pub IsDrawnBy : View → View → Operation → Option Value → ℕ → Type 0
+IsDrawnBy v w operation reply n = (w.call ≡ told_more v.call operation reply) × IsDrawnAs v w n
+
+-- the call drew no number, and no entry came
+abbrev pub IsUndrawn : View → View → Type 0
+IsUndrawn v w = (w.number ≡ None) × (w.entries ≡ v.entries)
 
 -- the call drew no number, or it came to this operation with its reply and its entry is the last
 pub record IsDrawnOrNot (v w : View) (operation : Operation) (reply : Option Value) : Type 0 where

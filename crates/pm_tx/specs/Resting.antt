@@ -17,12 +17,13 @@ pub record HasPlace (v : View) : Type 0 where
 abbrev pub IsFresh : View → Type 0
 IsFresh v = (v.log ≡ no_log Idle) ⊎ ((v.log ≡ no_log (Open [] [])) × (v.number ≡ None) × (v.call ≡ []))
 
--- the lane is between two transactions: it holds no lock, nothing is undrained, and has its area in the pool
+-- the lane is between two transactions: it holds no lock and lists no entry, nothing is undrained, and has its area in the pool
 pub record IsAtRest {M : Type 0} (at : M → View → Type 0) (lane : Lane M) (v : View) : Type 0 where
   pub seen : IsSeenAs at lane v
   pub answered : lane.drawn ≡ None
   pub unharmed : lane.error ≡ error.None
   pub unstopped : lane.stopped ≡ false
+  pub unlisted : lane.entries.items ≡ []
   pub fresh : IsFresh v
   pub drained : v.changes ≡ []
   pub free : v.locks ≡ []

@@ -1,10 +1,13 @@
 -- The sequences of a transaction's reads, writes and ends: docs/FORMAT.md, "Sequences".
-use Rattle.std.specs.Prelude.{ℕ, ◌+◌, ◌-◌, ◌/◌, ◌%◌, ◌==◌, if◌then◌else◌, List, [], ◌∷◌, Option, None, false, length, slice_index, slice_index_or}
+use Rattle.std.specs.Prelude.{ℕ, ◌+◌, ◌-◌, ◌/◌, ◌%◌, ◌==◌, if◌then◌else◌, List, [], ◌∷◌, ◌++◌, Option, None, false, length, slice_index, slice_index_or}
 use Rattle.pm_words.specs.Words.{bytes_of}
 use Rattle.pm_objects.specs.declared.calls.Operation.{Operation}
 use Rattle.pm_objects.specs.declared.calls.Operation.TheVariants.{Commit}
 use Rattle.pm_objects.specs.declared.history.Value.{Value}
 use Rattle.pm_crash.specs.Writes.{written_word}
+use Rattle.pm_record.specs.declared.redo.Redo.{Redo}
+use Rattle.pm_redo.specs.Entering.{ending}
+use Rattle.pm_redo.specs.Sequences.{logs, performs}
 use Rattle.pm_undo.specs.Sequences.{looks_from, restores, retires}
 use Rattle.pm_view.specs.Area.{area_word}
 use Rattle.pm_view.specs.Steps.Step.{Draw, Give, NumberSeen, Tell}
@@ -58,9 +61,32 @@ retires_any (s ∷ spans) = retires
 unfoldable pub decides : List Span → ℕ → Sequence
 decides spans n = in_turn (ends_call Commit None n) (retires_any spans)
 
+-- the logged entries are performed, with the one that ends the lane's generation behind them
+unfoldable pub performs_logged : List Redo → Sequence
+performs_logged entries v = performs (entries ++ ending v ∷ []) v
+
+-- these entries are logged, the operation is told and the call draws this number, and then the log is performed
+unfoldable pub publishes : List Redo → Operation → ℕ → Sequence
+publishes entries operation n = in_turn (logs entries) (in_turn (ends_call operation None n) (performs_logged entries))
+
+-- the commit is told and the call draws this number: what it published is performed, or its records are ended
+unfoldable pub decides_all : List Span → List Redo → ℕ → Sequence
+decides_all spans [] n = decides spans n
+decides_all spans (e ∷ entries) n = publishes (e ∷ entries) Commit n
+
 -- all is made persistent, and then the call is decided
-unfoldable pub commits : List Span → ℕ → Sequence
-commits spans n = in_turn settles (decides spans n)
+unfoldable pub commits : List Span → List Redo → ℕ → Sequence
+commits spans entries n = in_turn settles (decides_all spans entries n)
+
+-- what a commit makes before the call draws its number, once all is persistent: the entries are logged, if there are any
+unfoldable pub logs_listed : List Redo → Sequence
+logs_listed [] = nothing
+logs_listed (e ∷ entries) = logs (e ∷ entries)
+
+-- and what it makes behind the draw: the logged entries are performed, or, without any, the records are ended
+unfoldable pub completes : List Span → List Redo → Sequence
+completes spans [] = retires_any spans
+completes spans (e ∷ entries) = performs_logged (e ∷ entries)
 
 abbrev pub no_lock : HeldLock
 no_lock = record { line = 0; write = false; block = None }

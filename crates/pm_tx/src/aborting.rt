@@ -38,7 +38,7 @@ pub fn abort<M: LawfulMem>(lane: &mut Lane<M>, errnum: u32) -> Result<(), Refusa
     ensures ended { OnOk result ((o : Opening) (v : View) → IsAtWork o M.at lane.old v → IsEndedBy M.at lane.new v (gives_up lane.old.records.items (Abort errnum) None lane.new.last) (Abort errnum) None) }
     ensures none { OnOk result (lane.new.records.items ≡ []) }
     ensures lane { OnOk result (lane.new
-        ≡ record lane.old { memory = lane.new.memory; records = lane.new.records; stage = stage.OnAbort; error = error_for errnum; drawn = Some lane.new.last; last = lane.new.last }) }
+        ≡ record lane.old { memory = lane.new.memory; records = lane.new.records; entries = lane.new.entries; stage = stage.OnAbort; error = error_for errnum; drawn = Some lane.new.last; last = lane.new.last }) }
     ensures stops { OnErr result (work_refusal lane.old ≡ None → (o : Opening) (v : View) → IsAtWork o M.at lane.old v
         → IsStoppedIn M.at lane.new v (gives_up lane.old.records.items (Abort errnum) None lane.new.last) (Abort errnum) None) }
     ensures stopped { IfErr result (λ r. work_refusal lane.old ≡ None → r ≡ refusal.Stopped) }

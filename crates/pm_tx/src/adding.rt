@@ -87,7 +87,7 @@ fn add_at_work<M: LawfulMem>(
         → HasLooked v (λ w. IsGivenUpFor M.at lane.new lane.old.records.items (AddRange id off len) (record { id = id; off = off; len = len }) r w)) }
     ensures none { IfErr result (λ r. r ≢ refusal.Stopped → lane.new.records.items ≡ []) }
     ensures given_up_lane { IfErr result (λ r. r ≢ refusal.Stopped
-        → lane.new ≡ record lane.old { memory = lane.new.memory; records = lane.new.records; stage = stage.OnAbort; error = error.Refused r; drawn = Some lane.new.last; last = lane.new.last }) }
+        → lane.new ≡ record lane.old { memory = lane.new.memory; records = lane.new.records; entries = lane.new.entries; stage = stage.OnAbort; error = error.Refused r; drawn = Some lane.new.last; last = lane.new.last }) }
     ensures stopped { IfErr result (λ r. r ≡ refusal.Stopped → (o : Opening) (v : View) → IsAtWork o M.at lane.old v
         → HasLooked v (λ w. IsStoppedAt M.at lane.new lane.old.records.items (AddRange id off len) (record { id = id; off = off; len = len }) (λ u. CanAdd u id off len) (adds_range lane.old.records.items id off len) w)) }
     ensures stopped_lane { IfErr result (λ r. r ≡ refusal.Stopped
@@ -120,7 +120,7 @@ pub fn add_range<M: LawfulMem>(
         → HasLooked v (λ w. IsGivenUpFor M.at lane.new lane.old.records.items (AddRange id off len) (record { id = id; off = off; len = len }) r w)) }
     ensures none { IfErr result (λ r. work_refusal lane.old ≡ None → r ≢ refusal.Stopped → lane.new.records.items ≡ []) }
     ensures given_up_lane { IfErr result (λ r. work_refusal lane.old ≡ None → r ≢ refusal.Stopped
-        → lane.new ≡ record lane.old { memory = lane.new.memory; records = lane.new.records; stage = stage.OnAbort; error = error.Refused r; drawn = Some lane.new.last; last = lane.new.last }) }
+        → lane.new ≡ record lane.old { memory = lane.new.memory; records = lane.new.records; entries = lane.new.entries; stage = stage.OnAbort; error = error.Refused r; drawn = Some lane.new.last; last = lane.new.last }) }
     ensures stopped { IfErr result (λ r. work_refusal lane.old ≡ None → r ≡ refusal.Stopped → (o : Opening) (v : View) → IsAtWork o M.at lane.old v
         → HasLooked v (λ w. IsStoppedAt M.at lane.new lane.old.records.items (AddRange id off len) (record { id = id; off = off; len = len }) (λ u. CanAdd u id off len) (adds_range lane.old.records.items id off len) w)) }
     ensures stopped_lane { IfErr result (λ r. work_refusal lane.old ≡ None → r ≡ refusal.Stopped

@@ -37,7 +37,7 @@ fn holds(locks: &[HeldLock], line: u64, write: bool) -> bool
 }
 
 /// The line before which an object of the pool would begin, where a lock of it is among these, for writing if so asked.
-fn held_line(locks: &[HeldLock], pool: u64, id: Oid, write: bool) -> Option<u64>
+pub(crate) fn held_line(locks: &[HeldLock], pool: u64, id: Oid, write: bool) -> Option<u64>
     ensures some { IfSome result (λ line. (id.pool ≡ pool) × (id.off ≡ 64 * line + 64) × (list_any (is_lock_of line write) locks.now ≡ true)) }
     ensures none { IsNone result → id.pool ≡ pool → is_locked (map lock_of (map view_lock locks.now)) id.off write ≡ false }
 {

@@ -7,14 +7,15 @@ ghost use Rattle.pm_view.specs.Steps.Step.{Tell};
 ghost use Rattle.pm_view.specs.View.{View};
 ghost use Rattle.pm_view.specs.Views.{after};
 ghost use Rattle.pm_world.specs.Opening.{Opening};
-ghost use Rattle.pm_world.specs.Sequences.{IsMade, IsReady, IsStopped, Runs, one, settles};
+ghost use Rattle.pm_world.specs.Sequences.{IsMade, IsReady, IsStopped, Runs, in_turn, one, settles};
 ghost use Rattle.pm_world.specs.declared.lane.Stage.TheVariants as stage;
 ghost use Rattle.pm_tx.specs.AtWork.{IsAtWork};
 ghost use Rattle.pm_tx.specs.Ending.{IsDecidable, IsEndedBy, IsLaneAtWork, IsStoppedIn, StopsDrawn, StopsEnded};
-ghost use Rattle.pm_tx.specs.Sequences.{commits, decides, retires_any};
+ghost use Rattle.pm_tx.specs.Sequences.{commits, decides, decides_all, logs_listed, retires_any};
 ghost use Rattle.pm_tx.specs.Stages.{work_refusal};
 
 use crate::ending::end_call;
+use crate::publishing::publish_log;
 use crate::stages::check_work;
 use pm_memory::Stopped;
 use pm_objects::{Operation, Refusal};
@@ -39,41 +40,60 @@ fn retire_any<M: LawfulMem>(lane: &mut Lane<M>) -> Result<(), Stopped>
 /// Tells the commit, draws the call's number, and ends the records.
 #[tactic(auto, using(pm_world::proofs::Sequencing::runs_then), unfolding(crate::specs::Sequences::decides))]
 fn decide<M: LawfulMem>(lane: &mut Lane<M>) -> Result<(), Stopped>
-    requires decidable { IsDecidable (M.at lane.old.memory) lane.old.records.items }
+    requires decidable { IsDecidable (M.at lane.old.memory) lane.old.records.items [] }
     ensures ran { Runs (M.at lane.old.memory) (M.at lane.new.memory) (decides lane.old.records.items lane.new.last) result }
     ensures none { OnOk result (lane.new.records.items ≡ []) }
     ensures drawn { lane.new.drawn ≡ Some lane.new.last }
-    ensures stops { OnErr result (StopsEnded (M.at lane.old.memory) (M.at lane.new.memory) lane.old.records.items lane.new.last) }
+    ensures stops { OnErr result (StopsEnded (M.at lane.old.memory) (M.at lane.new.memory) lane.old.records.items [] lane.new.last) }
     ensures else_same { lane.new ≡ record lane.old { memory = lane.new.memory; records = lane.new.records; drawn = lane.new.drawn; last = lane.new.last } }
 {
     end_call(lane, &Operation::Commit, None);
     retire_any(lane)
 }
 
+/// Decides the call: what it published is performed, if anything, else its records are ended.
+fn decide_all<M: LawfulMem>(lane: &mut Lane<M>) -> Result<(), Stopped>
+    requires decidable { IsDecidable (M.at lane.old.memory) lane.old.records.items lane.old.entries.items }
+    ensures ran { Runs (M.at lane.old.memory) (M.at lane.new.memory) (decides_all lane.old.records.items lane.old.entries.items lane.new.last) result }
+    ensures none { OnOk result (lane.new.records.items ≡ []) }
+    ensures unlisted { OnOk result (lane.new.entries.items ≡ []) }
+    ensures drawn { OnOk result (lane.new.drawn ≡ Some lane.new.last) }
+    ensures stops { OnErr result (((lane.new.drawn ≡ lane.old.drawn) × IsStopped (M.at lane.old.memory) (M.at lane.new.memory) (logs_listed lane.old.entries.items))
+        ⊎ ((lane.new.drawn ≡ Some lane.new.last) × StopsEnded (M.at lane.old.memory) (M.at lane.new.memory) lane.old.records.items lane.old.entries.items lane.new.last)) }
+    ensures else_same { lane.new ≡ record lane.old { memory = lane.new.memory; records = lane.new.records; entries = lane.new.entries; drawn = lane.new.drawn; last = lane.new.last } }
+{
+    if lane.entries.is_empty() {
+        decide(lane)
+    } else {
+        publish_log(lane, &Operation::Commit)
+    }
+}
+
 /// Makes all that the call did persistent, and then final.
 #[tactic(auto, using(pm_world::proofs::Sequencing::runs_then, pm_world::proofs::Sequencing::runs_err), unfolding(crate::specs::Sequences::commits))]
 fn finish<M: LawfulMem>(lane: &mut Lane<M>) -> Result<(), Stopped>
     requires at_work { IsLaneAtWork M.at lane.old }
-    ensures ran { Runs (M.at lane.old.memory) (M.at lane.new.memory) (commits lane.old.records.items lane.new.last) result }
+    ensures ran { Runs (M.at lane.old.memory) (M.at lane.new.memory) (commits lane.old.records.items lane.old.entries.items lane.new.last) result }
     ensures none { OnOk result (lane.new.records.items ≡ []) }
+    ensures unlisted { OnOk result (lane.new.entries.items ≡ []) }
     ensures drawn { OnOk result (lane.new.drawn ≡ Some lane.new.last) }
-    ensures stops { OnErr result (((lane.new.drawn ≡ lane.old.drawn) × IsStopped (M.at lane.old.memory) (M.at lane.new.memory) settles)
-        ⊎ ((lane.new.drawn ≡ Some lane.new.last) × StopsDrawn (M.at lane.old.memory) (M.at lane.new.memory) lane.old.records.items lane.new.last)) }
-    ensures else_same { lane.new ≡ record lane.old { memory = lane.new.memory; records = lane.new.records; drawn = lane.new.drawn; last = lane.new.last } }
+    ensures stops { OnErr result (((lane.new.drawn ≡ lane.old.drawn) × IsStopped (M.at lane.old.memory) (M.at lane.new.memory) (in_turn settles (logs_listed lane.old.entries.items)))
+        ⊎ ((lane.new.drawn ≡ Some lane.new.last) × StopsDrawn (M.at lane.old.memory) (M.at lane.new.memory) lane.old.records.items lane.old.entries.items lane.new.last)) }
+    ensures else_same { lane.new ≡ record lane.old { memory = lane.new.memory; records = lane.new.records; entries = lane.new.entries; drawn = lane.new.drawn; last = lane.new.last } }
 {
     settle(&mut lane.memory)?;
-    decide(lane)
+    decide_all(lane)
 }
 
 /// Commits the outermost level.
 fn commit_outer<M: LawfulMem>(lane: &mut Lane<M>) -> Result<(), Refusal>
     requires at_work { IsLaneAtWork M.at lane.old }
-    ensures ended { OnOk result ((o : Opening) (v : View) → IsAtWork o M.at lane.old v → lane.old.level ≡ 1 → IsEndedBy M.at lane.new v (commits lane.old.records.items lane.new.last) Commit None) }
+    ensures ended { OnOk result ((o : Opening) (v : View) → IsAtWork o M.at lane.old v → lane.old.level ≡ 1 → IsEndedBy M.at lane.new v (commits lane.old.records.items lane.old.entries.items lane.new.last) Commit None) }
     ensures none { OnOk result (lane.new.records.items ≡ []) }
-    ensures lane { OnOk result (lane.new ≡ record lane.old { memory = lane.new.memory; records = lane.new.records; stage = stage.OnCommit; drawn = Some lane.new.last; last = lane.new.last }) }
-    ensures stops { OnErr result ((o : Opening) (v : View) → IsAtWork o M.at lane.old v → lane.old.level ≡ 1 → IsStoppedIn M.at lane.new v (commits lane.old.records.items lane.new.last) Commit None) }
+    ensures lane { OnOk result (lane.new ≡ record lane.old { memory = lane.new.memory; records = lane.new.records; entries = lane.new.entries; stage = stage.OnCommit; drawn = Some lane.new.last; last = lane.new.last }) }
+    ensures stops { OnErr result ((o : Opening) (v : View) → IsAtWork o M.at lane.old v → lane.old.level ≡ 1 → IsStoppedIn M.at lane.new v (commits lane.old.records.items lane.old.entries.items lane.new.last) Commit None) }
     ensures stopped { IfErr result (λ r. r ≡ refusal.Stopped) }
-    ensures stopped_lane { OnErr result (lane.new ≡ record lane.old { memory = lane.new.memory; records = lane.new.records; drawn = lane.new.drawn; last = lane.new.last; stopped = true }) }
+    ensures stopped_lane { OnErr result (lane.new ≡ record lane.old { memory = lane.new.memory; records = lane.new.records; entries = lane.new.entries; drawn = lane.new.drawn; last = lane.new.last; stopped = true }) }
 {
     match finish(lane) {
         Ok(()) => {
@@ -107,18 +127,18 @@ fn commit_inner<M: LawfulMem>(lane: &mut Lane<M>)
 pub fn commit<M: LawfulMem>(lane: &mut Lane<M>) -> Result<(), Refusal>
     requires at_work { work_refusal lane.old ≡ None → IsLaneAtWork M.at lane.old }
     ensures refused { (r : Refusal) → work_refusal lane.old ≡ Some r → (result ≡ Err r) × (lane.new ≡ lane.old) }
-    ensures ended { OnOk result ((o : Opening) (v : View) → IsAtWork o M.at lane.old v → lane.old.level ≡ 1 → IsEndedBy M.at lane.new v (commits lane.old.records.items lane.new.last) Commit None) }
+    ensures ended { OnOk result ((o : Opening) (v : View) → IsAtWork o M.at lane.old v → lane.old.level ≡ 1 → IsEndedBy M.at lane.new v (commits lane.old.records.items lane.old.entries.items lane.new.last) Commit None) }
     ensures none { OnOk result (lane.old.level ≡ 1 → lane.new.records.items ≡ []) }
     ensures lane { OnOk result (lane.old.level ≡ 1
-        → lane.new ≡ record lane.old { memory = lane.new.memory; records = lane.new.records; stage = stage.OnCommit; drawn = Some lane.new.last; last = lane.new.last }) }
+        → lane.new ≡ record lane.old { memory = lane.new.memory; records = lane.new.records; entries = lane.new.entries; stage = stage.OnCommit; drawn = Some lane.new.last; last = lane.new.last }) }
     ensures inner_made { OnOk result (2 ≤ lane.old.level → IsMade (M.at lane.old.memory) (M.at lane.new.memory) (one (Tell Commit None))) }
     ensures inner_lane { OnOk result (2 ≤ lane.old.level → lane.new ≡ record lane.old { memory = lane.new.memory; stage = stage.OnCommit }) }
     ensures inner_stays { OnOk result ((o : Opening) (v : View) → IsAtWork o M.at lane.old v → 2 ≤ lane.old.level
         → IsAtWork o M.at (record lane.new { level = lane.new.level - 1; stage = stage.Work }) (after v (Tell Commit None))) }
-    ensures stops { OnErr result (work_refusal lane.old ≡ None → (o : Opening) (v : View) → IsAtWork o M.at lane.old v → IsStoppedIn M.at lane.new v (commits lane.old.records.items lane.new.last) Commit None) }
+    ensures stops { OnErr result (work_refusal lane.old ≡ None → (o : Opening) (v : View) → IsAtWork o M.at lane.old v → IsStoppedIn M.at lane.new v (commits lane.old.records.items lane.old.entries.items lane.new.last) Commit None) }
     ensures stopped { IfErr result (λ r. work_refusal lane.old ≡ None → r ≡ refusal.Stopped) }
     ensures stopped_lane { OnErr result (work_refusal lane.old ≡ None
-        → lane.new ≡ record lane.old { memory = lane.new.memory; records = lane.new.records; drawn = lane.new.drawn; last = lane.new.last; stopped = true }) }
+        → lane.new ≡ record lane.old { memory = lane.new.memory; records = lane.new.records; entries = lane.new.entries; drawn = lane.new.drawn; last = lane.new.last; stopped = true }) }
 {
     check_work(lane)?;
     if lane.level == 1 {

@@ -1,4 +1,4 @@
-ghost use Rattle.std.specs.Prelude.{◌≡◌, ℕ, ◌+◌, Bool, false, List, [], ◌∷◌, Option, length, map, take};
+ghost use Rattle.std.specs.Prelude.{◌≡◌, ℕ, ◌+◌, ◌≤◌, Bool, false, List, [], ◌∷◌, Option, length, map, take};
 ghost use Rattle.pm_crash.specs.Alone.{raises};
 ghost use Rattle.pm_crash.specs.Leading.{Leads};
 ghost use Rattle.pm_image.specs.Logs.{generation_word};
@@ -6,6 +6,7 @@ ghost use Rattle.pm_objects.specs.declared.calls.Operation.{Operation};
 ghost use Rattle.pm_objects.specs.declared.history.Value.{Value};
 ghost use Rattle.pm_objects.specs.declared.ids.Oid.{Oid};
 ghost use Rattle.pm_objects.specs.declared.refusal.Refusal.{Refusal};
+ghost use Rattle.pm_record.specs.declared.redo.Redo.{Redo};
 ghost use Rattle.pm_undo.specs.Working.{IsWorking};
 ghost use Rattle.pm_view.specs.Steps.{Step};
 ghost use Rattle.pm_view.specs.Steps.Step.{Tell};
@@ -19,10 +20,11 @@ ghost use Rattle.pm_world.specs.declared.lane.HeldLock.{HeldLock};
 ghost use Rattle.pm_world.specs.declared.lane.Span.{Span};
 ghost use Rattle.pm_tx.specs.Beginning.{takes};
 ghost use Rattle.pm_tx.specs.Ending.{DrawEnded};
-ghost use Rattle.pm_tx.specs.Generations.{AppliesNone, IsCommitting, IsGivingUp, IsOfOpening, is_ending};
+ghost use Rattle.pm_tx.specs.Generations.{AppliesNone, CanPublish, IsCommitting, IsGivingUp, IsOfOpening, IsPublishing, is_ending};
 ghost use Rattle.pm_tx.specs.Learning.{Looks};
 ghost use Rattle.pm_tx.specs.Ranges.{CanWrite, adds_range, reads_range, writes_range};
-ghost use Rattle.pm_tx.specs.Sequences.{commits, ends_call, gives, gives_up, starts};
+ghost use Rattle.pm_tx.specs.Publishing.{MayPublish};
+ghost use Rattle.pm_tx.specs.Sequences.{commits, ends_call, gives, gives_up, publishes, starts};
 
 /// A law: lane 0 stores no generation as it begins a call, takes a lock, tells an operation, looks at words, records, writes and reads
 /// ranges, is refused its begin, and gives its locks back; and where some steps store none, their first ones don't. The loads of looks lead
@@ -43,10 +45,13 @@ pub fn a_generation_lasts_while_a_call_works()
 
 /// A law: a commit of lane 0 stores its generation once at most, and only once the number is drawn: with each first part of its steps no
 /// generation is stored and the call is open, or has drawn its number; or one is stored, the number is drawn, and the log ends, or no call is
-/// open. No code runs.
+/// open. Where it publishes, and of a call that publishes alone, that store applies the last of its entries. No code runs.
 pub fn a_commit_ends_one_generation()
-    ensures { (v : View) (spans : List Span) (n k : ℕ) → v.lane ≡ 0 → IsWorking v → spans ≡ map span_of v.log.records
-        → IsCommitting v (raises (take k (commits spans n v))) (after_all v (take k (commits spans n v))) }
+    ensures commits { (v : View) (spans : List Span) (entries : List Redo) (n k : ℕ)
+        → v.lane ≡ 0 → IsWorking v → spans ≡ map span_of v.log.records → (1 ≤ length entries → CanPublish v entries)
+        → IsCommitting v entries (raises (take k (commits spans entries n v))) (after_all v (take k (commits spans entries n v))) }
+    ensures publishes { (v : View) (entries : List Redo) (operation : Operation) (n k : ℕ) → v.lane ≡ 0 → MayPublish v entries
+        → IsPublishing (length entries) (raises (take k (publishes entries operation n v))) (after_all v (take k (publishes entries operation n v))) }
 {}
 
 /// A law: a call of lane 0 that is given up stores its generation once at most, and only before the number is drawn: with each first part of
@@ -71,16 +76,19 @@ pub fn a_generation_rises_with_its_stores()
 {}
 
 /// A law: from a view of lane 0 that has the opening's generation still, its log and its records are of the opening's generation as long as
-/// none is stored, and wherever a commit or a call that is given up stops. No code runs.
+/// none is stored, and wherever a commit, a call that publishes or one that is given up stops. No code runs.
 pub fn a_first_generation_is_the_openings()
     ensures unraised { (o : Opening) (v : View) (steps : List Step) (k : ℕ)
         → v.lane ≡ 0 → is_ending v.log.phase ≡ false → generation_of v ≡ generation_word o.words 0 → Ready v steps
         → raises (take k steps) ≡ 0 → IsOfOpening o (after_all v (take k steps)) }
     ensures looks { (o : Opening) (n : ℕ) (v w : View) → Looks n v w → is_ending v.log.phase ≡ false
         → generation_of v ≡ generation_word o.words 0 → IsOfOpening o w }
-    ensures commits { (o : Opening) (v : View) (spans : List Span) (n k : ℕ)
-        → v.lane ≡ 0 → IsWorking v → spans ≡ map span_of v.log.records → generation_of v ≡ generation_word o.words 0
-        → Ready v (commits spans n v) → IsOfOpening o (after_all v (take k (commits spans n v))) }
+    ensures commits { (o : Opening) (v : View) (spans : List Span) (entries : List Redo) (n k : ℕ)
+        → v.lane ≡ 0 → IsWorking v → spans ≡ map span_of v.log.records → (1 ≤ length entries → CanPublish v entries) → generation_of v ≡ generation_word o.words 0
+        → Ready v (commits spans entries n v) → IsOfOpening o (after_all v (take k (commits spans entries n v))) }
+    ensures publishes { (o : Opening) (v : View) (entries : List Redo) (operation : Operation) (n k : ℕ)
+        → v.lane ≡ 0 → MayPublish v entries → generation_of v ≡ generation_word o.words 0
+        → IsOfOpening o (after_all v (take k (publishes entries operation n v))) }
     ensures gives_up { (o : Opening) (v : View) (spans : List Span) (operation : Operation) (reply : Option Value) (n k : ℕ)
         → v.lane ≡ 0 → IsWorking v → v.log.entries ≡ [] → spans ≡ map span_of v.log.records → generation_of v ≡ generation_word o.words 0
         → Ready v (gives_up spans operation reply n v) → IsOfOpening o (after_all v (take k (gives_up spans operation reply n v))) }

@@ -37,10 +37,12 @@ fn undo_call<M: LawfulMem>(lane: &mut Lane<M>) -> Result<(), Refusal>
     }
 }
 
-/// Goes on to the stage after an abort, with this error.
+/// Goes on to the stage after an abort, with this error. What was published is given up.
 fn leave_work<M>(lane: &mut Lane<M>, error: TxErr)
-    ensures { lane.new ≡ record lane.old { stage = stage.OnAbort; error = error } }
+    ensures unlisted { lane.new.entries.items ≡ [] }
+    ensures else_same { lane.new ≡ record lane.old { entries = lane.new.entries; stage = stage.OnAbort; error = error } }
 {
+    lane.entries.clear();
     lane.stage = Stage::OnAbort;
     lane.error = error;
 }
@@ -58,7 +60,8 @@ pub fn give_up<M: LawfulMem>(
     ensures ended { OnOk result ((o : Opening) (v : View) → IsAtWork o M.at lane.old v → GivesUpBy v operation.now (option_copied reply.entry) error
         → IsEndedBy M.at lane.new v (gives_up lane.old.records.items operation.now (option_copied reply.entry) lane.new.last) operation.now (option_copied reply.entry)) }
     ensures none { OnOk result (lane.new.records.items ≡ []) }
-    ensures lane { OnOk result (lane.new ≡ record lane.old { memory = lane.new.memory; records = lane.new.records; stage = stage.OnAbort; error = error; drawn = Some lane.new.last; last = lane.new.last }) }
+    ensures unlisted { OnOk result (lane.new.entries.items ≡ []) }
+    ensures lane { OnOk result (lane.new ≡ record lane.old { memory = lane.new.memory; records = lane.new.records; entries = lane.new.entries; stage = stage.OnAbort; error = error; drawn = Some lane.new.last; last = lane.new.last }) }
     ensures stops { OnErr result ((o : Opening) (v : View) → IsAtWork o M.at lane.old v → GivesUpBy v operation.now (option_copied reply.entry) error
         → IsStoppedIn M.at lane.new v (gives_up lane.old.records.items operation.now (option_copied reply.entry) lane.new.last) operation.now (option_copied reply.entry)) }
     ensures stopped { IfErr result (λ r. r ≡ refusal.Stopped) }
@@ -82,7 +85,8 @@ pub fn give_up_write<M: LawfulMem>(
     ensures ended { OnOk result ((o : Opening) (v : View) → IsAtWork o M.at lane.old v → GivesUpBy v (Write id off bytes.now) (Some (Refused why)) (error.Refused why)
         → IsEndedBy M.at lane.new v (gives_up lane.old.records.items (Write id off bytes.now) (Some (Refused why)) lane.new.last) (Write id off bytes.now) (Some (Refused why))) }
     ensures none { OnOk result (lane.new.records.items ≡ []) }
-    ensures lane { OnOk result (lane.new ≡ record lane.old { memory = lane.new.memory; records = lane.new.records; stage = stage.OnAbort; error = error.Refused why; drawn = Some lane.new.last; last = lane.new.last }) }
+    ensures unlisted { OnOk result (lane.new.entries.items ≡ []) }
+    ensures lane { OnOk result (lane.new ≡ record lane.old { memory = lane.new.memory; records = lane.new.records; entries = lane.new.entries; stage = stage.OnAbort; error = error.Refused why; drawn = Some lane.new.last; last = lane.new.last }) }
     ensures stops { OnErr result ((o : Opening) (v : View) → IsAtWork o M.at lane.old v → GivesUpBy v (Write id off bytes.now) (Some (Refused why)) (error.Refused why)
         → IsStoppedIn M.at lane.new v (gives_up lane.old.records.items (Write id off bytes.now) (Some (Refused why)) lane.new.last) (Write id off bytes.now) (Some (Refused why))) }
     ensures stopped { IfErr result (λ r. r ≡ refusal.Stopped) }

@@ -1,10 +1,10 @@
 //! Transactions: pmemobj_tx_begin(3) and its kin, over any lawful memory of a lane.
 //!
-//! Promises the calls of an outermost transaction (`begin`, `add_range`, `write`, `read`, `commit`, `abort`, `end`). Each makes exactly the
-//! stated sequence of memory calls, or the first of them up to the lane's stop, and what it makes of the call is the plain model's: a
-//! refusal is the model's reason, takes back what was done and gives the transaction up. The parts stand beside them: checks
-//! (`check_range`, `check_words`, `check_write`), and the work (`do_add`, `do_write`, `do_read`). They stand on `pm_undo` for the records
-//! without which no word is stored, and on `pm_crash` for what the operations of a call come to.
+//! Promises the calls of an outermost transaction (`begin`, `add_range`, `write`, `read`, `set_at_work`, `cancel_at_work`, `publish`, `commit`,
+//! `abort`, `end`). Each makes exactly the stated sequence of memory calls, or the first of them up to the lane's stop, and what it makes
+//! of the call is the plain model's: a refusal is the model's reason, takes back what was done and gives the transaction up. The parts
+//! stand beside them: checks (`check_range`, `check_words`, `check_write`), and the work (`do_add`, `do_write`, `do_read`). They stand on
+//! `pm_undo` for the records without which no word is stored, and on `pm_crash` for what the operations of a call come to.
 #![tactic(auto)]
 
 mod aborting;
@@ -21,7 +21,10 @@ mod giving_up;
 mod laws;
 mod learning;
 mod locking;
+mod pending;
 mod places;
+mod publishing;
+mod publishing_actions;
 mod reading;
 mod refusing;
 mod stages;
@@ -37,7 +40,9 @@ pub use beginning::{begin, open_call, refuse_call};
 pub use bounds::a_call_makes_few_stores;
 pub use checking::{check_range, check_words, check_write};
 pub use committing::commit;
-pub use ending_level::end;
+pub use ending::end_call;
+pub use ending_level::{end, give_all};
+pub use finding::find_objects;
 pub use generations::{
     a_call_given_up_ends_one_generation, a_commit_ends_one_generation,
     a_first_generation_is_the_openings, a_generation_lasts_while_a_call_works,
@@ -47,7 +52,10 @@ pub use giving_up::give_up;
 pub use laws::a_call_may_be_taken_back;
 pub use learning::learn;
 pub use locking::{give_back, take_all, take_line};
+pub use pending::{cancel_at_work, set_at_work};
 pub use places::can_begin;
+pub use publishing::{a_log_may_be_published, publish_log};
+pub use publishing_actions::publish;
 pub use reading::{do_read, read};
 pub use stages::check_work;
 pub use starting::start;

@@ -72,7 +72,7 @@ fn read_at_work<M: LawfulMem>(
         → HasLooked v (λ w. IsGivenUpFor M.at lane.new lane.old.records.items (Read id off (length into.old)) (record { id = id; off = off; len = length into.old }) r w)) }
     ensures none { IfErr result (λ r. r ≢ refusal.Stopped → lane.new.records.items ≡ []) }
     ensures given_up_lane { IfErr result (λ r. r ≢ refusal.Stopped
-        → lane.new ≡ record lane.old { memory = lane.new.memory; records = lane.new.records; stage = stage.OnAbort; error = error.Refused r; drawn = Some lane.new.last; last = lane.new.last }) }
+        → lane.new ≡ record lane.old { memory = lane.new.memory; records = lane.new.records; entries = lane.new.entries; stage = stage.OnAbort; error = error.Refused r; drawn = Some lane.new.last; last = lane.new.last }) }
     ensures stopped { IfErr result (λ r. r ≡ refusal.Stopped → (o : Opening) (v : View) → IsAtWork o M.at lane.old v
         → HasLooked v (λ w. IsStoppedFor M.at lane.new lane.old.records.items (Read id off (length into.old)) (record { id = id; off = off; len = length into.old }) w)) }
     ensures stopped_lane { IfErr result (λ r. r ≡ refusal.Stopped
@@ -106,7 +106,7 @@ pub fn read<M: LawfulMem>(
         → HasLooked v (λ w. IsGivenUpFor M.at lane.new lane.old.records.items (Read id off (length into.old)) (record { id = id; off = off; len = length into.old }) r w)) }
     ensures none { IfErr result (λ r. work_refusal lane.old ≡ None → r ≢ refusal.Stopped → lane.new.records.items ≡ []) }
     ensures given_up_lane { IfErr result (λ r. work_refusal lane.old ≡ None → r ≢ refusal.Stopped
-        → lane.new ≡ record lane.old { memory = lane.new.memory; records = lane.new.records; stage = stage.OnAbort; error = error.Refused r; drawn = Some lane.new.last; last = lane.new.last }) }
+        → lane.new ≡ record lane.old { memory = lane.new.memory; records = lane.new.records; entries = lane.new.entries; stage = stage.OnAbort; error = error.Refused r; drawn = Some lane.new.last; last = lane.new.last }) }
     ensures stopped { IfErr result (λ r. work_refusal lane.old ≡ None → r ≡ refusal.Stopped → (o : Opening) (v : View) → IsAtWork o M.at lane.old v
         → HasLooked v (λ w. IsStoppedFor M.at lane.new lane.old.records.items (Read id off (length into.old)) (record { id = id; off = off; len = length into.old }) w)) }
     ensures stopped_lane { IfErr result (λ r. work_refusal lane.old ≡ None → r ≡ refusal.Stopped

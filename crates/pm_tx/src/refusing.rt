@@ -32,7 +32,7 @@ pub fn refuse<M: LawfulMem>(lane: &mut Lane<M>, operation: &Operation, why: Refu
     ensures ended { result ≢ refusal.Stopped → (o : Opening) (v : View) → IsAtWork o M.at lane.old v → GivesUpBy v operation.now (Some (Refused why)) (error.Refused why)
         → IsEndedBy M.at lane.new v (gives_up lane.old.records.items operation.now (Some (Refused why)) lane.new.last) operation.now (Some (Refused why)) }
     ensures none { result ≢ refusal.Stopped → lane.new.records.items ≡ [] }
-    ensures lane { result ≢ refusal.Stopped → lane.new ≡ record lane.old { memory = lane.new.memory; records = lane.new.records; stage = stage.OnAbort; error = error.Refused why; drawn = Some lane.new.last; last = lane.new.last } }
+    ensures lane { result ≢ refusal.Stopped → lane.new ≡ record lane.old { memory = lane.new.memory; records = lane.new.records; entries = lane.new.entries; stage = stage.OnAbort; error = error.Refused why; drawn = Some lane.new.last; last = lane.new.last } }
     ensures stops { why ≢ refusal.Stopped → result ≡ refusal.Stopped → (o : Opening) (v : View) → IsAtWork o M.at lane.old v → GivesUpBy v operation.now (Some (Refused why)) (error.Refused why)
         → IsStoppedIn M.at lane.new v (gives_up lane.old.records.items operation.now (Some (Refused why)) lane.new.last) operation.now (Some (Refused why)) }
     ensures stopped_lane { result ≡ refusal.Stopped → lane.new ≡ record lane.old { memory = lane.new.memory; records = lane.new.records; drawn = lane.new.drawn; last = lane.new.last; stopped = true } }
@@ -61,7 +61,7 @@ pub fn refuse_write<M: LawfulMem>(
     ensures ended { result ≢ refusal.Stopped → (o : Opening) (v : View) → IsAtWork o M.at lane.old v → GivesUpBy v (Write id off bytes.now) (Some (Refused why)) (error.Refused why)
         → IsEndedBy M.at lane.new v (gives_up lane.old.records.items (Write id off bytes.now) (Some (Refused why)) lane.new.last) (Write id off bytes.now) (Some (Refused why)) }
     ensures none { result ≢ refusal.Stopped → lane.new.records.items ≡ [] }
-    ensures lane { result ≢ refusal.Stopped → lane.new ≡ record lane.old { memory = lane.new.memory; records = lane.new.records; stage = stage.OnAbort; error = error.Refused why; drawn = Some lane.new.last; last = lane.new.last } }
+    ensures lane { result ≢ refusal.Stopped → lane.new ≡ record lane.old { memory = lane.new.memory; records = lane.new.records; entries = lane.new.entries; stage = stage.OnAbort; error = error.Refused why; drawn = Some lane.new.last; last = lane.new.last } }
     ensures stops { why ≢ refusal.Stopped → result ≡ refusal.Stopped → (o : Opening) (v : View) → IsAtWork o M.at lane.old v → GivesUpBy v (Write id off bytes.now) (Some (Refused why)) (error.Refused why)
         → IsStoppedIn M.at lane.new v (gives_up lane.old.records.items (Write id off bytes.now) (Some (Refused why)) lane.new.last) (Write id off bytes.now) (Some (Refused why)) }
     ensures stopped_lane { result ≡ refusal.Stopped → lane.new ≡ record lane.old { memory = lane.new.memory; records = lane.new.records; drawn = lane.new.drawn; last = lane.new.last; stopped = true } }

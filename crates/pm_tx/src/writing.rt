@@ -78,7 +78,7 @@ fn write_at_work<M: LawfulMem>(
         → HasLooked v (λ w. IsGivenUpFor M.at lane.new lane.old.records.items (Write id off bytes.now) (record { id = id; off = off; len = length bytes.now }) r w)) }
     ensures none { IfErr result (λ r. r ≢ refusal.Stopped → lane.new.records.items ≡ []) }
     ensures given_up_lane { IfErr result (λ r. r ≢ refusal.Stopped
-        → lane.new ≡ record lane.old { memory = lane.new.memory; records = lane.new.records; stage = stage.OnAbort; error = error.Refused r; drawn = Some lane.new.last; last = lane.new.last }) }
+        → lane.new ≡ record lane.old { memory = lane.new.memory; records = lane.new.records; entries = lane.new.entries; stage = stage.OnAbort; error = error.Refused r; drawn = Some lane.new.last; last = lane.new.last }) }
     ensures stopped { IfErr result (λ r. r ≡ refusal.Stopped → (o : Opening) (v : View) → IsAtWork o M.at lane.old v
         → HasLooked v (λ w. IsStoppedAt M.at lane.new lane.old.records.items (Write id off bytes.now) (record { id = id; off = off; len = length bytes.now }) (λ u. CanWrite u id off (length bytes.now)) (writes_range id off bytes.now) w)) }
     ensures stopped_lane { IfErr result (λ r. r ≡ refusal.Stopped
@@ -109,7 +109,7 @@ pub fn write<M: LawfulMem>(
         → HasLooked v (λ w. IsGivenUpFor M.at lane.new lane.old.records.items (Write id off bytes.now) (record { id = id; off = off; len = length bytes.now }) r w)) }
     ensures none { IfErr result (λ r. work_refusal lane.old ≡ None → r ≢ refusal.Stopped → lane.new.records.items ≡ []) }
     ensures given_up_lane { IfErr result (λ r. work_refusal lane.old ≡ None → r ≢ refusal.Stopped
-        → lane.new ≡ record lane.old { memory = lane.new.memory; records = lane.new.records; stage = stage.OnAbort; error = error.Refused r; drawn = Some lane.new.last; last = lane.new.last }) }
+        → lane.new ≡ record lane.old { memory = lane.new.memory; records = lane.new.records; entries = lane.new.entries; stage = stage.OnAbort; error = error.Refused r; drawn = Some lane.new.last; last = lane.new.last }) }
     ensures stopped { IfErr result (λ r. work_refusal lane.old ≡ None → r ≡ refusal.Stopped → (o : Opening) (v : View) → IsAtWork o M.at lane.old v
         → HasLooked v (λ w. IsStoppedAt M.at lane.new lane.old.records.items (Write id off bytes.now) (record { id = id; off = off; len = length bytes.now }) (λ u. CanWrite u id off (length bytes.now)) (writes_range id off bytes.now) w)) }
     ensures stopped_lane { IfErr result (λ r. work_refusal lane.old ≡ None → r ≡ refusal.Stopped

@@ -60,7 +60,7 @@ returns-clause-done g c o v work can =
     let room = c.in_ok-count.ensures.room in
     lane_has_added o g.M.LaneMem.at c.args.lane.now v work c.args.id c.args.off c.args.len can room
     (range_is_low v work.objects c.args.id c.args.off c.args.len true can.range o work.sound work.opening work.zones) _
-    (record { pool = same.pool; shape = same.shape; locks = same.locks; level = same.level; stage = same.stage; error = same.error; drawn = same.drawn; last = same.last; stopped = same.stopped })
+    (record { pool = same.pool; shape = same.shape; locks = same.locks; entries = same.entries; level = same.level; stage = same.stage; error = same.error; drawn = same.drawn; last = same.last; stopped = same.stopped })
     c.in_ok-count.ensures.recorded
     (c.tell_added.ensures _
     (was_made (g.M.LaneMem.at c.args.lane.now.memory) (g.M.LaneMem.at c.snapshot.new.lane.memory) (snapshots c.args.lane.now.records.items (c.args.id.off + c.args.off) c.args.len) tt c.in_ok-count.ensures.made v work.seen.memory

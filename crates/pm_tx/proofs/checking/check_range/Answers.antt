@@ -30,7 +30,7 @@ returns-then-off-size-clause-out_of_range g c e o v work =
       | then-off-size-via-else-off-size+then-len-size w ↦ (let low = w.if-off-size.false in let more = w.if-len-size.true in omega (arith, low, more))
     ] in
     end_checked o g.M.LaneMem.at c.args.lane.now v work c.in-Some.line c.args.write holds c.load-size.result made.1 _
-    (record { pool = refl; shape = refl; locks = refl; level = refl; stage = refl; error = refl; drawn = refl; last = refl; stopped = refl }) refl made.0 c.args.id c.args.off c.args.len c.in-Some.ensures.some.0 c.in-Some.ensures.some.1 high
+    (record { pool = refl; shape = refl; locks = refl; entries = refl; level = refl; stage = refl; error = refl; drawn = refl; last = refl; stopped = refl }) refl made.0 c.args.id c.args.off c.args.len c.in-Some.ensures.some.0 c.in-Some.ensures.some.1 high
 
 pub returns-clause-ok : goal.returns-clause-ok
 returns-clause-ok g c o v work =
@@ -38,4 +38,4 @@ returns-clause-ok g c o v work =
     let made = c.load-size.ensures v work.seen.memory in
     let low : c.args.off + c.args.len ≤ c.load-size.result = (let one = c.if-off-size.false in let two = c.if-len-size.false in omega (arith, one, two)) in
     range_checked o g.M.LaneMem.at c.args.lane.now v work c.in-Some.line c.args.write holds c.load-size.result made.1 _
-    (record { pool = refl; shape = refl; locks = refl; level = refl; stage = refl; error = refl; drawn = refl; last = refl; stopped = refl }) refl made.0 c.args.id c.args.off c.args.len c.in-Some.ensures.some.0 c.in-Some.ensures.some.1 low
+    (record { pool = refl; shape = refl; locks = refl; entries = refl; level = refl; stage = refl; error = refl; drawn = refl; last = refl; stopped = refl }) refl made.0 c.args.id c.args.off c.args.len c.in-Some.ensures.some.0 c.in-Some.ensures.some.1 low

@@ -27,7 +27,7 @@ returns-clause-ok g c o v work =
     let s = c.learn.ensures t.view t.works.seen.memory in
     checked_then o g.M.LaneMem.at _ _ v _ _ t
     (range_learned o g.M.LaneMem.at c.check_range.new.lane _ t.view s.0 c.args.id c.args.off c.args.len c.args.write t.works t.holds s.1.1
-    (record { pool = refl; shape = refl; locks = refl; level = refl; stage = refl; error = refl; drawn = refl; last = refl; stopped = refl }) refl s.1.0)
+    (record { pool = refl; shape = refl; locks = refl; entries = refl; level = refl; stage = refl; error = refl; drawn = refl; last = refl; stopped = refl }) refl s.1.0)
 
 pub returns-in_err-check_range-clause-not_locked : goal.returns-in_err-check_range-clause-not_locked
 returns-in_err-check_range-clause-not_locked g c e = c.check_range.ensures.not_locked (search rules)

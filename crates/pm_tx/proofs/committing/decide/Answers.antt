@@ -1,4 +1,4 @@
-use Rattle.std.proofs.Common.{List, OnErr, ap, subst, sym}
+use Rattle.std.proofs.Common.{List, [], OnErr, ap, subst, sym}
 use Rattle.pm_world.specs.Sequences.{IsReady, Runs}
 use Rattle.pm_world.specs.declared.lane.Lane.{Lane}
 use Rattle.pm_world.specs.declared.lane.Span.{Span}
@@ -24,6 +24,6 @@ returns-clause-stops g c =
     let old = g.M.LaneMem.at c.args.lane.now.memory in
     let mid = g.M.LaneMem.at c.end_call.new.lane.memory in
     let new = g.M.LaneMem.at c.retire_any.new.lane.memory in
-    subst (λ n. OnErr c.retire_any.result (StopsEnded old new c.args.lane.now.records.items n)) (sym (ap (λ (lane : Lane g.row.M.Denot). lane.last) c.retire_any.ensures.else_same))
+    subst (λ n. OnErr c.retire_any.result (StopsEnded old new c.args.lane.now.records.items [] n)) (sym (ap (λ (lane : Lane g.row.M.Denot). lane.last) c.retire_any.ensures.else_same))
     (stops_ended old mid new c.args.lane.now.records.items c.end_call.new.lane.last c.retire_any.result c.end_call.ensures.made
     (subst (λ (spans : List Span). Runs mid new (retires_any spans) c.retire_any.result) (ap (λ (lane : Lane g.row.M.Denot). lane.records.items) c.end_call.ensures.else_same) c.retire_any.ensures.ran))

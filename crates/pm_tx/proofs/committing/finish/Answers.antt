@@ -1,4 +1,7 @@
-use Rattle.std.proofs.Common.{inl, inr, refl}
+use Rattle.std.proofs.Common.{inl, inr, ⊎_elim, refl, rules, Err}
+use Rattle.pm_world.proofs.Sequencing.{runs_err, runs_then}
+use Rattle.pm_world.specs.Sequences.{settles}
+use Rattle.pm_tx.specs.Sequences.{logs_listed}
 use Rattle.pm_tx.proofs.Deciding.{stops_drawn}
 use Rattle.pm_tx.proofs.Undoing.{settle_ready}
 use Rattle.pm_tx.proofs.Committed.{decidable, on_err, on_err_so}
@@ -7,19 +10,27 @@ use Rattle.pm_tx.proofs.committing.finish.Goals as goal
 pub settle-requires : goal.settle-requires
 settle-requires g c = let is = c.requires.at_work in settle_ready (g.M.LaneMem.at c.args.lane.now.memory) is.1.0 is.1.1.seen.memory
 
-pub decide-requires : goal.decide-requires
-decide-requires g c =
+pub decide_all-requires : goal.decide_all-requires
+decide_all-requires g c =
     let is = c.requires.at_work in
     record { decidable = decidable g.M.LaneMem.at c.args.lane.now is.0 is.1.0 is.1.1 (g.M.LaneMem.at c.settle.new.mem) c.in_ok-settle.ensures }
 
 pub returns-in_err-settle-clause-stops : goal.returns-in_err-settle-clause-stops
-returns-in_err-settle-clause-stops g c = on_err _ c.from_residual.result (inl (refl, (c.in_err-settle.field-0.0, c.in_err-settle.ensures)))
+returns-in_err-settle-clause-stops g c =
+    let stopped = c.in_err-settle.field-0.0 in
+    on_err _ c.from_residual.result
+    (inl (refl, (stopped, runs_err (Unit {0}) (g.M.LaneMem.at c.args.lane.now.memory) (g.M.LaneMem.at c.settle.new.mem) settles (logs_listed c.args.lane.now.entries.items) stopped (Err stopped) (search rules) c.in_err-settle.ensures)))
 
 pub returns-clause-stops : goal.returns-clause-stops
 returns-clause-stops g c =
-    on_err_so _ _ c.decide.result
-    (λ stops. inr (
-      c.decide.ensures.drawn,
-      stops_drawn (g.M.LaneMem.at c.args.lane.now.memory) (g.M.LaneMem.at c.settle.new.mem) (g.M.LaneMem.at c.decide.new.lane.memory) c.args.lane.now.records.items c.decide.new.lane.last c.in_ok-settle.ensures stops,
-    ))
-    c.decide.ensures.stops
+    let old = g.M.LaneMem.at c.args.lane.now.memory in
+    let mid = g.M.LaneMem.at c.settle.new.mem in
+    let new = g.M.LaneMem.at c.decide_all.new.lane.memory in
+    on_err_so _ _ c.decide_all.result
+    (⊎_elim
+    (λ first. inl (first.0, (first.1.0, runs_then old mid new settles (logs_listed c.args.lane.now.entries.items) tt (Err first.1.0) c.in_ok-settle.ensures first.1.1)))
+    (λ behind. inr (
+      behind.0,
+      stops_drawn old mid new c.args.lane.now.records.items c.args.lane.now.entries.items c.decide_all.new.lane.last c.in_ok-settle.ensures behind.1,
+    )))
+    c.decide_all.ensures.stops

@@ -33,8 +33,8 @@ returns-clause-ended g c o v is why =
     let last = c.end_call.new.lane.last in
     let ended = c.end_call.ensures.else_same in
     let undone = c.in_ok-undo_call.ensures.lane in
-    subst (λ (lane : Lane g.row.M.Denot). IsEndedBy g.M.LaneMem.at lane v (gives_up spans c.args.operation.now (option_copied c.args.reply) lane.last) c.args.operation.now (option_copied c.args.reply)) (sym c.leave_work.ensures)
-    (given_up g.M.LaneMem.at c.args.lane.now o v is c.args.operation.now (option_copied c.args.reply) c.args.error why (record c.end_call.new.lane { stage = stage.OnAbort; error = c.args.error })
+    subst (λ (lane : Lane g.row.M.Denot). IsEndedBy g.M.LaneMem.at lane v (gives_up spans c.args.operation.now (option_copied c.args.reply) lane.last) c.args.operation.now (option_copied c.args.reply)) (sym c.leave_work.ensures.else_same)
+    (given_up g.M.LaneMem.at c.args.lane.now o v is c.args.operation.now (option_copied c.args.reply) c.args.error why (record c.end_call.new.lane { entries = c.leave_work.new.lane.entries; stage = stage.OnAbort; error = c.args.error })
     (runs_then (g.M.LaneMem.at c.args.lane.now.memory) (g.M.LaneMem.at c.undo_call.new.lane.memory) (g.M.LaneMem.at c.end_call.new.lane.memory) (takes_back spans) (ends_call c.args.operation.now (option_copied c.args.reply) last) tt (Ok tt) c.in_ok-undo_call.ensures.made c.end_call.ensures.made)
-    (ap (λ (lane : Lane g.row.M.Denot). lane.locks.items) ended ∙ ap (λ (lane : Lane g.row.M.Denot). lane.locks.items) undone) (ap (λ (lane : Lane g.row.M.Denot). lane.records.items) ended ∙ c.in_ok-undo_call.ensures.none)
+    (ap (λ (lane : Lane g.row.M.Denot). lane.locks.items) ended ∙ ap (λ (lane : Lane g.row.M.Denot). lane.locks.items) undone) (ap (λ (lane : Lane g.row.M.Denot). lane.records.items) ended ∙ c.in_ok-undo_call.ensures.none) c.leave_work.ensures.unlisted
     c.end_call.ensures.drawn (record { pool = ap (λ (lane : Lane g.row.M.Denot). lane.pool) ended ∙ ap (λ (lane : Lane g.row.M.Denot). lane.pool) undone; shape = ap (λ (lane : Lane g.row.M.Denot). lane.shape) ended ∙ ap (λ (lane : Lane g.row.M.Denot). lane.shape) undone }) (ap (λ (lane : Lane g.row.M.Denot). lane.stopped) ended ∙ ap (λ (lane : Lane g.row.M.Denot). lane.stopped) undone))

@@ -35,8 +35,8 @@ returns-clause-ended g c o v is why =
     let last = c.end_write.new.lane.last in
     let ended = c.end_write.ensures.else_same in
     let undone = c.in_ok-undo_call.ensures.lane in
-    subst (λ (lane : Lane g.row.M.Denot). IsEndedBy g.M.LaneMem.at lane v (gives_up spans (Write c.args.id c.args.off c.args.bytes.now) (Some (Refused c.args.why)) lane.last) (Write c.args.id c.args.off c.args.bytes.now) (Some (Refused c.args.why))) (sym c.leave_work.ensures)
-    (given_up g.M.LaneMem.at c.args.lane.now o v is (Write c.args.id c.args.off c.args.bytes.now) (Some (Refused c.args.why)) (error.Refused c.args.why) why (record c.end_write.new.lane { stage = stage.OnAbort; error = (error.Refused c.args.why) })
+    subst (λ (lane : Lane g.row.M.Denot). IsEndedBy g.M.LaneMem.at lane v (gives_up spans (Write c.args.id c.args.off c.args.bytes.now) (Some (Refused c.args.why)) lane.last) (Write c.args.id c.args.off c.args.bytes.now) (Some (Refused c.args.why))) (sym c.leave_work.ensures.else_same)
+    (given_up g.M.LaneMem.at c.args.lane.now o v is (Write c.args.id c.args.off c.args.bytes.now) (Some (Refused c.args.why)) (error.Refused c.args.why) why (record c.end_write.new.lane { entries = c.leave_work.new.lane.entries; stage = stage.OnAbort; error = (error.Refused c.args.why) })
     (runs_then (g.M.LaneMem.at c.args.lane.now.memory) (g.M.LaneMem.at c.undo_call.new.lane.memory) (g.M.LaneMem.at c.end_write.new.lane.memory) (takes_back spans) (ends_call (Write c.args.id c.args.off c.args.bytes.now) (Some (Refused c.args.why)) last) tt (Ok tt) c.in_ok-undo_call.ensures.made c.end_write.ensures.made)
-    (ap (λ (lane : Lane g.row.M.Denot). lane.locks.items) ended ∙ ap (λ (lane : Lane g.row.M.Denot). lane.locks.items) undone) (ap (λ (lane : Lane g.row.M.Denot). lane.records.items) ended ∙ c.in_ok-undo_call.ensures.none)
+    (ap (λ (lane : Lane g.row.M.Denot). lane.locks.items) ended ∙ ap (λ (lane : Lane g.row.M.Denot). lane.locks.items) undone) (ap (λ (lane : Lane g.row.M.Denot). lane.records.items) ended ∙ c.in_ok-undo_call.ensures.none) c.leave_work.ensures.unlisted
     c.end_write.ensures.drawn (record { pool = ap (λ (lane : Lane g.row.M.Denot). lane.pool) ended ∙ ap (λ (lane : Lane g.row.M.Denot). lane.pool) undone; shape = ap (λ (lane : Lane g.row.M.Denot). lane.shape) ended ∙ ap (λ (lane : Lane g.row.M.Denot). lane.shape) undone }) (ap (λ (lane : Lane g.row.M.Denot). lane.stopped) ended ∙ ap (λ (lane : Lane g.row.M.Denot). lane.stopped) undone))

@@ -14,4 +14,4 @@ pub returns-clause-given : goal.returns-clause-given
 returns-clause-given g c v is =
     given_back g.M.LaneMem.at c.args.lane.now v is _
     (subst (λ (locks : List HeldLock). IsMade (g.M.LaneMem.at c.args.lane.now.memory) (g.M.LaneMem.at c.give_all.new.mem) (gives locks)) c.as_slice.ensures.value c.give_all.ensures)
-    c.clear.ensures refl refl refl (record { pool = refl; shape = refl }) refl refl
+    c.clear.ensures refl refl refl refl (record { pool = refl; shape = refl }) refl refl

@@ -14,7 +14,7 @@ returns-then-won-clause-taken g c v is free =
     let pushed = c.push.ensures.items ∙ ap (λ (lane : Lane g.row.M.Denot). lane.locks.items ++ held ∷ []) same in
     subst (λ won. IsBegun g.M.LaneMem.at (record c.try_line-won.new.lane { locks = c.push.new.self }) (after v (takes c.args.line write won))) (sym c.if-won.true)
     (subst (λ (lane : Lane g.row.M.Denot). IsBegun g.M.LaneMem.at (record lane { locks = c.push.new.self }) (after v (takes c.args.line write true))) (sym same)
-    (is_taken g.M.LaneMem.at c.args.lane.now v is c.args.line free (record c.args.lane.now { memory = c.try_line-won.new.lane.memory; locks = c.push.new.self }) write (c.if-won.ensures.made v is.seen.memory).0 pushed refl refl refl (record { pool = refl; shape = refl }) refl refl))
+    (is_taken g.M.LaneMem.at c.args.lane.now v is c.args.line free (record c.args.lane.now { memory = c.try_line-won.new.lane.memory; locks = c.push.new.self }) write (c.if-won.ensures.made v is.seen.memory).0 pushed refl refl refl refl (record { pool = refl; shape = refl }) refl refl))
 
 pub returns-else-won-clause-taken : goal.returns-else-won-clause-taken
 returns-else-won-clause-taken g c v is free =

@@ -52,6 +52,6 @@ returns-clause-done g c o v work can =
     let even : c.args.id.off % 8 ≡ 0 = omega (arith, place) in
     read_is_made o g.M.LaneMem.at c.args.lane.now v work c.args.id c.args.off (length c.args.into.now) can c.read_words.new.into
     (told_is_seen v c.args.id c.args.off (length c.args.into.now) c.read_words.new.into even c.read_words.ensures.as_long (c.read_words.ensures.found v work.seen.memory first)) _
-    (record { pool = refl; shape = refl; locks = refl; level = refl; stage = refl; error = refl; drawn = refl; last = refl; stopped = refl }) refl
+    (record { pool = refl; shape = refl; locks = refl; entries = refl; level = refl; stage = refl; error = refl; drawn = refl; last = refl; stopped = refl }) refl
     (subst (λ n. Made (g.M.LaneMem.at c.read_words.new.mem) (g.M.LaneMem.at c.tell_read.new.self) (Tell (Read c.args.id c.args.off n) (Some (Bytes c.read_words.new.into)))) c.read_words.ensures.as_long c.tell_read.ensures _
     (was_made (g.M.LaneMem.at c.args.lane.now.memory) (g.M.LaneMem.at c.read_words.new.mem) (reads (c.args.id.off + c.args.off) (length c.args.into.now)) tt c.read_words.ensures.made v work.seen.memory first)).0

@@ -49,7 +49,7 @@ pub returns-clause-done : goal.returns-clause-done
 returns-clause-done g c o v work can =
     let first = writes_first o g.M.LaneMem.at c.args.lane.now v work c.args.id c.args.off c.args.bytes.now can in
     write_is_made o g.M.LaneMem.at c.args.lane.now v work c.args.id c.args.off c.args.bytes.now can (λ i. let e = c.type_inv.bytes i in omega (arith, e)) _
-    (record { pool = refl; shape = refl; locks = refl; level = refl; stage = refl; error = refl; drawn = refl; last = refl; stopped = refl }) refl
+    (record { pool = refl; shape = refl; locks = refl; entries = refl; level = refl; stage = refl; error = refl; drawn = refl; last = refl; stopped = refl }) refl
     (c.tell_write.ensures _ (was_made (g.M.LaneMem.at c.args.lane.now.memory) (g.M.LaneMem.at c.write_words.new.mem) (writes (c.args.id.off + c.args.off) c.args.bytes.now) tt c.in_ok-write_words.ensures v work.seen.memory first)).0
 
 pub returns-in_err-write_words-clause-stops : goal.returns-in_err-write_words-clause-stops

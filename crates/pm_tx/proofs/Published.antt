@@ -1,0 +1,248 @@
+-- A call that publishes: its log is written, it is told and draws its number, the log is performed, and then it is over.
+use Rattle.std.proofs.Common.{◌≡◌, ℕ, ◌*◌, ◌/◌, ◌≤◌, not, inl, inr, List, [], ◌∷◌, ◌++◌, All, Any, IsTrue, length, length-append, map, take, None, Some, refl, sym, ap, ◌∙◌, subst, arith}
+use Rattle.std.specs.List.{filter}
+use Rattle.std.proofs.lemmas.Bool.{cond-false, cond-true}
+use Rattle.std.proofs.lemmas.List.{length-map}
+use Rattle.std.proofs.lemmas.List.Elements.{All-head, All-tail, All-weaker}
+use Rattle.pm_crash.specs.Operations.{Tells}
+use Rattle.pm_objects.specs.declared.calls.Operation.{Operation}
+use Rattle.pm_record.specs.declared.redo.Redo.{Redo}
+use Rattle.pm_redo.proofs.Logged.{log_lawful}
+use Rattle.pm_redo.proofs.Performed.{perform_lawful}
+use Rattle.pm_redo.specs.Entering.{AreEntered, HasLogged, IsOfPool, IsPerformed, IsReadyToPerform, ending, final_of}
+use Rattle.pm_redo.specs.Sequences.{ending_of, logs}
+use Rattle.pm_undo.proofs.Areas.{generation_in_area}
+use Rattle.pm_view.proofs.SameLane.{same_lane-then}
+use Rattle.pm_view.proofs.Sequences.{after_all-append}
+use Rattle.pm_view.specs.Area.{area_word, is_in_area}
+use Rattle.pm_view.specs.Constants.{IsSameLane}
+use Rattle.pm_view.specs.Log.{Final, Phase, Recorded, log_drawn, phase_drawn}
+use Rattle.pm_view.specs.Log.Phase.{Drawn}
+use Rattle.pm_view.specs.Rights.{is_written}
+use Rattle.pm_view.specs.Steps.{Step}
+use Rattle.pm_view.specs.Steps.Step.{Draw, NumberSeen, Tell}
+use Rattle.pm_view.specs.View.{Numbered, Told, View}
+use Rattle.pm_view.specs.Views.{after, after_all}
+use Rattle.pm_world.proofs.Sequencing.{ready_both}
+use Rattle.pm_world.specs.Lanes.{last_number_of}
+use Rattle.pm_world.specs.Lawful.{MayDraw, MayTell}
+use Rattle.pm_world.specs.Sequences.{Ready, in_turn, one}
+use Rattle.pm_tx.proofs.Drawless.{drawless, drawn_in_turn}
+use Rattle.pm_tx.proofs.Fronts.{front_drawn, front_undrawn}
+use Rattle.pm_tx.proofs.GivenUp.{last_behind}
+use Rattle.pm_tx.proofs.GoingOn.{of_pool_on}
+use Rattle.pm_tx.specs.Ending.{DrawEnded, IsDrawnBy, IsOver, IsUndrawn, drawn_more, told_more}
+use Rattle.pm_tx.specs.Publishing.{IsWholeOnceLogged, MayPublish, TellsLogged, logged_view, published_view}
+use Rattle.pm_tx.specs.Sequences.{ends_call, performs_logged, publishes}
+
+-- one of the entries at least is of a word that the lane locked for writing
+any_written : (v : View) (entries more : List Redo) → 1 ≤ length entries → All (IsOfPool v) entries → Any (λ (f : Final). IsTrue (is_written v f.word)) (map final_of (entries ++ more))
+any_written v [] more some each = absurd (omega (arith, some))
+any_written v (e ∷ entries) more some each = (0, final_of e, omega arith, refl, (All-head (IsOfPool v) e entries each).own)
+
+-- of these and the one that ends the generation, these are of the pool
+pool_of : (v : View) (entries : List Redo) → All (IsOfPool v) entries → filter (λ (f : Final). not (is_in_area v.lane f.word)) (map final_of (entries ++ ending v ∷ [])) ≡ map final_of entries
+pool_of v [] each =
+    let word : 8 * area_word v.lane / 8 ≡ area_word v.lane = omega arith in
+    cond-false (not (is_in_area v.lane (8 * area_word v.lane / 8))) (final_of (ending v) ∷ []) []
+    (ap (λ (w : ℕ). not (is_in_area v.lane w)) word ∙ ap not (generation_in_area v.lane))
+pool_of v (e ∷ entries) each =
+    let rest : List Final = filter (λ (f : Final). not (is_in_area v.lane f.word)) (map final_of (entries ++ ending v ∷ [])) in
+    cond-true (not (is_in_area v.lane (e.place / 8))) (final_of e ∷ rest) rest (ap not (All-head (IsOfPool v) e entries each).outside)
+    ∙ ap (λ (fs : List Final). final_of e ∷ fs) (pool_of v entries (All-tail (IsOfPool v) e entries each))
+
+-- a call with entries is still to be decided
+pub some_drawn : (records : List Recorded) (entries : List Final) → 1 ≤ length entries → phase_drawn records entries ≡ Drawn
+some_drawn records [] some = absurd (omega (arith, some))
+some_drawn [] (f ∷ entries) some = refl
+some_drawn (r ∷ records) (f ∷ entries) some = refl
+
+module _ (v : View) (entries : List Redo) (may : MayPublish v entries) where
+  abbrev m : View
+  m = logged_view v entries
+
+  pub written : Ready v (logs entries v) × HasLogged v entries (logged_view v entries)
+  written = log_lawful v entries may.ready may.few may.each
+
+  -- while they are logged nothing is drawn
+  pub logging_undrawn : (k : ℕ) → IsUndrawn v (after_all v (take k (logs entries v)))
+  logging_undrawn k = front_undrawn v (logs entries v) k (let e = ap length written.1.call.entries in omega (arith, e)) may.ready.entering.undrawn
+
+  logged : m.log.entries ≡ map final_of (entries ++ ending v ∷ [])
+  logged = written.1.entered.logged
+
+  pub some_logged : 1 ≤ length m.log.entries
+  some_logged =
+      let count = ap length logged in
+      let all = length-map (entries ++ ending v ∷ []) final_of in
+      let number = length-append entries (ending v ∷ []) in
+      omega (arith, count, all, number)
+
+  same_ending : ending v ≡ ending m
+  same_ending = sym (λ j. ending_of (written.1.call.lane.lane j) (written.1.generation j))
+
+  module _ (operation : Operation) where
+    abbrev told : View
+    told = after m (Tell operation None)
+
+    may_draw : MayDraw told
+    may_draw = record {
+      is_open = written.1.is_open;
+      first = written.1.call.number ∙ may.ready.entering.undrawn;
+      drained = written.1.drained;
+      found = may.may_come.found;
+      seen = written.1.call.seen (NumberSeen may.may_come.found) may.may_come.seen;
+      below = may.may_come.below;
+      entered = inr (subst (Any (λ (f : Final). IsTrue (is_written told f.word))) (sym logged)
+          (any_written told entries (ending v ∷ []) may.some (All-weaker (IsOfPool v) (IsOfPool told) (of_pool_on v told told_lane written.1.call.locks) entries may.each)));
+    } where
+      told_lane : IsSameLane v told
+      told_lane = let l = written.1.call.lane in record { lanes = l.lanes; zones = l.zones; pool = l.pool; lane = l.lane; stop = l.stop; table = l.table; size = l.size }
+
+    pub end_ready : (n : ℕ) → Ready m (ends_call operation None n m)
+    unfolding ends_call in_turn one Ready after_all
+    end_ready n = (subst (λ (phase : Phase). MayTell phase) (sym written.1.is_open) tt, tt, (may_draw, tt, tt))
+
+    tells : Tells v told operation None
+    tells =
+        let lane = written.1.call.lane in
+        record {
+          keeps = record { lanes = lane.lanes; zones = lane.zones; pool = lane.pool; lane = lane.lane; entries = written.1.call.entries; known = written.1.call.remembers };
+          locks = written.1.call.locks;
+          call = ap (λ (call : List Told). call ++ record { operation = operation; reply = None } ∷ []) written.1.call.call;
+        }
+
+    tells_logged : TellsLogged v told entries operation
+    tells_logged = record {
+      tells = tells;
+      records = written.1.records;
+      words = record { words = written.1.outside };
+      logged =
+          (λ j. filter (λ (f : Final). not (is_in_area (written.1.call.lane.lane j) f.word)) (logged j))
+          ∙ pool_of v entries may.each;
+    }
+
+    end_drawn : IsWholeOnceLogged v entries operation → (n : ℕ) → DrawEnded m (ends_call operation None n m)
+    unfolding ends_call in_turn one DrawEnded after_all
+    end_drawn whole n = (tt, (inl (whole told tells_logged), tt))
+
+    module _ (n : ℕ) where
+      abbrev drawn : View
+      drawn = after told (Draw n)
+
+      abbrev d : View
+      d = published_view v entries operation n
+
+      is_drawn : d ≡ drawn
+      unfolding ends_call in_turn one after_all
+      is_drawn = refl
+
+      lane_drawn : IsSameLane v drawn
+      lane_drawn = let l = written.1.call.lane in record { lanes = l.lanes; zones = l.zones; pool = l.pool; lane = l.lane; stop = l.stop; table = l.table; size = l.size }
+
+      entered : AreEntered drawn (entries ++ ending drawn ∷ [])
+      entered = record {
+        front = entries;
+        are = refl;
+        each = All-weaker (IsOfPool v) (IsOfPool drawn) (of_pool_on v drawn lane_drawn written.1.call.locks) entries may.each;
+        logged = ap (λ (p : Phase). (log_drawn p m.log).entries) written.1.is_open ∙ (logged ∙ ap (λ (e : Redo). map final_of (entries ++ e ∷ [])) same_ending);
+        most = (let number = length-append entries (ending drawn ∷ []) in let few = may.few in omega (arith, number, few));
+      }
+
+      ready_to_perform : IsReadyToPerform drawn (entries ++ ending drawn ∷ [])
+      ready_to_perform = record {
+        place =
+            (let l = written.1.call.lane in let lane = l.lane in let lanes = l.lanes in let size = l.size in
+            let low = may.place.lane in let few = may.place.few in let inside = may.place.inside in
+            record { lane = omega (arith, lane, lanes, low); few = omega (arith, lane, few); inside = omega (arith, lane, size, inside) });
+        drawn = ap (λ (p : Phase). (log_drawn p m.log).phase) written.1.is_open ∙ some_drawn m.log.records m.log.entries some_logged;
+        drained = written.1.drained;
+        below = (let same = written.1.generation in let below = may.ready.entering.area.below in omega (arith, same, below));
+        entered = entered;
+      }
+
+      drawn_last : IsDrawnBy v drawn operation None n
+      drawn_last = (
+        ap (λ (call : List Told). told_more call operation None) written.1.call.call,
+        record { number = refl; entries = ap (λ (entries : List Numbered). drawn_more entries n told.call) written.1.call.entries },
+      )
+
+      over_then : (w : View) → IsPerformed drawn w → IsOver v w n
+      over_then w done = record {
+        lane = same_lane-then v drawn w lane_drawn done.call.lane;
+        locks = done.call.locks ∙ written.1.call.locks;
+        log = done.log;
+        drained = done.drained;
+        number = done.call.number;
+        last = ap last_number_of done.call.entries ∙ last_behind m.entries (record { number = n; call = told.call });
+      }
+
+      last_then : (w : View) → w.number ≡ Some n → w.entries ≡ drawn.entries → w.call ≡ drawn.call → IsDrawnBy v w operation None n
+      last_then w number entries call = (
+        call ∙ drawn_last.0,
+        record { number = number; entries = entries ∙ (drawn_last.1.entries ∙ ap (λ (told : List Told). drawn_more v.entries n told) (sym call)) },
+      )
+
+      -- what comes behind the draw
+      abbrev tail : View → List Step
+      tail u = performs_logged entries u
+
+      done_drawn : Ready drawn (tail drawn) × IsPerformed drawn (after_all drawn (tail drawn))
+      unfolding performs_logged
+      done_drawn = perform_lawful drawn (entries ++ ending drawn ∷ []) ready_to_perform
+
+      front_so : (k : ℕ) → IsDrawnBy v (after_all drawn (take k (tail drawn))) operation None n
+      front_so k =
+          let call = done_drawn.1.call in
+          let stays = front_drawn drawn (tail drawn) k n (let e = ap length call.entries in omega (arith, e)) call.number (let e = ap length call.call in omega (arith, e)) in
+          last_then (after_all drawn (take k (tail drawn))) stays.0 stays.1 stays.2
+
+      -- behind the draw the call's entry is the last, wherever the lane stops
+      pub performing_drawn : (k : ℕ) → IsDrawnBy v (after_all (published_view v entries operation n) (take k (performs_logged entries (published_view v entries operation n)))) operation None n
+      performing_drawn k = subst (λ (u : View). IsDrawnBy v (after_all u (take k (tail u))) operation None n) (sym is_drawn) (front_so k)
+
+      abbrev IsTail : View → Type 0
+      IsTail u = Ready u (tail u) × IsOver v (after_all u (tail u)) n × IsDrawnBy v (after_all u (tail u)) operation None n × (length (after_all u (tail u)).entries ≤ length u.entries)
+
+      whole_tail : IsTail d
+      whole_tail = subst IsTail (sym is_drawn) (
+          let call = done_drawn.1.call in
+          (done_drawn.0, over_then (after_all drawn (tail drawn)) done_drawn.1, last_then (after_all drawn (tail drawn)) call.number call.entries call.call, (let e = ap length call.entries in omega (arith, e)))
+          )
+
+      abbrev first : List Step
+      first = logs entries v
+
+      abbrev ends : List Step
+      ends = ends_call operation None n m
+
+      -- so the log may be performed
+      pub perform_may : IsReadyToPerform (published_view v entries operation n) (entries ++ ending (published_view v entries operation n) ∷ [])
+      perform_may = subst (λ (u : View). IsReadyToPerform u (entries ++ ending u ∷ [])) (sym is_drawn) ready_to_perform
+
+      pub perform_ready : Ready (published_view v entries operation n) (performs_logged entries (published_view v entries operation n))
+      perform_ready = whole_tail.0
+
+      pub ending_behind : ending (published_view v entries operation n) ≡ ending v
+      ending_behind = ap ending is_drawn ∙ sym same_ending
+
+      -- where all of it ends
+      there : after_all v (publishes entries operation n v) ≡ after_all d (tail d)
+      unfolding publishes in_turn
+      there = after_all-append v first (ends ++ tail d) ∙ after_all-append m ends (tail d)
+
+      pub publish_lawful : Ready v (publishes entries operation n v) × IsOver v (after_all v (publishes entries operation n v)) n
+      unfolding publishes in_turn
+      publish_lawful = (
+        ready_both v first (ends ++ tail d) written.0 (ready_both m ends (tail d) (end_ready n) whole_tail.0),
+        subst (λ (w : View). IsOver v w n) (sym there) whole_tail.1,
+      )
+
+      pub publish_last : IsDrawnBy v (after_all v (publishes entries operation n v)) operation None n
+      publish_last = subst (λ (w : View). IsDrawnBy v w operation None n) (sym there) whole_tail.2
+
+      pub publish_drawn : IsWholeOnceLogged v entries operation → DrawEnded v (publishes entries operation n v)
+      unfolding publishes in_turn
+      publish_drawn whole =
+          drawn_in_turn v first (ends ++ tail d) (drawless v first (let e = ap length written.1.call.entries in omega (arith, e)))
+          (drawn_in_turn m ends (tail d) (end_drawn whole n) (drawless d (tail d) whole_tail.3))
