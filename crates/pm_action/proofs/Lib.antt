@@ -1,0 +1,14 @@
+pub mod ToldOutside
+pub mod Started
+pub mod Answered
+pub mod Settled
+pub mod RestingAgain
+pub mod WantedObjects
+pub mod LookedAgain
+pub mod EachEnd
+pub mod HeldObjects
+pub mod Sought
+pub mod RefusedHolding
+pub mod HeldWords
+pub mod PublishedHeld
+pub mod PublishEnds

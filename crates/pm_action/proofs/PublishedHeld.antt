@@ -1,0 +1,219 @@
+-- A call that holds the objects of its actions may publish them, and is whole once they are logged.
+use Rattle.std.proofs.Common.{◌≡◌, ◌⊎◌, ⊎_elim, inl, inr, ℕ, ◌+◌, ◌*◌, ◌/◌, ◌^◌, ◌<◌, ◌≤◌, Bool, true, All, Contains, List, [], ◌∷◌, ◌++◌, map, length, get_or, Ok, None, Some, refl, sym, ap, ◌∙◌, subst, arith}
+use Rattle.std.proofs.Math.ListN.{get_or-map}
+use Rattle.std.proofs.lemmas.List.{append_assoc, length-map}
+use Rattle.std.proofs.lemmas.List.Elements.{All-weaker}
+use Rattle.pm_crash.proofs.ActionsOutside.{publish_is_step}
+use Rattle.pm_crash.proofs.PendingOn.{same_before}
+use Rattle.pm_crash.specs.Locks.{AreSameLocks}
+use Rattle.pm_crash.specs.OnActions.{CanSet}
+use Rattle.pm_crash.specs.OpenCall.{IsWholeCall, lock_of as model_lock}
+use Rattle.pm_crash.specs.Operations.{IsHeld, TakesWanted}
+use Rattle.pm_crash.specs.Pending.{pending_before}
+use Rattle.pm_crash.specs.Performing.{entry_for}
+use Rattle.pm_memory.specs.Runs.{Stops}
+use Rattle.pm_model.specs.Actions.{Action, wants_for}
+use Rattle.pm_model.specs.Actions.Action.{SetWord}
+use Rattle.pm_model.specs.Places.{can_begin}
+use Rattle.pm_model.specs.Transaction.{locked_all}
+use Rattle.pm_objects.specs.declared.calls.Operation.TheVariants.{Publish}
+use Rattle.pm_objects.specs.declared.ids.Oid.{Oid}
+use Rattle.pm_pending.specs.Pending.{action_of, entry_of, pending_of, redo_for}
+use Rattle.pm_pending.specs.declared.actions.SetAction.{SetAction}
+use Rattle.pm_record.specs.declared.redo.Redo.{Redo}
+use Rattle.pm_redo.specs.Entering.{IsOfPool}
+use Rattle.pm_redo.specs.Sequences.{logs}
+use Rattle.pm_view.specs.Blocks.{is_chunk}
+use Rattle.pm_view.specs.Log.{Log}
+use Rattle.pm_view.specs.Steps.{Step}
+use Rattle.pm_view.specs.View.{Lock, Told, View}
+use Rattle.pm_view.specs.Views.{after_all}
+use Rattle.pm_view.proofs.Sequences.{after_all-append}
+use Rattle.pm_world.proofs.Sequencing.{ready_left}
+use Rattle.pm_world.proofs.Shapes.{IsOfSamePool}
+use Rattle.pm_world.specs.Sequences.{IsStopped, Ready, Runs, in_turn}
+use Rattle.pm_world.specs.declared.lane.Lane.{Lane}
+use Rattle.pm_tx.specs.Beginning.{IsBegun}
+use Rattle.pm_tx.specs.Ending.{DrawEnded, IsAfterCall, IsEndedBy, IsOver, IsStoppedIn}
+use Rattle.pm_tx.specs.Publishing.{MayPublish, StopsPublished, TellsLogged, logged_view, published_view}
+use Rattle.pm_tx.specs.Sequences.{ends_call, performs_logged, publishes}
+use Rattle.pm_tx.proofs.Beginnings.{no_records, works}
+use Rattle.pm_tx.proofs.Committed.{finals_for}
+use Rattle.pm_tx.proofs.Fronts.{stopped_left, stopped_right}
+use Rattle.pm_tx.proofs.GivenUp.{after_over, place_at_work, undrawn_lane}
+use Rattle.pm_tx.proofs.Published.{logging_undrawn, performing_drawn, publish_drawn, publish_last, publish_lawful}
+use Rattle.pm_action.specs.Publishing.{MayPublishHeld, entries_of}
+use Rattle.pm_action.proofs.HeldWords.{all_of_pool, size_outside}
+
+module _ {M : Type 0} (at : M → View → Type 0) (lane : Lane M) (actions : List Action) (v : View) (may : MayPublishHeld at lane actions v) where
+  is : IsBegun at lane v
+  is = may.begun
+
+  entries : List Redo
+  entries = entries_of actions
+
+  pub may_publish : 1 ≤ length actions → length actions ≤ 63 → MayPublish v (entries_of actions)
+  may_publish some few =
+      let n = length-map actions entry_of in
+      let area = is.area in
+      record {
+        ready = record {
+          entering = record { is_open = ap (λ (log : Log). log.phase) is.log; undrawn = is.undrawn; area = area; few = (let count = ap length is.drained in omega (arith, count)) };
+          none = ap (λ (log : Log). log.entries) is.log;
+        };
+        place = record { lane = area.lane; few = area.few; inside = area.inside };
+        some = omega (arith, n, some);
+        few = omega (arith, n, few);
+        each = all_of_pool v may.sound may.holds.objects actions may.holds.each;
+        may_come = is.may_come;
+      }
+
+  module _ (same : actions ≡ pending_before v) (next : View) (t : TellsLogged v next (entries_of actions) Publish) where
+    held_next : (id : Oid) (write : Bool) → IsHeld v id write → IsHeld next id write
+    held_next id write h =
+        record { lock = h.lock; lines = h.lines; held = subst (λ (ls : List Lock). Contains ls h.lock) (sym t.tells.locks) h.held; block = h.block; allows = h.allows; of_pool = h.of_pool ∙ sym t.tells.keeps.pool; place = h.place }
+
+    takes_next : TakesWanted next [] (wants_for actions)
+    takes_next =
+        let takes = may.holds.takes in
+        let keeps = t.tells.keeps in
+        let locks = t.tells.locks in
+        record {
+          few = subst (λ (ls : List Lock). length ls ≤ 64) (sym locks) takes.few;
+          locks = subst (λ (ls : List Lock). AreSameLocks (map model_lock ls) (locked_all (wants_for actions) [])) (sym locks) takes.locks;
+          wanted = λ want there.
+              let w = takes.wanted want there in
+              record { place = (λ i. can_begin (keeps.lanes i) (keeps.zones i) want.id.off) ∙ w.place; held = held_next want.id want.write w.held };
+          chunks = λ l lines there block. ap (λ n. is_chunk n (l.line / 64)) keeps.lanes ∙ takes.chunks l lines (subst (λ (ls : List Lock). Contains ls l) locks there) block;
+        }
+
+    sets_next : (a : Action) → CanSet v a → CanSet next a
+    unfolding held_next
+    sets_next (SetWord id off value) (range, word) =
+        let h : IsHeld v id true = range.object in
+        let size = t.words.words (8 * h.lock.line + 1) (size_outside v may.sound may.holds.objects h.lock h.held) in
+        let inside = range.inside in
+        (record { object = held_next id true h; size_known = t.tells.keeps.known _ range.size_known; inside = omega (arith, size, inside) }, word)
+
+    now : actions ≡ pending_before next
+    now = same ∙ sym (same_before v next t.tells.keeps.entries)
+
+    whole : IsWholeCall next
+    whole =
+        publish_is_step next (record {
+          call = t.tells.call ∙ ap (λ (told : List Told). told ++ record { operation = Publish; reply = None } ∷ []) is.untold;
+          no_records = t.records ∙ no_records at lane v is;
+          holds = record {
+            in_lanes = (let low = is.area.lane in let lane = t.tells.keeps.lane in let lanes = t.tells.keeps.lanes in omega (arith, low, lane, lanes));
+            takes = subst (λ (pending : List Action). TakesWanted next [] (wants_for pending)) now takes_next;
+          };
+          each = subst (All (CanSet next)) now (All-weaker (CanSet v) (CanSet next) sets_next actions may.holds.each);
+          entries = t.logged ∙ finals_for actions ∙ ap (map entry_for) now;
+        })
+
+  module _ (some : 1 ≤ length actions) (few : length actions ≤ 63) (listed : Lane M) (lists : listed ≡ record lane { entries = listed.entries }) (are : listed.entries.items ≡ entries_of actions) (new : Lane M) where
+    abbrev mays : MayPublish v (entries_of actions)
+    mays = may_publish some few
+
+    abbrev n : ℕ
+    n = new.last
+
+    abbrev w : View
+    w = after_all v (publishes (entries_of actions) Publish n v)
+
+    lawful : Ready v (publishes (entries_of actions) Publish n v) × IsOver v w n
+    lawful = publish_lawful v (entries_of actions) mays Publish n
+
+    seen_before : at listed.memory v
+    seen_before = subst (λ (memory : M). at memory v) (sym (ap (λ (l : Lane M). l.memory) lists)) is.seen.memory
+
+    -- once the log is performed the call is over
+    pub published_after : Runs {T = Unit {0}} (at listed.memory) (at new.memory) (publishes listed.entries.items Publish n) (Ok tt) → new.records.items ≡ [] → new.entries.items ≡ [] → new.drawn ≡ Some n
+        → new ≡ record listed { memory = new.memory; records = new.records; entries = new.entries; drawn = new.drawn; last = new.last } → IsAfterCall at new w
+    unfolding Runs
+    published_after ran none unlisted drawn fields =
+        let made = subst (λ (es : List Redo). Runs {T = Unit {0}} (at listed.memory) (at new.memory) (publishes es Publish n) (Ok tt)) are ran in
+        let pool : IsOfSamePool lane new =
+        record { pool = ap (λ (l : Lane M). l.pool) fields ∙ ap (λ (l : Lane M). l.pool) lists; shape = ap (λ (l : Lane M). l.shape) fields ∙ ap (λ (l : Lane M). l.shape) lists } in
+        after_over at lane new v w is.seen is.lines (made v seen_before lawful.0) lawful.1 (ap (λ (l : Lane M). l.locks.items) fields ∙ ap (λ (l : Lane M). l.locks.items) lists) none unlisted drawn pool
+        (ap (λ (l : Lane M). l.stopped) fields ∙ (ap (λ (l : Lane M). l.stopped) lists ∙ is.unstopped)) (place_at_work v (works at lane v is))
+
+    module _ (same : actions ≡ pending_before v) where
+      draws : DrawEnded v (publishes (entries_of actions) Publish n v)
+      draws = publish_drawn v (entries_of actions) mays Publish n (whole same)
+
+      pub published : IsAfterCall at new w → IsEndedBy at new v (publishes (entries_of actions) Publish n) Publish None
+      published behind =
+          let last = publish_last v (entries_of actions) mays Publish n in
+          record { ready = lawful.0; draws = draws; behind = behind; over = lawful.1; told = last.0; entries = last.1.entries }
+
+      abbrev first : List Step
+      first = logs (entries_of actions) v
+
+      abbrev ends : List Step
+      ends = ends_call Publish None n (logged_view v (entries_of actions))
+
+      abbrev d : View
+      d = published_view v (entries_of actions) Publish n
+
+      abbrev performing : List Step
+      performing = performs_logged (entries_of actions) d
+
+      in_parts : publishes (entries_of actions) Publish n v ≡ first ++ (ends ++ performing)
+      unfolding publishes in_turn
+      in_parts = refl
+
+      undrawn_before : listed.drawn ≡ None
+      undrawn_before = ap (λ (l : Lane M). l.drawn) lists ∙ undrawn_lane at lane v is.seen is.undrawn
+
+      -- it stopped before the draw
+      stopped_logging : IsStopped (at listed.memory) (at new.memory) (logs (entries_of actions)) → new.stopped ≡ true → new.drawn ≡ listed.drawn → IsStoppedIn at new v (publishes (entries_of actions) Publish n) Publish None
+      unfolding Runs
+      stopped_logging stops says drawn =
+          let s : Stops (at new.memory) v first = stops.1 v seen_before (ready_left v first (ends ++ performing) (subst (Ready v) in_parts lawful.0)) in
+          let undrawn = logging_undrawn v (entries_of actions) mays s.made in
+          stopped_left at new v (publishes (entries_of actions) Publish n) Publish None first (ends ++ performing) in_parts lawful.0 draws s says (drawn ∙ (undrawn_before ∙ sym undrawn.0)) (record { told = inl undrawn.0; entries = inl undrawn })
+
+      -- or behind it
+      stopped_performing : StopsPublished (at listed.memory) (at new.memory) (entries_of actions) Publish n → new.stopped ≡ true → new.drawn ≡ Some n → IsStoppedIn at new v (publishes (entries_of actions) Publish n) Publish None
+      stopped_performing stops says drawn =
+          let s : Stops (at new.memory) d performing = stops v seen_before lawful.0 in
+          let behind = performing_drawn v (entries_of actions) mays Publish n s.made in
+          stopped_right at new v (publishes (entries_of actions) Publish n) Publish None (first ++ ends) d performing (after_all-append v first ends) (in_parts ∙ sym (append_assoc first ends performing)) lawful.0 draws s says
+          (drawn ∙ sym behind.1.number) (record { told = inr behind.0; entries = inr (n, behind.1) })
+
+      pub stopped_publishing : ((new.drawn ≡ listed.drawn) × IsStopped (at listed.memory) (at new.memory) (logs listed.entries.items)) ⊎ ((new.drawn ≡ Some n) × StopsPublished (at listed.memory) (at new.memory) listed.entries.items Publish n) → new.stopped ≡ true
+          → IsStoppedIn at new v (publishes (entries_of actions) Publish n) Publish None
+      stopped_publishing stops says =
+          let so = subst (λ (es : List Redo). ((new.drawn ≡ listed.drawn) × IsStopped (at listed.memory) (at new.memory) (logs es)) ⊎ ((new.drawn ≡ Some n) × StopsPublished (at listed.memory) (at new.memory) es Publish n)) are stops in
+          ⊎_elim (λ (t : (new.drawn ≡ listed.drawn) × IsStopped (at listed.memory) (at new.memory) (logs (entries_of actions))). stopped_logging t.1 says t.0)
+          (λ (t : (new.drawn ≡ Some n) × StopsPublished (at listed.memory) (at new.memory) (entries_of actions) Publish n). stopped_performing t.1 says t.0) so
+
+redos : (actions : List SetAction) → map redo_for actions ≡ entries_of (pending_of actions)
+redos [] = refl
+redos (a ∷ actions) = ap (λ (es : List Redo). redo_for a ∷ es) (redos actions)
+
+module _ {M : Type 0} (at : M → View → Type 0) (lane : Lane M) (actions : List SetAction) (v : View) (may : MayPublishHeld at lane (pending_of actions) v) where
+  -- the lane lists the entries of the actions, and no others
+  pub listed_so : (listed : List Redo) → listed ≡ lane.entries.items ++ map redo_for actions → listed ≡ entries_of (pending_of actions)
+  listed_so listed is = is ∙ ap (λ (es : List Redo). es ++ map redo_for actions) may.begun.unlisted ∙ redos actions
+
+  pub pending_some : 1 ≤ length actions → 1 ≤ length (pending_of actions)
+  pending_some some = let n = length-map actions action_of in omega (arith, n, some)
+
+  pub pending_few : length actions ≤ 63 → length (pending_of actions) ≤ 63
+  pending_few few = let n = length-map actions action_of in omega (arith, n, few)
+
+  -- each is of a place of the pool
+  pub places : All (λ (a : SetAction). a.id.off + a.off < 2 ^ 64) actions
+  places k d low =
+      let all = all_of_pool v may.sound may.holds.objects (pending_of actions) may.holds.each in
+      let n = length-map actions action_of in
+      let m = length-map (pending_of actions) entry_of in
+      let e : IsOfPool v (entry_of (action_of (get_or actions k d))) =
+      subst (IsOfPool v) (get_or-map entry_of (pending_of actions) k (action_of d) ∙ ap entry_of (get_or-map action_of actions k d)) (all k (entry_of (action_of d)) (omega (arith, n, m, low))) in
+      let inside = e.inside in
+      let size = may.begun.seen.shape.size in
+      let lanes = lane.shape.lanes_to in
+      let zones = lane.shape.zones_to in
+      omega (arith, inside, size, lanes, zones)

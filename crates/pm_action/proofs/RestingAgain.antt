@@ -1,0 +1,28 @@
+-- The fields of a lane that rests again behind a call are as before it, but for its memory and its last number.
+use Rattle.std.proofs.Common.{◌≡◌, ℕ, List, [], None, sym, ap, ◌∙◌}
+use Rattle.arrayvec.specs.ArrayVec.{ArrayVec}
+use Rattle.pm_view.specs.View.{View}
+use Rattle.pm_world.specs.declared.lane.HeldLock.{HeldLock}
+use Rattle.pm_world.specs.declared.lane.Lane.{Lane}
+use Rattle.pm_tx.specs.Beginning.{IsBegunBy}
+use Rattle.pm_tx.specs.Resting.{IsAtRest}
+use Rattle.pm_tx.specs.Sequences.{starts}
+use Rattle.pm_tx.proofs.BeginPlanned.{no_locks}
+
+module _ {M : Type 0} (at : M → View → Type 0) (old mid new : Lane M) (v : View) (n : ℕ) (rests : IsAtRest at old v) (started : IsBegunBy at mid v (starts n)) (same : mid ≡ record old { memory = mid.memory }) where
+  abbrev no_items : List HeldLock → ArrayVec HeldLock
+  no_items items = record { items = items }
+
+  pub fields_kept : new.locks.items ≡ [] → new ≡ record mid { memory = new.memory; locks = new.locks; drawn = None; last = new.last } → new ≡ record old { memory = new.memory; last = new.last }
+  fields_kept free fields =
+      let held : old.locks.items ≡ [] = sym (ap (λ (l : Lane M). l.locks.items) same) ∙ no_locks at old mid v n started rests same in
+      let locks : new.locks ≡ old.locks = ap no_items (free ∙ sym held) in
+      let drawn : None ≡ old.drawn = sym rests.answered in
+      fields
+      ∙ ap (λ (l : Lane M). record l { memory = new.memory; locks = new.locks; drawn = None; last = new.last }) same
+      ∙ (λ i. record old { memory = new.memory; locks = locks i; drawn = drawn i; last = new.last })
+
+-- the lane's memory was another in between
+pub fields_behind : {M : Type 0} (mid later new : Lane M) → later ≡ record mid { memory = later.memory } → new ≡ record later { memory = new.memory; locks = new.locks; drawn = None; last = new.last }
+    → new ≡ record mid { memory = new.memory; locks = new.locks; drawn = None; last = new.last }
+fields_behind {M} mid later new same fields = fields ∙ ap (λ (l : Lane M). record l { memory = new.memory; locks = new.locks; drawn = None; last = new.last }) same

@@ -1,0 +1,33 @@
+use Rattle.std.proofs.Common.{◌∙◌, None, Some, [], ◌∷◌, ap}
+use Rattle.std.specs.Option.{option_map}
+use Rattle.pm_objects.specs.declared.calls.Operation.TheVariants.{SetValue}
+use Rattle.pm_objects.specs.declared.history.Value.TheVariants.{Refused}
+use Rattle.pm_pending.specs.Pending.{action_of, pending_of}
+use Rattle.std.proofs.lemmas.List.{map-append}
+use Rattle.pm_action.proofs.Answered.{answered_since, refused_set}
+use Rattle.pm_action.proofs.RestingAgain.{fields_kept}
+use Rattle.pm_action.proofs.setting.set_value.Goals as goal
+
+pub returns-in-Ok-clause-made : goal.returns-in-Ok-clause-made
+returns-in-Ok-clause-made g c v rests same =
+    answered_since g.M.LaneMem.at c.start.new.lane c.end_outside.new.lane v c.in_ok-start.field-0 (c.in_ok-start.ensures.begun v rests) c.args.actions.now.items c.pend.new.actions.items same
+    (SetValue c.args.action.id c.args.action.off c.args.action.value) None c.end_outside.ensures.told (ap (option_map Refused) c.in-Ok.ensures.reason)
+    (ap pending_of c.in-Ok.ensures.done ∙ map-append action_of c.args.actions.now.items (c.args.action ∷ []))
+
+pub returns-clause-made : goal.returns-clause-made
+returns-clause-made g c v rests same =
+    let op = SetValue c.args.action.id c.args.action.off c.args.action.value in
+    refused_set c.args.action.off (pending_of c.args.actions.now.items) c.in-Err.refusal c.in-Err.ensures.reason g.M.LaneMem.at c.end_outside-in-Err.new.lane c.pend.new.actions.items v op
+    (answered_since g.M.LaneMem.at c.start.new.lane c.end_outside-in-Err.new.lane v c.in_ok-start.field-0 (c.in_ok-start.ensures.begun v rests) c.args.actions.now.items c.pend.new.actions.items same
+    op (Some (Refused c.in-Err.refusal)) c.end_outside-in-Err.ensures.told (ap (option_map Refused) c.in-Err.ensures.reason) (ap (λ a. pending_of a.items) c.in-Err.ensures.unchanged))
+
+pub returns-in-Ok-clause-lane : goal.returns-in-Ok-clause-lane
+returns-in-Ok-clause-lane g c =
+    let rests = c.requires.rests c.if-lane.false in
+    fields_kept g.M.LaneMem.at c.args.lane.now c.start.new.lane c.end_outside.new.lane rests.0 c.in_ok-start.field-0 rests.1 (c.in_ok-start.ensures.begun rests.0 rests.1) c.start.ensures.else_same c.end_outside.ensures.free c.end_outside.ensures.lane
+
+pub returns-clause-lane : goal.returns-clause-lane
+returns-clause-lane g c =
+    let rests = c.requires.rests c.if-lane.false in
+    fields_kept g.M.LaneMem.at c.args.lane.now c.start.new.lane c.end_outside-in-Err.new.lane rests.0 c.in_ok-start.field-0 rests.1 (c.in_ok-start.ensures.begun rests.0 rests.1) c.start.ensures.else_same c.end_outside-in-Err.ensures.free
+    c.end_outside-in-Err.ensures.lane
