@@ -11,7 +11,8 @@ build:
 
 # A pool is made and shown, and neither overwritten nor made of values out of range; a damaged one is told by its fault. Then a transaction
 # writes eight bytes of its root, and stops at some call: a power failure leaves the root unchanged, or changed as a whole. Three more are run one
-# after another: what the first wrote is read, the second is refused a write that it did not record, and the third reads what stands.
+# after another: what the first wrote is read, the second is refused a write that it did not record, and the third reads what stands. At last
+# two words are set by one publish: a power failure leaves both or neither.
 demo: build
 	@rm -f $(POOL) build/damaged.pool build/demo-*.pool
 	@printf 'lane 0\nbegin root\nadd root 0 8\nwrite root 0 0102030405060708\ncommit\n' > build/demo.script
@@ -34,6 +35,13 @@ demo: build
 	cat build/demo-more.script
 	build/pmempool exec build/demo-again.pool --script build/demo-more.script --out build/demo-more.pool --layout demo
 	build/pmempool dump build/demo-more.pool
+	@printf 'lane 0\nset root 8 42\nset root 16 43\npublish\n' > build/demo-set.script
+	cat build/demo-set.script
+	@for stop in 9 10 12; do for keep in 0 1; do \
+	  echo "build/pmempool exec $(POOL) .. --stops 0:$$stop --keep $$keep"; \
+	  build/pmempool exec $(POOL) --script build/demo-set.script --out build/demo-set-$$stop-$$keep.pool --layout demo --stops 0:$$stop --keep $$keep; \
+	  build/pmempool dump build/demo-set-$$stop-$$keep.pool; \
+	done; done
 
 # Times beside `cp` of the same file, and the time of ten million stores by one lane alone.
 bench: build

@@ -29,7 +29,7 @@ use Rattle.pm_world.specs.Sequences.{Ready, Sequence, by_lane, by_view, in_turn,
 use Rattle.pm_world.specs.declared.lane.Lane.{Lane}
 use Rattle.pm_world.specs.declared.lane.Stage.TheVariants as stage
 use Rattle.pm_exec.proofs.FewStores.{idle_count, led_count, led_stores}
-use Rattle.pm_exec.specs.Calls.{operation_of, want_of}
+use Rattle.pm_exec.specs.Calls.{operation_of, stands_alone, want_of}
 use Rattle.pm_exec.specs.Torn.{words_after, words_by}
 use Rattle.pm_model.specs.Shown.{values_of}
 use Rattle.pm_objects.specs.declared.calls.Want.{Want}
@@ -43,9 +43,16 @@ use Rattle.pm_exec.specs.Progress.{AreToldDone, IsAtLine, IsGivenUpAt, IsNotDone
 use Rattle.pm_exec.specs.declared.calls.Names.{Names}
 use Rattle.pm_exec.proofs.Along.{lane_along}
 use Rattle.pm_exec.proofs.OpeningFound.{IsThere, IsUntouched, finds_opening, untouched_along}
+use Rattle.pm_pending.specs.declared.actions.SetAction.{SetAction}
+use Rattle.pm_crash.specs.Pending.{pending_before, pending_from, pending_told}
+use Rattle.pm_crash.proofs.PendingOn.{calls_further, pending_first, published_first, same_before}
+use Rattle.pm_model.specs.Checks.{is_action}
+use Rattle.pm_exec.specs.Bounds.{logs_of}
+use Rattle.pm_exec.specs.Progress.{IsPending}
+use Rattle.pm_exec.proofs.PendingLists.{uncounted_raises}
 
-module _ (o : Opening) (first : View) (lane new : Lane Solo) (names : Names) (is : IsStart o lane first) where
-  first_untouched : IsUntouched o first
+module _ (o : Opening) (first : View) (lane new : Lane Solo) (actions : List SetAction) (names : Names) (is : IsStart o lane actions first) where
+  pub first_untouched : IsUntouched o first
   first_untouched = record {
     lanes = is.lanes_are;
     alone = is.alone;
@@ -57,7 +64,7 @@ module _ (o : Opening) (first : View) (lane new : Lane Solo) (names : Names) (is
   first_generation = ap (λ n. slice_index first.words (area_word n)) is.of_lane ∙ ap (λ (words : List ℕ). slice_index words (area_word 0)) is.words_are
 
   -- no lock is refused
-  not_busy : IsBusy Sees new first → ⊥
+  pub not_busy : IsBusy Sees new first → ⊥
   not_busy b = refuted b.write (All-contains IsGranted b.view.seen (takes b.line b.write false) b.rests.seen.memory.alone b.refused) where
     refuted : (write : Bool) → IsGranted (takes b.line write false) → ⊥
     refuted true granted = false≢true granted
@@ -96,7 +103,7 @@ module _ (o : Opening) (first : View) (lane new : Lane Solo) (names : Names) (is
     drained = r.rests.drained;
   }
 
-  spent : IsSpent Sees new first → IsUnbegun first new
+  pub spent : IsSpent Sees new first → IsUnbegun first new
   spent s =
       ⊎_elim (λ t. behind sees_generation none_drawn_yet looks_free (inl t.0) t.1)
       (λ t. behind (starts t.0) (none_drawn t.0) (starts_free t.0) (inr (subst (λ n. generation_limit ≤ n) (number_is t.0 t.1.1.ready) t.1.0)) t.1.1) s
@@ -129,7 +136,7 @@ module _ (o : Opening) (first : View) (lane new : Lane Solo) (names : Names) (is
     unfolding words_after
     begin_writes_none words i = ap (λ (x : ScriptOp). words_by names x words i) begins
 
-    pub begun_at_line : HasBegun Sees new first wants → new.level ≡ 1 → IsAtLine o first new names (said ∷ []) []
+    pub begun_at_line : HasBegun Sees new first wants → new.level ≡ 1 → IsAtLine o first new actions names (said ∷ []) []
     begun_at_line b level =
         let w : View = b.view in
         let untouched : IsUntouched o w = untouched_along o first w b.led.steps b.led.leads b.led.uncounted first_untouched in
@@ -143,24 +150,35 @@ module _ (o : Opening) (first : View) (lane new : Lane Solo) (names : Names) (is
           alone = untouched.alone;
           works = b.opens o is.sound is.zones (finds_opening o w untouched in_lanes);
           level = level;
+          opens = (said, [], refl, ap stands_alone begins);
           told = subst (AreToldDone names (said ∷ [])) (sym b.call) (told_so, tt);
           gave = nothing_given w.call b.call;
           entries = b.entries;
           generation = ap (λ n. slice_index w.words (area_word n)) lane_is ∙ ap (λ (words : List ℕ). slice_index words (area_word 0)) untouched.words;
           words = λ i outside. ap (λ (words : List ℕ). slice_index words i) untouched.words ∙ sym (begin_writes_none (slice_index o.words) i);
+          unraised = uncounted_raises b.led.steps b.led.uncounted;
+          pending = record { are = is.pending.are ∙ sym (pending_first w (done (operation.Begin wants)) b.call ∙ same_before first w b.entries); aligned = is.pending.aligned };
           made = line_made w b.led b.entries;
-          few = (let none = led_stores first w b.led in let kept = led_count first w b.led in let before = idle_count first is.idle in omega (arith, none, kept, before));
+          few = (let nothing = ap logs_of (published_first w (done (operation.Begin wants)) b.call) in let none = led_stores first w b.led in let kept = led_count first w b.led in let before = idle_count first is.idle in omega (arith, nothing, none, kept, before));
         }
+
+    -- a begin that is refused changes nothing of what is pending
+    still_pending : (w : View) (n : ℕ) {r : Refusal} → w.call ≡ refused (operation.Begin wants) r ∷ [] → w.entries ≡ first.entries ++ record { number = n; call = w.call } ∷ [] → IsPending actions (pending_before w)
+    unfolding pending_told
+    still_pending w n call entries = record {
+      are = is.pending.are ∙ sym (ap (pending_from []) entries ∙ calls_further [] first.entries (record { number = n; call = w.call }) ∙ ap (pending_told (pending_before first)) call);
+      aligned = is.pending.aligned;
+    }
 
     module _ (rest : List ScriptLine) where
       refused_led : (r : Refusal) (w : View) → IsLed first w → IsBeginRefusal names asked r first → IsRefusalMade names said.operation r first w
       refused_led r w led why = subst (λ (x : ScriptOp). IsRefusalMade names x r first w) (sym begins) (led, why)
 
-      refused_at : (r : Refusal) → IsBeginRefusal names asked r first → HasRefused Sees new first wants r → new.level ≡ 1 → new.stage ≡ stage.OnAbort → new.error ≡ error.Refused r → IsGivenUpAt first new names (said ∷ rest) [] said.line r
+      refused_at : (r : Refusal) → IsBeginRefusal names asked r first → HasRefused Sees new first wants r → new.level ≡ 1 → new.stage ≡ stage.OnAbort → new.error ≡ error.Refused r → IsGivenUpAt first new actions names (said ∷ rest) [] said.line r
       unfolding LinesMade values_of
       refused_at r why b level at fails = record {
         told = refused (operation_of names said.operation) r ∷ [];
-        at = record { front = []; said = said; rest = rest; is_lines = refl; of_line = refl; before = []; done = tt; gave = refl; told_so = refl };
+        at = record { front = []; said = said; rest = rest; is_lines = refl; of_line = refl; gives_up = ap is_action begin_is; before = []; done = tt; gave = refl; told_so = refl };
         over = record {
           view = b.view;
           steps = b.led.steps;
@@ -172,13 +190,14 @@ module _ (o : Opening) (first : View) (lane new : Lane Solo) (names : Names) (is
           level = level;
           left = ap is_work at;
           fails = fails;
+          pending = still_pending b.view new.last (ap (λ (ts : List Told). ts) b.call) b.entries;
           made = record { front = []; said = said; rest = rest; is = refl; middle = first; made = refl; refused = refused_led r b.view b.led why };
           few = (let none = led_stores first b.view b.led in omega (arith, none));
         };
       }
 
       -- why it did not begin
-      pub not_begun : (r : Refusal) → (r ≡ refusal.NoObject → Any (LacksObject first) wants) → FailsToBegin Sees new first wants r → LeavesLane r lane new → IsNotDone o first new names (said ∷ rest) [] (not_done said.line r)
+      pub not_begun : (r : Refusal) → (r ≡ refusal.NoObject → Any (LacksObject first) wants) → FailsToBegin Sees new first wants r → LeavesLane r lane new → IsNotDone o first new actions names (said ∷ rest) [] (not_done said.line r)
       not_begun refusal.Spent missing fails leaves = (spent fails, refl)
       not_begun refusal.Busy missing fails leaves = absurd (not_busy fails)
       not_begun refusal.LocksFull missing fails leaves = refused_at refusal.LocksFull tt fails (ap (λ (l : Lane Solo). l.level) leaves) (ap (λ (l : Lane Solo). l.stage) leaves) (ap (λ (l : Lane Solo). l.error) leaves)

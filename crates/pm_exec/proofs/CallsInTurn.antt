@@ -7,7 +7,6 @@ use Rattle.pm_objects.specs.declared.calls.Call.{Call}
 use Rattle.pm_objects.specs.declared.history.Entry.{Entry}
 use Rattle.pm_objects.specs.declared.history.Fate.{Fate}
 use Rattle.pm_objects.specs.declared.history.Reply.{Reply}
-use Rattle.pm_objects.specs.declared.history.TxErr.{TxErr}
 use Rattle.pm_script.specs.declared.script.ScriptLine.{ScriptLine}
 use Rattle.pm_text.specs.declared.report.LaneEnd.TheVariants as end
 use Rattle.pm_view.specs.Area.{area_word}
@@ -25,6 +24,8 @@ use Rattle.pm_exec.specs.Running.{AreEntries, HasComeTo, HasHalted, IsEntryOf, o
 use Rattle.pm_exec.specs.declared.calls.Names.{Names}
 use Rattle.pm_exec.specs.declared.running.Halt.{Halt}
 use Rattle.pm_exec.proofs.Standing.{starts_again}
+use Rattle.pm_pending.specs.declared.actions.SetAction.{SetAction}
+use Rattle.pm_exec.specs.declared.ending.CallAnswer.{CallAnswer}
 
 -- its entry is the last
 entries_then : (names : Names) (calls : List (List ScriptLine)) (history : List Entry) (entries : List Numbered) (call : List ScriptLine) (e : Entry) (n : Numbered)
@@ -37,7 +38,7 @@ entries_then names (c ∷ calls) (d ∷ history) [] call e n are is = absurd are
 entries_then names (c ∷ calls) (d ∷ history) (m ∷ entries) call e n are is = (are.0, entries_then names calls history entries call e n are.1 is)
 
 -- it is made behind the others
-made_then : (names : Names) (calls : List (List ScriptLine)) (history : List Entry) (call : List ScriptLine) (d : Entry) (e : TxErr) (u v w : View) → CallsMade names calls history u v → d.fate ≡ settled_fate e → IsCallMade names call e v w
+made_then : (names : Names) (calls : List (List ScriptLine)) (history : List Entry) (call : List ScriptLine) (d : Entry) (e : CallAnswer) (u v w : View) → CallsMade names calls history u v → d.fate ≡ settled_fate e → IsCallMade names call e v w
     → CallsMade names (calls ++ call ∷ []) (history ++ d ∷ []) u w
 unfolding CallsMade
 made_then names [] [] call d e u v w made settled is = (w, e, settled, subst (λ (m : View). IsCallMade names call e m w) made is, refl)
@@ -45,10 +46,10 @@ made_then names [] (h ∷ history) call d e u v w made settled is = absurd made
 made_then names (c ∷ calls) [] call d e u v w made settled is = absurd made
 made_then names (c ∷ calls) (h ∷ history) call d e u v w made settled is = (made.0, made.1, made.2, made.3, made_then names calls history call d e made.0 v w made.4 settled is)
 
-module _ (o : Opening) (first : View) (lane : Lane Solo) (names : Names) (calls : List (List ScriptLine)) (history : List Entry) (h : HasComeTo o first lane names calls history) where
+module _ (o : Opening) (first : View) (lane : Lane Solo) (actions : List SetAction) (names : Names) (calls : List (List ScriptLine)) (history : List Entry) (h : HasComeTo o first lane actions names calls history) where
   -- where those were answered, the lane may begin it
-  pub begins : IsStart (standing o h.answered.view) lane h.answered.view
-  begins = let a = h.answered in starts_again o first a.view a.called.steps h.opened a.called.leads lane a.rests a.idle
+  pub begins : IsStart (standing o h.answered.view) lane actions h.answered.view
+  begins = let a = h.answered in starts_again o first a.view a.called.steps h.opened a.called.leads lane actions a.rests a.idle a.pending
 
   -- the word of its generation, as its memory has it
   generation_seen : (found : ℕ) → found ≡ slice_index lane.memory.words 512 → found ≡ generation_of h.answered.view
@@ -65,9 +66,9 @@ module _ (o : Opening) (first : View) (lane : Lane Solo) (names : Names) (calls 
 
   module _ (lines : List ScriptLine) (new : Lane Solo) where
     -- it was answered too
-    pub one_more : (number : ℕ) (e : TxErr) (reply : Reply) (call : Call) (fate : Fate) → IsAnswered h.answered.view new names lines number e reply → call ≡ call_of names lines → fate ≡ settled_fate e
-        → HasComeTo o first new names (calls ++ lines ∷ []) (history ++ record { number = number; call = call; reply = reply; fate = fate } ∷ [])
-    one_more number e reply call fate x is settled =
+    pub one_more : (left : List SetAction) (number : ℕ) (e : CallAnswer) (reply : Reply) (call : Call) (fate : Fate) → IsAnswered h.answered.view new left names lines number e reply → call ≡ call_of names lines → fate ≡ settled_fate e
+        → HasComeTo o first new left names (calls ++ lines ∷ []) (history ++ record { number = number; call = call; reply = reply; fate = fate } ∷ [])
+    one_more left number e reply call fate x is settled =
         let a = h.answered in
         record {
           opened = h.opened;
@@ -78,12 +79,13 @@ module _ (o : Opening) (first : View) (lane : Lane Solo) (names : Names) (calls 
               leads = leads_then first a.view x.view a.called.steps x.steps a.called.leads x.leads;
               are = subst (AreEntries names (calls ++ lines ∷ []) (history ++ record { number = number; call = call; reply = reply; fate = fate } ∷ [])) (sym x.entries)
                   (entries_then names calls history a.view.entries lines (record { number = number; call = call; reply = reply; fate = fate }) (record { number = number; call = x.told }) a.called.are
-                  (record { number = refl; call = is; error = e; ended = x.so; fate = settled }));
+                  (record { number = refl; call = is; answer = e; ended = x.so; fate = settled }));
               made = made_then names calls history lines (record { number = number; call = call; reply = reply; fate = fate }) e first a.view x.view a.called.made settled x.made;
               few = (let both = stores_append a.called.steps x.steps in let before = a.called.few in let here = x.few in let more = calls_more names calls lines in omega (arith, both, before, here, more));
             };
             rests = x.rests;
             idle = x.idle;
+            pending = x.pending;
           };
         }
 

@@ -59,6 +59,18 @@ use Rattle.pm_exec.proofs.CommitFront.{give_up_keeps}
 use Rattle.pm_exec.proofs.QuietSequences.{quiet_in_give_up}
 use Rattle.pm_exec.proofs.LooksAlone.{IsSameBut, looks_same}
 use Rattle.pm_exec.proofs.UndrawnSteps.{IsUndrawn, Keeps, all_undrawn_keep, first_undrawn_keep}
+use Rattle.pm_pending.specs.declared.actions.SetAction.{SetAction}
+use Rattle.pm_crash.specs.Pending.{pending_before, pending_behind, pending_in, published_by, published_in}
+use Rattle.pm_crash.proofs.PendingOn.{pending_once_more, pending_same, published_once_more, published_same}
+use Rattle.pm_model.specs.Actions.{Action}
+use Rattle.pm_model.specs.Checks.{is_action}
+use Rattle.pm_exec.specs.Bounds.{logs_of}
+use Rattle.pm_exec.specs.Progress.{IsPending}
+use Rattle.pm_exec.proofs.PendingLists.{drawn_pending, still_pending}
+use Rattle.std.proofs.lemmas.List.{append-nil}
+use Rattle.pm_crash.specs.Alone.{raises}
+use Rattle.pm_crash.proofs.Raises.{raises_append}
+use Rattle.pm_exec.proofs.PendingLists.{uncounted_raises}
 
 -- the first of some steps are the first of a sequence that has them here
 pub front_of : (new : View → Type 0) (u : View) (steps : List Step) (target : Sequence) → steps ≡ target u → (stops : Stops new u steps) → IsFrontOf target u (after_all u (take stops.made steps))
@@ -71,7 +83,7 @@ pub gives_up_here : (names : Names) (op : ScriptOp) (r : Refusal) (n : ℕ) (u :
 unfolding by_view
 gives_up_here names op r n u spans are = ap (λ (s : List Span). gives_up s (operation_of names op) (Some (Refused r)) n u) are
 
-module _ (o : Opening) (first : View) (lane : Lane Solo) (names : Names) (front : List ScriptLine) (values : Values) (a : IsAtLine o first lane names front values) where
+module _ (o : Opening) (first : View) (lane : Lane Solo) (actions : List SetAction) (names : Names) (front : List ScriptLine) (values : Values) (a : IsAtLine o first lane actions names front values) where
   -- behind some looks
   module _ (n : ℕ) (u : View) (looks : Looks n a.view u) where
     same : IsSameBut a.view u
@@ -95,13 +107,25 @@ module _ (o : Opening) (first : View) (lane : Lane Solo) (names : Names) (front 
     unended_u : is_ending u.log.phase ≡ false
     unended_u = ap (λ (l : Log). is_ending l.phase) log_u ∙ ap is_ending a.works.working.is_open
 
-    pub few_u : stores_among to_u.0 + recorded_count u ≤ stores_of_lines names front
+    published_u : published_in u ≡ published_in a.view
+    published_u = published_same a.view u same.entries same.call
+
+    pub pending_u : IsPending actions (pending_in u)
+    pending_u = still_pending (pending_in u) (pending_same a.view u same.entries same.call) a.pending
+
+    unraised_u : raises to_u.0 ≡ 0
+    unfolding to_u
+    unraised_u =
+        let l = looks_led n a.view u looks in let both = raises_append a.steps l.0 in let before = a.unraised in let none = uncounted_raises l.0 l.1.1 in omega (arith, both, before, none)
+
+    pub few_u : stores_among to_u.0 + recorded_count u + logs_of (published_in u) ≤ stores_of_lines names front
     unfolding to_u
     few_u =
+        let logs = ap logs_of published_u in
         let l = looks_led n a.view u looks in
         let both = stores_append a.steps l.0 in let none = stores_counted l.0 in let free = l.1.1 in
         let same = ap (λ (log : Log). length (words_recorded log.records)) log_u in
-        let before = a.few in omega (arith, both, none, free, same, before)
+        let before = a.few in omega (arith, logs, both, none, free, same, before)
 
     -- steps behind them that store at most as much as the line is good for
     few_in : (said : ScriptLine) (rest : List ScriptLine) (steps : List Step) → stores_among steps ≤ recorded_count u + most_stores names said.operation + 1 → stores_among (to_u.0 ++ steps) ≤ stores_of_call names (front ++ said ∷ rest)
@@ -135,11 +159,13 @@ module _ (o : Opening) (first : View) (lane : Lane Solo) (names : Names) (front 
       keeps : Keeps u w
       keeps = all_undrawn_keep u (steps u) undrawn
 
-      pub at_next : Ready u (steps u) → DrawEnded u (steps u) → IsAtWork o Sees new w → new.level ≡ 1 → (t : Told) → IsToldDone names said.operation t → w.call ≡ u.call ++ t ∷ []
+      -- with this list of what is pending
+      pub at_next_with : (left : List SetAction) → Ready u (steps u) → DrawEnded u (steps u) → IsAtWork o Sees new w → new.level ≡ 1 → (t : Told) → IsToldDone names said.operation t → w.call ≡ u.call ++ t ∷ []
           → ((i : ℕ) → is_in_area 0 i ≡ false → slice_index w.words i ≡ words_after names (front ++ said ∷ []) (slice_index o.words) i)
           → (given : Values) → given ≡ values_told (front ++ said ∷ []) (a.view.call ++ t ∷ []) → IsLineMade names said.operation a.view w
-          → stores_among (steps u) + recorded_count w ≤ recorded_count u + most_stores names said.operation → IsAtLine o first new names (front ++ said ∷ []) given
-      at_next ready draws works level t is_done told words given gave made few =
+          → IsPending left (pending_in w) → stores_among (steps u) + recorded_count w + logs_of (published_in w) ≤ recorded_count u + most_stores names said.operation + logs_of (published_in u)
+          → IsAtLine o first new left names (front ++ said ∷ []) given
+      at_next_with left ready draws works level t is_done told words given gave made pending few =
           let leads = ready_leads u (steps u) ready draws in
           let raised = unraised_when_ready u (steps u) lane_u ready (all_work_raises (steps u) work) in
           let call : w.call ≡ a.view.call ++ t ∷ [] = told ∙ ap (λ (ts : List Told). ts ++ t ∷ []) call_u in
@@ -151,14 +177,29 @@ module _ (o : Opening) (first : View) (lane : Lane Solo) (names : Names) (front 
             alone = alone_along u w (steps u) leads same.alone;
             works = works;
             level = level;
+            opens = (a.opens.0, a.opens.1 ++ said ∷ [], ap (λ (ls : List ScriptLine). ls ++ said ∷ []) a.opens.2, a.opens.3);
             told = subst (AreToldDone names (front ++ said ∷ [])) (sym call) (told_more names front said a.view.call t a.told is_done);
             gave = gave ∙ ap (values_told (front ++ said ∷ [])) (sym call);
             entries = keeps.entries ∙ entries_u;
             generation = (let g = generation_u in omega (arith, raised, g));
             words = words;
+            unraised = (let both = raises_append to_u.0 (steps u) in let before = unraised_u in let none = all_work_raises (steps u) work in omega (arith, both, before, none));
+            pending = pending;
             made = made_more names front said first a.view w a.made made;
             few = (let both = stores_append to_u.0 (steps u) in let before = few_u in let more = lines_more names front said in omega (arith, both, before, more, few));
           }
+
+      -- an operation that leaves what is pending, and publishes nothing
+      pub at_next : Ready u (steps u) → DrawEnded u (steps u) → IsAtWork o Sees new w → new.level ≡ 1 → (t : Told) → IsToldDone names said.operation t → w.call ≡ u.call ++ t ∷ []
+          → ((i : ℕ) → is_in_area 0 i ≡ false → slice_index w.words i ≡ words_after names (front ++ said ∷ []) (slice_index o.words) i)
+          → (given : Values) → given ≡ values_told (front ++ said ∷ []) (a.view.call ++ t ∷ []) → IsLineMade names said.operation a.view w
+          → stores_among (steps u) + recorded_count w ≤ recorded_count u + most_stores names said.operation
+          → ((pending : List Action) → pending_behind t.operation t.reply pending ≡ pending) → ((pending : List Action) → published_by t.operation t.reply pending ≡ []) → IsAtLine o first new actions names (front ++ said ∷ []) given
+      at_next ready draws works level t is_done told words given gave made few leaves publishes_none =
+          let logs : logs_of (published_in w) ≡ logs_of (published_in u) =
+          ap logs_of (published_once_more u w t.operation t.reply keeps.entries told ∙ ap (λ (more : List Action). published_in u ++ more) (publishes_none (pending_in u)) ∙ append-nil (published_in u)) in
+          at_next_with actions ready draws works level t is_done told words given gave made
+          (still_pending (pending_in w) (pending_once_more u w t.operation t.reply keeps.entries told ∙ leaves (pending_in u)) pending_u) (omega (arith, logs, few))
 
       -- or the lane stopped in it
       pub cut_in : (rest : List ScriptLine) (stopped : IsStoppedIn Sees new u steps (operation_of names said.operation) None) → IsUntorn o first names (front ++ said ∷ rest) (after_all u (take stopped.stops.made (steps u)))
@@ -177,7 +218,7 @@ module _ (o : Opening) (first : View) (lane : Lane Solo) (names : Names) (front 
             opening = unraised_first o u (steps u) k lane_u stopped.ready generation_u unended_u (all_work_raises (take k (steps u)) (each_first IsWork k (steps u) work));
             untorn = untorn;
             at_stop = stopped.stops.stopped;
-            stops = record {
+            stops = inl (record {
               front = front;
               said = said;
               rest = rest;
@@ -188,27 +229,26 @@ module _ (o : Opening) (first : View) (lane : Lane Solo) (names : Names) (front 
               free = free_u;
               number = number;
               stops = inl (front_of (Sees new.memory) u (steps u) (line_calls names said.operation number) are stopped.stops);
-            };
+            });
             few = few_in said rest (take k (steps u)) (let part = stores_first k (steps u) in omega (arith, part, few));
           }
 
     -- the call is given up for it
-    module _ (new : Lane Solo) (said : ScriptLine) (range : Range) (working : IsWorking u) where
+    module _ (new : Lane Solo) (said : ScriptLine) (working : IsWorking u) where
       given_up_few : (operation : Operation) (reply : Option Value) (number : ℕ) → stores_among (gives_up lane.records.items operation reply number u) ≤ recorded_count u + most_stores names said.operation + 1
       given_up_few operation reply number =
           let few = give_up_few lane.records.items operation reply number u in
           let spans = ap (λ (s : List Span). length (words_in s)) spans_u in let same = spans_count u.log.records in omega (arith, few, spans, same)
 
-      pub over_by : (r : Refusal) → IsGivenUpFor Sees new lane.records.items (operation_of names said.operation) range r u → new.level ≡ 1 → new.stage ≡ stage.OnAbort → new.error ≡ error.Refused r
-          → ((w : View) → IsGivenUpMade names said.operation r a.view w → IsRefusalMade names said.operation r a.view w) → (rest : List ScriptLine) → IsGivenUpAt first new names (front ++ said ∷ rest) values said.line r
-      over_by r g level at fails refusal_made rest =
+      pub over_ended : (r : Refusal) → IsEndedBy Sees new u (gives_up lane.records.items (operation_of names said.operation) (Some (Refused r)) new.last) (operation_of names said.operation) (Some (Refused r)) → is_action (operation_of names said.operation) ≡ false → new.level ≡ 1 → new.stage ≡ stage.OnAbort → new.error ≡ error.Refused r
+          → ((w : View) → IsGivenUpMade names said.operation r a.view w → IsRefusalMade names said.operation r a.view w) → (rest : List ScriptLine) → IsGivenUpAt first new actions names (front ++ said ∷ rest) values said.line r
+      over_ended r e gives level at fails refusal_made rest =
           let steps : Sequence = gives_up lane.records.items (operation_of names said.operation) (Some (Refused r)) new.last in
-          let e : IsEndedBy Sees new u steps (operation_of names said.operation) (Some (Refused r)) = g.ended in
           let w : View = after_all u (steps u) in
           let call : w.call ≡ a.view.call ++ refused (operation_of names said.operation) r ∷ [] = e.told ∙ ap (λ (t : List Told). t ++ refused (operation_of names said.operation) r ∷ []) call_u in
           record {
             told = w.call;
-            at = record { front = front; said = said; rest = rest; is_lines = refl; of_line = refl; before = a.view.call; done = a.told; gave = a.gave; told_so = call };
+            at = record { front = front; said = said; rest = rest; is_lines = refl; of_line = refl; gives_up = gives; before = a.view.call; done = a.told; gave = a.gave; told_so = call };
             over = record {
               view = w;
               steps = to_u.0 ++ steps u;
@@ -218,6 +258,7 @@ module _ (o : Opening) (first : View) (lane : Lane Solo) (names : Names) (front 
               level = level;
               left = ap is_work at;
               fails = fails;
+              pending = still_pending (pending_before w) (drawn_pending first a.view w new.last (refused (operation_of names said.operation) r) a.entries (e.entries ∙ ap (λ (es : List Numbered). es ++ numbered new.last w.call ∷ []) entries_u) call) a.pending;
               made = record {
                 front = front;
                 said = said;
@@ -236,12 +277,16 @@ module _ (o : Opening) (first : View) (lane : Lane Solo) (names : Names) (front 
             };
           }
 
+      pub over_by : (range : Range) (r : Refusal) → IsGivenUpFor Sees new lane.records.items (operation_of names said.operation) range r u → is_action (operation_of names said.operation) ≡ false → new.level ≡ 1 → new.stage ≡ stage.OnAbort → new.error ≡ error.Refused r
+          → ((w : View) → IsGivenUpMade names said.operation r a.view w → IsRefusalMade names said.operation r a.view w) → (rest : List ScriptLine) → IsGivenUpAt first new actions names (front ++ said ∷ rest) values said.line r
+      over_by range r g = over_ended r g.ended
+
       -- or the lane stopped while it gave the call up
-      pub cut_by : (rest : List ScriptLine) → IsStoppedFor Sees new lane.records.items (operation_of names said.operation) range u → IsCut o first new names (front ++ said ∷ rest) values
-      cut_by rest s =
-          let reply : Option Value = Some (Refused s.refusal) in
+      pub cut_ended : (rest : List ScriptLine) (r : Refusal) → IsStoppedIn Sees new u (gives_up lane.records.items (operation_of names said.operation) (Some (Refused r)) new.last) (operation_of names said.operation) (Some (Refused r))
+          → IsCut o first new names (front ++ said ∷ rest) values
+      cut_ended rest r stopped =
+          let reply : Option Value = Some (Refused r) in
           let steps : Sequence = gives_up lane.records.items (operation_of names said.operation) reply new.last in
-          let stopped : IsStoppedIn Sees new u steps (operation_of names said.operation) reply = s.stopped in
           let k : ℕ = stopped.stops.made in
           let m : View = after_all u (take k (steps u)) in
           let kept : Keeps u m = give_up_keeps u lane_u lane.records.items (operation_of names said.operation) reply new.last k stopped.stops.fewer in
@@ -256,7 +301,7 @@ module _ (o : Opening) (first : View) (lane : Lane Solo) (names : Names) (front 
             opening = give_up_first o u (steps u) k lane_u stopped.ready generation_u (λ i. gives_up_of u lane.records.items (operation_of names said.operation) reply new.last i lane_u working no_entries spans_u);
             untorn = inl (calm_behind m working (λ quiet. quiet_in_give_up u lane.records.items (operation_of names said.operation) reply new.last k quiet working spans_u));
             at_stop = stopped.stops.stopped;
-            stops = record {
+            stops = inl (record {
               front = front;
               said = said;
               rest = rest;
@@ -266,7 +311,10 @@ module _ (o : Opening) (first : View) (lane : Lane Solo) (names : Names) (front 
               start = u;
               free = free_u;
               number = new.last;
-              stops = inr (s.refusal, front_of (Sees new.memory) u (steps u) (refused_calls names said.operation s.refusal new.last) (gives_up_here names said.operation s.refusal new.last u lane.records.items spans_u) stopped.stops);
-            };
+              stops = inr (r, front_of (Sees new.memory) u (steps u) (refused_calls names said.operation r new.last) (gives_up_here names said.operation r new.last u lane.records.items spans_u) stopped.stops);
+            });
             few = few_in said rest (take k (steps u)) (let part = stores_first k (steps u) in let all = given_up_few (operation_of names said.operation) reply new.last in omega (arith, part, all));
           }
+
+      pub cut_by : (range : Range) (rest : List ScriptLine) → IsStoppedFor Sees new lane.records.items (operation_of names said.operation) range u → IsCut o first new names (front ++ said ∷ rest) values
+      cut_by range rest s = cut_ended rest s.refusal s.stopped

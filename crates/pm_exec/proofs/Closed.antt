@@ -24,8 +24,14 @@ use Rattle.pm_world.specs.declared.lane.HeldLock.{HeldLock}
 use Rattle.pm_world.specs.declared.lane.Lane.{Lane}
 use Rattle.pm_tx.proofs.StoreCounts.{stores_append, stores_counted}
 use Rattle.pm_exec.specs.Course.{AreMade}
-use Rattle.pm_exec.specs.Progress.{HasEnded, IsAnswered, IsCommitted, IsCut, IsGivenUpAt, IsHalted, IsOver, IsRefusedAt, Values}
+use Rattle.pm_exec.specs.Progress.{IsAnswered, IsCommitted, IsCut, IsGivenUpAt, IsHalted, IsOver, IsRefusedAt, Values}
 use Rattle.pm_exec.specs.declared.calls.Names.{Names}
+use Rattle.pm_pending.specs.declared.actions.SetAction.{SetAction}
+use Rattle.pm_crash.specs.Pending.{pending_from}
+use Rattle.pm_view.specs.View.{Numbered}
+use Rattle.pm_exec.specs.Calls.{starts_alone}
+use Rattle.pm_exec.specs.Progress.{IsPending, TransactionEnded}
+use Rattle.pm_exec.specs.declared.ending.CallAnswer.TheVariants as answer
 
 -- the step is no counted call
 abbrev IsUncounted : Step → Type 0
@@ -48,9 +54,9 @@ unfolding gives
 gives_uncounted locks v lane = none_counted (gives locks v) (only_counted IsUncounted (λ i. one (Give (line_at locks i))) (length locks) (λ i below. only_one IsUncounted (Give (line_at locks i)) refl) v lane)
 
 -- the end answers the call, and the lane rests
-pub answered : (first : View) (lane new : Lane Solo) (names : Names) (lines : List ScriptLine) (told : List Told) (error found : TxErr) (reply : Reply) → (over : IsOver first lane names lines told error) → IsClosedBy Sees new over.view (gives lane.locks.items)
-    → found ≡ lane.error → HasEnded names lines error reply told → IsAnswered first new names lines lane.last found reply
-answered first lane new names lines told error found reply over c is so =
+pub answered : (first : View) (lane new : Lane Solo) (actions : List SetAction) (names : Names) (lines : List ScriptLine) (told : List Told) (error found : TxErr) (reply : Reply) → (over : IsOver first lane actions names lines told error) → IsClosedBy Sees new over.view (gives lane.locks.items)
+    → found ≡ lane.error → TransactionEnded names lines error reply told → IsAnswered first new actions names lines lane.last (answer.Transaction found) reply
+answered first lane new actions names lines told error found reply over c is so =
     let v : View = over.view in
     let steps : List Step = gives lane.locks.items v in
     let w : View = after_all v steps in
@@ -66,7 +72,8 @@ answered first lane new names lines told error found reply over c is so =
       idle = ap (λ (u : View). u.log) same ∙ over.behind.log;
       told = told;
       entries = entries ∙ over.entries;
-      so = subst (λ (e : TxErr). HasEnded names lines e reply told) (sym (is ∙ over.fails)) so;
+      so = subst (λ (e : TxErr). TransactionEnded names lines e reply told) (sym (is ∙ over.fails)) so;
+      pending = subst (λ (es : List Numbered). IsPending actions (pending_from [] es)) (sym entries) over.pending;
       made = record {
         over = v;
         made = subst (λ (e : TxErr). AreMade names lines e first v) (sym (is ∙ over.fails)) over.made;
@@ -76,14 +83,14 @@ answered first lane new names lines told error found reply over c is so =
     }
 
 -- what was given up at a line has ended with that line's reply
-pub ended_refused : (first : View) (lane : Lane Solo) (names : Names) (lines : List ScriptLine) (values : Values) (line : ℕ) (r : Refusal) (reply : Reply) → (g : IsGivenUpAt first lane names lines values line r) → reply.values ≡ values → reply.at ≡ line
-    → HasEnded names lines (error.Refused r) reply g.told
-ended_refused first lane names lines values line r reply g gave at =
-    inr (r, refl, subst (λ (n : ℕ). IsRefusedAt names lines n r reply.values g.told) (sym at) (subst (λ (vs : Values). IsRefusedAt names lines line r vs g.told) (sym gave) g.at))
+pub ended_refused : (first : View) (lane : Lane Solo) (actions : List SetAction) (names : Names) (lines : List ScriptLine) (values : Values) (line : ℕ) (r : Refusal) (reply : Reply) → starts_alone lines ≡ false → (g : IsGivenUpAt first lane actions names lines values line r) → reply.values ≡ values → reply.at ≡ line
+    → TransactionEnded names lines (error.Refused r) reply g.told
+ended_refused first lane actions names lines values line r reply inside g gave at =
+    (inside, inr (r, refl, subst (λ (n : ℕ). IsRefusedAt names lines n r reply.values g.told) (sym at) (subst (λ (vs : Values). IsRefusedAt names lines line r vs g.told) (sym gave) g.at)))
 
 -- and one whose lines were all done with none
-pub ended_done : (first : View) (lane : Lane Solo) (names : Names) (lines : List ScriptLine) (values : Values) (reply : Reply) → (d : IsCommitted first lane names lines values) → reply.values ≡ values → reply.at ≡ 0 → HasEnded names lines error.None reply d.told
-ended_done first lane names lines values reply d gave at = inl (refl, at, d.done, gave ∙ d.gave)
+pub ended_done : (first : View) (lane : Lane Solo) (actions : List SetAction) (names : Names) (lines : List ScriptLine) (values : Values) (reply : Reply) → starts_alone lines ≡ false → (d : IsCommitted first lane actions names lines values) → reply.values ≡ values → reply.at ≡ 0 → TransactionEnded names lines error.None reply d.told
+ended_done first lane actions names lines values reply inside d gave at = (inside, inl (refl, at, d.done, gave ∙ d.gave))
 
 -- one in which the lane stopped is halted
 pub halted : (o : Opening) (first : View) (lane : Lane Solo) (names : Names) (lines : List ScriptLine) (values : Values) (reply : Reply) → IsCut o first lane names lines values → reply.values ≡ values → reply.at ≡ 0 → IsHalted o first lane names lines lane.drawn reply

@@ -1,11 +1,14 @@
 -- Where a commit stops behind its draw its call is in flight; and where one that is given up stops, it has drawn no number.
-use Rattle.std.proofs.Common.{◌≡◌, ⊎_elim, ℕ, zero, suc, ◌+◌, ◌/◌, ◌<◌, cond, ltb, List, [], ◌∷◌, ◌++◌, is_some, length, map, take, Option, Some, None, refl, sym, ap, ◌∙◌, subst, arith}
+use Rattle.std.proofs.Common.{◌≡◌, ⊎_elim, inl, inr, ℕ, zero, suc, ◌+◌, ◌/◌, ◌<◌, ◌≤◌, cond, ltb, List, [], ◌∷◌, ◌++◌, is_some, length, map, take, Option, Some, None, refl, sym, ap, ◌∙◌, subst, arith}
 use Rattle.std.proofs.lemmas.Option.{none-some}
-use Rattle.pm_crash.specs.Alone.{IsUnsealed}
+use Rattle.pm_crash.specs.Alone.{IsUnsealed, raises}
 use Rattle.pm_objects.specs.declared.calls.Operation.{Operation}
 use Rattle.pm_objects.specs.declared.calls.Operation.TheVariants.{Commit}
 use Rattle.pm_objects.specs.declared.history.Value.{Value}
-use Rattle.pm_tx.specs.Sequences.{commits, decides, ends_call, gives_up, retires_any, takes_back}
+use Rattle.pm_record.specs.declared.redo.Redo.{Redo}
+use Rattle.pm_tx.proofs.CommitCourse.{commits_of}
+use Rattle.pm_tx.specs.Generations.{CanPublish, IsCommitting}
+use Rattle.pm_tx.specs.Sequences.{commits, decides, decides_all, ends_call, gives_up, retires_any, takes_back}
 use Rattle.pm_undo.proofs.Areas.{generation_word}
 use Rattle.pm_undo.proofs.Settled.{settle_lawful}
 use Rattle.pm_undo.specs.Sequences.{ends_generation, persists, retires, with_generation}
@@ -15,7 +18,7 @@ use Rattle.pm_view.specs.declared.change.Change.{Change}
 use Rattle.pm_view.specs.Area.{Part, area_word, part_of}
 use Rattle.pm_view.specs.Area.Part.{GenerationWord}
 use Rattle.pm_view.specs.Counts.{max_changes}
-use Rattle.pm_view.specs.Log.{Log, Phase, Recorded, log_drained, log_drawn, log_stored, phase_drawn}
+use Rattle.pm_view.specs.Log.{Final, Log, Phase, Recorded, log_drained, log_drawn, log_stored, phase_drawn}
 use Rattle.pm_view.specs.Log.Phase.{Drawn, Open, Retiring}
 use Rattle.pm_view.specs.Steps.{Step}
 use Rattle.pm_view.specs.Steps.Step.{Load, Store, Flush, Drain, Draw, Tell}
@@ -25,6 +28,8 @@ use Rattle.pm_world.specs.Lanes.{span_of}
 use Rattle.pm_world.specs.Records.{generation_of}
 use Rattle.pm_world.specs.Sequences.{by_lane, by_view, in_turn, looks, makes_room, nothing, one, settles, stores, with_word}
 use Rattle.pm_world.specs.declared.lane.Span.{Span}
+use Rattle.pm_exec.specs.Progress.{IsFlyingBy}
+use Rattle.pm_exec.proofs.PublishFront.{publishing_flies}
 use Rattle.pm_exec.proofs.UndrawnSteps.{Keeps, before_or_behind, settles_undrawn, takes_back_undrawn}
 
 -- where nothing is undrained there is room
@@ -59,7 +64,7 @@ retires_fly m j is none =
     subst (λ (steps : List Step). j < length steps → IsUnsealed (after_all m (take j steps)).log.phase) (sym (retires_are m none)) (ends_fly m j (generation_of m) is)
 
 -- the records of a call at work are the same once all is persistent
-settled_log : (v : View) → v.log.phase ≡ Open [] [] → (changes : List Change) → log_settled changes v ≡ v.log
+pub settled_log : (v : View) → v.log.phase ≡ Open [] [] → (changes : List Change) → log_settled changes v ≡ v.log
 settled_log v is [] = refl
 settled_log v is (c ∷ changes) = ap (λ (p : Phase). log_drained p (is_some v.number) v.log) is
 
@@ -83,8 +88,8 @@ module _ (v : View) (lane : v.lane ≡ 0) (working : IsWorking v) (n : ℕ) wher
   drawn_drained : drawn.changes ≡ []
   drawn_drained = ap (λ (u : View). u.changes) settled
 
-  commits_are : (spans : List Span) → commits spans n v ≡ settles v ++ Tell Commit None ∷ Draw n ∷ retires_any spans drawn
-  unfolding commits decides ends_call in_turn one after_all
+  commits_are : (spans : List Span) → commits spans [] n v ≡ settles v ++ Tell Commit None ∷ Draw n ∷ retires_any spans drawn
+  unfolding commits decides_all decides ends_call in_turn one after_all
   commits_are spans = refl
 
   behind_draw : after_all v (settles v ++ Tell Commit None ∷ Draw n ∷ []) ≡ drawn
@@ -96,14 +101,15 @@ module _ (v : View) (lane : v.lane ≡ 0) (working : IsWorking v) (n : ℕ) wher
   any_flies [] are j below = absurd (omega (arith, below))
   any_flies (r ∷ records) are j below = retires_fly drawn j (drawn_phase ∙ ap (λ (rs : List Recorded). phase_drawn rs v.log.entries) are) drawn_drained below
 
-  pub commit_flies : (spans : List Span) (k number : ℕ) → spans ≡ map span_of v.log.records → k < length (commits spans n v) → (after_all v (take k (commits spans n v))).number ≡ Some number
-      → IsUnsealed (after_all v (take k (commits spans n v))).log.phase
-  commit_flies spans k number are below some =
+  -- a commit that performs nothing
+  unsealed : (spans : List Span) (k number : ℕ) → spans ≡ map span_of v.log.records → k < length (commits spans [] n v) → (after_all v (take k (commits spans [] n v))).number ≡ Some number
+      → IsUnsealed (after_all v (take k (commits spans [] n v))).log.phase
+  unsealed spans k number are below some =
       let ys : List Step = retires_any spans drawn in
       let all : List Step = settles v ++ Tell Commit None ∷ Draw n ∷ ys in
       let same = commits_are spans in
       let w : View = after_all v (take k all) in
-      let w_is : after_all v (take k (commits spans n v)) ≡ w = ap (λ (steps : List Step). after_all v (take k steps)) same in
+      let w_is : after_all v (take k (commits spans [] n v)) ≡ w = ap (λ (steps : List Step). after_all v (take k steps)) same in
       subst (λ (u : View). IsUnsealed u.log.phase) (sym w_is)
       (⊎_elim
       (λ (keeps : Keeps v w). absurd (none-some number (sym working.undrawn ∙ (sym keeps.number ∙ (sym (ap (λ (u : View). u.number) w_is) ∙ some)))))
@@ -111,6 +117,29 @@ module _ (v : View) (lane : v.lane ≡ 0) (working : IsWorking v) (n : ℕ) wher
       subst (λ (u : View). IsUnsealed u.log.phase) (sym (behind.1.1 ∙ ap (λ (u : View). after_all u (take behind.0 ys)) behind_draw))
       (subst (λ (s : List Span). behind.0 < length (retires_any s drawn) → IsUnsealed (after_all drawn (take behind.0 (retires_any s drawn))).log.phase) (sym are) (any_flies v.log.records refl behind.0) behind.1.0))
       (before_or_behind v (settles v) (Tell Commit None) (Draw n) ys k (settles_undrawn v lane) tt (subst (λ (steps : List Step). k < length steps) same below)))
+
+-- without a seal, a call that drew its number stored no generation yet, or it did and ends it
+drawn_unraised : (records : List Recorded) (entries : List Final) (raised : ℕ) → raised ≡ 0 → IsUnsealed (phase_drawn records entries) → IsFlyingBy raised (phase_drawn records entries)
+drawn_unraised [] [] raised none unsealed = absurd unsealed
+drawn_unraised [] (e ∷ entries) raised none unsealed = none
+drawn_unraised (r ∷ records) entries raised none unsealed = none
+
+unsealed_flies : (v w : View) (raised : ℕ) → IsUnsealed w.log.phase → IsCommitting v [] raised w → IsFlyingBy raised w.log.phase
+unsealed_flies v w raised unsealed (inl (none, inl is)) = absurd (subst IsUnsealed is unsealed)
+unsealed_flies v w raised unsealed (inl (none, inr is)) = subst (IsFlyingBy raised) (sym is) (drawn_unraised v.log.records v.log.entries raised none (subst IsUnsealed is unsealed))
+unsealed_flies v w raised unsealed (inr (one, some, inl is)) = subst (IsFlyingBy raised) (sym is) one
+unsealed_flies v w raised unsealed (inr (one, some, inr is)) = absurd (subst IsUnsealed is unsealed)
+
+-- whatever it performs
+pub commit_flies : (v : View) (spans : List Span) (entries : List Redo) (n k number : ℕ) → v.lane ≡ 0 → IsWorking v → spans ≡ map span_of v.log.records → (1 ≤ length entries → CanPublish v entries)
+    → k < length (commits spans entries n v) → (after_all v (take k (commits spans entries n v))).number ≡ Some number
+    → IsFlyingBy (raises (take k (commits spans entries n v))) (after_all v (take k (commits spans entries n v))).log.phase
+commit_flies v spans [] n k number lane working are can below drawn =
+    let made : List Step = take k (commits spans [] n v) in
+    unsealed_flies v (after_all v made) (raises made) (unsealed v lane working n spans k number are below drawn) (commits_of v spans [] n k lane working are can)
+commit_flies v spans (e ∷ entries) n k number lane working are can below drawn =
+    let made : List Step = take k (commits spans (e ∷ entries) n v) in
+    publishing_flies (length (e ∷ entries)) (raises made) number (after_all v made) drawn (commits_of v spans (e ∷ entries) n k lane working are can)
 
 -- a call that is given up draws its number last
 module _ (v : View) (lane : v.lane ≡ 0) (spans : List Span) (operation : Operation) (reply : Option Value) (n k : ℕ) where

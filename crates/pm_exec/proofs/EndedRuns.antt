@@ -1,35 +1,36 @@
 -- How a run came to its end: the calls that were answered, the one that was not, if it drew a number, and the history of both.
-use Rattle.std.proofs.Common.{◌≡◌, ◌≢◌, ◌⊎◌, ⊎_elim, inl, inr, ℕ, zero, suc, ◌+◌, ◌<◌, ◌≤◌, ◌%◌, ◌^◌, Bool, true, false, not, eqb, ltb, List, [], ◌∷◌, ◌++◌, length, Option, None, Some, slice_index, slice_index_or, refl, sym, ap, ◌∙◌, subst, arith, length-append, append-nil, append_assoc}
+use Rattle.std.proofs.Common.{◌&&◌, ◌≡◌, ◌≢◌, ◌⊎◌, ⊎_elim, inl, inr, ℕ, zero, suc, ◌+◌, ◌<◌, ◌≤◌, ◌%◌, ◌^◌, Bool, true, false, not, eqb, ltb, List, [], ◌∷◌, ◌++◌, length, Option, None, Some, slice_index_or, refl, sym, ap, ◌∙◌, subst, arith, length-append, append-nil, append_assoc}
 use Rattle.std.specs.Option.{ForSome}
 use Rattle.std.proofs.lemmas.Bool.{cases_lt, le-ltb, lt-ltb}
 use Rattle.std.proofs.lemmas.List.{get_or_append_left, get_or_push}
 use Rattle.std.proofs.lemmas.List.Elements.{All-cons, All-head, All-nil, All-tail}
 use Rattle.std.proofs.lemmas.Option.{none-some}
 use Rattle.pm_crash.proofs.Leading.{leads_then}
-use Rattle.pm_crash.proofs.AloneImages.{ended_stays, since_fate}
+use Rattle.pm_crash.proofs.AloneImages.{ended_stays, words_fate}
 use Rattle.pm_crash.proofs.SeenAlone.{works_where_seen}
-use Rattle.pm_crash.specs.Alone.{BeginsAlone, Rests, standing}
+use Rattle.pm_crash.specs.Alone.{BeginsAlone, IsDrawnAt, Rests, WorksAlone, raises, standing}
+use Rattle.pm_crash.proofs.OnTheWay.{works_up_to}
+use Rattle.pm_crash.proofs.Raises.{raises_append}
+use Rattle.pm_crash.proofs.Raising.{generation_raised}
 use Rattle.pm_crash.specs.Leading.{Leads}
 use Rattle.pm_memory.specs.Solo.{Sees, Solo}
 use Rattle.pm_model.specs.History.{is_answered, is_lost}
-use Rattle.pm_model.specs.Shown.{IsFateOf}
 use Rattle.pm_objects.specs.declared.history.Entry.{Entry}
 use Rattle.pm_objects.specs.declared.history.Fate.{Fate}
 use Rattle.pm_objects.specs.declared.pool.PoolView.{PoolView}
 use Rattle.pm_header.specs.declared.header.Header.{Header}
-use Rattle.pm_image.specs.Logs.{generation_word}
+use Rattle.pm_image.specs.Logs.{generation_word, seal_word}
 use Rattle.pm_memory.specs.Keep.{IsKeptImage}
-use Rattle.pm_view.specs.Area.{area_word}
-use Rattle.pm_view.specs.Log.{Log, no_log}
-use Rattle.pm_view.specs.Log.Phase.{Idle}
+use Rattle.pm_view.specs.Log.{Log, Phase, no_log}
+use Rattle.pm_view.specs.Log.Phase.{Applying, Clearing, Drawn, Idle, Open, Retiring, Sealing}
 use Rattle.pm_world.specs.Crash.{loses}
 use Rattle.pm_world.specs.Records.{generation_of}
 use Rattle.pm_tx.proofs.StoreCounts.{stores_append}
 use Rattle.pm_view.specs.Counts.{stores_among}
 use Rattle.pm_exec.specs.Bounds.{stores_of_call, stores_of_calls}
 use Rattle.pm_exec.proofs.FewStores.{calls_within, led_stores}
-use Rattle.pm_exec.proofs.Along.{lane_along}
-use Rattle.pm_objects.specs.declared.history.TxErr.{TxErr}
+use Rattle.pm_exec.specs.declared.ending.CallAnswer.{CallAnswer}
+use Rattle.pm_exec.specs.declared.ending.CallAnswer.TheVariants as answer
 use Rattle.pm_objects.specs.declared.history.TxErr.TheVariants as error
 use Rattle.pm_script.specs.declared.script.ScriptLine.{ScriptLine}
 use Rattle.pm_text.specs.declared.report.LaneEnd.{LaneEnd}
@@ -49,14 +50,17 @@ use Rattle.pm_exec.proofs.RisingCalls.{AreRising}
 use Rattle.pm_exec.proofs.ShownCalls.{entry_open}
 use Rattle.pm_exec.proofs.ShownHistories.{AreShown, IsShownAs, Rises, numbers_count, shown_answered, shown_more, as_many}
 use Rattle.pm_exec.proofs.StoppedEnd.{counted_exactly, stopped_at}
+use Rattle.pm_exec.specs.Progress.{IsFlyingBy}
 
 -- an answered call's entry is not lost
 abbrev pub IsSettled : Entry → Type 0
 IsSettled e = (is_answered e.fate ≡ true) × (is_lost e.fate ≡ false)
 
-settled : (why : TxErr) (f : Fate) → f ≡ settled_fate why → (is_answered f ≡ true) × (is_lost f ≡ false)
-settled error.None f is = (ap is_answered is, ap is_lost is)
-settled why f is = (ap is_answered is, ap is_lost is)
+settled : (a : CallAnswer) (f : Fate) → f ≡ settled_fate a → (is_answered f ≡ true) × (is_lost f ≡ false)
+settled (answer.Transaction error.None) f is = (ap is_answered is, ap is_lost is)
+settled (answer.Transaction why) f is = (ap is_answered is, ap is_lost is)
+settled (answer.Outside None) f is = (ap is_answered is, ap is_lost is)
+settled (answer.Outside (Some r)) f is = (ap is_answered is, ap is_lost is)
 
 -- a number that there is
 abbrev option_or : Option ℕ → ℕ → ℕ
@@ -73,7 +77,7 @@ settled_at names [] [] (n ∷ entries) are k d low = absurd are
 settled_at names [] (e ∷ history) entries are k d low = absurd are
 settled_at names (call ∷ calls) [] entries are k d low = absurd are
 settled_at names (call ∷ calls) (e ∷ history) [] are k d low = absurd are
-settled_at names (call ∷ calls) (e ∷ history) (n ∷ entries) are zero d low = settled are.0.error e.fate are.0.fate
+settled_at names (call ∷ calls) (e ∷ history) (n ∷ entries) are zero d low = settled are.0.answer e.fate are.0.fate
 settled_at names (call ∷ calls) (e ∷ history) (n ∷ entries) are (suc k) d low = settled_at names calls history entries are.1 k d (omega (arith, low))
 
 rising_front : (calls more : List (List ScriptLine)) → AreRising (calls ++ more) → AreRising calls
@@ -99,10 +103,10 @@ pub record IsCutAt (o : Opening) (first : View) (lane : Lane Solo) (names : Name
   pub cut : IsCut (standing o before) before lane names lines values
   pub is : last ≡ cut.view
 
--- each entry is lost exactly where the image loses its call, if the open call is decided exactly where the image has not this generation
+-- each entry is lost exactly where the image loses its call, if the open call is decided exactly where the image has a seal, or not this generation
 abbrev pub AreFated : Opening → View → View → Bool → ℕ → List Entry → Type 0
 AreFated o first last decided generation history =
-    (header : Header) (pool : PoolView) → BeginsAlone o header pool first → (keep : ℕ) (left : List ℕ) → IsKeptImage keep last.words (last.changes ∷ []) left → decided ≡ not (eqb (generation_word left 0) generation)
+    (header : Header) (pool : PoolView) → BeginsAlone o header pool first → (keep : ℕ) (left : List ℕ) → IsKeptImage keep last.words (last.changes ∷ []) left → decided ≡ not (eqb (seal_word left 0) 0 && eqb (generation_word left 0) generation)
     → (k : ℕ) (d : Entry) → k < length history → is_lost (slice_index_or history k d).fate ≡ loses left last (slice_index_or history k d).number
 
 -- the run is over at its last view
@@ -310,7 +314,7 @@ module _ (o : Opening) (first : View) (names : Names) (all : List (List ScriptLi
           (settled_at names answered history before.entries s.called.are k d low).1 ∙ sym (ended_stays last left (slice_index_or history k d).number (inr (λ some. none-some (slice_index_or history k d).number (sym u.number ∙ some))))))
 
       -- or behind that
-      module _ (f : IsInFlight before names lines s.reply.values last) where
+      module _ (f : IsInFlight before names lines s.reply.values (raises s.halted.cut.steps) last) where
         abbrev pub flying : Entry
         flying = record { number = f.number; call = call_of names lines; reply = s.reply; fate = open_fate decided }
 
@@ -325,11 +329,8 @@ module _ (o : Opening) (first : View) (names : Names) (all : List (List ScriptLi
         flying_shown = record {
           number = refl;
           call = refl;
-          entry = entry_open names lines (rising_next answered lines behind (subst AreRising are rising)) flying f.told refl s.halted.unanswered f.done f.gave (unanswered decided);
-        } where
-          unanswered : (b : Bool) → IsFateOf error.None (open_fate b)
-          unanswered true = tt
-          unanswered false = refl
+          entry = λ actions. entry_open names lines (rising_next answered lines behind (subst AreRising are rising)) actions flying f.told decided refl s.halted.unanswered f.done f.gave f.begun refl;
+        }
 
         flying_fates : (k : ℕ) (d : Entry) → k < length (history ++ flying ∷ []) → is_answered (slice_index_or (history ++ flying ∷ []) k d).fate ≡ ltb k (length answered)
         flying_fates k d low = ⊎_elim
@@ -377,7 +378,24 @@ module _ (o : Opening) (first : View) (names : Names) (all : List (List ScriptLi
         twice_not true = refl
         twice_not false = refl
 
-        -- it is lost where the image has its generation still
+        -- the generation since the call began
+        raised_since : (header : Header) (pool : PoolView) → WorksAlone o header pool first (s.called.steps ++ s.halted.cut.steps) last → generation_of last ≡ generation_of before + raises s.halted.cut.steps
+        raised_since header pool works =
+            let all = generation_raised o header pool first last (s.called.steps ++ s.halted.cut.steps) works in
+            let up = generation_raised o header pool first before s.called.steps (works_up_to o header pool first before last s.called.steps s.halted.cut.steps works s.called.leads) in
+            let both = raises_append s.called.steps s.halted.cut.steps in
+            omega (arith, all, up, both)
+
+        flying_at : (phase : Phase) → generation_of last ≡ generation_of before + raises s.halted.cut.steps → IsFlyingBy (raises s.halted.cut.steps) phase → IsDrawnAt (generation_of before) last phase
+        flying_at Idle raised flies = omega (arith, raised, flies)
+        flying_at (Open slot pair) raised flies = absurd flies
+        flying_at Drawn raised flies = omega (arith, raised, flies)
+        flying_at Sealing raised flies = omega (arith, raised, flies)
+        flying_at (Applying applied) raised flies = tt
+        flying_at Clearing raised flies = omega (arith, raised, flies)
+        flying_at Retiring raised flies = omega (arith, raised, flies)
+
+        -- it is lost where the image has no seal, and its generation still
         flying_fated : AreFated o first last decided halt.generation full
         flying_fated header pool begins keep left kept decides k d low = ⊎_elim
             (λ (front : k < length history). earlier_kept left k d front)
@@ -385,11 +403,9 @@ module _ (o : Opening) (first : View) (names : Names) (all : List (List ScriptLi
             let l = long in
             let e : slice_index_or full k d ≡ flying = get_or_push history flying d k (omega (arith, high, low, l)) in
             let works = works_where_seen o header pool lane.memory first last (s.called.steps ++ s.halted.cut.steps) begins to_last s.halted.cut.seen in
-            let of_lane : before.lane ≡ 0 = lane_along first before s.called.steps s.called.leads begins.fresh.lane.lane in
-            let generation : generation_of before ≡ generation_word before.words 0 = ap (λ n. slice_index before.words (area_word n)) of_lane in
-            ap (λ (x : Entry). is_lost x.fate) e ∙ lost_open decided ∙ ap not decides ∙ twice_not (eqb (generation_word left 0) halt.generation) ∙ ap (eqb (generation_word left 0)) s.generation
-            ∙ sym (ap (λ (x : Entry). loses left last x.number) e
-            ∙ since_fate o header pool first last (s.called.steps ++ s.halted.cut.steps) works keep left kept before f.number f.drawn f.flies (s.halted.cut.opening.in_flight f.number f.drawn f.flies ∙ sym generation)))
+            ap (λ (x : Entry). is_lost x.fate) e ∙ lost_open decided ∙ ap not decides ∙ twice_not (eqb (seal_word left 0) 0 && eqb (generation_word left 0) halt.generation)
+            ∙ ap (λ g. eqb (seal_word left 0) 0 && eqb (generation_word left 0) g) s.generation
+            ∙ sym (ap (λ (x : Entry). loses left last x.number) e ∙ words_fate o header pool first last (s.called.steps ++ s.halted.cut.steps) works keep left kept (generation_of before) f.number f.drawn (flying_at last.log.phase (raised_since header pool works) f.flies)))
             (cases_lt k (length history))
 
         pub ended_flying : IsEnded o first lane names all decided halt.generation (closed_history history halt.is_open decided) halt.end
@@ -407,7 +423,7 @@ module _ (o : Opening) (first : View) (names : Names) (all : List (List ScriptLi
       (λ (h : HasHaltedIn o first lane names all history halt). ⊎_elim
       (λ (s : HasStopped o first lane names h.answered h.lines history halt). ⊎_elim
       (λ (u : IsUndrawn s.before s.halted.cut.view). ended_undrawn lane h.answered h.lines h.behind h.are history halt fits s u)
-      (λ (f : IsInFlight s.before names h.lines s.reply.values s.halted.cut.view). ended_flying lane h.answered h.lines h.behind h.are history halt fits s f)
+      (λ (f : IsInFlight s.before names h.lines s.reply.values (raises s.halted.cut.steps) s.halted.cut.view). ended_flying lane h.answered h.lines h.behind h.are history halt fits s f)
       s.halted.cut.came)
       (λ (s : HasSpent o first lane names h.answered h.lines history halt). ended_spent lane h.answered h.lines h.behind h.are history halt s)
       h.halted)

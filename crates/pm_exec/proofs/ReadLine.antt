@@ -39,6 +39,7 @@ use Rattle.pm_exec.specs.declared.calls.Names.{Names}
 use Rattle.pm_exec.proofs.ChangeLines.{at_next, cut_by, free_u, lane_u, words_u}
 use Rattle.pm_exec.proofs.LineLists.{gave_more, words_more}
 use Rattle.pm_exec.proofs.UndrawnSteps.{Keeps, all_undrawn_keep, reads_undrawn}
+use Rattle.pm_pending.specs.declared.actions.SetAction.{SetAction}
 
 -- the first of some numbers are those in front
 pub front_is : (n : ℕ) (xs ys : List ℕ) → n ≡ length xs → take n (xs ++ ys) ≡ xs
@@ -66,7 +67,7 @@ read_not_spent r (inl is) = λ spent. let clash : refusal.NotLocked ≡ refusal.
 read_not_spent r (inr (inl is)) = λ spent. let clash : refusal.OutOfRange ≡ refusal.Spent = sym is ∙ spent in cc
 read_not_spent r (inr (inr is)) = λ spent. let clash : refusal.Stopped ≡ refusal.Spent = sym is ∙ spent in cc
 
-module _ (o : Opening) (first : View) (lane : Lane Solo) (names : Names) (front : List ScriptLine) (values : Values) (a : IsAtLine o first lane names front values) (new : Lane Solo) (said : ScriptLine)
+module _ (o : Opening) (first : View) (lane : Lane Solo) (actions : List SetAction) (names : Names) (front : List ScriptLine) (values : Values) (a : IsAtLine o first lane actions names front values) (new : Lane Solo) (said : ScriptLine)
     (id : ScriptId) (place : Oid) (place_is : place ≡ id_of names id) (off len : ℕ) (is : said.operation ≡ op.Read id off len) where
   pub read_is : operation.Read place off len ≡ operation_of names said.operation
   read_is = ap (λ (i : Oid). operation.Read i off len) place_is ∙ ap (operation_of names) (sym is)
@@ -83,8 +84,8 @@ module _ (o : Opening) (first : View) (lane : Lane Solo) (names : Names) (front 
 
     free_behind : (n : ℕ) (u : View) → Looks n a.view u → HasReadRange o Sees new u place off len bytes → IsFree a.view (after_all u (steps u))
     free_behind n u looks h =
-        let before = free_u o first lane names front values a n u looks in
-        let lane_is = lane_u o first lane names front values a n u looks in
+        let before = free_u o first lane actions names front values a n u looks in
+        let lane_is = lane_u o first lane actions names front values a n u looks in
         let kept : Keeps u (after_all u (steps u)) = all_undrawn_keep u (steps u) (reads_undrawn place off len bytes u lane_is) in
         record {
           led = led_then a.view u (after_all u (steps u)) before.led (ready_led u (steps u) h.ready h.draws (reads_free place off len bytes u));
@@ -95,23 +96,23 @@ module _ (o : Opening) (first : View) (lane : Lane Solo) (names : Names) (front 
     unfolding nothing after_all
     line_made w free = record { start = w; free = free; number = 0; is = ap (λ (x : ScriptOp). after_all w (line_calls names x 0 w)) (sym is) }
 
-    pub read_done : HasLooked a.view (λ w. KnowsRange w place off len false × HasReadRange o Sees new w place off len bytes) → new.level ≡ 1 → IsAtLine o first new names (front ++ said ∷ []) (values ++ (said.line, Bytes bytes) ∷ [])
+    pub read_done : HasLooked a.view (λ w. KnowsRange w place off len false × HasReadRange o Sees new w place off len bytes) → new.level ≡ 1 → IsAtLine o first new actions names (front ++ said ∷ []) (values ++ (said.line, Bytes bytes) ∷ [])
     read_done t level =
         let u : View = t.view in
         let h = t.holds.1 in
-        let lane_is = lane_u o first lane names front values a t.loads u t.looks in
-        at_next o first lane names front values a t.loads u t.looks new steps (reads_work place off len bytes u lane_is) (reads_undrawn place off len bytes u lane_is) said h.ready h.draws h.works level
+        let lane_is = lane_u o first lane actions names front values a t.loads u t.looks in
+        at_next o first lane actions names front values a t.loads u t.looks new steps (reads_work place off len bytes u lane_is) (reads_undrawn place off len bytes u lane_is) said h.ready h.draws h.works level
         told is_told (h.read.tells.call ∙ ap (λ (bs : List ℕ). u.call ++ record { operation = operation.Read place off len; reply = Some (Bytes bs) } ∷ []) (sym h.seen))
         (λ i outside.
         h.read.keeps.words i (ap (λ k. is_in_area k i) lane_is ∙ outside)
-        ∙ (words_u o first lane names front values a t.loads u t.looks i outside
+        ∙ (words_u o first lane actions names front values a t.loads u t.looks i outside
         ∙ sym (words_more names front said (slice_index o.words) i ∙ ap (λ (x : ScriptOp). words_by names x (words_after names front (slice_index o.words)) i) is)))
         (values ++ (said.line, Bytes bytes) ∷ [])
         (ap (λ (vs : Values). vs ++ (said.line, Bytes bytes) ∷ []) a.gave ∙ sym (gave_more names front said a.view.call told a.told))
         (line_made (after_all u (steps u)) (free_behind t.loads u t.looks h))
-        (let same = ap (λ (rs : List Recorded). length (words_recorded rs)) h.read.logs.records in let stored = read_stores place off len bytes u in omega (arith, same, stored))
+        (let same = ap (λ (rs : List Recorded). length (words_recorded rs)) h.read.logs.records in let stored = read_stores place off len bytes u in omega (arith, same, stored)) (λ pending. refl) (λ pending. refl)
 
   pub read_cut : (rest : List ScriptLine) → HasLooked a.view (λ w. IsStoppedFor Sees new lane.records.items (operation.Read place off len) (record { id = place; off = off; len = len }) w) → IsCut o first new names (front ++ said ∷ rest) values
   read_cut rest so =
       let t = subst (λ (x : Operation). HasLooked a.view (λ w. IsStoppedFor Sees new lane.records.items x (record { id = place; off = off; len = len }) w)) read_is so in
-      cut_by o first lane names front values a t.loads t.view t.looks new said (record { id = place; off = off; len = len }) t.working rest t.holds
+      cut_by o first lane actions names front values a t.loads t.view t.looks new said t.working (record { id = place; off = off; len = len }) rest t.holds

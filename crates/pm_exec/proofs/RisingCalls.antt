@@ -5,9 +5,9 @@ use Rattle.std.specs.List.Sorted.{IsStrictlyIncreasing}
 use Rattle.std.proofs.lemmas.List.{map-append}
 use Rattle.std.proofs.lemmas.List.Elements.{All-cons, All-nil}
 use Rattle.pm_script.specs.declared.script.ScriptLine.{ScriptLine}
-use Rattle.pm_exec.specs.Calls.{is_commit, numbers_of, transactions, with_line}
+use Rattle.pm_exec.specs.Calls.{call_lines, call_lines_from, ends_call, numbers_of, with_line}
 
--- the lines of some transactions
+-- the lines of some call_lines
 abbrev pub lines_in : List (List ScriptLine) → List ScriptLine
 lines_in calls = flat_map (λ (call : List ScriptLine). call) calls
 
@@ -15,15 +15,19 @@ with_first : (line : ScriptLine) (calls : List (List ScriptLine)) → lines_in (
 with_first line [] = refl
 with_first line (call ∷ calls) = refl
 
--- whether the line ends its transaction or not
-one_more : (line : ScriptLine) (lines : List ScriptLine) → lines_in (transactions lines) ≡ lines → (b : Bool) → lines_in (cond b ((line ∷ []) ∷ transactions lines) (with_line line (transactions lines))) ≡ line ∷ lines
-one_more line lines are true = ap (λ (ls : List ScriptLine). line ∷ ls) are
-one_more line lines are false = with_first line (transactions lines) ∙ ap (λ (ls : List ScriptLine). line ∷ ls) are
+-- whether the line ends its call or not
+one_more : (line : ScriptLine) (lines : List ScriptLine) → ((inside : Bool) → lines_in (call_lines_from inside lines) ≡ lines)
+    → (b : Bool) → lines_in (cond b ((line ∷ []) ∷ call_lines_from false lines) (with_line line (call_lines_from true lines))) ≡ line ∷ lines
+one_more line lines are true = ap (λ (ls : List ScriptLine). line ∷ ls) (are false)
+one_more line lines are false = with_first line (call_lines_from true lines) ∙ ap (λ (ls : List ScriptLine). line ∷ ls) (are true)
 
-pub all_lines : (lines : List ScriptLine) → lines_in (transactions lines) ≡ lines
-unfolding transactions
-all_lines [] = refl
-all_lines (line ∷ lines) = one_more line lines (all_lines lines) (is_commit line.operation)
+lines_from : (inside : Bool) (lines : List ScriptLine) → lines_in (call_lines_from inside lines) ≡ lines
+unfolding call_lines_from
+lines_from inside [] = refl
+lines_from inside (line ∷ lines) = one_more line lines (λ within. lines_from within lines) (ends_call inside line.operation)
+
+pub all_lines : (lines : List ScriptLine) → lines_in (call_lines lines) ≡ lines
+all_lines lines = lines_from false lines
 
 -- parts of rising numbers rise
 rise_behind : (x : ℕ) (xs : List ℕ) → IsStrictlyIncreasing (x ∷ xs) → IsStrictlyIncreasing xs
@@ -58,5 +62,5 @@ calls_rise (call ∷ calls) rising =
     let parts : IsStrictlyIncreasing (numbers_of call ++ numbers_of (lines_in calls)) = subst IsStrictlyIncreasing (map-append (λ (line : ScriptLine). line.line) call (lines_in calls)) rising in
     All-cons (λ (c : List ScriptLine). IsStrictlyIncreasing (numbers_of c)) call calls (rise_front (numbers_of call) (numbers_of (lines_in calls)) parts) (calls_rise calls (rise_rest (numbers_of call) (numbers_of (lines_in calls)) parts))
 
-pub transactions_rise : (lines : List ScriptLine) → IsStrictlyIncreasing (numbers_of lines) → AreRising (transactions lines)
-transactions_rise lines rising = calls_rise (transactions lines) (subst (λ (ls : List ScriptLine). IsStrictlyIncreasing (numbers_of ls)) (sym (all_lines lines)) rising)
+pub call_lines_rise : (lines : List ScriptLine) → IsStrictlyIncreasing (numbers_of lines) → AreRising (call_lines lines)
+call_lines_rise lines rising = calls_rise (call_lines lines) (subst (λ (ls : List ScriptLine). IsStrictlyIncreasing (numbers_of ls)) (sym (all_lines lines)) rising)

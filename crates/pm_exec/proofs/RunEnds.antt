@@ -1,5 +1,5 @@
 -- What a run comes to: its history, the memory calls that it made, and the pool that its image means.
-use Rattle.std.proofs.Common.{◌≡◌, ◌≢◌, ⊎_elim, inl, ℕ, ◌+◌, ◌*◌, ◌<◌, ◌≤◌, ◌^◌, All, Bool, not, eqb, List, [], ◌∷◌, ◌++◌, length, map, take, Option, slice_index, slice_index_or, refl, sym, ap, ◌∙◌, subst, arith, append-nil}
+use Rattle.std.proofs.Common.{◌&&◌, ◌≡◌, ◌≢◌, ⊎_elim, inl, ℕ, ◌+◌, ◌*◌, ◌<◌, ◌≤◌, ◌^◌, All, Bool, not, eqb, List, [], ◌∷◌, ◌++◌, length, map, take, Option, slice_index, slice_index_or, refl, sym, ap, ◌∙◌, subst, arith, append-nil}
 use Rattle.std.specs.List.Sorted.{IsStrictlyIncreasing}
 use Rattle.std.specs.Option.{ForSome}
 use Rattle.std.proofs.Math.Seq.{take-length}
@@ -31,7 +31,7 @@ use Rattle.pm_memory.specs.Solo.{Solo}
 use Rattle.pm_view.specs.Counts.{among}
 use Rattle.pm_exec.specs.Bounds.{IsBounded, stores_of_script}
 use Rattle.pm_exec.proofs.FewStores.{bounded, calls_bounded}
-use Rattle.pm_exec.specs.Calls.{call_of, names_of, numbers_of, transactions}
+use Rattle.pm_exec.specs.Calls.{call_of, names_of, numbers_of, call_lines}
 use Rattle.pm_exec.specs.Histories.{closed_history}
 use Rattle.pm_exec.specs.Openings.{first_view, opening_of}
 use Rattle.pm_crash.specs.Leading.{Leads}
@@ -45,16 +45,16 @@ use Rattle.pm_exec.specs.declared.running.Halt.{Halt}
 use Rattle.pm_exec.proofs.Along.{same_along}
 use Rattle.pm_exec.proofs.EndedRuns.{IsCutAt, IsEnded, ended_run}
 use Rattle.pm_exec.proofs.Opened.{begins_alone, means_so, shape_of, size_of, words_long}
-use Rattle.pm_exec.proofs.RisingCalls.{transactions_rise}
+use Rattle.pm_exec.proofs.RisingCalls.{call_lines_rise}
 use Rattle.pm_exec.proofs.ShownHistories.{as_many, as_many_numbered, calls_are, numbers_count, shown_replay}
 use Rattle.pm_exec.proofs.StoppedEnd.{within_stop}
 use Rattle.pm_exec.proofs.Untorn.{none_torn_where_stopped}
 
 -- before the first call none was answered
-pub run_begins : (o : Opening) (first : View) (lane : Lane Solo) (names : Names) (history : List Entry) → first.entries ≡ [] → history ≡ [] → IsStart o lane first → HasComeTo o first lane names [] history
+pub run_begins : (o : Opening) (first : View) (lane : Lane Solo) (names : Names) (history : List Entry) → first.entries ≡ [] → history ≡ [] → IsStart o lane [] first → HasComeTo o first lane [] names [] history
 unfolding Leads CallsMade among
 run_begins o first lane names history entries none is = record {
-  opened = record { of_lane = is.of_lane; alone = is.alone; sound = is.sound; zones = is.zones; lanes_are = is.lanes_are; words_are = is.words_are; idle = is.idle; free = is.rests.free };
+  opened = record { of_lane = is.of_lane; alone = is.alone; sound = is.sound; zones = is.zones; lanes_are = is.lanes_are; words_are = is.words_are; uncalled = entries; idle = is.idle; free = is.rests.free };
   answered = record {
     view = first;
     called = record {
@@ -66,14 +66,15 @@ run_begins o first lane names history entries none is = record {
     };
     rests = is.rests;
     idle = is.idle;
+    pending = is.pending;
   };
 }
 
 -- the same of names and lines that are given otherwise
 pub run_of : (o : Opening) (first : View) (lane : Lane Solo) (history : List Entry) (halt : Halt) (names other : Names) (lines script : List ScriptLine) → names ≡ other → lines ≡ script
-    → HasRun o first lane names (transactions lines) history halt → HasRun o first lane other (transactions script) history halt
+    → HasRun o first lane names (call_lines lines) history halt → HasRun o first lane other (call_lines script) history halt
 run_of o first lane history halt names other lines script named are run =
-    subst (λ (ns : Names). HasRun o first lane ns (transactions script) history halt) named (subst (λ (ls : List ScriptLine). HasRun o first lane names (transactions ls) history halt) are run)
+    subst (λ (ns : Names). HasRun o first lane ns (call_lines script) history halt) named (subst (λ (ls : List ScriptLine). HasRun o first lane names (call_lines ls) history halt) are run)
 
 -- recovery leaves the header page, but for the root's word
 page_recovered : (image words : List ℕ) (pool : PoolView) → IsMeaning image pool → IsRecovered image words pool.lanes → (i : ℕ) → i < 512 → i ≢ 64 → slice_index words i ≡ slice_index image i
@@ -97,7 +98,7 @@ front_mapped names xs ys n is =
     ∙ (ap (λ (k : ℕ). take k (map (call_of names) xs)) (sym long) ∙ take-length (map (call_of names) xs)))))
 
 module _ (pool : PoolView) (words : List ℕ) (stop : Option ℕ) (script : List ScriptLine) (rising : IsStrictlyIncreasing (numbers_of script)) (fits : ForSome stop (λ n. n < 2 ^ 64)) (lane : Lane Solo) (history : List Entry)
-    (halt : Halt) (run : HasRun (opening_of pool words) (first_view pool words stop) lane (names_of pool) (transactions script) history halt) (decided : Bool) where
+    (halt : Halt) (run : HasRun (opening_of pool words) (first_view pool words stop) lane (names_of pool) (call_lines script) history halt) (decided : Bool) where
   abbrev o : Opening
   o = opening_of pool words
 
@@ -110,8 +111,8 @@ module _ (pool : PoolView) (words : List ℕ) (stop : Option ℕ) (script : List
   abbrev closed : List Entry
   closed = closed_history history halt.is_open decided
 
-  e : IsEnded o first lane names (transactions script) decided halt.generation closed halt.end
-  e = ended_run o first names (transactions script) (transactions_rise script rising) decided lane history halt fits run
+  e : IsEnded o first lane names (call_lines script) decided halt.generation closed halt.end
+  e = ended_run o first names (call_lines script) (call_lines_rise script rising) decided lane history halt fits run
 
   pub run_history : IsHistoryOf pool script stop closed halt.end
   run_history = record {
@@ -139,7 +140,7 @@ module _ (pool : PoolView) (words : List ℕ) (stop : Option ℕ) (script : List
     pub run_size : length left ≡ length words
     run_size = image_kept.size ∙ (same_along first e.last e.steps e.leads).size
 
-    module _ (decides : decided ≡ not (eqb (slice_index left 512) halt.generation)) where
+    module _ (decides : decided ≡ not (eqb (slice_index left 513) 0 && eqb (slice_index left 512) halt.generation)) where
       losses : (header : Header) → BeginsAlone o header pool first → All (λ (x : Entry). is_lost x.fate ≡ loses left e.last x.number) closed
       losses header begins k d low = e.fated header pool begins keep left image_kept decides k d low
 
@@ -176,7 +177,7 @@ module _ (pool : PoolView) (words : List ℕ) (stop : Option ℕ) (script : List
 
         torn : NoneTorn o (alone_views o e.last) left
         torn = ⊎_elim (λ (rests : Rests e.last). none_torn_at_rest o e.last left rests)
-            (λ (c : IsCutAt o first lane names (transactions script) e.last).
+            (λ (c : IsCutAt o first lane names (call_lines script) e.last).
             subst (λ (w : View). IsKeptImage keep w.words (w.changes ∷ []) left → NoneTorn o (alone_views o w) left) (sym c.is)
             (λ cut_kept.
             none_torn_where_stopped pool words stop header pool c.answered c.history c.before lane c.lines c.values begins c.called c.idle c.drained c.cut

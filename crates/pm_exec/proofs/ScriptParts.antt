@@ -1,5 +1,5 @@
 -- A script's lines: a begin, changes, and a commit.
-use Rattle.std.proofs.Common.{◌≡◌, ℕ, zero, suc, ◌+◌, ◌-◌, ◌<◌, ◌≤◌, All, List, [], ◌∷◌, ◌++◌, drop, get_or, length, take, Result, refl, sym, ap, ◌∙◌, subst, arith, length-append, append_assoc}
+use Rattle.std.proofs.Common.{false, ◌≡◌, ℕ, zero, suc, ◌+◌, ◌-◌, ◌<◌, ◌≤◌, All, List, [], ◌∷◌, ◌++◌, drop, get_or, length, take, Result, refl, sym, ap, ◌∙◌, subst, arith, length-append, append_assoc}
 use Rattle.std.proofs.Math.ListN.{get_or-map}
 use Rattle.std.proofs.Math.Seq.{take-length}
 use Rattle.std.proofs.lemmas.List.{length-map, take-append-drop, take-append-le, take_more}
@@ -16,6 +16,8 @@ use Rattle.pm_world.specs.declared.lane.Lane.{Lane}
 use Rattle.pm_exec.specs.Progress.{CameTo, IsAtLine, IsNotDone, Values}
 use Rattle.pm_exec.specs.declared.calls.Names.{Names}
 use Rattle.pm_exec.specs.declared.lines.NotDone.{NotDone}
+use Rattle.pm_pending.specs.declared.actions.SetAction.{SetAction}
+use Rattle.pm_exec.specs.Calls.{stands_alone, starts_alone}
 
 pub record Parts (script : List ScriptLine) : Type 0 where
   pub begin : ScriptLine
@@ -61,6 +63,11 @@ parts (x ∷ script) t =
       commits = e.commits;
     }
 
+-- a transaction does not stand alone
+pub transaction_starts : (script : List ScriptLine) → IsTransaction (operations script) → starts_alone script ≡ false
+transaction_starts [] t = refl
+transaction_starts (x ∷ script) t = let begins : x.operation ≡ op.Begin t.0 = (let same = t.2 in cc) in ap stands_alone begins
+
 module _ (script : List ScriptLine) (p : Parts script) where
   long : length script ≡ length p.changes + 2
   long = ap length p.is ∙ (let e = length-append (p.begin ∷ p.changes) (p.commit ∷ []) in omega (arith, e))
@@ -85,25 +92,25 @@ module _ (script : List ScriptLine) (p : Parts script) where
   pub begins_there : (d : ScriptLine) → d ≡ get_or script 0 d → d.operation ≡ op.Begin p.wants
   begins_there d is = ap (λ (l : ScriptLine). l.operation) (is ∙ first_line d) ∙ p.begins
 
-  module _ (o : Opening) (first : View) (names : Names) where
-    pub begun_not : (new : Lane Solo) (why : NotDone) (said : ScriptLine) → said ≡ get_or script 0 said → ((rest : List ScriptLine) → IsNotDone o first new names (said ∷ rest) [] why) → IsNotDone o first new names script [] why
+  module _ (o : Opening) (first : View) (actions : List SetAction) (names : Names) where
+    pub begun_not : (new : Lane Solo) (why : NotDone) (said : ScriptLine) → said ≡ get_or script 0 said → ((rest : List ScriptLine) → IsNotDone o first new actions names (said ∷ rest) [] why) → IsNotDone o first new actions names script [] why
     begun_not new why said is so =
-        subst (λ (ls : List ScriptLine). IsNotDone o first new names ls [] why) (ap (λ (s : ScriptLine). s ∷ (p.changes ++ p.commit ∷ [])) (is ∙ first_line said) ∙ sym p.is) (so (p.changes ++ p.commit ∷ []))
+        subst (λ (ls : List ScriptLine). IsNotDone o first new actions names ls [] why) (ap (λ (s : ScriptLine). s ∷ (p.changes ++ p.commit ∷ [])) (is ∙ first_line said) ∙ sym p.is) (so (p.changes ++ p.commit ∷ []))
 
-    pub begun_at : (mid : Lane Solo) (said : ScriptLine) → said ≡ get_or script 0 said → IsAtLine o first mid names (said ∷ []) [] → IsAtLine o first mid names (p.begin ∷ []) []
-    begun_at mid said is at = subst (λ (s : ScriptLine). IsAtLine o first mid names (s ∷ []) []) (is ∙ first_line said) at
+    pub begun_at : (mid : Lane Solo) (said : ScriptLine) → said ≡ get_or script 0 said → IsAtLine o first mid actions names (said ∷ []) [] → IsAtLine o first mid actions names (p.begin ∷ []) []
+    begun_at mid said is at = subst (λ (s : ScriptLine). IsAtLine o first mid actions names (s ∷ []) []) (is ∙ first_line said) at
 
-    pub changed_not : (mid new : Lane Solo) (values : Values) (why : NotDone) → IsAtLine o first mid names (p.begin ∷ []) []
-        → ((front rest : List ScriptLine) → IsAtLine o first mid names front [] → IsNotDone o first new names (front ++ take (length script - 1 - 1) (drop 1 script) ++ rest) values why) → IsNotDone o first new names script values why
-    changed_not mid new values why at so =
-        subst (λ (ls : List ScriptLine). IsNotDone o first new names ls values why) (ap (λ (ls : List ScriptLine). ((p.begin ∷ []) ++ ls) ++ p.commit ∷ []) middle ∙ sym p.is)
+    pub changed_not : (left : List SetAction) (mid new : Lane Solo) (values : Values) (why : NotDone) → IsAtLine o first mid actions names (p.begin ∷ []) []
+        → ((front rest : List ScriptLine) → IsAtLine o first mid actions names front [] → IsNotDone o first new left names (front ++ take (length script - 1 - 1) (drop 1 script) ++ rest) values why) → IsNotDone o first new left names script values why
+    changed_not left mid new values why at so =
+        subst (λ (ls : List ScriptLine). IsNotDone o first new left names ls values why) (ap (λ (ls : List ScriptLine). ((p.begin ∷ []) ++ ls) ++ p.commit ∷ []) middle ∙ sym p.is)
         (so (p.begin ∷ []) (p.commit ∷ []) at)
 
-    pub committed_or_not : {T : Type 0} (mid new : Lane Solo) (values : Values) (result : Result T NotDone) → IsAtLine o first mid names (p.begin ∷ take (length script - 1 - 1) (drop 1 script)) values
-        → ((front : List ScriptLine) (said : ScriptLine) → IsAtLine o first mid names front values → said.operation ≡ op.Commit → CameTo o first new names (front ++ said ∷ []) values result) → CameTo o first new names script values result
+    pub committed_or_not : {T : Type 0} (mid new : Lane Solo) (values : Values) (result : Result T NotDone) → IsAtLine o first mid actions names (p.begin ∷ take (length script - 1 - 1) (drop 1 script)) values
+        → ((front : List ScriptLine) (said : ScriptLine) → IsAtLine o first mid actions names front values → said.operation ≡ op.Commit → CameTo o first new actions names (front ++ said ∷ []) values result) → CameTo o first new actions names script values result
     committed_or_not mid new values result at so =
-        subst (λ (ls : List ScriptLine). CameTo o first new names ls values result) (sym p.is)
-        (so (p.begin ∷ p.changes) p.commit (subst (λ (ls : List ScriptLine). IsAtLine o first mid names (p.begin ∷ ls) values) middle at) p.commits)
+        subst (λ (ls : List ScriptLine). CameTo o first new actions names ls values result) (sym p.is)
+        (so (p.begin ∷ p.changes) p.commit (subst (λ (ls : List ScriptLine). IsAtLine o first mid actions names (p.begin ∷ ls) values) middle at) p.commits)
 
 -- the first of some lines, and one more
 pub lines_taken : (lines : List ScriptLine) (i : ℕ) (said : ScriptLine) → i < length lines → said ≡ get_or lines i said → take (i + 1) lines ≡ take i lines ++ said ∷ []

@@ -1,13 +1,15 @@
 -- A call of a script as the plain model's: its lines were done, or one of them was refused.
-use Rattle.std.proofs.Common.{◌≡◌, ⊎_elim, ℕ, ◌-◌, ◌&&◌, ◌||◌, not, Bool, true, false, cond, List, [], ◌∷◌, ◌++◌, map, slice_index, refl, sym, ap, ◌∙◌, subst, append-nil, append_assoc}
+use Rattle.std.proofs.Common.{◌≡◌, ⊎_elim, ℕ, ◌-◌, ◌&&◌, ◌||◌, not, Bool, true, false, cond, List, [], ◌∷◌, ◌++◌, map, slice_index, Option, Some, None, refl, sym, ap, ◌∙◌, subst, append-nil, append_assoc}
 use Rattle.std.specs.List.Sorted.{IsStrictlyIncreasing}
+use Rattle.std.specs.Option.{option_map}
+use Rattle.std.proofs.lemmas.Bool.{and_right}
 use Rattle.std.proofs.lemmas.List.{length-map}
-use Rattle.pm_crash.specs.OpenCall.{told_of as model_told}
+use Rattle.pm_crash.specs.Pending.{told_of as model_told}
+use Rattle.pm_model.specs.Actions.{Action}
 use Rattle.pm_model.specs.Answers.{Told as Answered}
-use Rattle.pm_model.specs.Checks.{is_action}
 use Rattle.pm_model.specs.Names.{is_refusal}
 use Rattle.pm_model.specs.Outside.{stands_outside}
-use Rattle.pm_model.specs.Shown.{IsEntry, IsFate, IsFateOf, IsShown, aborts, answer_of, error_of, is_abort, is_outside, line_of_abort, values_at, values_of}
+use Rattle.pm_model.specs.Shown.{IsEntry, IsFate, IsFateOf, IsFateOutside, IsShown, aborts, answer_of, error_of, is_abort, is_outside, line_of_abort, values_at, values_of, values_shown}
 use Rattle.pm_model.specs.Step.{Act}
 use Rattle.pm_objects.specs.declared.calls.Call.{Call}
 use Rattle.pm_objects.specs.declared.calls.Operation.{Operation}
@@ -20,11 +22,13 @@ use Rattle.pm_objects.specs.declared.history.TxErr.TheVariants as error
 use Rattle.pm_objects.specs.declared.refusal.Refusal.{Refusal}
 use Rattle.pm_script.specs.declared.script.ScriptLine.{ScriptLine}
 use Rattle.pm_script.specs.declared.script.ScriptOp.{ScriptOp}
-use Rattle.pm_script.specs.declared.script.ScriptOp.TheVariants.{Begin, Add, Write, Read, Commit}
+use Rattle.pm_script.specs.declared.script.ScriptOp.TheVariants.{Begin, Add, Write, Read, Set, Publish, Cancel, Commit}
 use Rattle.pm_view.specs.View.{Told}
-use Rattle.pm_exec.specs.Calls.{call_of, numbers_of, operation_of}
-use Rattle.pm_exec.specs.Histories.{settled_fate}
-use Rattle.pm_exec.specs.Progress.{AreToldDone, HasEnded, IsRefusedAt, IsToldDone, Values, refused, values_told}
+use Rattle.pm_exec.specs.Calls.{call_of, numbers_of, operation_of, stands_alone, starts_alone}
+use Rattle.pm_exec.specs.Histories.{open_fate, settled_fate}
+use Rattle.pm_exec.specs.Progress.{AreToldDone, HasEnded, IsRefusedAt, IsToldDone, OutsideEnded, TransactionEnded, Values, refused, values_told}
+use Rattle.pm_exec.specs.declared.ending.CallAnswer.{CallAnswer}
+use Rattle.pm_exec.specs.declared.ending.CallAnswer.TheVariants as answer
 use Rattle.pm_exec.specs.declared.calls.Names.{Names}
 
 -- a done operation is no abort: it changes neither the error, nor the line that aborted
@@ -39,22 +43,22 @@ goes_on names (Begin wants) t is = subst (GoesOn names (Begin wants)) (sym is) (
 goes_on names (Add id off len) t is = subst (GoesOn names (Add id off len)) (sym is) (record { of_line = refl; error = λ rest. refl; line = λ line lines rest. refl })
 goes_on names (Write id off bytes) t is = subst (GoesOn names (Write id off bytes)) (sym is) (record { of_line = refl; error = λ rest. refl; line = λ line lines rest. refl })
 goes_on names (Read id off len) t is = subst (GoesOn names (Read id off len)) (sym is.1) (record { of_line = refl; error = λ rest. refl; line = λ line lines rest. refl })
+goes_on names (Set id off value) t (None, is) = subst (GoesOn names (Set id off value)) (sym is) (record { of_line = refl; error = λ rest. refl; line = λ line lines rest. refl })
+goes_on names (Set id off value) t (Some r, is) = subst (GoesOn names (Set id off value)) (sym is) (record { of_line = refl; error = λ rest. refl; line = λ line lines rest. refl })
+goes_on names Publish t is = subst (GoesOn names Publish) (sym is) (record { of_line = refl; error = λ rest. refl; line = λ line lines rest. refl })
+goes_on names Cancel t is = subst (GoesOn names Cancel) (sym is) (record { of_line = refl; error = λ rest. refl; line = λ line lines rest. refl })
 goes_on names Commit t is = subst (GoesOn names Commit) (sym is) (record { of_line = refl; error = λ rest. refl; line = λ line lines rest. refl })
 
--- no line of a script is a call outside of a transaction, or is of the pending actions
-inside : (names : Names) (x : ScriptOp) → stands_outside (operation_of names x) ≡ false
-inside names (Begin wants) = refl
-inside names (Add id off len) = refl
-inside names (Write id off bytes) = refl
-inside names (Read id off len) = refl
-inside names Commit = refl
-
-no_action : (names : Names) (x : ScriptOp) → is_action (operation_of names x) ≡ false
-no_action names (Begin wants) = refl
-no_action names (Add id off len) = refl
-no_action names (Write id off bytes) = refl
-no_action names (Read id off len) = refl
-no_action names Commit = refl
+-- a call of its own stands outside of a transaction, and another line does not; these are of the pending actions
+outside_is : (names : Names) (x : ScriptOp) → stands_outside (operation_of names x) ≡ stands_alone x
+outside_is names (Begin wants) = refl
+outside_is names (Add id off len) = refl
+outside_is names (Write id off bytes) = refl
+outside_is names (Read id off len) = refl
+outside_is names (Set id off value) = refl
+outside_is names Publish = refl
+outside_is names Cancel = refl
+outside_is names Commit = refl
 
 abbrev begins_outside : List Operation → Bool
 begins_outside [] = false
@@ -96,18 +100,22 @@ module _ (names : Names) where
   operations_behind (l ∷ front) more (t ∷ told) rest passed are said =
       (λ i. (goes_on names l.operation t are.0).of_line i ∷ operations_behind front more told rest passed are.1 said i)
 
-  said_inside : (lines : List ScriptLine) → begins_outside (operations_said names lines) ≡ false
-  said_inside [] = refl
-  said_inside (l ∷ lines) = inside names l.operation
+  said_outside : (lines : List ScriptLine) → begins_outside (operations_said names lines) ≡ starts_alone lines
+  said_outside [] = refl
+  said_outside (l ∷ lines) = outside_is names l.operation
 
-  told_inside : (lines : List ScriptLine) (told : List Answered) (passed : List Operation) → map (λ (t : Answered). t.operation) told ++ passed ≡ operations_said names lines → is_outside told ≡ false
-  told_inside lines [] passed said = refl
-  told_inside lines (t ∷ told) passed said = ap begins_outside said ∙ said_inside lines
+  -- lines of a transaction are told as one
+  told_inside : (lines : List ScriptLine) (told : List Answered) (passed : List Operation) → starts_alone lines ≡ false → map (λ (t : Answered). t.operation) told ++ passed ≡ operations_said names lines → is_outside told ≡ false
+  told_inside lines [] passed inside said = refl
+  told_inside lines (t ∷ told) passed inside said = ap begins_outside said ∙ (said_outside lines ∙ inside)
 
-  module _ (lines : List ScriptLine) (rising : IsStrictlyIncreasing (numbers_of lines)) where
+  module _ (lines : List ScriptLine) (rising : IsStrictlyIncreasing (numbers_of lines)) (actions : List Action) where
+    abbrev act_told : List Told → Act
+    act_told told = record { lane = 0; actions = actions; told = map model_told told }
+
     shown_as : (reply : Reply) (told : List Told) (passed : List Operation) → map (λ (t : Answered). t.operation) (map model_told told) ++ passed ≡ operations_said names lines
-        → (error_of (map model_told told) ≡ error.None → passed ≡ []) → reply.values ≡ values_told lines told → reply.at ≡ line_of_abort (numbers_of lines) (map model_told told)
-        → IsShown (call_of names lines) reply (record { lane = 0; actions = []; told = map model_told told })
+        → (error_of (map model_told told) ≡ error.None → passed ≡ []) → reply.values ≡ values_shown (numbers_of lines) (map model_told told)
+        → reply.at ≡ cond (is_outside (map model_told told)) 0 (line_of_abort (numbers_of lines) (map model_told told)) → IsShown (call_of names lines) reply (act_told told)
     shown_as reply told passed operations whole values at = record {
       lines = numbers_of lines;
       one_each = length-map lines (λ (l : ScriptLine). l.line) ∙ sym (length-map lines (λ (l : ScriptLine). operation_of names l.operation));
@@ -118,9 +126,18 @@ module _ (names : Names) where
       passed_over = passed;
       operations = operations;
       whole = whole;
-      values = values ∙ sym (ap (λ b. cond (b && is_refusal (answer_of (map model_told told))) [] (values_told lines told)) (told_inside lines (map model_told told) passed operations));
-      at = at ∙ sym (ap (λ b. cond b 0 (line_of_abort (numbers_of lines) (map model_told told))) (told_inside lines (map model_told told) passed operations));
+      values = values;
+      at = at;
     }
+
+    -- a call whose first operation was not refused shows all that its lines gave
+    shows_all : (told : List Told) → is_refusal (answer_of (map model_told told)) ≡ false → values_shown (numbers_of lines) (map model_told told) ≡ values_told lines told
+    shows_all told begun =
+        ap (λ b. cond (is_outside (map model_told told) && b) [] (values_told lines told)) begun
+        ∙ ap (λ b. cond b [] (values_told lines told)) (and_right (is_outside (map model_told told)) false refl)
+
+    shows_inside : (told : List Told) → is_outside (map model_told told) ≡ false → values_shown (numbers_of lines) (map model_told told) ≡ values_told lines told
+    shows_inside told inside = ap (λ b. cond (b && is_refusal (answer_of (map model_told told))) [] (values_told lines told)) inside
 
     -- all lines were done
     module _ (told : List Told) (are : AreToldDone names lines told) where
@@ -134,19 +151,20 @@ module _ (names : Names) where
           ap (λ (ts : List Told). line_of_abort (numbers_of lines) (map model_told ts)) (sym (append-nil told))
           ∙ (ap (λ (ls : List ScriptLine). line_of_abort (numbers_of ls) (map model_told (told ++ []))) (sym (append-nil lines)) ∙ lines_behind lines [] told [] are)
 
+      at_none : (b : Bool) → cond b 0 (line_of_abort (numbers_of lines) (map model_told told)) ≡ 0
+      at_none true = refl
+      at_none false = no_line
+
       all_operations : map (λ (t : Answered). t.operation) (map model_told told) ++ [] ≡ operations_said names lines
       all_operations =
           ap (λ (ts : List Told). map (λ (t : Answered). t.operation) (map model_told ts) ++ []) (sym (append-nil told))
           ∙ (operations_behind lines [] told [] [] are refl ∙ ap (operations_said names) (append-nil lines))
 
-      pub all_inside : is_outside (map model_told told) ≡ false
-      all_inside = told_inside lines (map model_told told) [] all_operations
-
-      pub shown_done : (reply : Reply) → reply.at ≡ 0 → reply.values ≡ values_told lines told → IsShown (call_of names lines) reply (record { lane = 0; actions = []; told = map model_told told })
-      shown_done reply at values = shown_as reply told [] all_operations (λ none. refl) values (at ∙ sym no_line)
+      shown_done : (reply : Reply) → reply.at ≡ 0 → reply.values ≡ values_told lines told → values_shown (numbers_of lines) (map model_told told) ≡ values_told lines told → IsShown (call_of names lines) reply (act_told told)
+      shown_done reply at values shows = shown_as reply told [] all_operations (λ none. refl) (values ∙ sym shows) (at ∙ sym (at_none (is_outside (map model_told told))))
 
     -- one was refused
-    module _ (reply : Reply) (r : Refusal) (told : List Told) (at : IsRefusedAt names lines reply.at r reply.values told) where
+    module _ (reply : Reply) (r : Refusal) (told : List Told) (inside : starts_alone lines ≡ false) (at : IsRefusedAt names lines reply.at r reply.values told) where
       abbrev last : Told
       last = refused (operation_of names at.said.operation) r
 
@@ -155,10 +173,10 @@ module _ (names : Names) where
       refused_error =
           ap (λ (ts : List Told). error_of (map model_told ts)) at.told_so
           ∙ errors_behind at.front at.before (last ∷ []) at.done
-          ∙ ap (λ b. cond b error.None (error.Refused r)) (no_action names at.said.operation)
+          ∙ ap (λ b. cond b error.None (error.Refused r)) at.gives_up
 
       aborts_last : aborts (model_told last) ≡ true
-      aborts_last = ap (λ b. (not b && true) || is_abort last.operation) (no_action names at.said.operation)
+      aborts_last = ap (λ b. (not b && true) || is_abort last.operation) at.gives_up
 
       refused_line : reply.at ≡ line_of_abort (numbers_of lines) (map model_told told)
       unfolding line_of_abort
@@ -177,7 +195,7 @@ module _ (names : Names) where
       none_given : (rest : List ScriptLine) → values_told (at.said ∷ rest) (last ∷ []) ≡ []
       unfolding values_of
       none_given rest =
-          ap (λ b. cond b ((at.said.line, Refused r) ∷ []) [] ++ values_of (numbers_of rest) []) (no_action names at.said.operation) ∙ nothing_told rest
+          ap (λ b. cond b ((at.said.line, Refused r) ∷ []) [] ++ values_of (numbers_of rest) []) at.gives_up ∙ nothing_told rest
 
       refused_values : reply.values ≡ values_told lines told
       refused_values =
@@ -192,40 +210,82 @@ module _ (names : Names) where
           ap (λ (ts : List Told). map (λ (t : Answered). t.operation) (map model_told ts) ++ operations_said names at.rest) at.told_so
           ∙ (operations_behind at.front (at.said ∷ at.rest) at.before (last ∷ []) (operations_said names at.rest) at.done refl ∙ ap (operations_said names) (sym at.is_lines))
 
-      pub refused_inside : is_outside (map model_told told) ≡ false
-      refused_inside = told_inside lines (map model_told told) (operations_said names at.rest) refused_operations
+      refused_inside : is_outside (map model_told told) ≡ false
+      refused_inside = told_inside lines (map model_told told) (operations_said names at.rest) inside refused_operations
 
-      pub shown_refused : IsShown (call_of names lines) reply (record { lane = 0; actions = []; told = map model_told told })
+      shown_refused : IsShown (call_of names lines) reply (act_told told)
       shown_refused =
-          shown_as reply told (operations_said names at.rest) refused_operations (λ none. absurd (let clash : error.Refused r ≡ error.None = sym refused_error ∙ none in cc)) refused_values refused_line
+          shown_as reply told (operations_said names at.rest) refused_operations (λ none. absurd (let clash : error.Refused r ≡ error.None = sym refused_error ∙ none in cc))
+          (refused_values ∙ sym (shows_inside told refused_inside)) (refused_line ∙ sym (ap (λ b. cond b 0 (line_of_abort (numbers_of lines) (map model_told told))) refused_inside))
 
     -- the fate of a call that stands in a transaction
     fate_inside : (told : List Told) (fate : Fate) → is_outside (map model_told told) ≡ false → IsFateOf (error_of (map model_told told)) fate → IsFate (is_outside (map model_told told)) (map model_told told) fate
     fate_inside told fate within is = subst (λ b. IsFate b (map model_told told) fate) (sym within) is
 
-    -- the entry of an answered call
-    pub entry_answered : (e : Entry) (why : TxErr) (told : List Told) → e.call ≡ call_of names lines → e.fate ≡ settled_fate why → HasEnded names lines why e.reply told → IsEntry e (record { lane = 0; actions = []; told = map model_told told })
-    entry_answered e why told call fate ended =
-        let act : Act = record { lane = 0; actions = []; told = map model_told told } in
+    -- the entry of an answered transaction
+    transaction_entry : (e : Entry) (why : TxErr) (told : List Told) → e.call ≡ call_of names lines → e.fate ≡ settled_fate (answer.Transaction why) → TransactionEnded names lines why e.reply told → IsEntry e (act_told told)
+    transaction_entry e why told call fate ended =
         ⊎_elim
-        (λ (t : (why ≡ error.None) × (e.reply.at ≡ 0) × AreToldDone names lines told × (e.reply.values ≡ values_told lines told)). record {
-          shown = subst (λ (c : Call). IsShown c e.reply act) (sym call) (shown_done told t.2 e.reply t.1 t.3);
-          fate = fate_inside told e.fate (all_inside told t.2) (subst (λ x. IsFateOf x e.fate) (sym (no_error told t.2)) (subst (IsFateOf error.None) (sym (fate ∙ ap settled_fate t.0)) refl));
+        (λ (t : (why ≡ error.None) × (e.reply.at ≡ 0) × AreToldDone names lines told × (e.reply.values ≡ values_told lines told)).
+        let inside : is_outside (map model_told told) ≡ false = told_inside lines (map model_told told) [] ended.0 (all_operations told t.2) in
+        record {
+          shown = subst (λ (c : Call). IsShown c e.reply (act_told told)) (sym call) (shown_done told t.2 e.reply t.1 t.3 (shows_inside told inside));
+          fate = fate_inside told e.fate inside (subst (λ x. IsFateOf x e.fate) (sym (no_error told t.2)) (subst (IsFateOf error.None) (sym (fate ∙ ap (λ (x : TxErr). settled_fate (answer.Transaction x)) t.0)) refl));
         })
         (λ (t : (r : Refusal) × (why ≡ error.Refused r) × IsRefusedAt names lines e.reply.at r e.reply.values told). record {
-          shown = subst (λ (c : Call). IsShown c e.reply act) (sym call) (shown_refused e.reply t.0 told t.2);
+          shown = subst (λ (c : Call). IsShown c e.reply (act_told told)) (sym call) (shown_refused e.reply t.0 told ended.0 t.2);
           fate =
-              fate_inside told e.fate (refused_inside e.reply t.0 told t.2)
-              (subst (λ x. IsFateOf x e.fate) (sym (refused_error e.reply t.0 told t.2)) (subst (IsFateOf (error.Refused t.0)) (sym (fate ∙ ap settled_fate t.1)) (refl, λ none. cc)));
+              fate_inside told e.fate (refused_inside e.reply t.0 told ended.0 t.2)
+              (subst (λ x. IsFateOf x e.fate) (sym (refused_error e.reply t.0 told ended.0 t.2)) (subst (IsFateOf (error.Refused t.0)) (sym (fate ∙ ap (λ (x : TxErr). settled_fate (answer.Transaction x)) t.1)) (refl, λ none. cc)));
         })
-        ended
+        ended.1
+
+    -- and of a call outside of one
+    outside_fate : (op : Operation) (r : Option Refusal) → IsFateOutside (option_map Refused r) (settled_fate (answer.Outside r))
+    outside_fate op None = refl
+    outside_fate op (Some r) = refl
+
+    outside_shows : (line : ℕ) (op : Operation) (r : Option Refusal) → stands_outside op ≡ true → values_shown (line ∷ []) (record { operation = op; reply = option_map Refused r } ∷ []) ≡ []
+    unfolding values_of
+    outside_shows line op None outside = and_none (stands_outside op) where
+      and_none : (b : Bool) → cond {A = Values} (b && false) [] [] ≡ []
+      and_none true = refl
+      and_none false = refl
+    outside_shows line op (Some r) outside = ap (λ b. cond (b && true) [] (values_of (line ∷ []) (record { operation = op; reply = Some (Refused r) } ∷ []))) outside
+
+    outside_entry : (e : Entry) (r : Option Refusal) (told : List Told) → e.call ≡ call_of names lines → e.fate ≡ settled_fate (answer.Outside r) → OutsideEnded names lines r e.reply told → IsEntry e (act_told told)
+    outside_entry e r told call fate ended =
+        let t : Told = record { operation = operation_of names ended.op; reply = option_map Refused r } in
+        let outside : stands_outside t.operation ≡ true = outside_is names ended.op ∙ ended.one.outside in
+        let told_is : map model_told told ≡ model_told t ∷ [] = ap (map model_told) ended.told_so in
+        let lines_are : numbers_of lines ≡ ended.one.line.line ∷ [] = ap numbers_of ended.one.alone in
+        record {
+          shown = subst (λ (c : Call). IsShown c e.reply (act_told told)) (sym call)
+              (shown_as e.reply told []
+              (ap (λ (ts : List Answered). map (λ (a : Answered). a.operation) ts ++ []) told_is ∙ sym (ap (operations_said names) ended.one.alone ∙ ap (λ (x : ScriptOp). operation_of names x ∷ []) ended.one.says))
+              (λ none. refl)
+              (ended.values ∙ sym ((λ j. values_shown (lines_are j) (told_is j)) ∙ outside_shows ended.one.line.line t.operation r outside))
+              (ended.at ∙ sym (ap (λ b. cond b 0 (line_of_abort (numbers_of lines) (map model_told told))) (ap is_outside told_is ∙ outside))));
+          fate = subst (λ b. IsFate b (map model_told told) e.fate) (sym (ap is_outside told_is ∙ outside))
+              (subst (λ (ts : List Answered). IsFateOutside (answer_of ts) e.fate) (sym told_is) (subst (IsFateOutside t.reply) (sym fate) (outside_fate t.operation r)));
+        }
+
+    -- the entry of an answered call
+    pub entry_answered : (e : Entry) (a : CallAnswer) (told : List Told) → e.call ≡ call_of names lines → e.fate ≡ settled_fate a → HasEnded names lines a e.reply told → IsEntry e (act_told told)
+    entry_answered e (answer.Transaction why) told call fate ended = transaction_entry e why told call fate ended
+    entry_answered e (answer.Outside r) told call fate ended = outside_entry e r told call fate ended
+
+    -- a call that was not answered, by whether its first operation is one outside
+    open_fates : (told : List Told) (decided b : Bool) → error_of (map model_told told) ≡ error.None → is_refusal (answer_of (map model_told told)) ≡ false → IsFate b (map model_told told) (open_fate decided)
+    open_fates told true true none begun = begun
+    open_fates told true false none begun = tt
+    open_fates told false true none begun = begun
+    open_fates told false false none begun = none
 
     -- and of one that was not answered, all of whose lines were done
-    pub entry_open : (e : Entry) (told : List Told) → e.call ≡ call_of names lines → e.reply.at ≡ 0 → AreToldDone names lines told → e.reply.values ≡ values_told lines told → IsFateOf error.None e.fate
-        → IsEntry e (record { lane = 0; actions = []; told = map model_told told })
-    entry_open e told call at are values fate =
-        let act : Act = record { lane = 0; actions = []; told = map model_told told } in
-        record {
-          shown = subst (λ (c : Call). IsShown c e.reply act) (sym call) (shown_done told are e.reply at values);
-          fate = fate_inside told e.fate (all_inside told are) (subst (λ x. IsFateOf x e.fate) (sym (no_error told are)) fate);
-        }
+    pub entry_open : (e : Entry) (told : List Told) (decided : Bool) → e.call ≡ call_of names lines → e.reply.at ≡ 0 → AreToldDone names lines told → e.reply.values ≡ values_told lines told → is_refusal (answer_of (map model_told told)) ≡ false
+        → e.fate ≡ open_fate decided → IsEntry e (act_told told)
+    entry_open e told decided call at are values begun fate = record {
+      shown = subst (λ (c : Call). IsShown c e.reply (act_told told)) (sym call) (shown_done told are e.reply at values (shows_all told begun));
+      fate = subst (IsFate (is_outside (map model_told told)) (map model_told told)) (sym fate) (open_fates told decided (is_outside (map model_told told)) (no_error told are) begun);
+    }

@@ -5,9 +5,9 @@ use Rattle.std.specs.List.{AllZip}
 use Rattle.std.specs.List.Sorted.{IsStrictlyIncreasing}
 use Rattle.std.proofs.lemmas.Bool.{false≢true}
 use Rattle.std.proofs.lemmas.List.Elements.{All-head, All-tail}
-use Rattle.pm_crash.specs.Alone.{MeansCalls, act_of_numbered, kept_numbered}
+use Rattle.pm_crash.specs.Alone.{MeansCalls, kept_numbered}
 use Rattle.pm_memory.specs.Solo.{AreNumbered}
-use Rattle.pm_model.specs.History.{ReplaysEntries, is_lost, opened, without_lost}
+use Rattle.pm_model.specs.History.{ReplaysEntries, is_lost, without_lost}
 use Rattle.pm_model.specs.Shown.{IsEntry}
 use Rattle.pm_objects.specs.declared.history.Entry.{Entry}
 use Rattle.pm_objects.specs.declared.pool.PoolView.{PoolView}
@@ -19,12 +19,19 @@ use Rattle.pm_exec.specs.Running.{AreEntries}
 use Rattle.pm_exec.specs.declared.calls.Names.{Names}
 use Rattle.pm_exec.proofs.RisingCalls.{AreRising}
 use Rattle.pm_exec.proofs.ShownCalls.{entry_answered}
+use Rattle.pm_crash.specs.Pending.{acts_alone, acts_alone_behind, pending_from, state_alone, told_of}
+use Rattle.pm_model.specs.Actions.{Action}
+use Rattle.pm_model.specs.Step.{Act}
 
--- the entry is that of the call of these lines, as the lane numbered it
+-- a call that the lane numbered, with these actions pending before it
+abbrev pub act_with : List Action → Numbered → Act
+act_with actions n = record { lane = 0; actions = actions; told = map told_of n.call }
+
+-- the entry is that of the call of these lines, as the lane numbered it, whatever was pending
 pub record IsShownAs (names : Names) (lines : List ScriptLine) (e : Entry) (n : Numbered) : Type 0 where
   pub number : e.number ≡ n.number
   pub call : e.call ≡ call_of names lines
-  pub entry : IsEntry e (act_of_numbered n)
+  pub entry : (actions : List Action) → IsEntry e (act_with actions n)
 
 abbrev pub AreShown : Names → List (List ScriptLine) → List Entry → List Numbered → Type 0
 AreShown names [] [] [] = Unit {0}
@@ -47,7 +54,7 @@ module _ (names : Names) where
     record {
       number = are.0.number;
       call = are.0.call;
-      entry = entry_answered names call (All-head Rises call calls rising) e are.0.error n.call are.0.call are.0.fate are.0.ended;
+      entry = λ actions. entry_answered names call (All-head Rises call calls rising) actions e are.0.answer n.call are.0.call are.0.fate are.0.ended;
     },
     shown_answered calls history entries (All-tail Rises call calls rising) are.1,
   )
@@ -110,30 +117,32 @@ module _ (names : Names) where
     IsFatedSo e = is_lost e.fate ≡ loses image w e.number
 
     -- the first of them is lost in both, or kept in both
-    kept_more : (e : Entry) (n : Numbered) (history : List Entry) (entries : List Numbered) → AllZip IsEntry history (map act_of_numbered entries) → IsEntry e (act_of_numbered n)
-        → (b c : Bool) → b ≡ c → AllZip IsEntry (cond (not b) (e ∷ history) history) (map act_of_numbered (cond (not c) (n ∷ entries) entries))
-    kept_more e n history entries rest is true true same = rest
-    kept_more e n history entries rest is true false same = absurd (false≢true (sym same))
-    kept_more e n history entries rest is false true same = absurd (false≢true same)
-    kept_more e n history entries rest is false false same = (is, rest)
+    kept_more : (done : List Numbered) (e : Entry) (n : Numbered) (history : List Entry) (entries : List Numbered) → ((d : List Numbered) → AllZip IsEntry history (acts_alone_behind d entries))
+        → ((actions : List Action) → IsEntry e (act_with actions n)) → (b c : Bool) → b ≡ c → AllZip IsEntry (cond (not b) (e ∷ history) history) (acts_alone_behind done (cond (not c) (n ∷ entries) entries))
+    unfolding acts_alone_behind
+    kept_more done e n history entries rest is true true same = rest done
+    kept_more done e n history entries rest is true false same = absurd (false≢true (sym same))
+    kept_more done e n history entries rest is false true same = absurd (false≢true same)
+    kept_more done e n history entries rest is false false same = (is (pending_from [] done), rest (done ++ n ∷ []))
 
     kept_shown : (calls : List (List ScriptLine)) (history : List Entry) (entries : List Numbered) → AreShown names calls history entries
-        → All IsFatedSo history → AllZip IsEntry (without_lost history) (map act_of_numbered (filter is_kept entries))
-    kept_shown [] [] [] are losses = tt
-    kept_shown [] [] (n ∷ entries) are losses = absurd are
-    kept_shown [] (e ∷ history) entries are losses = absurd are
-    kept_shown (call ∷ calls) [] entries are losses = absurd are
-    kept_shown (call ∷ calls) (e ∷ history) [] are losses = absurd are
-    kept_shown (call ∷ calls) (e ∷ history) (n ∷ entries) are losses =
-        kept_more e n (without_lost history) (filter is_kept entries) (kept_shown calls history entries are.1 (All-tail IsFatedSo e history losses)) are.0.entry
+        → All IsFatedSo history → (done : List Numbered) → AllZip IsEntry (without_lost history) (acts_alone_behind done (filter is_kept entries))
+    unfolding acts_alone_behind
+    kept_shown [] [] [] are losses done = tt
+    kept_shown [] [] (n ∷ entries) are losses done = absurd are
+    kept_shown [] (e ∷ history) entries are losses done = absurd are
+    kept_shown (call ∷ calls) [] entries are losses done = absurd are
+    kept_shown (call ∷ calls) (e ∷ history) [] are losses done = absurd are
+    kept_shown (call ∷ calls) (e ∷ history) (n ∷ entries) are losses done =
+        kept_more done e n (without_lost history) (filter is_kept entries) (kept_shown calls history entries are.1 (All-tail IsFatedSo e history losses)) are.0.entry
         (is_lost e.fate) (loses image w n.number) (All-head IsFatedSo e history losses ∙ ap (loses image w) are.0.number)
 
     pub shown_replay : (calls : List (List ScriptLine)) (history : List Entry) (lanes zones : ℕ) (pool : PoolView) → AreShown names calls history w.entries
         → All IsFatedSo history → (m : MeansCalls image lanes zones pool (kept_numbered image w)) → ReplaysEntries pool (without_lost history) m.last
     shown_replay calls history lanes zones pool are losses m = record {
-      acts = map act_of_numbered (kept_numbered image w);
-      are_entries = kept_shown calls history w.entries are losses;
-      end = opened m.last;
+      acts = acts_alone (kept_numbered image w);
+      are_entries = kept_shown calls history w.entries are losses [];
+      end = state_alone m.last (kept_numbered image w);
       replays = m.replays;
       ends = refl;
     }

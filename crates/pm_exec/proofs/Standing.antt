@@ -35,6 +35,9 @@ use Rattle.pm_exec.specs.Running.{IsOpenedAs}
 use Rattle.pm_exec.proofs.Along.{alone_along, lane_along}
 use Rattle.pm_exec.proofs.EnteredWords.{NoneEnters, enters_after, none_entered}
 use Rattle.pm_exec.proofs.OpeningFound.{HasFound, IsThere, found_after}
+use Rattle.pm_pending.specs.declared.actions.SetAction.{SetAction}
+use Rattle.pm_crash.specs.Pending.{pending_before}
+use Rattle.pm_exec.specs.Progress.{IsPending}
 
 -- as many words as at the opening, and what tells of blocks is the same
 pub record TellsAsOpened (o : Opening) (words : List ℕ) : Type 0 where
@@ -134,8 +137,8 @@ module _ (o : Opening) (first v : View) (steps : List Step) (opened : IsOpenedAs
       (subst (λ (l : Log). NoneEnters (TellsOfBlocks o) l.entries) (sym opened.idle) (none_entered (TellsOfBlocks o)))
 
   -- a lane that rests again may begin its next call, over the pool as it stands
-  pub starts_again : (lane : Lane Solo) → IsAtRest Sees lane v → v.log ≡ no_log Idle → IsStart (standing o v) lane v
-  starts_again lane rests idle = record {
+  pub starts_again : (lane : Lane Solo) (actions : List SetAction) → IsAtRest Sees lane v → v.log ≡ no_log Idle → IsPending actions (pending_before v) → IsStart (standing o v) lane actions v
+  starts_again lane actions rests idle pending = record {
     rests = rests;
     idle = idle;
     of_lane = lane_along first v steps leads opened.of_lane;
@@ -144,4 +147,5 @@ module _ (o : Opening) (first v : View) (steps : List Step) (opened : IsOpenedAs
     zones = opened.zones;
     lanes_are = stands_there.lanes;
     words_are = refl;
+    pending = pending;
   }

@@ -66,7 +66,7 @@ all_undrawn_keep v (s ∷ steps) each = keeps_then v (after v s) (after_all (aft
 pub first_undrawn_keep : (v : View) (steps : List Step) (k : ℕ) → Each IsUndrawn steps → Keeps v (after_all v (take k steps))
 first_undrawn_keep v steps k each = all_undrawn_keep v (take k steps) (each_first IsUndrawn k steps each)
 
-undrawn_steps : HasQuietSteps IsUndrawn
+pub undrawn_steps : HasQuietSteps IsUndrawn
 undrawn_steps = record { load = λ w x. tt; flush = λ line. tt; drain = tt }
 
 pub adds_undrawn : (spans : List Span) (id : Oid) (off len : ℕ) → HasOnly IsUndrawn (adds_range spans id off len)

@@ -1,51 +1,64 @@
 -- How many counted calls a run makes at most, by the text of its script: docs/FORMAT.md, "Sequences".
-use Rattle.std.specs.Prelude.{◌≡◌, ℕ, ◌+◌, ◌*◌, ◌≤◌, List, length}
+use Rattle.std.specs.Prelude.{◌≡◌, ℕ, ◌+◌, ◌*◌, ◌≤◌, List, [], ◌∷◌, length}
 use Rattle.std.specs.List.{sum_by}
 use Rattle.pm_crash.specs.Leading.{Leads}
 use Rattle.pm_crash.specs.OpenCall.{words_recorded}
 use Rattle.pm_script.specs.declared.script.ScriptId.{ScriptId}
 use Rattle.pm_script.specs.declared.script.ScriptLine.{ScriptLine}
 use Rattle.pm_script.specs.declared.script.ScriptOp.{ScriptOp}
-use Rattle.pm_script.specs.declared.script.ScriptOp.TheVariants.{Begin, Add, Write, Read, Commit}
+use Rattle.pm_script.specs.declared.script.ScriptOp.TheVariants.{Begin, Add, Write, Read, Set, Publish, Cancel, Commit}
 use Rattle.pm_tx.specs.Sequences.{word_count}
 use Rattle.pm_view.specs.Counts.{drains_among, flushes_among, stores_among}
 use Rattle.pm_view.specs.Steps.{Step}
 use Rattle.pm_view.specs.View.{View}
-use Rattle.pm_exec.specs.Calls.{id_of, transactions}
+use Rattle.pm_exec.specs.Calls.{id_of, call_lines}
 use Rattle.pm_exec.specs.declared.calls.Names.{Names}
+use Rattle.pm_model.specs.Actions.{Action}
 
 -- how many words a range covers
 abbrev pub words_of_range : Names → ScriptId → ℕ → ℕ → ℕ
 words_of_range names id off len = word_count ((id_of names id).off + off) len
 
+-- how many stores a full redo log is good for: two for each of 64 entries, and one that applies it, and two of the seal
+abbrev pub log_stores : ℕ
+log_stores = 194
+
 -- how many stores a line is good for: for each word that it adds the eight of a record, and one that puts the word back if the transaction is
--- given up; and one for each word that it writes
+-- given up; and one for each word that it writes; and for a publish those of a full redo log, which its transaction performs once at most
 abbrev pub most_stores : Names → ScriptOp → ℕ
 most_stores names (Begin wants) = 0
 most_stores names (Add id off len) = 9 * words_of_range names id off len
 most_stores names (Write id off bytes) = words_of_range names id off (length bytes)
 most_stores names (Read id off len) = 0
+most_stores names (Set id off value) = 0
+most_stores names Publish = log_stores
+most_stores names Cancel = 0
 most_stores names Commit = 0
 
 -- those of some lines
 abbrev pub stores_of_lines : Names → List ScriptLine → ℕ
 stores_of_lines names lines = sum_by (λ (line : ScriptLine). most_stores names line.operation) lines
 
--- those of a transaction of these lines: one more, which ends its generation
+-- those of a call of these lines: one more, which ends its generation
 abbrev pub stores_of_call : Names → List ScriptLine → ℕ
 stores_of_call names lines = stores_of_lines names lines + 1
 
--- those of some transactions
+-- those of some calls
 abbrev pub stores_of_calls : Names → List (List ScriptLine) → ℕ
 stores_of_calls names calls = sum_by (stores_of_call names) calls
 
 -- those of a script
 abbrev pub stores_of_script : Names → List ScriptLine → ℕ
-stores_of_script names script = stores_of_calls names (transactions script)
+stores_of_script names script = stores_of_calls names (call_lines script)
 
 -- how many words the view's records have
 abbrev pub recorded_count : View → ℕ
 recorded_count v = length (words_recorded v.log.records)
+
+-- the stores of the redo log that performs what a transaction published, if anything
+abbrev pub logs_of : List Action → ℕ
+logs_of [] = 0
+logs_of (a ∷ actions) = log_stores
 
 -- the lane came from the one view to the other with at most so many stores, and with at most as many flushes, and drains. The counted calls
 -- that it made are these three

@@ -1,5 +1,5 @@
 -- The calls that a script's transactions are, over a pool: docs/COMMANDS.md, "Scripts".
-use Rattle.std.specs.Prelude.{ℕ, ◌-◌, Bool, true, false, if◌then◌else◌, List, [], ◌∷◌, length, map, slice_index, Option, Some, None}
+use Rattle.std.specs.Prelude.{◌≡◌, ◌⊎◌, ℕ, ◌-◌, ◌||◌, Bool, true, false, if◌then◌else◌, List, [], ◌∷◌, length, map, slice_index, Option, Some, None}
 use Rattle.std.specs.List.{list_any}
 use Rattle.pm_objects.specs.declared.calls.Call.{Call}
 use Rattle.pm_objects.specs.declared.calls.Operation.{Operation}
@@ -11,9 +11,10 @@ use Rattle.pm_script.specs.declared.script.ScriptId.{ScriptId}
 use Rattle.pm_script.specs.declared.script.ScriptId.TheVariants.{Root, At}
 use Rattle.pm_script.specs.declared.script.ScriptLine.{ScriptLine}
 use Rattle.pm_script.specs.declared.script.ScriptOp.{ScriptOp}
-use Rattle.pm_script.specs.declared.script.ScriptOp.TheVariants.{Begin, Add, Write, Read, Commit}
+use Rattle.pm_script.specs.declared.script.ScriptOp.TheVariants.{Begin, Add, Write, Read, Set, Publish, Cancel, Commit}
 use Rattle.pm_script.specs.declared.script.ScriptWant.{ScriptWant}
 use Rattle.pm_exec.specs.declared.calls.Names.{Names}
+use Rattle.pm_script.specs.Scripts.{IsTransaction}
 
 -- the id at an offset of a pool; null where there is none
 abbrev pub id_at : ℕ → Option ℕ → Oid
@@ -41,6 +42,9 @@ operation_of names (Begin wants) = operation.Begin (map (want_of names) wants)
 operation_of names (Add id off len) = operation.AddRange (id_of names id) off len
 operation_of names (Write id off bytes) = operation.Write (id_of names id) off bytes
 operation_of names (Read id off len) = operation.Read (id_of names id) off len
+operation_of names (Set id off value) = operation.SetValue (id_of names id) off value
+operation_of names Publish = operation.Publish
+operation_of names Cancel = operation.Cancel
 operation_of names Commit = operation.Commit
 
 abbrev pub is_root : ScriptId → Bool
@@ -53,7 +57,8 @@ has_root (Begin wants) = list_any (λ (want : ScriptWant). is_root want.id) want
 has_root (Add id off len) = is_root id
 has_root (Write id off bytes) = is_root id
 has_root (Read id off len) = is_root id
-has_root Commit = false
+has_root (Set id off value) = is_root id
+has_root op = false
 
 -- what the word `root` stood for in these lines, where one has it
 abbrev pub root_in : Names → List ScriptLine → Option ℕ
@@ -63,7 +68,7 @@ root_in names lines = if list_any (λ (line : ScriptLine). has_root line.operati
 abbrev pub numbers_of : List ScriptLine → List ℕ
 numbers_of lines = map (λ (line : ScriptLine). line.line) lines
 
--- the transaction of lane 0 that these lines are
+-- the call of lane 0 that these lines are
 abbrev pub call_of : Names → List ScriptLine → Call
 call_of names lines = record {
   lane = 0;
@@ -77,16 +82,42 @@ abbrev pub is_commit : ScriptOp → Bool
 is_commit Commit = true
 is_commit op = false
 
--- a line before the first of some transactions
+-- a line before the first of some calls
 abbrev pub with_line : ScriptLine → List (List ScriptLine) → List (List ScriptLine)
 with_line line [] = (line ∷ []) ∷ []
 with_line line (first ∷ more) = (line ∷ first) ∷ more
 
--- the transactions of a script: each ends with its commit
-unfoldable pub transactions : List ScriptLine → List (List ScriptLine)
-transactions [] = []
-transactions (line ∷ lines) = if is_commit line.operation then (line ∷ []) ∷ transactions lines else with_line line (transactions lines)
+-- what is a call of its own where no transaction is open
+abbrev pub stands_alone : ScriptOp → Bool
+stands_alone (Set id off value) = true
+stands_alone Publish = true
+stands_alone Cancel = true
+stands_alone op = false
+
+-- the first of some lines is such a call
+abbrev pub starts_alone : List ScriptLine → Bool
+starts_alone [] = false
+starts_alone (line ∷ lines) = stands_alone line.operation
+
+-- these operations are one call: a transaction, or one that stands alone
+abbrev pub IsCall : List ScriptOp → Type 0
+IsCall ops = IsTransaction ops ⊎ ((op : ScriptOp) × (ops ≡ op ∷ []) × (stands_alone op ≡ true))
+
+-- the line is the last of its call, inside of a transaction or not: a transaction ends with its commit
+abbrev pub ends_call : Bool → ScriptOp → Bool
+ends_call true op = is_commit op
+ends_call false op = is_commit op || stands_alone op
+
+-- the lines of each call, of lines inside of a transaction or not
+unfoldable pub call_lines_from : Bool → List ScriptLine → List (List ScriptLine)
+call_lines_from inside [] = []
+call_lines_from inside (line ∷ lines) =
+    if ends_call inside line.operation then (line ∷ []) ∷ call_lines_from false lines else with_line line (call_lines_from true lines)
+
+-- and of a script
+abbrev pub call_lines : List ScriptLine → List (List ScriptLine)
+call_lines lines = call_lines_from false lines
 
 -- the calls that a script is, over a pool
 abbrev pub script_calls : PoolView → List ScriptLine → List Call
-script_calls pool script = map (call_of (names_of pool)) (transactions script)
+script_calls pool script = map (call_of (names_of pool)) (call_lines script)

@@ -1,5 +1,5 @@
 -- The memory calls that the lines of a script make, where one lane is alone, and where it stops: docs/FORMAT.md, "Sequences".
-use Rattle.std.specs.Prelude.{Any, ◌≡◌, ◌⊎◌, ℕ, ◌≤◌, List, [], ◌∷◌, ◌++◌, length, map, Some, slice_index, ⊤}
+use Rattle.std.specs.Prelude.{Any, ◌≡◌, ◌⊎◌, ℕ, ◌≤◌, true, List, [], ◌∷◌, ◌++◌, length, map, Option, None, Some, slice_index, ⊤}
 use Rattle.pm_memory.specs.Runs.{Stops}
 use Rattle.pm_objects.specs.declared.history.Value.TheVariants.{Refused}
 use Rattle.pm_objects.specs.declared.history.Entry.{Entry}
@@ -9,14 +9,14 @@ use Rattle.pm_objects.specs.declared.refusal.Refusal.{Refusal}
 use Rattle.pm_objects.specs.declared.refusal.Refusal.TheVariants as refusal
 use Rattle.pm_script.specs.declared.script.ScriptLine.{ScriptLine}
 use Rattle.pm_script.specs.declared.script.ScriptOp.{ScriptOp}
-use Rattle.pm_script.specs.declared.script.ScriptOp.TheVariants.{Begin, Add, Write, Read, Commit}
+use Rattle.pm_script.specs.declared.script.ScriptOp.TheVariants.{Begin, Add, Write, Read, Set, Publish, Cancel, Commit}
 use Rattle.pm_script.specs.declared.script.ScriptWant.{ScriptWant}
 use Rattle.pm_text.specs.declared.report.LaneEnd.{LaneEnd}
 use Rattle.pm_text.specs.declared.report.LaneEnd.TheVariants as end
 use Rattle.pm_tx.specs.Begins.{IsLed}
 use Rattle.pm_tx.specs.Lacking.{LacksObject}
 use Rattle.pm_tx.specs.Ranges.{adds_range, writes_range}
-use Rattle.pm_tx.specs.Sequences.{commits, gives_up}
+use Rattle.pm_tx.specs.Sequences.{commits, gives_up, publishes}
 use Rattle.pm_view.specs.View.{View}
 use Rattle.pm_view.specs.Views.{after_all}
 use Rattle.pm_world.specs.Lanes.{span_of}
@@ -24,9 +24,18 @@ use Rattle.pm_world.specs.Lawful.{generation_limit}
 use Rattle.pm_world.specs.Records.{generation_of}
 use Rattle.pm_world.specs.Sequences.{Sequence, by_view, nothing}
 use Rattle.pm_world.specs.declared.lane.Span.{Span}
-use Rattle.pm_exec.specs.Calls.{id_of, numbers_of, operation_of, want_of}
+use Rattle.pm_exec.specs.Calls.{id_of, numbers_of, operation_of, stands_alone, want_of}
 use Rattle.pm_exec.specs.Histories.{settled_fate}
 use Rattle.pm_exec.specs.declared.calls.Names.{Names}
+use Rattle.pm_crash.specs.OnActions.{set_refusal}
+use Rattle.pm_crash.specs.Pending.{pending_before, published_in}
+use Rattle.pm_model.specs.Actions.{Action}
+use Rattle.pm_objects.specs.declared.calls.Operation.TheVariants as operation
+use Rattle.pm_pending.specs.Pending.{entry_of}
+use Rattle.pm_record.specs.declared.redo.Redo.{Redo}
+use Rattle.pm_tx.specs.Actions.{cancels}
+use Rattle.pm_exec.specs.declared.ending.CallAnswer.{CallAnswer}
+use Rattle.pm_exec.specs.declared.ending.CallAnswer.TheVariants as answer
 
 -- steps that are no counted calls, and draw no number, lead from the one view to the other
 pub record IsFree (v w : View) : Type 0 where
@@ -37,13 +46,24 @@ pub record IsFree (v w : View) : Type 0 where
 abbrev pub spans_of : View → List Span
 spans_of v = map span_of v.log.records
 
--- the memory calls of a line that is done, where its call draws this number: a begin and a read make no counted calls
+-- the entries of what the call published, and of what was pending as it began
+abbrev pub published_entries : View → List Redo
+published_entries v = map entry_of (published_in v)
+
+abbrev pub pending_entries : View → List Redo
+pending_entries v = map entry_of (pending_before v)
+
+-- the memory calls of a line of a transaction that is done, where its call draws this number: a begin, a read, a set and a publish make no counted
+-- calls
 abbrev pub line_calls : Names → ScriptOp → ℕ → Sequence
 line_calls names (Begin wants) n = nothing
 line_calls names (Add id off len) n = by_view (λ v. adds_range (spans_of v) (id_of names id) off len)
 line_calls names (Write id off bytes) n = writes_range (id_of names id) off bytes
 line_calls names (Read id off len) n = nothing
-line_calls names Commit n = by_view (λ v. commits (spans_of v) n)
+line_calls names (Set id off value) n = nothing
+line_calls names Publish n = nothing
+line_calls names Cancel n = cancels
+line_calls names Commit n = by_view (λ v. commits (spans_of v) (published_entries v) n)
 
 -- the memory calls of a line that is refused so: what the transaction did is taken back, and the call draws this number
 abbrev pub refused_calls : Names → ScriptOp → Refusal → ℕ → Sequence
@@ -96,25 +116,60 @@ AreMade names lines error.None v w = LinesMade names lines v w
 AreMade names lines (error.Refused r) v w = IsRefusedIn names lines r v w
 AreMade names lines e v w = ⊥
 
--- a call was answered with this error: its lines were made, and its locks given back
-pub record IsCallMade (names : Names) (lines : List ScriptLine) (e : TxErr) (v w : View) : Type 0 where
+-- a transaction was answered with this error: its lines were made, and its locks given back
+pub record IsTransactionMade (names : Names) (lines : List ScriptLine) (e : TxErr) (v w : View) : Type 0 where
   pub over : View
   pub made : AreMade names lines e v over
   pub closed : IsFree over w
+
+-- what is pending was published outside of a transaction: locks were taken, the entries logged and performed, and the locks given back
+pub record IsPublishMade (v w : View) : Type 0 where
+  pub start : View
+  pub free : IsFree v start
+  pub some : 1 ≤ length (pending_before v)
+  pub number : ℕ
+  pub over : View
+  pub is : over ≡ after_all start (publishes (pending_entries v) operation.Publish number start)
+  pub closed : IsFree over w
+
+-- why a call outside of a transaction may be refused, where these actions are pending: a set-value for its place or for room, and a publish since an
+-- object is missing, or since an action passes the end of its object
+abbrev pub IsOutsideRefusal : ScriptOp → List Action → Refusal → Type 0
+IsOutsideRefusal (Set id off value) actions r = set_refusal off actions ≡ Some r
+IsOutsideRefusal Publish actions r = (1 ≤ length actions) × ((r ≡ refusal.NoObject) ⊎ (r ≡ refusal.OutOfRange))
+IsOutsideRefusal op actions r = ⊥
+
+-- a call outside of a transaction was done, or refused so. But for a publish of some actions that is done it makes no counted call
+abbrev pub IsOutsideMade : ScriptOp → Option Refusal → View → View → Type 0
+IsOutsideMade Publish None v w = IsPublishMade v w ⊎ (IsLed v w × (pending_before v ≡ []))
+IsOutsideMade op None v w = IsLed v w
+IsOutsideMade op (Some r) v w = IsLed v w × IsOutsideRefusal op (pending_before v) r
+
+-- the one line of these lines
+pub record IsOneLine (lines : List ScriptLine) (op : ScriptOp) : Type 0 where
+  pub line : ScriptLine
+  pub alone : lines ≡ line ∷ []
+  pub says : line.operation ≡ op
+  pub outside : stands_alone op ≡ true
+
+-- a call was answered so
+abbrev pub IsCallMade : Names → List ScriptLine → CallAnswer → View → View → Type 0
+IsCallMade names lines (answer.Transaction e) v w = IsTransactionMade names lines e v w
+IsCallMade names lines (answer.Outside r) v w = (op : ScriptOp) × IsOneLine lines op × IsOutsideMade op r v w
 
 -- calls were answered, one after another, as their entries say
 unfoldable pub CallsMade : Names → List (List ScriptLine) → List Entry → View → View → Type 0
 CallsMade names [] [] v w = w ≡ v
 CallsMade names (call ∷ calls) (entry ∷ history) v w =
-    (m : View) × (e : TxErr) × (entry.fate ≡ settled_fate e) × IsCallMade names call e v m × CallsMade names calls history m w
+    (m : View) × (a : CallAnswer) × (entry.fate ≡ settled_fate a) × IsCallMade names call a v m × CallsMade names calls history m w
 CallsMade names calls history v w = ⊥
 
 -- some of the steps were made, the first of them, up to this view, where the lane is at its stop number and the next is a counted call
 abbrev pub IsFrontOf : Sequence → View → View → Type 0
 IsFrontOf steps v w = Stops (λ u. w ≡ u) v (steps v)
 
--- some lines of a call were done, and in the next a counted call is due
-pub record IsStoppedInCall (names : Names) (lines : List ScriptLine) (v w : View) : Type 0 where
+-- some lines of a transaction were done, and in the next a counted call is due
+pub record IsStoppedInTransaction (names : Names) (lines : List ScriptLine) (v w : View) : Type 0 where
   pub front : List ScriptLine
   pub said : ScriptLine
   pub rest : List ScriptLine
@@ -125,6 +180,17 @@ pub record IsStoppedInCall (names : Names) (lines : List ScriptLine) (v w : View
   pub free : IsFree middle start
   pub number : ℕ
   pub stops : IsFrontOf (line_calls names said.operation number) start w ⊎ ((r : Refusal) × IsFrontOf (refused_calls names said.operation r number) start w)
+
+-- what is pending was being published outside of a transaction, and a counted call is due
+pub record IsStoppedInPublish (lines : List ScriptLine) (v w : View) : Type 0 where
+  pub publish : IsOneLine lines Publish
+  pub start : View
+  pub free : IsFree v start
+  pub number : ℕ
+  pub stops : IsFrontOf (publishes (pending_entries v) operation.Publish number) start w
+
+abbrev pub IsStoppedInCall : Names → List ScriptLine → View → View → Type 0
+IsStoppedInCall names lines v w = IsStoppedInTransaction names lines v w ⊎ IsStoppedInPublish lines v w
 
 -- no generation is left to the lane, or no number
 abbrev pub IsUsedUp : View → Type 0

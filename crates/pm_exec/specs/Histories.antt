@@ -3,13 +3,16 @@ use Rattle.std.specs.Prelude.{Bool, if◌then◌else◌, List, [], ◌∷◌, �
 use Rattle.pm_objects.specs.declared.history.Entry.{Entry}
 use Rattle.pm_objects.specs.declared.history.Fate.{Fate}
 use Rattle.pm_objects.specs.declared.history.Fate.TheVariants as fate
-use Rattle.pm_objects.specs.declared.history.TxErr.{TxErr}
 use Rattle.pm_objects.specs.declared.history.TxErr.TheVariants as error
+use Rattle.pm_exec.specs.declared.ending.CallAnswer.{CallAnswer}
+use Rattle.pm_exec.specs.declared.ending.CallAnswer.TheVariants as answer
 
--- what became of an answered call that ended with this error
-abbrev pub settled_fate : TxErr → Fate
-settled_fate error.None = fate.Done
-settled_fate e = fate.Aborted e
+-- what became of a call that was answered so
+abbrev pub settled_fate : CallAnswer → Fate
+settled_fate (answer.Transaction error.None) = fate.Done
+settled_fate (answer.Transaction e) = fate.Aborted e
+settled_fate (answer.Outside None) = fate.Done
+settled_fate (answer.Outside (Some r)) = fate.Refused r
 
 -- what became of a call that was not answered, where its deciding store is left or not
 abbrev pub open_fate : Bool → Fate

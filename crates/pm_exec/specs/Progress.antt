@@ -1,12 +1,14 @@
 -- How far a call of a run has come: for the crate's own functions.
 use Rattle.std.specs.Prelude.{◌≡◌, ◌⊎◌, ℕ, ◌+◌, ◌≤◌, false, List, [], ◌∷◌, ◌++◌, map, slice_index, take, Option, None, Some, Result, Ok, Err, ⊤}
 use Rattle.std.specs.List.{AllZip}
-use Rattle.pm_crash.specs.Alone.{IsUnsealed}
+use Rattle.pm_crash.specs.Alone.{raises}
 use Rattle.pm_crash.specs.Leading.{Leads}
-use Rattle.pm_crash.specs.OpenCall.{told_of as model_told}
+use Rattle.pm_crash.specs.Pending.{pending_before, pending_in, published_in, told_of as model_told}
 use Rattle.pm_image.specs.Logs.{generation_word}
 use Rattle.pm_memory.specs.Solo.{Sees, Solo}
-use Rattle.pm_model.specs.Shown.{values_of}
+use Rattle.pm_model.specs.Checks.{is_action}
+use Rattle.pm_model.specs.Names.{is_refusal}
+use Rattle.pm_model.specs.Shown.{answer_of, values_of}
 use Rattle.pm_objects.specs.declared.calls.Operation.{Operation}
 use Rattle.pm_objects.specs.declared.calls.Operation.TheVariants as operation
 use Rattle.pm_objects.specs.declared.history.Reply.{Reply}
@@ -19,7 +21,7 @@ use Rattle.pm_objects.specs.declared.refusal.Refusal.{Refusal}
 use Rattle.pm_objects.specs.declared.refusal.Refusal.TheVariants as refusal
 use Rattle.pm_script.specs.declared.script.ScriptLine.{ScriptLine}
 use Rattle.pm_script.specs.declared.script.ScriptOp.{ScriptOp}
-use Rattle.pm_script.specs.declared.script.ScriptOp.TheVariants.{Read}
+use Rattle.pm_script.specs.declared.script.ScriptOp.TheVariants.{Read, Set}
 use Rattle.pm_tx.specs.AtWork.{IsAtWork}
 use Rattle.pm_tx.specs.Ending.{DrawEnded, IsAfterCall}
 use Rattle.pm_tx.specs.Generations.{IsOfOpening}
@@ -31,7 +33,8 @@ use Rattle.pm_view.specs.Area.{is_in_area}
 use Rattle.pm_view.specs.Counts.{IsAtStop, stores_among}
 use Rattle.pm_view.specs.Founds.{IsAlone}
 use Rattle.pm_view.specs.Log.{no_log}
-use Rattle.pm_view.specs.Log.Phase.{Idle}
+use Rattle.pm_view.specs.Log.{Phase}
+use Rattle.pm_view.specs.Log.Phase.{Applying, Clearing, Drawn, Idle, Retiring, Sealing}
 use Rattle.pm_view.specs.Steps.{Step}
 use Rattle.pm_view.specs.View.{Numbered, Told, View}
 use Rattle.pm_view.specs.Views.{after_all}
@@ -40,9 +43,9 @@ use Rattle.pm_world.specs.Records.{generation_of}
 use Rattle.pm_world.specs.Sequences.{Ready}
 use Rattle.pm_world.specs.declared.lane.Lane.{Lane}
 use Rattle.pm_world.specs.declared.lane.Span.{Span}
-use Rattle.pm_exec.specs.Bounds.{recorded_count, stores_of_call, stores_of_lines}
-use Rattle.pm_exec.specs.Calls.{id_of, numbers_of, operation_of}
-use Rattle.pm_exec.specs.Course.{AreMade, IsCallMade, IsFree, IsStoppedInCall, IsUsedUp, LinesMade, spans_of}
+use Rattle.pm_exec.specs.Bounds.{logs_of, most_stores, recorded_count, stores_of_call, stores_of_lines}
+use Rattle.pm_exec.specs.Calls.{id_of, numbers_of, operation_of, stands_alone, starts_alone}
+use Rattle.pm_exec.specs.Course.{AreMade, IsCallMade, IsFree, IsOneLine, IsOutsideMade, IsStoppedInCall, IsUsedUp, LinesMade, spans_of}
 use Rattle.pm_exec.specs.Quiet.{IsQuiet}
 use Rattle.pm_exec.specs.Torn.{words_after}
 use Rattle.pm_exec.specs.declared.calls.Names.{Names}
@@ -50,6 +53,12 @@ use Rattle.pm_exec.specs.declared.ending.CallEnd.{CallEnd}
 use Rattle.pm_exec.specs.declared.ending.CallEnd.TheVariants as call_end
 use Rattle.pm_exec.specs.declared.lines.NotDone.{NotDone}
 use Rattle.pm_exec.specs.declared.lines.NotDone.TheVariants.{GivenUp, Stopped, Spent, Memory}
+use Rattle.pm_exec.specs.declared.ending.CallAnswer.{CallAnswer}
+use Rattle.pm_exec.specs.declared.ending.CallAnswer.TheVariants as answer
+use Rattle.pm_model.specs.Actions.{Action}
+use Rattle.pm_pending.specs.Pending.{pending_of}
+use Rattle.pm_pending.specs.declared.actions.SetAction.{SetAction}
+use Rattle.std.specs.Prelude.{◌%◌, All, option_map}
 
 -- what lines gave
 abbrev pub Values : Type 0
@@ -62,8 +71,15 @@ done op = record { operation = op; reply = None }
 abbrev pub refused : Operation → Refusal → Told
 refused op r = record { operation = op; reply = Some (Refused r) }
 
--- the operation of a line was done: a read gave bytes, and another gave nothing
+-- the list is what is pending, and each of it is of a multiple of eight bytes
+pub record IsPending (actions : List SetAction) (pending : List Action) : Type 0 where
+  pub are : pending_of actions ≡ pending
+  pub aligned : All (λ (a : SetAction). a.off % 8 ≡ 0) actions
+
+-- the operation of a line was done: a read gave bytes, a set may give its refusal, which aborts nothing, and another gave nothing
 abbrev pub IsToldDone : Names → ScriptOp → Told → Type 0
+IsToldDone names (Set id off value) t =
+    (r : Option Refusal) × (t ≡ record { operation = operation.SetValue (id_of names id) off value; reply = option_map Refused r })
 IsToldDone names (Read id off len) t = (bytes : List ℕ) × (t ≡ record { operation = operation.Read (id_of names id) off len; reply = Some (Bytes bytes) })
 IsToldDone names op t = t ≡ done (operation_of names op)
 
@@ -80,7 +96,7 @@ abbrev pub numbered : ℕ → List Told → Numbered
 numbered n told = record { number = n; call = told }
 
 -- the lane rests, alone, before a call: o is the pool as it stands
-pub record IsStart (o : Opening) (lane : Lane Solo) (v : View) : Type 0 where
+pub record IsStart (o : Opening) (lane : Lane Solo) (actions : List SetAction) (v : View) : Type 0 where
   pub rests : IsAtRest Sees lane v
   pub idle : v.log ≡ no_log Idle
   pub of_lane : v.lane ≡ 0
@@ -89,10 +105,11 @@ pub record IsStart (o : Opening) (lane : Lane Solo) (v : View) : Type 0 where
   pub zones : o.zones ≤ 32
   pub lanes_are : v.lanes ≡ o.lanes
   pub words_are : v.words ≡ o.words
+  pub pending : IsPending actions (pending_before v)
 
 -- from the view before the call steps led to one at which the lane is at work, with these lines done, which gave these values: outside of its
 -- area the words are what the lines make of the pool's
-pub record IsAtLine (o : Opening) (first : View) (lane : Lane Solo) (names : Names) (front : List ScriptLine) (values : Values) : Type 0 where
+pub record IsAtLine (o : Opening) (first : View) (lane : Lane Solo) (actions : List SetAction) (names : Names) (front : List ScriptLine) (values : Values) : Type 0 where
   pub view : View
   pub steps : List Step
   pub leads : Leads first steps view
@@ -100,22 +117,26 @@ pub record IsAtLine (o : Opening) (first : View) (lane : Lane Solo) (names : Nam
   pub alone : IsAlone view
   pub works : IsAtWork o Sees lane view
   pub level : lane.level ≡ 1
+  -- the first of them is none that stands alone
+  pub opens : (line : ScriptLine) × (rest : List ScriptLine) × (front ≡ line ∷ rest) × (stands_alone line.operation ≡ false)
   pub told : AreToldDone names front view.call
   pub gave : values ≡ values_told front view.call
   pub entries : view.entries ≡ first.entries
   pub generation : generation_of view ≡ generation_word o.words 0
   pub words : (i : ℕ) → is_in_area 0 i ≡ false → slice_index view.words i ≡ words_after names front (slice_index o.words) i
+  pub unraised : raises steps ≡ 0
+  pub pending : IsPending actions (pending_in view)
   pub made : LinesMade names front first view
-  pub few : stores_among steps + recorded_count view ≤ stores_of_lines names front
+  pub few : stores_among steps + recorded_count view + logs_of (published_in view) ≤ stores_of_lines names front
 
-abbrev pub IsLaneWith : Lane Solo → Names → Values → Type 0
-IsLaneWith lane names values = (o : Opening) × (first : View) × (front : List ScriptLine) × IsAtLine o first lane names front values
+abbrev pub IsLaneWith : Lane Solo → List SetAction → Names → Values → Type 0
+IsLaneWith lane actions names values = (o : Opening) × (first : View) × (front : List ScriptLine) × IsAtLine o first lane actions names front values
 
-abbrev pub IsLaneAtLine : Lane Solo → Names → Type 0
-IsLaneAtLine lane names = (values : Values) × IsLaneWith lane names values
+abbrev pub IsLaneAtLine : Lane Solo → List SetAction → Names → Type 0
+IsLaneAtLine lane actions names = (values : Values) × IsLaneWith lane actions names values
 
 -- its call is over, came to these operations with their replies, and has drawn a number; its locks are held still
-pub record IsOver (first : View) (lane : Lane Solo) (names : Names) (lines : List ScriptLine) (told : List Told) (error : TxErr) : Type 0 where
+pub record IsOver (first : View) (lane : Lane Solo) (actions : List SetAction) (names : Names) (lines : List ScriptLine) (told : List Told) (error : TxErr) : Type 0 where
   pub view : View
   pub steps : List Step
   pub leads : Leads first steps view
@@ -124,6 +145,7 @@ pub record IsOver (first : View) (lane : Lane Solo) (names : Names) (lines : Lis
   pub level : lane.level ≡ 1
   pub left : is_work lane.stage ≡ false
   pub fails : lane.error ≡ error
+  pub pending : IsPending actions (pending_before view)
   pub made : AreMade names lines error first view
   pub few : stores_among steps ≤ stores_of_call names lines
 
@@ -132,15 +154,27 @@ pub record IsUndrawn (first v : View) : Type 0 where
   pub number : v.number ≡ None
   pub entries : v.entries ≡ first.entries
 
--- the call of these lines has drawn its number, and is not over
-pub record IsInFlight (first : View) (names : Names) (lines : List ScriptLine) (values : Values) (v : View) : Type 0 where
+-- a call drew its number, behind so many stores of its lane's generation, and its deciding store is to come, is made, or is drained; or its log is
+-- over
+abbrev pub IsFlyingBy : ℕ → Phase → Type 0
+IsFlyingBy raised Drawn = raised ≡ 0
+IsFlyingBy raised Sealing = raised ≡ 0
+IsFlyingBy raised (Applying applied) = ⊤
+IsFlyingBy raised Clearing = raised ≡ 1
+IsFlyingBy raised Retiring = raised ≡ 1
+IsFlyingBy raised Idle = raised ≡ 1
+IsFlyingBy raised phase = ⊥
+
+-- the call of these lines has drawn its number, behind so many stores of the generation, and is not over
+pub record IsInFlight (first : View) (names : Names) (lines : List ScriptLine) (values : Values) (raised : ℕ) (v : View) : Type 0 where
   pub number : ℕ
   pub drawn : v.number ≡ Some number
   pub told : List Told
   pub entries : v.entries ≡ first.entries ++ numbered number told ∷ []
-  pub flies : IsUnsealed v.log.phase
+  pub flies : IsFlyingBy raised v.log.phase
   pub done : AreToldDone names lines told
   pub gave : values ≡ values_told lines told
+  pub begun : is_refusal (answer_of (map model_told told)) ≡ false
 
 -- steps from a lane at work that leave it quiet, if it was
 pub record IsCalmBehind (first w : View) : Type 0 where
@@ -181,7 +215,7 @@ pub record IsCut (o : Opening) (first : View) (lane : Lane Solo) (names : Names)
   pub leads : Leads first steps view
   pub seen : Sees lane.memory view
   pub drawn : lane.drawn ≡ view.number
-  pub came : IsUndrawn first view ⊎ IsInFlight first names lines values view
+  pub came : IsUndrawn first view ⊎ IsInFlight first names lines values (raises steps) view
   pub opening : IsOfOpening o view
   pub untorn : IsUntorn o first names lines view
   pub at_stop : IsAtStop view
@@ -204,16 +238,17 @@ pub record IsRefusedAt (names : Names) (lines : List ScriptLine) (line : ℕ) (r
   pub rest : List ScriptLine
   pub is_lines : lines ≡ front ++ said ∷ rest
   pub of_line : said.line ≡ line
+  pub gives_up : is_action (operation_of names said.operation) ≡ false
   pub before : List Told
   pub done : AreToldDone names front before
   pub gave : values ≡ values_told front before
   pub told_so : told ≡ before ++ refused (operation_of names said.operation) r ∷ []
 
 -- its call was given up at this line
-pub record IsGivenUpAt (first : View) (lane : Lane Solo) (names : Names) (lines : List ScriptLine) (values : Values) (line : ℕ) (r : Refusal) : Type 0 where
+pub record IsGivenUpAt (first : View) (lane : Lane Solo) (actions : List SetAction) (names : Names) (lines : List ScriptLine) (values : Values) (line : ℕ) (r : Refusal) : Type 0 where
   pub told : List Told
   pub at : IsRefusedAt names lines line r values told
-  pub over : IsOver first lane names lines told (error.Refused r)
+  pub over : IsOver first lane actions names lines told (error.Refused r)
 
 -- why a line is not done, by what it answers
 abbrev pub not_done : ℕ → Refusal → NotDone
@@ -222,32 +257,45 @@ not_done line refusal.Spent = Spent line
 not_done line r = GivenUp line r
 
 -- the call was not committed, for this reason
-abbrev pub IsNotDone : Opening → View → Lane Solo → Names → List ScriptLine → Values → NotDone → Type 0
-IsNotDone o first lane names lines values (GivenUp line r) = IsGivenUpAt first lane names lines values line r
-IsNotDone o first lane names lines values Stopped = IsCut o first lane names lines values
-IsNotDone o first lane names lines values (Spent line) = IsUnbegun first lane × (slice_index (numbers_of lines) 0 ≡ line)
-IsNotDone o first lane names lines values (Memory e) = ⊤
+abbrev pub IsNotDone : Opening → View → Lane Solo → List SetAction → Names → List ScriptLine → Values → NotDone → Type 0
+IsNotDone o first lane actions names lines values (GivenUp line r) = IsGivenUpAt first lane actions names lines values line r
+IsNotDone o first lane actions names lines values Stopped = IsCut o first lane names lines values
+IsNotDone o first lane actions names lines values (Spent line) = IsUnbegun first lane × (slice_index (numbers_of lines) 0 ≡ line)
+IsNotDone o first lane actions names lines values (Memory e) = ⊤
 
 -- all of its lines were done
-pub record IsCommitted (first : View) (lane : Lane Solo) (names : Names) (lines : List ScriptLine) (values : Values) : Type 0 where
+pub record IsCommitted (first : View) (lane : Lane Solo) (actions : List SetAction) (names : Names) (lines : List ScriptLine) (values : Values) : Type 0 where
   pub told : List Told
   pub done : AreToldDone names lines told
   pub gave : values ≡ values_told lines told
-  pub over : IsOver first lane names lines told error.None
+  pub over : IsOver first lane actions names lines told error.None
 
 -- the call was committed, or was not
-abbrev pub CameTo : {T : Type 0} → Opening → View → Lane Solo → Names → List ScriptLine → Values → Result T NotDone → Type 0
-CameTo o first lane names lines values (Ok answer) = IsCommitted first lane names lines values
-CameTo o first lane names lines values (Err why) = IsNotDone o first lane names lines values why
+abbrev pub CameTo : {T : Type 0} → Opening → View → Lane Solo → List SetAction → Names → List ScriptLine → Values → Result T NotDone → Type 0
+CameTo o first lane actions names lines values (Ok answer) = IsCommitted first lane actions names lines values
+CameTo o first lane actions names lines values (Err why) = IsNotDone o first lane actions names lines values why
 
--- how an answered call of these lines ended, with what it gave: all were done, or one was refused
-abbrev pub HasEnded : Names → List ScriptLine → TxErr → Reply → List Told → Type 0
-HasEnded names lines e reply told =
+-- how an answered transaction of these lines ended, with what it gave: all were done, or one was refused
+abbrev pub TransactionEnded : Names → List ScriptLine → TxErr → Reply → List Told → Type 0
+TransactionEnded names lines e reply told = (starts_alone lines ≡ false) × (
     ((e ≡ error.None) × (reply.at ≡ 0) × AreToldDone names lines told × (reply.values ≡ values_told lines told))
-    ⊎ ((r : Refusal) × (e ≡ error.Refused r) × IsRefusedAt names lines reply.at r reply.values told)
+    ⊎ ((r : Refusal) × (e ≡ error.Refused r) × IsRefusedAt names lines reply.at r reply.values told))
+
+-- how a call outside of a transaction ended, of one line: it was done, or refused so, and gave nothing
+pub record OutsideEnded (names : Names) (lines : List ScriptLine) (r : Option Refusal) (reply : Reply) (told : List Told) : Type 0 where
+  pub op : ScriptOp
+  pub one : IsOneLine lines op
+  pub at : reply.at ≡ 0
+  pub values : reply.values ≡ []
+  pub told_so : told ≡ record { operation = operation_of names op; reply = option_map Refused r } ∷ []
+
+-- how an answered call of these lines ended
+abbrev pub HasEnded : Names → List ScriptLine → CallAnswer → Reply → List Told → Type 0
+HasEnded names lines (answer.Transaction e) reply told = TransactionEnded names lines e reply told
+HasEnded names lines (answer.Outside r) reply told = OutsideEnded names lines r reply told
 
 -- the call was answered, and the lane rests again
-pub record IsAnswered (first : View) (lane : Lane Solo) (names : Names) (lines : List ScriptLine) (number : ℕ) (e : TxErr) (reply : Reply) : Type 0 where
+pub record IsAnswered (first : View) (lane : Lane Solo) (actions : List SetAction) (names : Names) (lines : List ScriptLine) (number : ℕ) (a : CallAnswer) (reply : Reply) : Type 0 where
   pub view : View
   pub steps : List Step
   pub leads : Leads first steps view
@@ -255,8 +303,9 @@ pub record IsAnswered (first : View) (lane : Lane Solo) (names : Names) (lines :
   pub idle : view.log ≡ no_log Idle
   pub told : List Told
   pub entries : view.entries ≡ first.entries ++ numbered number told ∷ []
-  pub so : HasEnded names lines e reply told
-  pub made : IsCallMade names lines e first view
+  pub so : HasEnded names lines a reply told
+  pub pending : IsPending actions (pending_before view)
+  pub made : IsCallMade names lines a first view
   pub few : stores_among steps ≤ stores_of_call names lines
 
 -- the lane stopped in the call
@@ -266,7 +315,26 @@ pub record IsHalted (o : Opening) (first : View) (lane : Lane Solo) (names : Nam
   pub numbered : number ≡ cut.view.number
 
 -- how a call of these lines ended
-abbrev pub HasCome : Opening → View → Lane Solo → Names → List ScriptLine → CallEnd → Type 0
-HasCome o first lane names lines (call_end.Answered number e reply) = IsAnswered first lane names lines number e reply
-HasCome o first lane names lines (call_end.Halted number reply) = IsHalted o first lane names lines number reply
-HasCome o first lane names lines (call_end.Unbegun line) = IsUnbegun first lane × (slice_index (numbers_of lines) 0 ≡ line)
+abbrev pub HasCome : Opening → View → Lane Solo → List SetAction → Names → List ScriptLine → CallEnd → Type 0
+HasCome o first lane actions names lines (call_end.Answered number a reply) = IsAnswered first lane actions names lines number a reply
+HasCome o first lane actions names lines (call_end.Halted number reply) = IsHalted o first lane names lines number reply
+HasCome o first lane actions names lines (call_end.Unbegun line) = IsUnbegun first lane × (slice_index (numbers_of lines) 0 ≡ line)
+
+-- a call outside of a transaction was answered: the lane rests again, and its entry is the last
+pub record IsActed (first : View) (lane : Lane Solo) (actions : List SetAction) (names : Names) (op : ScriptOp) (r : Option Refusal) : Type 0 where
+  pub view : View
+  pub steps : List Step
+  pub leads : Leads first steps view
+  pub rests : IsAtRest Sees lane view
+  pub idle : view.log ≡ no_log Idle
+  pub entries : view.entries ≡ first.entries ++ numbered lane.last (record { operation = operation_of names op; reply = option_map Refused r } ∷ []) ∷ []
+  pub pending : IsPending actions (pending_before view)
+  pub made : IsOutsideMade op r first view
+  pub few : stores_among steps ≤ most_stores names op + 1
+
+-- a call outside of a transaction was answered, or refused; or the lane came to its stop in it, or could not begin it
+abbrev pub ActedOutside : {T : Type 0} → Opening → View → Lane Solo → List SetAction → Names → ScriptOp → Result T Refusal → Type 0
+ActedOutside o first lane actions names op (Ok done) = IsActed first lane actions names op None
+ActedOutside o first lane actions names op (Err refusal.Stopped) = (said : ScriptLine) → said.operation ≡ op → IsCut o first lane names (said ∷ []) []
+ActedOutside o first lane actions names op (Err refusal.Spent) = IsUnbegun first lane
+ActedOutside o first lane actions names op (Err r) = IsActed first lane actions names op (Some r)

@@ -6,7 +6,6 @@ use Rattle.pm_memory.specs.Solo.{Sees, Solo}
 use Rattle.pm_objects.specs.declared.history.Entry.{Entry}
 use Rattle.pm_objects.specs.declared.history.Fate.TheVariants as fate
 use Rattle.pm_objects.specs.declared.history.Reply.{Reply}
-use Rattle.pm_objects.specs.declared.history.TxErr.{TxErr}
 use Rattle.pm_script.specs.declared.script.ScriptLine.{ScriptLine}
 use Rattle.pm_text.specs.declared.report.LaneEnd.TheVariants as end
 use Rattle.pm_tx.specs.Resting.{IsAtRest}
@@ -23,17 +22,20 @@ use Rattle.pm_exec.specs.Bounds.{stores_of_calls}
 use Rattle.pm_exec.specs.Calls.{call_of, numbers_of}
 use Rattle.pm_exec.specs.Course.{CallsMade}
 use Rattle.pm_exec.specs.Histories.{settled_fate}
-use Rattle.pm_exec.specs.Progress.{HasEnded, IsHalted, IsUnbegun}
+use Rattle.pm_exec.specs.Progress.{IsPending, HasEnded, IsHalted, IsUnbegun}
 use Rattle.pm_exec.specs.declared.calls.Names.{Names}
 use Rattle.pm_exec.specs.declared.running.Halt.{Halt}
+use Rattle.pm_crash.specs.Pending.{pending_before}
+use Rattle.pm_exec.specs.declared.ending.CallAnswer.{CallAnswer}
+use Rattle.pm_pending.specs.declared.actions.SetAction.{SetAction}
 
 -- the entry of an answered call of these lines, as the lane's view has the call
 pub record IsEntryOf (names : Names) (lines : List ScriptLine) (e : Entry) (n : Numbered) : Type 0 where
   pub number : e.number ≡ n.number
   pub call : e.call ≡ call_of names lines
-  pub error : TxErr
-  pub ended : HasEnded names lines error e.reply n.call
-  pub fate : e.fate ≡ settled_fate error
+  pub answer : CallAnswer
+  pub ended : HasEnded names lines answer e.reply n.call
+  pub fate : e.fate ≡ settled_fate answer
 
 -- these calls were answered: each has its entry
 abbrev pub AreEntries : Names → List (List ScriptLine) → List Entry → List Numbered → Type 0
@@ -49,6 +51,7 @@ pub record IsOpenedAs (o : Opening) (v : View) : Type 0 where
   pub zones : o.zones ≤ 32
   pub lanes_are : v.lanes ≡ o.lanes
   pub words_are : v.words ≡ o.words
+  pub uncalled : v.entries ≡ []
   pub idle : v.log ≡ no_log Idle
   pub free : v.locks ≡ []
 
@@ -61,16 +64,17 @@ pub record HasCalled (first : View) (names : Names) (calls : List (List ScriptLi
   pub few : stores_among steps ≤ stores_of_calls names calls
 
 -- and the lane rests behind them
-pub record HasAnswered (first : View) (lane : Lane Solo) (names : Names) (calls : List (List ScriptLine)) (history : List Entry) : Type 0 where
+pub record HasAnswered (first : View) (lane : Lane Solo) (actions : List SetAction) (names : Names) (calls : List (List ScriptLine)) (history : List Entry) : Type 0 where
   pub view : View
   pub called : HasCalled first names calls history view
   pub rests : IsAtRest Sees lane view
   pub idle : view.log ≡ no_log Idle
+  pub pending : IsPending actions (pending_before view)
 
 -- so it did over the pool from whose words the first view is
-pub record HasComeTo (o : Opening) (first : View) (lane : Lane Solo) (names : Names) (calls : List (List ScriptLine)) (history : List Entry) : Type 0 where
+pub record HasComeTo (o : Opening) (first : View) (lane : Lane Solo) (actions : List SetAction) (names : Names) (calls : List (List ScriptLine)) (history : List Entry) : Type 0 where
   pub opened : IsOpenedAs o first
-  pub answered : HasAnswered first lane names calls history
+  pub answered : HasAnswered first lane actions names calls history
 
 -- the entry of a call that was not answered, as lost, if it drew a number
 abbrev pub open_entry : Names → List ScriptLine → Option ℕ → Reply → Option Entry
@@ -108,7 +112,8 @@ HasHalted o first lane names answered lines history halt = HasStopped o first la
 
 -- the lane was answered all calls
 pub record HasFinished (first : View) (lane : Lane Solo) (names : Names) (calls : List (List ScriptLine)) (history : List Entry) (halt : Halt) : Type 0 where
-  pub answered : HasAnswered first lane names calls history
+  pub actions : List SetAction
+  pub answered : HasAnswered first lane actions names calls history
   pub is_open : halt.is_open ≡ None
   pub ends : halt.end ≡ end.Ended
 

@@ -18,7 +18,7 @@ use Rattle.pm_text.specs.declared.report.LaneEnd.TheVariants as end
 use Rattle.pm_view.specs.View.{View}
 use Rattle.pm_world.specs.Crash.{loses}
 use Rattle.pm_exec.specs.Bounds.{IsBounded, stores_of_script}
-use Rattle.pm_exec.specs.Calls.{names_of, script_calls, transactions}
+use Rattle.pm_exec.specs.Calls.{names_of, script_calls, call_lines}
 use Rattle.pm_exec.specs.Course.{CallsMade, ComesToEnd}
 use Rattle.pm_exec.specs.Openings.{first_view, opening_of}
 
@@ -46,7 +46,7 @@ pub record LeavesReplay (image : List ℕ) (pool : PoolView) (history : List Ent
 pub record MakesCalls (words : List ℕ) (pool : PoolView) (script : List ScriptLine) (stop : Option ℕ) (keep : ℕ) (history : List Entry) (lane_end : LaneEnd) (written : List ℕ) : Type 0 where
   pub answered : List (List ScriptLine)
   pub behind : List (List ScriptLine)
-  pub are : transactions script ≡ answered ++ behind
+  pub are : call_lines script ≡ answered ++ behind
   -- the calls that were answered have the first entries of the history, and the others follow
   pub ended : List Entry
   pub rest : List Entry

@@ -11,7 +11,7 @@ use Rattle.pm_script.specs.declared.script.ScriptOp.TheVariants.{Write}
 use Rattle.pm_view.specs.Log.{Recorded}
 use Rattle.pm_view.specs.View.{View}
 use Rattle.pm_world.specs.Records.{generation_of, spelled}
-use Rattle.pm_exec.specs.Calls.{id_of, names_of, transactions}
+use Rattle.pm_exec.specs.Calls.{id_of, names_of, call_lines}
 use Rattle.pm_exec.specs.Course.{CallsMade}
 use Rattle.pm_exec.specs.Openings.{first_view}
 use Rattle.pm_exec.specs.declared.calls.Names.{Names}
@@ -45,5 +45,5 @@ HasNoMatchAt pool lines b =
 abbrev pub HasNoTornMatch : List ℕ → PoolView → List ScriptLine → Option ℕ → Type 0
 HasNoTornMatch words pool script stop =
     (answered behind : List (List ScriptLine)) (call front rest : List ScriptLine) (history : List Entry) (b : View)
-    → transactions script ≡ answered ++ call ∷ behind → CallsMade (names_of pool) answered history (first_view pool words stop) b → call ≡ front ++ rest
+    → call_lines script ≡ answered ++ call ∷ behind → CallsMade (names_of pool) answered history (first_view pool words stop) b → call ≡ front ++ rest
     → HasNoMatchAt pool front b

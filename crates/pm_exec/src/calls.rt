@@ -1,10 +1,11 @@
-//! The calls that a script's transactions are.
+//! The calls that a script is of.
 
 ghost use Rattle.std.specs.Prelude.{◌≡◌, ◌≤◌, ◌<◌, ◌++◌, ◌∷◌, [], length, map, take, drop, IfOk};
 ghost use Rattle.pm_objects.specs.declared.calls.Operation.TheVariants as operation;
-ghost use Rattle.pm_exec.specs.Calls.{call_of, has_root, id_of, is_commit, is_root, names_of, operation_of, root_in, transactions, want_of};
+ghost use Rattle.pm_exec.specs.Calls.{call_of, has_root, id_of, is_commit, is_root, names_of, operation_of, root_in, call_lines, stands_alone, want_of};
 
 use pm_objects::{Call, Oid, Operation, PoolView, Sequence, Want};
+use pm_pending::SetAction;
 use pm_script::{ScriptId, ScriptLine, ScriptOp, ScriptWant};
 use std::alloc::{AllocError, Global};
 
@@ -41,6 +42,17 @@ pub(crate) fn id_of(names: Names, id: ScriptId) -> Oid
             pool: names.pool,
             off,
         },
+    }
+}
+
+/// The action that a set of these words asks for.
+pub(crate) fn action_of(names: Names, id: ScriptId, off: u64, value: u64) -> SetAction
+    ensures { result ≡ record { id = id_of names id; off = off; value = value } }
+{
+    SetAction {
+        id: id_of(names, id),
+        off,
+        value,
     }
 }
 
@@ -82,6 +94,13 @@ fn operation_of(alloc: Global, names: Names, operation: &ScriptOp) -> Result<Ope
             off: *off,
             len: *len,
         }),
+        ScriptOp::Set { id, off, value } => Ok(Operation::SetValue {
+            id: id_of(names, *id),
+            off: *off,
+            value: *value,
+        }),
+        ScriptOp::Publish => Ok(Operation::Publish),
+        ScriptOp::Cancel => Ok(Operation::Cancel),
         ScriptOp::Commit => Ok(Operation::Commit),
     }
 }
@@ -136,7 +155,8 @@ fn has_root(operation: &ScriptOp) -> bool
         ScriptOp::Add { id, .. } => is_root(*id),
         ScriptOp::Write { id, .. } => is_root(*id),
         ScriptOp::Read { id, .. } => is_root(*id),
-        ScriptOp::Commit => false,
+        ScriptOp::Set { id, .. } => is_root(*id),
+        ScriptOp::Publish | ScriptOp::Cancel | ScriptOp::Commit => false,
     }
 }
 
@@ -151,7 +171,7 @@ fn root_in(names: Names, lines: &[ScriptLine]) -> Option<u64>
     }
 }
 
-/// The transaction of lane 0 that the lines are.
+/// The call of lane 0 that the lines are.
 pub(crate) fn call_of(alloc: Global, names: Names, lines: &[ScriptLine]) -> Result<Call, AllocError>
     requires { 1 ≤ length lines.now }
     ensures { IfOk result (λ call. call ≡ call_of names lines.now) }
@@ -175,13 +195,26 @@ fn is_commit(operation: &ScriptOp) -> bool
     }
 }
 
-/// How many of the lines are the first transaction: those up to its commit, or all where there is none.
+/// Whether the line is a call of its own where no transaction is open.
+pub(crate) fn stands_alone(operation: &ScriptOp) -> bool
+    ensures { result ≡ stands_alone operation.now }
+{
+    matches!(
+        operation,
+        ScriptOp::Set { .. } | ScriptOp::Publish | ScriptOp::Cancel
+    )
+}
+
+/// How many of the lines are the first call: one where that stands alone, else those up to the commit of a transaction, or all where there is none.
 pub(crate) fn first_call(lines: &[ScriptLine]) -> usize
     requires { 1 ≤ length lines.now }
     ensures some { 1 ≤ result }
     ensures inside { result ≤ length lines.now }
-    ensures first { transactions lines.now ≡ take result lines.now ∷ transactions (drop result lines.now) }
+    ensures first { call_lines lines.now ≡ take result lines.now ∷ call_lines (drop result lines.now) }
 {
+    if stands_alone(&lines[0].operation) {
+        return 1;
+    }
     match lines.iter().position(|line| is_commit(&line.operation)) {
         Some(index) => index + 1,
         None => lines.len(),

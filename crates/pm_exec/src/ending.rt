@@ -1,6 +1,6 @@
 //! How a call of a run ends, and its entry in the history.
 
-ghost use Rattle.std.specs.Prelude.{◌≡◌, ◌∷◌, [], List, ℕ, None, IfOk};
+ghost use Rattle.std.specs.Prelude.{◌≡◌, ◌∷◌, [], true, List, ℕ, None, IfOk};
 ghost use Rattle.pm_objects.specs.declared.history.TxErr.{TxErr};
 ghost use Rattle.pm_objects.specs.declared.history.TxErr.TheVariants as error;
 ghost use Rattle.pm_script.specs.Scripts.{IsTransaction, operations};
@@ -10,23 +10,37 @@ ghost use Rattle.pm_view.specs.View.{Told, View};
 ghost use Rattle.pm_world.specs.Opening.{Opening};
 ghost use Rattle.pm_exec.specs.Histories.{open_fate, settled_fate};
 ghost use Rattle.pm_exec.specs.Progress.{HasCome, HasEnded, IsOver, IsStart};
+ghost use Rattle.pm_exec.specs.Progress.{TransactionEnded};
+ghost use Rattle.pm_exec.specs.Calls.{IsCall, stands_alone};
 
-use crate::calls::Names;
+use crate::acting::act_outside;
+use crate::calls::{Names, stands_alone};
 use crate::lines::{NotDone, transact};
+use arrayvec::ArrayVec;
 use pm_memory::SoloMem;
-use pm_objects::{Fate, Reply, Sequence, TxErr, Value};
+use pm_objects::{Fate, Refusal, Reply, Sequence, TxErr, Value};
+use pm_pending::SetAction;
 use pm_script::ScriptLine;
 use pm_tx::end;
 use pm_world::Lane;
 use std::alloc::{AllocError, Global};
 
+/// What an answered call of a run came to.
+#[derive(Clone, Copy, Debug, PartialEq, Eq)]
+pub(crate) enum CallAnswer {
+    /// A transaction, with this error.
+    Transaction(TxErr),
+    /// A call outside of a transaction, with the reason why it was refused, if it was.
+    Outside(Option<Refusal>),
+}
+
 /// How a call of a run ended.
 #[derive(Drop)]
 pub(crate) enum CallEnd {
-    /// It was answered: its number, why it was given up, if it was, and its reply.
+    /// It was answered: its number, what it came to, and its reply.
     Answered {
         number: u64,
-        error: TxErr,
+        answer: CallAnswer,
         reply: Reply,
     },
     /// The lane stopped in it: the number that it had drawn, if it had, and what its lines had given.
@@ -53,32 +67,33 @@ fn reply_of(values: Vec<(u64, Value)>, at: u64) -> Reply
 
 /// Answers the call, which is over, with this reply.
 fn answer(lane: &mut Lane<SoloMem>, reply: Reply) -> CallEnd
-    requires { (first : View) × ((names : Names) × ((lines : List ScriptLine) × ((told : List Told) × ((error : TxErr) × IsOver first lane.old names lines told error)))) }
-    ensures { (o : Opening) (first : View) (names : Names) (lines : List ScriptLine) (told : List Told) (error : TxErr) → IsOver first lane.old names lines told error
-        → HasEnded names lines error reply told → HasCome o first lane.new names lines result }
+    requires { (first : View) × ((names : Names) × ((lines : List ScriptLine) × ((told : List Told) × ((error : TxErr) × ((actions : List SetAction) × IsOver first lane.old actions names lines told error))))) }
+    ensures { (o : Opening) (first : View) (actions : List SetAction) (names : Names) (lines : List ScriptLine) (told : List Told) (error : TxErr) → IsOver first lane.old actions names lines told error
+        → TransactionEnded names lines error reply told → HasCome o first lane.new actions names lines result }
 {
     let number = lane.last;
     let Ok(error) = end(lane) else { unreachable!() };
     CallEnd::Answered {
         number,
-        error,
+        answer: CallAnswer::Transaction(error),
         reply,
     }
 }
 
-/// Makes the call of these lines, and answers it, or tells why it was not.
-pub(crate) fn run_call(
+/// Makes the transaction of these lines, and answers it, or tells why it was not.
+pub(crate) fn run_transaction(
     alloc: Global,
     lane: &mut Lane<SoloMem>,
+    actions: &mut ArrayVec<SetAction, 63>,
     names: Names,
     lines: &[ScriptLine],
 ) -> Result<CallEnd, AllocError>
     requires transaction { IsTransaction (operations lines.now) }
-    requires first { (o : Opening) × ((first : View) × IsStart o lane.old first) }
-    ensures { IfOk result (λ ended. (o : Opening) (first : View) → IsStart o lane.old first → HasCome o first lane.new names lines.now ended) }
+    requires first { (o : Opening) × ((first : View) × IsStart o lane.old actions.old.items first) }
+    ensures { IfOk result (λ ended. (o : Opening) (first : View) → IsStart o lane.old actions.old.items first → HasCome o first lane.new actions.new.items names lines.now ended) }
 {
     let mut values = Vec::new(alloc);
-    match transact(alloc, lane, names, lines, &mut values) {
+    match transact(alloc, lane, actions, names, lines, &mut values) {
         Ok(()) => Ok(answer(lane, reply_of(values, 0))),
         Err(NotDone::GivenUp { line, refusal: _ }) => Ok(answer(lane, reply_of(values, line))),
         Err(NotDone::Stopped) => Ok(CallEnd::Halted {
@@ -90,13 +105,66 @@ pub(crate) fn run_call(
     }
 }
 
-/// What became of an answered call that ended with this error.
-pub(crate) fn settled_fate(error: TxErr) -> Fate
-    ensures { result ≡ settled_fate error }
+/// Makes the call that this line is outside of a transaction, and answers it, or tells why it was not.
+pub(crate) fn run_outside(
+    alloc: Global,
+    lane: &mut Lane<SoloMem>,
+    actions: &mut ArrayVec<SetAction, 63>,
+    names: Names,
+    said: &ScriptLine,
+) -> CallEnd
+    requires outside { stands_alone said.now.operation ≡ true }
+    requires first { (o : Opening) × ((first : View) × IsStart o lane.old actions.old.items first) }
+    ensures { (o : Opening) (first : View) → IsStart o lane.old actions.old.items first → HasCome o first lane.new actions.new.items names (said.now ∷ []) result }
 {
-    match error {
-        TxErr::None => Fate::Done,
-        other => Fate::Aborted(other),
+    let reply = reply_of(Vec::new(alloc), 0);
+    match act_outside(lane, actions, names, &said.operation) {
+        Ok(()) => CallEnd::Answered {
+            number: lane.last_number(),
+            answer: CallAnswer::Outside(None),
+            reply,
+        },
+        Err(Refusal::Stopped) => CallEnd::Halted {
+            number: lane.in_flight(),
+            reply,
+        },
+        Err(Refusal::Spent) => CallEnd::Unbegun { line: said.line },
+        Err(why) => CallEnd::Answered {
+            number: lane.last_number(),
+            answer: CallAnswer::Outside(Some(why)),
+            reply,
+        },
+    }
+}
+
+/// Makes the call of these lines, and answers it, or tells why it was not.
+pub(crate) fn run_call(
+    alloc: Global,
+    lane: &mut Lane<SoloMem>,
+    actions: &mut ArrayVec<SetAction, 63>,
+    names: Names,
+    lines: &[ScriptLine],
+) -> Result<CallEnd, AllocError>
+    requires call { IsCall (operations lines.now) }
+    requires first { (o : Opening) × ((first : View) × IsStart o lane.old actions.old.items first) }
+    ensures { IfOk result (λ ended. (o : Opening) (first : View) → IsStart o lane.old actions.old.items first → HasCome o first lane.new actions.new.items names lines.now ended) }
+{
+    let said = &lines[0];
+    if stands_alone(&said.operation) {
+        Ok(run_outside(alloc, lane, actions, names, said))
+    } else {
+        run_transaction(alloc, lane, actions, names, lines)
+    }
+}
+
+/// What became of a call that was answered so.
+pub(crate) fn settled_fate(answer: CallAnswer) -> Fate
+    ensures { result ≡ settled_fate answer }
+{
+    match answer {
+        CallAnswer::Transaction(TxErr::None) | CallAnswer::Outside(None) => Fate::Done,
+        CallAnswer::Transaction(error) => Fate::Aborted(error),
+        CallAnswer::Outside(Some(refusal)) => Fate::Refused(refusal),
     }
 }
 

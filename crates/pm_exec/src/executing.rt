@@ -1,9 +1,9 @@
-ghost use Rattle.std.specs.Prelude.{◌≡◌, ◌<◌, ◌≤◌, ◌==◌, not, ℕ, List, IfErr, IfOk, OnOk, length, slice_index};
+ghost use Rattle.std.specs.Prelude.{◌≡◌, ◌<◌, ◌≤◌, ◌==◌, ◌&&◌, not, ℕ, List, IfErr, IfOk, OnOk, length, slice_index};
 ghost use Rattle.std.specs.List.Sorted.{IsStrictlyIncreasing};
 ghost use Rattle.pm_image.specs.Means.{IsMeaning};
 ghost use Rattle.pm_objects.specs.declared.pool.PoolView.{PoolView};
 ghost use Rattle.pm_recover.specs.Recovery.{HasNoStrayRecord, IsRecovered};
-ghost use Rattle.pm_script.specs.Scripts.{AreTransactions, operations};
+ghost use Rattle.pm_script.specs.Scripts.{AreCalls, operations};
 ghost use Rattle.pm_exec.specs.Calls.{numbers_of};
 ghost use Rattle.pm_exec.specs.Histories.{closed_history};
 ghost use Rattle.pm_exec.specs.Opening.{IsOpenCause, IsOpened};
@@ -14,7 +14,7 @@ use crate::calls::names_of;
 use crate::ending::open_fate;
 use crate::opening::open;
 use crate::outcome::{OpenFault, Outcome};
-use crate::running::{GENERATION_WORD, Halt, open_lane, run_all};
+use crate::running::{GENERATION_WORD, Halt, SEAL_WORD, open_lane, run_all};
 use pm_objects::{Entry, PoolView};
 use pm_raw::RawImage;
 use pm_script::Script;
@@ -31,7 +31,7 @@ pub fn exec(
     stop: Option<u64>,
     keep: u64,
 ) -> Result<Outcome, OpenFault>
-    requires transactions { script.now.lanes ≡ 1 → AreTransactions (operations script.now.lines) }
+    requires calls { script.now.lanes ≡ 1 → AreCalls (operations script.now.lines) }
     requires rising { IsStrictlyIncreasing (numbers_of script.now.lines) }
     requires some { 1 ≤ script.now.lanes }
     ensures opened { IfOk result (λ out. IsOpened image layout.now script.now.lanes) }
@@ -60,7 +60,7 @@ fn run(
     stop: Option<u64>,
     keep: u64,
 ) -> Result<Outcome, AllocError>
-    requires transactions { AreTransactions (operations script.now.lines) }
+    requires calls { AreCalls (operations script.now.lines) }
     requires rising { IsStrictlyIncreasing (numbers_of script.now.lines) }
     requires recovered { (before : List ℕ) × (IsMeaning before pool.now × IsRecovered before image.now pool.now.lanes) }
     ensures size { IfOk result (λ out. length out.words.items ≡ length image.now) }
@@ -84,12 +84,13 @@ fn run(
     })
 }
 
-/// Whether the words that are left have another generation of lane 0 than this: then a call that began with it was decided, and ended it.
+/// Whether the words that are left have another generation of lane 0 than this, or a seal: then a call that began with it was decided, and ended
+/// it, or a recovery does.
 fn is_decided(left: &[u64], generation: u64) -> bool
-    requires { 512 < length left.now }
-    ensures { result ≡ not (slice_index left.now 512 == generation) }
+    requires { 513 < length left.now }
+    ensures { result ≡ not (slice_index left.now 513 == 0 && slice_index left.now 512 == generation) }
 {
-    left[GENERATION_WORD as usize] != generation
+    left[SEAL_WORD as usize] != 0 || left[GENERATION_WORD as usize] != generation
 }
 
 /// Adds the call that was not answered, if it drew a number, with its fate, by whether a power failure leaves its deciding store.

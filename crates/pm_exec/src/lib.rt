@@ -6,6 +6,7 @@
 //! opening, on `pm_tx` for transactions over one lane's memory, and on `pm_crash` for what images mean; docs/MODEL.md, "A run".
 #![tactic(auto)]
 
+mod acting;
 mod bounds;
 mod calls;
 mod ending;

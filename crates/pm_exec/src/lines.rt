@@ -1,6 +1,6 @@
 //! The work of a transaction's lines by lane 0.
 
-ghost use Rattle.std.specs.Prelude.{◌≡◌, ◌⊎◌, ◌<◌, ◌≤◌, ℕ, List, [], ◌∷◌, ◌++◌, length, map, IfErr, OnOk, OnErr, All};
+ghost use Rattle.std.specs.Prelude.{◌≡◌, ◌⊎◌, ◌<◌, ◌≤◌, true, ℕ, List, [], ◌∷◌, ◌++◌, length, map, IfErr, OnOk, OnErr, All};
 ghost use Rattle.pm_memory.specs.Solo.{Sees};
 ghost use Rattle.pm_objects.specs.declared.refusal.Refusal.TheVariants as refusal;
 ghost use Rattle.pm_script.specs.Scripts.{IsChange, IsTransaction, operations};
@@ -13,12 +13,17 @@ ghost use Rattle.pm_view.specs.View.{View};
 ghost use Rattle.pm_world.specs.Opening.{Opening};
 ghost use Rattle.pm_exec.specs.Calls.{want_of};
 ghost use Rattle.pm_exec.specs.Progress.{CameTo, IsAtLine, IsStart, IsLaneAtLine, IsLaneWith, IsNotDone, Values, not_done};
+ghost use Rattle.pm_exec.specs.declared.lines.NotDone.TheVariants.{Memory};
+ghost use Rattle.std.specs.Prelude.{alloc_error};
+ghost use Rattle.pm_exec.specs.Calls.{id_of, stands_alone};
 
-use crate::calls::{Names, id_of, wants_of};
+use crate::calls::{Names, action_of, id_of, wants_of};
+use arrayvec::ArrayVec;
 use pm_memory::SoloMem;
 use pm_objects::{Refusal, Sequence, Value, Want};
+use pm_pending::SetAction;
 use pm_script::{ScriptId, ScriptLine, ScriptOp};
-use pm_tx::{add_range, begin, commit, read, write};
+use pm_tx::{add_range, begin, cancel_at_work, commit, publish, read, set_at_work, write};
 use pm_world::Lane;
 use std::alloc::{AllocError, AllocFailed, Global};
 
@@ -38,6 +43,7 @@ pub(crate) enum NotDone {
 impl From<AllocError> for NotDone {
     ghost use Rattle.std.specs.Prelude.{◌≡◌, alloc_error};
     ghost use Rattle.pm_exec.specs.declared.lines.NotDone.TheVariants.{Memory};
+    ghost use Rattle.std.specs.Prelude.{alloc_error};
 
     ghost from_gives = { λ _ why. why ≡ Memory alloc_error };
 
@@ -49,6 +55,7 @@ impl From<AllocError> for NotDone {
 impl<T: Drop> From<AllocFailed<T>> for NotDone {
     ghost use Rattle.std.specs.Prelude.{◌≡◌, alloc_error};
     ghost use Rattle.pm_exec.specs.declared.lines.NotDone.TheVariants.{Memory};
+    ghost use Rattle.std.specs.Prelude.{alloc_error};
 
     ghost from_gives = { λ _ why. why ≡ Memory alloc_error };
 
@@ -78,11 +85,11 @@ fn add_at(
     len: u64,
 ) -> Result<(), NotDone>
     requires is_said { said.now.operation ≡ op.Add id off len }
-    requires at_work { IsLaneAtLine lane.old names }
-    ensures done { OnOk result ((o : Opening) (first : View) (front : List ScriptLine) (values : Values) → IsAtLine o first lane.old names front values
-        → IsAtLine o first lane.new names (front ++ said.now ∷ []) values) }
-    ensures ends { IfErr result (λ why. (o : Opening) (first : View) (front rest : List ScriptLine) (values : Values) → IsAtLine o first lane.old names front values
-        → IsNotDone o first lane.new names (front ++ said.now ∷ rest) values why) }
+    requires at_work { (actions : List SetAction) × IsLaneAtLine lane.old actions names }
+    ensures done { OnOk result ((o : Opening) (first : View) (actions : List SetAction) (front : List ScriptLine) (values : Values) → IsAtLine o first lane.old actions names front values
+        → IsAtLine o first lane.new actions names (front ++ said.now ∷ []) values) }
+    ensures ends { IfErr result (λ why. (o : Opening) (first : View) (actions : List SetAction) (front rest : List ScriptLine) (values : Values) → IsAtLine o first lane.old actions names front values
+        → IsNotDone o first lane.new actions names (front ++ said.now ∷ rest) values why) }
 {
     match add_range(lane, id_of(names, id), off, len) {
         Ok(_) => Ok(()),
@@ -100,11 +107,11 @@ fn write_at(
     bytes: &[u8],
 ) -> Result<(), NotDone>
     requires is_said { said.now.operation ≡ op.Write id off bytes.now }
-    requires at_work { IsLaneAtLine lane.old names }
-    ensures done { OnOk result ((o : Opening) (first : View) (front : List ScriptLine) (values : Values) → IsAtLine o first lane.old names front values
-        → IsAtLine o first lane.new names (front ++ said.now ∷ []) values) }
-    ensures ends { IfErr result (λ why. (o : Opening) (first : View) (front rest : List ScriptLine) (values : Values) → IsAtLine o first lane.old names front values
-        → IsNotDone o first lane.new names (front ++ said.now ∷ rest) values why) }
+    requires at_work { (actions : List SetAction) × IsLaneAtLine lane.old actions names }
+    ensures done { OnOk result ((o : Opening) (first : View) (actions : List SetAction) (front : List ScriptLine) (values : Values) → IsAtLine o first lane.old actions names front values
+        → IsAtLine o first lane.new actions names (front ++ said.now ∷ []) values) }
+    ensures ends { IfErr result (λ why. (o : Opening) (first : View) (actions : List SetAction) (front rest : List ScriptLine) (values : Values) → IsAtLine o first lane.old actions names front values
+        → IsNotDone o first lane.new actions names (front ++ said.now ∷ rest) values why) }
 {
     match write(lane, id_of(names, id), off, bytes) {
         Ok(()) => Ok(()),
@@ -122,11 +129,11 @@ fn read_at(
     values: &mut Vec<(u64, Value)>,
 ) -> Result<(), NotDone>
     requires is_said { said.now.operation ≡ op.Read range.0 range.1 range.2 }
-    requires at_work { IsLaneWith lane.old names values.old.items }
-    ensures done { OnOk result ((o : Opening) (first : View) (front : List ScriptLine) → IsAtLine o first lane.old names front values.old.items
-        → IsAtLine o first lane.new names (front ++ said.now ∷ []) values.new.items) }
-    ensures ends { IfErr result (λ why. (o : Opening) (first : View) (front rest : List ScriptLine) → IsAtLine o first lane.old names front values.old.items
-        → IsNotDone o first lane.new names (front ++ said.now ∷ rest) values.new.items why) }
+    requires at_work { (actions : List SetAction) × IsLaneWith lane.old actions names values.old.items }
+    ensures done { OnOk result ((o : Opening) (first : View) (actions : List SetAction) (front : List ScriptLine) → IsAtLine o first lane.old actions names front values.old.items
+        → IsAtLine o first lane.new actions names (front ++ said.now ∷ []) values.new.items) }
+    ensures ends { IfErr result (λ why. (o : Opening) (first : View) (actions : List SetAction) (front rest : List ScriptLine) → IsAtLine o first lane.old actions names front values.old.items
+        → IsNotDone o first lane.new actions names (front ++ said.now ∷ rest) values.new.items why) }
 {
     let (id, off, len) = range;
     let mut bytes = vec![in alloc; 0; len as usize]?;
@@ -140,20 +147,113 @@ fn read_at(
     }
 }
 
-/// Makes the change of this line: records a range, writes bytes or reads some.
+/// Makes the word of this line pending, or gives the reason why it is refused as the line's value: that aborts nothing.
+fn set_at(
+    lane: &mut Lane<SoloMem>,
+    actions: &mut ArrayVec<SetAction, 63>,
+    said: &ScriptLine,
+    action: SetAction,
+    values: &mut Vec<(u64, Value)>,
+) -> Result<(), NotDone>
+    requires at_work { (names : Names) × IsLaneWith lane.old actions.old.items names values.old.items }
+    ensures done { OnOk result ((o : Opening) (first : View) (names : Names) (front : List ScriptLine) (id : ScriptId) → IsAtLine o first lane.old actions.old.items names front values.old.items
+        → said.now.operation ≡ op.Set id action.off action.value → action.id ≡ id_of names id
+        → IsAtLine o first lane.new actions.new.items names (front ++ said.now ∷ []) values.new.items) }
+    ensures ends { IfErr result (λ why. why ≡ Memory alloc_error) }
+{
+    match set_at_work(lane, actions, action) {
+        Ok(()) => Ok(()),
+        Err(why) => {
+            values.push((said.line, Value::Refused(why)))?;
+            Ok(())
+        }
+    }
+}
+
+/// Makes what is pending the transaction's.
+fn publish_at(
+    lane: &mut Lane<SoloMem>,
+    actions: &mut ArrayVec<SetAction, 63>,
+    said: &ScriptLine,
+) -> Result<(), NotDone>
+    requires is_said { said.now.operation ≡ op.Publish }
+    requires at_work { (names : Names) × IsLaneAtLine lane.old actions.old.items names }
+    ensures done { OnOk result ((o : Opening) (first : View) (names : Names) (front : List ScriptLine) (values : Values) → IsAtLine o first lane.old actions.old.items names front values
+        → IsAtLine o first lane.new actions.new.items names (front ++ said.now ∷ []) values) }
+    ensures ends { IfErr result (λ why. (o : Opening) (first : View) (names : Names) (front rest : List ScriptLine) (values : Values) → IsAtLine o first lane.old actions.old.items names front values
+        → IsNotDone o first lane.new actions.new.items names (front ++ said.now ∷ rest) values why) }
+{
+    match publish(lane, actions) {
+        Ok(()) => Ok(()),
+        Err(why) => Err(not_done(said.line, why)),
+    }
+}
+
+/// Gives up what is pending.
+fn cancel_at(
+    lane: &mut Lane<SoloMem>,
+    actions: &mut ArrayVec<SetAction, 63>,
+    said: &ScriptLine,
+) -> Result<(), NotDone>
+    requires is_said { said.now.operation ≡ op.Cancel }
+    requires at_work { (names : Names) × IsLaneAtLine lane.old actions.old.items names }
+    ensures done { OnOk result ((o : Opening) (first : View) (names : Names) (front : List ScriptLine) (values : Values) → IsAtLine o first lane.old actions.old.items names front values
+        → IsAtLine o first lane.new actions.new.items names (front ++ said.now ∷ []) values) }
+    ensures ends { IfErr result (λ why. (o : Opening) (first : View) (names : Names) (front rest : List ScriptLine) (values : Values) → IsAtLine o first lane.old actions.old.items names front values
+        → IsNotDone o first lane.new actions.new.items names (front ++ said.now ∷ rest) values why) }
+{
+    match cancel_at_work(lane, actions) {
+        Ok(()) => Ok(()),
+        Err(why) => Err(not_done(said.line, why)),
+    }
+}
+
+/// Makes the change of this line to what is pending.
+fn act_at(
+    lane: &mut Lane<SoloMem>,
+    actions: &mut ArrayVec<SetAction, 63>,
+    names: Names,
+    said: &ScriptLine,
+    values: &mut Vec<(u64, Value)>,
+) -> Result<(), NotDone>
+    requires is_action { stands_alone said.now.operation ≡ true }
+    requires at_work { IsLaneWith lane.old actions.old.items names values.old.items }
+    ensures done { OnOk result ((o : Opening) (first : View) (front : List ScriptLine) → IsAtLine o first lane.old actions.old.items names front values.old.items
+        → IsAtLine o first lane.new actions.new.items names (front ++ said.now ∷ []) values.new.items) }
+    ensures ends { IfErr result (λ why. (o : Opening) (first : View) (front rest : List ScriptLine) → IsAtLine o first lane.old actions.old.items names front values.old.items
+        → IsNotDone o first lane.new actions.new.items names (front ++ said.now ∷ rest) values.new.items why) }
+{
+    match &said.operation {
+        ScriptOp::Set { id, off, value } => {
+            set_at(
+                lane,
+                actions,
+                said,
+                action_of(names, *id, *off, *value),
+                values,
+            )
+        }
+        ScriptOp::Publish => publish_at(lane, actions, said),
+        ScriptOp::Cancel => cancel_at(lane, actions, said),
+        _ => unreachable!(),
+    }
+}
+
+/// Makes the change of this line: records a range, writes bytes or reads some, or changes what is pending.
 fn change_at(
     alloc: Global,
     lane: &mut Lane<SoloMem>,
+    actions: &mut ArrayVec<SetAction, 63>,
     names: Names,
     said: &ScriptLine,
     values: &mut Vec<(u64, Value)>,
 ) -> Result<(), NotDone>
     requires is_change { IsChange said.now.operation }
-    requires at_work { IsLaneWith lane.old names values.old.items }
-    ensures done { OnOk result ((o : Opening) (first : View) (front : List ScriptLine) → IsAtLine o first lane.old names front values.old.items
-        → IsAtLine o first lane.new names (front ++ said.now ∷ []) values.new.items) }
-    ensures ends { IfErr result (λ why. (o : Opening) (first : View) (front rest : List ScriptLine) → IsAtLine o first lane.old names front values.old.items
-        → IsNotDone o first lane.new names (front ++ said.now ∷ rest) values.new.items why) }
+    requires at_work { IsLaneWith lane.old actions.old.items names values.old.items }
+    ensures done { OnOk result ((o : Opening) (first : View) (front : List ScriptLine) → IsAtLine o first lane.old actions.old.items names front values.old.items
+        → IsAtLine o first lane.new actions.new.items names (front ++ said.now ∷ []) values.new.items) }
+    ensures ends { IfErr result (λ why. (o : Opening) (first : View) (front rest : List ScriptLine) → IsAtLine o first lane.old actions.old.items names front values.old.items
+        → IsNotDone o first lane.new actions.new.items names (front ++ said.now ∷ rest) values.new.items why) }
 {
     match &said.operation {
         ScriptOp::Add { id, off, len } => add_at(lane, names, said, *id, *off, *len),
@@ -163,6 +263,9 @@ fn change_at(
         ScriptOp::Read { id, off, len } => {
             read_at(alloc, lane, names, said, (*id, *off, *len), values)
         }
+        ScriptOp::Set { .. } | ScriptOp::Publish | ScriptOp::Cancel => {
+            act_at(lane, actions, names, said, values)
+        }
         ScriptOp::Begin { .. } | ScriptOp::Commit => unreachable!(),
     }
 }
@@ -171,20 +274,21 @@ fn change_at(
 fn change_all(
     alloc: Global,
     lane: &mut Lane<SoloMem>,
+    actions: &mut ArrayVec<SetAction, 63>,
     names: Names,
     lines: &[ScriptLine],
     values: &mut Vec<(u64, Value)>,
 ) -> Result<(), NotDone>
     requires are_changes { All IsChange (operations lines.now) }
-    requires at_work { IsLaneWith lane.old names values.old.items }
-    ensures at_work { OnOk result (IsLaneWith lane.new names values.new.items) }
-    ensures done { OnOk result ((o : Opening) (first : View) (front : List ScriptLine) → IsAtLine o first lane.old names front values.old.items
-        → IsAtLine o first lane.new names (front ++ lines.now) values.new.items) }
-    ensures ends { IfErr result (λ why. (o : Opening) (first : View) (front rest : List ScriptLine) → IsAtLine o first lane.old names front values.old.items
-        → IsNotDone o first lane.new names (front ++ lines.now ++ rest) values.new.items why) }
+    requires at_work { IsLaneWith lane.old actions.old.items names values.old.items }
+    ensures at_work { OnOk result (IsLaneWith lane.new actions.new.items names values.new.items) }
+    ensures done { OnOk result ((o : Opening) (first : View) (front : List ScriptLine) → IsAtLine o first lane.old actions.old.items names front values.old.items
+        → IsAtLine o first lane.new actions.new.items names (front ++ lines.now) values.new.items) }
+    ensures ends { IfErr result (λ why. (o : Opening) (first : View) (front rest : List ScriptLine) → IsAtLine o first lane.old actions.old.items names front values.old.items
+        → IsNotDone o first lane.new actions.new.items names (front ++ lines.now ++ rest) values.new.items why) }
 {
     for said in lines {
-        change_at(alloc, lane, names, said, values)?;
+        change_at(alloc, lane, actions, names, said, values)?;
     }
     Ok(())
 }
@@ -197,10 +301,10 @@ fn begin_with(
     wants: &[Want],
 ) -> Result<(), NotDone>
     requires begins { (asked : List ScriptWant) × ((said.now.operation ≡ op.Begin asked) × (wants.now ≡ map (want_of names) asked)) }
-    requires first { (o : Opening) × ((first : View) × IsStart o lane.old first) }
-    ensures at_work { OnOk result (IsLaneWith lane.new names []) }
-    ensures done { OnOk result ((o : Opening) (first : View) → IsStart o lane.old first → IsAtLine o first lane.new names (said.now ∷ []) []) }
-    ensures ends { IfErr result (λ why. (o : Opening) (first : View) (rest : List ScriptLine) → IsStart o lane.old first → IsNotDone o first lane.new names (said.now ∷ rest) [] why) }
+    requires first { (o : Opening) × ((first : View) × ((actions : List SetAction) × IsStart o lane.old actions first)) }
+    ensures at_work { OnOk result ((o : Opening) (first : View) (actions : List SetAction) → IsStart o lane.old actions first → IsLaneWith lane.new actions names []) }
+    ensures done { OnOk result ((o : Opening) (first : View) (actions : List SetAction) → IsStart o lane.old actions first → IsAtLine o first lane.new actions names (said.now ∷ []) []) }
+    ensures ends { IfErr result (λ why. (o : Opening) (first : View) (actions : List SetAction) (rest : List ScriptLine) → IsStart o lane.old actions first → IsNotDone o first lane.new actions names (said.now ∷ rest) [] why) }
 {
     match begin(lane, wants) {
         Ok(()) => Ok(()),
@@ -216,10 +320,10 @@ fn begin_at(
     said: &ScriptLine,
 ) -> Result<(), NotDone>
     requires begins { (asked : List ScriptWant) × (said.now.operation ≡ op.Begin asked) }
-    requires first { (o : Opening) × ((first : View) × IsStart o lane.old first) }
-    ensures at_work { OnOk result (IsLaneWith lane.new names []) }
-    ensures done { OnOk result ((o : Opening) (first : View) → IsStart o lane.old first → IsAtLine o first lane.new names (said.now ∷ []) []) }
-    ensures ends { IfErr result (λ why. (o : Opening) (first : View) (rest : List ScriptLine) → IsStart o lane.old first → IsNotDone o first lane.new names (said.now ∷ rest) [] why) }
+    requires first { (o : Opening) × ((first : View) × ((actions : List SetAction) × IsStart o lane.old actions first)) }
+    ensures at_work { OnOk result ((o : Opening) (first : View) (actions : List SetAction) → IsStart o lane.old actions first → IsLaneWith lane.new actions names []) }
+    ensures done { OnOk result ((o : Opening) (first : View) (actions : List SetAction) → IsStart o lane.old actions first → IsAtLine o first lane.new actions names (said.now ∷ []) []) }
+    ensures ends { IfErr result (λ why. (o : Opening) (first : View) (actions : List SetAction) (rest : List ScriptLine) → IsStart o lane.old actions first → IsNotDone o first lane.new actions names (said.now ∷ rest) [] why) }
 {
     let ScriptOp::Begin { wants } = &said.operation else {
         unreachable!()
@@ -230,9 +334,9 @@ fn begin_at(
 
 /// Commits the transaction.
 fn commit_all(lane: &mut Lane<SoloMem>, names: Names) -> Result<(), NotDone>
-    requires at_work { IsLaneAtLine lane.old names }
-    ensures { (o : Opening) (first : View) (front : List ScriptLine) (values : Values) (said : ScriptLine) → IsAtLine o first lane.old names front values → said.operation ≡ op.Commit
-        → CameTo o first lane.new names (front ++ said ∷ []) values result }
+    requires at_work { (actions : List SetAction) × IsLaneAtLine lane.old actions names }
+    ensures { (o : Opening) (first : View) (actions : List SetAction) (front : List ScriptLine) (values : Values) (said : ScriptLine) → IsAtLine o first lane.old actions names front values → said.operation ≡ op.Commit
+        → CameTo o first lane.new actions names (front ++ said ∷ []) values result }
 {
     match commit(lane) {
         Ok(()) => Ok(()),
@@ -244,16 +348,24 @@ fn commit_all(lane: &mut Lane<SoloMem>, names: Names) -> Result<(), NotDone>
 pub(crate) fn transact(
     alloc: Global,
     lane: &mut Lane<SoloMem>,
+    actions: &mut ArrayVec<SetAction, 63>,
     names: Names,
     lines: &[ScriptLine],
     values: &mut Vec<(u64, Value)>,
 ) -> Result<(), NotDone>
     requires transaction { IsTransaction (operations lines.now) }
-    requires first { (o : Opening) × ((first : View) × IsStart o lane.old first) }
+    requires first { (o : Opening) × ((first : View) × IsStart o lane.old actions.old.items first) }
     requires none { values.old.items ≡ [] }
-    ensures { (o : Opening) (first : View) → IsStart o lane.old first → CameTo o first lane.new names lines.now values.new.items result }
+    ensures { (o : Opening) (first : View) → IsStart o lane.old actions.old.items first → CameTo o first lane.new actions.new.items names lines.now values.new.items result }
 {
     begin_at(alloc, lane, names, &lines[0])?;
-    change_all(alloc, lane, names, &lines[1..lines.len() - 1], values)?;
+    change_all(
+        alloc,
+        lane,
+        actions,
+        names,
+        &lines[1..lines.len() - 1],
+        values,
+    )?;
     commit_all(lane, names)
 }

@@ -2,29 +2,34 @@
 
 ghost use Rattle.std.specs.Prelude.{◌≡◌, ◌++◌, ◌∷◌, [], List, IfOk, IfSome, IfNone};
 ghost use Rattle.pm_layout.specs.Layout.{IsShape};
-ghost use Rattle.pm_script.specs.Scripts.{AreTransactions, IsTransaction, operations};
+ghost use Rattle.pm_script.specs.Scripts.{AreCalls, operations};
 ghost use Rattle.pm_script.specs.declared.script.ScriptLine.{ScriptLine};
 ghost use Rattle.pm_view.specs.View.{View};
 ghost use Rattle.pm_world.specs.Opening.{IsSound, Opening};
-ghost use Rattle.pm_exec.specs.Calls.{call_of, transactions};
+ghost use Rattle.pm_exec.specs.Calls.{call_of, call_lines};
 ghost use Rattle.pm_exec.specs.declared.calls.Names.{Names};
 ghost use Rattle.pm_exec.specs.Openings.{first_view, opening_of};
 ghost use Rattle.pm_exec.specs.Progress.{IsStart};
 ghost use Rattle.pm_exec.specs.Running.{HasComeTo, HasHalted, HasRun, open_entry};
+ghost use Rattle.pm_exec.specs.Calls.{IsCall};
 
 use crate::calls::{Names, call_of, first_call};
 use crate::ending::{CallEnd, run_call, settled_fate};
+use arrayvec::ArrayVec;
 use pm_layout::Shape;
 use pm_memory::SoloMem;
 use pm_objects::{Call, Entry, Fate, PoolView, Reply};
+use pm_pending::SetAction;
 use pm_raw::RawImage;
 use pm_script::ScriptLine;
 use pm_text::LaneEnd;
 use pm_world::Lane;
 use std::alloc::{AllocError, Global};
 
-/// The place of the generation of lane 0, in words.
+/// The places of the generation of lane 0, and of its seal, in words.
 pub(crate) const GENERATION_WORD: u64 = 512;
+
+pub(crate) const SEAL_WORD: u64 = 513;
 
 /// How a run came to its end, behind the calls that were answered.
 #[derive(Drop)]
@@ -32,7 +37,7 @@ pub(crate) struct Halt {
     pub(crate) end: LaneEnd,
     /// The call that drew a number and was not answered, as lost.
     pub(crate) is_open: Option<Entry>,
-    /// The lane's generation as its last call began: an image that has it still lacks that call's deciding store.
+    /// The lane's generation as its last call began: an image that has it still, and no seal, lacks that call's deciding store.
     pub(crate) generation: u64,
 }
 
@@ -53,26 +58,27 @@ fn open_entry(number: Option<u64>, call: Call, reply: Reply) -> Option<Entry>
 fn run_next(
     alloc: Global,
     lane: &mut Lane<SoloMem>,
+    actions: &mut ArrayVec<SetAction, 63>,
     names: Names,
     lines: &[ScriptLine],
     history: &mut Vec<Entry>,
 ) -> Result<Option<Halt>, AllocError>
-    requires transaction { IsTransaction (operations lines.now) }
-    requires start { (o : Opening) × ((first : View) × ((calls : List (List ScriptLine)) × HasComeTo o first lane.old names calls history.old.items)) }
-    ensures answered { IfOk result (λ halted. IfNone halted ((o : Opening) (first : View) (calls : List (List ScriptLine)) → HasComeTo o first lane.old names calls history.old.items
-        → HasComeTo o first lane.new names (calls ++ lines.now ∷ []) history.new.items)) }
-    ensures halted { IfOk result (λ halted. IfSome halted (λ halt. (o : Opening) (first : View) (calls : List (List ScriptLine)) → HasComeTo o first lane.old names calls history.old.items
+    requires call { IsCall (operations lines.now) }
+    requires start { (o : Opening) × ((first : View) × ((calls : List (List ScriptLine)) × HasComeTo o first lane.old actions.old.items names calls history.old.items)) }
+    ensures answered { IfOk result (λ halted. IfNone halted ((o : Opening) (first : View) (calls : List (List ScriptLine)) → HasComeTo o first lane.old actions.old.items names calls history.old.items
+        → HasComeTo o first lane.new actions.new.items names (calls ++ lines.now ∷ []) history.new.items)) }
+    ensures halted { IfOk result (λ halted. IfSome halted (λ halt. (o : Opening) (first : View) (calls : List (List ScriptLine)) → HasComeTo o first lane.old actions.old.items names calls history.old.items
         → HasHalted o first lane.new names calls lines.now history.new.items halt)) }
 {
     let generation = lane.memory.word(GENERATION_WORD);
     let call = call_of(alloc, names, lines)?;
-    match run_call(alloc, lane, names, lines)? {
+    match run_call(alloc, lane, actions, names, lines)? {
         CallEnd::Answered {
             number,
-            error,
+            answer,
             reply,
         } => {
-            let fate = settled_fate(error);
+            let fate = settled_fate(answer);
             history.push(Entry {
                 number,
                 call,
@@ -103,15 +109,16 @@ pub(crate) fn run_all(
     lines: &[ScriptLine],
     history: &mut Vec<Entry>,
 ) -> Result<Halt, AllocError>
-    requires transactions { AreTransactions (operations lines.now) }
-    requires start { (o : Opening) × ((first : View) × HasComeTo o first lane.old names [] history.old.items) }
-    ensures { IfOk result (λ halt. (o : Opening) (first : View) → HasComeTo o first lane.old names [] history.old.items
-        → HasRun o first lane.new names (transactions lines.now) history.new.items halt) }
+    requires calls { AreCalls (operations lines.now) }
+    requires start { (o : Opening) × ((first : View) × HasComeTo o first lane.old [] names [] history.old.items) }
+    ensures { IfOk result (λ halt. (o : Opening) (first : View) → HasComeTo o first lane.old [] names [] history.old.items
+        → HasRun o first lane.new names (call_lines lines.now) history.new.items halt) }
 {
+    let mut actions = ArrayVec::new();
     let mut rest = lines;
     while !rest.is_empty() {
         let (call, behind) = rest.split_at(first_call(rest));
-        if let Some(halt) = run_next(alloc, lane, names, call, history)? {
+        if let Some(halt) = run_next(alloc, lane, &mut actions, names, call, history)? {
             return Ok(halt);
         }
         rest = behind;
@@ -132,7 +139,7 @@ pub(crate) fn open_lane(
 ) -> Result<Lane<SoloMem>, AllocError>
     requires shape { IsShape pool.now.lanes pool.now.zones }
     requires sound { IsSound (opening_of pool.now image.now) }
-    ensures { IfOk result (λ lane. IsStart (opening_of pool.now image.now) lane (first_view pool.now image.now stop)) }
+    ensures { IfOk result (λ lane. IsStart (opening_of pool.now image.now) lane [] (first_view pool.now image.now stop)) }
 {
     let Ok(shape) = Shape::new(pool.lanes, pool.zones) else {
         unreachable!()

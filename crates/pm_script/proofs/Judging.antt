@@ -3,11 +3,12 @@ use Rattle.std.proofs.Common.{◌≡◌, ◌==◌, ℕ, ◌++◌, Bool, true, fa
 use Rattle.std.specs.Option.{option_and_then, option_map_or}
 use Rattle.std.proofs.lemmas.Bool.{eqb-true}
 use Rattle.std.proofs.lemmas.List.{append-nil}
-use Rattle.pm_script.specs.Reading.{AreReadAs, AreReadBehind, HasLane, IsOutOfPlace, Reads, Takes, keyword_said, next_line, place_why}
-use Rattle.pm_script.specs.Scripts.{Context, first_failed, form_tests, keyword_of, line_said, place_tests, said, statement_of, why_of, why_of_words, context_behind, fault_of}
+use Rattle.pm_script.specs.Reading.{AreReadAs, AreReadBehind, HasLane, IsOutOfPlace, Reads, Takes, fault_at, keyword_said, next_line, place_why}
+use Rattle.pm_script.specs.Scripts.{Context, IfBad, first_failed, form_tests, keyword_of, line_said, place_tests, said, statement_of, why_of, why_of_words, context_behind, fault_of}
 use Rattle.pm_script.specs.Words.{words, is_text, is_skipped}
 use Rattle.pm_script.specs.declared.fault.BadLine.{BadLine}
-use Rattle.pm_script.specs.declared.fault.LineFault.TheVariants.{Bad}
+use Rattle.pm_script.specs.declared.fault.LineFault.{LineFault}
+use Rattle.pm_script.specs.declared.fault.LineFault.TheVariants.{Bad, Memory}
 use Rattle.pm_script.specs.declared.fault.Why.{Why}
 use Rattle.pm_script.specs.declared.fault.Why.TheVariants.{Text, Word}
 use Rattle.pm_script.specs.declared.reader.Reader.{Reader}
@@ -111,6 +112,11 @@ module _ (old : Reader) (n : ℕ) (text : List ℕ) where
   module _ (good : is_text text ≡ true) (kept : is_skipped (words text) ≡ false) where
     pub bad_words : (why : Why) → AreReadAs (words text) (Err (Bad why)) → fault_of (next_line old n text) ≡ Some (fault n why)
     bad_words why read = ap (option_map (fault n)) (why_kept old.context text good kept ∙ words_bad old.context (words text) why read)
+
+    -- a fault that was found is the line's, but for want of memory
+    pub bad_line : (fault : LineFault) → AreReadAs (words text) (Err fault) → IfBad (fault_at fault n) (λ bad. fault_of (next_line old n text) ≡ Some bad)
+    bad_line (Bad why) read = bad_words why read
+    bad_line (Memory error) read = tt
 
     module _ (statement : Statement) (read : AreReadAs (words text) (Ok statement)) where
       pub bad_place : (bad : BadLine) → IsOutOfPlace old n statement bad → fault_of (next_line old n text) ≡ Some bad

@@ -1,7 +1,7 @@
 pub mod Answering
 pub mod FailedTests
 pub mod Judging
-pub mod LaneTransactions
+pub mod LaneCalls
 pub mod LinesInPlace
 pub mod NamedLanes
 pub mod Numerals

@@ -9,7 +9,7 @@ use Rattle.pm_script.specs.Scripts.{statement_of}
 use Rattle.pm_script.specs.declared.fault.Why.{Why}
 use Rattle.pm_script.specs.declared.fault.Why.TheVariants.{Number, LaneNumber}
 use Rattle.pm_script.specs.declared.statement.Keyword.{Keyword}
-use Rattle.pm_script.specs.declared.statement.Keyword.TheVariants.{Lane, Begin, Add, Write, Read, Commit}
+use Rattle.pm_script.specs.declared.statement.Keyword.TheVariants.{Lane, Begin, Add, Write, Read, Set, Publish, Cancel, Commit}
 use Rattle.pm_script.specs.declared.statement.Statement.{Statement}
 use Rattle.pm_script.specs.declared.statement.Statement.TheVariants as says
 
@@ -58,6 +58,19 @@ keyword_is Read (id ∷ off ∷ len ∷ []) statement is =
     let c = found (size_of len) _ statement b.1 in
     sym (ap keyword_said (same_some c.1))
 keyword_is Read (id ∷ off ∷ len ∷ x ∷ more) statement is = cc
+keyword_is Set [] statement is = cc
+keyword_is Set (id ∷ []) statement is = cc
+keyword_is Set (id ∷ off ∷ []) statement is = cc
+keyword_is Set (id ∷ off ∷ value ∷ []) statement is =
+    let a = found (id_of id) _ statement is in
+    let b = found (number_of off) _ statement a.1 in
+    let c = found (number_of value) _ statement b.1 in
+    sym (ap keyword_said (same_some c.1))
+keyword_is Set (id ∷ off ∷ value ∷ x ∷ more) statement is = cc
+keyword_is Publish [] statement is = sym (ap keyword_said (same_some is))
+keyword_is Publish (x ∷ more) statement is = cc
+keyword_is Cancel [] statement is = sym (ap keyword_said (same_some is))
+keyword_is Cancel (x ∷ more) statement is = cc
 keyword_is Commit [] statement is = sym (ap keyword_said (same_some is))
 keyword_is Commit (x ∷ more) statement is = cc
 
@@ -80,4 +93,7 @@ has_lane Begin operands (says.Lane lane) is fine = let e = keyword_is Begin oper
 has_lane Add operands (says.Lane lane) is fine = let e = keyword_is Add operands (says.Lane lane) is in cc
 has_lane Write operands (says.Lane lane) is fine = let e = keyword_is Write operands (says.Lane lane) is in cc
 has_lane Read operands (says.Lane lane) is fine = let e = keyword_is Read operands (says.Lane lane) is in cc
+has_lane Set operands (says.Lane lane) is fine = let e = keyword_is Set operands (says.Lane lane) is in cc
+has_lane Publish operands (says.Lane lane) is fine = let e = keyword_is Publish operands (says.Lane lane) is in cc
+has_lane Cancel operands (says.Lane lane) is fine = let e = keyword_is Cancel operands (says.Lane lane) is in cc
 has_lane Commit operands (says.Lane lane) is fine = let e = keyword_is Commit operands (says.Lane lane) is in cc

@@ -18,7 +18,7 @@ use Rattle.pm_script.specs.declared.script.ScriptOp.{ScriptOp}
 use Rattle.pm_script.specs.declared.script.ScriptWant.{ScriptWant}
 use Rattle.pm_script.specs.declared.script.ScriptOp.TheVariants as op
 use Rattle.pm_script.specs.declared.statement.Keyword.{Keyword}
-use Rattle.pm_script.specs.declared.statement.Keyword.TheVariants.{Lane, Begin, Add, Write, Read, Commit}
+use Rattle.pm_script.specs.declared.statement.Keyword.TheVariants.{Lane, Begin, Add, Write, Read, Set, Publish, Cancel, Commit}
 use Rattle.pm_script.specs.declared.statement.Statement.{Statement}
 use Rattle.pm_script.specs.declared.statement.Statement.TheVariants as says
 
@@ -32,13 +32,23 @@ found >>= next = option_and_then next found
 -- the first words of lines
 abbrev pub keywords : List (List ℕ × Keyword)
 keywords =
-    (codes "lane", Lane) ∷ (codes "begin", Begin) ∷ (codes "add", Add) ∷ (codes "write", Write) ∷ (codes "read", Read) ∷ (codes "commit", Commit) ∷ []
+    (codes "lane", Lane)
+    ∷ (codes "begin", Begin)
+    ∷ (codes "add", Add)
+    ∷ (codes "write", Write)
+    ∷ (codes "read", Read)
+    ∷ (codes "set", Set)
+    ∷ (codes "publish", Publish)
+    ∷ (codes "cancel", Cancel)
+    ∷ (codes "commit", Commit)
+    ∷ []
 
 -- what a first word asks for
 abbrev pub keyword_of : List ℕ → Option Keyword
 keyword_of word = option_map (λ known. known.1) (find (λ (known : List ℕ × Keyword). bytes_eq word known.0) keywords)
 
--- what the operands behind a first word say: `lane K`, `begin [ID or r:ID]..`, `add ID OFF LEN`, `write ID OFF HEX`, `read ID OFF LEN`, `commit`
+-- what the operands behind a first word say: `lane K`, `begin [ID or r:ID]..`, `add ID OFF LEN`, `write ID OFF HEX`, `read ID OFF LEN`, `set ID OFF VALUE`,
+-- `publish`, `cancel`, `commit`
 abbrev pub statement_of : Keyword → List (List ℕ) → Option Statement
 statement_of Lane (lane ∷ []) = option_map says.Lane (number_of lane)
 statement_of Begin wants = Some (says.Operation (op.Begin (filter_map want_of wants)))
@@ -57,6 +67,13 @@ statement_of Read (id ∷ off ∷ len ∷ []) = do
   off ← number_of off
   len ← size_of len
   Some (says.Operation (op.Read id off len))
+statement_of Set (id ∷ off ∷ value ∷ []) = do
+  id ← id_of id
+  off ← number_of off
+  value ← number_of value
+  Some (says.Operation (op.Set id off value))
+statement_of Publish [] = Some (says.Operation op.Publish)
+statement_of Cancel [] = Some (says.Operation op.Cancel)
 statement_of Commit [] = Some (says.Operation op.Commit)
 statement_of keyword operands = None
 
@@ -106,6 +123,9 @@ has_count Begin n = true
 has_count Add n = n == 3
 has_count Write n = n == 3
 has_count Read n = n == 3
+has_count Set n = n == 3
+has_count Publish n = n == 0
+has_count Cancel n = n == 0
 has_count Commit n = n == 0
 
 -- each operand that is to be a number is one
@@ -114,6 +134,7 @@ has_numbers Lane (lane ∷ []) = is_number lane
 has_numbers Add (id ∷ off ∷ len ∷ []) = is_number off && is_number len
 has_numbers Write (id ∷ off ∷ hex ∷ []) = is_number off
 has_numbers Read (id ∷ off ∷ len ∷ []) = is_number off && is_size len
+has_numbers Set (id ∷ off ∷ value ∷ []) = is_number off && is_number value
 has_numbers keyword operands = true
 
 -- what is to be bytes is
@@ -127,6 +148,7 @@ has_ids Begin wants = list_all is_want wants
 has_ids Add (id ∷ operands) = is_id id
 has_ids Write (id ∷ operands) = is_id id
 has_ids Read (id ∷ operands) = is_id id
+has_ids Set (id ∷ operands) = is_id id
 has_ids keyword operands = true
 
 -- there are 32 lanes
@@ -147,10 +169,13 @@ abbrev pub may_begin : Context → Keyword → Bool
 may_begin context Begin = not (is_inside context)
 may_begin context keyword = true
 
--- what a transaction has stands in one
+-- what only a transaction has stands in one
 abbrev pub may_act : Context → Keyword → Bool
 may_act context Lane = true
 may_act context Begin = true
+may_act context Set = true
+may_act context Publish = true
+may_act context Cancel = true
 may_act context keyword = is_inside context
 
 -- the reason of the first test that failed
@@ -255,13 +280,16 @@ IfBad (Memory error) P = ⊤
 abbrev pub IsUnlessNoMemory : Result Script ScriptFault → Result Script ScriptFault → Type 0
 IsUnlessNoMemory result wanted = (result ≡ wanted) ⊎ (result ≡ Err (Memory alloc_error))
 
--- ---- transactions
+-- ---- transactions, and calls outside of them
 
 -- what stands between a begin and its commit
 abbrev pub IsChange : ScriptOp → Type 0
 IsChange (op.Add id off len) = ⊤
 IsChange (op.Write id off bytes) = ⊤
 IsChange (op.Read id off len) = ⊤
+IsChange (op.Set id off value) = ⊤
+IsChange op.Publish = ⊤
+IsChange op.Cancel = ⊤
 IsChange (op.Begin wants) = ⊥
 IsChange op.Commit = ⊥
 
@@ -269,10 +297,22 @@ IsChange op.Commit = ⊥
 abbrev pub IsTransaction : List ScriptOp → Type 0
 IsTransaction ops = (wants : List ScriptWant) × (changes : List ScriptOp) × (ops ≡ op.Begin wants ∷ changes ++ op.Commit ∷ []) × All IsChange changes
 
--- nothing, or a transaction and then transactions
-pub data AreTransactions : List ScriptOp → Type 0 where
-  none : AreTransactions []
-  more : (one others : List ScriptOp) → IsTransaction one → AreTransactions others → AreTransactions (one ++ others)
+-- what may stand outside of a transaction
+abbrev pub IsOutside : ScriptOp → Type 0
+IsOutside (op.Set id off value) = ⊤
+IsOutside op.Publish = ⊤
+IsOutside op.Cancel = ⊤
+IsOutside (op.Begin wants) = ⊥
+IsOutside (op.Add id off len) = ⊥
+IsOutside (op.Write id off bytes) = ⊥
+IsOutside (op.Read id off len) = ⊥
+IsOutside op.Commit = ⊥
+
+-- nothing; a transaction and then calls; or a call outside and then calls
+pub data AreCalls : List ScriptOp → Type 0 where
+  none : AreCalls []
+  transaction : (one others : List ScriptOp) → IsTransaction one → AreCalls others → AreCalls (one ++ others)
+  outside : (one : ScriptOp) (others : List ScriptOp) → IsOutside one → AreCalls others → AreCalls (one ∷ others)
 
 abbrev pub operations : List ScriptLine → List ScriptOp
 operations lines = map (λ (line : ScriptLine). line.operation) lines

@@ -69,6 +69,7 @@ impl Context {
         match (operation, self.is_open(lane)) {
             (ScriptOp::Begin { .. }, true) => Err(Why::Inside),
             (ScriptOp::Begin { .. }, false) | (_, true) => Ok(lane),
+            (ScriptOp::Set { .. } | ScriptOp::Publish | ScriptOp::Cancel, false) => Ok(lane),
             (_, false) => Err(Why::Outside),
         }
     }

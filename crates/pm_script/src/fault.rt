@@ -36,7 +36,7 @@ pub enum Why {
     /// A begin while a transaction of the lane is open.
     #[error("Inside")]
     Inside,
-    /// A change, a read or a commit while no transaction of the lane is open.
+    /// An add, a write, a read or a commit while no transaction of the lane is open.
     #[error("Outside")]
     Outside,
     /// The transaction that the line begins is never closed.

@@ -1,6 +1,6 @@
 ghost use Rattle.std.specs.List.Sorted.{IsStrictlyIncreasing};
 ghost use Rattle.std.specs.Prelude.{map, All, ◌≡◌, ◌<◌, ℕ, List};
-ghost use Rattle.pm_script.specs.Scripts.{AreTransactions, IsScript, IsBadLine, of_lane, operations};
+ghost use Rattle.pm_script.specs.Scripts.{AreCalls, IsScript, IsBadLine, of_lane, operations};
 ghost use Rattle.pm_script.specs.Stops.{AreStops};
 ghost use Rattle.pm_script.specs.declared.fault.BadLine.{BadLine};
 ghost use Rattle.pm_script.specs.declared.script.Script.{Script};
@@ -19,9 +19,9 @@ pub fn the_lines_of_a_script_rise()
     ensures { (lines : List (List ℕ)) (script : Script) → IsScript lines script → IsStrictlyIncreasing (map (λ (line : ScriptLine). line.line) script.lines) }
 {}
 
-/// A law: the operations on a lane's lines are transactions, one after another. No code runs.
-pub fn a_lanes_lines_are_transactions()
-    ensures { (lines : List (List ℕ)) (script : Script) → IsScript lines script → (lane : ℕ) → AreTransactions (operations (of_lane lane script.lines)) }
+/// A law: the operations on a lane's lines are transactions, and calls outside of them, one after another. No code runs.
+pub fn a_lanes_lines_are_calls()
+    ensures { (lines : List (List ℕ)) (script : Script) → IsScript lines script → (lane : ℕ) → AreCalls (operations (of_lane lane script.lines)) }
 {}
 
 /// A law: each line is of a lane that the script counts, and where that is one, of lane 0. No code runs.

@@ -20,7 +20,7 @@ mod words;
 
 pub use fault::{BadLine, ScriptFault, Why};
 pub use laws::{
-    a_lanes_lines_are_transactions, one_lane_has_all_lines, one_reading_per_text,
+    a_lanes_lines_are_calls, one_lane_has_all_lines, one_reading_per_text,
     the_lines_of_a_script_rise,
 };
 pub use numbers::{MAX_DIGITS, number};

@@ -42,6 +42,16 @@ pub enum ScriptOp {
         off: u64,
         len: u64,
     },
+    /// Makes an action pending on the lane: eight bytes are to become this number. pmemobj_set_value(3).
+    Set {
+        id: ScriptId,
+        off: u64,
+        value: u64,
+    },
+    /// Performs the lane's pending actions, in a transaction with its commit. pmemobj_publish(3), pmemobj_tx_publish(3).
+    Publish,
+    /// Drops the lane's pending actions. pmemobj_cancel(3).
+    Cancel,
     /// Ends the transaction; its changes are final.
     Commit,
 }

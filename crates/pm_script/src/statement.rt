@@ -22,6 +22,9 @@ pub enum Keyword {
     Add,
     Write,
     Read,
+    Set,
+    Publish,
+    Cancel,
     Commit,
 }
 
@@ -46,6 +49,9 @@ pub fn statement_of(alloc: Global, words: &[&str]) -> Result<Statement, LineFaul
         Keyword::Add => add_of(operands),
         Keyword::Write => write_of(alloc, operands),
         Keyword::Read => read_of(operands),
+        Keyword::Set => set_of(operands),
+        Keyword::Publish => publish_of(operands),
+        Keyword::Cancel => cancel_of(operands),
         Keyword::Commit => commit_of(operands),
     }
 }
@@ -59,6 +65,9 @@ fn keyword_of(word: &str) -> Option<Keyword>
         "add" => Some(Keyword::Add),
         "write" => Some(Keyword::Write),
         "read" => Some(Keyword::Read),
+        "set" => Some(Keyword::Set),
+        "publish" => Some(Keyword::Publish),
+        "cancel" => Some(Keyword::Cancel),
         "commit" => Some(Keyword::Commit),
         _ => None,
     }
@@ -128,6 +137,41 @@ fn read_of(operands: &[&str]) -> Result<Statement, LineFault>
     let len = size_of(len).ok_or(Why::Number)?;
     let id = id_of(id).ok_or(Why::Letter)?;
     Ok(Statement::Operation(ScriptOp::Read { id, off, len }))
+}
+
+/// Reads `set ID OFF VALUE`.
+fn set_of(operands: &[&str]) -> Result<Statement, LineFault>
+    ensures { IsReadAs word.Set (texts operands.now) result }
+{
+    let [id, off, value] = operands else {
+        return Err(LineFault::Bad(Why::Count));
+    };
+    let off = number(off).ok_or(Why::Number)?;
+    let value = number(value).ok_or(Why::Number)?;
+    let id = id_of(id).ok_or(Why::Letter)?;
+    Ok(Statement::Operation(ScriptOp::Set { id, off, value }))
+}
+
+/// Reads `publish`.
+fn publish_of(operands: &[&str]) -> Result<Statement, LineFault>
+    ensures { IsReadAs word.Publish (texts operands.now) result }
+{
+    if operands.is_empty() {
+        Ok(Statement::Operation(ScriptOp::Publish))
+    } else {
+        Err(LineFault::Bad(Why::Count))
+    }
+}
+
+/// Reads `cancel`.
+fn cancel_of(operands: &[&str]) -> Result<Statement, LineFault>
+    ensures { IsReadAs word.Cancel (texts operands.now) result }
+{
+    if operands.is_empty() {
+        Ok(Statement::Operation(ScriptOp::Cancel))
+    } else {
+        Err(LineFault::Bad(Why::Count))
+    }
 }
 
 /// Reads `commit`.

@@ -60,6 +60,12 @@ fn operation(alloc: Global, operation: &ScriptOp) -> Result<String, Fail> {
             let object = object(alloc, id)?;
             Ok(format!(in alloc; "read {object} {off} {len}")?)
         }
+        ScriptOp::Set { id, off, value } => {
+            let object = object(alloc, id)?;
+            Ok(format!(in alloc; "set {object} {off} {value}")?)
+        }
+        ScriptOp::Publish => Ok(format!(in alloc; "publish")?),
+        ScriptOp::Cancel => Ok(format!(in alloc; "cancel")?),
         ScriptOp::Commit => Ok(format!(in alloc; "commit")?),
     }
 }
@@ -135,6 +141,26 @@ fn scripts(rt: HostRuntime) -> Result<(), Fail> {
         (
             "lane 0\nbegin root\nlane 1\nbegin 16512\nlane 0\nadd root 0 8\nlane 0\nwrite root 0 01\nlane 1\ncommit\nlane 0\ncommit\n",
             "2 lanes; 2 0 begin root; 4 1 begin 16512; 6 0 add root 0 8; 8 0 write root 0 01; 10 1 commit; 12 0 commit;",
+        ),
+    ];
+    for (text, wanted) in table {
+        let told = told(rt.alloc(), text.as_bytes())?;
+        assert_eq!(rt; told.as_str(), wanted, "{text:?}");
+    }
+    Ok(())
+}
+
+/// Words that stand inside of a transaction and outside.
+#[test]
+fn actions(rt: HostRuntime) -> Result<(), Fail> {
+    let table = [
+        (
+            "lane 0\nset root 8 18446744073709551615\npublish\nbegin root\nset 16512 0 007\npublish\ncancel\ncommit\ncancel\n",
+            "1 lanes; 2 0 set root 8 18446744073709551615; 3 0 publish; 4 0 begin root; 5 0 set 16512 0 7; 6 0 publish; 7 0 cancel; 8 0 commit; 9 0 cancel;",
+        ),
+        (
+            "lane 1\nbegin\nlane 0\nset root 3 0\nlane 1\ncommit\n",
+            "2 lanes; 2 1 begin; 4 0 set root 3 0; 6 1 commit;",
         ),
     ];
     for (text, wanted) in table {
@@ -274,6 +300,26 @@ fn bad_objects(rt: HostRuntime) -> Result<(), Fail> {
     Ok(())
 }
 
+/// Bad lines of the words that stand inside of a transaction and outside.
+#[test]
+fn bad_actions(rt: HostRuntime) -> Result<(), Fail> {
+    let table = [
+        ("lane 0\nset root 8", "2 Count"),
+        ("lane 0\npublish 1", "2 Count"),
+        ("lane 0\ncancel x", "2 Count"),
+        ("lane 0\nset root x 1", "2 Number"),
+        ("lane 0\nset root 8 18446744073709551616", "2 Number"),
+        ("lane 0\nset foo 8 -1", "2 Number"),
+        ("lane 0\nset foo 8 1", "2 Letter"),
+        ("set root 8 1\nlane 0", "1 NoLane"),
+        ("publish", "1 NoLane"),
+        ("cancel", "1 NoLane"),
+        ("lane 0\nbegin\ncancel\npublish", "2 Open"),
+    ];
+    assert_eq!(rt; first_told_otherwise(rt.alloc(), &table)?, None);
+    Ok(())
+}
+
 /// Two reasons in one line.
 #[test]
 fn two_reasons(rt: HostRuntime) -> Result<(), Fail> {
@@ -337,7 +383,7 @@ fn left_open(rt: HostRuntime) -> Result<(), Fail> {
 fn laws(_: HostRuntime) {
     one_reading_per_text();
     the_lines_of_a_script_rise();
-    a_lanes_lines_are_transactions();
+    a_lanes_lines_are_calls();
     one_lane_has_all_lines();
 }
 

@@ -1,10 +1,10 @@
--- A script of one lane is of transactions, one after another.
+-- A script of one lane is of transactions, and calls outside of them, one after another.
 use Rattle.std.proofs.Common.{◌≡◌, ℕ, ◌==◌, All, Bool, true, List, [], ◌∷◌, refl, ◌∙◌, ap, subst, if◌then◌else◌}
 use Rattle.std.proofs.lemmas.List.Elements.{All-head, All-tail}
-use Rattle.pm_script.specs.Scripts.{AreTransactions, IsScript, of_lane, operations}
+use Rattle.pm_script.specs.Scripts.{AreCalls, IsScript, of_lane, operations}
 use Rattle.pm_script.specs.declared.script.Script.{Script}
 use Rattle.pm_script.specs.declared.script.ScriptLine.{ScriptLine}
-use Rattle.pm_script.proofs.LaneTransactions.{lane_transactions}
+use Rattle.pm_script.proofs.LaneCalls.{lane_calls}
 use Rattle.pm_script.proofs.NamedLanes.{one_lane}
 
 -- where each line is of lane 0, that has all lines
@@ -15,7 +15,7 @@ all_of_lane (line ∷ lines) all =
     let more : of_lane 0 lines ≡ lines = all_of_lane lines (All-tail (λ (line : ScriptLine). line.lane ≡ 0) line lines all) in
     ap (λ (is : Bool). if is then line ∷ of_lane 0 lines else of_lane 0 lines) here ∙ ap (λ (others : List ScriptLine). line ∷ others) more
 
--- so the operations of a script of one lane are transactions
-pub transactions_of_one_lane : (lines : List (List ℕ)) (script : Script) → IsScript lines script → script.lanes ≡ 1 → AreTransactions (operations script.lines)
-transactions_of_one_lane lines script is one =
-    subst (λ (said : List ScriptLine). AreTransactions (operations said)) (all_of_lane script.lines (one_lane lines script is one)) (lane_transactions lines script is 0)
+-- so the operations of a script of one lane are calls
+pub calls_of_one_lane : (lines : List (List ℕ)) (script : Script) → IsScript lines script → script.lanes ≡ 1 → AreCalls (operations script.lines)
+calls_of_one_lane lines script is one =
+    subst (λ (said : List ScriptLine). AreCalls (operations said)) (all_of_lane script.lines (one_lane lines script is one)) (lane_calls lines script is 0)

@@ -23,6 +23,8 @@ use std::process::ExitCode;
 use top::{say_failure, top};
 
 #[cfg(test)]
+mod action_tests;
+#[cfg(test)]
 mod image_tests;
 #[cfg(test)]
 mod run_tests;

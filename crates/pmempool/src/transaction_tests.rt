@@ -145,6 +145,10 @@ fn no_root(rt: HostRuntime) -> Result<(), Fail> {
             "lane 0\nbegin\nread root 0 1\ncommit\nbegin\ncommit\n",
             "1 lane 0 lines 2-4 aborted NotLocked at 3 root=0\n2 lane 0 lines 5-6 done\n",
         ),
+        (
+            "lane 0\nset root 0 1\npublish\ncancel\nbegin\nset root 0 1\npublish\ncommit\n",
+            "1 lane 0 lines 2-2 done root=0\n2 lane 0 lines 3-3 refused NoObject\n3 lane 0 lines 4-4 done\n4 lane 0 lines 5-8 aborted NotLocked at 7 root=0\n",
+        ),
     ];
     reports(&rt, rt.alloc(), NO_ROOT, &table)
 }

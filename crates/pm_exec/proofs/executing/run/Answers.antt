@@ -1,4 +1,4 @@
-use Rattle.std.proofs.Common.{◌≡◌, ◌<◌, ◌^◌, Bool, true, List, length, not, eqb, slice_index, refl, sym, subst, arith, rules}
+use Rattle.std.proofs.Common.{◌&&◌, ◌≡◌, ◌<◌, ◌^◌, Bool, true, List, length, not, eqb, slice_index, refl, sym, subst, arith, rules}
 use Rattle.std.specs.Option.{ForSome}
 use Rattle.pm_objects.specs.declared.history.Entry.{Entry}
 use Rattle.pm_exec.specs.Calls.{names_of}
@@ -31,7 +31,7 @@ is_decided-decided-requires c =
     let size = run_size pool words c.args.stop lines c.requires.rising fits c.run_all.new.lane c.run_all.new.history.items c.in_ok-halt.halt run true c.args.keep c.in_ok-words.words.items c.in_ok-words.ensures in
     let r = c.requires.recovered in
     let long = words_long r.0 pool r.1.0 words r.1.1 in
-    let low : 512 < length c.in_ok-words.words.items = omega (arith, size, long) in
+    let low : 513 < length c.in_ok-words.words.items = omega (arith, size, long) in
     search (rules, low)
 
 pub returns-clause-size : goal.returns-clause-size
@@ -57,7 +57,7 @@ returns-clause-history c =
     let came = c.in_ok-halt.ensures o first (run_begins o first c.in_ok-lane.lane c.names_of.result c.new-history.result.items refl (search rules) c.in_ok-lane.ensures) in
     let run = run_of o first c.run_all.new.lane c.run_all.new.history.items c.in_ok-halt.halt c.names_of.result (names_of pool) c.as_slice-lines.result.now lines (search rules) (search rules) came in
     let decided : Bool = c.is_decided-decided.result in
-    let decides : decided ≡ not (eqb (slice_index c.in_ok-words.words.items 512) c.in_ok-halt.halt.generation) = search rules in
+    let decides : decided ≡ not (eqb (slice_index c.in_ok-words.words.items 513) 0 && eqb (slice_index c.in_ok-words.words.items 512) c.in_ok-halt.halt.generation) = search rules in
     let closed : closed_history c.run_all.new.history.items c.in_ok-halt.halt.is_open decided ≡ c.close_history.new.history.items = sym c.in_ok-close_history.ensures in
     subst (λ (es : List Entry). IsHistoryOf pool lines c.args.stop es c.in_ok-halt.halt.end) closed
     (run_history pool words c.args.stop lines c.requires.rising fits c.run_all.new.lane c.run_all.new.history.items c.in_ok-halt.halt run decided)
@@ -73,7 +73,7 @@ returns-clause-made c =
     let came = c.in_ok-halt.ensures o first (run_begins o first c.in_ok-lane.lane c.names_of.result c.new-history.result.items refl (search rules) c.in_ok-lane.ensures) in
     let run = run_of o first c.run_all.new.lane c.run_all.new.history.items c.in_ok-halt.halt c.names_of.result (names_of pool) c.as_slice-lines.result.now lines (search rules) (search rules) came in
     let decided : Bool = c.is_decided-decided.result in
-    let decides : decided ≡ not (eqb (slice_index c.in_ok-words.words.items 512) c.in_ok-halt.halt.generation) = search rules in
+    let decides : decided ≡ not (eqb (slice_index c.in_ok-words.words.items 513) 0 && eqb (slice_index c.in_ok-words.words.items 512) c.in_ok-halt.halt.generation) = search rules in
     let closed : closed_history c.run_all.new.history.items c.in_ok-halt.halt.is_open decided ≡ c.close_history.new.history.items = sym c.in_ok-close_history.ensures in
     subst (λ (es : List Entry). MakesCalls words pool lines c.args.stop c.args.keep es c.in_ok-halt.halt.end c.in_ok-words.words.items) closed
     (run_made pool words c.args.stop lines c.requires.rising fits c.run_all.new.lane c.run_all.new.history.items c.in_ok-halt.halt run decided c.args.keep c.in_ok-words.words.items c.in_ok-words.ensures decides)
@@ -89,7 +89,7 @@ returns-clause-replay c before means recovered past none =
     let came = c.in_ok-halt.ensures o first (run_begins o first c.in_ok-lane.lane c.names_of.result c.new-history.result.items refl (search rules) c.in_ok-lane.ensures) in
     let run = run_of o first c.run_all.new.lane c.run_all.new.history.items c.in_ok-halt.halt c.names_of.result (names_of pool) c.as_slice-lines.result.now lines (search rules) (search rules) came in
     let decided : Bool = c.is_decided-decided.result in
-    let decides : decided ≡ not (eqb (slice_index c.in_ok-words.words.items 512) c.in_ok-halt.halt.generation) = search rules in
+    let decides : decided ≡ not (eqb (slice_index c.in_ok-words.words.items 513) 0 && eqb (slice_index c.in_ok-words.words.items 512) c.in_ok-halt.halt.generation) = search rules in
     let closed : closed_history c.run_all.new.history.items c.in_ok-halt.halt.is_open decided ≡ c.close_history.new.history.items = sym c.in_ok-close_history.ensures in
     subst (λ (es : List Entry). LeavesReplay before pool es c.in_ok-words.words.items) closed
     (run_replay pool words c.args.stop lines c.requires.rising fits c.run_all.new.lane c.run_all.new.history.items c.in_ok-halt.halt run decided c.args.keep c.in_ok-words.words.items c.in_ok-words.ensures decides before means recovered past none)

@@ -5,19 +5,18 @@ use Rattle.pm_exec.proofs.Begun.{begun_at_line, not_begun}
 use Rattle.pm_exec.proofs.lines.begin_with.Goals as goal
 
 pub returns-in-Ok-clause-done : goal.returns-in-Ok-clause-done
-returns-in-Ok-clause-done c o first is =
+returns-in-Ok-clause-done c o first actions is =
     let b = c.requires.begins in
-    begun_at_line o first c.args.lane.now c.begin.new.lane c.args.names is c.args.said.now b.0 b.1.0 c.args.wants.now b.1.1 (c.in-Ok.ensures.begun first is.rests) (ap (λ (l : Lane Solo). l.level) c.in-Ok.ensures.opened)
+    begun_at_line o first c.args.lane.now c.begin.new.lane actions c.args.names is c.args.said.now b.0 b.1.0 c.args.wants.now b.1.1 (c.in-Ok.ensures.begun first is.rests) (ap (λ (l : Lane Solo). l.level) c.in-Ok.ensures.opened)
 
 pub returns-in-Ok-clause-at_work : goal.returns-in-Ok-clause-at_work
-returns-in-Ok-clause-at_work c =
+returns-in-Ok-clause-at_work c o first actions is =
     let b = c.requires.begins in
-    let r = c.requires.first in
-    (r.0, r.1.0, c.args.said.now ∷ [], begun_at_line r.0 r.1.0 c.args.lane.now c.begin.new.lane c.args.names r.1.1 c.args.said.now b.0 b.1.0 c.args.wants.now b.1.1 (c.in-Ok.ensures.begun r.1.0 r.1.1.rests) (ap (λ (l : Lane Solo). l.level) c.in-Ok.ensures.opened))
+    (o, first, c.args.said.now ∷ [], begun_at_line o first c.args.lane.now c.begin.new.lane actions c.args.names is c.args.said.now b.0 b.1.0 c.args.wants.now b.1.1 (c.in-Ok.ensures.begun first is.rests) (ap (λ (l : Lane Solo). l.level) c.in-Ok.ensures.opened))
 
 pub returns-in-Err-clause-ends : goal.returns-in-Err-clause-ends
-returns-in-Err-clause-ends c o first rest is =
+returns-in-Err-clause-ends c o first actions rest is =
     let b = c.requires.begins in
     rw c.not_done.ensures
-    (not_begun o first c.args.lane.now c.begin.new.lane c.args.names is c.args.said.now b.0 b.1.0 c.args.wants.now b.1.1 rest c.in-Err.why (λ same. c.in-Err.ensures.missing (ap Err same) first is.rests is.alone)
+    (not_begun o first c.args.lane.now c.begin.new.lane actions c.args.names is c.args.said.now b.0 b.1.0 c.args.wants.now b.1.1 rest c.in-Err.why (λ same. c.in-Err.ensures.missing (ap Err same) first is.rests is.alone)
     (c.in-Err.ensures.fails first is.rests) c.in-Err.ensures.leaves)

@@ -16,14 +16,14 @@ loop-said-preserved c =
     let at = c.loop-said.invariant.0 in (
       (at.0, at.1, _, c.in_ok-change_at.ensures.done at.0 at.1 _ at.3),
       λ o first front a.
-          subst (λ (ls : List ScriptLine). IsAtLine o first c.change_at.new.lane c.args.names ls c.change_at.new.values.items)
+          subst (λ (ls : List ScriptLine). IsAtLine o first c.change_at.new.lane c.change_at.new.actions.items c.args.names ls c.change_at.new.values.items)
           (append_assoc front (take c.loop-said.said-index c.args.lines.now) (c.said-item.result ∷ []) ∙ ap (λ (ls : List ScriptLine). front ++ ls) (sym more))
           (c.in_ok-change_at.ensures.done o first _ (inv o first front a)),
     )
 
 pub returns-clause-done : goal.returns-clause-done
 returns-clause-done c o first front a =
-    subst (λ (ls : List ScriptLine). IsAtLine o first c.loop-said.lane c.args.names ls c.loop-said.values.items) (ap (λ (ls : List ScriptLine). front ++ ls) (taken_all c.args.lines.now c.loop-said.said-index c.loop-said-test.false))
+    subst (λ (ls : List ScriptLine). IsAtLine o first c.loop-said.lane c.loop-said.actions.items c.args.names ls c.loop-said.values.items) (ap (λ (ls : List ScriptLine). front ++ ls) (taken_all c.args.lines.now c.loop-said.said-index c.loop-said-test.false))
     (c.loop-said.invariant.1 o first front a)
 
 pub returns-in_err-change_at-clause-ends : goal.returns-in_err-change_at-clause-ends
@@ -33,5 +33,5 @@ returns-in_err-change_at-clause-ends c =
     (λ o first front rest a.
     let low : c.loop-said.said-index < length c.args.lines.now = c.loop-said-test.true in
     let i = c.loop-said.said-index in
-    subst (λ (ls : List ScriptLine). IsNotDone o first c.change_at.new.lane c.args.names ls c.change_at.new.values.items c.in_err-change_at.field-0.0) (between c.args.lines.now front rest i c.said-item.result low c.said-item.is)
+    subst (λ (ls : List ScriptLine). IsNotDone o first c.change_at.new.lane c.change_at.new.actions.items c.args.names ls c.change_at.new.values.items c.in_err-change_at.field-0.0) (between c.args.lines.now front rest i c.said-item.result low c.said-item.is)
     (c.in_err-change_at.ensures.ends o first (front ++ take i c.args.lines.now) (drop (i + 1) c.args.lines.now ++ rest) (c.loop-said.invariant.1 o first front a)))

@@ -7,5 +7,5 @@ use Rattle.pm_exec.proofs.lines.change_all.Given as goal
 
 abbrev pub invariant-loop-said : goal.invariant-loop-said
 invariant-loop-said l =
-    IsLaneWith l.lane l.names l.values.items
-    × ((o : Opening) (first : View) (front : List ScriptLine) → IsAtLine o first l.fn.lane l.names front l.fn.values.items → IsAtLine o first l.lane l.names (front ++ take l.said-index l.lines) l.values.items)
+    IsLaneWith l.lane l.actions.items l.names l.values.items
+    × ((o : Opening) (first : View) (front : List ScriptLine) → IsAtLine o first l.fn.lane l.fn.actions.items l.names front l.fn.values.items → IsAtLine o first l.lane l.actions.items l.names (front ++ take l.said-index l.lines) l.values.items)

@@ -11,7 +11,7 @@ use Rattle.pm_exec.proofs.ReadLine.{front_is, read_cut, read_done, read_is, read
 use Rattle.pm_exec.proofs.lines.read_at.Goals as goal
 
 pub returns-in_ok-push-in-Ok-clause-done : goal.returns-in_ok-push-in-Ok-clause-done
-returns-in_ok-push-in-Ok-clause-done c o first front a =
+returns-in_ok-push-in-Ok-clause-done c o first actions front a =
     let old = c.args.lane.now in
     let new = c.read.new.lane in
     let values = c.args.values.now.items in
@@ -21,13 +21,13 @@ returns-in_ok-push-in-Ok-clause-done c o first front a =
     let count : c.in_ok-bytes.bytes.len ≡ length c.as_mut_slice.result.now = search rules in
     let filled : c.from_vec.result ≡ bytes = c.from_vec.ensures ∙ front_is c.in_ok-bytes.bytes.len bytes _ (count ∙ sym c.in-Ok.ensures.as_long) in
     let pushed : values ++ (c.args.said.now.line, Bytes bytes) ∷ [] ≡ c.push.new.self.items = sym (c.in_ok-push-in-Ok.ensures.items ∙ ap (λ (bs : List ℕ). values ++ (c.args.said.now.line, Bytes bs) ∷ []) filled) in
-    subst (λ (vs : Values). IsAtLine o first new c.args.names (front ++ c.args.said.now ∷ []) vs) pushed
-    (read_done o first old c.args.names front values a new c.args.said.now c.args.range.0 place c.id_of.ensures c.args.range.1 c.args.range.2 c.requires.is_said bytes
+    subst (λ (vs : Values). IsAtLine o first new actions c.args.names (front ++ c.args.said.now ∷ []) vs) pushed
+    (read_done o first old actions c.args.names front values a new c.args.said.now c.args.range.0 place c.id_of.ensures c.args.range.1 c.args.range.2 c.requires.is_said bytes
     (subst (λ (n : ℕ). HasLooked a.view (λ w. KnowsRange w place c.args.range.1 n false × HasReadRange o Sees new w place c.args.range.1 n bytes)) long (c.in-Ok.ensures.done o a.view a.works))
     (ap (λ (l : Lane Solo). l.level) c.in-Ok.ensures.lane ∙ a.level))
 
 pub returns-in-Err-clause-ends : goal.returns-in-Err-clause-ends
-returns-in-Err-clause-ends c o first front rest a =
+returns-in-Err-clause-ends c o first actions front rest a =
     let old = c.args.lane.now in
     let new = c.read.new.lane in
     let r = c.in-Err.why in
@@ -39,10 +39,10 @@ returns-in-Err-clause-ends c o first front rest a =
     let none = unrefused old a.works.unstopped a.level a.works.works in
     let is = c.requires.is_said in
     rw c.not_done.ensures
-    (ends_so o first old c.args.names front values a new c.args.said.now rest values r (read_not_spent r (c.in-Err.ensures.causes none)) refl
-    (λ goes. given_up o first old c.args.names front values a new c.args.said.now (operation.Read place off len) (read_is o first old c.args.names front values a new c.args.said.now c.args.range.0 place c.id_of.ensures off len is)
+    (ends_so o first old actions c.args.names front values a new c.args.said.now rest values r (read_not_spent r (c.in-Err.ensures.causes none)) refl
+    (λ goes. given_up o first old actions c.args.names front values a new c.args.said.now (operation.Read place off len) (read_is o first old actions c.args.names front values a new c.args.said.now c.args.range.0 place c.id_of.ensures off len is)
     (record { id = place; off = off; len = len }) r
     (subst (λ (n : ℕ). HasLooked a.view (λ w. IsGivenUpFor Sees new old.records.items (operation.Read place off n) (record { id = place; off = off; len = n }) r w)) long (c.in-Err.ensures.given_up none goes o a.view a.works))
-    (c.in-Err.ensures.given_up_lane none goes) (λ asked same. let clash = sym is ∙ same in cc) rest)
-    (λ stops. read_cut o first old c.args.names front values a new c.args.said.now c.args.range.0 place c.id_of.ensures off len is rest
+    (c.in-Err.ensures.given_up_lane none goes) (λ asked same. let clash = sym is ∙ same in cc) refl rest)
+    (λ stops. read_cut o first old actions c.args.names front values a new c.args.said.now c.args.range.0 place c.id_of.ensures off len is rest
     (subst (λ (n : ℕ). HasLooked a.view (λ w. IsStoppedFor Sees new old.records.items (operation.Read place off n) (record { id = place; off = off; len = n }) w)) long (c.in-Err.ensures.stopped none stops o a.view a.works))))

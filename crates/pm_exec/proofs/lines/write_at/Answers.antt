@@ -7,12 +7,12 @@ use Rattle.pm_exec.proofs.AddAndWrite.{ends_so, given_up, not_spent, unrefused, 
 use Rattle.pm_exec.proofs.lines.write_at.Goals as goal
 
 pub returns-in-Ok-clause-done : goal.returns-in-Ok-clause-done
-returns-in-Ok-clause-done c o first front values a =
-    write_done o first c.args.lane.now c.args.names front values a c.write.new.lane c.args.said.now c.args.id c.id_of.result c.id_of.ensures c.args.off c.args.bytes.now c.requires.is_said (c.in-Ok.ensures.done o a.view a.works)
+returns-in-Ok-clause-done c o first actions front values a =
+    write_done o first c.args.lane.now actions c.args.names front values a c.write.new.lane c.args.said.now c.args.id c.id_of.result c.id_of.ensures c.args.off c.args.bytes.now c.requires.is_said (c.in-Ok.ensures.done o a.view a.works)
     (ap (λ (l : Lane Solo). l.level) c.in-Ok.ensures.lane ∙ a.level)
 
 pub returns-in-Err-clause-ends : goal.returns-in-Err-clause-ends
-returns-in-Err-clause-ends c o first front rest values a =
+returns-in-Err-clause-ends c o first actions front rest values a =
     let old = c.args.lane.now in
     let new = c.write.new.lane in
     let r = c.in-Err.why in
@@ -21,7 +21,7 @@ returns-in-Err-clause-ends c o first front rest values a =
     let none = unrefused old a.works.unstopped a.level a.works.works in
     let is = c.requires.is_said in
     rw c.not_done.ensures
-    (ends_so o first old c.args.names front values a new c.args.said.now rest values r (not_spent r refusal.NotAdded (λ same. cc) (c.in-Err.ensures.causes none)) refl
-    (λ goes. given_up o first old c.args.names front values a new c.args.said.now (operation.Write place c.args.off bytes) (write_is o first old c.args.names front values a new c.args.said.now c.args.id place c.id_of.ensures c.args.off bytes is)
-    (record { id = place; off = c.args.off; len = length bytes }) r (c.in-Err.ensures.given_up none goes o a.view a.works) (c.in-Err.ensures.given_up_lane none goes) (λ asked same. let clash = sym is ∙ same in cc) rest)
-    (λ stops. write_cut o first old c.args.names front values a new c.args.said.now c.args.id place c.id_of.ensures c.args.off bytes is rest (c.in-Err.ensures.stopped none stops o a.view a.works)))
+    (ends_so o first old actions c.args.names front values a new c.args.said.now rest values r (not_spent r refusal.NotAdded (λ same. cc) (c.in-Err.ensures.causes none)) refl
+    (λ goes. given_up o first old actions c.args.names front values a new c.args.said.now (operation.Write place c.args.off bytes) (write_is o first old actions c.args.names front values a new c.args.said.now c.args.id place c.id_of.ensures c.args.off bytes is)
+    (record { id = place; off = c.args.off; len = length bytes }) r (c.in-Err.ensures.given_up none goes o a.view a.works) (c.in-Err.ensures.given_up_lane none goes) (λ asked same. let clash = sym is ∙ same in cc) refl rest)
+    (λ stops. write_cut o first old actions c.args.names front values a new c.args.said.now c.args.id place c.id_of.ensures c.args.off bytes is rest (c.in-Err.ensures.stopped none stops o a.view a.works)))

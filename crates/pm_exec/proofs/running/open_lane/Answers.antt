@@ -13,4 +13,4 @@ returns c =
     let made : Lane Solo = c.new-lane.result in
     let sees = seen_first pool image c.in_ok-words.words.items c.args.stop c.in_ok-memory.memory (search rules) c.in_ok-memory.ensures in
     let s = c.new-lane.ensures.fits first sees refl (shaped_first pool image c.args.stop c.in-Ok.shape c.requires.sound c.in-Ok.ensures.lanes c.in-Ok.ensures.zones) refl refl refl in
-    is_start pool image c.args.stop made c.requires.sound c.requires.shape s.0 s.1 c.new-lane.ensures.unharmed
+    is_start pool image c.args.stop made c.requires.sound c.requires.shape s.0 s.1 c.new-lane.ensures.unharmed c.new-lane.ensures.unentered

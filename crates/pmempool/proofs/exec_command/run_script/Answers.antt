@@ -3,12 +3,12 @@ use Rattle.pm_script.proofs.NamedLanes.{some_lane}
 use Rattle.pm_script.proofs.RisingLines.{lines_rise}
 use Rattle.pmempool.specs.Asked.{asked_run}
 use Rattle.pmempool.specs.Executed.{IsRunFault}
-use Rattle.pmempool.proofs.OneLane.{transactions_of_one_lane}
+use Rattle.pmempool.proofs.OneLane.{calls_of_one_lane}
 use Rattle.pmempool.proofs.Running.{has_run, not_opened}
 use Rattle.pmempool.proofs.exec_command.run_script.Goals as goal
 
-pub exec-requires-clause-transactions : goal.exec-requires-clause-transactions
-exec-requires-clause-transactions c = transactions_of_one_lane _ _ c.in-Ok.ensures.script
+pub exec-requires-clause-calls : goal.exec-requires-clause-calls
+exec-requires-clause-calls c = calls_of_one_lane _ _ c.in-Ok.ensures.script
 
 pub exec-requires-clause-rising : goal.exec-requires-clause-rising
 exec-requires-clause-rising c = lines_rise _ _ c.in-Ok.ensures.script

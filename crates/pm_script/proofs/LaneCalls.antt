@@ -1,4 +1,4 @@
--- The operations on a lane's lines are transactions, one after another.
+-- The operations on a lane's lines are transactions, and calls outside of them, one after another.
 use Rattle.std.proofs.Common.{◌≡◌, ◌==◌, ℕ, ◌+◌, Bool, true, false, not, ◌||◌, cond, All, List, [], ◌∷◌, ◌++◌, Option, Some, None, is_some, option_map, refl, sym, ap, ◌∙◌, subst, append_assoc, eq-eqb}
 use Rattle.std.specs.List.{cons_option, filter, filter_map, list_any}
 use Rattle.std.specs.Option.{option_and_then, option_map_or}
@@ -6,8 +6,8 @@ use Rattle.std.proofs.lemmas.Bool.{eqb-true}
 use Rattle.std.proofs.lemmas.List.Elements.{All-nil, All-cons}
 use Rattle.std.proofs.lemmas.List.Folds.{list_any-append}
 use Rattle.pm_script.specs.Reading.{keyword_said, place_why}
-use Rattle.pm_script.specs.Scripts.{AreTransactions, Context, IsChange, IsScript, begun_behind, context_behind, context_from, fault_of, is_of_lane, line_of, line_said, lines_from, of_lane, operations, said, start, why_of}
-use Rattle.pm_script.specs.Scripts.AreTransactions.{none, more}
+use Rattle.pm_script.specs.Scripts.{AreCalls, Context, IsChange, IsOutside, IsScript, begun_behind, context_behind, context_from, fault_of, is_of_lane, line_of, line_said, lines_from, of_lane, operations, said, start, why_of}
+use Rattle.pm_script.specs.Scripts.AreCalls.{none, transaction, outside}
 use Rattle.pm_script.specs.Words.{words}
 use Rattle.pm_script.specs.declared.context.OpenTransaction.{OpenTransaction}
 use Rattle.pm_script.specs.declared.fault.Why.{Why}
@@ -15,7 +15,7 @@ use Rattle.pm_script.specs.declared.fault.Why.TheVariants.{NoLane, Inside, Outsi
 use Rattle.pm_script.specs.declared.script.Script.{Script}
 use Rattle.pm_script.specs.declared.script.ScriptLine.{ScriptLine}
 use Rattle.pm_script.specs.declared.script.ScriptOp.{ScriptOp}
-use Rattle.pm_script.specs.declared.script.ScriptOp.TheVariants.{Begin, Add, Write, Read, Commit}
+use Rattle.pm_script.specs.declared.script.ScriptOp.TheVariants.{Begin, Add, Write, Read, Set, Publish, Cancel, Commit}
 use Rattle.pm_script.specs.declared.script.ScriptWant.{ScriptWant}
 use Rattle.pm_script.specs.declared.statement.Statement.{Statement}
 use Rattle.pm_script.specs.declared.statement.Statement.TheVariants as says
@@ -25,16 +25,21 @@ use Rattle.pm_script.proofs.Judging.{in_place}
 
 -- the rest of a lane's operations, where a transaction is open or not
 abbrev Rest : Bool → List ScriptOp → Type 0
-Rest true ops = (changes : List ScriptOp) × (others : List ScriptOp) × (ops ≡ changes ++ Commit ∷ others) × All IsChange changes × AreTransactions others
-Rest false ops = AreTransactions ops
+Rest true ops = (changes : List ScriptOp) × (others : List ScriptOp) × (ops ≡ changes ++ Commit ∷ others) × All IsChange changes × AreCalls others
+Rest false ops = AreCalls ops
 
 begin_first : (wants : List ScriptWant) (ops : List ScriptOp) → Rest true ops → Rest false (Begin wants ∷ ops)
 begin_first wants ops rest =
     let one = Begin wants ∷ rest.0 ++ Commit ∷ [] in
-    subst AreTransactions (ap (λ l. Begin wants ∷ l) (append_assoc rest.0 (Commit ∷ []) rest.1 ∙ sym rest.2)) (more one rest.1 (wants, rest.0, refl, rest.3) rest.4)
+    subst AreCalls (ap (λ l. Begin wants ∷ l) (append_assoc rest.0 (Commit ∷ []) rest.1 ∙ sym rest.2)) (transaction one rest.1 (wants, rest.0, refl, rest.3) rest.4)
 
 change_first : (x : ScriptOp) (ops : List ScriptOp) → IsChange x → Rest true ops → Rest true (x ∷ ops)
 change_first x ops change rest = (x ∷ rest.0, rest.1, ap (λ l. x ∷ l) rest.2, All-cons IsChange x rest.0 change rest.3, rest.4)
+
+-- what may stand inside and outside may stand anywhere
+call_first : (b : Bool) (x : ScriptOp) (ops : List ScriptOp) → IsChange x → IsOutside x → Rest b ops → Rest b (x ∷ ops)
+call_first true x ops change out rest = change_first x ops change rest
+call_first false x ops change out rest = outside x ops out rest
 
 commit_first : (ops : List ScriptOp) → Rest false ops → Rest true (Commit ∷ ops)
 commit_first ops rest = ([], ops, refl, All-nil IsChange, rest)
@@ -87,14 +92,17 @@ unchanged one other n (Begin wants) begun differ =
 unchanged one other n (Add id off len) begun differ = refl
 unchanged one other n (Write id off bytes) begun differ = refl
 unchanged one other n (Read id off len) begun differ = refl
+unchanged one other n (Set id off value) begun differ = refl
+unchanged one other n Publish begun differ = refl
+unchanged one other n Cancel begun differ = refl
 unchanged one other n Commit begun differ = kept one other begun differ
 
 -- ---- in place
 
-outside : (present inside : Bool) → cond present (cond (not inside) None (Some Inside)) (Some NoLane) ≡ None → inside ≡ false
-outside true false fine = refl
-outside true true fine = cc
-outside false inside fine = cc
+without : (present inside : Bool) → cond present (cond (not inside) None (Some Inside)) (Some NoLane) ≡ None → inside ≡ false
+without true false fine = refl
+without true true fine = cc
+without false inside fine = cc
 
 within : (present inside : Bool) → cond present (cond inside None (Some Outside)) (Some NoLane) ≡ None → inside ≡ true
 within true true fine = refl
@@ -114,10 +122,13 @@ module _ (context : Context) (lane n : ℕ) (present : context.lane ≡ Some lan
   -- an operation of the lane goes before the rest
   own : (x : ScriptOp) (ops : List ScriptOp) → place_why context (keyword_said (says.Operation x)) ≡ None → Rest (is_open lane (begun_behind lane n x context.begun)) ops → Rest (is_open lane context.begun) (x ∷ ops)
   own (Begin wants) ops fine rest =
-      subst (λ b. Rest b (Begin wants ∷ ops)) (sym (inside false (outside _ _ fine))) (begin_first wants ops (subst (λ b. Rest b ops) (opened lane n context.begun) rest))
+      subst (λ b. Rest b (Begin wants ∷ ops)) (sym (inside false (without _ _ fine))) (begin_first wants ops (subst (λ b. Rest b ops) (opened lane n context.begun) rest))
   own (Add id off len) ops fine rest = change (Add id off len) ops tt fine rest
   own (Write id off bytes) ops fine rest = change (Write id off bytes) ops tt fine rest
   own (Read id off len) ops fine rest = change (Read id off len) ops tt fine rest
+  own (Set id off value) ops fine rest = call_first _ (Set id off value) ops tt tt rest
+  own Publish ops fine rest = call_first _ Publish ops tt tt rest
+  own Cancel ops fine rest = call_first _ Cancel ops tt tt rest
   own Commit ops fine rest = subst (λ b. Rest b (Commit ∷ ops)) (sym (inside true (within _ _ fine))) (commit_first ops (subst (λ b. Rest b ops) (closed lane context.begun) rest))
 
 -- ---- lines
@@ -161,5 +172,5 @@ rest_from lane context n (text ∷ lines) good whole =
     let fine = no_more (option_map (λ why. record { line = n; why = why }) (why_of context text)) (filter_map fault_of (lines_from next (n + 1) lines)) good in
     line_first lane context n (filter_map line_of (lines_from next (n + 1) lines)) statement (λ s is. in_place context text s (no_why _ (why_of context text) fine.0) is) (rest_from lane next (n + 1) lines fine.1 whole)
 
-pub lane_transactions : (lines : List (List ℕ)) (script : Script) → IsScript lines script → (lane : ℕ) → AreTransactions (operations (of_lane lane script.lines))
-lane_transactions lines script is lane = subst (λ ls. AreTransactions (operations (of_lane lane ls))) (sym is.lines_said) (rest_from lane start 1 lines is.good is.closed)
+pub lane_calls : (lines : List (List ℕ)) (script : Script) → IsScript lines script → (lane : ℕ) → AreCalls (operations (of_lane lane script.lines))
+lane_calls lines script is lane = subst (λ ls. AreCalls (operations (of_lane lane ls))) (sym is.lines_said) (rest_from lane start 1 lines is.good is.closed)

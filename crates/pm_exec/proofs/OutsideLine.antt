@@ -1,0 +1,305 @@
+-- A call on pending actions outside of a transaction, by a lane that rests alone: it is answered, or refused, or the lane stops in it, or can't begin it.
+use Rattle.std.proofs.Common.{◌≡◌, ◌⊎◌, ⊎_elim, inl, inr, ℕ, ◌%◌, ◌<◌, ◌≤◌, All, true, false, List, [], ◌∷◌, ◌++◌, length, map, get_or, slice_index, take, Option, None, Some, Result, Ok, Err, IfErr, OnErr, OnOk, refl, sym, ap, ◌∙◌, subst, arith}
+use Rattle.std.proofs.lemmas.Option.{none-some}
+use Rattle.std.proofs.lemmas.Bool.{false≢true}
+use Rattle.pm_script.specs.Scripts.{operations}
+use Rattle.std.specs.Option.{option_map}
+use Rattle.std.specs.List.{Any}
+use Rattle.std.proofs.lemmas.List.{length-map}
+use Rattle.std.proofs.lemmas.List.Elements.{All-append, All-cons, All-nil}
+use Rattle.pm_action.specs.Outside.{IsAnsweredAtOnce, IsCancelCause, IsSetCause, IsToldOutside}
+use Rattle.pm_action.specs.Publishing.{IsPublished, IsPublishedBy, IsStoppedPublishing, PublishEnds, RestsSoundly, StaysSound, entries_of}
+use Rattle.pm_crash.proofs.Leading.{leads_then}
+use Rattle.pm_crash.proofs.Raises.{raises_append}
+use Rattle.pm_crash.specs.Alone.{raises}
+use Rattle.pm_crash.specs.OnActions.{set_refusal}
+use Rattle.pm_crash.specs.Pending.{pending_before}
+use Rattle.pm_memory.specs.Solo.{Sees, Solo}
+use Rattle.pm_image.specs.Logs.{generation_word}
+use Rattle.pm_model.specs.Actions.{Action, wants_for}
+use Rattle.pm_model.specs.Shown.{values_of}
+use Rattle.pm_objects.specs.declared.calls.Operation.{Operation}
+use Rattle.pm_objects.specs.declared.calls.Operation.TheVariants as operation
+use Rattle.pm_objects.specs.declared.history.Value.TheVariants.{Refused}
+use Rattle.pm_objects.specs.declared.ids.Oid.{Oid}
+use Rattle.pm_objects.specs.declared.refusal.Refusal.{Refusal}
+use Rattle.pm_objects.specs.declared.refusal.Refusal.TheVariants as refusal
+use Rattle.pm_pending.specs.Pending.{action_of, entry_of, pending_of}
+use Rattle.pm_pending.specs.declared.actions.SetAction.{SetAction}
+use Rattle.pm_record.specs.declared.redo.Redo.{Redo}
+use Rattle.pm_script.specs.declared.script.ScriptId.{ScriptId}
+use Rattle.pm_script.specs.declared.script.ScriptLine.{ScriptLine}
+use Rattle.pm_script.specs.declared.script.ScriptOp.{ScriptOp}
+use Rattle.pm_script.specs.declared.script.ScriptOp.TheVariants as op
+use Rattle.pm_tx.proofs.Leading.{ready_leads, stopped_leads}
+use Rattle.pm_tx.proofs.LineStores.{publish_stores}
+use Rattle.pm_tx.proofs.PublishCourse.{publishes_so}
+use Rattle.pm_tx.proofs.Leads.{led_same}
+use Rattle.pm_tx.proofs.OpeningGeneration.{publish_first}
+use Rattle.pm_tx.proofs.StoreCounts.{stores_append, stores_first}
+use Rattle.pm_tx.specs.Begins.{IsLed}
+use Rattle.pm_tx.specs.Ending.{IsDrawnAs}
+use Rattle.pm_tx.specs.Lacking.{LacksObject}
+use Rattle.pm_tx.specs.Sequences.{publishes}
+use Rattle.pm_view.specs.Area.{area_word}
+use Rattle.pm_view.specs.Steps.{Step}
+use Rattle.pm_view.specs.View.{Numbered, Told, View}
+use Rattle.pm_view.specs.Views.{after_all}
+use Rattle.pm_world.specs.Opening.{Opening}
+use Rattle.pm_world.specs.Records.{generation_of}
+use Rattle.pm_world.specs.Sequences.{Sequence}
+use Rattle.pm_world.specs.declared.lane.Lane.{Lane}
+use Rattle.pm_exec.specs.Bounds.{most_stores, stores_of_lines}
+use Rattle.pm_exec.specs.Calls.{IsCall, id_of, operation_of, stands_alone}
+use Rattle.pm_exec.specs.Course.{IsOutsideMade, pending_entries}
+use Rattle.pm_exec.specs.Progress.{ActedOutside, IsActed, IsCut, IsFlyingBy, IsInFlight, IsStart, IsToldDone, done, numbered}
+use Rattle.pm_exec.specs.declared.calls.Names.{Names}
+use Rattle.pm_exec.proofs.ActionLines.{set_taken}
+use Rattle.pm_exec.proofs.Along.{lane_along}
+use Rattle.pm_exec.proofs.Begun.{first_untouched, not_busy, spent}
+use Rattle.pm_exec.proofs.ChangeLines.{front_of}
+use Rattle.pm_exec.proofs.FewStores.{led_stores, lines_within}
+use Rattle.pm_exec.proofs.OpeningFound.{IsUntouched, finds_opening, untouched_along}
+use Rattle.pm_exec.proofs.PendingLists.{uncounted_raises}
+use Rattle.pm_exec.proofs.PublishFront.{publish_flies}
+use Rattle.pm_exec.proofs.QuietSequences.{quiet_in_publish}
+
+abbrev IsAligned : List SetAction → Type 0
+IsAligned actions = All (λ (a : SetAction). a.off % 8 ≡ 0) actions
+
+module _ (o : Opening) (first : View) (lane new : Lane Solo) (actions : List SetAction) (names : Names) (is : IsStart o lane actions first) where
+  -- a call that was told without a counted call is answered so
+  acted : (x : ScriptOp) (r : Option Refusal) (left : List SetAction) → (told : IsToldOutside Sees new left first (operation_of names x) (option_map Refused r)) → IsAligned left → IsOutsideMade x r first told.view → IsActed first new left names x r
+  acted x r left told aligned made = record {
+    view = told.view;
+    steps = told.led.steps;
+    leads = told.led.leads;
+    rests = told.rests;
+    idle = told.idle;
+    entries = told.entries;
+    pending = record { are = told.pending; aligned = aligned };
+    made = made;
+    few = (let none = led_stores first told.view told.led in omega (arith, none));
+  }
+
+  -- ---- an action made pending
+
+  module _ (x : ScriptOp) (id : ScriptId) (action : SetAction) (id_is : action.id ≡ id_of names id) (says : x ≡ op.Set id action.off action.value) (left : List SetAction) where
+    abbrev asks : Operation
+    asks = operation.SetValue action.id action.off action.value
+
+    asks_is : asks ≡ operation_of names x
+    asks_is = ap (λ (i : Oid). operation.SetValue i action.off action.value) id_is ∙ ap (operation_of names) (sym says)
+
+    set_told : (r : Option Refusal) → IsToldOutside Sees new left first asks (option_map Refused r) → IsToldOutside Sees new left first (operation_of names x) (option_map Refused r)
+    set_told r told = subst (λ (y : Operation). IsToldOutside Sees new left first y (option_map Refused r)) asks_is told
+
+    set_led : (w : View) → IsLed first w → IsOutsideMade x None first w
+    set_led w led = subst (λ (y : ScriptOp). IsOutsideMade y None first w) (sym says) led
+
+    set_refused : (r : Refusal) (w : View) → IsLed first w → set_refusal action.off (pending_of actions) ≡ Some r → IsOutsideMade x (Some r) first w
+    set_refused r w led why = subst (λ (y : ScriptOp). IsOutsideMade y (Some r) first w) (sym says) (led, subst (λ (pending : List Action). set_refusal action.off pending ≡ Some r) is.pending.are why)
+
+    one_more : set_refusal action.off (pending_of actions) ≡ None → IsAligned (actions ++ action ∷ [])
+    one_more passes =
+        All-append (λ (a : SetAction). a.off % 8 ≡ 0) actions (action ∷ []) is.pending.aligned
+        (All-cons (λ (a : SetAction). a.off % 8 ≡ 0) action [] (set_taken action.off (pending_of actions) (sym passes)) (All-nil (λ (a : SetAction). a.off % 8 ≡ 0)))
+
+    refused_so : (r : Refusal) → IsToldOutside Sees new left first asks (Some (Refused r)) → left ≡ actions → set_refusal action.off (pending_of actions) ≡ Some r → IsActed first new left names x (Some r)
+    refused_so r told same why =
+        let t = set_told (Some r) told in acted x (Some r) left t (subst IsAligned (sym same) is.pending.aligned) (set_refused r t.view t.led why)
+
+    -- however it is answered
+    pub set_acted : {T : Type 0} (result : Result T Refusal) → lane.stopped ≡ false → IsAnsweredAtOnce Sees new left first asks result → OnOk result (left ≡ actions ++ action ∷ []) → OnOk result (set_refusal action.off (pending_of actions) ≡ None)
+        → OnErr result (left ≡ actions) → IfErr result (IsSetCause lane.stopped action.off (pending_of actions)) → ActedOutside o first new left names x result
+    set_acted (Ok done) unstopped made listed passes kept causes = let t = set_told None made.told in acted x None left t (subst IsAligned (sym listed) (one_more passes)) (set_led t.view t.led)
+    set_acted (Err refusal.Stopped) unstopped made listed passes kept causes = absurd made
+    set_acted (Err refusal.Spent) unstopped made listed passes kept causes = spent o first lane new actions names is made
+    set_acted (Err r) unstopped made listed passes kept causes = refused_so r made.told kept causes.1
+
+  -- ---- all that is pending given up
+
+  pub cancel_acted : {T : Type 0} (x : ScriptOp) (result : Result T Refusal) (left : List SetAction) → x ≡ op.Cancel → IsAnsweredAtOnce Sees new left first operation.Cancel result → OnOk result (left ≡ []) → IfErr result (IsCancelCause lane.stopped)
+      → ActedOutside o first new left names x result
+  cancel_acted x (Ok done) left says made emptied causes =
+      let t = subst (λ (y : Operation). IsToldOutside Sees new left first y None) (ap (operation_of names) (sym says)) made.told in
+      acted x None left t (subst IsAligned (sym emptied) (All-nil (λ (a : SetAction). a.off % 8 ≡ 0))) (subst (λ (y : ScriptOp). IsOutsideMade y None first t.view) (sym says) t.led)
+  cancel_acted x (Err refusal.Stopped) left says made emptied causes = absurd made
+  cancel_acted x (Err refusal.Spent) left says made emptied causes = spent o first lane new actions names is made
+  cancel_acted x (Err r) left says made emptied causes = absurd causes
+
+  -- ---- all that is pending published
+
+  -- wherever the lane goes on to without a counted call, it finds the pool as it was opened
+  pub stays : StaysSound Sees first
+  stays memory w led seen =
+      let same = led_same first w led in
+      let in_lanes : w.lane < w.lanes = (let place = is.rests.place.lane in let lane = same.lane in let lanes = same.lanes in omega (arith, place, lane, lanes)) in
+      (o, (is.sound, finds_opening o w (untouched_along o first w led.steps led.leads led.uncounted (first_untouched o first lane new actions names is)) in_lanes))
+
+  pub rests_soundly : RestsSoundly Sees lane
+  rests_soundly = (first, (is.rests, stays))
+
+  module _ (x : ScriptOp) (says : x ≡ op.Publish) where
+    publish_is : operation.Publish ≡ operation_of names x
+    publish_is = ap (operation_of names) (sym says)
+
+    -- of some actions
+    published_by : (items : List SetAction) → pending_of items ≡ pending_before first → 1 ≤ length items → IsPublishedBy Sees new (pending_of items) first → IsActed first new [] names x None
+    published_by items are some b =
+        let entries : List Redo = entries_of (pending_of items) in
+        let h : View = b.holding in
+        let made : List Step = publishes entries operation.Publish new.last h in
+        let over : View = after_all h made in
+        record {
+          view = b.view;
+          steps = (b.led.steps ++ made) ++ b.back.steps;
+          leads = leads_then first over b.view (b.led.steps ++ made) b.back.steps (leads_then first h over b.led.steps made b.led.leads (ready_leads h made b.ready b.draws)) b.back.leads;
+          rests = b.rests;
+          idle = b.idle;
+          entries = b.entries ∙ ap (λ (y : Operation). first.entries ++ numbered new.last (record { operation = y; reply = None } ∷ []) ∷ []) publish_is;
+          pending = record { are = sym b.pending; aligned = All-nil (λ (a : SetAction). a.off % 8 ≡ 0) };
+          made = subst (λ (y : ScriptOp). IsOutsideMade y None first b.view) (sym says) (inl (record {
+            start = h;
+            free = record { led = b.led; undrawn = b.undrawn };
+            some = (let count = ap length are in let many = length-map items action_of in omega (arith, count, many, some));
+            number = new.last;
+            over = over;
+            is = ap (λ (pending : List Action). after_all h (publishes (map entry_of pending) operation.Publish new.last h)) are;
+            closed = record { led = b.back; undrawn = b.drawn_there };
+          }));
+          few = (
+              let both = stores_append (b.led.steps ++ made) b.back.steps in
+              let two = stores_append b.led.steps made in
+              let before = led_stores first h b.led in
+              let behind = led_stores over b.view b.back in
+              let all = publish_stores entries operation.Publish new.last h in
+              let count = length-map (pending_of items) entry_of in
+              let few = b.few in
+              let most = ap (most_stores names) says in omega (arith, both, two, before, behind, all, count, few, most));
+        }
+
+    published : (items : List SetAction) → items ≡ actions → IsPublished Sees new items first → IsActed first new [] names x None
+    published [] same made =
+        let t = subst (λ (y : Operation). IsToldOutside Sees new [] first y None) publish_is made.told in
+        acted x None [] t (All-nil (λ (a : SetAction). a.off % 8 ≡ 0)) (subst (λ (y : ScriptOp). IsOutsideMade y None first t.view) (sym says) (inr (t.led, sym is.pending.are ∙ ap pending_of (sym same))))
+    published (a ∷ items) same made = published_by (a ∷ items) (ap pending_of same ∙ is.pending.are) (omega arith) made
+
+    -- refused
+    refused_publish : (r : Refusal) → (r ≡ refusal.NoObject) ⊎ (r ≡ refusal.OutOfRange) → IsToldOutside Sees new actions first operation.Publish (Some (Refused r)) → 1 ≤ length actions → IsActed first new actions names x (Some r)
+    refused_publish r why told some =
+        let t = subst (λ (y : Operation). IsToldOutside Sees new actions first y (Some (Refused r))) publish_is told in
+        acted x (Some r) actions t is.pending.aligned
+        (subst (λ (y : ScriptOp). IsOutsideMade y (Some r) first t.view) (sym says) (t.led, ((let count = ap length is.pending.are in let many = length-map actions action_of in omega (arith, count, many, some)), why)))
+
+    -- where an action names no object, there is an action
+    lacking_some : (items : List SetAction) (w : View) → Any (LacksObject w) (wants_for (pending_of items)) → 1 ≤ length items
+    lacking_some [] w lacking = absurd (let low = lacking.2 in omega (arith, low))
+    lacking_some (a ∷ items) w lacking = omega arith
+
+    -- or the lane stopped in it
+    module _ (said : ScriptLine) (is_said : said.operation ≡ x) (s : IsStoppedPublishing Sees new (pending_of actions) first) where
+      abbrev h : View
+      h = s.holding
+
+      abbrev entries : List Redo
+      entries = entries_of (pending_of actions)
+
+      abbrev steps : Sequence
+      steps = publishes entries operation.Publish new.last
+
+      abbrev k : ℕ
+      k = s.stopped.stops.made
+
+      abbrev w : View
+      w = after_all h (take k (steps h))
+
+      lane_is : h.lane ≡ 0
+      lane_is = lane_along first h s.led.steps s.led.leads is.of_lane
+
+      untouched : IsUntouched o h
+      untouched = untouched_along o first h s.led.steps s.led.leads s.led.uncounted (first_untouched o first lane new actions names is)
+
+      first_generation : generation_of h ≡ generation_word o.words 0
+      first_generation = ap (λ n. slice_index h.words (area_word n)) lane_is ∙ ap (λ (words : List ℕ). slice_index words (area_word 0)) untouched.words
+
+      raised : raises (take k (steps h)) ≡ raises (s.led.steps ++ take k (steps h))
+      raised = let both = raises_append s.led.steps (take k (steps h)) in let none = uncounted_raises s.led.steps s.led.uncounted in omega (arith, both, none)
+
+      in_flight : (n : ℕ) → IsDrawnAs h w n → w.call ≡ done operation.Publish ∷ [] → IsInFlight first names (said ∷ []) [] (raises (s.led.steps ++ take k (steps h))) w
+      unfolding values_of
+      in_flight n drawn told = record {
+        number = n;
+        drawn = drawn.number;
+        told = done operation.Publish ∷ [];
+        entries = drawn.entries ∙ (ap (λ (es : List Numbered). es ++ numbered n w.call ∷ []) s.undrawn ∙ ap (λ (call : List Told). first.entries ++ numbered n call ∷ []) told);
+        flies = subst (λ r. IsFlyingBy r w.log.phase) raised (publish_flies h entries operation.Publish new.last k n lane_is s.may drawn.number);
+        done = (subst (λ (y : ScriptOp). IsToldDone names y (done operation.Publish)) (sym (is_said ∙ says)) refl, tt);
+        gave = refl;
+        begun = refl;
+      }
+
+      pub publish_cut : IsCut o first new names (said ∷ []) []
+      publish_cut = record {
+        view = w;
+        steps = s.led.steps ++ take k (steps h);
+        leads = leads_then first h w s.led.steps (take k (steps h)) s.led.leads (stopped_leads Sees new h steps operation.Publish None s.stopped);
+        seen = s.stopped.stops.seen;
+        drawn = s.stopped.drawn;
+        came =
+            ⊎_elim (λ (none : (w.number ≡ None) × (w.entries ≡ h.entries)). inl (record { number = none.0; entries = none.1 ∙ s.undrawn }))
+            (λ (drawn : (n : ℕ) × IsDrawnAs h w n). inr (in_flight drawn.0 drawn.1
+            (⊎_elim (λ (none : w.number ≡ None). absurd (none-some drawn.0 (sym none ∙ drawn.1.number))) (λ (told : w.call ≡ h.call ++ done operation.Publish ∷ []). told ∙ ap (λ (call : List Told). call ++ done operation.Publish ∷ []) s.untold) s.stopped.came.told)))
+            s.stopped.came.entries;
+        opening = publish_first o h (steps h) k lane_is s.stopped.ready first_generation (length entries) (publishes_so h entries s.may lane_is operation.Publish new.last k);
+        untorn = inl (record { view = h; steps = s.led.steps; leads = s.led.leads; working = s.works; calm = λ quiet. quiet_in_publish h entries operation.Publish new.last k quiet s.may.few s.may.each });
+        at_stop = s.stopped.stops.stopped;
+        stops = inr (record {
+          publish = record { line = said; alone = refl; says = is_said ∙ says; outside = refl };
+          start = h;
+          free = record { led = s.led; undrawn = s.undrawn };
+          number = new.last;
+          stops = front_of (Sees new.memory) h (steps h) (publishes (pending_entries first) operation.Publish new.last) (ap (λ (pending : List Action). publishes (map entry_of pending) operation.Publish new.last h) is.pending.are) s.stopped.stops;
+        });
+        few = (
+            let both = stores_append s.led.steps (take k (steps h)) in
+            let before = led_stores first h s.led in
+            let part = stores_first k (steps h) in
+            let all = publish_stores entries operation.Publish new.last h in
+            let short = s.may.few in
+            let most = ap (most_stores names) (is_said ∙ says) in
+            let within = lines_within names [] [] said in
+            let none : stores_of_lines names [] ≡ 0 = refl in omega (arith, both, before, part, all, short, most, within, none));
+      }
+
+    -- however it is answered
+    pub publish_acted : {T : Type 0} (result : Result T Refusal) (left : List SetAction) → PublishEnds Sees new actions first result → OnOk result (left ≡ []) → OnErr result (left ≡ actions)
+        → (result ≡ Err refusal.OutOfRange → 1 ≤ length actions) → ActedOutside o first new left names x result
+    publish_acted (Ok done) left ends emptied kept some = subst (λ (list : List SetAction). IsActed first new list names x None) (sym emptied) (published actions refl ends)
+    publish_acted (Err refusal.Stopped) left ends emptied kept some = λ said is_said. publish_cut said is_said ends
+    publish_acted (Err refusal.Spent) left ends emptied kept some = spent o first lane new actions names is ends
+    publish_acted (Err refusal.Busy) left ends emptied kept some = absurd (not_busy o first lane new actions names is ends)
+    publish_acted (Err refusal.NoObject) left ends emptied kept some =
+        subst (λ (list : List SetAction). IsActed first new list names x (Some refusal.NoObject)) (sym kept) (refused_publish refusal.NoObject (inl refl) ends.told (lacking_some actions ends.told.view ends.lacking))
+    publish_acted (Err refusal.OutOfRange) left ends emptied kept some =
+        subst (λ (list : List SetAction). IsActed first new list names x (Some refusal.OutOfRange)) (sym kept) (refused_publish refusal.OutOfRange (inr refl) ends (some refl))
+    publish_acted (Err r) left ends emptied kept some = absurd ends
+
+-- what holds of an answer's lists holds of what they hold
+pub items_kept : {T A B : Type 0} (result : Result T Refusal) (f : A → B) (x y : A) → OnErr result (x ≡ y) → OnErr result (f x ≡ f y)
+items_kept (Ok done) f x y same = same
+items_kept (Err r) f x y same = ap f same
+
+-- a call outside in which the lane stopped is cut
+pub stopped_in : {T : Type 0} (o : Opening) (first : View) (new : Lane Solo) (left : List SetAction) (names : Names) (said : ScriptLine) (result : Result T Refusal) → result ≡ Err refusal.Stopped → ActedOutside o first new left names said.operation result → IsCut o first new names (said ∷ []) []
+stopped_in o first new left names said result is acted = subst (ActedOutside o first new left names said.operation) is acted said refl
+
+-- lines that are a call and begin with one that stands alone are that line
+pub one_line : (lines : List ScriptLine) (first : ScriptLine) → IsCall (operations lines) → first ≡ get_or lines 0 first → stands_alone first.operation ≡ true → lines ≡ first ∷ []
+one_line [] first (inl t) is alone = absurd (let clash = ap length t.2 in omega (arith, clash))
+one_line [] first (inr t) is alone = absurd (let clash = ap length t.1 in omega (arith, clash))
+one_line (line ∷ lines) first (inl t) is alone =
+    let begins : line.operation ≡ op.Begin t.0 = ap (λ (ops : List ScriptOp). get_or ops 0 op.Commit) t.2 in
+    absurd (false≢true (sym (ap stands_alone begins) ∙ ap (λ (l : ScriptLine). stands_alone l.operation) (sym is) ∙ alone))
+one_line (line ∷ []) first (inr t) is alone = ap (λ (l : ScriptLine). l ∷ []) (sym is)
+one_line (line ∷ more ∷ lines) first (inr t) is alone = absurd (let long = ap length t.1 in omega (arith, long))

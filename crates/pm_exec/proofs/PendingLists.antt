@@ -1,0 +1,67 @@
+-- What is pending behind a line, and behind a call that drew its number; and which steps store no generation.
+use Rattle.std.proofs.Common.{◌≡◌, ◌≤◌, Bool, true, false, cond, refl, arith, ℕ, List, [], ◌∷◌, ◌++◌, sym, ap, ◌∙◌}
+use Rattle.pm_crash.specs.Pending.{pending_before, pending_behind, pending_from, pending_in, pending_told}
+use Rattle.pm_crash.proofs.PendingOn.{calls_further, pending_once_more, same_before}
+use Rattle.pm_model.specs.Actions.{Action}
+use Rattle.pm_pending.specs.declared.actions.SetAction.{SetAction}
+use Rattle.pm_view.specs.View.{Numbered, Told, View}
+use Rattle.pm_crash.specs.Alone.{is_raise, raises}
+use Rattle.pm_crash.proofs.Raises.{raise_by}
+use Rattle.pm_view.specs.Counts.{counted, is_counted}
+use Rattle.pm_view.specs.Steps.{Step}
+use Rattle.pm_view.specs.Steps.Step.{And, Drain, Draw, Flush, Give, Load, NumberSeen, Occupied, Occupy, Or, Raise, SetStop, StopSeen, Store, TakeRead, TakeWrite, Tell, Vacate, ZoneGive, ZoneTry}
+use Rattle.pm_exec.specs.Progress.{IsPending}
+
+-- the list is the same, where the same is pending
+pub still_pending : {actions : List SetAction} {before : List Action} (behind : List Action) → behind ≡ before → IsPending actions before → IsPending actions behind
+still_pending behind same is = record { are = is.are ∙ sym same; aligned = is.aligned }
+
+-- behind a call that came to one operation more and drew its number
+pub drawn_pending : (first v w : View) (n : ℕ) (t : Told) → v.entries ≡ first.entries → w.entries ≡ first.entries ++ record { number = n; call = w.call } ∷ [] → w.call ≡ v.call ++ t ∷ []
+    → pending_before w ≡ pending_behind t.operation t.reply (pending_in v)
+drawn_pending first v w n t kept drawn told =
+    let e : Numbered = record { number = n; call = w.call } in
+    let u : View = record v { call = w.call } in
+    ap (pending_from []) drawn ∙ calls_further [] first.entries e ∙ ap (λ (actions : List Action). pending_told actions w.call) (sym (same_before first v kept))
+    ∙ pending_once_more v u t.operation t.reply (λ j. v.entries) told
+
+-- the call drew it at its one operation
+pub drawn_first : (first w : View) (n : ℕ) (t : Told) → w.entries ≡ first.entries ++ record { number = n; call = t ∷ [] } ∷ [] → pending_before w ≡ pending_behind t.operation t.reply (pending_before first)
+unfolding pending_told
+drawn_first first w n t drawn = ap (pending_from []) drawn ∙ calls_further [] first.entries (record { number = n; call = t ∷ [] })
+
+-- a step that is no counted call stores none
+raises_counted : (s : Step) → raise_by s ≤ cond (is_counted s) 1 0
+raises_counted (Load w x) = omega arith
+raises_counted (Store w x) = at (is_raise (Store w x)) where
+  at : (b : Bool) → cond b 1 0 ≤ 1
+  at true = omega arith
+  at false = omega arith
+raises_counted (Or w bits found) = omega arith
+raises_counted (And w bits found) = omega arith
+raises_counted (Flush line) = omega arith
+raises_counted Drain = omega arith
+raises_counted (TakeWrite line won) = omega arith
+raises_counted (TakeRead line won) = omega arith
+raises_counted (Raise line won) = omega arith
+raises_counted (Give line) = omega arith
+raises_counted (ZoneTry zone won) = omega arith
+raises_counted (ZoneGive zone) = omega arith
+raises_counted (Occupied at found) = omega arith
+raises_counted (Occupy at bits won) = omega arith
+raises_counted (Vacate at bits) = omega arith
+raises_counted (Draw n) = omega arith
+raises_counted (NumberSeen n) = omega arith
+raises_counted (StopSeen set) = omega arith
+raises_counted SetStop = omega arith
+raises_counted (Tell operation reply) = omega arith
+
+pub uncounted_raises : (steps : List Step) → counted steps ≡ 0 → raises steps ≡ 0
+unfolding raises counted
+uncounted_raises [] none = refl
+uncounted_raises (s ∷ steps) none =
+    let here = raises_counted s in
+    let one : ℕ = cond (is_counted s) 1 0 in
+    let first : one ≡ 0 = omega (arith, none) in
+    let rest = uncounted_raises steps (let e : counted steps ≡ 0 = omega (arith, none) in e) in
+    omega (arith, here, first, rest)
