@@ -33,6 +33,11 @@ sees_locks m v line word locks within here there sees = record {
       (cases_eq line other);
   zone_locks = sees.zone_locks;
   lines = length-set m.locks line word ∙ sees.lines;
+  runs = sees.runs;
+  zones = sees.zones;
+  pages = sees.pages;
+  zone_count = sees.zone_count;
+  zone_lock_count = sees.zone_lock_count;
   alone = sees.alone;
 }
 
@@ -87,6 +92,11 @@ sees_regions m v reserved freed known sees = record {
   locks = sees.locks;
   zone_locks = sees.zone_locks;
   lines = sees.lines;
+  runs = sees.runs;
+  zones = sees.zones;
+  pages = sees.pages;
+  zone_count = sees.zone_count;
+  zone_lock_count = sees.zone_lock_count;
   alone = sees.alone;
 }
 
@@ -119,25 +129,30 @@ sees_zones m v zone held zones within here there sees = record {
       (λ (differ : zone ≢ other). get_or-set_other m.zone_locks zone other held false (λ e. differ (sym e)) ∙ (sees.zone_locks other inside_before ∙ sym (there other differ)))
       (cases_eq zone other);
   lines = sees.lines;
+  runs = sees.runs;
+  zones = sees.zones;
+  pages = sees.pages;
+  zone_count = sees.zone_count;
+  zone_lock_count = length-set m.zone_locks zone held ∙ sees.zone_lock_count;
   alone = sees.alone;
 }
 
-or_false : (b : Bool) → (b || false) ≡ b
+pub or_false : (b : Bool) → (b || false) ≡ b
 or_false true = refl
 or_false false = refl
 
-or_true : (b : Bool) → (b || true) ≡ true
+pub or_true : (b : Bool) → (b || true) ≡ true
 or_true true = refl
 or_true false = refl
 
 -- whether a zone is among those with one more
-one_more : (zones : List ℕ) (zone other : ℕ) (b : Bool) → eqb zone other ≡ b → list_any (λ z. eqb z other) (zones ++ zone ∷ []) ≡ (list_any (λ z. eqb z other) zones || b)
+pub one_more : (zones : List ℕ) (zone other : ℕ) (b : Bool) → eqb zone other ≡ b → list_any (λ z. eqb z other) (zones ++ zone ∷ []) ≡ (list_any (λ z. eqb z other) zones || b)
 one_more zones zone other b is = list_any-append (λ z. eqb z other) zones (zone ∷ []) ∙ ap (λ c. list_any (λ z. eqb z other) zones || c) (or_false (eqb zone other) ∙ is)
 
-abbrev without_zone : ℕ → List ℕ → List ℕ
+abbrev pub without_zone : ℕ → List ℕ → List ℕ
 without_zone zone zones = filter (λ z. not (eqb z zone)) zones
 
-without_zone-here : (zones : List ℕ) (zone : ℕ) → list_any (λ z. eqb z zone) (without_zone zone zones) ≡ false
+pub without_zone-here : (zones : List ℕ) (zone : ℕ) → list_any (λ z. eqb z zone) (without_zone zone zones) ≡ false
 without_zone-here [] zone = refl
 without_zone-here (z ∷ zones) zone =
     ⊎_elim
@@ -147,7 +162,7 @@ without_zone-here (z ∷ zones) zone =
     ∙ (ap (λ b. b || list_any (λ k. eqb k zone) (without_zone zone zones)) (ne_eqb z zone apart) ∙ without_zone-here zones zone))
     (cases_eq z zone)
 
-without_zone-there : (zones : List ℕ) (zone other : ℕ) → zone ≢ other → list_any (λ z. eqb z other) (without_zone zone zones) ≡ list_any (λ z. eqb z other) zones
+pub without_zone-there : (zones : List ℕ) (zone other : ℕ) → zone ≢ other → list_any (λ z. eqb z other) (without_zone zone zones) ≡ list_any (λ z. eqb z other) zones
 without_zone-there [] zone other differ = refl
 without_zone-there (z ∷ zones) zone other differ =
     let rest = without_zone-there zones zone other differ in
@@ -159,13 +174,13 @@ without_zone-there (z ∷ zones) zone other differ =
     (cases_eq z zone)
 
 pub zone_try_made : (m n : Solo) (zone : ℕ) (was won : Bool) → zone < length m.zone_locks → get_or m.zone_locks zone false ≡ false → was ≡ get_or m.zone_locks zone false → won ≡ not was → n ≡ record m { zone_locks = set m.zone_locks zone true } → (v : View) → Sees m v
-    → Sees n (after v (ZoneTry zone won)) × Unit {0} × Unit {0}
+    → Sees n (after v (ZoneTry zone won)) × Unit {0} × (IsAlone v → IsTrue won)
 zone_try_made m n zone was won within free found answers is v sees =
     let granted : won ≡ true = answers ∙ ap not (found ∙ free) in
     let held : Sees (record m { zone_locks = set m.zone_locks zone true }) (record v { zone_locks = v.zone_locks ++ zone ∷ [] }) =
     sees_zones m v zone true (v.zone_locks ++ zone ∷ []) within (one_more v.zone_locks zone zone true (eq-eqb zone zone refl) ∙ or_true _) (λ other differ. one_more v.zone_locks zone other false (ne_eqb zone other differ) ∙ or_false _) sees in
     let made : Sees n (after v (ZoneTry zone true)) = subst (λ (k : Solo). Sees k (after v (ZoneTry zone true))) (sym is) (sees_seen _ _ (ZoneTry zone true) (search rules) (λ k e. cc) held) in
-    (subst (λ (b : Bool). Sees n (after v (ZoneTry zone b))) (sym granted) made, tt, tt)
+    (subst (λ (b : Bool). Sees n (after v (ZoneTry zone b))) (sym granted) made, tt, λ alone. subst IsTrue (sym granted) (search rules))
 
 pub zone_give_made : (m n : Solo) (zone : ℕ) → zone < length m.zone_locks → n ≡ record m { zone_locks = set m.zone_locks zone false } → (v : View) → Sees m v → Sees n (after v (ZoneGive zone)) × Unit {0} × Unit {0}
 zone_give_made m n zone within is v sees =

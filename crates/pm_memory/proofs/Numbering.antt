@@ -1,6 +1,9 @@
 -- How lane 0's view follows its occupancy words, its commit counter and its stop word: `m` is the memory before, `n` the memory after.
-use Rattle.std.proofs.Common.{◌≡◌, ℕ, suc, ◌+◌, ◌<◌, ◌≤◌, Bool, true, false, List, [], ◌∷◌, ◌++◌, length, length-append, sym, ◌∙◌, subst, arith}
+use Rattle.std.proofs.Common.{◌≡◌, ◌≢◌, ◌↔◌, ℕ, suc, ◌+◌, ◌/◌, ◌<◌, ◌≤◌, bit_and, bit_or, Bool, true, false, IsTrue, List, [], ◌∷◌, ◌++◌, length, length-append, length-set, set, slice_index, refl, sym, ap, ◌∙◌, subst, arith}
+use Rattle.std.specs.Int.{bit_not, w64}
 use Rattle.std.specs.List.{All, Contains}
+use Rattle.std.proofs.lemmas.Bool.{false≢true}
+use Rattle.std.proofs.lemmas.List.{set-get_or}
 use Rattle.std.proofs.lemmas.List.Elements.{All-cons, All-weaker, All-nil}
 use Rattle.pm_view.specs.declared.occ.Occ.{Occ}
 use Rattle.pm_view.specs.declared.occ.Occ.TheVariants.{Run, Zone}
@@ -10,12 +13,12 @@ use Rattle.pm_view.specs.Log.Phase.{Idle, Open, Drawn, Sealing, Applying, Cleari
 use Rattle.pm_view.specs.Steps.{Step}
 use Rattle.pm_view.specs.Steps.Step.{Occupied, Occupy, Vacate, Draw, NumberSeen, StopSeen}
 use Rattle.pm_view.specs.View.{View, Taken, Numbered}
-use Rattle.pm_view.specs.Views.{after, begun, with_taken, without_taken}
-use Rattle.pm_memory.specs.Solo.{Solo, Sees, AreNumbered, IsGranted, with_occ}
+use Rattle.pm_view.specs.Views.{after, begun, occ_in, runs_with, zones_with, vacated_word, with_taken, without_taken, with_occ as pictured}
+use Rattle.pm_memory.specs.Solo.{Solo, Sees, AreNumbered, IsGranted, occ_word, with_occ}
 use Rattle.pm_memory.proofs.Seeing.{sees_seen}
 
--- occupancy words are no concern of a view, nor is what it reserved or freed one of the memory
-sees_occ : (m : Solo) (at : Occ) (word : ℕ) (v : View) (reserved freed : List Taken) (known : List ℕ) → Sees m v → Sees (with_occ m at word) (record v { reserved = reserved; freed = freed; known = known })
+-- another occupancy word, in the memory and in the picture of it; what the lane reserved or freed is no concern of the memory
+sees_occ : (m : Solo) (at : Occ) (word : ℕ) (v : View) (reserved freed : List Taken) (known : List ℕ) → Sees m v → Sees (with_occ m at word) (record (pictured at word v) { reserved = reserved; freed = freed; known = known })
 sees_occ m (Run place) word v reserved freed known sees = record {
   lane = sees.lane;
   words = sees.words;
@@ -29,6 +32,11 @@ sees_occ m (Run place) word v reserved freed known sees = record {
   locks = sees.locks;
   zone_locks = sees.zone_locks;
   lines = sees.lines;
+  runs = ap (λ (runs : List ℕ). set runs (place / 4096) word) sees.runs;
+  zones = sees.zones;
+  pages = length-set m.runs (place / 4096) word ∙ sees.pages;
+  zone_count = sees.zone_count;
+  zone_lock_count = sees.zone_lock_count;
   alone = sees.alone;
 }
 sees_occ m (Zone zone) word v reserved freed known sees = record {
@@ -44,22 +52,72 @@ sees_occ m (Zone zone) word v reserved freed known sees = record {
   locks = sees.locks;
   zone_locks = sees.zone_locks;
   lines = sees.lines;
+  runs = sees.runs;
+  zones = ap (λ (zones : List ℕ). set zones zone word) sees.zones;
+  pages = sees.pages;
+  zone_count = length-set m.zones zone word ∙ sees.zone_count;
+  zone_lock_count = sees.zone_lock_count;
   alone = sees.alone;
 }
 
-pub occupied_made : (m : Solo) (at : Occ) (found : ℕ) (v : View) → Sees m v → Sees m (after v (Occupied at found)) × Unit {0} × Unit {0}
-occupied_made m at found v sees = (sees_seen m v (Occupied at found) tt (λ k e. cc) sees, tt, tt)
+-- the picture of an occupancy word is the word
+pictured_so : (m : Solo) (at : Occ) (v : View) → Sees m v → occ_in v at ≡ occ_word m at
+pictured_so m (Run place) v sees = ap (λ (runs : List ℕ). slice_index runs (place / 4096)) sees.runs
+pictured_so m (Zone zone) v sees = ap (λ (zones : List ℕ). slice_index zones zone) sees.zones
 
-pub occupy_refused : (m : Solo) (at : Occ) (bits : ℕ) (v : View) → Sees m v → Sees m (after v (Occupy at bits false)) × Unit {0} × Unit {0}
-occupy_refused m at bits v sees = (sees_seen m v (Occupy at bits false) tt (λ k e. cc) sees, tt, tt)
+-- a word made what it is stays
+pub same_runs : (at : Occ) (v : View) → runs_with at (occ_in v at) v.run_words ≡ v.run_words
+same_runs (Run place) v = set-get_or v.run_words (place / 4096) 0
+same_runs (Zone zone) v = refl
 
-pub occupy_made : (m n : Solo) (at : Occ) (bits word : ℕ) → n ≡ with_occ m at word → (v : View) → Sees m v → Sees n (after v (Occupy at bits true)) × Unit {0} × Unit {0}
-occupy_made m n at bits word is v sees =
+pub same_zones : (at : Occ) (v : View) → zones_with at (occ_in v at) v.zone_words ≡ v.zone_words
+same_zones (Run place) v = refl
+same_zones (Zone zone) v = set-get_or v.zone_words zone 0
+
+sees_found : (m : Solo) (at : Occ) (found : ℕ) (v : View) → found ≡ occ_in v at → Sees m v → Sees m (pictured at found v)
+sees_found m at found v is sees = record {
+  lane = sees.lane;
+  words = sees.words;
+  changes = sees.changes;
+  stop = sees.stop;
+  calls = sees.calls;
+  within = sees.within;
+  numbers = sees.numbers;
+  count = sees.count;
+  counter = sees.counter;
+  locks = sees.locks;
+  zone_locks = sees.zone_locks;
+  lines = sees.lines;
+  runs = ap (λ x. runs_with at x v.run_words) is ∙ (same_runs at v ∙ sees.runs);
+  zones = ap (λ x. zones_with at x v.zone_words) is ∙ (same_zones at v ∙ sees.zones);
+  pages = sees.pages;
+  zone_count = sees.zone_count;
+  zone_lock_count = sees.zone_lock_count;
+  alone = sees.alone;
+}
+
+pub occupied_made : (m : Solo) (at : Occ) (found : ℕ) → found ≡ occ_word m at → (v : View) → Sees m v → Sees m (after v (Occupied at found)) × Unit {0} × (IsAlone v → found ≡ occ_in v at)
+occupied_made m at found is v sees =
+    let same : found ≡ occ_in v at = is ∙ sym (pictured_so m at v sees) in
+    (sees_seen m (pictured at found v) (Occupied at found) tt (λ k e. cc) (sees_found m at found v same sees), tt, λ alone. same)
+
+pub occupy_refused : (m : Solo) (at : Occ) (bits found : ℕ) → found ≡ occ_word m at → bit_and found bits ≢ 0 → (v : View) → Sees m v → Sees m (after v (Occupy at bits false)) × Unit {0} × (IsAlone v → IsTrue false ↔ (bit_and (occ_in v at) bits ≡ 0))
+occupy_refused m at bits found is taken v sees =
+    (sees_seen m (pictured at (occ_in v at) v) (Occupy at bits false) tt (λ k e. cc) (sees_found m at (occ_in v at) v refl sees), tt,
+    λ alone. ((λ t. absurd (false≢true t)), λ none. absurd (taken (ap (λ w. bit_and w bits) (is ∙ sym (pictured_so m at v sees)) ∙ none))))
+
+pub occupy_made : (m n : Solo) (at : Occ) (bits found : ℕ) → found ≡ occ_word m at → bit_and found bits ≡ 0 → n ≡ with_occ m at (bit_or found bits) → (v : View) → Sees m v → Sees n (after v (Occupy at bits true)) × Unit {0} × (IsAlone v → IsTrue true ↔ (bit_and (occ_in v at) bits ≡ 0))
+occupy_made m n at bits found was free is v sees =
     let reserved : List Taken = with_taken at bits true v.reserved in
-    (subst (λ (k : Solo). Sees k (after v (Occupy at bits true))) (sym is) (sees_seen _ (record v { reserved = reserved }) (Occupy at bits true) tt (λ k e. cc) (sees_occ m at word v reserved v.freed v.known sees)), tt, tt)
+    let word : ℕ = bit_or (occ_in v at) bits in
+    let becomes : n ≡ with_occ m at word = is ∙ ap (λ w. with_occ m at (bit_or w bits)) (was ∙ sym (pictured_so m at v sees)) in
+    (subst (λ (k : Solo). Sees k (after v (Occupy at bits true))) (sym becomes) (sees_seen _ (record (pictured at word v) { reserved = reserved }) (Occupy at bits true) tt (λ k e. cc) (sees_occ m at word v reserved v.freed v.known sees)), tt,
+    λ alone. ((λ t. ap (λ w. bit_and w bits) (pictured_so m at v sees ∙ sym was) ∙ free), λ none. refl))
 
-pub vacate_made : (m n : Solo) (at : Occ) (bits word : ℕ) → n ≡ with_occ m at word → (v : View) → Sees m v → Sees n (after v (Vacate at bits)) × Unit {0} × Unit {0}
-vacate_made m n at bits word is v sees = (subst (λ (k : Solo). Sees k (after v (Vacate at bits))) (sym is) (sees_occ m at word v (without_taken at bits v.reserved) (without_taken at bits v.freed) _ sees), tt, tt)
+pub vacate_made : (m n : Solo) (at : Occ) (bits found : ℕ) → found ≡ occ_word m at → n ≡ with_occ m at (bit_and found (bit_not w64 bits)) → (v : View) → Sees m v → Sees n (after v (Vacate at bits)) × Unit {0} × Unit {0}
+vacate_made m n at bits found was is v sees =
+    let becomes : n ≡ with_occ m at (vacated_word bits (occ_in v at)) = is ∙ ap (λ w. with_occ m at (vacated_word bits w)) (was ∙ sym (pictured_so m at v sees)) in
+    (subst (λ (k : Solo). Sees k (after v (Vacate at bits))) (sym becomes) (sees_occ m at (vacated_word bits (occ_in v at)) v (without_taken at bits v.reserved) (without_taken at bits v.freed) _ sees), tt, tt)
 
 -- entries that are numbered from one number on, with one more behind them
 numbered_more : (n : ℕ) (entries : List Numbered) (e : Numbered) → AreNumbered n entries → e.number ≡ n + length entries → AreNumbered n (entries ++ e ∷ [])
@@ -96,6 +154,11 @@ draw_made m n number next is v sees = (
     locks = sees.locks;
     zone_locks = sees.zone_locks;
     lines = sees.lines;
+    runs = sees.runs;
+    zones = sees.zones;
+    pages = sees.pages;
+    zone_count = sees.zone_count;
+    zone_lock_count = sees.zone_lock_count;
     alone = sees.alone;
   },
   own_below m v number sees (omega (arith, next)),
@@ -119,6 +182,11 @@ sees_begun m Idle v sees = record {
   locks = sees.locks;
   zone_locks = sees.zone_locks;
   lines = sees.lines;
+  runs = sees.runs;
+  zones = sees.zones;
+  pages = sees.pages;
+  zone_count = sees.zone_count;
+  zone_lock_count = sees.zone_lock_count;
   alone = All-nil IsGranted;
 }
 sees_begun m (Open slot pair) v sees = sees

@@ -31,6 +31,11 @@ sees_seen m v s granted drawn sees = record {
   locks = sees.locks;
   zone_locks = sees.zone_locks;
   lines = sees.lines;
+  runs = sees.runs;
+  zones = sees.zones;
+  pages = sees.pages;
+  zone_count = sees.zone_count;
+  zone_lock_count = sees.zone_lock_count;
   alone = All-push IsGranted v.seen s sees.alone granted;
 }
 
@@ -66,6 +71,11 @@ sees_loaded m v w x found sees =
         locks = λ line there. sees.locks line there ∙ sym (lock_word-map (with_block v.lanes (set v.words w x) w) (line-with_block v.lanes (set v.words w x) w) (write-with_block v.lanes (set v.words w x) w) v.locks line);
         zone_locks = sees.zone_locks;
         lines = sees.lines;
+        runs = sees.runs;
+        zones = sees.zones;
+        pages = sees.pages;
+        zone_count = sees.zone_count;
+        zone_lock_count = sees.zone_lock_count;
         alone = sees.alone;
       },
       λ known. found ∙ ap (λ (words : List ℕ). slice_index words w) (sym sees.words),
@@ -87,6 +97,11 @@ sees_changed m v c x log due fits sees = record {
   locks = sees.locks;
   zone_locks = sees.zone_locks;
   lines = sees.lines ∙ ap (λ n. n / 8) (sym (length-set m.words c.word x));
+  runs = sees.runs;
+  zones = sees.zones;
+  pages = sees.pages ∙ ap (λ n. n / 512) (sym (length-set m.words c.word x));
+  zone_count = sees.zone_count;
+  zone_lock_count = sees.zone_lock_count;
   alone = sees.alone;
 }
 
@@ -106,6 +121,11 @@ sees_recounted m v f log due fits sees = record {
   locks = sees.locks;
   zone_locks = sees.zone_locks;
   lines = sees.lines;
+  runs = sees.runs;
+  zones = sees.zones;
+  pages = sees.pages;
+  zone_count = sees.zone_count;
+  zone_lock_count = sees.zone_lock_count;
   alone = sees.alone;
 }
 
@@ -124,5 +144,10 @@ sees_stopped m v sees = record {
   locks = sees.locks;
   zone_locks = sees.zone_locks;
   lines = sees.lines;
+  runs = sees.runs;
+  zones = sees.zones;
+  pages = sees.pages;
+  zone_count = sees.zone_count;
+  zone_lock_count = sees.zone_lock_count;
   alone = sees.alone;
 }

@@ -65,12 +65,18 @@ pub record Sees (m : Solo) (v : View) : Type 0 where
   -- a lock word has the lane's bit where the view has the lock, and no other
   pub locks : (line : ℕ) → line < length m.locks → slice_index m.locks line ≡ lock_word v.locks line
   pub zone_locks : (zone : ℕ) → zone < length m.zone_locks → slice_index_or m.zone_locks zone false ≡ list_any (λ other. other == zone) v.zone_locks
+  -- the occupancy words are the view's: one a page, and one a zone
+  pub runs : v.run_words ≡ m.runs
+  pub zones : v.zone_words ≡ m.zones
+  pub pages : length m.runs ≡ length m.words / 512
+  pub zone_count : length m.zones ≡ 32
+  pub zone_lock_count : length m.zone_locks ≡ 32
   -- alone, a lane is refused no lock
   pub alone : All IsGranted v.seen
 
--- the view of a memory that knows no more than its words, changes and calls
+-- the view of a memory that knows no more than its words, the occupancy words among them, changes and calls
 abbrev pub view_of : Solo → View
-view_of m = record blank { words = m.words; changes = m.changes; calls = m.calls; stop = m.stop }
+view_of m = record blank { words = m.words; run_words = m.runs; zone_words = m.zones; changes = m.changes; calls = m.calls; stop = m.stop }
 
 -- one more counted call
 abbrev pub counted : Solo → Solo

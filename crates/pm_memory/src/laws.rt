@@ -18,11 +18,12 @@ pub fn alone_no_lock_is_refused()
     ensures zone { (m : Solo) (v : View) (zone : ℕ) → Sees m (after v (ZoneTry zone false)) → ⊥ }
 {}
 
-/// A law: a memory that holds no lock, and of which no number was drawn, may be seen, so that what `LaneMem` promises of each view is said of some. No code runs.
+/// A law: a memory that holds no lock, with all its occupancy words, and of which no number was drawn, may be seen, so that what `LaneMem` promises of each view is said of some. No code runs.
 pub fn unlocked_memory_is_seen()
     ensures unlocked { (m : Solo)
         → length m.locks ≡ length m.words / 8 → All (λ word. word ≡ 0) m.locks → All (λ taken. taken ≡ false) m.zone_locks
         → m.calls < 2 ^ 64 → ForSome m.stop (λ stop. m.calls ≤ stop) → m.number ≡ 0
+        → length m.runs ≡ length m.words / 512 → length m.zones ≡ 32 → length m.zone_locks ≡ 32
         → Sees m (view_of m) }
     ensures opened { (words : List ℕ) (stop : Option ℕ)
         → Sees (opened words stop) (view_of (opened words stop)) }

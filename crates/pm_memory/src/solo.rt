@@ -15,7 +15,7 @@ const LINE_WORDS: usize = 8;
 /// Words of a page.
 const PAGE_WORDS: usize = 512;
 
-/// The memory of lane 0, alone, over the words themselves. The volatile words begin as 0; whoever opens a pool sets its occupancy words.
+/// The memory of lane 0, alone, over the words themselves. The volatile words begin as 0, unless whoever opens the pool gives its occupancy words.
 /// Contracts see all of it as `Solo`.
 #[derive(Drop)]
 pub struct SoloMem {
@@ -78,6 +78,18 @@ impl SoloMem {
             zones,
             zone_locks,
         })
+    }
+
+    /// The memory with these occupancy words: `runs` has one a page of 512 words, `zones` one a zone, 32 of them. They are volatile, and whoever opens
+    /// a pool knows them from its words.
+    pub fn with_occupancy(self, runs: Vec<u64>, zones: Vec<u64>) -> SoloMem
+        ensures { result ≡ record self { runs = runs.items; zones = zones.items } }
+    {
+        SoloMem {
+            runs,
+            zones,
+            ..self
+        }
     }
 
     /// A word as it stands, by its number; to ask for it is no call of the lane.

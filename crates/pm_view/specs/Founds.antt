@@ -1,9 +1,10 @@
 -- What a step tells that a lane's view knows before.
-use Rattle.std.specs.Prelude.{◌≡◌, ℕ, ◌<◌, ◌≤◌, IsTrue, All, [], length, slice_index}
+use Rattle.std.specs.Prelude.{◌≡◌, ℕ, ◌<◌, ◌≤◌, ◌↔◌, IsTrue, All, [], bit_and, length, slice_index}
 use Rattle.pm_view.specs.Held.{is_known}
 use Rattle.pm_view.specs.Steps.{Step}
-use Rattle.pm_view.specs.Steps.Step.{Load, Or, And, TakeWrite, TakeRead, Raise, Draw, NumberSeen}
+use Rattle.pm_view.specs.Steps.Step.{Load, Or, And, TakeWrite, TakeRead, Raise, ZoneTry, Occupied, Occupy, Draw, NumberSeen}
 use Rattle.pm_view.specs.View.{View, Numbered}
+use Rattle.pm_view.specs.Views.{occ_in}
 
 -- a word that the view knows has the value that the view has
 abbrev pub FindsKnown : View → ℕ → ℕ → Type 0
@@ -22,8 +23,8 @@ Found v s = Unit {0}
 abbrev pub IsAlone : View → Type 0
 IsAlone v = v.table ≡ []
 
--- what the step's reply says where the lane is alone: each word is as its view has it, no lock is refused, and the numbers drawn
--- are its own
+-- what the step's reply says where the lane is alone: each word is as its view has it, an occupancy word too, no lock is refused, bits
+-- are got exactly where all of them are clear, and the numbers drawn are its own
 abbrev pub FoundAlone : View → Step → Type 0
 FoundAlone v (Load w found) = IsAlone v → found ≡ slice_index v.words w
 FoundAlone v (Or w bits found) = IsAlone v → found ≡ slice_index v.words w
@@ -31,5 +32,8 @@ FoundAlone v (And w bits found) = IsAlone v → found ≡ slice_index v.words w
 FoundAlone v (TakeWrite line won) = IsAlone v → IsTrue won
 FoundAlone v (TakeRead line won) = IsAlone v → IsTrue won
 FoundAlone v (Raise line won) = IsAlone v → IsTrue won
+FoundAlone v (ZoneTry zone won) = IsAlone v → IsTrue won
+FoundAlone v (Occupied at found) = IsAlone v → found ≡ occ_in v at
+FoundAlone v (Occupy at bits won) = IsAlone v → (IsTrue won ↔ (bit_and (occ_in v at) bits ≡ 0))
 FoundAlone v (NumberSeen n) = IsAlone v → n ≡ length v.entries
 FoundAlone v s = Unit {0}

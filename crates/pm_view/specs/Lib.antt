@@ -7,6 +7,7 @@ pub mod Counts
 pub mod Founds
 pub mod Held
 pub mod Log
+pub mod Occupancy
 pub mod Rights
 pub mod Steps
 pub mod Survivors

@@ -43,6 +43,9 @@ pub record View : Type 0 where
   -- the pool's words as the lane last found or left them, and which of them count
   pub words : List ℕ
   pub known : List ℕ
+  -- the occupancy words as the lane last found or left them: those of runs by their page, and those of zones by their number
+  pub run_words : List ℕ
+  pub zone_words : List ℕ
   -- its undrained changes, the oldest first, and how many counted calls it made
   pub changes : List Change
   pub calls : ℕ
@@ -76,6 +79,8 @@ blank = record {
   table = [];
   words = [];
   known = [];
+  run_words = [];
+  zone_words = [];
   changes = [];
   calls = 0;
   log = no_log Idle;

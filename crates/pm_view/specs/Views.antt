@@ -1,5 +1,5 @@
 -- What each step does to a lane's view.
-use Rattle.std.specs.Prelude.{ℕ, ◌+◌, ◌==◌, Bool, true, false, not, if◌then◌else◌, List, [], ◌∷◌, ◌++◌, map, slice_index, slice_set, Option, Some, None, is_some, bit_and, bit_or}
+use Rattle.std.specs.Prelude.{ℕ, ◌+◌, ◌/◌, ◌==◌, Bool, true, false, not, if◌then◌else◌, List, [], ◌∷◌, ◌++◌, map, slice_index, slice_set, Option, Some, None, is_some, bit_and, bit_or}
 use Rattle.std.specs.List.{filter}
 use Rattle.pm_objects.specs.declared.calls.Operation.{Operation}
 use Rattle.pm_objects.specs.declared.history.Value.{Value}
@@ -69,6 +69,32 @@ is_same_occ (Run place) (Run other) = place == other
 is_same_occ (Zone zone) (Zone other) = zone == other
 is_same_occ at other = false
 
+-- the picture of an occupancy word
+abbrev pub occ_in : View → Occ → ℕ
+occ_in v (Run place) = slice_index v.run_words (place / 4096)
+occ_in v (Zone zone) = slice_index v.zone_words zone
+
+-- the words of runs, and those of zones, with this one made x
+abbrev pub runs_with : Occ → ℕ → List ℕ → List ℕ
+runs_with (Run place) x runs = slice_set runs (place / 4096) x
+runs_with (Zone zone) x runs = runs
+
+abbrev pub zones_with : Occ → ℕ → List ℕ → List ℕ
+zones_with (Run place) x zones = zones
+zones_with (Zone zone) x zones = slice_set zones zone x
+
+-- the view with x in the picture of an occupancy word
+abbrev pub with_occ : Occ → ℕ → View → View
+with_occ at x v = record v { run_words = runs_with at x v.run_words; zone_words = zones_with at x v.zone_words }
+
+-- an occupancy word after a try to take bits of it, and after bits of it were given back
+abbrev pub occupied_word : Bool → ℕ → ℕ → ℕ
+occupied_word true bits found = bit_or found bits
+occupied_word false bits found = found
+
+abbrev pub vacated_word : ℕ → ℕ → ℕ
+vacated_word bits found = bit_and found (bit_not w64 bits)
+
 -- blocks, and these bits of an occupancy word
 abbrev pub with_taken : Occ → ℕ → Bool → List Taken → List Taken
 with_taken at bits true blocks = blocks ++ record { at = at; bits = bits } ∷ []
@@ -111,9 +137,9 @@ after v (Draw n) = record v {
 }
 after v (ZoneTry zone won) = with_seen (ZoneTry zone won) (record v { zone_locks = zone_taken zone won v.zone_locks })
 after v (ZoneGive zone) = with_seen (ZoneGive zone) (record v { zone_locks = filter (λ other. not (other == zone)) v.zone_locks })
-after v (Occupied at found) = with_seen (Occupied at found) v
-after v (Occupy at bits won) = with_seen (Occupy at bits won) (record v { reserved = with_taken at bits won v.reserved })
-after v (Vacate at bits) = forgetful (record v { reserved = without_taken at bits v.reserved; freed = without_taken at bits v.freed })
+after v (Occupied at found) = with_seen (Occupied at found) (with_occ at found v)
+after v (Occupy at bits won) = with_seen (Occupy at bits won) (record (with_occ at (occupied_word won bits (occ_in v at)) v) { reserved = with_taken at bits won v.reserved })
+after v (Vacate at bits) = forgetful (record (with_occ at (vacated_word bits (occ_in v at)) v) { reserved = without_taken at bits v.reserved; freed = without_taken at bits v.freed })
 after v (NumberSeen n) = with_seen (NumberSeen n) (begun v.log.phase v)
 after v (StopSeen set) = with_seen (StopSeen set) v
 after v SetStop = v
