@@ -1,21 +1,22 @@
 -- What one lane may write another neither writes nor knows.
-use Rattle.std.proofs.Common.{◌≡◌, ◌≢◌, ℕ, ◌+◌, ◌*◌, ◌^◌, ◌<◌, ◌≤◌, ◌⊎◌, ⊎_elim, Bool, true, false, leb, ltb, eqb, ◌||◌, IsTrue, IfSome, All, List, [], Option, Some, None, sym, ap, ◌∙◌, arith, pow_mono}
+use Rattle.std.proofs.Common.{◌≡◌, ◌≢◌, ℕ, ◌+◌, ◌*◌, ◌^◌, ◌<◌, ◌≤◌, ◌⊎◌, ⊎_elim, Bool, true, false, leb, ltb, eqb, ◌||◌, IsTrue, IfSome, All, List, [], slice_index, Option, Some, None, sym, ap, ◌∙◌, arith, pow_mono}
 use Rattle.std.specs.List.{list_any}
 use Rattle.std.proofs.lemmas.Bool.{and_parts, or_cases, leb-true, ltb-true, eqb-true, false≢true, false_from_ne_true}
 use Rattle.std.proofs.lemmas.List.Elements.{All-contains}
 use Rattle.std.proofs.lemmas.List.Folds.{Any-from_list_any}
 use Rattle.pm_view.specs.Area.{area_word, is_in_area}
-use Rattle.pm_view.specs.Blocks.{block_at, covers}
+use Rattle.pm_view.specs.Blocks.{block_at}
 use Rattle.pm_view.specs.Held.{root_word, is_under_found, is_under, is_reserved, is_held}
 use Rattle.pm_view.specs.Log.{Final}
 use Rattle.pm_view.specs.Rights.{is_written}
-use Rattle.pm_view.specs.View.{View, Lock, Taken}
+use Rattle.pm_view.specs.View.{View, Lock}
 use Rattle.pm_image.specs.Reads.{IsHeapWord}
 use Rattle.pm_memory.specs.LockWords.{writer_bit}
 use Rattle.pm_world.specs.Fits.{ShowsHold, LockFits, LaneFits}
 use Rattle.pm_world.specs.Memory.{Memory}
 use Rattle.pm_world.specs.Memory.Location.{LockWord}
 use Rattle.pm_world.specs.Opening.{Opening, Guards, IsSound}
+use Rattle.pm_world.proofs.Reserved.{reserved_apart}
 use Rattle.pm_world.proofs.Exclusion.{WritesUnder, writes_under, one_writer, pow_injective}
 
 pub area_bounds : (lane w : ℕ) → IsTrue (is_in_area lane w) → (512 + 1024 * lane ≤ w) × (w < 1536 + 1024 * lane)
@@ -74,14 +75,9 @@ held_apart o mem settled flies j k w v sound low inside other own fits e =
     let l : Lock = t.1 in
     let fit = All-contains (LockFits o mem j) v.locks l fits.locks (t.0, t.2, t.3) in
     holds_apart o mem j k w l.line l.write l.block sound low inside other own fit.shows fit.found t.4 in
-    let reserved : is_reserved v w ≡ true → ⊥ = λ there. false≢true (ap (list_any (λ (x : Taken). covers v.lanes v.words x.at x.bits w)) (sym fits.blocks.reserved) ∙ there) in
+    let reserved : is_reserved v w ≡ true → ⊥ = λ there.
+    let apart = reserved_apart (slice_index o.words) o.lanes o.zones v w fits.lane.lanes fits.picture.descriptors fits.blocks there in
+    ⊎_elim (λ (area : IsTrue (is_in_area k w)). let a = (area_bounds k w area).1 in let behind = apart.behind in absurd (omega arith)) (λ (t : WritesUnder o mem k w). apart.outside (sound.in_blocks t.0 w t.1)) own in
     let by_area : is_in_area v.lane w ≡ true → ⊥ = λ there. area_apart o mem j k w sound low inside other own (ap (λ n. is_in_area n w) (sym fits.lane.lane) ∙ there) in
     ⊎_elim (λ (one : (is_in_area v.lane w || list_any (is_under w) v.locks) ≡ true). ⊎_elim by_area by_lock (or_cases (is_in_area v.lane w) (list_any (is_under w) v.locks) one)) reserved
-    (or_cases (is_in_area v.lane w || list_any (is_under w) v.locks) (is_reserved v w) e)
-
--- where nothing is reserved, what a lane holds is of its area or under a lock
-pub held_core : (v : View) (w : ℕ) → v.reserved ≡ [] → IsTrue (is_held v w) → (is_in_area v.lane w || list_any (is_under w) v.locks) ≡ true
-held_core v w none e =
-    ⊎_elim (λ (one : (is_in_area v.lane w || list_any (is_under w) v.locks) ≡ true). one)
-    (λ (there : is_reserved v w ≡ true). absurd (false≢true (ap (list_any (λ (x : Taken). covers v.lanes v.words x.at x.bits w)) (sym none) ∙ there)))
     (or_cases (is_in_area v.lane w || list_any (is_under w) v.locks) (is_reserved v w) e)

@@ -32,7 +32,7 @@ block_of-other line descriptor bitmap bitmap' none =
 pub chunk_here : (lanes page : ℕ) → is_chunk lanes page ≡ true → IsChunk lanes page
 chunk_here lanes page e = let t = and_parts (leb (zone_page lanes 0) page) (leb 1 (chunk_of lanes page)) e in (leb-true (zone_page lanes 0) page t.0, leb-true 1 (chunk_of lanes page) t.1)
 
-chunk_is : (lanes page : ℕ) → IsChunk lanes page → is_chunk lanes page ≡ true
+pub chunk_is : (lanes page : ℕ) → IsChunk lanes page → is_chunk lanes page ≡ true
 chunk_is lanes page c = and_from (leb (zone_page lanes 0) page) (leb 1 (chunk_of lanes page)) (le-leb (zone_page lanes 0) page c.0) (le-leb 1 (chunk_of lanes page) c.1)
 
 -- where the chunk of the line is a run, its bitmap tells of the line

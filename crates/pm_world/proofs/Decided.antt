@@ -30,7 +30,8 @@ use Rattle.pm_world.proofs.Numbers.{number_upto}
 use Rattle.pm_world.proofs.Pairs.{difference-written, entries_sealed, entries_whole}
 use Rattle.pm_world.proofs.Replays.{made_final-other, replayed-same, replayed-last}
 use Rattle.pm_world.proofs.Slots.{all_stale}
-use Rattle.pm_world.proofs.Worlds.{own, each_lane', unlogged_here, unlogged_else, unlogged_before, entry_kept, entries_kept, room_kept}
+use Rattle.pm_world.proofs.Heaps.{all_same}
+use Rattle.pm_world.proofs.Worlds.{heap_here, own, each_lane', unlogged_here, unlogged_else, unlogged_before, entry_kept, entries_kept, room_kept}
 
 or_false : (b : Bool) → (b || false) ≡ b
 or_false true = refl
@@ -100,6 +101,7 @@ module _ (o : Opening) (old : Memory) (views : Views) (log : List Entry) (decide
           counter = same CommitCounter ∙ world.counter;
           counter_room = let room = room_kept o old views log decided world k inside v is v' (λ can. can) in let count = same CommitCounter in omega arith;
           own_entries = λ j low. entries_kept o old views log decided world k inside v is v' j refl low;
+          heap = heap_here o old views log decided world k inside v is v' new (all_same old new same) (record { reserved = refl; freed = refl; zones = refl });
           stop_word = drained_stop o old views log decided world k inside v is new same may lg;
         }
 

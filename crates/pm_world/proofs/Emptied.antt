@@ -29,7 +29,8 @@ use Rattle.pm_world.proofs.Apart.{heap_outside}
 use Rattle.pm_world.proofs.Frame.{lane_kept, coursed_fits}
 use Rattle.pm_world.proofs.Pairs.{entered_written, no_entries, none_redone}
 use Rattle.pm_world.proofs.Slots.{word_recorded, unrecorded, all_stale}
-use Rattle.pm_world.proofs.Worlds.{own, quiet, unlogged_before, hold_kept, room_kept, at_stop_kept, stop_kept}
+use Rattle.pm_world.proofs.Heaps.{all_same}
+use Rattle.pm_world.proofs.Worlds.{heap_here, own, quiet, unlogged_before, hold_kept, room_kept, at_stop_kept, stop_kept}
 
 no_final : (w x : ℕ) → made_final [] w x ≡ x
 unfolding made_final
@@ -116,7 +117,7 @@ module _ (o : Opening) (old : Memory) (views : Views) (log : List Entry) (decide
         (others_drained (settled o log decided) (λ j. Flies log decided j) (λ j w low other written. refl) (λ j n other flies. flies)) fits
         (λ w heap un others. same (PoolWord w) ∙ words w heap others)
         (drained_lines (no_log phase)) (λ n flying. absurd (unflown n flying))
-        (same CommitCounter) (room_kept o old views log decided world k inside v is (drained_to (no_log phase)) (λ can. can)) refl (drained_stop (no_log phase))
+        (same CommitCounter) (room_kept o old views log decided world k inside v is (drained_to (no_log phase)) (λ can. can)) refl (heap_here o old views log decided world k inside v is (drained_to (no_log phase)) new (all_same old new same) (record { reserved = refl; freed = refl; zones = refl })) (drained_stop (no_log phase))
 
   -- a call that was given up: what it recorded is as it was
   pub gives_up : v.log.phase ≡ Retiring → v.number ≡ None → World o new (with_view views k (record v { changes = []; calls = v.calls + 1; log = no_log (Open [] []) })) log decided

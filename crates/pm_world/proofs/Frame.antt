@@ -141,7 +141,7 @@ coursed_fits o mem settled flies k v changes calls log seen call number entries 
   entries = entries_fit;
   redone = redone;
   phase = phase_fits;
-  blocks = record { reserved = fits.blocks.reserved; freed = fits.blocks.freed };
+  blocks = record { of_pool = fits.blocks.of_pool; free = fits.blocks.free; freed = fits.blocks.freed };
   first_generation = fits.first_generation;
   last_generation = fits.last_generation;
   room = room;

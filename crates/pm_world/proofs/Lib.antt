@@ -15,6 +15,7 @@ pub mod Emptied
 pub mod Exclusion
 pub mod Frame
 pub mod Going
+pub mod Heaps
 pub mod Histories
 pub mod Locations
 pub mod LockBits
@@ -26,6 +27,8 @@ pub mod Pairs
 pub mod Parts
 pub mod Recoursed
 pub mod Relocked
+pub mod Reheld
+pub mod Reserved
 pub mod Replays
 pub mod Sequencing
 pub mod Settling
@@ -35,6 +38,7 @@ pub mod StepDrain
 pub mod StepDraw
 pub mod StepFlush
 pub mod StepGive
+pub mod StepHeap
 pub mod StepLoad
 pub mod StepSeen
 pub mod StepSetStop
@@ -47,4 +51,5 @@ pub mod StoreSeal
 pub mod StoreSlot
 pub mod StoreWord
 pub mod Stored
+pub mod Vacated
 pub mod Worlds

@@ -1,19 +1,28 @@
 -- Two locations of different kinds are two, and a location has one number.
-use Rattle.std.proofs.Common.{◌≢◌, ℕ, ap, arith}
-use Rattle.pm_world.specs.Memory.{Location}
-use Rattle.pm_world.specs.Memory.Location.{PoolWord, LockWord, CommitCounter, StopWord}
+use Rattle.std.proofs.Common.{◌≡◌, ◌≢◌, ℕ, ◌/◌, ◌<◌, sym, ap, arith}
+use Rattle.pm_view.specs.declared.occ.Occ.{Occ}
+use Rattle.pm_view.specs.declared.occ.Occ.TheVariants.{Run, Zone}
+use Rattle.pm_world.specs.Heap.{IsOcc}
+use Rattle.pm_world.specs.Memory.{Location, occ_at}
+use Rattle.pm_world.specs.Memory.Location.{PoolWord, LockWord, RunWord, ZoneWord, ZoneLock, CommitCounter, StopWord}
 
-kind : Location → ℕ
+pub kind : Location → ℕ
 kind (PoolWord w) = 0
 kind (LockWord line) = 1
 kind CommitCounter = 2
 kind StopWord = 3
+kind (RunWord page) = 4
+kind (ZoneWord zone) = 5
+kind (ZoneLock zone) = 6
 
-number : Location → ℕ
+pub number : Location → ℕ
 number (PoolWord w) = w
 number (LockWord line) = line
 number CommitCounter = 0
 number StopWord = 0
+number (RunWord page) = page
+number (ZoneWord zone) = zone
+number (ZoneLock zone) = zone
 
 pub pool-lock : (w line : ℕ) → PoolWord w ≢ LockWord line
 unfolding kind
@@ -70,3 +79,59 @@ other_pool w u differ same = differ (ap number same)
 pub other_lock : (line other : ℕ) → line ≢ other → LockWord line ≢ LockWord other
 unfolding number
 other_lock line other differ same = differ (ap number same)
+
+-- no volatile word of the heap
+pub record IsPlain (l : Location) : Type 0 where
+  pub below : kind l < 4
+
+pub plain_pool : (w : ℕ) → IsPlain (PoolWord w)
+unfolding kind
+plain_pool w = record { below = omega arith }
+
+pub plain_lock : (line : ℕ) → IsPlain (LockWord line)
+unfolding kind
+plain_lock line = record { below = omega arith }
+
+pub plain_counter : IsPlain CommitCounter
+unfolding kind
+plain_counter = record { below = omega arith }
+
+pub plain_stop : IsPlain StopWord
+unfolding kind
+plain_stop = record { below = omega arith }
+
+pub occ_other : (at : Occ) (l : Location) → IsPlain l → occ_at at ≢ l
+unfolding kind
+occ_other (Run place) l plain same = absurd (let e = ap kind same in let low = plain.below in omega arith)
+occ_other (Zone zone) l plain same = absurd (let e = ap kind same in let low = plain.below in omega arith)
+
+pub zone_lock_other : (zone : ℕ) (l : Location) → IsPlain l → ZoneLock zone ≢ l
+unfolding kind
+zone_lock_other zone l plain same = absurd (let e = ap kind same in let low = plain.below in omega arith)
+
+-- and the other way round
+pub other_occ : (at : Occ) (l : Location) → IsPlain l → l ≢ occ_at at
+other_occ at l plain same = occ_other at l plain (sym same)
+
+pub other_zone_lock : (zone : ℕ) (l : Location) → IsPlain l → l ≢ ZoneLock zone
+other_zone_lock zone l plain same = zone_lock_other zone l plain (sym same)
+
+-- of the pool's occupancy words no two are one
+pub one_occ : (lanes zones : ℕ) (at other : Occ) → IsOcc lanes zones at → IsOcc lanes zones other → occ_at at ≡ occ_at other → at ≡ other
+unfolding kind number
+one_occ lanes zones (Run place) (Run other) of of' same = ap Run (let page : place / 4096 ≡ other / 4096 = ap number same in let whole = of.0 in let whole' = of'.0 in omega arith)
+one_occ lanes zones (Run place) (Zone zone) of of' same = absurd (let e = ap kind same in omega arith)
+one_occ lanes zones (Zone zone) (Run other) of of' same = absurd (let e = ap kind same in omega arith)
+one_occ lanes zones (Zone zone) (Zone other) of of' same = ap Zone (ap number same)
+
+pub zone_apart : (at : Occ) (zone : ℕ) → occ_at at ≢ ZoneLock zone
+unfolding kind
+zone_apart (Run place) zone same = absurd (let e = ap kind same in omega arith)
+zone_apart (Zone other) zone same = absurd (let e = ap kind same in omega arith)
+
+pub lock_apart : (zone : ℕ) (at : Occ) → ZoneLock zone ≢ occ_at at
+lock_apart zone at same = zone_apart at zone (sym same)
+
+pub one_lock : (zone other : ℕ) → zone ≢ other → ZoneLock zone ≢ ZoneLock other
+unfolding number
+one_lock zone other differ same = differ (ap number same)

@@ -1,5 +1,5 @@
 -- Over the words that recovery leaves a world begins.
-use Rattle.std.proofs.Common.{◌≡◌, ℕ, zero, suc, ◌+◌, ◌^◌, ◌<◌, ◌≤◌, inl, false, ◌&&◌, if◌then◌else◌, Contains, List, [], length, slice_get, slice_index, Option, is_none, refl, sym, ap, ◌∙◌, subst, arith}
+use Rattle.std.proofs.Common.{◌≡◌, ℕ, zero, suc, ◌+◌, ◌^◌, ◌<◌, ◌≤◌, inl, true, false, eqb, ◌&&◌, ◌||◌, if◌then◌else◌, Contains, List, [], length, slice_get, slice_index, Option, is_none, refl, sym, ap, ◌∙◌, subst, arith}
 use Rattle.std.specs.Int.{bit_at}
 use Rattle.std.specs.List.{list_any}
 use Rattle.std.specs.Option.{ForSome}
@@ -11,10 +11,12 @@ use Rattle.pm_record.specs.Undo.{undo_of}
 use Rattle.pm_view.specs.Area.{area_word}
 use Rattle.pm_view.specs.Log.{Recorded, Final, Log}
 use Rattle.pm_view.specs.Log.Phase.{Idle}
-use Rattle.pm_view.specs.View.{View}
+use Rattle.pm_view.specs.declared.occ.Occ.{Occ}
+use Rattle.pm_view.specs.View.{View, Taken}
 use Rattle.pm_image.specs.Logs.{generation_word, undo_slot}
 use Rattle.pm_world.specs.Entries.{HasNone, is_entered, is_redoing, seal_in}
 use Rattle.pm_world.specs.Fits.{EntriesFit, PictureFits, LockFits, LogFits, IdleFits, PhaseFits, LaneFits}
+use Rattle.pm_world.specs.Heap.{IsOcc, has_bit, has_taken}
 use Rattle.pm_world.specs.History.{Flies, settled, replayed, AreNumbered, entries_by}
 use Rattle.pm_world.specs.Memory.{Memory}
 use Rattle.pm_world.specs.Opening.{Opening}
@@ -85,7 +87,11 @@ module _ (o : Opening) (mem : Memory) (k : ℕ) (v : View) (clean : IsClean o k)
     entries = fresh_entries;
     redone = λ w again. absurd (false≢true (sym (ap (λ p. is_redoing p && is_entered v.log.entries w) phase_is) ∙ again));
     phase = subst (PhaseFits flies v) (sym phase_is) (let idle : IdleFits v = record { no_records = records_none; drained = fresh.nothing_changed } in idle);
-    blocks = record { reserved = fresh.nothing_reserved; freed = fresh.nothing_freed };
+    blocks = record {
+      of_pool = All-same (λ (t : Taken). IsOcc o.lanes o.zones t.at) v.reserved [] fresh.nothing_reserved (All-nil (λ (t : Taken). IsOcc o.lanes o.zones t.at));
+      free = λ at bit has. absurd (false≢true (ap (list_any (has_bit at bit)) (sym fresh.nothing_reserved) ∙ has));
+      freed = fresh.nothing_freed;
+    };
     first_generation = let is = generation_is in let first = clean.first_generation in omega arith;
     last_generation = subst (λ g. g ≤ 2 ^ 62) (sym generation_is) clean.last_generation;
     room = let none : length v.changes ≡ 0 = ap length fresh.nothing_changed in omega arith;
@@ -106,6 +112,10 @@ nobody_draws views (suc k) nothing =
     let here : (if may_draw (views k) then one else none) ≡ none = cond-false (may_draw (views k)) one none (seen_nothing (views k) (nothing k (omega arith))) in
     ap (λ n. n + (if may_draw (views k) then one else none)) rest ∙ ap (λ n. 0 + n) here
 
+-- a lane that reserved and freed nothing has no bit
+has_nothing : (v : View) (at : Occ) (bit : ℕ) → v.reserved ≡ [] → v.freed ≡ [] → has_taken v at bit ≡ true → ⊥
+has_nothing v at bit reserved freed has = false≢true ((λ i. list_any (has_bit at bit) (sym reserved i) || list_any (has_bit at bit) (sym freed i)) ∙ has)
+
 pub opening_law : OpeningLaw
 unfolding replayed AreNumbered entries_by
 opening_law o mem views sound clean fresh opened = record {
@@ -119,5 +129,13 @@ opening_law o mem views sound clean fresh opened = record {
   counter = opened.counter;
   counter_room = let none = nobody_draws views o.lanes (λ k inside. (fresh k inside).nothing_seen) in let drawn = opened.counter in omega arith;
   own_entries = λ k inside. sym (fresh k inside).no_entries;
+  heap = record {
+    set = λ at bit of low one. inl (opened.set at bit of low one);
+    taken = opened.taken;
+    held = λ k at bit inside of small has. absurd (has_nothing (views k) at bit (fresh k inside).nothing_reserved (fresh k inside).nothing_freed has);
+    apart = λ j k at bit inside other has. absurd (has_nothing (views j) at bit (fresh j inside).nothing_reserved (fresh j inside).nothing_freed has);
+    locked = λ k zone inside holds. absurd (false≢true (ap (list_any (λ held. eqb held zone)) (sym (fresh k inside).no_zones) ∙ holds));
+    unlocked = λ zone. inl (opened.zones zone);
+  };
   stop_word = inl opened.stop_word;
 }

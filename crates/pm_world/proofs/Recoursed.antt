@@ -20,7 +20,8 @@ use Rattle.pm_world.specs.Records.{covers, is_drained_slot, is_logged_from, is_l
 use Rattle.pm_world.specs.World.{Views, World, may_draw_count}
 use Rattle.pm_world.proofs.Frame.{coursed, coursed_fits, log_again}
 use Rattle.pm_world.proofs.Pairs.{entries_again, redone_again, in_log_before}
-use Rattle.pm_world.proofs.Worlds.{own, still}
+use Rattle.pm_world.proofs.Heaps.{all_same}
+use Rattle.pm_world.proofs.Worlds.{heap_here, own, still}
 
 -- where no slot is undrained that was drained, a word that the log would restore is one still
 pub logged_more : (v v' : View) → ((slot : ℕ) → is_drained_slot v slot ≡ true → is_drained_slot v' slot ≡ true) → (slot : ℕ) (records : List Recorded) (w : ℕ) → is_logged_from v slot records w ≡ true → is_logged_from v' slot records w ≡ true
@@ -134,4 +135,4 @@ module _ (o : Opening) (old : Memory) (views : Views) (log : List Entry) (decide
       (phase_again (Flies log decided k) v changes calls seen call actions leaves v.log.phase mine.phase)
       (let few = leaves.fewer in let room = mine.room in omega arith) within)
       (λ w. in_log_before v v' w (logged_more v v' leaves.slots 0 v.log.records w) (λ e. e))
-      refl (λ n flying. flying) room refl refl more
+      refl (λ n flying. flying) room refl refl more (heap_here o old views log decided world k inside v is v' new (all_same old new same) (record { reserved = refl; freed = refl; zones = refl }))

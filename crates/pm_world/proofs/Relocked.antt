@@ -21,9 +21,10 @@ use Rattle.pm_world.specs.Opening.{Opening}
 use Rattle.pm_world.specs.Records.{IsRecordAt, generation_of, records_generation}
 use Rattle.pm_world.specs.World.{Views, World, IsHold, may_draw}
 use Rattle.pm_world.proofs.Frame.{lane_kept}
-use Rattle.pm_world.proofs.Locations.{pool-lock, counter-lock, stop-lock, other_lock}
+use Rattle.pm_world.proofs.Locations.{plain_lock, pool-lock, counter-lock, stop-lock, other_lock}
 use Rattle.pm_world.proofs.Recoursed.{used_again}
-use Rattle.pm_world.proofs.Worlds.{quiet, unlogged_before, room_kept, at_stop_kept, stop_kept}
+use Rattle.pm_world.proofs.Heaps.{beside_same}
+use Rattle.pm_world.proofs.Worlds.{heap_here, quiet, unlogged_before, room_kept, at_stop_kept, stop_kept}
 
 -- the view with other locks, known words and steps seen
 abbrev pub relocked : View → List Lock → List ℕ → List Step → View
@@ -87,7 +88,7 @@ module _ (v : View) (locks : List Lock) (known : List ℕ) (seen : List Step) wh
     entries = entries_fit;
     redone = λ w again. absurd (false≢true (sym (ap (λ b. b && is_entered v.log.entries w) (none_redone v.log.phase early)) ∙ again));
     phase = phase_relocked flies v.log.phase early fits.phase;
-    blocks = record { reserved = fits.blocks.reserved; freed = fits.blocks.freed };
+    blocks = record { of_pool = fits.blocks.of_pool; free = fits.blocks.free; freed = fits.blocks.freed };
     first_generation = fits.first_generation;
     last_generation = fits.last_generation;
     room = fits.room;
@@ -112,6 +113,6 @@ module _ (o : Opening) (old : Memory) (views : Views) (log : List Entry) (decide
       (λ w written. refl) (λ n flies. flies) (world.each_lane j low))
       fits
       (λ w heap un others. same (PoolWord w) (pool-lock w line) ∙ world.each_word w heap (unlogged_before o old views log decided world k inside v is v'' w un others))
-      lines (λ n flying. flying) (same CommitCounter (counter-lock line)) (room_kept o old views log decided world k inside v is v'' less) refl
+      lines (λ n flying. flying) (same CommitCounter (counter-lock line)) (room_kept o old views log decided world k inside v is v'' less) refl (heap_here o old views log decided world k inside v is v'' new (beside_same old new (LockWord line) (plain_lock line) same) (record { reserved = refl; freed = refl; zones = refl }))
       (⊎_elim (λ (unset : old StopWord ≡ 0). inl (same StopWord (stop-lock line) ∙ unset))
       (λ (t : (j : ℕ) × (j < o.lanes) × IsAtStop (views j)). inr (at_stop_kept o old views log decided world k inside v is v'' (stop_kept v v'' refl (le_refl v.calls)) t)) world.stop_word)

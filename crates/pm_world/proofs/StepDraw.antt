@@ -29,12 +29,13 @@ use Rattle.pm_world.proofs.Differences.{difference-words, difference-unentered, 
 use Rattle.pm_world.proofs.Draws.{draws_fewer}
 use Rattle.pm_world.proofs.Exclusion.{writes_under, one_writer}
 use Rattle.pm_world.proofs.Frame.{coursed, in_phase, lane_kept, log_again, coursed_fits, view_here, view_all}
-use Rattle.pm_world.proofs.Locations.{pool-counter, lock-counter, stop-counter}
+use Rattle.pm_world.proofs.Locations.{plain_counter, pool-counter, lock-counter, stop-counter}
 use Rattle.pm_world.proofs.Longer.{replayed-skip, empty-other, numbered-more, entries_by-more}
 use Rattle.pm_world.proofs.Numbers.{number_upto, own_below}
 use Rattle.pm_world.proofs.Pairs.{difference-written, entries_sealed, in_log_before, none_redone}
 use Rattle.pm_world.proofs.Replays.{made_final-other, replayed-same}
-use Rattle.pm_world.proofs.Worlds.{own, own_numbers, each_lane', unlogged_here, unlogged_else, unlogged_before, hold_kept, entry_kept, at_stop_kept, stop_kept}
+use Rattle.pm_world.proofs.Heaps.{beside_same}
+use Rattle.pm_world.proofs.Worlds.{heap_here, own, own_numbers, each_lane', unlogged_here, unlogged_else, unlogged_before, hold_kept, entry_kept, at_stop_kept, stop_kept}
 
 or_false : (b : Bool) → (b || false) ≡ b
 or_false true = refl
@@ -180,6 +181,7 @@ module _ (o : Opening) (old : Memory) (views : Views) (log : List Entry) (decide
             ((λ i. own_numbers o old views log decided world k inside v is i ++ cond (eq-eqb v.lane k mine.lane.lane i) (record { number = n; call = v.call } ∷ []) [])) j
             (λ other. ap (λ b. entries_by j log ++ cond b (record { number = n; call = v.call } ∷ []) []) (ne_eqb v.lane j (λ same_lane. other (sym same_lane ∙ mine.lane.lane)))
             ∙ (append-nil (entries_by j log) ∙ world.own_entries j low));
+        heap = heap_here o old views log decided world k inside v is v' new (beside_same old new CommitCounter plain_counter same) (record { reserved = refl; freed = refl; zones = refl });
         stop_word = ⊎_elim (λ (unset : old StopWord ≡ 0). inl (same StopWord stop-counter ∙ unset))
             (λ (t : (j : ℕ) × (j < o.lanes) × IsAtStop (views j)). inr (at_stop_kept o old views log decided world k inside v is v' (stop_kept v v' refl (le_refl v.calls)) t)) world.stop_word;
       }

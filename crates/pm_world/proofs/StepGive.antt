@@ -43,11 +43,11 @@ any-filter P q (y ∷ xs) passes (suc n, x, low, at, p) =
     ⊎_elim (λ (keeps : q y ≡ true). subst (Any P) (sym (cond-true (q y) (y ∷ filter q xs) (filter q xs) keeps)) (suc rest.0, rest.1, (let inside = rest.2 in omega arith), rest.3, rest.4))
     (λ (drops : q y ≡ false). subst (Any P) (sym (cond-false (q y) (y ∷ filter q xs) (filter q xs) drops)) rest) (cases_Bool (q y))
 
-contains-filter : {X : Type 0} (q : X → Bool) (xs : List X) (x : X) → Contains xs x → q x ≡ true → Contains (filter q xs) x
+pub contains-filter : {X : Type 0} (q : X → Bool) (xs : List X) (x : X) → Contains xs x → q x ≡ true → Contains (filter q xs) x
 contains-filter q xs x (n, low, at) passes =
     let t = any-filter (λ y. y ≡ x) q xs (λ y same. ap q same ∙ passes) (n, x, low, at, refl) in (t.0, t.2, subst (λ y. get_or (filter q xs) t.0 y ≡ y) t.4 t.3)
 
-filter-contains : {X : Type 0} (q : X → Bool) (xs : List X) (x : X) → Contains (filter q xs) x → Contains xs x
+pub filter-contains : {X : Type 0} (q : X → Bool) (xs : List X) (x : X) → Contains (filter q xs) x → Contains xs x
 filter-contains q xs x there = All-contains (Contains xs) (filter q xs) x (All-filter q (Contains xs) xs (λ n d low. (n, low, same_default xs n d low))) there
   where
     same_default : {Y : Type 0} (ys : List Y) (n : ℕ) (d : Y) → n < length ys → get_or ys n (get_or ys n d) ≡ get_or ys n d
@@ -55,7 +55,7 @@ filter-contains q xs x there = All-contains (Contains xs) (filter q xs) x (All-f
     same_default (y ∷ ys) zero d low = refl
     same_default (y ∷ ys) (suc n) d low = same_default ys n d (omega arith)
 
-filter-passed : {X : Type 0} (q : X → Bool) (xs : List X) (x : X) → Contains (filter q xs) x → q x ≡ true
+pub filter-passed : {X : Type 0} (q : X → Bool) (xs : List X) (x : X) → Contains (filter q xs) x → q x ≡ true
 filter-passed q xs x there = All-contains (λ y. q y ≡ true) (filter q xs) x (filter_passes q xs) there
 
 pub list_any-filter : {X : Type 0} (p q : X → Bool) (xs : List X) → All (λ x. p x ≡ true → q x ≡ true) xs → list_any p xs ≡ true → list_any p (filter q xs) ≡ true

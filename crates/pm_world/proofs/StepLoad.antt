@@ -29,7 +29,6 @@ use Rattle.pm_world.specs.Memory.Location.{PoolWord, LockWord, CommitCounter, St
 use Rattle.pm_world.specs.Opening.{Opening, IsChunk}
 use Rattle.pm_world.specs.Records.{generation_of, slot_word, pool_entries, difference_of, records_generation}
 use Rattle.pm_world.specs.World.{Views, World, hold_bit}
-use Rattle.pm_world.proofs.Apart.{held_core}
 use Rattle.pm_world.proofs.Chunks.{told_by_bitmap, block_same, under_found, written_found, found_block, opening_word}
 use Rattle.pm_world.proofs.Exclusion.{writes_under}
 use Rattle.pm_world.proofs.Frame.{lane_kept}
@@ -39,7 +38,9 @@ use Rattle.pm_world.proofs.Relocked.{generation_same}
 use Rattle.pm_world.proofs.Stored.{slot_set_other}
 use Rattle.pm_world.proofs.StoreGeneration.{difference_same}
 use Rattle.pm_world.proofs.StepTake.{low_before}
-use Rattle.pm_world.proofs.Worlds.{own, quiet, unlogged_before, hold_kept, room_kept, at_stop_kept, stop_kept}
+use Rattle.pm_world.proofs.Heaps.{all_same}
+use Rattle.pm_world.proofs.Reserved.{held_by_parts, reserved_again}
+use Rattle.pm_world.proofs.Worlds.{heap_here, own, quiet, unlogged_before, hold_kept, room_kept, at_stop_kept, stop_kept}
 
 list_any-map : {X : Type 0} (p : X → Bool) (f : X → X) (xs : List X) → All (λ x. p x ≡ true → p (f x) ≡ true) xs → list_any p xs ≡ true → list_any p (map f xs) ≡ true
 list_any-map p f [] all e = e
@@ -144,10 +145,9 @@ module _ (o : Opening) (old : Memory) (views : Views) (log : List Entry) (decide
       (λ l fit e. of_lock (λ m. (m.write && is_some m.block && is_under u m) ≡ true) l e (written_found o.lanes o.words l.line l.write l.block u fit.found e)) v.locks mine.locks)
 
   core_now : (u : ℕ) → is_held v u ≡ true → is_held v' u ≡ true
-  core_now u held = or_left (is_in_area v.lane u || list_any (is_under u) (map f v.locks)) (is_reserved v' u)
-      (⊎_elim (λ (area : is_in_area v.lane u ≡ true). or_left (is_in_area v.lane u) (list_any (is_under u) (map f v.locks)) area)
-      (λ (under : list_any (is_under u) v.locks ≡ true). or_right (is_in_area v.lane u) (list_any (is_under u) (map f v.locks)) (under_now u under))
-      (or_cases (is_in_area v.lane u) (list_any (is_under u) v.locks) (held_core v u mine.blocks.reserved held)))
+  core_now u held = held_by_parts (is_in_area v.lane u || list_any (is_under u) v.locks) (is_in_area v.lane u || list_any (is_under u) (map f v.locks)) (is_reserved v u) (is_reserved v' u)
+      (held_by_parts (is_in_area v.lane u) (is_in_area v.lane u) (list_any (is_under u) v.locks) (list_any (is_under u) (map f v.locks)) (λ area. area) (under_now u))
+      (reserved_again (slice_index o.words) o.lanes o.zones v v' u mine.lane.lanes refl refl mine.blocks (λ page chunk. descriptors_now page chunk ∙ sym (mine.picture.descriptors page chunk))) held
 
   -- the area is as it was
   area_same : (u : ℕ) → 512 + 1024 * v.lane ≤ u → u < 1536 + 1024 * v.lane → slice_index words' u ≡ slice_index v.words u
@@ -263,7 +263,7 @@ module _ (o : Opening) (old : Memory) (views : Views) (log : List Entry) (decide
     entries = entries_now;
     redone = redone_now;
     phase = phase_now v.log.phase refl mine.phase;
-    blocks = record { reserved = mine.blocks.reserved; freed = mine.blocks.freed };
+    blocks = record { of_pool = mine.blocks.of_pool; free = mine.blocks.free; freed = mine.blocks.freed };
     first_generation = subst (λ g. 1 ≤ g) (sym generation) mine.first_generation;
     last_generation = subst (λ g. g ≤ generation_limit) (sym generation) mine.last_generation;
     room = mine.room;
@@ -280,7 +280,7 @@ module _ (o : Opening) (old : Memory) (views : Views) (log : List Entry) (decide
       (λ line bit set. hold_kept o old views log decided world k inside v is v' line bit
       (any-map (λ (l : Lock). (l.line ≡ line) × (bit ≡ hold_bit k l.write)) f v.locks (λ l t. of_lock (λ m. (m.line ≡ line) × (bit ≡ hold_bit k m.write)) l t t))
       (world.each_line line bit (subst (λ n. bit_at n bit ≡ 1) (same (LockWord line)) set)))
-      (λ n flying. flying) (same CommitCounter) (room_kept o old views log decided world k inside v is v' (low_before v (Load w x) refl)) refl
+      (λ n flying. flying) (same CommitCounter) (room_kept o old views log decided world k inside v is v' (low_before v (Load w x) refl)) refl (heap_here o old views log decided world k inside v is v' new (all_same old new same) (record { reserved = refl; freed = refl; zones = refl }))
       (⊎_elim (λ (unset : old StopWord ≡ 0). inl (same StopWord ∙ unset))
       (λ (t : (j : ℕ) × (j < o.lanes) × IsAtStop (views j)). inr (at_stop_kept o old views log decided world k inside v is v' (stop_kept v v' refl (le_refl v.calls)) t)) world.stop_word)
 

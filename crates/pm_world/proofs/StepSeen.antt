@@ -29,7 +29,8 @@ use Rattle.pm_world.proofs.Frame.{coursed_fits}
 use Rattle.pm_world.proofs.Numbers.{own_below}
 use Rattle.pm_world.proofs.Pairs.{no_entries, none_redone}
 use Rattle.pm_world.proofs.Recoursed.{Leaves, recoursed}
-use Rattle.pm_world.proofs.Worlds.{own, own_numbers, still, room_kept}
+use Rattle.pm_world.proofs.Heaps.{all_same}
+use Rattle.pm_world.proofs.Worlds.{heap_here, own, own_numbers, still, room_kept}
 
 -- one more step that saw no low number
 pub not_low_more : (seen : List Step) (s : Step) → is_low s ≡ false → list_any is_low (seen ++ s ∷ []) ≡ true → list_any is_low seen ≡ true
@@ -103,7 +104,7 @@ module _ (o : Opening) (old : Memory) (views : Views) (log : List Entry) (decide
       mine.room mine.within)
       (λ w un. or_from (is_logged v w) (is_redone v w) (ap (λ records. is_logged_from v 0 records w) idle_fits.no_records) (none_redone v w (ap is_redoing idle))) refl
       (λ m flying. absurd (none-some m (sym (ap (λ p. flight_in p v.number) idle) ∙ flying)))
-      (low_room v' n seen (λ can. inl (let t = or_cases (is_low (NumberSeen n)) false can in ⊎_elim (λ (low : ltb n generation_limit ≡ true). ltb-true n generation_limit low) (λ (none : false ≡ true). absurd (false≢true none)) t))) refl refl (le_refl v.calls)
+      (low_room v' n seen (λ can. inl (let t = or_cases (is_low (NumberSeen n)) false can in ⊎_elim (λ (low : ltb n generation_limit ≡ true). ltb-true n generation_limit low) (λ (none : false ≡ true). absurd (false≢true none)) t))) refl refl (le_refl v.calls) (heap_here o old views log decided world k inside v is v' new (all_same old new same) (record { reserved = refl; freed = refl; zones = refl }))
 
 pub tells : (operation : Operation) (reply : Option Value) → Keeps (Tell operation reply)
 tells operation reply o old new views log decided k v world inside is lawful same = (

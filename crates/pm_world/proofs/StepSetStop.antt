@@ -6,10 +6,11 @@ use Rattle.pm_view.specs.Steps.Step.{SetStop}
 use Rattle.pm_world.specs.Fits.{ShowsHold}
 use Rattle.pm_world.specs.History.{Flies, settled}
 use Rattle.pm_world.specs.Laws.{Keeps}
-use Rattle.pm_world.specs.Memory.Location.{PoolWord, LockWord, CommitCounter}
+use Rattle.pm_world.specs.Memory.Location.{PoolWord, LockWord, CommitCounter, StopWord}
 use Rattle.pm_world.proofs.Frame.{lane_kept, view_here}
-use Rattle.pm_world.proofs.Locations.{pool-stop, lock-stop, counter-stop}
-use Rattle.pm_world.proofs.Worlds.{own, quiet, unlogged_before, hold_kept, room_kept}
+use Rattle.pm_world.proofs.Locations.{plain_stop, pool-stop, lock-stop, counter-stop}
+use Rattle.pm_world.proofs.Heaps.{beside_same}
+use Rattle.pm_world.proofs.Worlds.{heap_here, own, quiet, unlogged_before, hold_kept, room_kept}
 
 pub sets_stop : Keeps SetStop
 sets_stop o old new views log decided k v world inside is lawful moves =
@@ -21,7 +22,7 @@ sets_stop o old new views log decided k v world inside is lawful moves =
           (λ w in_area. same (PoolWord w) (pool-stop w)) (λ w known. same (PoolWord w) (pool-stop w)) (λ w own_word. same (PoolWord w) (pool-stop w)) (λ line write. subst (ShowsHold k write) (sym (same (LockWord line) (lock-stop line)))) (λ w own_word. refl) (λ n flies. flies) (own o old views log decided world k inside v is))
           (λ w heap un others. same (PoolWord w) (pool-stop w) ∙ world.each_word w heap (unlogged_before o old views log decided world k inside v is v w un others))
           (λ line bit set. hold_kept o old views log decided world k inside v is v line bit (λ there. there) (world.each_line line bit (subst (λ n. bit_at n bit ≡ 1) (same (LockWord line) (lock-stop line)) set)))
-          (λ n flying. flying) (same CommitCounter counter-stop) (room_kept o old views log decided world k inside v is v (λ can. can)) refl
+          (λ n flying. flying) (same CommitCounter counter-stop) (room_kept o old views log decided world k inside v is v (λ can. can)) refl (heap_here o old views log decided world k inside v is v new (beside_same old new StopWord plain_stop same) (record { reserved = refl; freed = refl; zones = refl }))
           (inr (k, inside, subst IsAtStop (sym (view_here views k v)) lawful.allowed)),
       tt,
     )

@@ -20,7 +20,7 @@ use Rattle.pm_world.specs.Memory.{Memory, IsSameBut}
 use Rattle.pm_world.specs.Memory.Location.{PoolWord, LockWord}
 use Rattle.pm_world.specs.Opening.{Opening}
 use Rattle.pm_world.specs.World.{Views, World, IsHold, hold_bit, is_low, may_draw}
-use Rattle.pm_world.proofs.Apart.{held_core}
+use Rattle.pm_world.proofs.Reserved.{held_by_parts}
 use Rattle.pm_world.proofs.Frame.{view_here}
 use Rattle.pm_world.proofs.LockBits.{free_shows_none, taken_write, taken_read, written_bits, read_shows, read_shows_on, read_bits}
 use Rattle.pm_world.proofs.Locations.{pool-lock, other_lock}
@@ -59,10 +59,8 @@ module _ (o : Opening) (old : Memory) (views : Views) (log : List Entry) (decide
       relocks o old views log decided world k inside v is new line locks v.known (v.seen ++ s ∷ []) same others
       (relocked_fits v locks v.known (v.seen ++ s ∷ []) o old new (settled o log decided) (Flies log decided k) k early (λ w. same (PoolWord w) (pool-lock w line))
       (λ w there. there)
-      (λ w there. or_left (is_in_area v.lane w || list_any (is_under w) locks) (is_reserved v' w)
-      (⊎_elim (λ (area : is_in_area v.lane w ≡ true). or_left (is_in_area v.lane w) (list_any (is_under w) locks) area)
-      (λ (under : list_any (is_under w) v.locks ≡ true). or_right (is_in_area v.lane w) (list_any (is_under w) locks) (list_any-left (is_under w) v.locks (l ∷ []) under))
-      (or_cases (is_in_area v.lane w) (list_any (is_under w) v.locks) (held_core v w mine.blocks.reserved (mine.picture.held w there)))))
+      (λ w there. held_by_parts (is_in_area v.lane w || list_any (is_under w) v.locks) (is_in_area v.lane w || list_any (is_under w) locks) (is_reserved v w) (is_reserved v' w)
+      (held_by_parts (is_in_area v.lane w) (is_in_area v.lane w) (list_any (is_under w) v.locks) (list_any (is_under w) locks) (λ area. area) (list_any-left (is_under w) v.locks (l ∷ []))) (λ own_word. own_word) (mine.picture.held w there))
       (All-push (LockFits o new k) v.locks l
       (λ n d low. let f = mine.locks n d low in record { shows = subst (ShowsHold k (get_or v.locks n d).write) (sym (same (LockWord (get_or v.locks n d).line) (other_lock (get_or v.locks n d).line line (differs n d low)))) f.shows; found = f.found })
       (record { shows = shows; found = tt }))

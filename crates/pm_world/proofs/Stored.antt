@@ -29,12 +29,14 @@ use Rattle.pm_world.specs.Memory.Location.{PoolWord, LockWord, CommitCounter, St
 use Rattle.pm_world.specs.Opening.{Opening, IsChunk}
 use Rattle.pm_world.specs.Records.{IsRecordAt, generation_of, records_generation, used_slots}
 use Rattle.pm_world.specs.World.{Views, World}
-use Rattle.pm_world.proofs.Apart.{area_bounds, IsOwn, area_apart, held_apart, held_core, written_apart}
+use Rattle.pm_world.proofs.Apart.{area_bounds, IsOwn, area_apart, held_apart, written_apart}
 use Rattle.pm_world.proofs.Exclusion.{WritesUnder, writes_under}
 use Rattle.pm_world.proofs.Frame.{lane_kept, in_phase}
-use Rattle.pm_world.proofs.Locations.{other_pool, lock-pool, counter-pool, stop-pool}
+use Rattle.pm_world.proofs.Locations.{plain_pool, other_pool, lock-pool, counter-pool, stop-pool}
 use Rattle.pm_world.proofs.Pairs.{entries_sealed}
-use Rattle.pm_world.proofs.Worlds.{own, quiet, unlogged_before, hold_kept, room_kept, at_stop_kept, stop_kept}
+use Rattle.pm_world.proofs.Heaps.{beside_same}
+use Rattle.pm_world.proofs.Reserved.{held_by_parts, reserved_again}
+use Rattle.pm_world.proofs.Worlds.{heap_here, own, quiet, unlogged_before, hold_kept, room_kept, at_stop_kept, stop_kept}
 
 -- words from one on, where another word is stored
 pub range_set_other : (words : List ℕ) (w x from n : ℕ) → (w < from) ⊎ (from + n ≤ w) → slice_range (set words w x) from (from + n) ≡ slice_range words from (from + n)
@@ -117,9 +119,11 @@ module _ (o : Opening) (old : Memory) (views : Views) (log : List Entry) (decide
     picture = record {
       area = λ u in_area. word_now u (λ differ. mine.picture.area u in_area);
       known = λ u known. word_now u (λ differ. mine.picture.known u (known_before u differ known));
-      held = λ u known. or_left (is_in_area v.lane u || list_any (is_under u) v.locks) (is_reserved (stored_view lg) u)
-          (⊎_elim (λ (this : u ≡ w). subst (λ z. (is_in_area v.lane z || list_any (is_under z) v.locks) ≡ true) (sym this) own_held)
-          (λ (differ : u ≢ w). held_core v u mine.blocks.reserved (mine.picture.held u (known_before u differ known))) (cases_eq u w));
+      held = λ u known. ⊎_elim
+          (λ (this : u ≡ w). or_left (is_in_area v.lane u || list_any (is_under u) v.locks) (is_reserved (stored_view lg) u) (subst (λ z. (is_in_area v.lane z || list_any (is_under z) v.locks) ≡ true) (sym this) own_held))
+          (λ (differ : u ≢ w). held_by_parts (is_in_area v.lane u || list_any (is_under u) v.locks) (is_in_area v.lane u || list_any (is_under u) v.locks) (is_reserved v u) (is_reserved (stored_view lg) u) (λ core. core)
+          (reserved_again (slice_index o.words) o.lanes o.zones v (stored_view lg) u mine.lane.lanes refl refl mine.blocks (λ page chunk. other_word (descriptor_word o.lanes page) (no_descriptor page chunk)))
+          (mine.picture.held u (known_before u differ known))) (cases_eq u w);
       descriptors = λ page chunk. other_word (descriptor_word o.lanes page) (no_descriptor page chunk) ∙ mine.picture.descriptors page chunk;
     };
     locks = All-weaker (LockFits o old k) (LockFits o new k) (λ l f. record { shows = subst (λ word. ShowsHold k l.write word) (sym (moves.0 (LockWord l.line) (lock-pool l.line w))) f.shows; found = f.found }) v.locks mine.locks;
@@ -127,7 +131,7 @@ module _ (o : Opening) (old : Memory) (views : Views) (log : List Entry) (decide
     entries = entries_fit;
     redone = redone;
     phase = phase_fits;
-    blocks = record { reserved = mine.blocks.reserved; freed = mine.blocks.freed };
+    blocks = record { of_pool = mine.blocks.of_pool; free = mine.blocks.free; freed = mine.blocks.freed };
     first_generation = first;
     last_generation = last;
     room = let before = room in let e = length-append v.changes (store_change w (slice_index v.words w) x ∷ []) in omega (arith, e, before);
@@ -144,7 +148,7 @@ module _ (o : Opening) (old : Memory) (views : Views) (log : List Entry) (decide
       quiet o old views log decided world k inside v is v' new others_kept fits
       (λ u heap un others. let t = words u heap un in moves.0 (PoolWord u) (other_pool u w t.0) ∙ world.each_word u heap (unlogged_before o old views log decided world k inside v is v' u t.1 others))
       (λ line bit one. hold_kept o old views log decided world k inside v is v' line bit (λ there. there) (world.each_line line bit (subst (λ n. bit_at n bit ≡ 1) (moves.0 (LockWord line) (lock-pool line w)) one)))
-      flies (moves.0 CommitCounter (counter-pool w)) (room_kept o old views log decided world k inside v is v' (λ can. can)) refl
+      flies (moves.0 CommitCounter (counter-pool w)) (room_kept o old views log decided world k inside v is v' (λ can. can)) refl (heap_here o old views log decided world k inside v is v' new (beside_same old new (PoolWord w) (plain_pool w) moves.0) (record { reserved = refl; freed = refl; zones = refl }))
       (⊎_elim (λ (unset : old StopWord ≡ 0). inl (moves.0 StopWord (stop-pool w) ∙ unset))
       (λ (t : (j : ℕ) × (j < o.lanes) × IsAtStop (views j)). inr (at_stop_kept o old views log decided world k inside v is v' (stop_kept v v' refl (omega arith)) t)) world.stop_word)
 

@@ -1,5 +1,5 @@
 -- The world after a step of lane k, from what the step owes: the lane's own facts, and what it leaves to the others.
-use Rattle.std.proofs.Common.{◌≡◌, ◌≢◌, ℕ, ◌+◌, ◌<◌, ◌≤◌, ◌⊎◌, inl, inr, ⊎_elim, Bool, true, false, IsSomeAnd, Any, List, Option, Some, None, refl, sym, ap, ◌∙◌, subst, arith}
+use Rattle.std.proofs.Common.{◌≡◌, ◌≢◌, ℕ, ◌+◌, ◌<◌, ◌≤◌, ◌⊎◌, inl, inr, ⊎_elim, Bool, true, false, IsSomeAnd, Any, List, slice_index, Option, Some, None, refl, sym, ap, ◌∙◌, subst, arith}
 use Rattle.std.specs.Int.{bit_at}
 use Rattle.std.proofs.lemmas.Bool.{cases_eq}
 use Rattle.pm_view.specs.Counts.{IsAtStop}
@@ -9,6 +9,7 @@ use Rattle.pm_image.specs.Reads.{IsHeapWord}
 use Rattle.pm_world.specs.Course.{flight}
 use Rattle.pm_world.specs.Entries.{is_in_log}
 use Rattle.pm_world.specs.Fits.{LaneFits, ShowsHold}
+use Rattle.pm_world.specs.Heap.{Heap}
 use Rattle.pm_world.specs.History.{Entry, Flies, settled, entries_by}
 use Rattle.pm_world.specs.Laws.{with_view}
 use Rattle.pm_world.specs.Lawful.{generation_limit}
@@ -17,6 +18,7 @@ use Rattle.pm_world.specs.Memory.Location.{PoolWord, LockWord, CommitCounter, St
 use Rattle.pm_world.specs.Opening.{Opening}
 use Rattle.pm_world.specs.World.{Views, World, EntryFits, IsHold, hold_bit, may_draw, may_draw_count}
 use Rattle.pm_world.proofs.Draws.{draws_no_more}
+use Rattle.pm_world.proofs.Heaps.{HasSame, IsHeapSame, heap_still}
 use Rattle.pm_world.proofs.Frame.{lane_kept, view_here, view_else, view_all}
 
 -- it is at its stop number still
@@ -91,9 +93,10 @@ module _ (o : Opening) (old : Memory) (views : Views) (log : List Entry) (decide
         → new CommitCounter ≡ old CommitCounter
         → old CommitCounter + may_draw_count (with_view views k v') o.lanes < generation_limit + 32
         → v'.entries ≡ v.entries
+        → Heap o (slice_index o.words) new (with_view views k v')
         → (new StopWord ≡ 0) ⊎ ((j : ℕ) × (j < o.lanes) × IsAtStop (with_view views k v' j))
         → World o new (with_view views k v') log decided
-    quiet new others here words lines flying counter room entries stops = record {
+    quiet new others here words lines flying counter room entries heap stops = record {
       sound = world.sound;
       each_lane = each_lane' new (settled o log decided) (λ j. Flies log decided j) others here;
       each_word = λ w heap all. words w heap (unlogged_here w all) (unlogged_else w all);
@@ -104,8 +107,13 @@ module _ (o : Opening) (old : Memory) (views : Views) (log : List Entry) (decide
       counter = counter ∙ world.counter;
       counter_room = subst (λ n. n + may_draw_count (with_view views k v') o.lanes < generation_limit + 32) (sym counter) room;
       own_entries = λ j low. entries_kept j entries low;
+      heap = heap;
       stop_word = stops;
     }
+
+    -- the heap after a step that changes none of its volatile words, nor what the lane has of them
+    pub heap_here : (new : Memory) → IsHeapSame old new → HasSame v v' → Heap o (slice_index o.words) new (with_view views k v')
+    heap_here new same has = heap_still o (slice_index o.words) old new views k v v' is world.heap same has
 
     -- a step that changes no word
     pub still : (new : Memory) → IsSame old new
@@ -114,14 +122,14 @@ module _ (o : Opening) (old : Memory) (views : Views) (log : List Entry) (decide
         → v'.locks ≡ v.locks
         → ((n : ℕ) → flight v ≡ Some n → flight v' ≡ Some n)
         → old CommitCounter + may_draw_count (with_view views k v') o.lanes < generation_limit + 32
-        → v'.entries ≡ v.entries → v'.stop ≡ v.stop → v.calls ≤ v'.calls
+        → v'.entries ≡ v.entries → v'.stop ≡ v.stop → v.calls ≤ v'.calls → Heap o (slice_index o.words) new (with_view views k v')
         → World o new (with_view views k v') log decided
-    still new same here logs locks flying room entries stop more = quiet new
+    still new same here logs locks flying room entries stop more heap = quiet new
         (λ j low other. lane_kept o old new (settled o log decided) (settled o log decided) (Flies log decided j) (Flies log decided j) j (views j)
         (λ w in_area. same (PoolWord w)) (λ w known. same (PoolWord w)) (λ w own_word. same (PoolWord w)) (λ line write. subst (ShowsHold j write) (sym (same (LockWord line)))) (λ w own_word. refl) (λ n flies. flies) (world.each_lane j low))
         (lane_kept o old new (settled o log decided) (settled o log decided) (Flies log decided k) (Flies log decided k) k v'
         (λ w in_area. same (PoolWord w)) (λ w known. same (PoolWord w)) (λ w own_word. same (PoolWord w)) (λ line write. subst (ShowsHold k write) (sym (same (LockWord line)))) (λ w own_word. refl) (λ n flies. flies) here)
         (λ w heap here_un others. same (PoolWord w) ∙ world.each_word w heap (unlogged_before w (logs w here_un) others))
         (λ line bit set. hold_kept line bit (subst (λ ls. Any (λ (l : Lock). (l.line ≡ line) × (bit ≡ hold_bit k l.write)) ls) (sym locks)) (world.each_line line bit (subst (λ n. bit_at n bit ≡ 1) (same (LockWord line)) set)))
-        flying (same CommitCounter) room entries
+        flying (same CommitCounter) room entries heap
         (⊎_elim (λ (unset : old StopWord ≡ 0). inl (same StopWord ∙ unset)) (λ (t : (j : ℕ) × (j < o.lanes) × IsAtStop (views j)). inr (at_stop_kept (stop_kept v v' stop more) t)) world.stop_word)

@@ -18,6 +18,7 @@ use Rattle.pm_view.specs.View.{View, Lock}
 use Rattle.pm_image.specs.Logs.{undo_slot}
 use Rattle.pm_memory.specs.LockWords.{writer_bit}
 use Rattle.pm_world.specs.Entries.{AreWhole, EntryStands, HasNone, IsEntryAt, applied_in, entry_word, is_entered, is_redone, seal_in}
+use Rattle.pm_world.specs.Heap.{BlocksFit}
 use Rattle.pm_world.specs.History.{made_final}
 use Rattle.pm_world.specs.Lawful.{generation_limit}
 use Rattle.pm_world.specs.Memory.{Memory}
@@ -170,11 +171,6 @@ PhaseFits flies v Sealing = SealingFits flies v
 PhaseFits flies v (Applying applied) = ApplyingFits v applied
 PhaseFits flies v Clearing = ClearingFits v
 
--- with the heap: what the lane reserved and freed
-pub record HasNoBlocks (v : View) : Type 0 where
-  pub reserved : v.reserved ≡ []
-  pub freed : v.freed ≡ []
-
 -- The view v is one of lane k: `settled` has the words after all decided entries, and `flies` says that the lane's entry of some number and
 -- difference is drawn and not decided.
 pub record LaneFits (o : Opening) (mem : Memory) (settled : ℕ → ℕ) (flies : ℕ → List Final → Type 0) (k : ℕ) (v : View) : Type 0 where
@@ -185,7 +181,7 @@ pub record LaneFits (o : Opening) (mem : Memory) (settled : ℕ → ℕ) (flies 
   pub entries : EntriesFit v
   pub redone : (w : ℕ) → IsTrue (is_redone v w) → IsTrue (is_written v w) → RedoneWord mem settled v w
   pub phase : PhaseFits flies v v.log.phase
-  pub blocks : HasNoBlocks v
+  pub blocks : BlocksFit (slice_index o.words) o.lanes o.zones v
   pub first_generation : 1 ≤ generation_of v
   pub last_generation : generation_of v ≤ generation_limit
   pub room : length v.changes ≤ max_changes

@@ -1,20 +1,25 @@
 -- Which steps a lane may make, by its own view alone, whatever a load or a lock answers. A step that no line allows comes with its stage:
--- ORs and ANDs, occupancy, zones and raises.
-use Rattle.std.specs.Prelude.{◌≡◌, ◌⊎◌, ℕ, ◌+◌, ◌/◌, ◌^◌, ◌<◌, ◌≤◌, ◌==◌, Bool, true, false, IsTrue, All, Any, Contains, List, [], ◌∷◌, ◌++◌, length, take, slice_index, None}
+-- ORs, ANDs and raises, and stores in blocks that the lane reserved.
+use Rattle.std.specs.Prelude.{◌≡◌, ◌⊎◌, ℕ, ◌+◌, ◌-◌, ◌*◌, ◌/◌, ◌^◌, ◌<◌, ◌≤◌, ◌==◌, Bool, true, false, IsTrue, All, Any, Contains, List, [], ◌∷◌, ◌++◌, length, take, slice_index, None}
+use Rattle.std.specs.Int.{bit_at}
 use Rattle.std.specs.List.{list_any}
 use Rattle.pm_record.specs.Redo.{redo_words}
 use Rattle.pm_view.specs.declared.change.Change.{Change}
+use Rattle.pm_view.specs.declared.occ.Occ.{Occ}
+use Rattle.pm_view.specs.declared.occ.Occ.TheVariants.{Run, Zone}
 use Rattle.pm_view.specs.Area.{Part, part_of}
 use Rattle.pm_view.specs.Area.Part.{GenerationWord, SealWord, EntryWord, SlotWord, OtherWord}
+use Rattle.pm_view.specs.Blocks.{covers}
 use Rattle.pm_view.specs.Counts.{is_counted, MayCount, IsAtStop, HasRoom, FlushesSome, DropsSome}
 use Rattle.pm_view.specs.Held.{is_under, is_known}
 use Rattle.pm_view.specs.Log.{Phase, Recorded, Final}
 use Rattle.pm_view.specs.Log.Phase.{Idle, Open, Drawn, Applying}
 use Rattle.pm_view.specs.Rights.{is_written}
 use Rattle.pm_view.specs.Steps.{Step}
-use Rattle.pm_view.specs.Steps.Step.{Load, Store, Flush, Drain, TakeWrite, TakeRead, Give, Draw, NumberSeen, StopSeen, SetStop, Tell}
+use Rattle.pm_view.specs.Steps.Step.{Load, Store, Flush, Drain, TakeWrite, TakeRead, Give, ZoneTry, ZoneGive, Occupied, Occupy, Vacate, Draw, NumberSeen, StopSeen, SetStop, Tell}
 use Rattle.pm_view.specs.View.{View, Lock}
-use Rattle.pm_world.specs.Entries.{AreWhole, IsEnterable, IsEntryAt, entry_word, set_word, setting}
+use Rattle.pm_world.specs.Entries.{AreWhole, IsEnterable, IsEntryAt, entry_word, is_entered, set_word, setting}
+use Rattle.pm_world.specs.Heap.{IsOcc, holds_zone, reserves}
 use Rattle.pm_world.specs.Records.{generation_of, slot_word, is_recorded, is_logged, spelled, AreRestored}
 
 -- generations, and the numbers after which a call begins, are below this
@@ -149,6 +154,54 @@ abbrev pub MayTell : Phase → Type 0
 MayTell (Open slot pair) = Unit {0}
 MayTell phase = ⊥
 
+-- the pool has the occupancy word, and it lies in the words that the view has; no pool has more than 32 zones
+abbrev pub LiesInside : View → Occ → Type 0
+LiesInside v (Run place) = place / 4096 < length v.words / 512
+LiesInside v (Zone zone) = zone < 32
+
+pub record HasOcc (v : View) (at : Occ) : Type 0 where
+  pub of_pool : IsOcc v.lanes v.zones at
+  pub inside : LiesInside v at
+
+-- bits are one block's of a run, or those of chunks of a zone that lie one after another
+abbrev pub IsOneBlock : Occ → ℕ → Type 0
+IsOneBlock (Run place) bits = (block : ℕ) × (bits ≡ 2 ^ block)
+IsOneBlock (Zone zone) bits = (first : ℕ) × (count : ℕ) × (bits ≡ 2 ^ first * (2 ^ count - 1))
+
+-- chunks are taken under the zone's lock
+abbrev pub IsLocked : View → Occ → Type 0
+IsLocked v (Run place) = Unit {0}
+IsLocked v (Zone zone) = holds_zone v zone ≡ true
+
+-- a lane tries to take what these bits are of before its call's draw
+pub record MayOccupy (v : View) (at : Occ) (bits : ℕ) : Type 0 where
+  pub there : HasOcc v at
+  pub small : bits < 2 ^ 64
+  pub one : IsOneBlock at bits
+  pub locked : IsLocked v at
+  pub early : IsEarly v.log.phase
+
+-- a lane gives back what it reserved: nothing undrained is of it, nor any record or entry of its log
+pub record MayVacate (v : View) (at : Occ) (bits : ℕ) : Type 0 where
+  pub there : HasOcc v at
+  pub small : bits < 2 ^ 64
+  pub own : (bit : ℕ) → bit_at bits bit ≡ 1 → reserves v at bit ≡ true
+  pub drained : All (λ (c : Change). covers v.lanes v.words at bits c.word ≡ false) v.changes
+  pub unlogged : (w : ℕ) → covers v.lanes v.words at bits w ≡ true → (is_recorded v.log.records w ≡ false) × (is_entered v.log.entries w ≡ false)
+  pub early : IsEarly v.log.phase
+
+-- a zone's lock is tried once where the lane does not hold it, and given back where it does
+pub record MayTryZone (v : View) (zone : ℕ) : Type 0 where
+  pub inside : zone < v.zones
+  pub few : zone < 32
+  pub free : holds_zone v zone ≡ false
+  pub early : IsEarly v.log.phase
+
+pub record MayGiveZone (v : View) (zone : ℕ) : Type 0 where
+  pub inside : zone < v.zones
+  pub few : zone < 32
+  pub held : holds_zone v zone ≡ true
+
 -- the lane may ask for the step
 abbrev pub Allowed : View → Step → Type 0
 Allowed v (Load w found) = w < length v.words
@@ -158,6 +211,11 @@ Allowed v Drain = DropsSome v.changes
 Allowed v (TakeWrite line won) = MayTake v line
 Allowed v (TakeRead line won) = MayTake v line
 Allowed v (Give line) = MayGive v line
+Allowed v (ZoneTry zone won) = MayTryZone v zone
+Allowed v (ZoneGive zone) = MayGiveZone v zone
+Allowed v (Occupied at found) = HasOcc v at
+Allowed v (Occupy at bits won) = MayOccupy v at bits
+Allowed v (Vacate at bits) = MayVacate v at bits
 Allowed v (Draw n) = MayDraw v
 Allowed v (NumberSeen n) = Unit {0}
 Allowed v (StopSeen set) = Unit {0}

@@ -1,6 +1,7 @@
 pub mod Course
 pub mod Crash
 pub mod Fits
+pub mod Heap
 pub mod History
 pub mod Lanes
 pub mod Lawful
@@ -11,6 +12,7 @@ pub mod Opening
 pub mod Opens
 pub mod Records
 pub mod Entries
+pub mod Searches
 pub mod Sequences
 pub mod Solo
 pub mod World

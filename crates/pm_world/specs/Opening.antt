@@ -1,7 +1,8 @@
 -- What a world began from, and which line's lock guards a word.
-use Rattle.std.specs.Prelude.{◌≡◌, ℕ, ◌+◌, ◌*◌, ◌<◌, ◌≤◌, ◌⊎◌, IsTrue, List, length, slice_index, Some}
+use Rattle.std.specs.Prelude.{◌≡◌, ℕ, ◌+◌, ◌*◌, ◌<◌, ◌≤◌, ◌⊎◌, true, IsTrue, List, length, slice_index, Some}
 use Rattle.pm_view.specs.Blocks.{block_at, zone_page, chunk_of, descriptor_word, bitmap_word, is_run}
 use Rattle.pm_view.specs.Held.{is_under_found}
+use Rattle.pm_view.specs.Occupancy.{is_in_block}
 
 -- the pool's shape, and its words at the opening, after recovery
 pub record Opening : Type 0 where
@@ -32,5 +33,7 @@ pub record IsSound (o : Opening) : Type 0 where
   pub one_guard : (line other w : ℕ) → Guards o line w → Guards o other w → line ≡ other
   pub behind_areas : (line w : ℕ) → Guards o line w → 512 + 1024 * o.lanes ≤ w
   pub within : (line w : ℕ) → Guards o line w → w < length o.words
+  -- what a lock guards lies in an allocated block
+  pub in_blocks : (line w : ℕ) → Guards o line w → is_in_block (slice_index o.words) o.lanes w ≡ true
   -- no lock guards what tells of blocks
   pub apart : (line w : ℕ) → Guards o line w → TellsOfBlocks o w → ⊥

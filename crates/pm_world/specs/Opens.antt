@@ -1,15 +1,19 @@
 -- How a world begins: the words that recovery leaves, no lane having made a step.
-use Rattle.std.specs.Prelude.{◌≡◌, ℕ, ◌<◌, ◌≤◌, [], slice_index, false, Some, None}
+use Rattle.std.specs.Prelude.{◌≡◌, ℕ, ◌<◌, ◌≤◌, [], slice_index, true, false, Some, None}
+use Rattle.std.specs.Int.{bit_at}
 use Rattle.pm_record.specs.Undo.{undo_of}
 use Rattle.pm_record.specs.declared.undo.Undo.{Undo}
+use Rattle.pm_view.specs.declared.occ.Occ.{Occ}
+use Rattle.pm_view.specs.Occupancy.{is_taken}
 use Rattle.pm_view.specs.Log.{no_log}
 use Rattle.pm_view.specs.Log.Phase.{Idle}
 use Rattle.pm_view.specs.View.{View}
 use Rattle.pm_image.specs.Logs.{generation_word, seal_word, undo_slot}
 use Rattle.pm_world.specs.Fits.{IsLane}
+use Rattle.pm_world.specs.Heap.{IsOcc}
 use Rattle.pm_world.specs.Lawful.{generation_limit}
-use Rattle.pm_world.specs.Memory.{Memory}
-use Rattle.pm_world.specs.Memory.Location.{PoolWord, LockWord, CommitCounter, StopWord}
+use Rattle.pm_world.specs.Memory.{Memory, occ_at}
+use Rattle.pm_world.specs.Memory.Location.{PoolWord, LockWord, ZoneLock, CommitCounter, StopWord}
 use Rattle.pm_world.specs.Opening.{Opening, IsSound}
 use Rattle.pm_world.specs.World.{Views, World}
 
@@ -31,14 +35,18 @@ pub record IsFresh (o : Opening) (k : ℕ) (v : View) : Type 0 where
   pub no_locks : v.locks ≡ []
   pub nothing_reserved : v.reserved ≡ []
   pub nothing_freed : v.freed ≡ []
+  pub no_zones : v.zone_locks ≡ []
   pub nothing_seen : v.seen ≡ []
   pub no_number : v.number ≡ None
   pub no_entries : v.entries ≡ []
 
--- the memory as it is opened: these words, and all volatile words 0
+-- the memory as it is opened: these words, the bits set of what is taken by them, and all other volatile words 0
 pub record IsOpened (o : Opening) (mem : Memory) : Type 0 where
   pub words : (w : ℕ) → mem (PoolWord w) ≡ slice_index o.words w
   pub locks : (line : ℕ) → mem (LockWord line) ≡ 0
+  pub set : (at : Occ) (bit : ℕ) → IsOcc o.lanes o.zones at → bit < 64 → bit_at (mem (occ_at at)) bit ≡ 1 → is_taken (slice_index o.words) o.lanes at bit ≡ true
+  pub taken : (at : Occ) (bit : ℕ) → IsOcc o.lanes o.zones at → bit < 64 → is_taken (slice_index o.words) o.lanes at bit ≡ true → bit_at (mem (occ_at at)) bit ≡ 1
+  pub zones : (zone : ℕ) → mem (ZoneLock zone) ≡ 0
   pub counter : mem CommitCounter ≡ 0
   pub stop_word : mem StopWord ≡ 0
 

@@ -1,7 +1,8 @@
 ghost use Rattle.std.specs.Prelude.{ℕ, Bool, Option};
 ghost use Rattle.pm_objects.specs.declared.calls.Operation.{Operation};
 ghost use Rattle.pm_objects.specs.declared.history.Value.{Value};
-ghost use Rattle.pm_view.specs.Steps.Step.{Load, Store, Flush, Drain, TakeWrite, TakeRead, Give, Draw, NumberSeen, StopSeen, SetStop, Tell};
+ghost use Rattle.pm_view.specs.declared.occ.Occ.{Occ};
+ghost use Rattle.pm_view.specs.Steps.Step.{Load, Store, Flush, Drain, TakeWrite, TakeRead, Give, ZoneTry, ZoneGive, Occupied, Occupy, Vacate, Draw, NumberSeen, StopSeen, SetStop, Tell};
 ghost use Rattle.pm_world.specs.Laws.{Keeps, CrashLaw, AcknowledgedLaw};
 ghost use Rattle.pm_world.specs.Opens.{OpeningLaw};
 
@@ -19,6 +20,11 @@ pub fn lawful_steps_keep_the_world()
     ensures take_write { (line : ℕ) (won : Bool) → Keeps (TakeWrite line won) }
     ensures take_read { (line : ℕ) (won : Bool) → Keeps (TakeRead line won) }
     ensures give { (line : ℕ) → Keeps (Give line) }
+    ensures zone_try { (zone : ℕ) (won : Bool) → Keeps (ZoneTry zone won) }
+    ensures zone_give { (zone : ℕ) → Keeps (ZoneGive zone) }
+    ensures occupied { (at : Occ) (found : ℕ) → Keeps (Occupied at found) }
+    ensures occupy { (at : Occ) (bits : ℕ) (won : Bool) → Keeps (Occupy at bits won) }
+    ensures vacate { (at : Occ) (bits : ℕ) → Keeps (Vacate at bits) }
     ensures draw { (n : ℕ) → Keeps (Draw n) }
     ensures number_seen { (n : ℕ) → Keeps (NumberSeen n) }
     ensures stop_seen { (stopped : Bool) → Keeps (StopSeen stopped) }

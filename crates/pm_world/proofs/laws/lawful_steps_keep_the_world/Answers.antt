@@ -2,6 +2,7 @@ use Rattle.pm_world.proofs.StepDrain.{drains}
 use Rattle.pm_world.proofs.StepDraw.{draws}
 use Rattle.pm_world.proofs.StepFlush.{flushes}
 use Rattle.pm_world.proofs.StepGive.{gives}
+use Rattle.pm_world.proofs.StepHeap.{gives_zone_back, occupies, sees_occupancy, tries_zone, vacates}
 use Rattle.pm_world.proofs.StepLoad.{loads}
 use Rattle.pm_world.proofs.StepSeen.{sees_numbers, sees_stops, tells}
 use Rattle.pm_world.proofs.StepSetStop.{sets_stop}
@@ -18,6 +19,11 @@ returns c = record {
   take_write = takes_write;
   take_read = takes_read;
   give = gives;
+  zone_try = tries_zone;
+  zone_give = gives_zone_back;
+  occupied = sees_occupancy;
+  occupy = occupies;
+  vacate = vacates;
   draw = draws;
   number_seen = sees_numbers;
   stop_seen = sees_stops;

@@ -1,0 +1,38 @@
+-- What a lane does that looks for free blocks or chunks: descriptors and occupancy words are read, bits of these are tried, and zones' locks are
+-- taken and given back. No call of it is counted.
+use Rattle.std.specs.Prelude.{◌≡◌, ◌⊎◌, ℕ, Bool, true, false, IsTrue, Contains, List, [], ◌∷◌, ◌++◌}
+use Rattle.std.specs.Int.{bit_at}
+use Rattle.pm_view.specs.declared.occ.Occ.{Occ}
+use Rattle.pm_view.specs.Founds.{FoundAlone}
+use Rattle.pm_view.specs.Steps.{Step}
+use Rattle.pm_view.specs.Steps.Step.{Load, Occupied, Occupy, ZoneGive, ZoneTry}
+use Rattle.pm_view.specs.View.{View, Taken}
+use Rattle.pm_view.specs.Views.{after}
+use Rattle.pm_world.specs.Lawful.{Allowed}
+
+abbrev pub is_search : Step → Bool
+is_search (Load w found) = true
+is_search (Occupied at found) = true
+is_search (Occupy at bits won) = true
+is_search (ZoneTry zone won) = true
+is_search (ZoneGive zone) = true
+is_search s = false
+
+-- such steps lead from the one view to the other: the lane may ask for each, and is answered as one that is alone where it is
+unfoldable pub Searches : View → List Step → View → Type 0
+Searches v [] w = w ≡ v
+Searches v (s ∷ steps) w = IsTrue (is_search s) × Allowed v s × FoundAlone v s × Searches (after v s) steps w
+
+-- the memory may be seen as a view to which such steps led, which reserved these blocks besides, and of which this holds
+pub record HasSearched (at : View → Type 0) (v : View) (more : List Taken) (Q : View → Type 0) : Type 0 where
+  pub view : View
+  pub steps : List Step
+  pub searches : Searches v steps view
+  pub there : at view
+  pub reserved : view.reserved ≡ v.reserved ++ more
+  pub zones : view.zone_locks ≡ v.zone_locks
+  pub holds : Q view
+
+-- the bit was seen set: in the word that was read, or as bits were tried, of which it is the only one
+abbrev pub SawTaken : View → Occ → ℕ → Type 0
+SawTaken v at bit = ((found : ℕ) × (Contains v.seen (Occupied at found) × (bit_at found bit ≡ 1))) ⊎ ((bits : ℕ) × (Contains v.seen (Occupy at bits false) × (bit_at bits bit ≡ 1)))
