@@ -1,15 +1,19 @@
 -- The steps of a lane that is alone are a course of a world: its memory is what the lane's view says, and no other lane makes a step.
-use Rattle.std.proofs.Common.{◌≡◌, ◌≢◌, ⊎_elim, inl, inr, ℕ, ◌+◌, ◌<◌, ◌≤◌, Bool, true, false, eqb, is_none, List, [], ◌∷◌, ◌++◌, length, slice_index, Option, refl, sym, ◌∙◌, ap, subst, arith, append_assoc, le_refl, ne_eqb}
+use Rattle.std.proofs.Common.{◌≡◌, ◌≢◌, ⊎_elim, inl, inr, ℕ, ◌+◌, ◌/◌, ◌<◌, ◌≤◌, Bool, true, false, eqb, is_none, List, [], ◌∷◌, ◌++◌, length, slice_index, Option, refl, sym, ◌∙◌, ap, subst, arith, append_assoc, le_refl, ne_eqb}
 use Rattle.std.specs.Option.{ForSome}
 use Rattle.std.specs.List.{list_any}
 use Rattle.std.proofs.lemmas.Bool.{and_from, and_parts, cases_eq, cond-false, false≢true}
 use Rattle.pm_header.specs.declared.header.Header.{Header}
 use Rattle.pm_objects.specs.declared.pool.PoolView.{PoolView}
+use Rattle.std.specs.Int.{bit_at}
+use Rattle.pm_view.specs.declared.occ.Occ.{Occ}
+use Rattle.pm_view.specs.declared.occ.Occ.TheVariants.{Run, Zone}
 use Rattle.pm_view.specs.Area.{area_word}
 use Rattle.pm_view.specs.Counts.{MayCount, is_counted}
 use Rattle.pm_view.specs.Founds.{FoundAlone, IsAlone}
 use Rattle.pm_view.specs.Log.{Phase}
 use Rattle.pm_view.specs.Log.Phase.{Idle, Open, Drawn, Sealing, Applying, Clearing, Retiring}
+use Rattle.pm_view.specs.Occupancy.{is_taken}
 use Rattle.pm_view.specs.Steps.{Step}
 use Rattle.pm_view.specs.Steps.Step.{Load, Store, Or, And, Flush, Drain, TakeWrite, TakeRead, Raise, Give, ZoneTry, ZoneGive, Occupied, Occupy, Vacate, Draw, NumberSeen, StopSeen, SetStop, Tell}
 use Rattle.pm_view.specs.View.{Lock, Numbered, View}
@@ -19,11 +23,14 @@ use Rattle.pm_memory.specs.Solo.{AreNumbered, lock_word}
 use Rattle.pm_world.specs.History.{Entry}
 use Rattle.pm_world.specs.Laws.{with_view}
 use Rattle.pm_world.specs.Lawful.{Allowed, IsLawful}
+use Rattle.pm_world.specs.Heap.{IsOcc}
+use Rattle.pm_world.specs.Memory.{occ_at}
 use Rattle.pm_world.specs.Memory.Location.{PoolWord}
 use Rattle.pm_world.specs.Moves.{Moves}
 use Rattle.pm_world.specs.Opening.{Opening}
 use Rattle.pm_world.specs.Opens.{IsFresh}
 use Rattle.pm_world.specs.World.{Views, is_low}
+use Rattle.pm_world.proofs.Chunks.{chunk_is}
 use Rattle.pm_world.proofs.Frame.{view_else, view_here}
 use Rattle.pm_world.proofs.StepSeen.{not_low_more, told}
 use Rattle.pm_world.proofs.Worlds.{room_kept}
@@ -31,7 +38,7 @@ use Rattle.pm_crash.specs.Alone.{BeginsAlone, alone_views, idle_view}
 use Rattle.pm_crash.specs.HeldHistory.{DrawsEnded, IsEndedCall}
 use Rattle.pm_crash.specs.Leading.{Leads}
 use Rattle.pm_crash.specs.OneLane.{IsModelStep, IsPaid, Makes, Moment, Move, moved}
-use Rattle.pm_crash.proofs.AloneMemory.{draw_moves, drain_moves, flush_moves, give_moves, load_moves, memory_of, number_moves, same_memory, store_moves, take_read_moves, take_write_moves, tell_moves}
+use Rattle.pm_crash.proofs.AloneMemory.{draw_moves, drain_moves, flush_moves, give_moves, in_picture, load_moves, memory_of, number_moves, occupied_moves, occupy_moves, one_if, same_memory, sizes_after, store_moves, take_read_moves, take_write_moves, tell_moves, vacate_moves, zone_give_moves, zone_try_moves}
 use Rattle.pm_crash.proofs.EndedCalls.{given_up_steps, whole_steps}
 use Rattle.pm_crash.proofs.LogCourse.{InRange, all_of, carried}
 use Rattle.pm_crash.proofs.OneCourse.{Goes, goes_first, goes_on}
@@ -119,6 +126,9 @@ pub record StandsAlone (o : Opening) (header : Header) (pool : PoolView) (v : Vi
   pub goes : Goes o 0 header pool (record { memory = memory_of v; views = views; log = log; decided = decided })
   pub here : views 0 ≡ v
   pub others : (j : ℕ) → j ≢ 0 → views j ≡ idle_view o j
+  -- its picture has all occupancy words
+  pub pages : length v.run_words ≡ length v.words / 512
+  pub zone_count : length v.zone_words ≡ 32
 
 -- the views of the lanes that make no step
 pub alone_else : (o : Opening) (v : View) (j : ℕ) → j ≢ 0 → alone_views o v j ≡ idle_view o j
@@ -135,6 +145,7 @@ idle_fresh o j = record {
   no_locks = refl;
   nothing_reserved = refl;
   nothing_freed = refl;
+  no_zones = refl;
   nothing_seen = refl;
   no_number = refl;
   no_entries = refl;
@@ -154,6 +165,9 @@ module _ (o : Opening) (header : Header) (pool : PoolView) where
       opens = record {
         words = λ w. ap (λ (words : List ℕ). slice_index words w) begins.fresh.words;
         locks = λ line. ap (λ (locks : List Lock). lock_word locks line) begins.fresh.no_locks;
+        set = λ at bit of low one. told_set at bit of low one;
+        taken = λ at bit of low is_so. told_taken at bit of low is_so;
+        zones = λ zone. ap (λ (zones : List ℕ). one_if (list_any (λ held. eqb held zone) zones)) begins.fresh.no_zones;
         counter = ap (λ (es : List Numbered). length es) begins.fresh.no_entries;
         stop_word = refl;
       };
@@ -162,7 +176,17 @@ module _ (o : Opening) (header : Header) (pool : PoolView) where
     });
     here = refl;
     others = alone_else o v;
+    pages = let words : length v.words ≡ length o.words = ap (λ (words : List ℕ). length words) begins.fresh.words in let size = begins.holds.has_header.has_shape.size in let all = begins.occupied.pages in omega arith;
+    zone_count = begins.occupied.zone_count;
   } where
+    told_set : (at : Occ) (bit : ℕ) → IsOcc o.lanes o.zones at → bit < 64 → bit_at (memory_of v (occ_at at)) bit ≡ 1 → is_taken (slice_index o.words) o.lanes at bit ≡ true
+    told_set (Run place) bit of low one = (begins.occupied.blocks (place / 4096) bit (chunk_is o.lanes (place / 4096) of.1) of.2 low).0 one
+    told_set (Zone zone) bit of low one = (begins.occupied.chunks zone bit of low).0 one
+
+    told_taken : (at : Occ) (bit : ℕ) → IsOcc o.lanes o.zones at → bit < 64 → is_taken (slice_index o.words) o.lanes at bit ≡ true → bit_at (memory_of v (occ_at at)) bit ≡ 1
+    told_taken (Run place) bit of low is_so = (begins.occupied.blocks (place / 4096) bit (chunk_is o.lanes (place / 4096) of.1) of.2 low).1 is_so
+    told_taken (Zone zone) bit of low is_so = (begins.occupied.chunks zone bit of low).1 is_so
+
     fresh : (j : ℕ) → IsFresh o j (alone_views o v j)
     fresh j = ⊎_elim
         (λ (same : j ≡ 0). subst (λ (n : ℕ). IsFresh o n (alone_views o v n)) (sym same) begins.fresh)
@@ -190,6 +214,8 @@ module _ (o : Opening) (header : Header) (pool : PoolView) where
           goes = goes_on o 0 header pool now move stands.goes makes;
           here = view_here stands.views 0 (after (stands.views 0) s) ∙ ap (λ (u : View). after u s) stands.here;
           others = λ j other. view_else stands.views 0 (after (stands.views 0) s) j other ∙ stands.others j other;
+          pages = (sizes_after v s).pages ∙ (stands.pages ∙ ap (λ n. n / 512) (sym (same_lane-after v s).size));
+          zone_count = (sizes_after v s).zones ∙ stands.zone_count;
         }
 
     -- what it sees of the stop word is no concern of a world
@@ -208,7 +234,7 @@ module _ (o : Opening) (header : Header) (pool : PoolView) where
           goes = record {
             world =
                 told o (memory_of v) stands.views stands.log stands.decided g.world 0 g.in_lanes v stands.here (memory_of next) (v.seen ++ StopSeen set ∷ []) v.call v.actions
-                (same_memory v next (record { words = refl; locks = λ line. refl; count = refl }))
+                (same_memory v next (record { words = refl; locks = λ line. refl; count = refl; runs = refl; zones = refl; zone_locks = refl }))
                 (room_kept o (memory_of v) stands.views stands.log stands.decided g.world 0 g.in_lanes v stands.here (record v { seen = v.seen ++ StopSeen set ∷ [] })
                 (λ can.
                 let t = and_parts (is_none v.number) (list_any is_low (v.seen ++ StopSeen set ∷ [])) can in
@@ -224,6 +250,8 @@ module _ (o : Opening) (header : Header) (pool : PoolView) where
           };
           here = here;
           others = λ j other. view_else stands.views 0 next j other ∙ stands.others j other;
+          pages = stands.pages;
+          zone_count = stands.zone_count;
         }
 
     lawful_so : (s : Step) → Allowed v s → (is_counted s ≡ true → MayCount v) → IsLawful v s
@@ -247,11 +275,12 @@ module _ (o : Opening) (header : Header) (pool : PoolView) where
     stands_after (TakeRead line won) alone may found ended due next = goes_step (TakeRead line won) (lawful_so (TakeRead line won) may due) (take_read_moves v line won (found alone) may.free) tt
     stands_after (Raise line won) alone may found ended due next = absurd may
     stands_after (Give line) alone may found ended due next = goes_step (Give line) (lawful_so (Give line) may due) (give_moves v line) tt
-    stands_after (ZoneTry zone won) alone may found ended due next = absurd may
-    stands_after (ZoneGive zone) alone may found ended due next = absurd may
-    stands_after (Occupied at found) alone may f ended due next = absurd may
-    stands_after (Occupy at bits won) alone may found ended due next = absurd may
-    stands_after (Vacate at bits) alone may found ended due next = absurd may
+    stands_after (ZoneTry zone won) alone may found ended due next = goes_step (ZoneTry zone won) (lawful_so (ZoneTry zone won) may due) (zone_try_moves v zone won (found alone) may.free) tt
+    stands_after (ZoneGive zone) alone may found ended due next = goes_step (ZoneGive zone) (lawful_so (ZoneGive zone) may due) (zone_give_moves v zone) tt
+    stands_after (Occupied at found) alone may f ended due next = goes_step (Occupied at found) (lawful_so (Occupied at found) may due) (occupied_moves v at found (f alone)) tt
+    stands_after (Occupy at bits won) alone may found ended due next =
+        goes_step (Occupy at bits won) (lawful_so (Occupy at bits won) may due) (occupy_moves v at bits won (in_picture v at stands.pages stands.zone_count may.there.inside) (found alone)) tt
+    stands_after (Vacate at bits) alone may found ended due next = goes_step (Vacate at bits) (lawful_so (Vacate at bits) may due) (vacate_moves v at bits (in_picture v at stands.pages stands.zone_count may.there.inside)) tt
     stands_after (Draw n) alone may found ended due next = goes_step (Draw n) (lawful_so (Draw n) may due) (draw_moves v n (next n refl)) (owes ended)
     stands_after (NumberSeen n) alone may found ended due next = goes_step (NumberSeen n) (lawful_so (NumberSeen n) may due) (number_moves v n (found alone)) tt
     stands_after (StopSeen set) alone may found ended due next = sees_stop set

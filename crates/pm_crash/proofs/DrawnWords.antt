@@ -23,6 +23,7 @@ use Rattle.pm_world.specs.Records.{is_logged, is_recorded}
 use Rattle.pm_world.specs.World.{World}
 use Rattle.pm_world.proofs.CrashLogs.{unrecorded_unlogged}
 use Rattle.pm_world.proofs.Pairs.{none_redone}
+use Rattle.pm_world.proofs.Reserved.{reserved_apart}
 use Rattle.pm_world.proofs.Replays.{replayed-other, replayed-same}
 use Rattle.pm_crash.specs.Lines.{AgreeAtLine}
 use Rattle.pm_crash.specs.OneLane.{Moment}
@@ -65,10 +66,8 @@ module _ (o : Opening) (k : ℕ) (m : Moment) (world : World o m.memory m.views 
       let fit : LockFits o m.memory k l = All-contains (LockFits o m.memory k) v.locks l fits.locks (t.0, t.2, t.3) in
       under_heap o l.line i l.block world.sound fit.found t.4)
       (or_cases (is_in_area v.lane i) (list_any (is_under i) v.locks) near))
-      (λ (reserved : is_reserved v i ≡ true). absurd (false≢true (sym (nothing_reserved v.reserved fits.blocks.reserved) ∙ reserved)))
-      (or_cases (is_in_area v.lane i || list_any (is_under i) v.locks) (is_reserved v i) (fits.picture.held i known)) where
-        nothing_reserved : (taken : List Taken) → taken ≡ [] → list_any (λ (t : Taken). covers v.lanes v.words t.at t.bits i) taken ≡ false
-        nothing_reserved taken none = ap (list_any (λ (t : Taken). covers v.lanes v.words t.at t.bits i)) none
+      (λ (reserved : is_reserved v i ≡ true). let apart = reserved_apart (slice_index o.words) o.lanes o.zones v i fits.lane.lanes fits.picture.descriptors fits.blocks reserved in inr (apart.behind, apart.within))
+      (or_cases (is_in_area v.lane i || list_any (is_under i) v.locks) (is_reserved v i) (fits.picture.held i known))
 
   -- no entry is of a word that tells of blocks
   pub heads_stay : (i : ℕ) → TellsOfBlocks o i → words_after (slice_index o.words) m.log i ≡ slice_index o.words i

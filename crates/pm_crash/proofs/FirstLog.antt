@@ -11,7 +11,9 @@ use Rattle.pm_objects.specs.declared.pool.PoolView.{PoolView}
 use Rattle.pm_image.specs.Logs.{generation_word}
 use Rattle.pm_image.proofs.Members.{member_kept, member_made, no_member, only_member}
 use Rattle.pm_view.specs.declared.change.Change.{Change}
+use Rattle.pm_view.specs.declared.occ.Occ.{Occ}
 use Rattle.pm_view.specs.Area.{Part, area_word, is_in_area, part_of}
+use Rattle.pm_view.specs.declared.occ.Occ.{Occ}
 use Rattle.pm_view.specs.Area.Part.{EntryWord, GenerationWord, OtherWord, SealWord, SlotWord}
 use Rattle.pm_view.specs.Changes.{drained, is_in_line, mark, store_change}
 use Rattle.pm_view.specs.Founds.{FoundAlone, IsAlone}
@@ -22,7 +24,7 @@ use Rattle.pm_view.specs.Rights.{is_written}
 use Rattle.pm_view.specs.Steps.{Step}
 use Rattle.pm_view.specs.Steps.Step.{Load, Store, Or, And, Flush, Drain, TakeWrite, TakeRead, Raise, Give, ZoneTry, ZoneGive, Occupied, Occupy, Vacate, Draw, NumberSeen, StopSeen, SetStop, Tell}
 use Rattle.pm_view.specs.View.{Lock, View}
-use Rattle.pm_view.specs.Views.{after, begun, changed, log_after_drain, with_seen}
+use Rattle.pm_view.specs.Views.{after, begun, changed, log_after_drain, with_seen, without_taken}
 use Rattle.pm_world.specs.Entries.{ends_with}
 use Rattle.pm_world.specs.Fits.{ApplyingFits, LaneFits, PhaseFits, SealingFits}
 use Rattle.pm_world.specs.History.{Flies, settled}
@@ -214,6 +216,21 @@ module _ (o : Opening) (header : Header) (pool : PoolView) (v : View) (stands : 
     take_read_carries line true = lock_carries (after v (TakeRead line true)) (record { line = line; write = false; block = None }) refl
     take_read_carries line false = quiet (after v (TakeRead line false)) refl refl refl refl (itself v.changes) (λ u own. own) (λ u own is. is)
 
+    -- what a view holds that forgets all else is known to it still
+    held_known : (bare : View) (u : ℕ) → is_held bare u ≡ true → is_known v u ≡ true → (is_in_area v.lane u || list_any (λ other. eqb other u) (filter (is_held bare) v.known)) ≡ true
+    held_known bare u held known = ⊎_elim
+        (λ (area : is_in_area v.lane u ≡ true). or_left (is_in_area v.lane u) (list_any (λ other. eqb other u) (filter (is_held bare) v.known)) area)
+        (λ (there : list_any (λ other. eqb other u) v.known ≡ true). or_right (is_in_area v.lane u) (list_any (λ other. eqb other u) (filter (is_held bare) v.known))
+        (list_any-filter (λ other. eqb other u) (is_held bare) v.known (λ n d low same. ap (is_held bare) (eqb-true (get_or v.known n d) u same) ∙ held) there))
+        (or_cases (is_in_area v.lane u) (list_any (λ other. eqb other u) v.known) known)
+
+    vacate_carries : (at : Occ) (bits : ℕ) → Carries v (after v (Vacate at bits))
+    vacate_carries at bits =
+        let bare : View = record v { reserved = without_taken at bits v.reserved } in
+        quiet (after v (Vacate at bits)) refl refl refl refl (itself v.changes) (λ u own. own)
+        (λ u own known. held_known bare u
+        (or_left (is_in_area v.lane u || list_any (is_under u) v.locks) (is_reserved bare u) (or_right (is_in_area v.lane u) (list_any (is_under u) v.locks) (written_under v.locks u own))) known)
+
     module _ (line : ℕ) (may : MayGive v line) where
       abbrev others : List Lock
       others = filter (λ (l : Lock). not (eqb l.line line)) v.locks
@@ -230,11 +247,7 @@ module _ (o : Opening) (header : Header) (pool : PoolView) (v : View) (stands : 
       still_known : (u : ℕ) → is_written bare u ≡ true → is_known v u ≡ true → (is_in_area v.lane u || list_any (λ other. eqb other u) (filter (is_held bare) v.known)) ≡ true
       still_known u own known =
           let held : is_held bare u ≡ true = or_left (is_in_area v.lane u || list_any (is_under u) others) (is_reserved bare u) (or_right (is_in_area v.lane u) (list_any (is_under u) others) (written_under others u own)) in
-          ⊎_elim
-          (λ (area : is_in_area v.lane u ≡ true). or_left (is_in_area v.lane u) (list_any (λ other. eqb other u) (filter (is_held bare) v.known)) area)
-          (λ (there : list_any (λ other. eqb other u) v.known ≡ true). or_right (is_in_area v.lane u) (list_any (λ other. eqb other u) (filter (is_held bare) v.known))
-          (list_any-filter (λ other. eqb other u) (is_held bare) v.known (λ n d low same. ap (is_held bare) (eqb-true (get_or v.known n d) u same) ∙ held) there))
-          (or_cases (is_in_area v.lane u) (list_any (λ other. eqb other u) v.known) known)
+          held_known bare u held known
 
       give_carries : Carries v (after v (Give line))
       give_carries = record {
@@ -472,11 +485,11 @@ module _ (o : Opening) (header : Header) (pool : PoolView) (v : View) (stands : 
     first_after (TakeRead line won) may found first = first_still (after v (TakeRead line won)) (take_read_carries line won) refl first
     first_after (Raise line won) may found first = absurd may
     first_after (Give line) may found first = first_still (after v (Give line)) (give_carries line may) refl first
-    first_after (ZoneTry zone won) may found first = absurd may
-    first_after (ZoneGive zone) may found first = absurd may
-    first_after (Occupied at found) may f first = absurd may
-    first_after (Occupy at bits won) may found first = absurd may
-    first_after (Vacate at bits) may found first = absurd may
+    first_after (ZoneTry zone won) may found first = first_still (after v (ZoneTry zone won)) (quiet (after v (ZoneTry zone won)) refl refl refl refl (itself v.changes) (λ u own. own) (λ u own is_. is_)) refl first
+    first_after (ZoneGive zone) may found first = first_still (after v (ZoneGive zone)) (quiet (after v (ZoneGive zone)) refl refl refl refl (itself v.changes) (λ u own. own) (λ u own is_. is_)) refl first
+    first_after (Occupied at found) may f first = first_still (after v (Occupied at found)) (quiet (after v (Occupied at found)) refl refl refl refl (itself v.changes) (λ u own. own) (λ u own is_. is_)) refl first
+    first_after (Occupy at bits won) may found first = first_still (after v (Occupy at bits won)) (quiet (after v (Occupy at bits won)) refl refl refl refl (itself v.changes) (λ u own. own) (λ u own is_. is_)) refl first
+    first_after (Vacate at bits) may found first = first_still (after v (Vacate at bits)) (vacate_carries at bits) refl first
     first_after (Draw n) may found first = draw_first n v.log.phase may.is_open first
     first_after (NumberSeen n) may found first = seen_first n v.log.phase refl first
     first_after (StopSeen set) may found first = first_still (after v (StopSeen set)) (told_carries (after v (StopSeen set)) refl) refl first

@@ -24,7 +24,7 @@ use Rattle.pm_world.specs.World.{Views, World}
 use Rattle.pm_world.proofs.CrashLogs.{logged_recorded}
 use Rattle.pm_world.proofs.CrashWords.{behind_areas, recorded_writes, word_stays}
 use Rattle.pm_world.proofs.Exclusion.{WritesUnder, writes_under}
-use Rattle.pm_world.proofs.Locations.{other_pool, pool-counter, pool-lock, pool-stop}
+use Rattle.pm_world.proofs.Locations.{other_occ, other_zone_lock, plain_pool, other_pool, pool-counter, pool-lock, pool-stop}
 use Rattle.pm_world.proofs.Parts.{generation_part, seal_part}
 
 -- a list's front is another's, where its words are
@@ -78,11 +78,13 @@ module _ (o : Opening) (mem : Memory) (views : Views) (log : List Entry) (decide
     front_stays (TakeRead line false) new i lawful moves low = moves.0 (PoolWord i)
     front_stays (Raise line won) new i lawful moves low = absurd moves
     front_stays (Give line) new i lawful moves low = moves.0 (PoolWord i) (pool-lock i line)
-    front_stays (ZoneTry zone won) new i lawful moves low = absurd moves
-    front_stays (ZoneGive zone) new i lawful moves low = absurd moves
-    front_stays (Occupied at found) new i lawful moves low = absurd moves
-    front_stays (Occupy at bits won) new i lawful moves low = absurd moves
-    front_stays (Vacate at bits) new i lawful moves low = absurd moves
+    front_stays (ZoneTry zone true) new i lawful moves low = moves.0.0 (PoolWord i) (other_zone_lock zone (PoolWord i) (plain_pool i))
+    front_stays (ZoneTry zone false) new i lawful moves low = moves.0 (PoolWord i)
+    front_stays (ZoneGive zone) new i lawful moves low = moves.0 (PoolWord i) (other_zone_lock zone (PoolWord i) (plain_pool i))
+    front_stays (Occupied at found) new i lawful moves low = moves.0 (PoolWord i)
+    front_stays (Occupy at bits true) new i lawful moves low = moves.0.0 (PoolWord i) (other_occ at (PoolWord i) (plain_pool i))
+    front_stays (Occupy at bits false) new i lawful moves low = moves.0 (PoolWord i)
+    front_stays (Vacate at bits) new i lawful moves low = moves.0 (PoolWord i) (other_occ at (PoolWord i) (plain_pool i))
     front_stays (Draw n) new i lawful moves low = moves.0.0 (PoolWord i) (pool-counter i)
     front_stays (NumberSeen n) new i lawful moves low = moves.0 (PoolWord i)
     front_stays (StopSeen set) new i lawful moves low = moves.0 (PoolWord i)

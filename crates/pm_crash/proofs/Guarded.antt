@@ -11,11 +11,13 @@ use Rattle.pm_image.proofs.HeapWords.{in_pool}
 use Rattle.pm_image.proofs.Rooms.{run_fits}
 use Rattle.pm_view.specs.Blocks.{chunk_of, descriptor_word as lane_descriptor, is_chunk, zone_of, zone_page}
 use Rattle.pm_view.specs.Held.{is_guarded}
+use Rattle.pm_view.specs.Occupancy.{is_in_block}
 use Rattle.pm_world.specs.Opening.{Guards, IsChunk, IsSound, Opening, TellsOfBlocks}
 use Rattle.pm_crash.specs.OpenCall.{block_at_line}
 use Rattle.pm_crash.proofs.Apart.{IsBehindHeader, IsInZone, apart, good_chunk, in_its_zone, no_bitmap, rising}
 use Rattle.pm_crash.proofs.Classes.{chunks_of_class, lines_of_class, run_by_byte, run_has_lines}
 use Rattle.pm_crash.proofs.FoundBlocks.{IsChunkOf, IsPageOf, chunk_of_page, found_of_words, page_of_chunk}
+use Rattle.pm_crash.proofs.InBlocks.{IsIn, in_chunk_block, in_run_block}
 use Rattle.pm_crash.proofs.Standing.{IsChunkBlock, IsRunBlock, Stands, block_stands}
 
 -- a guarded word is in the block's words
@@ -122,6 +124,19 @@ module _ (o : Opening) (none : heap_fault (slice_index o.words) o.lanes o.zones 
       let run = run_by_byte w o.lanes c (good_chunk w o.lanes o.zones c none found.1.in_zones) low in
       no_run_bitmap line g.lines c i (block_of line i g) (word_of line i g) (bitmap.0 ∙ of.bitmap) run
 
+  -- a guarded word lies in its block, and so in one
+  in_blocks : (line i : ℕ) → Guards o line i → is_in_block (slice_index o.words) o.lanes i ≡ true
+  in_blocks line i g =
+      let w : ℕ → ℕ = slice_index o.words in
+      let block : Block = block_at_line line g.lines in
+      let stands : Stands w o.lanes o.zones block = block_stands w o.lanes o.zones block (block_of line i g) in
+      let from = (word_of line i g).from in
+      let to = (word_of line i g).to in
+      let inside : IsIn block i = record { from = omega arith; to = omega arith } in
+      ⊎_elim (λ (run : IsRunBlock w o.lanes stands.chunk block). in_run_block w o.lanes stands.chunk i block run inside)
+      (λ (whole : IsChunkBlock w o.lanes stands.chunk block). in_chunk_block w o.lanes stands.chunk i block (good_chunk w o.lanes o.zones stands.chunk none stands.in_zones) whole inside)
+      stands.is
+
   pub sound_of_heap : 1 ≤ o.lanes → o.lanes ≤ 32 → IsSound o
   sound_of_heap some most = record {
     some_lanes = some;
@@ -130,6 +145,7 @@ module _ (o : Opening) (none : heap_fault (slice_index o.words) o.lanes o.zones 
     one_guard = one_guard;
     behind_areas = behind_areas;
     within = within;
+    in_blocks = in_blocks;
     apart = no_heads;
   }
 

@@ -1,5 +1,5 @@
 -- What a lane looks at is in no other lane's call in flight, so whichever of these are left out, the words may be those before its open call.
-use Rattle.std.proofs.Common.{◌≡◌, ◌≢◌, inl, inr, ⊎_elim, ℕ, ◌+◌, ◌/◌, ◌<◌, Bool, true, false, not, cond, eqb, IsTrue, IfSome, List, [], ◌∷◌, ◌++◌, length, slice_index, Option, Some, None, refl, sym, ◌∙◌, ap, subst, arith}
+use Rattle.std.proofs.Common.{◌≡◌, ◌≢◌, inl, inr, ⊎_elim, ℕ, ◌+◌, ◌/◌, ◌<◌, ◌||◌, Bool, true, false, not, cond, eqb, IsTrue, IfSome, List, [], ◌∷◌, ◌++◌, length, slice_index, Option, Some, None, refl, sym, ◌∙◌, ap, subst, arith}
 use Rattle.std.specs.List.{Contains, list_any}
 use Rattle.std.proofs.lemmas.Bool.{and_parts, cases_Bool, cases_eq, cond-true, eqb-true, or_from, false_from_ne_true, false≢true, or_cases}
 use Rattle.std.proofs.lemmas.List.Elements.{All-contains}
@@ -10,7 +10,7 @@ use Rattle.pm_image.specs.HeapFaults.{heap_fault}
 use Rattle.pm_image.specs.Reads.{IsHeapWord}
 use Rattle.pm_view.specs.Area.{is_in_area}
 use Rattle.pm_view.specs.Blocks.{bitmap_word, block_at, descriptor_word, is_chunk, is_run}
-use Rattle.pm_view.specs.Held.{is_held, is_under, is_under_found, root_word}
+use Rattle.pm_view.specs.Held.{is_held, is_reserved, is_under, is_under_found, root_word}
 use Rattle.pm_view.specs.Log.{Final}
 use Rattle.pm_view.specs.View.{View, Lock}
 use Rattle.pm_world.specs.Course.{entry_of, flight}
@@ -21,7 +21,8 @@ use Rattle.pm_world.specs.Memory.{Memory}
 use Rattle.pm_world.specs.Opening.{Guards, IsChunk, Opening, TellsOfBlocks}
 use Rattle.pm_world.specs.Records.{difference_of, is_logged, is_recorded, records_generation}
 use Rattle.pm_world.specs.World.{Views, World}
-use Rattle.pm_world.proofs.Apart.{heap_outside, held_apart, held_core}
+use Rattle.pm_world.proofs.Apart.{heap_outside, held_apart}
+use Rattle.pm_world.proofs.Reserved.{reserved_apart}
 use Rattle.pm_world.proofs.Chunks.{chunk_here}
 use Rattle.pm_world.proofs.CrashReplays.{flies_of}
 use Rattle.pm_world.proofs.Pairs.{difference-written, in_log_written, none_redone}
@@ -96,14 +97,17 @@ module _ (o : Opening) (mem : Memory) (views : Views) (log : List Entry) (decide
   held_in_heap k i inside outside held =
       let fits = x.each_lane k inside in
       let size = x.sound.size in
-      let under : list_any (is_under i) (views k).locks ≡ true = ⊎_elim
+      ⊎_elim
+      (λ (core : (is_in_area (views k).lane i || list_any (is_under i) (views k).locks) ≡ true). ⊎_elim
       (λ (area : is_in_area (views k).lane i ≡ true). absurd (false≢true (sym outside ∙ area)))
-      (λ (under : list_any (is_under i) (views k).locks ≡ true). under)
-      (or_cases (is_in_area (views k).lane i) (list_any (is_under i) (views k).locks) (held_core (views k) i fits.blocks.reserved held)) in
+      (λ (under : list_any (is_under i) (views k).locks ≡ true).
       let t = Any-from_list_any (is_under i) (views k).locks under in
       let l : Lock = t.1 in
       let fit : LockFits o mem k l = All-contains (LockFits o mem k) (views k).locks l fits.locks (t.0, t.2, t.3) in
-      by_block l.line l.block fit.found t.4
+      by_block l.line l.block fit.found t.4)
+      (or_cases (is_in_area (views k).lane i) (list_any (is_under i) (views k).locks) core))
+      (λ (reserved : is_reserved (views k) i ≡ true). let apart = reserved_apart (slice_index o.words) o.lanes o.zones (views k) i fits.lane.lanes fits.picture.descriptors fits.blocks reserved in inr (apart.behind, apart.within))
+      (or_cases (is_in_area (views k).lane i || list_any (is_under i) (views k).locks) (is_reserved (views k) i) held)
     where
       by_block : (line : ℕ) (block : Option ℕ) → IfSome block (λ lines. block_at o.lanes o.words line ≡ Some lines) → is_under_found line block i ≡ true → IsHeapWord o.lanes o.zones i
       by_block line None found is = inl (eqb-true i root_word (and_parts (eqb line 0) (eqb i root_word) is).1)

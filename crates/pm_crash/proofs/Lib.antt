@@ -45,6 +45,7 @@ pub mod EndedCalls
 pub mod InFlight
 pub mod Drawn
 pub mod HeldHistories
+pub mod InBlocks
 pub mod Guarded
 pub mod CleanWords
 pub mod SameLocks

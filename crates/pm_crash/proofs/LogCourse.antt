@@ -30,7 +30,7 @@ use Rattle.pm_world.specs.World.{Views, World}
 use Rattle.pm_world.proofs.CrashLogs.{InSlots, logged_recorded}
 use Rattle.pm_world.proofs.CrashWords.{behind_areas}
 use Rattle.pm_world.proofs.Exclusion.{writes_under}
-use Rattle.pm_world.proofs.Locations.{other_pool, pool-counter, pool-lock, pool-stop}
+use Rattle.pm_world.proofs.Locations.{other_occ, other_zone_lock, plain_pool, other_pool, pool-counter, pool-lock, pool-stop}
 use Rattle.pm_world.proofs.Parts.{generation_part, seal_part}
 use Rattle.pm_world.proofs.StoreEntry.{next_entry}
 
@@ -318,11 +318,13 @@ module _ (o : Opening) (mem : Memory) (views : Views) (log : List Entry) (decide
     range_after (TakeRead line false) lawful moves range = still (after v (TakeRead line false)) (moves.0 (PoolWord (area_word k))) refl refl (all_of v.changes) range
     range_after (Raise line won) lawful moves range = absurd moves
     range_after (Give line) lawful moves range = still (after v (Give line)) (moves.0 (PoolWord (area_word k)) (pool-lock (area_word k) line)) refl refl (all_of v.changes) range
-    range_after (ZoneTry zone won) lawful moves range = absurd moves
-    range_after (ZoneGive zone) lawful moves range = absurd moves
-    range_after (Occupied at found) lawful moves range = absurd moves
-    range_after (Occupy at bits won) lawful moves range = absurd moves
-    range_after (Vacate at bits) lawful moves range = absurd moves
+    range_after (ZoneTry zone true) lawful moves range = still (after v (ZoneTry zone true)) (moves.0.0 (PoolWord (area_word k)) (other_zone_lock zone (PoolWord (area_word k)) (plain_pool (area_word k)))) refl refl (all_of v.changes) range
+    range_after (ZoneTry zone false) lawful moves range = still (after v (ZoneTry zone false)) (moves.0 (PoolWord (area_word k))) refl refl (all_of v.changes) range
+    range_after (ZoneGive zone) lawful moves range = still (after v (ZoneGive zone)) (moves.0 (PoolWord (area_word k)) (other_zone_lock zone (PoolWord (area_word k)) (plain_pool (area_word k)))) refl refl (all_of v.changes) range
+    range_after (Occupied at found) lawful moves range = still (after v (Occupied at found)) (moves.0 (PoolWord (area_word k))) refl refl (all_of v.changes) range
+    range_after (Occupy at bits true) lawful moves range = still (after v (Occupy at bits true)) (moves.0.0 (PoolWord (area_word k)) (other_occ at (PoolWord (area_word k)) (plain_pool (area_word k)))) refl refl (all_of v.changes) range
+    range_after (Occupy at bits false) lawful moves range = still (after v (Occupy at bits false)) (moves.0 (PoolWord (area_word k))) refl refl (all_of v.changes) range
+    range_after (Vacate at bits) lawful moves range = still (after v (Vacate at bits)) (moves.0 (PoolWord (area_word k)) (other_occ at (PoolWord (area_word k)) (plain_pool (area_word k)))) refl refl (all_of v.changes) range
     range_after (Draw n) lawful moves range = draw_range n v.log.phase lawful.allowed.is_open (moves.0.0 (PoolWord (area_word k)) (pool-counter (area_word k))) range
     range_after (NumberSeen n) lawful moves range =
         carried g' g' (begun v.log.phase v) (after v (NumberSeen n)) (begun v.log.phase v).log.phase refl refl refl refl (all_of (begun v.log.phase v).changes)

@@ -32,6 +32,7 @@ use Rattle.pm_world.proofs.StepDrain.{drains}
 use Rattle.pm_world.proofs.StepDraw.{draws}
 use Rattle.pm_world.proofs.StepFlush.{flushes}
 use Rattle.pm_world.proofs.StepGive.{gives}
+use Rattle.pm_world.proofs.StepHeap.{gives_zone_back, occupies, sees_occupancy, tries_zone, vacates}
 use Rattle.pm_world.proofs.StepLoad.{loads}
 use Rattle.pm_world.proofs.StepSeen.{sees_numbers, sees_stops, tells}
 use Rattle.pm_world.proofs.StepSetStop.{sets_stop}
@@ -63,11 +64,11 @@ keeps_each (TakeWrite line won) = takes_write line won
 keeps_each (TakeRead line won) = takes_read line won
 keeps_each (Raise line won) = λ o old new views log decided k v world inside is lawful moves. absurd moves
 keeps_each (Give line) = gives line
-keeps_each (ZoneTry zone won) = λ o old new views log decided k v world inside is lawful moves. absurd moves
-keeps_each (ZoneGive zone) = λ o old new views log decided k v world inside is lawful moves. absurd moves
-keeps_each (Occupied at found) = λ o old new views log decided k v world inside is lawful moves. absurd moves
-keeps_each (Occupy at bits won) = λ o old new views log decided k v world inside is lawful moves. absurd moves
-keeps_each (Vacate at bits) = λ o old new views log decided k v world inside is lawful moves. absurd moves
+keeps_each (ZoneTry zone won) = tries_zone zone won
+keeps_each (ZoneGive zone) = gives_zone_back zone
+keeps_each (Occupied at found) = sees_occupancy at found
+keeps_each (Occupy at bits won) = occupies at bits won
+keeps_each (Vacate at bits) = vacates at bits
 keeps_each (Draw n) = draws n
 keeps_each (NumberSeen n) = sees_numbers n
 keeps_each (StopSeen set) = sees_stops set

@@ -101,11 +101,11 @@ module _ (o : Opening) (header : Header) (pool : PoolView) where
     raised_after (TakeRead line won) may found = still (TakeRead line won) refl refl
     raised_after (Raise line won) may found = absurd may
     raised_after (Give line) may found = still (Give line) refl refl
-    raised_after (ZoneTry zone won) may found = absurd may
-    raised_after (ZoneGive zone) may found = absurd may
-    raised_after (Occupied at found) may f = absurd may
-    raised_after (Occupy at bits won) may found = absurd may
-    raised_after (Vacate at bits) may found = absurd may
+    raised_after (ZoneTry zone won) may found = still (ZoneTry zone won) refl refl
+    raised_after (ZoneGive zone) may found = still (ZoneGive zone) refl refl
+    raised_after (Occupied at found) may f = still (Occupied at found) refl refl
+    raised_after (Occupy at bits won) may found = still (Occupy at bits won) refl refl
+    raised_after (Vacate at bits) may found = still (Vacate at bits) refl refl
     raised_after (Draw n) may found = still (Draw n) refl refl
     raised_after (NumberSeen n) may found = still (NumberSeen n) refl (begun_generation v.log.phase v)
     raised_after (StopSeen set) may found = still (StopSeen set) refl refl

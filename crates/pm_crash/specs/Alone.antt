@@ -15,6 +15,7 @@ use Rattle.pm_record.specs.Undo.{is_record}
 use Rattle.pm_view.specs.Founds.{IsAlone}
 use Rattle.pm_view.specs.Log.{Phase, Recorded, no_log}
 use Rattle.pm_view.specs.Log.Phase.{Applying, Clearing, Drawn, Idle, Open, Retiring, Sealing}
+use Rattle.pm_view.specs.Occupancy.{IsOccupancy}
 use Rattle.pm_view.specs.Rights.{is_written}
 use Rattle.pm_view.specs.Area.{area_word}
 use Rattle.pm_view.specs.Steps.{Step}
@@ -35,6 +36,8 @@ pub record BeginsAlone (o : Opening) (header : Header) (pool : PoolView) (v : Vi
   pub holds : HoldsImage o.words o.lanes o.zones header pool
   pub clean : (j : ℕ) → j < o.lanes → IsClean o j
   pub fresh : IsFresh o 0 v
+  -- its picture of the occupancy words is what the words say
+  pub occupied : IsOccupancy v.run_words v.zone_words (slice_index o.words) o.lanes o.zones
   pub of_pool : v.pool ≡ header.id
   pub alone : IsAlone v
 

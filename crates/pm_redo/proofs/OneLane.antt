@@ -75,6 +75,11 @@ module _ (m : Solo) (held : m ≡ with_lock (opened m.words None) 193 (writer_bi
     lines = let l = lines in omega (arith, l, whole);
     locks = lock_words;
     zone_locks = s.zone_locks;
+    runs = s.runs;
+    zones = s.zones;
+    pages = s.pages;
+    zone_count = s.zone_count;
+    zone_lock_count = s.zone_lock_count;
     alone = s.alone;
   })
 

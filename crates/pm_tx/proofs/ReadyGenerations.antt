@@ -68,11 +68,11 @@ module _ (v : View) (lane : v.lane ≡ 0) where
   raised_after (TakeRead line won) quiet may found = still (TakeRead line won) refl refl
   raised_after (Raise line won) quiet may found = absurd may
   raised_after (Give line) quiet may found = still (Give line) refl refl
-  raised_after (ZoneTry zone won) quiet may found = absurd may
-  raised_after (ZoneGive zone) quiet may found = absurd may
-  raised_after (Occupied at found) quiet may f = absurd may
-  raised_after (Occupy at bits won) quiet may found = absurd may
-  raised_after (Vacate at bits) quiet may found = absurd may
+  raised_after (ZoneTry zone won) quiet may found = still (ZoneTry zone won) refl refl
+  raised_after (ZoneGive zone) quiet may found = still (ZoneGive zone) refl refl
+  raised_after (Occupied at found) quiet may f = still (Occupied at found) refl refl
+  raised_after (Occupy at bits won) quiet may found = still (Occupy at bits won) refl refl
+  raised_after (Vacate at bits) quiet may found = still (Vacate at bits) refl refl
   raised_after (Draw n) quiet may found = still (Draw n) refl refl
   raised_after (NumberSeen n) quiet may found = still (NumberSeen n) refl (begun_generation v.log.phase v)
   raised_after (StopSeen set) quiet may found = still (StopSeen set) refl refl

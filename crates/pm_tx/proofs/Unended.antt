@@ -103,11 +103,11 @@ module _ (v : View) (unended : is_ending v.log.phase ≡ false) where
     unended_after (TakeRead line won) may none = unended
     unended_after (Raise line won) may none = absurd may
     unended_after (Give line) may none = unended
-    unended_after (ZoneTry zone won) may none = absurd may
-    unended_after (ZoneGive zone) may none = absurd may
-    unended_after (Occupied at found) may none = absurd may
-    unended_after (Occupy at bits won) may none = absurd may
-    unended_after (Vacate at bits) may none = absurd may
+    unended_after (ZoneTry zone won) may none = unended
+    unended_after (ZoneGive zone) may none = unended
+    unended_after (Occupied at found) may none = unended
+    unended_after (Occupy at bits won) may none = unended
+    unended_after (Vacate at bits) may none = unended
     unended_after (Draw n) may none = ap (λ (p : Phase). is_ending (log_drawn p v.log).phase) may.is_open ∙ drawn_unended v.log.records v.log.entries
     unended_after (NumberSeen n) may none = begun_unended v.log.phase
     unended_after (StopSeen set) may none = unended
