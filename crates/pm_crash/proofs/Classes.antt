@@ -1,14 +1,14 @@
 -- What a descriptor says of its chunk, read backwards; and that a good one is told by its low byte.
-use Rattle.std.proofs.Common.{◌≡◌, ◌≢◌, ⊎_elim, ℕ, ◌/◌, ◌%◌, ◌^◌, ◌<◌, ◌≤◌, ◌&&◌, Bool, true, false, not, cond, eqb, ltb, leb, Option, Some, None, refl, sym, ◌∙◌, ap, subst, arith}
+use Rattle.std.proofs.Common.{◌≡◌, ◌≢◌, ⊎_elim, ℕ, ◌/◌, ◌%◌, ◌^◌, ◌<◌, ◌≤◌, ◌&&◌, Bool, true, false, cond, eqb, ltb, leb, Option, Some, None, refl, sym, ◌∙◌, ap, subst, arith}
 use Rattle.std.specs.Int.{bit_at}
-use Rattle.std.proofs.lemmas.Bool.{and_parts, cases_Bool, cases_eq, cases_lt, eqb-true, false≢true, ltb-true}
+use Rattle.std.proofs.lemmas.Bool.{and_parts, cases_Bool, cases_eq, cases_lt, eqb-true, leb-false}
 use Rattle.std.proofs.lemmas.Nat.Bits.{bit_at_above}
 use Rattle.pm_layout.specs.Sizes.{blocks_of}
 use Rattle.pm_layout.specs.declared.class.Class.{Class}
 use Rattle.pm_layout.specs.declared.class.Class.TheVariants.{Lines, Chunks}
 use Rattle.pm_image.specs.Blocks.{descriptor_word, chunk_word, class_in}
-use Rattle.pm_image.specs.HeapFaults.{bad_bitmap, bad_chunk, is_bad_bitmap, is_described}
-use Rattle.pm_image.specs.Narrowings.{takes_bitmap, takes_chunk}
+use Rattle.pm_image.specs.HeapFaults.{bad_bitmap, bad_chunk, is_bad_bitmap}
+use Rattle.pm_image.proofs.FaultFree.{described}
 
 -- by the two tests of a descriptor
 by_tests : (run whole : Bool) (d : ℕ) → Option Class
@@ -51,15 +51,7 @@ chunks_of_class d chunks is =
 
 -- a good descriptor that is not 0 has a class
 free_is_zero : (w : ℕ → ℕ) (lanes c : ℕ) → bad_chunk w lanes c ≡ false → class_in (w (descriptor_word lanes c)) ≡ None → w (descriptor_word lanes c) ≡ 0
-unfolding bad_chunk
-free_is_zero w lanes c good none =
-    let d : ℕ = w (descriptor_word lanes c) in
-    let tested : cond (eqb d 0) (not (takes_chunk c d)) true ≡ false =
-    sym (ap (λ (o : Option Class). cond (is_described w (descriptor_word lanes c) c o) (not (takes_chunk c d)) true) none) ∙ good in
-    eqb-true d 0 (passed (eqb d 0) (not (takes_chunk c d)) tested) where
-      passed : (b t : Bool) → cond b t true ≡ false → b ≡ true
-      passed true t is = refl
-      passed false t is = absurd (false≢true (sym is))
+free_is_zero w lanes c good none = eqb-true (w (descriptor_word lanes c)) 0 (described w lanes c None good none)
 
 -- so the low byte of a good descriptor tells whether it is a run's, or that of whole chunks
 pub run_by_byte : (w : ℕ → ℕ) (lanes c : ℕ) → bad_chunk w lanes c ≡ false → w (descriptor_word lanes c) % 256 ≡ 1 → class_in (w (descriptor_word lanes c)) ≡ Some (Lines (w (descriptor_word lanes c) / 256))
@@ -91,15 +83,12 @@ pub bit_in_run : (w : ℕ → ℕ) (lanes c lines k : ℕ) → bad_bitmap w lane
 unfolding bad_bitmap
 bit_in_run w lanes c lines k good run set =
     let bitmap : ℕ = w (chunk_word lanes c) in
-    let tested : cond (ltb bitmap (2 ^ blocks_of lines)) (not (takes_bitmap bitmap)) true ≡ false = sym (ap (λ (o : Option Class). is_bad_bitmap o bitmap) run) ∙ good in
-    let small : bitmap < 2 ^ blocks_of lines = ltb-true bitmap (2 ^ blocks_of lines) (passed (ltb bitmap (2 ^ blocks_of lines)) (not (takes_bitmap bitmap)) tested) in
+    let tested : leb (2 ^ blocks_of lines) bitmap ≡ false = sym (ap (λ (o : Option Class). is_bad_bitmap o bitmap) run) ∙ good in
+    let small : bitmap < 2 ^ blocks_of lines = leb-false (2 ^ blocks_of lines) bitmap tested in
     ⊎_elim
     (λ (inside : k < blocks_of lines). inside)
     (λ (past : blocks_of lines ≤ k). let none : bit_at bitmap k ≡ 0 = bit_at_above bitmap (blocks_of lines) k small past in absurd (omega arith))
-    (cases_lt k (blocks_of lines)) where
-      passed : (b t : Bool) → cond b t true ≡ false → b ≡ true
-      passed true t is = refl
-      passed false t is = absurd (false≢true (sym is))
+    (cases_lt k (blocks_of lines))
 
 -- a run has a class, so its blocks have lines
 pub run_has_lines : (lines k : ℕ) → k < blocks_of lines → 1 ≤ lines

@@ -1,13 +1,14 @@
 -- Where the heap has no fault, each chunk and each block passes its tests.
-use Rattle.std.proofs.Common.{◌≡◌, ℕ, ◌*◌, ◌/◌, ◌%◌, Bool, true, false, not, List, Option, Some, None, refl}
+use Rattle.std.proofs.Common.{◌≡◌, ℕ, ◌*◌, ◌/◌, ◌%◌, Bool, true, false, not, List, Option, Some, None, refl, sym, ◌∙◌, ap}
 use Rattle.std.specs.List.{Contains, find, range_with_len}
 use Rattle.std.specs.Option.{option_or}
+use Rattle.pm_layout.specs.declared.class.Class.{Class}
 use Rattle.pm_image.specs.declared.block.Block.{Block}
 use Rattle.pm_image.specs.declared.fault.ImageFault.{ImageFault}
 use Rattle.pm_image.specs.declared.fault.ImageFault.TheVariants as fault
-use Rattle.pm_image.specs.Blocks.{blocks}
+use Rattle.pm_image.specs.Blocks.{blocks, class_in, descriptor_word}
 use Rattle.pm_image.specs.Contents.{offset_in}
-use Rattle.pm_image.specs.HeapFaults.{bad_bitmap, bad_chunk, chunk_fault, bitmap_fault, good_block, block_fault, link_fault, root_fault, heap_fault}
+use Rattle.pm_image.specs.HeapFaults.{bad_bitmap, bad_chunk, is_described, chunk_fault, bitmap_fault, good_block, block_fault, link_fault, root_fault, heap_fault}
 use Rattle.pm_image.specs.Narrowings.{takes_links}
 use Rattle.pm_image.proofs.Finding.{found_nothing}
 use Rattle.pm_image.proofs.Members.{none_passes}
@@ -56,6 +57,12 @@ unfolding chunk_fault
 chunk_good w lanes zones c none there =
     let nowhere : find (bad_chunk w lanes) (range_with_len 0 (64 * zones)) ≡ None = found_nothing (λ k. fault.Chunk (k / 64) (k % 64)) (find (bad_chunk w lanes) (range_with_len 0 (64 * zones))) (no_faults w lanes zones none).chunks in
     none_passes (bad_chunk w lanes) (range_with_len 0 (64 * zones)) c nowhere there
+
+-- and its descriptor is in the table, by what it makes of the chunk
+pub described : (w : ℕ → ℕ) (lanes c : ℕ) (class : Option Class) → bad_chunk w lanes c ≡ false → class_in (w (descriptor_word lanes c)) ≡ class → is_described w (descriptor_word lanes c) c class ≡ true
+unfolding bad_chunk
+described w lanes c class good is =
+    ap (is_described w (descriptor_word lanes c) c) (sym is) ∙ not_not (is_described w (descriptor_word lanes c) c (class_in (w (descriptor_word lanes c)))) good
 
 pub bitmap_good : (w : ℕ → ℕ) (lanes zones c : ℕ) → heap_fault w lanes zones ≡ None → Contains (range_with_len 0 (64 * zones)) c → bad_bitmap w lanes c ≡ false
 unfolding bitmap_fault

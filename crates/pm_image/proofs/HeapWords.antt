@@ -1,5 +1,5 @@
 -- Where the heap has no fault, the meaning reads the root's word and words of the zones alone.
-use Rattle.std.proofs.Common.{◌≡◌, inl, inr, ℕ, ◌+◌, ◌*◌, ◌/◌, ◌%◌, ◌<◌, ◌≤◌, ◌&&◌, Bool, true, false, not, cond, eqb, leb, List, [], ◌∷◌, Option, Some, None, refl, sym, ◌∙◌, ap, subst, arith}
+use Rattle.std.proofs.Common.{◌≡◌, inl, inr, ℕ, ◌+◌, ◌*◌, ◌/◌, ◌%◌, ◌<◌, ◌≤◌, ◌&&◌, Bool, true, false, cond, eqb, leb, List, [], ◌∷◌, Option, Some, None, refl, subst, arith}
 use Rattle.std.specs.Int.{bit_at}
 use Rattle.std.specs.List.{Contains, filter, range_with_len}
 use Rattle.std.proofs.lemmas.Bool.{false≢true, eqb-true, leb-true}
@@ -10,10 +10,9 @@ use Rattle.pm_objects.specs.Pool.{block_lines}
 use Rattle.pm_image.specs.declared.block.Block.{Block}
 use Rattle.pm_image.specs.Blocks.{descriptor_word, chunk_word, class_in, run_blocks, blocks_in, chunk_blocks, blocks, pool_words}
 use Rattle.pm_image.specs.Contents.{data_words, header_word, size_in}
-use Rattle.pm_image.specs.HeapFaults.{bad_chunk, good_block, is_described, zeros_behind, heap_fault}
-use Rattle.pm_image.specs.Narrowings.{takes_chunk}
+use Rattle.pm_image.specs.HeapFaults.{bad_chunk, good_block, zeros_behind, heap_fault}
 use Rattle.pm_image.specs.Reads.{IsContentsWord, Reads, ReadsBlock, IsHeapWord}
-use Rattle.pm_image.proofs.FaultFree.{block_good, chunk_good}
+use Rattle.pm_image.proofs.FaultFree.{block_good, chunk_good, described}
 use Rattle.pm_image.proofs.Members.{in_range, member_kept, member_made, member_of_part, no_member, only_member}
 use Rattle.pm_image.proofs.Rooms.{lines_needed, run_fits, words_fit}
 
@@ -43,16 +42,13 @@ of_chunks word chunks room block fits there =
     subst (StandsBetween word (word + 512 * room)) (only_member whole block there) stands
 
 -- the chunks of a good descriptor are in its zone
-pub passed : (b z t : Bool) → cond (cond b z false) t true ≡ false → b ≡ true
-passed true z t is = refl
-passed false z t is = absurd (false≢true (sym is))
+pub both : (x y : Bool) → cond x y false ≡ true → (x ≡ true) × (y ≡ true)
+both true y is = (refl, is)
+both false y is = absurd (false≢true is)
 
 pub chunks_fit : (w : ℕ → ℕ) (lanes c chunks : ℕ) → bad_chunk w lanes c ≡ false → class_in (w (descriptor_word lanes c)) ≡ Some (Chunks chunks) → c % 64 + chunks ≤ 64
-unfolding bad_chunk
 chunks_fit w lanes c chunks good class =
-    let at : ℕ = descriptor_word lanes c in
-    leb-true (c % 64 + chunks) 64 (passed (leb (c % 64 + chunks) 64) (zeros_behind w at chunks) (not (takes_chunk c (w at)))
-    (sym (ap (λ (o : Option Class). cond (is_described w at c o) (not (takes_chunk c (w at))) true) class) ∙ good))
+    leb-true (c % 64 + chunks) 64 (both (leb (c % 64 + chunks) 64) (zeros_behind w (descriptor_word lanes c) chunks) (described w lanes c (Some (Chunks chunks)) good class)).0
 
 -- a block of a chunk is in its zone
 in_zone : (w : ℕ → ℕ) (lanes c bitmap : ℕ) (block : Block) (class : Option Class) → bad_chunk w lanes c ≡ false → class_in (w (descriptor_word lanes c)) ≡ class

@@ -12,7 +12,7 @@ use Rattle.pm_image.specs.declared.fault.ImageFault.TheVariants as fault
 use Rattle.pm_image.specs.Blocks.{descriptor_word, chunk_word, class_in, run_blocks, blocks_in, chunk_blocks, blocks}
 use Rattle.pm_image.specs.Contents.{offset_in, header_word, size_in}
 use Rattle.pm_image.specs.HeapFaults.{zeros_behind, is_described, bad_chunk, chunk_fault, is_bad_bitmap, bad_bitmap, bitmap_fault, good_block, block_fault, link_fault, bad_root, root_fault, heap_fault}
-use Rattle.pm_image.specs.Narrowings.{takes_chunk, takes_links}
+use Rattle.pm_image.specs.Narrowings.{takes_links}
 use Rattle.pm_image.specs.Reads.{Reads, ReadsBlock, AgreeOn}
 use Rattle.pm_image.proofs.Local.{flat_map_same}
 use Rattle.pm_image.proofs.Heads.{agree_on_header, head_same, ReadsHeader, ReadsHeads}
@@ -74,8 +74,8 @@ described_same w v lanes zones c (Some (Chunks chunks)) agree inside =
 bad_chunk_same : (w v : ℕ → ℕ) (lanes zones c : ℕ) → AgreeOn (ReadsHeads w lanes zones) w v → c < 64 * zones → bad_chunk v lanes c ≡ bad_chunk w lanes c
 unfolding bad_chunk
 bad_chunk_same w v lanes zones c agree inside =
-    ap (λ (d : ℕ). cond (is_described v (descriptor_word lanes c) c (class_in d)) (not (takes_chunk c d)) true) (descriptor_same w v lanes zones c agree inside)
-    ∙ ap (λ (b : Bool). cond b (not (takes_chunk c (w (descriptor_word lanes c)))) true) (described_same w v lanes zones c (class_in (w (descriptor_word lanes c))) agree inside)
+    ap (λ (d : ℕ). not (is_described v (descriptor_word lanes c) c (class_in d))) (descriptor_same w v lanes zones c agree inside)
+    ∙ ap not (described_same w v lanes zones c (class_in (w (descriptor_word lanes c))) agree inside)
 
 bad_bitmap_of_same : (class : Option Class) (a b : ℕ) → ((lines : ℕ) → class ≡ Some (Lines lines) → a ≡ b) → is_bad_bitmap class a ≡ is_bad_bitmap class b
 bad_bitmap_of_same None a b same = refl

@@ -1,5 +1,5 @@
 -- The blocks of a heap without a fault stand in rising places, each behind the end of the one before. Places and ends are in bytes.
-use Rattle.std.proofs.Common.{◌≡◌, ℕ, zero, suc, ◌+◌, ◌-◌, ◌*◌, ◌%◌, ◌<◌, ◌≤◌, Bool, true, false, not, cond, eqb, leb, List, [], ◌∷◌, ◌++◌, length, get_or, map, Option, Some, None, refl, sym, ◌∙◌, ap, subst, arith}
+use Rattle.std.proofs.Common.{◌≡◌, ℕ, zero, suc, ◌+◌, ◌-◌, ◌*◌, ◌%◌, ◌<◌, ◌≤◌, Bool, true, false, cond, eqb, leb, List, [], ◌∷◌, ◌++◌, length, get_or, map, Option, Some, None, refl, sym, ◌∙◌, ap, subst, arith}
 use Rattle.std.specs.Int.{bit_at}
 use Rattle.std.specs.List.{filter, flat_map, list_all, range_with_len}
 use Rattle.std.proofs.lemmas.Bool.{false≢true, eqb-true}
@@ -9,11 +9,11 @@ use Rattle.pm_layout.specs.declared.class.Class.{Class}
 use Rattle.pm_layout.specs.declared.class.Class.TheVariants.{Lines, Chunks}
 use Rattle.pm_image.specs.declared.block.Block.{Block}
 use Rattle.pm_image.specs.Blocks.{descriptor_word, chunk_word, class_in, run_blocks, blocks_in, chunk_blocks, blocks}
-use Rattle.pm_image.specs.HeapFaults.{bad_chunk, is_described, zeros_behind}
-use Rattle.pm_image.specs.Narrowings.{takes_chunk}
+use Rattle.pm_image.specs.HeapFaults.{bad_chunk, zeros_behind}
+use Rattle.pm_image.proofs.FaultFree.{described}
 use Rattle.pm_image.proofs.Ranges.{all_fails}
 use Rattle.pm_image.proofs.Rooms.{run_fits}
-use Rattle.pm_image.proofs.HeapWords.{chunks_fit}
+use Rattle.pm_image.proofs.HeapWords.{both, chunks_fit}
 
 -- each block stands behind the one before, the first not before `from`
 abbrev pub Rise : ℕ → List Block → Type 0
@@ -97,11 +97,6 @@ next_chunk lanes c = omega arith
 behind_chunks : (lanes c n : ℕ) → c % 64 + n ≤ 64 → 8 * chunk_word lanes c + 4096 * n ≤ 8 * chunk_word lanes (c + 1 + (n - 1))
 behind_chunks lanes c n fits = omega arith
 
-passed_too : (b z t : Bool) → cond (cond b z false) t true ≡ false → z ≡ true
-passed_too true true t is = refl
-passed_too true false t is = absurd (false≢true (sym is))
-passed_too false z t is = absurd (false≢true (sym is))
-
 passes_at : (p : ℕ → Bool) (n k : ℕ) → k < n → list_all p (range_with_len 0 n) ≡ true → p k ≡ true
 passes_at p n k inside all = go (p k) refl where
   go : (b : Bool) → p k ≡ b → b ≡ true
@@ -110,13 +105,12 @@ passes_at p n k inside all = go (p k) refl where
 
 -- the descriptors of the further chunks of a block are 0
 pub further_zeros : (w : ℕ → ℕ) (lanes c n : ℕ) → bad_chunk w lanes c ≡ false → class_in (w (descriptor_word lanes c)) ≡ Some (Chunks n) → (k : ℕ) → k < n - 1 → w (descriptor_word lanes (c + 1 + k)) ≡ 0
-unfolding bad_chunk zeros_behind
+unfolding zeros_behind
 further_zeros w lanes c n good is k inside =
     let at : ℕ = descriptor_word lanes c in
     let is_zero : ℕ → Bool = λ j. eqb (w (at + 1 + j)) 0 in
     let fits : c % 64 + n ≤ 64 = chunks_fit w lanes c n good is in
-    let described = sym (ap (λ (o : Option Class). cond (is_described w at c o) (not (takes_chunk c (w at))) true) is) ∙ good in
-    let all : list_all is_zero (range_with_len 0 (n - 1)) ≡ true = passed_too (leb (c % 64 + n) 64) (list_all is_zero (range_with_len 0 (n - 1))) (not (takes_chunk c (w at))) described in
+    let all : list_all is_zero (range_with_len 0 (n - 1)) ≡ true = (both (leb (c % 64 + n) 64) (list_all is_zero (range_with_len 0 (n - 1))) (described w lanes c (Some (Chunks n)) good is)).1 in
     let place : descriptor_word lanes (c + 1 + k) ≡ at + 1 + k = omega arith in
     ap w place ∙ eqb-true (w (at + 1 + k)) 0 (passes_at is_zero (n - 1) k inside all)
 

@@ -1,5 +1,5 @@
 -- What can be wrong with the heap of an image, row by row, each told of the least chunk or block: docs/FORMAT.md, "Faults". `w` gives recovered words by their number.
-use Rattle.std.specs.Prelude.{ℕ, ◌+◌, ◌-◌, ◌*◌, ◌/◌, ◌%◌, ◌^◌, Bool, true, false, not, ◌==◌, ◌&&◌, nat_lt, nat_le, if◌then◌else◌, List, find, Option, None, Some}
+use Rattle.std.specs.Prelude.{ℕ, ◌+◌, ◌-◌, ◌*◌, ◌/◌, ◌%◌, ◌^◌, Bool, true, false, not, ◌==◌, ◌&&◌, nat_le, if◌then◌else◌, List, find, Option, None, Some}
 use Rattle.std.specs.Option.{option_map, option_or}
 use Rattle.std.specs.List.{range_with_len, list_all, list_any}
 use Rattle.pm_layout.specs.Sizes.{blocks_of, class_of}
@@ -11,7 +11,7 @@ use Rattle.pm_image.specs.declared.fault.ImageFault.{ImageFault}
 use Rattle.pm_image.specs.declared.fault.ImageFault.TheVariants as fault
 use Rattle.pm_image.specs.Blocks.{descriptor_word, chunk_word, class_in, blocks}
 use Rattle.pm_image.specs.Contents.{header_word, size_in, offset_in}
-use Rattle.pm_image.specs.Narrowings.{takes_chunk, takes_bitmap, takes_links}
+use Rattle.pm_image.specs.Narrowings.{takes_links}
 
 -- the descriptors behind this one, up to so many chunks with its own, are 0
 unfoldable pub zeros_behind : (ℕ → ℕ) → ℕ → ℕ → Bool
@@ -24,9 +24,7 @@ is_described w at c (Some (Lines lines)) = true
 is_described w at c (Some (Chunks chunks)) = if nat_le (c % 64 + chunks) 64 then zeros_behind w at chunks else false
 
 unfoldable pub bad_chunk : (ℕ → ℕ) → ℕ → ℕ → Bool
-bad_chunk w lanes c =
-    let at : ℕ = descriptor_word lanes c in
-    if is_described w at c (class_in (w at)) then not (takes_chunk c (w at)) else true
+bad_chunk w lanes c = let at : ℕ = descriptor_word lanes c in not (is_described w at c (class_in (w at)))
 
 -- Chunk: a descriptor outside the table
 unfoldable pub chunk_fault : (ℕ → ℕ) → ℕ → ℕ → Option ImageFault
@@ -35,7 +33,7 @@ chunk_fault w lanes zones = option_map (λ c. fault.Chunk (c / 64) (c % 64)) (fi
 -- the bitmap of a run of this class has a bit past its blocks
 abbrev pub is_bad_bitmap : Option Class → ℕ → Bool
 is_bad_bitmap None bitmap = false
-is_bad_bitmap (Some (Lines lines)) bitmap = if nat_lt bitmap (2 ^ blocks_of lines) then not (takes_bitmap bitmap) else true
+is_bad_bitmap (Some (Lines lines)) bitmap = nat_le (2 ^ blocks_of lines) bitmap
 is_bad_bitmap (Some (Chunks chunks)) bitmap = false
 
 unfoldable pub bad_bitmap : (ℕ → ℕ) → ℕ → ℕ → Bool

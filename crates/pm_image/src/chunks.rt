@@ -8,7 +8,6 @@ ghost use Rattle.pm_layout.specs.Layout.{pool_size};
 ghost use Rattle.pm_layout.specs.Sizes.{blocks_of, block_place, IfLines, IfChunks};
 ghost use Rattle.pm_image.specs.Blocks.{IsAddressable, descriptor_word, chunk_word, class_in, run_blocks, blocks_in, chunk_blocks, blocks};
 ghost use Rattle.pm_image.specs.HeapFaults.{chunk_fault, bitmap_fault, zeros_behind, is_described, bad_chunk, is_bad_bitmap, bad_bitmap};
-ghost use Rattle.pm_image.specs.Narrowings.{takes_chunk, takes_bitmap};
 
 use crate::block::Block;
 use crate::fault::ImageFault;
@@ -68,12 +67,7 @@ fn is_bad_chunk(words: &RawImage, shape: Shape, chunk: u64) -> bool
     requires chunk { chunk < 64 * shape.zones }
     ensures { result ≡ bad_chunk (slice_index words.now) shape.lanes chunk }
 {
-    let at = descriptor_at(shape, chunk);
-    if is_described(words, at, chunk % CHUNKS_PER_ZONE) {
-        !takes_chunk(chunk, words.word(at))
-    } else {
-        true
-    }
+    !is_described(words, descriptor_at(shape, chunk), chunk % CHUNKS_PER_ZONE)
 }
 
 /// Whether a descriptor that stands at this word is in the table, its chunk having this number in its zone.
@@ -106,13 +100,6 @@ fn are_zero_behind(words: &RawImage, at: u64, chunks: u64) -> bool
     true
 }
 
-/// Whether this reader takes a chunk with this descriptor.
-fn takes_chunk(chunk: u64, descriptor: u64) -> bool
-    ensures { result ≡ takes_chunk chunk descriptor }
-{
-    chunk == 0 || descriptor == 0
-}
-
 /// The number of the first run with a bad bitmap, counted through all zones.
 fn first_bad_bitmap(words: &RawImage, shape: Shape) -> Option<u64>
     requires { pool_size shape.lanes shape.zones ≡ 8 * length words.now }
@@ -134,19 +121,9 @@ fn is_bad_bitmap(words: &RawImage, shape: Shape, chunk: u64) -> bool
     ensures { result ≡ bad_bitmap (slice_index words.now) shape.lanes chunk }
 {
     match class_in(words.word(descriptor_at(shape, chunk))) {
-        Some(Class::Lines(lines)) => {
-            let bitmap = words.word(chunk_at(shape, chunk));
-            bitmap >= 1 << blocks_of(lines) || !takes_bitmap(bitmap)
-        }
+        Some(Class::Lines(lines)) => words.word(chunk_at(shape, chunk)) >= 1 << blocks_of(lines),
         Some(Class::Chunks(_)) | None => false,
     }
-}
-
-/// Whether this reader takes a run with this bitmap.
-fn takes_bitmap(bitmap: u64) -> bool
-    ensures { result ≡ takes_bitmap bitmap }
-{
-    bitmap < 2
 }
 
 /// All blocks that the words have, in rising place.

@@ -347,16 +347,18 @@ fn undo_records(rt: HostRuntime) -> Result<(), Fail> {
     )
 }
 
-/// Each descriptor but the first, with one that is in the table.
+/// Each descriptor but the first, with one that is in the table and with one that is not.
 #[test]
 fn descriptors(rt: HostRuntime) -> Result<(), Fail> {
     let alloc = rt.alloc();
     let made = pool(alloc, DEMO)?;
     for chunk in 1..64 {
         let text = format!(in alloc; "refused Chunk 0 {chunk}\n")?;
-        shows_changed(&rt, alloc, &made, &[(12_288 + 8 * chunk, 513)], 1, &text)?;
+        let at = 12_288 + 8 * chunk;
+        shows_changed(&rt, alloc, &made, &[(at, 513)], 0, SHOWN)?;
+        shows_changed(&rt, alloc, &made, &[(at, 512)], 1, &text)?;
     }
-    for descriptor in [1, 514, 1537, u64::MAX] {
+    for descriptor in [1, 1537, u64::MAX] {
         shows_changed(
             &rt,
             alloc,
@@ -379,20 +381,19 @@ fn descriptors(rt: HostRuntime) -> Result<(), Fail> {
     Ok(())
 }
 
-/// Each bit of the bitmap but the first.
+/// Each bit of the bitmap but the first: that of a block whose size is 0, or past the run's 31 blocks.
 #[test]
 fn bitmap_bits(rt: HostRuntime) -> Result<(), Fail> {
     let alloc = rt.alloc();
     let made = pool(alloc, DEMO)?;
     for bit in 1u64..64 {
-        shows_changed(
-            &rt,
-            alloc,
-            &made,
-            &[(16_384, 1 | 1 << bit)],
-            1,
-            "refused Bitmap 0 0\n",
-        )?;
+        let offset = 16_512 + 128 * bit;
+        let text = if bit < 31 {
+            format!(in alloc; "refused Block {offset}\n")?
+        } else {
+            String::from_str(alloc, "refused Bitmap 0 0\n")?
+        };
+        shows_changed(&rt, alloc, &made, &[(16_384, 1 | 1 << bit)], 1, &text)?;
     }
     Ok(())
 }

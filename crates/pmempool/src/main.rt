@@ -25,6 +25,8 @@ use top::{say_failure, top};
 #[cfg(test)]
 mod action_tests;
 #[cfg(test)]
+mod heap_tests;
+#[cfg(test)]
 mod image_tests;
 #[cfg(test)]
 mod run_tests;

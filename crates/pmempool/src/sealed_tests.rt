@@ -246,7 +246,7 @@ fn two_logs(rt: HostRuntime) -> Result<(), Fail> {
             1,
             "refused Redo lane 1 entry 1\n",
         ),
-        (&[(20_488, 513), (4096, 2)], &[], 1, "refused Chunk 0 1\n"),
+        (&[(20_488, 512), (4096, 2)], &[], 1, "refused Chunk 0 1\n"),
         (
             &[],
             &[(12_288, 2)],
