@@ -1,14 +1,12 @@
 -- The ends of actions are looked at, one after another.
-use Rattle.std.proofs.Common.{◌≡◌, ℕ, suc, ◌+◌, ◌<◌, ◌≤◌, All, List, [], ◌∷◌, length, take, get_or, sym, subst, ap, ◌∙◌, arith}
+use Rattle.std.proofs.Common.{ℕ, ◌+◌, ◌<◌, ◌≤◌, All, List, length, take, get_or}
 use Rattle.std.specs.List.{Any}
-use Rattle.std.proofs.Math.Seq.{take-suc}
-use Rattle.std.proofs.lemmas.List.{get_or-map, get_or_default, length-map, take_all}
-use Rattle.std.proofs.lemmas.List.Elements.{All-append, All-cons, All-nil, All-weaker}
+use Rattle.std.proofs.lemmas.List.Elements.{All-nil, All-weaker}
 use Rattle.pm_crash.specs.OnActions.{CanSet, PassesObject}
-use Rattle.pm_model.specs.Actions.{Action}
-use Rattle.pm_pending.specs.Pending.{action_of, pending_of}
+use Rattle.pm_pending.specs.Pending.{action_of}
 use Rattle.pm_pending.specs.declared.actions.SetAction.{SetAction}
 use Rattle.pm_view.specs.View.{View}
+use Rattle.pm_tx.proofs.EachAction.{all_further, all_of_front, some_at}
 use Rattle.pm_action.specs.Holding.{HasLookedAgain, HoldsEach, HoldsObject}
 use Rattle.pm_action.proofs.LookedAgain.{holds_again, looks_at_none, looks_further, sets_again}
 use Rattle.pm_action.proofs.WantedObjects.{no_action}
@@ -39,10 +37,7 @@ module _ (v : View) (actions : List SetAction) (each : HoldsEach v actions) (i :
     view = s.view;
     looks = looks_further v t.view s.view t.looks s.looks;
     there = s.there;
-    holds = subst (λ n. All (Sets s.view) (take n actions)) (let e : suc i ≡ i + 1 = omega arith in e)
-        (subst (All (Sets s.view)) (sym (take-suc actions i no_action low))
-        (All-append (Sets s.view) (take i actions) (one ∷ []) (All-weaker (Sets t.view) (Sets s.view) (λ a. sets_again t.view s.view s.looks (action_of a)) (take i actions) t.holds)
-        (All-cons (Sets s.view) one [] s.holds (All-nil (Sets s.view)))));
+    holds = all_further (Sets s.view) actions i no_action low (All-weaker (Sets t.view) (Sets s.view) (λ a. sets_again t.view s.view s.looks (action_of a)) (take i actions) t.holds) s.holds;
   }
 
   -- or it does not
@@ -51,18 +46,8 @@ module _ (v : View) (actions : List SetAction) (each : HoldsEach v actions) (i :
     view = s.view;
     looks = looks_further v t.view s.view t.looks s.looks;
     there = s.there;
-    holds = (i, one, low, get_or_default actions i one no_action low, s.holds);
+    holds = some_at (Passes s.view) actions i no_action low s.holds;
   }
 
 pub all_end : (at : View → Type 0) (v : View) (actions : List SetAction) (i : ℕ) → length actions ≤ i → EndsFirst at v actions i → HasLookedAgain at v (λ w. All (Sets w) actions)
-all_end at v actions i up t = record { view = t.view; looks = t.looks; there = t.there; holds = subst (All (Sets t.view)) (take_all i actions up) t.holds }
-
--- what some action of the list does, one of the model's does
-pub some_pending : (P : Action → Type 0) (actions : List SetAction) → Any (λ (a : SetAction). P (action_of a)) actions → Any P (pending_of actions)
-some_pending P actions t = (
-  t.0,
-  action_of t.1,
-  (let low = t.2 in let n = length-map actions action_of in omega (arith, low, n)),
-  get_or-map action_of actions t.0 t.1 (action_of t.1) t.2 ∙ ap action_of t.3,
-  t.4,
-)
+all_end at v actions i up t = record { view = t.view; looks = t.looks; there = t.there; holds = all_of_front (Sets t.view) actions i up t.holds }

@@ -1,16 +1,17 @@
 -- What a publish comes to, since its call began, and since the lane was at rest.
-use Rattle.std.proofs.Common.{◌≡◌, ◌≤◌, not, All, Any, List, [], ◌∷◌, ◌++◌, length, map, Ok, Err, IfErr, Result, None, Some, refl, sym, ap, ◌∙◌, subst, arith}
+use Rattle.std.proofs.Common.{◌≡◌, ℕ, ◌+◌, ◌*◌, ◌<◌, ◌≤◌, true, slice_index, not, All, Any, List, [], ◌∷◌, ◌++◌, length, map, Ok, Err, IfErr, Result, None, Some, refl, sym, ap, ◌∙◌, subst, arith}
 use Rattle.std.specs.List.{filter}
 use Rattle.std.proofs.lemmas.List.Elements.{All-nil}
 use Rattle.pm_view.specs.Area.{is_in_area}
 use Rattle.pm_crash.proofs.ActionsOutside.{publish_is_step}
 use Rattle.pm_crash.specs.Locks.{AreSameLocks}
-use Rattle.pm_crash.specs.OnActions.{CanSet}
+use Rattle.pm_crash.specs.OnActions.{CanSet, PassesObject}
 use Rattle.pm_crash.specs.OpenCall.{lock_of as model_lock}
-use Rattle.pm_crash.specs.Operations.{TakesWanted}
+use Rattle.pm_crash.specs.Operations.{IsHeld, TakesWanted}
 use Rattle.pm_crash.specs.Pending.{pending_before, pending_from}
 use Rattle.pm_crash.specs.Performing.{entry_for}
 use Rattle.pm_model.specs.Actions.{Action, wants_for}
+use Rattle.pm_model.specs.Actions.Action.{SetWord}
 use Rattle.pm_model.specs.Transaction.{locked_all}
 use Rattle.pm_objects.specs.declared.calls.Operation.TheVariants.{Publish}
 use Rattle.pm_objects.specs.declared.history.Value.TheVariants.{Refused}
@@ -20,6 +21,7 @@ use Rattle.pm_pending.specs.Pending.{pending_of}
 use Rattle.pm_pending.specs.declared.actions.SetAction.{SetAction}
 use Rattle.pm_record.specs.declared.redo.Redo.{Redo}
 use Rattle.pm_view.proofs.SameLane.{same_lane-then}
+use Rattle.pm_view.specs.Constants.{IsSameLane}
 use Rattle.pm_view.specs.Founds.{IsAlone}
 use Rattle.pm_view.specs.Log.{Final, Log}
 use Rattle.pm_view.specs.Steps.Step.{Tell}
@@ -38,7 +40,7 @@ use Rattle.pm_tx.proofs.Drawless.{drawless}
 use Rattle.pm_tx.proofs.GivenBack.{none_counted}
 use Rattle.pm_tx.proofs.Leads.{led_same, led_then, ready_led}
 use Rattle.pm_tx.proofs.LookedAlone.{any_lacks_same, led_words}
-use Rattle.pm_action.specs.Holding.{GoesOnTo, HasFoundNone, HoldsActions}
+use Rattle.pm_action.specs.Holding.{GoesOnTo, HasFoundNone, HasFoundShort, HoldsActions, Overruns}
 use Rattle.pm_action.specs.Outside.{IsWholeOnceTold}
 use Rattle.pm_action.specs.Publishing.{IsBegunPublishCause, IsPublished, IsPublishedBy, IsStoppedPublishing, MayPublishHeld, PublishEnds, StaysSound, entries_of}
 use Rattle.pm_action.proofs.Started.{told_further}
@@ -154,6 +156,17 @@ module _ {M : Type 0} (at : M → View → Type 0) (new : Lane M) (v u : View) (
   unfolding told_further
   none_further was = record { told = told_further at new items v u Publish (Some (Refused refusal.NoObject)) led entries was.told; lacking = was.lacking }
 
+  short_further : HasFoundShort at new items u → HasFoundShort at new items v
+  unfolding told_further
+  short_further was = record {
+    told = told_further at new items v u Publish (Some (Refused refusal.OutOfRange)) led entries was.told;
+    holding = was.holding;
+    led = led_then v u was.holding led was.led;
+    undrawn = was.undrawn ∙ entries;
+    holds = was.holds;
+    words = was.words;
+  }
+
   done_further : (actions : List SetAction) → actions ≡ items → 1 ≤ length actions → IsPublished at new actions u → IsPublished at new actions v
   done_further [] are some was = absurd (omega (arith, some))
   done_further (a ∷ actions) are some was =
@@ -163,7 +176,7 @@ module _ {M : Type 0} (at : M → View → Type 0) (new : Lane M) (v u : View) (
   err_further refusal.Stopped cause was = stopped_further was
   err_further refusal.Busy cause was = busy_further at new v u led entries was
   err_further refusal.NoObject cause was = none_further was
-  err_further refusal.OutOfRange cause was = told_further at new items v u Publish (Some (Refused refusal.OutOfRange)) led entries was
+  err_further refusal.OutOfRange cause was = short_further was
   err_further r cause was = absurd cause
 
   pub ends_further : 1 ≤ length items → (result : Result (Unit {0}) Refusal) → IfErr result IsBegunPublishCause → PublishEnds at new items u result → PublishEnds at new items v result
@@ -178,6 +191,25 @@ missing_alone {M} at new items v result is ends alone =
     let view : View = was.told.view in
     let same = was.told.same in
     any_lacks_same view v (sym same.lanes) (sym same.zones) (sym same.pool) (sym (led_words v view was.told.led alone)) (wants_for (pending_of items)) was.lacking
+
+-- by the words that it passes the end of its object then, it did so before where these were the words
+overran : (v w : View) → IsSameLane v w → w.words ≡ v.words → (a : Action) → PassesObject w a → Overruns v a
+overran v w same words (SetWord id off value) passes =
+    let object : IsHeld w id true = passes.object in
+    record {
+      line = object.lock.line;
+      of_pool = object.of_pool ∙ same.pool;
+      place = object.place;
+      past = subst (λ (ws : List ℕ). slice_index ws (8 * object.lock.line + 1) < off + 8) words passes.outside;
+    }
+
+-- so an action passed its object's end before
+pub past_alone : {M : Type 0} (at : M → View → Type 0) (new : Lane M) (items : List SetAction) (v : View) (result : Result (Unit {0}) Refusal) → result ≡ Err refusal.OutOfRange → PublishEnds at new items v result → IsAlone v
+    → Any (Overruns v) (pending_of items)
+past_alone {M} at new items v result is ends alone =
+    let was : HasFoundShort at new items v = subst (λ (r : Result (Unit {0}) Refusal). PublishEnds at new items v r) is ends in
+    let some = was.holds.some in
+    (some.0, some.1, some.2, some.3, overran v was.holding (led_same v was.holding was.led) (led_words v was.holding was.led alone) some.1 some.4)
 
 -- ---- a publish of nothing
 

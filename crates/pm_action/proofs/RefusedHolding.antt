@@ -33,7 +33,7 @@ use Rattle.pm_tx.specs.Lacking.{LacksObject}
 use Rattle.pm_tx.proofs.BeganWanted.{form_lacks}
 use Rattle.pm_tx.proofs.Leads.{led_none}
 use Rattle.pm_tx.proofs.LookedAlone.{any_lacks_same}
-use Rattle.pm_action.specs.Holding.{GoesOnTo, HasFoundNone, IsHoldCause, IsHoldReason, RefusesToHold, SeeksObjects}
+use Rattle.pm_action.specs.Holding.{GoesOnTo, HasFoundNone, HasFoundShort, IsHoldCause, IsHoldReason, RefusesToHold, SeeksObjects}
 use Rattle.pm_action.specs.Outside.{IsLeftPending, IsToldAtOnce, IsToldOutside, IsWholeOnceTold}
 use Rattle.pm_action.proofs.Started.{told_further}
 use Rattle.pm_action.proofs.WantedObjects.{want_for}
@@ -131,10 +131,11 @@ module _ (w : View) (reply : Option Value) where
 
   reason_told : (actions : List Action) (r : Refusal) → w.lane < w.lanes → actions ≡ pending_before w → IsHoldReason w actions r → IsOutsideReason told r
   reason_told actions refusal.NoObject inside same reason = let n = ap length same in let low = reason.2 in let m = length-map actions want_for in omega (arith, n, m, low)
-  reason_told actions refusal.OutOfRange inside same (takes, some) = (
-    record { in_lanes = inside; takes = subst (λ (pending : List Action). TakesWanted told [] (wants_for pending)) same (wanted_told (wants_for actions) takes) },
-    subst (λ (pending : List Action). Any (PassesObject told) pending) same (some.0, some.1, some.2, some.3, passes_told some.1 some.4),
-  )
+  reason_told actions refusal.OutOfRange inside same reason =
+      let some = reason.some in (
+        record { in_lanes = inside; takes = subst (λ (pending : List Action). TakesWanted told [] (wants_for pending)) same (wanted_told (wants_for actions) reason.takes) },
+        subst (λ (pending : List Action). Any (PassesObject told) pending) same (some.0, some.1, some.2, some.3, passes_told some.1 some.4),
+      )
   reason_told actions r inside same reason = absurd reason
 
 module _ {M : Type 0} (at : M → View → Type 0) (mid new : Lane M) (actions : List SetAction) (v : View) (same : pending_of actions ≡ pending_before v) where
@@ -167,8 +168,13 @@ module _ {M : Type 0} (at : M → View → Type 0) (mid new : Lane M) (actions :
       let lane = t.told.same in
       record { told = told_refused refusal.NoObject ends goes; lacking = any_lacks_same goes.view t.told.view lane.lanes lane.zones lane.pool t.words (wants_for (pending_of actions)) goes.holds }
 
+  found_short : Ends refusal.OutOfRange → GoesOnTo at mid v (λ w. IsHoldReason w (pending_of actions) refusal.OutOfRange) → HasFoundShort at new actions v
+  unfolding told_refused told_further
+  found_short ends goes =
+      record { told = told_refused refusal.OutOfRange ends goes; holding = goes.view; led = goes.led; undrawn = goes.entries; holds = goes.holds; words = (told_there refusal.OutOfRange ends goes).words }
+
   pub refuses : (r : Refusal) → r ≢ refusal.Busy → IsHoldCause r → SeeksObjects {M = M} {T = Unit {0}} at mid (pending_of actions) v (Err r) → Ends r → RefusesToHold at new actions v r
   refuses refusal.Busy apart cause sought ends = absurd (apart refl)
   refuses refusal.NoObject apart cause sought ends = found_none ends sought
-  refuses refusal.OutOfRange apart cause sought ends = told_refused refusal.OutOfRange ends sought
+  refuses refusal.OutOfRange apart cause sought ends = found_short ends sought
   refuses r apart cause sought ends = absurd cause

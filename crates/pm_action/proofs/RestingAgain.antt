@@ -1,5 +1,5 @@
 -- The fields of a lane that rests again behind a call are as before it, but for its memory and its last number.
-use Rattle.std.proofs.Common.{◌≡◌, ℕ, List, [], None, sym, ap, ◌∙◌}
+use Rattle.std.proofs.Common.{◌≡◌, ℕ, List, [], None, Some, sym, ap, ◌∙◌}
 use Rattle.arrayvec.specs.ArrayVec.{ArrayVec}
 use Rattle.pm_view.specs.View.{View}
 use Rattle.pm_world.specs.declared.lane.HeldLock.{HeldLock}
@@ -21,6 +21,40 @@ module _ {M : Type 0} (at : M → View → Type 0) (old mid new : Lane M) (v : V
       fields
       ∙ ap (λ (l : Lane M). record l { memory = new.memory; locks = new.locks; drawn = None; last = new.last }) same
       ∙ (λ i. record old { memory = new.memory; locks = locks i; drawn = drawn i; last = new.last })
+
+-- a list of a lane that is empty still
+emptied : {T : Type 0} (old new : ArrayVec T) → old.items ≡ [] → new.items ≡ [] → new ≡ old
+emptied {T} old new none now =
+    let of : List T → ArrayVec T = λ items. record { items = items } in
+    ap of (now ∙ sym none)
+
+-- behind a start, of a call that left its lists as they were
+pub fields_rested : {M : Type 0} (at : M → View → Type 0) (old mid new : Lane M) (v : View) → IsAtRest at old v → mid ≡ record old { memory = mid.memory } → new ≡ record mid { memory = new.memory; drawn = None; last = new.last }
+    → new ≡ record old { memory = new.memory; last = new.last }
+fields_rested {M} at old mid new v rests same fields =
+    let drawn : None ≡ old.drawn = sym rests.answered in
+    fields ∙ ap (λ (l : Lane M). record l { memory = new.memory; drawn = None; last = new.last }) same ∙ (λ i. record old { memory = new.memory; drawn = drawn i; last = new.last })
+
+module _ {M : Type 0} (old : Lane M) (free : old.locks.items ≡ []) where
+  -- it gave back what locks it took
+  pub fields_refused : (new : Lane M) → new.locks.items ≡ [] → new ≡ record old { memory = new.memory; locks = new.locks; drawn = None; last = new.last } → new ≡ record old { memory = new.memory; drawn = None; last = new.last }
+  fields_refused new freed fields =
+      let locks : new.locks ≡ old.locks = emptied old.locks new.locks free freed in
+      fields ∙ (λ i. record old { memory = new.memory; locks = locks i; drawn = None; last = new.last })
+
+  -- and what it listed it lists no more
+  pub fields_published : (none : old.records.items ≡ []) (unlisted : old.entries.items ≡ []) (held mid new : Lane M) → held ≡ record old { memory = held.memory; locks = held.locks }
+      → mid ≡ record held { memory = mid.memory; records = mid.records; entries = mid.entries; drawn = Some mid.last; last = mid.last } → mid.records.items ≡ [] → mid.entries.items ≡ []
+      → new ≡ record mid { memory = new.memory; locks = new.locks; drawn = None } → new.locks.items ≡ [] → new ≡ record old { memory = new.memory; drawn = None; last = new.last }
+  fields_published none unlisted held mid new taken made ended cleared fields freed =
+      let locks : new.locks ≡ old.locks = emptied old.locks new.locks free freed in
+      let records : mid.records ≡ old.records = emptied old.records mid.records none ended in
+      let entries : mid.entries ≡ old.entries = emptied old.entries mid.entries unlisted cleared in
+      let last : mid.last ≡ new.last = sym (ap (λ (l : Lane M). l.last) fields) in
+      fields
+      ∙ ap (λ (l : Lane M). record l { memory = new.memory; locks = new.locks; drawn = None }) made
+      ∙ ap (λ (l : Lane M). record l { memory = new.memory; locks = new.locks; records = mid.records; entries = mid.entries; drawn = None; last = mid.last }) taken
+      ∙ (λ i. record old { memory = new.memory; locks = locks i; records = records i; entries = entries i; drawn = None; last = last i })
 
 -- the lane's memory was another in between
 pub fields_behind : {M : Type 0} (mid later new : Lane M) → later ≡ record mid { memory = later.memory } → new ≡ record later { memory = new.memory; locks = new.locks; drawn = None; last = new.last }

@@ -20,7 +20,8 @@ use Rattle.pm_tx.proofs.BeginPlanned.{entries, led, models, of_pool, plan_so}
 use Rattle.pm_tx.proofs.Leads.{led_then}
 use Rattle.pm_tx.proofs.OnlyLooking.{begun_looks}
 use Rattle.pm_action.specs.Holding.{GoesOnTo, HasLookedAgain, HoldsActions, HoldsEach, IsHoldReason}
-use Rattle.pm_action.proofs.EachEnd.{Passes, Sets, some_pending}
+use Rattle.pm_tx.proofs.EachAction.{some_mapped}
+use Rattle.pm_action.proofs.EachEnd.{Passes, Sets}
 use Rattle.pm_action.proofs.HeldObjects.{each_held, takes_all}
 use Rattle.pm_action.proofs.LookedAgain.{objects_again, only_looks, takes_again}
 
@@ -77,7 +78,7 @@ module _ {M : Type 0} (at : M → View → Type 0) (old mid lane : Lane M) (acti
     -- an action passes the end of its object
     pub past_end : (memory : M) → HasLookedAgain (at memory) w (λ u. Any (Passes u) actions) → GoesOnTo at (record lane { memory = memory }) v (λ u. IsHoldReason u (pending_of actions) refusal.OutOfRange)
     past_end memory s = goes_on memory (λ u. Any (Passes u) actions) s (λ u. IsHoldReason u (pending_of actions) refusal.OutOfRange)
-        (takes_again w s.view s.looks [] wants holds_wanted, some_pending (PassesObject s.view) actions s.holds)
+        (record { takes = takes_again w s.view s.looks [] wants holds_wanted; objects = objects_again w s.view s.looks (f.objects found); some = some_mapped (PassesObject s.view) action_of actions s.holds })
 
     -- or none does
     pub all_held : (memory : M) → HasLookedAgain (at memory) w (λ u. All (Sets u) actions) → GoesOnTo at (record lane { memory = memory }) v (λ u. HoldsActions u (pending_of actions))

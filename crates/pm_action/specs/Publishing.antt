@@ -1,9 +1,8 @@
 -- What a publish outside of a transaction leaves: all that is pending takes effect at once, or the lane stopped in it.
-use Rattle.std.specs.Prelude.{◌≡◌, ◌≤◌, Bool, false, List, [], ◌∷◌, length, map, None, Some, Result, Ok, Err}
+use Rattle.std.specs.Prelude.{◌≡◌, ◌≤◌, Bool, false, List, [], ◌∷◌, length, map, None, Result, Ok, Err}
 use Rattle.pm_crash.specs.Pending.{pending_before}
 use Rattle.pm_model.specs.Actions.{Action}
 use Rattle.pm_objects.specs.declared.calls.Operation.TheVariants.{Publish}
-use Rattle.pm_objects.specs.declared.history.Value.TheVariants.{Refused}
 use Rattle.pm_objects.specs.declared.refusal.Refusal.{Refusal}
 use Rattle.pm_objects.specs.declared.refusal.Refusal.TheVariants as refusal
 use Rattle.pm_pending.specs.Pending.{entry_of, pending_of}
@@ -24,8 +23,8 @@ use Rattle.pm_tx.specs.Ending.{DrawEnded, IsStoppedIn, drawn_more}
 use Rattle.pm_tx.specs.Resting.{IsAtRest}
 use Rattle.pm_tx.specs.Publishing.{MayPublish}
 use Rattle.pm_tx.specs.Sequences.{publishes}
-use Rattle.pm_action.specs.Holding.{HasFoundNone, HoldsActions}
-use Rattle.pm_action.specs.Outside.{IsToldAtOnce, IsToldOutside}
+use Rattle.pm_action.specs.Holding.{HasFoundNone, HasFoundShort, HoldsActions}
+use Rattle.pm_action.specs.Outside.{IsToldAtOnce}
 
 -- what the view finds of blocks is as at a sound opening
 abbrev pub FindsSound : View → Type 0
@@ -92,7 +91,7 @@ PublishEnds at lane actions v (Err refusal.Stopped) = IsStoppedPublishing at lan
 PublishEnds at lane actions v (Err refusal.Spent) = IsSpent at lane v
 PublishEnds at lane actions v (Err refusal.Busy) = IsBusy at lane v
 PublishEnds at lane actions v (Err refusal.NoObject) = HasFoundNone at lane actions v
-PublishEnds at lane actions v (Err refusal.OutOfRange) = IsToldOutside at lane actions v Publish (Some (Refused refusal.OutOfRange))
+PublishEnds at lane actions v (Err refusal.OutOfRange) = HasFoundShort at lane actions v
 PublishEnds at lane actions v (Err r) = ⊥
 
 -- why a publish fails, of a lane that had stopped or not

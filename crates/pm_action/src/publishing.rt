@@ -12,7 +12,7 @@ ghost use Rattle.pm_tx.specs.Resting.{IsAtRest};
 ghost use Rattle.pm_view.specs.Founds.{IsAlone};
 ghost use Rattle.pm_tx.specs.Ending.{IsEndedBy, IsLaneAfterCall, IsStoppedIn};
 ghost use Rattle.pm_tx.specs.Sequences.{publishes};
-ghost use Rattle.pm_action.specs.Holding.{IsHoldCause};
+ghost use Rattle.pm_action.specs.Holding.{Overruns};
 ghost use Rattle.pm_action.specs.Publishing.{IsBegunPublishCause, IsPublishCause, MayPublishHeld, PublishEnds, RestsSoundly, StaysSound, entries_of};
 
 use crate::holding::hold_actions;
@@ -62,8 +62,7 @@ fn publish_begun<M: LawfulMem>(
     ensures ends { (v : View) → IsBegun M.at lane.old v → StaysSound M.at v → pending_of actions.old.items ≡ pending_before v → PublishEnds M.at lane.new actions.old.items v result }
     ensures emptied { OnOk result (actions.new.items ≡ []) }
     ensures kept { OnErr result (actions.new ≡ actions.old) }
-    ensures lane { result ≢ Err refusal.Stopped → lane.new ≡ record lane.old
-        { memory = lane.new.memory; locks = lane.new.locks; records = lane.new.records; entries = lane.new.entries; drawn = lane.new.drawn; last = lane.new.last } }
+    ensures lane { result ≢ Err refusal.Stopped → lane.new ≡ record lane.old { memory = lane.new.memory; drawn = None; last = lane.new.last } }
     ensures stopped_lane { result ≡ Err refusal.Stopped → lane.new ≡ record lane.old
         { memory = lane.new.memory; locks = lane.new.locks; records = lane.new.records; entries = lane.new.entries; drawn = lane.new.drawn; last = lane.new.last; stopped = true } }
     ensures causes { IfErr result IsBegunPublishCause }
@@ -94,11 +93,11 @@ pub fn publish<M: LawfulMem>(
     ensures ends { (v : View) → IsAtRest M.at lane.old v → StaysSound M.at v → pending_of actions.old.items ≡ pending_before v → PublishEnds M.at lane.new actions.old.items v result }
     ensures missing { result ≡ Err refusal.NoObject → (v : View) → IsAtRest M.at lane.old v → StaysSound M.at v → pending_of actions.old.items ≡ pending_before v → IsAlone v
         → Any (LacksObject v) (wants_for (pending_of actions.old.items)) }
-    ensures some { result ≡ Err refusal.OutOfRange → 1 ≤ length actions.old.items }
+    ensures past_end { result ≡ Err refusal.OutOfRange → (v : View) → IsAtRest M.at lane.old v → StaysSound M.at v → pending_of actions.old.items ≡ pending_before v → IsAlone v
+        → Any (Overruns v) (pending_of actions.old.items) }
     ensures emptied { OnOk result (actions.new.items ≡ []) }
     ensures kept { OnErr result (actions.new ≡ actions.old) }
-    ensures lane { lane.new.stopped ≡ false → lane.new ≡ record lane.old
-        { memory = lane.new.memory; locks = lane.new.locks; records = lane.new.records; entries = lane.new.entries; drawn = lane.new.drawn; last = lane.new.last } }
+    ensures lane { lane.new.stopped ≡ false → lane.new ≡ record lane.old { memory = lane.new.memory; last = lane.new.last } }
     ensures stopped_lane { lane.old.stopped ≡ false → result ≡ Err refusal.Stopped → lane.new ≡ record lane.old
         { memory = lane.new.memory; locks = lane.new.locks; records = lane.new.records; entries = lane.new.entries; drawn = lane.new.drawn; last = lane.new.last; stopped = true } }
     ensures causes { IfErr result (IsPublishCause lane.old.stopped) }

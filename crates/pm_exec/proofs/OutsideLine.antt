@@ -1,5 +1,5 @@
 -- A call on pending actions outside of a transaction, by a lane that rests alone: it is answered, or refused, or the lane stops in it, or can't begin it.
-use Rattle.std.proofs.Common.{◌≡◌, ◌⊎◌, ⊎_elim, inl, inr, ℕ, ◌%◌, ◌<◌, ◌≤◌, All, true, false, List, [], ◌∷◌, ◌++◌, length, map, get_or, slice_index, take, Option, None, Some, Result, Ok, Err, IfErr, OnErr, OnOk, refl, sym, ap, ◌∙◌, subst, arith}
+use Rattle.std.proofs.Common.{◌≡◌, ◌≢◌, ⊎_elim, inl, inr, ℕ, ◌%◌, ◌<◌, ◌≤◌, All, true, false, List, [], ◌∷◌, ◌++◌, length, map, get_or, slice_index, take, Option, None, Some, Result, Ok, Err, IfErr, OnErr, OnOk, refl, sym, ap, ◌∙◌, subst, arith}
 use Rattle.std.proofs.lemmas.Option.{none-some}
 use Rattle.std.proofs.lemmas.Bool.{false≢true}
 use Rattle.pm_script.specs.Scripts.{operations}
@@ -7,6 +7,7 @@ use Rattle.std.specs.Option.{option_map}
 use Rattle.std.specs.List.{Any}
 use Rattle.std.proofs.lemmas.List.{length-map}
 use Rattle.std.proofs.lemmas.List.Elements.{All-append, All-cons, All-nil}
+use Rattle.pm_action.specs.Holding.{Overruns}
 use Rattle.pm_action.specs.Outside.{IsAnsweredAtOnce, IsCancelCause, IsSetCause, IsToldOutside}
 use Rattle.pm_action.specs.Publishing.{IsPublished, IsPublishedBy, IsStoppedPublishing, PublishEnds, RestsSoundly, StaysSound, entries_of}
 use Rattle.pm_crash.proofs.Leading.{leads_then}
@@ -20,6 +21,7 @@ use Rattle.pm_model.specs.Actions.{Action, wants_for}
 use Rattle.pm_model.specs.Shown.{values_of}
 use Rattle.pm_objects.specs.declared.calls.Operation.{Operation}
 use Rattle.pm_objects.specs.declared.calls.Operation.TheVariants as operation
+use Rattle.pm_objects.specs.declared.history.Reply.{Reply}
 use Rattle.pm_objects.specs.declared.history.Value.TheVariants.{Refused}
 use Rattle.pm_objects.specs.declared.ids.Oid.{Oid}
 use Rattle.pm_objects.specs.declared.refusal.Refusal.{Refusal}
@@ -51,9 +53,10 @@ use Rattle.pm_world.specs.Sequences.{Sequence}
 use Rattle.pm_world.specs.declared.lane.Lane.{Lane}
 use Rattle.pm_exec.specs.Bounds.{most_stores, stores_of_lines}
 use Rattle.pm_exec.specs.Calls.{IsCall, id_of, operation_of, stands_alone}
-use Rattle.pm_exec.specs.Course.{IsOutsideMade, pending_entries}
-use Rattle.pm_exec.specs.Progress.{ActedOutside, IsActed, IsCut, IsFlyingBy, IsInFlight, IsStart, IsToldDone, done, numbered}
+use Rattle.pm_exec.specs.Course.{IsOneLine, IsOutsideMade, IsPublishRefusal, pending_entries}
+use Rattle.pm_exec.specs.Progress.{ActedOutside, IsActed, IsAnswered, IsCut, IsFlyingBy, IsInFlight, IsStart, IsToldDone, done, numbered}
 use Rattle.pm_exec.specs.declared.calls.Names.{Names}
+use Rattle.pm_exec.specs.declared.ending.CallAnswer.TheVariants as answer
 use Rattle.pm_exec.proofs.ActionLines.{set_taken}
 use Rattle.pm_exec.proofs.Along.{lane_along}
 use Rattle.pm_exec.proofs.Begun.{first_untouched, not_busy, spent}
@@ -186,16 +189,11 @@ module _ (o : Opening) (first : View) (lane new : Lane Solo) (actions : List Set
     published (a ∷ items) same made = published_by (a ∷ items) (ap pending_of same ∙ is.pending.are) (omega arith) made
 
     -- refused
-    refused_publish : (r : Refusal) → (r ≡ refusal.NoObject) ⊎ (r ≡ refusal.OutOfRange) → IsToldOutside Sees new actions first operation.Publish (Some (Refused r)) → 1 ≤ length actions → IsActed first new actions names x (Some r)
-    refused_publish r why told some =
+    refused_publish : (r : Refusal) → IsPublishRefusal (pending_before first) r first → IsToldOutside Sees new actions first operation.Publish (Some (Refused r)) → IsActed first new actions names x (Some r)
+    refused_publish r why told =
         let t = subst (λ (y : Operation). IsToldOutside Sees new actions first y (Some (Refused r))) publish_is told in
         acted x (Some r) actions t is.pending.aligned
-        (subst (λ (y : ScriptOp). IsOutsideMade y (Some r) first t.view) (sym says) (t.led, ((let count = ap length is.pending.are in let many = length-map actions action_of in omega (arith, count, many, some)), why)))
-
-    -- where an action names no object, there is an action
-    lacking_some : (items : List SetAction) (w : View) → Any (LacksObject w) (wants_for (pending_of items)) → 1 ≤ length items
-    lacking_some [] w lacking = absurd (let low = lacking.2 in omega (arith, low))
-    lacking_some (a ∷ items) w lacking = omega arith
+        (subst (λ (y : ScriptOp). IsOutsideMade y (Some r) first t.view) (sym says) (t.led, why))
 
     -- or the lane stopped in it
     module _ (said : ScriptLine) (is_said : said.operation ≡ x) (s : IsStoppedPublishing Sees new (pending_of actions) first) where
@@ -274,16 +272,18 @@ module _ (o : Opening) (first : View) (lane new : Lane Solo) (actions : List Set
 
     -- however it is answered
     pub publish_acted : {T : Type 0} (result : Result T Refusal) (left : List SetAction) → PublishEnds Sees new actions first result → OnOk result (left ≡ []) → OnErr result (left ≡ actions)
-        → (result ≡ Err refusal.OutOfRange → 1 ≤ length actions) → ActedOutside o first new left names x result
-    publish_acted (Ok done) left ends emptied kept some = subst (λ (list : List SetAction). IsActed first new list names x None) (sym emptied) (published actions refl ends)
-    publish_acted (Err refusal.Stopped) left ends emptied kept some = λ said is_said. publish_cut said is_said ends
-    publish_acted (Err refusal.Spent) left ends emptied kept some = spent o first lane new actions names is ends
-    publish_acted (Err refusal.Busy) left ends emptied kept some = absurd (not_busy o first lane new actions names is ends)
-    publish_acted (Err refusal.NoObject) left ends emptied kept some =
-        subst (λ (list : List SetAction). IsActed first new list names x (Some refusal.NoObject)) (sym kept) (refused_publish refusal.NoObject (inl refl) ends.told (lacking_some actions ends.told.view ends.lacking))
-    publish_acted (Err refusal.OutOfRange) left ends emptied kept some =
-        subst (λ (list : List SetAction). IsActed first new list names x (Some refusal.OutOfRange)) (sym kept) (refused_publish refusal.OutOfRange (inr refl) ends (some refl))
-    publish_acted (Err r) left ends emptied kept some = absurd ends
+        → (result ≡ Err refusal.NoObject → Any (LacksObject first) (wants_for (pending_of actions))) → (result ≡ Err refusal.OutOfRange → Any (Overruns first) (pending_of actions)) → ActedOutside o first new left names x result
+    publish_acted (Ok done) left ends emptied kept missing past_end = subst (λ (list : List SetAction). IsActed first new list names x None) (sym emptied) (published actions refl ends)
+    publish_acted (Err refusal.Stopped) left ends emptied kept missing past_end = λ said is_said. publish_cut said is_said ends
+    publish_acted (Err refusal.Spent) left ends emptied kept missing past_end = spent o first lane new actions names is ends
+    publish_acted (Err refusal.Busy) left ends emptied kept missing past_end = absurd (not_busy o first lane new actions names is ends)
+    publish_acted (Err refusal.NoObject) left ends emptied kept missing past_end =
+        subst (λ (list : List SetAction). IsActed first new list names x (Some refusal.NoObject)) (sym kept)
+        (refused_publish refusal.NoObject (subst (λ (pending : List Action). Any (LacksObject first) (wants_for pending)) is.pending.are (missing refl)) ends.told)
+    publish_acted (Err refusal.OutOfRange) left ends emptied kept missing past_end =
+        subst (λ (list : List SetAction). IsActed first new list names x (Some refusal.OutOfRange)) (sym kept)
+        (refused_publish refusal.OutOfRange (subst (Any (Overruns first)) is.pending.are (past_end refl)) ends.told)
+    publish_acted (Err r) left ends emptied kept missing past_end = absurd ends
 
 -- what holds of an answer's lists holds of what they hold
 pub items_kept : {T A B : Type 0} (result : Result T Refusal) (f : A → B) (x y : A) → OnErr result (x ≡ y) → OnErr result (f x ≡ f y)
@@ -293,6 +293,31 @@ items_kept (Err r) f x y same = ap f same
 -- a call outside in which the lane stopped is cut
 pub stopped_in : {T : Type 0} (o : Opening) (first : View) (new : Lane Solo) (left : List SetAction) (names : Names) (said : ScriptLine) (result : Result T Refusal) → result ≡ Err refusal.Stopped → ActedOutside o first new left names said.operation result → IsCut o first new names (said ∷ []) []
 stopped_in o first new left names said result is acted = subst (ActedOutside o first new left names said.operation) is acted said refl
+
+-- one that was refused, in which the lane did not stop and which it could begin, was told so
+pub refused_acted : (o : Opening) (first : View) (new : Lane Solo) (left : List SetAction) (names : Names) (x : ScriptOp) (r : Refusal) → r ≢ refusal.Stopped → r ≢ refusal.Spent → ActedOutside {T = Unit {0}} o first new left names x (Err r) → IsActed first new left names x (Some r)
+refused_acted o first new left names x refusal.Stopped going unspent acted = absurd (going refl)
+refused_acted o first new left names x refusal.Spent going unspent acted = absurd (unspent refl)
+refused_acted o first new left names x r going unspent acted = acted
+
+-- what was told of a call outside is its answer
+pub outside_answered : (first : View) (new : Lane Solo) (left : List SetAction) (names : Names) (said : ScriptLine) (r : Option Refusal) (reply : Reply) → stands_alone said.operation ≡ true → reply.values ≡ [] → reply.at ≡ 0 → IsActed first new left names said.operation r
+    → IsAnswered first new left names (said ∷ []) new.last (answer.Outside r) reply
+outside_answered first new left names said r reply outside values at acted =
+    let one : IsOneLine (said ∷ []) said.operation = record { line = said; alone = refl; says = refl; outside = outside } in
+    record {
+      view = acted.view;
+      steps = acted.steps;
+      leads = acted.leads;
+      rests = acted.rests;
+      idle = acted.idle;
+      told = record { operation = operation_of names said.operation; reply = option_map Refused r } ∷ [];
+      entries = acted.entries;
+      so = record { op = said.operation; one = one; at = at; values = values; told_so = refl };
+      pending = acted.pending;
+      made = (said.operation, one, acted.made);
+      few = (let few = acted.few in omega (arith, few));
+    }
 
 -- lines that are a call and begin with one that stands alone are that line
 pub one_line : (lines : List ScriptLine) (first : ScriptLine) → IsCall (operations lines) → first ≡ get_or lines 0 first → stands_alone first.operation ≡ true → lines ≡ first ∷ []

@@ -1,8 +1,6 @@
 -- Sequences of a transaction that store no slot word: behind each of their steps a lane that was quiet is so still.
-use Rattle.std.proofs.Common.{◌≡◌, ◌⊎◌, ⊎_elim, inl, inr, ℕ, ◌+◌, ◌/◌, ◌<◌, ◌≤◌, Bool, true, false, All, List, [], ◌∷◌, ◌++◌, length, length-append, map, slice_index, take, Option, None, Some, refl, sym, ap, ◌∙◌, subst, arith}
-use Rattle.std.specs.List.{Contains}
-use Rattle.std.proofs.lemmas.List.Elements.{All-append, All-cons, All-get_or, All-nil, All-weaker, Contains-append_cases}
-use Rattle.pm_image.proofs.Members.{only_member}
+use Rattle.std.proofs.Common.{◌≡◌, ◌⊎◌, inl, inr, ℕ, ◌+◌, ◌/◌, ◌<◌, ◌≤◌, Bool, true, false, All, List, [], ◌∷◌, ◌++◌, length, length-append, map, take, Option, None, Some, refl, sym, ap, ◌∙◌, subst, arith}
+use Rattle.std.proofs.lemmas.List.Elements.{All-append, All-cons, All-get_or, All-nil, All-weaker}
 use Rattle.pm_crash.specs.Writes.{written_word}
 use Rattle.pm_objects.specs.declared.calls.Operation.{Operation}
 use Rattle.pm_objects.specs.declared.calls.Operation.TheVariants.{Commit, Read, Write}
@@ -16,8 +14,6 @@ use Rattle.pm_redo.specs.Entering.{IsOfPool, ending}
 use Rattle.pm_redo.specs.Sequences.{applies, applies_each, applies_entry, ending_of, entry_at, logs, no_entry, performs, performs_on, stores_two, writes_entries, writes_log, writes_pair, writes_pairs, writes_seal}
 use Rattle.pm_undo.specs.Sequences.{ends_generation, persists, restores, retires}
 use Rattle.pm_undo.specs.Working.{IsWorking}
-use Rattle.pm_view.specs.declared.change.Change.{Change}
-use Rattle.pm_view.specs.Changes.{store_change}
 use Rattle.pm_view.specs.Area.{Part, area_word, is_in_area, part_of}
 use Rattle.pm_view.specs.Area.Part.{EntryWord, SealWord}
 use Rattle.pm_view.specs.Log.{Log, Phase, log_stored, with_pair}
@@ -38,7 +34,7 @@ use Rattle.pm_tx.specs.Beginning.{takes}
 use Rattle.pm_tx.specs.Ranges.{CanWrite, reads_range, writes_range}
 use Rattle.pm_tx.specs.Sequences.{commits, decides, decides_all, ends_call, gives, gives_up, line_at, performs_logged, publishes, reads, retires_any, sees_generation, starts, takes_back, undoes, word_count, writes, writes_word}
 use Rattle.pm_exec.specs.Quiet.{IsQuiet, MakesNone}
-use Rattle.pm_exec.proofs.QuietSlots.{IsCalm, quiet_after, quiet_at}
+use Rattle.pm_exec.proofs.QuietSlots.{IsCalm, quiet_after, quiet_at, quiet_store}
 
 pub calm_steps : HasQuietSteps IsCalm
 calm_steps = record { load = λ w x. tt; flush = λ line. tt; drain = tt }
@@ -144,15 +140,8 @@ log_unbegun x log part (inr seal) un = subst (λ (p : Part). MakesNone (log_stor
 -- such a word lies before the slots
 quiet_before_slots : (v : View) (w x : ℕ) → IsQuiet v → IsOfLog (Store w x) → IsQuiet (after v (Store w x))
 quiet_before_slots v w x quiet of_log =
-    let stored : Change = store_change w (slice_index v.words w) x in
-    record {
-      lane = quiet.lane;
-      unchanged = λ c there slots. ⊎_elim
-          (λ (old : Contains v.changes c). quiet.unchanged c old slots)
-          (λ (last : Contains (stored ∷ []) c). let word : w ≡ c.word = ap (λ (d : Change). d.word) (only_member stored c last) in let low = slots.low in let below = of_log.0 in absurd (omega (arith, word, low, below)))
-          (Contains-append_cases v.changes (stored ∷ []) c there);
-      unbegun = log_unbegun x v.log (part_of v.lane w) (subst (λ n. (part_of n w ≡ EntryWord) ⊎ (part_of n w ≡ SealWord)) (sym quiet.lane) of_log.1) quiet.unbegun;
-    }
+    quiet_store v w x quiet (λ slots. let low = slots.low in let below = of_log.0 in omega (arith, low, below))
+    (log_unbegun x v.log (part_of v.lane w) (subst (λ n. (part_of n w ≡ EntryWord) ⊎ (part_of n w ≡ SealWord)) (sym quiet.lane) of_log.1) quiet.unbegun)
 
 quiet_slotless : (v : View) (s : Step) → IsQuiet v → IsSlotless s → IsQuiet (after v s)
 quiet_slotless v s quiet (inl calm) = quiet_after v s quiet calm

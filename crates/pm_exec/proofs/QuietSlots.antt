@@ -155,7 +155,7 @@ marked_word c true = refl
 marked_word c false = refl
 
 -- a store of a word outside of the slots
-quiet_store : (v : View) (w x : ℕ) → IsQuiet v → (InSlots 0 w → ⊥) → MakesNone (log_stored v.log.phase (part_of v.lane w) x v.log).phase → IsQuiet (after v (Store w x))
+pub quiet_store : (v : View) (w x : ℕ) → IsQuiet v → (InSlots 0 w → ⊥) → MakesNone (log_stored v.log.phase (part_of v.lane w) x v.log).phase → IsQuiet (after v (Store w x))
 quiet_store v w x quiet outside un = record {
   lane = quiet.lane;
   unchanged = λ c there slots. ⊎_elim

@@ -1,4 +1,4 @@
--- The calls that a script's transactions are, over a pool: docs/COMMANDS.md, "Scripts".
+-- The calls that a script's lines make, over a pool: docs/COMMANDS.md, "Scripts".
 use Rattle.std.specs.Prelude.{◌≡◌, ◌⊎◌, ℕ, ◌-◌, ◌||◌, Bool, true, false, if◌then◌else◌, List, [], ◌∷◌, length, map, slice_index, Option, Some, None}
 use Rattle.std.specs.List.{list_any}
 use Rattle.pm_objects.specs.declared.calls.Call.{Call}

@@ -29,7 +29,8 @@ use Rattle.pm_exec.specs.Histories.{settled_fate}
 use Rattle.pm_exec.specs.declared.calls.Names.{Names}
 use Rattle.pm_crash.specs.OnActions.{set_refusal}
 use Rattle.pm_crash.specs.Pending.{pending_before, published_in}
-use Rattle.pm_model.specs.Actions.{Action}
+use Rattle.pm_action.specs.Holding.{Overruns}
+use Rattle.pm_model.specs.Actions.{Action, wants_for}
 use Rattle.pm_objects.specs.declared.calls.Operation.TheVariants as operation
 use Rattle.pm_pending.specs.Pending.{entry_of}
 use Rattle.pm_record.specs.declared.redo.Redo.{Redo}
@@ -132,18 +133,25 @@ pub record IsPublishMade (v w : View) : Type 0 where
   pub is : over ≡ after_all start (publishes (pending_entries v) operation.Publish number start)
   pub closed : IsFree over w
 
--- why a call outside of a transaction may be refused, where these actions are pending: a set-value for its place or for room, and a publish since an
--- object is missing, or since an action passes the end of its object
-abbrev pub IsOutsideRefusal : ScriptOp → List Action → Refusal → Type 0
-IsOutsideRefusal (Set id off value) actions r = set_refusal off actions ≡ Some r
-IsOutsideRefusal Publish actions r = (1 ≤ length actions) × ((r ≡ refusal.NoObject) ⊎ (r ≡ refusal.OutOfRange))
-IsOutsideRefusal op actions r = ⊥
+-- why a publish of these actions by a lane that is alone may be refused: by the pool's words one names no object, or passes the end of its object. No
+-- lock is another lane's
+abbrev pub IsPublishRefusal : List Action → Refusal → View → Type 0
+IsPublishRefusal actions refusal.NoObject v = Any (LacksObject v) (wants_for actions)
+IsPublishRefusal actions refusal.OutOfRange v = Any (Overruns v) actions
+IsPublishRefusal actions r v = ⊥
+
+-- why a call outside of a transaction may be refused, where these actions are pending: a set-value for its place or for room, and a publish for the
+-- objects of the actions
+abbrev pub IsOutsideRefusal : ScriptOp → List Action → Refusal → View → Type 0
+IsOutsideRefusal (Set id off value) actions r v = set_refusal off actions ≡ Some r
+IsOutsideRefusal Publish actions r v = IsPublishRefusal actions r v
+IsOutsideRefusal op actions r v = ⊥
 
 -- a call outside of a transaction was done, or refused so. But for a publish of some actions that is done it makes no counted call
 abbrev pub IsOutsideMade : ScriptOp → Option Refusal → View → View → Type 0
 IsOutsideMade Publish None v w = IsPublishMade v w ⊎ (IsLed v w × (pending_before v ≡ []))
 IsOutsideMade op None v w = IsLed v w
-IsOutsideMade op (Some r) v w = IsLed v w × IsOutsideRefusal op (pending_before v) r
+IsOutsideMade op (Some r) v w = IsLed v w × IsOutsideRefusal op (pending_before v) r v
 
 -- the one line of these lines
 pub record IsOneLine (lines : List ScriptLine) (op : ScriptOp) : Type 0 where

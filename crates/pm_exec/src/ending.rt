@@ -1,6 +1,6 @@
 //! How a call of a run ends, and its entry in the history.
 
-ghost use Rattle.std.specs.Prelude.{◌≡◌, ◌∷◌, [], true, List, ℕ, None, IfOk};
+ghost use Rattle.std.specs.Prelude.{◌≡◌, ◌∷◌, [], true, List, None, IfOk};
 ghost use Rattle.pm_objects.specs.declared.history.TxErr.{TxErr};
 ghost use Rattle.pm_objects.specs.declared.history.TxErr.TheVariants as error;
 ghost use Rattle.pm_script.specs.Scripts.{IsTransaction, operations};
@@ -9,9 +9,8 @@ ghost use Rattle.pm_exec.specs.declared.calls.Names.{Names};
 ghost use Rattle.pm_view.specs.View.{Told, View};
 ghost use Rattle.pm_world.specs.Opening.{Opening};
 ghost use Rattle.pm_exec.specs.Histories.{open_fate, settled_fate};
-ghost use Rattle.pm_exec.specs.Progress.{HasCome, HasEnded, IsOver, IsStart};
-ghost use Rattle.pm_exec.specs.Progress.{TransactionEnded};
 ghost use Rattle.pm_exec.specs.Calls.{IsCall, stands_alone};
+ghost use Rattle.pm_exec.specs.Progress.{HasCome, IsOver, IsStart, TransactionEnded};
 
 use crate::acting::act_outside;
 use crate::calls::{Names, stands_alone};

@@ -1,21 +1,16 @@
 //! The work of a transaction's lines by lane 0.
 
-ghost use Rattle.std.specs.Prelude.{◌≡◌, ◌⊎◌, ◌<◌, ◌≤◌, true, ℕ, List, [], ◌∷◌, ◌++◌, length, map, IfErr, OnOk, OnErr, All};
-ghost use Rattle.pm_memory.specs.Solo.{Sees};
-ghost use Rattle.pm_objects.specs.declared.refusal.Refusal.TheVariants as refusal;
+ghost use Rattle.std.specs.Prelude.{◌≡◌, true, List, [], ◌∷◌, ◌++◌, map, IfErr, OnOk, All, alloc_error};
 ghost use Rattle.pm_script.specs.Scripts.{IsChange, IsTransaction, operations};
 ghost use Rattle.pm_script.specs.declared.script.ScriptLine.{ScriptLine};
 ghost use Rattle.pm_script.specs.declared.script.ScriptOp.{ScriptOp};
 ghost use Rattle.pm_script.specs.declared.script.ScriptOp.TheVariants as op;
 ghost use Rattle.pm_script.specs.declared.script.ScriptWant.{ScriptWant};
-ghost use Rattle.pm_tx.specs.Ending.{IsLaneAtWork};
 ghost use Rattle.pm_view.specs.View.{View};
 ghost use Rattle.pm_world.specs.Opening.{Opening};
-ghost use Rattle.pm_exec.specs.Calls.{want_of};
+ghost use Rattle.pm_exec.specs.Calls.{id_of, stands_alone, want_of};
 ghost use Rattle.pm_exec.specs.Progress.{CameTo, IsAtLine, IsStart, IsLaneAtLine, IsLaneWith, IsNotDone, Values, not_done};
 ghost use Rattle.pm_exec.specs.declared.lines.NotDone.TheVariants.{Memory};
-ghost use Rattle.std.specs.Prelude.{alloc_error};
-ghost use Rattle.pm_exec.specs.Calls.{id_of, stands_alone};
 
 use crate::calls::{Names, action_of, id_of, wants_of};
 use arrayvec::ArrayVec;
@@ -43,7 +38,6 @@ pub(crate) enum NotDone {
 impl From<AllocError> for NotDone {
     ghost use Rattle.std.specs.Prelude.{◌≡◌, alloc_error};
     ghost use Rattle.pm_exec.specs.declared.lines.NotDone.TheVariants.{Memory};
-    ghost use Rattle.std.specs.Prelude.{alloc_error};
 
     ghost from_gives = { λ _ why. why ≡ Memory alloc_error };
 
@@ -55,7 +49,6 @@ impl From<AllocError> for NotDone {
 impl<T: Drop> From<AllocFailed<T>> for NotDone {
     ghost use Rattle.std.specs.Prelude.{◌≡◌, alloc_error};
     ghost use Rattle.pm_exec.specs.declared.lines.NotDone.TheVariants.{Memory};
-    ghost use Rattle.std.specs.Prelude.{alloc_error};
 
     ghost from_gives = { λ _ why. why ≡ Memory alloc_error };
 

@@ -6,12 +6,11 @@ ghost use Rattle.pm_script.specs.Scripts.{AreCalls, operations};
 ghost use Rattle.pm_script.specs.declared.script.ScriptLine.{ScriptLine};
 ghost use Rattle.pm_view.specs.View.{View};
 ghost use Rattle.pm_world.specs.Opening.{IsSound, Opening};
-ghost use Rattle.pm_exec.specs.Calls.{call_of, call_lines};
+ghost use Rattle.pm_exec.specs.Calls.{IsCall, call_lines, call_of};
 ghost use Rattle.pm_exec.specs.declared.calls.Names.{Names};
 ghost use Rattle.pm_exec.specs.Openings.{first_view, opening_of};
 ghost use Rattle.pm_exec.specs.Progress.{IsStart};
 ghost use Rattle.pm_exec.specs.Running.{HasComeTo, HasHalted, HasRun, open_entry};
-ghost use Rattle.pm_exec.specs.Calls.{IsCall};
 
 use crate::calls::{Names, call_of, first_call};
 use crate::ending::{CallEnd, run_call, settled_fate};

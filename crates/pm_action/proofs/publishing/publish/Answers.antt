@@ -1,9 +1,12 @@
 use Rattle.std.proofs.Common.{◌≡◌, ◌≤◌, ◌∙◌, [], None, rules, length, ap, refl, sym}
+use Rattle.std.proofs.lemmas.Bool.{false≢true}
+use Rattle.pm_world.specs.declared.lane.Lane.{Lane}
 use Rattle.pm_objects.specs.declared.calls.Operation.TheVariants.{Publish}
 use Rattle.pm_pending.specs.Pending.{pending_of}
 use Rattle.pm_tx.proofs.BeginPlanned.{no_locks, started_led}
 use Rattle.pm_tx.proofs.Leads.{led_then}
-use Rattle.pm_action.proofs.PublishEnds.{empty_whole, ends_further, missing_alone, no_elements, published_nothing}
+use Rattle.pm_action.proofs.PublishEnds.{empty_whole, ends_further, missing_alone, no_elements, past_alone, published_nothing}
+use Rattle.pm_action.proofs.RestingAgain.{fields_kept, fields_rested}
 use Rattle.pm_action.proofs.Started.{pending_started, told_at_once_since}
 use Rattle.pm_action.proofs.publishing.publish.Goals as goal
 
@@ -39,3 +42,17 @@ returns-clause-ends g c v rests stays same =
 
 pub returns-clause-missing : goal.returns-clause-missing
 returns-clause-missing g c is v rests stays same alone = missing_alone g.M.LaneMem.at c.publish_begun.new.lane c.args.actions.now.items v c.publish_begun.result is (returns-clause-ends g c v rests stays same) alone
+
+pub returns-clause-past_end : goal.returns-clause-past_end
+returns-clause-past_end g c is v rests stays same alone = past_alone g.M.LaneMem.at c.publish_begun.new.lane c.args.actions.now.items v c.publish_begun.result is (returns-clause-ends g c v rests stays same) alone
+
+pub returns-then-is_empty-clause-lane : goal.returns-then-is_empty-clause-lane
+returns-then-is_empty-clause-lane g c unstopped =
+    let r = c.requires.rests c.if-lane.false in
+    fields_kept g.M.LaneMem.at c.args.lane.now c.start.new.lane c.end_outside.new.lane r.0 c.in_ok-start.field-0 r.1.0 (c.in_ok-start.ensures.begun r.0 r.1.0) c.start.ensures.else_same c.end_outside.ensures.free c.end_outside.ensures.lane
+
+pub returns-clause-lane : goal.returns-clause-lane
+returns-clause-lane g c unstopped =
+    let r = c.requires.rests c.if-lane.false in
+    fields_rested g.M.LaneMem.at c.args.lane.now c.start.new.lane c.publish_begun.new.lane r.0 r.1.0 c.start.ensures.else_same
+    (c.publish_begun.ensures.lane (λ is. false≢true (sym unstopped ∙ ap (λ (l : Lane g.row.M.Denot). l.stopped) (c.publish_begun.ensures.stopped_lane is))))

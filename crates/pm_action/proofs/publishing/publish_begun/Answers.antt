@@ -1,5 +1,7 @@
 use Rattle.std.proofs.Common.{ap, ◌∙◌, rules}
 use Rattle.pm_world.specs.declared.lane.Lane.{Lane}
+use Rattle.pm_tx.proofs.Beginnings.{no_spans}
+use Rattle.pm_action.proofs.RestingAgain.{fields_published, fields_refused}
 use Rattle.pm_action.proofs.PublishEnds.{ended_there, published_since, stopped_since}
 use Rattle.pm_action.proofs.publishing.publish_begun.Goals as goal
 
@@ -17,3 +19,12 @@ returns-clause-ends g c v is stays same =
     c.publish_held.new.lane c.come_to_rest.new.lane c.in_default-publish_held.ensures.ended
     (c.come_to_rest.ensures.closed _ ended.behind (ap (λ (l : Lane g.row.M.Denot). l.error) c.in_default-publish_held.ensures.lane ∙ goes.begun.unharmed))
     (ap (λ (l : Lane g.row.M.Denot). l.last) c.come_to_rest.ensures.lane) c.requires.some (search rules)
+
+pub returns-in-Err-clause-lane : goal.returns-in-Err-clause-lane
+returns-in-Err-clause-lane g c unstopped = fields_refused c.args.lane.now c.requires.free c.hold_actions.new.lane c.in-Err.ensures.free c.in-Err.ensures.refused_lane
+
+pub returns-clause-lane : goal.returns-clause-lane
+returns-clause-lane g c unstopped =
+    let b = c.requires.begun in
+    fields_published c.args.lane.now c.requires.free (no_spans g.M.LaneMem.at c.args.lane.now b.0 b.1.0) b.1.0.unlisted c.hold_actions.new.lane c.publish_held.new.lane c.come_to_rest.new.lane c.in_default.ensures.lane
+    c.in_default-publish_held.ensures.lane c.in_default-publish_held.ensures.none c.in_default-publish_held.ensures.unlisted c.come_to_rest.ensures.lane c.come_to_rest.ensures.free

@@ -19,8 +19,10 @@ returns-in-Set c o first is =
 pub returns-in-Publish : goal.returns-in-Publish
 returns-in-Publish c o first is =
     let e = c.publish.ensures in
+    let sound = stays o first c.args.lane.now c.publish.new.lane c.args.actions.now.items c.args.names is in
     publish_acted o first c.args.lane.now c.publish.new.lane c.args.actions.now.items c.args.names is c.args.operation.now c.in-Publish.is c.publish.result c.publish.new.actions.items
-    (e.ends first is.rests (stays o first c.args.lane.now c.publish.new.lane c.args.actions.now.items c.args.names is) is.pending.are) e.emptied (items_kept c.publish.result (λ a. a.items) c.publish.new.actions c.args.actions.now e.kept) e.some
+    (e.ends first is.rests sound is.pending.are) e.emptied (items_kept c.publish.result (λ a. a.items) c.publish.new.actions c.args.actions.now e.kept) (λ none. e.missing none first is.rests sound is.pending.are is.alone)
+    (λ past. e.past_end past first is.rests sound is.pending.are is.alone)
 
 pub returns-in-Cancel : goal.returns-in-Cancel
 returns-in-Cancel c o first is =

@@ -1,7 +1,9 @@
-use Rattle.std.proofs.Common.{Option, ℕ, [], ◌∷◌, sym, subst, rules}
-use Rattle.pm_exec.specs.Progress.{IsCut, IsHalted}
+use Rattle.std.proofs.Common.{◌≢◌, Option, Some, ℕ, [], ◌∷◌, sym, subst, rules}
+use Rattle.pm_objects.specs.declared.refusal.Refusal.TheVariants as refusal
+use Rattle.pm_exec.specs.Progress.{IsAnswered, IsCut, IsHalted}
+use Rattle.pm_exec.specs.declared.ending.CallAnswer.TheVariants as answer
 use Rattle.pm_exec.proofs.Closed.{halted}
-use Rattle.pm_exec.proofs.OutsideLine.{stopped_in}
+use Rattle.pm_exec.proofs.OutsideLine.{outside_answered, refused_acted, stopped_in}
 use Rattle.pm_exec.proofs.ending.run_outside.Goals as goal
 
 pub returns-in-Err-Stopped : goal.returns-in-Err-Stopped
@@ -10,3 +12,14 @@ returns-in-Err-Stopped c o first is =
     let cut : IsCut o first lane c.args.names (c.args.said.now ∷ []) [] = stopped_in o first lane c.act_outside.new.actions.items c.args.names c.args.said.now c.act_outside.result (search rules) (c.act_outside.ensures o first is) in
     subst (λ (number : Option ℕ). IsHalted o first lane c.args.names (c.args.said.now ∷ []) number c.reply_of-reply.result) (sym c.in_flight.ensures)
     (halted o first lane c.args.names (c.args.said.now ∷ []) [] c.reply_of-reply.result cut (search rules) c.reply_of-reply.ensures.at)
+
+pub returns-in-Err : goal.returns-in-Err
+returns-in-Err c o first is =
+    let why = c.in-Err.why in
+    let lane = c.act_outside.new.lane in
+    let left = c.act_outside.new.actions.items in
+    let going : why ≢ refusal.Stopped = search rules in
+    let unspent : why ≢ refusal.Spent = search rules in
+    subst (λ (number : ℕ). IsAnswered first lane left c.args.names (c.args.said.now ∷ []) number (answer.Outside (Some why)) c.reply_of-reply.result) (sym c.last_number-in-Err.ensures)
+    (outside_answered first lane left c.args.names c.args.said.now (Some why) c.reply_of-reply.result c.requires.outside (search rules) c.reply_of-reply.ensures.at
+    (refused_acted o first lane left c.args.names c.args.said.now.operation why going unspent (c.in-Err.ensures o first is)))
