@@ -106,11 +106,11 @@ module _ (P : ℕ → Type 0) (v : View) (none : NoneEnters P v.log.entries) (ou
   enters_after (TakeRead line won) may = none
   enters_after (Raise line won) may = absurd may
   enters_after (Give line) may = none
-  enters_after (ZoneTry zone won) may = absurd may
-  enters_after (ZoneGive zone) may = absurd may
-  enters_after (Occupied at found) may = absurd may
-  enters_after (Occupy at bits won) may = absurd may
-  enters_after (Vacate at bits) may = absurd may
+  enters_after (ZoneTry zone won) may = none
+  enters_after (ZoneGive zone) may = none
+  enters_after (Occupied at found) may = none
+  enters_after (Occupy at bits won) may = none
+  enters_after (Vacate at bits) may = none
   enters_after (Draw n) may = subst (λ (p : Phase). NoneEnters P (log_drawn p v.log).entries) (sym may.is_open) none
   enters_after (NumberSeen n) may = begun_enters v.log.phase
   enters_after (StopSeen set) may = none

@@ -1,10 +1,12 @@
 -- A lane that is made over the words of a pool has made no step.
-use Rattle.std.proofs.Common.{◌%◌, [], ◌≡◌, inl, ℕ, ◌+◌, ◌-◌, List, length, take, drop, Option, refl, sym, ap, ◌∙◌, subst, arith}
+use Rattle.std.proofs.Common.{◌%◌, [], ◌≡◌, inl, ℕ, ◌+◌, ◌-◌, ◌*◌, List, slice_index, length, take, drop, Option, refl, sym, ap, ◌∙◌, subst, arith}
 use Rattle.std.proofs.Math.Seq.{take-length}
 use Rattle.pm_layout.specs.Layout.{IsShape}
 use Rattle.pm_layout.specs.declared.shape.Shape.{Shape}
 use Rattle.pm_memory.proofs.Unlocked.{sees_opened}
 use Rattle.pm_memory.specs.Solo.{Sees, Solo, opened, view_of}
+use Rattle.pm_occupancy.specs.Words.{run_words_of, zone_words_of}
+use Rattle.pm_occupancy.proofs.Words.{run_words_count, zone_words_count}
 use Rattle.pm_objects.specs.declared.history.TxErr.TheVariants as error
 use Rattle.pm_objects.specs.declared.pool.PoolView.{PoolView}
 use Rattle.pm_world.specs.Lanes.{IsIdle, IsOfShape, IsSeenAs}
@@ -17,9 +19,13 @@ use Rattle.pm_crash.specs.Pending.{pending_before, pending_from}
 use Rattle.pm_exec.specs.Progress.{IsPending}
 use Rattle.std.proofs.lemmas.List.Elements.{All-nil}
 
--- the memory of the words is seen as the first view
-sees_first : (pool : PoolView) (words : List ℕ) (stop : Option ℕ) → Sees (opened words stop) (first_view pool words stop)
-sees_first pool words stop =
+-- the memory of the words, with the occupancy words that they give
+abbrev pub occupied : PoolView → List ℕ → Option ℕ → Solo
+occupied pool words stop = record (opened words stop) { runs = run_words_of (slice_index words) pool.lanes pool.zones; zones = zone_words_of (slice_index words) pool.lanes pool.zones }
+
+-- it is seen as the first view
+sees_first : (pool : PoolView) (words : List ℕ) (stop : Option ℕ) → length words ≡ 512 + 1024 * pool.lanes + 33280 * pool.zones → Sees (occupied pool words stop) (first_view pool words stop)
+sees_first pool words stop size =
     let s : Sees (opened words stop) (view_of (opened words stop)) = sees_opened words stop in
     record {
       lane = s.lane;
@@ -34,6 +40,11 @@ sees_first pool words stop =
       lines = s.lines;
       locks = s.locks;
       zone_locks = s.zone_locks;
+      runs = refl;
+      zones = refl;
+      pages = (let pages = run_words_count (slice_index words) pool.lanes pool.zones in omega (arith, pages, size));
+      zone_count = zone_words_count (slice_index words) pool.lanes pool.zones;
+      zone_lock_count = s.zone_lock_count;
       alone = s.alone;
     }
 
@@ -41,8 +52,17 @@ sees_first pool words stop =
 all_words : (image : List ℕ) → take (0 + length image - 0) (drop 0 image) ≡ image
 all_words image = let e : 0 + length image - 0 ≡ length image = omega arith in ap (λ n. take n image) e ∙ take-length image
 
-pub seen_first : (pool : PoolView) (image words : List ℕ) (stop : Option ℕ) (m : Solo) → words ≡ take (0 + length image - 0) (drop 0 image) → m ≡ opened words stop → Sees m (first_view pool image stop)
-seen_first pool image words stop m all is = subst (λ (n : Solo). Sees n (first_view pool image stop)) (sym (is ∙ ap (λ ws. opened ws stop) (all ∙ all_words image))) (sees_first pool image stop)
+pub seen_first : (pool : PoolView) (image words : List ℕ) (stop : Option ℕ) (m : Solo) → length image ≡ 512 + 1024 * pool.lanes + 33280 * pool.zones → words ≡ take (0 + length image - 0) (drop 0 image) → m ≡ occupied pool words stop → Sees m (first_view pool image stop)
+seen_first pool image words stop m size all is = subst (λ (n : Solo). Sees n (first_view pool image stop)) (sym (is ∙ ap (λ ws. occupied pool ws stop) (all ∙ all_words image))) (sees_first pool image stop size)
+
+-- how that memory is made
+pub occupied_so : (pool : PoolView) (words lent : List ℕ) (stop : Option ℕ) (lanes zones : ℕ) (m n : Solo) (run_words zone_words : List ℕ) → lent ≡ words → lanes ≡ pool.lanes → zones ≡ pool.zones → m ≡ opened words stop
+    → run_words ≡ run_words_of (slice_index lent) lanes zones → zone_words ≡ zone_words_of (slice_index lent) lanes zones → n ≡ record m { runs = run_words; zones = zone_words } → n ≡ occupied pool words stop
+occupied_so pool words lent stop lanes zones m n run_words zone_words all same_lanes same_zones is runs_are zones_are made =
+    made ∙ (λ i. record (is i) {
+      runs = (runs_are ∙ (λ j. run_words_of (slice_index (all j)) (same_lanes j) (same_zones j))) i;
+      zones = (zones_are ∙ (λ j. zone_words_of (slice_index (all j)) (same_lanes j) (same_zones j))) i;
+    })
 
 pub shaped_first : (pool : PoolView) (words : List ℕ) (stop : Option ℕ) (shape : Shape) → IsSound (opening_of pool words) → shape.lanes ≡ pool.lanes → shape.zones ≡ pool.zones → IsOfShape (first_view pool words stop) shape
 shaped_first pool words stop shape sound lanes zones = record { lanes = sym lanes; zones = sym zones; size = (let size = sound.size in omega (arith, size, lanes, zones)) }

@@ -10,6 +10,7 @@ use Rattle.pm_image.specs.LogFaults.{log_fault}
 use Rattle.pm_image.specs.Logs.{area_word, recovered_at}
 use Rattle.pm_image.specs.Means.{HasShape, IsMeaning}
 use Rattle.pm_image.specs.Reads.{IsHeapWord}
+use Rattle.pm_occupancy.proofs.Words.{words_are_occupancy}
 use Rattle.pm_objects.specs.declared.pool.PoolView.{PoolView}
 use Rattle.pm_recover.proofs.Clean.{clean}
 use Rattle.pm_recover.proofs.Meaning.{meaning_kept}
@@ -89,10 +90,12 @@ module _ (image : List ℕ) (pool : PoolView) (is : IsMeaning image pool) (words
         no_locks = refl;
         nothing_reserved = refl;
         nothing_freed = refl;
+        no_zones = refl;
         nothing_seen = refl;
         no_number = refl;
         no_entries = refl;
       };
+      occupied = words_are_occupancy (slice_index words) pool.lanes pool.zones (shape_of image pool is).shape.zones_to;
       of_pool = ap (λ (p : PoolView). p.id) means_so.is_pool;
       alone = refl;
     }

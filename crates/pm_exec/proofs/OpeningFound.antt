@@ -81,11 +81,11 @@ module _ (o : Opening) (Kept : List ℕ → Type 0) (same_blocks : (words : List
     found_after (TakeRead line false) may found stores = with_locks (after v (TakeRead line false)) refl refl refl is.locks
     found_after (Raise line won) may found stores = absurd may
     found_after (Give line) may found stores = with_locks (after v (Give line)) refl refl refl (All-filter _ (IsThere o) v.locks is.locks)
-    found_after (ZoneTry zone won) may found stores = absurd may
-    found_after (ZoneGive zone) may found stores = absurd may
-    found_after (Occupied at x) may found stores = absurd may
-    found_after (Occupy at bits won) may found stores = absurd may
-    found_after (Vacate at bits) may found stores = absurd may
+    found_after (ZoneTry zone won) may found stores = with_locks (after v (ZoneTry zone won)) refl refl refl is.locks
+    found_after (ZoneGive zone) may found stores = with_locks (after v (ZoneGive zone)) refl refl refl is.locks
+    found_after (Occupied at x) may found stores = with_locks (after v (Occupied at x)) refl refl refl is.locks
+    found_after (Occupy at bits won) may found stores = with_locks (after v (Occupy at bits won)) refl refl refl is.locks
+    found_after (Vacate at bits) may found stores = with_locks (after v (Vacate at bits)) refl refl refl is.locks
     found_after (Draw n) may found stores = with_locks (after v (Draw n)) refl refl refl is.locks
     found_after (NumberSeen n) may found stores =
         let b = begun_found v.log.phase v is in

@@ -18,6 +18,7 @@ use arrayvec::ArrayVec;
 use pm_layout::Shape;
 use pm_memory::SoloMem;
 use pm_objects::{Call, Entry, Fate, PoolView, Reply};
+use pm_occupancy::occupancy_of;
 use pm_pending::SetAction;
 use pm_raw::RawImage;
 use pm_script::ScriptLine;
@@ -144,7 +145,9 @@ pub(crate) fn open_lane(
         unreachable!()
     };
     let words = Vec::from_slice(alloc, image.words(0, image.len()))?;
+    let occupancy = occupancy_of(alloc, &words, shape)?;
     let memory = SoloMem::new(alloc, words, stop)?;
+    let memory = memory.with_occupancy(occupancy.runs, occupancy.zones);
     let lane = Lane::new(memory, pool.id, shape);
     Ok(lane)
 }

@@ -2,7 +2,7 @@ use Rattle.std.proofs.Common.{refl, rules}
 use Rattle.pm_memory.specs.Solo.{Solo}
 use Rattle.pm_world.specs.declared.lane.Lane.{Lane}
 use Rattle.pm_exec.specs.Openings.{first_view}
-use Rattle.pm_exec.proofs.FirstLane.{is_start, seen_first, shaped_first}
+use Rattle.pm_exec.proofs.FirstLane.{is_start, occupied_so, seen_first, shaped_first}
 use Rattle.pm_exec.proofs.running.open_lane.Goals as goal
 
 pub returns : goal.returns
@@ -11,6 +11,8 @@ returns c =
     let image = c.args.image.now in
     let first = first_view pool image c.args.stop in
     let made : Lane Solo = c.new-lane.result in
-    let sees = seen_first pool image c.in_ok-words.words.items c.args.stop c.in_ok-memory.memory (search rules) c.in_ok-memory.ensures in
+    let is = occupied_so pool c.in_ok-words.words.items c.deref.result.now c.args.stop c.in-Ok.shape.lanes c.in-Ok.shape.zones c.in_ok-memory.memory c.with_occupancy-memory.result
+    c.in_ok-occupancy.occupancy.runs.items c.in_ok-occupancy.occupancy.zones.items c.deref.ensures.value c.in-Ok.ensures.lanes c.in-Ok.ensures.zones c.in_ok-memory.ensures c.in_ok-occupancy.ensures.runs c.in_ok-occupancy.ensures.zones c.with_occupancy-memory.ensures in
+    let sees = seen_first pool image c.in_ok-words.words.items c.args.stop c.with_occupancy-memory.result c.requires.sound.size (search rules) is in
     let s = c.new-lane.ensures.fits first sees refl (shaped_first pool image c.args.stop c.in-Ok.shape c.requires.sound c.in-Ok.ensures.lanes c.in-Ok.ensures.zones) refl refl refl in
     is_start pool image c.args.stop made c.requires.sound c.requires.shape s.0 s.1 c.new-lane.ensures.unharmed c.new-lane.ensures.unentered
