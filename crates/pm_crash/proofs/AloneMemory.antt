@@ -1,7 +1,6 @@
 -- The memory that a lane which is alone has, by its view, and how each of its steps moves it.
-use Rattle.std.proofs.Common.{◌≡◌, ◌≢◌, ◌↔◌, ℕ, ◌+◌, ◌/◌, ◌<◌, ◌||◌, bit_and, bit_or, if◌then◌else◌, not, Bool, true, false, eqb, IsTrue, List, [], ◌∷◌, ◌++◌, length, set, slice_index, Some, None, refl, sym, ap, ◌∙◌, subst, length-append, get_or-set_same, get_or-set_other, length-set, eq-eqb, ne_eqb, ⊎_elim, ◌⊎◌}
-use Rattle.std.specs.Int.{bit_not, w64}
-use Rattle.std.specs.List.{filter, list_any}
+use Rattle.std.proofs.Common.{◌≡◌, ◌≢◌, ◌↔◌, ℕ, ◌+◌, ◌/◌, ◌<◌, bit_and, bit_or, Bool, true, false, eqb, IsTrue, List, [], ◌∷◌, ◌++◌, length, set, slice_index, Some, None, refl, sym, ap, ◌∙◌, subst, length-append, get_or-set_same, get_or-set_other, length-set, eq-eqb, ne_eqb, ⊎_elim, ◌⊎◌}
+use Rattle.std.specs.List.{list_any}
 use Rattle.std.proofs.lemmas.Bool.{cases_Bool, cond-true, cond-false, or_parts}
 use Rattle.std.proofs.lemmas.List.{set-get_or}
 use Rattle.pm_view.specs.Blocks.{allocation_word, is_word}
@@ -21,7 +20,7 @@ use Rattle.pm_memory.proofs.Numbering.{same_runs, same_zones}
 use Rattle.pm_memory.proofs.HeldLocks.{lock_word-append_other, lock_word-append_same, lock_word-given_other, lock_word-given_same, lock_word-map, lock_word-values}
 use Rattle.pm_world.specs.Heap.{holds_zone}
 use Rattle.pm_world.specs.Lawful.{LiesInside, is_holder}
-use Rattle.pm_world.specs.Memory.{Becomes, IsSame, IsSameBut, Location, Memory, occ_at}
+use Rattle.pm_world.specs.Memory.{Becomes, IsSame, IsSameBut, Memory, occ_at}
 use Rattle.pm_world.specs.Memory.Location.{PoolWord, LockWord, RunWord, ZoneWord, ZoneLock, CommitCounter, StopWord}
 use Rattle.pm_world.specs.Moves.{Moves}
 
@@ -188,7 +187,7 @@ pub InPicture : View → Occ → Type 0
 InPicture v (Run place) = place / 4096 < length v.run_words
 InPicture v (Zone zone) = zone < length v.zone_words
 
-occ_memory : (v : View) (at : Occ) → memory_of v (occ_at at) ≡ occ_in v at
+pub occ_memory : (v : View) (at : Occ) → memory_of v (occ_at at) ≡ occ_in v at
 occ_memory v (Run place) = refl
 occ_memory v (Zone zone) = refl
 
@@ -266,8 +265,10 @@ module _ (v w : View) (zone : ℕ) (words : w.words ≡ v.words) (locks : w.lock
 pub zone_try_moves : (v : View) (zone : ℕ) (won : Bool) → IsTrue won → holds_zone v zone ≡ false → Moves 0 (ZoneTry zone won) (memory_of v) (memory_of (after v (ZoneTry zone won)))
 zone_try_moves v zone false won free = absurd (never won)
 zone_try_moves v zone true won free = (
-  (zoned v (after v (ZoneTry zone true)) zone refl refl refl refl refl (λ other differ. one_more v.zone_locks zone other false (ne_eqb zone other differ) ∙ or_false (holds_zone v other)),
-    ap one_if (one_more v.zone_locks zone zone true (eq-eqb zone zone refl) ∙ or_true (holds_zone v zone))),
+  (
+    zoned v (after v (ZoneTry zone true)) zone refl refl refl refl refl (λ other differ. one_more v.zone_locks zone other false (ne_eqb zone other differ) ∙ or_false (holds_zone v other)),
+    ap one_if (one_more v.zone_locks zone zone true (eq-eqb zone zone refl) ∙ or_true (holds_zone v zone)),
+  ),
   ap one_if free,
 )
 

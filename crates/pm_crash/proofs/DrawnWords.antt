@@ -9,11 +9,11 @@ use Rattle.pm_image.specs.Blocks.{blocks}
 use Rattle.pm_image.specs.HeapFaults.{heap_fault}
 use Rattle.pm_image.specs.Reads.{IsHeapWord}
 use Rattle.pm_view.specs.Area.{is_in_area}
-use Rattle.pm_view.specs.Blocks.{bitmap_word, block_at, chunk_of, covers, descriptor_word, is_run, zone_page}
+use Rattle.pm_view.specs.Blocks.{bitmap_word, block_at, chunk_of, descriptor_word, is_run, zone_page}
 use Rattle.pm_view.specs.Held.{is_reserved, is_under, is_under_found}
 use Rattle.pm_view.specs.Log.{Final, Recorded}
 use Rattle.pm_view.specs.Log.Phase.{Open}
-use Rattle.pm_view.specs.View.{View, Lock, Taken}
+use Rattle.pm_view.specs.View.{View, Lock}
 use Rattle.pm_world.specs.Course.{flight, flight_in}
 use Rattle.pm_world.specs.Entries.{is_entered, is_in_log, is_redoing, is_redone}
 use Rattle.pm_world.specs.Fits.{LaneFits, LockFits}

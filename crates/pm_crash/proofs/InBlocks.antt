@@ -1,13 +1,12 @@
 -- In a heap without a fault each word of a block lies in a chunk that is taken, and, where that is a run, under the block's bit.
-use Rattle.std.proofs.Common.{◌≡◌, ◌⊎◌, ⊎_elim, inl, inr, ℕ, ◌+◌, ◌-◌, ◌*◌, ◌/◌, ◌%◌, ◌<◌, ◌≤◌, ◌&&◌, ◌||◌, Bool, true, false, not, eqb, leb, ltb, cond, Option, Some, None, refl, sym, ◌∙◌, ap, subst, arith, eq-eqb, ne_eqb}
+use Rattle.std.proofs.Common.{◌≡◌, ⊎_elim, ℕ, ◌+◌, ◌-◌, ◌*◌, ◌/◌, ◌%◌, ◌<◌, ◌≤◌, ◌&&◌, ◌||◌, Bool, true, false, not, eqb, leb, ltb, Some, sym, ◌∙◌, ap, subst, arith, eq-eqb, ne_eqb}
 use Rattle.std.specs.Int.{bit_at}
 use Rattle.std.specs.List.{Contains, list_any, range_with_len}
 use Rattle.std.proofs.lemmas.Bool.{and_from, cases_eq, le-leb, lt-ltb, not_from_false, or_left, or_right}
 use Rattle.std.proofs.lemmas.List.Folds.{list_any_at}
 use Rattle.std.proofs.lemmas.Nat.{div-mul-add}
 use Rattle.std.proofs.Math.Nat.{mul_comm}
-use Rattle.pm_layout.specs.Sizes.{blocks_of}
-use Rattle.pm_layout.specs.declared.class.Class.TheVariants.{Lines, Chunks}
+use Rattle.pm_layout.specs.declared.class.Class.TheVariants.{Chunks}
 use Rattle.pm_image.specs.declared.block.Block.{Block}
 use Rattle.pm_image.specs.Blocks.{chunk_word, class_in, descriptor_word}
 use Rattle.pm_image.specs.HeapFaults.{bad_chunk}
@@ -17,7 +16,7 @@ use Rattle.pm_image.proofs.Ordered.{further_zeros}
 use Rattle.pm_image.proofs.Rooms.{run_fits}
 use Rattle.pm_view.specs.Blocks.{bitmap_word, chunk_of, descriptor_word as lane_descriptor, is_chunk, is_huge, is_run, zone_of, zone_page}
 use Rattle.pm_view.specs.Occupancy.{is_chunk_taken, is_in_block, reaches}
-use Rattle.pm_crash.proofs.Classes.{chunks_of_class, lines_of_class, run_has_lines}
+use Rattle.pm_crash.proofs.Classes.{chunks_of_class, lines_of_class}
 use Rattle.pm_crash.proofs.FoundBlocks.{IsPageOf, page_of_chunk}
 use Rattle.pm_crash.proofs.Standing.{IsChunkBlock, IsRunBlock}
 

@@ -64,6 +64,7 @@ pub mod TornSlots
 pub mod AtRest
 pub mod SameBlocks
 pub mod SoundPools
+pub mod KnownHeap
 pub mod Raises
 pub mod Raising
 pub mod SeenAlone

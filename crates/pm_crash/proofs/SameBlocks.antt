@@ -1,12 +1,13 @@
 -- A sound pool stays sound with other words, where what tells of blocks is the same.
-use Rattle.std.proofs.Common.{◌≡◌, ⊎_elim, inl, inr, ℕ, ◌+◌, ◌-◌, ◌*◌, ◌/◌, ◌%◌, ◌<◌, ◌≤◌, Bool, true, false, not, eqb, leb, ltb, ◌&&◌, ◌||◌, IsTrue, List, length, slice_index, refl, sym, ap, ◌∙◌, subst, arith}
+use Rattle.std.proofs.Common.{◌≡◌, ⊎_elim, inl, inr, ℕ, ◌+◌, ◌-◌, ◌*◌, ◌/◌, ◌%◌, ◌<◌, true, false, not, eqb, leb, ltb, ◌&&◌, ◌||◌, IsTrue, List, length, slice_index, refl, sym, ap, ◌∙◌, subst, arith}
 use Rattle.std.specs.Int.{bit_at}
 use Rattle.std.specs.List.{list_any, range_with_len}
 use Rattle.std.proofs.lemmas.Bool.{and_from, and_parts, cases_Bool, not_from_false, or_cases, or_left, or_right}
 use Rattle.std.proofs.lemmas.List.Folds.{Any-from_list_any, list_any_at}
 use Rattle.pm_image.proofs.Members.{in_range}
 use Rattle.pm_view.specs.Blocks.{bitmap_word, block_at, chunk_of, descriptor_word, is_chunk, is_huge, is_run, zone_of, zone_page}
-use Rattle.pm_view.specs.Occupancy.{is_chunk_taken, is_in_block, reaches}
+use Rattle.pm_layout.specs.Sizes.{blocks_of}
+use Rattle.pm_view.specs.Occupancy.{is_block_taken, is_chunk_taken, is_in_block, reaches}
 use Rattle.pm_world.specs.Opening.{Guards, IsChunk, IsSound, Opening, TellsOfBlocks}
 use Rattle.pm_world.proofs.Chunks.{block_same, chunk_here}
 
@@ -24,7 +25,7 @@ module _ (o : Opening) (words : List ℕ) (telling : (i : ℕ) → TellsOfBlocks
   guarded_before line i guard = record { lines = guard.lines; block = sym (same_blocks line) ∙ guard.block; inside = guard.inside }
 
   -- and no other words tell of blocks
-  told_before : (i : ℕ) → TellsOfBlocks (record o { words = words }) i → TellsOfBlocks o i
+  pub told_before : (i : ℕ) → TellsOfBlocks (record o { words = words }) i → TellsOfBlocks o i
   told_before i (page, (chunk, tells)) = (
     page,
     (
@@ -37,8 +38,8 @@ module _ (o : Opening) (words : List ℕ) (telling : (i : ℕ) → TellsOfBlocks
   )
 
   -- a chunk that was taken is, and so is a word in a block
-  taken_still : (zone chunk : ℕ) → chunk < 64 → is_chunk_taken (slice_index o.words) o.lanes zone chunk ≡ true → is_chunk_taken (slice_index words) o.lanes zone chunk ≡ true
-  taken_still zone chunk few e =
+  pub chunk_still : (zone chunk : ℕ) → chunk < 64 → is_chunk_taken (slice_index o.words) o.lanes zone chunk ≡ true → is_chunk_taken (slice_index words) o.lanes zone chunk ≡ true
+  chunk_still zone chunk few e =
       let w : ℕ → ℕ = slice_index o.words in
       let v : ℕ → ℕ = slice_index words in
       let row : List ℕ = range_with_len 0 (chunk + 1) in
@@ -60,6 +61,17 @@ module _ (o : Opening) (words : List ℕ) (telling : (i : ℕ) → TellsOfBlocks
           let is : descriptor_word o.lanes page ≡ 512 * zone_page o.lanes z + n = omega arith in
           ap (slice_index words) (sym is) ∙ (same_descriptor page (omega arith, omega arith) ∙ ap (slice_index o.words) is)
 
+  -- so is a block of a run that was
+  pub block_still : (page block : ℕ) → IsChunk o.lanes page → is_block_taken (slice_index o.words) o.lanes page block ≡ true → is_block_taken (slice_index words) o.lanes page block ≡ true
+  block_still page block chunk e =
+      let d : ℕ = slice_index o.words (descriptor_word o.lanes page) in
+      let b : ℕ = slice_index words (bitmap_word page) in
+      let bits : (not (is_run d) || leb (blocks_of (d / 256)) block || eqb (bit_at b block) 1) ≡ true = ⊎_elim
+      (λ (run : is_run d ≡ true). ap (λ w. not (is_run d) || leb (blocks_of (d / 256)) block || eqb (bit_at w block) 1) (telling (bitmap_word page) (page, (chunk, inr (refl, run)))) ∙ e)
+      (λ (none : is_run d ≡ false). or_left (not (is_run d) || leb (blocks_of (d / 256)) block) (eqb (bit_at b block) 1) (or_left (not (is_run d)) (leb (blocks_of (d / 256)) block) (not_from_false (is_run d) none)))
+      (cases_Bool (is_run d)) in
+      ap (λ n. not (is_run n) || leb (blocks_of (n / 256)) block || eqb (bit_at b block) 1) (same_descriptor page chunk) ∙ bits
+
   in_block_still : (i : ℕ) → is_in_block (slice_index o.words) o.lanes i ≡ true → is_in_block (slice_index words) o.lanes i ≡ true
   in_block_still i e =
       let page : ℕ = i / 512 in
@@ -71,7 +83,7 @@ module _ (o : Opening) (words : List ℕ) (telling : (i : ℕ) → TellsOfBlocks
       let chunk : IsChunk o.lanes page = chunk_here o.lanes page first.0 in
       let some = chunk.1 in
       let same : d' ≡ d = same_descriptor page chunk in
-      let taken = taken_still (zone_of o.lanes page) (chunk_of o.lanes page - 1) (omega arith) first.1 in
+      let taken = chunk_still (zone_of o.lanes page) (chunk_of o.lanes page - 1) (omega arith) first.1 in
       let bit : (not (is_run d) || leb 8 (i % 512) && eqb (bit_at (slice_index words (bitmap_word page)) block) 1) ≡ true = ⊎_elim
       (λ (run : is_run d ≡ true). ap (λ b. not (is_run d) || leb 8 (i % 512) && eqb (bit_at b block) 1) (telling (bitmap_word page) (page, (chunk, inr (refl, run)))) ∙ last.1)
       (λ (none : is_run d ≡ false). or_left (not (is_run d)) (leb 8 (i % 512) && eqb (bit_at (slice_index words (bitmap_word page)) block) 1) (not_from_false (is_run d) none))

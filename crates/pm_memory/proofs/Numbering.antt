@@ -102,17 +102,21 @@ occupied_made m at found is v sees =
     (sees_seen m (pictured at found v) (Occupied at found) tt (λ k e. cc) (sees_found m at found v same sees), tt, λ alone. same)
 
 pub occupy_refused : (m : Solo) (at : Occ) (bits found : ℕ) → found ≡ occ_word m at → bit_and found bits ≢ 0 → (v : View) → Sees m v → Sees m (after v (Occupy at bits false)) × Unit {0} × (IsAlone v → IsTrue false ↔ (bit_and (occ_in v at) bits ≡ 0))
-occupy_refused m at bits found is taken v sees =
-    (sees_seen m (pictured at (occ_in v at) v) (Occupy at bits false) tt (λ k e. cc) (sees_found m at (occ_in v at) v refl sees), tt,
-    λ alone. ((λ t. absurd (false≢true t)), λ none. absurd (taken (ap (λ w. bit_and w bits) (is ∙ sym (pictured_so m at v sees)) ∙ none))))
+occupy_refused m at bits found is taken v sees = (
+  sees_seen m (pictured at (occ_in v at) v) (Occupy at bits false) tt (λ k e. cc) (sees_found m at (occ_in v at) v refl sees),
+  tt,
+  λ alone. ((λ t. absurd (false≢true t)), λ none. absurd (taken (ap (λ w. bit_and w bits) (is ∙ sym (pictured_so m at v sees)) ∙ none))),
+)
 
 pub occupy_made : (m n : Solo) (at : Occ) (bits found : ℕ) → found ≡ occ_word m at → bit_and found bits ≡ 0 → n ≡ with_occ m at (bit_or found bits) → (v : View) → Sees m v → Sees n (after v (Occupy at bits true)) × Unit {0} × (IsAlone v → IsTrue true ↔ (bit_and (occ_in v at) bits ≡ 0))
 occupy_made m n at bits found was free is v sees =
     let reserved : List Taken = with_taken at bits true v.reserved in
     let word : ℕ = bit_or (occ_in v at) bits in
-    let becomes : n ≡ with_occ m at word = is ∙ ap (λ w. with_occ m at (bit_or w bits)) (was ∙ sym (pictured_so m at v sees)) in
-    (subst (λ (k : Solo). Sees k (after v (Occupy at bits true))) (sym becomes) (sees_seen _ (record (pictured at word v) { reserved = reserved }) (Occupy at bits true) tt (λ k e. cc) (sees_occ m at word v reserved v.freed v.known sees)), tt,
-    λ alone. ((λ t. ap (λ w. bit_and w bits) (pictured_so m at v sees ∙ sym was) ∙ free), λ none. refl))
+    let becomes : n ≡ with_occ m at word = is ∙ ap (λ w. with_occ m at (bit_or w bits)) (was ∙ sym (pictured_so m at v sees)) in (
+      subst (λ (k : Solo). Sees k (after v (Occupy at bits true))) (sym becomes) (sees_seen _ (record (pictured at word v) { reserved = reserved }) (Occupy at bits true) tt (λ k e. cc) (sees_occ m at word v reserved v.freed v.known sees)),
+      tt,
+      λ alone. ((λ t. ap (λ w. bit_and w bits) (pictured_so m at v sees ∙ sym was) ∙ free), λ none. refl),
+    )
 
 pub vacate_made : (m n : Solo) (at : Occ) (bits found : ℕ) → found ≡ occ_word m at → n ≡ with_occ m at (bit_and found (bit_not w64 bits)) → (v : View) → Sees m v → Sees n (after v (Vacate at bits)) × Unit {0} × Unit {0}
 vacate_made m n at bits found was is v sees =

@@ -156,6 +156,27 @@ fn run_words(rt: HostRuntime) -> Result<(), Fail> {
     Ok(())
 }
 
+/// A memory of two pages that is given its occupancy words: page 1 has blocks 0 and 2, zone 3 chunk 63.
+#[test]
+fn given_occupancy(rt: HostRuntime) -> Result<(), Fail> {
+    let words = vec![in rt.alloc(); 0; 1024]?;
+    let mut runs = vec![in rt.alloc(); 0; 2]?;
+    runs[1] = 0b101;
+    let mut zones = vec![in rt.alloc(); 0; 32]?;
+    zones[3] = 1 << 63;
+    let memory = SoloMem::new(rt.alloc(), words, None)?;
+    let mut memory = memory.with_occupancy(runs, zones);
+    assert_eq!(rt; memory.occupied(Occ::Run(4096)), 0b101);
+    assert_eq!(rt; memory.occupied(Occ::Zone(3)), 0x8000_0000_0000_0000);
+    assert_eq!(rt;
+        memory.occupy(Occ::Run(4096), 0b100),
+        false,
+        "block 2 is taken"
+    );
+    assert_eq!(rt; memory.occupy(Occ::Run(4096), 0b010), true);
+    Ok(())
+}
+
 /// The occupancy word of zone 1, the commit counter and the stop word.
 #[test]
 fn volatile_words(rt: HostRuntime) -> Result<(), Fail> {

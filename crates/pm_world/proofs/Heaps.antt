@@ -1,10 +1,9 @@
 -- The heap's volatile words stay in agreement where a step changes none of them, nor what the lane has of the heap.
-use Rattle.std.proofs.Common.{◌≡◌, ◌≢◌, ◌⊎◌, ℕ, ◌+◌, ◌<◌, inl, inr, ⊎_elim, Bool, true, eqb, ◌||◌, List, refl, sym, ap, ◌∙◌, subst}
+use Rattle.std.proofs.Common.{◌≡◌, ℕ, inl, inr, ⊎_elim, true, eqb, ◌||◌, sym, ap, ◌∙◌}
 use Rattle.std.specs.Int.{bit_at}
 use Rattle.std.specs.List.{list_any}
 use Rattle.pm_view.specs.declared.occ.Occ.{Occ}
-use Rattle.pm_view.specs.Occupancy.{is_taken}
-use Rattle.pm_view.specs.View.{View, Taken}
+use Rattle.pm_view.specs.View.{View}
 use Rattle.pm_world.specs.Heap.{Heap, SomeHasTaken, SomeHoldsZone, has_bit, has_taken, holds_zone}
 use Rattle.pm_world.specs.Laws.{with_view}
 use Rattle.pm_world.specs.Memory.{Memory, IsSame, IsSameBut, Location, occ_at}

@@ -1,15 +1,14 @@
 -- A step that changes what a lane has of the heap, what it knows and what it saw, and no word of the pool and no lock.
-use Rattle.std.proofs.Common.{◌≡◌, ◌≢◌, ℕ, ◌+◌, ◌-◌, ◌<◌, ◌≤◌, inl, inr, ⊎_elim, le_refl, Bool, true, cond, eqb, IsTrue, All, Contains, List, [], length, slice_index, Option, Some, None, refl, sym, ap, ◌∙◌, subst}
+use Rattle.std.proofs.Common.{◌≡◌, ℕ, ◌+◌, ◌<◌, ◌≤◌, inl, inr, ⊎_elim, le_refl, Bool, true, IsTrue, All, Contains, List, length, slice_index, Option, Some, None, refl, sym, ◌∙◌, subst}
 use Rattle.std.specs.Int.{bit_at}
 use Rattle.std.proofs.lemmas.List.Elements.{All-weaker}
 use Rattle.pm_view.specs.Counts.{IsAtStop}
 use Rattle.pm_view.specs.Held.{is_held}
-use Rattle.pm_view.specs.Log.{Phase, Recorded, Final}
+use Rattle.pm_view.specs.Log.{Phase, Final}
 use Rattle.pm_view.specs.Log.Phase.{Idle, Open, Drawn, Sealing, Applying, Clearing, Retiring}
 use Rattle.pm_view.specs.Rights.{is_written}
 use Rattle.pm_view.specs.Steps.{Step}
 use Rattle.pm_view.specs.View.{View, Taken}
-use Rattle.pm_world.specs.Entries.{is_redone}
 use Rattle.pm_world.specs.Fits.{AppliedChange, EndFits, LaneFits, LogFits, LockFits, OpenChange, PhaseFits, RedoneWord, RetiringChange, SealChange, ShowsHold}
 use Rattle.pm_world.specs.Heap.{BlocksFit, Heap}
 use Rattle.pm_world.specs.History.{Entry, Flies, settled}
@@ -17,14 +16,13 @@ use Rattle.pm_world.specs.Laws.{with_view}
 use Rattle.pm_world.specs.Memory.{Location, Memory}
 use Rattle.pm_world.specs.Memory.Location.{CommitCounter, LockWord, PoolWord, StopWord}
 use Rattle.pm_world.specs.Opening.{Opening}
-use Rattle.pm_world.specs.Records.{IsRecordAt, used_slots}
 use Rattle.pm_world.specs.World.{Views, World, may_draw}
 use Rattle.pm_world.proofs.Frame.{lane_kept}
 use Rattle.pm_world.proofs.Locations.{IsPlain, plain_counter, plain_lock, plain_pool, plain_stop}
 use Rattle.pm_world.proofs.Pairs.{entries_again, in_log_before, redone_again, redone_kept}
 use Rattle.pm_world.proofs.Recoursed.{used_again}
 use Rattle.pm_world.proofs.Relocked.{generation_same}
-use Rattle.pm_world.proofs.Worlds.{at_stop_kept, hold_kept, own, quiet, room_kept, stop_kept, unlogged_before}
+use Rattle.pm_world.proofs.Worlds.{at_stop_kept, hold_kept, quiet, room_kept, stop_kept, unlogged_before}
 
 -- the view with other pictures of the occupancy words, blocks, zones, known words and steps seen
 abbrev pub reheld : View → List ℕ → List ℕ → List ℕ → List Taken → List Taken → List ℕ → List Step → View

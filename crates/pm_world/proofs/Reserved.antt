@@ -1,8 +1,8 @@
 -- What a lane reserved lies behind the lanes' areas, and in no block that is allocated; so no lock guards it.
-use Rattle.std.proofs.Common.{◌≡◌, ℕ, ◌+◌, ◌-◌, ◌*◌, ◌/◌, ◌%◌, ◌<◌, ◌≤◌, ⊎_elim, Bool, true, false, not, leb, eqb, ◌&&◌, ◌||◌, IsTrue, All, List, [], ◌∷◌, get_or, length, slice_index, refl, sym, ap, ◌∙◌, subst, arith, eq-eqb}
+use Rattle.std.proofs.Common.{◌≡◌, ℕ, ◌+◌, ◌-◌, ◌*◌, ◌/◌, ◌%◌, ◌<◌, ◌≤◌, ⊎_elim, Bool, true, false, not, leb, eqb, ◌&&◌, ◌||◌, All, List, [], ◌∷◌, slice_index, refl, sym, ap, ◌∙◌, subst, arith, eq-eqb}
 use Rattle.std.specs.Int.{bit_at}
 use Rattle.std.specs.List.{list_any}
-use Rattle.std.proofs.lemmas.Bool.{and_parts, and_from, or_cases, or_left, or_right, or_parts, leb-true, eqb-true, false≢true, not-false, not-true}
+use Rattle.std.proofs.lemmas.Bool.{and_parts, and_from, or_cases, or_left, or_right, or_parts, leb-true, eqb-true, false≢true}
 use Rattle.std.proofs.lemmas.List.Elements.{All-head, All-tail}
 use Rattle.pm_layout.specs.Sizes.{blocks_of}
 use Rattle.pm_view.specs.declared.occ.Occ.{Occ}

@@ -1,31 +1,30 @@
 -- Steps on the heap's volatile words keep the world: occupancy words are read, bits of them are got and given back, and zones' locks are.
-use Rattle.std.proofs.Common.{◌≡◌, ◌≢◌, ◌⊎◌, inl, inr, ⊎_elim, ℕ, ◌+◌, ◌*◌, ◌/◌, ◌%◌, ◌^◌, ◌<◌, Bool, true, false, not, eqb, ◌&&◌, ◌||◌, bit_and, bit_or, All, Contains, List, [], ◌∷◌, ◌++◌, get_or, slice_index, refl, sym, ap, ◌∙◌, subst, arith, eq-eqb, ne_eqb}
+use Rattle.std.proofs.Common.{◌≡◌, ◌≢◌, ◌⊎◌, inl, inr, ⊎_elim, ℕ, ◌+◌, ◌<◌, Bool, true, false, not, eqb, ◌||◌, bit_and, bit_or, List, [], ◌∷◌, ◌++◌, get_or, slice_index, refl, sym, ap, ◌∙◌, subst, arith, eq-eqb, ne_eqb}
 use Rattle.std.specs.Int.{bit_at, bit_not, w64}
 use Rattle.std.specs.List.{filter, list_any}
 use Rattle.std.proofs.lemmas.Bool.{and_from, and_parts, cases_Bool, cases_eq, eqb-true, false_from_ne_true, false≢true, not-true, not_from_false, or_cases, or_left, or_right}
-use Rattle.std.proofs.lemmas.List.Elements.{All-append, All-cons, All-nil, filter_passes}
+use Rattle.std.proofs.lemmas.List.Elements.{All-append, All-cons, All-nil}
 use Rattle.std.proofs.lemmas.List.Folds.{Any-from_list_any, list_any-append}
-use Rattle.std.proofs.lemmas.Nat.Bits.{bit_at-lt, bit_at-zero, bit_at_above}
+use Rattle.std.proofs.lemmas.Nat.Bits.{bit_at-zero}
 use Rattle.pm_view.specs.declared.occ.Occ.{Occ}
-use Rattle.pm_view.specs.declared.occ.Occ.TheVariants.{Run, Zone}
 use Rattle.pm_view.specs.Area.{is_in_area}
 use Rattle.pm_view.specs.Held.{is_held, is_reserved, is_under}
 use Rattle.pm_view.specs.Occupancy.{is_taken}
 use Rattle.pm_view.specs.Steps.{Step}
 use Rattle.pm_view.specs.Steps.Step.{Occupied, Occupy, Vacate, ZoneGive, ZoneTry}
 use Rattle.pm_view.specs.View.{View, Taken}
-use Rattle.pm_view.specs.Views.{is_same_occ, occ_in, occupied_word, runs_with, vacated_word, with_taken, without_taken, zones_with}
+use Rattle.pm_view.specs.Views.{is_same_occ, occ_in, runs_with, vacated_word, without_taken, zones_with}
 use Rattle.pm_world.specs.Fits.{LaneFits}
 use Rattle.pm_world.specs.Heap.{BlocksFit, Heap, IsOcc, SomeHasTaken, SomeHoldsZone, has_bit, has_taken, holds_zone, reserves}
 use Rattle.pm_world.specs.History.{Entry, Flies, settled}
 use Rattle.pm_world.specs.Laws.{Keeps, with_view}
-use Rattle.pm_world.specs.Lawful.{MayGiveZone, MayOccupy, MayTryZone, MayVacate}
-use Rattle.pm_world.specs.Memory.{Becomes, IsSame, IsSameBut, Memory, Location, occ_at}
-use Rattle.pm_world.specs.Memory.Location.{LockWord, PoolWord, RunWord, ZoneLock, ZoneWord}
+use Rattle.pm_world.specs.Lawful.{MayOccupy, MayVacate}
+use Rattle.pm_world.specs.Memory.{Becomes, IsSame, Memory, Location, occ_at}
+use Rattle.pm_world.specs.Memory.Location.{LockWord, PoolWord, ZoneLock}
 use Rattle.pm_world.specs.Opening.{Opening}
-use Rattle.pm_world.specs.World.{Views, World, is_low, may_draw}
+use Rattle.pm_world.specs.World.{Views, World, is_low}
 use Rattle.pm_world.proofs.Frame.{view_all, view_here}
-use Rattle.pm_world.proofs.Heaps.{HasSame, all_same, heap_still}
+use Rattle.pm_world.proofs.Heaps.{all_same}
 use Rattle.pm_world.proofs.Locations.{IsPlain, lock_apart, one_lock, one_occ, other_occ, other_zone_lock, plain_lock, plain_pool, zone_apart}
 use Rattle.pm_world.proofs.Reheld.{reheld, reheld_fits, reholds}
 use Rattle.pm_world.proofs.Reserved.{held_by_parts, occ_same, same_occ}
@@ -33,7 +32,7 @@ use Rattle.pm_world.proofs.StepGive.{list_any-filter, contains-filter, filter-co
 use Rattle.pm_world.proofs.StepTake.{list_any-left, low_before}
 use Rattle.pm_world.proofs.Stored.{written_under}
 use Rattle.pm_world.proofs.Vacated.{and_bits, and_bit, low_bit, not_bit, not_both, or_bit_left, or_bit_right, or_bits, list_any-less, vacated_after, vacated_all, vacated_before, vacated_gone}
-use Rattle.pm_world.proofs.Worlds.{heap_here, own, room_kept}
+use Rattle.pm_world.proofs.Worlds.{heap_here, own}
 
 is_one : (at other : Occ) → (at ≡ other) ⊎ (at ≢ other)
 is_one at other =
@@ -176,8 +175,12 @@ module _ (o : Opening) (old : Memory) (views : Views) (log : List Entry) (decide
       locked = λ j zone low. view_all (λ i u. holds_zone u zone ≡ true → new (ZoneLock zone) ≡ i + 1) views k got_view
           (λ held. moves.0 (ZoneLock zone) (lock_apart zone at) ∙ heap.locked k zone inside (holds zone held)) j (λ differ held. moves.0 (ZoneLock zone) (lock_apart zone at) ∙ heap.locked j zone low held);
       unlocked = λ zone. ⊎_elim (λ (free : old (ZoneLock zone) ≡ 0). inl (moves.0 (ZoneLock zone) (lock_apart zone at) ∙ free))
-          (λ (t : SomeHoldsZone views o.lanes old zone). inr (t.0, t.1, moves.0 (ZoneLock zone) (lock_apart zone at) ∙ t.2,
-          view_all (λ i u. holds_zone (views i) zone ≡ true → holds_zone u zone ≡ true) views k got_view (λ e. ap (λ u. holds_zone u zone) (sym is) ∙ e) t.0 (λ differ e. e) t.3)) (heap.unlocked zone);
+          (λ (t : SomeHoldsZone views o.lanes old zone). inr (
+            t.0,
+            t.1,
+            moves.0 (ZoneLock zone) (lock_apart zone at) ∙ t.2,
+            view_all (λ i u. holds_zone (views i) zone ≡ true → holds_zone u zone ≡ true) views k got_view (λ e. ap (λ u. holds_zone u zone) (sym is) ∙ e) t.0 (λ differ e. e) t.3,
+          )) (heap.unlocked zone);
     }
       where
         -- lane k's bits and those of another lane
@@ -279,8 +282,12 @@ module _ (o : Opening) (old : Memory) (views : Views) (log : List Entry) (decide
     given_heap : Heap o (slice_index o.words) new (with_view views k given_view)
     given_heap = record {
       set = λ other bit of low one. let t = word_left other bit of low one in
-          ⊎_elim inl (λ (s : SomeHasTaken views o.lanes other bit). inr (s.0, s.1, view_all (λ i u. has_taken (views i) other bit ≡ true → has_taken u other bit ≡ true) views k given_view
-          (λ e. has_on other bit low t.1 (ap (λ u. has_taken u other bit) (sym is) ∙ e)) s.0 (λ differ e. e) s.2)) (heap.set other bit of low t.0);
+          ⊎_elim inl (λ (s : SomeHasTaken views o.lanes other bit). inr (
+            s.0,
+            s.1,
+            view_all (λ i u. has_taken (views i) other bit ≡ true → has_taken u other bit ≡ true) views k given_view
+                (λ e. has_on other bit low t.1 (ap (λ u. has_taken u other bit) (sym is) ∙ e)) s.0 (λ differ e. e) s.2,
+          )) (heap.set other bit of low t.0);
       taken = λ other bit of low is_so. word_on other bit of low
           (λ same set. false≢true (sym (mine.blocks.free at bit (may.own bit set)) ∙ (ap (λ x. is_taken (slice_index o.words) o.lanes x bit) (sym same) ∙ is_so))) (heap.taken other bit of low is_so);
       held = λ j other bit low of small has. word_on other bit of small (apart_from j other bit low small has) (heap.held j other bit low of small (before_all j other bit has));
@@ -288,8 +295,12 @@ module _ (o : Opening) (old : Memory) (views : Views) (log : List Entry) (decide
       locked = λ j zone low. view_all (λ i u. holds_zone u zone ≡ true → new (ZoneLock zone) ≡ i + 1) views k given_view
           (λ held. moves.0 (ZoneLock zone) (lock_apart zone at) ∙ heap.locked k zone inside (holds zone held)) j (λ differ held. moves.0 (ZoneLock zone) (lock_apart zone at) ∙ heap.locked j zone low held);
       unlocked = λ zone. ⊎_elim (λ (free : old (ZoneLock zone) ≡ 0). inl (moves.0 (ZoneLock zone) (lock_apart zone at) ∙ free))
-          (λ (t : SomeHoldsZone views o.lanes old zone). inr (t.0, t.1, moves.0 (ZoneLock zone) (lock_apart zone at) ∙ t.2,
-          view_all (λ i u. holds_zone (views i) zone ≡ true → holds_zone u zone ≡ true) views k given_view (λ e. ap (λ u. holds_zone u zone) (sym is) ∙ e) t.0 (λ differ e. e) t.3)) (heap.unlocked zone);
+          (λ (t : SomeHoldsZone views o.lanes old zone). inr (
+            t.0,
+            t.1,
+            moves.0 (ZoneLock zone) (lock_apart zone at) ∙ t.2,
+            view_all (λ i u. holds_zone (views i) zone ≡ true → holds_zone u zone ≡ true) views k given_view (λ e. ap (λ u. holds_zone u zone) (sym is) ∙ e) t.0 (λ differ e. e) t.3,
+          )) (heap.unlocked zone);
     }
 
     given_blocks : BlocksFit (slice_index o.words) o.lanes o.zones given_view
@@ -333,8 +344,12 @@ module _ (o : Opening) (old : Memory) (views : Views) (log : List Entry) (decide
 
     zoned_heap : Heap o (slice_index o.words) new (with_view views k (zoned_view zones s))
     zoned_heap = record {
-      set = λ other bit of low one. ⊎_elim inl (λ (t : SomeHasTaken views o.lanes other bit). inr (t.0, t.1, view_all (λ i u. has_taken (views i) other bit ≡ true → has_taken u other bit ≡ true) views k (zoned_view zones s)
-          (λ e. ap (λ u. has_taken u other bit) (sym is) ∙ e) t.0 (λ differ e. e) t.2)) (heap.set other bit of low (ap (λ n. bit_at n bit) (sym (words other)) ∙ one));
+      set = λ other bit of low one. ⊎_elim inl (λ (t : SomeHasTaken views o.lanes other bit). inr (
+        t.0,
+        t.1,
+        view_all (λ i u. has_taken (views i) other bit ≡ true → has_taken u other bit ≡ true) views k (zoned_view zones s)
+            (λ e. ap (λ u. has_taken u other bit) (sym is) ∙ e) t.0 (λ differ e. e) t.2,
+      )) (heap.set other bit of low (ap (λ n. bit_at n bit) (sym (words other)) ∙ one));
       taken = λ other bit of low is_so. ap (λ n. bit_at n bit) (words other) ∙ heap.taken other bit of low is_so;
       held = λ j other bit low of small has. ap (λ n. bit_at n bit) (words other) ∙ heap.held j other bit low of small (same_before j other bit has);
       apart = λ i j other bit low high one two. heap.apart i j other bit low high (same_before i other bit one) (same_before j other bit two);
@@ -357,8 +372,12 @@ module _ (o : Opening) (old : Memory) (views : Views) (log : List Entry) (decide
       (λ other. ⊎_elim
       (λ (same : other ≡ zone). inr (k, inside, ap (λ z. new (ZoneLock z)) same ∙ moves.1, ap (λ u. holds_zone u other) (view_here views k v') ∙ new_zone other same))
       (λ (differ : other ≢ zone). ⊎_elim (λ (none : old (ZoneLock other) ≡ 0). inl (moves.0 (ZoneLock other) (one_lock other zone differ) ∙ none))
-      (λ (t : SomeHoldsZone views o.lanes old other). inr (t.0, t.1, moves.0 (ZoneLock other) (one_lock other zone differ) ∙ t.2,
-      view_all (λ i u. holds_zone (views i) other ≡ true → holds_zone u other ≡ true) views k v' (λ e. list_any-left (λ held. eqb held other) v.zone_locks (zone ∷ []) (ap (λ u. holds_zone u other) (sym is) ∙ e)) t.0 (λ apart e. e) t.3)) (heap.unlocked other))
+      (λ (t : SomeHoldsZone views o.lanes old other). inr (
+        t.0,
+        t.1,
+        moves.0 (ZoneLock other) (one_lock other zone differ) ∙ t.2,
+        view_all (λ i u. holds_zone (views i) other ≡ true → holds_zone u other ≡ true) views k v' (λ e. list_any-left (λ held. eqb held other) v.zone_locks (zone ∷ []) (ap (λ u. holds_zone u other) (sym is) ∙ e)) t.0 (λ apart e. e) t.3,
+      )) (heap.unlocked other))
       (cases_eq other zone)))
     where
       before_zone : (other : ℕ) → other ≢ zone → list_any (λ held. eqb held other) (v.zone_locks ++ zone ∷ []) ≡ true → holds_zone v other ≡ true
@@ -392,8 +411,12 @@ module _ (o : Opening) (old : Memory) (views : Views) (log : List Entry) (decide
       (λ other. ⊎_elim
       (λ (same : other ≡ zone). inl (ap (λ z. new (ZoneLock z)) same ∙ moves.1))
       (λ (differ : other ≢ zone). ⊎_elim (λ (none : old (ZoneLock other) ≡ 0). inl (moves.0 (ZoneLock other) (one_lock other zone differ) ∙ none))
-      (λ (t : SomeHoldsZone views o.lanes old other). inr (t.0, t.1, moves.0 (ZoneLock other) (one_lock other zone differ) ∙ t.2,
-      view_all (λ i u. holds_zone (views i) other ≡ true → holds_zone u other ≡ true) views k v' (λ e. left_still v.zone_locks other differ (ap (λ u. holds_zone u other) (sym is) ∙ e)) t.0 (λ apart e. e) t.3)) (heap.unlocked other))
+      (λ (t : SomeHoldsZone views o.lanes old other). inr (
+        t.0,
+        t.1,
+        moves.0 (ZoneLock other) (one_lock other zone differ) ∙ t.2,
+        view_all (λ i u. holds_zone (views i) other ≡ true → holds_zone u other ≡ true) views k v' (λ e. left_still v.zone_locks other differ (ap (λ u. holds_zone u other) (sym is) ∙ e)) t.0 (λ apart e. e) t.3,
+      )) (heap.unlocked other))
       (cases_eq other zone)))
     where
       passes : ℕ → Bool
