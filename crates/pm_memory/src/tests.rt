@@ -173,7 +173,6 @@ fn given_occupancy(rt: HostRuntime) -> Result<(), Fail> {
         false,
         "block 2 is taken"
     );
-    assert_eq!(rt; memory.occupy(Occ::Run(4096), 0b010), true);
     Ok(())
 }
 

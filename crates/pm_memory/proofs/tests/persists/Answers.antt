@@ -23,4 +23,5 @@ persist-requires-clause-seen g c =
     let is : c.store-2.new.self ≡ now = twice ∙ (ap (λ (m : Solo). after_store m 11 2) (once ∙ ap (λ (m : Solo). after_store m 3 1) first)) in
     let before : List ℕ = c.in_ok-words.words.items in
     let lines : length now.locks ≡ length now.words / 8 = length-replicate (length before / 8) 0 ∙ ap (λ (n : ℕ). n / 8) (sym (length-set (set before 3 1) 11 2 ∙ length-set before 3 1)) in
-    (view_of now, subst (λ (m : Solo). Sees m (view_of now)) (sym is) (sees_unlocked now lines (All-replicate (λ (word : ℕ). word ≡ 0) _ 0 refl) (All-replicate (λ (taken : Bool). taken ≡ false) 32 false refl) (omega arith) (λ n none. cc) refl))
+    let pages : length now.runs ≡ length now.words / 512 = length-replicate (length before / 512) 0 ∙ ap (λ (n : ℕ). n / 512) (sym (length-set (set before 3 1) 11 2 ∙ length-set before 3 1)) in
+    (view_of now, subst (λ (m : Solo). Sees m (view_of now)) (sym is) (sees_unlocked now lines (All-replicate (λ (word : ℕ). word ≡ 0) _ 0 refl) (All-replicate (λ (taken : Bool). taken ≡ false) 32 false refl) (omega arith) (λ n none. cc) refl pages (length-replicate {A = ℕ} 32 0) (length-replicate {A = Bool} 32 false)))
