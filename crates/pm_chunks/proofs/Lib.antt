@@ -1,0 +1,5 @@
+pub mod ChunkBits
+pub mod InZone
+pub mod InZones
+pub mod Searched
+pub mod Tried
