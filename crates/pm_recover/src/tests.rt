@@ -29,13 +29,14 @@ type Slot = (u64, u64, u64);
 
 /// The header page of an empty pool of that length.
 fn page() -> Result<[u64; PAGE_WORDS], Fail> {
+    let name = Name::new("demo".as_bytes()).ok_or("a name")?;
     let header = Header {
         version: 1,
         id: 7,
         lanes: 1,
         zones: 1,
         bytes: 8 * WORDS,
-        name: Name::new("demo".as_bytes()).ok_or("a name")?,
+        name,
     };
     let mut page = [0; PAGE_WORDS];
     encode(&header, &mut page);
@@ -90,6 +91,11 @@ fn has_words(rt: &impl Abort, image: &RawImage, words: &[(u64, u64)], what: usiz
     }
 }
 
+/// Recovers the image, which has no fault.
+fn recovers(rt: &impl Abort, alloc: Global, image: &mut RawImage, what: usize) {
+    assert!(rt; recover(alloc, image) == Ok(()), "case {what}");
+}
+
 /// Slots of the lane by hand: the words and the generation afterwards.
 #[test]
 fn slots(rt: HostRuntime) -> Result<(), Fail> {
@@ -135,7 +141,7 @@ fn slots(rt: HostRuntime) -> Result<(), Fail> {
     ];
     for (what, (generation, slots, words)) in table.into_iter().enumerate() {
         let mut image = pool(alloc, generation, slots)?;
-        assert_eq!(rt; recover(alloc, &mut image), Ok(()), "case {what}");
+        recovers(&rt, alloc, &mut image, what);
         has_words(&rt, &image, words, what);
     }
     Ok(())
@@ -184,7 +190,7 @@ fn entries(rt: HostRuntime) -> Result<(), Fail> {
     for (what, (entries, slots, words)) in table.into_iter().enumerate() {
         let mut image = pool(alloc, 5, slots)?;
         put_entries(&mut image, entries);
-        assert_eq!(rt; recover(alloc, &mut image), Ok(()), "case {what}");
+        recovers(&rt, alloc, &mut image, what);
         has_words(&rt, &image, &[(SEAL, 0)], what);
         has_words(&rt, &image, words, what);
     }
@@ -197,7 +203,7 @@ fn nothing_left(rt: HostRuntime) -> Result<(), Fail> {
     let alloc = rt.alloc();
     let mut image = pool(alloc, 5, &[(FIRST_SLOT, 4, 0)])?;
     let before = image.copy(alloc)?;
-    assert_eq!(rt; recover(alloc, &mut image), Ok(()));
+    recovers(&rt, alloc, &mut image, 0);
     assert!(rt; image.words(0, image.len()) == before.words(0, before.len()));
     Ok(())
 }
@@ -209,8 +215,8 @@ fn twice(rt: HostRuntime) -> Result<(), Fail> {
     let table: [(&[Slot], u64); 2] = [(&[(81, 5, 0)], 6), (&[(81, 5, 0), (82, 5, 1)], 7)];
     for (what, (slots, generation)) in table.into_iter().enumerate() {
         let mut image = pool(alloc, 5, slots)?;
-        assert_eq!(rt; recover(alloc, &mut image), Ok(()), "case {what}");
-        assert_eq!(rt; recover(alloc, &mut image), Ok(()), "case {what}");
+        recovers(&rt, alloc, &mut image, what);
+        recovers(&rt, alloc, &mut image, what);
         has_words(
             &rt,
             &image,
@@ -218,6 +224,21 @@ fn twice(rt: HostRuntime) -> Result<(), Fail> {
             what,
         );
     }
+    Ok(())
+}
+
+/// The image is refused with this fault, and stays, word for word.
+fn is_refused(
+    rt: &impl Abort,
+    alloc: Global,
+    image: &mut RawImage,
+    fault: ImageFault,
+) -> Result<(), Fail> {
+    let before = image.copy(alloc)?;
+    let answer = recover(alloc, image);
+    assert!(rt; answer == Err(RecoverFault::Image(fault)), "{fault}");
+    let is_same = image.words(0, image.len()) == before.words(0, before.len());
+    assert!(rt; is_same, "{fault}");
     Ok(())
 }
 
@@ -239,17 +260,7 @@ fn faults(rt: HostRuntime) -> Result<(), Fail> {
         if fault == ImageFault::Header(pm_header::HeaderFault::NotPool) {
             image.set(256, 0);
         }
-        let before = image.copy(alloc)?;
-        assert_eq!(rt;
-            recover(alloc, &mut image),
-            Err(RecoverFault::Image(fault)),
-            "{fault}"
-        );
-        assert_eq!(rt; image.len(), before.len());
-        assert!(rt;
-            image.words(0, image.len()) == before.words(0, before.len()),
-            "{fault}"
-        );
+        is_refused(&rt, alloc, &mut image, fault)?;
     }
     Ok(())
 }

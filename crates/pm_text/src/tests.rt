@@ -5,10 +5,12 @@ use std::alloc::{AllocError, Global};
 use std::test::Fail;
 
 fn object(alloc: Global, kind: u64, bytes: &[u8], members: &[u64]) -> Result<Object, AllocError> {
+    let bytes = Vec::from_slice(alloc, bytes)?;
+    let members = Vec::from_slice(alloc, members)?;
     Ok(Object {
         kind,
-        bytes: Sequence::from_vec(Vec::from_slice(alloc, bytes)?),
-        members: Sequence::from_vec(Vec::from_slice(alloc, members)?),
+        bytes: Sequence::from_vec(bytes),
+        members: Sequence::from_vec(members),
     })
 }
 
@@ -110,35 +112,42 @@ fn objects_with_types_and_members(rt: HostRuntime) -> Result<(), Fail> {
 fn a_sink_gets_the_text(rt: HostRuntime) -> Result<(), Fail> {
     for text in ["", "\n", "one line\n", "one\ntwo\n\nno end"] {
         let mut sink = ListSink::new(rt.alloc());
-        assert_eq!(rt; put_lines(text.as_bytes(), &mut sink), Ok(()), "{text}");
-        assert_eq!(rt; sink.bytes(), text.as_bytes(), "{text}");
+        let answer = put_lines(text.as_bytes(), &mut sink);
+        assert!(rt;
+            answer == Ok(()) && sink.bytes() == text.as_bytes(),
+            "{text}"
+        );
     }
     Ok(())
 }
 
-/// The puts that fail, by their numbers, in a text of three lines, what the answer is and what is put: each put is one line.
+/// Whether the text's lines are put so where the put of this number fails, and the answer tells the fault or none.
+fn are_put(alloc: Global, text: &str, failing: u64, put: &str, fails: bool) -> Result<bool, Fail> {
+    let mut sink = FailingSink::new(alloc, vec![in alloc; failing]?);
+    let answer = put_lines(text.as_bytes(), &mut sink);
+    let wanted = if fails {
+        Err(SinkFault::Failed)
+    } else {
+        Ok(())
+    };
+    Ok(answer == wanted && sink.bytes() == put.as_bytes())
+}
+
+/// A text, the put that fails, what is put then, and whether that put came: each put is one line, and an empty text has none.
 #[test]
 fn each_put_is_one_line(rt: HostRuntime) -> Result<(), Fail> {
-    for (failing, want, put) in [
-        (0, Err(SinkFault::Failed), ""),
-        (1, Err(SinkFault::Failed), "one\n"),
-        (2, Err(SinkFault::Failed), "one\ntwo\n"),
-        (3, Ok(()), "one\ntwo\nthree\n"),
+    for (text, failing, put, fails) in [
+        ("one\ntwo\nthree\n", 0, "", true),
+        ("one\ntwo\nthree\n", 1, "one\n", true),
+        ("one\ntwo\nthree\n", 2, "one\ntwo\n", true),
+        ("one\ntwo\nthree\n", 3, "one\ntwo\nthree\n", false),
+        ("", 0, "", false),
     ] {
-        let mut sink = FailingSink::new(rt.alloc(), vec![in rt.alloc(); failing]?);
-        assert_eq!(rt;
-            put_lines(b"one\ntwo\nthree\n", &mut sink),
-            want,
+        assert!(rt;
+            are_put(rt.alloc(), text, failing, put, fails)?,
             "put {failing} fails"
         );
-        assert_eq!(rt; sink.bytes(), put.as_bytes(), "put {failing} fails");
     }
-    let mut sink = FailingSink::new(rt.alloc(), vec![in rt.alloc(); 0]?);
-    assert_eq!(rt;
-        put_lines(b"", &mut sink),
-        Ok(()),
-        "no put for an empty text"
-    );
     Ok(())
 }
 

@@ -1,7 +1,8 @@
 //! Scripts with calls on pending actions, in transactions and outside, each with its report and what it leaves: docs/COMMANDS.md, "exec" and "Reports".
-use crate::image_tests::{pool, put};
-use crate::run_tests::{POOL, ran, shelf_with, told};
-use pm_shelf::{MapShelf, Shelf};
+use crate::run_tests::{POOL, options_of, ran, report_of, reports, shelf_with, tells, told};
+use crate::tests::same;
+use crate::transaction_tests::shelf_at;
+use pm_shelf::Shelf;
 use std::alloc::Global;
 use std::process::Abort;
 use std::test::Fail;
@@ -29,9 +30,9 @@ fn leaves(
 ) -> Result<(), Fail> {
     let mut shelf = shelf_with(alloc, POOL, script)?;
     let (report, dump) = ran(alloc, options, &mut shelf)?;
-    assert_eq!(rt; report.as_slice(), wanted.as_bytes(), "{script}{options}");
+    same(rt, report.as_slice(), wanted, options);
     let left = dump_with(alloc, data)?;
-    assert_eq!(rt; dump.as_slice(), left.as_bytes(), "{script}{options}");
+    same(rt, dump.as_slice(), left.as_str(), script);
     Ok(())
 }
 
@@ -56,15 +57,11 @@ fn publish_line(stop: u64, kept: bool) -> &'static str {
 
 /// Runs the publish with this stop number and this keep number, and compares its report and what it leaves.
 fn stops_so(rt: &impl Abort, alloc: Global, stop: u64, keep: u64) -> Result<(), Fail> {
-    let options = format!(in alloc; " --stops 0:{stop} --keep {keep}")?;
+    let options = options_of(alloc, stop, keep)?;
     let kept = stop >= 9 || keep == 1 && stop >= 7;
     let line = publish_line(stop, kept);
     let history = format!(in alloc; "1 lane 0 lines 2-2 done root=16512\n{line}")?;
-    let wanted = if stop < 17 {
-        format!(in alloc; "{history}lane 0 stopped after {stop} calls\n")?
-    } else {
-        format!(in alloc; "{history}lane 0 ended\n")?
-    };
+    let wanted = report_of(alloc, history.as_str(), stop, 17)?;
     let data = if kept { SET } else { "" };
     leaves(rt, alloc, PUBLISH, options.as_str(), wanted.as_str(), data)
 }
@@ -392,11 +389,36 @@ fn room_inside(rt: HostRuntime) -> Result<(), Fail> {
     Ok(())
 }
 
+/// A run that publishes nothing, and reads the word.
+const AGAIN: &str = "lane 0\npublish\nbegin r:root\nread root 8 8\ncommit\n";
+
+/// Runs the publish to this stop, and `AGAIN` on the pool left, and compares the word that is read; the pool stays.
+fn publishes_again(
+    rt: &impl Abort,
+    alloc: Global,
+    stop: u64,
+    keep: u64,
+    word: &str,
+) -> Result<(), Fail> {
+    let mut shelf = shelf_with(alloc, POOL, PUBLISH)?;
+    let options = options_of(alloc, stop, keep)?;
+    let (_, before) = ran(alloc, options.as_str(), &mut shelf)?;
+    let script = AGAIN.as_bytes();
+    shelf.write("t", script).ok().ok_or("a new name")?;
+    let line = "exec q --script t --out r --layout demo";
+    let wanted = format!(in alloc;
+        "1 lane 0 lines 2-2 done\n2 lane 0 lines 3-5 done root=16512 4={word}\nlane 0 ended\n"
+    )?;
+    tells(rt, alloc, &mut shelf, line, (0, wanted.as_str(), 5))?;
+    let (_, dump) = told(alloc, "dump r", &mut shelf)?;
+    assert!(rt; dump.as_slice() == before.as_slice(), "{options}");
+    Ok(())
+}
+
 /// A stop of a publish, what is kept, and the word that a run reads of the pool left. Recovery performs what was sealed; what was pending is gone.
 #[test]
 fn again_after_a_publish(rt: HostRuntime) -> Result<(), Fail> {
     let alloc = rt.alloc();
-    let again = "lane 0\npublish\nbegin r:root\nread root 8 8\ncommit\n";
     let table = [
         (0, 1, "0000000000000000"),
         (6, 1, "0000000000000000"),
@@ -410,19 +432,7 @@ fn again_after_a_publish(rt: HostRuntime) -> Result<(), Fail> {
         (17, 0, "2a00000000000000"),
     ];
     for (stop, keep, word) in table {
-        let mut shelf = shelf_with(alloc, POOL, PUBLISH)?;
-        let options = format!(in alloc; " --stops 0:{stop} --keep {keep}")?;
-        let (_, before) = ran(alloc, options.as_str(), &mut shelf)?;
-        shelf.write("t", again.as_bytes()).ok().ok_or("a new name")?;
-        let line = "exec q --script t --out r --layout demo";
-        let answer = told(alloc, line, &mut shelf)?;
-        let wanted = format!(in alloc;
-            "1 lane 0 lines 2-2 done\n2 lane 0 lines 3-5 done root=16512 4={word}\nlane 0 ended\n"
-        )?;
-        assert_eq!(rt; answer.0, 0, "{options}");
-        assert_eq!(rt; answer.1.as_slice(), wanted.as_bytes(), "{options}");
-        let (_, dump) = told(alloc, "dump r", &mut shelf)?;
-        assert_eq!(rt; dump.as_slice(), before.as_slice(), "{options}");
+        publishes_again(&rt, alloc, stop, keep, word)?;
     }
     Ok(())
 }
@@ -448,16 +458,8 @@ fn spent_outside(rt: HostRuntime) -> Result<(), Fail> {
         ),
     ];
     for (generation, script, wanted) in table {
-        let mut bytes = pool(alloc, POOL)?;
-        put(&mut bytes, 4096, generation);
-        let mut shelf = MapShelf::new(alloc);
-        shelf.write("p", &bytes).ok().ok_or("a new name")?;
-        shelf
-            .write("s", script.as_bytes())
-            .ok()
-            .ok_or("a new name")?;
-        let (report, _) = ran(alloc, "", &mut shelf)?;
-        assert_eq!(rt; report.as_slice(), wanted.as_bytes(), "{script}");
+        let mut shelf = shelf_at(alloc, generation, script)?;
+        reports(&rt, alloc, &mut shelf, "", wanted)?;
     }
     Ok(())
 }

@@ -2,6 +2,7 @@
 //! a pool of one lane begins at place 12288, and its chunk c at 16384 + 4096 c.
 use crate::image_tests::{DEMO, pool, put, shows_changed};
 use std::alloc::Global;
+use std::process::Abort;
 use std::test::Fail;
 
 const TWO_ZONES: &str = "create p --lanes 1 --zones 2 --id 7 --layout demo --root 64";
@@ -80,7 +81,7 @@ const RUNS: [(u64, u64, u64, u64); 8] = [
     (7937, 1 << 2, 1 << 1, 55_360),
 ];
 
-/// Each row of faults; and of each class of runs the bit past its blocks, all bits, and its last block alone, whose size is 0.
+/// Each row of faults.
 #[test]
 fn heap_faults(rt: HostRuntime) -> Result<(), Fail> {
     let alloc = rt.alloc();
@@ -89,17 +90,33 @@ fn heap_faults(rt: HostRuntime) -> Result<(), Fail> {
         let text = format!(in alloc; "refused {fault}\n")?;
         shows_changed(&rt, alloc, &made, words, 1, &text)?;
     }
+    Ok(())
+}
+
+/// Shows the pool with such a run at chunk 9.
+fn shows_run(
+    rt: &impl Abort,
+    alloc: Global,
+    pool: &[u8],
+    run: (u64, u64),
+    text: &str,
+) -> Result<(), Fail> {
+    let (descriptor, bitmap) = run;
+    let words = [(12_360, descriptor), (53_248, bitmap)];
+    shows_changed(rt, alloc, pool, &words, 1, text)
+}
+
+/// Of each class of runs the bit past its blocks, all bits, and its last block alone, whose size is 0.
+#[test]
+fn run_faults(rt: HostRuntime) -> Result<(), Fail> {
+    let alloc = rt.alloc();
+    let made = pool(alloc, TWO_ZONES)?;
+    let bitmap = "refused Bitmap 0 9\n";
     for (descriptor, past, last, offset) in RUNS {
+        shows_run(&rt, alloc, &made, (descriptor, past), bitmap)?;
+        shows_run(&rt, alloc, &made, (descriptor, u64::MAX), bitmap)?;
         let text = format!(in alloc; "refused Block {offset}\n")?;
-        let rows = [
-            (past, "refused Bitmap 0 9\n"),
-            (u64::MAX, "refused Bitmap 0 9\n"),
-            (last, text.as_str()),
-        ];
-        for (bitmap, text) in rows {
-            let words = [(12_360, descriptor), (53_248, bitmap)];
-            shows_changed(&rt, alloc, &made, &words, 1, text)?;
-        }
+        shows_run(&rt, alloc, &made, (descriptor, last), &text)?;
     }
     Ok(())
 }

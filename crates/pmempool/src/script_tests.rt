@@ -1,7 +1,8 @@
 //! Which scripts are run, and what is told of the others: docs/COMMANDS.md, "Scripts" and "exec".
 use crate::image_tests::{pool, put};
-use crate::run_tests::{POOL, shelf_with, told};
+use crate::run_tests::{POOL, shelf_with, tells};
 use pm_shelf::{MapShelf, Shelf};
+use std::alloc::Global;
 use std::test::Fail;
 
 const EXEC: &str = "exec p --script s --out q --layout demo";
@@ -25,11 +26,8 @@ fn bad_lines(rt: HostRuntime) -> Result<(), Fail> {
     ];
     for (script, why) in table {
         let mut shelf = shelf_with(alloc, POOL, script)?;
-        let (status, printed) = told(alloc, EXEC, &mut shelf)?;
         let wanted = format!(in alloc; "bad script line {why}\n")?;
-        assert_eq!(rt; printed.as_slice(), wanted.as_bytes(), "{script}");
-        assert_eq!(rt; status, 6, "{script}");
-        assert_eq!(rt; shelf.len(), 2, "{script}");
+        tells(&rt, alloc, &mut shelf, EXEC, (6, wanted.as_str(), 2))?;
     }
     Ok(())
 }
@@ -54,108 +52,111 @@ fn more_lanes(rt: HostRuntime) -> Result<(), Fail> {
             "create p --lanes {lanes} --zones 1 --id 7 --layout demo --root 64"
         )?;
         let mut shelf = shelf_with(alloc, pool.as_str(), script)?;
-        let (status, printed) = told(alloc, EXEC, &mut shelf)?;
         let wanted = format!(in alloc; "refused Lanes asked {asked} kept 1\n")?;
-        assert_eq!(rt; printed.as_slice(), wanted.as_bytes(), "{script}");
-        assert_eq!(rt; status, 1, "{script}");
-        assert_eq!(rt; shelf.len(), 2, "{script}");
+        tells(&rt, alloc, &mut shelf, EXEC, (1, wanted.as_str(), 2))?;
     }
     Ok(())
 }
 
-/// Of two causes the first is told: a script, the words, the status, and what is printed. `d` is a damaged pool, and `x` no whole words.
+/// A shelf with the pool `p` and the script `s`, a damaged pool `d`, and `x`, which is no whole words.
+fn shelf_of_causes(alloc: Global, script: &str) -> Result<MapShelf, Fail> {
+    let mut shelf = shelf_with(alloc, POOL, script)?;
+    let mut damaged = pool(alloc, POOL)?;
+    put(&mut damaged, 16456, 65);
+    shelf.write("d", &damaged).ok().ok_or("a new name")?;
+    shelf.write("x", b"no pool").ok().ok_or("a new name")?;
+    Ok(shelf)
+}
+
+/// A script with a bad line, and one of two lanes.
+const BAD_WORD: &str = "lane 0\nfrob\n";
+
+const SECOND_LANE: &str = "lane 1\n";
+
+/// Of two causes the first is told: a script, the words, the status, and what is printed.
+const CAUSES: [(&str, &str, u8, &str); 9] = [
+    (
+        BAD_WORD,
+        "exec n --script s --out q --layout demo",
+        3,
+        "read fault n\n",
+    ),
+    (
+        BAD_WORD,
+        "exec n --script m --out q --layout demo",
+        3,
+        "read fault n\n",
+    ),
+    (
+        BAD_WORD,
+        "exec d --script s --out q --layout demo",
+        6,
+        "bad script line 2 Word\n",
+    ),
+    (
+        BAD_WORD,
+        "exec x --script s --out q --layout demo",
+        6,
+        "bad script line 2 Word\n",
+    ),
+    (
+        BAD_WORD,
+        "exec p --script s --out p --layout other",
+        6,
+        "bad script line 2 Word\n",
+    ),
+    (
+        SECOND_LANE,
+        "exec d --script s --out q --layout other",
+        1,
+        "refused Block 16512\n",
+    ),
+    (
+        SECOND_LANE,
+        "exec x --script s --out q --layout demo",
+        1,
+        "refused Size 7\n",
+    ),
+    (
+        SECOND_LANE,
+        "exec p --script s --out p --layout other",
+        1,
+        "refused Layout asked other kept demo\n",
+    ),
+    (
+        SECOND_LANE,
+        "exec p --script s --out p --layout demo",
+        1,
+        "refused Lanes asked 2 kept 1\n",
+    ),
+];
+
 #[test]
 fn first_causes(rt: HostRuntime) -> Result<(), Fail> {
     let alloc = rt.alloc();
-    let bad = "lane 0\nfrob\n";
-    let two_lanes = "lane 1\n";
-    let table = [
-        (
-            bad,
-            "exec n --script s --out q --layout demo",
-            3,
-            "read fault n\n",
-        ),
-        (
-            bad,
-            "exec n --script m --out q --layout demo",
-            3,
-            "read fault n\n",
-        ),
-        (
-            bad,
-            "exec d --script s --out q --layout demo",
-            6,
-            "bad script line 2 Word\n",
-        ),
-        (
-            bad,
-            "exec x --script s --out q --layout demo",
-            6,
-            "bad script line 2 Word\n",
-        ),
-        (
-            bad,
-            "exec p --script s --out p --layout other",
-            6,
-            "bad script line 2 Word\n",
-        ),
-        (
-            two_lanes,
-            "exec d --script s --out q --layout other",
-            1,
-            "refused Block 16512\n",
-        ),
-        (
-            two_lanes,
-            "exec x --script s --out q --layout demo",
-            1,
-            "refused Size 7\n",
-        ),
-        (
-            two_lanes,
-            "exec p --script s --out p --layout other",
-            1,
-            "refused Layout asked other kept demo\n",
-        ),
-        (
-            two_lanes,
-            "exec p --script s --out p --layout demo",
-            1,
-            "refused Lanes asked 2 kept 1\n",
-        ),
-    ];
-    for (script, line, status, printed) in table {
-        let mut shelf = shelf_with(alloc, POOL, script)?;
-        let mut damaged = pool(alloc, POOL)?;
-        put(&mut damaged, 16456, 65);
-        shelf.write("d", &damaged).ok().ok_or("a new name")?;
-        shelf.write("x", b"no pool").ok().ok_or("a new name")?;
-        let answer = told(alloc, line, &mut shelf)?;
-        assert_eq!(rt; answer.1.as_slice(), printed.as_bytes(), "{line}");
-        assert_eq!(rt; answer.0, status, "{line}");
-        assert_eq!(rt; shelf.len(), 4, "{line}");
+    for (script, line, status, printed) in CAUSES {
+        let mut shelf = shelf_of_causes(alloc, script)?;
+        tells(&rt, alloc, &mut shelf, line, (status, printed, 4))?;
     }
     Ok(())
+}
+
+/// A shelf with the pool `p` and a script of a comment of so many bytes.
+fn shelf_with_comment(alloc: Global, length: usize) -> Result<MapShelf, Fail> {
+    let mut shelf = MapShelf::new(alloc);
+    let bytes = pool(alloc, POOL)?;
+    shelf.write("p", &bytes).ok().ok_or("a new name")?;
+    let comment = vec![in alloc; b'#'; length]?;
+    shelf.write("s", &comment).ok().ok_or("a new name")?;
+    Ok(shelf)
 }
 
 /// The longest script, and one byte more.
 #[test]
 fn long_scripts(rt: HostRuntime) -> Result<(), Fail> {
     let alloc = rt.alloc();
-    let table = [
-        (1_048_576, 0, "lane 0 ended\n"),
-        (1_048_577, 3, "too long s\n"),
-    ];
-    for (length, status, printed) in table {
-        let mut shelf = MapShelf::new(alloc);
-        let bytes = pool(alloc, POOL)?;
-        shelf.write("p", &bytes).ok().ok_or("a new name")?;
-        let comment = vec![in alloc; b'#'; length]?;
-        shelf.write("s", &comment).ok().ok_or("a new name")?;
-        let answer = told(alloc, EXEC, &mut shelf)?;
-        assert_eq!(rt; answer.1.as_slice(), printed.as_bytes(), "{length}");
-        assert_eq!(rt; answer.0, status, "{length}");
-    }
-    Ok(())
+    let mut longest = shelf_with_comment(alloc, 1_048_576)?;
+    tells(&rt, alloc, &mut longest, EXEC, (0, "lane 0 ended\n", 3))?;
+    let mut longer = shelf_with_comment(alloc, 1_048_577)?;
+    tells(&rt, alloc, &mut longer, EXEC, (3, "too long s\n", 2))
 }

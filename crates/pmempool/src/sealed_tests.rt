@@ -1,6 +1,6 @@
 //! Pools with lanes sealed by hand, each with the text that docs/FORMAT.md's rules give it.
 use crate::image_tests::{DEMO, SHOWN, TWO_LANES, pool, put, record_at, shows_changed};
-use crate::run_tests::ran;
+use crate::run_tests::leaves;
 use pm_shelf::{MapShelf, Shelf};
 use std::alloc::Global;
 use std::process::Abort;
@@ -28,44 +28,47 @@ fn put_log(bytes: &mut [u8], area: usize, log: &[(u64, u64)]) {
     }
 }
 
+/// What is shown of the demo pool with the root's first word 7.
+const SEVEN: &str =
+    "root 16512\nobject 16512 type 0 size 64\ndata 0 07000000000000000000000000000000\n";
+
 /// Good logs of one lane: entries on bytes, in order, over a word twice, and in the last word of the pool; on the root's word, on descriptors, on the bitmap and
 /// on the header line of an object; and each generation that the last entry may set.
+const ONE_LOG: [(Log, Words, &str); 15] = [
+    (&[(4096, 2)], &[], SHOWN),
+    (&[(16_512, 7), (4096, 2)], &[], SEVEN),
+    (&[(16_512, 7), (4096, 2)], &[(4096, 2)], SEVEN),
+    (&[(16_512, 4), (16_513, 3), (4096, 2)], &[], SEVEN),
+    (&[(16_513, 8), (16_512, 7), (4096, 2)], &[], SEVEN),
+    (&[(16_513, 7), (16_513, 7), (4096, 2)], &[], SEVEN),
+    (&[(16_514, 7), (4096, 2)], &[(16_512, 255)], SEVEN),
+    (
+        &[(278_520, 9), (12_792, 0), (16_384, 1), (4096, 2)],
+        &[],
+        SHOWN,
+    ),
+    (&[(4096, 1 << 62)], &[(4096, (1 << 62) - 1)], SHOWN),
+    (&[(4096, 1 << 62)], &[(4096, 1 << 62)], SHOWN),
+    (
+        &[(512, 0), (4096, 2)],
+        &[],
+        "root none\nobject 16512 type 0 size 64\n",
+    ),
+    (&[(512, 16_512), (4096, 2)], &[(512, 16_448)], SHOWN),
+    (&[(512, 0), (12_288, 0), (4096, 2)], &[], "root none\n"),
+    (
+        &[(16_448, 9), (16_456, 8), (4096, 2)],
+        &[],
+        "root 16512\nobject 16512 type 9 size 8\n",
+    ),
+    (&[(16_512, 7), (4096, 2)], &[(5184, 1), (5240, 1)], SEVEN),
+];
+
 #[test]
 fn one_log(rt: HostRuntime) -> Result<(), Fail> {
     let alloc = rt.alloc();
     let made = pool(alloc, DEMO)?;
-    let seven =
-        "root 16512\nobject 16512 type 0 size 64\ndata 0 07000000000000000000000000000000\n";
-    let table: [(Log, Words, &str); 15] = [
-        (&[(4096, 2)], &[], SHOWN),
-        (&[(16_512, 7), (4096, 2)], &[], seven),
-        (&[(16_512, 7), (4096, 2)], &[(4096, 2)], seven),
-        (&[(16_512, 4), (16_513, 3), (4096, 2)], &[], seven),
-        (&[(16_513, 8), (16_512, 7), (4096, 2)], &[], seven),
-        (&[(16_513, 7), (16_513, 7), (4096, 2)], &[], seven),
-        (&[(16_514, 7), (4096, 2)], &[(16_512, 255)], seven),
-        (
-            &[(278_520, 9), (12_792, 0), (16_384, 1), (4096, 2)],
-            &[],
-            SHOWN,
-        ),
-        (&[(4096, 1 << 62)], &[(4096, (1 << 62) - 1)], SHOWN),
-        (&[(4096, 1 << 62)], &[(4096, 1 << 62)], SHOWN),
-        (
-            &[(512, 0), (4096, 2)],
-            &[],
-            "root none\nobject 16512 type 0 size 64\n",
-        ),
-        (&[(512, 16_512), (4096, 2)], &[(512, 16_448)], SHOWN),
-        (&[(512, 0), (12_288, 0), (4096, 2)], &[], "root none\n"),
-        (
-            &[(16_448, 9), (16_456, 8), (4096, 2)],
-            &[],
-            "root 16512\nobject 16512 type 9 size 8\n",
-        ),
-        (&[(16_512, 7), (4096, 2)], &[(5184, 1), (5240, 1)], seven),
-    ];
-    for (log, words, text) in table {
+    for (log, words, text) in ONE_LOG {
         let mut bytes = made.to_vec(alloc)?;
         put_log(&mut bytes, AREA, log);
         shows_changed(&rt, alloc, &bytes, words, 0, text)?;
@@ -97,164 +100,176 @@ fn longest_log(rt: HostRuntime) -> Result<(), Fail> {
     shows_changed(&rt, alloc, &bytes, &[(4104, 65)], 1, "refused Lane 0\n")
 }
 
-/// Entries that no log has: of no operation, at places where none may be, or that end no log.
+/// What is told of a first entry that no log has.
+const BAD_ENTRY: &str = "refused Redo lane 0 entry 0\n";
+
+/// Places where no entry may be, with any operation.
+const BAD_PLACES: [u64; 15] = [
+    16_515,
+    16_519,
+    0,
+    504,
+    520,
+    4096,
+    4104,
+    4112,
+    4160,
+    5184,
+    12_280,
+    12_800,
+    16_376,
+    278_528,
+    u64::MAX - 7,
+];
+
+/// Entries that no log has, as the first and the second of a log.
 #[test]
-fn bad_entries(rt: HostRuntime) -> Result<(), Fail> {
+fn bad_places(rt: HostRuntime) -> Result<(), Fail> {
     let alloc = rt.alloc();
     let made = pool(alloc, DEMO)?;
-    for place in [
-        16_515,
-        16_519,
-        0,
-        504,
-        520,
-        4096,
-        4104,
-        4112,
-        4160,
-        5184,
-        12_280,
-        12_800,
-        16_376,
-        278_528,
-        u64::MAX - 7,
-    ] {
+    for place in BAD_PLACES {
         let mut bytes = made.to_vec(alloc)?;
         put_log(&mut bytes, AREA, &[(place, 1), (4096, 2)]);
-        shows_changed(&rt, alloc, &bytes, &[], 1, "refused Redo lane 0 entry 0\n")?;
+        shows_changed(&rt, alloc, &bytes, &[], 1, BAD_ENTRY)?;
         put_log(&mut bytes, AREA, &[(16_512, 1), (place, 2), (4096, 2)]);
         let text = "refused Redo lane 0 entry 1\n";
         shows_changed(&rt, alloc, &bytes, &[], 1, text)?;
     }
-    let table: [(Log, Words); 10] = [
-        (&[(16_512, 1)], &[]),
-        (&[(4097, 2)], &[]),
-        (&[(4098, 2)], &[]),
-        (&[(4099, 2)], &[]),
-        (&[(4096, 1)], &[]),
-        (&[(4096, 3)], &[]),
-        (&[(4096, 2)], &[(4096, 3)]),
-        (&[(4096, (1 << 62) + 1)], &[(4096, 1 << 62)]),
-        (&[(12_288, 2)], &[]),
-        (&[(0, 0)], &[]),
-    ];
-    for (log, words) in table {
+    Ok(())
+}
+
+/// Logs whose first entry is none that ends a log, and words that are changed beside.
+const BAD_LOGS: [(Log, Words); 10] = [
+    (&[(16_512, 1)], &[]),
+    (&[(4097, 2)], &[]),
+    (&[(4098, 2)], &[]),
+    (&[(4099, 2)], &[]),
+    (&[(4096, 1)], &[]),
+    (&[(4096, 3)], &[]),
+    (&[(4096, 2)], &[(4096, 3)]),
+    (&[(4096, (1 << 62) + 1)], &[(4096, 1 << 62)]),
+    (&[(12_288, 2)], &[]),
+    (&[(0, 0)], &[]),
+];
+
+#[test]
+fn bad_logs(rt: HostRuntime) -> Result<(), Fail> {
+    let alloc = rt.alloc();
+    let made = pool(alloc, DEMO)?;
+    for (log, words) in BAD_LOGS {
         let mut bytes = made.to_vec(alloc)?;
         put_log(&mut bytes, AREA, log);
-        shows_changed(
-            &rt,
-            alloc,
-            &bytes,
-            words,
-            1,
-            "refused Redo lane 0 entry 0\n",
-        )?;
+        shows_changed(&rt, alloc, &bytes, words, 1, BAD_ENTRY)?;
     }
     Ok(())
 }
 
+/// What is shown of the pool of two lanes with both lanes' entries applied to the root's first word, and of two that clash there.
+const CHANGED: &str =
+    "root 24704\nobject 24704 type 0 size 64\ndata 0 f0010000000000000000000000000000\n";
+
+const CLASH: &str = "refused Clash 24704\n";
+
 /// Logs of two lanes: the first fault of rows and lanes, entries on one word with a common bit or without one, and records beside entries.
+const TWO_LOGS: [(Log, Log, u8, &str); 16] = [
+    (
+        &[(24_704, 1), (4096, 2)],
+        &[(24_704, 1), (12_288, 2)],
+        1,
+        CLASH,
+    ),
+    (
+        &[(24_705, 1), (4096, 2)],
+        &[(24_705, 3), (12_288, 2)],
+        1,
+        CLASH,
+    ),
+    (
+        &[(24_706, u64::MAX - 1), (4096, 2)],
+        &[(24_706, u64::MAX - 1), (12_288, 2)],
+        1,
+        CLASH,
+    ),
+    (
+        &[(24_704, 0), (4096, 2)],
+        &[(24_705, 1), (12_288, 2)],
+        1,
+        CLASH,
+    ),
+    (
+        &[(24_712, 1), (24_705, 4), (24_705, 2), (4096, 2)],
+        &[(24_712, 1), (24_705, 2), (12_288, 2)],
+        1,
+        CLASH,
+    ),
+    (
+        &[(513, 1), (4096, 2)],
+        &[(513, 1), (12_288, 2)],
+        1,
+        "refused Clash 512\n",
+    ),
+    (
+        &[(24_705, 0x100), (4096, 2)],
+        &[(24_706, u64::MAX - 15), (12_288, 2)],
+        0,
+        CHANGED,
+    ),
+    (
+        &[(24_704, 0x1f0), (4096, 2)],
+        &[(24_705, 0), (12_288, 2)],
+        0,
+        CHANGED,
+    ),
+    (
+        &[(24_706, u64::MAX), (4096, 2)],
+        &[(24_704, 0x1f0), (12_288, 2)],
+        0,
+        CHANGED,
+    ),
+    (
+        &[(24_704, 0x1f0), (4096, 2)],
+        &[(24_712, 0), (12_288, 2)],
+        0,
+        CHANGED,
+    ),
+    (
+        &[(12_288, 2)],
+        &[(12_288, 2)],
+        1,
+        "refused Redo lane 0 entry 0\n",
+    ),
+    (
+        &[(4096, 2)],
+        &[(4096, 2)],
+        1,
+        "refused Redo lane 1 entry 0\n",
+    ),
+    (
+        &[(24_704, 1), (4096, 9)],
+        &[(0, 0), (12_288, 2)],
+        1,
+        "refused Redo lane 0 entry 1\n",
+    ),
+    (
+        &[(24_704, 1), (4096, 2)],
+        &[(24_704, 1), (12_288, 9)],
+        1,
+        "refused Redo lane 1 entry 1\n",
+    ),
+    (&[(20_488, 512), (4096, 2)], &[], 1, "refused Chunk 0 1\n"),
+    (
+        &[],
+        &[(12_288, 2)],
+        0,
+        "root 24704\nobject 24704 type 0 size 64\ndata 0 ff000000000000000000000000000000\n",
+    ),
+];
+
 #[test]
 fn two_logs(rt: HostRuntime) -> Result<(), Fail> {
     let alloc = rt.alloc();
     let made = pool(alloc, TWO_LANES)?;
-    let changed =
-        "root 24704\nobject 24704 type 0 size 64\ndata 0 f0010000000000000000000000000000\n";
-    let clash = "refused Clash 24704\n";
-    let table: [(Log, Log, u8, &str); 16] = [
-        (
-            &[(24_704, 1), (4096, 2)],
-            &[(24_704, 1), (12_288, 2)],
-            1,
-            clash,
-        ),
-        (
-            &[(24_705, 1), (4096, 2)],
-            &[(24_705, 3), (12_288, 2)],
-            1,
-            clash,
-        ),
-        (
-            &[(24_706, u64::MAX - 1), (4096, 2)],
-            &[(24_706, u64::MAX - 1), (12_288, 2)],
-            1,
-            clash,
-        ),
-        (
-            &[(24_704, 0), (4096, 2)],
-            &[(24_705, 1), (12_288, 2)],
-            1,
-            clash,
-        ),
-        (
-            &[(24_712, 1), (24_705, 4), (24_705, 2), (4096, 2)],
-            &[(24_712, 1), (24_705, 2), (12_288, 2)],
-            1,
-            clash,
-        ),
-        (
-            &[(513, 1), (4096, 2)],
-            &[(513, 1), (12_288, 2)],
-            1,
-            "refused Clash 512\n",
-        ),
-        (
-            &[(24_705, 0x100), (4096, 2)],
-            &[(24_706, u64::MAX - 15), (12_288, 2)],
-            0,
-            changed,
-        ),
-        (
-            &[(24_704, 0x1f0), (4096, 2)],
-            &[(24_705, 0), (12_288, 2)],
-            0,
-            changed,
-        ),
-        (
-            &[(24_706, u64::MAX), (4096, 2)],
-            &[(24_704, 0x1f0), (12_288, 2)],
-            0,
-            changed,
-        ),
-        (
-            &[(24_704, 0x1f0), (4096, 2)],
-            &[(24_712, 0), (12_288, 2)],
-            0,
-            changed,
-        ),
-        (
-            &[(12_288, 2)],
-            &[(12_288, 2)],
-            1,
-            "refused Redo lane 0 entry 0\n",
-        ),
-        (
-            &[(4096, 2)],
-            &[(4096, 2)],
-            1,
-            "refused Redo lane 1 entry 0\n",
-        ),
-        (
-            &[(24_704, 1), (4096, 9)],
-            &[(0, 0), (12_288, 2)],
-            1,
-            "refused Redo lane 0 entry 1\n",
-        ),
-        (
-            &[(24_704, 1), (4096, 2)],
-            &[(24_704, 1), (12_288, 9)],
-            1,
-            "refused Redo lane 1 entry 1\n",
-        ),
-        (&[(20_488, 512), (4096, 2)], &[], 1, "refused Chunk 0 1\n"),
-        (
-            &[],
-            &[(12_288, 2)],
-            0,
-            "root 24704\nobject 24704 type 0 size 64\ndata 0 ff000000000000000000000000000000\n",
-        ),
-    ];
-    for (first, second, code, text) in table {
+    for (first, second, code, text) in TWO_LOGS {
         let mut bytes = made.to_vec(alloc)?;
         put_log(&mut bytes, AREA, first);
         put_log(&mut bytes, SECOND_AREA, second);
@@ -272,12 +287,11 @@ fn records_beside_entries(rt: HostRuntime) -> Result<(), Fail> {
         "root 24704\nobject 24704 type 0 size 64\ndata 0 07000000000000000900000000000000\n";
     let shown =
         "root 24704\nobject 24704 type 0 size 64\ndata 0 07000000000000000000000000000000\n";
-    let clash = "refused Clash 24704\n";
     let lanes = "refused Lane 1\n";
     let table = [
-        (24_704, 5184, [2, 24_704, 1, 0, 0, 0, 0], 1, clash),
-        (24_705, 5184, [2, 24_704, 1, 0, 0, 0, 0], 1, clash),
-        (24_704, 13_376, [1, 24_696, 2, 0, 0, 0, 0], 1, clash),
+        (24_704, 5184, [2, 24_704, 1, 0, 0, 0, 0], 1, CLASH),
+        (24_705, 5184, [2, 24_704, 1, 0, 0, 0, 0], 1, CLASH),
+        (24_704, 13_376, [1, 24_696, 2, 0, 0, 0, 0], 1, CLASH),
         (24_704, 13_376, [1, 24_712, 1, 9, 0, 0, 0], 0, apart),
         (24_704, 5184, [2, 24_712, 1, 9, 0, 0, 0], 0, apart),
         (24_704, 5184, [1, 24_704, 1, 9, 0, 0, 0], 0, shown),
@@ -312,12 +326,10 @@ fn runs(rt: HostRuntime) -> Result<(), Fail> {
         .write("s", script.as_bytes())
         .ok()
         .ok_or("a new name")?;
-    let (report, dump) = ran(alloc, "", &mut shelf)?;
-    let wanted: &[u8] = b"1 lane 0 lines 2-6 done root=16512 3=070000000000000001\nlane 0 ended\n";
-    assert_eq!(rt; report.as_slice(), wanted);
+    let report = "1 lane 0 lines 2-6 done root=16512 3=070000000000000001\nlane 0 ended\n";
     let text =
         "root 16512\nobject 16512 type 0 size 64\ndata 0 07000000000000000100000000000000\ndata 16 01020000000000000000000000000000\n";
-    assert_eq!(rt; dump.as_slice(), text.as_bytes());
+    leaves(&rt, alloc, &mut shelf, "", (report, text))?;
     let left = shelf.get("q").ok_or("the pool is there")?.to_vec(alloc)?;
     shows_changed(&rt, alloc, &left, &[(4096, 4)], 0, text)?;
     assert!(rt;

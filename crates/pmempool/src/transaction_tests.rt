@@ -1,23 +1,28 @@
 //! Scripts of whole transactions, each with its report: docs/COMMANDS.md, "exec" and "Reports".
 use crate::image_tests::{pool, put};
-use crate::run_tests::{POOL, ran, shelf_with, told};
+use crate::run_tests::{POOL, leaves, ran, reports, shelf_with, told};
+use crate::tests::same;
 use pm_shelf::{MapShelf, Shelf};
 use std::alloc::Global;
 use std::process::Abort;
 use std::test::Fail;
 
 /// A pool whose root takes a whole chunk, and one without a root.
-const WHOLE_CHUNK: &str = "create p --lanes 1 --zones 1 --id 7 --layout demo --root 4032";
+pub const WHOLE_CHUNK: &str = "create p --lanes 1 --zones 1 --id 7 --layout demo --root 4032";
 
-const NO_ROOT: &str = "create p --lanes 1 --zones 1 --id 7 --layout demo --root 0";
+pub const NO_ROOT: &str = "create p --lanes 1 --zones 1 --id 7 --layout demo --root 0";
 
 /// Runs scripts, each on a new pool, and compares the lines of their calls; lane 0 ends.
-fn reports(rt: &impl Abort, alloc: Global, pool: &str, table: &[(&str, &str)]) -> Result<(), Fail> {
+fn all_report(
+    rt: &impl Abort,
+    alloc: Global,
+    pool: &str,
+    table: &[(&str, &str)],
+) -> Result<(), Fail> {
     for (script, calls) in table {
         let mut shelf = shelf_with(alloc, pool, script)?;
-        let (report, _) = ran(alloc, "", &mut shelf)?;
         let wanted = format!(in alloc; "{calls}lane 0 ended\n")?;
-        assert_eq!(rt; report.as_slice(), wanted.as_bytes(), "{script}");
+        reports(rt, alloc, &mut shelf, "", wanted.as_str())?;
     }
     Ok(())
 }
@@ -28,10 +33,9 @@ fn empty_scripts(rt: HostRuntime) -> Result<(), Fail> {
     let alloc = rt.alloc();
     for script in ["", "\n\n", "# nothing\n  # at all\n", "lane 0\n"] {
         let mut shelf = shelf_with(alloc, POOL, script)?;
-        let (report, _) = ran(alloc, "", &mut shelf)?;
-        assert_eq!(rt; report.as_slice(), b"lane 0 ended\n".as_slice(), "{script}");
-        assert!(rt; shelf.get("q").is_some(), "{script}");
-        assert!(rt; shelf.get("q") == shelf.get("p"), "{script}");
+        reports(&rt, alloc, &mut shelf, "", "lane 0 ended\n")?;
+        let left = shelf.get("q").ok_or("the pool is left")?;
+        assert!(rt; shelf.get("p") == Some(left), "{script}");
     }
     Ok(())
 }
@@ -43,14 +47,11 @@ fn one_after_another(rt: HostRuntime) -> Result<(), Fail> {
     let script =
         "lane 0\nbegin root\nadd root 63 1\nwrite root 63 ff\ncommit\nbegin root\nadd root 62 2\nwrite root 63 ffff\ncommit\n";
     let mut shelf = shelf_with(alloc, POOL, script)?;
-    let (report, dump) = ran(alloc, "", &mut shelf)?;
-    let wanted: &[u8] =
-        b"1 lane 0 lines 2-5 done root=16512\n2 lane 0 lines 6-9 aborted OutOfRange at 8 root=16512\nlane 0 ended\n";
-    assert_eq!(rt; report.as_slice(), wanted);
-    let wanted: &[u8] =
-        b"root 16512\nobject 16512 type 0 size 64\ndata 48 000000000000000000000000000000ff\n";
-    assert_eq!(rt; dump.as_slice(), wanted);
-    Ok(())
+    let report =
+        "1 lane 0 lines 2-5 done root=16512\n2 lane 0 lines 6-9 aborted OutOfRange at 8 root=16512\nlane 0 ended\n";
+    let dump =
+        "root 16512\nobject 16512 type 0 size 64\ndata 48 000000000000000000000000000000ff\n";
+    leaves(&rt, alloc, &mut shelf, "", (report, dump))
 }
 
 /// Values stand behind their lines, in lower case.
@@ -75,7 +76,7 @@ fn reads(rt: HostRuntime) -> Result<(), Fail> {
             "1 lane 0 lines 2-7 aborted NotAdded at 6 root=16512 5=01\n2 lane 0 lines 8-10 done root=16512 9=00\n",
         ),
     ];
-    reports(&rt, rt.alloc(), POOL, &table)
+    all_report(&rt, rt.alloc(), POOL, &table)
 }
 
 /// What was read stands in the report of a lost transaction too.
@@ -85,10 +86,8 @@ fn reads_of_a_lost_transaction(rt: HostRuntime) -> Result<(), Fail> {
     let script =
         "lane 0\nbegin root\nadd root 0 8\nwrite root 0 0102030405060708\nread root 0 2\ncommit\n";
     let mut shelf = shelf_with(alloc, POOL, script)?;
-    let (report, _) = ran(alloc, " --stops 0:15", &mut shelf)?;
-    let wanted: &[u8] = b"1 lane 0 lines 2-6 lost 5=0102\nlane 0 stopped after 15 calls\n";
-    assert_eq!(rt; report.as_slice(), wanted);
-    Ok(())
+    let wanted = "1 lane 0 lines 2-6 lost 5=0102\nlane 0 stopped after 15 calls\n";
+    reports(&rt, alloc, &mut shelf, " --stops 0:15", wanted)
 }
 
 /// Locks that are wanted and missing, and begins that find no object.
@@ -130,7 +129,7 @@ fn locks(rt: HostRuntime) -> Result<(), Fail> {
             "1 lane 0 lines 2-3 done root=16512\n2 lane 0 lines 4-6 aborted NotLocked at 5 root=16512\n",
         ),
     ];
-    reports(&rt, rt.alloc(), POOL, &table)
+    all_report(&rt, rt.alloc(), POOL, &table)
 }
 
 /// The word `root` in a pool without one.
@@ -150,7 +149,7 @@ fn no_root(rt: HostRuntime) -> Result<(), Fail> {
             "1 lane 0 lines 2-2 done root=0\n2 lane 0 lines 3-3 refused NoObject\n3 lane 0 lines 4-4 done\n4 lane 0 lines 5-8 aborted NotLocked at 7 root=0\n",
         ),
     ];
-    reports(&rt, rt.alloc(), NO_ROOT, &table)
+    all_report(&rt, rt.alloc(), NO_ROOT, &table)
 }
 
 /// The log has room for 64 records of four words.
@@ -166,7 +165,7 @@ fn full_logs(rt: HostRuntime) -> Result<(), Fail> {
             "1 lane 0 lines 2-4 done root=16448\n2 lane 0 lines 5-7 done root=16448\n",
         ),
     ];
-    reports(&rt, rt.alloc(), WHOLE_CHUNK, &table)
+    all_report(&rt, rt.alloc(), WHOLE_CHUNK, &table)
 }
 
 /// A begin of the first offset of each of the 64 chunks, and of these other words.
@@ -196,9 +195,8 @@ fn full_locks(rt: HostRuntime) -> Result<(), Fail> {
     for (others, why) in table {
         let script = begin_of_chunks(alloc, others)?;
         let mut shelf = shelf_with(alloc, POOL, script.as_str())?;
-        let (report, _) = ran(alloc, "", &mut shelf)?;
         let wanted = format!(in alloc; "1 lane 0 lines 2-3 aborted {why}\nlane 0 ended\n")?;
-        assert_eq!(rt; report.as_slice(), wanted.as_bytes(), "{others}");
+        reports(&rt, alloc, &mut shelf, "", wanted.as_str())?;
     }
     Ok(())
 }
@@ -216,7 +214,18 @@ fn passed_over(rt: HostRuntime) -> Result<(), Fail> {
             "1 lane 0 lines 2-5 aborted NoObject at 2 root=16512\n2 lane 0 lines 6-8 done root=16512 7=00\n",
         ),
     ];
-    reports(&rt, rt.alloc(), POOL, &table)
+    all_report(&rt, rt.alloc(), POOL, &table)
+}
+
+/// A shelf with a pool of this generation of lane 0, and a script.
+pub fn shelf_at(alloc: Global, generation: u64, script: &str) -> Result<MapShelf, Fail> {
+    let mut bytes = pool(alloc, POOL)?;
+    put(&mut bytes, 4096, generation);
+    let mut shelf = MapShelf::new(alloc);
+    shelf.write("p", &bytes).ok().ok_or("a new name")?;
+    let text = script.as_bytes();
+    shelf.write("s", text).ok().ok_or("a new name")?;
+    Ok(shelf)
 }
 
 /// Lane 0's generation in the pool, and the report of two transactions with records.
@@ -237,18 +246,11 @@ fn spent_lanes(rt: HostRuntime) -> Result<(), Fail> {
         ),
     ];
     for (generation, wanted) in table {
-        let mut bytes = pool(alloc, POOL)?;
-        put(&mut bytes, 4096, generation);
-        let mut shelf = MapShelf::new(alloc);
-        shelf.write("p", &bytes).ok().ok_or("a new name")?;
-        shelf
-            .write("s", script.as_bytes())
-            .ok()
-            .ok_or("a new name")?;
-        let (report, dump) = ran(alloc, "", &mut shelf)?;
-        assert_eq!(rt; report.as_slice(), wanted.as_bytes());
+        let mut shelf = shelf_at(alloc, generation, script)?;
         let (_, before) = told(alloc, "dump p", &mut shelf)?;
-        assert_eq!(rt; dump.as_slice(), before.as_slice());
+        let (report, dump) = ran(alloc, "", &mut shelf)?;
+        same(&rt, report.as_slice(), wanted, script);
+        assert!(rt; dump.as_slice() == before.as_slice());
     }
     Ok(())
 }
