@@ -1,5 +1,5 @@
 -- A zone is searched under its lock, which is then given back.
-use Rattle.std.proofs.Common.{◌≡◌, ℕ, ◌-◌, ◌<◌, ◌≤◌, ◌==◌, Bool, true, false, not, cond, bit_and, [], ◌∷◌, ◌++◌, refl, sym, ap, ◌∙◌, subst, arith, eq-eqb}
+use Rattle.std.proofs.Common.{◌≡◌, ℕ, ◌-◌, ◌<◌, ◌≤◌, ◌==◌, Bool, true, false, not, cond, bit_and, List, [], ◌∷◌, ◌++◌, refl, sym, ap, ◌∙◌, subst, arith, eq-eqb}
 use Rattle.std.specs.List.{filter, list_any}
 use Rattle.std.proofs.lemmas.Bool.{false≢true}
 use Rattle.pm_layout.specs.declared.shape.Shape.{Shape}
@@ -9,8 +9,10 @@ use Rattle.pm_view.specs.Steps.{Step}
 use Rattle.pm_view.specs.Steps.Step.{Occupy, ZoneGive, ZoneTry}
 use Rattle.pm_view.specs.View.{View}
 use Rattle.pm_view.specs.Views.{after, occ_in}
+use Rattle.pm_world.proofs.Searched.{kept_by_search, saw_one, searches_one, searches_then, still_alone}
 use Rattle.pm_world.specs.Lawful.{MayGiveZone, MayTryZone}
-use Rattle.pm_chunks.proofs.Searched.{looked_give, looked_then, looked_try, saw_one, saw_still, searches_one, searches_then, still_alone, word_same, zones_same}
+use Rattle.pm_world.specs.Searches.{Searches}
+use Rattle.pm_chunks.proofs.Searched.{looked_give, looked_then, looked_try, saw_still, word_same, zones_same}
 use Rattle.pm_chunks.proofs.Tried.{zone_held}
 use Rattle.pm_chunks.specs.Chunks.{MaySearch, chunk_bits, taken_chunks}
 use Rattle.pm_chunks.specs.Looking.{AreTaken, HasGotIn, HasGotOf, HasNoneBelow, HasNoneOf, HoldsZone, IsOneSet, IsRefused, LookedOn}
@@ -54,7 +56,7 @@ module _ (v : View) (shape : Shape) (zone : ℕ) (may : MaySearch v shape) (insi
     looked_held = looked_try v zone true may_try alone
 
     taken_before : (count n : ℕ) → AreTaken held zone count n → AreTaken v zone count n
-    taken_before count n taken = λ is first low. subst (λ word. IsOneSet word first count) (word_same v held looked_held zone is) (taken (still_alone v held looked_held is) first low)
+    taken_before count n taken = λ is first low. subst (λ word. IsOneSet word first count) (word_same v held looked_held zone is) (taken (still_alone v held looked_held.kept is) first low)
 
     module _ (w : View) (looked : LookedOn v w) (locked : w.zone_locks ≡ zone ∷ []) where
       may_give : MayGiveZone w zone
@@ -90,20 +92,24 @@ module _ (v : View) (shape : Shape) (zone : ℕ) (may : MaySearch v shape) (insi
           let x : View = after t (ZoneGive zone) in
           let locked : w.zone_locks ≡ zone ∷ [] = got.locks ∙ holds_it.locked in
           let give : MayGiveZone t zone = record { inside = (may_give w on locked).inside; few = (may_give w on locked).few; held = (may_give w on locked).held } in
+          let took = searches_one w take refl got.won.may tt got.won.found in
+          let gave = searches_one t (ZoneGive zone) refl give tt tt in
+          let steps : List Step = on.steps ++ (take ∷ [] ++ ZoneGive zone ∷ []) in
+          let searches : Searches v steps x = searches_then v w x on.steps (take ∷ [] ++ ZoneGive zone ∷ []) on.searches (searches_then w t x (take ∷ []) (ZoneGive zone ∷ []) took gave) in
           record {
             in_zone = got.in_zone;
             searched = record {
               view = x;
-              steps = on.steps ++ (take ∷ [] ++ ZoneGive zone ∷ []);
-              searches = searches_then v w x on.steps (take ∷ [] ++ ZoneGive zone ∷ []) on.searches
-                  (searches_then w t x (take ∷ []) (ZoneGive zone ∷ []) (searches_one w take refl got.won.may got.won.found) (searches_one t (ZoneGive zone) refl give tt));
+              steps = steps;
+              searches = searches;
+              kept = kept_by_search v x steps searches;
               there = given t got.won.there;
               reserved = ap (λ (z : View). z.reserved ++ taken_chunks zone first count ∷ []) on.same;
               zones = locks_back w on locked;
               holds = tt;
             };
             clear = λ is.
-                let clear : bit_and (occ_in w (Zone zone)) (chunk_bits first count) ≡ 0 = (got.won.found (still_alone v w on is)).0 refl in
+                let clear : bit_and (occ_in w (Zone zone)) (chunk_bits first count) ≡ 0 = (got.won.found (still_alone v w on.kept is)).0 refl in
                 subst (λ word. bit_and word (chunk_bits first count) ≡ 0) (word_same v w on zone is) clear;
             lower = taken_before count first got.lower;
           }

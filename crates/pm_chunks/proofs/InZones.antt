@@ -1,5 +1,5 @@
 -- The zones are searched one after another.
-use Rattle.std.proofs.Common.{◌≡◌, ⊎_elim, ℕ, ◌+◌, ◌-◌, ◌*◌, ◌<◌, ◌≤◌, false, Contains, List, [], ◌∷◌, ◌++◌, length, refl, sym, ap, ◌∙◌, subst, arith, append-nil, below_more}
+use Rattle.std.proofs.Common.{◌≡◌, ⊎_elim, ℕ, ◌+◌, ◌-◌, ◌*◌, ◌<◌, ◌≤◌, false, Contains, List, [], ◌∷◌, ◌++◌, refl, sym, ap, ◌∙◌, subst, arith, append-nil, below_more}
 use Rattle.std.specs.Int.{bit_at}
 use Rattle.pm_image.specs.declared.block.Block.{Block}
 use Rattle.pm_layout.specs.Layout.{chunk_place}
@@ -9,9 +9,10 @@ use Rattle.pm_view.specs.Founds.{IsAlone}
 use Rattle.pm_view.specs.Steps.Step.{ZoneTry}
 use Rattle.pm_view.specs.View.{View, Taken}
 use Rattle.pm_view.specs.Views.{occ_in}
+use Rattle.pm_world.proofs.Searched.{early_still, kept_then, searches_then, shape_still, still_alone}
 use Rattle.pm_world.specs.Searches.{HasSearched}
 use Rattle.pm_chunks.proofs.ChunkBits.{clear_inside}
-use Rattle.pm_chunks.proofs.Searched.{early_still, looked_none, looked_then, saw_still, searches_then, still_alone, word_same}
+use Rattle.pm_chunks.proofs.Searched.{looked_none, looked_then, saw_still, word_same}
 use Rattle.pm_chunks.specs.Chunks.{AreFree, AreLeastFree, HasFoundNone, HasGot, IsBefore, IsBusy, MaySearch, SawNoneIn, chunk_block, taken_chunks}
 use Rattle.pm_chunks.specs.Looking.{AreTaken, HasGotOf, HasLooked, HasNoneOf, IsOneSet, IsRefused, LookedOn}
 
@@ -22,12 +23,8 @@ pub record HasNoneBefore (at : View → Type 0) (v : View) (count n : ℕ) : Typ
 
 pub may_still : (v w : View) (shape : Shape) → LookedOn v w → w.zone_locks ≡ v.zone_locks → MaySearch v shape → MaySearch w shape
 may_still v w shape looked locks may = record {
-  shape = record {
-    lanes = ap (λ (z : View). z.lanes) looked.same ∙ may.shape.lanes;
-    zones = ap (λ (z : View). z.zones) looked.same ∙ may.shape.zones;
-    size = ap (λ (z : View). length z.words) looked.same ∙ may.shape.size;
-  };
-  early = early_still v w looked may.early;
+  shape = shape_still v w looked.kept shape may.shape;
+  early = early_still v w looked.kept may.early;
   unlocked = locks ∙ may.unlocked;
 }
 
@@ -43,6 +40,7 @@ searched_looks at v Q looks = record {
   view = looks.view;
   steps = looks.looked.steps;
   searches = looks.looked.searches;
+  kept = looks.looked.kept;
   there = looks.there;
   reserved = ap (λ (z : View). z.reserved) looks.looked.same ∙ sym (append-nil v.reserved);
   zones = looks.locks;
@@ -54,6 +52,7 @@ searched_then at v w more Q looked locks searched = record {
   view = searched.view;
   steps = looked.steps ++ searched.steps;
   searches = searches_then v w searched.view looked.steps searched.steps looked.searches searched.searches;
+  kept = kept_then v w searched.view looked.kept searched.kept;
   there = searched.there;
   reserved = searched.reserved ∙ ap (λ (z : View). z.reserved ++ more) looked.same;
   zones = searched.zones ∙ locks;
@@ -71,7 +70,7 @@ module _ (v : View) (count n : ℕ) (old : View → Type 0) (none : HasNoneBefor
 
   taken_here : (k : ℕ) → AreTaken from n count k → AreTaken v n count k
   taken_here k taken = λ is first low.
-      subst (λ word. IsOneSet word first count) (word_same v from none.looks.looked n is) (taken (still_alone v from none.looks.looked is) first low)
+      subst (λ word. IsOneSet word first count) (word_same v from none.looks.looked n is) (taken (still_alone v from none.looks.looked.kept is) first low)
 
   pub none_more : (at : View → Type 0) → HasNoneOf at from n count → HasNoneBefore at v count (n + 1)
   none_more at here =
@@ -116,7 +115,7 @@ module _ (v : View) (count n : ℕ) (old : View → Type 0) (none : HasNoneBefor
         }))
 
     pub never_busy : IsRefused at from n → IsAlone v → ⊥
-    never_busy refused is = refused.apart (still_alone v from none.looks.looked is)
+    never_busy refused is = refused.apart (still_alone v from none.looks.looked.kept is)
 
     module _ (first : ℕ) (got : HasGotOf at from n first count) (block : Block) (is_block : block ≡ chunk_block v.lanes n first count) where
       pub has_got : HasGot at v count block
@@ -134,7 +133,7 @@ module _ (v : View) (count n : ℕ) (old : View → Type 0) (none : HasNoneBefor
         in_zones = inside;
         in_zone = got.in_zone;
         clear = λ chunk low high set.
-            let zero = clear_inside first count (occ_in from (Zone n)) (got.clear (still_alone v from none.looks.looked is)) chunk low high in
+            let zero = clear_inside first count (occ_in from (Zone n)) (got.clear (still_alone v from none.looks.looked.kept is)) chunk low high in
             let same = ap (λ word. bit_at word chunk) (word_same v from none.looks.looked n is) in
             omega (arith, zero, same, set);
       }

@@ -7,10 +7,11 @@ use Rattle.pm_view.specs.Founds.{FoundAlone}
 use Rattle.pm_view.specs.Steps.Step.{Occupied, Occupy}
 use Rattle.pm_view.specs.View.{View}
 use Rattle.pm_view.specs.Views.{after, occ_in}
+use Rattle.pm_world.proofs.Searched.{alone_before, saw_one, still_alone}
 use Rattle.pm_world.specs.Heap.{holds_zone}
 use Rattle.pm_world.specs.Lawful.{MayOccupy}
 use Rattle.pm_chunks.proofs.ChunkBits.{bits_small, one_set}
-use Rattle.pm_chunks.proofs.Searched.{holds_still, looked_lost, looked_none, looked_occupied, looked_then, saw_one, saw_still, still_alone, word_same}
+use Rattle.pm_chunks.proofs.Searched.{holds_still, looked_lost, looked_none, looked_occupied, looked_then, saw_still, word_same}
 use Rattle.pm_chunks.specs.Chunks.{SawOneTaken, chunk_bits}
 use Rattle.pm_chunks.specs.Looking.{AreTaken, CanTry, HasGotIn, HasLooked, HasLost, HasNoneBelow, HasWon, HoldsZone, IsOneSet, LookedOn}
 
@@ -80,7 +81,7 @@ module _ (at : View → Type 0) (v : View) (zone count found : ℕ) where
             record {
               holds = holds_still v w looked zone refl is;
               saw = saw_one (Occupied (Zone zone) found) v.seen;
-              alone = λ lone. alone (sym (ap (λ (z : View). z.table) looked.same) ∙ lone) ∙ sym (word_same v w looked zone (sym (ap (λ (z : View). z.table) looked.same) ∙ lone));
+              alone = λ lone. let is = alone_before v w looked.kept lone in alone is ∙ sym (word_same v w looked zone is);
             },
             λ first low. absurd (omega (arith, low)),
           );
@@ -106,14 +107,14 @@ module _ (at : View → Type 0) (v : View) (zone count found : ℕ) where
             holds = (
               record {
                 holds = holds_still from w on zone lost.looks.locks can.holds;
-                saw = on.remembers _ can.saw;
-                alone = λ lone. let is = sym (ap (λ (z : View). z.table) on.same) ∙ lone in can.alone is ∙ sym (word_same from w on zone is);
+                saw = on.kept.remembers _ can.saw;
+                alone = λ lone. let is = alone_before from w on.kept lone in can.alone is ∙ sym (word_same from w on zone is);
               },
               below_more (λ first. SawOneTaken w zone first count) n (λ first low. saw_still from w on zone first count (tried.looks.holds.1 first low)) lost.looks.holds,
             );
           };
           taken = λ lone. below_more (λ first. IsOneSet (occ_in v (Zone zone)) first count) n (tried.taken lone)
-              (subst (λ word. IsOneSet word n count) (word_same v from tried.looks.looked zone lone) (lost.taken (still_alone v from tried.looks.looked lone)));
+              (subst (λ word. IsOneSet word n count) (word_same v from tried.looks.looked zone lone) (lost.taken (still_alone v from tried.looks.looked.kept lone)));
         }
 
     pub tries_won : n + count ≤ 64 → HasWon at from zone n count → HasGotIn at v zone n count

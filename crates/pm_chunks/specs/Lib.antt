@@ -1,2 +1,3 @@
 pub mod Chunks
 pub mod Looking
+pub mod Tests

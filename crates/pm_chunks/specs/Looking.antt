@@ -8,7 +8,7 @@ use Rattle.pm_view.specs.Steps.Step.{Occupied, Occupy, ZoneTry}
 use Rattle.pm_view.specs.View.{View}
 use Rattle.pm_view.specs.Views.{after, occ_in}
 use Rattle.pm_world.specs.Lawful.{HasOcc, IsEarly, MayOccupy}
-use Rattle.pm_world.specs.Searches.{HasSearched, Searches}
+use Rattle.pm_world.specs.Searches.{HasSearched, IsKeptBySearch, Searches}
 use Rattle.pm_chunks.specs.declared.reserving.Sought.{Sought}
 use Rattle.pm_chunks.specs.declared.reserving.Sought.TheVariants.{Got, Full, Busy}
 use Rattle.pm_chunks.specs.Chunks.{SawNoneIn, SawOneTaken, chunk_bits, taken_chunks}
@@ -17,8 +17,8 @@ use Rattle.pm_chunks.specs.Chunks.{SawNoneIn, SawOneTaken, chunk_bits, taken_chu
 pub record LookedOn (v w : View) : Type 0 where
   pub steps : List Step
   pub searches : Searches v steps w
+  pub kept : IsKeptBySearch v w
   pub same : w ≡ record v { zone_words = w.zone_words; zone_locks = w.zone_locks; seen = w.seen }
-  pub remembers : (s : Step) → Contains v.seen s → Contains w.seen s
   pub alone : IsAlone v → w.zone_words ≡ v.zone_words
 
 -- the memory may be seen as a view to which looks led, with the same zones' locks, and of which this holds

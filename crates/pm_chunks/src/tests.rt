@@ -1,9 +1,5 @@
-ghost use Rattle.std.specs.Prelude.{◌≡◌, [], IfOk, length};
-ghost use Rattle.pm_chunks.specs.Chunks.{MaySearch};
-ghost use Rattle.pm_memory.specs.Solo.{Sees};
-ghost use Rattle.pm_view.specs.Log.{no_log};
-ghost use Rattle.pm_view.specs.Log.Phase.{Idle};
-ghost use Rattle.pm_view.specs.View.{View};
+ghost use Rattle.std.specs.Prelude.{◌≡◌, ◌≤◌, IfOk, length};
+ghost use Rattle.pm_chunks.specs.Tests.{Rests};
 
 use super::*;
 use pm_image::Block;
@@ -24,7 +20,7 @@ fn filled(alloc: Global, word: u64, count: usize) -> Result<Vec<u64>, AllocError
 
 /// A lane alone, over an empty pool of one lane and one zone, whose zone has this occupancy word.
 fn lane_over(alloc: Global, taken: u64) -> Result<Lane<SoloMem>, Fail>
-    ensures { IfOk result (λ lane. (v : View) × (Sees lane.memory v × MaySearch v lane.shape × (v.lanes ≡ 1) × (v.changes ≡ []) × (v.reserved ≡ []) × (v.log ≡ no_log Idle))) }
+    ensures { IfOk result (λ lane. Rests lane.memory lane.shape) }
 {
     let words = filled(alloc, 0, 34_816)?;
     let runs = filled(alloc, 0, 68)?;
@@ -32,6 +28,28 @@ fn lane_over(alloc: Global, taken: u64) -> Result<Lane<SoloMem>, Fail>
     let opened = SoloMem::new(alloc, words, None)?;
     let memory = opened.with_occupancy(runs, zones);
     Ok(Lane::new(memory, 7, Shape::new(1, 1)?))
+}
+
+/// Reserves chunks, of a lane that goes on to rest.
+fn reserve(lane: &mut Lane<SoloMem>, count: u64) -> Result<Block, Refusal>
+    requires some { 1 ≤ count }
+    requires most { count ≤ 64 }
+    requires rests { Rests lane.old.memory lane.old.shape }
+    ensures { Rests lane.new.memory lane.new.shape }
+{
+    reserve_chunks(lane, count)
+}
+
+/// Reserves chunks and gives them back.
+fn reserve_and_give_back(lane: &mut Lane<SoloMem>, count: u64) -> Result<Block, Refusal>
+    requires some { 1 ≤ count }
+    requires most { count ≤ 64 }
+    requires rests { Rests lane.old.memory lane.old.shape }
+    ensures { Rests lane.new.memory lane.new.shape }
+{
+    let block = reserve_chunks(lane, count)?;
+    give_back(lane, block);
+    Ok(block)
 }
 
 /// Of the zone's chunks 0 and 2 are taken: two that lie one after another are free from 3 on, at place 28,672, and 62 are nowhere.
@@ -42,27 +60,55 @@ fn least_free_chunks(rt: HostRuntime) -> Result<(), Fail> {
         place: 28_672,
         lines: 128,
     };
-    assert_eq!(rt; reserve_chunks(&mut lane, 2), Ok(two));
+    assert_eq!(rt; reserve(&mut lane, 2), Ok(two));
     let mut other = lane_over(rt.alloc(), 0b101)?;
-    assert_eq!(rt; reserve_chunks(&mut other, 62), Err(Refusal::NoSpace));
+    assert_eq!(rt; reserve(&mut other, 62), Err(Refusal::NoSpace));
     Ok(())
 }
 
-/// Chunks 1 and 2 are got and given back; chunk 0 stays taken.
+/// Chunk 0 is taken, and stays so: two are got from 1 on, and once they are given back they are got there again.
 #[test]
 fn given_back(rt: HostRuntime) -> Result<(), Fail> {
     let mut lane = lane_over(rt.alloc(), 0b001)?;
-    let got = lane.memory.occupy(Occ::Zone(0), 0b110);
-    assert_eq!(rt; got, true);
-    if got {
-        give_back(
-            &mut lane,
-            Block {
-                place: 20_480,
-                lines: 128,
-            },
-        );
-        assert_eq!(rt; lane.memory.occupied(Occ::Zone(0)), 0b001);
-    }
+    let two = Block {
+        place: 20_480,
+        lines: 128,
+    };
+    assert_eq!(rt; reserve_and_give_back(&mut lane, 2), Ok(two));
+    assert_eq!(rt; lane.memory.occupied(Occ::Zone(0)), 0b001);
+    assert_eq!(rt; reserve(&mut lane, 2), Ok(two), "again");
+    Ok(())
+}
+
+/// 49 chunks from place 16,384 on and the 15 behind them fill a zone.
+#[test]
+fn zone_filled_by_two_blocks(rt: HostRuntime) -> Result<(), Fail> {
+    let mut lane = lane_over(rt.alloc(), 0)?;
+    let most = Block {
+        place: 16_384,
+        lines: 3_136,
+    };
+    let rest = Block {
+        place: 217_088,
+        lines: 960,
+    };
+    assert_eq!(rt; reserve(&mut lane, 49), Ok(most));
+    assert_eq!(rt; reserve(&mut lane, 16), Err(Refusal::NoSpace));
+    assert_eq!(rt; reserve(&mut lane, 15), Ok(rest));
+    assert_eq!(rt; reserve(&mut lane, 1), Err(Refusal::NoSpace));
+    Ok(())
+}
+
+/// All 64 chunks of a zone are one block, and again once they are given back.
+#[test]
+fn zone_filled_by_one_block(rt: HostRuntime) -> Result<(), Fail> {
+    let mut lane = lane_over(rt.alloc(), 0)?;
+    let whole = Block {
+        place: 16_384,
+        lines: 4_096,
+    };
+    assert_eq!(rt; reserve_and_give_back(&mut lane, 64), Ok(whole));
+    assert_eq!(rt; reserve(&mut lane, 64), Ok(whole), "again");
+    assert_eq!(rt; reserve(&mut lane, 1), Err(Refusal::NoSpace));
     Ok(())
 }

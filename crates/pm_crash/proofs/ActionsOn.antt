@@ -57,7 +57,7 @@ moves_on : (v next : View) (op : Operation) (reply : Option Value) (level : ℕ)
     → IsOpen next level stage.Work error.None
 moves_on v next op reply level is_open tells logs keeps moves =
     still_open v next level level op reply is_open tells
-    (goes_back v next tells.keeps (same_found v next tells.locks) logs (λ i outside none. keeps.words i outside) is_open.outside)
+    (goes_back v next tells.keeps (same_found v next tells.locks) logs (λ i outside none. keeps.words i outside) is_open.outside is_open.under)
     (λ w header pool same_id before next_before c.
     let how = moves w header pool same_id before c in
     let leaves : after_reply op reply c.tx ≡ moved_on op reply c.tx = how.0.leaves in

@@ -20,7 +20,7 @@ use Rattle.pm_crash.specs.OpenCall.{IsBefore, call_words, IsOpen, words_recorded
 use Rattle.pm_crash.specs.Operations.{AddsRange, IsPresent}
 use Rattle.pm_crash.proofs.CallWords.{call_works, covered_is_outside, held_is_locked, object_under, other_call_word, recorded_call_word, same_pool, IsObjectOf}
 use Rattle.pm_crash.proofs.Continued.{answers_done, still_open}
-use Rattle.pm_crash.proofs.KeptWords.{found_back, same_found}
+use Rattle.pm_crash.proofs.KeptWords.{found_back, lies_further, same_found, under_further}
 use Rattle.pm_crash.proofs.NewRecords.{new_is_covered, number_of_new, recorded_member, slot_added, slot_kept, words_of_all, words_of_new}
 use Rattle.pm_crash.proofs.Passing.{passes_all, Works}
 use Rattle.std.proofs.lemmas.List.Elements.{All-nil}
@@ -59,11 +59,11 @@ add_back v next id off len adds w before =
     record {
       recorded = λ slot r i at inside.
           before.recorded slot r i (ap (λ (records : List Recorded). slice_get records slot) adds.records ∙ slot_kept v.log.records adds.added slot r at) inside;
-      known = λ i known outside none. ⊎_elim
+      known = λ i known outside none lies. ⊎_elim
           (λ (is : is_recorded adds.added i ≡ true). new_is_before v next id off len i w adds before is)
           (λ (is : is_recorded adds.added i ≡ false).
           before.known i (adds.tells.keeps.known i known) (ap (λ (n : ℕ). is_in_area n i) adds.tells.keeps.lane ∙ outside)
-          (recorded_after v next id off len i adds ∙ or_from (is_recorded v.log.records i) (is_recorded adds.added i) none is)
+          (recorded_after v next id off len i adds ∙ or_from (is_recorded v.log.records i) (is_recorded adds.added i) none is) (lies_further v next adds.tells.keeps w i lies)
           ∙ adds.keeps.words i outside)
           (cases_Bool (is_recorded adds.added i));
       found = found_back v next adds.tells.keeps (same_found v next adds.tells.locks) w before;
@@ -99,6 +99,10 @@ add_keeps_open v next id off len level some is_open adds =
           (λ (old : is_recorded v.log.records i ≡ true). is_open.outside i old)
           (λ (new : is_recorded added i ≡ true). new_is_outside v next id off len level i is_open adds new)
           (or_cases (is_recorded v.log.records i) (is_recorded added i) (sym (recorded_after v next id off len i adds) ∙ is));
+      under = λ i is. under_further v next (same_found v next adds.tells.locks) i (⊎_elim
+          (λ (old : is_recorded v.log.records i ≡ true). is_open.under i old)
+          (λ (new : is_recorded added i ≡ true). adds.under i new)
+          (or_cases (is_recorded v.log.records i) (is_recorded added i) (sym (recorded_after v next id off len i adds) ∙ is)));
       before = add_back v next id off len adds;
       entries = adds.entries;
     })

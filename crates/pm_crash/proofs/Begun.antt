@@ -123,6 +123,7 @@ begin_opens v wants begins = record {
   chunks = begins.takes.chunks;
   unentered = begins.no_entries;
   outside = λ i is. absurd (let clash : false ≡ true = sym (ap (λ (records : List Recorded). is_recorded records i) begins.no_records) ∙ is in cc);
+  under = λ i is. absurd (let clash : false ≡ true = sym (ap (λ (records : List Recorded). is_recorded records i) begins.no_records) ∙ is in cc);
   comes = λ w header pool holds id before.
       let told : Answered = record { operation = Begin wants; reply = None } in
       let tx : Transaction = after told (resting pool (pending_before v)) in

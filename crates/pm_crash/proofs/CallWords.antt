@@ -24,9 +24,10 @@ use Rattle.pm_world.specs.History.{made_final}
 use Rattle.pm_world.specs.Records.{is_recorded}
 use Rattle.pm_crash.specs.Locks.{AreSameLocks}
 use Rattle.pm_crash.specs.Held.{HoldsPool}
-use Rattle.pm_crash.specs.OpenCall.{IsBefore, call_words, ComesTo, IsOpen, lock_of, locks_of, block_at_line, made_words}
+use Rattle.pm_crash.specs.OpenCall.{IsBefore, call_words, ComesTo, IsOpen, LiesInBlock, lock_of, locks_of, block_at_line, made_words}
 use Rattle.pm_crash.specs.Operations.{IsHeld}
 use Rattle.pm_crash.proofs.Covered.{covered_has_byte}
+use Rattle.pm_crash.proofs.Apart.{lines_of_block}
 use Rattle.pm_crash.proofs.ObjectsOfBlocks.{object_is_there}
 use Rattle.pm_crash.proofs.Passing.{Works}
 
@@ -48,10 +49,10 @@ pub same_made_words : (v next : View) → next.lane ≡ v.lane → next.log.entr
 same_made_words v next lane entries w same = (λ j i. made_final (filter (λ (f : Final). not (is_in_area (lane j) f.word)) (entries j)) i (same j i))
 
 -- a known word outside the lane's area is as the lane has it
-pub known_call_word : (v : View) (w : ℕ → ℕ) (i : ℕ) → IsBefore v w → Contains v.known i → is_in_area v.lane i ≡ false → call_words v w i ≡ slice_index v.words i
-known_call_word v w i before known outside = ⊎_elim
+pub known_call_word : (v : View) (w : ℕ → ℕ) (i : ℕ) → IsBefore v w → Contains v.known i → is_in_area v.lane i ≡ false → LiesInBlock w v.lanes v.zones i → call_words v w i ≡ slice_index v.words i
+known_call_word v w i before known outside lies = ⊎_elim
     (λ (is : is_recorded v.log.records i ≡ true). recorded_call_word v w i is)
-    (λ (is : is_recorded v.log.records i ≡ false). other_call_word v w i is ∙ before.known i known outside is)
+    (λ (is : is_recorded v.log.records i ≡ false). other_call_word v w i is ∙ before.known i known outside is lies)
     (cases_Bool (is_recorded v.log.records i))
 
 -- a line of a chunk is behind all lanes' areas
@@ -124,7 +125,9 @@ object_found v w header tx id write in_lanes chunks before holds blocks_stay hel
     let is_there : Contains (blocks words v.lanes v.zones) block = subst (λ (bs : List Block). Contains bs block) (sym blocks_stay) was_there in
     let outside : is_in_area v.lane (8 * line + 1) ≡ false = under_is_outside v held.lock held.lines (8 * line + 1) in_lanes chunks held.held held.block (omega arith) in
     let header_word : 64 * line / 8 + 1 ≡ 8 * line + 1 = omega arith in
-    let size : size_in words block ≡ slice_index v.words (8 * line + 1) = ap words header_word ∙ known_call_word v w (8 * line + 1) before size_known outside in
+    let some : 1 ≤ held.lines = lines_of_block words v.lanes v.zones block holds.no_fault is_there in
+    let lies : LiesInBlock w v.lanes v.zones (8 * line + 1) = record { block = block; is_there = was_there; from = omega arith; to = omega arith } in
+    let size : size_in words block ≡ slice_index v.words (8 * line + 1) = ap words header_word ∙ known_call_word v w (8 * line + 1) before size_known outside lies in
     let object = object_is_there words v.lanes v.zones header tx.pool block holds is_there in
     let bytes : bytes_of tx.pool.objects id.off ≡ bytes_in words block =
     ap (bytes_of tx.pool.objects) held.place ∙ ap (λ (o : Option Object). option_map_or (λ (x : Object). x.bytes) o []) object.found in

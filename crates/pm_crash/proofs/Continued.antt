@@ -26,7 +26,7 @@ use Rattle.pm_view.specs.View.{View, Lock}
 use Rattle.pm_world.specs.Records.{is_recorded}
 use Rattle.pm_crash.specs.Locks.{AreSameLocks}
 use Rattle.pm_crash.specs.Held.{HoldsPool}
-use Rattle.pm_crash.specs.OpenCall.{IsBefore, call_words, ComesTo, IsOpen, RunsTo, locks_of, words_recorded}
+use Rattle.pm_crash.specs.OpenCall.{IsBefore, call_words, ComesTo, IsOpen, RecordsUnder, RunsTo, locks_of, words_recorded}
 use Rattle.pm_crash.specs.Operations.{KeepsLane, Tells}
 use Rattle.pm_crash.proofs.Passing.{unhindered, AsksNoLock}
 use Rattle.pm_crash.specs.Pending.{pending_before, pending_behind, pending_in, published_by, published_in, told_in, told_of}
@@ -127,6 +127,7 @@ next_comes v next level to op reply w header pool lane call c on =
 -- what the words before the call are, for the view before the operation
 pub record GoesBack (v next : View) : Type 0 where
   pub outside : (i : ℕ) → is_recorded next.log.records i ≡ true → is_in_area v.lane i ≡ false
+  pub under : RecordsUnder next
   pub before : (w : ℕ → ℕ) → IsBefore next w → IsBefore v w
   pub entries : next.log.entries ≡ v.log.entries
 
@@ -143,6 +144,7 @@ still_open v next level to op reply is_open tells back continues =
       few = subst (λ (locks : List Lock). length locks ≤ 64) (sym tells.locks) is_open.few;
       chunks = λ l lines held found. ap (λ (n : ℕ). is_chunk n (l.line / 64)) lanes ∙ is_open.chunks l lines (subst (λ (locks : List Lock). Contains locks l) tells.locks held) found;
       outside = λ i is. ap (λ (n : ℕ). is_in_area n i) lane ∙ back.outside i is;
+      under = back.under;
       unentered = back.entries ∙ is_open.unentered;
       comes = λ w header pool holds id before.
           let old_id : v.pool ≡ header.id = sym tells.keeps.pool ∙ id in

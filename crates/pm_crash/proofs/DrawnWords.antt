@@ -1,45 +1,33 @@
 -- As a lane draws, where no other lane has a call: the words after the whole history are those before its call.
-use Rattle.std.proofs.Common.{◌≡◌, ◌≢◌, ⊎_elim, inl, inr, ℕ, ◌+◌, ◌/◌, ◌<◌, ◌||◌, true, false, eqb, leb, IfSome, List, [], slice_index, Option, Some, None, refl, sym, ◌∙◌, ap, subst, arith}
-use Rattle.std.specs.List.{Contains, list_any}
-use Rattle.std.proofs.lemmas.Bool.{and_parts, and_right, cases_Bool, cases_eq, eqb-true, false_from_ne_true, false≢true, leb-true, or_cases, or_from}
+use Rattle.std.proofs.Common.{◌≡◌, ◌≢◌, ⊎_elim, inl, inr, ℕ, ◌+◌, ◌/◌, ◌<◌, true, false, eqb, leb, IfSome, List, [], slice_index, Option, Some, None, refl, sym, ◌∙◌, ap, subst, arith}
+use Rattle.std.specs.List.{Contains}
+use Rattle.std.proofs.lemmas.Bool.{and_parts, and_right, cases_Bool, cases_eq, eqb-true, false_from_ne_true, leb-true, or_from}
 use Rattle.std.proofs.lemmas.List.Elements.{All-contains}
 use Rattle.std.proofs.lemmas.List.Folds.{Any-from_list_any}
 use Rattle.std.proofs.lemmas.Option.{none-some}
 use Rattle.pm_image.specs.Blocks.{blocks}
 use Rattle.pm_image.specs.HeapFaults.{heap_fault}
-use Rattle.pm_image.specs.Reads.{IsHeapWord}
-use Rattle.pm_view.specs.Area.{is_in_area}
 use Rattle.pm_view.specs.Blocks.{bitmap_word, block_at, chunk_of, descriptor_word, is_run, zone_page}
-use Rattle.pm_view.specs.Held.{is_reserved, is_under, is_under_found}
 use Rattle.pm_view.specs.Log.{Final, Recorded}
 use Rattle.pm_view.specs.Log.Phase.{Open}
-use Rattle.pm_view.specs.View.{View, Lock}
+use Rattle.pm_view.specs.View.{View}
 use Rattle.pm_world.specs.Course.{flight, flight_in}
 use Rattle.pm_world.specs.Entries.{is_entered, is_in_log, is_redoing, is_redone}
 use Rattle.pm_world.specs.Fits.{LaneFits, LockFits}
 use Rattle.pm_world.specs.History.{Entry, Flies, is_final, settled}
-use Rattle.pm_world.specs.Opening.{Guards, IsChunk, IsSound, Opening, TellsOfBlocks}
+use Rattle.pm_world.specs.Opening.{Guards, IsChunk, Opening, TellsOfBlocks}
 use Rattle.pm_world.specs.Records.{is_logged, is_recorded}
 use Rattle.pm_world.specs.World.{World}
 use Rattle.pm_world.proofs.CrashLogs.{unrecorded_unlogged}
 use Rattle.pm_world.proofs.Pairs.{none_redone}
-use Rattle.pm_world.proofs.Reserved.{reserved_apart}
 use Rattle.pm_world.proofs.Replays.{replayed-other, replayed-same}
 use Rattle.pm_crash.specs.Lines.{AgreeAtLine}
 use Rattle.pm_crash.specs.OneLane.{Moment}
-use Rattle.pm_crash.specs.OpenCall.{IsBefore, block_at_line}
+use Rattle.pm_crash.specs.OpenCall.{IsBefore, LiesInBlock, block_at_line}
 use Rattle.pm_crash.proofs.FoundBlocks.{block_in_chunk, found_is_block, found_within}
+use Rattle.pm_crash.proofs.Continued.{two_same}
+use Rattle.pm_crash.proofs.LivingWords.{lying_lives}
 use Rattle.pm_crash.proofs.LongerReplays.{every, words_after}
-
--- what is under a lock that was found so is the root's word or in the zones
-under_heap : (o : Opening) (line i : ℕ) (block : Option ℕ) → IsSound o → IfSome block (λ lines. block_at o.lanes o.words line ≡ Some lines) → is_under_found line block i ≡ true → IsHeapWord o.lanes o.zones i
-under_heap o line i None sound found under = inl (eqb-true i 64 (and_parts (eqb line 0) (eqb i 64) under).1)
-under_heap o line i (Some lines) sound found under =
-    let guard : Guards o line i = record { lines = lines; block = found; inside = under } in
-    let behind = sound.behind_areas line i guard in
-    let size = sound.size in
-    let within = sound.within line i guard in
-    inr (behind, omega arith)
 
 -- a difference that is of a word has a part of it
 final_there : (difference : List Final) (i : ℕ) → is_final difference i ≡ true → (f : Final) × Contains difference f × (f.word ≡ i)
@@ -54,20 +42,6 @@ module _ (o : Opening) (k : ℕ) (m : Moment) (world : World o m.memory m.views 
 
   fits : own
   fits = world.each_lane k inside
-
-  -- what the lane knows outside of its area is under one of its locks
-  known_heap : (i : ℕ) → Contains v.known i → is_in_area v.lane i ≡ false → IsHeapWord o.lanes o.zones i
-  known_heap i known outside = ⊎_elim
-      (λ (near : (is_in_area v.lane i || list_any (is_under i) v.locks) ≡ true). ⊎_elim
-      (λ (area : is_in_area v.lane i ≡ true). absurd (false≢true (sym outside ∙ area)))
-      (λ (under : list_any (is_under i) v.locks ≡ true).
-      let t = Any-from_list_any (is_under i) v.locks under in
-      let l : Lock = t.1 in
-      let fit : LockFits o m.memory k l = All-contains (LockFits o m.memory k) v.locks l fits.locks (t.0, t.2, t.3) in
-      under_heap o l.line i l.block world.sound fit.found t.4)
-      (or_cases (is_in_area v.lane i) (list_any (is_under i) v.locks) near))
-      (λ (reserved : is_reserved v i ≡ true). let apart = reserved_apart (slice_index o.words) o.lanes o.zones v i fits.lane.lanes fits.picture.descriptors fits.blocks reserved in inr (apart.behind, apart.within))
-      (or_cases (is_in_area v.lane i || list_any (is_under i) v.locks) (is_reserved v i) (fits.picture.held i known))
 
   -- no entry is of a word that tells of blocks
   pub heads_stay : (i : ℕ) → TellsOfBlocks o i → words_after (slice_index o.words) m.log i ≡ slice_index o.words i
@@ -117,8 +91,10 @@ module _ (o : Opening) (k : ℕ) (m : Moment) (world : World o m.memory m.views 
     pub drawn_before : heap_fault (words_after (slice_index o.words) m.log) o.lanes o.zones ≡ None → IsBefore v (words_after (slice_index o.words) m.log)
     drawn_before none = record {
       recorded = λ slot r i at low. sym (((fits.log.each slot r at).each i low).before ∙ settled_is (r.word + i));
-      known = λ i known outside unrecorded.
-          sym (settled_is i) ∙ sym (world.each_word i (known_heap i known outside) (unlogged i unrecorded)) ∙ fits.picture.known i known;
+      known = λ i known outside unrecorded lies.
+          let here : LiesInBlock (words_after (slice_index o.words) m.log) o.lanes o.zones i =
+          two_same (λ (n l : ℕ). LiesInBlock (words_after (slice_index o.words) m.log) n l i) v.lanes o.lanes v.zones o.zones fits.lane.lanes fits.lane.zones lies in
+          sym (settled_is i) ∙ sym (world.each_word i (lying_lives o (words_after (slice_index o.words) m.log) heads_stay world.sound none i here) (unlogged i unrecorded)) ∙ fits.picture.known i known;
       found = λ l lines there block.
           let fit : LockFits o m.memory k l = All-contains (LockFits o m.memory k) v.locks l fits.locks there in
           let found : block_at o.lanes o.words l.line ≡ Some lines = subst (λ (b : Option ℕ). IfSome b (λ n. block_at o.lanes o.words l.line ≡ Some n)) block fit.found in

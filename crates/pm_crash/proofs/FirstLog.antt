@@ -32,6 +32,7 @@ use Rattle.pm_world.specs.Lawful.{Allowed, AppendsToPair, AppendsToSlot, CanReco
 use Rattle.pm_world.specs.Opening.{Opening}
 use Rattle.pm_world.specs.Records.{generation_of, is_recorded, records_generation, spelled}
 use Rattle.pm_world.proofs.CrashLogs.{InSlots, logged_recorded}
+use Rattle.pm_world.proofs.Aside.{IsAside, aside_written, reserved_aside}
 use Rattle.pm_world.proofs.CrashWords.{behind_areas}
 use Rattle.pm_world.proofs.Exclusion.{writes_under}
 use Rattle.pm_world.proofs.Parts.{generation_part, seal_part}
@@ -342,6 +343,22 @@ module _ (o : Opening) (header : Header) (pool : PoolView) (v : View) (stands : 
                 (λ u own new. other_word u (λ e. false≢true (sym new ∙ (ap (is_recorded v.log.records) e ∙ logged_recorded v w may.logged))));
           }
 
+      -- a word in a block that the lane reserved
+      reserved_carries : is_reserved v w ≡ true → Carries v (stored v.log)
+      reserved_carries reserved =
+          let aside : IsAside o stands.views 0 w = reserved_aside o (memory_of v) stands.views stands.log stands.decided stands.goes.world 0 w stands.goes.in_lanes (ap (λ u. is_reserved u w) stands.here ∙ reserved) in
+          let some = stands.goes.in_lanes in
+          let far : 1536 ≤ w = let low = aside.apart.behind in omega (arith, low, some) in
+          record {
+            lane = refl;
+            area = λ i part high. other_word i (λ e. omega (arith, e, far, high));
+            olds = new_changes (λ (c : Change). InSlots 0 c.word → OldOf v.changes c) (λ c there slots. itself v.changes c there) (λ slots. absurd (let high = slots.high in omega (arith, far, high)));
+            records = refl;
+            entries = λ applied is. refl;
+            can = λ slot pair is. can_on v (stored v.log) refl (λ u own. own) (λ u own. known_more (is_in_area v.lane u) true w v.known u)
+                (λ u own new. other_word u (λ e. aside_written o stands.views 0 w stands.goes.world.sound aside (memory_of v) 0 v fits.locks (ap (is_written v) (sym e) ∙ own)));
+          }
+
       -- a word of the area that is neither the generation nor of a slot
       area_carries : (lg : Log) → 513 ≤ w → w < 648 → lg.records ≡ v.log.records → ((applied : ℕ) → v.log.phase ≡ Applying applied → lg.entries ≡ v.log.entries) → Carries v (stored lg)
       area_carries lg low high records entries = record {
@@ -395,7 +412,8 @@ module _ (o : Opening) (header : Header) (pool : PoolView) (v : View) (stands : 
       store_first (Open slot pair) SealWord is of may fit first = absurd may
       store_first (Open slot pair) EntryWord is of may fit first = in_pair slot pair is may fit.short_pair first
       store_first (Open slot pair) SlotWord is of may fit first = in_slot slot pair may fit.short first
-      store_first (Open slot pair) OtherWord is of may fit first = first_still (stored v.log) (object_carries may) refl (subst (FirstLog origin v) (sym is) first)
+      store_first (Open slot pair) OtherWord is of (inl writes) fit first = first_still (stored v.log) (object_carries writes) refl (subst (FirstLog origin v) (sym is) first)
+      store_first (Open slot pair) OtherWord is of (inr fills) fit first = first_still (stored v.log) (reserved_carries fills.reserved) refl (subst (FirstLog origin v) (sym is) first)
       store_first Drawn GenerationWord is of may fit first = raises of may first (record v.log { phase = Retiring })
       store_first Drawn SealWord is of may fit first = sealed (λ g. generation_word origin.words 0 ≤ g) Sealing of first
       store_first Drawn EntryWord is of may fit first = absurd may

@@ -1,5 +1,5 @@
 -- No lane changes a word before the lanes' areas, so every image has the header page.
-use Rattle.std.proofs.Common.{◌≡◌, inl, ⊎_elim, IsTrue, ℕ, ◌*◌, ◌<◌, ◌≤◌, Bool, true, false, List, length, slice_index, take, refl, sym, ◌∙◌, ap, subst, arith}
+use Rattle.std.proofs.Common.{◌≡◌, inr, inl, ⊎_elim, IsTrue, ℕ, ◌*◌, ◌<◌, ◌≤◌, Bool, true, false, List, length, slice_index, take, refl, sym, ◌∙◌, ap, subst, arith}
 use Rattle.std.proofs.lemmas.List.{ext_get_or, get_or-take, length-take}
 use Rattle.pm_header.specs.Pairs.{IsHeaderIn}
 use Rattle.pm_header.specs.declared.header.Header.{Header}
@@ -22,7 +22,8 @@ use Rattle.pm_world.specs.Opening.{Opening}
 use Rattle.pm_world.specs.Records.{is_logged}
 use Rattle.pm_world.specs.World.{Views, World}
 use Rattle.pm_world.proofs.CrashLogs.{logged_recorded}
-use Rattle.pm_world.proofs.CrashWords.{behind_areas, recorded_writes, word_stays}
+use Rattle.pm_world.proofs.CrashWords.{behind_areas, recorded_writes, reserved_word, word_stays}
+use Rattle.pm_world.proofs.Living.{before_zones}
 use Rattle.pm_world.proofs.Exclusion.{WritesUnder, writes_under}
 use Rattle.pm_world.proofs.Locations.{other_occ, other_zone_lock, plain_pool, other_pool, pool-counter, pool-lock, pool-stop}
 use Rattle.pm_world.proofs.Parts.{generation_part, seal_part}
@@ -43,8 +44,9 @@ module _ (o : Opening) (mem : Memory) (views : Views) (log : List Entry) (decide
     store_behind w x' (Open slot pair) SealWord is fits = absurd fits
     store_behind w x' (Open slot pair) EntryWord is fits = let at = fits.at in omega arith
     store_behind w x' (Open slot pair) SlotWord is fits = let at = fits.at in omega arith
-    store_behind w x' (Open slot pair) OtherWord is fits =
-        let behind = behind_areas o mem views log decided x k w (writes_under o mem k (views k) w (x.each_lane k inside).locks fits.own) in omega arith
+    store_behind w x' (Open slot pair) OtherWord is (inl writes) =
+        let behind = behind_areas o mem views log decided x k w (writes_under o mem k (views k) w (x.each_lane k inside).locks writes.own) in omega arith
+    store_behind w x' (Open slot pair) OtherWord is (inr fills) = let behind = (reserved_word o mem views log decided x k w inside fills.reserved).behind in omega arith
     store_behind w x' Drawn GenerationWord is fits = let at = (generation_part (views k).lane w is).1 in omega arith
     store_behind w x' Drawn SealWord is fits = let at = (seal_part (views k).lane w is).1 in omega arith
     store_behind w x' Drawn EntryWord is fits = absurd fits
@@ -95,7 +97,7 @@ module _ (o : Opening) (mem : Memory) (views : Views) (log : List Entry) (decide
   pub front_survives : (image : List ℕ) → Survives o mem views image → (i : ℕ) → i < 512 → slice_index image i ≡ mem (PoolWord i)
   front_survives image survives i low =
       let size = x.sound.size in
-      word_stays o mem views log decided x image survives i (omega arith) (inl low)
+      word_stays o mem views log decided x image survives i (omega arith) (inl low) (before_zones o i (omega arith))
       (λ k c inside there is logs.
       let writes : WritesUnder o mem k i = ⊎_elim (λ (logged : is_logged (views k) i ≡ true). recorded_writes o mem views log decided x k i inside (logged_recorded (views k) i logged))
       (λ (redone : (is_redone (views k) i ≡ true) × (is_written (views k) i ≡ true)). writes_under o mem k (views k) i (x.each_lane k inside).locks redone.1) logs in

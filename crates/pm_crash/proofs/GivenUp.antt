@@ -30,12 +30,12 @@ use Rattle.pm_world.specs.Records.{covers, is_recorded}
 use Rattle.pm_world.proofs.CrashLogs.{recorded_from}
 use Rattle.pm_crash.specs.Locks.{AreSameLocks}
 use Rattle.pm_crash.specs.Held.{HoldsPool}
-use Rattle.pm_crash.specs.OpenCall.{IsBefore, ComesTo, ComesToNothing, IsGivenUp, IsOpen, RunsTo, Turns, locks_of, words_recorded}
+use Rattle.pm_crash.specs.OpenCall.{IsBefore, ComesTo, ComesToNothing, IsGivenUp, IsOpen, RecordsUnder, RunsTo, Turns, locks_of, words_recorded}
 use Rattle.pm_crash.specs.Pending.{pending_before, pending_behind, pending_in, told_in}
 use Rattle.pm_crash.specs.Operations.{HasRange, KeepsFound, IsHeld, IsNotAdded, IsNotHeld, IsReason, Overfills, Refuses, KeepsLane, TakesBack, Tells}
 use Rattle.pm_crash.proofs.CallWords.{call_works, held_is_locked, object_under, same_pool}
 use Rattle.pm_crash.proofs.Continued.{answers_done, runs_told, told_once_more, two_same}
-use Rattle.pm_crash.proofs.KeptWords.{found_back, same_found}
+use Rattle.pm_crash.proofs.KeptWords.{found_back, lies_further, lies_under, same_found, under_kept}
 use Rattle.pm_crash.proofs.Passing.{fails_added, fails_end, fails_lock, fails_room, passes_all, unhindered, AsksNoLock, Works}
 use Rattle.pm_crash.proofs.RecordedWords.{among_recorded}
 use Rattle.pm_crash.proofs.Runs.{runs_once_more, runs_to_end}
@@ -43,8 +43,8 @@ use Rattle.pm_crash.proofs.PendingOn.{pending_once_more}
 
 -- what was before the call, for the view before it was taken back
 pub taken_back : (v next : View) → KeepsLane v next → KeepsFound v next → TakesBack v next → ((i : ℕ) → is_recorded v.log.records i ≡ true → is_in_area v.lane i ≡ false)
-    → (w : ℕ → ℕ) → IsBefore next w → IsBefore v w
-taken_back v next lane finds back outside w before =
+    → RecordsUnder v → (w : ℕ → ℕ) → IsBefore next w → IsBefore v w
+taken_back v next lane finds back outside under w before =
     record {
       recorded = λ slot r i at inside.
           let covered : covers r (r.word + i) ≡ true = and_from (leb r.word (r.word + i)) (ltb (r.word + i) (r.word + length r.old)) (le-leb r.word (r.word + i) (omega arith)) (lt-ltb (r.word + i) (r.word + length r.old) (omega arith)) in
@@ -53,18 +53,26 @@ taken_back v next lane finds back outside w before =
           (λ (none : next.log.records ≡ []).
           before.known (r.word + i) (back.known slot r i at inside) (ap (λ (n : ℕ). is_in_area n (r.word + i)) lane.lane ∙ outside (r.word + i) is)
           (ap (λ (records : List Recorded). is_recorded records (r.word + i)) none)
+          (lies_further v next lane w (r.word + i) (lies_under v w (r.word + i) (found_back v next lane finds w before) (under (r.word + i) is)))
           ∙ back.restored slot r i at inside)
           (λ (same : next.log.records ≡ v.log.records). before.recorded slot r i (ap (λ (records : List Recorded). slice_get records slot) same ∙ at) inside)
           back.records;
-      known = λ i known out none.
+      known = λ i known out none lies.
           before.known i (lane.known i known) (ap (λ (n : ℕ). is_in_area n i) lane.lane ∙ out)
           (⊎_elim
           (λ (nothing : next.log.records ≡ []). ap (λ (records : List Recorded). is_recorded records i) nothing)
           (λ (same : next.log.records ≡ v.log.records). ap (λ (records : List Recorded). is_recorded records i) same ∙ none)
-          back.records)
+          back.records) (lies_further v next lane w i lies)
           ∙ back.others i out none;
       found = found_back v next lane finds w before;
     }
+
+-- and recorded words of found blocks alone
+pub under_taken_back : (v next : View) → KeepsFound v next → TakesBack v next → RecordsUnder v → RecordsUnder next
+under_taken_back v next finds back under i is = ⊎_elim
+    (λ (none : next.log.records ≡ []). absurd (false≢true (sym (ap (λ (records : List Recorded). is_recorded records i) none) ∙ is)))
+    (λ (same : next.log.records ≡ v.log.records). under_kept v next finds same under i is)
+    back.records
 
 -- it recorded no word of its own area
 pub outside_taken_back : (v next : View) → KeepsLane v next → TakesBack v next → ((i : ℕ) → is_recorded v.log.records i ≡ true → is_in_area v.lane i ≡ false)
@@ -225,9 +233,10 @@ pub gives_up : (v next : View) (op : Operation) (reply : Option Value) (level : 
     → IsGivenUp next e
 gives_up v next op reply level e is_open lane finds kept call back aborts = record {
   outside = outside_taken_back v next lane back is_open.outside;
+  under = under_taken_back v next finds back is_open.under;
   comes = λ w header pool holds id before.
       let old_id : v.pool ≡ header.id = sym lane.pool ∙ id in
-      let old_before : IsBefore v w = taken_back v next lane finds back is_open.outside w before in
+      let old_before : IsBefore v w = taken_back v next lane finds back is_open.outside is_open.under w before in
       let old_holds : HoldsPool w v.lanes v.zones header pool = two_same (λ (n m : ℕ). HoldsPool w n m header pool) next.lanes v.lanes next.zones v.zones lane.lanes lane.zones holds in
       let c : ComesTo v w header pool level stage.Work error.None = is_open.comes w header pool old_holds old_id old_before in
       let how = aborts w header pool old_id old_before c in

@@ -24,7 +24,7 @@ use Rattle.pm_world.specs.Entries.{is_redoing}
 use Rattle.pm_world.specs.History.{Entry, Flies, replayed}
 use Rattle.pm_world.specs.Lawful.{IsLawful}
 use Rattle.pm_world.specs.Memory.{Memory}
-use Rattle.pm_world.specs.Opening.{Opening}
+use Rattle.pm_world.specs.Opening.{IsLivingWord, Opening}
 use Rattle.pm_world.specs.Records.{difference_of}
 use Rattle.pm_world.specs.World.{Views, World}
 use Rattle.pm_world.proofs.CrashLaw.{crash_law}
@@ -37,7 +37,9 @@ use Rattle.pm_crash.specs.OpenCall.{IsGivenUp, IsWholeCall}
 use Rattle.pm_crash.specs.Pending.{act_of, acts_of, pending_after, pending_before, state_after}
 use Rattle.pm_crash.proofs.Drawn.{given_up_draws, own, whole_draws}
 use Rattle.pm_crash.proofs.HistoryActs.{act_drawn, acts_further, replays_none}
-use Rattle.pm_crash.proofs.HeapWordsAlone.{held_by_heap}
+use Rattle.pm_crash.proofs.HeldAlike.{held_by_reads}
+use Rattle.pm_crash.proofs.InFlight.{tells_as_opening}
+use Rattle.pm_crash.proofs.LivingWords.{read_lives}
 
 -- an opening's words hold its pool, with no call made
 pub begins_held : (o : Opening) (decided : ℕ → Bool) (header : Header) (pool : PoolView) → HoldsPool (slice_index o.words) o.lanes o.zones header pool → IsHeldHistory o [] decided header pool
@@ -133,8 +135,11 @@ crash_leaves_replay o mem views log decided image header pool world history surv
     let long : length image ≡ length o.words = survives.size in
     record {
       last = held.last;
-      holds = held_by_heap (kept_words o keep log) (recovered_at image o.lanes) o.lanes o.zones header held.last held.holds (λ i heap.
-          recovered_in_place image o.lanes i (in_image i heap) ∙ crash_law o mem views log decided image world survives none_torn i heap);
+      holds = held_by_reads (kept_words o keep log) (recovered_at image o.lanes) o.lanes o.zones header held.last held.holds (record {
+        same = λ i read.
+            let living : IsLivingWord o i = read_lives o (kept_words o keep log) (tells_as_opening o mem views log decided world keep) world.sound held.holds.no_fault i read in
+            sym (recovered_in_place image o.lanes i (in_image i living.heap) ∙ crash_law o mem views log decided image world survives none_torn i living);
+      });
       replays = held.replays;
     } where
       in_image : (i : ℕ) → IsHeapWord o.lanes o.zones i → i < length image

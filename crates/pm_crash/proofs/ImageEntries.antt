@@ -19,6 +19,7 @@ use Rattle.pm_image.proofs.Redoing.{entries_unsealed}
 use Rattle.pm_view.specs.Area.{area_word, part_of}
 use Rattle.pm_view.specs.Area.Part.{EntryWord, SlotWord}
 use Rattle.pm_view.specs.Changes.{is_in_line}
+use Rattle.pm_view.specs.Held.{is_reserved}
 use Rattle.pm_view.specs.Log.{Final, Phase}
 use Rattle.pm_view.specs.Log.Phase.{Idle, Open, Drawn, Sealing, Applying, Clearing, Retiring}
 use Rattle.pm_view.specs.Rights.{is_written}
@@ -36,7 +37,7 @@ use Rattle.pm_world.proofs.CrashLaw.{seal_drained}
 use Rattle.pm_world.proofs.CrashLogs.{ChangeFits, SealIs, entered_front, entry_of_word, entry_part, slot_part, whole_word}
 use Rattle.pm_world.proofs.CrashRecords.{unsealed}
 use Rattle.pm_world.proofs.CrashSpellings.{valid_parts}
-use Rattle.pm_world.proofs.CrashWords.{OwnTakenBack, area_left, fits_of, lane_is, logged_behind, seal_is, slot_stays, written_behind, written_under}
+use Rattle.pm_world.proofs.CrashWords.{OwnTakenBack, area_left, fits_of, lane_is, logged_behind, reserved_word, seal_is, slot_stays, written_behind, written_under}
 use Rattle.pm_world.proofs.Exclusion.{WritesUnder, one_writer}
 use Rattle.pm_world.proofs.Slots.{all_stale}
 use Rattle.pm_world.proofs.StoreEntry.{entered_early, entered_owned}
@@ -117,9 +118,11 @@ module _ (o : Opening) (mem : Memory) (views : Views) (log : List Entry) (decide
   before j inside t (Open slot pair) fit change =
       let is = t.of_word in let at = lane_is o mem views log decided x j inside in
       ⊎_elim (λ (part : part_of (views j).lane t.change.word ≡ SlotWord). let s = slot_part (views j).lane t.change.word part in let low = s.low in absurd (omega arith))
-      (λ (other : (part_of (views j).lane t.change.word ≡ EntryWord) ⊎ (is_logged (views j) t.change.word ≡ true)).
+      (λ (other : (part_of (views j).lane t.change.word ≡ EntryWord) ⊎ ((is_logged (views j) t.change.word ≡ true) ⊎ (is_reserved (views j) t.change.word ≡ true))).
       ⊎_elim (λ (part : part_of (views j).lane t.change.word ≡ EntryWord). let s = entry_part (views j).lane t.change.word part in let low = s.low in absurd (omega arith))
-      (λ (logged : is_logged (views j) t.change.word ≡ true). let behind = logged_behind o mem views log decided x j t.change.word inside logged in absurd (omega arith)) other)
+      (λ (last : (is_logged (views j) t.change.word ≡ true) ⊎ (is_reserved (views j) t.change.word ≡ true)).
+      ⊎_elim (λ (logged : is_logged (views j) t.change.word ≡ true). let behind = logged_behind o mem views log decided x j t.change.word inside logged in absurd (omega arith))
+      (λ (own : is_reserved (views j) t.change.word ≡ true). let behind = (reserved_word o mem views log decided x j t.change.word inside own).behind in absurd (omega arith)) last) other)
       change.of
   before j inside t Drawn fit change = absurd change
   before j inside t Sealing fit change = let is = t.of_word in let at = lane_is o mem views log decided x j inside in let of = change.of in absurd (omega arith)

@@ -35,12 +35,13 @@ use Rattle.pm_world.specs.World.{Views, World}
 use Rattle.pm_world.proofs.CrashEntries.{HasSealed, generation_is}
 use Rattle.pm_world.proofs.CrashLogs.{ChangeFits, GenerationIs, change_fits, drained_slot, recorded_from, recorded_word}
 use Rattle.pm_world.proofs.CrashSpellings.{covers_back, undo_from, undo_of-spelled, valid_parts}
+use Rattle.pm_world.proofs.CrashSays.{no_slot_change}
 use Rattle.pm_world.proofs.CrashWords.{slot_stays}
 use Rattle.pm_world.proofs.Exclusion.{WritesUnder, one_writer, writes_under}
 use Rattle.pm_crash.proofs.AtMostOne.{all_pass, at_most_one, one_or_none, passing, passing_one, some_part}
 use Rattle.pm_crash.proofs.Guarded.{guarded_in_chunk}
 use Rattle.pm_crash.proofs.ImageEntries.{drained, entry_passes, enters, no_lanes_clash, seal_few, word_in_range}
-use Rattle.pm_crash.proofs.LogCourse.{InRange, IsUnwritten}
+use Rattle.pm_crash.proofs.LogCourse.{SlotsFit, InRange, IsUnwritten}
 use Rattle.pm_crash.proofs.LogCourse as course
 
 generation_from : (v : View) (seal g : ℕ) (phase : Phase) → 1 ≤ generation_of v → GenerationIs v seal g phase → records_generation phase v ≤ g
@@ -93,19 +94,27 @@ no_slot v slot r none drained used (inl at) = no_record v slot r none at
 no_slot v slot r none drained used (inr (last, can, inl undrained)) = false≢true (sym undrained ∙ drained)
 no_slot v slot r none drained used (inr (last, can, inr (past, making))) = omega (arith, past, making, used)
 
+-- nothing of a slot is undrained where nothing of the log is written
+unwritten_drained : (v : View) (words : List ℕ) (slot : ℕ) → IsUnwritten v words → SlotsFit v words → slot < 64 → is_drained_slot v slot ≡ true
+unwritten_drained v words slot un slots low = no_slot_change v slot (λ c there same.
+    let none = ap length un.no_records in
+    let empty = ap length un.no_slot in
+    let before = slots c there (record { low = omega arith; high = omega arith }) in
+    omega arith)
+
 -- the generation of a record that the log has can be raised
-raisable : (flies : ℕ → List Final → Type 0) (v : View) (slot : ℕ) (r : Recorded) (phase : Phase) → v.log.phase ≡ phase → (HasSealed phase → is_drained_slot v slot ≡ true) → PhaseFits flies v phase → InRange (generation_of v) v phase → generation_of v ≤ generation_limit → Stored v slot r
+raisable : (flies : ℕ → List Final → Type 0) (v : View) (slot : ℕ) (r : Recorded) (phase : Phase) → v.log.phase ≡ phase → (HasSealed phase → is_drained_slot v slot ≡ true) → PhaseFits flies v phase → InRange (generation_of v) v phase → generation_of v ≤ generation_limit → slot < 64 → Stored v slot r
     → records_generation phase v < 4611686018427387904
-raisable flies v slot r Idle is drained fits range last stored = absurd (no_slot v slot r fits.no_records (all_drained v slot fits.drained) (ap (λ p. used_slots p v) is) stored)
-raisable flies v slot r (Open words pair) is drained fits range last stored = ⊎_elim
-    (λ (low : generation_of v < generation_limit). omega (arith, low))
-    (λ (un : IsUnwritten v words). absurd (no_slot v slot r un.no_records (all_drained v slot un.no_changes) (ap (λ p. used_slots p v) is ∙ ap (λ (ws : List ℕ). used_slots (Open ws pair) v) un.no_slot) stored))
+raisable flies v slot r Idle is drained fits range last low stored = absurd (no_slot v slot r fits.no_records (all_drained v slot fits.drained) (ap (λ p. used_slots p v) is) stored)
+raisable flies v slot r (Open words pair) is drained fits range last low stored = ⊎_elim
+    (λ (below : generation_of v < generation_limit). omega (arith, below))
+    (λ (un : IsUnwritten v words). absurd (no_slot v slot r un.no_records (unwritten_drained v words slot un range.1 low) (ap (λ p. used_slots p v) is ∙ ap (λ (ws : List ℕ). used_slots (Open ws pair) v) un.no_slot) stored))
     range.0
-raisable flies v slot r Drawn is drained fits range last stored = omega (arith, range)
-raisable flies v slot r Sealing is drained fits range last stored = let below = fits.below in omega (arith, below)
-raisable flies v slot r (Applying applied) is drained fits range last stored = absurd (no_slot v slot r fits.no_records (drained tt) (ap (λ p. used_slots p v) is) stored)
-raisable flies v slot r Clearing is drained fits range last stored = absurd (no_slot v slot r fits.no_records (drained tt) (ap (λ p. used_slots p v) is) stored)
-raisable flies v slot r Retiring is drained fits range last stored = omega (arith, range, last)
+raisable flies v slot r Drawn is drained fits range last low stored = omega (arith, range)
+raisable flies v slot r Sealing is drained fits range last low stored = let below = fits.below in omega (arith, below)
+raisable flies v slot r (Applying applied) is drained fits range last low stored = absurd (no_slot v slot r fits.no_records (drained tt) (ap (λ p. used_slots p v) is) stored)
+raisable flies v slot r Clearing is drained fits range last low stored = absurd (no_slot v slot r fits.no_records (drained tt) (ap (λ p. used_slots p v) is) stored)
+raisable flies v slot r Retiring is drained fits range last low stored = omega (arith, range, last)
 
 module _ (o : Opening) (mem : Memory) (views : Views) (log : List Entry) (decided : ℕ → Bool) (x : World o mem views log decided) (image : List ℕ) (survives : Survives o mem views image) (whole : NoneTorn o views image)
     (ranges : (j : ℕ) → j < o.lanes → InRange (mem (PoolWord (area_word j))) (views j) (views j).log.phase) (none : heap_fault (slice_index o.words) o.lanes o.zones ≡ None) where
@@ -243,7 +252,7 @@ module _ (o : Opening) (mem : Memory) (views : Views) (log : List Entry) (decide
         let n : ℕ = length r.old in
         let some = valid_slot.some in
         let most = valid_slot.most in
-        let low = raisable (Flies log decided j) v slot r v.log.phase refl (sealed_drained j slot inside within) (fits j inside).phase (range_of j inside) (fits j inside).last_generation valid_slot.stored in
+        let low = raisable (Flies log decided j) v slot r v.log.phase refl (sealed_drained j slot inside within) (fits j inside).phase (range_of j inside) (fits j inside).last_generation within valid_slot.stored in
         let g : ℕ = records_generation v.log.phase v in
         let place : 8 * r.word / 8 ≡ r.word = omega arith in
         and_from (leb 1 n && leb n 4 && eqb (8 * r.word % 8) 0 && list_all (λ k. in_chunk o.lanes o.zones (8 * r.word / 8 + k)) (range_with_len 0 n)) (not (eqb g 4611686018427387904))

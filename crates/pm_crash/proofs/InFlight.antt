@@ -1,16 +1,15 @@
 -- What a lane looks at is in no other lane's call in flight, so whichever of these are left out, the words may be those before its open call.
-use Rattle.std.proofs.Common.{◌≡◌, ◌≢◌, inl, inr, ⊎_elim, ℕ, ◌+◌, ◌/◌, ◌<◌, ◌||◌, Bool, true, false, not, cond, eqb, IsTrue, IfSome, List, [], ◌∷◌, ◌++◌, length, slice_index, Option, Some, None, refl, sym, ◌∙◌, ap, subst, arith}
-use Rattle.std.specs.List.{Contains, list_any}
-use Rattle.std.proofs.lemmas.Bool.{and_parts, cases_Bool, cases_eq, cond-true, eqb-true, or_from, false_from_ne_true, false≢true, or_cases}
+use Rattle.std.proofs.Common.{◌≡◌, ◌≢◌, inl, inr, ⊎_elim, ℕ, ◌+◌, ◌/◌, ◌<◌, Bool, true, false, not, cond, eqb, IsTrue, IfSome, List, [], ◌∷◌, ◌++◌, slice_index, Option, Some, None, refl, sym, ◌∙◌, ap, subst, arith}
+use Rattle.std.specs.List.{Contains}
+use Rattle.std.proofs.lemmas.Bool.{cases_Bool, cases_eq, cond-true, eqb-true, or_from, false_from_ne_true}
 use Rattle.std.proofs.lemmas.List.Elements.{All-contains}
 use Rattle.std.proofs.lemmas.List.Folds.{Any-from_list_any}
 use Rattle.std.proofs.lemmas.Option.{none-some}
 use Rattle.pm_image.specs.Blocks.{blocks}
 use Rattle.pm_image.specs.HeapFaults.{heap_fault}
-use Rattle.pm_image.specs.Reads.{IsHeapWord}
 use Rattle.pm_view.specs.Area.{is_in_area}
 use Rattle.pm_view.specs.Blocks.{bitmap_word, block_at, descriptor_word, is_chunk, is_run}
-use Rattle.pm_view.specs.Held.{is_held, is_reserved, is_under, is_under_found, root_word}
+use Rattle.pm_view.specs.Held.{is_held}
 use Rattle.pm_view.specs.Log.{Final}
 use Rattle.pm_view.specs.View.{View, Lock}
 use Rattle.pm_world.specs.Course.{entry_of, flight}
@@ -18,11 +17,10 @@ use Rattle.pm_world.specs.Entries.{is_in_log, is_redoing, is_redone}
 use Rattle.pm_world.specs.Fits.{LaneFits, LockFits, RecordedWordFits}
 use Rattle.pm_world.specs.History.{Entry, Flies, is_final, made_final, replayed, settled}
 use Rattle.pm_world.specs.Memory.{Memory}
-use Rattle.pm_world.specs.Opening.{Guards, IsChunk, Opening, TellsOfBlocks}
+use Rattle.pm_world.specs.Opening.{Guards, IsChunk, IsLivingWord, Opening, TellsOfBlocks}
 use Rattle.pm_world.specs.Records.{difference_of, is_logged, is_recorded, records_generation}
 use Rattle.pm_world.specs.World.{Views, World}
 use Rattle.pm_world.proofs.Apart.{heap_outside, held_apart}
-use Rattle.pm_world.proofs.Reserved.{reserved_apart}
 use Rattle.pm_world.proofs.Chunks.{chunk_here}
 use Rattle.pm_world.proofs.CrashReplays.{flies_of}
 use Rattle.pm_world.proofs.Pairs.{difference-written, in_log_written, none_redone}
@@ -32,8 +30,9 @@ use Rattle.pm_world.proofs.Replays.{replayed-other, replayed-same}
 use Rattle.pm_world.proofs.Slots.{unrecorded}
 use Rattle.pm_crash.specs.Draws.{KeepsDecided, kept_words}
 use Rattle.pm_crash.specs.Lines.{AgreeAtLine}
-use Rattle.pm_crash.specs.OpenCall.{IsBefore, block_at_line, made_words}
+use Rattle.pm_crash.specs.OpenCall.{LiesInBlock, IsBefore, block_at_line, made_words}
 use Rattle.pm_crash.proofs.Continued.{two_same}
+use Rattle.pm_crash.proofs.LivingWords.{lying_lives}
 use Rattle.pm_crash.proofs.Differing.{difference_makes_call}
 use Rattle.pm_crash.proofs.FoundBlocks.{found_is_block, found_within}
 
@@ -84,7 +83,7 @@ module _ (o : Opening) (mem : Memory) (views : Views) (log : List Entry) (decide
       (cases_Bool (decided e.number)))
 
   -- what tells of blocks is as at the opening
-  tells_as_opening : (i : ℕ) → TellsOfBlocks o i → words_kept i ≡ slice_index o.words i
+  pub tells_as_opening : (i : ℕ) → TellsOfBlocks o i → words_kept i ≡ slice_index o.words i
   tells_as_opening i tells =
       replayed-other keep log i (slice_index o.words i) (λ e there. false_from_ne_true (is_final e.difference i) (λ final.
       let t = Any-from_list_any (λ (f : Final). eqb f.word i) e.difference final in
@@ -92,47 +91,22 @@ module _ (o : Opening) (mem : Memory) (views : Views) (log : List Entry) (decide
       let g = (x.each_entry e there).guarded f (t.0, t.2, t.3) in
       x.sound.apart g.0 i (subst (Guards o g.0) (eqb-true f.word i t.4) g.1) tells))
 
-  -- a word held outside the lane's own area is one of the heap
-  held_in_heap : (k i : ℕ) → k < o.lanes → is_in_area (views k).lane i ≡ false → IsTrue (is_held (views k) i) → IsHeapWord o.lanes o.zones i
-  held_in_heap k i inside outside held =
-      let fits = x.each_lane k inside in
-      let size = x.sound.size in
-      ⊎_elim
-      (λ (core : (is_in_area (views k).lane i || list_any (is_under i) (views k).locks) ≡ true). ⊎_elim
-      (λ (area : is_in_area (views k).lane i ≡ true). absurd (false≢true (sym outside ∙ area)))
-      (λ (under : list_any (is_under i) (views k).locks ≡ true).
-      let t = Any-from_list_any (is_under i) (views k).locks under in
-      let l : Lock = t.1 in
-      let fit : LockFits o mem k l = All-contains (LockFits o mem k) (views k).locks l fits.locks (t.0, t.2, t.3) in
-      by_block l.line l.block fit.found t.4)
-      (or_cases (is_in_area (views k).lane i) (list_any (is_under i) (views k).locks) core))
-      (λ (reserved : is_reserved (views k) i ≡ true). let apart = reserved_apart (slice_index o.words) o.lanes o.zones (views k) i fits.lane.lanes fits.picture.descriptors fits.blocks reserved in inr (apart.behind, apart.within))
-      (or_cases (is_in_area (views k).lane i || list_any (is_under i) (views k).locks) (is_reserved (views k) i) held)
-    where
-      by_block : (line : ℕ) (block : Option ℕ) → IfSome block (λ lines. block_at o.lanes o.words line ≡ Some lines) → is_under_found line block i ≡ true → IsHeapWord o.lanes o.zones i
-      by_block line None found is = inl (eqb-true i root_word (and_parts (eqb line 0) (eqb i root_word) is).1)
-      by_block line (Some lines) found is =
-          let guard : Guards o line i = record { lines = lines; block = found; inside = is } in
-          let size = x.sound.size in
-          let within : i < length o.words = x.sound.within line i guard in
-          inr (x.sound.behind_areas line i guard, omega arith)
-
   -- a known word that the lane did not record has its settled value
   known_is_settled : (k i : ℕ) → k < o.lanes → is_redoing (views k).log.phase ≡ false → Contains (views k).known i → is_in_area (views k).lane i ≡ false → is_recorded (views k).log.records i ≡ false
-      → settled o log decided i ≡ slice_index (views k).words i
-  known_is_settled k i inside still known outside none =
+      → IsLivingWord o i → settled o log decided i ≡ slice_index (views k).words i
+  known_is_settled k i inside still known outside none living =
       let fits = x.each_lane k inside in
       let held : IsTrue (is_held (views k) i) = fits.picture.held i known in
       let unlogged : (j : ℕ) → j < o.lanes → is_in_log (views j) i ≡ false = λ j within. ⊎_elim
       (λ (own : k ≡ j). ap (λ (n : ℕ). is_in_log (views n) i) (sym own) ∙ or_from (is_logged (views k) i) (is_redone (views k) i) (unrecorded (views k) i none) (none_redone (views k) i still))
       (λ (other : k ≢ j). false_from_ne_true (is_in_log (views j) i) (λ logged.
       let its = x.each_lane j within in
-      let away : is_in_area (views j).lane i ≡ false = ap (λ (n : ℕ). is_in_area n i) its.lane.lane ∙ heap_outside o.lanes o.zones j i within (held_in_heap k i inside outside held) in
+      let away : is_in_area (views j).lane i ≡ false = ap (λ (n : ℕ). is_in_area n i) its.lane.lane ∙ heap_outside o.lanes o.zones j i within living.heap in
       let writes : WritesUnder o mem j i =
       writes_under o mem j (views j) i its.locks (in_log_written (settled o log decided) (views j) (records_generation (views j).log.phase (views j)) i its.log its.entries away logged) in
       held_apart o mem (settled o log decided) (Flies log decided k) k j i (views k) x.sound inside within other (inr writes) fits held))
       (cases_eq k j) in
-      sym (x.each_word i (held_in_heap k i inside outside held) unlogged) ∙ fits.picture.known i known
+      sym (x.each_word i living unlogged) ∙ fits.picture.known i known
 
   -- the block that was found under a lock is there
   found_is_there : (k : ℕ) (l : Lock) (lines : ℕ) → k < o.lanes → heap_fault words_kept o.lanes o.zones ≡ None → Contains (views k).locks l → l.block ≡ Some lines
@@ -158,7 +132,9 @@ module _ (o : Opening) (mem : Memory) (views : Views) (log : List Entry) (decide
         recorded = λ slot r i at low.
             let word : RecordedWordFits (settled o log decided) (views k) (r.word + i) (slice_index r.old i) = (fits.log.each slot r at).each i low in
             held_is_settled k (r.word + i) inside idle keeps (fits.picture.held (r.word + i) word.known) ∙ sym word.before;
-        known = λ i known outside unrecorded. held_is_settled k i inside idle keeps (fits.picture.held i known) ∙ known_is_settled k i inside still known outside unrecorded;
+        known = λ i known outside unrecorded lies.
+            let here : LiesInBlock words_kept o.lanes o.zones i = two_same (λ (n m : ℕ). LiesInBlock words_kept n m i) (views k).lanes o.lanes (views k).zones o.zones fits.lane.lanes fits.lane.zones lies in
+            held_is_settled k i inside idle keeps (fits.picture.held i known) ∙ known_is_settled k i inside still known outside unrecorded (lying_lives o words_kept tells_as_opening x.sound none i here);
         found = λ l lines held block.
             two_same (λ (n m : ℕ). Contains (blocks words_kept n m) (block_at_line l.line lines)) o.lanes (views k).lanes o.zones (views k).zones (sym fits.lane.lanes) (sym fits.lane.zones)
             (found_is_there k l lines inside none held block);

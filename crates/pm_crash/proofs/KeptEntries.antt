@@ -22,7 +22,7 @@ use Rattle.pm_world.specs.Crash.{IsAcknowledged, NoneTorn, Survives, is_deciding
 use Rattle.pm_world.specs.History.{AreNumbered, Entry}
 use Rattle.pm_world.specs.Memory.{Memory}
 use Rattle.pm_world.specs.Memory.Location.{PoolWord}
-use Rattle.pm_world.specs.Opening.{Opening}
+use Rattle.pm_world.specs.Opening.{IsLivingWord, Opening, TellsOfBlocks}
 use Rattle.pm_world.specs.Opens.{IsClean}
 use Rattle.pm_world.specs.World.{Views}
 use Rattle.pm_world.proofs.CrashLaw.{crash_law}
@@ -31,7 +31,9 @@ use Rattle.pm_crash.specs.Held.{HoldsImage}
 use Rattle.pm_crash.specs.OneLane.{Begins, HoldsReplay, IsCourse, MeansReplay, Moment, Move, beginning, kept_entries}
 use Rattle.pm_crash.proofs.CleanWords.{clean_words_hold}
 use Rattle.pm_crash.proofs.FrontWords.{header_survives}
-use Rattle.pm_crash.proofs.HeapWordsAlone.{held_by_heap}
+use Rattle.pm_crash.proofs.HeldAlike.{held_by_reads}
+use Rattle.pm_crash.proofs.InFlight.{tells_as_opening}
+use Rattle.pm_crash.proofs.LivingWords.{read_lives}
 use Rattle.pm_crash.proofs.ImageLogs.{no_log_fault}
 use Rattle.pm_crash.proofs.LogCourse.{InRange}
 use Rattle.pm_crash.proofs.LongerReplays.{replayed_without, words_after}
@@ -110,11 +112,19 @@ module _ (o : Opening) (k : ℕ) (header : Header) (pool : PoolView) (m : Moment
     last = kept_reached.last;
     replays = kept_reached.replays;
     holds =
-        held_by_heap (words_after (slice_index o.words) (kept_entries o m image)) (recovered_at image o.lanes) o.lanes o.zones header kept_reached.last kept_reached.holds
-        (λ i heap. recovered_in_place image o.lanes i (inside i heap)
-        ∙ crash_law o m.memory m.views m.log m.decided image g.world survives whole i heap
-        ∙ replayed_without (is_kept o m.views image) m.log i (slice_index o.words i));
+        held_by_reads (words_after (slice_index o.words) (kept_entries o m image)) (recovered_at image o.lanes) o.lanes o.zones header kept_reached.last kept_reached.holds (record {
+          same = λ i read.
+              let living : IsLivingWord o i = read_lives o (words_after (slice_index o.words) (kept_entries o m image)) kept_heads g.world.sound kept_reached.holds.no_fault i read in
+              sym (recovered_in_place image o.lanes i (inside i living.heap)
+              ∙ crash_law o m.memory m.views m.log m.decided image g.world survives whole i living
+              ∙ replayed_without (is_kept o m.views image) m.log i (slice_index o.words i));
+        });
   } where
+    -- what tells of blocks is as at the opening
+    kept_heads : (i : ℕ) → TellsOfBlocks o i → words_after (slice_index o.words) (kept_entries o m image) i ≡ slice_index o.words i
+    kept_heads i tells =
+        sym (replayed_without (is_kept o m.views image) m.log i (slice_index o.words i)) ∙ tells_as_opening o m.memory m.views m.log m.decided g.world (is_kept o m.views image) i tells
+
     inside : (i : ℕ) → IsHeapWord o.lanes o.zones i → i < length image
     inside i heap =
         let size = g.world.sound.size in

@@ -37,7 +37,7 @@ use Rattle.pm_crash.specs.Operations.{BeginsLevel, IsHeld, IsWantHeld, KeepsLog,
 use Rattle.pm_crash.proofs.Begun.{all_pass, none_fails}
 use Rattle.pm_crash.proofs.CallWords.{call_works, same_pool}
 use Rattle.pm_crash.proofs.Continued.{answers_done, next_comes, still_open, two_same, Continues}
-use Rattle.pm_crash.proofs.KeptWords.{before_back, goes_back, outside_kept, same_call_words, same_found}
+use Rattle.pm_crash.proofs.KeptWords.{before_back, goes_back, outside_kept, same_call_words, same_found, under_kept}
 use Rattle.pm_crash.proofs.ObjectsOfBlocks.{object_is_there}
 use Rattle.pm_crash.proofs.Passing.{no_tx, no_work, not_busy, not_missing, not_spent, passes_all, unhindered, Works}
 use Rattle.pm_crash.specs.Performing.{CanPerform}
@@ -50,7 +50,7 @@ pub inner_commit_keeps_open : (v next : View) (level : ℕ) → 1 ≤ level → 
     → IsOpen next level stage.Work error.None
 inner_commit_keeps_open v next level some is_open tells logs keeps =
     still_open v next (level + 1) level Commit None is_open tells
-    (goes_back v next tells.keeps (same_found v next tells.locks) logs (λ i outside none. keeps.words i outside) is_open.outside)
+    (goes_back v next tells.keeps (same_found v next tells.locks) logs (λ i outside none. keeps.words i outside) is_open.outside is_open.under)
     (λ w header pool same_id before next_before c.
     let same : call_words next w ≡ call_words v w = same_call_words v next logs.records keeps is_open.outside w in
     let levels : c.tx.level ≡ level + 1 = c.levels in
@@ -176,6 +176,7 @@ further_begin_opens v next wants level some shallow is_open begins =
       few = begins.takes.few;
       chunks = begins.takes.chunks;
       outside = outside_kept v next begins.keeps begins.logs.records is_open.outside;
+      under = under_kept v next begins.finds begins.logs.records is_open.under;
       unentered = begins.logs.entries ∙ is_open.unentered;
       comes = λ w header pool holds id before.
           let old_id : v.pool ≡ header.id = sym begins.keeps.pool ∙ id in

@@ -14,6 +14,7 @@ pub mod ObjectsOfBlocks
 pub mod Classes
 pub mod FoundBlocks
 pub mod HeapWordsAlone
+pub mod HeldAlike
 pub mod Passing
 pub mod Runs
 pub mod PendingOn
@@ -37,6 +38,7 @@ pub mod ActionsOutside
 pub mod Staying
 pub mod RisingWants
 pub mod HistoryActs
+pub mod LivingWords
 pub mod LongerReplays
 pub mod DrawnWords
 pub mod OneCourse
@@ -46,6 +48,8 @@ pub mod InFlight
 pub mod Drawn
 pub mod HeldHistories
 pub mod InBlocks
+pub mod FreeWords
+pub mod EmptyRuns
 pub mod Guarded
 pub mod CleanWords
 pub mod SameLocks

@@ -10,6 +10,7 @@ use Rattle.pm_view.specs.declared.change.Change.{Change}
 use Rattle.pm_view.specs.Area.{Part, area_word, is_in_area, part_of}
 use Rattle.pm_view.specs.Area.Part.{EntryWord, GenerationWord, OtherWord, SealWord, SlotWord}
 use Rattle.pm_view.specs.Changes.{drained, flushed, is_in_line, mark, store_change}
+use Rattle.pm_view.specs.Held.{is_reserved}
 use Rattle.pm_view.specs.Log.{Final, Log, Phase, Recorded, log_drained, log_drawn, log_stored, phase_drawn, with_pair, with_slot}
 use Rattle.pm_view.specs.Log.Phase.{Idle, Open, Drawn, Sealing, Applying, Clearing, Retiring}
 use Rattle.pm_view.specs.Rights.{is_written}
@@ -20,7 +21,7 @@ use Rattle.pm_view.specs.Views.{after, begun, changed, log_after_drain}
 use Rattle.pm_world.specs.Entries.{ends_with}
 use Rattle.pm_world.specs.Fits.{LaneFits, OpenFits, PhaseFits, SealingFits}
 use Rattle.pm_world.specs.History.{Entry, Flies, settled}
-use Rattle.pm_world.specs.Lawful.{IsLawful, IsNextEntry, StoreFits, generation_limit}
+use Rattle.pm_world.specs.Lawful.{MayWrite, IsLawful, IsNextEntry, StoreFits, generation_limit}
 use Rattle.pm_world.specs.Memory.{Memory}
 use Rattle.pm_world.specs.Memory.Location.{PoolWord}
 use Rattle.pm_world.specs.Moves.{Moves}
@@ -28,7 +29,7 @@ use Rattle.pm_world.specs.Opening.{Opening}
 use Rattle.pm_world.specs.Records.{generation_of, is_recorded}
 use Rattle.pm_world.specs.World.{Views, World}
 use Rattle.pm_world.proofs.CrashLogs.{InSlots, logged_recorded}
-use Rattle.pm_world.proofs.CrashWords.{behind_areas}
+use Rattle.pm_world.proofs.CrashWords.{behind_areas, reserved_word}
 use Rattle.pm_world.proofs.Exclusion.{writes_under}
 use Rattle.pm_world.proofs.Locations.{other_occ, other_zone_lock, plain_pool, other_pool, pool-counter, pool-lock, pool-stop}
 use Rattle.pm_world.proofs.Parts.{generation_part, seal_part}
@@ -39,7 +40,6 @@ pub record IsUnwritten (v : View) (slot : List ℕ) : Type 0 where
   pub no_records : v.log.records ≡ []
   pub no_entries : v.log.entries ≡ []
   pub no_slot : slot ≡ []
-  pub no_changes : v.changes ≡ []
 
 -- undrained slot words are those of the records and of the slot in the making
 abbrev pub SlotsFit : View → List ℕ → Type 0
@@ -63,7 +63,7 @@ pub carried : (g g' : ℕ) (v v' : View) (phase : Phase) → g' ≡ g → v'.lan
 carried g g' v v' Idle same lane records entries among range = tt
 carried g g' v v' (Open slot pair) same lane records entries among range = (
   ⊎_elim (λ (low : g < generation_limit). inl (subst (λ n. n < generation_limit) (sym same) low))
-      (λ (un : IsUnwritten v slot). inr (record { no_records = records ∙ un.no_records; no_entries = entries ∙ un.no_entries; no_slot = un.no_slot; no_changes = among.none un.no_changes })) range.0,
+      (λ (un : IsUnwritten v slot). inr (record { no_records = records ∙ un.no_records; no_entries = entries ∙ un.no_entries; no_slot = un.no_slot })) range.0,
   λ c there slots.
       let d = among.from c there in
       let is : d.0.word ≡ c.word = d.2 in
@@ -218,8 +218,25 @@ module _ (o : Opening) (mem : Memory) (views : Views) (log : List Entry) (decide
                 (Contains-append_cases v.changes (store_change w (slice_index v.words w) y ∷ []) c there),
           )
 
+      -- a word in a block that the lane reserved
+      in_reserved : (slot pair : List ℕ) → v.log.phase ≡ Open slot pair → is_reserved v w ≡ true → InRange g v (Open slot pair) → InRange g' (stored v.log) (Open slot pair)
+      in_reserved slot pair is reserved range =
+          let behind = (reserved_word o mem views log decided x k w inside reserved).behind in
+          let lane = fits.lane.lane in
+          let same : g' ≡ g = kept_generation (λ e. omega arith) in (
+            ⊎_elim (λ (low : g < generation_limit). inl (subst (λ n. n < generation_limit) (sym same) low))
+                (λ (un : IsUnwritten v slot). inr (record { no_records = un.no_records; no_entries = un.no_entries; no_slot = un.no_slot })) range.0,
+            λ c there slots. ⊎_elim
+                (λ (old : Contains v.changes c). range.1 c old slots)
+                (λ (last : Contains (store_change w (slice_index v.words w) y ∷ []) c).
+                let word : w ≡ c.word = ap (λ (d : Change). d.word) (only_member (store_change w (slice_index v.words w) y) c last) in
+                let high = slots.high in
+                absurd (omega arith))
+                (Contains-append_cases v.changes (store_change w (slice_index v.words w) y ∷ []) c there),
+          )
+
       -- a word that the log would restore
-      in_object : (slot pair : List ℕ) → v.log.phase ≡ Open slot pair → StoreFits v w y (Open slot pair) OtherWord → InRange g v (Open slot pair) → InRange g' (stored v.log) (Open slot pair)
+      in_object : (slot pair : List ℕ) → v.log.phase ≡ Open slot pair → MayWrite v w → InRange g v (Open slot pair) → InRange g' (stored v.log) (Open slot pair)
       in_object slot pair is may range =
           let behind = behind_areas o mem views log decided x k w (writes_under o mem k v w fits.locks may.own) in
           let lane = fits.lane.lane in
@@ -248,7 +265,8 @@ module _ (o : Opening) (mem : Memory) (views : Views) (log : List Entry) (decide
       stored_range (Open slot pair) SealWord is of may range = absurd may
       stored_range (Open slot pair) EntryWord is of may range = in_pair slot pair is may (subst (PhaseFits (Flies log decided k) v) is fits.phase) range
       stored_range (Open slot pair) SlotWord is of may range = in_slot slot pair is may range
-      stored_range (Open slot pair) OtherWord is of may range = subst (InRange g' (stored v.log)) (sym is) (in_object slot pair is may range)
+      stored_range (Open slot pair) OtherWord is of (inl writes) range = subst (InRange g' (stored v.log)) (sym is) (in_object slot pair is writes range)
+      stored_range (Open slot pair) OtherWord is of (inr fills) range = subst (InRange g' (stored v.log)) (sym is) (in_reserved slot pair is fills.reserved range)
       stored_range Drawn GenerationWord is of may range = raised (generation_part v.lane w of).1 may.next
       stored_range Drawn SealWord is of may range = tt
       stored_range Drawn EntryWord is of may range = absurd may
@@ -282,14 +300,14 @@ module _ (o : Opening) (mem : Memory) (views : Views) (log : List Entry) (decide
     drained_range (Applying applied) drawn is same range = subst (InRange g' (emptied [] v.log)) (sym is) (λ all. subst (λ n. 2 ≤ n) (sym same) (range all))
     drained_range Clearing drawn is same range = tt
     drained_range Retiring true is same range = tt
-    drained_range Retiring false is same range = (inr (record { no_records = refl; no_entries = refl; no_slot = refl; no_changes = refl }), λ c there. absurd (no_member c there))
+    drained_range Retiring false is same range = (inr (record { no_records = refl; no_entries = refl; no_slot = refl }), λ c there. absurd (no_member c there))
 
     drain_range : (left : List Change) → Among left v.changes → g' ≡ g → InRange g v v.log.phase → InRange g' (emptied left (log_after_drain left v)) (log_after_drain left v).phase
     drain_range [] among same range = drained_range v.log.phase (is_some v.number) refl same range
     drain_range (c ∷ left) among same range = carried g g' v (emptied (c ∷ left) v.log) v.log.phase same refl refl refl among range
 
     begun_range : (n : ℕ) (p : Phase) → v.log.phase ≡ p → PhaseFits (Flies log decided k) v p → g' ≡ g → InRange g v p → InRange g' (begun p v) (begun p v).log.phase
-    begun_range n Idle is may same range = (inr (record { no_records = refl; no_entries = refl; no_slot = refl; no_changes = may.drained }), λ c there slots. absurd (no_member c (subst (λ (cs : List Change). Contains cs c) may.drained there)))
+    begun_range n Idle is may same range = (inr (record { no_records = refl; no_entries = refl; no_slot = refl }), λ c there slots. absurd (no_member c (subst (λ (cs : List Change). Contains cs c) may.drained there)))
     begun_range n (Open slot pair) is may same range = subst (InRange g' v) (sym is) (carried g g' v v (Open slot pair) same refl refl refl (all_of v.changes) range)
     begun_range n Drawn is may same range = subst (InRange g' v) (sym is) (carried g g' v v Drawn same refl refl refl (all_of v.changes) range)
     begun_range n Sealing is may same range = subst (InRange g' v) (sym is) tt

@@ -1,5 +1,5 @@
 -- A lane that is alone raises its generation by one with each store of it, and with nothing else.
-use Rattle.std.proofs.Common.{◌≡◌, ◌≢◌, ⊎_elim, IsTrue, ℕ, ◌+◌, ◌*◌, ◌<◌, ◌≤◌, Bool, false, cond, List, [], ◌∷◌, length, slice_index, refl, sym, ◌∙◌, ap, subst, arith, eq-eqb, ne_eqb, get_or-set_same, get_or-set_other}
+use Rattle.std.proofs.Common.{◌≡◌, inr, inl, ◌≢◌, ⊎_elim, IsTrue, ℕ, ◌+◌, ◌*◌, ◌<◌, ◌≤◌, Bool, false, cond, List, [], ◌∷◌, length, slice_index, refl, sym, ◌∙◌, ap, subst, arith, eq-eqb, ne_eqb, get_or-set_same, get_or-set_other}
 use Rattle.std.specs.Option.{ForSome}
 use Rattle.pm_header.specs.declared.header.Header.{Header}
 use Rattle.pm_objects.specs.declared.pool.PoolView.{PoolView}
@@ -7,6 +7,7 @@ use Rattle.pm_image.specs.Logs.{generation_word}
 use Rattle.pm_view.specs.Area.{Part, area_word, part_of}
 use Rattle.pm_view.specs.Area.Part.{EntryWord, GenerationWord, OtherWord, SealWord, SlotWord}
 use Rattle.pm_view.specs.Founds.{FoundAlone, IsAlone}
+use Rattle.pm_view.specs.Held.{is_reserved}
 use Rattle.pm_view.specs.Log.{Phase}
 use Rattle.pm_view.specs.Log.Phase.{Idle, Open, Drawn, Sealing, Applying, Clearing, Retiring}
 use Rattle.pm_view.specs.Rights.{is_written}
@@ -22,12 +23,13 @@ use Rattle.pm_world.specs.Lawful.{Allowed, IsNextEntry, StoreFits}
 use Rattle.pm_world.specs.Opening.{Opening}
 use Rattle.pm_world.specs.Records.{generation_of}
 use Rattle.pm_world.proofs.Parts.{generation_part, seal_part}
+use Rattle.pm_world.proofs.CrashWords.{reserved_word}
 use Rattle.pm_world.proofs.StoreEntry.{next_entry}
 use Rattle.pm_crash.specs.Alone.{WorksAlone, is_raise, raises}
 use Rattle.pm_crash.specs.Leading.{Leads}
 use Rattle.pm_crash.proofs.AloneCourse.{StandsAlone, due_along, grows_along, number_along, stands_after, stands_first}
 use Rattle.pm_crash.proofs.AloneImages.{own_fits}
-use Rattle.pm_crash.proofs.AloneMemory.{load_words}
+use Rattle.pm_crash.proofs.AloneMemory.{load_words, memory_of}
 use Rattle.pm_crash.proofs.FirstLog.{behind}
 use Rattle.pm_crash.proofs.Raises.{raise_by}
 
@@ -75,7 +77,9 @@ module _ (o : Opening) (header : Header) (pool : PoolView) where
       stored (Open slot pair) SealWord is of may = absurd may
       stored (Open slot pair) EntryWord is of may = other (λ e. let at = may.at in omega (arith, e, at))
       stored (Open slot pair) SlotWord is of may = other (λ e. let at = may.at in omega (arith, e, at))
-      stored (Open slot pair) OtherWord is of may = other (λ e. let far = behind o header pool v stands alone w may.own in omega (arith, e, far))
+      stored (Open slot pair) OtherWord is of (inl writes) = other (λ e. let far = behind o header pool v stands alone w writes.own in omega (arith, e, far))
+      stored (Open slot pair) OtherWord is of (inr fills) =
+          other (λ e. let far = (reserved_word o (memory_of v) stands.views stands.log stands.decided stands.goes.world 0 w stands.goes.in_lanes (ap (λ u. is_reserved u w) stands.here ∙ fills.reserved)).behind in omega (arith, e, far))
       stored Drawn GenerationWord is of may = raised (generation_part v.lane w of).1 may.next
       stored Drawn SealWord is of may = other (λ e. let at = (seal_part v.lane w of).1 in omega (arith, e, at))
       stored Drawn EntryWord is of may = absurd may

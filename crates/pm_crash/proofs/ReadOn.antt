@@ -1,6 +1,8 @@
 -- A read of what the lane knows under its lock tells the bytes that the model reads, and leaves all as it is.
 use Rattle.std.proofs.Common.{◌≡◌, ℕ, ◌+◌, ◌*◌, ◌≤◌, ◌%◌, false, List, length, map, take, drop, slice_index, Some, refl, sym, ◌∙◌, ap, subst, arith}
+use Rattle.std.specs.List.{Contains}
 use Rattle.std.proofs.lemmas.Bool.{le-ltb}
+use Rattle.std.proofs.lemmas.Grind.{div_ceil_times}
 use Rattle.pm_header.specs.declared.header.Header.{Header}
 use Rattle.pm_words.specs.Words.{bytes_of as bytes_of_words}
 use Rattle.pm_objects.specs.declared.calls.Operation.TheVariants.{Read}
@@ -9,7 +11,9 @@ use Rattle.pm_objects.specs.declared.history.Value.TheVariants.{Bytes}
 use Rattle.pm_objects.specs.declared.ids.Oid.{Oid}
 use Rattle.pm_objects.specs.declared.pool.PoolView.{PoolView}
 use Rattle.pm_image.specs.Blocks.{blocks}
-use Rattle.pm_image.specs.Contents.{offset_in, size_in}
+use Rattle.pm_image.specs.Contents.{data_words, offset_in, size_in}
+use Rattle.pm_image.proofs.FaultFree.{block_good}
+use Rattle.pm_image.proofs.HeapWords.{object_fits}
 use Rattle.pm_image.proofs.Members.{map_same}
 use Rattle.pm_model.specs.declared.stage.Stage.TheVariants as stage
 use Rattle.pm_model.specs.Bytes.{bytes_at, bytes_of, covered_words}
@@ -18,9 +22,10 @@ use Rattle.pm_view.specs.View.{View}
 use Rattle.pm_view.specs.Log.{Recorded}
 use Rattle.pm_crash.proofs.CallWords.{locks_kept}
 use Rattle.pm_crash.specs.Held.{HoldsPool}
-use Rattle.pm_crash.specs.OpenCall.{IsBefore, call_words, ComesTo, IsOpen, words_recorded}
+use Rattle.pm_crash.specs.OpenCall.{IsBefore, call_words, ComesTo, IsOpen, LiesInBlock, words_recorded}
 use Rattle.pm_crash.specs.Operations.{ReadsBytes, bytes_seen}
 use Rattle.pm_crash.proofs.CallWords.{call_works, covered_is_outside, held_is_locked, known_call_word, object_under, same_pool, IsObjectOf}
+use Rattle.pm_crash.proofs.Covered.{covered_has_byte}
 use Rattle.pm_crash.proofs.Continued.{answers_done, still_open}
 use Rattle.pm_crash.proofs.KeptWords.{goes_back, same_call_words, same_found}
 use Rattle.pm_crash.proofs.ObjectBytes.{range_is_read}
@@ -28,6 +33,10 @@ use Rattle.pm_crash.proofs.Passing.{passes_all, Works}
 use Rattle.std.proofs.lemmas.List.Elements.{All-nil}
 use Rattle.std.proofs.lemmas.List.{append-nil}
 use Rattle.pm_crash.specs.Performing.{CanPerform}
+
+-- so many bytes are in their words
+in_words : (size : ℕ) → size ≤ 8 * data_words size
+in_words size = let enough = (div_ceil_times size 8 (omega arith)).0 in omega arith
 
 -- the bytes seen are the model's
 seen_is_read : (v next : View) (id : Oid) (off len level : ℕ) (w : ℕ → ℕ) (header : Header) (pool : PoolView) → IsOpen v level stage.Work error.None → (reads : ReadsBytes v next id off len) → IsBefore v w
@@ -39,9 +48,18 @@ seen_is_read v next id off len level w header pool is_open reads before c =
     let inside : off + len ≤ slice_index v.words (8 * held.lock.line + 1) = reads.range.inside in
     let size : size_in words object.block ≡ slice_index v.words (8 * held.lock.line + 1) = object.size in
     let fits : off + len ≤ size_in words object.block = omega arith in
+    let room : 8 + data_words (size_in words object.block) ≤ 8 * object.block.lines = object_fits words object.block (block_good words v.lanes v.zones object.block c.holds.no_fault object.is_there) in
+    let lies : (i : ℕ) → Contains (covered_words (id.off + off) len) i → LiesInBlock w v.lanes v.zones i = λ i there.
+    let has = covered_has_byte (id.off + off) len i there in
+    let low = has.1 in
+    let high = has.2 in
+    let begins : object.block.place ≡ 64 * held.lock.line = object.place in
+    let place : id.off ≡ 64 * held.lock.line + 64 = held.place in
+    let filled : size_in words object.block ≤ 8 * data_words (size_in words object.block) = in_words (size_in words object.block) in
+    record { block = object.block; is_there = object.was_there; from = omega arith; to = omega arith } in
     let known : map (slice_index v.words) (covered_words (id.off + off) len) ≡ map words (covered_words (id.off + off) len) =
     map_same (slice_index v.words) words (covered_words (id.off + off) len) (λ i there.
-    sym (known_call_word v w i before (reads.known i there) (covered_is_outside v id false off len i is_open.in_lanes is_open.chunks held there))) in
+    sym (known_call_word v w i before (reads.known i there) (covered_is_outside v id false off len i is_open.in_lanes is_open.chunks held there) (lies i there))) in
     let moved : map words (covered_words (id.off + off) len) ≡ map words (covered_words (offset_in object.block + off) len) = ap (λ (o : ℕ). map words (covered_words (o + off) len)) (sym object.offset) in
     ap (λ (ws : List ℕ). take len (drop (off % 8) (bytes_of_words ws))) (known ∙ moved)
     ∙ sym (range_is_read words v.lanes v.zones off len object.block object.is_there fits)
@@ -52,7 +70,7 @@ read_keeps_open v next id off len level some is_open reads =
     let held = reads.range.object in
     let bytes : List ℕ = bytes_seen v id off len in
     still_open v next level level (Read id off len) (Some (Bytes bytes)) is_open reads.tells
-    (goes_back v next reads.tells.keeps (same_found v next reads.tells.locks) reads.logs (λ i outside none. reads.keeps.words i outside) is_open.outside)
+    (goes_back v next reads.tells.keeps (same_found v next reads.tells.locks) reads.logs (λ i outside none. reads.keeps.words i outside) is_open.outside is_open.under)
     (λ w header pool same_id before next_before c.
     let object : IsObjectOf v w c.tx id held.lock.line = object_under v w header pool level id false is_open before c held reads.range.size_known in
     let works : Works c.tx = call_works v w header pool level some is_open c in

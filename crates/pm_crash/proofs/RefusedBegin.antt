@@ -165,6 +165,7 @@ same_places v pool id lanes zones = (λ j want. eqb want.id.pool (id j) && can_b
 pub call_refused : (v : View) (wants : List Want) (r : Refusal) → RefusesCall v wants r → IsGivenUp v (error.Refused r)
 call_refused v wants r refuses = record {
   outside = λ i is. absurd (let clash : false ≡ true = sym (ap (λ (records : List Recorded). is_recorded records i) refuses.no_records) ∙ is in cc);
+  under = λ i is. absurd (let clash : false ≡ true = sym (ap (λ (records : List Recorded). is_recorded records i) refuses.no_records) ∙ is in cc);
   comes = λ w header pool holds id before.
       let told : Answered = record { operation = Begin wants; reply = Some (Refused r) } in
       let rest : Transaction = resting pool (pending_before v) in

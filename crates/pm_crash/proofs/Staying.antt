@@ -17,14 +17,14 @@ use Rattle.pm_view.specs.View.{View, Lock}
 use Rattle.pm_world.specs.Records.{is_recorded}
 use Rattle.pm_crash.proofs.CallWords.{locks_kept, same_made_words}
 use Rattle.pm_crash.specs.Held.{HoldsPool}
-use Rattle.pm_crash.specs.OpenCall.{IsBefore, ComesTo, ComesToNothing, IsGivenUp, IsOpen, IsWholeCall, MakesStep, call_words, made_words, words_recorded}
+use Rattle.pm_crash.specs.OpenCall.{IsBefore, ComesTo, ComesToNothing, IsGivenUp, IsOpen, IsWholeCall, RecordsUnder, MakesStep, call_words, made_words, words_recorded}
 use Rattle.pm_crash.specs.Pending.{act_of, pending_in, published_in, told_in, told_of}
 use Rattle.pm_crash.specs.Performing.{CanPerform}
 use Rattle.pm_crash.specs.Operations.{KeepsKnown, KeepsLog, KeepsWords, TakesBack, TellsNothing}
 use Rattle.pm_crash.proofs.Continued.{runs_told, two_same}
 use Rattle.pm_crash.proofs.PendingOn.{pending_same, published_same, same_before}
-use Rattle.pm_crash.proofs.GivenUp.{outside_taken_back, taken_back}
-use Rattle.pm_crash.proofs.KeptWords.{keeps_known, known_back, outside_kept, same_known_words, same_found}
+use Rattle.pm_crash.proofs.GivenUp.{outside_taken_back, taken_back, under_taken_back}
+use Rattle.pm_crash.proofs.KeptWords.{keeps_known, known_back, outside_kept, same_known_words, same_found, under_kept}
 
 same_told : (v next : View) → TellsNothing v next → told_in next ≡ told_in v
 same_told v next quiet = ap (map told_of) quiet.call
@@ -90,6 +90,7 @@ open_learns v next level at_stage e is_open quiet logs words =
       few = subst (λ (locks : List Lock). length locks ≤ 64) (sym quiet.locks) is_open.few;
       chunks = λ l lines held found. ap (λ (n : ℕ). is_chunk n (l.line / 64)) lanes ∙ is_open.chunks l lines (subst (λ (locks : List Lock). Contains locks l) quiet.locks held) found;
       outside = outside_kept v next quiet.keeps logs.records is_open.outside;
+      under = under_kept v next (same_found v next quiet.locks) logs.records is_open.under;
       unentered = logs.entries ∙ is_open.unentered;
       comes = λ w header pool holds id before.
           open_stays_so v next level at_stage e w header pool quiet logs (same_known_words v next logs.records words is_open.outside w)
@@ -118,9 +119,10 @@ whole_stays v next whole quiet logs words = whole_learns v next whole quiet logs
 
 -- a call that was given up stays so, where it goes back to what was before it
 still_given_up : (v next : View) (e : TxErr) → IsGivenUp v e → TellsNothing v next → ((i : ℕ) → is_recorded next.log.records i ≡ true → is_in_area next.lane i ≡ false)
-    → ((w : ℕ → ℕ) → IsBefore next w → IsBefore v w) → IsGivenUp next e
-still_given_up v next e given_up quiet outside back = record {
+    → RecordsUnder next → ((w : ℕ → ℕ) → IsBefore next w → IsBefore v w) → IsGivenUp next e
+still_given_up v next e given_up quiet outside under back = record {
   outside = outside;
+  under = under;
   comes = λ w header pool holds id before.
       let c : ComesToNothing v pool e = given_up.comes w header pool (quiet_holds v next quiet w header pool holds) (sym quiet.keeps.pool ∙ id) (back w before) in
       record {
@@ -135,7 +137,9 @@ still_given_up v next e given_up quiet outside back = record {
 
 pub given_up_stays : (v next : View) (e : TxErr) → IsGivenUp v e → TellsNothing v next → TakesBack v next → IsGivenUp next e
 given_up_stays v next e given_up quiet back =
-    still_given_up v next e given_up quiet (outside_taken_back v next quiet.keeps back given_up.outside) (taken_back v next quiet.keeps (same_found v next quiet.locks) back given_up.outside)
+    still_given_up v next e given_up quiet (outside_taken_back v next quiet.keeps back given_up.outside)
+    (under_taken_back v next (same_found v next quiet.locks) back given_up.under) (taken_back v next quiet.keeps (same_found v next quiet.locks) back given_up.outside given_up.under)
 
 pub given_up_learns : (v next : View) (e : TxErr) → IsGivenUp v e → TellsNothing v next → KeepsLog v next → KeepsKnown v next → IsGivenUp next e
-given_up_learns v next e given_up quiet logs words = still_given_up v next e given_up quiet (outside_kept v next quiet.keeps logs.records given_up.outside) (quiet_back v next quiet logs words)
+given_up_learns v next e given_up quiet logs words = still_given_up v next e given_up quiet (outside_kept v next quiet.keeps logs.records given_up.outside)
+    (under_kept v next (same_found v next quiet.locks) logs.records given_up.under) (quiet_back v next quiet logs words)

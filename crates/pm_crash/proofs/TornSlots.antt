@@ -12,7 +12,6 @@ use Rattle.pm_objects.specs.declared.pool.PoolView.{PoolView}
 use Rattle.pm_record.specs.Undo.{is_record, undo_in, undo_of}
 use Rattle.pm_record.specs.declared.undo.Undo.{Undo}
 use Rattle.pm_image.specs.Logs.{generation, generation_word, seal_word, slot_line, undo_slot}
-use Rattle.pm_image.specs.Reads.{IsHeapWord}
 use Rattle.pm_image.proofs.Members.{no_member}
 use Rattle.pm_image.specs.Steps.{valid_record}
 use Rattle.pm_view.specs.declared.change.Change.{Change}
@@ -34,7 +33,7 @@ use Rattle.pm_world.specs.Fits.{AppliedChange, ApplyingFits, LaneFits, OpenFits,
 use Rattle.pm_world.specs.History.{Flies, settled}
 use Rattle.pm_world.specs.Lawful.{CanRecord}
 use Rattle.pm_world.specs.Memory.Location.{PoolWord}
-use Rattle.pm_world.specs.Opening.{Opening}
+use Rattle.pm_world.specs.Opening.{IsLivingWord, Opening}
 use Rattle.pm_world.specs.Records.{IsRecordAt, covers, generation_of, is_drained_slot, is_logged, records_generation, slot_word, spelled, used_slots}
 use Rattle.pm_world.proofs.CrashEntries.{generation_is}
 use Rattle.pm_world.proofs.CrashLaw.{all_drained, retiring_drained, seal_drained}
@@ -42,6 +41,7 @@ use Rattle.pm_world.proofs.CrashLogs.{GenerationIs, entered_front, not_logged, w
 use Rattle.pm_world.proofs.CrashSpellings.{valid_parts}
 use Rattle.pm_world.proofs.CrashWords.{OwnTakenBack, area_left}
 use Rattle.pm_world.proofs.Exclusion.{writes_under}
+use Rattle.pm_world.proofs.Living.{guarded_lives}
 use Rattle.pm_world.proofs.Pairs.{none_redone}
 use Rattle.pm_world.proofs.StoreSlot.{length-spelled}
 use Rattle.pm_crash.specs.Alone.{GrowsFirst, HasNoTornMatch, MayRecord, Rests, WorksAlone, alone_views, idle_view, is_of_words, standing}
@@ -174,12 +174,8 @@ module _ (o : Opening) (header : Header) (pool : PoolView) (w : View) (s : Stand
       record_fits : RecordFits (settled o s.log s.decided) w r
       record_fits = fits.log.each slot r at
 
-      heap : (i : ℕ) → i < length r.old → IsHeapWord o.lanes o.zones (r.word + i)
-      heap i low =
-          let there = lies (r.word + i) (record_fits.each i low).own in
-          let to = there.1 in
-          let size = s.goes.world.sound.size in
-          inr (there.0, omega (arith, to, size))
+      heap : (i : ℕ) → i < length r.old → IsLivingWord o (r.word + i)
+      heap i low = let under = writes_under o (memory_of w) 0 w (r.word + i) fits.locks (record_fits.each i low).own in guarded_lives o s.goes.world.sound under.0 (r.word + i) under.1
 
       covered : (i : ℕ) → i < length r.old → covers r (r.word + i) ≡ true
       covered i low = and_from (leb r.word (r.word + i)) (ltb (r.word + i) (r.word + length r.old)) (le-leb r.word (r.word + i) (omega arith)) (lt-ltb (r.word + i) (r.word + length r.old) (omega arith))

@@ -69,7 +69,7 @@ pub write_keeps_open : (v next : View) (id : Oid) (off level : ℕ) (bytes : Lis
 write_keeps_open v next id off level bytes some is_open writes =
     let held = writes.range.object in
     still_open v next level level (Write id off bytes) None is_open writes.tells
-    (goes_back v next writes.tells.keeps (same_found v next writes.tells.locks) writes.logs (unwritten_stays v next id off bytes writes) is_open.outside)
+    (goes_back v next writes.tells.keeps (same_found v next writes.tells.locks) writes.logs (unwritten_stays v next id off bytes writes) is_open.outside is_open.under)
     (λ w header pool same_id before next_before c.
     let object : IsObjectOf v w c.tx id held.lock.line = object_under v w header pool level id true is_open before c held writes.range.size_known in
     let works : Works c.tx = call_works v w header pool level some is_open c in

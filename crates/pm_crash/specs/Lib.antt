@@ -5,6 +5,7 @@ pub mod Held
 pub mod Leading
 pub mod Alone
 pub mod HeldHistory
+pub mod FreeWords
 pub mod Lines
 pub mod OneLane
 pub mod Locks

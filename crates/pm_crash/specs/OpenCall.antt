@@ -47,11 +47,31 @@ words_recorded records = flat_map words_of_record records
 abbrev pub block_at_line : ℕ → ℕ → Block
 block_at_line line lines = record { place = 64 * line; lines = lines }
 
--- `w` may be the words before the open call: they are what the lane recorded, what it knows and did not record, and they have the blocks
--- that it found under its locks
+-- the word is one of an allocated block's
+pub record LiesInBlock (w : ℕ → ℕ) (lanes zones i : ℕ) : Type 0 where
+  pub block : Block
+  pub is_there : Contains (blocks w lanes zones) block
+  pub from : block.place ≤ 8 * i
+  pub to : 8 * i < block.place + 64 * block.lines
+
+-- the word is one of a block that the lane found under one of its locks
+pub record IsUnderBlock (v : View) (i : ℕ) : Type 0 where
+  pub lock : Lock
+  pub lines : ℕ
+  pub held : Contains v.locks lock
+  pub found : lock.block ≡ Some lines
+  pub from : 8 * lock.line ≤ i
+  pub to : i < 8 * (lock.line + lines)
+
+-- so is each word that it recorded
+abbrev pub RecordsUnder : View → Type 0
+RecordsUnder v = (i : ℕ) → is_recorded v.log.records i ≡ true → IsUnderBlock v i
+
+-- `w` may be the words before the open call: they are what the lane recorded, what it knows of blocks and did not record, and they have the
+-- blocks that it found under its locks. What it stored in blocks that are free is no matter
 pub record IsBefore (v : View) (w : ℕ → ℕ) : Type 0 where
   pub recorded : (slot : ℕ) (r : Recorded) (i : ℕ) → IsRecordAt v slot r → i < length r.old → w (r.word + i) ≡ slice_index r.old i
-  pub known : (i : ℕ) → Contains v.known i → is_in_area v.lane i ≡ false → is_recorded v.log.records i ≡ false → w i ≡ slice_index v.words i
+  pub known : (i : ℕ) → Contains v.known i → is_in_area v.lane i ≡ false → is_recorded v.log.records i ≡ false → LiesInBlock w v.lanes v.zones i → w i ≡ slice_index v.words i
   pub found : (l : Lock) (lines : ℕ) → Contains v.locks l → l.block ≡ Some lines → Contains (blocks w v.lanes v.zones) (block_at_line l.line lines)
 
 -- the words as the open call has stored them over those before it: what it recorded is as it left it
@@ -98,12 +118,13 @@ pub record ComesTo (v : View) (w : ℕ → ℕ) (header : Header) (pool : PoolVi
   pub sizes_stay : (block : Block) → Contains (blocks w v.lanes v.zones) block → size_in (call_words v w) block ≡ size_in w block
 
 -- the lane has a call open at this level, in this stage and with this error, whatever pool the words before it hold. It holds 64 locks at
--- most, each of a line of a chunk where it found a block there, recorded no word of its own area, and has no redo entries: they come with the commit
+-- most, each of a line of a chunk where it found a block there, recorded words of those blocks alone, and has no redo entries: they come with the commit
 pub record IsOpen (v : View) (level : ℕ) (at_stage : Stage) (error : TxErr) : Type 0 where
   pub in_lanes : v.lane < v.lanes
   pub few : length v.locks ≤ 64
   pub chunks : (l : Lock) (lines : ℕ) → Contains v.locks l → l.block ≡ Some lines → is_chunk v.lanes (l.line / 64) ≡ true
   pub outside : (i : ℕ) → is_recorded v.log.records i ≡ true → is_in_area v.lane i ≡ false
+  pub under : RecordsUnder v
   pub unentered : v.log.entries ≡ []
   pub comes : (w : ℕ → ℕ) (header : Header) (pool : PoolView) → HoldsPool w v.lanes v.zones header pool → v.pool ≡ header.id → IsBefore v w
       → ComesTo v w header pool level at_stage error
@@ -117,9 +138,10 @@ pub record ComesToNothing (v : View) (pool : PoolView) (error : TxErr) : Type 0 
   pub actions : tx.actions ≡ pending_in v
   pub unchanged : tx.pool ≡ pool
 
--- the lane's call was aborted with this error, whatever pool the words before it hold. It recorded no word of its own area
+-- the lane's call was aborted with this error, whatever pool the words before it hold. It recorded words of the blocks that it found alone
 pub record IsGivenUp (v : View) (error : TxErr) : Type 0 where
   pub outside : (i : ℕ) → is_recorded v.log.records i ≡ true → is_in_area v.lane i ≡ false
+  pub under : RecordsUnder v
   pub comes : (w : ℕ → ℕ) (header : Header) (pool : PoolView) → HoldsPool w v.lanes v.zones header pool → v.pool ≡ header.id → IsBefore v w
       → ComesToNothing v pool error
 

@@ -20,7 +20,7 @@ use Rattle.pm_view.specs.Log.{Recorded}
 use Rattle.pm_view.specs.View.{View, Lock}
 use Rattle.pm_world.specs.Records.{IsRecordAt, is_recorded, pool_entries}
 use Rattle.pm_crash.specs.Locks.{AreSameLocks}
-use Rattle.pm_crash.specs.OpenCall.{locks_of, words_recorded}
+use Rattle.pm_crash.specs.OpenCall.{IsUnderBlock, locks_of, words_recorded}
 use Rattle.pm_crash.specs.Pending.{published_in}
 use Rattle.pm_crash.specs.Performing.{entry_for}
 use Rattle.pm_crash.specs.Writes.{words_written}
@@ -116,6 +116,7 @@ pub record AddsRange (v next : View) (id : Oid) (off len : ℕ) : Type 0 where
   pub entries : next.log.entries ≡ v.log.entries
   pub extents : map extent added ≡ records_of (new_words (words_recorded v.log.records) (covered_words (id.off + off) len))
   pub present : (r : Recorded) → Contains added r → IsPresent v r
+  pub under : (i : ℕ) → is_recorded added i ≡ true → IsUnderBlock v i
   pub room : length v.log.records + length added ≤ 64
 
 -- every recorded word is known to have its old value again, and no other word changed but in the lane's own area. The log has the records

@@ -12,6 +12,7 @@ mod alone;
 mod bounds;
 mod calls;
 mod course;
+mod heap;
 mod histories;
 mod laws;
 
@@ -36,6 +37,10 @@ pub use calls::{
 };
 pub use course::{
     a_recovered_pool_opens_a_world, an_ended_call_is_a_model_step, one_lanes_images_mean_the_replay,
+};
+pub use heap::{
+    a_pool_is_held_by_what_is_read, a_run_without_blocks_holds_nothing,
+    words_of_free_blocks_are_not_read,
 };
 pub use histories::{
     a_crash_leaves_what_kept_calls_made, a_drawn_call_is_a_step, a_history_is_held,

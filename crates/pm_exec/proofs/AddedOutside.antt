@@ -1,6 +1,6 @@
 -- While a lane that is alone records a range, no word outside of its area changes: it stores slot words of its area alone, up to the
 -- last slot, since behind that it may store none.
-use Rattle.std.proofs.Common.{◌≡◌, ◌≢◌, ⊎_elim, IsTrue, ℕ, ◌+◌, ◌<◌, ◌≤◌, true, false, List, [], ◌∷◌, length, map, take, set, slice_index, refl, sym, ap, ◌∙◌, subst, arith, get_or-set_other}
+use Rattle.std.proofs.Common.{◌≡◌, inr, inl, ◌⊎◌, ◌≢◌, ⊎_elim, IsTrue, ℕ, ◌+◌, ◌<◌, ◌≤◌, true, false, List, [], ◌∷◌, length, map, take, set, slice_index, refl, sym, ap, ◌∙◌, subst, arith, get_or-set_other}
 use Rattle.std.specs.Option.{ForSome}
 use Rattle.std.proofs.lemmas.Bool.{cases_lt, false≢true}
 use Rattle.std.proofs.lemmas.List.{length-map, set-get_or}
@@ -17,6 +17,7 @@ use Rattle.pm_memory.specs.Solo.{AreNumbered}
 use Rattle.pm_view.specs.Area.{Part, area_word, is_in_area, part_of}
 use Rattle.pm_view.specs.Area.Part.{OtherWord}
 use Rattle.pm_view.specs.Founds.{FoundAlone, IsAlone}
+use Rattle.pm_view.specs.Held.{is_reserved}
 use Rattle.pm_view.specs.Log.{Phase}
 use Rattle.pm_view.specs.Log.Phase.{Idle, Open, Drawn, Sealing, Applying, Clearing, Retiring}
 use Rattle.pm_view.specs.Rights.{is_written}
@@ -25,6 +26,7 @@ use Rattle.pm_view.specs.Steps.Step.{Load, Store, Flush, Drain, Tell}
 use Rattle.pm_view.specs.View.{View}
 use Rattle.pm_view.specs.Views.{after, after_all}
 use Rattle.pm_view.proofs.SameLane.{same_lane-after}
+use Rattle.pm_world.proofs.CrashWords.{reserved_word}
 use Rattle.pm_world.proofs.Exclusion.{writes_under}
 use Rattle.pm_world.specs.Entries.{set_word}
 use Rattle.pm_world.specs.Fits.{EntriesFit}
@@ -54,14 +56,15 @@ loaded_same words w x i found = ap (λ y. slice_index (set words w y) i) found �
 stored_same : (words : List ℕ) (w x i : ℕ) → is_in_area 0 w ≡ true → is_in_area 0 i ≡ false → slice_index (set words w x) i ≡ slice_index words i
 stored_same words w x i inside outside = get_or-set_other words w i x 0 (λ same. false≢true (sym outside ∙ (ap (is_in_area 0) same ∙ inside)))
 
--- a word outside of the area is stored under a lock that is held for writing
-may_write : (v : View) (w x : ℕ) (p : Phase) → EntriesFit v → w ≢ area_word v.lane → StoreFits v w x p OtherWord → IsTrue (is_written v w)
+-- a word outside of the area is stored under a lock that is held for writing, or in a block that the lane reserved
+may_write : (v : View) (w x : ℕ) (p : Phase) → EntriesFit v → w ≢ area_word v.lane → StoreFits v w x p OtherWord → IsTrue (is_written v w) ⊎ (is_reserved v w ≡ true)
 may_write v w x Idle entries other may = absurd may
-may_write v w x (Open slot pair) entries other may = may.own
+may_write v w x (Open slot pair) entries other (inl writes) = inl writes.own
+may_write v w x (Open slot pair) entries other (inr fills) = inr fills.reserved
 may_write v w x Drawn entries other may = absurd may
 may_write v w x Sealing entries other may = absurd may
 may_write v w x (Applying applied) entries other may =
-    ⊎_elim (λ (own : IsTrue (is_written v w)). own) (λ (generation : w ≡ area_word v.lane). absurd (other generation)) (entries.each applied (set_word w x) may).of
+    ⊎_elim (λ (own : IsTrue (is_written v w)). inl own) (λ (generation : w ≡ area_word v.lane). absurd (other generation)) (entries.each applied (set_word w x) may).of
 may_write v w x Clearing entries other may = absurd may
 may_write v w x Retiring entries other may = absurd may
 
@@ -70,10 +73,14 @@ module _ (o : Opening) (header : Header) (pool : PoolView) where
   behind_slots : (v : View) (x : ℕ) → StandsAlone o header pool v → v.lane ≡ 0 → Allowed v (Store 1160 x) → ⊥
   behind_slots v x stands lane may =
       let part : part_of v.lane 1160 ≡ OtherWord = ap (λ n. part_of n 1160) lane in
-      let write : IsTrue (is_written v 1160) = may_write v 1160 x v.log.phase (own_fits o header pool v stands).entries (λ same. omega (arith, same, lane)) (subst (λ (p : Part). StoreFits v 1160 x v.log.phase p) part may.fits) in
-      let under = writes_under o (memory_of v) 0 v 1160 (own_fits o header pool v stands).locks write in
-      let behind = stands.goes.world.sound.behind_areas under.0 1160 under.1 in
-      let some = stands.goes.in_lanes in omega (arith, behind, some)
+      let some = stands.goes.in_lanes in
+      let write : IsTrue (is_written v 1160) ⊎ (is_reserved v 1160 ≡ true) = may_write v 1160 x v.log.phase (own_fits o header pool v stands).entries (λ same. omega (arith, same, lane)) (subst (λ (p : Part). StoreFits v 1160 x v.log.phase p) part may.fits) in
+      ⊎_elim (λ (own : IsTrue (is_written v 1160)).
+      let under = writes_under o (memory_of v) 0 v 1160 (own_fits o header pool v stands).locks own in
+      let behind = stands.goes.world.sound.behind_areas under.0 1160 under.1 in omega (arith, behind, some))
+      (λ (reserved : is_reserved v 1160 ≡ true).
+      let behind = (reserved_word o (memory_of v) stands.views stands.log stands.decided stands.goes.world 0 1160 stands.goes.in_lanes (ap (λ u. is_reserved u 1160) stands.here ∙ reserved)).behind in
+      omega (arith, behind, some)) write
 
   module _ (v : View) (stands : StandsAlone o header pool v) (alone : IsAlone v) (lane : v.lane ≡ 0) (n : ℕ) (from : 648 ≤ n) (to : n ≤ 1160) where
     -- the step changes no other word, and leads to a next word of the slots, or just behind them

@@ -1,5 +1,6 @@
 -- Along all steps of a lane that is alone in a sound pool, what tells of blocks stays; so the pool is sound as each view of the lane has it.
-use Rattle.std.proofs.Common.{◌≡◌, ⊎_elim, inl, ℕ, ◌+◌, ◌*◌, ◌<◌, ◌≤◌, true, ◌&&◌, All, IsTrue, List, [], ◌∷◌, length, length-set, set, slice_index, is_some, refl, sym, ap, ◌∙◌, subst, arith}
+use Rattle.std.proofs.Common.{◌≡◌, ⊎_elim, eq-eqb, eqb, not, ◌%◌, ◌/◌, inr, inl, ℕ, ◌+◌, ◌*◌, ◌<◌, ◌≤◌, true, ◌&&◌, All, IsTrue, List, [], ◌∷◌, length, length-set, set, slice_index, is_some, refl, sym, ap, ◌∙◌, subst, arith}
+use Rattle.std.proofs.lemmas.Bool.{and_from, and_parts, false≢true}
 use Rattle.std.proofs.lemmas.List.{get_or-set_other}
 use Rattle.std.proofs.lemmas.List.Elements.{All-nil}
 use Rattle.std.proofs.lemmas.List.Folds.{Any-from_list_any}
@@ -14,7 +15,7 @@ use Rattle.pm_undo.specs.Working.{FindsOpening}
 use Rattle.pm_view.proofs.SameLane.{same_lane-after}
 use Rattle.pm_view.specs.Area.{Part, area_word, is_in_area, part_of}
 use Rattle.pm_view.specs.Area.Part.{GenerationWord, SealWord, EntryWord, SlotWord, OtherWord}
-use Rattle.pm_view.specs.Blocks.{bitmap_word, descriptor_word, is_run}
+use Rattle.pm_view.specs.Blocks.{bitmap_word, descriptor_word, is_chunk, is_run, tells_nothing}
 use Rattle.pm_view.specs.Founds.{FoundAlone}
 use Rattle.pm_view.specs.Held.{is_under_found}
 use Rattle.pm_view.specs.Log.{Log, Phase, no_log}
@@ -25,6 +26,7 @@ use Rattle.pm_view.specs.Steps.Step.{Store}
 use Rattle.pm_view.specs.View.{Lock, View}
 use Rattle.pm_view.specs.Views.{after}
 use Rattle.pm_world.proofs.Apart.{area_bounds}
+use Rattle.pm_world.proofs.Living.{descriptor_page}
 use Rattle.pm_world.proofs.Parts.{entry_part, generation_part, seal_part, slot_part}
 use Rattle.pm_world.specs.Entries.{IsEnterable, set_word}
 use Rattle.pm_world.specs.Lawful.{Allowed, StoreFits}
@@ -77,6 +79,21 @@ module _ (o : Opening) (sound : IsSound o) (v : View) (is : Stands o v) (entered
       let l : Lock = t.1 in
       sound.apart l.line w (found_guards o v finds l w (t.0, t.2, t.3) l.write t.4)
 
+  -- nor one that may be filled
+  plain : (w : ℕ) → tells_nothing v.lanes v.words w ≡ true → TellsOfBlocks o w → ⊥
+  plain w nothing (page, (chunk, tells)) =
+      let parts = and_parts (is_chunk v.lanes (w / 512)) (not (eqb (w % 512) 0 && is_run (slice_index v.words (descriptor_word v.lanes (w / 512))))) nothing in
+      ⊎_elim
+      (λ (descriptor : w ≡ descriptor_word o.lanes page). false≢true (sym (descriptor_page o.lanes page chunk) ∙ ap (λ u. is_chunk o.lanes (u / 512)) (sym descriptor) ∙ ap (λ n. is_chunk n (w / 512)) (sym is.lanes) ∙ parts.0))
+      (λ (bitmap : (w ≡ bitmap_word page) × IsTrue (is_run (slice_index o.words (descriptor_word o.lanes page)))).
+      let at = bitmap.0 in
+      let here : w / 512 ≡ page = omega (arith, at) in
+      let first : w % 512 ≡ 0 = omega (arith, at) in
+      let run : is_run (slice_index v.words (descriptor_word v.lanes (w / 512))) ≡ true =
+      (λ i. is_run (slice_index v.words (descriptor_word (is.lanes i) (here i)))) ∙ ap is_run (is.words.telling (descriptor_word o.lanes page) (page, (chunk, inl refl))) ∙ bitmap.1 in
+      false≢true (sym (ap not (and_from (eqb (w % 512) 0) (is_run (slice_index v.words (descriptor_word v.lanes (w / 512)))) (eq-eqb (w % 512) 0 first) run)) ∙ parts.1))
+      tells
+
   -- nor one that an entry may be of
   enterable : (w : ℕ) → IsEnterable v w → TellsOfBlocks o w → ⊥
   enterable w = ⊎_elim (λ (own : IsTrue (is_written v w)). locked w own)
@@ -85,7 +102,8 @@ module _ (o : Opening) (sound : IsSound o) (v : View) (is : Stands o v) (entered
   -- so none is stored that does
   stored : (w x : ℕ) (phase : Phase) (part : Part) → part_of v.lane w ≡ part → StoreFits v w x phase part → TellsOfBlocks o w → ⊥
   stored w x (Open slot pair) SlotWord at fits = in_area w (slot_part v.lane w at)
-  stored w x (Open slot pair) OtherWord at fits = locked w fits.own
+  stored w x (Open slot pair) OtherWord at (inl writes) = locked w writes.own
+  stored w x (Open slot pair) OtherWord at (inr fills) = plain w fills.plain
   stored w x (Open slot pair) GenerationWord at fits = in_area w (generation_part v.lane w at).0
   stored w x (Open slot pair) SealWord at fits = absurd fits
   stored w x (Open slot pair) EntryWord at fits = in_area w (entry_part v.lane w at)

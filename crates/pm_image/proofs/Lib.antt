@@ -20,6 +20,7 @@ pub mod InPlace
 pub mod LocalHeap
 pub mod FaultFree
 pub mod LocalPool
+pub mod SameParts
 pub mod LocalMeaning
 pub mod Rooms
 pub mod HeapWords

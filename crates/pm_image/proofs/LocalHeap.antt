@@ -105,7 +105,7 @@ pub agree_on_block : (w v : ℕ → ℕ) (lanes zones : ℕ) (block : Block) →
 agree_on_block w v lanes zones block agree there =
     record { same = λ i read. agree.same i (inr (inr (inr (record { block = block; is_there = there; is_read = read })))) }
 
-good_block_same : (w v : ℕ → ℕ) (block : Block) → AgreeOn (ReadsHeader block) w v → good_block v block ≡ good_block w block
+pub good_block_same : (w v : ℕ → ℕ) (block : Block) → AgreeOn (ReadsHeader block) w v → good_block v block ≡ good_block w block
 unfolding good_block
 good_block_same w v block agree =
     let size : size_in v block ≡ size_in w block = head_same w v block 1 (omega arith) agree in

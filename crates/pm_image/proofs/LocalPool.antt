@@ -25,7 +25,7 @@ pub first_none : (w : ℕ → ℕ) (block : Block) → takes_links w block ≡ t
 first_none w block taken =
     eqb-true (header_word w block 5) 0 (last_of (eqb (header_word w block 2) 0 && eqb (header_word w block 3) 0 && eqb (header_word w block 4) 0) (eqb (header_word w block 5) 0) taken)
 
-object_same : (w v : ℕ → ℕ) (block : Block) (count : ℕ) → AgreeOn (ReadsBlock w block) w v → takes_links w block ≡ true → object_in v count block ≡ object_in w count block
+pub object_same : (w v : ℕ → ℕ) (block : Block) (count : ℕ) → AgreeOn (ReadsBlock w block) w v → takes_links w block ≡ true → object_in v count block ≡ object_in w count block
 object_same w v block count agree taken =
     let same : SameContents w v block = contents_local w v block agree in
     let none : first_in w block ≡ 0 = first_none w block taken in

@@ -4,3 +4,4 @@ pub mod TriedBlocks
 pub mod SearchedRuns
 pub mod SearchedPools
 pub mod GivenBack
+pub mod Resting

@@ -11,18 +11,19 @@ use Rattle.pm_view.specs.Steps.{Step}
 use Rattle.pm_view.specs.Steps.Step.{Load, Occupy}
 use Rattle.pm_view.specs.View.{View}
 use Rattle.pm_view.specs.Views.{after, occ_in}
+use Rattle.pm_world.proofs.Searched.{kept_one, kept_then, searches_one, searches_then, still_alone}
 use Rattle.pm_world.specs.Lawful.{MayOccupy}
 use Rattle.pm_world.specs.Searches.{HasSearched}
 use Rattle.pm_runs.specs.Looking.{HasGotIn, HasGotOf, HasLooked, HasNoFree, HasNoneOf, IsRunOf, LookedOn, SawNone}
 use Rattle.pm_runs.specs.Runs.{HasFoundNone, HasGot, IsFree, IsLeast, MaySearch, descriptor_at, page_of, run_block, run_descriptor, run_of, taken_block}
-use Rattle.pm_runs.proofs.Searched.{looked_none, looked_then, searches_occupy, searches_then, still_alone}
+use Rattle.pm_runs.proofs.Searched.{looked_none, looked_then}
 use Rattle.pm_runs.proofs.SearchedRuns.{has_occ, may_still, occ_still, saw_still, taken_before}
 use Rattle.pm_runs.proofs.Rows.{index_low}
 use Rattle.pm_runs.proofs.TriedBlocks.{clear_bit}
 
 saw_none_still : (v w : View) → LookedOn v w → (lanes class chunk : ℕ) → SawNone lanes class chunk v → SawNone lanes class chunk w
 saw_none_still v w looked lanes class chunk = ⊎_elim
-    (λ (other : (found : ℕ) × (Contains v.seen (Load (descriptor_at lanes chunk) found) × (found ≢ run_descriptor class))). inl (other.0, (looked.remembers _ other.1.0, other.1.1)))
+    (λ (other : (found : ℕ) × (Contains v.seen (Load (descriptor_at lanes chunk) found) × (found ≢ run_descriptor class))). inl (other.0, (looked.kept.remembers _ other.1.0, other.1.1)))
     (λ taken. inr (λ k low. saw_still v w looked (run_of lanes chunk) k (taken k low)))
 
 -- where the lane is alone, what it finds in the pool is as before
@@ -32,7 +33,7 @@ run_before v w looked is lanes class chunk run = ap (λ words. slice_index words
 no_free_before : (v w : View) → LookedOn v w → (lanes class chunk : ℕ) → HasNoFree w lanes class chunk → HasNoFree v lanes class chunk
 no_free_before v w looked lanes class chunk none is run k low =
     ap (λ x. bit_at x k) (sym (occ_still v w looked is (4096 * page_of lanes chunk)))
-    ∙ none (still_alone v w looked is) (ap (λ words. slice_index words (descriptor_at lanes chunk)) (looked.alone is).0 ∙ run) k low
+    ∙ none (still_alone v w looked.kept is) (ap (λ words. slice_index words (descriptor_at lanes chunk)) (looked.alone is).0 ∙ run) k low
 
 -- of the first so many chunks none has a block
 pub record InPool (at : View → Type 0) (v : View) (lanes class i : ℕ) : Type 0 where
@@ -68,6 +69,7 @@ module _ (v : View) (shape : Shape) (may : MaySearch v shape) (class : ℕ) (at 
     view = w;
     steps = so.looks.looked.steps;
     searches = so.looks.looked.searches;
+    kept = so.looks.looked.kept;
     there = so.looks.there;
     reserved = ap (λ (z : View). z.reserved) so.looks.looked.same ∙ sym (append-nil v.reserved);
     zones = ap (λ (z : View). z.zone_locks) so.looks.looked.same;
@@ -115,11 +117,12 @@ module _ (v : View) (shape : Shape) (may : MaySearch v shape) (class : ℕ) (at 
     searched = record {
       view = after got.from taking;
       steps = looked.steps ++ taking ∷ [];
-      searches = searches_then v got.from (after got.from taking) looked.steps (taking ∷ []) looked.searches (searches_occupy got.from (4096 * page_of shape.lanes i) (2 ^ got.index) true may_take got.won.found);
+      searches = searches_then v got.from (after got.from taking) looked.steps (taking ∷ []) looked.searches (searches_one got.from taking refl may_take tt got.won.found);
+      kept = kept_then v got.from (after got.from taking) looked.kept (kept_one got.from taking refl tt);
       there = got.won.there;
       reserved = ap (λ (z : View). z.reserved ++ taken_block shape.lanes i got.index ∷ []) looked.same;
       zones = ap (λ (z : View). z.zone_locks) looked.same;
-      holds = Contains-append_left got.from.seen (taking ∷ []) _ (got.looked.remembers _ of.saw);
+      holds = Contains-append_left got.from.seen (taking ∷ []) _ (got.looked.kept.remembers _ of.saw);
     }
 
     same_class : block.lines ≡ class
@@ -144,7 +147,7 @@ module _ (v : View) (shape : Shape) (may : MaySearch v shape) (class : ℕ) (at 
     clear is set =
         let x : ℕ = occ_in got.from (run_of shape.lanes i) in
         let same : x ≡ occ_in v (run_of shape.lanes i) = occ_still v got.from looked is (4096 * page_of shape.lanes i) in
-        let none : bit_and x (2 ^ got.index) ≡ 0 = (got.won.found (still_alone v got.from looked is)).0 refl in
+        let none : bit_and x (2 ^ got.index) ≡ 0 = (got.won.found (still_alone v got.from looked.kept is)).0 refl in
         clear_bit x got.index none (ap (λ y. bit_at y got.index) same ∙ set)
 
     lower : IsAlone v → (k : ℕ) → k < got.index → bit_at (occ_in v (run_of shape.lanes i)) k ≡ 1
@@ -159,7 +162,7 @@ module _ (v : View) (shape : Shape) (may : MaySearch v shape) (class : ℕ) (at 
           is_block = got.is_block ∙ ap (λ n. run_block n i class got.index) (sym lanes);
           free = record {
             in_zones = (let zones = may.of_shape.zones in omega (arith, zones, inside));
-            is_run = ap (λ n. slice_index v.words (descriptor_at n i)) lanes ∙ run_before v w so.looks.looked is shape.lanes class i (of.is_run (still_alone v w so.looks.looked is));
+            is_run = ap (λ n. slice_index v.words (descriptor_at n i)) lanes ∙ run_before v w so.looks.looked is shape.lanes class i (of.is_run (still_alone v w so.looks.looked.kept is));
             in_run = got.in_run;
             clear = λ set. clear is (ap (λ n. bit_at (occ_in v (run_of n i)) got.index) (sym lanes) ∙ set);
           };

@@ -6,15 +6,16 @@ use Rattle.pm_layout.specs.Sizes.{blocks_of}
 use Rattle.pm_image.specs.declared.block.Block.{Block}
 use Rattle.pm_view.specs.declared.occ.Occ.{Occ}
 use Rattle.pm_view.specs.declared.occ.Occ.TheVariants.{Run}
-use Rattle.pm_view.specs.Founds.{FoundAlone, IsAlone}
+use Rattle.pm_view.specs.Founds.{Found, FoundAlone, IsAlone}
 use Rattle.pm_view.specs.Steps.Step.{Load, Occupied}
 use Rattle.pm_view.specs.View.{View}
 use Rattle.pm_view.specs.Views.{after, occ_in}
-use Rattle.pm_world.specs.Lawful.{HasOcc, IsEarly}
+use Rattle.pm_world.proofs.Searched.{alone_before, early_still, saw_one, shape_still, still_alone}
+use Rattle.pm_world.specs.Lawful.{HasOcc}
 use Rattle.pm_world.specs.Searches.{SawTaken}
 use Rattle.pm_runs.specs.Looking.{AreTaken, CanTry, HasGotIn, HasGotOf, HasLooked, HasLost, HasNoneBelow, HasNoneOf, HasWon, LookedOn}
 use Rattle.pm_runs.specs.Runs.{MaySearch, descriptor_at, page_of, run_block, run_descriptor, run_of}
-use Rattle.pm_runs.proofs.Searched.{looked_load, looked_occupied, looked_then, saw_one, still_alone}
+use Rattle.pm_runs.proofs.Searched.{looked_load, looked_occupied, looked_then}
 
 -- what follows for each value that may be there
 pub if_some_weaker : {T : Type 0} (P Q : T → Type 0) → ((x : T) → P x → Q x) → (o : Option T) → IfSome o P → IfSome o Q
@@ -23,27 +24,20 @@ if_some_weaker P Q weaker None is = tt
 
 pub may_still : (v w : View) (shape : Shape) → LookedOn v w → MaySearch v shape → MaySearch w shape
 may_still v w shape looked may = record {
-  of_shape = record {
-    lanes = ap (λ (z : View). z.lanes) looked.same ∙ may.of_shape.lanes;
-    zones = ap (λ (z : View). z.zones) looked.same ∙ may.of_shape.zones;
-    size = looked.size ∙ may.of_shape.size;
-  };
-  early = subst IsEarly (sym (ap (λ (z : View). z.log.phase) looked.same)) may.early;
+  of_shape = shape_still v w looked.kept shape may.of_shape;
+  early = early_still v w looked.kept may.early;
 }
 
-pub alone_before : (v w : View) → LookedOn v w → IsAlone w → IsAlone v
-alone_before v w looked is = sym (ap (λ (z : View). z.table) looked.same) ∙ is
-
 pub saw_still : (v w : View) → LookedOn v w → (at : Occ) (bit : ℕ) → SawTaken v at bit → SawTaken w at bit
-saw_still v w looked at bit = ⊎_elim (λ (found : (x : ℕ) × (Contains v.seen (Occupied at x) × (bit_at x bit ≡ 1))). inl (found.0, (looked.remembers _ found.1.0, found.1.1)))
-    (λ tried. inr (tried.0, (looked.remembers _ tried.1.0, tried.1.1)))
+saw_still v w looked at bit = ⊎_elim (λ (found : (x : ℕ) × (Contains v.seen (Occupied at x) × (bit_at x bit ≡ 1))). inl (found.0, (looked.kept.remembers _ found.1.0, found.1.1)))
+    (λ tried. inr (tried.0, (looked.kept.remembers _ tried.1.0, tried.1.1)))
 
 -- where the lane is alone, the run's occupancy word is as before
 pub occ_still : (v w : View) → LookedOn v w → IsAlone v → (place : ℕ) → occ_in w (Run place) ≡ occ_in v (Run place)
 occ_still v w looked is place = ap (λ words. slice_index words (place / 4096)) (looked.alone is).1
 
 pub taken_before : (v w : View) → LookedOn v w → (lanes chunk n : ℕ) → AreTaken w lanes chunk n → AreTaken v lanes chunk n
-taken_before v w looked lanes chunk n taken is k low = ap (λ x. bit_at x k) (sym (occ_still v w looked is (4096 * page_of lanes chunk))) ∙ taken (still_alone v w looked is) k low
+taken_before v w looked lanes chunk n taken is k low = ap (λ x. bit_at x k) (sym (occ_still v w looked is (4096 * page_of lanes chunk))) ∙ taken (still_alone v w looked.kept is) k low
 
 -- ---- what the lane may ask for
 
@@ -76,7 +70,7 @@ module _ (v : View) (shape : Shape) (may : MaySearch v shape) (chunk : ℕ) (ins
       view = after v (Occupied (run_of shape.lanes chunk) found);
       looked = looked_occupied v (4096 * page_of shape.lanes chunk) found (has_occ v shape may chunk inside) alone;
       there = there;
-      holds = (saw_one v (Occupied (run_of shape.lanes chunk) found) v.seen, λ k low. absurd (omega (arith, low)));
+      holds = (saw_one (Occupied (run_of shape.lanes chunk) found) v.seen, λ k low. absurd (omega (arith, low)));
     };
     found_so = alone;
     taken = λ is k low. absurd (omega (arith, low));
@@ -93,7 +87,7 @@ module _ (v : View) (shape : Shape) (may : MaySearch v shape) (chunk : ℕ) (ins
           there = has_occ w shape still chunk inside;
           early = still.early;
           saw = so.looks.holds.0;
-          alone = λ is. let before = alone_before v w so.looks.looked is in so.found_so before ∙ sym (occ_still v w so.looks.looked before (4096 * page_of shape.lanes chunk));
+          alone = λ is. let before = alone_before v w so.looks.looked.kept is in so.found_so before ∙ sym (occ_still v w so.looks.looked before (4096 * page_of shape.lanes chunk));
         }
 
     pub in_run_more : (new : View → Type 0) → HasLost new w (4096 * page_of shape.lanes chunk) i → InRun new v shape.lanes chunk found (i + 1)
@@ -105,14 +99,14 @@ module _ (v : View) (shape : Shape) (may : MaySearch v shape) (chunk : ℕ) (ins
             looked = looked_then v w u so.looks.looked lost.looks.looked;
             there = lost.looks.there;
             holds = (
-              lost.looks.looked.remembers _ so.looks.holds.0,
+              lost.looks.looked.kept.remembers _ so.looks.holds.0,
               below_more (λ k. SawTaken u (run_of shape.lanes chunk) k) i (λ k low. saw_still w u lost.looks.looked (run_of shape.lanes chunk) k (so.looks.holds.1 k low)) lost.looks.holds,
             );
           };
           found_so = so.found_so;
           taken = λ is.
               below_more (λ k. bit_at (occ_in v (run_of shape.lanes chunk)) k ≡ 1) i (so.taken is)
-              (ap (λ x. bit_at x i) (sym (occ_still v w so.looks.looked is (4096 * page_of shape.lanes chunk))) ∙ lost.taken (still_alone v w so.looks.looked is));
+              (ap (λ x. bit_at x i) (sym (occ_still v w so.looks.looked is (4096 * page_of shape.lanes chunk))) ∙ lost.taken (still_alone v w so.looks.looked.kept is));
         }
 
     pub got_in_run : (class : ℕ) → i < blocks_of class → (new : View → Type 0) → HasWon new w (4096 * page_of shape.lanes chunk) i → (block : Block) → block ≡ run_block shape.lanes chunk class i → HasGotIn new v shape.lanes class chunk block
@@ -126,7 +120,7 @@ module _ (v : View) (shape : Shape) (may : MaySearch v shape) (chunk : ℕ) (ins
 
 -- ---- a chunk
 
-module _ (v : View) (shape : Shape) (may : MaySearch v shape) (chunk : ℕ) (inside : chunk < 64 * shape.zones) (class found : ℕ) (alone : FoundAlone v (Load (descriptor_at shape.lanes chunk) found)) where
+module _ (v : View) (shape : Shape) (may : MaySearch v shape) (chunk : ℕ) (inside : chunk < 64 * shape.zones) (class found : ℕ) (known : Found v (Load (descriptor_at shape.lanes chunk) found)) (alone : FoundAlone v (Load (descriptor_at shape.lanes chunk) found)) where
   abbrev word : ℕ
   word = descriptor_at shape.lanes chunk
 
@@ -134,12 +128,12 @@ module _ (v : View) (shape : Shape) (may : MaySearch v shape) (chunk : ℕ) (ins
   m = after v (Load word found)
 
   pub looked_at_chunk : LookedOn v m
-  looked_at_chunk = looked_load v word found (may_load v shape may chunk inside) alone
+  looked_at_chunk = looked_load v word found (may_load v shape may chunk inside) known alone
 
   -- no run of the class
   pub none_of_other : found ≢ run_descriptor class → (new : View → Type 0) → new m → HasNoneOf new v shape.lanes class chunk
   none_of_other other new there = record {
-    looks = record { view = m; looked = looked_at_chunk; there = there; holds = inl (found, (saw_one v (Load word found) v.seen, other)) };
+    looks = record { view = m; looked = looked_at_chunk; there = there; holds = inl (found, (saw_one (Load word found) v.seen, other)) };
     none = λ is run. absurd (other (alone is ∙ run));
   }
 
@@ -155,7 +149,7 @@ module _ (v : View) (shape : Shape) (may : MaySearch v shape) (chunk : ℕ) (ins
   got_of_run run new block got = record {
     view = m;
     looked = looked_at_chunk;
-    saw = subst (λ x. Contains m.seen (Load word x)) run (saw_one v (Load word found) v.seen);
+    saw = subst (λ x. Contains m.seen (Load word x)) run (saw_one (Load word found) v.seen);
     is_run = λ is. sym (alone is) ∙ run;
     got = got;
   }

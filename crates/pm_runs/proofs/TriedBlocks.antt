@@ -9,9 +9,10 @@ use Rattle.pm_view.specs.Founds.{FoundAlone}
 use Rattle.pm_view.specs.Steps.Step.{Occupy}
 use Rattle.pm_view.specs.View.{View}
 use Rattle.pm_view.specs.Views.{after, occ_in}
+use Rattle.pm_world.proofs.Searched.{saw_one}
 use Rattle.pm_world.specs.Lawful.{MayOccupy}
 use Rattle.pm_runs.specs.Looking.{CanTry, HasLost}
-use Rattle.pm_runs.proofs.Searched.{looked_lost, looked_none, saw_one}
+use Rattle.pm_runs.proofs.Searched.{looked_lost, looked_none}
 
 -- a bit that is not 0 is 1
 pub bit_is_set : (x i : ℕ) → bit_at x i ≢ 0 → bit_at x i ≡ 1
@@ -51,7 +52,7 @@ module _ (v : View) (place found index : ℕ) (can : CanTry v place found) where
       view = after v (Occupy (Run place) (2 ^ index) false);
       looked = looked_lost v place (2 ^ index) (may_occupy low) alone;
       there = there;
-      holds = inr (2 ^ index, (saw_one v (Occupy (Run place) (2 ^ index) false) v.seen, bit_at-pow_same index));
+      holds = inr (2 ^ index, (saw_one (Occupy (Run place) (2 ^ index) false) v.seen, bit_at-pow_same index));
     };
     taken = λ is. set_in_vain (occ_in v (Run place)) index (λ clear. false≢true ((alone is).1 clear));
   }

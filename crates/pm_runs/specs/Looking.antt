@@ -1,6 +1,6 @@
 -- What the parts of a search for a free block do: looks that reserve nothing, and at the end one bit that is got. Chunks, pages and places are those of a
 -- pool of so many lanes.
-use Rattle.std.specs.Prelude.{◌≡◌, ◌≢◌, ◌⊎◌, ℕ, ◌*◌, ◌^◌, ◌<◌, true, Contains, List, length, slice_index}
+use Rattle.std.specs.Prelude.{◌≡◌, ◌≢◌, ◌⊎◌, ℕ, ◌*◌, ◌^◌, ◌<◌, true, Contains, List, slice_index}
 use Rattle.std.specs.Int.{bit_at}
 use Rattle.pm_layout.specs.Sizes.{blocks_of}
 use Rattle.pm_image.specs.declared.block.Block.{Block}
@@ -11,16 +11,15 @@ use Rattle.pm_view.specs.Steps.Step.{Load, Occupied, Occupy}
 use Rattle.pm_view.specs.View.{View}
 use Rattle.pm_view.specs.Views.{after, occ_in}
 use Rattle.pm_world.specs.Lawful.{HasOcc, IsEarly}
-use Rattle.pm_world.specs.Searches.{Searches, SawTaken}
+use Rattle.pm_world.specs.Searches.{IsKeptBySearch, Searches, SawTaken}
 use Rattle.pm_runs.specs.Runs.{page_of, run_of, run_descriptor, descriptor_at, run_block}
 
 -- looks led from the one view to the other: they reserved nothing, and where the lane is alone they found each word as it was
 pub record LookedOn (v w : View) : Type 0 where
   pub steps : List Step
   pub searches : Searches v steps w
+  pub kept : IsKeptBySearch v w
   pub same : w ≡ record v { words = w.words; known = w.known; run_words = w.run_words; locks = w.locks; seen = w.seen }
-  pub size : length w.words ≡ length v.words
-  pub remembers : (s : Step) → Contains v.seen s → Contains w.seen s
   pub alone : IsAlone v → (w.words ≡ v.words) × (w.run_words ≡ v.run_words)
 
 -- the memory may be seen as a view to which looks led, and of which this holds

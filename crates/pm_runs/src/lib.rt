@@ -12,3 +12,6 @@ mod reserving;
 
 pub use giving::give_back;
 pub use reserving::reserve_small;
+
+#[cfg(test)]
+mod tests;

@@ -7,6 +7,8 @@ use Rattle.std.proofs.lemmas.List.Elements.{All-append, All-contains_itself, All
 use Rattle.std.proofs.lemmas.List.Folds.{list_any_at}
 use Rattle.pm_crash.proofs.AddOn.{add_keeps_open}
 use Rattle.pm_crash.proofs.CallWords.{behind_is_outside}
+use Rattle.pm_crash.proofs.NewRecords.{new_is_covered}
+use Rattle.pm_crash.specs.OpenCall.{words_recorded}
 use Rattle.pm_crash.specs.Operations.{AddsRange, HasRange, Overfills}
 use Rattle.pm_model.specs.Bytes.{covered_words}
 use Rattle.pm_objects.specs.declared.calls.Operation.TheVariants.{AddRange}
@@ -38,7 +40,7 @@ use Rattle.pm_world.specs.Sequences.{Ready, one}
 use Rattle.pm_world.specs.declared.lane.Lane.{Lane}
 use Rattle.pm_world.specs.declared.lane.Span.{Span}
 use Rattle.pm_tx.proofs.GoingOn.{HasSameFields, KeepsObjects, goes_on}
-use Rattle.pm_tx.proofs.Objects.{covered_under, is_found, size_under}
+use Rattle.pm_tx.proofs.Objects.{covered_block, covered_under, is_found, size_under}
 use Rattle.pm_tx.proofs.PlannedRecords.{extents_planned, planned_count, present_planned, spans_again}
 use Rattle.pm_memory.specs.Runs.{Stops}
 use Rattle.pm_tx.proofs.Drawless.{drawless}
@@ -131,6 +133,8 @@ module _ {M : Type 0} (o : Opening) (at : M → View → Type 0) (lane : Lane M)
             entries = made.1.entries;
             extents = extents_planned v (id.off + off) len;
             present = present_planned v (id.off + off) len can.known;
+            under = λ i is. covered_block v work.objects id off len true can.range i
+                (new_is_covered (map (recorded_in v) plan) (words_recorded v.log.records) (covered_words (id.off + off) len) i (extents_planned v (id.off + off) len) is);
             room = (let n = length-map plan (recorded_in v) in omega (arith, n, room));
           }
 

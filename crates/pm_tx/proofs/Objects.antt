@@ -3,6 +3,7 @@ use Rattle.std.proofs.Common.{◌≡◌, ℕ, ◌+◌, ◌-◌, ◌*◌, ◌^◌
 use Rattle.std.proofs.lemmas.Bool.{and_from, cases_eq, le-leb, lt-ltb, or_right}
 use Rattle.pm_objects.specs.declared.ids.Oid.{Oid}
 use Rattle.pm_crash.proofs.Covered.{covered_has_byte}
+use Rattle.pm_crash.specs.OpenCall.{IsUnderBlock}
 use Rattle.pm_crash.specs.Operations.{HasRange}
 use Rattle.pm_model.specs.Bytes.{covered_words}
 use Rattle.pm_view.specs.Held.{is_guarded, is_under, is_under_found}
@@ -62,6 +63,18 @@ module _ (v : View) (objects : FindsObjects v) where
         let most = object.fits in
         let behind = covered_behind i there in
         under_block lock object.lines i object.block (omega (arith, behind)) (omega (arith, place, below, inside, most)) (data_guarded (i - 8 * lock.line) (omega (arith, behind)))
+
+    -- and a word of the block that was found there
+    pub covered_block : (i : ℕ) → Contains (covered_words (id.off + off) len) i → IsUnderBlock v i
+    covered_block i there =
+        let object : FindsObject v lock = objects lock range.object.held in
+        let has = covered_has_byte (id.off + off) len i there in
+        let place : id.off ≡ 64 * lock.line + 64 = range.object.place in
+        let below = has.1 in
+        let inside : off + len ≤ slice_index v.words (8 * lock.line + 1) = range.inside in
+        let most = object.fits in
+        let behind = covered_behind i there in
+        record { lock = lock; lines = object.lines; held = range.object.held; found = object.block; from = omega (arith, behind); to = omega (arith, place, below, inside, most) }
 
     -- and so it is in the pool
     covered_guarded : (o : Opening) → FindsOpening o v → (i : ℕ) → Contains (covered_words (id.off + off) len) i → Guards o lock.line i

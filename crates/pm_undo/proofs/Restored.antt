@@ -1,5 +1,5 @@
 -- Every recorded word may be put back, and what that leaves.
-use Rattle.std.proofs.Common.{◌≡◌, ◌≢◌, ℕ, ◌+◌, ◌-◌, ◌*◌, ◌<◌, ◌≤◌, ⊎_elim, true, false, not, List, [], ◌∷◌, ◌++◌, map, length, replicate, set, slice_index, slice_get, is_some, refl, sym, ap, ◌∙◌, subst, arith, length-append, get_or-set_same, get_or-set_other}
+use Rattle.std.proofs.Common.{◌≡◌, inl, ◌≢◌, ℕ, ◌+◌, ◌-◌, ◌*◌, ◌<◌, ◌≤◌, ⊎_elim, true, false, not, List, [], ◌∷◌, ◌++◌, map, length, replicate, set, slice_index, slice_get, is_some, refl, sym, ap, ◌∙◌, subst, arith, length-append, get_or-set_same, get_or-set_other}
 use Rattle.std.specs.List.{list_any}
 use Rattle.std.proofs.Math.Nat.{eq-or-lt_of_le}
 use Rattle.std.proofs.lemmas.Bool.{cases_eq, false≢true}
@@ -111,11 +111,11 @@ module _ (v : View) (working : IsWorking v) where
       room = room;
       fits = subst (λ part. StoreFits m w x m.log.phase part) (sym (ap (λ n. part_of n w) p.call.lane.lane ∙ other_part v.lane w user.outside))
           (subst (λ phase. StoreFits m w x phase OtherWord) (sym (ap (λ (l : Log). l.phase) p.log ∙ working.is_open))
-          (record {
+          (inl (record {
             own = written_kept v m p.call w user.own;
             logged = logged_at m 0 slot m.log.records r w (ap (λ (l : Log). slice_get l.records slot) p.log ∙ there) (covers_own r i low)
                 (ap (is_drained_slot m) (let e : 0 + slot ≡ slot = omega arith in e) ∙ ap (λ n. not (list_any (is_in_line (slot_line n slot)) m.changes)) p.call.lane.lane ∙ p.drained slot (slice_get_within v.log.records slot r there));
-          }));
+          })));
     }
 
     -- each word of a record is of that record alone

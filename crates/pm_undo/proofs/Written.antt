@@ -1,5 +1,5 @@
 -- A recorded word may be written, and a lane at work stays so, also once all is persistent.
-use Rattle.std.proofs.Common.{◌≡◌, ℕ, ◌+◌, ◌-◌, ◌*◌, ◌<◌, ◌≤◌, ⊎_elim, true, false, not, [], length, slice_index, refl, sym, ap, ◌∙◌, subst, arith, get_or-set_same, get_or-set_other}
+use Rattle.std.proofs.Common.{◌≡◌, inl, ℕ, ◌+◌, ◌-◌, ◌*◌, ◌<◌, ◌≤◌, ⊎_elim, true, false, not, [], length, slice_index, refl, sym, ap, ◌∙◌, subst, arith, get_or-set_same, get_or-set_other}
 use Rattle.std.specs.List.{list_any}
 use Rattle.std.proofs.lemmas.Bool.{false≢true}
 use Rattle.std.proofs.lemmas.Option.{slice_get_within}
@@ -79,11 +79,11 @@ module _ (v : View) (working : IsWorking v) (word x : ℕ) (recorded : is_record
           room = made.0;
           fits = subst (λ p. StoreFits m word x m.log.phase p) (sym part)
               (subst (λ phase. StoreFits m word x phase OtherWord) (sym at_work.is_open)
-              (record {
+              (inl (record {
                 own = written;
                 logged = logged_at m 0 t.slot m.log.records t.recorded word t.there t.covering
                     (ap (is_drained_slot m) (let e : 0 + t.slot ≡ t.slot = omega arith in e) ∙ at_work.drained t.slot (slice_get_within m.log.records t.slot t.recorded t.there));
-              }));
+              })));
         }
 
     written : IsWrittenWord v word x (after m (Store word x))

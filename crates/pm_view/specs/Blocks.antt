@@ -38,6 +38,10 @@ has_block bitmap lines line = nat_le 1 line && (line - 1) % lines == 0 && bit_at
 abbrev pub is_chunk : ℕ → ℕ → Bool
 is_chunk lanes page = nat_le (zone_page lanes 0) page && nat_le 1 (chunk_of lanes page)
 
+-- the word is a chunk's, and not the bitmap of a run: it tells of no block
+abbrev pub tells_nothing : ℕ → List ℕ → ℕ → Bool
+tells_nothing lanes words w = is_chunk lanes (w / 512) && not (w % 512 == 0 && is_run (slice_index words (descriptor_word lanes (w / 512))))
+
 -- the word that tells whether a block begins at the line: the run's bitmap, else the descriptor; none where the line is in no chunk
 abbrev pub allocation_word : ℕ → List ℕ → ℕ → Option ℕ
 allocation_word lanes words line =

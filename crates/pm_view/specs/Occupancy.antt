@@ -38,6 +38,12 @@ is_in_block words lanes w =
     is_chunk lanes page && is_chunk_taken words lanes (zone_of lanes page) (chunk_of lanes page - 1)
     && (not (is_run descriptor) || nat_le 8 (w % 512) && bit_at (words (bitmap_word page)) ((w % 512 / 8 - 1) / (descriptor / 256)) == 1)
 
+-- the word lies in a chunk, in no allocated block, and is no run's bitmap: whatever stands there, the pool means the same
+abbrev pub is_idle : (ℕ → ℕ) → ℕ → ℕ → Bool
+is_idle words lanes w =
+    let page = w / 512 in
+    is_chunk lanes page && not (is_in_block words lanes w) && not (w % 512 == 0 && is_run (words (descriptor_word lanes page)))
+
 -- These are the occupancy words of a pool of these lanes and zones: one for each page, and one for each of 32 zones. Each bit of a chunk's page, and of a
 -- zone that the pool has, is set exactly where what it is of is taken by the pool's words.
 pub record IsOccupancy (run_words zone_words : List ℕ) (words : ℕ → ℕ) (lanes zones : ℕ) : Type 0 where

@@ -1,5 +1,5 @@
 -- What tells of the blocks in a chunk is as at the opening, and where a block begins.
-use Rattle.std.proofs.Common.{◌≡◌, ℕ, ◌+◌, ◌*◌, ◌/◌, ◌%◌, ◌<◌, ◌≤◌, inr, ⊎_elim, Bool, true, false, not, cond, leb, eqb, ◌&&◌, IsTrue, IfSome, List, length, slice_index, Option, Some, None, is_some, sym, ap, ◌∙◌, subst, arith}
+use Rattle.std.proofs.Common.{◌≡◌, ℕ, ◌+◌, ◌*◌, ◌/◌, ◌%◌, ◌<◌, ◌≤◌, ⊎_elim, Bool, true, false, not, cond, leb, eqb, ◌&&◌, IsTrue, IfSome, List, length, slice_index, Option, Some, None, is_some, sym, ap, ◌∙◌, subst, arith}
 use Rattle.std.proofs.lemmas.Bool.{cases_Bool, cond-true, and_from, le-leb, and_parts, leb-true, eqb-true, false≢true, false_from_ne_true}
 use Rattle.std.proofs.lemmas.List.Folds.{Any-from_list_any}
 use Rattle.pm_view.specs.Area.{is_in_area}
@@ -15,6 +15,7 @@ use Rattle.pm_world.specs.Records.{records_generation}
 use Rattle.pm_world.specs.World.{Views, World}
 use Rattle.pm_world.proofs.Apart.{outside_behind}
 use Rattle.pm_world.proofs.Exclusion.{writes_under}
+use Rattle.pm_world.proofs.Living.{told_lives}
 use Rattle.pm_world.proofs.Pairs.{in_log_written}
 use Rattle.pm_world.proofs.Replays.{replayed-other}
 
@@ -85,10 +86,10 @@ found_block lanes words line (Some lines) e = e
 -- what tells of blocks has the value of the opening
 pub opening_word : (o : Opening) (mem : Memory) (views : Views) (log : List Entry) (decided : ℕ → Bool) → World o mem views log decided → (w : ℕ) → TellsOfBlocks o w → w < length o.words → mem (PoolWord w) ≡ slice_index o.words w
 opening_word o mem views log decided world w (page, (chunk, tells)) inside =
-    let size = world.sound.size in let low = chunk.0 in let first = chunk.1 in
+    let low = chunk.0 in let first = chunk.1 in
     let behind : 512 + 1024 * o.lanes ≤ w = ⊎_elim (λ (e : w ≡ descriptor_word o.lanes page). omega (arith, e, first)) (λ (t : (w ≡ bitmap_word page) × IsTrue (is_run (slice_index o.words (descriptor_word o.lanes page)))). let e = t.0 in omega (arith, e, low)) tells in
     let apart : (line : ℕ) → Guards o line w → ⊥ = λ line guard. world.sound.apart line w guard (page, (chunk, tells)) in
-    world.each_word w (inr (behind, subst (λ n. w < n) size inside))
+    world.each_word w (told_lives o world.sound w (page, (chunk, tells)) inside)
     (λ j within. let fits = world.each_lane j within in false_from_ne_true (is_in_log (views j) w) (λ logged.
     let out : is_in_area (views j).lane w ≡ false = ap (λ n. is_in_area n w) fits.lane.lane ∙ outside_behind o.lanes j w within behind in
     let t = writes_under o mem j (views j) w fits.locks (in_log_written (settled o log decided) (views j) (records_generation (views j).log.phase (views j)) w fits.log fits.entries out logged) in apart t.0 t.1))

@@ -11,6 +11,7 @@ use Rattle.pm_record.specs.declared.redo.Redo.{Redo}
 use Rattle.pm_view.specs.declared.change.Change.{Change}
 use Rattle.pm_view.specs.Area.{area_word, part_of}
 use Rattle.pm_view.specs.Area.Part.{EntryWord}
+use Rattle.pm_view.specs.Held.{is_reserved}
 use Rattle.pm_view.specs.Log.{Phase, Final}
 use Rattle.pm_view.specs.Log.Phase.{Idle, Open, Drawn, Sealing, Applying, Clearing, Retiring}
 use Rattle.pm_view.specs.View.{View}
@@ -26,7 +27,7 @@ use Rattle.pm_world.specs.Records.{generation_of, is_logged, records_generation}
 use Rattle.pm_world.specs.World.{Views, World}
 use Rattle.pm_world.proofs.CrashLogs.{ChangeFits, GenerationIs, SealIs, entered_front, entry_part, slot_part, whole_word}
 use Rattle.pm_world.proofs.CrashRecords.{generation_unsealed}
-use Rattle.pm_world.proofs.CrashWords.{OwnTakenBack, area_left, fits_of, lane_is, logged_behind, seal_is, written_behind}
+use Rattle.pm_world.proofs.CrashWords.{OwnTakenBack, area_left, fits_of, lane_is, logged_behind, reserved_word, seal_is, written_behind}
 use Rattle.pm_world.proofs.Differences.{SetsWhole, made_whole}
 
 -- the entry that an image has for one of a lane's
@@ -258,9 +259,11 @@ module _ (o : Opening) (mem : Memory) (views : Views) (log : List Entry) (decide
       by_phase (Open slot pair) is seal fits = kept seal (λ t.
           let of_word = t.of_word in let lane = at in
           ⊎_elim (λ part. let s = slot_part (views k).lane t.change.word part in let low = s.low in omega arith)
-          (λ (other : (part_of (views k).lane t.change.word ≡ EntryWord) ⊎ (is_logged (views k) t.change.word ≡ true)).
+          (λ (other : (part_of (views k).lane t.change.word ≡ EntryWord) ⊎ ((is_logged (views k) t.change.word ≡ true) ⊎ (is_reserved (views k) t.change.word ≡ true))).
           ⊎_elim (λ (part : part_of (views k).lane t.change.word ≡ EntryWord). let s = entry_part (views k).lane t.change.word part in let low = s.low in omega arith)
-          (λ (logged : is_logged (views k) t.change.word ≡ true). let behind = logged_behind o mem views log decided x k t.change.word inside logged in omega arith) other) (fits t.change t.there).of)
+          (λ (last : (is_logged (views k) t.change.word ≡ true) ⊎ (is_reserved (views k) t.change.word ≡ true)).
+          ⊎_elim (λ (logged : is_logged (views k) t.change.word ≡ true). let behind = logged_behind o mem views log decided x k t.change.word inside logged in omega arith)
+          (λ (own : is_reserved (views k) t.change.word ≡ true). let behind = (reserved_word o mem views log decided x k t.change.word inside own).behind in omega arith) last) other) (fits t.change t.there).of)
       by_phase Drawn is seal fits = kept seal (λ t. fits t.change t.there)
       by_phase Sealing is (inl full) fits = inr (some_sealed Sealing is tt full, sealed_by Sealing is tt full)
       by_phase Sealing is (inr none) fits = inl (none, kept none (λ t. let of_word = t.of_word in let lane = at in let of = (fits t.change t.there).of in omega arith))

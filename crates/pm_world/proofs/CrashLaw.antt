@@ -16,7 +16,6 @@ use Rattle.pm_view.specs.Rights.{is_written}
 use Rattle.pm_view.specs.View.{View}
 use Rattle.pm_image.specs.Logs as logs
 use Rattle.pm_image.specs.Logs.{generation_word, old_word, recovered, slot_line}
-use Rattle.pm_image.specs.Reads.{IsHeapWord}
 use Rattle.pm_image.specs.Steps.{valid_record}
 use Rattle.pm_image.proofs.Redoing.{entries_unsealed}
 use Rattle.pm_world.specs.Course.{flight_in, flight, is_number}
@@ -27,7 +26,7 @@ use Rattle.pm_world.specs.History.{Entry, Flies, is_final, made_final, replayed,
 use Rattle.pm_world.specs.Laws.{CrashLaw}
 use Rattle.pm_world.specs.Memory.{Memory}
 use Rattle.pm_world.specs.Memory.Location.{PoolWord}
-use Rattle.pm_world.specs.Opening.{Opening}
+use Rattle.pm_world.specs.Opening.{IsLivingWord, Opening}
 use Rattle.pm_world.specs.Records.{IsRecordAt, difference_of, generation_of, is_recorded, is_drained_slot, is_logged, pool_entries, records_generation}
 use Rattle.pm_world.specs.World.{Views, World}
 use Rattle.pm_world.proofs.CrashEntries.{HasSealed, entries_read, generation_is, none_of, of_word, redone_word, some_of, some_sealed, unentered_word}
@@ -84,7 +83,7 @@ module _ (o : Opening) (mem : Memory) (views : Views) (log : List Entry) (decide
   whole_entries : (k : ℕ) → k < o.lanes → All SetsWhole (views k).log.entries
   whole_entries k inside = all_entries (views k).log.entries (λ i f at. ((x.each_lane k inside).entries.each i f at).whole)
 
-  module _ (w : ℕ) (heap : IsHeapWord o.lanes o.zones w) where
+  module _ (w : ℕ) (heap : IsLivingWord o w) where
     -- the word after the entries that are not lost
     abbrev Kept : ℕ
     Kept = replayed (is_kept o views image) log w (slice_index o.words w)
@@ -98,10 +97,10 @@ module _ (o : Opening) (mem : Memory) (views : Views) (log : List Entry) (decide
     NoEntry = (k : ℕ) → k < o.lanes → of_word w (logs.entries image k) ≡ []
 
     outside : (w < 512) ⊎ (512 + 1024 * o.lanes ≤ w)
-    outside = ⊎_elim (λ (root : w ≡ 64). inl (omega arith)) (λ (zone : (512 + 1024 * o.lanes ≤ w) × (w < 512 + 1024 * o.lanes + 33280 * o.zones)). inr zone.0) heap
+    outside = ⊎_elim (λ (root : w ≡ 64). inl (omega arith)) (λ (zone : (512 + 1024 * o.lanes ≤ w) × (w < 512 + 1024 * o.lanes + 33280 * o.zones)). inr zone.0) heap.heap
 
     inside_image : w < length o.words
-    inside_image = let size = x.sound.size in ⊎_elim (λ (root : w ≡ 64). omega arith) (λ (zone : (512 + 1024 * o.lanes ≤ w) × (w < 512 + 1024 * o.lanes + 33280 * o.zones)). let high = zone.1 in omega arith) heap
+    inside_image = let size = x.sound.size in ⊎_elim (λ (root : w ≡ 64). omega arith) (λ (zone : (512 + 1024 * o.lanes ≤ w) × (w < 512 + 1024 * o.lanes + 33280 * o.zones)). let high = zone.1 in omega arith) heap.heap
 
     -- it is in no lane's area
     elsewhere : (k : ℕ) → k < o.lanes → is_in_area (views k).lane w ≡ false
@@ -159,7 +158,7 @@ module _ (o : Opening) (mem : Memory) (views : Views) (log : List Entry) (decide
     -- no change of the word, and it is in no lane's log
     plain_settled : ((k : ℕ) → k < o.lanes → is_in_log (views k) w ≡ false) → slice_index image w ≡ settled o log decided w
     plain_settled unlogged =
-        word_stays o mem views log decided x image survives w inside_image outside
+        word_stays o mem views log decided x image survives w inside_image outside heap.living
         (λ k c inside there is logs_it. let t = or_parts (is_logged (views k) w) (is_redone (views k) w) (unlogged k inside) in
         ⊎_elim (λ (logged : is_logged (views k) w ≡ true). false≢true (sym t.0 ∙ logged)) (λ (redone : (is_redone (views k) w ≡ true) × (is_written (views k) w ≡ true)). false≢true (sym t.1 ∙ redone.0)) logs_it)
         ∙ x.each_word w heap unlogged
@@ -207,7 +206,7 @@ module _ (o : Opening) (mem : Memory) (views : Views) (log : List Entry) (decide
         (λ (zero_seal : logs.seal_word image k ≡ 0).
         let at = (x.each_lane k inside).lane.lane in
         let mine = redone_writes k inside redone in
-        let stays = word_stays o mem views log decided x image survives w inside_image outside
+        let stays = word_stays o mem views log decided x image survives w inside_image outside heap.living
         (λ j c j_inside there of logs_it. ⊎_elim (λ (logged : is_logged (views j) w ≡ true). false≢true (sym (unrecorded j j_inside) ∙ logged_recorded (views j) w logged))
         (λ (other : (is_redone (views j) w ≡ true) × (is_written (views j) w ≡ true)).
         let same : j ≡ k = one_writer o mem j k w x.sound (redone_writes j j_inside other.0) mine in
@@ -257,7 +256,7 @@ module _ (o : Opening) (mem : Memory) (views : Views) (log : List Entry) (decide
       -- nobody changed the word, where the lane's changes are of none of its log
       stays : is_redoing (views k).log.phase ≡ false → ((c : Change) → Contains (views k).changes c → c.word ≡ w → ⊥) → slice_index image w ≡ mem (PoolWord w)
       stays early away =
-          word_stays o mem views log decided x image survives w inside_image outside
+          word_stays o mem views log decided x image survives w inside_image outside heap.living
           (λ j c j_inside there of logs_it.
           ⊎_elim (λ (logged : is_logged (views j) w ≡ true). let same = only j j_inside (logged_recorded (views j) w logged) in away c (subst (λ i. Contains (views i).changes c) same there) of)
           (λ (redone : (is_redone (views j) w ≡ true) × (is_written (views j) w ≡ true)).

@@ -10,6 +10,7 @@ use Rattle.pm_view.specs.Area.{Part, area_word, is_in_area, part_in_area, part_o
 use Rattle.pm_view.specs.Area.Part.{GenerationWord, SealWord, EntryWord, SlotWord, OtherWord}
 use Rattle.pm_view.specs.Bits.{all_bits}
 use Rattle.pm_view.specs.Changes.{is_in_line}
+use Rattle.pm_view.specs.Held.{is_reserved}
 use Rattle.pm_view.specs.Log.{Phase, Recorded, Final}
 use Rattle.pm_view.specs.Log.Phase.{Idle, Open, Drawn, Sealing, Applying, Clearing, Retiring}
 use Rattle.pm_view.specs.Rights.{is_written}
@@ -150,9 +151,9 @@ whole_word v generation w whole e =
     (or_cases (is_entered whole.front w) (eqb (area_word v.lane) w || false)
     (sym (list_any-append (λ (f : Final). eqb f.word w) whole.front (ends_with v generation ∷ [])) ∙ (ap (λ es. is_entered es w) (sym whole.are) ∙ e)))
 
--- a change is of a word of the lane's area, of one that the log would restore, or of one that it would redo
+-- a change is of a word of the lane's area, of one that the log would restore, of one that it would redo, or of one in a block that it reserved
 pub record ChangeLies (v : View) (c : Change) : Type 0 where
-  pub of : InArea v.lane c.word ⊎ ((is_logged v c.word ≡ true) ⊎ ((is_redone v c.word ≡ true) × (is_written v c.word ≡ true)))
+  pub of : InArea v.lane c.word ⊎ (((is_logged v c.word ≡ true) ⊎ ((is_redone v c.word ≡ true) × (is_written v c.word ≡ true))) ⊎ (is_reserved v c.word ≡ true))
 
 in_area : (lane w : ℕ) → area_word lane ≤ w → w < area_word lane + 1024 → InArea lane w
 in_area lane w low high = record { low = low; high = high }
@@ -167,14 +168,15 @@ pub change_lies : (v : View) (c : Change) (phase : Phase) → v.log.phase ≡ ph
 change_lies v c Idle is fits = absurd fits
 change_lies v c (Open slot pair) is fits = record {
   of = ⊎_elim (λ (part : part_of v.lane c.word ≡ SlotWord). inl (part_inside v.lane c.word SlotWord part (λ e. absurd cc)))
-      (λ (other : (part_of v.lane c.word ≡ EntryWord) ⊎ (is_logged v c.word ≡ true)).
-      ⊎_elim (λ (part : part_of v.lane c.word ≡ EntryWord). inl (part_inside v.lane c.word EntryWord part (λ e. absurd cc))) (λ (logged : is_logged v c.word ≡ true). inr (inl logged)) other) fits.of;
+      (λ (other : (part_of v.lane c.word ≡ EntryWord) ⊎ ((is_logged v c.word ≡ true) ⊎ (is_reserved v c.word ≡ true))).
+      ⊎_elim (λ (part : part_of v.lane c.word ≡ EntryWord). inl (part_inside v.lane c.word EntryWord part (λ e. absurd cc)))
+      (λ (last : (is_logged v c.word ≡ true) ⊎ (is_reserved v c.word ≡ true)). inr (⊎_elim (λ (logged : is_logged v c.word ≡ true). inl (inl logged)) (λ (own : is_reserved v c.word ≡ true). inr own) last)) other) fits.of;
 }
 change_lies v c Drawn is fits = absurd fits
 change_lies v c Sealing is fits = seal_lies v 0 c fits
 change_lies v c (Applying applied) is fits =
     let entered = entered_front applied v.log.entries c.word fits.0.of in
-    ⊎_elim (λ (written : is_written v c.word ≡ true). record { of = inr (inr (redone_from v applied c.word is entered, written)) })
+    ⊎_elim (λ (written : is_written v c.word ≡ true). record { of = inr (inl (inr (redone_from v applied c.word is entered, written))) })
     (λ (own : c.word ≡ area_word v.lane). record { of = inl (in_area v.lane c.word (omega arith) (omega arith)) })
     (whole_word v (records_generation (Applying applied) v) c.word fits.1 entered)
 change_lies v c Clearing is fits = seal_lies v (length v.log.entries) c fits

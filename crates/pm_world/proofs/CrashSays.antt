@@ -14,7 +14,6 @@ use Rattle.pm_view.specs.Log.Phase.{Idle, Open, Drawn, Sealing, Applying, Cleari
 use Rattle.pm_view.specs.View.{View}
 use Rattle.pm_image.specs.Logs as logs
 use Rattle.pm_image.specs.Logs.{generation, generation_word, seal_word, slot_line, undo_slot, old_word}
-use Rattle.pm_image.specs.Reads.{IsHeapWord}
 use Rattle.pm_image.specs.Steps.{valid_record}
 use Rattle.pm_world.specs.Course.{flight_in, is_number}
 use Rattle.pm_world.specs.Crash.{IsBeingWritten, IsWhole, NoneTorn, Survives, is_deciding_in}
@@ -23,7 +22,7 @@ use Rattle.pm_world.specs.Fits.{PhaseFits}
 use Rattle.pm_world.specs.History.{Entry, Flies, settled}
 use Rattle.pm_world.specs.Lawful.{CanRecord, CanRecordWord}
 use Rattle.pm_world.specs.Memory.{Memory}
-use Rattle.pm_world.specs.Opening.{Opening}
+use Rattle.pm_world.specs.Opening.{IsLivingWord, Opening}
 use Rattle.pm_world.specs.Records.{IsRecordAt, generation_of, covers, is_recorded, is_drained_slot, is_logged, spelled, records_generation, used_slots}
 use Rattle.pm_world.specs.World.{Views, World}
 use Rattle.pm_world.proofs.CrashLogs.{ChangeFits, RecordOf, SealIs, entered_front, recorded_from, unrecorded_unlogged, whole_word, GenerationIs}
@@ -63,7 +62,7 @@ generation_from v seal g Clearing first is = omega arith
 generation_from v seal g Retiring first is = ⊎_elim (λ (same : g ≡ generation_of v). omega arith) (λ (before : g + 1 ≡ generation_of v). omega arith) is
 
 -- while entries are applied or the seal is cleared no slot has a change
-no_slot_change : (v : View) (slot : ℕ) → ((c : Change) → Contains v.changes c → c.word / 8 ≢ slot_line v.lane slot) → is_drained_slot v slot ≡ true
+pub no_slot_change : (v : View) (slot : ℕ) → ((c : Change) → Contains v.changes c → c.word / 8 ≢ slot_line v.lane slot) → is_drained_slot v slot ≡ true
 no_slot_change v slot none = not_from_false _ (false_from_ne_true _ (λ any. let t = Any-from_list_any (is_in_line (slot_line v.lane slot)) v.changes any in
     none t.1 (t.0, t.2, t.3) (eqb-true (t.1.word / 8) (slot_line v.lane slot) t.4)))
 
@@ -85,7 +84,7 @@ module _ (o : Opening) (mem : Memory) (views : Views) (log : List Entry) (decide
   -- a record of these words was settled
   pub record HasSettled (k : ℕ) (r : Recorded) : Type 0 where
     pub most : length r.old ≤ 4
-    pub each : (w : ℕ) → IsHeapWord o.lanes o.zones w → covers r w ≡ true → WritesUnder o mem k w × (slice_index r.old (w - r.word) ≡ settled o log decided w)
+    pub each : (w : ℕ) → IsLivingWord o w → covers r w ≡ true → WritesUnder o mem k w × (slice_index r.old (w - r.word) ≡ settled o log decided w)
 
   pub record_settled : (k slot : ℕ) (r : Recorded) → k < o.lanes → IsRecordAt (views k) slot r → HasSettled k r
   record_settled k slot r inside at = record {
@@ -114,8 +113,8 @@ module _ (o : Opening) (mem : Memory) (views : Views) (log : List Entry) (decide
       let low = making.0 in let high = making.1 in let same = ap (λ p. used_slots p (views k)) is in omega arith) written)
   unsealed_write k slot Retiring inside within is fits changes written = refl
 
-  outside_areas : (w : ℕ) → IsHeapWord o.lanes o.zones w → (w < 512) ⊎ (512 + 1024 * o.lanes ≤ w)
-  outside_areas w heap = ⊎_elim (λ (root : w ≡ 64). inl (omega arith)) (λ (zone : (512 + 1024 * o.lanes ≤ w) × (w < 512 + 1024 * o.lanes + 33280 * o.zones)). inr zone.0) heap
+  outside_areas : (w : ℕ) → IsLivingWord o w → (w < 512) ⊎ (512 + 1024 * o.lanes ≤ w)
+  outside_areas w heap = ⊎_elim (λ (root : w ≡ 64). inl (omega arith)) (λ (zone : (512 + 1024 * o.lanes ≤ w) × (w < 512 + 1024 * o.lanes + 33280 * o.zones)). inr zone.0) heap.heap
 
   -- also one that could be written now
   making_settled : (k : ℕ) (r : Recorded) → k < o.lanes → is_redoing (views k).log.phase ≡ false → CanRecord (views k) r → HasSettled k r
@@ -192,7 +191,7 @@ module _ (o : Opening) (mem : Memory) (views : Views) (log : List Entry) (decide
       pub was : old_word u (8 * w) ≡ settled o log decided w
       pub loses_flight : (n : ℕ) → flight_in (views k).log.phase (views k).number ≡ Some n → (is_number (views k).number n && not (is_deciding_in image (views k) (views k).log.phase)) ≡ true
 
-    pub slot_says : (k slot w : ℕ) (u : Undo) → k < o.lanes → slot < 64 → IsHeapWord o.lanes o.zones w → valid_record image k slot ≡ Some u → logs.covers u (8 * w) ≡ true → Says k w u
+    pub slot_says : (k slot w : ℕ) (u : Undo) → k < o.lanes → slot < 64 → IsLivingWord o w → valid_record image k slot ≡ Some u → logs.covers u (8 * w) ≡ true → Says k w u
     slot_says k slot w u inside within heap valid covering =
         let s = valid_spells k slot u inside within valid in
         let p = valid_parts image k slot u valid in

@@ -1,13 +1,15 @@
 -- Which words of an image are as the lanes left them.
-use Rattle.std.proofs.Common.{◌≡◌, ℕ, ◌+◌, ◌-◌, ◌*◌, ◌<◌, ◌≤◌, ◌⊎◌, inl, inr, ⊎_elim, leb, ltb, Bool, true, All, Contains, List, [], ◌∷◌, length, take, drop, slice_index, slice_range, get_or, refl, sym, ap, ◌∙◌, subst, arith}
-use Rattle.std.proofs.lemmas.Bool.{and_from, le-leb, lt-ltb}
+use Rattle.std.proofs.Common.{◌≡◌, ℕ, ◌+◌, ◌-◌, ◌*◌, ◌<◌, ◌≤◌, ◌⊎◌, inl, inr, ⊎_elim, leb, ltb, Bool, true, false, All, Contains, List, [], ◌∷◌, length, take, drop, slice_index, slice_range, get_or, refl, sym, ap, ◌∙◌, subst, arith}
+use Rattle.std.proofs.lemmas.Bool.{and_from, false≢true, le-leb, lt-ltb}
 use Rattle.std.proofs.lemmas.List.{ext_get_or, get_or-take, get_or-drop, length-take, length-drop}
 use Rattle.std.proofs.lemmas.List.Elements.{All-head}
 use Rattle.pm_view.specs.declared.change.Change.{Change}
 use Rattle.pm_view.specs.Area.{area_word, is_in_area, part_of}
 use Rattle.pm_view.specs.Area.Part.{EntryWord, SlotWord}
+use Rattle.pm_view.specs.Held.{is_reserved}
 use Rattle.pm_view.specs.Log.{Phase}
 use Rattle.pm_view.specs.Log.Phase.{Idle, Open, Drawn, Sealing, Applying, Clearing, Retiring}
+use Rattle.pm_view.specs.Occupancy.{is_idle}
 use Rattle.pm_view.specs.Rights.{is_written}
 use Rattle.pm_view.specs.Survivors.{all_taken_back}
 use Rattle.pm_view.specs.View.{View}
@@ -24,6 +26,7 @@ use Rattle.pm_world.specs.Records.{is_recorded, is_drained_slot, is_logged, reco
 use Rattle.pm_world.specs.World.{Views, World}
 use Rattle.pm_world.proofs.CrashLogs.{ChangeFits, change_fits, change_whole, ChangeLies, InArea, change_lies, slot_part, entry_part, entered_front, entry_of_word, whole_word, RecordOf, record_of, recorded_word, logged_recorded, drained_slot, SealIs}
 use Rattle.pm_world.proofs.Exclusion.{WritesUnder, writes_under, one_writer}
+use Rattle.pm_world.proofs.Reserved.{IsApart, reserved_apart}
 
 -- the word has the old value of an undrained change
 record TakenBack (views : Views) (lanes : ℕ) (image : List ℕ) (w : ℕ) : Type 0 where
@@ -105,13 +108,18 @@ module _ (o : Opening) (mem : Memory) (views : Views) (log : List Entry) (decide
   lies : (k : ℕ) (c : Change) → k < o.lanes → Contains (views k).changes c → ChangeLies (views k) c
   lies k c inside there = change_lies (views k) c (views k).log.phase refl (fits_of k c inside there)
 
-  -- a change outside of the areas is of a word of its lane's log
-  change_outside : (k : ℕ) (c : Change) → k < o.lanes → Contains (views k).changes c → (c.word < 512) ⊎ (512 + 1024 * o.lanes ≤ c.word) → Logs k c.word
+  -- a word that a lane reserved lies apart
+  pub reserved_word : (k w : ℕ) → k < o.lanes → is_reserved (views k) w ≡ true → IsApart (slice_index o.words) o.lanes o.zones w
+  reserved_word k w inside own =
+      let fits = x.each_lane k inside in reserved_apart (slice_index o.words) o.lanes o.zones (views k) w fits.lane.lanes fits.picture.descriptors fits.blocks own
+
+  -- a change outside of the areas is of a word of its lane's log, or of one that it reserved
+  change_outside : (k : ℕ) (c : Change) → k < o.lanes → Contains (views k).changes c → (c.word < 512) ⊎ (512 + 1024 * o.lanes ≤ c.word) → Logs k c.word ⊎ (is_reserved (views k) c.word ≡ true)
   change_outside k c inside there outside =
       let at = lane_is k inside in
       ⊎_elim (λ (area : InArea (views k).lane c.word). let low = area.low in let high = area.high in
       absurd (⊎_elim (λ (front : c.word < 512). omega arith) (λ (back : 512 + 1024 * o.lanes ≤ c.word). omega arith) outside))
-      (λ (other : Logs k c.word). other)
+      (λ (other : Logs k c.word ⊎ (is_reserved (views k) c.word ≡ true)). other)
       (lies k c inside there).of
 
   -- a change in an area is its lane's
@@ -119,7 +127,9 @@ module _ (o : Opening) (mem : Memory) (views : Views) (log : List Entry) (decide
   change_inside j k c j_inside inside there low high =
       let at = lane_is j j_inside in
       ⊎_elim (λ (area : InArea (views j).lane c.word). let from = area.low in let to = area.high in omega arith)
-      (λ (logs : Logs j c.word). absurd (let behind = logs_behind j c.word j_inside logs in omega arith))
+      (λ (other : Logs j c.word ⊎ (is_reserved (views j) c.word ≡ true)).
+      ⊎_elim (λ (logs : Logs j c.word). absurd (let behind = logs_behind j c.word j_inside logs in omega arith))
+      (λ (own : is_reserved (views j) c.word ≡ true). absurd (let behind = (reserved_word j c.word j_inside own).behind in omega arith)) other)
       (lies j c j_inside there).of
 
   module _ (image : List ℕ) (survives : Survives o mem views image) where
@@ -133,14 +143,17 @@ module _ (o : Opening) (mem : Memory) (views : Views) (log : List Entry) (decide
     word_left : (w : ℕ) → w < length o.words → (slice_index image w ≡ mem (PoolWord w)) ⊎ TakenBack views o.lanes image w
     word_left w inside = let l = survives.each w inside in left_cases w l.lost l.undrained l.left
 
-    -- a word outside of the areas that nobody's change is of
-    pub word_stays : (w : ℕ) → w < length o.words → (w < 512) ⊎ (512 + 1024 * o.lanes ≤ w) → ((k : ℕ) (c : Change) → k < o.lanes → Contains (views k).changes c → c.word ≡ w → Logs k w → ⊥)
+    -- a word outside of the areas, and not idle, that nobody's change is of
+    pub word_stays : (w : ℕ) → w < length o.words → (w < 512) ⊎ (512 + 1024 * o.lanes ≤ w) → is_idle (slice_index o.words) o.lanes w ≡ false → ((k : ℕ) (c : Change) → k < o.lanes → Contains (views k).changes c → c.word ≡ w → Logs k w → ⊥)
         → slice_index image w ≡ mem (PoolWord w)
-    word_stays w inside outside away =
+    word_stays w inside outside living away =
         ⊎_elim (λ (same : slice_index image w ≡ mem (PoolWord w)). same)
         (λ (t : TakenBack views o.lanes image w).
         let there : (t.change.word < 512) ⊎ (512 + 1024 * o.lanes ≤ t.change.word) = subst (λ u. (u < 512) ⊎ (512 + 1024 * o.lanes ≤ u)) (sym t.of_word) outside in
-        absurd (away t.lane t.change t.of_lane t.there t.of_word (subst (Logs t.lane) t.of_word (change_outside t.lane t.change t.of_lane t.there there))))
+        absurd (⊎_elim (λ (logs : Logs t.lane t.change.word). away t.lane t.change t.of_lane t.there t.of_word (subst (Logs t.lane) t.of_word logs))
+        (λ (own : is_reserved (views t.lane) t.change.word ≡ true).
+        false≢true (sym living ∙ subst (λ u. is_idle (slice_index o.words) o.lanes u ≡ true) t.of_word (reserved_word t.lane t.change.word t.of_lane own).idle))
+        (change_outside t.lane t.change t.of_lane t.there there)))
         (word_left w inside)
 
     -- a word of a lane's area is as the lane has it, or its own change of it was taken back
@@ -162,9 +175,11 @@ module _ (o : Opening) (mem : Memory) (views : Views) (log : List Entry) (decide
     seal_before k (Open slot pair) inside t fits =
         let is = t.of_word in let at = lane_is k inside in
         absurd (⊎_elim (λ (part : part_of (views k).lane t.change.word ≡ SlotWord). let s = slot_part (views k).lane t.change.word part in let low = s.low in omega arith)
-        (λ (other : (part_of (views k).lane t.change.word ≡ EntryWord) ⊎ (is_logged (views k) t.change.word ≡ true)).
+        (λ (other : (part_of (views k).lane t.change.word ≡ EntryWord) ⊎ ((is_logged (views k) t.change.word ≡ true) ⊎ (is_reserved (views k) t.change.word ≡ true))).
         ⊎_elim (λ (part : part_of (views k).lane t.change.word ≡ EntryWord). let s = entry_part (views k).lane t.change.word part in let low = s.low in omega arith)
-        (λ (logged : is_logged (views k) t.change.word ≡ true). let behind = logged_behind k t.change.word inside logged in omega arith) other) fits.of)
+        (λ (last : (is_logged (views k) t.change.word ≡ true) ⊎ (is_reserved (views k) t.change.word ≡ true)).
+        ⊎_elim (λ (logged : is_logged (views k) t.change.word ≡ true). let behind = logged_behind k t.change.word inside logged in omega arith)
+        (λ (own : is_reserved (views k) t.change.word ≡ true). let behind = (reserved_word k t.change.word inside own).behind in omega arith) last) other) fits.of)
     seal_before k Drawn inside t fits = absurd fits
     seal_before k Sealing inside t fits = inr (t.is_old ∙ fits.before)
     seal_before k (Applying applied) inside t fits =

@@ -10,7 +10,6 @@ use Rattle.pm_view.specs.Log.{Log, Final, no_log}
 use Rattle.pm_view.specs.Log.Phase.{Idle, Sealing, Applying, Retiring}
 use Rattle.pm_view.specs.Rights.{is_written}
 use Rattle.pm_view.specs.View.{View}
-use Rattle.pm_image.specs.Reads.{IsHeapWord}
 use Rattle.pm_world.specs.Course.{flight, flight_in}
 use Rattle.pm_world.specs.Entries.{HasNone, ends_with, is_entered, is_in_log, is_redoing, seal_in, set_word}
 use Rattle.pm_world.specs.Fits.{AppliedChange, EndFits, EntriesFit, LaneFits, LogFits, PhaseFits, SealingFits}
@@ -18,7 +17,7 @@ use Rattle.pm_world.specs.History.{Entry, Flies, settled, is_final, made_final}
 use Rattle.pm_world.specs.Laws.{with_view}
 use Rattle.pm_world.specs.Memory.{Memory, IsSame}
 use Rattle.pm_world.specs.Memory.Location.{PoolWord, CommitCounter}
-use Rattle.pm_world.specs.Opening.{Opening}
+use Rattle.pm_world.specs.Opening.{IsLivingWord, Opening}
 use Rattle.pm_world.specs.Records.{generation_of, is_recorded, pool_entries, difference_of, records_generation, used_slots}
 use Rattle.pm_world.specs.World.{Views, World}
 use Rattle.pm_world.proofs.Apart.{heap_outside, outside_behind}
@@ -84,7 +83,7 @@ module _ (o : Opening) (old : Memory) (views : Views) (log : List Entry) (decide
 
     -- the world then, from the lane's own facts and what its words are
     decided_world : (lg : Log) → LaneFits o new (settled o log decided') (Flies log decided' k) k (drained_to o old views log decided world k inside v is new same may lg)
-        → ((w : ℕ) → IsHeapWord o.lanes o.zones w → is_in_log (drained_to o old views log decided world k inside v is new same may lg) w ≡ false → ((j : ℕ) → j < o.lanes → j ≢ k → is_in_log (views j) w ≡ false) → old (PoolWord w) ≡ settled o log decided' w)
+        → ((w : ℕ) → IsLivingWord o w → is_in_log (drained_to o old views log decided world k inside v is new same may lg) w ≡ false → ((j : ℕ) → j < o.lanes → j ≢ k → is_in_log (views j) w ≡ false) → old (PoolWord w) ≡ settled o log decided' w)
         → World o new (with_view views k (drained_to o old views log decided world k inside v is new same may lg)) log decided'
     decided_world lg fits words =
         let v' : View = drained_to o old views log decided world k inside v is new same may lg in
@@ -112,13 +111,13 @@ module _ (o : Opening) (old : Memory) (views : Views) (log : List Entry) (decide
         known_word o old views log decided world k inside v is new same may w recorded ∙ sym (makes w final 0 ∙ (difference-recorded v w 0 recorded ∙ made_final-other (pool_entries v) w (slice_index v.words w) other))
 
     -- any other that no log had is settled still
-    other_word : (lg : Log) (w : ℕ) → is_redoing v.log.phase ≡ false → IsHeapWord o.lanes o.zones w → is_recorded v.log.records w ≡ false → is_final (pool_entries v) w ≡ false
+    other_word : (lg : Log) (w : ℕ) → is_redoing v.log.phase ≡ false → IsLivingWord o w → is_recorded v.log.records w ≡ false → is_final (pool_entries v) w ≡ false
         → ((j : ℕ) → j < o.lanes → j ≢ k → is_in_log (views j) w ≡ false) → old (PoolWord w) ≡ settled o log decided' w
     other_word lg w quiet heap not_recorded other others =
         world.each_word w heap (unlogged_before o old views log decided world k inside v is (drained_to o old views log decided world k inside v is new same may lg) w (unlogged_word o old views log decided world k inside v is new same may quiet w not_recorded) others)
         ∙ sym (settles w (difference-words v w ∙ or_from (is_recorded v.log.records w) (is_final (pool_entries v) w) not_recorded other))
 
-    words_then : (lg : Log) (w : ℕ) → is_redoing v.log.phase ≡ false → IsHeapWord o.lanes o.zones w → is_final (pool_entries v) w ≡ false
+    words_then : (lg : Log) (w : ℕ) → is_redoing v.log.phase ≡ false → IsLivingWord o w → is_final (pool_entries v) w ≡ false
         → ((j : ℕ) → j < o.lanes → j ≢ k → is_in_log (views j) w ≡ false) → old (PoolWord w) ≡ settled o log decided' w
     words_then lg w quiet heap other others =
         ⊎_elim (λ (recorded : is_recorded v.log.records w ≡ true). recorded_word w recorded other)
@@ -205,5 +204,5 @@ module _ (o : Opening) (old : Memory) (views : Views) (log : List Entry) (decide
         (λ w again own_word. let out = own_outside w own_word in record { again = redone_word w again out; rest = redone_word w again out (old (PoolWord w)) })
         (sealed_phase flies'))
         (λ w heap un others.
-        let out : is_in_area v.lane w ≡ false = ap (λ n. is_in_area n w) mine.lane.lane ∙ heap_outside o.lanes o.zones k w inside heap in
+        let out : is_in_area v.lane w ≡ false = ap (λ n. is_in_area n w) mine.lane.lane ∙ heap_outside o.lanes o.zones k w inside heap.heap in
         words_then fits.number fits.flying flying sealed w (ap is_redoing sealing) heap (pool_entries-final v w out ∙ un) others))

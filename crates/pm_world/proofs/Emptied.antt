@@ -14,7 +14,6 @@ use Rattle.pm_view.specs.Log.Phase.{Idle, Open, Clearing, Retiring}
 use Rattle.pm_view.specs.Rights.{is_written}
 use Rattle.pm_view.specs.View.{View}
 use Rattle.pm_image.specs.Logs.{undo_slot}
-use Rattle.pm_image.specs.Reads.{IsHeapWord}
 use Rattle.pm_world.specs.Course.{flight, flight_in}
 use Rattle.pm_world.specs.Entries.{HasNone, applied_in, is_entered, is_in_log, is_redoing, is_redone, seal_in}
 use Rattle.pm_world.specs.Fits.{EndFits, EntriesFit, LaneFits, LogFits, OpenChange, PhaseFits, RedoneWord, ShowsHold}
@@ -22,7 +21,7 @@ use Rattle.pm_world.specs.History.{Entry, Flies, settled, made_final}
 use Rattle.pm_world.specs.Laws.{with_view}
 use Rattle.pm_world.specs.Memory.{Memory, IsSame}
 use Rattle.pm_world.specs.Memory.Location.{PoolWord, LockWord, CommitCounter, StopWord}
-use Rattle.pm_world.specs.Opening.{Opening}
+use Rattle.pm_world.specs.Opening.{IsLivingWord, Opening}
 use Rattle.pm_world.specs.Records.{generation_of, is_recorded, is_logged_from, is_logged, records_generation, used_slots, difference_of}
 use Rattle.pm_world.specs.World.{Views, World, IsHold}
 use Rattle.pm_world.proofs.Apart.{heap_outside}
@@ -110,7 +109,7 @@ module _ (o : Opening) (old : Memory) (views : Views) (log : List Entry) (decide
 
   -- the history goes on as it is, and the log is empty
   module _ (phase : Phase) (fits : LaneFits o new (settled o log decided) (Flies log decided k) k (drained_to (no_log phase)))
-      (words : (w : ℕ) → IsHeapWord o.lanes o.zones w → ((j : ℕ) → j < o.lanes → j ≢ k → is_in_log (views j) w ≡ false) → old (PoolWord w) ≡ settled o log decided w)
+      (words : (w : ℕ) → IsLivingWord o w → ((j : ℕ) → j < o.lanes → j ≢ k → is_in_log (views j) w ≡ false) → old (PoolWord w) ≡ settled o log decided w)
       (unflown : (n : ℕ) → flight v ≡ Some n → ⊥) where
     empties : World o new (with_view views k (drained_to (no_log phase))) log decided
     empties = quiet o old views log decided world k inside v is (drained_to (no_log phase)) new
@@ -143,9 +142,9 @@ module _ (o : Opening) (old : Memory) (views : Views) (log : List Entry) (decide
       (λ n flying. none-some n (sym (ap (flight_in v.log.phase) undrawn ∙ ap (λ p. flight_in p None) retiring) ∙ flying))
 
   -- a word of an entry of which all are applied is settled
-  applied_word : v.log.phase ≡ Clearing → (w : ℕ) → IsHeapWord o.lanes o.zones w → is_entered v.log.entries w ≡ true → old (PoolWord w) ≡ settled o log decided w
+  applied_word : v.log.phase ≡ Clearing → (w : ℕ) → IsLivingWord o w → is_entered v.log.entries w ≡ true → old (PoolWord w) ≡ settled o log decided w
   applied_word clearing w heap listed =
-      let out : is_in_area v.lane w ≡ false = ap (λ n. is_in_area n w) mine.lane.lane ∙ heap_outside o.lanes o.zones k w inside heap in
+      let out : is_in_area v.lane w ≡ false = ap (λ n. is_in_area n w) mine.lane.lane ∙ heap_outside o.lanes o.zones k w inside heap.heap in
       let word = mine.redone w (and_from (is_redoing v.log.phase) (is_entered v.log.entries w) (ap is_redoing clearing) listed) (entered_written v w mine.entries listed out) in
       let all : drop (applied_in v.log.phase v) v.log.entries ≡ [] = ap (λ p. drop (applied_in p v) v.log.entries) clearing ∙ drop_all (length v.log.entries) v.log.entries (le_refl (length v.log.entries)) in
       sym (ap (λ fs. made_final fs w (old (PoolWord w))) all ∙ no_final w (old (PoolWord w))) ∙ word.rest

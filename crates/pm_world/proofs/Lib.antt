@@ -1,4 +1,5 @@
 pub mod Apart
+pub mod Aside
 pub mod Chunks
 pub mod CrashEntries
 pub mod CrashLaw
@@ -17,6 +18,7 @@ pub mod Frame
 pub mod Going
 pub mod Heaps
 pub mod Histories
+pub mod Living
 pub mod Locations
 pub mod LockBits
 pub mod Longer
@@ -29,7 +31,9 @@ pub mod Recoursed
 pub mod Relocked
 pub mod Reheld
 pub mod Reserved
+pub mod Resting
 pub mod Replays
+pub mod Searched
 pub mod Sequencing
 pub mod Settling
 pub mod Shapes
@@ -44,6 +48,7 @@ pub mod StepSeen
 pub mod StepSetStop
 pub mod StepStore
 pub mod StepTake
+pub mod StoreAside
 pub mod StoreEntry
 pub mod StoreGeneration
 pub mod StorePair

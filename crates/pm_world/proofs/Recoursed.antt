@@ -5,6 +5,7 @@ use Rattle.std.proofs.lemmas.Bool.{and_parts, and_from, or_cases, or_left, or_ri
 use Rattle.pm_view.specs.declared.change.Change.{Change}
 use Rattle.pm_view.specs.Area.{part_of}
 use Rattle.pm_view.specs.Area.Part.{EntryWord, SlotWord}
+use Rattle.pm_view.specs.Held.{is_reserved}
 use Rattle.pm_view.specs.Log.{Phase, Recorded, Final}
 use Rattle.pm_view.specs.Log.Phase.{Idle, Open, Drawn, Sealing, Applying, Clearing, Retiring}
 use Rattle.pm_view.specs.Steps.{Step}
@@ -43,13 +44,14 @@ logged_upto v v' slot (r ∷ records) drained w e =
     (λ (later : is_logged_from v (slot + 1) records w ≡ true). or_right (covers r w && is_drained_slot v' slot) (is_logged_from v' (slot + 1) records w) (logged_upto v v' (slot + 1) records (λ s low. drained s (omega arith)) w later))
     (or_cases (covers r w && is_drained_slot v slot) (is_logged_from v (slot + 1) records w) e)
 
--- a change of a slot, of a pair or of a word that the log would restore is one still
-pub open_again : (v v' : View) (c : Change) → v'.lane ≡ v.lane → ((w : ℕ) → is_logged v w ≡ true → is_logged v' w ≡ true) → OpenChange v c → OpenChange v' c
-open_again v v' c lane logged of = record {
+-- a change of a slot, of a pair, of a word that the log would restore or of one that the lane reserved is one still
+pub open_again : (v v' : View) (c : Change) → v'.lane ≡ v.lane → ((w : ℕ) → is_logged v w ≡ true → is_logged v' w ≡ true) → (is_reserved v c.word ≡ true → is_reserved v' c.word ≡ true)
+    → OpenChange v c → OpenChange v' c
+open_again v v' c lane logged kept of = record {
   whole = of.whole;
   of = ⊎_elim (λ (slot : part_of v.lane c.word ≡ SlotWord). inl (ap (λ l. part_of l c.word) lane ∙ slot))
-      (λ (other : (part_of v.lane c.word ≡ EntryWord) ⊎ IsTrue (is_logged v c.word)). inr (⊎_elim (λ (pair : part_of v.lane c.word ≡ EntryWord). inl (ap (λ l. part_of l c.word) lane ∙ pair))
-      (λ (there : is_logged v c.word ≡ true). inr (logged c.word there)) other)) of.of;
+      (λ (other : (part_of v.lane c.word ≡ EntryWord) ⊎ (IsTrue (is_logged v c.word) ⊎ IsTrue (is_reserved v c.word))). inr (⊎_elim (λ (pair : part_of v.lane c.word ≡ EntryWord). inl (ap (λ l. part_of l c.word) lane ∙ pair))
+      (λ (last : IsTrue (is_logged v c.word) ⊎ IsTrue (is_reserved v c.word)). inr (⊎_elim (λ (there : is_logged v c.word ≡ true). inl (logged c.word there)) (λ (own : is_reserved v c.word ≡ true). inr (kept own)) last)) other)) of.of;
 }
 
 ends_again : (flies : ℕ → List Final → Type 0) (v : View) (changes : List Change) (calls : ℕ) (seen : List Step) (call : List Told) (actions : List Told) (number : Option ℕ)

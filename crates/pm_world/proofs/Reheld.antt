@@ -1,9 +1,10 @@
 -- A step that changes what a lane has of the heap, what it knows and what it saw, and no word of the pool and no lock.
 use Rattle.std.proofs.Common.{◌≡◌, ℕ, ◌+◌, ◌<◌, ◌≤◌, inl, inr, ⊎_elim, le_refl, Bool, true, IsTrue, All, Contains, List, length, slice_index, Option, Some, None, refl, sym, ◌∙◌, subst}
 use Rattle.std.specs.Int.{bit_at}
-use Rattle.std.proofs.lemmas.List.Elements.{All-weaker}
+use Rattle.std.proofs.lemmas.List.Elements.{All-contains, All-contains_itself, All-weaker}
+use Rattle.pm_view.specs.declared.change.Change.{Change}
 use Rattle.pm_view.specs.Counts.{IsAtStop}
-use Rattle.pm_view.specs.Held.{is_held}
+use Rattle.pm_view.specs.Held.{is_held, is_reserved}
 use Rattle.pm_view.specs.Log.{Phase, Final}
 use Rattle.pm_view.specs.Log.Phase.{Idle, Open, Drawn, Sealing, Applying, Clearing, Retiring}
 use Rattle.pm_view.specs.Rights.{is_written}
@@ -20,7 +21,7 @@ use Rattle.pm_world.specs.World.{Views, World, may_draw}
 use Rattle.pm_world.proofs.Frame.{lane_kept}
 use Rattle.pm_world.proofs.Locations.{IsPlain, plain_counter, plain_lock, plain_pool, plain_stop}
 use Rattle.pm_world.proofs.Pairs.{entries_again, in_log_before, redone_again, redone_kept}
-use Rattle.pm_world.proofs.Recoursed.{used_again}
+use Rattle.pm_world.proofs.Recoursed.{open_again, used_again}
 use Rattle.pm_world.proofs.Relocked.{generation_same}
 use Rattle.pm_world.proofs.Worlds.{at_stop_kept, hold_kept, quiet, room_kept, stop_kept, unlogged_before}
 
@@ -33,8 +34,13 @@ module _ (v : View) (known run_words zone_words : List ℕ) (reserved freed : Li
   abbrev v' : View
   v' = reheld v known run_words zone_words reserved freed zones seen
 
-  open_reheld : All (OpenChange v) v.changes → All (OpenChange v') v.changes
-  open_reheld all = All-weaker (OpenChange v) (OpenChange v') (λ c of. record { whole = of.whole; of = of.of }) v.changes all
+  -- an undrained change in a block that was reserved is in one that is
+  abbrev pub KeepsChanges : Type 0
+  KeepsChanges = (c : Change) → Contains v.changes c → is_reserved v c.word ≡ true → is_reserved v' c.word ≡ true
+
+  open_reheld : KeepsChanges → All (OpenChange v) v.changes → All (OpenChange v') v.changes
+  open_reheld still all =
+      All-weaker (Contains v.changes) (OpenChange v') (λ c there. open_again v v' c refl (λ w logged. logged) (still c there) (All-contains (OpenChange v) v.changes c all there)) v.changes (All-contains_itself v.changes)
 
   sealed_reheld : (old : ℕ) → All (SealChange v old) v.changes → All (SealChange v' old) v.changes
   sealed_reheld old all = All-weaker (SealChange v old) (SealChange v' old) (λ c of. record { whole = of.whole; of = of.of; before = of.before }) v.changes all
@@ -43,12 +49,12 @@ module _ (v : View) (known run_words zone_words : List ℕ) (reserved freed : Li
   ends_reheld flies None ends = ends
   ends_reheld flies (Some n) ends = ends
 
-  phase_reheld : (flies : ℕ → List Final → Type 0) (phase : Phase) → PhaseFits flies v phase → PhaseFits flies v' phase
-  phase_reheld flies Idle fits = record { no_records = fits.no_records; drained = fits.drained }
-  phase_reheld flies (Open slot pair) fits =
-      record { undrawn = fits.undrawn; short = fits.short; stands = fits.stands; short_pair = fits.short_pair; in_pairs = fits.in_pairs; pair_stands = fits.pair_stands; changes = open_reheld fits.changes }
-  phase_reheld flies Drawn fits = record { number = fits.number; drawn = fits.drawn; flying = fits.flying; drained = fits.drained }
-  phase_reheld flies Sealing fits = record {
+  phase_reheld : KeepsChanges → (flies : ℕ → List Final → Type 0) (phase : Phase) → PhaseFits flies v phase → PhaseFits flies v' phase
+  phase_reheld still flies Idle fits = record { no_records = fits.no_records; drained = fits.drained }
+  phase_reheld still flies (Open slot pair) fits =
+      record { undrawn = fits.undrawn; short = fits.short; stands = fits.stands; short_pair = fits.short_pair; in_pairs = fits.in_pairs; pair_stands = fits.pair_stands; changes = open_reheld still fits.changes }
+  phase_reheld still flies Drawn fits = record { number = fits.number; drawn = fits.drawn; flying = fits.flying; drained = fits.drained }
+  phase_reheld still flies Sealing fits = record {
     number = fits.number;
     drawn = fits.drawn;
     flying = fits.flying;
@@ -56,19 +62,19 @@ module _ (v : View) (known run_words zone_words : List ℕ) (reserved freed : Li
     whole = record { front = fits.whole.front; are = fits.whole.are; owned = fits.whole.owned };
     below = fits.below;
   }
-  phase_reheld flies (Applying applied) fits = record {
+  phase_reheld still flies (Applying applied) fits = record {
     no_records = fits.no_records;
     most = fits.most;
     changes = All-weaker (AppliedChange v applied) (AppliedChange v' applied) (λ c of. record { whole = of.whole; of = of.of; next = of.next }) v.changes fits.changes;
     whole = record { front = fits.whole.front; are = fits.whole.are; owned = fits.whole.owned };
     last = fits.last;
   }
-  phase_reheld flies Clearing fits = record {
+  phase_reheld still flies Clearing fits = record {
     no_records = fits.no_records;
     changes = sealed_reheld (length v.log.entries) fits.changes;
     whole = record { front = fits.whole.front; are = fits.whole.are; owned = fits.whole.owned };
   }
-  phase_reheld flies Retiring fits = record {
+  phase_reheld still flies Retiring fits = record {
     changes = All-weaker (RetiringChange v) (RetiringChange v') (λ c of. record { whole = of.whole; of = of.of; before = of.before }) v.changes fits.changes;
     ends = ends_reheld flies v.number fits.ends;
   }
@@ -76,8 +82,8 @@ module _ (v : View) (known run_words zone_words : List ℕ) (reserved freed : Li
   -- what is known stays so and is held; a recorded word is known still
   pub reheld_fits : (o : Opening) (old new : Memory) (settled : ℕ → ℕ) (flies : ℕ → List Final → Type 0) (k : ℕ) → ((w : ℕ) → new (PoolWord w) ≡ old (PoolWord w)) → ((line : ℕ) → new (LockWord line) ≡ old (LockWord line))
       → ((w : ℕ) → Contains known w → Contains v.known w) → ((w : ℕ) → Contains known w → IsTrue (is_held v' w)) → ((w : ℕ) → IsTrue (is_written v w) → Contains v.known w → Contains known w)
-      → BlocksFit (slice_index o.words) o.lanes o.zones v' → LaneFits o old settled flies k v → LaneFits o new settled flies k v'
-  reheld_fits o old new settled flies k same locks fewer held kept blocks fits = record {
+      → KeepsChanges → BlocksFit (slice_index o.words) o.lanes o.zones v' → LaneFits o old settled flies k v → LaneFits o new settled flies k v'
+  reheld_fits o old new settled flies k same locks fewer held kept still blocks fits = record {
     lane = record { lanes = fits.lane.lanes; zones = fits.lane.zones; lane = fits.lane.lane; size = fits.lane.size };
     picture = record { area = λ w inside. same w ∙ fits.picture.area w inside; known = λ w there. same w ∙ fits.picture.known w (fewer w there); held = held; descriptors = fits.picture.descriptors };
     locks = All-weaker (LockFits o old k) (LockFits o new k) (λ l f. record { shows = subst (ShowsHold k l.write) (sym (locks l.line)) f.shows; found = f.found }) v.locks fits.locks;
@@ -94,7 +100,7 @@ module _ (v : View) (known run_words zone_words : List ℕ) (reserved freed : Li
     });
     entries = entries_again v v' refl refl (λ w low high. refl) (λ w own_word. own_word) refl refl fits.entries;
     redone = λ w again own_word. redone_moved w (redone_again old settled v v' w refl (fits.redone w again own_word));
-    phase = phase_reheld flies v.log.phase fits.phase;
+    phase = phase_reheld still flies v.log.phase fits.phase;
     blocks = blocks;
     first_generation = fits.first_generation;
     last_generation = fits.last_generation;

@@ -6,6 +6,7 @@ use Rattle.std.proofs.lemmas.List.Elements.{All-map, All-weaker}
 use Rattle.pm_view.specs.declared.change.Change.{Change}
 use Rattle.pm_view.specs.Area.{area_word}
 use Rattle.pm_view.specs.Changes.{is_in_line, mark, flushed}
+use Rattle.pm_view.specs.Held.{is_reserved}
 use Rattle.pm_view.specs.Steps.Step.{Flush}
 use Rattle.pm_view.specs.View.{View}
 use Rattle.pm_image.specs.Logs.{slot_line}
@@ -31,9 +32,10 @@ slots_marked line calls v slot e = ap not (any_marked line (slot_line v.lane slo
 logged_marked : (line calls : ℕ) (v : View) (w : ℕ) → is_logged v w ≡ true → is_logged (record v { changes = flushed line v.changes; calls = calls }) w ≡ true
 logged_marked line calls v w e = logged_more v (record v { changes = flushed line v.changes; calls = calls }) (slots_marked line calls v) 0 v.log.records w e
 
-open_marked : (v v' : View) (c : Change) → v'.lane ≡ v.lane → ((w : ℕ) → is_logged v w ≡ true → is_logged v' w ≡ true) → OpenChange v c → (b : Bool) → OpenChange v' (cond b (record c { flushed = true }) c)
-open_marked v v' c lane logged of true = record { whole = of.whole; of = (open_again v v' c lane logged of).of }
-open_marked v v' c lane logged of false = record { whole = of.whole; of = (open_again v v' c lane logged of).of }
+open_marked : (v v' : View) (c : Change) → v'.lane ≡ v.lane → ((w : ℕ) → is_logged v w ≡ true → is_logged v' w ≡ true) → (is_reserved v c.word ≡ true → is_reserved v' c.word ≡ true)
+    → OpenChange v c → (b : Bool) → OpenChange v' (cond b (record c { flushed = true }) c)
+open_marked v v' c lane logged kept of true = record { whole = of.whole; of = (open_again v v' c lane logged kept of).of }
+open_marked v v' c lane logged kept of false = record { whole = of.whole; of = (open_again v v' c lane logged kept of).of }
 
 retiring_marked : (v v' : View) (c : Change) → v'.lane ≡ v.lane → generation_of v' ≡ generation_of v → RetiringChange v c → (b : Bool) → RetiringChange v' (cond b (record c { flushed = true }) c)
 retiring_marked v v' c lane generation of true = record { whole = of.whole; of = of.of ∙ ap area_word (sym lane); before = of.before ∙ sym generation }
@@ -55,7 +57,7 @@ flushes line o old new views log decided k v world inside is lawful same =
     let leaves : Leaves v v' (flushed line v.changes) = record {
       slots = slots_marked line (v.calls + 1) v;
       none = λ empty. ap (map (mark line)) empty;
-      open_ = λ all. All-map (OpenChange v') (mark line) v.changes (All-weaker (OpenChange v) (λ c. OpenChange v' (mark line c)) (λ c of. open_marked v v' c refl (logged_marked line (v.calls + 1) v) of (is_in_line line c)) v.changes all);
+      open_ = λ all. All-map (OpenChange v') (mark line) v.changes (All-weaker (OpenChange v) (λ c. OpenChange v' (mark line c)) (λ c of. open_marked v v' c refl (logged_marked line (v.calls + 1) v) (λ own. own) of (is_in_line line c)) v.changes all);
       retiring = λ all. All-map (RetiringChange v') (mark line) v.changes (All-weaker (RetiringChange v) (λ c. RetiringChange v' (mark line c)) (λ c of. retiring_marked v v' c refl refl of (is_in_line line c)) v.changes all);
       sealed = λ before all. All-map (SealChange v' before) (mark line) v.changes (All-weaker (SealChange v before) (λ c. SealChange v' before (mark line c)) (λ c of. sealed_marked v v' before c refl of (is_in_line line c)) v.changes all);
       applied = λ n all. All-map (AppliedChange v' n) (mark line) v.changes (All-weaker (AppliedChange v n) (λ c. AppliedChange v' n (mark line c)) (λ c of. applied_marked v v' n c refl refl refl of (is_in_line line c)) v.changes all);

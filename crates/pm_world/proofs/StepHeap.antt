@@ -3,11 +3,13 @@ use Rattle.std.proofs.Common.{◌≡◌, ◌≢◌, ◌⊎◌, inl, inr, ⊎_eli
 use Rattle.std.specs.Int.{bit_at, bit_not, w64}
 use Rattle.std.specs.List.{filter, list_any}
 use Rattle.std.proofs.lemmas.Bool.{and_from, and_parts, cases_Bool, cases_eq, eqb-true, false_from_ne_true, false≢true, not-true, not_from_false, or_cases, or_left, or_right}
-use Rattle.std.proofs.lemmas.List.Elements.{All-append, All-cons, All-nil}
+use Rattle.std.proofs.lemmas.List.Elements.{All-append, All-cons, All-contains, All-nil}
 use Rattle.std.proofs.lemmas.List.Folds.{Any-from_list_any, list_any-append}
 use Rattle.std.proofs.lemmas.Nat.Bits.{bit_at-zero}
+use Rattle.pm_view.specs.declared.change.Change.{Change}
 use Rattle.pm_view.specs.declared.occ.Occ.{Occ}
 use Rattle.pm_view.specs.Area.{is_in_area}
+use Rattle.pm_view.specs.Blocks.{covers}
 use Rattle.pm_view.specs.Held.{is_held, is_reserved, is_under}
 use Rattle.pm_view.specs.Occupancy.{is_taken}
 use Rattle.pm_view.specs.Steps.{Step}
@@ -31,7 +33,7 @@ use Rattle.pm_world.proofs.Reserved.{held_by_parts, occ_same, same_occ}
 use Rattle.pm_world.proofs.StepGive.{list_any-filter, contains-filter, filter-contains, filter-passed}
 use Rattle.pm_world.proofs.StepTake.{list_any-left, low_before}
 use Rattle.pm_world.proofs.Stored.{written_under}
-use Rattle.pm_world.proofs.Vacated.{and_bits, and_bit, low_bit, not_bit, not_both, or_bit_left, or_bit_right, or_bits, list_any-less, vacated_after, vacated_all, vacated_before, vacated_gone}
+use Rattle.pm_world.proofs.Vacated.{and_bits, and_bit, covered_still, low_bit, not_bit, not_both, or_bit_left, or_bit_right, or_bits, list_any-less, vacated_after, vacated_all, vacated_before, vacated_gone}
 use Rattle.pm_world.proofs.Worlds.{heap_here, own}
 
 is_one : (at other : Occ) → (at ≡ other) ⊎ (at ≢ other)
@@ -65,7 +67,7 @@ module _ (o : Opening) (old : Memory) (views : Views) (log : List Entry) (decide
       reholds o old views log decided world k inside v is new v.known (runs_with at found v.run_words) (zones_with at found v.zone_words) v.reserved v.freed v.zone_locks (v.seen ++ Occupied at found ∷ [])
       (λ l plain. same l)
       (reheld_fits v v.known (runs_with at found v.run_words) (zones_with at found v.zone_words) v.reserved v.freed v.zone_locks (v.seen ++ Occupied at found ∷ []) o old new (settled o log decided) (Flies log decided k) k
-      (λ w. same (PoolWord w)) (λ line. same (LockWord line)) (λ w there. there) (λ w there. mine.picture.held w there) (λ w written known. known)
+      (λ w. same (PoolWord w)) (λ line. same (LockWord line)) (λ w there. there) (λ w there. mine.picture.held w there) (λ w written known. known) (λ c there own_word. own_word)
       (record { of_pool = mine.blocks.of_pool; free = mine.blocks.free; freed = mine.blocks.freed }) mine)
       (low_before v (Occupied at found) refl) (heap_here o old views log decided world k inside v is v' new (all_same old new same) (record { reserved = refl; freed = refl; zones = refl }))
 
@@ -80,7 +82,7 @@ module _ (o : Opening) (old : Memory) (views : Views) (log : List Entry) (decide
       reholds o old views log decided world k inside v is new v.known (runs_with at (occ_in v at) v.run_words) (zones_with at (occ_in v at) v.zone_words) v.reserved v.freed v.zone_locks (v.seen ++ Occupy at bits false ∷ [])
       (λ l plain. same l)
       (reheld_fits v v.known (runs_with at (occ_in v at) v.run_words) (zones_with at (occ_in v at) v.zone_words) v.reserved v.freed v.zone_locks (v.seen ++ Occupy at bits false ∷ []) o old new (settled o log decided) (Flies log decided k) k
-      (λ w. same (PoolWord w)) (λ line. same (LockWord line)) (λ w there. there) (λ w there. mine.picture.held w there) (λ w written known. known)
+      (λ w. same (PoolWord w)) (λ line. same (LockWord line)) (λ w there. there) (λ w there. mine.picture.held w there) (λ w written known. known) (λ c there own_word. own_word)
       (record { of_pool = mine.blocks.of_pool; free = mine.blocks.free; freed = mine.blocks.freed }) mine)
       (low_before v (Occupy at bits false) refl) (heap_here o old views log decided world k inside v is v' new (all_same old new same) (record { reserved = refl; freed = refl; zones = refl }))
 
@@ -212,7 +214,7 @@ module _ (o : Opening) (old : Memory) (views : Views) (log : List Entry) (decide
         (reheld_fits v v.known (runs_with at word v.run_words) (zones_with at word v.zone_words) (v.reserved ++ block ∷ []) v.freed v.zone_locks (v.seen ++ Occupy at bits true ∷ []) o old new (settled o log decided) (Flies log decided k) k
         (λ w. moves.0 (PoolWord w) (other_occ at (PoolWord w) (plain_pool w))) (λ line. moves.0 (LockWord line) (other_occ at (LockWord line) (plain_lock line))) (λ w there. there)
         (λ w there. held_by_parts _ _ (is_reserved v w) (is_reserved got_view w) (λ core. core) (list_any-left _ v.reserved (block ∷ [])) (mine.picture.held w there)) (λ w written known. known)
-        blocks_then mine)
+        (λ c there own_word. list_any-left _ v.reserved (block ∷ []) own_word) blocks_then mine)
         (low_before v (Occupy at bits true) refl) got_heap
 
   -- ---- bits of it are given back
@@ -319,6 +321,7 @@ module _ (o : Opening) (old : Memory) (views : Views) (log : List Entry) (decide
         (filter-contains (is_held bare_view) v.known) (λ w there. filter-passed (is_held bare_view) v.known w there)
         (λ w written known. contains-filter (is_held bare_view) v.known w known
         (or_left (is_in_area v.lane w || list_any (is_under w) v.locks) (is_reserved bare_view w) (or_right (is_in_area v.lane w) (list_any (is_under w) v.locks) (written_under v.locks w written))))
+        (λ c there own_word. covered_still at bits may.small v.lanes v.words c.word v.reserved (All-contains (λ (d : Change). covers v.lanes v.words at bits d.word ≡ false) v.changes c may.drained there) own_word)
         given_blocks mine)
         (λ can. can) given_heap
 
@@ -331,7 +334,7 @@ module _ (o : Opening) (old : Memory) (views : Views) (log : List Entry) (decide
   zones_change new zones s other same heap_then =
       reholds o old views log decided world k inside v is new v.known v.run_words v.zone_words v.reserved v.freed zones (v.seen ++ s ∷ []) same
       (reheld_fits v v.known v.run_words v.zone_words v.reserved v.freed zones (v.seen ++ s ∷ []) o old new (settled o log decided) (Flies log decided k) k
-      (λ w. same (PoolWord w) (plain_pool w)) (λ line. same (LockWord line) (plain_lock line)) (λ w there. there) (λ w there. mine.picture.held w there) (λ w written known. known)
+      (λ w. same (PoolWord w) (plain_pool w)) (λ line. same (LockWord line) (plain_lock line)) (λ w there. there) (λ w there. mine.picture.held w there) (λ w written known. known) (λ c there own_word. own_word)
       (record { of_pool = mine.blocks.of_pool; free = mine.blocks.free; freed = mine.blocks.freed }) mine)
       (low_before v s other) heap_then
 

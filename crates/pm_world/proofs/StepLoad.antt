@@ -33,7 +33,7 @@ use Rattle.pm_world.proofs.Chunks.{told_by_bitmap, block_same, under_found, writ
 use Rattle.pm_world.proofs.Exclusion.{writes_under}
 use Rattle.pm_world.proofs.Frame.{lane_kept}
 use Rattle.pm_world.proofs.Pairs.{entered, entries_again, redone_again, redone_kept, whole_again}
-use Rattle.pm_world.proofs.Recoursed.{used_again}
+use Rattle.pm_world.proofs.Recoursed.{open_again, used_again}
 use Rattle.pm_world.proofs.Relocked.{generation_same}
 use Rattle.pm_world.proofs.Stored.{slot_set_other}
 use Rattle.pm_world.proofs.StoreGeneration.{difference_same}
@@ -52,7 +52,7 @@ list_any-map p f (x ∷ xs) all e =
 any-map : {X : Type 0} (P : X → Type 0) (f : X → X) (xs : List X) → ((x : X) → P x → P (f x)) → Any P xs → Any P (map f xs)
 any-map P f xs keeps (n, x, low, at, p) = (n, f x, (let e = length-map xs f in omega (arith, e, low)), get_or-map f xs n x (f x) low ∙ ap f at, keeps x p)
 
-contains-more : (held : Bool) (w : ℕ) (known : List ℕ) (u : ℕ) → Contains known u → Contains (cond held (w ∷ known) known) u
+pub contains-more : (held : Bool) (w : ℕ) (known : List ℕ) (u : ℕ) → Contains known u → Contains (cond held (w ∷ known) known) u
 contains-more true w known u (n, low, at) = (suc n, omega arith, at)
 contains-more false w known u there = there
 
@@ -144,10 +144,13 @@ module _ (o : Opening) (old : Memory) (views : Views) (log : List Entry) (decide
   written_now u = list_any-map (λ (l : Lock). l.write && is_some l.block && is_under u l) f v.locks (All-weaker (LockFits o old k) (λ l. (l.write && is_some l.block && is_under u l) ≡ true → ((f l).write && is_some (f l).block && is_under u (f l)) ≡ true)
       (λ l fit e. of_lock (λ m. (m.write && is_some m.block && is_under u m) ≡ true) l e (written_found o.lanes o.words l.line l.write l.block u fit.found e)) v.locks mine.locks)
 
+  reserved_now : (u : ℕ) → is_reserved v u ≡ true → is_reserved v' u ≡ true
+  reserved_now u = reserved_again (slice_index o.words) o.lanes o.zones v v' u mine.lane.lanes refl refl mine.blocks (λ page chunk. descriptors_now page chunk ∙ sym (mine.picture.descriptors page chunk))
+
   core_now : (u : ℕ) → is_held v u ≡ true → is_held v' u ≡ true
   core_now u held = held_by_parts (is_in_area v.lane u || list_any (is_under u) v.locks) (is_in_area v.lane u || list_any (is_under u) (map f v.locks)) (is_reserved v u) (is_reserved v' u)
       (held_by_parts (is_in_area v.lane u) (is_in_area v.lane u) (list_any (is_under u) v.locks) (list_any (is_under u) (map f v.locks)) (λ area. area) (under_now u))
-      (reserved_again (slice_index o.words) o.lanes o.zones v v' u mine.lane.lanes refl refl mine.blocks (λ page chunk. descriptors_now page chunk ∙ sym (mine.picture.descriptors page chunk))) held
+      (reserved_now u) held
 
   -- the area is as it was
   area_same : (u : ℕ) → 512 + 1024 * v.lane ≤ u → u < 1536 + 1024 * v.lane → slice_index words' u ≡ slice_index v.words u
@@ -217,7 +220,7 @@ module _ (o : Opening) (old : Memory) (views : Views) (log : List Entry) (decide
         ⊎_elim (λ (room : length v.log.records < 64). area_same (slot_word v.lane (length v.log.records) + i) (omega (arith, room, low, short)) (omega (arith, room, low, short)) ∙ fits.stands i low)
         (λ (full : 64 ≤ length v.log.records). area_same (slot_word v.lane (length v.log.records) + i) (omega (arith, full, most, low, short)) (omega (arith, full, most, low, short)) ∙ fits.stands i low)
         (cases_lt (length v.log.records) 64);
-    changes = All-weaker (OpenChange v) (OpenChange v') (λ c of. record { whole = of.whole; of = of.of }) v.changes fits.changes;
+    changes = All-weaker (OpenChange v) (OpenChange v') (λ c of. open_again v v' c refl (λ u logged. logged) (reserved_now c.word) of) v.changes fits.changes;
     short_pair = fits.short_pair;
     in_pairs = fits.in_pairs;
     pair_stands = λ i low. let room = fits.in_pairs in area_same (entry_word v.lane (length v.log.entries) + i) (omega (arith, room, low)) (omega (arith, room, low)) ∙ fits.pair_stands i low;

@@ -1,6 +1,6 @@
--- A store keeps the world: of a word whose record is drained, of the next generation, of the next word of a record or of an entry, of the seal, and of
+-- A store keeps the world: of a word whose record is drained, of one in a reserved block, of the next generation, of the next word of a record or of an entry, of the seal, and of
 -- the word of an entry that is applied.
-use Rattle.std.proofs.Common.{◌≡◌, ℕ, ◌<◌, Bool, List, length, slice_index, refl}
+use Rattle.std.proofs.Common.{◌≡◌, ℕ, ◌<◌, inl, inr, Bool, List, length, slice_index, refl}
 use Rattle.pm_view.specs.Area.{Part, part_of}
 use Rattle.pm_view.specs.Area.Part.{GenerationWord, SealWord, EntryWord, SlotWord, OtherWord}
 use Rattle.pm_view.specs.Changes.{store_change}
@@ -17,6 +17,7 @@ use Rattle.pm_world.specs.Memory.{Memory, Becomes}
 use Rattle.pm_world.specs.Memory.Location.{PoolWord}
 use Rattle.pm_world.specs.Opening.{Opening}
 use Rattle.pm_world.specs.World.{Views, World}
+use Rattle.pm_world.proofs.StoreAside.{stores_aside}
 use Rattle.pm_world.proofs.StoreGeneration.{stores_generation, stores_last}
 use Rattle.pm_world.proofs.StoreEntry.{stores_entry}
 use Rattle.pm_world.proofs.StorePair.{stores_pair}
@@ -29,7 +30,8 @@ module _ (o : Opening) (old : Memory) (views : Views) (log : List Entry) (decide
   by_part : (phase : Phase) → v.log.phase ≡ phase → (part : Part) → part_of v.lane w ≡ part → StoreFits v w x phase part
       → World o new (with_view views k (changed v w x (store_change w (slice_index v.words w) x) (log_stored phase part x v.log))) log decided
   by_part (Open slot pair) e SlotWord f fits = stores_slot o old views log decided world k inside v is new w x moves in_pool may room slot pair e f fits
-  by_part (Open slot pair) e OtherWord f fits = stores_word o old views log decided world k inside v is new w x moves in_pool may room slot pair e fits
+  by_part (Open slot pair) e OtherWord f (inl writes) = stores_word o old views log decided world k inside v is new w x moves in_pool may room slot pair e writes
+  by_part (Open slot pair) e OtherWord f (inr fills) = stores_aside o old views log decided world k inside v is new w x moves in_pool may room slot pair e fills.reserved
   by_part (Open slot pair) e GenerationWord f fits = stores_last o old views log decided world k inside v is new w x moves in_pool may room slot pair e f fits
   by_part (Open slot pair) e SealWord f fits = absurd fits
   by_part (Open slot pair) e EntryWord f fits = stores_pair o old views log decided world k inside v is new w x moves in_pool may room slot pair e f fits

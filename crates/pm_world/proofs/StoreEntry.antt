@@ -32,7 +32,7 @@ use Rattle.pm_world.proofs.Frame.{in_phase}
 use Rattle.pm_world.proofs.Locations.{other_pool}
 use Rattle.pm_world.proofs.Pairs.{in_log_before}
 use Rattle.pm_world.proofs.Recoursed.{logged_upto}
-use Rattle.pm_world.proofs.Stored.{other_word, this_word, log_beside, entries_beside, stored_fits, stored_world}
+use Rattle.pm_world.proofs.Stored.{IsOwnWord, other_word, this_word, log_beside, entries_beside, stored_fits, stored_world}
 use Rattle.pm_world.proofs.StoreSlot.{get-push_cases}
 use Rattle.pm_world.proofs.Worlds.{own}
 
@@ -160,7 +160,7 @@ module _ (o : Opening) (old : Memory) (views : Views) (log : List Entry) (decide
         }
 
     -- the world then, from where the word lies and what the generation is
-    module _ (right : IsTrue (is_in_area v.lane w) ⊎ IsTrue (is_written v w)) (pairs : (w < 520 + 1024 * v.lane) ⊎ (648 + 1024 * v.lane ≤ w)) (slots : (s : ℕ) → s < 64 → (w < 8 * slot_line v.lane s) ⊎ (8 * slot_line v.lane s + 8 ≤ w))
+    module _ (right : IsOwnWord v w) (pairs : (w < 520 + 1024 * v.lane) ⊎ (648 + 1024 * v.lane ≤ w)) (slots : (s : ℕ) → s < 64 → (w < 8 * slot_line v.lane s) ⊎ (8 * slot_line v.lane s + 8 ≤ w))
         (seal : area_word v.lane + 1 ≢ w) (now_next : w ≡ area_word v.lane → slice_index v.words w + 1 ≡ generation_of view') (generation : records_generation (Applying (applied + 1)) view' ≡ generation_of v + 1) (first : 1 ≤ generation_of view') (last : generation_of view' ≤ generation_limit) where
       changes_fit : All (AppliedChange view' (applied + 1)) view'.changes
       changes_fit = All-push (AppliedChange view' (applied + 1)) v.changes (store_change w (slice_index v.words w) x)
@@ -197,7 +197,7 @@ module _ (o : Opening) (old : Memory) (views : Views) (log : List Entry) (decide
     -- of a word that the lane writes
     applies_word : IsTrue (is_written v w) → applied + 1 < length v.log.entries → World o new (with_view views k view') log decided
     applies_word own_word more =
-        let right : IsTrue (is_in_area v.lane w) ⊎ IsTrue (is_written v w) = inr own_word in
+        let right : IsOwnWord v w = inr (inl own_word) in
         let under = writes_under o old k v w mine.locks own_word in
         let behind = world.sound.behind_areas under.0 w under.1 in let lane = mine.lane.lane in
         let same : generation_of view' ≡ generation_of v = other_word o old views log decided world k inside v is new w x moves in_pool right may room (area_word v.lane) (λ this. absurd (omega arith)) in
@@ -209,7 +209,7 @@ module _ (o : Opening) (old : Memory) (views : Views) (log : List Entry) (decide
     applies_generation : w ≡ area_word v.lane → x ≡ generation_of v + 1 → applied + 1 ≡ length v.log.entries → World o new (with_view views k view') log decided
     applies_generation here is_next all =
         let within : is_in_area v.lane w ≡ true = ap (is_in_area v.lane) here ∙ and_from _ _ (le-leb (area_word v.lane) (area_word v.lane) (omega arith)) (lt-ltb (area_word v.lane) (area_word v.lane + 1024) (omega arith)) in
-        let right : IsTrue (is_in_area v.lane w) ⊎ IsTrue (is_written v w) = inl within in
+        let right : IsOwnWord v w = inl within in
         let now : generation_of view' ≡ x = ap (slice_index view'.words) (sym here) ∙ this_word o old views log decided world k inside v is new w x moves in_pool right may room in
         let most : generation_of v + 1 ≤ generation_limit = subst (λ g. g ≤ generation_limit) before fits.last in
         applies right (inl (omega arith)) (λ s under. inl (omega arith)) (λ this. absurd (omega arith))

@@ -1,5 +1,5 @@
 -- A store of the next generation: it ends a call that has drawn, or one that is given up.
-use Rattle.std.proofs.Common.{◌≡◌, ◌≢◌, ℕ, zero, suc, ◌+◌, ◌-◌, ◌*◌, ◌^◌, ◌<◌, ◌≤◌, ◌⊎◌, inl, ⊎_elim, Bool, true, IsTrue, List, [], ◌∷◌, ◌++◌, length, map, flat_map, slice_get, slice_index, Some, refl, sym, ap, ◌∙◌, subst, arith}
+use Rattle.std.proofs.Common.{◌≡◌, ◌≢◌, ℕ, zero, suc, ◌+◌, ◌-◌, ◌*◌, ◌^◌, ◌<◌, ◌≤◌, inl, ⊎_elim, Bool, true, List, [], ◌∷◌, ◌++◌, length, map, flat_map, slice_get, slice_index, Some, refl, sym, ap, ◌∙◌, subst, arith}
 use Rattle.std.specs.List.{range_with_len}
 use Rattle.std.proofs.lemmas.Bool.{and_parts, false≢true}
 use Rattle.std.proofs.lemmas.List.Elements.{All-nil, All-push, All-same}
@@ -10,7 +10,6 @@ use Rattle.pm_view.specs.Changes.{store_change}
 use Rattle.pm_view.specs.Counts.{MayCount, HasRoom}
 use Rattle.pm_view.specs.Log.{Phase, Recorded, Final}
 use Rattle.pm_view.specs.Log.Phase.{Open, Drawn, Retiring}
-use Rattle.pm_view.specs.Rights.{is_written}
 use Rattle.pm_view.specs.View.{View}
 use Rattle.pm_view.specs.Views.{changed}
 use Rattle.pm_world.specs.Course.{flight_in}
@@ -29,7 +28,7 @@ use Rattle.pm_world.proofs.Frame.{in_phase}
 use Rattle.pm_world.proofs.Pairs.{in_log_before}
 use Rattle.pm_world.proofs.Parts.{generation_part}
 use Rattle.pm_world.proofs.Recoursed.{logged_upto}
-use Rattle.pm_world.proofs.Stored.{other_word, this_word, log_beside, entries_beside, stored_fits, stored_world}
+use Rattle.pm_world.proofs.Stored.{IsOwnWord, other_word, this_word, log_beside, entries_beside, stored_fits, stored_world}
 use Rattle.pm_world.proofs.StoreWord.{drained_more}
 use Rattle.pm_world.proofs.Worlds.{own}
 
@@ -56,7 +55,7 @@ module _ (o : Opening) (old : Memory) (views : Views) (log : List Entry) (decide
     at : (is_in_area v.lane w ≡ true) × (w ≡ area_word v.lane)
     at = generation_part v.lane w part
 
-    right : IsTrue (is_in_area v.lane w) ⊎ IsTrue (is_written v w)
+    right : IsOwnWord v w
     right = inl at.0
 
     abbrev view' : View
@@ -100,7 +99,7 @@ module _ (o : Opening) (old : Memory) (views : Views) (log : List Entry) (decide
         (omega arith) (omega arith))
         flies
         (λ u heap un. (
-          (λ same. ⊎_elim (λ (root : u ≡ 64). absurd (omega arith)) (λ (t : (512 + 1024 * o.lanes ≤ u) × (u < _)). let low = t.0 in absurd (omega arith)) heap),
+          (λ same. ⊎_elim (λ (root : u ≡ 64). absurd (omega arith)) (λ (t : (512 + 1024 * o.lanes ≤ u) × (u < _)). let low = t.0 in absurd (omega arith)) heap.heap),
           in_log_before v view' u
               (logged_upto v view' 0 v.log.records (λ s low. drained_more v.lane s v.changes (store_change w (slice_index v.words w) x) (λ same. absurd (omega arith))) u)
               (λ redone. absurd (false≢true (sym (ap (λ fs. is_entered fs u) ends.unentered) ∙ (and_parts (is_redoing v.log.phase) (is_entered v.log.entries u) redone).1))) un,

@@ -1,17 +1,16 @@
 -- A store of the next word of an entry's pair.
-use Rattle.std.proofs.Common.{◌≡◌, ◌≢◌, ℕ, ◌+◌, ◌*◌, ◌/◌, ◌%◌, ◌<◌, ◌≤◌, ◌⊎◌, inl, inr, ⊎_elim, Bool, true, false, IsTrue, All, List, [], ◌∷◌, ◌++◌, length, take, slice_get, slice_index, Some, refl, sym, ap, ◌∙◌, subst, arith, length-append}
+use Rattle.std.proofs.Common.{◌≡◌, ◌≢◌, ℕ, ◌+◌, ◌*◌, ◌/◌, ◌%◌, ◌<◌, ◌≤◌, inl, inr, ⊎_elim, Bool, true, false, All, List, [], ◌∷◌, ◌++◌, length, take, slice_get, slice_index, Some, refl, sym, ap, ◌∙◌, subst, arith, length-append}
 use Rattle.std.proofs.lemmas.Bool.{cases_lt, false≢true}
 use Rattle.std.proofs.lemmas.List.{get_or_append_left, get_or_push}
 use Rattle.std.proofs.lemmas.List.Elements.{All-push, All-weaker}
 use Rattle.std.proofs.lemmas.Option.{none-some, slice_get_within}
 use Rattle.pm_record.specs.Redo.{redo_words}
-use Rattle.pm_view.specs.Area.{area_word, is_in_area, part_of}
+use Rattle.pm_view.specs.Area.{area_word, part_of}
 use Rattle.pm_view.specs.Area.Part.{EntryWord}
 use Rattle.pm_view.specs.Changes.{store_change}
 use Rattle.pm_view.specs.Counts.{MayCount, HasRoom}
 use Rattle.pm_view.specs.Log.{Log, Final, with_pair, final_of}
 use Rattle.pm_view.specs.Log.Phase.{Open}
-use Rattle.pm_view.specs.Rights.{is_written}
 use Rattle.pm_view.specs.View.{View}
 use Rattle.pm_view.specs.Views.{changed}
 use Rattle.pm_world.specs.Course.{flight_in}
@@ -29,7 +28,7 @@ use Rattle.pm_world.proofs.Frame.{in_phase}
 use Rattle.pm_world.proofs.Pairs.{in_log_before, none_redone}
 use Rattle.pm_world.proofs.Parts.{entry_part}
 use Rattle.pm_world.proofs.Recoursed.{logged_upto, open_again}
-use Rattle.pm_world.proofs.Stored.{other_word, this_word, log_with, stored_fits, stored_world}
+use Rattle.pm_world.proofs.Stored.{IsOwnWord, reserved_still, other_word, this_word, log_with, stored_fits, stored_world}
 use Rattle.pm_world.proofs.StoreSlot.{get-push_cases}
 use Rattle.pm_world.proofs.StoreWord.{drained_more}
 use Rattle.pm_world.proofs.Worlds.{own}
@@ -60,7 +59,7 @@ module _ (o : Opening) (old : Memory) (views : Views) (log : List Entry) (decide
   mine = own o old views log decided world k inside v is
 
   module _ (slot pair : List ℕ) (open_ : v.log.phase ≡ Open slot pair) (part : part_of v.lane w ≡ EntryWord) (adds : AppendsToPair v w x pair) where
-    right : IsTrue (is_in_area v.lane w) ⊎ IsTrue (is_written v w)
+    right : IsOwnWord v w
     right = inl (entry_part v.lane w part)
 
     open_fits : OpenFits v slot pair
@@ -112,7 +111,7 @@ module _ (o : Opening) (old : Memory) (views : Views) (log : List Entry) (decide
 
     changes_fit : (lg : Log) → ((u : ℕ) → is_logged v u ≡ true → is_logged (view' lg) u ≡ true) → All (OpenChange (view' lg)) (view' lg).changes
     changes_fit lg logged = All-push (OpenChange (view' lg)) v.changes (store_change w (slice_index v.words w) x)
-        (All-weaker (OpenChange v) (OpenChange (view' lg)) (λ c of. open_again v (view' lg) c refl logged of) v.changes open_fits.changes)
+        (All-weaker (OpenChange v) (OpenChange (view' lg)) (λ c of. open_again v (view' lg) c refl logged (reserved_still o old views log decided world k inside v is new w x moves in_pool right may room lg c.word) of) v.changes open_fits.changes)
         (record { whole = refl; of = inr (inl part) })
 
     goes_on : (lg : Log) (pair' : List ℕ) → lg.phase ≡ Open slot pair' → lg.records ≡ v.log.records → EntriesFit (view' lg) → OpenFits (view' lg) slot pair' → World o new (with_view views k (view' lg)) log decided
@@ -130,7 +129,7 @@ module _ (o : Opening) (old : Memory) (views : Views) (log : List Entry) (decide
         (λ n flying. absurd (none-some n (sym (ap (λ p. flight_in p v.number) open_) ∙ flying)))
         (λ u heap un. (
           (λ same. let lane = mine.lane.lane in
-              ⊎_elim (λ (root : u ≡ 64). absurd (omega arith)) (λ (t : (512 + 1024 * o.lanes ≤ u) × (u < _)). let low = t.0 in absurd (omega arith)) heap),
+              ⊎_elim (λ (root : u ≡ 64). absurd (omega arith)) (λ (t : (512 + 1024 * o.lanes ≤ u) × (u < _)). let low = t.0 in absurd (omega arith)) heap.heap),
           in_log_before v (view' lg) u (logged_same lg records u) (λ redone. absurd (false≢true (sym (none_redone v u (ap is_redoing open_)) ∙ redone))) un,
         ))
 

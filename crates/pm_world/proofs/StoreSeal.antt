@@ -1,5 +1,5 @@
 -- A store of the seal: it seals the entries, or clears the seal once all of them are applied.
-use Rattle.std.proofs.Common.{◌≡◌, ◌≢◌, ℕ, ◌+◌, ◌*◌, ◌<◌, ◌≤◌, ◌⊎◌, inl, ⊎_elim, Bool, true, IsTrue, All, List, [], ◌++◌, length, drop, slice_index, Some, refl, sym, ap, ◌∙◌, subst, arith, eq-eqb}
+use Rattle.std.proofs.Common.{◌≡◌, ◌≢◌, ℕ, ◌+◌, ◌*◌, ◌<◌, ◌≤◌, inl, ⊎_elim, Bool, true, IsTrue, All, List, [], ◌++◌, length, drop, slice_index, Some, refl, sym, ap, ◌∙◌, subst, arith, eq-eqb}
 use Rattle.std.proofs.lemmas.Bool.{and_parts, and_from, cond-true, false≢true}
 use Rattle.std.proofs.lemmas.List.Elements.{All-nil, All-push, All-same}
 use Rattle.std.proofs.lemmas.Option.{none-some}
@@ -29,7 +29,7 @@ use Rattle.pm_world.proofs.Locations.{other_pool}
 use Rattle.pm_world.proofs.Pairs.{in_log_before, none_redone}
 use Rattle.pm_world.proofs.Parts.{seal_part}
 use Rattle.pm_world.proofs.Recoursed.{logged_upto}
-use Rattle.pm_world.proofs.Stored.{other_word, this_word, log_beside, entries_beside, stored_fits, stored_world}
+use Rattle.pm_world.proofs.Stored.{IsOwnWord, other_word, this_word, log_beside, entries_beside, stored_fits, stored_world}
 use Rattle.pm_world.proofs.StoreGeneration.{difference_same}
 use Rattle.pm_world.proofs.StoreWord.{drained_more}
 use Rattle.pm_world.proofs.Worlds.{own}
@@ -43,7 +43,7 @@ module _ (o : Opening) (old : Memory) (views : Views) (log : List Entry) (decide
     at : (is_in_area v.lane w ≡ true) × (w ≡ area_word v.lane + 1)
     at = seal_part v.lane w part
 
-    right : IsTrue (is_in_area v.lane w) ⊎ IsTrue (is_written v w)
+    right : IsOwnWord v w
     right = inl at.0
 
     abbrev view' : Phase → View
@@ -89,7 +89,7 @@ module _ (o : Opening) (old : Memory) (views : Views) (log : List Entry) (decide
         (subst (λ g. 1 ≤ g) (sym generation) mine.first_generation) (subst (λ g. g ≤ generation_limit) (sym generation) mine.last_generation))
         flies
         (λ u heap un. (
-          (λ same. ⊎_elim (λ (root : u ≡ 64). absurd (omega arith)) (λ (t : (512 + 1024 * o.lanes ≤ u) × (u < _)). let low = t.0 in absurd (omega arith)) heap),
+          (λ same. ⊎_elim (λ (root : u ≡ 64). absurd (omega arith)) (λ (t : (512 + 1024 * o.lanes ≤ u) × (u < _)). let low = t.0 in absurd (omega arith)) heap.heap),
           in_log_before v (view' phase) u
               (logged_upto v (view' phase) 0 v.log.records (λ s low. drained_more v.lane s v.changes (store_change w (slice_index v.words w) x) (λ same. absurd (omega arith))) u)
               (redoes u) un,

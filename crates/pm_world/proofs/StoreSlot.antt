@@ -1,5 +1,5 @@
 -- A store of the next word of a record's slot.
-use Rattle.std.proofs.Common.{◌≡◌, ◌≢◌, ℕ, zero, suc, ◌+◌, ◌-◌, ◌*◌, ◌/◌, ◌<◌, ◌≤◌, ◌⊎◌, inl, inr, ⊎_elim, Bool, true, false, eqb, leb, ltb, ◌&&◌, IsTrue, All, Contains, List, [], ◌∷◌, ◌++◌, length, take, drop, replicate, slice_get, slice_index, slice_range, get_or, Some, refl, sym, ap, ◌∙◌, subst, arith, length-append}
+use Rattle.std.proofs.Common.{◌≡◌, ◌≢◌, ℕ, zero, suc, ◌+◌, ◌-◌, ◌*◌, ◌/◌, ◌<◌, ◌≤◌, ◌⊎◌, inl, inr, ⊎_elim, Bool, true, false, eqb, leb, ltb, ◌&&◌, All, Contains, List, [], ◌∷◌, ◌++◌, length, take, drop, replicate, slice_get, slice_index, slice_range, get_or, Some, refl, sym, ap, ◌∙◌, subst, arith, length-append}
 use Rattle.std.specs.List.{list_any}
 use Rattle.std.proofs.lemmas.Bool.{cases_lt, and_parts, or_cases, or_from, or_left, or_right, eqb-true, leb-true, ltb-true, false≢true, false_from_ne_true}
 use Rattle.std.proofs.lemmas.List.{take_all, length-take-le, length-drop, length-replicate, length-set, get_or-take, get_or-drop, get_or_append_left, get_or_push, ext_get_or}
@@ -15,7 +15,6 @@ use Rattle.pm_view.specs.Counts.{MayCount, HasRoom}
 use Rattle.pm_view.specs.Held.{is_known}
 use Rattle.pm_view.specs.Log.{Log, Recorded, with_slot}
 use Rattle.pm_view.specs.Log.Phase.{Open}
-use Rattle.pm_view.specs.Rights.{is_written}
 use Rattle.pm_view.specs.View.{View}
 use Rattle.pm_view.specs.Views.{changed}
 use Rattle.pm_image.specs.Logs.{undo_slot, slot_line}
@@ -32,12 +31,13 @@ use Rattle.pm_world.specs.Records.{IsRecordAt, generation_of, slot_word, covers,
 use Rattle.pm_world.specs.World.{Views, World}
 use Rattle.pm_world.proofs.Apart.{area_bounds, outside_behind}
 use Rattle.pm_world.proofs.Exclusion.{writes_under, one_writer}
+use Rattle.pm_world.proofs.Living.{guarded_lives}
 use Rattle.pm_world.proofs.Frame.{in_phase}
 use Rattle.pm_world.proofs.Pairs.{entries_sealed, in_log_before, in_log_written, none_redone}
 use Rattle.pm_world.proofs.Parts.{slot_part}
 use Rattle.pm_world.proofs.Recoursed.{logged_upto, open_again}
 use Rattle.pm_world.proofs.Slots.{unrecorded}
-use Rattle.pm_world.proofs.Stored.{slot_set_other, other_word, this_word, known_more, stored_fits, stored_world}
+use Rattle.pm_world.proofs.Stored.{IsOwnWord, reserved_still, slot_set_other, other_word, this_word, known_more, stored_fits, stored_world}
 use Rattle.pm_world.proofs.StoreWord.{drained_more}
 use Rattle.pm_world.proofs.Worlds.{own, unlogged_before}
 
@@ -124,7 +124,7 @@ module _ (o : Opening) (old : Memory) (views : Views) (log : List Entry) (decide
   mine = own o old views log decided world k inside v is
 
   module _ (slot pair : List ℕ) (open_ : v.log.phase ≡ Open slot pair) (part : part_of v.lane w ≡ SlotWord) (adds : AppendsToSlot v w x slot) where
-    right : IsTrue (is_in_area v.lane w) ⊎ IsTrue (is_written v w)
+    right : IsOwnWord v w
     right = inl (slot_part v.lane w part)
 
     open_fits : OpenFits v slot pair
@@ -187,7 +187,7 @@ module _ (o : Opening) (old : Memory) (views : Views) (log : List Entry) (decide
 
     changes_fit : (lg : Log) → ((u : ℕ) → is_logged v u ≡ true → is_logged (view' lg) u ≡ true) → All (OpenChange (view' lg)) (view' lg).changes
     changes_fit lg logged = All-push (OpenChange (view' lg)) v.changes (store_change w (slice_index v.words w) x)
-        (All-weaker (OpenChange v) (OpenChange (view' lg)) (λ c of. open_again v (view' lg) c refl logged of) v.changes open_fits.changes)
+        (All-weaker (OpenChange v) (OpenChange (view' lg)) (λ c of. open_again v (view' lg) c refl logged (reserved_still o old views log decided world k inside v is new w x moves in_pool right may room lg c.word) of) v.changes open_fits.changes)
         (record { whole = refl; of = inl part })
 
     goes_on : (lg : Log) → LogFits (settled o log decided) (view' lg) (records_generation lg.phase (view' lg)) → EntriesFit (view' lg) → is_redoing lg.phase ≡ false → PhaseFits (Flies log decided k) (view' lg) lg.phase → ((u : ℕ) → is_logged v u ≡ true → is_logged (view' lg) u ≡ true)
@@ -200,7 +200,7 @@ module _ (o : Opening) (old : Memory) (views : Views) (log : List Entry) (decide
         (λ n flying. absurd (none-some n (sym (ap (λ p. flight_in p v.number) open_) ∙ flying)))
         (λ u heap un. (
           (λ same. let b = area_bounds v.lane w (slot_part v.lane w part) in let b₀ = b.0 in let b₁ = b.1 in let lane = mine.lane.lane in
-              ⊎_elim (λ (root : u ≡ 64). absurd (omega arith)) (λ (t : (512 + 1024 * o.lanes ≤ u) × (u < _)). let low = t.0 in absurd (omega arith)) heap),
+              ⊎_elim (λ (root : u ≡ 64). absurd (omega arith)) (λ (t : (512 + 1024 * o.lanes ≤ u) × (u < _)). let low = t.0 in absurd (omega arith)) heap.heap),
           in_log_before v (view' lg) u (logged u) (λ redone. absurd (false≢true (sym (none_redone v u (ap is_redoing open_)) ∙ redone))) un,
         ))
 
@@ -239,13 +239,11 @@ module _ (o : Opening) (old : Memory) (views : Views) (log : List Entry) (decide
         let can = adds.can.each i low in
         let under = writes_under o old k v u mine.locks can.own in
         let behind = world.sound.behind_areas under.0 u under.1 in
-        let within = world.sound.within under.0 u under.1 in
-        let size = world.sound.size in
         let known = known-contained v u can.known (λ area. let b = (area_bounds v.lane u area).1 in let lane = mine.lane.lane in absurd (omega arith)) in
         record {
           own = can.own;
           known = known;
-          before = sym can.present ∙ (sym (mine.picture.known u known) ∙ world.each_word u (inr (behind, subst (λ n. u < n) size within))
+          before = sym can.present ∙ (sym (mine.picture.known u known) ∙ world.each_word u (guarded_lives o world.sound under.0 u under.1)
               (unlogged_before o old views log decided world k inside v is v u (or_from (is_logged v u) (is_redone v u) (unrecorded v u can.new) (none_redone v u (ap is_redoing open_)))
               (λ j low' other. let fits = world.each_lane j low' in false_from_ne_true (is_in_log (views j) u) (λ logged. other (one_writer o old j k u world.sound
               (writes_under o old j (views j) u fits.locks (in_log_written (settled o log decided) (views j) (records_generation (views j).log.phase (views j)) u fits.log fits.entries

@@ -1,15 +1,14 @@
 -- A store of a word whose record is drained, under a lock held for writing.
-use Rattle.std.proofs.Common.{◌≡◌, ◌≢◌, ℕ, ◌+◌, ◌*◌, ◌/◌, ◌<◌, ◌≤◌, ◌⊎◌, inr, Bool, true, false, not, IsTrue, List, [], ◌∷◌, ◌++◌, length, slice_index, refl, sym, ap, ◌∙◌, subst, arith, ne_eqb}
+use Rattle.std.proofs.Common.{◌≡◌, ◌≢◌, ℕ, ◌+◌, ◌*◌, ◌/◌, ◌<◌, ◌≤◌, ◌⊎◌, inl, inr, Bool, true, false, not, List, [], ◌∷◌, ◌++◌, length, slice_index, refl, sym, ap, ◌∙◌, subst, arith, ne_eqb}
 use Rattle.std.specs.List.{list_any}
 use Rattle.std.proofs.lemmas.Bool.{not-true, not_from_false, or_from, or_parts, false≢true}
 use Rattle.std.proofs.lemmas.List.Elements.{All-push, All-weaker}
 use Rattle.std.proofs.lemmas.List.Folds.{list_any-append}
 use Rattle.pm_view.specs.declared.change.Change.{Change}
-use Rattle.pm_view.specs.Area.{area_word, is_in_area}
+use Rattle.pm_view.specs.Area.{area_word}
 use Rattle.pm_view.specs.Changes.{store_change, is_in_line}
 use Rattle.pm_view.specs.Counts.{MayCount, HasRoom}
 use Rattle.pm_view.specs.Log.Phase.{Open}
-use Rattle.pm_view.specs.Rights.{is_written}
 use Rattle.pm_view.specs.View.{View}
 use Rattle.pm_view.specs.Views.{changed}
 use Rattle.pm_image.specs.Logs.{slot_line}
@@ -26,7 +25,7 @@ use Rattle.pm_world.specs.World.{Views, World}
 use Rattle.pm_world.proofs.Exclusion.{writes_under}
 use Rattle.pm_world.proofs.Pairs.{entries_again, in_log_before, none_redone}
 use Rattle.pm_world.proofs.Recoursed.{logged_upto, open_again, used_again}
-use Rattle.pm_world.proofs.Stored.{other_word, log_beside, stored_fits, stored_world}
+use Rattle.pm_world.proofs.Stored.{IsOwnWord, reserved_still, other_word, log_beside, stored_fits, stored_world}
 use Rattle.pm_world.proofs.Worlds.{own}
 
 -- one more change, of a word of another line, leaves a slot drained
@@ -44,7 +43,7 @@ module _ (o : Opening) (old : Memory) (views : Views) (log : List Entry) (decide
       let at_lane = mine.lane.lane in
       let under = writes_under o old k v w mine.locks writes.own in
       let behind = world.sound.behind_areas under.0 w under.1 in
-      let right : IsTrue (is_in_area v.lane w) ⊎ IsTrue (is_written v w) = inr writes.own in
+      let right : IsOwnWord v w = inr (inl writes.own) in
       let most = mine.log.most in
       let logged : (u : ℕ) → is_logged v u ≡ true → is_logged v' u ≡ true = λ u. logged_upto v v' 0 v.log.records
       (λ s low. drained_more v.lane s v.changes (store_change w (slice_index v.words w) x) (λ same. absurd (omega arith))) u in
@@ -67,8 +66,8 @@ module _ (o : Opening) (old : Memory) (views : Views) (log : List Entry) (decide
         pair_stands = λ i low. let short = fits.short_pair in let few = mine.entries.most in
             others (entry_word v.lane (length v.log.entries) + i) (λ same. absurd (omega arith)) ∙ fits.pair_stands i low;
         changes = All-push (OpenChange v') v.changes (store_change w (slice_index v.words w) x)
-            (All-weaker (OpenChange v) (OpenChange v') (λ c of. open_again v v' c refl logged of) v.changes fits.changes)
-            (record { whole = refl; of = inr (inr (logged w writes.logged)) });
+            (All-weaker (OpenChange v) (OpenChange v') (λ c of. open_again v v' c refl logged (reserved_still o old views log decided world k inside v is new w x moves in_pool right may room v.log c.word) of) v.changes fits.changes)
+            (record { whole = refl; of = inr (inr (inl (logged w writes.logged))) });
       }))
       (subst (λ g. 1 ≤ g) (sym generation) mine.first_generation) (subst (λ g. g ≤ generation_limit) (sym generation) mine.last_generation))
       (λ n flying. flying)

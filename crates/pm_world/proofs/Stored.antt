@@ -1,12 +1,12 @@
--- What every store of a lane owes and keeps, at a word of its area or under a lock that it holds for writing.
-use Rattle.std.proofs.Common.{◌≡◌, ◌≢◌, ℕ, ◌+◌, ◌-◌, ◌*◌, ◌<◌, ◌≤◌, ◌⊎◌, inl, inr, ⊎_elim, Bool, true, false, IsTrue, is_some, ◌&&◌, ◌||◌, Contains, List, [], ◌∷◌, length, take, drop, set, slice_get, slice_index, slice_range, Some, refl, sym, ap, ◌∙◌, subst, arith, length-set, length-append, get_or-set_same, get_or-set_other, zero, suc}
-use Rattle.std.proofs.lemmas.Bool.{cases_eq, and_parts, or_cases, or_left, or_right}
+-- What every store of a lane owes and keeps, at a word of its area, under a lock that it holds for writing, or in a block that it reserved.
+use Rattle.std.proofs.Common.{◌≡◌, ◌≢◌, ℕ, ◌+◌, ◌-◌, ◌*◌, ◌/◌, ◌<◌, ◌≤◌, ◌⊎◌, inl, inr, ⊎_elim, Bool, true, false, IsTrue, is_some, ◌&&◌, ◌||◌, Contains, List, [], ◌∷◌, length, take, drop, set, slice_get, slice_index, slice_range, Some, refl, sym, ap, ◌∙◌, subst, arith, length-set, length-append, get_or-set_same, get_or-set_other, zero, suc}
+use Rattle.std.proofs.lemmas.Bool.{cases_eq, and_parts, false≢true, or_cases, or_left, or_right}
 use Rattle.std.proofs.lemmas.List.{drop-set-lt, drop-set-add, take-set-le}
 use Rattle.std.proofs.lemmas.List.Elements.{All-weaker}
 use Rattle.std.specs.List.{list_any}
 use Rattle.std.specs.Int.{bit_at}
 use Rattle.pm_view.specs.Area.{area_word, is_in_area}
-use Rattle.pm_view.specs.Blocks.{descriptor_word}
+use Rattle.pm_view.specs.Blocks.{descriptor_word, is_chunk}
 use Rattle.pm_view.specs.Changes.{store_change}
 use Rattle.pm_view.specs.Counts.{MayCount, HasRoom, IsAtStop}
 use Rattle.pm_view.specs.Held.{is_held, is_under, is_reserved}
@@ -17,7 +17,6 @@ use Rattle.pm_view.specs.Rights.{is_written}
 use Rattle.pm_view.specs.View.{View, Lock}
 use Rattle.pm_view.specs.Views.{changed}
 use Rattle.pm_image.specs.Logs.{undo_slot, slot_line}
-use Rattle.pm_image.specs.Reads.{IsHeapWord}
 use Rattle.pm_world.specs.Course.{flight}
 use Rattle.pm_world.specs.Entries.{HasNone, is_in_log, is_redone, seal_in}
 use Rattle.pm_world.specs.Fits.{EntriesFit, LaneFits, LockFits, LogFits, RedoneWord, PhaseFits, ShowsHold}
@@ -26,12 +25,14 @@ use Rattle.pm_world.specs.Laws.{with_view}
 use Rattle.pm_world.specs.Lawful.{generation_limit}
 use Rattle.pm_world.specs.Memory.{Memory, Becomes}
 use Rattle.pm_world.specs.Memory.Location.{PoolWord, LockWord, CommitCounter, StopWord}
-use Rattle.pm_world.specs.Opening.{Opening, IsChunk}
+use Rattle.pm_world.specs.Opening.{IsLivingWord, Opening, IsChunk}
 use Rattle.pm_world.specs.Records.{IsRecordAt, generation_of, records_generation, used_slots}
 use Rattle.pm_world.specs.World.{Views, World}
 use Rattle.pm_world.proofs.Apart.{area_bounds, IsOwn, area_apart, held_apart, written_apart}
+use Rattle.pm_world.proofs.Aside.{IsAside, aside_area, aside_held, aside_written, reserved_aside}
 use Rattle.pm_world.proofs.Exclusion.{WritesUnder, writes_under}
 use Rattle.pm_world.proofs.Frame.{lane_kept, in_phase}
+use Rattle.pm_world.proofs.Living.{descriptor_page}
 use Rattle.pm_world.proofs.Locations.{plain_pool, other_pool, lock-pool, counter-pool, stop-pool}
 use Rattle.pm_world.proofs.Pairs.{entries_sealed}
 use Rattle.pm_world.proofs.Heaps.{beside_same}
@@ -58,14 +59,34 @@ written_under (l ∷ locks) w e =
     (λ (later : list_any (λ (m : Lock). m.write && is_some m.block && is_under w m) locks ≡ true). or_right (is_under w l) (list_any (is_under w) locks) (written_under locks w later))
     (or_cases (l.write && is_some l.block && is_under w l) (list_any (λ (m : Lock). m.write && is_some m.block && is_under w m) locks) e)
 
+-- the lane may change the word
+abbrev pub IsOwnWord : View → ℕ → Type 0
+IsOwnWord v w = IsTrue (is_in_area v.lane w) ⊎ (IsTrue (is_written v w) ⊎ IsTrue (is_reserved v w))
+
 module _ (o : Opening) (old : Memory) (views : Views) (log : List Entry) (decided : ℕ → Bool) (world : World o old views log decided) (k : ℕ) (inside : k < o.lanes) (v : View) (is : views k ≡ v)
-    (new : Memory) (w x : ℕ) (moves : Becomes (PoolWord w) x old new) (in_pool : w < length v.words) (right : IsTrue (is_in_area v.lane w) ⊎ IsTrue (is_written v w)) (may : MayCount v) (room : HasRoom v.changes) where
+    (new : Memory) (w x : ℕ) (moves : Becomes (PoolWord w) x old new) (in_pool : w < length v.words) (right : IsOwnWord v w) (may : MayCount v) (room : HasRoom v.changes) where
   mine : LaneFits o old (settled o log decided) (Flies log decided k) k v
   mine = own o old views log decided world k inside v is
 
-  pub owned : IsOwn o old k w
-  owned = ⊎_elim (λ (area : IsTrue (is_in_area v.lane w)). inl (ap (λ n. is_in_area n w) (sym mine.lane.lane) ∙ area))
-      (λ (written : IsTrue (is_written v w)). inr (writes_under o old k v w mine.locks written)) right
+  owned : IsOwn o old k w ⊎ IsAside o views k w
+  owned = ⊎_elim (λ (area : IsTrue (is_in_area v.lane w)). inl (inl (ap (λ n. is_in_area n w) (sym mine.lane.lane) ∙ area)))
+      (λ (behind : IsTrue (is_written v w) ⊎ IsTrue (is_reserved v w)). ⊎_elim (λ (written : IsTrue (is_written v w)). inl (inr (writes_under o old k v w mine.locks written)))
+      (λ (reserved : is_reserved v w ≡ true). inr (reserved_aside o old views log decided world k w inside (ap (λ u. is_reserved u w) is ∙ reserved))) behind) right
+
+  module _ (j : ℕ) (low : j < o.lanes) (other : j ≢ k) where
+    fits_of : LaneFits o old (settled o log decided) (Flies log decided j) j (views j)
+    fits_of = world.each_lane j low
+
+    no_area : IsTrue (is_in_area j w) → ⊥
+    no_area there = ⊎_elim (λ (own_word : IsOwn o old k w). area_apart o old j k w world.sound low inside other own_word there) (λ (aside : IsAside o views k w). aside_area o views k w world.sound aside j low there) owned
+
+    no_held : IsTrue (is_held (views j) w) → ⊥
+    no_held there = ⊎_elim (λ (own_word : IsOwn o old k w). held_apart o old (settled o log decided) (Flies log decided j) j k w (views j) world.sound low inside other own_word fits_of there)
+        (λ (aside : IsAside o views k w). aside_held o views k w world.sound aside old (settled o log decided) (Flies log decided j) j low other fits_of there) owned
+
+    no_written : IsTrue (is_written (views j) w) → ⊥
+    no_written there = ⊎_elim (λ (own_word : IsOwn o old k w). written_apart o old j k w (views j) world.sound inside other own_word fits_of.locks there)
+        (λ (aside : IsAside o views k w). aside_written o views k w world.sound aside old j (views j) fits_of.locks there) owned
 
   abbrev pub stored_view : Log → View
   stored_view lg = changed v w x (store_change w (slice_index v.words w) x) lg
@@ -75,9 +96,9 @@ module _ (o : Opening) (old : Memory) (views : Views) (log : List Entry) (decide
       let fits = world.each_lane j low in
       let same : (u : ℕ) → u ≢ w → new (PoolWord u) ≡ old (PoolWord u) = λ u differ. moves.0 (PoolWord u) (other_pool u w differ) in
       lane_kept o old new (settled o log decided) (settled o log decided) (Flies log decided j) (Flies log decided j) j (views j)
-      (λ u in_area. same u (λ this. area_apart o old j k w world.sound low inside other owned (ap (λ n. is_in_area n w) (sym fits.lane.lane) ∙ subst (λ z. IsTrue (is_in_area (views j).lane z)) this in_area)))
-      (λ u known. same u (λ this. held_apart o old (settled o log decided) (Flies log decided j) j k w (views j) world.sound low inside other owned fits (subst (λ z. IsTrue (is_held (views j) z)) this (fits.picture.held u known))))
-      (λ u written. same u (λ this. written_apart o old j k w (views j) world.sound inside other owned fits.locks (subst (λ z. IsTrue (is_written (views j) z)) this written)))
+      (λ u in_area. same u (λ this. no_area j low other (ap (λ n. is_in_area n w) (sym fits.lane.lane) ∙ subst (λ z. IsTrue (is_in_area (views j).lane z)) this in_area)))
+      (λ u known. same u (λ this. no_held j low other (subst (λ z. IsTrue (is_held (views j) z)) this (fits.picture.held u known))))
+      (λ u written. same u (λ this. no_written j low other (subst (λ z. IsTrue (is_written (views j) z)) this written)))
       (λ line write. subst (λ word. ShowsHold j write word) (sym (moves.0 (LockWord line) (lock-pool line w)))) (λ u written. refl) (λ n flies. flies) fits
 
   -- a word of the view, and of the memory
@@ -101,13 +122,21 @@ module _ (o : Opening) (old : Memory) (views : Views) (log : List Entry) (decide
   -- the stored word describes no chunk
   pub no_descriptor : (page : ℕ) → IsChunk o.lanes page → descriptor_word o.lanes page ≢ w
   no_descriptor page chunk same =
-      ⊎_elim (λ (area : IsTrue (is_in_area k w)). let a = (area_bounds k w area).1 in let one = chunk.1 in absurd (omega arith))
-      (λ (t : WritesUnder o old k w). world.sound.apart t.0 w t.1 (page, (chunk, inl (sym same)))) owned
+      ⊎_elim (λ (own_word : IsOwn o old k w). ⊎_elim (λ (area : IsTrue (is_in_area k w)). let a = (area_bounds k w area).1 in let one = chunk.1 in absurd (omega arith))
+      (λ (t : WritesUnder o old k w). world.sound.apart t.0 w t.1 (page, (chunk, inl (sym same)))) own_word)
+      (λ (aside : IsAside o views k w). false≢true (sym (descriptor_page o.lanes page chunk) ∙ (ap (λ u. is_chunk o.lanes (u / 512)) same ∙ (and_parts (is_chunk o.lanes (w / 512)) _ (and_parts _ _ aside.apart.idle).0).0))) owned
 
-  own_held : (is_in_area v.lane w || list_any (is_under w) v.locks) ≡ true
-  own_held =
-      (⊎_elim (λ (area : is_in_area v.lane w ≡ true). or_left (is_in_area v.lane w) (list_any (is_under w) v.locks) area)
-      (λ (written : is_written v w ≡ true). or_right (is_in_area v.lane w) (list_any (is_under w) v.locks) (written_under v.locks w written)) right)
+  -- what the lane reserved it has reserved still
+  pub reserved_still : (lg : Log) (u : ℕ) → is_reserved v u ≡ true → is_reserved (stored_view lg) u ≡ true
+  reserved_still lg u = reserved_again (slice_index o.words) o.lanes o.zones v (stored_view lg) u mine.lane.lanes refl refl mine.blocks (λ page chunk. other_word (descriptor_word o.lanes page) (no_descriptor page chunk))
+
+  own_held : (lg : Log) → is_held (stored_view lg) w ≡ true
+  own_held lg =
+      let core : Bool = is_in_area v.lane w || list_any (is_under w) v.locks in
+      ⊎_elim (λ (area : is_in_area v.lane w ≡ true). or_left core (is_reserved (stored_view lg) w) (or_left (is_in_area v.lane w) (list_any (is_under w) v.locks) area))
+      (λ (behind : IsTrue (is_written v w) ⊎ IsTrue (is_reserved v w)).
+      ⊎_elim (λ (written : is_written v w ≡ true). or_left core (is_reserved (stored_view lg) w) (or_right (is_in_area v.lane w) (list_any (is_under w) v.locks) (written_under v.locks w written)))
+      (λ (reserved : is_reserved v w ≡ true). or_right core (is_reserved (stored_view lg) w) (reserved_still lg w reserved)) behind) right
 
   -- the lane's own facts after the store, from those of its log
   pub stored_fits : (lg : Log) → LogFits (settled o log decided) (stored_view lg) (records_generation lg.phase (stored_view lg)) → EntriesFit (stored_view lg)
@@ -120,9 +149,9 @@ module _ (o : Opening) (old : Memory) (views : Views) (log : List Entry) (decide
       area = λ u in_area. word_now u (λ differ. mine.picture.area u in_area);
       known = λ u known. word_now u (λ differ. mine.picture.known u (known_before u differ known));
       held = λ u known. ⊎_elim
-          (λ (this : u ≡ w). or_left (is_in_area v.lane u || list_any (is_under u) v.locks) (is_reserved (stored_view lg) u) (subst (λ z. (is_in_area v.lane z || list_any (is_under z) v.locks) ≡ true) (sym this) own_held))
+          (λ (this : u ≡ w). subst (λ z. is_held (stored_view lg) z ≡ true) (sym this) (own_held lg))
           (λ (differ : u ≢ w). held_by_parts (is_in_area v.lane u || list_any (is_under u) v.locks) (is_in_area v.lane u || list_any (is_under u) v.locks) (is_reserved v u) (is_reserved (stored_view lg) u) (λ core. core)
-          (reserved_again (slice_index o.words) o.lanes o.zones v (stored_view lg) u mine.lane.lanes refl refl mine.blocks (λ page chunk. other_word (descriptor_word o.lanes page) (no_descriptor page chunk)))
+          (reserved_still lg u)
           (mine.picture.held u (known_before u differ known))) (cases_eq u w);
       descriptors = λ page chunk. other_word (descriptor_word o.lanes page) (no_descriptor page chunk) ∙ mine.picture.descriptors page chunk;
     };
@@ -141,7 +170,7 @@ module _ (o : Opening) (old : Memory) (views : Views) (log : List Entry) (decide
   -- the world after it
   pub stored_world : (lg : Log) → LaneFits o new (settled o log decided) (Flies log decided k) k (stored_view lg)
       → ((n : ℕ) → flight v ≡ Some n → flight (stored_view lg) ≡ Some n)
-      → ((u : ℕ) → IsHeapWord o.lanes o.zones u → is_in_log (stored_view lg) u ≡ false → (u ≢ w) × (is_in_log v u ≡ false))
+      → ((u : ℕ) → IsLivingWord o u → is_in_log (stored_view lg) u ≡ false → (u ≢ w) × (is_in_log v u ≡ false))
       → World o new (with_view views k (stored_view lg)) log decided
   stored_world lg fits flies words =
       let v' : View = stored_view lg in

@@ -1,11 +1,14 @@
 -- What is left of a lane's blocks once some bits of an occupancy word are given back; and single bits of words that were joined or cleared.
-use Rattle.std.proofs.Common.{◌≡◌, ◌≢◌, ◌⊎◌, inl, inr, ⊎_elim, ℕ, ◌^◌, ◌<◌, ◌≤◌, Bool, true, false, not, cond, eqb, bit_and, bit_or, All, List, [], ◌∷◌, map, sym, ap, ◌∙◌, subst, arith, eq-eqb}
+use Rattle.std.proofs.Common.{◌≡◌, ◌≢◌, ◌⊎◌, inl, inr, ⊎_elim, lt_of_le_of_lt, ℕ, ◌-◌, ◌/◌, ◌%◌, ◌^◌, ◌<◌, ◌≤◌, ◌&&◌, leb, Bool, true, false, not, cond, eqb, bit_and, bit_or, All, List, [], ◌∷◌, map, slice_index, sym, ap, ◌∙◌, subst, arith, eq-eqb}
+use Rattle.std.proofs.Math.Nat.{div-le_self}
 use Rattle.std.specs.Int.{bit_at, bit_not, w64}
 use Rattle.std.specs.List.{filter, list_any}
 use Rattle.std.proofs.lemmas.Bool.{and_parts, and_from, cases_Bool, cases_lt, cond-true, cond-false, eqb-true, eqb-false, false≢true, ne_eqb, not_from_false, or_cases, or_left, or_right}
 use Rattle.std.proofs.lemmas.List.Elements.{All-cons, All-head, All-tail}
 use Rattle.std.proofs.lemmas.Nat.Bits.{bit_at-lt, bit_at-zero, bit_at_above, bit_at_and, bit_at_not, bit_at_or}
 use Rattle.pm_view.specs.declared.occ.Occ.{Occ}
+use Rattle.pm_view.specs.declared.occ.Occ.TheVariants.{Run, Zone}
+use Rattle.pm_view.specs.Blocks.{zone_page, zone_of, chunk_of, descriptor_word, covers}
 use Rattle.pm_view.specs.View.{Taken}
 use Rattle.pm_view.specs.Views.{is_same_occ, without_taken}
 use Rattle.pm_world.specs.Heap.{has_bit}
@@ -84,6 +87,32 @@ all_kept P q f each (x ∷ xs) all =
     (λ (drops : q (f x) ≡ false). subst (All P) (sym (cond-false (q (f x)) (f x ∷ filter q (map f xs)) (filter q (map f xs)) drops)) rest)
     (cases_Bool (q (f x)))
 
+-- which bit of the occupancy word a word's block or chunk has
+abbrev index_of : ℕ → List ℕ → ℕ → Occ → ℕ
+index_of lanes words w (Run place) = (w % 512 / 8 - 1) / (slice_index words (descriptor_word lanes (place / 4096)) / 256)
+index_of lanes words w (Zone zone) = chunk_of lanes (w / 512) - 1
+
+index_low : (lanes : ℕ) (words : List ℕ) (w : ℕ) (at : Occ) → index_of lanes words w at < 64
+index_low lanes words w (Run place) =
+    let lines : ℕ = slice_index words (descriptor_word lanes (place / 4096)) / 256 in
+    let line : ℕ = w % 512 / 8 - 1 in
+    let most : line / lines ≤ line = div-le_self line lines in
+    let few : line < 64 = omega arith in
+    lt_of_le_of_lt most few
+index_low lanes words w (Zone zone) = omega arith
+
+-- a word is covered by these bits, and by others that have its bit
+covered_bit : (lanes : ℕ) (words : List ℕ) (w : ℕ) (at : Occ) (bits : ℕ) → covers lanes words at bits w ≡ true → bit_at bits (index_of lanes words w at) ≡ 1
+covered_bit lanes words w (Run place) bits e = eqb-true (bit_at bits (index_of lanes words w (Run place))) 1 (and_parts (eqb (w / 512) (place / 4096) && leb 8 (w % 512)) _ e).1
+covered_bit lanes words w (Zone zone) bits e = eqb-true (bit_at bits (index_of lanes words w (Zone zone))) 1 (and_parts (leb (zone_page lanes zone) (w / 512) && eqb (zone_of lanes (w / 512)) zone && leb 1 (chunk_of lanes (w / 512))) _ e).1
+
+covered_by : (lanes : ℕ) (words : List ℕ) (w : ℕ) (at : Occ) (bits others : ℕ) → covers lanes words at bits w ≡ true → bit_at others (index_of lanes words w at) ≡ 1 → covers lanes words at others w ≡ true
+covered_by lanes words w (Run place) bits others e set =
+    let t = and_parts (eqb (w / 512) (place / 4096) && leb 8 (w % 512)) _ e in and_from (eqb (w / 512) (place / 4096) && leb 8 (w % 512)) _ t.0 (eq-eqb (bit_at others (index_of lanes words w (Run place))) 1 set)
+covered_by lanes words w (Zone zone) bits others e set =
+    let t = and_parts (leb (zone_page lanes zone) (w / 512) && eqb (zone_of lanes (w / 512)) zone && leb 1 (chunk_of lanes (w / 512))) _ e in
+    and_from (leb (zone_page lanes zone) (w / 512) && eqb (zone_of lanes (w / 512)) zone && leb 1 (chunk_of lanes (w / 512))) _ t.0 (eq-eqb (bit_at others (index_of lanes words w (Zone zone))) 1 set)
+
 module _ (at : Occ) (bits : ℕ) (small : bits < 2 ^ 64) where
   cleared : Taken → Taken
   cleared t = record t { bits = bit_and t.bits (bit_not w64 bits) }
@@ -143,6 +172,19 @@ module _ (at : Occ) (bits : ℕ) (small : bits < 2 ^ 64) where
       (λ (s : (is_same_occ at t.at ≡ true) × (given t ≡ cleared t)). let parts = has_parts at bit (cleared t) (ap (has_bit at bit) (sym s.1) ∙ has) in not_both bits bit small low (and_bits t.bits (bit_not w64 bits) bit parts.1).1 set)
       (λ (s : (is_same_occ at t.at ≡ false) × (given t ≡ t)). let parts = has_parts at bit t (ap (has_bit at bit) (sym s.1) ∙ has) in false≢true (sym s.0 ∙ parts.0)) (given_so t))
       blocks (ap (list_any (has_bit at bit)) (sym (left_is blocks)) ∙ e)
+
+  -- a word of the blocks that is none of these bits' is of a block that is left
+  pub covered_still : (lanes : ℕ) (words : List ℕ) (w : ℕ) (blocks : List Taken) → covers lanes words at bits w ≡ false → list_any (λ (t : Taken). covers lanes words t.at t.bits w) blocks ≡ true
+      → list_any (λ (t : Taken). covers lanes words t.at t.bits w) (without_taken at bits blocks) ≡ true
+  unfolding cleared
+  covered_still lanes words w blocks apart e = ap (list_any (λ (t : Taken). covers lanes words t.at t.bits w)) (left_is blocks) ∙ kept_after (λ (t : Taken). covers lanes words t.at t.bits w) left given
+      (λ t covered. let set = covered_bit lanes words w t.at t.bits covered in ⊎_elim
+      (λ (s : (is_same_occ at t.at ≡ true) × (given t ≡ cleared t)).
+      let off : bit_at bits (index_of lanes words w t.at) ≢ 1 = λ one. false≢true (sym apart ∙ subst (λ x. covers lanes words x bits w ≡ true) (sym (occ_same at t.at s.0)) (covered_by lanes words w t.at t.bits bits covered one)) in
+      let kept : bit_at (bit_and t.bits (bit_not w64 bits)) (index_of lanes words w t.at) ≡ 1 = and_bit t.bits (bit_not w64 bits) (index_of lanes words w t.at) set (not_bit bits (index_of lanes words w t.at) small (index_low lanes words w t.at) off) in
+      (ap (λ (u : Taken). covers lanes words u.at u.bits w) s.1 ∙ covered_by lanes words w t.at t.bits (bit_and t.bits (bit_not w64 bits)) covered kept, ap left s.1 ∙ some_left (cleared t) (index_of lanes words w t.at) kept))
+      (λ (s : (is_same_occ at t.at ≡ false) × (given t ≡ t)). (ap (λ (u : Taken). covers lanes words u.at u.bits w) s.1 ∙ covered, ap left s.1 ∙ some_left t (index_of lanes words w t.at) set)) (given_so t))
+      blocks e
 
   -- each block left is of the occupancy word that it was of
   pub vacated_all : (P : Occ → Type 0) (blocks : List Taken) → All (λ (t : Taken). P t.at) blocks → All (λ (t : Taken). P t.at) (without_taken at bits blocks)

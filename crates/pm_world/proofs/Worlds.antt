@@ -5,7 +5,6 @@ use Rattle.std.proofs.lemmas.Bool.{cases_eq}
 use Rattle.pm_view.specs.Counts.{IsAtStop}
 use Rattle.pm_view.specs.Log.{Final}
 use Rattle.pm_view.specs.View.{View, Lock}
-use Rattle.pm_image.specs.Reads.{IsHeapWord}
 use Rattle.pm_world.specs.Course.{flight}
 use Rattle.pm_world.specs.Entries.{is_in_log}
 use Rattle.pm_world.specs.Fits.{LaneFits, ShowsHold}
@@ -15,7 +14,7 @@ use Rattle.pm_world.specs.Laws.{with_view}
 use Rattle.pm_world.specs.Lawful.{generation_limit}
 use Rattle.pm_world.specs.Memory.{Memory, IsSame}
 use Rattle.pm_world.specs.Memory.Location.{PoolWord, LockWord, CommitCounter, StopWord}
-use Rattle.pm_world.specs.Opening.{Opening}
+use Rattle.pm_world.specs.Opening.{IsLivingWord, Opening}
 use Rattle.pm_world.specs.World.{Views, World, EntryFits, IsHold, hold_bit, may_draw, may_draw_count}
 use Rattle.pm_world.proofs.Draws.{draws_no_more}
 use Rattle.pm_world.proofs.Heaps.{HasSame, IsHeapSame, heap_still}
@@ -87,7 +86,7 @@ module _ (o : Opening) (old : Memory) (views : Views) (log : List Entry) (decide
     pub quiet : (new : Memory)
         → ((j : ℕ) → j < o.lanes → j ≢ k → LaneFits o new (settled o log decided) (Flies log decided j) j (views j))
         → LaneFits o new (settled o log decided) (Flies log decided k) k v'
-        → ((w : ℕ) → IsHeapWord o.lanes o.zones w → is_in_log v' w ≡ false → ((j : ℕ) → j < o.lanes → j ≢ k → is_in_log (views j) w ≡ false) → new (PoolWord w) ≡ settled o log decided w)
+        → ((w : ℕ) → IsLivingWord o w → is_in_log v' w ≡ false → ((j : ℕ) → j < o.lanes → j ≢ k → is_in_log (views j) w ≡ false) → new (PoolWord w) ≡ settled o log decided w)
         → ((line bit : ℕ) → bit_at (new (LockWord line)) bit ≡ 1 → IsHold (with_view views k v') o.lanes line bit)
         → ((n : ℕ) → flight v ≡ Some n → flight v' ≡ Some n)
         → new CommitCounter ≡ old CommitCounter

@@ -7,7 +7,6 @@ use Rattle.pm_view.specs.Log.{Phase, Recorded}
 use Rattle.pm_view.specs.Log.Phase.{Idle, Drawn, Sealing, Retiring}
 use Rattle.pm_view.specs.View.{View}
 use Rattle.pm_image.specs.Logs.{undo_slot, generation_word, recovered, seal_word}
-use Rattle.pm_image.specs.Reads.{IsHeapWord}
 use Rattle.pm_image.specs.Steps.{valid_record}
 use Rattle.pm_view.specs.Survivors.{all_taken_back}
 use Rattle.pm_world.specs.Course.{is_number}
@@ -15,7 +14,7 @@ use Rattle.pm_world.specs.History.{Entry, replayed}
 use Rattle.pm_world.specs.Lawful.{CanRecord}
 use Rattle.pm_world.specs.Memory.{Memory}
 use Rattle.pm_world.specs.Memory.Location.{PoolWord}
-use Rattle.pm_world.specs.Opening.{Opening}
+use Rattle.pm_world.specs.Opening.{IsLivingWord, Opening}
 use Rattle.pm_world.specs.Records.{IsRecordAt, generation_of, is_drained_slot, spelled, records_generation, used_slots}
 use Rattle.pm_world.specs.World.{Views}
 
@@ -73,6 +72,6 @@ is_kept o views image n = not (is_lost o views image n)
 abbrev pub IsAcknowledged : Views → Entry → Type 0
 IsAcknowledged views e = ((views e.lane).log.phase ≡ Idle) ⊎ ((views e.lane).number ≢ Some e.number)
 
--- at each word of the root and the zones the image has for recovered word what the entries that are not lost make of the opening's
+-- at each word that the meaning may read the image has for recovered word what the entries that are not lost make of the opening's
 abbrev pub MeansKept : Opening → Views → List Entry → List ℕ → Type 0
-MeansKept o views log image = (w : ℕ) → IsHeapWord o.lanes o.zones w → recovered image o.lanes w ≡ replayed (is_kept o views image) log w (slice_index o.words w)
+MeansKept o views log image = (w : ℕ) → IsLivingWord o w → recovered image o.lanes w ≡ replayed (is_kept o views image) log w (slice_index o.words w)

@@ -10,7 +10,7 @@ use Rattle.pm_view.specs.Area.Part.{EntryWord, SlotWord}
 use Rattle.pm_view.specs.Bits.{all_bits}
 use Rattle.pm_view.specs.Blocks.{block_at, descriptor_word}
 use Rattle.pm_view.specs.Counts.{max_changes}
-use Rattle.pm_view.specs.Held.{is_held}
+use Rattle.pm_view.specs.Held.{is_held, is_reserved}
 use Rattle.pm_view.specs.Log.{Phase, Recorded, Final}
 use Rattle.pm_view.specs.Log.Phase.{Idle, Open, Drawn, Sealing, Applying, Clearing, Retiring}
 use Rattle.pm_view.specs.Rights.{is_written}
@@ -88,10 +88,11 @@ pub record IdleFits (v : View) : Type 0 where
   pub no_records : v.log.records ≡ []
   pub drained : v.changes ≡ []
 
--- an undrained change while the log may grow: a store of a slot's or a pair's word, or of a word that the log would restore
+-- an undrained change while the log may grow: a store of a slot's or a pair's word, of a word that the log would restore, or in a block that the
+-- lane reserved
 pub record OpenChange (v : View) (c : Change) : Type 0 where
   pub whole : c.mask ≡ all_bits
-  pub of : (part_of v.lane c.word ≡ SlotWord) ⊎ ((part_of v.lane c.word ≡ EntryWord) ⊎ IsTrue (is_logged v c.word))
+  pub of : (part_of v.lane c.word ≡ SlotWord) ⊎ ((part_of v.lane c.word ≡ EntryWord) ⊎ (IsTrue (is_logged v c.word) ⊎ IsTrue (is_reserved v c.word)))
 
 -- the log may grow: these words of the next record stand in their slot, and these of the next entry in its pair
 pub record OpenFits (v : View) (slot pair : List ℕ) : Type 0 where

@@ -1,5 +1,5 @@
 -- Which steps a lane may make, by its own view alone, whatever a load or a lock answers. A step that no line allows comes with its stage:
--- ORs, ANDs and raises, and stores in blocks that the lane reserved.
+-- ORs, ANDs and raises.
 use Rattle.std.specs.Prelude.{◌≡◌, ◌⊎◌, ℕ, ◌+◌, ◌-◌, ◌*◌, ◌/◌, ◌^◌, ◌<◌, ◌≤◌, ◌==◌, Bool, true, false, IsTrue, All, Any, Contains, List, [], ◌∷◌, ◌++◌, length, take, slice_index, None}
 use Rattle.std.specs.Int.{bit_at}
 use Rattle.std.specs.List.{list_any}
@@ -9,9 +9,9 @@ use Rattle.pm_view.specs.declared.occ.Occ.{Occ}
 use Rattle.pm_view.specs.declared.occ.Occ.TheVariants.{Run, Zone}
 use Rattle.pm_view.specs.Area.{Part, part_of}
 use Rattle.pm_view.specs.Area.Part.{GenerationWord, SealWord, EntryWord, SlotWord, OtherWord}
-use Rattle.pm_view.specs.Blocks.{covers}
+use Rattle.pm_view.specs.Blocks.{covers, tells_nothing}
 use Rattle.pm_view.specs.Counts.{is_counted, MayCount, IsAtStop, HasRoom, FlushesSome, DropsSome}
-use Rattle.pm_view.specs.Held.{is_under, is_known}
+use Rattle.pm_view.specs.Held.{is_under, is_known, is_reserved}
 use Rattle.pm_view.specs.Log.{Phase, Recorded, Final}
 use Rattle.pm_view.specs.Log.Phase.{Idle, Open, Drawn, Applying}
 use Rattle.pm_view.specs.Rights.{is_written}
@@ -63,6 +63,11 @@ pub record MayWrite (v : View) (w : ℕ) : Type 0 where
   pub own : IsTrue (is_written v w)
   pub logged : IsTrue (is_logged v w)
 
+-- the word may be filled: it is in a block that the lane reserved, and tells of no block
+pub record MayFill (v : View) (w : ℕ) : Type 0 where
+  pub reserved : IsTrue (is_reserved v w)
+  pub plain : IsTrue (tells_nothing v.lanes v.words w)
+
 -- x ends the generation of a call without entries: it is the next one, and nothing is undrained
 pub record EndsGeneration (v : View) (x : ℕ) : Type 0 where
   pub next : x ≡ generation_of v + 1
@@ -94,10 +99,10 @@ pub record GivesUp (v : View) (x : ℕ) (slot pair : List ℕ) : Type 0 where
   pub whole : slot ≡ []
   pub no_pair : pair ≡ []
 
--- by how far the call has come, and what the word is to the lane
+-- by how far the call has come, and what the word is to the lane: in a block that it reserved it may store what it likes
 abbrev pub StoreFits : View → ℕ → ℕ → Phase → Part → Type 0
 StoreFits v w x (Open slot pair) SlotWord = AppendsToSlot v w x slot
-StoreFits v w x (Open slot pair) OtherWord = MayWrite v w
+StoreFits v w x (Open slot pair) OtherWord = MayWrite v w ⊎ MayFill v w
 StoreFits v w x (Open slot pair) EntryWord = AppendsToPair v w x pair
 StoreFits v w x (Open slot pair) GenerationWord = GivesUp v x slot pair
 StoreFits v w x Drawn GenerationWord = EndsGeneration v x

@@ -1,8 +1,9 @@
 -- What a world began from, and which line's lock guards a word.
-use Rattle.std.specs.Prelude.{◌≡◌, ℕ, ◌+◌, ◌*◌, ◌<◌, ◌≤◌, ◌⊎◌, true, IsTrue, List, length, slice_index, Some}
+use Rattle.std.specs.Prelude.{◌≡◌, ℕ, ◌+◌, ◌*◌, ◌<◌, ◌≤◌, ◌⊎◌, true, IsTrue, false, List, length, slice_index, Some}
 use Rattle.pm_view.specs.Blocks.{block_at, zone_page, chunk_of, descriptor_word, bitmap_word, is_run}
 use Rattle.pm_view.specs.Held.{is_under_found}
-use Rattle.pm_view.specs.Occupancy.{is_in_block}
+use Rattle.pm_view.specs.Occupancy.{is_idle, is_in_block}
+use Rattle.pm_image.specs.Reads.{IsHeapWord}
 
 -- the pool's shape, and its words at the opening, after recovery
 pub record Opening : Type 0 where
@@ -23,6 +24,11 @@ IsChunk lanes page = (zone_page lanes 0 ≤ page) × (1 ≤ chunk_of lanes page)
 -- the word tells of the blocks in a chunk: it describes the chunk, or is its bitmap where the chunk is a run
 abbrev pub TellsOfBlocks : Opening → ℕ → Type 0
 TellsOfBlocks o w = (page : ℕ) × (IsChunk o.lanes page × ((w ≡ descriptor_word o.lanes page) ⊎ ((w ≡ bitmap_word page) × IsTrue (is_run (slice_index o.words (descriptor_word o.lanes page))))))
+
+-- the pool's meaning may read the word: it is of the root or the zones, and not idle by the opening's words
+pub record IsLivingWord (o : Opening) (w : ℕ) : Type 0 where
+  pub heap : IsHeapWord o.lanes o.zones w
+  pub living : is_idle (slice_index o.words) o.lanes w ≡ false
 
 -- What recovery leaves and a meaning gives: the words of a shape, whose blocks lie apart, behind the lanes' areas. The heap's stage says this
 -- of the words as they are settled, since blocks then come and go.

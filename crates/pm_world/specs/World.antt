@@ -7,7 +7,6 @@ use Rattle.pm_view.specs.Log.{Final}
 use Rattle.pm_view.specs.Steps.{Step}
 use Rattle.pm_view.specs.Steps.Step.{NumberSeen}
 use Rattle.pm_view.specs.View.{View, Lock}
-use Rattle.pm_image.specs.Reads.{IsHeapWord}
 use Rattle.pm_world.specs.Course.{flight}
 use Rattle.pm_world.specs.Fits.{LaneFits}
 use Rattle.pm_world.specs.Heap.{Heap}
@@ -15,7 +14,7 @@ use Rattle.pm_world.specs.History.{Entry, settled, AreNumbered, entries_by, Flie
 use Rattle.pm_world.specs.Lawful.{generation_limit}
 use Rattle.pm_world.specs.Memory.{Memory}
 use Rattle.pm_world.specs.Memory.Location.{PoolWord, LockWord, CommitCounter, StopWord}
-use Rattle.pm_world.specs.Opening.{Opening, Guards, IsSound}
+use Rattle.pm_world.specs.Opening.{Opening, Guards, IsLivingWord, IsSound}
 use Rattle.pm_world.specs.Entries.{is_in_log}
 
 -- the views of the lanes, by number
@@ -55,8 +54,8 @@ pub record EntryFits (o : Opening) (views : Views) (decided : ℕ → Bool) (e :
 pub record World (o : Opening) (mem : Memory) (views : Views) (log : List Entry) (decided : ℕ → Bool) : Type 0 where
   pub sound : IsSound o
   pub each_lane : (k : ℕ) → k < o.lanes → LaneFits o mem (settled o log decided) (Flies log decided k) k (views k)
-  -- a word of the root or the zones that no lane's log would restore or redo is settled
-  pub each_word : (w : ℕ) → IsHeapWord o.lanes o.zones w → ((k : ℕ) → k < o.lanes → is_in_log (views k) w ≡ false) → mem (PoolWord w) ≡ settled o log decided w
+  -- a word that the meaning may read, and that no lane's log would restore or redo, is settled
+  pub each_word : (w : ℕ) → IsLivingWord o w → ((k : ℕ) → k < o.lanes → is_in_log (views k) w ≡ false) → mem (PoolWord w) ≡ settled o log decided w
   -- a lock word has no bit but of a lane that holds the lock
   pub each_line : (line bit : ℕ) → bit_at (mem (LockWord line)) bit ≡ 1 → IsHold views o.lanes line bit
   pub each_entry : (e : Entry) → Contains log e → EntryFits o views decided e

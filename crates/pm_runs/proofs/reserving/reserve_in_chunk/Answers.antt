@@ -14,7 +14,7 @@ returns-then-descriptor-descriptor_of-clause-none g c none v there may =
     let d = c.load-descriptor.result in
     let new = g.M.LaneMem.at c.load-descriptor.new.self in
     let made = subst (λ (w : ℕ). Made (g.M.LaneMem.at c.args.mem.now) new (Load w d)) c.descriptor_at.ensures c.load-descriptor.ensures v there in
-    none_of_other v c.args.shape may c.args.chunk c.requires.inside c.args.class d made.2 (λ run. c.if-descriptor-descriptor_of.true (run ∙ sym c.descriptor_of.ensures)) new made.0
+    none_of_other v c.args.shape may c.args.chunk c.requires.inside c.args.class d made.1 made.2 (λ run. c.if-descriptor-descriptor_of.true (run ∙ sym c.descriptor_of.ensures)) new made.0
 
 pub returns-clause-got : goal.returns-clause-got
 returns-clause-got g c =
@@ -28,8 +28,8 @@ returns-clause-got g c =
     (λ block. (v : View) → old v → MaySearch v shape → HasGotOf new v shape.lanes c.args.class c.args.chunk block)
     (λ block got v there may.
     let made = subst (λ (n : ℕ). Made old mid (Load n d)) c.descriptor_at.ensures c.load-descriptor.ensures v there in
-    got_of_run v shape may c.args.chunk c.requires.inside c.args.class d made.2 (c.if-descriptor-descriptor_of.false ∙ c.descriptor_of.ensures) new block
-    (got (w v) made.0 (may_still v (w v) shape (looked_at_chunk v shape may c.args.chunk c.requires.inside c.args.class d made.2) may)))
+    got_of_run v shape may c.args.chunk c.requires.inside c.args.class d made.1 made.2 (c.if-descriptor-descriptor_of.false ∙ c.descriptor_of.ensures) new block
+    (got (w v) made.0 (may_still v (w v) shape (looked_at_chunk v shape may c.args.chunk c.requires.inside c.args.class d made.1 made.2) may)))
     c.reserve_in_run.result c.reserve_in_run.ensures.got
 
 pub returns-clause-none : goal.returns-clause-none
@@ -41,5 +41,5 @@ returns-clause-none g c none v there may =
     let new = g.M.LaneMem.at c.reserve_in_run.new.mem in
     let w = after v (Load (descriptor_at shape.lanes c.args.chunk) d) in
     let made = subst (λ (n : ℕ). Made old mid (Load n d)) c.descriptor_at.ensures c.load-descriptor.ensures v there in
-    none_of_run v shape may c.args.chunk c.requires.inside c.args.class d made.2 new
-    (c.reserve_in_run.ensures.none none w made.0 (may_still v w shape (looked_at_chunk v shape may c.args.chunk c.requires.inside c.args.class d made.2) may))
+    none_of_run v shape may c.args.chunk c.requires.inside c.args.class d made.1 made.2 new
+    (c.reserve_in_run.ensures.none none w made.0 (may_still v w shape (looked_at_chunk v shape may c.args.chunk c.requires.inside c.args.class d made.1 made.2) may))

@@ -1,0 +1,37 @@
+-- Words that no meaning reads: those of blocks and chunks that are free. `w` and `v` give recovered words by their number; chunks are counted in one
+-- row over all zones.
+use Rattle.std.specs.Prelude.{◌≡◌, ◌⊎◌, ℕ, ◌+◌, ◌*◌, ◌/◌, ◌<◌, ◌≤◌, false, true, List, slice_index}
+use Rattle.std.specs.Int.{bit_at}
+use Rattle.pm_layout.specs.Sizes.{blocks_of}
+use Rattle.pm_image.specs.Blocks.{chunk_word, descriptor_word}
+use Rattle.pm_view.specs.declared.occ.Occ.{Occ}
+use Rattle.pm_view.specs.declared.occ.Occ.TheVariants.{Run}
+use Rattle.pm_view.specs.Blocks.{covers, descriptor_word as lane_descriptor}
+use Rattle.pm_view.specs.Occupancy.{is_taken}
+use Rattle.pm_world.specs.Heap.{IsOcc}
+
+-- where the occupancy word is a run's, a lane's list of words has the run's descriptor, which tells the lines of a block
+abbrev pub HasDescriptor : List ℕ → (ℕ → ℕ) → ℕ → Occ → Type 0
+HasDescriptor words w lanes at = (place : ℕ) → at ≡ Run place → slice_index words (lane_descriptor lanes (place / 4096)) ≡ w (lane_descriptor lanes (place / 4096))
+
+-- the word is in one of these blocks of an occupancy word of the pool, and each of them is free; `words` are those by which a lane tells the blocks
+pub record IsFreeWord (w : ℕ → ℕ) (lanes zones i : ℕ) : Type 0 where
+  pub words : List ℕ
+  pub at : Occ
+  pub bits : ℕ
+  pub of_pool : IsOcc lanes zones at
+  pub seen : HasDescriptor words w lanes at
+  pub free : (bit : ℕ) → bit < 64 → bit_at bits bit ≡ 1 → is_taken w lanes at bit ≡ false
+  pub covered : covers lanes words at bits i ≡ true
+
+-- the word is one of the chunk's, or its descriptor
+abbrev pub IsOfChunk : ℕ → ℕ → ℕ → Type 0
+IsOfChunk lanes c i = (i ≡ descriptor_word lanes c) ⊎ ((chunk_word lanes c ≤ i) × (i < chunk_word lanes c + 512))
+
+-- The words after are those before but for this chunk, which is a run without blocks, of some class; behind its bitmap it may have anything.
+pub record MakesEmptyRun (w v : ℕ → ℕ) (lanes c : ℕ) : Type 0 where
+  pub lines : ℕ
+  pub some_blocks : 0 < blocks_of lines
+  pub is_run : v (descriptor_word lanes c) ≡ 256 * lines + 1
+  pub no_block : v (chunk_word lanes c) ≡ 0
+  pub others : (i : ℕ) → ¬ IsOfChunk lanes c i → v i ≡ w i
