@@ -43,7 +43,7 @@ demo: build
 	  build/pmempool dump build/demo-set-$$stop-$$keep.pool; \
 	done; done
 
-# Times beside `cp` of the same file, and the time of ten million stores by one lane alone.
+# Times beside `cp` of the same file, and the times of ten million stores and of ten thousand blocks reserved by one lane alone.
 bench: build
 	bench/run.sh
 

@@ -1,6 +1,7 @@
 #!/usr/bin/env bash
 # Times of the program on the least and the largest pool beside `cp` of the same file, in milliseconds: the least of five runs, and how many
-# times `cp` each takes; and the time of ten million stores by one lane alone. Run it by `make bench`; it is no part of the gate.
+# times `cp` each takes; and the times of ten million stores, and of ten thousand blocks reserved, by one lane alone. Run it by `make bench`; it is no
+# part of the gate.
 set -euo pipefail
 cd "$(dirname "$0")/.."
 program=build/pmempool
@@ -39,21 +40,29 @@ for shape in "1 1" "32 32"; do
   row "exec of one small write" "$exec" "$copy"
 done
 
-# The stores are a program of its own, outside the gate: its files end in .in, so that the gate takes them for no crate's. It is proved and built
-# in a root of its own beside copies of the crates that it uses, with the work that the checks of these crates kept.
-(cd crates/pm_memory && rt lib) > build/bench.log 2>&1
+# The other two are programs of their own, outside the gate: their files end in .in, so that the gate takes them for no crate's. They are proved and
+# built in a root of their own beside copies of the crates that they use, with the work that the checks of these crates kept.
+(cd crates/pm_runs && rt lib) > build/bench.log 2>&1
 root="$folder/root"
-mkdir -p "$root/crates/stores"
+mkdir -p "$root/crates"
 cp HANDLES "$root/"
-printf '%s\n' 'pm_layout:' 'pm_objects: pm_layout thiserror' 'pm_view: pm_objects' 'pm_memory: pm_view' 'stores: pm_memory pm_view' > "$root/crates.txt"
-for crate in pm_layout pm_objects pm_view pm_memory; do
+for crate in pm_words pm_layout pm_raw pm_header pm_record pm_objects pm_image pm_view pm_memory pm_world pm_runs; do
+  grep "^$crate:" crates.txt
   cp -a "crates/$crate" "$root/crates/"
+done > "$root/crates.txt"
+printf '%s\n' 'stores: pm_memory pm_view' 'reserve: pm_layout pm_memory pm_runs pm_view pm_world' >> "$root/crates.txt"
+(cd bench && find stores reserve -name '*.in') | while read -r file; do
+  install -D -m 644 "bench/$file" "$root/crates/${file%.in}"
 done
-(cd bench/stores && find . -name '*.in') | while read -r file; do
-  install -D -m 644 "bench/stores/$file" "$root/crates/stores/${file%.in}"
+for name in stores reserve; do
+  (cd "$root/crates/$name" && rt run) >> build/bench.log 2>&1
 done
-(cd "$root/crates/stores" && rt run) >> build/bench.log 2>&1
+
 stores=$(least "$root/crates/stores/out/stores")
 # eight stores, a flush and a drain each of 1,250,000 times
 [ "$(cat "$folder/out")" = 12500000 ]
 printf '%s %8.2f ms\n' '10,000,000 stores, a flush and a drain after each eighth' "$(echo "$stores" | awk '{print $1 / 1000}')"
+
+reserve=$(least "$root/crates/reserve/out/reserve")
+[ "$(cat "$folder/out")" = 10000 ]
+printf '%s %8.2f ms\n' '10,000 blocks for objects of 64 bytes reserved in a pool of 32 zones' "$(echo "$reserve" | awk '{print $1 / 1000}')"
