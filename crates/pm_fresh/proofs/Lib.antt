@@ -1,0 +1,4 @@
+pub mod Inside
+pub mod Reserving
+pub mod Filled
+pub mod Reservable
