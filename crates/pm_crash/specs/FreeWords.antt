@@ -1,13 +1,14 @@
 -- Words that no meaning reads: those of blocks and chunks that are free. `w` and `v` give recovered words by their number; chunks are counted in one
 -- row over all zones.
-use Rattle.std.specs.Prelude.{◌≡◌, ◌⊎◌, ℕ, ◌+◌, ◌*◌, ◌/◌, ◌<◌, ◌≤◌, false, true, List, slice_index}
+use Rattle.std.specs.Prelude.{◌≡◌, ◌⊎◌, ℕ, ◌+◌, ◌*◌, ◌/◌, ◌%◌, ◌<◌, ◌≤◌, false, true, List, slice_index}
 use Rattle.std.specs.Int.{bit_at}
 use Rattle.pm_layout.specs.Sizes.{blocks_of}
 use Rattle.pm_image.specs.Blocks.{chunk_word, descriptor_word}
+use Rattle.pm_image.specs.Reads.{Reads}
 use Rattle.pm_view.specs.declared.occ.Occ.{Occ}
 use Rattle.pm_view.specs.declared.occ.Occ.TheVariants.{Run}
 use Rattle.pm_view.specs.Blocks.{covers, descriptor_word as lane_descriptor}
-use Rattle.pm_view.specs.Occupancy.{is_taken}
+use Rattle.pm_view.specs.Occupancy.{is_chunk_taken, is_taken}
 use Rattle.pm_world.specs.Heap.{IsOcc}
 
 -- where the occupancy word is a run's, a lane's list of words has the run's descriptor, which tells the lines of a block
@@ -28,10 +29,23 @@ pub record IsFreeWord (w : ℕ → ℕ) (lanes zones i : ℕ) : Type 0 where
 abbrev pub IsOfChunk : ℕ → ℕ → ℕ → Type 0
 IsOfChunk lanes c i = (i ≡ descriptor_word lanes c) ⊎ ((chunk_word lanes c ≤ i) × (i < chunk_word lanes c + 512))
 
--- The words after are those before but for this chunk, which is a run without blocks, of some class; behind its bitmap it may have anything.
-pub record MakesEmptyRun (w v : ℕ → ℕ) (lanes c : ℕ) : Type 0 where
+-- the chunk is a run without blocks, of some class
+pub record IsEmptyRun (w : ℕ → ℕ) (lanes c : ℕ) : Type 0 where
   pub lines : ℕ
   pub some_blocks : 0 < blocks_of lines
-  pub is_run : v (descriptor_word lanes c) ≡ 256 * lines + 1
-  pub no_block : v (chunk_word lanes c) ≡ 0
+  pub is_run : w (descriptor_word lanes c) ≡ 256 * lines + 1
+  pub no_block : w (chunk_word lanes c) ≡ 0
+
+-- The words after are those before but for this chunk, which is such a run; behind its bitmap it may have anything.
+pub record MakesEmptyRun (w v : ℕ → ℕ) (lanes c : ℕ) : Type 0 where
+  pub run : IsEmptyRun v lanes c
   pub others : (i : ℕ) → ¬ IsOfChunk lanes c i → v i ≡ w i
+
+-- the chunk has no block: it is described by 0, or is such a run
+abbrev pub HasNoBlocks : (ℕ → ℕ) → ℕ → ℕ → Type 0
+HasNoBlocks w lanes c = (w (descriptor_word lanes c) ≡ 0) ⊎ IsEmptyRun w lanes c
+
+-- The words after are those before wherever the meaning reads, but in chunks that were free: each of these has no block still.
+pub record MayHaveNewRuns (w v : ℕ → ℕ) (lanes zones : ℕ) : Type 0 where
+  pub free_chunks : (c : ℕ) → c < 64 * zones → is_chunk_taken w lanes (c / 64) (c % 64) ≡ false → HasNoBlocks v lanes c
+  pub others : (i : ℕ) → Reads w lanes zones i → ((c : ℕ) → c < 64 * zones → is_chunk_taken w lanes (c / 64) (c % 64) ≡ false → ¬ IsOfChunk lanes c i) → v i ≡ w i

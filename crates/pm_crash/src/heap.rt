@@ -13,7 +13,7 @@ ghost use Rattle.pm_view.specs.View.{View};
 ghost use Rattle.pm_world.specs.Heap.{BlocksFit, IsOcc};
 ghost use Rattle.pm_world.specs.Opening.{IsChunk};
 ghost use Rattle.pm_crash.specs.Held.{HoldsPool};
-ghost use Rattle.pm_crash.specs.FreeWords.{HasDescriptor, IsFreeWord, MakesEmptyRun};
+ghost use Rattle.pm_crash.specs.FreeWords.{HasDescriptor, IsFreeWord, MakesEmptyRun, MayHaveNewRuns};
 
 /// A law: words hold the same pool as others that are theirs wherever the meaning reads, and have the same blocks. No code runs.
 pub fn a_pool_is_held_by_what_is_read()
@@ -56,4 +56,13 @@ pub fn a_run_without_blocks_holds_nothing()
     ensures freed_blocks { (w v : ℕ → ℕ) (lanes zones zone chunk : ℕ)
         → heap_fault v lanes zones ≡ None → MakesEmptyRun w v lanes (64 * zone + chunk)
         → w (descriptor_word lanes (64 * zone + chunk)) ≡ 0 → blocks w lanes zones ≡ blocks v lanes zones }
+{}
+
+/// A law: where free chunks, however many, are made runs without blocks, or are not, the pool and its blocks are as they were; so it is whatever
+/// stands in words that no meaning reads. No code runs.
+pub fn new_runs_hold_nothing()
+    ensures pool { (w v : ℕ → ℕ) (lanes zones : ℕ) (header : Header) (pool : PoolView)
+        → HoldsPool w lanes zones header pool → MayHaveNewRuns w v lanes zones → HoldsPool v lanes zones header pool }
+    ensures blocks { (w v : ℕ → ℕ) (lanes zones : ℕ)
+        → heap_fault w lanes zones ≡ None → MayHaveNewRuns w v lanes zones → blocks v lanes zones ≡ blocks w lanes zones }
 {}

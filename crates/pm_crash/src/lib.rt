@@ -39,7 +39,7 @@ pub use course::{
     a_recovered_pool_opens_a_world, an_ended_call_is_a_model_step, one_lanes_images_mean_the_replay,
 };
 pub use heap::{
-    a_pool_is_held_by_what_is_read, a_run_without_blocks_holds_nothing,
+    a_pool_is_held_by_what_is_read, a_run_without_blocks_holds_nothing, new_runs_hold_nothing,
     words_of_free_blocks_are_not_read,
 };
 pub use histories::{
