@@ -72,3 +72,13 @@ pub mod KnownHeap
 pub mod Raises
 pub mod Raising
 pub mod SeenAlone
+pub mod RisingBlocks
+pub mod NoHeapFault
+pub mod OneBlockMore
+pub mod FreshObjects
+pub mod BitMore
+pub mod GoodChunks
+pub mod StandingMore
+pub mod MadeObjects
+pub mod FreedBlocks
+pub mod ChangedPools

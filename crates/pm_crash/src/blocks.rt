@@ -1,0 +1,86 @@
+ghost use Rattle.std.specs.Prelude.{◌≡◌, ℕ, ◌+◌, Contains, None};
+ghost use Rattle.pm_header.specs.declared.header.Header.{Header};
+ghost use Rattle.pm_objects.specs.Pool.{object_at};
+ghost use Rattle.pm_objects.specs.declared.pool.PoolView.{PoolView};
+ghost use Rattle.pm_image.specs.declared.block.Block.{Block};
+ghost use Rattle.pm_image.specs.Blocks.{blocks};
+ghost use Rattle.pm_image.specs.Contents.{offset_in, size_in};
+ghost use Rattle.pm_image.specs.HeapFaults.{heap_fault};
+ghost use Rattle.pm_crash.specs.Held.{HoldsPool};
+ghost use Rattle.pm_crash.specs.NewObjects.{block_of_chunks, block_of_run, new_object, pool_with, pool_without, with_block, without_block, FreesChunksBlock, FreesRunBlock, MakesChunksObject, MakesObjectOfNewRun, MakesRunObject};
+
+/// A law: where a free block of a run is allocated, and its words are a new object's, the pool has that object more, of zeros, at an offset
+/// where none was; and else the same blocks. No code runs.
+pub fn a_new_block_holds_a_new_object()
+    ensures pool { (w v : ℕ → ℕ) (lanes zones c lines index kind size : ℕ) (header : Header) (pool : PoolView)
+        → HoldsPool w lanes zones header pool → MakesRunObject w v lanes zones c lines index kind size
+        → HoldsPool v lanes zones header (pool_with (offset_in (block_of_run lanes c lines index)) (new_object kind size) pool) }
+    ensures blocks { (w v : ℕ → ℕ) (lanes zones c lines index kind size : ℕ)
+        → heap_fault w lanes zones ≡ None → MakesRunObject w v lanes zones c lines index kind size
+        → blocks v lanes zones ≡ with_block (block_of_run lanes c lines index) (blocks w lanes zones) }
+    ensures new { (w v : ℕ → ℕ) (lanes zones c lines index kind size : ℕ) (header : Header) (pool : PoolView)
+        → HoldsPool w lanes zones header pool → MakesRunObject w v lanes zones c lines index kind size
+        → object_at pool.objects (offset_in (block_of_run lanes c lines index)) ≡ None }
+    ensures sizes { (w v : ℕ → ℕ) (lanes zones c lines index kind size : ℕ) (other : Block)
+        → heap_fault w lanes zones ≡ None → MakesRunObject w v lanes zones c lines index kind size → Contains (blocks w lanes zones) other
+        → size_in v other ≡ size_in w other }
+{}
+
+/// A law: so it is where free chunks are made one block. No code runs.
+pub fn new_chunks_hold_a_new_object()
+    ensures pool { (w v : ℕ → ℕ) (lanes zones c chunks kind size : ℕ) (header : Header) (pool : PoolView)
+        → HoldsPool w lanes zones header pool → MakesChunksObject w v lanes zones c chunks kind size
+        → HoldsPool v lanes zones header (pool_with (offset_in (block_of_chunks lanes c chunks)) (new_object kind size) pool) }
+    ensures blocks { (w v : ℕ → ℕ) (lanes zones c chunks kind size : ℕ)
+        → heap_fault w lanes zones ≡ None → MakesChunksObject w v lanes zones c chunks kind size
+        → blocks v lanes zones ≡ with_block (block_of_chunks lanes c chunks) (blocks w lanes zones) }
+    ensures new { (w v : ℕ → ℕ) (lanes zones c chunks kind size : ℕ) (header : Header) (pool : PoolView)
+        → HoldsPool w lanes zones header pool → MakesChunksObject w v lanes zones c chunks kind size
+        → object_at pool.objects (offset_in (block_of_chunks lanes c chunks)) ≡ None }
+    ensures sizes { (w v : ℕ → ℕ) (lanes zones c chunks kind size : ℕ) (other : Block)
+        → heap_fault w lanes zones ≡ None → MakesChunksObject w v lanes zones c chunks kind size → Contains (blocks w lanes zones) other
+        → size_in v other ≡ size_in w other }
+{}
+
+/// A law: and where a free chunk is made a run with one block. No code runs.
+pub fn a_new_run_holds_a_new_object()
+    ensures pool { (w v : ℕ → ℕ) (lanes zones c lines index kind size : ℕ) (header : Header) (pool : PoolView)
+        → HoldsPool w lanes zones header pool → MakesObjectOfNewRun w v lanes zones c lines index kind size
+        → HoldsPool v lanes zones header (pool_with (offset_in (block_of_run lanes c lines index)) (new_object kind size) pool) }
+    ensures blocks { (w v : ℕ → ℕ) (lanes zones c lines index kind size : ℕ)
+        → heap_fault w lanes zones ≡ None → MakesObjectOfNewRun w v lanes zones c lines index kind size
+        → blocks v lanes zones ≡ with_block (block_of_run lanes c lines index) (blocks w lanes zones) }
+    ensures new { (w v : ℕ → ℕ) (lanes zones c lines index kind size : ℕ) (header : Header) (pool : PoolView)
+        → HoldsPool w lanes zones header pool → MakesObjectOfNewRun w v lanes zones c lines index kind size
+        → object_at pool.objects (offset_in (block_of_run lanes c lines index)) ≡ None }
+    ensures sizes { (w v : ℕ → ℕ) (lanes zones c lines index kind size : ℕ) (other : Block)
+        → heap_fault w lanes zones ≡ None → MakesObjectOfNewRun w v lanes zones c lines index kind size → Contains (blocks w lanes zones) other
+        → size_in v other ≡ size_in w other }
+{}
+
+/// A law: where a block of a run that is not the root's is freed, the pool is without its object, whatever the block's words are then; and
+/// else the same blocks. No code runs.
+pub fn a_freed_block_holds_none()
+    ensures pool { (w v : ℕ → ℕ) (lanes zones c lines index : ℕ) (header : Header) (pool : PoolView)
+        → HoldsPool w lanes zones header pool → FreesRunBlock w v lanes zones c lines index
+        → HoldsPool v lanes zones header (pool_without (offset_in (block_of_run lanes c lines index)) pool) }
+    ensures blocks { (w v : ℕ → ℕ) (lanes zones c lines index : ℕ)
+        → heap_fault w lanes zones ≡ None → FreesRunBlock w v lanes zones c lines index
+        → blocks v lanes zones ≡ without_block (block_of_run lanes c lines index).place (blocks w lanes zones) }
+    ensures sizes { (w v : ℕ → ℕ) (lanes zones c lines index : ℕ) (other : Block)
+        → heap_fault w lanes zones ≡ None → FreesRunBlock w v lanes zones c lines index → Contains (blocks v lanes zones) other
+        → size_in v other ≡ size_in w other }
+{}
+
+/// A law: so it is where a block of whole chunks is freed. No code runs.
+pub fn freed_chunks_hold_none()
+    ensures pool { (w v : ℕ → ℕ) (lanes zones c chunks : ℕ) (header : Header) (pool : PoolView)
+        → HoldsPool w lanes zones header pool → FreesChunksBlock w v lanes zones c chunks
+        → HoldsPool v lanes zones header (pool_without (offset_in (block_of_chunks lanes c chunks)) pool) }
+    ensures blocks { (w v : ℕ → ℕ) (lanes zones c chunks : ℕ)
+        → heap_fault w lanes zones ≡ None → FreesChunksBlock w v lanes zones c chunks
+        → blocks v lanes zones ≡ without_block (block_of_chunks lanes c chunks).place (blocks w lanes zones) }
+    ensures sizes { (w v : ℕ → ℕ) (lanes zones c chunks : ℕ) (other : Block)
+        → heap_fault w lanes zones ≡ None → FreesChunksBlock w v lanes zones c chunks → Contains (blocks v lanes zones) other
+        → size_in v other ≡ size_in w other }
+{}
