@@ -64,14 +64,14 @@ module _ (w v : ℕ → ℕ) (lanes zones c lines index : ℕ) (none : heap_faul
   block = block_of_run lanes c lines index
 
   run_here : class_in (w (descriptor_word lanes c)) ≡ Some (Lines lines)
-  run_here = let within = freed.inside in class_of_run (w (descriptor_word lanes c)) lines (freed.is_run ∙ omega arith) (omega arith)
+  run_here = let within = freed.may.inside in class_of_run (w (descriptor_word lanes c)) lines (freed.may.is_run ∙ omega arith) (omega arith)
 
   small_here : w (chunk_word lanes c) < 2 ^ blocks_of lines
-  small_here = bitmap_small w lanes c lines (good_bitmap w lanes zones c none freed.in_zones) run_here
+  small_here = bitmap_small w lanes c lines (good_bitmap w lanes zones c none freed.may.in_zones) run_here
 
   of_64_bits : w (chunk_word lanes c) < 2 ^ 64
   of_64_bits =
-      let within = freed.inside in
+      let within = freed.may.inside in
       let last : blocks_of lines - 1 < 64 = index_small lines (blocks_of lines - 1) (omega arith) in
       let small : w (chunk_word lanes c) < 2 ^ blocks_of lines = small_here in
       let few : blocks_of lines ≤ 64 = omega arith in
@@ -80,13 +80,13 @@ module _ (w v : ℕ → ℕ) (lanes zones c lines index : ℕ) (none : heap_faul
       omega arith
 
   bit_here : HasBitMore (v (chunk_word lanes c)) (w (chunk_word lanes c)) index
-  bit_here = cleared_bit (v (chunk_word lanes c)) (w (chunk_word lanes c)) index (index_small lines index freed.inside) of_64_bits freed.is_set freed.bitmap
+  bit_here = cleared_bit (v (chunk_word lanes c)) (w (chunk_word lanes c)) index (index_small lines index freed.may.inside) of_64_bits freed.may.is_set freed.bitmap
 
   -- the block's words are behind the bitmap's line in its chunk
   in_chunk : (i : ℕ) → IsWordOf block i → (chunk_word lanes c + 8 ≤ i) × (i < chunk_word lanes c + 512)
   in_chunk i word =
       let before : ℕ = lines * index in
-      let fits : 1 + before + lines ≤ 64 = run_fits lines index freed.inside in
+      let fits : 1 + before + lines ≤ 64 = run_fits lines index freed.may.inside in
       let from : (8 * chunk_word lanes c + 64 * (1 + before)) / 8 ≤ i = word.from in
       let to : i < (8 * chunk_word lanes c + 64 * (1 + before)) / 8 + 8 * lines = word.to in
       (omega arith, omega arith)
@@ -98,22 +98,22 @@ module _ (w v : ℕ → ℕ) (lanes zones c lines index : ℕ) (none : heap_faul
   bitmaps_here k other inside differ run = freed.others (chunk_word lanes k) (reads_bitmap w lanes zones k other inside run) (λ same. differ (omega arith)) (λ word. let at = in_chunk (chunk_word lanes k) word in let from = at.0 in let to = at.1 in omega arith)
 
   run_still : class_in (v (descriptor_word lanes c)) ≡ Some (Lines lines)
-  run_still = ap class_in (descriptors_here c freed.in_zones) ∙ run_here
+  run_still = ap class_in (descriptors_here c freed.may.in_zones) ∙ run_here
 
   more_here : ChunkHasMore v w lanes zones c block
   more_here = record {
-    in_zones = freed.in_zones;
+    in_zones = freed.may.in_zones;
     descriptors = λ k inside differ. sym (descriptors_here k inside);
     bitmaps = λ k other inside differ run. sym (bitmaps_here k other inside differ (ap class_in (sym (descriptors_here k inside)) ∙ run));
-    has = run_has v w lanes c lines index freed.inside run_still run_here bit_here;
-    keeps = run_keeps v w lanes c lines index freed.inside run_still run_here bit_here;
-    only = run_only v w lanes c lines index freed.inside run_still run_here bit_here;
+    has = run_has v w lanes c lines index freed.may.inside run_still run_here bit_here;
+    keeps = run_keeps v w lanes c lines index freed.may.inside run_still run_here bit_here;
+    only = run_only v w lanes c lines index freed.may.inside run_still run_here bit_here;
   }
 
   no_more : Contains (blocks v lanes zones) block → ⊥
   no_more there =
       let stands : Stands v lanes zones block = block_stands v lanes zones block there in
-      let set = (that_run_block v lanes c stands.chunk lines index freed.inside stands.is).is_set in
+      let set = (that_run_block v lanes c stands.chunk lines index freed.may.inside stands.is).is_set in
       let clear = bit_here.is_clear in
       omega arith
 
@@ -159,16 +159,16 @@ module _ (w v : ℕ → ℕ) (lanes zones c chunks : ℕ) (none : heap_fault w l
   whole_block = block_of_chunks lanes c chunks
 
   good_here : bad_chunk w lanes c ≡ false
-  good_here = good_chunk w lanes zones c none freed.in_zones
+  good_here = good_chunk w lanes zones c none freed.may.in_zones
 
   whole_here : class_in (w (descriptor_word lanes c)) ≡ Some (Chunks chunks)
   whole_here =
-      let is : w (descriptor_word lanes c) ≡ 2 + 256 * chunks = freed.is_first in
+      let is : w (descriptor_word lanes c) ≡ 2 + 256 * chunks = freed.may.is_first in
       let high : w (descriptor_word lanes c) / 256 ≡ chunks = omega arith in
       whole_by_byte w lanes c good_here (omega arith) ∙ ap (λ (n : ℕ). Some (Chunks n)) high
 
-  fits_zone : c % 64 + chunks ≤ 64
-  fits_zone = chunks_fit w lanes c chunks good_here whole_here
+  pub first_fits : c % 64 + chunks ≤ 64
+  first_fits = chunks_fit w lanes c chunks good_here whole_here
 
   in_chunks : (i : ℕ) → IsWordOf whole_block i → (chunk_word lanes c ≤ i) × (i < chunk_word lanes c + 512 * chunks)
   in_chunks i word =
@@ -178,7 +178,7 @@ module _ (w v : ℕ → ℕ) (lanes zones c chunks : ℕ) (none : heap_fault w l
 
   descriptors_elsewhere : (k : ℕ) → k < 64 * zones → k ≢ c → v (descriptor_word lanes k) ≡ w (descriptor_word lanes k)
   descriptors_elsewhere k inside differ = freed.others (descriptor_word lanes k) (reads_descriptor w lanes zones k inside) (λ same. differ (omega arith))
-      (λ word. let at = in_chunks (descriptor_word lanes k) word in let from = at.0 in let to = at.1 in let fits = fits_zone in omega arith)
+      (λ word. let at = in_chunks (descriptor_word lanes k) word in let from = at.0 in let to = at.1 in let fits = first_fits in omega arith)
 
   -- no run is among the chunks
   no_run_inside : (k lines : ℕ) → k ≢ c → class_in (w (descriptor_word lanes k)) ≡ Some (Lines lines) → ¬ IsWordOf whole_block (chunk_word lanes k)
@@ -186,7 +186,7 @@ module _ (w v : ℕ → ℕ) (lanes zones c chunks : ℕ) (none : heap_fault w l
       let at = in_chunks (chunk_word lanes k) word in
       let from = at.0 in
       let to = at.1 in
-      let fits = fits_zone in
+      let fits = first_fits in
       let zone : k / 64 ≡ c / 64 = omega arith in
       let place : c + 1 + (k - c - 1) ≡ k = omega arith in
       let free : w (descriptor_word lanes k) ≡ 0 = ap (λ (j : ℕ). w (descriptor_word lanes j)) (sym place) ∙ further_zeros w lanes c chunks good_here whole_here (k - c - 1) (omega arith) in
@@ -211,7 +211,7 @@ module _ (w v : ℕ → ℕ) (lanes zones c chunks : ℕ) (none : heap_fault w l
 
   whole_more : ChunkHasMore v w lanes zones c whole_block
   whole_more = record {
-    in_zones = freed.in_zones;
+    in_zones = freed.may.in_zones;
     descriptors = λ k inside differ. sym (descriptors_elsewhere k inside differ);
     bitmaps = λ k lines inside differ run. sym (bitmaps_elsewhere k lines inside differ (ap class_in (sym (descriptors_elsewhere k inside differ)) ∙ run));
     has = inr (record { chunks = chunks; is_first = whole_here; is_block = refl });

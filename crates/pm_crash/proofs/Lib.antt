@@ -82,3 +82,8 @@ pub mod StandingMore
 pub mod MadeObjects
 pub mod FreedBlocks
 pub mod ChangedPools
+pub mod BitEntries
+pub mod OneChange
+pub mod ChangesApart
+pub mod ChangesInTurn
+pub mod ObjectsByOffset

@@ -79,28 +79,28 @@ pub record GrowsBy (w v : ℕ → ℕ) (lanes zones : ℕ) (block : Block) : Typ
 -- a block of a run
 module _ (w v : ℕ → ℕ) (lanes zones c lines index kind size : ℕ) (none : heap_fault w lanes zones ≡ None) (made : MakesRunObject w v lanes zones c lines index kind size) where
   run_here : class_in (w (descriptor_word lanes c)) ≡ Some (Lines lines)
-  run_here = let within = made.inside in class_of_run (w (descriptor_word lanes c)) lines (made.is_run ∙ omega arith) (omega arith)
+  run_here = let within = made.free.inside in class_of_run (w (descriptor_word lanes c)) lines (made.free.is_run ∙ omega arith) (omega arith)
 
   bit_here : HasBitMore (w (chunk_word lanes c)) (v (chunk_word lanes c)) index
-  bit_here = set_bit (w (chunk_word lanes c)) (v (chunk_word lanes c)) index made.is_clear made.bitmap
+  bit_here = set_bit (w (chunk_word lanes c)) (v (chunk_word lanes c)) index made.free.is_clear made.bitmap
 
   descriptors_here : (k : ℕ) → k < 64 * zones → v (descriptor_word lanes k) ≡ w (descriptor_word lanes k)
   descriptors_here k inside = made.others (descriptor_word lanes k) (reads_descriptor w lanes zones k inside) (λ same. omega arith)
 
   run_still : class_in (v (descriptor_word lanes c)) ≡ Some (Lines lines)
-  run_still = ap class_in (descriptors_here c made.in_zones) ∙ run_here
+  run_still = ap class_in (descriptors_here c made.free.in_zones) ∙ run_here
 
   bitmaps_here : (k other : ℕ) → k < 64 * zones → k ≢ c → class_in (w (descriptor_word lanes k)) ≡ Some (Lines other) → v (chunk_word lanes k) ≡ w (chunk_word lanes k)
   bitmaps_here k other inside differ run = made.others (chunk_word lanes k) (reads_bitmap w lanes zones k other inside run) (λ same. differ (omega arith))
 
   more_here : ChunkHasMore w v lanes zones c (block_of_run lanes c lines index)
   more_here = record {
-    in_zones = made.in_zones;
+    in_zones = made.free.in_zones;
     descriptors = λ k inside differ. descriptors_here k inside;
     bitmaps = bitmaps_here;
-    has = run_has w v lanes c lines index made.inside run_here run_still bit_here;
-    keeps = run_keeps w v lanes c lines index made.inside run_here run_still bit_here;
-    only = run_only w v lanes c lines index made.inside run_here run_still bit_here;
+    has = run_has w v lanes c lines index made.free.inside run_here run_still bit_here;
+    keeps = run_keeps w v lanes c lines index made.free.inside run_here run_still bit_here;
+    only = run_only w v lanes c lines index made.free.inside run_here run_still bit_here;
   }
 
   still_zero : (k n j : ℕ) → k < 64 * zones → class_in (w (descriptor_word lanes k)) ≡ Some (Chunks n) → j < n - 1 → v (descriptor_word lanes (k + 1 + j)) ≡ 0
@@ -117,8 +117,8 @@ module _ (w v : ℕ → ℕ) (lanes zones c lines index kind size : ℕ) (none :
       there = more_there w v lanes zones c (block_of_run lanes c lines index) more_here;
       new = λ there.
           let stands : Stands w lanes zones (block_of_run lanes c lines index) = block_stands w lanes zones (block_of_run lanes c lines index) there in
-          let set = (that_run_block w lanes c stands.chunk lines index made.inside stands.is).is_set in
-          let clear = made.is_clear in
+          let set = (that_run_block w lanes c stands.chunk lines index made.free.inside stands.is).is_set in
+          let clear = made.free.is_clear in
           omega arith;
       keeps = more_keeps w v lanes zones c (block_of_run lanes c lines index) more_here;
       only = more_only w v lanes zones c (block_of_run lanes c lines index) more_here;
@@ -131,7 +131,7 @@ module _ (w v : ℕ → ℕ) (lanes zones c lines index kind size : ℕ) (none :
     bitmaps = λ k inside. ⊎_elim
         (λ (here : k ≡ c). subst (λ (n : ℕ). bad_bitmap v lanes n ≡ false) (sym here) (good_bitmap_by_class v lanes c (Some (Lines lines)) run_still
         (lt-leb (2 ^ blocks_of lines) (v (chunk_word lanes c)) (subst (λ (n : ℕ). n < 2 ^ blocks_of lines) (sym made.bitmap)
-        (set_small (w (chunk_word lanes c)) index (blocks_of lines) made.inside (bitmap_small w lanes c lines (good_bitmap w lanes zones c none made.in_zones) run_here))))))
+        (set_small (w (chunk_word lanes c)) index (blocks_of lines) made.free.inside (bitmap_small w lanes c lines (good_bitmap w lanes zones c none made.free.in_zones) run_here))))))
         (λ (differ : k ≢ c). good_bitmap_kept w v lanes k (good_bitmap w lanes zones k none inside) (descriptors_here k inside) (λ other run. bitmaps_here k other inside differ run))
         (cases_eq k c);
   }
@@ -206,34 +206,34 @@ module _ (w v : ℕ → ℕ) (lanes zones c chunks kind size : ℕ) (none : heap
 
   each_free : (j : ℕ) → j < chunks → is_chunk_taken w lanes ((c + j) / 64) ((c + j) % 64) ≡ false
   each_free j near =
-      let fits = made.in_zone in
+      let fits = made.free.in_zone in
       let zone : (c + j) / 64 ≡ c / 64 = omega arith in
       let chunk : (c + j) % 64 ≡ c % 64 + j = omega arith in
-      (λ i. is_chunk_taken w lanes (zone i) (chunk i)) ∙ made.are_free j near
+      (λ i. is_chunk_taken w lanes (zone i) (chunk i)) ∙ made.free.are_free j near
 
   first_free : is_chunk_taken w lanes (c / 64) (c % 64) ≡ false
   first_free = let none_behind : c + 0 ≡ c = omega arith in ap (λ (k : ℕ). is_chunk_taken w lanes (k / 64) (k % 64)) (sym none_behind) ∙ each_free 0 some_of_size
 
   is_whole : class_in (v (descriptor_word lanes c)) ≡ Some (Chunks chunks)
-  is_whole = let fits = made.in_zone in class_of_first (v (descriptor_word lanes c)) chunks made.descriptor some_of_size (omega arith)
+  is_whole = let fits = made.free.in_zone in class_of_first (v (descriptor_word lanes c)) chunks made.descriptor some_of_size (omega arith)
 
   zeros_there : (j : ℕ) → j < chunks - 1 → v (descriptor_word lanes (c + 1 + j)) ≡ 0
   zeros_there j near =
-      let fits = made.in_zone in
-      let range = made.in_zones in
+      let fits = made.free.in_zone in
+      let range = made.free.in_zones in
       let place : c + 1 + j ≡ c + (1 + j) = omega arith in
       let free : is_chunk_taken w lanes ((c + 1 + j) / 64) ((c + 1 + j) % 64) ≡ false = ap (λ (k : ℕ). is_chunk_taken w lanes (k / 64) (k % 64)) place ∙ each_free (1 + j) (omega arith) in
-      descriptors_elsewhere w v lanes zones c none made.in_zones first_free made.others (c + 1 + j) (omega arith) (λ same. omega arith)
+      descriptors_elsewhere w v lanes zones c none made.free.in_zones first_free made.others (c + 1 + j) (omega arith) (λ same. omega arith)
       ∙ free_is_zero w lanes zones (c + 1 + j) none free (omega arith)
 
   pub chunks_grow : GrowsBy w v lanes zones (block_of_chunks lanes c chunks)
-  chunks_grow = chunk_grows w v lanes zones c none made.in_zones first_free made.others (block_of_chunks lanes c chunks)
+  chunks_grow = chunk_grows w v lanes zones c none made.free.in_zones first_free made.others (block_of_chunks lanes c chunks)
       (inr (record { chunks = chunks; is_first = is_whole; is_block = refl }))
       (λ b is. whole_only v lanes c chunks b is_whole is)
       (λ k is.
       let that = that_chunks_block w lanes c k chunks is in
       (that.same_chunk, subst (λ (n : ℕ). StandsIn w lanes n (block_of_chunks lanes c chunks)) that.same_chunk is))
-      (good_by_class v lanes c (Some (Chunks chunks)) is_whole (first_is_described v lanes c chunks made.in_zone zeros_there))
+      (good_by_class v lanes c (Some (Chunks chunks)) is_whole (first_is_described v lanes c chunks made.free.in_zone zeros_there))
       (good_bitmap_by_class v lanes c (Some (Chunks chunks)) is_whole refl)
 
 -- a block of a new run

@@ -5,6 +5,7 @@ use Rattle.std.proofs.lemmas.Bool.{eq-eqb, false≢true, ltb-false, ltb-true, ne
 use Rattle.pm_image.specs.declared.block.Block.{Block}
 use Rattle.pm_image.proofs.Members.{first_member, later_member, member_cases, member_kept, no_member}
 use Rattle.pm_image.proofs.Ordered.{Rise}
+use Rattle.pm_crash.specs.HeapChanges.{AreDisjoint}
 use Rattle.pm_crash.specs.NewObjects.{with_block, without_block}
 use Rattle.pm_crash.proofs.Apart.{rise_member}
 use Rattle.pm_crash.proofs.Includes.{kept_member, kept_passes}
@@ -80,10 +81,6 @@ with_only block b (c ∷ bs) there = go (ltb block.place c.place) there (with_on
       (λ (here : c ≡ b). inr (subst (Contains (c ∷ bs)) here (first_member c bs)))
       (λ (later : Contains (with_block block bs) b). ⊎_elim (λ (same : b ≡ block). inl same) (λ (old : Contains bs b). inr (later_member c bs b old)) (rest later))
       (member_cases c (with_block block bs) b among)
-
--- one of two blocks ends before the other begins
-abbrev pub AreDisjoint : Block → Block → Type 0
-AreDisjoint block b = (block.place + 64 * block.lines ≤ b.place) ⊎ (b.place + 64 * b.lines ≤ block.place)
 
 -- it rises where the block lies apart from the others
 pub with_rises : (from : ℕ) (block : Block) (bs : List Block) → Rise from bs → from ≤ block.place → 1 ≤ block.lines → ((b : Block) → Contains bs b → 1 ≤ b.lines) → ((b : Block) → Contains bs b → AreDisjoint block b) → Rise from (with_block block bs)

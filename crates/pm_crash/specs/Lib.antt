@@ -7,6 +7,7 @@ pub mod Alone
 pub mod HeldHistory
 pub mod FreeWords
 pub mod NewObjects
+pub mod HeapChanges
 pub mod Lines
 pub mod OneLane
 pub mod Locks

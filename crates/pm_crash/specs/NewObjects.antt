@@ -60,22 +60,30 @@ pub record HasNewObject (v : ℕ → ℕ) (block : Block) (kind size : ℕ) : Ty
   pub of_size : block_lines (class_of size) ≡ block.lines
   pub words : (place : ℕ) → place < 8 + data_words size → header_word v block place ≡ fresh_word kind size place
 
--- A free block of a run is made a new object's: of the words that the meaning reads only the run's bitmap changes, which has one bit more. The block's
--- words, which it does not read before, may stand there already.
-pub record MakesRunObject (w v : ℕ → ℕ) (lanes zones c lines index kind size : ℕ) : Type 0 where
+-- the block of a run is free
+pub record IsFreeInRun (w : ℕ → ℕ) (lanes zones c lines index : ℕ) : Type 0 where
   pub in_zones : c < 64 * zones
   pub inside : index < blocks_of lines
   pub is_run : w (descriptor_word lanes c) ≡ descriptor_of (Lines lines)
   pub is_clear : bit_at (w (chunk_word lanes c)) index ≡ 0
+
+-- so are so many chunks of a zone from this one on
+pub record AreFreeChunks (w : ℕ → ℕ) (lanes zones c chunks : ℕ) : Type 0 where
+  pub in_zones : c < 64 * zones
+  pub in_zone : c % 64 + chunks ≤ 64
+  pub are_free : (k : ℕ) → k < chunks → is_chunk_taken w lanes (c / 64) (c % 64 + k) ≡ false
+
+-- A free block of a run is made a new object's: of the words that the meaning reads only the run's bitmap changes, which has one bit more. The block's
+-- words, which it does not read before, may stand there already.
+pub record MakesRunObject (w v : ℕ → ℕ) (lanes zones c lines index kind size : ℕ) : Type 0 where
+  pub free : IsFreeInRun w lanes zones c lines index
   pub bitmap : v (chunk_word lanes c) ≡ bit_or (w (chunk_word lanes c)) (2 ^ index)
   pub object : HasNewObject v (block_of_run lanes c lines index) kind size
   pub others : (i : ℕ) → Reads w lanes zones i → i ≢ chunk_word lanes c → v i ≡ w i
 
 -- Free chunks are made a new object's block: of the words that the meaning reads only the descriptor of the first changes.
 pub record MakesChunksObject (w v : ℕ → ℕ) (lanes zones c chunks kind size : ℕ) : Type 0 where
-  pub in_zone : c % 64 + chunks ≤ 64
-  pub in_zones : c < 64 * zones
-  pub are_free : (k : ℕ) → k < chunks → is_chunk_taken w lanes (c / 64) (c % 64 + k) ≡ false
+  pub free : AreFreeChunks w lanes zones c chunks
   pub descriptor : v (descriptor_word lanes c) ≡ descriptor_of (Chunks chunks)
   pub object : HasNewObject v (block_of_chunks lanes c chunks) kind size
   pub others : (i : ℕ) → Reads w lanes zones i → i ≢ descriptor_word lanes c → v i ≡ w i
@@ -96,22 +104,30 @@ pub record IsWordOf (block : Block) (i : ℕ) : Type 0 where
   pub from : block.place / 8 ≤ i
   pub to : i < block.place / 8 + 8 * block.lines
 
--- A block of a run, not the root's, is freed: of the words that the meaning reads only the run's bitmap changes, which has that bit no more, and the
--- block's words, which may be any.
-pub record FreesRunBlock (w v : ℕ → ℕ) (lanes zones c lines index : ℕ) : Type 0 where
+-- the block of a run is allocated, and not the root's
+pub record MayFreeInRun (w : ℕ → ℕ) (lanes zones c lines index : ℕ) : Type 0 where
   pub in_zones : c < 64 * zones
   pub inside : index < blocks_of lines
   pub is_run : w (descriptor_word lanes c) ≡ descriptor_of (Lines lines)
   pub is_set : bit_at (w (chunk_word lanes c)) index ≡ 1
   pub not_root : w 64 ≢ offset_in (block_of_run lanes c lines index)
-  pub bitmap : v (chunk_word lanes c) ≡ bit_and (w (chunk_word lanes c)) (2 ^ 64 - 1 - 2 ^ index)
-  pub others : (i : ℕ) → Reads w lanes zones i → i ≢ chunk_word lanes c → ¬ IsWordOf (block_of_run lanes c lines index) i → v i ≡ w i
 
--- A block of whole chunks, not the root's, is freed: of the words that the meaning reads only the descriptor of the first changes, to 0, and the
--- block's words, which may be any.
-pub record FreesChunksBlock (w v : ℕ → ℕ) (lanes zones c chunks : ℕ) : Type 0 where
+-- so is the block of whole chunks
+pub record MayFreeChunks (w : ℕ → ℕ) (lanes zones c chunks : ℕ) : Type 0 where
   pub in_zones : c < 64 * zones
   pub is_first : w (descriptor_word lanes c) ≡ descriptor_of (Chunks chunks)
   pub not_root : w 64 ≢ offset_in (block_of_chunks lanes c chunks)
+
+-- A block of a run is freed: of the words that the meaning reads only the run's bitmap changes, which has that bit no more, and the block's words, which
+-- may be any.
+pub record FreesRunBlock (w v : ℕ → ℕ) (lanes zones c lines index : ℕ) : Type 0 where
+  pub may : MayFreeInRun w lanes zones c lines index
+  pub bitmap : v (chunk_word lanes c) ≡ bit_and (w (chunk_word lanes c)) (2 ^ 64 - 1 - 2 ^ index)
+  pub others : (i : ℕ) → Reads w lanes zones i → i ≢ chunk_word lanes c → ¬ IsWordOf (block_of_run lanes c lines index) i → v i ≡ w i
+
+-- A block of whole chunks is freed: of the words that the meaning reads only the descriptor of the first changes, to 0, and the block's words, which may
+-- be any.
+pub record FreesChunksBlock (w v : ℕ → ℕ) (lanes zones c chunks : ℕ) : Type 0 where
+  pub may : MayFreeChunks w lanes zones c chunks
   pub descriptor : v (descriptor_word lanes c) ≡ 0
   pub others : (i : ℕ) → Reads w lanes zones i → i ≢ descriptor_word lanes c → ¬ IsWordOf (block_of_chunks lanes c chunks) i → v i ≡ w i

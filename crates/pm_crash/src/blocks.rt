@@ -1,13 +1,16 @@
-ghost use Rattle.std.specs.Prelude.{◌≡◌, ℕ, ◌+◌, Contains, None};
+ghost use Rattle.std.specs.Prelude.{◌≡◌, ◌≢◌, ℕ, ◌+◌, List, All, Contains, Some, None};
+ghost use Rattle.std.specs.List.Sorted.{IsStrictlyIncreasing};
 ghost use Rattle.pm_header.specs.declared.header.Header.{Header};
-ghost use Rattle.pm_objects.specs.Pool.{object_at};
+ghost use Rattle.pm_objects.specs.Pool.{object_at, Objects, offsets};
+ghost use Rattle.pm_objects.specs.declared.pool.Object.{Object};
 ghost use Rattle.pm_objects.specs.declared.pool.PoolView.{PoolView};
 ghost use Rattle.pm_image.specs.declared.block.Block.{Block};
 ghost use Rattle.pm_image.specs.Blocks.{blocks};
 ghost use Rattle.pm_image.specs.Contents.{offset_in, size_in};
 ghost use Rattle.pm_image.specs.HeapFaults.{heap_fault};
 ghost use Rattle.pm_crash.specs.Held.{HoldsPool};
-ghost use Rattle.pm_crash.specs.NewObjects.{block_of_chunks, block_of_run, new_object, pool_with, pool_without, with_block, without_block, FreesChunksBlock, FreesRunBlock, MakesChunksObject, MakesObjectOfNewRun, MakesRunObject};
+ghost use Rattle.pm_crash.specs.HeapChanges.{all_blocks_changed, all_pool_changed, changed, AreAllDisjoint, CanChange, HeapChange};
+ghost use Rattle.pm_crash.specs.NewObjects.{block_of_chunks, block_of_run, new_object, pool_with, pool_without, with_block, with_object, without_block, without_object, FreesChunksBlock, FreesRunBlock, MakesChunksObject, MakesObjectOfNewRun, MakesRunObject};
 
 /// A law: where a free block of a run is allocated, and its words are a new object's, the pool has that object more, of zeros, at an offset
 /// where none was; and else the same blocks. No code runs.
@@ -83,4 +86,32 @@ pub fn freed_chunks_hold_none()
     ensures sizes { (w v : ℕ → ℕ) (lanes zones c chunks : ℕ) (other : Block)
         → heap_fault w lanes zones ≡ None → FreesChunksBlock w v lanes zones c chunks → Contains (blocks v lanes zones) other
         → size_in v other ≡ size_in w other }
+{}
+
+/// A law: an entry each makes changes of the heap, in their order, where each may be made from the words before them all, and their blocks lie
+/// apart: the pool and its blocks are then those with the changes. No code runs.
+pub fn entries_change_the_heap()
+    ensures pool { (w : ℕ → ℕ) (lanes zones : ℕ) (header : Header) (pool : PoolView) (changes : List HeapChange)
+        → HoldsPool w lanes zones header pool → All (CanChange w lanes zones) changes → AreAllDisjoint lanes changes
+        → HoldsPool (changed lanes changes w) lanes zones header (all_pool_changed lanes changes pool) }
+    ensures blocks { (w : ℕ → ℕ) (lanes zones : ℕ) (header : Header) (pool : PoolView) (changes : List HeapChange)
+        → HoldsPool w lanes zones header pool → All (CanChange w lanes zones) changes → AreAllDisjoint lanes changes
+        → blocks (changed lanes changes w) lanes zones ≡ all_blocks_changed lanes changes (blocks w lanes zones) }
+{}
+
+/// A law: objects with one more, where none was, have it at its offset, and objects without one have none there; at each other offset they have
+/// what was there, and they are in rising offsets still. No code runs.
+pub fn objects_are_told_by_their_offsets()
+    ensures there { (objects : Objects) (off : ℕ) (object : Object) → object_at objects off ≡ None
+        → object_at (with_object off object objects) off ≡ Some object }
+    ensures others { (objects : Objects) (off other : ℕ) (object : Object) → other ≢ off
+        → object_at (with_object off object objects) other ≡ object_at objects other }
+    ensures rising { (objects : Objects) (off : ℕ) (object : Object) → IsStrictlyIncreasing (offsets objects) → object_at objects off ≡ None
+        → IsStrictlyIncreasing (offsets (with_object off object objects)) }
+    ensures gone { (objects : Objects) (off : ℕ)
+        → object_at (without_object off objects) off ≡ None }
+    ensures others_stay { (objects : Objects) (off other : ℕ) → other ≢ off
+        → object_at (without_object off objects) other ≡ object_at objects other }
+    ensures rising_still { (objects : Objects) (off : ℕ) → IsStrictlyIncreasing (offsets objects)
+        → IsStrictlyIncreasing (offsets (without_object off objects)) }
 {}

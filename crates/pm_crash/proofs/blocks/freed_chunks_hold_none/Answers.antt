@@ -5,7 +5,7 @@ use Rattle.pm_crash.proofs.blocks.freed_chunks_hold_none.Goals as goal
 
 pub returns-clause-pool : goal.returns-clause-pool
 returns-clause-pool k = λ w v lanes zones c chunks header pool holds freed.
-    shrunk_pool w v lanes zones (block_of_chunks lanes c chunks) (chunks_shrink w v lanes zones c chunks holds.no_fault freed) header pool holds freed.not_root
+    shrunk_pool w v lanes zones (block_of_chunks lanes c chunks) (chunks_shrink w v lanes zones c chunks holds.no_fault freed) header pool holds freed.may.not_root
 
 pub returns-clause-blocks : goal.returns-clause-blocks
 returns-clause-blocks k = λ w v lanes zones c chunks none freed. shrunk_blocks w v lanes zones (block_of_chunks lanes c chunks) (chunks_shrink w v lanes zones c chunks none freed)
