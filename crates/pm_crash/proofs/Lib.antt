@@ -87,3 +87,4 @@ pub mod OneChange
 pub mod ChangesApart
 pub mod ChangesInTurn
 pub mod ObjectsByOffset
+pub mod MayChange

@@ -1,11 +1,13 @@
 -- Changes of a pool's heap that one redo entry each makes: a block is allocated, whose words are a new object's already, or a block is freed.
-use Rattle.std.specs.Prelude.{◌⊎◌, ℕ, ◌+◌, ◌-◌, ◌*◌, ◌^◌, ◌≤◌, List, [], ◌∷◌, map, All}
+use Rattle.std.specs.Prelude.{◌≡◌, ◌⊎◌, ℕ, ◌+◌, ◌-◌, ◌*◌, ◌/◌, ◌%◌, ◌^◌, ◌≤◌, List, [], ◌∷◌, map, All}
 use Rattle.pm_layout.specs.Sizes.{descriptor_of}
 use Rattle.pm_layout.specs.declared.class.Class.TheVariants.{Chunks}
 use Rattle.pm_objects.specs.declared.pool.PoolView.{PoolView}
 use Rattle.pm_image.specs.declared.block.Block.{Block}
 use Rattle.pm_image.specs.Blocks.{chunk_word, descriptor_word}
 use Rattle.pm_image.specs.Contents.{offset_in}
+use Rattle.pm_view.specs.declared.occ.Occ.{Occ}
+use Rattle.pm_view.specs.declared.occ.Occ.TheVariants.{Run}
 use Rattle.pm_view.specs.Log.{final_of, Final}
 use Rattle.pm_world.specs.History.{made_final}
 use Rattle.pm_crash.specs.NewObjects.{block_of_chunks, block_of_run, new_object, pool_with, pool_without, with_block, without_block, AreFreeChunks, HasNewObject, IsFreeInRun, MayFreeChunks, MayFreeInRun}
@@ -75,3 +77,19 @@ AreDisjoint block b = (block.place + 64 * block.lines ≤ b.place) ⊎ (b.place 
 abbrev pub AreAllDisjoint : ℕ → List HeapChange → Type 0
 AreAllDisjoint lanes [] = Unit {0}
 AreAllDisjoint lanes (a ∷ changes) = All (λ b. AreDisjoint (block_changed lanes a) (block_changed lanes b)) changes × AreAllDisjoint lanes changes
+
+-- the change frees this block
+abbrev pub Frees : ℕ → HeapChange → Block → Type 0
+Frees lanes (FreesInRun c lines index) block = block_of_run lanes c lines index ≡ block
+Frees lanes (FreesChunks c chunks) block = block_of_chunks lanes c chunks ≡ block
+Frees lanes change block = ⊥
+
+-- a change that may be made does
+pub record MayBeFreed (w : ℕ → ℕ) (lanes zones : ℕ) (block : Block) : Type 0 where
+  pub change : HeapChange
+  pub can : CanChange w lanes zones change
+  pub frees : Frees lanes change block
+
+-- the occupancy word of a run at a chunk
+abbrev pub run_at : ℕ → ℕ → Occ
+run_at lanes c = Run (4096 * (2 + 2 * lanes + 65 * (c / 64) + c % 64))

@@ -1,16 +1,20 @@
-ghost use Rattle.std.specs.Prelude.{◌≡◌, ◌≢◌, ℕ, ◌+◌, List, All, Contains, Some, None};
+ghost use Rattle.std.specs.Prelude.{◌≡◌, ◌≢◌, ℕ, ◌+◌, ◌*◌, ◌<◌, ◌≤◌, false, List, All, Contains, Some, None};
 ghost use Rattle.std.specs.List.Sorted.{IsStrictlyIncreasing};
 ghost use Rattle.pm_header.specs.declared.header.Header.{Header};
+ghost use Rattle.pm_layout.specs.Sizes.{descriptor_of};
+ghost use Rattle.pm_layout.specs.declared.class.Class.TheVariants.{Lines};
 ghost use Rattle.pm_objects.specs.Pool.{object_at, Objects, offsets};
 ghost use Rattle.pm_objects.specs.declared.pool.Object.{Object};
 ghost use Rattle.pm_objects.specs.declared.pool.PoolView.{PoolView};
 ghost use Rattle.pm_image.specs.declared.block.Block.{Block};
-ghost use Rattle.pm_image.specs.Blocks.{blocks};
+ghost use Rattle.pm_image.specs.Blocks.{blocks, descriptor_word};
 ghost use Rattle.pm_image.specs.Contents.{offset_in, size_in};
 ghost use Rattle.pm_image.specs.HeapFaults.{heap_fault};
+ghost use Rattle.pm_view.specs.declared.occ.Occ.TheVariants.{Zone};
+ghost use Rattle.pm_view.specs.Occupancy.{is_taken};
 ghost use Rattle.pm_crash.specs.Held.{HoldsPool};
-ghost use Rattle.pm_crash.specs.HeapChanges.{all_blocks_changed, all_pool_changed, changed, AreAllDisjoint, CanChange, HeapChange};
-ghost use Rattle.pm_crash.specs.NewObjects.{block_of_chunks, block_of_run, new_object, pool_with, pool_without, with_block, with_object, without_block, without_object, FreesChunksBlock, FreesRunBlock, MakesChunksObject, MakesObjectOfNewRun, MakesRunObject};
+ghost use Rattle.pm_crash.specs.HeapChanges.{all_blocks_changed, all_pool_changed, changed, run_at, AreAllDisjoint, CanChange, HeapChange, MayBeFreed};
+ghost use Rattle.pm_crash.specs.NewObjects.{block_of_chunks, block_of_run, new_object, pool_with, pool_without, with_block, with_object, without_block, without_object, AreFreeChunks, FreesChunksBlock, FreesRunBlock, IsFreeInRun, MakesChunksObject, MakesObjectOfNewRun, MakesRunObject};
 
 /// A law: where a free block of a run is allocated, and its words are a new object's, the pool has that object more, of zeros, at an offset
 /// where none was; and else the same blocks. No code runs.
@@ -97,6 +101,17 @@ pub fn entries_change_the_heap()
     ensures blocks { (w : ℕ → ℕ) (lanes zones : ℕ) (header : Header) (pool : PoolView) (changes : List HeapChange)
         → HoldsPool w lanes zones header pool → All (CanChange w lanes zones) changes → AreAllDisjoint lanes changes
         → blocks (changed lanes changes w) lanes zones ≡ all_blocks_changed lanes changes (blocks w lanes zones) }
+{}
+
+/// A law: a block of a run, and chunks of a zone, that are free by the rule of occupancy words are free to be allocated; and each block of the
+/// heap but the root's may be freed. No code runs.
+pub fn blocks_may_be_changed()
+    ensures run { (w : ℕ → ℕ) (lanes zones c lines index : ℕ) → c < 64 * zones → w (descriptor_word lanes c) ≡ descriptor_of (Lines lines)
+        → is_taken w lanes (run_at lanes c) index ≡ false → IsFreeInRun w lanes zones c lines index }
+    ensures chunks { (w : ℕ → ℕ) (lanes zones zone first count : ℕ) → zone < zones → first < 64 → first + count ≤ 64
+        → ((k : ℕ) → k < count → is_taken w lanes (Zone zone) (first + k) ≡ false) → AreFreeChunks w lanes zones (64 * zone + first) count }
+    ensures freed { (w : ℕ → ℕ) (lanes zones : ℕ) (block : Block) → Contains (blocks w lanes zones) block → w 64 ≢ offset_in block
+        → MayBeFreed w lanes zones block }
 {}
 
 /// A law: objects with one more, where none was, have it at its offset, and objects without one have none there; at each other offset they have

@@ -30,8 +30,8 @@ pub use alone::{
 };
 pub use blocks::{
     a_freed_block_holds_none, a_new_block_holds_a_new_object, a_new_run_holds_a_new_object,
-    entries_change_the_heap, freed_chunks_hold_none, new_chunks_hold_a_new_object,
-    objects_are_told_by_their_offsets,
+    blocks_may_be_changed, entries_change_the_heap, freed_chunks_hold_none,
+    new_chunks_hold_a_new_object, objects_are_told_by_their_offsets,
 };
 pub use bounds::no_counted_call_is_idle;
 pub use calls::{

@@ -1,0 +1,11 @@
+use Rattle.pm_crash.proofs.MayChange.{free_chunks, free_in_run, may_be_freed}
+use Rattle.pm_crash.proofs.blocks.blocks_may_be_changed.Goals as goal
+
+pub returns-clause-run : goal.returns-clause-run
+returns-clause-run c = free_in_run
+
+pub returns-clause-chunks : goal.returns-clause-chunks
+returns-clause-chunks c = free_chunks
+
+pub returns-clause-freed : goal.returns-clause-freed
+returns-clause-freed c = may_be_freed
