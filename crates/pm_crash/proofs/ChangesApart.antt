@@ -137,7 +137,7 @@ module _ (w u : ℕ → ℕ) (lanes : ℕ) where
   object_by_chunks c chunks block kind size of apart object = object_stays w u block kind size object (λ i from to. of.others i (apart i from to))
 
   -- a chunk is free still where its descriptor is no run's, and no block of whole chunks reaches it
-  free_still : (zone chunk : ℕ) → is_chunk_taken w lanes zone chunk ≡ false → is_run (u (512 * zone_page lanes zone + chunk)) ≡ false
+  pub free_still : (zone chunk : ℕ) → is_chunk_taken w lanes zone chunk ≡ false → is_run (u (512 * zone_page lanes zone + chunk)) ≡ false
       → ((k : ℕ) → k ≤ chunk → reaches w lanes zone chunk k ≡ false → reaches u lanes zone chunk k ≡ false) → is_chunk_taken u lanes zone chunk ≡ false
   free_still zone chunk free no_run still =
       let row : List ℕ = range_with_len 0 (chunk + 1) in

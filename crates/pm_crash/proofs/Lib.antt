@@ -85,6 +85,8 @@ pub mod ChangedPools
 pub mod BitEntries
 pub mod OneChange
 pub mod ChangesApart
-pub mod ChangesInTurn
+pub mod ChangesBehind
 pub mod ObjectsByOffset
 pub mod MayChange
+pub mod ChangesKept
+pub mod PublishedInTurn

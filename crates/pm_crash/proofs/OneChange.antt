@@ -1,5 +1,5 @@
 -- The entry of one change of the heap makes of words that hold a pool words that hold it with that change.
-use Rattle.std.proofs.Common.{◌≡◌, ◌≢◌, ℕ, ◌+◌, ◌-◌, ◌*◌, ◌/◌, ◌^◌, ◌<◌, ◌≤◌, eqb, [], ◌∷◌, Some, None, refl, sym, ◌∙◌, subst, arith, eq-eqb, ne_eqb}
+use Rattle.std.proofs.Common.{◌≡◌, ◌≢◌, ℕ, ◌+◌, ◌-◌, ◌*◌, ◌/◌, ◌^◌, ◌<◌, ◌≤◌, eqb, Some, None, refl, sym, ◌∙◌, subst, arith, eq-eqb, ne_eqb}
 use Rattle.std.proofs.lemmas.Bool.{cond-false, cond-true}
 use Rattle.std.proofs.Math.Nat.{pow-le-pow_right}
 use Rattle.std.proofs.Math.Pow.{pow-lt}
@@ -27,12 +27,12 @@ use Rattle.pm_crash.proofs.FreedBlocks.{chunks_shrink, run_shrinks}
 use Rattle.pm_crash.proofs.MadeObjects.{bitmap_small, chunks_grow, good_bitmap, run_grows}
 
 -- the words with one entry applied: at its word, and elsewhere
-pub changed_here : (lanes : ℕ) (a : HeapChange) (w : ℕ → ℕ) (i : ℕ) → (entry_of lanes a).word ≡ i → changed lanes (a ∷ []) w i ≡ with_bits (entry_of lanes a).mask (entry_of lanes a).bits (w i)
+pub changed_here : (lanes : ℕ) (a : HeapChange) (w : ℕ → ℕ) (i : ℕ) → (entry_of lanes a).word ≡ i → changed lanes a w i ≡ with_bits (entry_of lanes a).mask (entry_of lanes a).bits (w i)
 unfolding made_final
 changed_here lanes a w i is =
     cond-true (eqb (entry_of lanes a).word i) (with_bits (entry_of lanes a).mask (entry_of lanes a).bits (w i)) (w i) (eq-eqb (entry_of lanes a).word i is)
 
-pub changed_elsewhere : (lanes : ℕ) (a : HeapChange) (w : ℕ → ℕ) (i : ℕ) → i ≢ (entry_of lanes a).word → changed lanes (a ∷ []) w i ≡ w i
+pub changed_elsewhere : (lanes : ℕ) (a : HeapChange) (w : ℕ → ℕ) (i : ℕ) → i ≢ (entry_of lanes a).word → changed lanes a w i ≡ w i
 unfolding made_final
 changed_elsewhere lanes a w i other =
     cond-false (eqb (entry_of lanes a).word i) (with_bits (entry_of lanes a).mask (entry_of lanes a).bits (w i)) (w i) (ne_eqb (entry_of lanes a).word i (λ same. other (sym same)))
@@ -78,10 +78,10 @@ chunks_block_words lanes c chunks i from to =
 module _ (w : ℕ → ℕ) (lanes zones : ℕ) (none : heap_fault w lanes zones ≡ None) where
   -- each change is one of the four
   pub allocated_in_run : (c lines index kind size : ℕ) → CanChange w lanes zones (AllocatesInRun c lines index kind size)
-      → MakesRunObject w (changed lanes (AllocatesInRun c lines index kind size ∷ []) w) lanes zones c lines index kind size
+      → MakesRunObject w (changed lanes (AllocatesInRun c lines index kind size) w) lanes zones c lines index kind size
   allocated_in_run c lines index kind size can =
       let a : HeapChange = AllocatesInRun c lines index kind size in
-      let u : ℕ → ℕ = changed lanes (a ∷ []) w in
+      let u : ℕ → ℕ = changed lanes a w in
       record {
         free = can.0;
         bitmap = changed_here lanes a w (chunk_word lanes c) refl
@@ -94,10 +94,10 @@ module _ (w : ℕ → ℕ) (lanes zones : ℕ) (none : heap_fault w lanes zones 
       }
 
   pub allocated_chunks : (c chunks kind size : ℕ) → CanChange w lanes zones (AllocatesChunks c chunks kind size)
-      → MakesChunksObject w (changed lanes (AllocatesChunks c chunks kind size ∷ []) w) lanes zones c chunks kind size
+      → MakesChunksObject w (changed lanes (AllocatesChunks c chunks kind size) w) lanes zones c chunks kind size
   allocated_chunks c chunks kind size can =
       let a : HeapChange = AllocatesChunks c chunks kind size in
-      let u : ℕ → ℕ = changed lanes (a ∷ []) w in
+      let u : ℕ → ℕ = changed lanes a w in
       record {
         free = can.0;
         descriptor = changed_here lanes a w (descriptor_word lanes c) refl ∙ made_whole (entry_of lanes a) (w (descriptor_word lanes c)) refl;
@@ -108,7 +108,7 @@ module _ (w : ℕ → ℕ) (lanes zones : ℕ) (none : heap_fault w lanes zones 
         others = λ i read other. changed_elsewhere lanes a w i other;
       }
 
-  pub freed_in_run : (c lines index : ℕ) → CanChange w lanes zones (FreesInRun c lines index) → FreesRunBlock w (changed lanes (FreesInRun c lines index ∷ []) w) lanes zones c lines index
+  pub freed_in_run : (c lines index : ℕ) → CanChange w lanes zones (FreesInRun c lines index) → FreesRunBlock w (changed lanes (FreesInRun c lines index) w) lanes zones c lines index
   freed_in_run c lines index can =
       let a : HeapChange = FreesInRun c lines index in
       record {
@@ -117,7 +117,7 @@ module _ (w : ℕ → ℕ) (lanes zones : ℕ) (none : heap_fault w lanes zones 
         others = λ i read other apart. changed_elsewhere lanes a w i other;
       }
 
-  pub freed_chunks : (c chunks : ℕ) → CanChange w lanes zones (FreesChunks c chunks) → FreesChunksBlock w (changed lanes (FreesChunks c chunks ∷ []) w) lanes zones c chunks
+  pub freed_chunks : (c chunks : ℕ) → CanChange w lanes zones (FreesChunks c chunks) → FreesChunksBlock w (changed lanes (FreesChunks c chunks) w) lanes zones c chunks
   freed_chunks c chunks can =
       let a : HeapChange = FreesChunks c chunks in
       record {
@@ -126,33 +126,33 @@ module _ (w : ℕ → ℕ) (lanes zones : ℕ) (none : heap_fault w lanes zones 
         others = λ i read other apart. changed_elsewhere lanes a w i other;
       }
 
-  pub blocks_one : (a : HeapChange) → CanChange w lanes zones a → blocks (changed lanes (a ∷ []) w) lanes zones ≡ blocks_changed lanes a (blocks w lanes zones)
+  pub blocks_one : (a : HeapChange) → CanChange w lanes zones a → blocks (changed lanes a w) lanes zones ≡ blocks_changed lanes a (blocks w lanes zones)
   blocks_one (AllocatesInRun c lines index kind size) can =
-      grown_blocks w (changed lanes (AllocatesInRun c lines index kind size ∷ []) w) lanes zones (block_of_run lanes c lines index)
-      (run_grows w (changed lanes (AllocatesInRun c lines index kind size ∷ []) w) lanes zones c lines index kind size none (allocated_in_run c lines index kind size can))
+      grown_blocks w (changed lanes (AllocatesInRun c lines index kind size) w) lanes zones (block_of_run lanes c lines index)
+      (run_grows w (changed lanes (AllocatesInRun c lines index kind size) w) lanes zones c lines index kind size none (allocated_in_run c lines index kind size can))
   blocks_one (AllocatesChunks c chunks kind size) can =
-      grown_blocks w (changed lanes (AllocatesChunks c chunks kind size ∷ []) w) lanes zones (block_of_chunks lanes c chunks)
-      (chunks_grow w (changed lanes (AllocatesChunks c chunks kind size ∷ []) w) lanes zones c chunks kind size none (allocated_chunks c chunks kind size can))
+      grown_blocks w (changed lanes (AllocatesChunks c chunks kind size) w) lanes zones (block_of_chunks lanes c chunks)
+      (chunks_grow w (changed lanes (AllocatesChunks c chunks kind size) w) lanes zones c chunks kind size none (allocated_chunks c chunks kind size can))
   blocks_one (FreesInRun c lines index) can =
-      shrunk_blocks w (changed lanes (FreesInRun c lines index ∷ []) w) lanes zones (block_of_run lanes c lines index)
-      (run_shrinks w (changed lanes (FreesInRun c lines index ∷ []) w) lanes zones c lines index none (freed_in_run c lines index can))
+      shrunk_blocks w (changed lanes (FreesInRun c lines index) w) lanes zones (block_of_run lanes c lines index)
+      (run_shrinks w (changed lanes (FreesInRun c lines index) w) lanes zones c lines index none (freed_in_run c lines index can))
   blocks_one (FreesChunks c chunks) can =
-      shrunk_blocks w (changed lanes (FreesChunks c chunks ∷ []) w) lanes zones (block_of_chunks lanes c chunks)
-      (chunks_shrink w (changed lanes (FreesChunks c chunks ∷ []) w) lanes zones c chunks none (freed_chunks c chunks can))
+      shrunk_blocks w (changed lanes (FreesChunks c chunks) w) lanes zones (block_of_chunks lanes c chunks)
+      (chunks_shrink w (changed lanes (FreesChunks c chunks) w) lanes zones c chunks none (freed_chunks c chunks can))
 
 pub holds_one : (w : ℕ → ℕ) (lanes zones : ℕ) (header : Header) (pool : PoolView) (a : HeapChange) → HoldsPool w lanes zones header pool → CanChange w lanes zones a
-    → HoldsPool (changed lanes (a ∷ []) w) lanes zones header (pool_changed lanes a pool)
+    → HoldsPool (changed lanes a w) lanes zones header (pool_changed lanes a pool)
 holds_one w lanes zones header pool (AllocatesInRun c lines index kind size) holds can =
-    let made : MakesRunObject w (changed lanes (AllocatesInRun c lines index kind size ∷ []) w) lanes zones c lines index kind size = allocated_in_run w lanes zones holds.no_fault c lines index kind size can in
-    grown_pool w (changed lanes (AllocatesInRun c lines index kind size ∷ []) w) lanes zones (block_of_run lanes c lines index)
-    (run_grows w (changed lanes (AllocatesInRun c lines index kind size ∷ []) w) lanes zones c lines index kind size holds.no_fault made) header pool kind size holds made.object
+    let made : MakesRunObject w (changed lanes (AllocatesInRun c lines index kind size) w) lanes zones c lines index kind size = allocated_in_run w lanes zones holds.no_fault c lines index kind size can in
+    grown_pool w (changed lanes (AllocatesInRun c lines index kind size) w) lanes zones (block_of_run lanes c lines index)
+    (run_grows w (changed lanes (AllocatesInRun c lines index kind size) w) lanes zones c lines index kind size holds.no_fault made) header pool kind size holds made.object
 holds_one w lanes zones header pool (AllocatesChunks c chunks kind size) holds can =
-    let made : MakesChunksObject w (changed lanes (AllocatesChunks c chunks kind size ∷ []) w) lanes zones c chunks kind size = allocated_chunks w lanes zones holds.no_fault c chunks kind size can in
-    grown_pool w (changed lanes (AllocatesChunks c chunks kind size ∷ []) w) lanes zones (block_of_chunks lanes c chunks)
-    (chunks_grow w (changed lanes (AllocatesChunks c chunks kind size ∷ []) w) lanes zones c chunks kind size holds.no_fault made) header pool kind size holds made.object
+    let made : MakesChunksObject w (changed lanes (AllocatesChunks c chunks kind size) w) lanes zones c chunks kind size = allocated_chunks w lanes zones holds.no_fault c chunks kind size can in
+    grown_pool w (changed lanes (AllocatesChunks c chunks kind size) w) lanes zones (block_of_chunks lanes c chunks)
+    (chunks_grow w (changed lanes (AllocatesChunks c chunks kind size) w) lanes zones c chunks kind size holds.no_fault made) header pool kind size holds made.object
 holds_one w lanes zones header pool (FreesInRun c lines index) holds can =
-    shrunk_pool w (changed lanes (FreesInRun c lines index ∷ []) w) lanes zones (block_of_run lanes c lines index)
-    (run_shrinks w (changed lanes (FreesInRun c lines index ∷ []) w) lanes zones c lines index holds.no_fault (freed_in_run w lanes zones holds.no_fault c lines index can)) header pool holds can.not_root
+    shrunk_pool w (changed lanes (FreesInRun c lines index) w) lanes zones (block_of_run lanes c lines index)
+    (run_shrinks w (changed lanes (FreesInRun c lines index) w) lanes zones c lines index holds.no_fault (freed_in_run w lanes zones holds.no_fault c lines index can)) header pool holds can.not_root
 holds_one w lanes zones header pool (FreesChunks c chunks) holds can =
-    shrunk_pool w (changed lanes (FreesChunks c chunks ∷ []) w) lanes zones (block_of_chunks lanes c chunks)
-    (chunks_shrink w (changed lanes (FreesChunks c chunks ∷ []) w) lanes zones c chunks holds.no_fault (freed_chunks w lanes zones holds.no_fault c chunks can)) header pool holds can.not_root
+    shrunk_pool w (changed lanes (FreesChunks c chunks) w) lanes zones (block_of_chunks lanes c chunks)
+    (chunks_shrink w (changed lanes (FreesChunks c chunks) w) lanes zones c chunks holds.no_fault (freed_chunks w lanes zones holds.no_fault c chunks can)) header pool holds can.not_root

@@ -1,5 +1,5 @@
 -- Changes of a pool's heap that one redo entry each makes: a block is allocated, whose words are a new object's already, or a block is freed.
-use Rattle.std.specs.Prelude.{◌≡◌, ◌⊎◌, ℕ, ◌+◌, ◌-◌, ◌*◌, ◌/◌, ◌%◌, ◌^◌, ◌≤◌, List, [], ◌∷◌, map, All}
+use Rattle.std.specs.Prelude.{◌≡◌, ◌⊎◌, ℕ, ◌+◌, ◌-◌, ◌*◌, ◌/◌, ◌%◌, ◌^◌, ◌≤◌, List, [], ◌∷◌}
 use Rattle.pm_layout.specs.Sizes.{descriptor_of}
 use Rattle.pm_layout.specs.declared.class.Class.TheVariants.{Chunks}
 use Rattle.pm_objects.specs.declared.pool.PoolView.{PoolView}
@@ -36,9 +36,9 @@ entry_of lanes (AllocatesChunks c chunks kind size) = final_of 0 (descriptor_wor
 entry_of lanes (FreesInRun c lines index) = final_of 2 (chunk_word lanes c) (2 ^ 64 - 1 - 2 ^ index)
 entry_of lanes (FreesChunks c chunks) = final_of 0 (descriptor_word lanes c) 0
 
--- the words with the entries of changes applied, in their order
-abbrev pub changed : ℕ → List HeapChange → (ℕ → ℕ) → ℕ → ℕ
-changed lanes changes w i = made_final (map (entry_of lanes) changes) i (w i)
+-- the words with it applied
+abbrev pub changed : ℕ → HeapChange → (ℕ → ℕ) → ℕ → ℕ
+changed lanes change w i = made_final (entry_of lanes change ∷ []) i (w i)
 
 -- what a change asks of the words before it: that its block is free and has the new object's words, or is allocated and not the root's
 abbrev pub CanChange : (ℕ → ℕ) → ℕ → ℕ → HeapChange → Type 0
@@ -60,23 +60,9 @@ blocks_changed lanes (AllocatesChunks c chunks kind size) bs = with_block (block
 blocks_changed lanes (FreesInRun c lines index) bs = without_block (block_of_run lanes c lines index).place bs
 blocks_changed lanes (FreesChunks c chunks) bs = without_block (block_of_chunks lanes c chunks).place bs
 
--- and changes one after another
-unfoldable pub all_pool_changed : ℕ → List HeapChange → PoolView → PoolView
-all_pool_changed lanes [] pool = pool
-all_pool_changed lanes (a ∷ changes) pool = all_pool_changed lanes changes (pool_changed lanes a pool)
-
-unfoldable pub all_blocks_changed : ℕ → List HeapChange → List Block → List Block
-all_blocks_changed lanes [] bs = bs
-all_blocks_changed lanes (a ∷ changes) bs = all_blocks_changed lanes changes (blocks_changed lanes a bs)
-
 -- one of two blocks ends before the other begins
 abbrev pub AreDisjoint : Block → Block → Type 0
 AreDisjoint block b = (block.place + 64 * block.lines ≤ b.place) ⊎ (b.place + 64 * b.lines ≤ block.place)
-
--- no two of the changes are of one block, nor of blocks that overlap
-abbrev pub AreAllDisjoint : ℕ → List HeapChange → Type 0
-AreAllDisjoint lanes [] = Unit {0}
-AreAllDisjoint lanes (a ∷ changes) = All (λ b. AreDisjoint (block_changed lanes a) (block_changed lanes b)) changes × AreAllDisjoint lanes changes
 
 -- the change frees this block
 abbrev pub Frees : ℕ → HeapChange → Block → Type 0
@@ -84,7 +70,7 @@ Frees lanes (FreesInRun c lines index) block = block_of_run lanes c lines index 
 Frees lanes (FreesChunks c chunks) block = block_of_chunks lanes c chunks ≡ block
 Frees lanes change block = ⊥
 
--- a change that may be made does
+-- a change that frees the block may be made
 pub record MayBeFreed (w : ℕ → ℕ) (lanes zones : ℕ) (block : Block) : Type 0 where
   pub change : HeapChange
   pub can : CanChange w lanes zones change

@@ -8,6 +8,7 @@ pub mod HeldHistory
 pub mod FreeWords
 pub mod NewObjects
 pub mod HeapChanges
+pub mod Publishing
 pub mod Lines
 pub mod OneLane
 pub mod Locks

@@ -11,10 +11,11 @@ ghost use Rattle.pm_image.specs.Blocks.{blocks, descriptor_word};
 ghost use Rattle.pm_image.specs.Contents.{offset_in, size_in};
 ghost use Rattle.pm_image.specs.HeapFaults.{heap_fault};
 ghost use Rattle.pm_view.specs.declared.occ.Occ.TheVariants.{Zone};
-ghost use Rattle.pm_view.specs.Occupancy.{is_taken};
+ghost use Rattle.pm_view.specs.Occupancy.{is_in_block, is_taken};
 ghost use Rattle.pm_crash.specs.Held.{HoldsPool};
-ghost use Rattle.pm_crash.specs.HeapChanges.{all_blocks_changed, all_pool_changed, changed, run_at, AreAllDisjoint, CanChange, HeapChange, MayBeFreed};
+ghost use Rattle.pm_crash.specs.HeapChanges.{run_at, CanChange, HeapChange, MayBeFreed};
 ghost use Rattle.pm_crash.specs.NewObjects.{block_of_chunks, block_of_run, new_object, pool_with, pool_without, with_block, with_object, without_block, without_object, AreFreeChunks, FreesChunksBlock, FreesRunBlock, IsFreeInRun, MakesChunksObject, MakesObjectOfNewRun, MakesRunObject};
+ghost use Rattle.pm_crash.specs.Publishing.{all_blocks_published, all_pool_published, published, AreInOrder, CanPublish, Published};
 
 /// A law: where a free block of a run is allocated, and its words are a new object's, the pool has that object more, of zeros, at an offset
 /// where none was; and else the same blocks. No code runs.
@@ -92,19 +93,20 @@ pub fn freed_chunks_hold_none()
         → size_in v other ≡ size_in w other }
 {}
 
-/// A law: an entry each makes changes of the heap, in their order, where each may be made from the words before them all, and their blocks lie
-/// apart: the pool and its blocks are then those with the changes. No code runs.
-pub fn entries_change_the_heap()
-    ensures pool { (w : ℕ → ℕ) (lanes zones : ℕ) (header : Header) (pool : PoolView) (changes : List HeapChange)
-        → HoldsPool w lanes zones header pool → All (CanChange w lanes zones) changes → AreAllDisjoint lanes changes
-        → HoldsPool (changed lanes changes w) lanes zones header (all_pool_changed lanes changes pool) }
-    ensures blocks { (w : ℕ → ℕ) (lanes zones : ℕ) (header : Header) (pool : PoolView) (changes : List HeapChange)
-        → HoldsPool w lanes zones header pool → All (CanChange w lanes zones) changes → AreAllDisjoint lanes changes
-        → blocks (changed lanes changes w) lanes zones ≡ all_blocks_changed lanes changes (blocks w lanes zones) }
+/// A law: an entry each makes all that is published, in its order: actions on objects, blocks that are allocated for new objects, and blocks
+/// that are freed. Each may be made from the words before them all; no two are of one block, nor of blocks that overlap, and no action is on an
+/// object whose block was changed before it. The pool and its blocks are then those with all of it. No code runs.
+pub fn entries_publish_all_at_once()
+    ensures pool { (w : ℕ → ℕ) (lanes zones : ℕ) (header : Header) (pool : PoolView) (steps : List Published)
+        → HoldsPool w lanes zones header pool → All (CanPublish w lanes zones) steps → AreInOrder lanes steps
+        → HoldsPool (published lanes steps w) lanes zones header (all_pool_published lanes steps pool) }
+    ensures blocks { (w : ℕ → ℕ) (lanes zones : ℕ) (header : Header) (pool : PoolView) (steps : List Published)
+        → HoldsPool w lanes zones header pool → All (CanPublish w lanes zones) steps → AreInOrder lanes steps
+        → blocks (published lanes steps w) lanes zones ≡ all_blocks_published lanes steps (blocks w lanes zones) }
 {}
 
-/// A law: a block of a run, and chunks of a zone, that are free by the rule of occupancy words are free to be allocated; and each block of the
-/// heap but the root's may be freed. No code runs.
+/// A law: a block of a run, and chunks of a zone, that are free by the rule of occupancy words are free to be allocated; each block of the heap
+/// but the root's may be freed; and whatever is written in allocated blocks, a change that may be made still may. No code runs.
 pub fn blocks_may_be_changed()
     ensures run { (w : ℕ → ℕ) (lanes zones c lines index : ℕ) → c < 64 * zones → w (descriptor_word lanes c) ≡ descriptor_of (Lines lines)
         → is_taken w lanes (run_at lanes c) index ≡ false → IsFreeInRun w lanes zones c lines index }
@@ -112,6 +114,8 @@ pub fn blocks_may_be_changed()
         → ((k : ℕ) → k < count → is_taken w lanes (Zone zone) (first + k) ≡ false) → AreFreeChunks w lanes zones (64 * zone + first) count }
     ensures freed { (w : ℕ → ℕ) (lanes zones : ℕ) (block : Block) → Contains (blocks w lanes zones) block → w 64 ≢ offset_in block
         → MayBeFreed w lanes zones block }
+    ensures kept { (w v : ℕ → ℕ) (lanes zones : ℕ) (change : HeapChange)
+        → CanChange w lanes zones change → ((i : ℕ) → is_in_block w lanes i ≡ false → v i ≡ w i) → CanChange v lanes zones change }
 {}
 
 /// A law: objects with one more, where none was, have it at its offset, and objects without one have none there; at each other offset they have
