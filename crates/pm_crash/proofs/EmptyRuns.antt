@@ -69,11 +69,11 @@ other_first lanes c k other (inl same) = omega arith
 other_first lanes c k other (inr inside) = omega arith
 
 -- no block has a word in the chunk's page
-abbrev IsUnused : (ℕ → ℕ) → ℕ → ℕ → Type 0
+abbrev pub IsUnused : (ℕ → ℕ) → ℕ → ℕ → Type 0
 IsUnused w lanes c = (i : ℕ) → i / 512 ≡ 2 + 2 * lanes + 65 * (c / 64) + c % 64 → is_in_block w lanes i ≡ true → ⊥
 
 -- so it is none of the chunks that are one block
-not_within : (w : ℕ → ℕ) (lanes zones c k n j : ℕ) → heap_fault w lanes zones ≡ None → IsUnused w lanes c → k < 64 * zones → class_in (w (descriptor_word lanes k)) ≡ Some (Chunks n) → j < n → k + j ≢ c
+pub not_within : (w : ℕ → ℕ) (lanes zones c k n j : ℕ) → heap_fault w lanes zones ≡ None → IsUnused w lanes c → k < 64 * zones → class_in (w (descriptor_word lanes k)) ≡ Some (Chunks n) → j < n → k + j ≢ c
 not_within w lanes zones c k n j none unused inside whole near is =
     let good : bad_chunk w lanes k ≡ false = good_chunk w lanes zones k none inside in
     let fits : k % 64 + n ≤ 64 = chunks_fit w lanes k n good whole in
@@ -209,7 +209,7 @@ module _ (w v : ℕ → ℕ) (lanes zones c : ℕ) (none : heap_fault w lanes zo
         by_heap (inr within) (inr zone) = inside (omega arith)
 
 -- nothing of a free chunk is used, and its descriptor is 0
-unused_free : (w : ℕ → ℕ) (lanes c : ℕ) → is_chunk_taken w lanes (c / 64) (c % 64) ≡ false → IsUnused w lanes c
+pub unused_free : (w : ℕ → ℕ) (lanes c : ℕ) → is_chunk_taken w lanes (c / 64) (c % 64) ≡ false → IsUnused w lanes c
 unused_free w lanes c free i here is =
     let page : ℕ = i / 512 in
     let zone : zone_of lanes page ≡ c / 64 = omega arith in
@@ -220,7 +220,7 @@ two_has_no_class : class_in 2 ≡ None
 unfolding class_in
 two_has_no_class = refl
 
-some_chunks : (d n : ℕ) → class_in d ≡ Some (Chunks n) → 0 < n
+pub some_chunks : (d n : ℕ) → class_in d ≡ Some (Chunks n) → 0 < n
 some_chunks d n whole =
     let parts = chunks_of_class d n whole in
     ⊎_elim
@@ -228,7 +228,7 @@ some_chunks d n whole =
     (λ (some : n ≢ 0). omega arith)
     (cases_eq n 0)
 
-free_is_zero : (w : ℕ → ℕ) (lanes zones c : ℕ) → heap_fault w lanes zones ≡ None → is_chunk_taken w lanes (c / 64) (c % 64) ≡ false → c < 64 * zones → w (descriptor_word lanes c) ≡ 0
+pub free_is_zero : (w : ℕ → ℕ) (lanes zones c : ℕ) → heap_fault w lanes zones ≡ None → is_chunk_taken w lanes (c / 64) (c % 64) ≡ false → c < 64 * zones → w (descriptor_word lanes c) ≡ 0
 free_is_zero w lanes zones c none free inside = by_class (class_in (w (descriptor_word lanes c))) refl where
   by_class : (class : Option Class) → class_in (w (descriptor_word lanes c)) ≡ class → w (descriptor_word lanes c) ≡ 0
   by_class None is = eqb-true (w (descriptor_word lanes c)) 0 (described w lanes c None (good_chunk w lanes zones c none inside) is)
@@ -239,7 +239,7 @@ free_is_zero w lanes zones c none free inside = by_class (class_in (w (descripto
   by_class (Some (Chunks n)) is = absurd (not_within w lanes zones c c n 0 none (unused_free w lanes c free) inside is (some_chunks (w (descriptor_word lanes c)) n is) (omega arith))
 
 -- nothing of a run without blocks is used
-class_of_run : (d lines : ℕ) → d ≡ 256 * lines + 1 → 0 < blocks_of lines → class_in d ≡ Some (Lines lines)
+pub class_of_run : (d lines : ℕ) → d ≡ 256 * lines + 1 → 0 < blocks_of lines → class_in d ≡ Some (Lines lines)
 unfolding class_in
 class_of_run d lines is some =
     let low : d % 256 ≡ 1 = omega arith in

@@ -23,7 +23,7 @@ use Rattle.pm_crash.specs.Performing.{CanPerform, performed}
 use Rattle.pm_crash.proofs.SetWords.{number_has_bytes, set_is_written}
 
 -- the words with one action's entry applied
-abbrev made : Action → (ℕ → ℕ) → ℕ → ℕ
+abbrev pub made : Action → (ℕ → ℕ) → ℕ → ℕ
 made a w = performed (a ∷ []) w
 
 -- an action in an object writes its bytes there
@@ -42,23 +42,23 @@ writes w lanes zones off value id can =
     }
 
 module _ (w : ℕ → ℕ) (lanes zones : ℕ) (header : Header) (pool : PoolView) (holds : HoldsPool w lanes zones header pool) where
-  holds_one : (a : Action) → CanPerform w lanes zones a → HoldsPool (made a w) lanes zones header (with_actions (a ∷ []) pool)
+  pub holds_one : (a : Action) → CanPerform w lanes zones a → HoldsPool (made a w) lanes zones header (with_actions (a ∷ []) pool)
   unfolding all_performed
   holds_one (SetWord id off value) can =
       subst (λ (o : ℕ). HoldsPool (made (SetWord id off value) w) lanes zones header (record pool { objects = put_object o off (number_bytes value) pool.objects })) can.begins
       (written_pool w (made (SetWord id off value) w) lanes zones off header pool can.block (number_bytes value) holds (writes w lanes zones off value id can))
 
-  keeps_others : (a : Action) → (can : CanPerform w lanes zones a) → KeepsOthers w (made a w) can.block
+  pub keeps_others : (a : Action) → (can : CanPerform w lanes zones a) → KeepsOthers w (made a w) can.block
   keeps_others (SetWord id off value) can = write_keeps_others w (made (SetWord id off value) w) lanes zones off can.block (number_bytes value) (writes w lanes zones off value id can)
 
-  blocks_one : (a : Action) → CanPerform w lanes zones a → blocks (made a w) lanes zones ≡ blocks w lanes zones
+  pub blocks_one : (a : Action) → CanPerform w lanes zones a → blocks (made a w) lanes zones ≡ blocks w lanes zones
   blocks_one a can = blocks_same w (made a w) lanes zones (heads_kept w (made a w) lanes zones can.block holds.no_fault can.is_there (keeps_others a can))
 
-  sizes_one : (a : Action) → CanPerform w lanes zones a → (block : Block) → Contains (blocks w lanes zones) block → size_in (made a w) block ≡ size_in w block
+  pub sizes_one : (a : Action) → CanPerform w lanes zones a → (block : Block) → Contains (blocks w lanes zones) block → size_in (made a w) block ≡ size_in w block
   sizes_one a can block there = sizes_kept w (made a w) lanes zones can.block block holds.no_fault can.is_there (keeps_others a can) there
 
   -- what could be performed still can
-  can_still : (a other : Action) → CanPerform w lanes zones a → CanPerform w lanes zones other → CanPerform (made a w) lanes zones other
+  pub can_still : (a other : Action) → CanPerform w lanes zones a → CanPerform w lanes zones other → CanPerform (made a w) lanes zones other
   can_still a other can c = record {
     block = c.block;
     is_there = subst (λ (bs : List Block). Contains bs c.block) (sym (blocks_one a can)) c.is_there;

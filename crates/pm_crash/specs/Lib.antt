@@ -6,6 +6,9 @@ pub mod Leading
 pub mod Alone
 pub mod HeldHistory
 pub mod FreeWords
+pub mod NewObjects
+pub mod HeapChanges
+pub mod Publishing
 pub mod Lines
 pub mod OneLane
 pub mod Locks

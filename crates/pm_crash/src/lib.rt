@@ -1,7 +1,8 @@
 //! The laws of the crash theorem: what recovered words mean, and how the words that a call makes final change the pool.
 //!
 //! Promises whoever proves an engine or the top theorem that words which hold a pool, with bytes written inside an object, hold the
-//! pool of the plain model after that write; that the blocks a lane finds are the pool's objects; that each operation of a call, its
+//! pool of the plain model after that write; that a block which is made a new object's adds it to the pool, and one that is freed takes its
+//! object away; that the blocks a lane finds are the pool's objects; that each operation of a call, its
 //! refusals and its commit are the plain model's, by what the lane's view has before and after; and that every image which a power failure
 //! leaves then holds what whole calls made, and of one lane's work means their replay, by what that lane's view has. No code stands here but laws. It stands on
 //! `pm_image` for the meaning of words, `pm_model` for calls, `pm_view` for what a lane has, `pm_world` for records; docs/MODEL.md.
@@ -9,6 +10,7 @@
 
 mod actions;
 mod alone;
+mod blocks;
 mod bounds;
 mod calls;
 mod course;
@@ -25,6 +27,11 @@ pub use alone::{
     a_call_in_flight_is_lost_by_its_generation, a_generation_rises_with_each_store_of_it,
     a_lane_alone_knows_what_is_taken, a_lane_alone_leaves_its_whole_calls, a_pool_stays_sound,
     no_record_is_torn, no_record_is_torn_behind_a_rest,
+};
+pub use blocks::{
+    a_freed_block_holds_none, a_new_block_holds_a_new_object, a_new_run_holds_a_new_object,
+    blocks_may_be_changed, entries_publish_all_at_once, freed_chunks_hold_none,
+    new_chunks_hold_a_new_object, objects_are_told_by_their_offsets,
 };
 pub use bounds::no_counted_call_is_idle;
 pub use calls::{

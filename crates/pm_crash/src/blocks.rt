@@ -1,0 +1,136 @@
+ghost use Rattle.std.specs.Prelude.{◌≡◌, ◌≢◌, ℕ, ◌+◌, ◌*◌, ◌<◌, ◌≤◌, false, List, All, Contains, Some, None};
+ghost use Rattle.std.specs.List.Sorted.{IsStrictlyIncreasing};
+ghost use Rattle.pm_header.specs.declared.header.Header.{Header};
+ghost use Rattle.pm_layout.specs.Sizes.{descriptor_of};
+ghost use Rattle.pm_layout.specs.declared.class.Class.TheVariants.{Lines};
+ghost use Rattle.pm_objects.specs.Pool.{object_at, Objects, offsets};
+ghost use Rattle.pm_objects.specs.declared.pool.Object.{Object};
+ghost use Rattle.pm_objects.specs.declared.pool.PoolView.{PoolView};
+ghost use Rattle.pm_image.specs.declared.block.Block.{Block};
+ghost use Rattle.pm_image.specs.Blocks.{blocks, descriptor_word};
+ghost use Rattle.pm_image.specs.Contents.{offset_in, size_in};
+ghost use Rattle.pm_image.specs.HeapFaults.{heap_fault};
+ghost use Rattle.pm_view.specs.declared.occ.Occ.TheVariants.{Zone};
+ghost use Rattle.pm_view.specs.Occupancy.{is_in_block, is_taken};
+ghost use Rattle.pm_crash.specs.Held.{HoldsPool};
+ghost use Rattle.pm_crash.specs.HeapChanges.{run_at, CanChange, HeapChange, MayBeFreed};
+ghost use Rattle.pm_crash.specs.NewObjects.{block_of_chunks, block_of_run, new_object, pool_with, pool_without, with_block, with_object, without_block, without_object, AreFreeChunks, FreesChunksBlock, FreesRunBlock, IsFreeInRun, MakesChunksObject, MakesObjectOfNewRun, MakesRunObject};
+ghost use Rattle.pm_crash.specs.Publishing.{all_blocks_published, all_pool_published, published, AreInOrder, CanPublish, Published};
+
+/// A law: where a free block of a run is allocated, and its words are a new object's, the pool has that object more, of zeros, at an offset
+/// where none was; and else the same blocks. No code runs.
+pub fn a_new_block_holds_a_new_object()
+    ensures pool { (w v : ℕ → ℕ) (lanes zones c lines index kind size : ℕ) (header : Header) (pool : PoolView)
+        → HoldsPool w lanes zones header pool → MakesRunObject w v lanes zones c lines index kind size
+        → HoldsPool v lanes zones header (pool_with (offset_in (block_of_run lanes c lines index)) (new_object kind size) pool) }
+    ensures blocks { (w v : ℕ → ℕ) (lanes zones c lines index kind size : ℕ)
+        → heap_fault w lanes zones ≡ None → MakesRunObject w v lanes zones c lines index kind size
+        → blocks v lanes zones ≡ with_block (block_of_run lanes c lines index) (blocks w lanes zones) }
+    ensures new { (w v : ℕ → ℕ) (lanes zones c lines index kind size : ℕ) (header : Header) (pool : PoolView)
+        → HoldsPool w lanes zones header pool → MakesRunObject w v lanes zones c lines index kind size
+        → object_at pool.objects (offset_in (block_of_run lanes c lines index)) ≡ None }
+    ensures sizes { (w v : ℕ → ℕ) (lanes zones c lines index kind size : ℕ) (other : Block)
+        → heap_fault w lanes zones ≡ None → MakesRunObject w v lanes zones c lines index kind size → Contains (blocks w lanes zones) other
+        → size_in v other ≡ size_in w other }
+{}
+
+/// A law: so it is where free chunks are made one block. No code runs.
+pub fn new_chunks_hold_a_new_object()
+    ensures pool { (w v : ℕ → ℕ) (lanes zones c chunks kind size : ℕ) (header : Header) (pool : PoolView)
+        → HoldsPool w lanes zones header pool → MakesChunksObject w v lanes zones c chunks kind size
+        → HoldsPool v lanes zones header (pool_with (offset_in (block_of_chunks lanes c chunks)) (new_object kind size) pool) }
+    ensures blocks { (w v : ℕ → ℕ) (lanes zones c chunks kind size : ℕ)
+        → heap_fault w lanes zones ≡ None → MakesChunksObject w v lanes zones c chunks kind size
+        → blocks v lanes zones ≡ with_block (block_of_chunks lanes c chunks) (blocks w lanes zones) }
+    ensures new { (w v : ℕ → ℕ) (lanes zones c chunks kind size : ℕ) (header : Header) (pool : PoolView)
+        → HoldsPool w lanes zones header pool → MakesChunksObject w v lanes zones c chunks kind size
+        → object_at pool.objects (offset_in (block_of_chunks lanes c chunks)) ≡ None }
+    ensures sizes { (w v : ℕ → ℕ) (lanes zones c chunks kind size : ℕ) (other : Block)
+        → heap_fault w lanes zones ≡ None → MakesChunksObject w v lanes zones c chunks kind size → Contains (blocks w lanes zones) other
+        → size_in v other ≡ size_in w other }
+{}
+
+/// A law: and where a free chunk is made a run with one block. No code runs.
+pub fn a_new_run_holds_a_new_object()
+    ensures pool { (w v : ℕ → ℕ) (lanes zones c lines index kind size : ℕ) (header : Header) (pool : PoolView)
+        → HoldsPool w lanes zones header pool → MakesObjectOfNewRun w v lanes zones c lines index kind size
+        → HoldsPool v lanes zones header (pool_with (offset_in (block_of_run lanes c lines index)) (new_object kind size) pool) }
+    ensures blocks { (w v : ℕ → ℕ) (lanes zones c lines index kind size : ℕ)
+        → heap_fault w lanes zones ≡ None → MakesObjectOfNewRun w v lanes zones c lines index kind size
+        → blocks v lanes zones ≡ with_block (block_of_run lanes c lines index) (blocks w lanes zones) }
+    ensures new { (w v : ℕ → ℕ) (lanes zones c lines index kind size : ℕ) (header : Header) (pool : PoolView)
+        → HoldsPool w lanes zones header pool → MakesObjectOfNewRun w v lanes zones c lines index kind size
+        → object_at pool.objects (offset_in (block_of_run lanes c lines index)) ≡ None }
+    ensures sizes { (w v : ℕ → ℕ) (lanes zones c lines index kind size : ℕ) (other : Block)
+        → heap_fault w lanes zones ≡ None → MakesObjectOfNewRun w v lanes zones c lines index kind size → Contains (blocks w lanes zones) other
+        → size_in v other ≡ size_in w other }
+{}
+
+/// A law: where a block of a run that is not the root's is freed, the pool is without its object, whatever the block's words are then; and
+/// else the same blocks. No code runs.
+pub fn a_freed_block_holds_none()
+    ensures pool { (w v : ℕ → ℕ) (lanes zones c lines index : ℕ) (header : Header) (pool : PoolView)
+        → HoldsPool w lanes zones header pool → FreesRunBlock w v lanes zones c lines index
+        → HoldsPool v lanes zones header (pool_without (offset_in (block_of_run lanes c lines index)) pool) }
+    ensures blocks { (w v : ℕ → ℕ) (lanes zones c lines index : ℕ)
+        → heap_fault w lanes zones ≡ None → FreesRunBlock w v lanes zones c lines index
+        → blocks v lanes zones ≡ without_block (block_of_run lanes c lines index).place (blocks w lanes zones) }
+    ensures sizes { (w v : ℕ → ℕ) (lanes zones c lines index : ℕ) (other : Block)
+        → heap_fault w lanes zones ≡ None → FreesRunBlock w v lanes zones c lines index → Contains (blocks v lanes zones) other
+        → size_in v other ≡ size_in w other }
+{}
+
+/// A law: so it is where a block of whole chunks is freed. No code runs.
+pub fn freed_chunks_hold_none()
+    ensures pool { (w v : ℕ → ℕ) (lanes zones c chunks : ℕ) (header : Header) (pool : PoolView)
+        → HoldsPool w lanes zones header pool → FreesChunksBlock w v lanes zones c chunks
+        → HoldsPool v lanes zones header (pool_without (offset_in (block_of_chunks lanes c chunks)) pool) }
+    ensures blocks { (w v : ℕ → ℕ) (lanes zones c chunks : ℕ)
+        → heap_fault w lanes zones ≡ None → FreesChunksBlock w v lanes zones c chunks
+        → blocks v lanes zones ≡ without_block (block_of_chunks lanes c chunks).place (blocks w lanes zones) }
+    ensures sizes { (w v : ℕ → ℕ) (lanes zones c chunks : ℕ) (other : Block)
+        → heap_fault w lanes zones ≡ None → FreesChunksBlock w v lanes zones c chunks → Contains (blocks v lanes zones) other
+        → size_in v other ≡ size_in w other }
+{}
+
+/// A law: an entry each makes all that is published, in its order: actions on objects, blocks that are allocated for new objects, and blocks
+/// that are freed. Each may be made from the words before them all; no two are of one block, nor of blocks that overlap, and no action is on an
+/// object whose block was changed before it. The pool and its blocks are then those with all of it. No code runs.
+pub fn entries_publish_all_at_once()
+    ensures pool { (w : ℕ → ℕ) (lanes zones : ℕ) (header : Header) (pool : PoolView) (steps : List Published)
+        → HoldsPool w lanes zones header pool → All (CanPublish w lanes zones) steps → AreInOrder lanes steps
+        → HoldsPool (published lanes steps w) lanes zones header (all_pool_published lanes steps pool) }
+    ensures blocks { (w : ℕ → ℕ) (lanes zones : ℕ) (header : Header) (pool : PoolView) (steps : List Published)
+        → HoldsPool w lanes zones header pool → All (CanPublish w lanes zones) steps → AreInOrder lanes steps
+        → blocks (published lanes steps w) lanes zones ≡ all_blocks_published lanes steps (blocks w lanes zones) }
+{}
+
+/// A law: a block of a run, and chunks of a zone, that are free by the rule of occupancy words are free to be allocated; each block of the heap
+/// but the root's may be freed; and whatever is written in allocated blocks, a change that may be made still may. No code runs.
+pub fn blocks_may_be_changed()
+    ensures run { (w : ℕ → ℕ) (lanes zones c lines index : ℕ) → c < 64 * zones → w (descriptor_word lanes c) ≡ descriptor_of (Lines lines)
+        → is_taken w lanes (run_at lanes c) index ≡ false → IsFreeInRun w lanes zones c lines index }
+    ensures chunks { (w : ℕ → ℕ) (lanes zones zone first count : ℕ) → zone < zones → first < 64 → first + count ≤ 64
+        → ((k : ℕ) → k < count → is_taken w lanes (Zone zone) (first + k) ≡ false) → AreFreeChunks w lanes zones (64 * zone + first) count }
+    ensures freed { (w : ℕ → ℕ) (lanes zones : ℕ) (block : Block) → Contains (blocks w lanes zones) block → w 64 ≢ offset_in block
+        → MayBeFreed w lanes zones block }
+    ensures kept { (w v : ℕ → ℕ) (lanes zones : ℕ) (change : HeapChange)
+        → CanChange w lanes zones change → ((i : ℕ) → is_in_block w lanes i ≡ false → v i ≡ w i) → CanChange v lanes zones change }
+{}
+
+/// A law: objects with one more, where none was, have it at its offset, and objects without one have none there; at each other offset they have
+/// what was there, and they are in rising offsets still. No code runs.
+pub fn objects_are_told_by_their_offsets()
+    ensures there { (objects : Objects) (off : ℕ) (object : Object) → object_at objects off ≡ None
+        → object_at (with_object off object objects) off ≡ Some object }
+    ensures others { (objects : Objects) (off other : ℕ) (object : Object) → other ≢ off
+        → object_at (with_object off object objects) other ≡ object_at objects other }
+    ensures rising { (objects : Objects) (off : ℕ) (object : Object) → IsStrictlyIncreasing (offsets objects) → object_at objects off ≡ None
+        → IsStrictlyIncreasing (offsets (with_object off object objects)) }
+    ensures gone { (objects : Objects) (off : ℕ)
+        → object_at (without_object off objects) off ≡ None }
+    ensures others_stay { (objects : Objects) (off other : ℕ) → other ≢ off
+        → object_at (without_object off objects) other ≡ object_at objects other }
+    ensures rising_still { (objects : Objects) (off : ℕ) → IsStrictlyIncreasing (offsets objects)
+        → IsStrictlyIncreasing (offsets (without_object off objects)) }
+{}
