@@ -19,7 +19,7 @@ pub record IsTakenFrom (words : List ℕ) (f : Final) : Type 0 where
   pub whole : f.mask ≡ all_bits
   pub bits : f.bits ≡ slice_index words f.word
 
-with_all_bits : (x y : ℕ) → with_bits all_bits y x ≡ y
+pub with_all_bits : (x y : ℕ) → with_bits all_bits y x ≡ y
 with_all_bits x y = ap (λ n. bit_or n y) (and_zero_r x) ∙ or_zero_l y
 
 pub made_final-taken : (words : List ℕ) (difference : List Final) (w x : ℕ) → All (IsTakenFrom words) difference → is_final difference w ≡ true → made_final difference w x ≡ slice_index words w
