@@ -330,7 +330,7 @@ module _ (o : Opening) (mem : Memory) (views : Views) (log : List Entry) (decide
       by_phase Clearing is (inr none) fits = kept none (λ t. let of_word = t.of_word in let lane = at in let of = (fits t.change t.there).of in omega arith)
       by_phase Retiring is seal fits =
           ⊎_elim (λ (same : slice_index image (area_word k) ≡ generation_of (views k)). inl (generation_unsealed image k seal ∙ same))
-          (λ (t : OwnTakenBack (views k) image (area_word k)). inr (ap (λ n. n + 1) (generation_unsealed image k seal ∙ t.is_old (fits t.change t.there).whole) ∙ (fits t.change t.there).before)) here
+          (λ (t : OwnTakenBack (views k) image (area_word k)). inr (ap (λ n. n + 1) (generation_unsealed image k seal ∙ t.is_old) ∙ (fits t.change t.there).before)) here
 
       -- which generation the image has, by how far the lane's call has come
       pub generation_is : GenerationIs (views k) (seal_word image k) (generation image k) (views k).log.phase

@@ -45,7 +45,7 @@ pub record OwnTakenBack (v : View) (image : List ℕ) (w : ℕ) : Type 0 where
   pub change : Change
   pub there : Contains v.changes change
   pub of_word : change.word ≡ w
-  pub is_old : change.mask ≡ all_bits → slice_index image w ≡ change.old
+  pub is_old : slice_index image w ≡ change.old
 
 slot_same : (one other : List ℕ) (a : ℕ) → a + 8 ≤ length one → a + 8 ≤ length other → ((i : ℕ) → a ≤ i → i < a + 8 → slice_index one i ≡ slice_index other i)
     → slice_range one a (a + 8) ≡ slice_range other a (a + 8)
@@ -125,6 +125,20 @@ module _ (o : Opening) (mem : Memory) (views : Views) (log : List Entry) (decide
       (λ (other : Logs k c.word ⊎ (is_reserved (views k) c.word ≡ true)). other)
       (lies k c inside there).of
 
+  -- a change in the lane's own area is of a whole word
+  area_whole : (k : ℕ) (c : Change) (phase : Phase) → k < o.lanes → c.word < area_word k + 1024 → ChangeFits (views k) c phase → c.mask ≡ all_bits
+  area_whole k c Idle inside high fits = absurd fits
+  area_whole k c (Open slot pair) inside high fits = fits.whole
+  area_whole k c Drawn inside high fits = absurd fits
+  area_whole k c Sealing inside high fits = fits.whole
+  area_whole k c (Applying applied) inside high fits =
+      let at = lane_is k inside in
+      ⊎_elim (λ (written : is_written (views k) c.word ≡ true). let behind = written_behind k c.word inside written in absurd (omega arith))
+      (λ (own : c.word ≡ area_word (views k).lane). (fits.0.next own).0)
+      (whole_word (views k) (records_generation (Applying applied) (views k)) c.word fits.1 (entered_front applied (views k).log.entries c.word fits.0.of))
+  area_whole k c Clearing inside high fits = fits.whole
+  area_whole k c Retiring inside high fits = fits.whole
+
   -- a change in an area is its lane's
   change_inside : (j k : ℕ) (c : Change) → j < o.lanes → k < o.lanes → Contains (views j).changes c → area_word k ≤ c.word → c.word < area_word k + 1024 → j ≡ k
   change_inside j k c j_inside inside there low high =
@@ -192,7 +206,8 @@ module _ (o : Opening) (mem : Memory) (views : Views) (log : List Entry) (decide
         (λ (t : TakenBack views o.lanes image w).
         let is = t.of_word in
         let who : t.lane ≡ k = change_inside t.lane k t.change t.of_lane inside t.there (omega arith) (omega arith) in
-        inr (record { change = t.change; there = subst (λ j. Contains (views j).changes t.change) who t.there; of_word = t.of_word; is_old = t.is_old }))
+        let there : Contains (views k).changes t.change = subst (λ j. Contains (views j).changes t.change) who t.there in
+        inr (record { change = t.change; there = there; of_word = t.of_word; is_old = t.is_old (area_whole k t.change (views k).log.phase inside (omega arith) (fits_of k t.change inside there)) }))
         (word_left w (omega arith))
 
     -- by how far the lane's call has come, which seal the image has where a change of it was taken back
@@ -207,13 +222,13 @@ module _ (o : Opening) (mem : Memory) (views : Views) (log : List Entry) (decide
         ⊎_elim (λ (logged : is_logged (views k) t.change.word ≡ true). let behind = logged_behind k t.change.word inside logged in omega arith)
         (λ (own : is_reserved (views k) t.change.word ≡ true). let behind = (reserved_word k t.change.word inside own).behind in omega arith) last) other) fits.of)
     seal_before k Drawn inside t fits = absurd fits
-    seal_before k Sealing inside t fits = inr (t.is_old fits.whole ∙ fits.before)
+    seal_before k Sealing inside t fits = inr (t.is_old ∙ fits.before)
     seal_before k (Applying applied) inside t fits =
         let is = t.of_word in let at = lane_is k inside in
         absurd (⊎_elim (λ (written : is_written (views k) t.change.word ≡ true). let behind = written_behind k t.change.word inside written in omega arith)
         (λ (own : t.change.word ≡ area_word (views k).lane). omega arith)
         (whole_word (views k) (records_generation (Applying applied) (views k)) t.change.word fits.1 (entered_front applied (views k).log.entries t.change.word fits.0.of)))
-    seal_before k Clearing inside t fits = inl (t.is_old fits.whole ∙ fits.before)
+    seal_before k Clearing inside t fits = inl (t.is_old ∙ fits.before)
     seal_before k Retiring inside t fits = let is = t.of_word in let at = lane_is k inside in let of = fits.of in absurd (omega arith)
 
     seal_here : (v : View) (seal : ℕ) (phase : Phase) → seal ≡ seal_in phase v → SealIs v seal phase

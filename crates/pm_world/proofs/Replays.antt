@@ -45,18 +45,6 @@ replayed-same keep other (e ∷ log) w x same =
     ap (replayed keep log w) one
     ∙ replayed-same keep other log w (cond (other e.number) (made_final e.difference w x) x) (λ d there. same d (suc there.0, (let inside = there.1 in omega arith), there.2))
 
--- the last entry of the word is kept, and makes it y
-pub replayed-last : (keep : ℕ → Bool) (n : ℕ) (log : List Entry) (w x y : ℕ) (e : Entry) → AreNumbered n log → Contains log e → keep e.number ≡ true → ((z : ℕ) → made_final e.difference w z ≡ y)
-    → ((d : Entry) → Contains log d → e.number < d.number → is_final d.difference w ≡ false) → replayed keep log w x ≡ y
-unfolding replayed AreNumbered
-replayed-last keep n [] w x y e numbered (k, inside, at) kept makes last = absurd (omega arith)
-replayed-last keep n (d ∷ log) w x y e numbered (zero, inside, at) kept makes last =
-    let first = numbered.0 in let same = ap (λ (z : Entry). z.number) at in
-    ap (replayed keep log w) (cond-true _ _ _ (ap (λ (z : Entry). keep z.number) at ∙ kept) ∙ (ap (λ (z : Entry). made_final z.difference w x) at ∙ makes x))
-    ∙ replayed-other keep log w y (λ c there. let later = number_from (n + 1) log c numbered.1 there in last c (suc there.0, (let i = there.1 in omega arith), there.2) (omega arith))
-replayed-last keep n (d ∷ log) w x y e numbered (suc k, inside, at) kept makes last =
-    replayed-last keep (n + 1) log w (cond (keep d.number) (made_final d.difference w x) x) y e numbered.1 (k, omega arith, at) kept makes (λ c there. last c (suc there.0, (let i = there.1 in omega arith), there.2))
-
 -- the last entry of the word is kept by one test and left out by another, which agree on those before: it makes the word what it makes of what the
 -- other gives
 pub replayed-added : (keep other : ℕ → Bool) (n : ℕ) (log : List Entry) (w x : ℕ) (e : Entry) → AreNumbered n log → Contains log e → keep e.number ≡ true → other e.number ≡ false
