@@ -16,7 +16,7 @@ use Rattle.pm_view.specs.declared.occ.Occ.{Occ}
 use Rattle.pm_view.specs.Area.{Part, area_word, is_in_area, part_of}
 use Rattle.pm_view.specs.declared.occ.Occ.{Occ}
 use Rattle.pm_view.specs.Area.Part.{EntryWord, GenerationWord, OtherWord, SealWord, SlotWord}
-use Rattle.pm_view.specs.Changes.{drained, is_in_line, mark, store_change, or_change}
+use Rattle.pm_view.specs.Changes.{drained, is_in_line, mark, store_change, or_change, and_change}
 use Rattle.pm_view.specs.Founds.{FoundAlone, IsAlone}
 use Rattle.pm_view.specs.Held.{is_held, is_known, is_reserved, is_under}
 use Rattle.pm_view.specs.Log.{Final, Log, Phase, Recorded, log_drained, log_drawn, log_stored, phase_drawn, with_pair, with_slot, log_changed}
@@ -26,7 +26,7 @@ use Rattle.pm_view.specs.Steps.{Step}
 use Rattle.pm_view.specs.Steps.Step.{Load, Store, Or, And, Flush, Drain, TakeWrite, TakeRead, Raise, Give, ZoneTry, ZoneGive, Occupied, Occupy, Vacate, Draw, NumberSeen, StopSeen, SetStop, Tell}
 use Rattle.pm_view.specs.View.{Lock, View}
 use Rattle.pm_view.specs.Views.{after, begun, changed, log_after_drain, with_seen, without_taken}
-use Rattle.pm_world.specs.Entries.{ends_with, set_word}
+use Rattle.pm_world.specs.Entries.{ends_with, set_word, final_by}
 use Rattle.pm_world.specs.Fits.{ApplyingFits, LaneFits, PhaseFits, SealingFits}
 use Rattle.pm_world.specs.History.{Flies, settled}
 use Rattle.pm_world.specs.Lawful.{Allowed, AppendsToPair, AppendsToSlot, CanRecord, EndsGeneration, GiveFits, IsNextEntry, MayGive, MayWrite, StoreFits, MayChange}
@@ -50,7 +50,8 @@ use Rattle.pm_crash.proofs.AloneImages.{own_fits}
 use Rattle.pm_crash.proofs.LogCourse.{Paired, paired}
 use Rattle.pm_crash.proofs.AloneMemory.{load_moves, load_words, memory_of}
 use Rattle.pm_record.specs.declared.redo.Op.{Op}
-use Rattle.pm_world.proofs.StepChange.{changes_next, changes_written}
+use Rattle.pm_world.proofs.StepChange.{changes_next, changes_written, no_generation}
+use Rattle.pm_world.proofs.StorePair.{final_word}
 
 -- from this word on the slots are as at the origin, and so is what undrained stores found in them
 pub record Unwritten (o : Opening) (v : View) (end : ℕ) : Type 0 where

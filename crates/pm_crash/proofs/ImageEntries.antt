@@ -6,6 +6,7 @@ use Rattle.std.proofs.lemmas.Bool.{and_from, and_right, cases_Bool, cases_eq, ca
 use Rattle.std.proofs.lemmas.List.Elements.{All-weaker}
 use Rattle.std.proofs.lemmas.List.Folds.{list_any_none}
 use Rattle.std.proofs.lemmas.Option.{get_or_from_slice_get, slice_get-get_or, slice_get_within}
+use Rattle.pm_record.specs.declared.redo.Op.TheVariants.{Set}
 use Rattle.pm_record.specs.Redo.{redo_of}
 use Rattle.pm_record.specs.Undo.{undo_of}
 use Rattle.pm_record.specs.declared.redo.Redo.{Redo}
@@ -44,6 +45,7 @@ use Rattle.pm_world.proofs.StoreEntry.{entered_early, entered_owned}
 use Rattle.pm_world.proofs.StoreSlot.{get-push_cases}
 use Rattle.pm_crash.proofs.Guarded.{guarded_in_chunk}
 use Rattle.pm_crash.proofs.LogCourse.{InRange}
+use Rattle.pm_record.specs.declared.redo.Op.{Op}
 
 -- what the image has for the lane's generation word, by how far its call has come
 abbrev pub WordIs : View → ℕ → Phase → Type 0
@@ -221,11 +223,11 @@ module _ (o : Opening) (mem : Memory) (views : Views) (log : List Entry) (decide
 
     -- the last entry sets the generation
     ends_by : (i : ℕ) (f : Final) (at : IsEntryAt (views j) i f) → f ≡ ends_with (views j) (sealed_generation (views j).log.phase (views j))
-        → redo_on ((fits j inside).entries.each i f at).op f.word ((fits j inside).entries.each i f at).value ≡ redo_on Set (area_word (views j).lane) (sealed_generation (views j).log.phase (views j))
+        → redo_on ((x.each_lane j inside).entries.each i f at).op f.word ((x.each_lane j inside).entries.each i f at).value ≡ redo_on Set (area_word (views j).lane) (sealed_generation (views j).log.phase (views j))
     ends_by i f at is =
         let v : View = views j in
         let g : ℕ = sealed_generation v.log.phase v in
-        let s = (fits j inside).entries.each i f at in
+        let s = (x.each_lane j inside).entries.each i f at in
         let word : f.word ≡ area_word v.lane = ap (λ (h : Final). h.word) is in
         let sets : s.op ≡ Set = ⊎_elim
         (λ (own : is_written v f.word ≡ true). let far = written_behind o mem views log decided x j f.word inside own in let lane = lane_is o mem views log decided x j inside in absurd (omega (arith, far, word, lane, inside)))
@@ -243,7 +245,7 @@ module _ (o : Opening) (mem : Memory) (views : Views) (log : List Entry) (decide
         let f : Final = get_or v.log.entries i d in
         let at : IsEntryAt v i f = slice_get-get_or v.log.entries i d (omega (arith, low, full)) in
         let size : length v.log.entries ≡ length whole.front + 1 = ap length whole.are ∙ length-append whole.front (d ∷ []) in
-        let s = (fits j inside).entries.each i f at in
+        let s = (x.each_lane j inside).entries.each i f at in
         let read : redo_of (entry_pair image j i) ≡ Some (redo_on s.op f.word s.value) = ap redo_of (entry_read o mem views log decided x image survives j i f inside sealed (omega (arith, low, few)) at) ∙ redo_again s.op f.word s.value in
         ap (good_entry image o.lanes o.zones j i) read
         ∙ ⊎_elim

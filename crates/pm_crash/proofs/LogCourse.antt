@@ -11,7 +11,7 @@ use Rattle.pm_record.specs.declared.redo.Op.{Op}
 use Rattle.pm_view.specs.declared.change.Change.{Change}
 use Rattle.pm_view.specs.Area.{Part, area_word, is_in_area, part_of}
 use Rattle.pm_view.specs.Area.Part.{EntryWord, GenerationWord, OtherWord, SealWord, SlotWord}
-use Rattle.pm_view.specs.Changes.{drained, flushed, is_in_line, mark, store_change, or_change}
+use Rattle.pm_view.specs.Changes.{drained, flushed, is_in_line, mark, store_change, or_change, and_change}
 use Rattle.pm_view.specs.Held.{is_reserved}
 use Rattle.pm_view.specs.Log.{Final, Log, Phase, Recorded, log_drained, log_drawn, log_stored, phase_drawn, with_pair, with_slot, log_changed}
 use Rattle.pm_view.specs.Log.Phase.{Idle, Open, Drawn, Sealing, Applying, Clearing, Retiring}
