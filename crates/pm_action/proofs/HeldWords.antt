@@ -1,5 +1,5 @@
 -- The words that actions set, of objects that the lane holds in a sound pool, are of the pool, and under its locks.
-use Rattle.std.proofs.Common.{◌≡◌, ℕ, ◌+◌, ◌-◌, ◌*◌, ◌/◌, ◌<◌, ◌≤◌, Bool, true, false, not, leb, ltb, eqb, ◌&&◌, ◌||◌, All, Contains, List, map, length, Some, is_some, refl, ap, ◌∙◌, subst, arith}
+use Rattle.std.proofs.Common.{◌≡◌, ℕ, ◌+◌, ◌-◌, ◌*◌, ◌/◌, ◌<◌, ◌≤◌, Bool, true, false, not, leb, ltb, eqb, ◌&&◌, ◌||◌, All, Contains, List, map, length, Some, is_some, refl, ap, ◌∙◌, subst, arith, inl}
 use Rattle.std.specs.Prelude.{IfSome}
 use Rattle.std.proofs.lemmas.Bool.{and_from, and_right, le-leb, le-ltb, lt-ltb, or_right}
 use Rattle.std.proofs.lemmas.List.Elements.{All-contains, All-map, All-weaker}
