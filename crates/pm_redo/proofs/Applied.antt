@@ -190,22 +190,22 @@ module _ (v : View) (place : HasPlace v) (entries : List Redo) (are : AreEntered
       -- an entry that sets its word
       sets : e.op ≡ Set → MayStore u w e.value × HasApplied (k + 1) (after u (Store w e.value))
       sets is = (
-          record { inside = inside_still; room = room_still; fits = next },
-          applied e.value (store_change w (slice_index u.words w) e.value) (log_stored u.log.phase (part_of u.lane w) e.value u.log)
-              (by_part (λ part. log_stored u.log.phase part e.value u.log ≡ record v.log { phase = Applying (k + 1) }) (stored GenerationWord refl) (stored OtherWord refl))
-              (sym (with_all_bits (slice_index u.words w) e.value) ∙ ap (λ (g : Final). with_bits g.mask g.bits (slice_index u.words w)) (sym whole))
-              (λ out. (pool_word out).entry.word),
-        ) where
-          whole : f ≡ set_word w e.value
-          whole = ap (λ op. final_by op w e.value) is
+        record { inside = inside_still; room = room_still; fits = next },
+        applied e.value (store_change w (slice_index u.words w) e.value) (log_stored u.log.phase (part_of u.lane w) e.value u.log)
+            (by_part (λ part. log_stored u.log.phase part e.value u.log ≡ record v.log { phase = Applying (k + 1) }) (stored GenerationWord refl) (stored OtherWord refl))
+            (sym (with_all_bits (slice_index u.words w) e.value) ∙ ap (λ (g : Final). with_bits g.mask g.bits (slice_index u.words w)) (sym whole))
+            (λ out. (pool_word out).entry.word),
+      ) where
+        whole : f ≡ set_word w e.value
+        whole = ap (λ op. final_by op w e.value) is
 
-          next : StoreFits u w e.value u.log.phase (part_of u.lane w)
-          next =
-              let at_k = here (set_word w e.value) whole in
-              subst (λ phase. StoreFits u w e.value phase (part_of u.lane w)) (sym (ap (λ (l : Log). l.phase) has.log)) (by_part (StoreFits u w e.value (Applying k)) at_k at_k)
+        next : StoreFits u w e.value u.log.phase (part_of u.lane w)
+        next =
+            let at_k = here (set_word w e.value) whole in
+            subst (λ phase. StoreFits u w e.value phase (part_of u.lane w)) (sym (ap (λ (l : Log). l.phase) has.log)) (by_part (StoreFits u w e.value (Applying k)) at_k at_k)
 
-          stored : (part : Part) → log_stored (Applying k) part e.value (record v.log { phase = Applying k }) ≡ record v.log { phase = Applying (k + 1) } → log_stored u.log.phase part e.value u.log ≡ record v.log { phase = Applying (k + 1) }
-          stored part made = ap (λ (l : Log). log_stored l.phase part e.value l) has.log ∙ made
+        stored : (part : Part) → log_stored (Applying k) part e.value (record v.log { phase = Applying k }) ≡ record v.log { phase = Applying (k + 1) } → log_stored u.log.phase part e.value u.log ≡ record v.log { phase = Applying (k + 1) }
+        stored part made = ap (λ (l : Log). log_stored l.phase part e.value l) has.log ∙ made
 
       -- one that sets or clears bits of it
       may : (op : Op) → (op ≡ Set → ⊥) → e.op ≡ op → MayChange u op w e.value
@@ -227,18 +227,22 @@ module _ (v : View) (place : HasPlace v) (entries : List Redo) (are : AreEntered
       ors_bits : e.op ≡ Or → MayChange u Or w e.value × HasApplied (k + 1) (after u (OrStep w e.value (slice_index u.words w)))
       ors_bits is =
           let found : ℕ = slice_index u.words w in
-          let m = may Or (λ sets. absurd cc) is in
-          (m, applied (bit_or found e.value) (or_change w e.value found) (log_changed u.log.phase u.log) log_on
-          (or_makes e.value found m.word m.known.small ∙ ap (λ op. with_bits (final_by op w e.value).mask (final_by op w e.value).bits found) (sym is))
-          (λ out. or_lt 64 found e.value m.known.small m.word))
+          let m = may Or (λ sets. absurd cc) is in (
+            m,
+            applied (bit_or found e.value) (or_change w e.value found) (log_changed u.log.phase u.log) log_on
+                (or_makes e.value found m.word m.known.small ∙ ap (λ op. with_bits (final_by op w e.value).mask (final_by op w e.value).bits found) (sym is))
+                (λ out. or_lt 64 found e.value m.known.small m.word),
+          )
 
       ands_bits : e.op ≡ And → MayChange u And w e.value × HasApplied (k + 1) (after u (AndStep w e.value (slice_index u.words w)))
       ands_bits is =
           let found : ℕ = slice_index u.words w in
-          let m = may And (λ sets. absurd cc) is in
-          (m, applied (bit_and found e.value) (and_change w e.value found) (log_changed u.log.phase u.log) log_on
-          (and_makes e.value found m.word ∙ ap (λ op. with_bits (final_by op w e.value).mask (final_by op w e.value).bits found) (sym is))
-          (λ out. let least = and_le_r found e.value in let word_ = m.word in omega (arith, least, word_)))
+          let m = may And (λ sets. absurd cc) is in (
+            m,
+            applied (bit_and found e.value) (and_change w e.value found) (log_changed u.log.phase u.log) log_on
+                (and_makes e.value found m.word ∙ ap (λ op. with_bits (final_by op w e.value).mask (final_by op w e.value).bits found) (sym is))
+                (λ out. let least = and_le_r found e.value in let word_ = m.word in omega (arith, least, word_)),
+          )
 
     -- no room has to be made
     in_place : (R : View → Type 0) (u m : View) → HasApplied k u → HasMadeRoom u m → R u → R m

@@ -195,15 +195,21 @@ module _ (m : Solo) (held : m ≡ with_lock (opened m.words None) 193 (writer_bi
 
     pub may_apply_bits : IsReady (Sees m) (applies four)
     unfolding IsReady
-    may_apply_bits = (knowing, (sees_knowing, (apply_lawful knowing (let p = place (Applying 0) four in record { lane = p.lane; few = p.few; inside = p.inside }) four (record {
-      front = heap ∷ sets_bit ∷ clears_bits ∷ [];
-      are = ap (λ (x : ℕ). let e : Redo = record { place = 4096; op = Set; value = x + 1 } in heap ∷ sets_bit ∷ clears_bits ∷ e ∷ []) (sym generation);
-      each = All-cons (IsOfPool knowing) heap (sets_bit ∷ clears_bits ∷ []) (front_of_pool heap refl (omega arith))
-          (All-cons (IsOfPool knowing) sets_bit (clears_bits ∷ []) (front_of_pool sets_bit refl (omega arith))
-          (All-cons (IsOfPool knowing) clears_bits [] (front_of_pool clears_bits refl (omega arith)) (All-nil (IsOfPool knowing))));
-      logged = refl;
-      most = omega arith;
-    }) refl refl).0))
+    may_apply_bits = (
+      knowing,
+      (
+        sees_knowing,
+        (apply_lawful knowing (let p = place (Applying 0) four in record { lane = p.lane; few = p.few; inside = p.inside }) four (record {
+          front = heap ∷ sets_bit ∷ clears_bits ∷ [];
+          are = ap (λ (x : ℕ). let e : Redo = record { place = 4096; op = Set; value = x + 1 } in heap ∷ sets_bit ∷ clears_bits ∷ e ∷ []) (sym generation);
+          each = All-cons (IsOfPool knowing) heap (sets_bit ∷ clears_bits ∷ []) (front_of_pool heap refl (omega arith))
+              (All-cons (IsOfPool knowing) sets_bit (clears_bits ∷ []) (front_of_pool sets_bit refl (omega arith))
+              (All-cons (IsOfPool knowing) clears_bits [] (front_of_pool clears_bits refl (omega arith)) (All-nil (IsOfPool knowing))));
+          logged = refl;
+          most = omega arith;
+        }) refl refl).0,
+      ),
+    )
 
   pub may_clear : IsReady (Sees m) clears
   unfolding IsReady

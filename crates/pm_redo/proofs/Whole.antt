@@ -64,7 +64,7 @@ of_pool_kept v w e call same o = record {
   outside = ap (λ j. is_in_area j (e.place / 8)) call.lane.lane ∙ o.outside;
   inside = let size = call.lane.size in let inside = o.inside in omega (arith, size, inside);
   known = ⊎_elim inl (λ (t : IsKnownWord v (e.place / 8)). inr (record {
-      known = call.remembers (e.place / 8) t.known;
-      small = subst (λ n. n < 2 ^ 64) (sym (same (e.place / 8) o.outside)) t.small;
-    })) o.known;
+    known = call.remembers (e.place / 8) t.known;
+    small = subst (λ n. n < 2 ^ 64) (sym (same (e.place / 8) o.outside)) t.small;
+  })) o.known;
 }

@@ -278,16 +278,16 @@ module _ (count : ℕ) where
     by_op Or = bits (Or_step (e.place / 8) e.value) (λ x. refl) (λ w x is. ap (λ (phase : Phase). (log_changed phase w.log).phase) is) (λ w x. refl) (λ w x. refl)
     by_op And = bits (And_step (e.place / 8) e.value) (λ x. refl) (λ w x is. ap (λ (phase : Phase). (log_changed phase w.log).phase) is) (λ w x. refl) (λ w x. refl)
     by_op Set =
-      let word : ℕ = e.place / 8 in
-      store_course 0 (λ p. p ≡ Applying k) (applying_lasts k) (unapplied_so (λ p. p ≡ Applying k) (at_unapplied k (omega (arith, low)))) (InPhase 0 true (λ p. p ≡ Applying (k + 1))) word e.value
-      (unapplied_so (λ p. p ≡ Applying (k + 1)) (at_unapplied (k + 1) (omega (arith, low))))
-      (λ r w p. (
-        none_raised (Store word e.value) (ap (λ (b : Bool). cond b 1 0) (ne_eqb word 512 (other_than_generation word outside))) r 0 p.0,
-        p.1,
-        p.2,
-        ap (λ (part : Part). (log_stored w.log.phase part e.value w.log).phase) (ap (λ l. part_of l word) p.1 ∙ other_part 0 word outside)
-            ∙ ap (λ (phase : Phase). (log_stored phase OtherWord e.value w.log).phase) p.3,
-      ))
+        let word : ℕ = e.place / 8 in
+        store_course 0 (λ p. p ≡ Applying k) (applying_lasts k) (unapplied_so (λ p. p ≡ Applying k) (at_unapplied k (omega (arith, low)))) (InPhase 0 true (λ p. p ≡ Applying (k + 1))) word e.value
+        (unapplied_so (λ p. p ≡ Applying (k + 1)) (at_unapplied (k + 1) (omega (arith, low))))
+        (λ r w p. (
+          none_raised (Store word e.value) (ap (λ (b : Bool). cond b 1 0) (ne_eqb word 512 (other_than_generation word outside))) r 0 p.0,
+          p.1,
+          p.2,
+          ap (λ (part : Part). (log_stored w.log.phase part e.value w.log).phase) (ap (λ l. part_of l word) p.1 ∙ other_part 0 word outside)
+              ∙ ap (λ (phase : Phase). (log_stored phase OtherWord e.value w.log).phase) p.3,
+        ))
 
   last_course : (g : ℕ) → Course I (InPhase 0 true (λ p. p ≡ Applying count)) (applies_entry (ending_of 0 g)) (InPhase 1 true (λ p. p ≡ Applying (count + 1)))
   unfolding applies_entry

@@ -264,9 +264,11 @@ module _ (o : Opening) (mem : Memory) (views : Views) (log : List Entry) (decide
           let t = read_all (λ i. redo_of (entry_pair image k i)) (views k).log.entries 0 (λ i f at.
           let low = within (views k).log.entries i f at in let most = (x.each_lane k inside).entries.most in
           let first : 0 + i ≡ i = omega arith in
-          let s = stands k i f inside at in
-          (redo_on s.op f.word s.value, record { place = refl; is = s.is; word = s.may.word; part = s.may.part },
-          ap (λ j. redo_of (entry_pair image k j)) first ∙ (ap redo_of (entry_read k i f inside sealed (omega arith) at) ∙ redo_again s.op f.word s.value))) in
+          let s = stands k i f inside at in (
+            redo_on s.op f.word s.value,
+            record { place = refl; is = s.is; word = s.may.word; part = s.may.part },
+            ap (λ j. redo_of (entry_pair image k j)) first ∙ (ap redo_of (entry_read k i f inside sealed (omega arith) at) ∙ redo_again s.op f.word s.value),
+          )) in
           (t.0, t.1, sym (entries_sealed image k is_sealed_there) ∙ (ap (λ n. filter_map (λ i. redo_of (entry_pair image k i)) (range_with_len 0 n)) full ∙ t.2)) where
             within : (fs : List Final) (i : ℕ) (f : Final) → slice_get fs i ≡ Some f → i < length fs
             within [] i f at = absurd (none-some f at)

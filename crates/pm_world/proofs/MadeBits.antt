@@ -98,9 +98,9 @@ beside_both f entries w i others first =
     let none = first (eqb-true f.word w t.0) in let one = eqb-true (bit_at f.mask i) 1 t.1 in absurd (omega arith))
     (λ (later : is_bit_entered entries w i ≡ true). false≢true (sym others ∙ later))
     (or_cases (eqb f.word w && eqb (bit_at f.mask i) 1) (is_bit_entered entries w i) e)) where
-  parts : (a b : Bool) → (a && b) ≡ true → (a ≡ true) × (b ≡ true)
-  parts true b e = (refl, e)
-  parts false b e = absurd (false≢true e)
+      parts : (a b : Bool) → (a && b) ≡ true → (a ≡ true) × (b ≡ true)
+      parts true b e = (refl, e)
+      parts false b e = absurd (false≢true e)
 
 -- what entries of the word make of it is said by the bits beside them
 pub made_final-agree : (entries : List Final) (w x y : ℕ) → All IsMasked entries → is_entered entries w ≡ true → AgreeBeside entries w x y → made_final entries w x ≡ made_final entries w y
@@ -133,12 +133,12 @@ made_final-agree (f ∷ entries) w x y masked e agree =
     ∙ (made_final-agree entries w x y rest later (λ i small others. agree i small (beside_both f entries w i others (λ here. absurd (false≢true (sym other ∙ eq-eqb f.word w here)))))
     ∙ sym (ap (made_final entries w) (cond-false _ _ _ other))))
     (cases_Bool (eqb f.word w)) where
-  -- no entry is of the word, so none is of a bit of it
-  unentered : (fs : List Final) (u i : ℕ) → is_entered fs u ≡ false → is_bit_entered fs u i ≡ false
-  unentered [] u i none = refl
-  unentered (g ∷ fs) u i none =
-      let t = or_parts (eqb g.word u) (is_entered fs u) none in
-      beside_both g fs u i (unentered fs u i t.1) (λ here. absurd (false≢true (sym t.0 ∙ eq-eqb g.word u here)))
+      -- no entry is of the word, so none is of a bit of it
+      unentered : (fs : List Final) (u i : ℕ) → is_entered fs u ≡ false → is_bit_entered fs u i ≡ false
+      unentered [] u i none = refl
+      unentered (g ∷ fs) u i none =
+          let t = or_parts (eqb g.word u) (is_entered fs u) none in
+          beside_both g fs u i (unentered fs u i t.1) (λ here. absurd (false≢true (sym t.0 ∙ eq-eqb g.word u here)))
 
 -- and those bits stay
 pub made_final-beside : (entries : List Final) (w x : ℕ) → All IsMasked entries → AgreeBeside entries w (made_final entries w x) x
