@@ -1,5 +1,5 @@
 -- The words that actions set, of objects that the lane holds in a sound pool, are of the pool, and under its locks.
-use Rattle.std.proofs.Common.{◌≡◌, ℕ, ◌+◌, ◌-◌, ◌*◌, ◌/◌, ◌<◌, ◌≤◌, Bool, true, false, not, leb, ltb, eqb, ◌&&◌, ◌||◌, All, Contains, List, map, length, Some, is_some, refl, ap, ◌∙◌, subst, arith}
+use Rattle.std.proofs.Common.{◌≡◌, ℕ, ◌+◌, ◌-◌, ◌*◌, ◌/◌, ◌<◌, ◌≤◌, Bool, true, false, not, leb, ltb, eqb, ◌&&◌, ◌||◌, All, Contains, List, map, length, Some, is_some, refl, ap, ◌∙◌, subst, arith, inl}
 use Rattle.std.specs.Prelude.{IfSome}
 use Rattle.std.proofs.lemmas.Bool.{and_from, and_right, le-leb, le-ltb, lt-ltb, or_right}
 use Rattle.std.proofs.lemmas.List.Elements.{All-contains, All-map, All-weaker}
@@ -80,10 +80,11 @@ module _ (v : View) (finds : FindsSound v) (objects : FindsObjects v) where
       let own : (l.write && is_some l.block && is_under w l) ≡ true =
       and_from (l.write && is_some l.block) (is_under w l) (and_from l.write (is_some l.block) (write_so l.write h.allows) (ap is_some f.block)) (ap (λ b. is_under_found l.line b w) f.block ∙ under) in
       record {
-        setting = record { aligned = omega (arith, place, aligned); sets = refl };
+        entry = record { aligned = omega (arith, place, aligned); word = low; part = λ or. absurd cc };
         own = list_any_at (λ (m : Lock). m.write && is_some m.block && is_under w m) v.locks h.held.0 l h.held.1 (ap (λ (m : Lock). m.write && is_some m.block && is_under w m) h.held.2 ∙ own);
         outside = word_outside l h.held w under;
         inside = word_inside l h.held w under;
+        known = inl refl;
       }
 
   pub all_of_pool : (actions : List Action) → All (CanSet v) actions → All (IsOfPool v) (map entry_of actions)

@@ -38,7 +38,7 @@ use Rattle.pm_crash.specs.Alone.{BeginsAlone, alone_views, idle_view}
 use Rattle.pm_crash.specs.HeldHistory.{DrawsEnded, IsEndedCall}
 use Rattle.pm_crash.specs.Leading.{Leads}
 use Rattle.pm_crash.specs.OneLane.{IsModelStep, IsPaid, Makes, Moment, Move, moved}
-use Rattle.pm_crash.proofs.AloneMemory.{draw_moves, drain_moves, flush_moves, give_moves, in_picture, load_moves, memory_of, number_moves, occupied_moves, occupy_moves, one_if, same_memory, sizes_after, store_moves, take_read_moves, take_write_moves, tell_moves, vacate_moves, zone_give_moves, zone_try_moves}
+use Rattle.pm_crash.proofs.AloneMemory.{draw_moves, drain_moves, flush_moves, give_moves, in_picture, load_moves, memory_of, number_moves, occupied_moves, occupy_moves, one_if, same_memory, sizes_after, store_moves, take_read_moves, take_write_moves, tell_moves, vacate_moves, zone_give_moves, zone_try_moves, or_moves, and_moves}
 use Rattle.pm_crash.proofs.EndedCalls.{given_up_steps, whole_steps}
 use Rattle.pm_crash.proofs.LogCourse.{InRange, all_of, carried}
 use Rattle.pm_crash.proofs.OneCourse.{Goes, goes_first, goes_on}
@@ -267,8 +267,8 @@ module _ (o : Opening) (header : Header) (pool : PoolView) where
         → StandsAlone o header pool (after v s)
     stands_after (Load w x) alone may found ended due next = goes_step (Load w x) (lawful_so (Load w x) may due) (load_moves v w x (found alone)) tt
     stands_after (Store w x) alone may found ended due next = goes_step (Store w x) (lawful_so (Store w x) may due) (store_moves v w x may.inside) tt
-    stands_after (Or w bits found) alone may f ended due next = absurd may
-    stands_after (And w bits found) alone may f ended due next = absurd may
+    stands_after (Or w bits found) alone may f ended due next = goes_step (Or w bits found) (lawful_so (Or w bits found) may due) (or_moves v w bits found may.inside (f alone)) tt
+    stands_after (And w bits found) alone may f ended due next = goes_step (And w bits found) (lawful_so (And w bits found) may due) (and_moves v w bits found may.inside (f alone)) tt
     stands_after (Flush line) alone may found ended due next = goes_step (Flush line) (lawful_so (Flush line) may due) (flush_moves v line) tt
     stands_after Drain alone may found ended due next = goes_step Drain (lawful_so Drain may due) (drain_moves v) tt
     stands_after (TakeWrite line won) alone may found ended due next = goes_step (TakeWrite line won) (lawful_so (TakeWrite line won) may due) (take_write_moves v line won (found alone) may.free) tt

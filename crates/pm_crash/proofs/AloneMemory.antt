@@ -100,6 +100,28 @@ store_moves v w x inside = (others, get_or-set_same v.words w x 0 inside) where
   others CommitCounter other = refl
   others StopWord other = refl
 
+pub or_moves : (v : View) (w bits found : ℕ) → w < length v.words → found ≡ slice_index v.words w → Moves 0 (Or w bits found) (memory_of v) (memory_of (after v (Or w bits found)))
+or_moves v w bits found inside same = ((others, get_or-set_same v.words w (bit_or found bits) 0 inside), same) where
+  others : IsSameBut (PoolWord w) (memory_of v) (memory_of (after v (Or w bits found)))
+  others (PoolWord i) other = get_or-set_other v.words w i (bit_or found bits) 0 (λ same. other (ap PoolWord same))
+  others (LockWord line) other = refl
+  others (RunWord page) other = refl
+  others (ZoneWord zone) other = refl
+  others (ZoneLock zone) other = refl
+  others CommitCounter other = refl
+  others StopWord other = refl
+
+pub and_moves : (v : View) (w bits found : ℕ) → w < length v.words → found ≡ slice_index v.words w → Moves 0 (And w bits found) (memory_of v) (memory_of (after v (And w bits found)))
+and_moves v w bits found inside same = ((others, get_or-set_same v.words w (bit_and found bits) 0 inside), same) where
+  others : IsSameBut (PoolWord w) (memory_of v) (memory_of (after v (And w bits found)))
+  others (PoolWord i) other = get_or-set_other v.words w i (bit_and found bits) 0 (λ same. other (ap PoolWord same))
+  others (LockWord line) other = refl
+  others (RunWord page) other = refl
+  others (ZoneWord zone) other = refl
+  others (ZoneLock zone) other = refl
+  others CommitCounter other = refl
+  others StopWord other = refl
+
 pub flush_moves : (v : View) (line : ℕ) → Moves 0 (Flush line) (memory_of v) (memory_of (after v (Flush line)))
 flush_moves v line = same_memory v (after v (Flush line)) (record { words = refl; locks = λ l. refl; count = refl; runs = refl; zones = refl; zone_locks = refl })
 

@@ -1,11 +1,12 @@
 -- The log of a lane that is alone, while its generation is that of an origin, the pool at the opening or where the lane rested: what it has not
 -- written yet is as it was, so is what its undrained stores found in the slots, and the words of a record in the making are those of a record
 -- that may be made.
-use Rattle.std.proofs.Common.{◌≡◌, ◌≢◌, ◌⊎◌, inl, inr, ⊎_elim, ℕ, ◌+◌, ◌*◌, ◌<◌, ◌≤◌, Bool, true, false, not, eqb, cond, ◌&&◌, ◌||◌, List, [], ◌∷◌, ◌++◌, length, take, get_or, slice_index, None, Some, is_some, refl, sym, ◌∙◌, ap, subst, arith, length-append, get_or-set_same, get_or-set_other, eq-eqb, ne_eqb}
+use Rattle.std.proofs.Common.{◌≡◌, ◌≢◌, ◌⊎◌, inl, inr, ⊎_elim, ℕ, ◌+◌, ◌*◌, ◌<◌, ◌≤◌, Bool, true, false, not, eqb, cond, ◌&&◌, ◌||◌, List, [], ◌∷◌, ◌++◌, length, take, get_or, slice_index, None, Some, is_some, refl, sym, ◌∙◌, ap, subst, arith, length-append, get_or-set_same, get_or-set_other, eq-eqb, ne_eqb, bit_or, bit_and}
 use Rattle.std.specs.List.{All, Contains, filter, list_any}
 use Rattle.std.proofs.lemmas.Bool.{cases_lt, cond-false, cond-true, false≢true, not_from_false, or_cases, or_left, or_right, eqb-true}
 use Rattle.std.proofs.lemmas.List.{take_all}
 use Rattle.std.proofs.lemmas.List.Elements.{Contains-append_cases}
+use Rattle.pm_record.specs.declared.redo.Op.TheVariants as op
 use Rattle.pm_header.specs.declared.header.Header.{Header}
 use Rattle.pm_objects.specs.declared.pool.PoolView.{PoolView}
 use Rattle.pm_image.specs.Logs.{generation_word}
@@ -15,20 +16,20 @@ use Rattle.pm_view.specs.declared.occ.Occ.{Occ}
 use Rattle.pm_view.specs.Area.{Part, area_word, is_in_area, part_of}
 use Rattle.pm_view.specs.declared.occ.Occ.{Occ}
 use Rattle.pm_view.specs.Area.Part.{EntryWord, GenerationWord, OtherWord, SealWord, SlotWord}
-use Rattle.pm_view.specs.Changes.{drained, is_in_line, mark, store_change}
+use Rattle.pm_view.specs.Changes.{drained, is_in_line, mark, store_change, or_change, and_change}
 use Rattle.pm_view.specs.Founds.{FoundAlone, IsAlone}
 use Rattle.pm_view.specs.Held.{is_held, is_known, is_reserved, is_under}
-use Rattle.pm_view.specs.Log.{Final, Log, Phase, Recorded, log_drained, log_drawn, log_stored, phase_drawn, with_pair, with_slot}
+use Rattle.pm_view.specs.Log.{Final, Log, Phase, Recorded, log_drained, log_drawn, log_stored, phase_drawn, with_pair, with_slot, log_changed}
 use Rattle.pm_view.specs.Log.Phase.{Idle, Open, Drawn, Sealing, Applying, Clearing, Retiring}
 use Rattle.pm_view.specs.Rights.{is_written}
 use Rattle.pm_view.specs.Steps.{Step}
 use Rattle.pm_view.specs.Steps.Step.{Load, Store, Or, And, Flush, Drain, TakeWrite, TakeRead, Raise, Give, ZoneTry, ZoneGive, Occupied, Occupy, Vacate, Draw, NumberSeen, StopSeen, SetStop, Tell}
 use Rattle.pm_view.specs.View.{Lock, View}
 use Rattle.pm_view.specs.Views.{after, begun, changed, log_after_drain, with_seen, without_taken}
-use Rattle.pm_world.specs.Entries.{ends_with}
+use Rattle.pm_world.specs.Entries.{ends_with, set_word, final_by}
 use Rattle.pm_world.specs.Fits.{ApplyingFits, LaneFits, PhaseFits, SealingFits}
 use Rattle.pm_world.specs.History.{Flies, settled}
-use Rattle.pm_world.specs.Lawful.{Allowed, AppendsToPair, AppendsToSlot, CanRecord, EndsGeneration, GiveFits, IsNextEntry, MayGive, MayWrite, StoreFits}
+use Rattle.pm_world.specs.Lawful.{Allowed, AppendsToPair, AppendsToSlot, CanRecord, EndsGeneration, GiveFits, IsNextEntry, MayGive, MayWrite, StoreFits, MayChange}
 use Rattle.pm_world.specs.Opening.{Opening}
 use Rattle.pm_world.specs.Records.{generation_of, is_recorded, records_generation, spelled}
 use Rattle.pm_world.proofs.CrashLogs.{InSlots, logged_recorded}
@@ -48,6 +49,9 @@ use Rattle.pm_crash.proofs.AloneCourse.{StandsAlone}
 use Rattle.pm_crash.proofs.AloneImages.{own_fits}
 use Rattle.pm_crash.proofs.LogCourse.{Paired, paired}
 use Rattle.pm_crash.proofs.AloneMemory.{load_moves, load_words, memory_of}
+use Rattle.pm_record.specs.declared.redo.Op.{Op}
+use Rattle.pm_world.proofs.StepChange.{changes_next, changes_written, no_generation}
+use Rattle.pm_world.proofs.StorePair.{final_word}
 
 -- from this word on the slots are as at the origin, and so is what undrained stores found in them
 pub record Unwritten (o : Opening) (v : View) (end : ℕ) : Type 0 where
@@ -403,7 +407,7 @@ module _ (o : Opening) (header : Header) (pool : PoolView) (v : View) (stands : 
           → generation_word origin.words 0 < records_generation (Applying (applied + 1)) (stored (in_phase (Applying (applied + 1)) v.log))
       applies applied fit next first =
           subst (λ g. generation_word origin.words 0 < g)
-          (sym (applied_generation v applied w y (store_change w (slice_index v.words w) y) fit next inside (λ own e. let far = behind w own in let zero = fits.lane.lane in omega (arith, e, far, zero)))) first
+          (sym (applied_generation v applied y (set_word w y) (store_change w (slice_index v.words w) y) fit next inside (λ ends. ap (λ (f : Final). f.bits) ends) (λ own e. let far = behind w own in let zero = fits.lane.lane in omega (arith, e, far, zero)))) first
 
       store_first : (p : Phase) (part : Part) → v.log.phase ≡ p → part_of v.lane w ≡ part → StoreFits v w y p part → PhaseFits (Flies stands.log stands.decided 0) v p → FirstLog origin v p
           → FirstLog origin (stored (log_stored p part y v.log)) (log_stored p part y v.log).phase
@@ -428,6 +432,20 @@ module _ (o : Opening) (header : Header) (pool : PoolView) (v : View) (stands : 
       store_first (Applying applied) OtherWord is of may fit first = applies applied fit may first
       store_first Clearing part is of may fit first = absurd may
       store_first Retiring part is of may fit first = absurd may
+
+    -- bits of a word are set or cleared: the last entry is to come
+    bits_first : (op : Op) (w bits y : ℕ) (c : Change) → MayChange v op w bits → FirstLog origin v v.log.phase → FirstLog origin (changed v w y c (log_changed v.log.phase v.log)) (log_changed v.log.phase v.log).phase
+    bits_first op w bits y c may first =
+        let t = changes_next v op w bits v.log.phase refl (part_of v.lane w) refl may.fits in
+        let own = (changes_written (Flies stands.log stands.decided 0) v op w bits fits.phase t).0 in
+        let fit : ApplyingFits v t.applied = subst (PhaseFits (Flies stands.log stands.decided 0) v) t.phase fits.phase in
+        let apart : area_word v.lane ≢ w = λ e. no_generation v.lane w t.outside (sym e) in
+        subst (λ (p : Phase). FirstLog origin (changed v w y c (log_changed p v.log)) (log_changed p v.log).phase) (sym t.phase)
+        (subst (λ g. generation_word origin.words 0 < g)
+        (sym (subst (λ u. records_generation (Applying (t.applied + 1)) (changed v u y c (in_phase (Applying (t.applied + 1)) v.log)) ≡ records_generation (Applying t.applied) v) (final_word op w bits)
+        (applied_generation v t.applied y (final_by op w bits) c fit t.next (subst (λ u. u < length v.words) (sym (final_word op w bits)) may.inside)
+        (λ ends. absurd (apart (sym (ap (λ (f : Final). f.word) ends) ∙ final_word op w bits))) (λ own_ e. apart (e ∙ final_word op w bits)))))
+        (subst (FirstLog origin v) t.phase first))
 
     -- nothing is undrained any longer, or less
     abbrev emptied : List Change → Log → View
@@ -495,8 +513,8 @@ module _ (o : Opening) (header : Header) (pool : PoolView) (v : View) (stands : 
     pub first_after : (s : Step) → Allowed v s → FoundAlone v s → FirstLog origin v v.log.phase → FirstLog origin (after v s) (after v s).log.phase
     first_after (Load w x) may found first = first_still (after v (Load w x)) (load_carries w x may (found alone)) refl first
     first_after (Store w y) may found first = store_first w y may.inside v.log.phase (part_of v.lane w) refl refl may.fits fits.phase first
-    first_after (Or w bits found) may f first = absurd may
-    first_after (And w bits found) may f first = absurd may
+    first_after (Or w bits found) may f first = bits_first op.Or w bits (bit_or found bits) (or_change w bits found) may first
+    first_after (And w bits found) may f first = bits_first op.And w bits (bit_and found bits) (and_change w bits found) may first
     first_after (Flush line) may found first = first_still (after v (Flush line)) (flush_carries line) refl first
     first_after Drain may found first = drain_first (drained v.changes) (λ c there. member_kept (λ (d : Change). not d.flushed) v.changes c there) first
     first_after (TakeWrite line won) may found first = first_still (after v (TakeWrite line won)) (take_write_carries line won) refl first

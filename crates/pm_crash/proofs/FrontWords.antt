@@ -1,9 +1,11 @@
 -- No lane changes a word before the lanes' areas, so every image has the header page.
 use Rattle.std.proofs.Common.{◌≡◌, inr, inl, ⊎_elim, IsTrue, ℕ, ◌*◌, ◌<◌, ◌≤◌, Bool, true, false, List, length, slice_index, take, refl, sym, ◌∙◌, ap, subst, arith}
 use Rattle.std.proofs.lemmas.List.{ext_get_or, get_or-take, length-take}
+use Rattle.pm_record.specs.declared.redo.Op.TheVariants as op
 use Rattle.pm_header.specs.Pairs.{IsHeaderIn}
 use Rattle.pm_header.specs.declared.header.Header.{Header}
 use Rattle.pm_image.specs.Means.{HasHeader, page}
+use Rattle.pm_record.specs.declared.redo.Op.{Op}
 use Rattle.pm_view.specs.Area.{Part, area_word, part_of}
 use Rattle.pm_view.specs.Area.Part.{EntryWord, GenerationWord, OtherWord, SealWord, SlotWord}
 use Rattle.pm_view.specs.Log.{Phase}
@@ -13,8 +15,8 @@ use Rattle.pm_view.specs.Steps.{Step}
 use Rattle.pm_view.specs.Steps.Step.{Load, Store, Or, And, Flush, Drain, TakeWrite, TakeRead, Raise, Give, ZoneTry, ZoneGive, Occupied, Occupy, Vacate, Draw, NumberSeen, StopSeen, SetStop, Tell}
 use Rattle.pm_world.specs.Crash.{Survives}
 use Rattle.pm_world.specs.Entries.{is_redone, set_word}
-use Rattle.pm_world.specs.History.{Entry}
-use Rattle.pm_world.specs.Lawful.{IsLawful, StoreFits}
+use Rattle.pm_world.specs.History.{Entry, Flies}
+use Rattle.pm_world.specs.Lawful.{IsLawful, StoreFits, MayChange}
 use Rattle.pm_world.specs.Memory.{Memory}
 use Rattle.pm_world.specs.Memory.Location.{PoolWord}
 use Rattle.pm_world.specs.Moves.{Moves}
@@ -27,6 +29,7 @@ use Rattle.pm_world.proofs.Living.{before_zones}
 use Rattle.pm_world.proofs.Exclusion.{WritesUnder, writes_under}
 use Rattle.pm_world.proofs.Locations.{other_occ, other_zone_lock, plain_pool, other_pool, pool-counter, pool-lock, pool-stop}
 use Rattle.pm_world.proofs.Parts.{generation_part, seal_part}
+use Rattle.pm_world.proofs.StepChange.{changes_next, changes_written}
 
 -- a list's front is another's, where its words are
 pub front_same : (one other : List ℕ) → 512 ≤ length one → length other ≡ length one → ((i : ℕ) → i < 512 → slice_index other i ≡ slice_index one i) → page other ≡ page one
@@ -60,9 +63,16 @@ module _ (o : Opening) (mem : Memory) (views : Views) (log : List Entry) (decide
     store_behind w x' (Applying applied) OtherWord is fits =
         ⊎_elim (λ (own : IsTrue (is_written (views k) w)).
         let behind = behind_areas o mem views log decided x k w (writes_under o mem k (views k) w (x.each_lane k inside).locks own) in omega arith)
-        (λ (generation : w ≡ area_word (views k).lane). omega arith) ((x.each_lane k inside).entries.each applied (set_word w x') fits).of
+        (λ generation. let here : w ≡ area_word (views k).lane = generation.0 in omega arith) ((x.each_lane k inside).entries.each applied (set_word w x') fits).may.of
     store_behind w x' Clearing part is fits = absurd fits
     store_behind w x' Retiring part is fits = absurd fits
+
+    -- nor what it may set or clear bits of
+    change_behind : (op : Op) (w bits : ℕ) → MayChange (views k) op w bits → 512 ≤ w
+    change_behind op w bits may =
+        let t = changes_next (views k) op w bits (views k).log.phase refl (part_of (views k).lane w) refl may.fits in
+        let own = (changes_written (Flies log decided k) (views k) op w bits (x.each_lane k inside).phase t).0 in
+        let behind = behind_areas o mem views log decided x k w (writes_under o mem k (views k) w (x.each_lane k inside).locks own) in omega arith
 
     -- so a step leaves these words
     pub front_stays : (s : Step) (new : Memory) (i : ℕ) → IsLawful (views k) s → Moves k s mem new → i < 512 → new (PoolWord i) ≡ mem (PoolWord i)
@@ -70,8 +80,10 @@ module _ (o : Opening) (mem : Memory) (views : Views) (log : List Entry) (decide
     front_stays (Store w x') new i lawful moves low =
         let behind = store_behind w x' (views k).log.phase (part_of (views k).lane w) refl lawful.allowed.fits in
         moves.0 (PoolWord i) (other_pool i w (λ same. omega arith))
-    front_stays (Or w bits found) new i lawful moves low = absurd moves
-    front_stays (And w bits found) new i lawful moves low = absurd moves
+    front_stays (Or w bits found) new i lawful moves low =
+        let behind = change_behind op.Or w bits lawful.allowed in moves.0.0 (PoolWord i) (other_pool i w (λ same. omega arith))
+    front_stays (And w bits found) new i lawful moves low =
+        let behind = change_behind op.And w bits lawful.allowed in moves.0.0 (PoolWord i) (other_pool i w (λ same. omega arith))
     front_stays (Flush line) new i lawful moves low = moves (PoolWord i)
     front_stays Drain new i lawful moves low = moves (PoolWord i)
     front_stays (TakeWrite line true) new i lawful moves low = moves.0 (PoolWord i) (pool-lock i line)

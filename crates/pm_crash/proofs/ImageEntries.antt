@@ -6,6 +6,7 @@ use Rattle.std.proofs.lemmas.Bool.{and_from, and_right, cases_Bool, cases_eq, ca
 use Rattle.std.proofs.lemmas.List.Elements.{All-weaker}
 use Rattle.std.proofs.lemmas.List.Folds.{list_any_none}
 use Rattle.std.proofs.lemmas.Option.{get_or_from_slice_get, slice_get-get_or, slice_get_within}
+use Rattle.pm_record.specs.declared.redo.Op.TheVariants.{Set}
 use Rattle.pm_record.specs.Redo.{redo_of}
 use Rattle.pm_record.specs.Undo.{undo_of}
 use Rattle.pm_record.specs.declared.redo.Redo.{Redo}
@@ -25,14 +26,14 @@ use Rattle.pm_view.specs.Log.Phase.{Idle, Open, Drawn, Sealing, Applying, Cleari
 use Rattle.pm_view.specs.Rights.{is_written}
 use Rattle.pm_view.specs.View.{View}
 use Rattle.pm_world.specs.Crash.{Survives}
-use Rattle.pm_world.specs.Entries.{AreWhole, IsEntryAt, ends_with, is_entered, setting}
+use Rattle.pm_world.specs.Entries.{AreWhole, IsEntryAt, ends_with, final_by, is_entered, redo_on}
 use Rattle.pm_world.specs.Fits.{AppliedChange, ApplyingFits, LaneFits, LogFits, PhaseFits}
 use Rattle.pm_world.specs.History.{Entry, Flies, is_final, settled}
 use Rattle.pm_world.specs.Memory.{Memory}
 use Rattle.pm_world.specs.Opening.{Opening}
 use Rattle.pm_world.specs.Records.{generation_of, is_drained_slot, is_logged, records_generation, used_slots}
 use Rattle.pm_world.specs.World.{Views, World}
-use Rattle.pm_world.proofs.CrashEntries.{HasSealed, entries_read, entry_read, generation_sealed, none_of, of_word, sealed_generation, setting_again, whole_of}
+use Rattle.pm_world.proofs.CrashEntries.{HasSealed, entries_read, entry_read, generation_sealed, none_of, of_word, redo_again, sealed_generation, whole_of}
 use Rattle.pm_world.proofs.CrashLaw.{seal_drained}
 use Rattle.pm_world.proofs.CrashLogs.{ChangeFits, SealIs, entered_front, entry_of_word, entry_part, slot_part, whole_word}
 use Rattle.pm_world.proofs.CrashRecords.{unsealed}
@@ -44,6 +45,7 @@ use Rattle.pm_world.proofs.StoreEntry.{entered_early, entered_owned}
 use Rattle.pm_world.proofs.StoreSlot.{get-push_cases}
 use Rattle.pm_crash.proofs.Guarded.{guarded_in_chunk}
 use Rattle.pm_crash.proofs.LogCourse.{InRange}
+use Rattle.pm_record.specs.declared.redo.Op.{Op}
 
 -- what the image has for the lane's generation word, by how far its call has come
 abbrev pub WordIs : View → ℕ → Phase → Type 0
@@ -128,7 +130,7 @@ module _ (o : Opening) (mem : Memory) (views : Views) (log : List Entry) (decide
   before j inside t Sealing fit change = let is = t.of_word in let at = lane_is o mem views log decided x j inside in let of = change.of in absurd (omega arith)
   before j inside t (Applying applied) fit change =
       let at = lane_is o mem views log decided x j inside in
-      inr (all_applied j applied t.change.word inside change.1 fit.most t.of_word change.0.of, ap (λ n. n + 1) t.is_old ∙ change.0.next (t.of_word ∙ ap area_word (sym at)))
+      inr (all_applied j applied t.change.word inside change.1 fit.most t.of_word change.0.of, ap (λ n. n + 1) t.is_old ∙ (change.0.next (t.of_word ∙ ap area_word (sym at))).1)
   before j inside t Clearing fit change = let is = t.of_word in let at = lane_is o mem views log decided x j inside in let of = change.of in absurd (omega arith)
   before j inside t Retiring fit change = inr (ap (λ n. n + 1) t.is_old ∙ change.before)
 
@@ -184,7 +186,7 @@ module _ (o : Opening) (mem : Memory) (views : Views) (log : List Entry) (decide
     by_phase Retiring sealed is range fit = absurd sealed
 
   -- the last entry ends the log
-  ends_good : (j word : ℕ) → word ≡ area_word j → (g : ℕ) → Follows (generation_word image j) g → ends_log image j (setting word g) ≡ true
+  ends_good : (j word : ℕ) → word ≡ area_word j → (g : ℕ) → Follows (generation_word image j) g → ends_log image j (redo_on Set word g) ≡ true
   ends_good j word here g is =
       and_from (eqb (8 * word) (8 * area_word j) && leb 2 g && leb g 4611686018427387904) (eqb (generation_word image j) g || eqb (generation_word image j + 1) g)
       (and_from (eqb (8 * word) (8 * area_word j) && leb 2 g) (leb g 4611686018427387904)
@@ -219,6 +221,20 @@ module _ (o : Opening) (mem : Memory) (views : Views) (log : List Entry) (decide
     whole : AreWhole (views j) (sealed_generation (views j).log.phase (views j))
     whole = whole_of o mem views log decided x j (views j).log.phase sealed (fits j inside).phase
 
+    -- the last entry sets the generation
+    ends_by : (i : ℕ) (f : Final) (at : IsEntryAt (views j) i f) → f ≡ ends_with (views j) (sealed_generation (views j).log.phase (views j))
+        → redo_on ((x.each_lane j inside).entries.each i f at).op f.word ((x.each_lane j inside).entries.each i f at).value ≡ redo_on Set (area_word (views j).lane) (sealed_generation (views j).log.phase (views j))
+    ends_by i f at is =
+        let v : View = views j in
+        let g : ℕ = sealed_generation v.log.phase v in
+        let s = (x.each_lane j inside).entries.each i f at in
+        let word : f.word ≡ area_word v.lane = ap (λ (h : Final). h.word) is in
+        let sets : s.op ≡ Set = ⊎_elim
+        (λ (own : is_written v f.word ≡ true). let far = written_behind o mem views log decided x j f.word inside own in let lane = lane_is o mem views log decided x j inside in absurd (omega (arith, far, word, lane, inside)))
+        (λ (own : (f.word ≡ area_word v.lane) × (s.op ≡ Set)). own.1) s.may.of in
+        let value : s.value ≡ g = sym (ap (λ (h : Final). h.bits) (sym is ∙ (s.is ∙ ap (λ (op : Op). final_by op f.word s.value) sets))) in
+        λ n. redo_on (sets n) (word n) (value n)
+
     -- a sealed entry is one that a log may have
     entry_good : (i : ℕ) → i < seal_word image j → good_entry image o.lanes o.zones j i (redo_of (entry_pair image j i)) ≡ true
     entry_good i low =
@@ -229,7 +245,8 @@ module _ (o : Opening) (mem : Memory) (views : Views) (log : List Entry) (decide
         let f : Final = get_or v.log.entries i d in
         let at : IsEntryAt v i f = slice_get-get_or v.log.entries i d (omega (arith, low, full)) in
         let size : length v.log.entries ≡ length whole.front + 1 = ap length whole.are ∙ length-append whole.front (d ∷ []) in
-        let read : redo_of (entry_pair image j i) ≡ Some (setting f.word f.bits) = ap redo_of (entry_read o mem views log decided x image survives j i f inside sealed (omega (arith, low, few)) at) ∙ setting_again f.word f.bits in
+        let s = (x.each_lane j inside).entries.each i f at in
+        let read : redo_of (entry_pair image j i) ≡ Some (redo_on s.op f.word s.value) = ap redo_of (entry_read o mem views log decided x image survives j i f inside sealed (omega (arith, low, few)) at) ∙ redo_again s.op f.word s.value in
         ap (good_entry image o.lanes o.zones j i) read
         ∙ ⊎_elim
         (λ (there : slice_get whole.front i ≡ Some f).
@@ -237,13 +254,13 @@ module _ (o : Opening) (mem : Memory) (views : Views) (log : List Entry) (decide
         let own : IsTrue (is_written v f.word) = subst (λ (h : Final). IsTrue (is_written v h.word)) (get_or_from_slice_get whole.front i f f there) (whole.owned i f early) in
         let t = written_under o mem views log decided x j f.word inside own in
         let place : 8 * f.word / 8 ≡ f.word = omega arith in
-        cond-false _ (ends_log image j (setting f.word f.bits)) (is_target o.lanes o.zones (8 * f.word / 8)) (ne_eqb (i + 1) (seal_word image j) (λ same. omega (arith, same, full, size, early)))
+        cond-false _ (ends_log image j (redo_on s.op f.word s.value)) (is_target o.lanes o.zones (8 * f.word / 8)) (ne_eqb (i + 1) (seal_word image j) (λ same. omega (arith, same, full, size, early)))
         ∙ (ap (is_target o.lanes o.zones) place
         ∙ or_right (eqb f.word 64 || in_descriptors o.lanes o.zones f.word) (in_chunk o.lanes o.zones f.word) (guarded_in_chunk o none x.sound.size t.0 f.word t.1)))
         (λ (t : (i ≡ length whole.front) × (d ≡ f)).
         let last = t.0 in
-        cond-true _ (ends_log image j (setting f.word f.bits)) (is_target o.lanes o.zones (8 * f.word / 8)) (eq-eqb (i + 1) (seal_word image j) (omega (arith, last, full, size)))
-        ∙ subst (λ (h : Final). ends_log image j (setting h.word h.bits) ≡ true) t.1 (ends_good j (area_word v.lane) (ap area_word (lane_is o mem views log decided x j inside)) g (follows j inside sealed)))
+        cond-true _ (ends_log image j (redo_on s.op f.word s.value)) (is_target o.lanes o.zones (8 * f.word / 8)) (eq-eqb (i + 1) (seal_word image j) (omega (arith, last, full, size)))
+        ∙ (ap (ends_log image j) (ends_by i f at (sym t.1)) ∙ ends_good j (area_word v.lane) (ap area_word (lane_is o mem views log decided x j inside)) g (follows j inside sealed)))
         (get-push_cases whole.front d i f (ap (λ fs. slice_get fs i) (sym whole.are) ∙ at))
 
     -- its slots are of earlier generations
@@ -293,13 +310,13 @@ module _ (o : Opening) (mem : Memory) (views : Views) (log : List Entry) (decide
       ⊎_elim (λ (empty : seal_word image j ≡ 0). absurd (some (ap (of_word i) (entries_unsealed image j (unsealed image j empty)))))
       (λ (sealed : HasSealed (views j).log.phase × (seal_word image j ≡ length (views j).log.entries)).
       let are = entries_read o mem views log decided x image survives j inside sealed.0 sealed.1 in
-      let final : is_final (views j).log.entries i ≡ true = ⊎_elim (λ (yes_ : is_final (views j).log.entries i ≡ true). yes_) (λ (no_ : is_final (views j).log.entries i ≡ false). absurd (some (ap (of_word i) are ∙ none_of (views j).log.entries i no_)))
+      let final : is_final (views j).log.entries i ≡ true = ⊎_elim (λ (yes_ : is_final (views j).log.entries i ≡ true). yes_) (λ (no_ : is_final (views j).log.entries i ≡ false). absurd (some (ap (of_word i) are.2 ∙ none_of (views j).log.entries are.0 i are.1 no_)))
       (cases_Bool (is_final (views j).log.entries i)) in
       let t = entry_of_word (views j).log.entries i final in
       record {
         writes = ⊎_elim (λ (own : is_written (views j) t.held.word ≡ true). inl (written_under o mem views log decided x j i inside (subst (λ u. is_written (views j) u ≡ true) t.of own)))
-            (λ (own : t.held.word ≡ area_word (views j).lane). inr (sym t.of ∙ (own ∙ ap area_word (lane_is o mem views log decided x j inside))))
-            ((fits j inside).entries.each t.place t.held t.at).of;
+            (λ own. inr (sym t.of ∙ (own.0 ∙ ap area_word (lane_is o mem views log decided x j inside))))
+            ((fits j inside).entries.each t.place t.held t.at).may.of;
         no_slot = none_valid j inside sealed.0 sealed.1;
       })
       (sealed_or_none j inside)

@@ -1,27 +1,29 @@
 -- A lane's generation and its undrained slot words along its course: while a log is written its generation can be raised, and what is undrained
 -- of slots is of the log's records or of the one in the making.
-use Rattle.std.proofs.Common.{◌≡◌, ◌≢◌, ◌⊎◌, ⊎_elim, inl, inr, IsTrue, ℕ, ◌+◌, ◌*◌, ◌<◌, ◌≤◌, Bool, true, false, leb, ltb, cond, ◌/◌, not, take, Some, List, [], ◌∷◌, ◌++◌, length, slice_index, is_some, refl, sym, ◌∙◌, ap, subst, arith}
+use Rattle.std.proofs.Common.{◌≡◌, ◌≢◌, ◌⊎◌, ⊎_elim, inl, inr, IsTrue, ℕ, ◌+◌, ◌*◌, ◌<◌, ◌≤◌, Bool, true, false, leb, ltb, cond, ◌/◌, not, take, Some, List, [], ◌∷◌, ◌++◌, length, slice_index, is_some, refl, sym, ◌∙◌, ap, subst, arith, bit_or, bit_and}
 use Rattle.std.specs.List.{Contains}
 use Rattle.std.proofs.lemmas.Bool.{and_from, false≢true, le-leb, lt-ltb}
 use Rattle.std.proofs.lemmas.List.{length-append}
 use Rattle.std.proofs.lemmas.List.Elements.{Contains-append_cases}
+use Rattle.pm_record.specs.declared.redo.Op.TheVariants as op
 use Rattle.pm_image.proofs.Members.{member_kept, member_made, no_member, only_member}
+use Rattle.pm_record.specs.declared.redo.Op.{Op}
 use Rattle.pm_view.specs.declared.change.Change.{Change}
 use Rattle.pm_view.specs.Area.{Part, area_word, is_in_area, part_of}
 use Rattle.pm_view.specs.Area.Part.{EntryWord, GenerationWord, OtherWord, SealWord, SlotWord}
-use Rattle.pm_view.specs.Changes.{drained, flushed, is_in_line, mark, store_change}
+use Rattle.pm_view.specs.Changes.{drained, flushed, is_in_line, mark, store_change, or_change, and_change}
 use Rattle.pm_view.specs.Held.{is_reserved}
-use Rattle.pm_view.specs.Log.{Final, Log, Phase, Recorded, log_drained, log_drawn, log_stored, phase_drawn, with_pair, with_slot}
+use Rattle.pm_view.specs.Log.{Final, Log, Phase, Recorded, log_drained, log_drawn, log_stored, phase_drawn, with_pair, with_slot, log_changed}
 use Rattle.pm_view.specs.Log.Phase.{Idle, Open, Drawn, Sealing, Applying, Clearing, Retiring}
 use Rattle.pm_view.specs.Rights.{is_written}
 use Rattle.pm_view.specs.Steps.{Step}
 use Rattle.pm_view.specs.Steps.Step.{Load, Store, Or, And, Flush, Drain, TakeWrite, TakeRead, Raise, Give, ZoneTry, ZoneGive, Occupied, Occupy, Vacate, Draw, NumberSeen, StopSeen, SetStop, Tell}
 use Rattle.pm_view.specs.View.{View}
 use Rattle.pm_view.specs.Views.{after, begun, changed, log_after_drain}
-use Rattle.pm_world.specs.Entries.{ends_with}
+use Rattle.pm_world.specs.Entries.{ends_with, set_word}
 use Rattle.pm_world.specs.Fits.{LaneFits, OpenFits, PhaseFits, SealingFits}
 use Rattle.pm_world.specs.History.{Entry, Flies, settled}
-use Rattle.pm_world.specs.Lawful.{MayWrite, IsLawful, IsNextEntry, StoreFits, generation_limit}
+use Rattle.pm_world.specs.Lawful.{MayWrite, IsLawful, IsNextEntry, StoreFits, generation_limit, MayChange}
 use Rattle.pm_world.specs.Memory.{Memory}
 use Rattle.pm_world.specs.Memory.Location.{PoolWord}
 use Rattle.pm_world.specs.Moves.{Moves}
@@ -33,6 +35,7 @@ use Rattle.pm_world.proofs.CrashWords.{behind_areas, reserved_word}
 use Rattle.pm_world.proofs.Exclusion.{writes_under}
 use Rattle.pm_world.proofs.Locations.{other_occ, other_zone_lock, plain_pool, other_pool, pool-counter, pool-lock, pool-stop}
 use Rattle.pm_world.proofs.Parts.{generation_part, seal_part}
+use Rattle.pm_world.proofs.StepChange.{changes_next, changes_written}
 use Rattle.pm_world.proofs.StoreEntry.{next_entry}
 
 -- nothing of the log is written yet
@@ -256,8 +259,8 @@ module _ (o : Opening) (mem : Memory) (views : Views) (log : List Entry) (decide
       in_entry : (applied : ℕ) → v.log.phase ≡ Applying applied → IsNextEntry v applied w y → applied + 1 ≡ length v.log.entries → 2 ≤ g'
       in_entry applied is next all =
           ⊎_elim (λ (t : IsTrue (is_written v w) × (applied + 1 < length v.log.entries)). let more = t.1 in absurd (omega (arith, more, all)))
-          (λ (t : (w ≡ area_word v.lane) × (y ≡ generation_of v + 1) × (applied + 1 ≡ length v.log.entries)). raised t.0 t.1)
-          (next_entry v applied w y (subst (PhaseFits (Flies log decided k) v) is fits.phase) next)
+          (λ (t : (set_word w y ≡ ends_with v (generation_of v + 1)) × (applied + 1 ≡ length v.log.entries)). raised (ap (λ (f : Final). f.word) t.0) (ap (λ (f : Final). f.bits) t.0))
+          (next_entry v applied (set_word w y) (subst (PhaseFits (Flies log decided k) v) is fits.phase) next)
 
       stored_range : (p : Phase) (part : Part) → v.log.phase ≡ p → part_of v.lane w ≡ part → StoreFits v w y p part → InRange g v p → InRange g' (stored (log_stored p part y v.log)) (log_stored p part y v.log).phase
       stored_range Idle part is of may range = absurd may
@@ -282,6 +285,13 @@ module _ (o : Opening) (mem : Memory) (views : Views) (log : List Entry) (decide
       stored_range (Applying applied) OtherWord is of may range = in_entry applied is may
       stored_range Clearing part is of may range = absurd may
       stored_range Retiring part is of may range = absurd may
+
+    -- bits of a word are set or cleared: the last entry is to come
+    bits_range : (op : Op) (w bits y : ℕ) (c : Change) → MayChange v op w bits → InRange g' (changed v w y c (log_changed v.log.phase v.log)) (log_changed v.log.phase v.log).phase
+    bits_range op w bits y c may =
+        let t = changes_next v op w bits v.log.phase refl (part_of v.lane w) refl may.fits in
+        let more = changes_written (Flies log decided k) v op w bits fits.phase t in
+        subst (λ (p : Phase). InRange g' (changed v w y c (log_changed p v.log)) (log_changed p v.log).phase) (sym t.phase) (λ all. absurd (let short = more.1 in omega (arith, all, short)))
 
     -- nothing is undrained any longer
     abbrev emptied : List Change → Log → View
@@ -326,8 +336,8 @@ module _ (o : Opening) (mem : Memory) (views : Views) (log : List Entry) (decide
     pub range_after : (s : Step) → IsLawful v s → Moves k s mem new → InRange g v v.log.phase → InRange g' (after v s) (after v s).log.phase
     range_after (Load w found) lawful moves range = still (after v (Load w found)) (moves.0 (PoolWord (area_word k))) refl refl (all_of v.changes) range
     range_after (Store w y) lawful moves range = stored_range w y lawful moves v.log.phase (part_of v.lane w) refl refl lawful.allowed.fits range
-    range_after (Or w bits found) lawful moves range = absurd moves
-    range_after (And w bits found) lawful moves range = absurd moves
+    range_after (Or w bits found) lawful moves range = bits_range op.Or w bits (bit_or found bits) (or_change w bits found) lawful.allowed
+    range_after (And w bits found) lawful moves range = bits_range op.And w bits (bit_and found bits) (and_change w bits found) lawful.allowed
     range_after (Flush line) lawful moves range = still (after v (Flush line)) (moves (PoolWord (area_word k))) refl refl (flushed_of line v.changes) range
     range_after Drain lawful moves range = drain_range (drained v.changes) (drained_of v.changes) (moves (PoolWord (area_word k))) range
     range_after (TakeWrite line true) lawful moves range = still (after v (TakeWrite line true)) (moves.0 (PoolWord (area_word k)) (pool-lock (area_word k) line)) refl refl (all_of v.changes) range

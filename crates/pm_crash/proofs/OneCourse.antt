@@ -28,6 +28,7 @@ use Rattle.pm_world.specs.Opening.{Opening}
 use Rattle.pm_world.specs.Records.{difference_of}
 use Rattle.pm_world.specs.World.{Views, World}
 use Rattle.pm_world.proofs.Frame.{view_else, view_here}
+use Rattle.pm_world.proofs.StepChange.{clears, sets}
 use Rattle.pm_world.proofs.StepDrain.{drains}
 use Rattle.pm_world.proofs.StepDraw.{draws}
 use Rattle.pm_world.proofs.StepFlush.{flushes}
@@ -56,8 +57,8 @@ use Rattle.pm_crash.proofs.LongerReplays.{holds_once_more, words_after}
 keeps_each : (s : Step) → Keeps s
 keeps_each (Load w x) = loads w x
 keeps_each (Store w x) = stores w x
-keeps_each (Or w bits found) = λ o old new views log decided k v world inside is lawful moves. absurd moves
-keeps_each (And w bits found) = λ o old new views log decided k v world inside is lawful moves. absurd moves
+keeps_each (Or w bits found) = sets w bits found
+keeps_each (And w bits found) = clears w bits found
 keeps_each (Flush line) = flushes line
 keeps_each Drain = drains
 keeps_each (TakeWrite line won) = takes_write line won

@@ -1,6 +1,7 @@
 -- A lane that is alone raises its generation by one with each store of it, and with nothing else.
-use Rattle.std.proofs.Common.{◌≡◌, inr, inl, ◌≢◌, ⊎_elim, IsTrue, ℕ, ◌+◌, ◌*◌, ◌<◌, ◌≤◌, Bool, false, cond, List, [], ◌∷◌, length, slice_index, refl, sym, ◌∙◌, ap, subst, arith, eq-eqb, ne_eqb, get_or-set_same, get_or-set_other}
+use Rattle.std.proofs.Common.{◌≡◌, inr, inl, ◌≢◌, ⊎_elim, IsTrue, ℕ, ◌+◌, ◌*◌, ◌<◌, ◌≤◌, Bool, false, cond, List, [], ◌∷◌, length, slice_index, refl, sym, ◌∙◌, ap, subst, arith, eq-eqb, ne_eqb, get_or-set_same, get_or-set_other, set, bit_or, bit_and}
 use Rattle.std.specs.Option.{ForSome}
+use Rattle.pm_record.specs.declared.redo.Op.TheVariants as op
 use Rattle.pm_header.specs.declared.header.Header.{Header}
 use Rattle.pm_objects.specs.declared.pool.PoolView.{PoolView}
 use Rattle.pm_image.specs.Logs.{generation_word}
@@ -8,7 +9,7 @@ use Rattle.pm_view.specs.Area.{Part, area_word, part_of}
 use Rattle.pm_view.specs.Area.Part.{EntryWord, GenerationWord, OtherWord, SealWord, SlotWord}
 use Rattle.pm_view.specs.Founds.{FoundAlone, IsAlone}
 use Rattle.pm_view.specs.Held.{is_reserved}
-use Rattle.pm_view.specs.Log.{Phase}
+use Rattle.pm_view.specs.Log.{Phase, Final}
 use Rattle.pm_view.specs.Log.Phase.{Idle, Open, Drawn, Sealing, Applying, Clearing, Retiring}
 use Rattle.pm_view.specs.Rights.{is_written}
 use Rattle.pm_view.specs.Steps.{Step}
@@ -19,7 +20,7 @@ use Rattle.pm_view.proofs.SameLane.{same_lane-after}
 use Rattle.pm_memory.specs.Solo.{AreNumbered}
 use Rattle.pm_world.specs.Fits.{PhaseFits}
 use Rattle.pm_world.specs.History.{Flies}
-use Rattle.pm_world.specs.Lawful.{Allowed, IsNextEntry, StoreFits}
+use Rattle.pm_world.specs.Lawful.{Allowed, IsNextEntry, StoreFits, MayChange}
 use Rattle.pm_world.specs.Opening.{Opening}
 use Rattle.pm_world.specs.Records.{generation_of}
 use Rattle.pm_world.proofs.Parts.{generation_part, seal_part}
@@ -32,6 +33,9 @@ use Rattle.pm_crash.proofs.AloneImages.{own_fits}
 use Rattle.pm_crash.proofs.AloneMemory.{load_words, memory_of}
 use Rattle.pm_crash.proofs.FirstLog.{behind}
 use Rattle.pm_crash.proofs.Raises.{raise_by}
+use Rattle.pm_record.specs.declared.redo.Op.{Op}
+use Rattle.pm_world.proofs.StepChange.{changes_next, no_generation}
+use Rattle.pm_world.specs.Entries.{set_word, ends_with}
 
 begun_generation : (phase : Phase) (v : View) → generation_of (begun phase v) ≡ generation_of v
 begun_generation Idle v = refl
@@ -68,8 +72,8 @@ module _ (o : Opening) (header : Header) (pool : PoolView) where
       applied_entry : (applied : ℕ) → v.log.phase ≡ Applying applied → IsNextEntry v applied w y → generation_of (after v (Store w y)) ≡ generation_of v + raise_by (Store w y)
       applied_entry applied is next =
           ⊎_elim (λ (t : IsTrue (is_written v w) × (applied + 1 < length v.log.entries)). other (λ e. let far = behind o header pool v stands alone w t.0 in omega (arith, e, far)))
-          (λ (t : (w ≡ area_word v.lane) × (y ≡ generation_of v + 1) × (applied + 1 ≡ length v.log.entries)). raised t.0 t.1)
-          (next_entry v applied w y (subst (PhaseFits (Flies stands.log stands.decided 0) v) is (own_fits o header pool v stands).phase) next)
+          (λ (t : (set_word w y ≡ ends_with v (generation_of v + 1)) × (applied + 1 ≡ length v.log.entries)). raised (ap (λ (f : Final). f.word) t.0) (ap (λ (f : Final). f.bits) t.0))
+          (next_entry v applied (set_word w y) (subst (PhaseFits (Flies stands.log stands.decided 0) v) is (own_fits o header pool v stands).phase) next)
 
       stored : (p : Phase) (part : Part) → v.log.phase ≡ p → part_of v.lane w ≡ part → StoreFits v w y p part → generation_of (after v (Store w y)) ≡ generation_of v + raise_by (Store w y)
       stored Idle part is of may = absurd may
@@ -94,11 +98,17 @@ module _ (o : Opening) (header : Header) (pool : PoolView) where
       stored Clearing part is of may = absurd may
       stored Retiring part is of may = absurd may
 
+    -- bits of a word are set or cleared, which is none of the generation
+    bits_stay : (op : Op) (w bits y : ℕ) → MayChange v op w bits → slice_index (set v.words w y) (area_word v.lane) ≡ generation_of v
+    bits_stay op w bits y may =
+        let t = changes_next v op w bits v.log.phase refl (part_of v.lane w) refl may.fits in
+        get_or-set_other v.words w (area_word v.lane) y 0 (λ e. no_generation v.lane w t.outside (sym e))
+
     raised_after : (s : Step) → Allowed v s → FoundAlone v s → generation_of (after v s) ≡ generation_of v + raise_by s
     raised_after (Load w x) may found = still (Load w x) refl (ap (λ (words : List ℕ). slice_index words (area_word v.lane)) (load_words v w x (found alone)))
     raised_after (Store w y) may found = stored w y may.inside v.log.phase (part_of v.lane w) refl refl may.fits
-    raised_after (Or w bits found) may f = absurd may
-    raised_after (And w bits found) may f = absurd may
+    raised_after (Or w bits found) may f = still (Or w bits found) refl (bits_stay op.Or w bits (bit_or found bits) may)
+    raised_after (And w bits found) may f = still (And w bits found) refl (bits_stay op.And w bits (bit_and found bits) may)
     raised_after (Flush line) may found = still (Flush line) refl refl
     raised_after Drain may found = still Drain refl refl
     raised_after (TakeWrite line won) may found = still (TakeWrite line won) refl refl

@@ -64,7 +64,7 @@ may_write v w x (Open slot pair) entries other (inr fills) = inr fills.reserved
 may_write v w x Drawn entries other may = absurd may
 may_write v w x Sealing entries other may = absurd may
 may_write v w x (Applying applied) entries other may =
-    ⊎_elim (λ (own : IsTrue (is_written v w)). inl own) (λ (generation : w ≡ area_word v.lane). absurd (other generation)) (entries.each applied (set_word w x) may).of
+    ⊎_elim (λ (own : IsTrue (is_written v w)). inl own) (λ generation. absurd (other generation.0)) (entries.each applied (set_word w x) may).may.of
 may_write v w x Clearing entries other may = absurd may
 may_write v w x Retiring entries other may = absurd may
 

@@ -5,16 +5,17 @@ use Rattle.pm_view.specs.declared.change.Change.{Change}
 use Rattle.pm_view.specs.Area.{Part, part_of}
 use Rattle.pm_view.specs.Area.Part.{EntryWord, GenerationWord, OtherWord, SealWord, SlotWord}
 use Rattle.pm_view.specs.Changes.{drained}
-use Rattle.pm_view.specs.Log.{Final, Log, Phase, log_drained, log_drawn, log_stored, with_pair, with_slot}
+use Rattle.pm_view.specs.Log.{Final, Log, Phase, log_drained, log_drawn, log_stored, with_pair, with_slot, log_changed}
 use Rattle.pm_view.specs.Log.Phase.{Idle, Open, Drawn, Sealing, Applying, Clearing, Retiring}
 use Rattle.pm_view.specs.Steps.{Step}
 use Rattle.pm_view.specs.Steps.Step.{Load, Store, Or, And, Flush, Drain, TakeWrite, TakeRead, Raise, Give, ZoneTry, ZoneGive, Occupied, Occupy, Vacate, Draw, NumberSeen, StopSeen, SetStop, Tell}
 use Rattle.pm_view.specs.View.{View}
 use Rattle.pm_view.specs.Views.{after, begun, log_after_drain}
-use Rattle.pm_world.specs.Entries.{IsEnterable, set_word}
+use Rattle.pm_world.specs.Entries.{IsEnterable, set_word, final_by}
 use Rattle.pm_world.specs.Lawful.{Allowed, AppendsToPair, StoreFits}
-use Rattle.pm_world.proofs.StorePair.{with_pair-whole}
+use Rattle.pm_world.proofs.StorePair.{with_pair-whole, final_word}
 use Rattle.pm_world.proofs.StoreSlot.{get-push_cases}
+use Rattle.pm_record.specs.declared.redo.Op.{Op}
 
 -- no entry is of a word of these
 abbrev pub NoneEnters : (ℕ → Type 0) → List Final → Type 0
@@ -35,19 +36,19 @@ slot_entries log (a ∷ b ∷ c ∷ d ∷ e ∷ f ∷ g ∷ []) pair = refl
 slot_entries log (a ∷ b ∷ c ∷ d ∷ e ∷ f ∷ g ∷ h ∷ []) pair = refl
 slot_entries log (a ∷ b ∷ c ∷ d ∷ e ∷ f ∷ g ∷ h ∷ i ∷ slot) pair = refl
 
-module _ (P : ℕ → Type 0) (v : View) (none : NoneEnters P v.log.entries) (outside : (w : ℕ) → IsEnterable v w → P w → ⊥) where
+module _ (P : ℕ → Type 0) (v : View) (none : NoneEnters P v.log.entries) (outside : (op : Op) (w x : ℕ) → IsEnterable v op w x → P w → ⊥) where
   -- one entry more, of a word that it may be of
-  one_more : (word value : ℕ) → IsEnterable v word → NoneEnters P (v.log.entries ++ set_word word value ∷ [])
-  one_more word value may i f there of = ⊎_elim
+  one_more : (op : Op) (word value : ℕ) → IsEnterable v op word value → NoneEnters P (v.log.entries ++ final_by op word value ∷ [])
+  one_more op word value may i f there of = ⊎_elim
       (λ (before : slice_get v.log.entries i ≡ Some f). none i f before of)
-      (λ (new : (i ≡ length v.log.entries) × (set_word word value ≡ f)). outside word may (subst (λ (g : Final). P g.word) (sym new.1) of))
-      (get-push_cases v.log.entries (set_word word value) i f there)
+      (λ (new : (i ≡ length v.log.entries) × (final_by op word value ≡ f)). outside op word value may (subst P (final_word op word value) (subst (λ (g : Final). P g.word) (sym new.1) of)))
+      (get-push_cases v.log.entries (final_by op word value) i f there)
 
   -- a pair's next word
   paired_enters : (slot pair : List ℕ) (w x : ℕ) → AppendsToPair v w x pair → NoneEnters P (with_pair v.log slot (pair ++ x ∷ [])).entries
   paired_enters slot [] w x adds = none
   paired_enters slot (a ∷ []) w x adds =
-      subst (λ (l : Log). NoneEnters P l.entries) (sym (ap (with_pair v.log slot) adds.spells ∙ with_pair-whole v.log slot adds.word adds.value)) (one_more adds.word adds.value adds.may)
+      subst (λ (l : Log). NoneEnters P l.entries) (sym (ap (with_pair v.log slot) adds.spells ∙ with_pair-whole v.log slot adds.op adds.word adds.value)) (one_more adds.op adds.word adds.value adds.may)
   paired_enters slot (a ∷ b ∷ []) w x adds = none
   paired_enters slot (a ∷ b ∷ c ∷ pair) w x adds = none
 
@@ -71,6 +72,15 @@ module _ (P : ℕ → Type 0) (v : View) (none : NoneEnters P v.log.entries) (ou
   stored_enters w x Sealing part fits = absurd fits
   stored_enters w x Clearing part fits = absurd fits
   stored_enters w x Retiring part fits = absurd fits
+
+  changed_enters : (phase : Phase) → NoneEnters P (log_changed phase v.log).entries
+  changed_enters Idle = none
+  changed_enters (Open slot pair) = none
+  changed_enters Drawn = none
+  changed_enters Sealing = none
+  changed_enters (Applying applied) = none
+  changed_enters Clearing = none
+  changed_enters Retiring = none
 
   emptied_enters : (phase : Phase) (number : Bool) → NoneEnters P (log_drained phase number v.log).entries
   emptied_enters Idle number = none
@@ -98,8 +108,8 @@ module _ (P : ℕ → Type 0) (v : View) (none : NoneEnters P v.log.entries) (ou
   pub enters_after : (s : Step) → Allowed v s → NoneEnters P (after v s).log.entries
   enters_after (Load w x) may = none
   enters_after (Store w x) may = stored_enters w x v.log.phase (part_of v.lane w) may.fits
-  enters_after (Or w bits found) may = absurd may
-  enters_after (And w bits found) may = absurd may
+  enters_after (Or w bits found) may = changed_enters v.log.phase
+  enters_after (And w bits found) may = changed_enters v.log.phase
   enters_after (Flush line) may = none
   enters_after Drain may = drained_enters (drained v.changes)
   enters_after (TakeWrite line won) may = none

@@ -6,7 +6,7 @@ use Rattle.std.proofs.lemmas.List.Elements.{All-filter, All-map, All-push, All-w
 use Rattle.pm_crash.specs.Leading.{Leads}
 use Rattle.pm_undo.specs.Working.{FindsOpening}
 use Rattle.pm_view.specs.Blocks.{allocation_word, block_at, descriptor_word, is_word}
-use Rattle.pm_view.specs.Counts.{counted, is_counted}
+use Rattle.pm_view.specs.Counts.{counted, is_counted, is_store}
 use Rattle.pm_view.specs.Founds.{FoundAlone, IsAlone}
 use Rattle.pm_view.specs.Log.{Phase}
 use Rattle.pm_view.specs.Log.Phase.{Idle, Open, Drawn, Sealing, Applying, Clearing, Retiring}
@@ -64,15 +64,15 @@ module _ (o : Opening) (Kept : List ℕ → Type 0) (same_blocks : (words : List
     with_locks w lanes table words locks = record { lanes = lanes ∙ is.lanes; alone = table ∙ is.alone; words = subst Kept (sym words) is.words; locks = locks }
 
     -- a step keeps it, if its store does
-    pub found_after : (s : Step) → Allowed v s → FoundAlone v s → ((w x : ℕ) → s ≡ Store w x → Kept (set v.words w x)) → HasFound o Kept (after v s)
+    pub found_after : (s : Step) → Allowed v s → FoundAlone v s → (is_store s ≡ true → Kept (after v s).words) → HasFound o Kept (after v s)
     found_after (Load w x) may found stores =
         let same : set v.words w x ≡ v.words = ap (set v.words w) (found is.alone) ∙ set-get_or v.words w 0 in
         with_locks (after v (Load w x)) refl refl same
         (All-map (IsThere o) (with_block v.lanes (set v.words w x) w) v.locks
         (All-weaker (IsThere o) (λ (l : Lock). IsThere o (with_block v.lanes (set v.words w x) w l)) (λ l there. found_there v.lanes (set v.words w x) w l is.lanes (subst Kept (sym same) is.words) there) v.locks is.locks))
-    found_after (Store w x) may found stores = record { lanes = is.lanes; alone = is.alone; words = stores w x refl; locks = is.locks }
-    found_after (Or w bits x) may found stores = absurd may
-    found_after (And w bits x) may found stores = absurd may
+    found_after (Store w x) may found stores = record { lanes = is.lanes; alone = is.alone; words = stores refl; locks = is.locks }
+    found_after (Or w bits x) may found stores = record { lanes = is.lanes; alone = is.alone; words = stores refl; locks = is.locks }
+    found_after (And w bits x) may found stores = record { lanes = is.lanes; alone = is.alone; words = stores refl; locks = is.locks }
     found_after (Flush line) may found stores = with_locks (after v (Flush line)) refl refl refl is.locks
     found_after Drain may found stores = with_locks (after v Drain) refl refl refl is.locks
     found_after (TakeWrite line true) may found stores = with_locks (after v (TakeWrite line true)) refl refl refl (All-push (IsThere o) v.locks _ is.locks tt)
@@ -94,12 +94,19 @@ module _ (o : Opening) (Kept : List ℕ → Type 0) (same_blocks : (words : List
     found_after SetStop may found stores = is
     found_after (Tell operation reply) may found stores = with_locks (after v (Tell operation reply)) refl refl refl is.locks
 
+-- a store is a counted call
+store_counts : (s : Step) → is_store s ≡ true → is_counted s ≡ true
+store_counts (Store w x) stores = refl
+store_counts (Or w bits found) stores = refl
+store_counts (And w bits found) stores = refl
+store_counts s stores = absurd (false≢true stores)
+
 module _ (o : Opening) where
   -- a step that is no counted call stores nothing
   untouched_after : (v : View) → IsUntouched o v → (s : Step) → Allowed v s → FoundAlone v s → is_counted s ≡ false → IsUntouched o (after v s)
   untouched_after v is s may found free =
       found_after o (λ (words : List ℕ). words ≡ o.words) (λ words same line. ap (λ (ws : List ℕ). block_at o.lanes ws line) same) v is s may found
-      (λ w x stores. absurd (false≢true (sym free ∙ ap is_counted stores)))
+      (λ stores. absurd (false≢true (sym free ∙ store_counts s stores)))
 
   -- where no step is a counted call none of them is
   free_first : (b : Bool) (n : ℕ) → cond b 1 0 + n ≡ 0 → b ≡ false

@@ -1,6 +1,9 @@
 -- Sequences of a transaction that store no slot word: behind each of their steps a lane that was quiet is so still.
-use Rattle.std.proofs.Common.{◌≡◌, ◌⊎◌, inl, inr, ℕ, ◌+◌, ◌/◌, ◌<◌, ◌≤◌, Bool, true, false, All, List, [], ◌∷◌, ◌++◌, length, length-append, map, take, Option, None, Some, refl, sym, ap, ◌∙◌, subst, arith}
-use Rattle.std.proofs.lemmas.List.Elements.{All-append, All-cons, All-get_or, All-nil, All-weaker}
+use Rattle.std.proofs.Common.{◌≡◌, ◌⊎◌, inl, inr, ℕ, ◌+◌, ◌/◌, ◌<◌, ◌≤◌, Bool, true, false, All, List, [], ◌∷◌, ◌++◌, length, length-append, map, take, Option, None, Some, refl, sym, ap, ◌∙◌, subst, arith, bit_or, ⊎_elim, bit_and, Contains, slice_index}
+use Rattle.std.proofs.lemmas.Bool.{false≢true}
+use Rattle.std.proofs.lemmas.List.Elements.{All-append, All-cons, All-get_or, All-nil, All-weaker, Contains-append_cases}
+use Rattle.pm_record.specs.declared.redo.Op.{Op}
+use Rattle.pm_record.specs.declared.redo.Op.TheVariants.{Set, Or, And}
 use Rattle.pm_crash.specs.Writes.{written_word}
 use Rattle.pm_objects.specs.declared.calls.Operation.{Operation}
 use Rattle.pm_objects.specs.declared.calls.Operation.TheVariants.{Commit, Read, Write}
@@ -11,30 +14,34 @@ use Rattle.pm_record.specs.Redo.{op_code}
 use Rattle.pm_record.specs.declared.redo.Redo.{Redo}
 use Rattle.pm_redo.proofs.PairWords.{pair_part, seal_part}
 use Rattle.pm_redo.specs.Entering.{IsOfPool, ending}
-use Rattle.pm_redo.specs.Sequences.{applies, applies_each, applies_entry, ending_of, entry_at, logs, no_entry, performs, performs_on, stores_two, writes_entries, writes_log, writes_pair, writes_pairs, writes_seal}
+use Rattle.pm_redo.specs.Sequences.{applies, applies_each, applies_entry, ending_of, entry_at, logs, no_entry, performs, performs_on, stores_two, writes_entries, writes_log, writes_pair, writes_pairs, writes_seal, does}
 use Rattle.pm_undo.specs.Sequences.{ends_generation, persists, restores, retires}
 use Rattle.pm_undo.specs.Working.{IsWorking}
 use Rattle.pm_view.specs.Area.{Part, area_word, is_in_area, part_of}
 use Rattle.pm_view.specs.Area.Part.{EntryWord, SealWord}
-use Rattle.pm_view.specs.Log.{Log, Phase, log_stored, with_pair}
+use Rattle.pm_view.specs.Log.{Log, Phase, log_stored, with_pair, log_changed}
 use Rattle.pm_view.specs.Log.Phase.{Applying, Clearing, Drawn, Idle, Open, Retiring, Sealing}
 use Rattle.pm_view.specs.Steps.{Step}
-use Rattle.pm_view.specs.Steps.Step.{Draw, Give, NumberSeen, Store, Tell}
+use Rattle.pm_view.specs.Steps.Step.{Or as Or_step, And as And_step, Draw, Give, NumberSeen, Store, Tell}
 use Rattle.pm_view.specs.View.{View}
-use Rattle.pm_view.specs.Views.{after, after_all}
+use Rattle.pm_view.specs.Views.{after, after_all, changed}
 use Rattle.pm_world.specs.Lanes.{span_of}
 use Rattle.pm_world.specs.Entries.{entry_word}
-use Rattle.pm_world.specs.Sequences.{Sequence, in_turn, looks, one, settles, stores}
+use Rattle.pm_world.specs.Sequences.{Sequence, in_turn, looks, one, settles, stores, finds_in, ors, makes_room, ands}
 use Rattle.pm_world.specs.declared.lane.HeldLock.{HeldLock}
 use Rattle.pm_world.specs.declared.lane.Span.{Span}
 use Rattle.pm_tx.proofs.Retirement.{records_beside}
-use Rattle.pm_tx.proofs.StepKinds.{Each, HasOnly, HasQuietSteps, each_first, each_more, only_by_lane, only_counted, only_in_turn, only_looks, only_looks_from, only_nothing, only_one, only_persists, only_restores, only_settles, only_stores, only_with_generation, only_with_word}
+use Rattle.pm_tx.proofs.StepKinds.{Each, HasOnly, HasQuietSteps, each_first, each_more, only_by_lane, only_counted, only_in_turn, only_looks, only_looks_from, only_nothing, only_one, only_persists, only_restores, only_settles, only_stores, only_with_generation, only_with_word, only_makes_room}
 use Rattle.pm_tx.proofs.Unraised.{added_outside}
 use Rattle.pm_tx.specs.Beginning.{takes}
 use Rattle.pm_tx.specs.Ranges.{CanWrite, reads_range, writes_range}
 use Rattle.pm_tx.specs.Sequences.{commits, decides, decides_all, ends_call, gives, gives_up, line_at, performs_logged, publishes, reads, retires_any, sees_generation, starts, takes_back, undoes, word_count, writes, writes_word}
 use Rattle.pm_exec.specs.Quiet.{IsQuiet, MakesNone}
 use Rattle.pm_exec.proofs.QuietSlots.{IsCalm, quiet_after, quiet_at, quiet_store}
+use Rattle.pm_image.proofs.Members.{only_member}
+use Rattle.pm_undo.proofs.Areas.{in_area}
+use Rattle.pm_view.specs.Changes.{or_change, and_change}
+use Rattle.pm_view.specs.declared.change.Change.{Change}
 
 pub calm_steps : HasQuietSteps IsCalm
 calm_steps = record { load = λ w x. tt; flush = λ line. tt; drain = tt }
@@ -93,9 +100,11 @@ calm_decides : (spans : List Span) (n : ℕ) → HasOnly IsCalm (decides spans n
 unfolding decides
 calm_decides spans n = only_in_turn IsCalm (ends_call Commit None n) (retires_any spans) (calm_ends Commit None n) (calm_retires_any spans)
 
--- a step that stores a word of an entry's pair, or the seal
+-- a step that stores a word of an entry's pair, or the seal, or sets or clears bits of a word outside of the area
 abbrev IsOfLog : Step → Type 0
 IsOfLog (Store w x) = (w < area_word 0 + 136) × ((part_of 0 w ≡ EntryWord) ⊎ (part_of 0 w ≡ SealWord))
+IsOfLog (Or_step w bits found) = is_in_area 0 w ≡ false
+IsOfLog (And_step w bits found) = is_in_area 0 w ≡ false
 IsOfLog s = ⊥
 
 -- a step that stores no slot word, but may store one of the redo log
@@ -143,9 +152,33 @@ quiet_before_slots v w x quiet of_log =
     quiet_store v w x quiet (λ slots. let low = slots.low in let below = of_log.0 in omega (arith, low, below))
     (log_unbegun x v.log (part_of v.lane w) (subst (λ n. (part_of n w ≡ EntryWord) ⊎ (part_of n w ≡ SealWord)) (sym quiet.lane) of_log.1) quiet.unbegun)
 
+changed_unbegun : (log : Log) (p : Phase) → log.phase ≡ p → MakesNone p → MakesNone (log_changed p log).phase
+changed_unbegun log (Applying applied) is un = tt
+changed_unbegun log (Open slot pair) is un = subst MakesNone (sym is) un
+changed_unbegun log Idle is un = subst MakesNone (sym is) un
+changed_unbegun log Drawn is un = subst MakesNone (sym is) un
+changed_unbegun log Sealing is un = subst MakesNone (sym is) un
+changed_unbegun log Clearing is un = subst MakesNone (sym is) un
+changed_unbegun log Retiring is un = subst MakesNone (sym is) un
+
+quiet_bits : (v : View) (w y : ℕ) (c : Change) → c.word ≡ w → IsQuiet v → is_in_area 0 w ≡ false → IsQuiet (changed v w y c (log_changed v.log.phase v.log))
+quiet_bits v w y c word quiet out = record {
+  lane = quiet.lane;
+  unchanged = λ d there slots. ⊎_elim
+      (λ (old : Contains v.changes d). quiet.unchanged d old slots)
+      (λ (last : Contains (c ∷ []) d).
+      let same : w ≡ d.word = sym word ∙ ap (λ (e : Change). e.word) (only_member c d last) in
+      let low = slots.low in let high = slots.high in
+      false≢true (sym out ∙ in_area 0 w (omega (arith, low, same)) (omega (arith, high, same))))
+      (Contains-append_cases v.changes (c ∷ []) d there);
+  unbegun = changed_unbegun v.log v.log.phase refl quiet.unbegun;
+}
+
 quiet_slotless : (v : View) (s : Step) → IsQuiet v → IsSlotless s → IsQuiet (after v s)
 quiet_slotless v s quiet (inl calm) = quiet_after v s quiet calm
 quiet_slotless v (Store w x) quiet (inr of_log) = quiet_before_slots v w x quiet of_log
+quiet_slotless v (Or_step w bits found) quiet (inr of_log) = quiet_bits v w (bit_or found bits) (or_change w bits found) refl quiet of_log
+quiet_slotless v (And_step w bits found) quiet (inr of_log) = quiet_bits v w (bit_and found bits) (and_change w bits found) refl quiet of_log
 quiet_slotless v s quiet (inr of_log) = absurd of_log
 
 quiet_all : (v : View) (steps : List Step) → IsQuiet v → Each IsSlotless steps → IsQuiet (after_all v steps)
@@ -177,9 +210,20 @@ only_logs entries few =
     only_with_generation IsSlotless slotless_steps (writes_log entries)
     (λ x. only_entries (entries ++ ending_of 0 x ∷ []) (let more = length-append entries (ending_of 0 x ∷ []) in omega (arith, more, few)))
 
--- and performed, each of which sets a word outside of the area, or the generation
+-- and performed, each of which is of a word outside of the area, or sets the generation
 abbrev SetsNoSlot : Redo → Type 0
-SetsNoSlot e = IsCalm (Store (e.place / 8) e.value)
+SetsNoSlot e = (is_in_area 0 (e.place / 8) ≡ false) ⊎ ((e.place / 8 ≡ 512) × (e.op ≡ Set))
+
+-- bits of a word outside of the area are set or cleared
+only_finds : (w : ℕ) (s : ℕ → Step) → ((x : ℕ) → IsSlotless (s x)) → HasOnly IsSlotless (in_turn makes_room (finds_in w s))
+unfolding finds_in Each
+only_finds w s is = only_in_turn IsSlotless makes_room (finds_in w s) (only_makes_room IsSlotless slotless_steps) (λ v lane. (is (slice_index v.words w), tt))
+
+only_does : (op : Op) (w x : ℕ) → (is_in_area 0 w ≡ false) ⊎ ((w ≡ 512) × (op ≡ Set)) → HasOnly IsSlotless (does op w x)
+unfolding ors ands
+only_does Set w x sets = only_stores IsSlotless slotless_steps w x (inl (⊎_elim inr (λ (here : (w ≡ 512) × (Set ≡ Set)). inl here.0) sets))
+only_does Or w x sets = only_finds w (Or_step w x) (λ found. inr (⊎_elim (λ (out : is_in_area 0 w ≡ false). out) (λ (here : (w ≡ 512) × (Or ≡ Set)). let clash = here.1 in absurd cc) sets))
+only_does And w x sets = only_finds w (And_step w x) (λ found. inr (⊎_elim (λ (out : is_in_area 0 w ≡ false). out) (λ (here : (w ≡ 512) × (And ≡ Set)). let clash = here.1 in absurd cc) sets))
 
 only_seal : (n : ℕ) → HasOnly IsSlotless (writes_seal 0 n)
 unfolding writes_seal
@@ -193,7 +237,7 @@ unfolding applies applies_each applies_entry
 only_applies all each =
     only_in_turn IsSlotless (applies_each all) settles
     (only_counted IsSlotless (λ i. applies_entry (entry_at all i)) (length all)
-    (λ i below. only_stores IsSlotless slotless_steps ((entry_at all i).place / 8) (entry_at all i).value (inl (All-get_or SetsNoSlot all i no_entry below each))))
+    (λ i below. only_does (entry_at all i).op ((entry_at all i).place / 8) (entry_at all i).value (All-get_or SetsNoSlot all i no_entry below each)))
     (only_settles IsSlotless slotless_steps)
 
 only_performs : (all : List Redo) → All SetsNoSlot all → HasOnly IsSlotless (performs all)
@@ -206,7 +250,7 @@ only_performs all each =
 only_performs_logged : (entries : List Redo) → All SetsNoSlot entries → HasOnly IsSlotless (performs_logged entries)
 unfolding performs_logged
 only_performs_logged entries each v lane =
-    only_performs (entries ++ ending v ∷ []) (All-append SetsNoSlot entries (ending v ∷ []) each (All-cons SetsNoSlot (ending v) [] (inl (omega (arith, lane))) (All-nil SetsNoSlot))) v lane
+    only_performs (entries ++ ending v ∷ []) (All-append SetsNoSlot entries (ending v ∷ []) each (All-cons SetsNoSlot (ending v) [] (inr (omega (arith, lane), refl)) (All-nil SetsNoSlot))) v lane
 
 only_publishes : (entries : List Redo) (operation : Operation) (n : ℕ) → length entries ≤ 63 → All SetsNoSlot entries → HasOnly IsSlotless (publishes entries operation n)
 unfolding publishes
@@ -226,7 +270,7 @@ only_commits spans entries n few each =
 
 -- entries of words of the pool are outside of the area of lane 0
 pool_sets : (v : View) (entries : List Redo) → v.lane ≡ 0 → All (IsOfPool v) entries → All SetsNoSlot entries
-pool_sets v entries lane each = All-weaker (IsOfPool v) SetsNoSlot (λ e of_pool. inr (ap (λ n. is_in_area n (e.place / 8)) (sym lane) ∙ of_pool.outside)) entries each
+pool_sets v entries lane each = All-weaker (IsOfPool v) SetsNoSlot (λ e of_pool. inl (ap (λ n. is_in_area n (e.place / 8)) (sym lane) ∙ of_pool.outside)) entries each
 
 -- recorded words are put back, none of which is of a slot
 module _ (v : View) (working : IsWorking v) (lane : v.lane ≡ 0) where

@@ -1,9 +1,10 @@
 -- Along all steps of a lane that is alone in a sound pool, what tells of blocks stays; so the pool is sound as each view of the lane has it.
-use Rattle.std.proofs.Common.{◌≡◌, ⊎_elim, eq-eqb, eqb, not, ◌%◌, ◌/◌, inr, inl, ℕ, ◌+◌, ◌*◌, ◌<◌, ◌≤◌, true, ◌&&◌, All, IsTrue, List, [], ◌∷◌, length, length-set, set, slice_index, is_some, refl, sym, ap, ◌∙◌, subst, arith}
+use Rattle.std.proofs.Common.{◌≡◌, ⊎_elim, eq-eqb, eqb, not, ◌%◌, ◌/◌, inr, inl, ℕ, ◌+◌, ◌*◌, ◌<◌, ◌≤◌, true, ◌&&◌, All, IsTrue, List, [], ◌∷◌, length, length-set, set, slice_index, is_some, refl, sym, ap, ◌∙◌, subst, arith, bit_or, bit_and}
 use Rattle.std.proofs.lemmas.Bool.{and_from, and_parts, false≢true}
 use Rattle.std.proofs.lemmas.List.{get_or-set_other}
 use Rattle.std.proofs.lemmas.List.Elements.{All-nil}
 use Rattle.std.proofs.lemmas.List.Folds.{Any-from_list_any}
+use Rattle.pm_record.specs.declared.redo.Op.TheVariants as op
 use Rattle.pm_crash.proofs.SameBlocks.{same_blocks, sound_with}
 use Rattle.pm_crash.specs.Alone.{standing}
 use Rattle.pm_crash.specs.Leading.{Leads}
@@ -22,14 +23,14 @@ use Rattle.pm_view.specs.Log.{Log, Phase, no_log}
 use Rattle.pm_view.specs.Log.Phase.{Idle, Open, Drawn, Sealing, Applying, Clearing, Retiring}
 use Rattle.pm_view.specs.Rights.{is_written}
 use Rattle.pm_view.specs.Steps.{Step}
-use Rattle.pm_view.specs.Steps.Step.{Store}
+use Rattle.pm_view.specs.Steps.Step.{Or as Or_step, And as And_step, Store}
 use Rattle.pm_view.specs.View.{Lock, View}
 use Rattle.pm_view.specs.Views.{after}
 use Rattle.pm_world.proofs.Apart.{area_bounds}
 use Rattle.pm_world.proofs.Living.{descriptor_page}
 use Rattle.pm_world.proofs.Parts.{entry_part, generation_part, seal_part, slot_part}
-use Rattle.pm_world.specs.Entries.{IsEnterable, set_word}
-use Rattle.pm_world.specs.Lawful.{Allowed, StoreFits}
+use Rattle.pm_world.specs.Entries.{IsEnterable, set_word, final_by}
+use Rattle.pm_world.specs.Lawful.{Allowed, StoreFits, MayChange}
 use Rattle.pm_world.specs.Opening.{IsSound, Opening, TellsOfBlocks}
 use Rattle.pm_world.specs.declared.lane.Lane.{Lane}
 use Rattle.pm_exec.specs.Progress.{IsStart}
@@ -40,6 +41,11 @@ use Rattle.pm_exec.proofs.OpeningFound.{HasFound, IsThere, found_after}
 use Rattle.pm_pending.specs.declared.actions.SetAction.{SetAction}
 use Rattle.pm_crash.specs.Pending.{pending_before}
 use Rattle.pm_exec.specs.Progress.{IsPending}
+use Rattle.pm_record.specs.declared.redo.Op.TheVariants.{Set}
+use Rattle.pm_record.specs.declared.redo.Op.{Op}
+use Rattle.pm_view.specs.Counts.{is_store}
+use Rattle.pm_world.proofs.StepChange.{changes_next}
+use Rattle.pm_world.proofs.StorePair.{final_word}
 
 -- as many words as at the opening, and what tells of blocks is the same
 pub record TellsAsOpened (o : Opening) (words : List ℕ) : Type 0 where
@@ -95,9 +101,9 @@ module _ (o : Opening) (sound : IsSound o) (v : View) (is : Stands o v) (entered
       tells
 
   -- nor one that an entry may be of
-  enterable : (w : ℕ) → IsEnterable v w → TellsOfBlocks o w → ⊥
-  enterable w = ⊎_elim (λ (own : IsTrue (is_written v w)). locked w own)
-      (λ (generation : w ≡ area_word v.lane). in_area w (ap (is_in_area v.lane) generation ∙ generation_in_area v.lane))
+  enterable : (op : Op) (w x : ℕ) → IsEnterable v op w x → TellsOfBlocks o w → ⊥
+  enterable op w x may = ⊎_elim (λ (own : IsTrue (is_written v w)). locked w own)
+      (λ (generation : (w ≡ area_word v.lane) × (op ≡ Set)). in_area w (ap (is_in_area v.lane) generation.0 ∙ generation_in_area v.lane)) may.of
 
   -- so none is stored that does
   stored : (w x : ℕ) (phase : Phase) (part : Part) → part_of v.lane w ≡ part → StoreFits v w x phase part → TellsOfBlocks o w → ⊥
@@ -129,10 +135,25 @@ module _ (o : Opening) (sound : IsSound o) (v : View) (is : Stands o v) (entered
     telling = λ i tells. get_or-set_other v.words w i x 0 (λ same. stored w x v.log.phase (part_of v.lane w) refl may.fits (subst (TellsOfBlocks o) same tells)) ∙ is.words.telling i tells;
   }
 
+  -- and so does what sets or clears bits
+  bits_after : (op : Op) (w bits y : ℕ) → MayChange v op w bits → TellsAsOpened o (set v.words w y)
+  bits_after op w bits y may =
+      let t = changes_next v op w bits v.log.phase refl (part_of v.lane w) refl may.fits in
+      record {
+        size = length-set v.words w y ∙ is.words.size;
+        telling = λ i tells. get_or-set_other v.words w i y 0 (λ same. entered t.applied (final_by op w bits) t.next (subst (TellsOfBlocks o) (same ∙ sym (final_word op w bits)) tells)) ∙ is.words.telling i tells;
+      }
+
+  kept_after : (s : Step) → Allowed v s → is_store s ≡ true → TellsAsOpened o (after v s).words
+  kept_after (Store w x) may stores = tells_after w x may
+  kept_after (Or_step w bits found) may stores = bits_after op.Or w bits (bit_or found bits) may
+  kept_after (And_step w bits found) may stores = bits_after op.And w bits (bit_and found bits) may
+  kept_after s may stores = absurd (false≢true stores)
+
   -- and so does each step
   stands_after : (s : Step) → Allowed v s → FoundAlone v s → Stands o (after v s)
   stands_after s may found =
-      found_after o (TellsAsOpened o) (λ words tells line. same_blocks o words tells.telling line) v is s may found (λ w x stores. tells_after w x (subst (Allowed v) stores may))
+      found_after o (TellsAsOpened o) (λ words tells line. same_blocks o words tells.telling line) v is s may found (kept_after s may)
 
 -- and so do all, one after another
 pub stands_along : (o : Opening) → IsSound o → (v w : View) (steps : List Step) → Leads v steps w → v.lane < o.lanes → Stands o v → NoneEnters (TellsOfBlocks o) v.log.entries → Stands o w

@@ -5,6 +5,7 @@ use Rattle.std.specs.List.{Contains, list_any}
 use Rattle.std.proofs.lemmas.Bool.{false≢true}
 use Rattle.std.proofs.lemmas.List.Folds.{list_any-from_Any}
 use Rattle.std.proofs.lemmas.List.Elements.{Contains-append_cases}
+use Rattle.pm_record.specs.declared.redo.Op.TheVariants as op
 use Rattle.pm_header.specs.declared.header.Header.{Header}
 use Rattle.pm_objects.specs.declared.pool.PoolView.{PoolView}
 use Rattle.pm_image.proofs.Members.{member_kept, member_made, no_member, only_member}
@@ -12,14 +13,14 @@ use Rattle.pm_image.specs.Logs.{slot_line}
 use Rattle.pm_view.specs.declared.change.Change.{Change}
 use Rattle.pm_view.specs.Area.{Part, area_word, part_of}
 use Rattle.pm_view.specs.Area.Part.{EntryWord, GenerationWord, OtherWord, SealWord, SlotWord}
-use Rattle.pm_view.specs.Changes.{drained, flushed, is_in_line, mark, store_change}
-use Rattle.pm_view.specs.Log.{Log, Phase, Recorded, log_drawn, log_stored, with_pair, with_slot}
+use Rattle.pm_view.specs.Changes.{drained, flushed, is_in_line, mark, store_change, or_change, and_change}
+use Rattle.pm_view.specs.Log.{Log, Phase, Recorded, log_drawn, log_stored, with_pair, with_slot, log_changed}
 use Rattle.pm_view.specs.Log.Phase.{Idle, Open, Drawn, Sealing, Applying, Clearing, Retiring}
 use Rattle.pm_view.specs.Steps.{Step}
 use Rattle.pm_view.specs.Steps.Step.{Load, Store, Or, And, Flush, Drain, TakeWrite, TakeRead, Raise, Give, ZoneTry, ZoneGive, Occupied, Occupy, Vacate, Draw, NumberSeen, StopSeen, SetStop, Tell}
 use Rattle.pm_view.specs.View.{View}
 use Rattle.pm_view.specs.Views.{after, begun, changed, log_after_drain}
-use Rattle.pm_world.specs.Lawful.{Allowed, EndsGeneration, StoreFits}
+use Rattle.pm_world.specs.Lawful.{Allowed, EndsGeneration, StoreFits, MayChange}
 use Rattle.pm_world.proofs.CrashLogs.{InSlots}
 use Rattle.pm_world.specs.Opening.{Opening}
 use Rattle.pm_undo.specs.Working.{IsWorking}
@@ -29,6 +30,8 @@ use Rattle.pm_crash.specs.Leading.{Leads}
 use Rattle.pm_crash.proofs.LogCourse.{Paired, Slotted, paired, slotted}
 use Rattle.pm_exec.proofs.Along.{lane_along}
 use Rattle.pm_exec.specs.Quiet.{IsQuiet, MakesNone}
+use Rattle.pm_record.specs.declared.redo.Op.{Op}
+use Rattle.pm_world.proofs.StepChange.{changes_next}
 
 -- how many words of slots may be undrained
 abbrev pub slot_words : Phase → Log → ℕ
@@ -163,11 +166,18 @@ begun_first v (Applying applied) is first = subst (λ (p : Phase). AreFirst v.la
 begun_first v Clearing is first = subst (λ (p : Phase). AreFirst v.lane (slot_words p v.log) v.changes) (sym is) first
 begun_first v Retiring is first = subst (λ (p : Phase). AreFirst v.lane (slot_words p v.log) v.changes) (sym is) first
 
+-- bits of a word are set or cleared, which is none of the slots
+bits_first : (v : View) (op : Op) (w bits : ℕ) (c : Change) → c.word ≡ w → MayChange v op w bits → HasFirst v → AreFirst v.lane (slot_words (log_changed v.log.phase v.log).phase (log_changed v.log.phase v.log)) (v.changes ++ c ∷ [])
+bits_first v op w bits c word may first =
+    let t = changes_next v op w bits v.log.phase refl (part_of v.lane w) refl may.fits in
+    subst (λ (p : Phase). AreFirst v.lane (slot_words (log_changed p v.log).phase (log_changed p v.log)) (v.changes ++ c ∷ [])) (sym t.phase)
+    (one_more v.lane 0 v.changes c (subst (λ (p : Phase). AreFirst v.lane (slot_words p v.log) v.changes) t.phase first) (λ slots. absurd (slot_not_other v.lane w t.outside (subst (InSlots v.lane) word slots))))
+
 first_after : (v : View) (s : Step) → Allowed v s → HasFirst v → HasFirst (after v s)
 first_after v (Load w x) may first = first
 first_after v (Store w x) may first = store_first v w x v.log.phase (part_of v.lane w) refl refl may.fits first
-first_after v (Or w bits found) may first = absurd may
-first_after v (And w bits found) may first = absurd may
+first_after v (Or w bits found) may first = bits_first v op.Or w bits (or_change w bits found) refl may first
+first_after v (And w bits found) may first = bits_first v op.And w bits (and_change w bits found) refl may first
 first_after v (Flush line) may first = flushed_first v.lane (slot_words v.log.phase v.log) line v.changes first
 first_after v Drain may first = drain_first v (drained v.changes) (λ c there. first c (member_kept (λ (d : Change). not d.flushed) v.changes c there))
 first_after v (TakeWrite line won) may first = first

@@ -1,33 +1,41 @@
 -- Sealed entries may be applied, in order, and made persistent, and what that leaves.
-use Rattle.std.proofs.Common.{◌≡◌, ◌≢◌, ℕ, zero, suc, ◌+◌, ◌*◌, ◌/◌, ◌<◌, ◌⊎◌, inl, inr, ⊎_elim, cond, eqb, All, List, [], ◌∷◌, ◌++◌, length, length-append, map, take, slice_get, slice_index, Some, is_some, refl, sym, ap, ◌∙◌, subst, arith, eq-eqb, ne_eqb, get_or-set_same, get_or-set_other}
-use Rattle.std.proofs.lemmas.Bool.{cases_eq, cond-true, cond-false}
+use Rattle.std.proofs.Common.{◌≡◌, ◌≢◌, ℕ, zero, suc, ◌+◌, ◌*◌, ◌/◌, ◌<◌, ◌⊎◌, inl, inr, ⊎_elim, cond, eqb, All, List, [], ◌∷◌, ◌++◌, length, length-append, map, take, slice_get, slice_index, Some, is_some, refl, sym, ap, ◌∙◌, subst, arith, eq-eqb, ne_eqb, get_or-set_same, get_or-set_other, false, bit_or, bit_and, ◌^◌}
+use Rattle.std.proofs.lemmas.Bool.{cases_eq, cond-true, cond-false, false≢true}
+use Rattle.std.proofs.lemmas.Nat.{and_le_r, or_lt}
 use Rattle.std.proofs.lemmas.List.{length-map}
 use Rattle.std.proofs.lemmas.Option.{none-some, same_Some}
 use Rattle.std.proofs.lemmas.List.Elements.{All-head, All-tail}
+use Rattle.pm_record.specs.declared.redo.Op.{Op}
+use Rattle.pm_record.specs.declared.redo.Op.TheVariants.{Set, Or, And}
 use Rattle.pm_record.specs.declared.redo.Redo.{Redo}
-use Rattle.pm_view.specs.Area.{Part, area_word, part_of}
+use Rattle.pm_view.specs.declared.change.Change.{Change}
+use Rattle.pm_view.specs.Bits.{with_bits}
+use Rattle.pm_view.specs.Area.{Part, area_word, is_in_area, part_of}
 use Rattle.pm_view.specs.Area.Part.{GenerationWord, OtherWord}
-use Rattle.pm_view.specs.Changes.{store_change}
-use Rattle.pm_view.specs.Log.{Final, Log, log_drained, log_stored}
+use Rattle.pm_view.specs.Changes.{and_change, or_change, store_change}
+use Rattle.pm_view.specs.Log.{Final, Log, log_changed, log_drained, log_stored}
 use Rattle.pm_view.specs.Log.Phase.{Applying}
-use Rattle.pm_view.specs.Steps.Step.{Store}
+use Rattle.pm_view.specs.Steps.Step.{Store, Or as OrStep, And as AndStep}
 use Rattle.pm_view.specs.View.{View}
-use Rattle.pm_view.specs.Views.{after, after_all}
-use Rattle.pm_world.specs.Entries.{ends_with, set_word}
+use Rattle.pm_view.specs.Views.{after, after_all, changed}
+use Rattle.pm_world.specs.Entries.{IsKnownWord, ends_with, final_by, set_word}
 use Rattle.pm_world.specs.History.{made_final}
-use Rattle.pm_world.specs.Lawful.{MayStore, StoreFits}
+use Rattle.pm_world.specs.Lawful.{BitsFit, MayChange, MayStore, StoreFits}
 use Rattle.pm_world.specs.Records.{generation_of}
 use Rattle.pm_world.specs.Sequences.{Ready, settles}
-use Rattle.pm_world.proofs.Differences.{made_whole}
+use Rattle.pm_world.proofs.Differences.{with_all_bits}
+use Rattle.pm_world.proofs.MadeBits.{and_makes, or_makes}
+use Rattle.pm_world.proofs.StorePair.{final_word}
 use Rattle.pm_world.proofs.Going.{Goes, goes_counted, goes_then}
 use Rattle.pm_world.proofs.Replays.{made_final-append}
-use Rattle.pm_undo.specs.Working.{IsSameCall, IsSettled, log_settled}
-use Rattle.pm_undo.proofs.Areas.{generation_word, other_part}
+use Rattle.pm_undo.specs.Working.{HasMadeRoom, IsSameCall, IsSettled, log_settled}
+use Rattle.pm_undo.proofs.Areas.{generation_in_area, generation_word, other_part}
 use Rattle.pm_undo.proofs.Settled.{settle_lawful}
 use Rattle.pm_undo.proofs.Staying.{same_call, same_call-then, same_changed, same_settled}
 use Rattle.pm_undo.proofs.Storing.{goes_stores}
 use Rattle.pm_redo.specs.Entering.{AreEntered, HasPlace, IsApplied, IsOfPool, ending, final_of}
-use Rattle.pm_redo.specs.Sequences.{applies, applies_each, applies_entry, entry_at}
+use Rattle.pm_redo.specs.Sequences.{applies, applies_each, applies_entry, does, entry_at}
+use Rattle.pm_redo.proofs.Changing.{goes_ands, goes_ors}
 use Rattle.pm_redo.proofs.Entered.{room_is_there}
 use Rattle.pm_redo.proofs.Whole.{logged_front}
 
@@ -55,10 +63,10 @@ pub take_all : (gs : List Final) → take (length gs) gs ≡ gs
 take_all [] = refl
 take_all (g ∷ gs) = ap (λ (hs : List Final). g ∷ hs) (take_all gs)
 
--- a word is set
-set_makes : (w x y z : ℕ) → made_final (set_word w x ∷ []) y z ≡ cond (eqb w y) x z
+-- one entry takes effect
+one_makes : (f : Final) (y z : ℕ) → made_final (f ∷ []) y z ≡ cond (eqb f.word y) (with_bits f.mask f.bits z) z
 unfolding made_final
-set_makes w x y z = ap (λ (n : ℕ). cond (eqb w y) n z) (made_whole (set_word w x) z refl)
+one_makes f y z = refl
 
 module _ (v : View) (place : HasPlace v) (entries : List Redo) (are : AreEntered v entries) (start : v.log.phase ≡ Applying 0) (none : v.changes ≡ []) where
   abbrev fs : List Final
@@ -73,10 +81,17 @@ module _ (v : View) (place : HasPlace v) (entries : List Redo) (are : AreEntered
     log : u.log ≡ record v.log { phase = Applying k }
     few : length u.changes ≡ k
     words : (x : ℕ) → slice_index u.words x ≡ made_final (take k fs) x (slice_index v.words x)
+    knows : (x : ℕ) → is_in_area v.lane x ≡ false → IsKnownWord v x → IsKnownWord u x
 
   begins : HasApplied 0 v
   unfolding made_final
-  begins = record { call = same_call v; log = ap (λ phase. let l : Log = record v.log { phase = phase } in l) start; few = ap length none; words = λ x. refl }
+  begins = record {
+    call = same_call v;
+    log = ap (λ phase. let l : Log = record v.log { phase = phase } in l) start;
+    few = ap length none;
+    words = λ x. refl;
+    knows = λ x out known. known;
+  }
 
   module _ (k : ℕ) (low : k < length entries) where
     abbrev e : Redo
@@ -85,7 +100,13 @@ module _ (v : View) (place : HasPlace v) (entries : List Redo) (are : AreEntered
     abbrev w : ℕ
     w = e.place / 8
 
-    at : slice_get fs k ≡ Some (set_word w e.value)
+    abbrev f : Final
+    f = final_of e
+
+    word : f.word ≡ w
+    word = final_word e.op w e.value
+
+    at : slice_get fs k ≡ Some f
     at = ap (λ es. slice_get es k) are.logged ∙ mapped_at entries k low
 
     which : IsOfPool v e ⊎ (e ≡ ending v)
@@ -99,12 +120,25 @@ module _ (v : View) (place : HasPlace v) (entries : List Redo) (are : AreEntered
     inside : w < length v.words
     inside = ⊎_elim (λ (o : IsOfPool v e). o.inside) (λ (same : e ≡ ending v). let q = own_word same in let area = place.inside in omega (arith, q, area)) which
 
-    module _ (u : View) (has : HasApplied k u) where
-      abbrev u' : View
-      u' = after u (Store w e.value)
+    -- a word outside of the lane's area is of an entry of the pool
+    pool_word : is_in_area v.lane w ≡ false → IsOfPool v e
+    pool_word out = ⊎_elim (λ (o : IsOfPool v e). o) (λ (same : e ≡ ending v). absurd (false≢true (sym out ∙ (ap (is_in_area v.lane) (own_word same) ∙ generation_in_area v.lane)))) which
 
+    -- an entry that does not set its word is of the pool, and the lane knows the word
+    changes : (op : Op) → (op ≡ Set → ⊥) → e.op ≡ op → IsOfPool v e × IsKnownWord v w
+    changes op other is = ⊎_elim
+        (λ (o : IsOfPool v e). (o, ⊎_elim (λ (sets : e.op ≡ Set). absurd (other (sym is ∙ sets))) (λ (known : IsKnownWord v w). known) o.known))
+        (λ (same : e ≡ ending v). absurd (other (sym is ∙ ap (λ (x : Redo). x.op) same))) which
+
+    module _ (u : View) (has : HasApplied k u) where
       lane : u.lane ≡ v.lane
       lane = has.call.lane.lane
+
+      inside_still : w < length u.words
+      inside_still = let size = has.call.lane.size in let low_ = inside in omega (arith, size, low_)
+
+      room_still : length u.changes < 512
+      room_still = let few = has.few in let most = are.most in omega (arith, few, low, most)
 
       -- the word is the lane's generation, or lies outside of its area
       by_part : (P : Part → Type 0) → P GenerationWord → P OtherWord → P (part_of u.lane w)
@@ -113,50 +147,117 @@ module _ (v : View) (place : HasPlace v) (entries : List Redo) (are : AreEntered
           (⊎_elim (λ (o : IsOfPool v e). subst P (sym (other_part v.lane w o.outside)) other)
           (λ (same : e ≡ ending v). subst P (sym (ap (part_of v.lane) (own_word same) ∙ generation_word v.lane)) generation) which)
 
-      next : StoreFits u w e.value u.log.phase (part_of u.lane w)
-      next =
-          let here : slice_get u.log.entries k ≡ Some (set_word w e.value) = ap (λ (l : Log). slice_get l.entries k) has.log ∙ at in
-          subst (λ phase. StoreFits u w e.value phase (part_of u.lane w)) (sym (ap (λ (l : Log). l.phase) has.log)) (by_part (StoreFits u w e.value (Applying k)) here here)
+      here : (g : Final) → f ≡ g → slice_get u.log.entries k ≡ Some g
+      here g same = ap (λ (l : Log). slice_get l.entries k) has.log ∙ (at ∙ ap Some same)
 
-      may : MayStore u w e.value
-      may = record {
-        inside = let size = has.call.lane.size in let low_ = inside in omega (arith, size, low_);
-        room = let few = has.few in let most = are.most in omega (arith, few, low, most);
-        fits = next;
-      }
+      -- once the word has become what the entry makes of it
+      module _ (y : ℕ) (c : Change) (lg : Log) (log' : lg ≡ record v.log { phase = Applying (k + 1) }) (makes : y ≡ with_bits f.mask f.bits (slice_index u.words w)) (small : is_in_area v.lane w ≡ false → y < 2 ^ 64) where
+        abbrev u' : View
+        u' = changed u w y c lg
 
-      log' : u'.log ≡ record v.log { phase = Applying (k + 1) }
-      log' =
-          by_part (λ part. log_stored u.log.phase part e.value u.log ≡ record v.log { phase = Applying (k + 1) }) (stored GenerationWord refl) (stored OtherWord refl) where
-            stored : (part : Part) → log_stored (Applying k) part e.value (record v.log { phase = Applying k }) ≡ record v.log { phase = Applying (k + 1) } → log_stored u.log.phase part e.value u.log ≡ record v.log { phase = Applying (k + 1) }
-            stored part is = ap (λ (l : Log). log_stored l.phase part e.value l) has.log ∙ is
+        words' : (x : ℕ) → slice_index u'.words x ≡ made_final (take (k + 1) fs) x (slice_index v.words x)
+        words' x =
+            ⊎_elim (λ (same : w ≡ x). subst (λ z. slice_index u'.words z ≡ made_final (take (k + 1) fs) z (slice_index v.words z)) same
+            (get_or-set_same u.words w y 0 inside_still ∙ (makes ∙ (ap (with_bits f.mask f.bits) (has.words w)
+            ∙ (sym (cond-true (eqb f.word w) (with_bits f.mask f.bits (made_final (take k fs) w (slice_index v.words w))) (made_final (take k fs) w (slice_index v.words w)) (eq-eqb f.word w word)) ∙ sym (more w))))))
+            (λ (other : w ≢ x). get_or-set_other u.words w x y 0 (λ s. other (sym s)) ∙ (has.words x
+            ∙ (sym (cond-false (eqb f.word x) (with_bits f.mask f.bits (made_final (take k fs) x (slice_index v.words x))) (made_final (take k fs) x (slice_index v.words x)) (ne_eqb f.word x (λ s. other (sym word ∙ s)))) ∙ sym (more x))))
+            (cases_eq w x) where
+              more : (z : ℕ) → made_final (take (k + 1) fs) z (slice_index v.words z) ≡ cond (eqb f.word z) (with_bits f.mask f.bits (made_final (take k fs) z (slice_index v.words z))) (made_final (take k fs) z (slice_index v.words z))
+              more z =
+                  ap (λ (gs : List Final). made_final gs z (slice_index v.words z)) (take_more fs k f at)
+                  ∙ (made_final-append (take k fs) (f ∷ []) z (slice_index v.words z) ∙ one_makes f z (made_final (take k fs) z (slice_index v.words z)))
 
-      words' : (x : ℕ) → slice_index u'.words x ≡ made_final (take (k + 1) fs) x (slice_index v.words x)
-      words' x =
-          ⊎_elim (λ (same : w ≡ x). subst (λ y. slice_index u'.words y ≡ made_final (take (k + 1) fs) y (slice_index v.words y)) same
-          (get_or-set_same u.words w e.value 0 may.inside ∙ sym (cond-true (eqb w w) e.value (made_final (take k fs) w (slice_index v.words w)) (eq-eqb w w refl)) ∙ sym (more w)))
-          (λ (other : w ≢ x). get_or-set_other u.words w x e.value 0 (λ s. other (sym s)) ∙ (has.words x
-          ∙ (sym (cond-false (eqb w x) e.value (made_final (take k fs) x (slice_index v.words x)) (ne_eqb w x other)) ∙ sym (more x))))
-          (cases_eq w x) where
-            more : (y : ℕ) → made_final (take (k + 1) fs) y (slice_index v.words y) ≡ cond (eqb w y) e.value (made_final (take k fs) y (slice_index v.words y))
-            more y =
-                ap (λ (gs : List Final). made_final gs y (slice_index v.words y)) (take_more fs k (set_word w e.value) at)
-                ∙ (made_final-append (take k fs) (set_word w e.value ∷ []) y (slice_index v.words y) ∙ set_makes w e.value y (made_final (take k fs) y (slice_index v.words y)))
+        knows' : (x : ℕ) → is_in_area v.lane x ≡ false → IsKnownWord v x → IsKnownWord u' x
+        knows' x out known =
+            let t = has.knows x out known in
+            let call = same_changed u w y c lg in
+            record {
+              known = call.remembers x t.known;
+              small = ⊎_elim (λ (same : x ≡ w). subst (λ n. n < 2 ^ 64) (sym (ap (slice_index u'.words) same ∙ get_or-set_same u.words w y 0 inside_still)) (small (ap (is_in_area v.lane) (sym same) ∙ out)))
+                  (λ (other : x ≢ w). subst (λ n. n < 2 ^ 64) (sym (get_or-set_other u.words w x y 0 other)) t.small) (cases_eq x w);
+            }
 
-      applied : HasApplied (k + 1) u'
-      applied = record {
-        call = same_call-then v u u' has.call (same_changed u w e.value _ _);
-        log = log';
-        few = length-append u.changes (store_change w (slice_index u.words w) e.value ∷ []) ∙ ap (λ n. n + 1) has.few;
-        words = words';
-      }
+        applied : HasApplied (k + 1) u'
+        applied = record {
+          call = same_call-then v u u' has.call (same_changed u w y c lg);
+          log = log';
+          few = length-append u.changes (c ∷ []) ∙ ap (λ n. n + 1) has.few;
+          words = words';
+          knows = knows';
+        }
+
+      -- an entry that sets its word
+      sets : e.op ≡ Set → MayStore u w e.value × HasApplied (k + 1) (after u (Store w e.value))
+      sets is = (
+        record { inside = inside_still; room = room_still; fits = next },
+        applied e.value (store_change w (slice_index u.words w) e.value) (log_stored u.log.phase (part_of u.lane w) e.value u.log)
+            (by_part (λ part. log_stored u.log.phase part e.value u.log ≡ record v.log { phase = Applying (k + 1) }) (stored GenerationWord refl) (stored OtherWord refl))
+            (sym (with_all_bits (slice_index u.words w) e.value) ∙ ap (λ (g : Final). with_bits g.mask g.bits (slice_index u.words w)) (sym whole))
+            (λ out. (pool_word out).entry.word),
+      ) where
+        whole : f ≡ set_word w e.value
+        whole = ap (λ op. final_by op w e.value) is
+
+        next : StoreFits u w e.value u.log.phase (part_of u.lane w)
+        next =
+            let at_k = here (set_word w e.value) whole in
+            subst (λ phase. StoreFits u w e.value phase (part_of u.lane w)) (sym (ap (λ (l : Log). l.phase) has.log)) (by_part (StoreFits u w e.value (Applying k)) at_k at_k)
+
+        stored : (part : Part) → log_stored (Applying k) part e.value (record v.log { phase = Applying k }) ≡ record v.log { phase = Applying (k + 1) } → log_stored u.log.phase part e.value u.log ≡ record v.log { phase = Applying (k + 1) }
+        stored part made = ap (λ (l : Log). log_stored l.phase part e.value l) has.log ∙ made
+
+      -- one that sets or clears bits of it
+      may : (op : Op) → (op ≡ Set → ⊥) → e.op ≡ op → MayChange u op w e.value
+      may op other is =
+          let t = changes op other is in
+          let part : part_of u.lane w ≡ OtherWord = ap (λ j. part_of j w) lane ∙ other_part v.lane w t.0.outside in
+          record {
+            inside = inside_still;
+            room = room_still;
+            fits = subst (λ phase. BitsFit u op w e.value phase (part_of u.lane w)) (sym (ap (λ (l : Log). l.phase) has.log))
+                (subst (BitsFit u op w e.value (Applying k)) (sym part) (here (final_by op w e.value) (ap (λ o. final_by o w e.value) is)));
+            known = has.knows w t.0.outside t.1;
+            word = t.0.entry.word;
+          }
+
+      log_on : log_changed u.log.phase u.log ≡ record v.log { phase = Applying (k + 1) }
+      log_on = ap (λ (l : Log). log_changed l.phase l) has.log
+
+      ors_bits : e.op ≡ Or → MayChange u Or w e.value × HasApplied (k + 1) (after u (OrStep w e.value (slice_index u.words w)))
+      ors_bits is =
+          let found : ℕ = slice_index u.words w in
+          let m = may Or (λ sets. absurd cc) is in (
+            m,
+            applied (bit_or found e.value) (or_change w e.value found) (log_changed u.log.phase u.log) log_on
+                (or_makes e.value found m.word m.known.small ∙ ap (λ op. with_bits (final_by op w e.value).mask (final_by op w e.value).bits found) (sym is))
+                (λ out. or_lt 64 found e.value m.known.small m.word),
+          )
+
+      ands_bits : e.op ≡ And → MayChange u And w e.value × HasApplied (k + 1) (after u (AndStep w e.value (slice_index u.words w)))
+      ands_bits is =
+          let found : ℕ = slice_index u.words w in
+          let m = may And (λ sets. absurd cc) is in (
+            m,
+            applied (bit_and found e.value) (and_change w e.value found) (log_changed u.log.phase u.log) log_on
+                (and_makes e.value found m.word ∙ ap (λ op. with_bits (final_by op w e.value).mask (final_by op w e.value).bits found) (sym is))
+                (λ out. let least = and_le_r found e.value in let word_ = m.word in omega (arith, least, word_)),
+          )
+
+    -- no room has to be made
+    in_place : (R : View → Type 0) (u m : View) → HasApplied k u → HasMadeRoom u m → R u → R m
+    in_place R u m has made r = subst R (sym (room_is_there u m (room_still u has) made)) r
+
+    by_op : (op : Op) → e.op ≡ op → Goes (HasApplied k) (does op w e.value) (HasApplied (k + 1))
+    by_op Set is = goes_stores (HasApplied k) (HasApplied (k + 1)) w e.value (λ u m has made. in_place (λ z. MayStore z w e.value × HasApplied (k + 1) (after z (Store w e.value))) u m has made (sets u has is))
+    by_op Or is = goes_ors (HasApplied k) (HasApplied (k + 1)) w e.value
+        (λ u m has made. in_place (λ z. MayChange z Or w e.value × HasApplied (k + 1) (after z (OrStep w e.value (slice_index z.words w)))) u m has made (ors_bits u has is))
+    by_op And is = goes_ands (HasApplied k) (HasApplied (k + 1)) w e.value
+        (λ u m has made. in_place (λ z. MayChange z And w e.value × HasApplied (k + 1) (after z (AndStep w e.value (slice_index z.words w)))) u m has made (ands_bits u has is))
 
     applies_next : Goes (HasApplied k) (applies_entry e) (HasApplied (k + 1))
     unfolding applies_entry
-    applies_next = goes_stores (HasApplied k) (HasApplied (k + 1)) w e.value (λ u m has made.
-        let few : length u.changes < 512 = let f = has.few in let most = are.most in omega (arith, f, low, most) in
-        let same : m ≡ u = room_is_there u m few made in
-        subst (λ z. MayStore z w e.value × HasApplied (k + 1) (after z (Store w e.value))) (sym same) (may u has, applied u has))
+    applies_next = by_op e.op refl
 
   each : Goes (HasApplied 0) (applies_each entries) (HasApplied (length entries))
   unfolding applies_each
@@ -185,7 +286,8 @@ module _ (v : View) (place : HasPlace v) (entries : List Redo) (are : AreEntered
             let g : ℕ = area_word v.lane in
             ap (λ (gs : List Final). made_final gs g (slice_index v.words g)) (logged_front v entries are)
             ∙ (made_final-append (map final_of are.front) (ends_with v (generation_of v + 1) ∷ []) g (slice_index v.words g)
-            ∙ (set_makes g (generation_of v + 1) g (made_final (map final_of are.front) g (slice_index v.words g)) ∙ cond-true (eqb g g) (generation_of v + 1) _ (eq-eqb g g refl)))
+            ∙ (one_makes (ends_with v (generation_of v + 1)) g (made_final (map final_of are.front) g (slice_index v.words g))
+            ∙ (cond-true (eqb g g) _ _ (eq-eqb g g refl) ∙ with_all_bits (made_final (map final_of are.front) g (slice_index v.words g)) (generation_of v + 1))))
 
   pub apply_lawful : Ready v (applies entries v) × IsApplied v (after_all v (applies entries v))
   unfolding applies

@@ -2,6 +2,8 @@
 use Rattle.std.proofs.Common.{◌≡◌, ◌≢◌, ℕ, ◌+◌, ◌*◌, ◌/◌, ◌%◌, ◌^◌, ◌<◌, ◌≤◌, ⊎_elim, [], ◌∷◌, ◌++◌, length, length-append, slice_index, refl, sym, ap, ◌∙◌, subst, arith, get_or-set_other}
 use Rattle.std.proofs.lemmas.Bool.{false≢true}
 use Rattle.pm_record.specs.Redo.{op_code}
+use Rattle.pm_record.specs.declared.redo.Op.{Op}
+use Rattle.pm_record.specs.declared.redo.Op.TheVariants.{Set, Or, And}
 use Rattle.pm_record.specs.declared.redo.Redo.{Redo}
 use Rattle.pm_view.specs.Area.{area_word, is_in_area, part_of}
 use Rattle.pm_view.specs.Area.Part.{EntryWord}
@@ -11,7 +13,7 @@ use Rattle.pm_view.specs.Log.Phase.{Open}
 use Rattle.pm_view.specs.Steps.Step.{Store}
 use Rattle.pm_view.specs.View.{View}
 use Rattle.pm_view.specs.Views.{after, after_all}
-use Rattle.pm_world.specs.Entries.{IsEnterable, entry_word, set_word}
+use Rattle.pm_world.specs.Entries.{IsEnterable, entry_word, final_by}
 use Rattle.pm_world.specs.Lawful.{MayStore, StoreFits}
 use Rattle.pm_world.specs.Records.{generation_of}
 use Rattle.pm_world.specs.Sequences.{Ready, by_lane, by_view, stores}
@@ -20,7 +22,7 @@ use Rattle.pm_undo.specs.Working.{HasMadeRoom, IsSettled}
 use Rattle.pm_undo.proofs.Kept.{area_kept}
 use Rattle.pm_undo.proofs.Staying.{same_call-then, same_changed}
 use Rattle.pm_undo.proofs.Storing.{Is, goes_stores}
-use Rattle.pm_redo.specs.Entering.{HasEntered, IsEntering, IsSetting, final_of as final_for}
+use Rattle.pm_redo.specs.Entering.{HasEntered, IsEntering, final_of as final_for}
 use Rattle.pm_redo.specs.Sequences.{puts, stores_two, writes_pair}
 use Rattle.pm_redo.proofs.PairWords.{pair_part}
 
@@ -28,7 +30,18 @@ use Rattle.pm_redo.proofs.PairWords.{pair_part}
 pub room_is_there : (v m : View) → length v.changes < 512 → HasMadeRoom v m → m ≡ v
 room_is_there v m few made = ⊎_elim (λ (e : m ≡ v). e) (λ (full : (512 ≤ length v.changes) × IsSettled v m). absurd (let f = full.0 in omega (arith, f, few))) made.1
 
-module _ (v : View) (e : Redo) (entering : IsEntering v) (free : length v.log.entries < 64) (sets : IsSetting e) (may : IsEnterable v (e.place / 8)) where
+-- an operation's number fits beside the place, and names what the entry makes
+code_low : (op : Op) → op_code op < 8
+code_low Set = omega arith
+code_low Or = omega arith
+code_low And = omega arith
+
+final_coded : (op : Op) (w x : ℕ) → final_of (op_code op) w x ≡ final_by op w x
+final_coded Set w x = refl
+final_coded Or w x = refl
+final_coded And w x = refl
+
+module _ (v : View) (e : Redo) (entering : IsEntering v) (free : length v.log.entries < 64) (aligned : e.place % 8 ≡ 0) (may : IsEnterable v e.op (e.place / 8) e.value) where
   abbrev n : ℕ
   n = length v.log.entries
 
@@ -45,11 +58,8 @@ module _ (v : View) (e : Redo) (entering : IsEntering v) (free : length v.log.en
   abbrev v₂ : View
   v₂ = after v₁ (Store (w + 1) e.value)
 
-  code : op_code e.op ≡ 0
-  code = ap op_code sets.sets
-
-  first_word : a ≡ 8 * (e.place / 8) + 0
-  first_word = let c = code in let whole = sets.aligned in omega (arith, c, whole)
+  first_word : a ≡ 8 * (e.place / 8) + op_code e.op
+  first_word = let whole = aligned in omega (arith, whole)
 
   low : w + 2 ≤ length v.words
   low = let area = entering.area.inside in omega (arith, area, free)
@@ -69,9 +79,10 @@ module _ (v : View) (e : Redo) (entering : IsEntering v) (free : length v.log.en
       ∙ (ap (λ (l : Log). log_stored l.phase EntryWord e.value l) log₁ ∙ ap (λ (f : Final). let l : Log = record v.log { phase = Open [] []; entries = v.log.entries ++ f ∷ [] } in l) is_final) where
         is_final : final_of (a % 8) (a / 8) e.value ≡ final_for e
         is_final =
-            let rest : a % 8 ≡ 0 = let f = first_word in omega (arith, f) in
-            let whole : a / 8 ≡ e.place / 8 = let f = first_word in omega (arith, f) in
-            ap (λ c. final_of c (a / 8) e.value) rest ∙ ap (λ (u : ℕ). set_word u e.value) whole
+            let small = code_low e.op in
+            let rest : a % 8 ≡ op_code e.op = let f = first_word in omega (arith, f, small) in
+            let whole : a / 8 ≡ e.place / 8 = let f = first_word in omega (arith, f, small) in
+            (λ i. final_of (rest i) (whole i) e.value) ∙ final_coded e.op (e.place / 8) e.value
 
   fits₁ : MayStore v w a
   fits₁ = record {
@@ -79,6 +90,7 @@ module _ (v : View) (e : Redo) (entering : IsEntering v) (free : length v.log.en
     room = let few = entering.few in omega (arith, few, free);
     fits = subst (λ p. StoreFits v w a v.log.phase p) (sym part₁) (subst (λ phase. StoreFits v w a phase EntryWord) (sym entering.is_open)
         (record {
+          op = e.op;
           word = e.place / 8;
           value = e.value;
           may = may;
@@ -95,9 +107,10 @@ module _ (v : View) (e : Redo) (entering : IsEntering v) (free : length v.log.en
     room = let few = entering.few in let one = length-append v.changes (store_change w (slice_index v.words w) a ∷ []) in omega (arith, few, free, one);
     fits = subst (λ p. StoreFits v₁ (w + 1) e.value v₁.log.phase p) (sym part₂) (subst (λ phase. StoreFits v₁ (w + 1) e.value phase EntryWord) (sym (ap (λ (l : Log). l.phase) log₁))
         (record {
+          op = e.op;
           word = e.place / 8;
           value = e.value;
-          may = may;
+          may = record { of = may.of; word = may.word; part = may.part };
           spells = ap (λ (x : ℕ). x ∷ e.value ∷ []) first_word;
           at = let same = ap (λ (l : Log). length l.entries) log₁ in omega (arith, same);
           free = let same = ap (λ (l : Log). length l.entries) log₁ in omega (arith, same, free);

@@ -1,4 +1,5 @@
 pub mod PairWords
+pub mod Changing
 pub mod Entered
 pub mod Whole
 pub mod Sealed

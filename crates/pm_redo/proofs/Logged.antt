@@ -20,7 +20,7 @@ use Rattle.pm_undo.proofs.Retired.{area_look}
 use Rattle.pm_undo.proofs.Settled.{settle_lawful}
 use Rattle.pm_undo.proofs.Staying.{looked, same_call-then, same_looked, same_settled}
 use Rattle.pm_undo.proofs.Storing.{Is}
-use Rattle.pm_redo.specs.Entering.{HasEntered, HasLogged, IsEntering, IsOfPool, IsReadyToLog, IsSetting, ending, final_of}
+use Rattle.pm_redo.specs.Entering.{HasEntered, HasLogged, IsEntering, IsOfPool, IsOfWord, IsReadyToLog, ending, final_of}
 use Rattle.pm_redo.specs.Sequences.{ending_of, entry_at, logs, puts, writes_entries, writes_pair, writes_pairs}
 use Rattle.pm_redo.proofs.Applied.{front_or_last, mapped_at, take_all, take_more}
 use Rattle.pm_redo.proofs.Entered.{put_lawful}
@@ -77,17 +77,21 @@ module _ (v : View) (entries : List Redo) (ready : IsReadyToLog v) (few : length
     free : length u.log.entries < 64
     free = let s = stored in let n = number in omega (arith, s, n, low, few)
 
-    sets : IsSetting e
-    sets = ⊎_elim (λ (o : IsOfPool v e). o.setting)
-        (λ (same : e ≡ ending v). subst IsSetting (sym same) (record { aligned = omega arith; sets = refl })) which
+    entry : IsOfWord e
+    entry = ⊎_elim (λ (o : IsOfPool v e). o.entry)
+        (λ (same : e ≡ ending v). subst IsOfWord (sym same) (record { aligned = omega arith; word = let below = ready.entering.area.below in omega (arith, below); part = λ or. absurd cc })) which
 
-    may : IsEnterable u (e.place / 8)
-    may = ⊎_elim
-        (λ (o : IsOfPool v e). inl (subst (λ (locks : List Lock). list_any (λ (l : Lock). l.write && is_some l.block && is_under (e.place / 8) l) locks ≡ true) (sym has.call.locks) o.own))
-        (λ (same : e ≡ ending v).
-        let word : e.place / 8 ≡ area_word v.lane = ap (λ (x : Redo). x.place / 8) same ∙ (let q : 8 * area_word v.lane / 8 ≡ area_word v.lane = omega arith in q) in
-        inr (word ∙ ap area_word (sym lane)))
-        which
+    may : IsEnterable u e.op (e.place / 8) e.value
+    may = record {
+      of = ⊎_elim
+          (λ (o : IsOfPool v e). inl (subst (λ (locks : List Lock). list_any (λ (l : Lock). l.write && is_some l.block && is_under (e.place / 8) l) locks ≡ true) (sym has.call.locks) o.own))
+          (λ (same : e ≡ ending v).
+          let word : e.place / 8 ≡ area_word v.lane = ap (λ (x : Redo). x.place / 8) same ∙ (let q : 8 * area_word v.lane / 8 ≡ area_word v.lane = omega arith in q) in
+          inr (word ∙ ap area_word (sym lane), ap (λ (x : Redo). x.op) same))
+          which;
+      word = entry.word;
+      part = entry.part;
+    }
 
     one_more : (w : View) → HasEntered u e w → HasSome (k + 1) w
     one_more w entered = record {
@@ -104,7 +108,7 @@ module _ (v : View) (entries : List Redo) (ready : IsReadyToLog v) (few : length
     next : Ready u (writes_pair v.lane k e u) × HasSome (k + 1) (after_all u (writes_pair v.lane k e u))
     unfolding puts by_lane by_view
     next =
-        let p = put_lawful u e has.entering free sets may in
+        let p = put_lawful u e has.entering free entry.aligned may in
         subst (λ (n : ℕ). Ready u (writes_pair n k e u) × HasSome (k + 1) (after_all u (writes_pair n k e u))) lane
         (subst (λ (n : ℕ). Ready u (writes_pair u.lane n e u) × HasSome (k + 1) (after_all u (writes_pair u.lane n e u))) stored (p.0, one_more (after_all u (puts (length u.log.entries) e u)) p.1))
 
@@ -125,7 +129,7 @@ module _ (v : View) (entries : List Redo) (ready : IsReadyToLog v) (few : length
         entered = record {
           front = entries;
           are = sym (λ j. entries ++ ending_of (lane j) (generation j) ∷ []);
-          each = All-weaker (IsOfPool v) (IsOfPool w) (λ r o. of_pool_kept v w r call o) entries of_pool;
+          each = All-weaker (IsOfPool v) (IsOfPool w) (λ r o. of_pool_kept v w r call (λ x out. ap (λ (ws : List ℕ). slice_index ws x) words ∙ has.outside x out) o) entries of_pool;
           logged = ap (λ (l : Log). l.entries) log;
           most = let n = number in omega (arith, n, few);
         };

@@ -11,7 +11,7 @@ use Rattle.pm_world.specs.History.{made_final}
 use Rattle.pm_world.specs.Records.{generation_of}
 use Rattle.pm_world.specs.Sequences.{Ready, by_lane, by_view, in_turn}
 use Rattle.pm_world.proofs.Going.{goes_then}
-use Rattle.pm_undo.specs.Working.{IsSameCall}
+use Rattle.pm_undo.specs.Working.{IsSameCall, KeepsOutside}
 use Rattle.pm_undo.proofs.Staying.{same_call-then}
 use Rattle.pm_undo.proofs.Storing.{Is}
 use Rattle.pm_redo.specs.Entering.{AreEntered, HasPlace, IsApplied, IsCleared, IsOfPool, IsPerformed, IsReadyToPerform, IsSealed}
@@ -32,11 +32,11 @@ place_kept v w call place =
     let inside = place.inside in
     record { lane = omega (arith, lane, lanes, low); few = omega (arith, lane, few); inside = omega (arith, lane, size, inside) }
 
-entered_kept : (v w : View) (entries : List Redo) → IsSameCall v w → w.log.entries ≡ v.log.entries → generation_of w ≡ generation_of v → AreEntered v entries → AreEntered w entries
-entered_kept v w entries call same generation a = record {
+entered_kept : (v w : View) (entries : List Redo) → IsSameCall v w → KeepsOutside v w → w.log.entries ≡ v.log.entries → generation_of w ≡ generation_of v → AreEntered v entries → AreEntered w entries
+entered_kept v w entries call outside same generation a = record {
   front = a.front;
   are = a.are ∙ sym (λ j. a.front ++ ending_of (call.lane.lane j) (generation j) ∷ []);
-  each = All-weaker (IsOfPool v) (IsOfPool w) (λ e o. of_pool_kept v w e call o) a.front a.each;
+  each = All-weaker (IsOfPool v) (IsOfPool w) (λ e o. of_pool_kept v w e call outside o) a.front a.each;
   logged = same ∙ a.logged;
   most = a.most;
 }
@@ -44,7 +44,7 @@ entered_kept v w entries call same generation a = record {
 module _ (v : View) (entries : List Redo) (ready : IsReadyToPerform v entries) where
   sealed_goes_on : (u : View) → IsSealed v u → Ready u (applies entries u) × IsApplied u (after_all u (applies entries u))
   sealed_goes_on u s =
-      apply_lawful u (place_kept v u s.call ready.place) entries (entered_kept v u entries s.call (ap (λ (l : Log). l.entries) s.log) s.generation ready.entered) (ap (λ (l : Log). l.phase) s.log) s.drained
+      apply_lawful u (place_kept v u s.call ready.place) entries (entered_kept v u entries s.call s.outside (ap (λ (l : Log). l.entries) s.log) s.generation ready.entered) (ap (λ (l : Log). l.phase) s.log) s.drained
 
   -- the log is applied
   record HasBeenApplied (w : View) : Type 0 where

@@ -1,16 +1,20 @@
 -- Entries that are of words of the pool, and then end the generation, are whole.
-use Rattle.std.proofs.Common.{◌≡◌, ℕ, ◌+◌, ◌*◌, ◌/◌, ◌&&◌, true, All, List, [], ◌∷◌, ◌++◌, map, is_some, IsTrue, refl, sym, subst, ap, ◌∙◌, arith}
+use Rattle.std.proofs.Common.{◌≡◌, ℕ, ◌+◌, ◌*◌, ◌/◌, ◌^◌, ◌<◌, ◌&&◌, inl, inr, ⊎_elim, eqb, not, false, true, All, List, [], ◌∷◌, ◌++◌, map, is_some, IsTrue, refl, sym, subst, ap, ◌∙◌, arith}
 use Rattle.std.specs.List.{list_any}
+use Rattle.std.proofs.lemmas.Bool.{and_parts, eqb-true, false≢true, or_cases}
 use Rattle.std.proofs.lemmas.List.Elements.{All-cons, All-head, All-nil, All-tail}
+use Rattle.pm_record.specs.declared.redo.Op.TheVariants.{Set}
 use Rattle.pm_record.specs.declared.redo.Redo.{Redo}
+use Rattle.pm_view.specs.Bits.{all_bits}
 use Rattle.pm_view.specs.Area.{area_word, is_in_area}
 use Rattle.pm_view.specs.Held.{is_under}
 use Rattle.pm_view.specs.Log.{Final}
 use Rattle.pm_view.specs.Rights.{is_written}
 use Rattle.pm_view.specs.View.{View, Lock}
-use Rattle.pm_world.specs.Entries.{AreWhole, ends_with, set_word}
+use Rattle.pm_world.specs.Entries.{AreWhole, IsKnownWord, KnowsParts, ends_with, final_by, is_part_entered, set_word}
 use Rattle.pm_world.specs.Records.{generation_of}
-use Rattle.pm_undo.specs.Working.{IsSameCall}
+use Rattle.pm_world.proofs.StorePair.{final_word}
+use Rattle.pm_undo.specs.Working.{IsSameCall, KeepsOutside}
 use Rattle.pm_redo.specs.Entering.{AreEntered, IsOfPool, ending, final_of}
 
 map_append : (front : List Redo) (e : Redo) → map final_of (front ++ e ∷ []) ≡ map final_of front ++ final_of e ∷ []
@@ -20,7 +24,8 @@ map_append (x ∷ front) e = ap (λ (fs : List Final). final_of x ∷ fs) (map_a
 owned : (v : View) (front : List Redo) → All (IsOfPool v) front → All (λ (f : Final). IsTrue (is_written v f.word)) (map final_of front)
 owned v [] each = All-nil (λ (f : Final). IsTrue (is_written v f.word))
 owned v (e ∷ front) each =
-    All-cons (λ (f : Final). IsTrue (is_written v f.word)) (final_of e) (map final_of front) (All-head (IsOfPool v) e front each).own (owned v front (All-tail (IsOfPool v) e front each))
+    All-cons (λ (f : Final). IsTrue (is_written v f.word)) (final_of e) (map final_of front)
+    (subst (λ w. IsTrue (is_written v w)) (sym (final_word e.op (e.place / 8) e.value)) (All-head (IsOfPool v) e front each).own) (owned v front (All-tail (IsOfPool v) e front each))
 
 pub ending_final : (v : View) → final_of (ending v) ≡ ends_with v (generation_of v + 1)
 ending_final v = ap (λ (w : ℕ). set_word w (generation_of v + 1)) (let e : 8 * area_word v.lane / 8 ≡ area_word v.lane = omega arith in e)
@@ -32,11 +37,34 @@ logged_front v entries a =
 pub entered_whole : (v : View) (entries : List Redo) → AreEntered v entries → AreWhole v (generation_of v + 1)
 entered_whole v entries a = record { front = map final_of a.front; are = logged_front v entries a; owned = owned v a.front a.each }
 
--- what the entries are of stays so in the same call
-pub of_pool_kept : (v w : View) (e : Redo) → IsSameCall v w → IsOfPool v e → IsOfPool w e
-of_pool_kept v w e call o = record {
-  setting = o.setting;
+-- the lane knows each word of which one is in part
+parts_known : (v : View) (front : List Redo) (g w : ℕ) → All (IsOfPool v) front → is_part_entered (map final_of front ++ ends_with v g ∷ []) w ≡ true → IsKnownWord v w
+parts_known v [] g w each part =
+    ⊎_elim (λ (here : (eqb (area_word v.lane) w && not (eqb all_bits all_bits)) ≡ true). absurd (false≢true (and_parts (eqb (area_word v.lane) w) (not (eqb all_bits all_bits)) here).1)) (λ (never : false ≡ true). absurd (false≢true never))
+    (or_cases (eqb (area_word v.lane) w && not (eqb all_bits all_bits)) false part)
+parts_known v (e ∷ front) g w each part =
+    let f : Final = final_of e in
+    let first = All-head (IsOfPool v) e front each in
+    ⊎_elim
+    (λ (here : (eqb f.word w && not (eqb f.mask all_bits)) ≡ true).
+    let t = and_parts (eqb f.word w) (not (eqb f.mask all_bits)) here in
+    ⊎_elim (λ (sets : e.op ≡ Set). absurd (false≢true (ap (λ op. not (eqb (final_by op (e.place / 8) e.value).mask all_bits)) (sym sets) ∙ t.1)))
+    (λ (known : IsKnownWord v (e.place / 8)). subst (IsKnownWord v) (sym (final_word e.op (e.place / 8) e.value) ∙ eqb-true f.word w t.0) known) first.known)
+    (λ (later : is_part_entered (map final_of front ++ ends_with v g ∷ []) w ≡ true). parts_known v front g w (All-tail (IsOfPool v) e front each) later)
+    (or_cases (eqb f.word w && not (eqb f.mask all_bits)) (is_part_entered (map final_of front ++ ends_with v g ∷ []) w) part)
+
+pub knows_parts : (v : View) (entries : List Redo) → AreEntered v entries → KnowsParts v
+knows_parts v entries a w part = parts_known v a.front (generation_of v + 1) w a.each (ap (λ fs. is_part_entered fs w) (sym (logged_front v entries a)) ∙ part)
+
+-- what the entries are of stays so in the same call, where nothing changed outside of the lane's area
+pub of_pool_kept : (v w : View) (e : Redo) → IsSameCall v w → KeepsOutside v w → IsOfPool v e → IsOfPool w e
+of_pool_kept v w e call same o = record {
+  entry = o.entry;
   own = subst (λ (locks : List Lock). list_any (λ (l : Lock). l.write && is_some l.block && is_under (e.place / 8) l) locks ≡ true) (sym call.locks) o.own;
   outside = ap (λ j. is_in_area j (e.place / 8)) call.lane.lane ∙ o.outside;
   inside = let size = call.lane.size in let inside = o.inside in omega (arith, size, inside);
+  known = ⊎_elim inl (λ (t : IsKnownWord v (e.place / 8)). inr (record {
+    known = call.remembers (e.place / 8) t.known;
+    small = subst (λ n. n < 2 ^ 64) (sym (same (e.place / 8) o.outside)) t.small;
+  })) o.known;
 }

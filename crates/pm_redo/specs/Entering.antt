@@ -1,13 +1,14 @@
 -- What redo logging asks of a lane's view, and what it leaves of it.
-use Rattle.std.specs.Prelude.{◌≡◌, ℕ, false, ◌+◌, ◌*◌, ◌/◌, ◌%◌, ◌<◌, ◌≤◌, IsTrue, List, [], ◌∷◌, ◌++◌, All, length, map, slice_index, None}
-use Rattle.pm_record.specs.declared.redo.Op.TheVariants.{Set}
+use Rattle.std.specs.Prelude.{◌≡◌, ◌≢◌, ◌⊎◌, ℕ, false, ◌+◌, ◌*◌, ◌/◌, ◌%◌, ◌^◌, ◌<◌, ◌≤◌, IsTrue, List, [], ◌∷◌, ◌++◌, All, length, map, slice_index, None}
+use Rattle.pm_record.specs.declared.redo.Op.TheVariants.{Set, Or}
 use Rattle.pm_record.specs.declared.redo.Redo.{Redo}
 use Rattle.pm_view.specs.Area.{is_in_area}
+use Rattle.pm_view.specs.Bits.{all_bits}
 use Rattle.pm_view.specs.Log.{Final, no_log}
 use Rattle.pm_view.specs.Log.Phase.{Idle, Open, Drawn, Applying}
 use Rattle.pm_view.specs.Rights.{is_written}
 use Rattle.pm_view.specs.View.{View}
-use Rattle.pm_world.specs.Entries.{set_word}
+use Rattle.pm_world.specs.Entries.{IsKnownWord, final_by}
 use Rattle.pm_world.specs.History.{made_final}
 use Rattle.pm_world.specs.Lawful.{generation_limit}
 use Rattle.pm_world.specs.Records.{generation_of}
@@ -24,14 +25,19 @@ pub record HasPlace (v : View) : Type 0 where
 abbrev pub IsSeenInPool : (View → Type 0) → Type 0
 IsSeenInPool at = (v : View) × (at v × HasPlace v)
 
--- an entry sets a word
-pub record IsSetting (e : Redo) : Type 0 where
+-- an entry is of a word, and its value is one; an OR of all bits is spelled as a SET
+pub record IsOfWord (e : Redo) : Type 0 where
   pub aligned : e.place % 8 ≡ 0
-  pub sets : e.op ≡ Set
+  pub word : e.value < 2 ^ 64
+  pub part : e.op ≡ Or → e.value ≢ all_bits
 
 -- what a redo entry makes final
 abbrev pub final_of : Redo → Final
-final_of e = set_word (e.place / 8) e.value
+final_of e = final_by e.op (e.place / 8) e.value
+
+-- the entry sets its word, or the lane knows it
+abbrev pub KnowsWord : View → Redo → Type 0
+KnowsWord v e = (e.op ≡ Set) ⊎ IsKnownWord v (e.place / 8)
 
 -- the lane may store entries: its call is open and undrawn, with nothing in the making, and only entries are undrained
 pub record IsEntering (v : View) : Type 0 where
@@ -52,12 +58,13 @@ pub record HasEntered (v : View) (e : Redo) (w : View) : Type 0 where
 abbrev pub ending : View → Redo
 ending v = ending_of v.lane (generation_of v)
 
--- an entry of a word of the pool that the lane locked for writing, outside of its area
+-- an entry of a word of the pool that the lane locked for writing, outside of its area, and knows where it sets or clears bits of it
 pub record IsOfPool (v : View) (e : Redo) : Type 0 where
-  pub setting : IsSetting e
+  pub entry : IsOfWord e
   pub own : IsTrue (is_written v (e.place / 8))
   pub outside : is_in_area v.lane (e.place / 8) ≡ false
   pub inside : e.place / 8 < length v.words
+  pub known : KnowsWord v e
 
 -- the lane's entries are these: of words of the pool, and then the one that ends the generation
 pub record AreEntered (v : View) (entries : List Redo) : Type 0 where

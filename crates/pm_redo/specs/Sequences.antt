@@ -1,11 +1,12 @@
 -- The sequences of redo logging: docs/FORMAT.md, "Sequences".
 use Rattle.std.specs.Prelude.{ℕ, ◌+◌, ◌*◌, ◌/◌, List, [], ◌∷◌, ◌++◌, length, slice_index_or}
 use Rattle.pm_record.specs.Redo.{op_code}
-use Rattle.pm_record.specs.declared.redo.Op.TheVariants.{Set}
+use Rattle.pm_record.specs.declared.redo.Op.{Op}
+use Rattle.pm_record.specs.declared.redo.Op.TheVariants.{Set, Or, And}
 use Rattle.pm_record.specs.declared.redo.Redo.{Redo}
 use Rattle.pm_view.specs.Area.{area_word}
 use Rattle.pm_world.specs.Entries.{entry_word}
-use Rattle.pm_world.specs.Sequences.{Sequence, in_turn, counted, by_lane, stores, settles}
+use Rattle.pm_world.specs.Sequences.{Sequence, in_turn, counted, by_lane, ands, ors, stores, settles}
 use Rattle.pm_undo.specs.Sequences.{persists, with_generation}
 
 -- two consecutive words are stored
@@ -53,9 +54,15 @@ writes_seal lane n = in_turn (stores (area_word lane + 1) n) (persists (area_wor
 unfoldable pub seals : ℕ → Sequence
 seals n = by_lane (λ lane. writes_seal lane n)
 
--- an entry sets its word
+-- an operation takes effect on a word
+abbrev pub does : Op → ℕ → ℕ → Sequence
+does Set w x = stores w x
+does Or w x = ors w x
+does And w x = ands w x
+
+-- an entry takes effect on its word
 unfoldable pub applies_entry : Redo → Sequence
-applies_entry e = stores (e.place / 8) e.value
+applies_entry e = does e.op (e.place / 8) e.value
 
 -- the entries are applied, in order
 unfoldable pub applies_each : List Redo → Sequence

@@ -1,21 +1,24 @@
 ghost use Rattle.std.specs.Prelude.{◌≡◌, ◌≤◌, length};
-ghost use Rattle.std.specs.List.{All};
 ghost use Rattle.pm_world.specs.Sequences.{IsReady, Runs};
-ghost use Rattle.pm_redo.specs.Entering.{IsSetting};
 ghost use Rattle.pm_redo.specs.Sequences.{applies, applies_each, applies_entry};
 
 use crate::places::WORD_BYTES;
 use pm_memory::Stopped;
-use pm_record::Redo;
-use pm_world::{Lane, LawfulMem, settle, store};
+use pm_record::{Op, Redo};
+use pm_world::{Lane, LawfulMem, and, or, settle, store};
 
-/// Sets the entry's word.
+/// Sets the entry's word, or sets or clears bits of it.
 #[tactic(auto, unfolding(crate::specs::Sequences::applies_entry))]
 fn apply<M: LawfulMem>(mem: &mut M, entry: Redo) -> Result<(), Stopped>
     requires { IsReady (M.at mem.old) (applies_entry entry) }
     ensures { Runs (M.at mem.old) (M.at mem.new) (applies_entry entry) result }
 {
-    store(mem, entry.place / WORD_BYTES, entry.value)
+    let word = entry.place / WORD_BYTES;
+    match entry.op {
+        Op::Set => store(mem, word, entry.value),
+        Op::Or => or(mem, word, entry.value),
+        Op::And => and(mem, word, entry.value),
+    }
 }
 
 /// Applies the entries, in order.
@@ -39,10 +42,9 @@ pub fn apply_entries<M: LawfulMem>(mem: &mut M, entries: &[Redo]) -> Result<(), 
     settle(mem)
 }
 
-/// Applies the sealed entries, in order, each of which sets a word, and makes that persistent. Makes exactly the memory calls of `applies`, or the
+/// Applies the sealed entries, in order, and makes that persistent. Makes exactly the memory calls of `applies`, or the
 /// first of them up to the lane's stop.
 pub fn apply_all<M: LawfulMem>(lane: &mut Lane<M>) -> Result<(), Stopped>
-    requires sets { All IsSetting lane.old.entries.items }
     requires ready { IsReady (M.at lane.old.memory) (applies lane.old.entries.items) }
     ensures ran { Runs (M.at lane.old.memory) (M.at lane.new.memory) (applies lane.old.entries.items) result }
     ensures else_same { lane.new ≡ record lane.old { memory = lane.new.memory } }

@@ -1,4 +1,4 @@
-ghost use Rattle.std.specs.Prelude.{◌≡◌, ◌<◌, ◌≤◌, ◌/◌, ℕ, All, List, [], length};
+ghost use Rattle.std.specs.Prelude.{◌≡◌, ◌<◌, ◌≤◌, ◌/◌, ◌%◌, ℕ, All, List, [], length};
 ghost use Rattle.pm_record.specs.declared.redo.Redo.{Redo};
 ghost use Rattle.pm_view.specs.Log.Phase.{Applying, Drawn};
 ghost use Rattle.pm_view.specs.View.{View};
@@ -7,13 +7,13 @@ ghost use Rattle.pm_world.specs.Entries.{IsEnterable};
 ghost use Rattle.pm_world.specs.Lawful.{generation_limit};
 ghost use Rattle.pm_world.specs.Records.{generation_of};
 ghost use Rattle.pm_world.specs.Sequences.{Ready};
-ghost use Rattle.pm_redo.specs.Entering.{AreEntered, HasEntered, HasLogged, HasPlace, IsApplied, IsCleared, IsEntering, IsOfPool, IsPerformed, IsReadyToLog, IsReadyToPerform, IsSealed, IsSetting};
+ghost use Rattle.pm_redo.specs.Entering.{AreEntered, HasEntered, HasLogged, HasPlace, IsApplied, IsCleared, IsEntering, IsOfPool, IsPerformed, IsReadyToLog, IsReadyToPerform, IsSealed};
 ghost use Rattle.pm_redo.specs.Sequences.{applies, clears, logs, performs, puts, seals};
 
 /// A law: a lane that stores entries may store one more of a word that it locked for writing, or of its generation, and then that stands
 /// behind the others, and nothing of the pool has changed. No code runs.
 pub fn entries_may_be_stored()
-    ensures { (v : View) (e : Redo) → IsEntering v → length v.log.entries < 64 → IsSetting e → IsEnterable v (e.place / 8)
+    ensures { (v : View) (e : Redo) → IsEntering v → length v.log.entries < 64 → e.place % 8 ≡ 0 → IsEnterable v e.op (e.place / 8) e.value
         → Ready v (puts (length v.log.entries) e v) × HasEntered v e (after_all v (puts (length v.log.entries) e v)) }
 {}
 

@@ -18,6 +18,7 @@ fn lane_with(alloc: Global, seal: u64) -> Result<Lane<SoloMem>, Fail>
     ensures held { IfOk result (λ l. l.memory ≡ with_lock (opened l.memory.words None) 193 (writer_bit 0)) }
     ensures whole { IfOk result (λ l. length l.memory.words ≡ 2048) }
     ensures generation { IfOk result (λ l. slice_index l.memory.words 512 ≡ 1) }
+    ensures empty { IfOk result (λ l. slice_index l.memory.words 1544 ≡ 0) }
     ensures unentered { IfOk result (λ l. l.entries.items ≡ []) }
 {
     let mut words = vec![in alloc; 0; 2048]?;
@@ -25,7 +26,7 @@ fn lane_with(alloc: Global, seal: u64) -> Result<Lane<SoloMem>, Fail>
     words[513] = seal;
     let mut memory = SoloMem::new(alloc, words, None)?;
     memory.take_write(193);
-    if memory.words() != 2048 || memory.word(512) != 1 {
+    if memory.words() != 2048 || memory.word(512) != 1 || memory.word(1544) != 0 {
         Err("other words")?;
     }
     Ok(Lane {
@@ -52,6 +53,28 @@ fn heap() -> Redo
         place: 12352,
         op: Op::Set,
         value: 7,
+    }
+}
+
+/// Sets bit 3 of word 1544.
+fn sets_bit() -> Redo
+    ensures { result ≡ record { place = 12352; op = op.Or; value = 8 } }
+{
+    Redo {
+        place: 12352,
+        op: Op::Or,
+        value: 8,
+    }
+}
+
+/// Clears all bits of word 1544 but 2 and 3.
+fn clears_bits() -> Redo
+    ensures { result ≡ record { place = 12352; op = op.And; value = 12 } }
+{
+    Redo {
+        place: 12352,
+        op: Op::And,
+        value: 12,
     }
 }
 
@@ -124,6 +147,21 @@ fn applies(rt: HostRuntime) -> Result<(), Fail> {
     let image = lane.memory.survive(rt.alloc(), 0)?;
     assert_eq!(rt; image.len(), 2048);
     assert_eq!(rt; [image[512], image[513], image[1544]], [2, 2, 7]);
+    Ok(())
+}
+
+/// The word is 7, then 15, then 12, whatever survives.
+#[test]
+fn applies_bits(rt: HostRuntime) -> Result<(), Fail> {
+    let mut lane = lane_with(rt.alloc(), 4)?;
+    lane.entries.push(heap());
+    lane.entries.push(sets_bit());
+    lane.entries.push(clears_bits());
+    lane.entries.push(ending());
+    assert_eq!(rt; apply_all(&mut lane), Ok(()));
+    let image = lane.memory.survive(rt.alloc(), 0)?;
+    assert_eq!(rt; image.len(), 2048);
+    assert_eq!(rt; [image[512], image[513], image[1544]], [2, 4, 12]);
     Ok(())
 }
 

@@ -278,7 +278,7 @@ module _ (v m : View) (working : IsWorking v) (no_entries : v.log.entries ≡ []
         place = record { lane = area.lane; few = area.few; inside = area.inside };
         some = some;
         few = few;
-        each = All-weaker (IsOfPool v) (IsOfPool m) (λ e o. of_pool_kept v m e call o) entries each;
+        each = All-weaker (IsOfPool v) (IsOfPool m) (λ e o. of_pool_kept v m e call (λ u out. ap (λ (z : View). slice_index z.words u) settled) o) entries each;
         may_come = record { found = may.found; seen = call.seen (NumberSeen may.found) may.seen; below = may.below };
       }
 

@@ -1,8 +1,9 @@
 -- A lane at work stays so by what keeps its locks, what it found under them, and its call.
-use Rattle.std.proofs.Common.{◌≡◌, refl, ℕ, ◌+◌, ◌*◌, All, Contains, [], map, slice_index, Some, sym, ap, ◌∙◌, subst, arith, ◌<◌, ◌≤◌, ◌/◌, ◌&&◌, List, is_some, length}
+use Rattle.std.proofs.Common.{◌≡◌, refl, ℕ, ◌+◌, ◌*◌, All, Contains, [], map, slice_index, Some, sym, ap, ◌∙◌, subst, arith, ◌<◌, ◌≤◌, ◌/◌, ◌&&◌, List, is_some, length, Option, get_or, ⊎_elim, inl, inr, ◌^◌}
 use Rattle.std.specs.Prelude.{nat_eq}
 use Rattle.std.specs.List.{IsDistinct}
 use Rattle.std.specs.Option.{ForSome}
+use Rattle.pm_model.specs.Actions.Action.{SetWord}
 use Rattle.pm_crash.specs.OpenCall.{IsOpen}
 use Rattle.pm_model.specs.declared.stage.Stage.TheVariants as model_stage
 use Rattle.pm_objects.specs.declared.history.TxErr.TheVariants as error
@@ -10,22 +11,25 @@ use Rattle.pm_view.specs.Constants.{IsSameLane}
 use Rattle.pm_view.specs.Steps.{Step}
 use Rattle.pm_view.specs.View.{View, Lock}
 use Rattle.pm_undo.specs.Spans.{IsSpan}
-use Rattle.pm_undo.specs.Working.{FindsOpening, IsSameCall, IsWorking}
+use Rattle.pm_undo.specs.Working.{FindsOpening, IsSameCall, IsWorking, KeepsOutside}
 use Rattle.pm_world.specs.Lanes.{lock_of, last_number_of, span_of}
 use Rattle.pm_world.specs.Opening.{Opening}
 use Rattle.pm_world.specs.declared.lane.Lane.{Lane}
 use Rattle.pm_world.proofs.Shapes.{shape_seen}
 use Rattle.pm_tx.specs.AtWork.{FindsObject, IsAtWork}
-use Rattle.std.proofs.lemmas.List.Elements.{All-nil, All-weaker}
+use Rattle.std.proofs.lemmas.List.Elements.{All-nil, All-weaker, All-map}
 use Rattle.pm_crash.specs.Pending.{published_in}
+use Rattle.pm_model.specs.Actions.{Action}
 use Rattle.pm_pending.specs.Pending.{entry_of}
-use Rattle.pm_redo.specs.Entering.{IsOfPool}
+use Rattle.pm_record.specs.declared.redo.Op.TheVariants.{Set}
+use Rattle.pm_redo.specs.Entering.{IsOfPool, KnowsWord}
 use Rattle.pm_record.specs.declared.redo.Redo.{Redo}
 use Rattle.pm_tx.specs.AtWork.{ListsPublished}
 use Rattle.pm_view.specs.Area.{is_in_area}
 use Rattle.std.specs.Prelude.{IsTrue}
 use Rattle.std.specs.List.{list_any}
 use Rattle.pm_view.specs.Held.{is_under}
+use Rattle.pm_world.specs.Entries.{IsKnownWord}
 
 -- the lane's fields but for its memory and its records
 pub record HasSameFields {M : Type 0} (lane next : Lane M) : Type 0 where
@@ -75,14 +79,27 @@ objects_kept v w call sizes = record {
   sizes = sizes;
 }
 
--- an entry of a word of the pool stays one under the same locks
-pub of_pool_on : (v w : View) → IsSameLane v w → w.locks ≡ v.locks → (e : Redo) → IsOfPool v e → IsOfPool w e
-of_pool_on v w lane locks e is = record {
-  setting = is.setting;
+-- an entry of a word of the pool stays one under the same locks, where it sets the word or the lane knows it still
+pub of_pool_on : (v w : View) → IsSameLane v w → w.locks ≡ v.locks → (e : Redo) → IsOfPool v e → KnowsWord w e → IsOfPool w e
+of_pool_on v w lane locks e is known = record {
+  entry = is.entry;
   own = subst (λ (held : List Lock). IsTrue (list_any (λ (l : Lock). l.write && is_some l.block && is_under (e.place / 8) l) held)) (sym locks) is.own;
   outside = ap (λ (k : ℕ). is_in_area k (e.place / 8)) lane.lane ∙ is.outside;
   inside = (let low = is.inside in let size = lane.size in omega (arith, low, size));
+  known = known;
 }
+
+-- the lane knows it, where nothing changed outside of its area
+pub knows_on : (v w : View) → ((u : ℕ) → Contains v.known u → Contains w.known u) → KeepsOutside v w → (e : Redo) → IsOfPool v e → KnowsWord w e
+knows_on v w remembers same e is =
+    ⊎_elim inl (λ (t : IsKnownWord v (e.place / 8)). inr (record { known = remembers (e.place / 8) t.known; small = subst (λ n. n < 2 ^ 64) (sym (same (e.place / 8) is.outside)) t.small })) is.known
+
+-- an action sets its word
+sets_word : (a : Action) → (entry_of a).op ≡ Set
+sets_word (SetWord id off value) = refl
+
+listed_set : {M : Type 0} (lane : Lane M) (v : View) → ListsPublished lane v → All (λ (e : Redo). e.op ≡ Set) lane.entries.items
+listed_set lane v lists = subst (All (λ (e : Redo). e.op ≡ Set)) (sym lists.listed) (All-map (λ (e : Redo). e.op ≡ Set) entry_of (published_in v) (λ n d low. sets_word (get_or (published_in v) n d)))
 
 -- where nothing is published and no entry listed
 pub lists_none : {M : Type 0} (lane : Lane M) (v : View) → lane.entries.items ≡ [] → published_in v ≡ [] → ListsPublished lane v
@@ -98,7 +115,7 @@ pub lists_on : {M : Type 0} (lane next : Lane M) (v w : View) → next.entries �
 lists_on lane next v w entries same locks published lists = record {
   listed = ap (λ es. es.items) entries ∙ lists.listed ∙ sym (ap (map entry_of) published);
   few = subst (λ es. length es.items ≤ 63) (sym entries) lists.few;
-  of_pool = subst (λ es. All (IsOfPool w) es.items) (sym entries) (All-weaker (IsOfPool v) (IsOfPool w) (of_pool_on v w same locks) lane.entries.items lists.of_pool);
+  of_pool = subst (λ es. All (IsOfPool w) es.items) (sym entries) (λ n d low. of_pool_on v w same locks (get_or lane.entries.items n d) (lists.of_pool n d low) (inl (listed_set lane v lists n d low)));
 }
 
 -- and by what it lists of the entries of its call

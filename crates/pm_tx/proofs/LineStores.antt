@@ -19,7 +19,7 @@ use Rattle.pm_view.specs.View.{View}
 use Rattle.pm_world.specs.Entries.{entry_word}
 use Rattle.pm_world.specs.Sequences.{in_turn, one, settles, stores}
 use Rattle.pm_world.specs.declared.lane.Span.{Span}
-use Rattle.pm_tx.proofs.StoreCounts.{HasStores, none_in_looks_from, none_in_nothing, none_in_one, none_in_settles, one_in_stores, restore_stores, retire_stores, snapshot_stores, stores_by_lane, stores_in_turn, stores_of_each, stores_with_generation, stores_with_word}
+use Rattle.pm_tx.proofs.StoreCounts.{HasStores, none_in_looks_from, none_in_nothing, none_in_one, none_in_settles, one_in_does, one_in_stores, restore_stores, retire_stores, snapshot_stores, stores_by_lane, stores_in_turn, stores_of_each, stores_with_generation, stores_with_word}
 use Rattle.pm_tx.specs.Ranges.{adds_range, reads_range, writes_range}
 use Rattle.pm_tx.specs.Sequences.{commits, decides, decides_all, ends_call, gives_up, performs_logged, publishes, reads, retires_any, takes_back, undoes, word_count, writes, writes_word}
 
@@ -101,7 +101,7 @@ apply_stores : (all : List Redo) → HasStores (length all) (applies all)
 unfolding applies applies_each applies_entry
 apply_stores all =
     stores_in_turn (length all * 1) 0 (length all) (applies_each all) settles (omega arith)
-    (stores_of_each (λ i. applies_entry (entry_at all i)) 1 (length all) (λ i. one_in_stores ((entry_at all i).place / 8) (entry_at all i).value)) none_in_settles
+    (stores_of_each (λ i. applies_entry (entry_at all i)) 1 (length all) (λ i. one_in_does (entry_at all i).op ((entry_at all i).place / 8) (entry_at all i).value)) none_in_settles
 
 perform_stores : (all : List Redo) → HasStores (length all + 2) (performs all)
 unfolding performs performs_on

@@ -1,30 +1,32 @@
 -- A call that publishes ends the generation once, as the last of its entries is applied, and once the number is drawn.
-use Rattle.std.proofs.Common.{◌≡◌, ◌≢◌, inl, inr, ℕ, zero, suc, ◌+◌, ◌/◌, ◌<◌, ◌≤◌, Bool, true, false, cond, All, List, [], ◌∷◌, ◌++◌, is_some, length, length-append, take, None, refl, sym, ap, ◌∙◌, subst, arith, ne_eqb}
+use Rattle.std.proofs.Common.{◌≡◌, ◌≢◌, inl, inr, ℕ, zero, suc, ◌+◌, ◌/◌, ◌<◌, ◌≤◌, Bool, true, false, cond, All, List, [], ◌∷◌, ◌++◌, is_some, length, length-append, take, None, refl, sym, ap, ◌∙◌, subst, arith, ne_eqb, slice_index}
 use Rattle.std.proofs.lemmas.List.Elements.{All-head, All-tail, All-weaker}
+use Rattle.pm_record.specs.declared.redo.Op.{Op}
+use Rattle.pm_record.specs.declared.redo.Op.TheVariants.{Set, Or, And}
 use Rattle.pm_crash.proofs.Raises.{raise_by}
-use Rattle.pm_crash.specs.Alone.{raises}
+use Rattle.pm_crash.specs.Alone.{raises, is_raise}
 use Rattle.pm_objects.specs.declared.calls.Operation.{Operation}
 use Rattle.pm_record.specs.declared.redo.Redo.{Redo}
 use Rattle.pm_record.specs.Redo.{op_code}
 use Rattle.pm_redo.proofs.PairWords.{pair_part, seal_part}
 use Rattle.pm_redo.proofs.Sealed.{seal_lawful}
 use Rattle.pm_redo.specs.Entering.{IsOfPool, ending}
-use Rattle.pm_redo.specs.Sequences.{applies, applies_each, applies_entry, ending_of, entry_at, logs, performs, performs_on, seals, stores_two, writes_entries, writes_log, writes_pair, writes_pairs, writes_seal}
+use Rattle.pm_redo.specs.Sequences.{applies, applies_each, applies_entry, ending_of, entry_at, logs, performs, performs_on, seals, stores_two, writes_entries, writes_log, writes_pair, writes_pairs, writes_seal, does}
 use Rattle.pm_undo.proofs.Areas.{generation_word, other_part}
 use Rattle.pm_undo.specs.Sequences.{persists}
 use Rattle.pm_view.specs.declared.change.Change.{Change}
 use Rattle.pm_view.specs.Area.{Part, area_word, is_in_area, part_of}
 use Rattle.pm_view.specs.Area.Part.{EntryWord, GenerationWord, OtherWord, SealWord}
 use Rattle.pm_view.specs.Changes.{drained}
-use Rattle.pm_view.specs.Log.{Log, Phase, log_drained, log_drawn, log_stored, with_pair}
+use Rattle.pm_view.specs.Log.{Log, Phase, log_drained, log_drawn, log_stored, with_pair, log_changed}
 use Rattle.pm_view.specs.Log.Phase.{Applying, Clearing, Drawn, Idle, Open, Sealing}
 use Rattle.pm_view.specs.Steps.{Step}
-use Rattle.pm_view.specs.Steps.Step.{Drain, Draw, Flush, Load, Store, Tell}
+use Rattle.pm_view.specs.Steps.Step.{Or as Or_step, And as And_step, Drain, Draw, Flush, Load, Store, Tell}
 use Rattle.pm_view.specs.View.{View}
 use Rattle.pm_view.specs.Views.{after, after_all, log_after_drain}
 use Rattle.pm_world.specs.Entries.{entry_word}
 use Rattle.pm_world.specs.Records.{generation_of}
-use Rattle.pm_world.specs.Sequences.{Sequence, by_lane, by_view, counted, in_turn, makes_room, one, settles, stores}
+use Rattle.pm_world.specs.Sequences.{Sequence, by_lane, by_view, counted, in_turn, makes_room, one, settles, stores, finds_in, ors, ands}
 use Rattle.pm_tx.proofs.Courses.{Course, Throughout, course_counted, course_in_turn, course_of_kind, course_one, throughout_at, throughout_both}
 use Rattle.pm_tx.proofs.Published.{perform_may, some_drawn, some_logged, written}
 use Rattle.pm_tx.proofs.Retirement.{IsBeside, IsSteady, Stands, beside_keeps, none_raised, steady_open}
@@ -225,6 +227,16 @@ module _ (count : ℕ) where
         course_in_turn I (InPhase raised true F) (InPhase raised true F) Q makes_room (one (Store word x))
         (quiet_course makes_room (only_makes_room IsQuiet quiet_steps)) (course_one I (InPhase raised true F) Q (Store word x) holds behind step)
 
+    -- bits of a word are set or cleared
+    finds_course : (Q : ℕ → View → Type 0) (word : ℕ) (s : ℕ → Step) → ((r : ℕ) (w : View) → Q r w → I r w) → ((r : ℕ) (w : View) (x : ℕ) → InPhase raised true F r w → Q (r + raise_by (s x)) (after w (s x)))
+        → Course I (InPhase raised true F) (in_turn makes_room (finds_in word s)) Q
+    unfolding finds_in one
+    finds_course Q word s behind step =
+        course_in_turn I (InPhase raised true F) (InPhase raised true F) Q makes_room (finds_in word s)
+        (quiet_course makes_room (only_makes_room IsQuiet quiet_steps)) found where
+          found : Course I (InPhase raised true F) (finds_in word s) Q
+          found r w p = course_one I (InPhase raised true F) Q (s (slice_index w.words word)) holds behind (λ q u. step q u (slice_index w.words word)) r w p
+
   -- the seal becomes another number, and that is made persistent
   seal_course : (raised : ℕ) (F G : Phase → Type 0) → Lasts F → Lasts G → ((r : ℕ) (w : View) → InPhase raised true F r w → I r w) → ((r : ℕ) (w : View) → InPhase raised true G r w → I r w) → (n : ℕ)
       → ((log : Log) → F log.phase → G (log_stored log.phase SealWord n log).phase) → Course I (InPhase raised true F) (writes_seal 0 n) (InPhase raised true G)
@@ -253,18 +265,29 @@ module _ (count : ℕ) where
 
   -- an entry of a word outside of the area is applied, and then the one of the generation
   one_course : (k : ℕ) → k < count → (e : Redo) → is_in_area 0 (e.place / 8) ≡ false → Course I (InPhase 0 true (λ p. p ≡ Applying k)) (applies_entry e) (InPhase 0 true (λ p. p ≡ Applying (k + 1)))
-  unfolding applies_entry
-  one_course k low e outside =
-      let word : ℕ = e.place / 8 in
-      store_course 0 (λ p. p ≡ Applying k) (applying_lasts k) (unapplied_so (λ p. p ≡ Applying k) (at_unapplied k (omega (arith, low)))) (InPhase 0 true (λ p. p ≡ Applying (k + 1))) word e.value
-      (unapplied_so (λ p. p ≡ Applying (k + 1)) (at_unapplied (k + 1) (omega (arith, low))))
-      (λ r w p. (
-        none_raised (Store word e.value) (ap (λ (b : Bool). cond b 1 0) (ne_eqb word 512 (other_than_generation word outside))) r 0 p.0,
-        p.1,
-        p.2,
-        ap (λ (part : Part). (log_stored w.log.phase part e.value w.log).phase) (ap (λ l. part_of l word) p.1 ∙ other_part 0 word outside)
-            ∙ ap (λ (phase : Phase). (log_stored phase OtherWord e.value w.log).phase) p.3,
-      ))
+  unfolding applies_entry ors ands
+  one_course k low e outside = by_op e.op where
+    bits : (s : ℕ → Step) → ((x : ℕ) → raise_by (s x) ≡ 0) → ((w : View) (x : ℕ) → w.log.phase ≡ Applying k → (after w (s x)).log.phase ≡ Applying (k + 1)) → ((w : View) (x : ℕ) → (after w (s x)).lane ≡ w.lane)
+        → ((w : View) (x : ℕ) → (after w (s x)).number ≡ w.number) → Course I (InPhase 0 true (λ p. p ≡ Applying k)) (in_turn makes_room (finds_in (e.place / 8) s)) (InPhase 0 true (λ p. p ≡ Applying (k + 1)))
+    bits s none goes lane number =
+        finds_course 0 (λ p. p ≡ Applying k) (applying_lasts k) (unapplied_so (λ p. p ≡ Applying k) (at_unapplied k (omega (arith, low)))) (InPhase 0 true (λ p. p ≡ Applying (k + 1))) (e.place / 8) s
+        (unapplied_so (λ p. p ≡ Applying (k + 1)) (at_unapplied (k + 1) (omega (arith, low))))
+        (λ r w x p. (none_raised (s x) (none x) r 0 p.0, lane w x ∙ p.1, ap is_some (number w x) ∙ p.2, goes w x p.3))
+
+    by_op : (op : Op) → Course I (InPhase 0 true (λ p. p ≡ Applying k)) (does op (e.place / 8) e.value) (InPhase 0 true (λ p. p ≡ Applying (k + 1)))
+    by_op Or = bits (Or_step (e.place / 8) e.value) (λ x. refl) (λ w x is. ap (λ (phase : Phase). (log_changed phase w.log).phase) is) (λ w x. refl) (λ w x. refl)
+    by_op And = bits (And_step (e.place / 8) e.value) (λ x. refl) (λ w x is. ap (λ (phase : Phase). (log_changed phase w.log).phase) is) (λ w x. refl) (λ w x. refl)
+    by_op Set =
+        let word : ℕ = e.place / 8 in
+        store_course 0 (λ p. p ≡ Applying k) (applying_lasts k) (unapplied_so (λ p. p ≡ Applying k) (at_unapplied k (omega (arith, low)))) (InPhase 0 true (λ p. p ≡ Applying (k + 1))) word e.value
+        (unapplied_so (λ p. p ≡ Applying (k + 1)) (at_unapplied (k + 1) (omega (arith, low))))
+        (λ r w p. (
+          none_raised (Store word e.value) (ap (λ (b : Bool). cond b 1 0) (ne_eqb word 512 (other_than_generation word outside))) r 0 p.0,
+          p.1,
+          p.2,
+          ap (λ (part : Part). (log_stored w.log.phase part e.value w.log).phase) (ap (λ l. part_of l word) p.1 ∙ other_part 0 word outside)
+              ∙ ap (λ (phase : Phase). (log_stored phase OtherWord e.value w.log).phase) p.3,
+        ))
 
   last_course : (g : ℕ) → Course I (InPhase 0 true (λ p. p ≡ Applying count)) (applies_entry (ending_of 0 g)) (InPhase 1 true (λ p. p ≡ Applying (count + 1)))
   unfolding applies_entry

@@ -30,15 +30,17 @@ use Rattle.pm_world.specs.Sequences.{Ready, in_turn, one}
 use Rattle.pm_tx.proofs.Drawless.{drawless, drawn_in_turn}
 use Rattle.pm_tx.proofs.Fronts.{front_drawn, front_undrawn}
 use Rattle.pm_tx.proofs.GivenUp.{last_behind}
-use Rattle.pm_tx.proofs.GoingOn.{of_pool_on}
+use Rattle.pm_tx.proofs.GoingOn.{knows_on, of_pool_on}
 use Rattle.pm_tx.specs.Ending.{DrawEnded, IsDrawnBy, IsOver, IsUndrawn, drawn_more, told_more}
 use Rattle.pm_tx.specs.Publishing.{IsWholeOnceLogged, MayPublish, TellsLogged, logged_view, published_view}
 use Rattle.pm_tx.specs.Sequences.{ends_call, performs_logged, publishes}
+use Rattle.pm_world.proofs.StorePair.{final_word}
 
 -- one of the entries at least is of a word that the lane locked for writing
 any_written : (v : View) (entries more : List Redo) → 1 ≤ length entries → All (IsOfPool v) entries → Any (λ (f : Final). IsTrue (is_written v f.word)) (map final_of (entries ++ more))
 any_written v [] more some each = absurd (omega (arith, some))
-any_written v (e ∷ entries) more some each = (0, final_of e, omega arith, refl, (All-head (IsOfPool v) e entries each).own)
+any_written v (e ∷ entries) more some each =
+    (0, final_of e, omega arith, refl, subst (λ w. IsTrue (is_written v w)) (sym (final_word e.op (e.place / 8) e.value)) (All-head (IsOfPool v) e entries each).own)
 
 -- of these and the one that ends the generation, these are of the pool
 pool_of : (v : View) (entries : List Redo) → All (IsOfPool v) entries → filter (λ (f : Final). not (is_in_area v.lane f.word)) (map final_of (entries ++ ending v ∷ [])) ≡ map final_of entries
@@ -48,7 +50,8 @@ pool_of v [] each =
     (ap (λ (w : ℕ). not (is_in_area v.lane w)) word ∙ ap not (generation_in_area v.lane))
 pool_of v (e ∷ entries) each =
     let rest : List Final = filter (λ (f : Final). not (is_in_area v.lane f.word)) (map final_of (entries ++ ending v ∷ [])) in
-    cond-true (not (is_in_area v.lane (e.place / 8))) (final_of e ∷ rest) rest (ap not (All-head (IsOfPool v) e entries each).outside)
+    cond-true (not (is_in_area v.lane (final_of e).word)) (final_of e ∷ rest) rest
+    (ap (λ w. not (is_in_area v.lane w)) (final_word e.op (e.place / 8) e.value) ∙ ap not (All-head (IsOfPool v) e entries each).outside)
     ∙ ap (λ (fs : List Final). final_of e ∷ fs) (pool_of v entries (All-tail (IsOfPool v) e entries each))
 
 -- a call with entries is still to be decided
@@ -94,7 +97,7 @@ module _ (v : View) (entries : List Redo) (may : MayPublish v entries) where
       seen = written.1.call.seen (NumberSeen may.may_come.found) may.may_come.seen;
       below = may.may_come.below;
       entered = inr (subst (Any (λ (f : Final). IsTrue (is_written told f.word))) (sym logged)
-          (any_written told entries (ending v ∷ []) may.some (All-weaker (IsOfPool v) (IsOfPool told) (of_pool_on v told told_lane written.1.call.locks) entries may.each)));
+          (any_written told entries (ending v ∷ []) may.some (All-weaker (IsOfPool v) (IsOfPool told) (λ e is. of_pool_on v told told_lane written.1.call.locks e is (knows_on v told written.1.call.remembers written.1.outside e is)) entries may.each)));
     } where
       told_lane : IsSameLane v told
       told_lane = let l = written.1.call.lane in record { lanes = l.lanes; zones = l.zones; pool = l.pool; lane = l.lane; stop = l.stop; table = l.table; size = l.size }
@@ -144,7 +147,7 @@ module _ (v : View) (entries : List Redo) (may : MayPublish v entries) where
       entered = record {
         front = entries;
         are = refl;
-        each = All-weaker (IsOfPool v) (IsOfPool drawn) (of_pool_on v drawn lane_drawn written.1.call.locks) entries may.each;
+        each = All-weaker (IsOfPool v) (IsOfPool drawn) (λ e is. of_pool_on v drawn lane_drawn written.1.call.locks e is (knows_on v drawn written.1.call.remembers written.1.outside e is)) entries may.each;
         logged = ap (λ (p : Phase). (log_drawn p m.log).entries) written.1.is_open ∙ (logged ∙ ap (λ (e : Redo). map final_of (entries ++ e ∷ [])) same_ending);
         most = (let number = length-append entries (ending drawn ∷ []) in let few = may.few in omega (arith, number, few));
       }

@@ -1,5 +1,5 @@
 -- A lane at work checks what is pending and publishes it: it stays at work, and lists the entries of what its call published.
-use Rattle.std.proofs.Common.{◌≡◌, ℕ, ◌+◌, ◌*◌, ◌/◌, ◌%◌, ◌^◌, ◌<◌, ◌≤◌, ◌&&◌, ◌||◌, ◌⊎◌, ⊎_elim, Result, Err, Bool, true, false, All, Contains, List, [], ◌∷◌, ◌++◌, length, map, take, get_or, Option, None, Some, IfSome, is_some, refl, sym, ap, ◌∙◌, subst, arith, length-append}
+use Rattle.std.proofs.Common.{◌≡◌, ℕ, ◌+◌, ◌*◌, ◌/◌, ◌%◌, ◌^◌, ◌<◌, ◌≤◌, ◌&&◌, ◌||◌, ◌⊎◌, ⊎_elim, Result, Err, Bool, true, false, All, Contains, List, [], ◌∷◌, ◌++◌, length, map, take, get_or, Option, None, Some, IfSome, is_some, refl, sym, ap, ◌∙◌, subst, arith, length-append, inl}
 use Rattle.std.specs.List.{Any, list_any}
 use Rattle.std.specs.Option.{is_none}
 use Rattle.std.proofs.lemmas.Bool.{and_from}
@@ -34,7 +34,7 @@ use Rattle.pm_world.specs.Opening.{Opening}
 use Rattle.pm_world.specs.declared.lane.Lane.{Lane}
 use Rattle.pm_tx.proofs.ActionsAtWork.{as_before, log_kept, objects, opening_told, pending_told, published_told, tells, words_kept}
 use Rattle.pm_tx.proofs.EachAction.{all_further, some_at, some_mapped}
-use Rattle.pm_tx.proofs.GoingOn.{HasSameFields, KeepsObjects, goes_on_listing, of_pool_on}
+use Rattle.pm_tx.proofs.GoingOn.{HasSameFields, KeepsObjects, goes_on_listing, knows_on, of_pool_on}
 use Rattle.pm_tx.proofs.HeldLocks.{object_held}
 use Rattle.pm_tx.proofs.LearnsAtWork.{checked_then, held_kept}
 use Rattle.pm_tx.proofs.LookedOn.{IsLookedOn, can_set_kept, looked_on, objects_looked}
@@ -174,10 +174,11 @@ module _ {M : Type 0} (o : Opening) (at : M → View → Type 0) (lane : Lane M)
       let under = covered_under v work.objects id off 8 true range ((id.off + off) / 8) (word_covered (id.off + off) even) in
       let t = locked_is_plain o work.sound v work.opening object.lock ((id.off + off) / 8) object.held found under in
       record {
-        setting = record { aligned = even; sets = refl };
+        entry = record { aligned = even; word = can.1.1; part = λ or. absurd cc };
         own = written object.lock ((id.off + off) / 8) object.held (writes object.lock object.allows) found under;
         outside = t.2;
         inside = t.1;
+        known = inl refl;
       } where
         -- a lock that allows to write is held for writing
         writes : (l : Lock) → (l.write || false) ≡ true → l.write ≡ true
@@ -235,8 +236,8 @@ module _ {M : Type 0} (o : Opening) (at : M → View → Type 0) (lane : Lane M)
           of_pool =
               subst (All (IsOfPool told)) (sym (more ∙ ap (λ (es : List Redo). lane.entries.items ++ es) new))
               (All-append (IsOfPool told) lane.entries.items (map entry_of (pending_in v))
-              (All-weaker (IsOfPool v) (IsOfPool told) (of_pool_on v told keeps.lane keeps.locks) lane.entries.items work.published.of_pool)
-              (All-map (IsOfPool told) entry_of (pending_in v) (All-weaker (CanSet v) (λ (a : Action). IsOfPool told (entry_of a)) (λ a set. of_pool_on v told keeps.lane keeps.locks (entry_of a) (entry_of_pool a set)) (pending_in v) each_pending)));
+              (All-weaker (IsOfPool v) (IsOfPool told) (λ e is. of_pool_on v told keeps.lane keeps.locks e is (knows_on v told (λ u there. there) (λ u out. refl) e is)) lane.entries.items work.published.of_pool)
+              (All-map (IsOfPool told) entry_of (pending_in v) (All-weaker (CanSet v) (λ (a : Action). IsOfPool told (entry_of a)) (λ a set. let is_of = entry_of_pool a set in of_pool_on v told keeps.lane keeps.locks (entry_of a) is_of (knows_on v told (λ u there. there) (λ u out. refl) (entry_of a) is_of)) (pending_in v) each_pending)));
         } in
         record {
           works =

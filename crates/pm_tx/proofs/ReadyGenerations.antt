@@ -1,10 +1,12 @@
 -- Steps that may be made raise the generation by one with each store of it, and with nothing else.
-use Rattle.std.proofs.Common.{◌≡◌, ◌≢◌, ℕ, zero, suc, ◌+◌, ◌<◌, Bool, true, false, cond, eqb, List, [], ◌∷◌, take, length, set, slice_index, refl, sym, ap, ◌∙◌, subst, arith, eq-eqb, ne_eqb, get_or-set_same, get_or-set_other, ⊎_elim}
+use Rattle.std.proofs.Common.{◌≡◌, ◌≢◌, ℕ, zero, suc, ◌+◌, ◌<◌, Bool, true, false, cond, eqb, List, [], ◌∷◌, take, length, set, slice_index, refl, sym, ap, ◌∙◌, subst, arith, eq-eqb, ne_eqb, get_or-set_same, get_or-set_other, ⊎_elim, bit_or, bit_and}
 use Rattle.std.proofs.lemmas.Bool.{cases_eq, false≢true, or_left}
 use Rattle.std.proofs.lemmas.List.{set-get_or}
 use Rattle.std.specs.List.{list_any}
+use Rattle.pm_record.specs.declared.redo.Op.TheVariants as op
 use Rattle.pm_crash.proofs.Raises.{raise_by}
 use Rattle.pm_crash.specs.Alone.{is_raise, raises}
+use Rattle.pm_record.specs.declared.redo.Op.{Op}
 use Rattle.pm_undo.proofs.Areas.{generation_in_area, generation_word}
 use Rattle.pm_view.proofs.SameLane.{same_lane-after}
 use Rattle.pm_view.specs.Area.{Part, area_word, is_in_area, part_of}
@@ -16,11 +18,12 @@ use Rattle.pm_view.specs.Steps.Step.{Load, Store, Or, And, Flush, Drain, TakeWri
 use Rattle.pm_view.specs.View.{View}
 use Rattle.pm_view.specs.Views.{after, after_all, begun}
 use Rattle.pm_world.specs.Entries.{is_redoing}
-use Rattle.pm_world.specs.Lawful.{Allowed, StoreFits}
+use Rattle.pm_world.specs.Lawful.{Allowed, StoreFits, MayChange}
 use Rattle.pm_world.specs.Records.{generation_of}
 use Rattle.pm_world.specs.Sequences.{IsForeseen, Ready}
 use Rattle.pm_tx.specs.Generations.{AppliesNone}
 use Rattle.pm_tx.specs.Learning.{Finds, Looks}
+use Rattle.pm_world.proofs.StepChange.{changes_next, no_generation}
 
 begun_generation : (phase : Phase) (v : View) → generation_of (begun phase v) ≡ generation_of v
 begun_generation Idle v = refl
@@ -57,11 +60,17 @@ module _ (v : View) (lane : v.lane ≡ 0) where
       (λ (differ : w ≢ 512). still (Store w y) (ne_eqb w 512 differ) (get_or-set_other v.words w (area_word v.lane) y 0 (λ e. differ (omega (arith, e, lane)))))
       (cases_eq w 512)
 
+  -- bits of a word are set or cleared, which is none of the generation
+  bits_stay : (op : Op) (w bits y : ℕ) → MayChange v op w bits → slice_index (set v.words w y) (area_word v.lane) ≡ generation_of v
+  bits_stay op w bits y may =
+      let t = changes_next v op w bits v.log.phase refl (part_of v.lane w) refl may.fits in
+      get_or-set_other v.words w (area_word v.lane) y 0 (λ e. no_generation v.lane w t.outside (sym e))
+
   raised_after : (s : Step) → (is_raise s ≡ true → is_redoing v.log.phase ≡ false) → Allowed v s → IsForeseen v s → generation_of (after v s) ≡ generation_of v + raise_by s
   raised_after (Load w x) quiet may found = still (Load w x) refl (ap (λ (words : List ℕ). slice_index words (area_word v.lane)) (ap (set v.words w) found.1 ∙ set-get_or v.words w 0))
   raised_after (Store w y) quiet may found = stored w y quiet may.inside may.fits
-  raised_after (Or w bits found) quiet may f = absurd may
-  raised_after (And w bits found) quiet may f = absurd may
+  raised_after (Or w bits found) quiet may f = still (Or w bits found) refl (bits_stay op.Or w bits (bit_or found bits) may)
+  raised_after (And w bits found) quiet may f = still (And w bits found) refl (bits_stay op.And w bits (bit_and found bits) may)
   raised_after (Flush line) quiet may found = still (Flush line) refl refl
   raised_after Drain quiet may found = still Drain refl refl
   raised_after (TakeWrite line won) quiet may found = still (TakeWrite line won) refl refl

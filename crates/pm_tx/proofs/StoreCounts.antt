@@ -2,6 +2,9 @@
 use Rattle.std.proofs.Common.{◌≡◌, ℕ, zero, suc, ◌+◌, ◌*◌, ◌/◌, ◌≤◌, Bool, true, false, cond, eqb, ltb, List, [], ◌∷◌, ◌++◌, map, take, length, slice_index, refl, ap, ◌∙◌, arith, length-append}
 use Rattle.std.specs.List.{range_with_len}
 use Rattle.std.proofs.lemmas.List.FromFn.{length-map-range_with_len, length-range_with_len}
+use Rattle.pm_record.specs.declared.redo.Op.{Op}
+use Rattle.pm_record.specs.declared.redo.Op.TheVariants.{Set, Or, And}
+use Rattle.pm_redo.specs.Sequences.{does}
 use Rattle.pm_image.specs.Logs.{slot_line}
 use Rattle.pm_undo.specs.Sequences.{ends_generation, logs, logs_any, looks_from, persists, puts_back, recorded_in, restores, restores_all, restores_record, restores_word, retires, snapshots, span_at, stores_from, with_generation, writes_all, writes_record, writes_records, writes_slot}
 use Rattle.pm_undo.specs.Spans.{plan_of, words_in}
@@ -9,11 +12,11 @@ use Rattle.pm_undo.proofs.Slots.{length_spelled}
 use Rattle.pm_view.specs.Area.{area_word}
 use Rattle.pm_view.specs.Counts.{among, counted as calls_in, is_counted, is_store, max_changes, stores_among, unflushed_lines}
 use Rattle.pm_view.specs.Steps.{Step}
-use Rattle.pm_view.specs.Steps.Step.{Load, Store, Or, And, Flush, Drain}
+use Rattle.pm_view.specs.Steps.Step.{Or as Or_step, And as And_step, Load, Store, Or, And, Flush, Drain}
 use Rattle.pm_view.specs.View.{View}
 use Rattle.pm_view.specs.Views.{after_all}
 use Rattle.pm_world.specs.Records.{slot_word, spelled}
-use Rattle.pm_world.specs.Sequences.{Sequence, by_lane, by_view, counted, drains, flushes, in_turn, looks, makes_room, nothing, one, settles, stores, with_word}
+use Rattle.pm_world.specs.Sequences.{Sequence, by_lane, by_view, counted, drains, flushes, ands, finds_in, in_turn, looks, makes_room, nothing, one, ors, settles, stores, with_word}
 use Rattle.pm_world.specs.declared.lane.Span.{Span}
 use Rattle.pm_tx.proofs.PlannedWords.{planned_few}
 
@@ -124,6 +127,13 @@ none_in_room v = at (ltb (length v.changes) max_changes) where
 pub one_in_stores : (w x : ℕ) → HasStores 1 (stores w x)
 unfolding stores one among
 one_in_stores w x = stores_in_turn 0 1 1 makes_room (one (Store w x)) (omega arith) none_in_room (λ v. refl)
+
+-- bits of a word are set or cleared by one
+pub one_in_does : (op : Op) (w x : ℕ) → HasStores 1 (does op w x)
+unfolding ors ands finds_in among
+one_in_does Set w x = one_in_stores w x
+one_in_does Or w x = stores_in_turn 0 1 1 makes_room (finds_in w (Or_step w x)) (omega arith) none_in_room (λ v. refl)
+one_in_does And w x = stores_in_turn 0 1 1 makes_room (finds_in w (And_step w x)) (omega arith) none_in_room (λ v. refl)
 
 pub none_in_looks_from : (word count : ℕ) → HasStores 0 (looks_from word count)
 unfolding looks_from

@@ -8,7 +8,7 @@ use Rattle.pm_view.specs.declared.change.Change.{Change}
 use Rattle.pm_view.specs.Area.{Part, area_word, part_of}
 use Rattle.pm_view.specs.Area.Part.{EntryWord, GenerationWord, OtherWord, SealWord, SlotWord}
 use Rattle.pm_view.specs.Changes.{drained}
-use Rattle.pm_view.specs.Log.{Final, Log, Phase, Recorded, log_drained, log_drawn, log_stored, phase_drawn, with_pair, with_slot}
+use Rattle.pm_view.specs.Log.{Final, Log, Phase, Recorded, log_drained, log_drawn, log_stored, phase_drawn, with_pair, with_slot, log_changed}
 use Rattle.pm_view.specs.Log.Phase.{Idle, Open, Drawn, Sealing, Applying, Clearing, Retiring}
 use Rattle.pm_view.specs.Steps.{Step}
 use Rattle.pm_view.specs.Steps.Step.{Load, Store, Or, And, Flush, Drain, TakeWrite, TakeRead, Raise, Give, ZoneTry, ZoneGive, Occupied, Occupy, Vacate, Draw, NumberSeen, StopSeen, SetStop, Tell}
@@ -77,6 +77,15 @@ module _ (v : View) (unended : is_ending v.log.phase ≡ false) where
   drained_unended [] = drain_unended v.log.phase (is_some v.number) unended
   drained_unended (c ∷ changes) = unended
 
+  changed_unended : (p : Phase) → is_ending (log_changed p v.log).phase ≡ false
+  changed_unended Idle = unended
+  changed_unended (Open slot pair) = unended
+  changed_unended Drawn = unended
+  changed_unended Sealing = unended
+  changed_unended (Applying applied) = refl
+  changed_unended Clearing = unended
+  changed_unended Retiring = unended
+
   begun_unended : (p : Phase) → is_ending (begun p v).log.phase ≡ false
   begun_unended Idle = refl
   begun_unended (Open slot pair) = unended
@@ -95,8 +104,8 @@ module _ (v : View) (unended : is_ending v.log.phase ≡ false) where
     unended_after : (s : Step) → Allowed v s → is_raise s ≡ false → is_ending (after v s).log.phase ≡ false
     unended_after (Load w x) may none = unended
     unended_after (Store w x) may none = stored_unended w x v.log.phase (part_of v.lane w) may.fits (not_generation w x none)
-    unended_after (Or w bits found) may none = absurd may
-    unended_after (And w bits found) may none = absurd may
+    unended_after (Or w bits found) may none = changed_unended v.log.phase
+    unended_after (And w bits found) may none = changed_unended v.log.phase
     unended_after (Flush line) may none = unended
     unended_after Drain may none = drained_unended (drained v.changes)
     unended_after (TakeWrite line won) may none = unended

@@ -1,15 +1,17 @@
 -- What an image has of a lane's redo log: which entries are sealed in it, the lane's generation, and the recovered word where a sealed entry is of it.
-use Rattle.std.proofs.Common.{◌≡◌, ◌≢◌, ℕ, zero, suc, ◌+◌, ◌*◌, ◌/◌, ◌%◌, ◌<◌, ◌≤◌, ◌⊎◌, inl, inr, ⊎_elim, eqb, leb, Bool, true, false, cond, All, Contains, List, [], ◌∷◌, ◌++◌, length, length-append, map, slice_get, slice_index, Option, Some, refl, sym, ap, ◌∙◌, subst, arith}
+use Rattle.std.proofs.Common.{◌≡◌, ◌≢◌, ℕ, zero, suc, ◌+◌, ◌*◌, ◌/◌, ◌%◌, ◌<◌, ◌≤◌, ◌⊎◌, inl, inr, ⊎_elim, eqb, leb, Bool, true, false, cond, All, Contains, List, [], ◌∷◌, ◌++◌, length, length-append, map, slice_get, slice_index, Option, Some, refl, sym, ap, ◌∙◌, subst, arith, ◌^◌, not, ◌&&◌}
 use Rattle.std.specs.List.{cons_option, filter, filter_map, flat_map, range_with_len}
 use Rattle.std.specs.Option.{option_map}
-use Rattle.std.proofs.lemmas.Bool.{cases_Bool, cases_eq, cond-true, cond-false, or_cases, or_parts, and_from, le-leb, eq-eqb, ne_eqb, false≢true}
+use Rattle.std.proofs.lemmas.Bool.{cases_Bool, cases_eq, cond-true, cond-false, or_cases, or_parts, and_from, le-leb, eq-eqb, ne_eqb, false≢true, or_left, or_right}
 use Rattle.std.proofs.lemmas.List.Elements.{All-head, All-tail, filter-append}
 use Rattle.std.proofs.lemmas.Option.{none-some}
-use Rattle.pm_record.specs.Redo.{applied, op_of, redo_of, redo_words}
-use Rattle.pm_record.specs.declared.redo.Op.TheVariants.{Set}
+use Rattle.pm_record.specs.Redo.{applied, op_of, outcome, redo_of, redo_words}
+use Rattle.pm_record.specs.declared.redo.Op.{Op}
+use Rattle.pm_record.specs.declared.redo.Op.TheVariants.{Set, Or, And}
 use Rattle.pm_record.specs.declared.redo.Redo.{Redo}
 use Rattle.pm_view.specs.declared.change.Change.{Change}
 use Rattle.pm_view.specs.Area.{area_word, part_of}
+use Rattle.pm_view.specs.Bits.{all_bits, with_bits}
 use Rattle.pm_view.specs.Area.Part.{EntryWord}
 use Rattle.pm_view.specs.Held.{is_reserved}
 use Rattle.pm_view.specs.Log.{Phase, Final}
@@ -18,7 +20,7 @@ use Rattle.pm_view.specs.View.{View}
 use Rattle.pm_image.specs.Logs.{all_applied, entries, entries_for, entry_pair, generation, is_sealed, record_for, recovered, recovered_by, seal_word}
 use Rattle.pm_image.proofs.Redoing.{entries_sealed}
 use Rattle.pm_world.specs.Crash.{Survives}
-use Rattle.pm_world.specs.Entries.{AreWhole, IsEntryAt, ends_with, entry_word, setting}
+use Rattle.pm_world.specs.Entries.{AreWhole, EntryStands, IsEntryAt, ends_with, entry_word, final_by, is_part_entered, redo_on}
 use Rattle.pm_world.specs.Fits.{PhaseFits}
 use Rattle.pm_world.specs.History.{Entry, Flies, is_final, made_final}
 use Rattle.pm_world.specs.Memory.{Memory}
@@ -28,29 +30,50 @@ use Rattle.pm_world.specs.World.{Views, World}
 use Rattle.pm_world.proofs.CrashLogs.{ChangeFits, GenerationIs, SealIs, entered_front, entry_part, slot_part, whole_word}
 use Rattle.pm_world.proofs.CrashRecords.{generation_unsealed}
 use Rattle.pm_world.proofs.CrashWords.{OwnTakenBack, area_left, fits_of, lane_is, logged_behind, reserved_word, seal_is, written_behind}
-use Rattle.pm_world.proofs.Differences.{SetsWhole, made_whole}
+use Rattle.pm_world.proofs.Differences.{with_all_bits}
+use Rattle.pm_world.proofs.MadeBits.{and_makes, masked_by, or_makes, with_bits-lt}
 
--- the entry that an image has for one of a lane's
-abbrev pub redo_for : Final → Redo
-redo_for f = setting f.word f.bits
+-- the redo entry that an image has for one of a lane's
+pub record IsRedoFor (f : Final) (e : Redo) : Type 0 where
+  pub place : e.place ≡ 8 * f.word
+  pub is : f ≡ final_by e.op f.word e.value
+  pub word : e.value < 2 ^ 64
+  pub part : e.op ≡ Or → e.value ≢ all_bits
+
+-- and for each of them, in order
+abbrev pub AreRedosFor : List Final → List Redo → Type 0
+AreRedosFor [] [] = Unit {0}
+AreRedosFor [] (e ∷ es) = ⊥
+AreRedosFor (f ∷ fs) [] = ⊥
+AreRedosFor (f ∷ fs) (e ∷ es) = IsRedoFor f e × AreRedosFor fs es
 
 -- the entries of a word
 abbrev pub of_word : ℕ → List Redo → List Redo
 of_word w es = filter (λ (e : Redo). eqb e.place (8 * w)) es
 
-pub setting_again : (w x : ℕ) → redo_of (redo_words (setting w x)) ≡ Some (setting w x)
-setting_again w x =
+pub redo_again : (op : Op) (w x : ℕ) → redo_of (redo_words (redo_on op w x)) ≡ Some (redo_on op w x)
+redo_again Set w x =
     let code : (8 * w + 0) % 8 ≡ 0 = omega arith in
     let place : (8 * w + 0) / 8 * 8 ≡ 8 * w = omega arith in
     ap (λ c. option_map (λ op. record { place = (8 * w + 0) / 8 * 8; op = op; value = x }) (op_of c)) code ∙ ap (λ (p : ℕ). let e : Redo = record { place = p; op = Set; value = x } in Some e) place
+redo_again Or w x =
+    let code : (8 * w + 1) % 8 ≡ 1 = omega arith in
+    let place : (8 * w + 1) / 8 * 8 ≡ 8 * w = omega arith in
+    ap (λ c. option_map (λ op. record { place = (8 * w + 1) / 8 * 8; op = op; value = x }) (op_of c)) code ∙ ap (λ (p : ℕ). let e : Redo = record { place = p; op = Or; value = x } in Some e) place
+redo_again And w x =
+    let code : (8 * w + 2) % 8 ≡ 2 = omega arith in
+    let place : (8 * w + 2) / 8 * 8 ≡ 8 * w = omega arith in
+    ap (λ c. option_map (λ op. record { place = (8 * w + 2) / 8 * 8; op = op; value = x }) (op_of c)) code ∙ ap (λ (p : ℕ). let e : Redo = record { place = p; op = And; value = x } in Some e) place
 
 -- entries that are read one after another
-read_all : (read : ℕ → Option Redo) (fs : List Final) (from : ℕ) → ((i : ℕ) (f : Final) → slice_get fs i ≡ Some f → read (from + i) ≡ Some (redo_for f)) → filter_map read (range_with_len from (length fs)) ≡ map redo_for fs
-read_all read [] from each = refl
+read_all : (read : ℕ → Option Redo) (fs : List Final) (from : ℕ) → ((i : ℕ) (f : Final) → slice_get fs i ≡ Some f → (e : Redo) × IsRedoFor f e × (read (from + i) ≡ Some e))
+    → (es : List Redo) × AreRedosFor fs es × (filter_map read (range_with_len from (length fs)) ≡ es)
+read_all read [] from each = ([], tt, refl)
 read_all read (f ∷ fs) from each =
     let here : from + 0 ≡ from = omega arith in
-    ap (λ o. cons_option o (filter_map read (range_with_len (from + 1) (length fs)))) (ap read (sym here) ∙ each 0 f refl)
-    ∙ ap (λ (es : List Redo). redo_for f ∷ es) (read_all read fs (from + 1) (λ i g at. let next : from + 1 + i ≡ from + suc i = omega arith in ap read next ∙ each (suc i) g at))
+    let first = each 0 f refl in
+    let rest = read_all read fs (from + 1) (λ i g at. let next : from + 1 + i ≡ from + suc i = omega arith in let t = each (suc i) g at in (t.0, t.1, ap read next ∙ t.2)) in
+    (first.0 ∷ rest.0, (first.1, rest.1), ap (λ o. cons_option o (filter_map read (range_with_len (from + 1) (length fs)))) (ap read (sym here) ∙ first.2) ∙ ap (λ (es : List Redo). first.0 ∷ es) rest.2)
 
 place_same : (u w : ℕ) → eqb (8 * u) (8 * w) ≡ eqb u w
 place_same u w =
@@ -58,38 +81,61 @@ place_same u w =
     (λ (differ : u ≢ w). ne_eqb (8 * u) (8 * w) (λ e. differ (omega arith)) ∙ sym (ne_eqb u w differ))
     (cases_eq u w)
 
--- what they make of a word
-applied_all : (fs : List Final) (w x : ℕ) → All SetsWhole fs → all_applied (of_word w (map redo_for fs)) x ≡ made_final fs w x
+redo_place : (f : Final) (e : Redo) (w : ℕ) → IsRedoFor f e → eqb e.place (8 * w) ≡ eqb f.word w
+redo_place f e w redo = ap (λ n. eqb n (8 * w)) redo.place ∙ place_same f.word w
+
+-- an operation does what its entry says: an OR of some bits to a word of 64 bits
+outcome_makes : (op : Op) (w value x : ℕ) → value < 2 ^ 64 → (op ≡ Or → value ≢ all_bits) → (not (eqb (final_by op w value).mask all_bits) ≡ true → x < 2 ^ 64)
+    → outcome op value x ≡ with_bits (final_by op w value).mask (final_by op w value).bits x
+outcome_makes Set w value x low part small = sym (with_all_bits x value)
+outcome_makes Or w value x low part small = or_makes value x low (small (ap not (ne_eqb value all_bits (part refl))))
+outcome_makes And w value x low part small = and_makes value x low
+
+redo_makes : (f : Final) (e : Redo) (x : ℕ) → IsRedoFor f e → (not (eqb f.mask all_bits) ≡ true → x < 2 ^ 64) → applied e x ≡ with_bits f.mask f.bits x
+redo_makes f e x redo small =
+    outcome_makes e.op f.word e.value x redo.word redo.part (λ part. small (ap (λ (g : Final). not (eqb g.mask all_bits)) redo.is ∙ part))
+    ∙ ap (λ (g : Final). with_bits g.mask g.bits x) (sym redo.is)
+
+-- what they make of a word, which is of 64 bits where one is of some bits of it alone
+applied_all : (fs : List Final) (es : List Redo) (w x : ℕ) → AreRedosFor fs es → (is_part_entered fs w ≡ true → x < 2 ^ 64) → all_applied (of_word w es) x ≡ made_final fs w x
 unfolding made_final
-applied_all [] w x whole = refl
-applied_all (f ∷ fs) w x whole =
-    let rest = All-tail SetsWhole f fs whole in
+applied_all [] [] w x redos small = refl
+applied_all [] (e ∷ es) w x redos small = absurd redos
+applied_all (f ∷ fs) [] w x redos small = absurd redos
+applied_all (f ∷ fs) (e ∷ es) w x redos small =
     ⊎_elim
     (λ (here : eqb f.word w ≡ true).
-    ap (λ b. all_applied (cond b (redo_for f ∷ of_word w (map redo_for fs)) (of_word w (map redo_for fs))) x) (place_same f.word w ∙ here)
-    ∙ (applied_all fs w f.bits rest ∙ ap (made_final fs w) (sym (cond-true _ _ _ here ∙ made_whole f x (All-head SetsWhole f fs whole)))))
+    let made : applied e x ≡ with_bits f.mask f.bits x =
+    redo_makes f e x redos.0 (λ part. small (or_left (eqb f.word w && not (eqb f.mask all_bits)) (is_part_entered fs w) (and_from (eqb f.word w) (not (eqb f.mask all_bits)) here part))) in
+    let bits : f.bits < 2 ^ 64 = subst (λ (g : Final). g.bits < 2 ^ 64) (sym redos.0.is) (masked_by e.op f.word e.value redos.0.word).bits in
+    ap (λ b. all_applied (cond b (e ∷ of_word w es) (of_word w es)) x) (redo_place f e w redos.0 ∙ here)
+    ∙ (ap (all_applied (of_word w es)) made
+    ∙ (applied_all fs es w (with_bits f.mask f.bits x) redos.1 (λ part. with_bits-lt f.mask f.bits x bits) ∙ ap (made_final fs w) (sym (cond-true _ _ _ here)))))
     (λ (other : eqb f.word w ≡ false).
-    ap (λ b. all_applied (cond b (redo_for f ∷ of_word w (map redo_for fs)) (of_word w (map redo_for fs))) x) (place_same f.word w ∙ other)
-    ∙ (applied_all fs w x rest ∙ ap (made_final fs w) (sym (cond-false _ _ _ other))))
+    ap (λ b. all_applied (cond b (e ∷ of_word w es) (of_word w es)) x) (redo_place f e w redos.0 ∙ other)
+    ∙ (applied_all fs es w x redos.1 (λ part. small (or_right (eqb f.word w && not (eqb f.mask all_bits)) (is_part_entered fs w) part)) ∙ ap (made_final fs w) (sym (cond-false _ _ _ other))))
     (cases_Bool (eqb f.word w))
 
 -- none is of the word
-pub none_of : (fs : List Final) (w : ℕ) → is_final fs w ≡ false → of_word w (map redo_for fs) ≡ []
-none_of [] w e = refl
-none_of (f ∷ fs) w e =
-    let t = or_parts (eqb f.word w) (is_final fs w) e in
-    ap (λ b. cond b (redo_for f ∷ of_word w (map redo_for fs)) (of_word w (map redo_for fs))) (place_same f.word w ∙ t.0) ∙ none_of fs w t.1
+pub none_of : (fs : List Final) (es : List Redo) (w : ℕ) → AreRedosFor fs es → is_final fs w ≡ false → of_word w es ≡ []
+none_of [] [] w redos none = refl
+none_of [] (e ∷ es) w redos none = absurd redos
+none_of (f ∷ fs) [] w redos none = absurd redos
+none_of (f ∷ fs) (e ∷ es) w redos none =
+    let t = or_parts (eqb f.word w) (is_final fs w) none in
+    ap (λ b. cond b (e ∷ of_word w es) (of_word w es)) (redo_place f e w redos.0 ∙ t.0) ∙ none_of fs es w redos.1 t.1
 
 -- some is
-pub some_of : (fs : List Final) (w : ℕ) → is_final fs w ≡ true → (e : Redo) × (es : List Redo) × (of_word w (map redo_for fs) ≡ e ∷ es)
-some_of [] w e = absurd (false≢true e)
-some_of (f ∷ fs) w e =
+pub some_of : (fs : List Final) (es : List Redo) (w : ℕ) → AreRedosFor fs es → is_final fs w ≡ true → (first : Redo) × (rest : List Redo) × (of_word w es ≡ first ∷ rest)
+some_of [] es w redos some = absurd (false≢true some)
+some_of (f ∷ fs) [] w redos some = absurd redos
+some_of (f ∷ fs) (e ∷ es) w redos some =
     ⊎_elim
-    (λ (here : eqb f.word w ≡ true). (redo_for f, of_word w (map redo_for fs), ap (λ b. cond b (redo_for f ∷ of_word w (map redo_for fs)) (of_word w (map redo_for fs))) (place_same f.word w ∙ here)))
+    (λ (here : eqb f.word w ≡ true). (e, of_word w es, ap (λ b. cond b (e ∷ of_word w es) (of_word w es)) (redo_place f e w redos.0 ∙ here)))
     (λ (other : eqb f.word w ≡ false).
-    let later : is_final fs w ≡ true = ⊎_elim (λ (h : eqb f.word w ≡ true). absurd (false≢true (sym other ∙ h))) (λ (l : is_final fs w ≡ true). l) (or_cases (eqb f.word w) (is_final fs w) e) in
-    let t = some_of fs w later in
-    (t.0, t.1, ap (λ b. cond b (redo_for f ∷ of_word w (map redo_for fs)) (of_word w (map redo_for fs))) (place_same f.word w ∙ other) ∙ t.2))
+    let later : is_final fs w ≡ true = ⊎_elim (λ (h : eqb f.word w ≡ true). absurd (false≢true (sym other ∙ h))) (λ (l : is_final fs w ≡ true). l) (or_cases (eqb f.word w) (is_final fs w) some) in
+    let t = some_of fs es w redos.1 later in
+    (t.0, t.1, ap (λ b. cond b (e ∷ of_word w es) (of_word w es)) (redo_place f e w redos.0 ∙ other) ∙ t.2))
     (cases_Bool (eqb f.word w))
 
 -- no part has what passes the test
@@ -121,14 +167,20 @@ unfolding entries_for
 unentered_word image lanes w none = no_part (λ (e : Redo). eqb e.place (8 * w)) (entries image) 0 lanes (λ j low high. none j (omega arith))
 
 -- one lane alone has sealed entries of the word: they make the recovered word
-pub redone_word : (image : List ℕ) (lanes w k : ℕ) (fs : List Final) → k < lanes → entries image k ≡ map redo_for fs → All SetsWhole fs → is_final fs w ≡ true
+pub redone_word : (image : List ℕ) (lanes w k : ℕ) (fs : List Final) (es : List Redo) → k < lanes → entries image k ≡ es → AreRedosFor fs es → (is_part_entered fs w ≡ true → slice_index image w < 2 ^ 64) → is_final fs w ≡ true
     → ((j : ℕ) → j < lanes → j ≢ k → of_word w (entries image j) ≡ []) → recovered image lanes w ≡ made_final fs w (slice_index image w)
 unfolding recovered entries_for
-redone_word image lanes w k fs inside are whole of others =
-    let t = some_of fs w of in
-    let mine : entries_for image lanes (8 * w) ≡ of_word w (map redo_for fs) = one_part (λ (e : Redo). eqb e.place (8 * w)) (entries image) 0 lanes k (omega arith) (omega arith) (λ j low high other. others j (omega arith) other) ∙ ap (of_word w) are in
+redone_word image lanes w k fs es inside are redos small of others =
+    let t = some_of fs es w redos of in
+    let mine : entries_for image lanes (8 * w) ≡ of_word w es = one_part (λ (e : Redo). eqb e.place (8 * w)) (entries image) 0 lanes k (omega arith) (omega arith) (λ j low high other. others j (omega arith) other) ∙ ap (of_word w) are in
     ap (λ es. recovered_by es (record_for image lanes (8 * w)) (8 * w) (slice_index image w)) (mine ∙ t.2)
-    ∙ (ap (λ es. all_applied es (slice_index image w)) (sym t.2) ∙ applied_all fs w (slice_index image w) whole)
+    ∙ (ap (λ es. all_applied es (slice_index image w)) (sym t.2) ∙ applied_all fs es w (slice_index image w) redos small)
+
+-- an entry of all bits of a word spells them
+pub whole_value : (op : Op) (w x : ℕ) → x < 2 ^ 64 → (op ≡ Or → x ≢ all_bits) → (final_by op w x).mask ≡ all_bits → x ≡ (final_by op w x).bits
+whole_value Set w x low part whole = refl
+whole_value Or w x low part whole = absurd (part refl whole)
+whole_value And w x low part whole = omega arith
 
 last_at : (front : List Final) (f : Final) → slice_get (front ++ f ∷ []) (length front) ≡ Some f
 last_at [] f = refl
@@ -180,16 +232,19 @@ module _ (o : Opening) (mem : Memory) (views : Views) (log : List Entry) (decide
         (λ (t : OwnTakenBack (views k) image i). absurd (no_pair_change k (views k).log.phase i inside sealed low high t (fits_of o mem views log decided x k t.change inside t.there)))
         (area_left o mem views log decided x image survives k i inside (omega arith) (omega arith))
 
-    -- each entry is read as it was written
-    pub entry_read : (k i : ℕ) (f : Final) → k < o.lanes → HasSealed (views k).log.phase → i < 64 → IsEntryAt (views k) i f → entry_pair image k i ≡ redo_words (redo_for f)
+    -- each entry stands in its pair
+    abbrev pub stands : (k i : ℕ) (f : Final) → k < o.lanes → IsEntryAt (views k) i f → EntryStands (views k) i f
+    stands k i f inside at = (x.each_lane k inside).entries.each i f at
+
+    -- and is read as it was written
+    pub entry_read : (k i : ℕ) (f : Final) (inside : k < o.lanes) → HasSealed (views k).log.phase → i < 64 → (at : IsEntryAt (views k) i f) → entry_pair image k i ≡ redo_words (redo_on (stands k i f inside at).op f.word (stands k i f inside at).value)
     entry_read k i f inside sealed low at =
         let lane = lane_is o mem views log decided x k inside in
-        let stands = (x.each_lane k inside).entries.each i f at in
         let next : area_word k + 9 + 2 * i ≡ area_word k + 8 + 2 * i + 1 = omega arith in
         let one : slice_index image (area_word k + 8 + 2 * i) ≡ slice_index (views k).words (area_word k + 8 + 2 * i) = pair_stays k (area_word k + 8 + 2 * i) inside sealed (omega arith) (omega arith) in
         let other : slice_index image (area_word k + 9 + 2 * i) ≡ slice_index (views k).words (area_word k + 8 + 2 * i + 1) = ap (slice_index image) next ∙ pair_stays k (area_word k + 8 + 2 * i + 1) inside sealed (omega arith) (omega arith) in
         (λ t. one t ∷ other t ∷ [])
-        ∙ (ap (λ (j : ℕ). let pair : List ℕ = slice_index (views k).words (entry_word j i) ∷ slice_index (views k).words (entry_word j i + 1) ∷ [] in pair) (sym lane) ∙ stands.spells)
+        ∙ (ap (λ (j : ℕ). let pair : List ℕ = slice_index (views k).words (entry_word j i) ∷ slice_index (views k).words (entry_word j i + 1) ∷ [] in pair) (sym lane) ∙ (stands k i f inside at).spells)
 
     module _ (k : ℕ) (inside : k < o.lanes) (sealed : HasSealed (views k).log.phase) (full : seal_word image k ≡ length (views k).log.entries) where
       whole : AreWhole (views k) (sealed_generation (views k).log.phase (views k))
@@ -203,15 +258,18 @@ module _ (o : Opening) (mem : Memory) (views : Views) (log : List Entry) (decide
           let most = (x.each_lane k inside).entries.most in let n = long in
           and_from (leb 1 (seal_word image k)) (leb (seal_word image k) 64) (le-leb 1 (seal_word image k) (omega arith)) (le-leb (seal_word image k) 64 (omega arith))
 
-      -- the sealed entries of the image are the lane's
-      pub entries_read : entries image k ≡ map redo_for (views k).log.entries
+      -- the sealed entries of the image are for the lane's
+      pub entries_read : (es : List Redo) × AreRedosFor (views k).log.entries es × (entries image k ≡ es)
       entries_read =
-          sym (entries_sealed image k is_sealed_there)
-          ∙ (ap (λ n. filter_map (λ i. redo_of (entry_pair image k i)) (range_with_len 0 n)) full
-          ∙ read_all (λ i. redo_of (entry_pair image k i)) (views k).log.entries 0
-          (λ i f at. let low = within (views k).log.entries i f at in let most = (x.each_lane k inside).entries.most in
+          let t = read_all (λ i. redo_of (entry_pair image k i)) (views k).log.entries 0 (λ i f at.
+          let low = within (views k).log.entries i f at in let most = (x.each_lane k inside).entries.most in
           let first : 0 + i ≡ i = omega arith in
-          ap (λ j. redo_of (entry_pair image k j)) first ∙ (ap redo_of (entry_read k i f inside sealed (omega arith) at) ∙ setting_again f.word f.bits))) where
+          let s = stands k i f inside at in (
+            redo_on s.op f.word s.value,
+            record { place = refl; is = s.is; word = s.may.word; part = s.may.part },
+            ap (λ j. redo_of (entry_pair image k j)) first ∙ (ap redo_of (entry_read k i f inside sealed (omega arith) at) ∙ redo_again s.op f.word s.value),
+          )) in
+          (t.0, t.1, sym (entries_sealed image k is_sealed_there) ∙ (ap (λ n. filter_map (λ i. redo_of (entry_pair image k i)) (range_with_len 0 n)) full ∙ t.2)) where
             within : (fs : List Final) (i : ℕ) (f : Final) → slice_get fs i ≡ Some f → i < length fs
             within [] i f at = absurd (none-some f at)
             within (g ∷ fs) zero f at = omega arith
@@ -224,8 +282,10 @@ module _ (o : Opening) (mem : Memory) (views : Views) (log : List Entry) (decide
           let most = (x.each_lane k inside).entries.most in let n = long in
           let at : IsEntryAt (views k) (length whole.front) (ends_with (views k) g) = ap (λ fs. slice_get fs (length whole.front)) whole.are ∙ last_at whole.front (ends_with (views k) g) in
           let place : area_word k + 7 + 2 * seal_word image k ≡ area_word k + 9 + 2 * length whole.front = omega arith in
+          let s = stands k (length whole.front) (ends_with (views k) g) inside at in
+          let bits : s.value ≡ g = whole_value s.op (area_word (views k).lane) s.value s.may.word s.may.part (ap (λ (f : Final). f.mask) (sym s.is)) ∙ ap (λ (f : Final). f.bits) (sym s.is) in
           cond-true _ _ _ is_sealed_there
-          ∙ (ap (slice_index image) place ∙ ap (λ (pair : List ℕ). slice_index pair 1) (entry_read k (length whole.front) (ends_with (views k) g) inside sealed (omega arith) at))
+          ∙ (ap (slice_index image) place ∙ (ap (λ (pair : List ℕ). slice_index pair 1) (entry_read k (length whole.front) (ends_with (views k) g) inside sealed (omega arith) at) ∙ bits))
 
     module _ (k : ℕ) (inside : k < o.lanes) where
       at : (views k).lane ≡ k

@@ -1,5 +1,5 @@
 -- Every image that survives means the history without the entries that it loses.
-use Rattle.std.proofs.Common.{◌≡◌, ◌≢◌, ℕ, suc, ◌+◌, ◌-◌, ◌*◌, ◌/◌, ◌<◌, ◌≤◌, ◌⊎◌, inl, inr, ⊎_elim, eqb, leb, ltb, Bool, true, false, not, ◌&&◌, Contains, All, List, [], ◌∷◌, drop, length, slice_get, slice_index, Option, Some, None, refl, sym, ap, ◌∙◌, subst, arith}
+use Rattle.std.proofs.Common.{◌≡◌, ◌≢◌, ℕ, suc, ◌+◌, ◌-◌, ◌*◌, ◌/◌, ◌<◌, ◌≤◌, ◌⊎◌, inl, inr, ⊎_elim, eqb, leb, ltb, Bool, true, false, not, ◌&&◌, Contains, All, List, [], ◌∷◌, drop, length, slice_get, slice_index, Option, Some, None, refl, sym, ap, ◌∙◌, subst, arith, ◌^◌}
 use Rattle.std.specs.List.{list_any, range_with_len}
 use Rattle.std.proofs.lemmas.Bool.{cases_Bool, and_from, and_parts, or_cases, or_from, or_left, or_parts, or_right, leb-true, ltb-true, eq-eqb, ne_eqb, false≢true, false_from_ne_true, not_from_false}
 use Rattle.std.proofs.lemmas.Option.{none-some}
@@ -20,8 +20,8 @@ use Rattle.pm_image.specs.Steps.{valid_record}
 use Rattle.pm_image.proofs.Redoing.{entries_unsealed}
 use Rattle.pm_world.specs.Course.{flight_in, flight, is_number}
 use Rattle.pm_world.specs.Crash.{NoneTorn, Survives, is_deciding_in, is_kept, loses}
-use Rattle.pm_world.specs.Entries.{HasNone, applied_in, is_entered, is_in_log, is_redoing, is_redone}
-use Rattle.pm_world.specs.Fits.{PhaseFits, EndFits, RetiringChange, SealChange, SealingFits}
+use Rattle.pm_world.specs.Entries.{HasNone, applied_in, is_entered, is_in_log, is_redoing, is_redone, KnowsParts, is_part_entered}
+use Rattle.pm_world.specs.Fits.{PhaseFits, EndFits, RetiringChange, SealChange, SealingFits, IsOfEntries}
 use Rattle.pm_world.specs.History.{Entry, Flies, is_final, made_final, replayed, settled}
 use Rattle.pm_world.specs.Laws.{CrashLaw}
 use Rattle.pm_world.specs.Memory.{Memory}
@@ -34,10 +34,13 @@ use Rattle.pm_world.proofs.CrashLogs.{ChangeFits, GenerationIs, RecordOf, SealIs
 use Rattle.pm_world.proofs.CrashRecords.{generation_unsealed, recovered_unentered, unsealed}
 use Rattle.pm_world.proofs.CrashReplays.{lane_some, kept_settled, kept_new}
 use Rattle.pm_world.proofs.CrashSays.{Says, slot_says, drained_valid}
-use Rattle.pm_world.proofs.CrashWords.{recorded_fits, recorded_writes, one_recorder, behind_areas, entered_writes, fits_of, seal_is, word_stays}
-use Rattle.pm_world.proofs.Differences.{SetsWhole, difference-recorded, difference-unrecorded, difference-words, made_final-whole, pool_entries-final, pool_entries-makes}
+use Rattle.pm_world.proofs.CrashWords.{changer, word_beside, word_small, recorded_fits, recorded_writes, one_recorder, behind_areas, entered_writes, fits_of, seal_is, word_stays}
+use Rattle.pm_world.proofs.Differences.{difference-recorded, difference-unrecorded, difference-words, pool_entries-final, pool_entries-makes}
 use Rattle.pm_world.proofs.Exclusion.{WritesUnder, one_writer}
+use Rattle.pm_world.proofs.TakenBits.{redone_beside}
 use Rattle.pm_world.proofs.Losses.{some_lane}
+use Rattle.pm_world.proofs.MadeBits.{IsMasked}
+use Rattle.pm_world.proofs.Pairs.{entries_masked}
 use Rattle.pm_world.proofs.Replays.{made_final-other}
 
 -- with nothing undrained each slot is drained
@@ -74,15 +77,7 @@ drop_all : {X : Type 0} (xs : List X) → drop (length xs) xs ≡ []
 drop_all [] = refl
 drop_all (x ∷ xs) = drop_all xs
 
--- what holds of each entry by its place holds of all
-all_entries : (entries : List Final) → ((i : ℕ) (f : Final) → slice_get entries i ≡ Some f → SetsWhole f) → All SetsWhole entries
-all_entries [] each = All-nil SetsWhole
-all_entries (f ∷ entries) each = All-cons SetsWhole f entries (each 0 f refl) (all_entries entries (λ i g at. each (suc i) g at))
-
 module _ (o : Opening) (mem : Memory) (views : Views) (log : List Entry) (decided : ℕ → Bool) (x : World o mem views log decided) (image : List ℕ) (survives : Survives o mem views image) (whole : NoneTorn o views image) where
-  whole_entries : (k : ℕ) → k < o.lanes → All SetsWhole (views k).log.entries
-  whole_entries k inside = all_entries (views k).log.entries (λ i f at. ((x.each_lane k inside).entries.each i f at).whole)
-
   module _ (w : ℕ) (heap : IsLivingWord o w) where
     -- the word after the entries that are not lost
     abbrev Kept : ℕ
@@ -127,8 +122,8 @@ module _ (o : Opening) (mem : Memory) (views : Views) (log : List Entry) (decide
         let t = entry_of_word (views j).log.entries w (and_parts (is_redoing (views j).log.phase) (is_entered (views j).log.entries w) e).1 in
         let lane = (x.each_lane j low).lane.lane in
         ⊎_elim (λ (written : is_written (views j) t.held.word ≡ true). subst (λ u. is_written (views j) u ≡ true) t.of written)
-        (λ (own : t.held.word ≡ area_word (views j).lane). let same = t.of in absurd (⊎_elim (λ (front : w < 512). omega arith) (λ (back : 512 + 1024 * o.lanes ≤ w). omega arith) outside))
-        ((x.each_lane j low).entries.each t.place t.held t.at).of
+        (λ own. let here : t.held.word ≡ area_word (views j).lane = own.0 in let same = t.of in absurd (⊎_elim (λ (front : w < 512). omega arith) (λ (back : 512 + 1024 * o.lanes ≤ w). omega arith) outside))
+        ((x.each_lane j low).entries.each t.place t.held t.at).may.of
 
     -- the image has no entries of a lane, or has it sealed, with the lane's own
     entries_cases : (j : ℕ) → j < o.lanes → (logs.entries image j ≡ []) ⊎ (HasSealed (views j).log.phase × (logs.seal_word image j ≡ length (views j).log.entries))
@@ -152,7 +147,8 @@ module _ (o : Opening) (mem : Memory) (views : Views) (log : List Entry) (decide
     no_other j low never =
         ⊎_elim (λ (none : logs.entries image j ≡ []). ap (of_word w) none)
         (λ (sealed : HasSealed (views j).log.phase × (logs.seal_word image j ≡ length (views j).log.entries)).
-        ap (of_word w) (entries_read o mem views log decided x image survives j low sealed.0 sealed.1) ∙ none_of (views j).log.entries w (false_from_ne_true (is_final (views j).log.entries w) never))
+        let t = entries_read o mem views log decided x image survives j low sealed.0 sealed.1 in
+        ap (of_word w) t.2 ∙ none_of (views j).log.entries t.0 w t.1 (false_from_ne_true (is_final (views j).log.entries w) never))
         (entries_cases j low)
 
     -- no change of the word, and it is in no lane's log
@@ -166,8 +162,9 @@ module _ (o : Opening) (mem : Memory) (views : Views) (log : List Entry) (decide
     -- a sealed entry of the word in the image
     entered_there : (k : ℕ) → k < o.lanes → HasSealed (views k).log.phase → logs.seal_word image k ≡ length (views k).log.entries → is_final (views k).log.entries w ≡ true → NoEntry → ⊥
     entered_there k inside sealed full of none =
-        let t = some_of (views k).log.entries w of in
-        false≢true (ap is_some_entry (sym (none k inside) ∙ (ap (of_word w) (entries_read o mem views log decided x image survives k inside sealed full) ∙ t.2)))
+        let read = entries_read o mem views log decided x image survives k inside sealed full in
+        let t = some_of (views k).log.entries read.0 w read.1 of in
+        false≢true (ap is_some_entry (sym (none k inside) ∙ (ap (of_word w) read.2 ∙ t.2)))
 
     -- a call in flight that only enters the word, and whose entries are not sealed in the image, is lost
     entered_lost : NoEntry → (k n : ℕ) (phase : Phase) → k < o.lanes → (views k).log.phase ≡ phase → HasNone phase (views k) → SealIs (views k) (logs.seal_word image k) phase
@@ -297,8 +294,8 @@ module _ (o : Opening) (mem : Memory) (views : Views) (log : List Entry) (decide
           ∙ sym (kept_as_settled (λ n flies. none-some n (sym (ap (λ p. flight_in p (views k).number) ends ∙ is) ∙ flies)))))
       plain_end (Some n) is ends deciding flies =
           let unentered : (views k).log.entries ≡ [] = subst (λ p. HasNone p (views k)) ends (x.each_lane k inside).entries.none in
-          sym (kept_new o mem views log decided x image k n w (slice_index (views k).words w) inside (ap (is_deciding_in image (views k)) ends ∙ deciding) flies of_difference
-          (λ z. difference-recorded (views k) w z recorded ∙ (pool_entries-makes (views k) w (slice_index (views k).words w) (elsewhere k inside)
+          sym (kept_new o mem views log decided x image k n w inside (ap (is_deciding_in image (views k)) ends ∙ deciding) flies of_difference
+          ∙ (difference-recorded (views k) w (settled o log decided w) recorded ∙ (pool_entries-makes (views k) w (slice_index (views k).words w) (elsewhere k inside)
           ∙ made_final-other (views k).log.entries w (slice_index (views k).words w) (ap (λ es. is_final es w) unentered))))
 
       -- the seal is in the image, and no entry is of the word
@@ -307,8 +304,8 @@ module _ (o : Opening) (mem : Memory) (views : Views) (log : List Entry) (decide
           let at = (x.each_lane k inside).lane.lane in
           let unentered : is_final (views k).log.entries w ≡ false = false_from_ne_true (is_final (views k).log.entries w) (λ of. entered_there k inside (subst HasSealed (sym is) tt) full of none_there) in
           let deciding : not (eqb (logs.seal_word image (views k).lane) 0) ≡ true = not_from_false (eqb (logs.seal_word image (views k).lane) 0) (ne_eqb (logs.seal_word image (views k).lane) 0 (λ zero_seal. some (sym (ap (logs.seal_word image) at) ∙ zero_seal))) in
-          sym (kept_new o mem views log decided x image k fits.number w (slice_index (views k).words w) inside (ap (is_deciding_in image (views k)) is ∙ deciding) fits.flying of_difference
-          (λ z. difference-recorded (views k) w z recorded ∙ (pool_entries-makes (views k) w (slice_index (views k).words w) (elsewhere k inside) ∙ made_final-other (views k).log.entries w (slice_index (views k).words w) unentered)))
+          sym (kept_new o mem views log decided x image k fits.number w inside (ap (is_deciding_in image (views k)) is ∙ deciding) fits.flying of_difference
+          ∙ (difference-recorded (views k) w (settled o log decided w) recorded ∙ (pool_entries-makes (views k) w (slice_index (views k).words w) (elsewhere k inside) ∙ made_final-other (views k).log.entries w (slice_index (views k).words w) unentered)))
 
       -- a drained record would be valid in the image
       valid_there : (phase : Phase) → (views k).log.phase ≡ phase → is_drained_slot (views k) t.slot ≡ true → logs.generation image k ≡ records_generation phase (views k) → NoSlot → ⊥
@@ -375,14 +372,80 @@ module _ (o : Opening) (mem : Memory) (views : Views) (log : List Entry) (decide
       enterer : WritesUnder o mem k w
       enterer = entered_writes o mem views log decided x k w inside outside of
 
+      masked : All IsMasked (views k).log.entries
+      masked = entries_masked (views k) (x.each_lane k inside).entries
+
+      -- a change of the word is the lane's
+      changes_it : (j : ℕ) (c : Change) → j < o.lanes → Contains (views j).changes c → c.word ≡ w → Contains (views k).changes c
+      changes_it j c low there is =
+          let writes : WritesUnder o mem j w =
+          ⊎_elim (λ (logged : is_logged (views j) w ≡ true). recorded_writes o mem views log decided x j w low (logged_recorded (views j) w logged))
+          (λ (redone : (is_redone (views j) w ≡ true) × (is_written (views j) w ≡ true)). redone_writes j low redone.0)
+          (changer o mem views log decided x image survives w outside heap.living j c low there is) in
+          subst (λ i. Contains (views i).changes c) (one_writer o mem j k w x.sound writes enterer) there
+
+      -- none is, while the seal is stored or cleared
+      seals_elsewhere : (before : ℕ) (c : Change) → SealChange (views k) before c → c.word ≡ w → ⊥
+      seals_elsewhere before c fits is =
+          let at = (x.each_lane k inside).lane.lane in let of = fits.of in
+          ⊎_elim (λ (front : w < 512). omega arith) (λ (back : 512 + 1024 * o.lanes ≤ w). omega arith) outside
+
+      -- each is of bits that an entry is of
+      of_entries : (phase : Phase) → (views k).log.phase ≡ phase → HasSealed phase → (j : ℕ) (c : Change) → j < o.lanes → Contains (views j).changes c → c.word ≡ w → IsOfEntries (views k).log.entries c
+      of_entries phase is sealed j c low there of_w = by_phase phase sealed (subst (ChangeFits (views k) c) is (fits_of o mem views log decided x k c inside (changes_it j c low there of_w))) where
+        by_phase : (p : Phase) → HasSealed p → ChangeFits (views k) c p → IsOfEntries (views k).log.entries c
+        by_phase Idle none fits = absurd none
+        by_phase (Open slot pair) none fits = absurd none
+        by_phase Drawn none fits = absurd none
+        by_phase Sealing some fits = absurd (seals_elsewhere 0 c fits of_w)
+        by_phase (Applying applied) some fits = fits.0.bits
+        by_phase Clearing some fits = absurd (seals_elsewhere (length (views k).log.entries) c fits of_w)
+        by_phase Retiring none fits = absurd none
+
+      -- the lane knows the word where an entry is of some bits of it alone
+      known_part : (phase : Phase) → HasSealed phase → PhaseFits (Flies log decided k) (views k) phase → KnowsParts (views k)
+      known_part Idle sealed fits = absurd sealed
+      known_part (Open slot pair) sealed fits = absurd sealed
+      known_part Drawn sealed fits = absurd sealed
+      known_part Sealing sealed fits = fits.known
+      known_part (Applying applied) sealed fits = fits.known
+      known_part Clearing sealed fits = fits.known
+      known_part Retiring sealed fits = absurd sealed
+
+      -- it is of 64 bits then, in the image too
+      small_there : HasSealed (views k).log.phase → is_part_entered (views k).log.entries w ≡ true → slice_index image w < 2 ^ 64
+      small_there sealed part =
+          let known = known_part (views k).log.phase sealed (x.each_lane k inside).phase w part in
+          word_small o mem views log decided x image survives (views k).log.entries w inside_image (of_entries (views k).log.phase refl sealed) part
+          (subst (λ n. n < 2 ^ 64) (sym ((x.each_lane k inside).picture.known w known.known)) known.small)
+
       -- the call is decided: what its entries make of the word is settled
-      redoing_kept : (phase : Phase) → (views k).log.phase ≡ phase → is_redoing phase ≡ true → ((n : ℕ) → flight_in phase (views k).number ≡ Some n → ⊥) → made_final (views k).log.entries w (slice_index image w) ≡ Kept
-      redoing_kept phase is redoing rests =
+      redoing_kept : (phase : Phase) → (views k).log.phase ≡ phase → HasSealed phase → is_redoing phase ≡ true → ((n : ℕ) → flight_in phase (views k).number ≡ Some n → ⊥) → made_final (views k).log.entries w (slice_index image w) ≡ Kept
+      redoing_kept phase is sealed redoing rests =
           let redone : is_redone (views k) w ≡ true = and_from (is_redoing (views k).log.phase) (is_entered (views k).log.entries w) (ap is_redoing is ∙ redoing) of in
-          ((x.each_lane k inside).redone w redone (redone_written k inside redone)).again (slice_index image w)
+          let word = (x.each_lane k inside).redone w redone (redone_written k inside redone) in
+          word.again (slice_index image w) (λ i small beside.
+          word_beside o mem views log decided x image survives (views k).log.entries w inside_image (of_entries phase is sealed) i small beside
+          ∙ redone_beside mem (settled o log decided) (views k) w masked word i small beside)
           ∙ sym (kept_settled o mem views log decided x image w (λ j n low other flies.
           let same : j ≡ k = one_writer o mem j k w x.sound (difference_writes j low other) enterer in
           absurd (rests n (sym (ap (λ p. flight_in p (views k).number) is) ∙ subst (λ i. flight (views i) ≡ Some n) same flies))))
+
+      -- while the seal is stored the word is as the call found it, or as it left it where it recorded it
+      found_so : (views k).log.phase ≡ Sealing → slice_index image w ≡ mem (PoolWord w)
+      found_so is =
+          word_stays o mem views log decided x image survives w inside_image outside heap.living
+          (λ j c low there of_w logs_it. seals_elsewhere 0 c (subst (ChangeFits (views k) c) is (fits_of o mem views log decided x k c inside (changes_it j c low there of_w))) of_w)
+
+      settled_so : (views k).log.phase ≡ Sealing → is_recorded (views k).log.records w ≡ false → mem (PoolWord w) ≡ settled o log decided w
+      settled_so is unrecorded = x.each_word w heap (λ j low. false_from_ne_true (is_in_log (views j) w) (λ there.
+          let writes : WritesUnder o mem j w =
+          ⊎_elim (λ (logged : is_logged (views j) w ≡ true). recorded_writes o mem views log decided x j w low (logged_recorded (views j) w logged))
+          (λ (redone : is_redone (views j) w ≡ true). redone_writes j low redone) (or_cases (is_logged (views j) w) (is_redone (views j) w) there) in
+          let same : j ≡ k = one_writer o mem j k w x.sound writes enterer in
+          ⊎_elim (λ (logged : is_logged (views k) w ≡ true). false≢true (sym (unrecorded_unlogged (views k) w unrecorded) ∙ logged))
+          (λ (redone : is_redone (views k) w ≡ true). false≢true (ap is_redoing (sym is) ∙ (and_parts (is_redoing (views k).log.phase) (is_entered (views k).log.entries w) redone).0))
+          (or_cases (is_logged (views k) w) (is_redone (views k) w) (subst (λ i. is_in_log (views i) w ≡ true) same there))))
 
       -- what the entries make of the word is what it is to be
       redone_kept : (phase : Phase) → (views k).log.phase ≡ phase → HasSealed phase → PhaseFits (Flies log decided k) (views k) phase → logs.seal_word image k ≢ 0 → made_final (views k).log.entries w (slice_index image w) ≡ Kept
@@ -391,16 +454,18 @@ module _ (o : Opening) (mem : Memory) (views : Views) (log : List Entry) (decide
       redone_kept Drawn is sealed fits some = absurd sealed
       redone_kept Sealing is sealed fits some =
           let at = (x.each_lane k inside).lane.lane in
-          let all = whole_entries k inside in
           let deciding : not (eqb (logs.seal_word image (views k).lane) 0) ≡ true = not_from_false (eqb (logs.seal_word image (views k).lane) 0) (ne_eqb (logs.seal_word image (views k).lane) 0 (λ zero_seal. some (sym (ap (logs.seal_word image) at) ∙ zero_seal))) in
           let entered : is_final (pool_entries (views k)) w ≡ true = pool_entries-final (views k) w (elsewhere k inside) ∙ of in
-          let makes : (z : ℕ) → made_final (pool_entries (views k)) w z ≡ made_final (views k).log.entries w (slice_index image w) = λ z. pool_entries-makes (views k) w z (elsewhere k inside) ∙ made_final-whole (views k).log.entries w z (slice_index image w) all of in
-          sym (kept_new o mem views log decided x image k fits.number w (made_final (views k).log.entries w (slice_index image w)) inside (ap (is_deciding_in image (views k)) is ∙ deciding) fits.flying
+          let makes : (z : ℕ) → mem (PoolWord w) ≡ z → made_final (pool_entries (views k)) w z ≡ made_final (views k).log.entries w (slice_index image w) =
+          λ z same. pool_entries-makes (views k) w z (elsewhere k inside) ∙ ap (made_final (views k).log.entries w) (sym (found_so is ∙ same)) in
+          sym (kept_new o mem views log decided x image k fits.number w inside (ap (is_deciding_in image (views k)) is ∙ deciding) fits.flying
           (difference-words (views k) w ∙ or_right (is_recorded (views k).log.records w) (is_final (pool_entries (views k)) w) entered)
-          (λ z. ⊎_elim (λ (recorded : is_recorded (views k).log.records w ≡ true). difference-recorded (views k) w z recorded ∙ makes (slice_index (views k).words w))
-          (λ (unrecorded : is_recorded (views k).log.records w ≡ false). difference-unrecorded (views k) w z unrecorded ∙ makes z) (cases_Bool (is_recorded (views k).log.records w))))
-      redone_kept (Applying applied) is sealed fits some = redoing_kept (Applying applied) is refl (λ n flies. none-some n flies)
-      redone_kept Clearing is sealed fits some = redoing_kept Clearing is refl (λ n flies. none-some n flies)
+          ∙ ⊎_elim (λ (recorded : is_recorded (views k).log.records w ≡ true).
+          let t = record_of (views k) w recorded in
+          difference-recorded (views k) w (settled o log decided w) recorded ∙ makes (slice_index (views k).words w) ((x.each_lane k inside).picture.known w (recorded_fits o mem views log decided x k w inside t).known))
+          (λ (unrecorded : is_recorded (views k).log.records w ≡ false). difference-unrecorded (views k) w (settled o log decided w) unrecorded ∙ makes (settled o log decided w) (settled_so is unrecorded)) (cases_Bool (is_recorded (views k).log.records w)))
+      redone_kept (Applying applied) is sealed fits some = redoing_kept (Applying applied) is tt refl (λ n flies. none-some n flies)
+      redone_kept Clearing is sealed fits some = redoing_kept Clearing is tt refl (λ n flies. none-some n flies)
       redone_kept Retiring is sealed fits some = absurd sealed
 
       others_none : (j : ℕ) → j < o.lanes → j ≢ k → of_word w (logs.entries image j) ≡ []
@@ -408,7 +473,8 @@ module _ (o : Opening) (mem : Memory) (views : Views) (log : List Entry) (decide
 
       crash_entered : HasSealed (views k).log.phase → logs.seal_word image k ≡ length (views k).log.entries → recovered image o.lanes w ≡ Kept
       crash_entered sealed full =
-          redone_word image o.lanes w k (views k).log.entries inside (entries_read o mem views log decided x image survives k inside sealed full) (whole_entries k inside) of others_none
+          let read = entries_read o mem views log decided x image survives k inside sealed full in
+          redone_word image o.lanes w k (views k).log.entries read.0 inside read.2 read.1 (small_there sealed) of others_none
           ∙ redone_kept (views k).log.phase refl sealed (x.each_lane k inside).phase (some_sealed o mem views log decided x image survives k inside (views k).log.phase refl sealed full)
 
     crash_by_entry : list_any (λ j. is_some_entry (of_word w (logs.entries image j))) (range_with_len 0 o.lanes) ≡ true → recovered image o.lanes w ≡ Kept

@@ -8,7 +8,6 @@ use Rattle.std.proofs.lemmas.List.Folds.{list_any-append, list_any-from_Any}
 use Rattle.pm_view.specs.declared.change.Change.{Change}
 use Rattle.pm_view.specs.Area.{Part, area_word, is_in_area, part_in_area, part_of}
 use Rattle.pm_view.specs.Area.Part.{GenerationWord, SealWord, EntryWord, SlotWord, OtherWord}
-use Rattle.pm_view.specs.Bits.{all_bits}
 use Rattle.pm_view.specs.Changes.{is_in_line}
 use Rattle.pm_view.specs.Held.{is_reserved}
 use Rattle.pm_view.specs.Log.{Phase, Recorded, Final}
@@ -40,15 +39,6 @@ change_fits flies v c Sealing fits there = All-contains (SealChange v 0) v.chang
 change_fits flies v c (Applying applied) fits there = (All-contains (AppliedChange v applied) v.changes c fits.changes there, fits.whole)
 change_fits flies v c Clearing fits there = All-contains (SealChange v (length v.log.entries)) v.changes c fits.changes there
 change_fits flies v c Retiring fits there = All-contains (RetiringChange v) v.changes c fits.changes there
-
-pub change_whole : (v : View) (c : Change) (phase : Phase) → ChangeFits v c phase → c.mask ≡ all_bits
-change_whole v c Idle fits = absurd fits
-change_whole v c (Open slot pair) fits = fits.whole
-change_whole v c Drawn fits = absurd fits
-change_whole v c Sealing fits = fits.whole
-change_whole v c (Applying applied) fits = fits.0.whole
-change_whole v c Clearing fits = fits.whole
-change_whole v c Retiring fits = fits.whole
 
 -- a word of the undo slots
 pub record InSlots (lane w : ℕ) : Type 0 where

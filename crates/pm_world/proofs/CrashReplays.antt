@@ -18,7 +18,7 @@ use Rattle.pm_world.specs.Records.{difference_of}
 use Rattle.pm_world.specs.World.{Views, World}
 use Rattle.pm_world.proofs.Histories.{one_entry}
 use Rattle.pm_world.proofs.Losses.{some_lane, loses-flight}
-use Rattle.pm_world.proofs.Replays.{replayed-same, replayed-last}
+use Rattle.pm_world.proofs.Replays.{replayed-added, replayed-same}
 
 -- a lane passes the test, so some does
 pub lane_some : (p : ℕ → Bool) (n k : ℕ) → k < n → p k ≡ true → list_any p (range_with_len 0 n) ≡ true
@@ -70,10 +70,10 @@ module _ (o : Opening) (mem : Memory) (views : Views) (log : List Entry) (decide
       not_from_true (is_lost o views image e.number) (lane_some (λ k. loses image (views k) e.number) o.lanes e.lane fit.of_lane (lost e.lane e.number fit.of_lane final in_flight)) ∙ sym undecided)
       (cases_Bool (decided e.number)))
 
-  -- where the image has the deciding store of the lane's call, a word of the call is what the call makes of it
-  pub kept_new : (k n w y : ℕ) → k < o.lanes → is_deciding_in image (views k) (views k).log.phase ≡ true → Flies log decided k n (difference_of (views k)) → is_final (difference_of (views k)) w ≡ true
-      → ((z : ℕ) → made_final (difference_of (views k)) w z ≡ y) → replayed (is_kept o views image) log w (slice_index o.words w) ≡ y
-  kept_new k n w y inside deciding f final makes =
+  -- where the image has the deciding store of the lane's call, a word of the call is what the call makes of the settled one
+  pub kept_new : (k n w : ℕ) → k < o.lanes → is_deciding_in image (views k) (views k).log.phase ≡ true → Flies log decided k n (difference_of (views k)) → is_final (difference_of (views k)) w ≡ true
+      → replayed (is_kept o views image) log w (slice_index o.words w) ≡ made_final (difference_of (views k)) w (settled o log decided w)
+  kept_new k n w inside deciding f final =
       let kept : is_kept o views image n ≡ true = kept_from n (λ is_lost_.
       let l = loser n is_lost_ in
       let same : l.flies.entry ≡ f.entry = one_entry 1 log l.flies.entry f.entry x.numbered l.flies.there f.there (l.flies.has_number ∙ sym f.has_number) in
@@ -81,7 +81,17 @@ module _ (o : Opening) (mem : Memory) (views : Views) (log : List Entry) (decide
       let losing = subst (λ j. loses image (views j) n ≡ true) who l.losing in
       let t = and_parts (is_number (views k).number n) (not (is_deciding_in image (views k) (views k).log.phase)) losing in
       false≢true (sym (not_from_true (is_deciding_in image (views k) (views k).log.phase) deciding) ∙ t.1)) in
-      replayed-last (is_kept o views image) 1 log w (slice_index o.words w) y f.entry x.numbered f.there
-      (ap (is_kept o views image) f.has_number ∙ kept)
-      (λ z. ap (λ d. made_final d w z) f.has_difference ∙ makes z)
+      replayed-added (is_kept o views image) decided 1 log w (slice_index o.words w) f.entry x.numbered f.there
+      (ap (is_kept o views image) f.has_number ∙ kept) (ap decided f.has_number ∙ f.undecided)
+      (λ d there before of. ⊎_elim
+      (λ (is_decided : decided d.number ≡ true). kept_from d.number (λ is_lost_. let l = loser d.number is_lost_ in false≢true (sym l.flies.undecided ∙ is_decided)) ∙ sym is_decided)
+      (λ (undecided : decided d.number ≡ false).
+      -- an earlier call of the word that is in flight would be the last one of it
+      let fit = x.each_entry d there in
+      let g = flies_of (Flies log decided d.lane) (views d.lane) d.number (views d.lane).log.phase (x.each_lane d.lane fit.of_lane).phase (fit.in_flight undecided) in
+      let same : g.entry ≡ d = one_entry 1 log g.entry d x.numbered g.there there g.has_number in
+      let earlier : is_final (difference_of (views d.lane)) w ≡ true = ap (λ fs. is_final fs w) (sym g.has_difference) ∙ (ap (λ (c : Entry). is_final c.difference w) same ∙ of) in
+      absurd (false≢true (sym (g.last f.entry w f.there before earlier) ∙ (ap (λ fs. is_final fs w) f.has_difference ∙ final))))
+      (cases_Bool (decided d.number)))
       (λ later there after. f.last later w there (subst (λ m. m < later.number) f.has_number after) final)
+      ∙ ap (λ fs. made_final fs w (settled o log decided w)) f.has_difference

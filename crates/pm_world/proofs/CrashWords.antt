@@ -1,13 +1,15 @@
 -- Which words of an image are as the lanes left them.
-use Rattle.std.proofs.Common.{◌≡◌, ℕ, ◌+◌, ◌-◌, ◌*◌, ◌<◌, ◌≤◌, ◌⊎◌, inl, inr, ⊎_elim, leb, ltb, Bool, true, false, All, Contains, List, [], ◌∷◌, length, take, drop, slice_index, slice_range, get_or, refl, sym, ap, ◌∙◌, subst, arith}
+use Rattle.std.proofs.Common.{◌≡◌, ℕ, ◌+◌, ◌-◌, ◌*◌, ◌<◌, ◌≤◌, ◌⊎◌, inl, inr, ⊎_elim, leb, ltb, Bool, true, false, All, Contains, List, [], ◌∷◌, length, take, drop, slice_index, slice_range, get_or, refl, sym, ap, ◌∙◌, subst, arith, ◌^◌}
 use Rattle.std.proofs.lemmas.Bool.{and_from, false≢true, le-leb, lt-ltb}
 use Rattle.std.proofs.lemmas.List.{ext_get_or, get_or-take, get_or-drop, length-take, length-drop}
-use Rattle.std.proofs.lemmas.List.Elements.{All-head}
+use Rattle.std.proofs.lemmas.List.Elements.{All-head, All-weaker}
+use Rattle.std.specs.Int.{bit_at}
 use Rattle.pm_view.specs.declared.change.Change.{Change}
 use Rattle.pm_view.specs.Area.{area_word, is_in_area, part_of}
+use Rattle.pm_view.specs.Bits.{all_bits}
 use Rattle.pm_view.specs.Area.Part.{EntryWord, SlotWord}
 use Rattle.pm_view.specs.Held.{is_reserved}
-use Rattle.pm_view.specs.Log.{Phase}
+use Rattle.pm_view.specs.Log.{Phase, Final}
 use Rattle.pm_view.specs.Log.Phase.{Idle, Open, Drawn, Sealing, Applying, Clearing, Retiring}
 use Rattle.pm_view.specs.Occupancy.{is_idle}
 use Rattle.pm_view.specs.Rights.{is_written}
@@ -16,26 +18,27 @@ use Rattle.pm_view.specs.View.{View}
 use Rattle.pm_view.proofs.Finding.{whole-taken_back}
 use Rattle.pm_image.specs.Logs.{seal_word, slot_line, undo_slot}
 use Rattle.pm_world.specs.Crash.{IsUndrained, Survives}
-use Rattle.pm_world.specs.Fits.{LaneFits, RecordedWordFits}
+use Rattle.pm_world.specs.Fits.{LaneFits, RecordedWordFits, IsOfEntries}
 use Rattle.pm_world.specs.History.{Entry, Flies, settled}
 use Rattle.pm_world.specs.Memory.{Memory}
 use Rattle.pm_world.specs.Memory.Location.{PoolWord}
 use Rattle.pm_world.specs.Opening.{Opening}
-use Rattle.pm_world.specs.Entries.{is_entered, is_redone, seal_in}
+use Rattle.pm_world.specs.Entries.{is_entered, is_redone, seal_in, AgreeBeside, is_part_entered}
 use Rattle.pm_world.specs.Records.{is_recorded, is_drained_slot, is_logged, records_generation}
 use Rattle.pm_world.specs.World.{Views, World}
-use Rattle.pm_world.proofs.CrashLogs.{ChangeFits, change_fits, change_whole, ChangeLies, InArea, change_lies, slot_part, entry_part, entered_front, entry_of_word, whole_word, RecordOf, record_of, recorded_word, logged_recorded, drained_slot, SealIs}
+use Rattle.pm_world.proofs.CrashLogs.{ChangeFits, change_fits, ChangeLies, InArea, change_lies, slot_part, entry_part, entered_front, entry_of_word, whole_word, RecordOf, record_of, recorded_word, logged_recorded, drained_slot, SealIs}
 use Rattle.pm_world.proofs.Exclusion.{WritesUnder, writes_under, one_writer}
+use Rattle.pm_world.proofs.TakenBits.{IsOfWord, left_beside, left_small}
 use Rattle.pm_world.proofs.Reserved.{IsApart, reserved_apart}
 
--- the word has the old value of an undrained change
+-- an undrained change of the word was taken back: the word has the old value, where the change is of all of it
 record TakenBack (views : Views) (lanes : ℕ) (image : List ℕ) (w : ℕ) : Type 0 where
   change : Change
   lane : ℕ
   of_lane : lane < lanes
   there : Contains (views lane).changes change
   of_word : change.word ≡ w
-  is_old : slice_index image w ≡ change.old
+  is_old : change.mask ≡ all_bits → slice_index image w ≡ change.old
 
 -- of a change of this lane
 pub record OwnTakenBack (v : View) (image : List ℕ) (w : ℕ) : Type 0 where
@@ -102,8 +105,8 @@ module _ (o : Opening) (mem : Memory) (views : Views) (log : List Entry) (decide
       let t = entry_of_word (views k).log.entries w e in
       let at = lane_is k inside in
       ⊎_elim (λ (written : is_written (views k) t.held.word ≡ true). written_under k w inside (subst (λ u. is_written (views k) u ≡ true) t.of written))
-      (λ (own : t.held.word ≡ area_word (views k).lane). let is = t.of in absurd (⊎_elim (λ (front : w < 512). omega arith) (λ (back : 512 + 1024 * o.lanes ≤ w). omega arith) outside))
-      ((x.each_lane k inside).entries.each t.place t.held t.at).of
+      (λ own. let here : t.held.word ≡ area_word (views k).lane = own.0 in let is = t.of in absurd (⊎_elim (λ (front : w < 512). omega arith) (λ (back : 512 + 1024 * o.lanes ≤ w). omega arith) outside))
+      ((x.each_lane k inside).entries.each t.place t.held t.at).may.of
 
   lies : (k : ℕ) (c : Change) → k < o.lanes → Contains (views k).changes c → ChangeLies (views k) c
   lies k c inside there = change_lies (views k) c (views k).log.phase refl (fits_of k c inside there)
@@ -122,6 +125,20 @@ module _ (o : Opening) (mem : Memory) (views : Views) (log : List Entry) (decide
       (λ (other : Logs k c.word ⊎ (is_reserved (views k) c.word ≡ true)). other)
       (lies k c inside there).of
 
+  -- a change in the lane's own area is of a whole word
+  area_whole : (k : ℕ) (c : Change) (phase : Phase) → k < o.lanes → c.word < area_word k + 1024 → ChangeFits (views k) c phase → c.mask ≡ all_bits
+  area_whole k c Idle inside high fits = absurd fits
+  area_whole k c (Open slot pair) inside high fits = fits.whole
+  area_whole k c Drawn inside high fits = absurd fits
+  area_whole k c Sealing inside high fits = fits.whole
+  area_whole k c (Applying applied) inside high fits =
+      let at = lane_is k inside in
+      ⊎_elim (λ (written : is_written (views k) c.word ≡ true). let behind = written_behind k c.word inside written in absurd (omega arith))
+      (λ (own : c.word ≡ area_word (views k).lane). (fits.0.next own).0)
+      (whole_word (views k) (records_generation (Applying applied) (views k)) c.word fits.1 (entered_front applied (views k).log.entries c.word fits.0.of))
+  area_whole k c Clearing inside high fits = fits.whole
+  area_whole k c Retiring inside high fits = fits.whole
+
   -- a change in an area is its lane's
   change_inside : (j k : ℕ) (c : Change) → j < o.lanes → k < o.lanes → Contains (views j).changes c → area_word k ≤ c.word → c.word < area_word k + 1024 → j ≡ k
   change_inside j k c j_inside inside there low high =
@@ -137,11 +154,34 @@ module _ (o : Opening) (mem : Memory) (views : Views) (log : List Entry) (decide
     left_cases w [] undrained left = inl left
     left_cases w (c ∷ lost) undrained left =
         let u = All-head (IsUndrained views o.lanes w) c lost undrained in
-        let whole = change_whole (views u.lane) c (views u.lane).log.phase (fits_of u.lane c u.of_lane u.there) in
-        inr (record { change = c; lane = u.lane; of_lane = u.of_lane; there = u.there; of_word = u.of_word; is_old = left ∙ whole-taken_back c (all_taken_back lost (mem (PoolWord w))) whole })
+        inr (record { change = c; lane = u.lane; of_lane = u.of_lane; there = u.there; of_word = u.of_word; is_old = λ whole. left ∙ whole-taken_back c (all_taken_back lost (mem (PoolWord w))) whole })
 
     word_left : (w : ℕ) → w < length o.words → (slice_index image w ≡ mem (PoolWord w)) ⊎ TakenBack views o.lanes image w
     word_left w inside = let l = survives.each w inside in left_cases w l.lost l.undrained l.left
+
+    -- where each change of the word is of bits that these entries are of, what is left of it agrees with the memory beside them
+    lost_of : (entries : List Final) (w : ℕ) (lost : List Change) → ((j : ℕ) (c : Change) → j < o.lanes → Contains (views j).changes c → c.word ≡ w → IsOfEntries entries c)
+        → All (IsUndrained views o.lanes w) lost → All (IsOfWord entries w) lost
+    lost_of entries w lost of undrained = All-weaker (IsUndrained views o.lanes w) (IsOfWord entries w) (λ c u. (u.of_word, of u.lane c u.of_lane u.there u.of_word)) lost undrained
+
+    pub word_beside : (entries : List Final) (w : ℕ) → w < length o.words → ((j : ℕ) (c : Change) → j < o.lanes → Contains (views j).changes c → c.word ≡ w → IsOfEntries entries c)
+        → AgreeBeside entries w (slice_index image w) (mem (PoolWord w))
+    word_beside entries w inside of i small beside =
+        let l = survives.each w inside in
+        ap (λ x. bit_at x i) l.left ∙ left_beside entries w (mem (PoolWord w)) l.lost (lost_of entries w l.lost of l.undrained) i small beside
+
+    pub word_small : (entries : List Final) (w : ℕ) → w < length o.words → ((j : ℕ) (c : Change) → j < o.lanes → Contains (views j).changes c → c.word ≡ w → IsOfEntries entries c)
+        → is_part_entered entries w ≡ true → mem (PoolWord w) < 2 ^ 64 → slice_index image w < 2 ^ 64
+    word_small entries w inside of part small =
+        let l = survives.each w inside in
+        subst (λ x. x < 2 ^ 64) (sym l.left) (left_small entries w (mem (PoolWord w)) l.lost part small (lost_of entries w l.lost of l.undrained))
+
+    -- a change of a word outside of the areas, and not idle, is of a lane that has it in its log
+    pub changer : (w : ℕ) → (w < 512) ⊎ (512 + 1024 * o.lanes ≤ w) → is_idle (slice_index o.words) o.lanes w ≡ false → (j : ℕ) (c : Change) → j < o.lanes → Contains (views j).changes c → c.word ≡ w → Logs j w
+    changer w outside living j c inside there of =
+        ⊎_elim (λ (logs : Logs j c.word). subst (Logs j) of logs)
+        (λ (own : is_reserved (views j) c.word ≡ true). absurd (false≢true (sym living ∙ subst (λ u. is_idle (slice_index o.words) o.lanes u ≡ true) of (reserved_word j c.word inside own).idle)))
+        (change_outside j c inside there (subst (λ u. (u < 512) ⊎ (512 + 1024 * o.lanes ≤ u)) (sym of) outside))
 
     -- a word outside of the areas, and not idle, that nobody's change is of
     pub word_stays : (w : ℕ) → w < length o.words → (w < 512) ⊎ (512 + 1024 * o.lanes ≤ w) → is_idle (slice_index o.words) o.lanes w ≡ false → ((k : ℕ) (c : Change) → k < o.lanes → Contains (views k).changes c → c.word ≡ w → Logs k w → ⊥)
@@ -166,7 +206,8 @@ module _ (o : Opening) (mem : Memory) (views : Views) (log : List Entry) (decide
         (λ (t : TakenBack views o.lanes image w).
         let is = t.of_word in
         let who : t.lane ≡ k = change_inside t.lane k t.change t.of_lane inside t.there (omega arith) (omega arith) in
-        inr (record { change = t.change; there = subst (λ j. Contains (views j).changes t.change) who t.there; of_word = t.of_word; is_old = t.is_old }))
+        let there : Contains (views k).changes t.change = subst (λ j. Contains (views j).changes t.change) who t.there in
+        inr (record { change = t.change; there = there; of_word = t.of_word; is_old = t.is_old (area_whole k t.change (views k).log.phase inside (omega arith) (fits_of k t.change inside there)) }))
         (word_left w (omega arith))
 
     -- by how far the lane's call has come, which seal the image has where a change of it was taken back

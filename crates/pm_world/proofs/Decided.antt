@@ -4,6 +4,7 @@ use Rattle.std.specs.List.{filter}
 use Rattle.std.proofs.lemmas.Bool.{cases_Bool, cond-false, or_from, or_left, or_parts, or_right, eqb-false, false≢true, false_from_ne_true}
 use Rattle.std.proofs.lemmas.List.Elements.{All-nil}
 use Rattle.std.proofs.lemmas.Option.{none-some, same_Some}
+use Rattle.std.specs.Int.{bit_at}
 use Rattle.pm_view.specs.Area.{area_word, is_in_area}
 use Rattle.pm_view.specs.Counts.{MayCount}
 use Rattle.pm_view.specs.Log.{Log, Final, no_log}
@@ -12,7 +13,7 @@ use Rattle.pm_view.specs.Rights.{is_written}
 use Rattle.pm_view.specs.View.{View}
 use Rattle.pm_world.specs.Course.{flight, flight_in}
 use Rattle.pm_world.specs.Entries.{HasNone, ends_with, is_entered, is_in_log, is_redoing, seal_in, set_word}
-use Rattle.pm_world.specs.Fits.{AppliedChange, EndFits, EntriesFit, LaneFits, LogFits, PhaseFits, SealingFits}
+use Rattle.pm_world.specs.Fits.{AppliedChange, EndFits, EntriesFit, LaneFits, LogFits, PhaseFits, SealingFits, RedoneWord}
 use Rattle.pm_world.specs.History.{Entry, Flies, settled, is_final, made_final}
 use Rattle.pm_world.specs.Laws.{with_view}
 use Rattle.pm_world.specs.Memory.{Memory, IsSame}
@@ -21,15 +22,17 @@ use Rattle.pm_world.specs.Opening.{IsLivingWord, Opening}
 use Rattle.pm_world.specs.Records.{generation_of, is_recorded, pool_entries, difference_of, records_generation, used_slots}
 use Rattle.pm_world.specs.World.{Views, World}
 use Rattle.pm_world.proofs.Apart.{heap_outside, outside_behind}
-use Rattle.pm_world.proofs.Differences.{difference-words, difference-recorded, difference-unrecorded, difference-whole, made_final-whole, pool_entries-final, pool_entries-makes}
+use Rattle.pm_world.proofs.Differences.{difference-words, difference-recorded, difference-unrecorded, pool_entries-final, pool_entries-makes}
 use Rattle.pm_world.proofs.Emptied.{drained_to, drained_fits, drained_lines, drained_stop, emptied_fits, known_word, others_drained, retired_stale, unlogged_word}
 use Rattle.pm_world.proofs.Exclusion.{writes_under, one_writer}
 use Rattle.pm_world.proofs.Histories.{one_entry}
 use Rattle.pm_world.proofs.Numbers.{number_upto}
-use Rattle.pm_world.proofs.Pairs.{difference-written, entries_sealed, entries_whole}
-use Rattle.pm_world.proofs.Replays.{made_final-other, replayed-same, replayed-last}
+use Rattle.pm_world.proofs.Pairs.{difference-written, entries_masked, entries_sealed, in_log_written}
+use Rattle.pm_world.proofs.Replays.{made_final-other, replayed-added, replayed-same}
 use Rattle.pm_world.proofs.Slots.{all_stale}
 use Rattle.pm_world.proofs.Heaps.{all_same}
+use Rattle.pm_world.proofs.Living.{guarded_lives}
+use Rattle.pm_world.proofs.MadeBits.{made_final-agree, made_final-beside}
 use Rattle.pm_world.proofs.Worlds.{heap_here, own, each_lane', unlogged_here, unlogged_else, unlogged_before, entry_kept, entries_kept, room_kept}
 
 or_false : (b : Bool) → (b || false) ≡ b
@@ -59,12 +62,14 @@ module _ (o : Opening) (old : Memory) (views : Views) (log : List Entry) (decide
     settles w other = replayed-same decided' decided log w (slice_index o.words w) (λ e there of. other_number e.number (λ number.
         false≢true (sym other ∙ (ap (λ d. is_final d w) (sym fl.has_difference ∙ ap (λ (x : Entry). x.difference) (the_entry e there number)) ∙ of))))
 
-    -- and one that it is of is what it makes of any word
-    makes : (w : ℕ) → is_final (difference_of v) w ≡ true → (x : ℕ) → settled o log decided' w ≡ made_final (difference_of v) w x
-    makes w final x =
-        replayed-last decided' 1 log w (slice_index o.words w) (made_final (difference_of v) w x) fl.entry world.numbered fl.there (or_right (decided fl.entry.number) (eqb m fl.entry.number) (eq-eqb m fl.entry.number (sym fl.has_number)))
-        (λ z. ap (λ d. made_final d w z) fl.has_difference ∙ made_final-whole (difference_of v) w z x (difference-whole v (entries_whole v mine.entries)) final)
+    -- and one that it is of is what it makes of the word as it was settled
+    makes : (w : ℕ) → is_final (difference_of v) w ≡ true → settled o log decided' w ≡ made_final (difference_of v) w (settled o log decided w)
+    makes w final =
+        replayed-added decided' decided 1 log w (slice_index o.words w) fl.entry world.numbered fl.there (or_right (decided fl.entry.number) (eqb m fl.entry.number) (eq-eqb m fl.entry.number (sym fl.has_number)))
+        (ap decided fl.has_number ∙ fl.undecided)
+        (λ d there before of. other_number d.number (λ number. let has = fl.has_number in absurd (omega arith)))
         (λ d there later. fl.last d w there (let number = fl.has_number in omega arith) final)
+        ∙ ap (λ d. made_final d w (settled o log decided w)) fl.has_difference
 
     others_write : (j w : ℕ) → j < o.lanes → j ≢ k → IsTrue (is_written (views j) w) → is_final (difference_of v) w ≡ false
     others_write j w low other own_word = false_from_ne_true (is_final (difference_of v) w) (λ e. other (one_writer o old j k w world.sound
@@ -108,7 +113,7 @@ module _ (o : Opening) (old : Memory) (views : Views) (log : List Entry) (decide
     recorded_word : (w : ℕ) → is_recorded v.log.records w ≡ true → is_final (pool_entries v) w ≡ false → old (PoolWord w) ≡ settled o log decided' w
     recorded_word w recorded other =
         let final : is_final (difference_of v) w ≡ true = difference-words v w ∙ or_left (is_recorded v.log.records w) (is_final (pool_entries v) w) recorded in
-        known_word o old views log decided world k inside v is new same may w recorded ∙ sym (makes w final 0 ∙ (difference-recorded v w 0 recorded ∙ made_final-other (pool_entries v) w (slice_index v.words w) other))
+        known_word o old views log decided world k inside v is new same may w recorded ∙ sym (makes w final ∙ (difference-recorded v w (settled o log decided w) recorded ∙ made_final-other (pool_entries v) w (slice_index v.words w) other))
 
     -- any other that no log had is settled still
     other_word : (lg : Log) (w : ℕ) → is_redoing v.log.phase ≡ false → IsLivingWord o w → is_recorded v.log.records w ≡ false → is_final (pool_entries v) w ≡ false
@@ -170,26 +175,52 @@ module _ (o : Opening) (old : Memory) (views : Views) (log : List Entry) (decide
       most = omega arith;
       changes = All-nil (AppliedChange view' 0);
       whole = let g = generation in record { front = fits.whole.front; are = fits.whole.are ∙ ap (λ n. fits.whole.front ++ set_word (area_word v.lane) n ∷ []) (sym g); owned = fits.whole.owned };
+      known = λ w part. let t = fits.known w part in record { known = t.known; small = t.small };
       last = let g = generation in let below = fits.below in omega arith;
     }
-
-    -- a word of an entry becomes what the entries make of it, whatever it was
-    redone_word : (w : ℕ) → is_entered v.log.entries w ≡ true → is_in_area v.lane w ≡ false → (x : ℕ) → made_final v.log.entries w x ≡ settled o log (λ n. decided n || eqb fits.number n) w
-    redone_word w listed out x =
-        let flying : flight v ≡ Some fits.number = ap (λ p. flight_in p v.number) sealing ∙ fits.drawn in
-        let whole = entries_whole v mine.entries in
-        let pool : is_final (pool_entries v) w ≡ true = pool_entries-final v w out ∙ listed in
-        let final : is_final (difference_of v) w ≡ true = difference-words v w ∙ or_right (is_recorded v.log.records w) (is_final (pool_entries v) w) pool in
-        sym (makes fits.number fits.flying flying w final x ∙
-        ⊎_elim (λ (recorded : is_recorded v.log.records w ≡ true).
-        difference-recorded v w x recorded ∙ (pool_entries-makes v w (slice_index v.words w) out ∙ made_final-whole v.log.entries w (slice_index v.words w) x whole listed))
-        (λ (not_recorded : is_recorded v.log.records w ≡ false). difference-unrecorded v w x not_recorded ∙ pool_entries-makes v w x out)
-        (cases_Bool (is_recorded v.log.records w)))
 
     own_outside : (w : ℕ) → IsTrue (is_written v w) → is_in_area v.lane w ≡ false
     own_outside w own_word =
         let under = writes_under o old k v w mine.locks own_word in
         ap (λ n. is_in_area n w) mine.lane.lane ∙ outside_behind o.lanes k w inside (world.sound.behind_areas under.0 w under.1)
+
+    -- nobody else's log is of a word that the lane writes
+    others_unlogged : (w : ℕ) → IsTrue (is_written v w) → (j : ℕ) → j < o.lanes → j ≢ k → is_in_log (views j) w ≡ false
+    others_unlogged w own_word j low other =
+        let fits = world.each_lane j low in
+        let under = writes_under o old k v w mine.locks own_word in
+        let out : is_in_area (views j).lane w ≡ false = ap (λ n. is_in_area n w) fits.lane.lane ∙ outside_behind o.lanes j w low (world.sound.behind_areas under.0 w under.1) in
+        false_from_ne_true (is_in_log (views j) w) (λ e. other (one_writer o old j k w world.sound
+        (writes_under o old j (views j) w fits.locks (in_log_written (settled o log decided) (views j) (records_generation (views j).log.phase (views j)) w fits.log fits.entries out e)) under))
+
+    -- a word of an entry becomes what the entries make of it as the memory has it
+    redone_makes : (w : ℕ) → is_entered v.log.entries w ≡ true → IsTrue (is_written v w) → settled o log (λ n. decided n || eqb fits.number n) w ≡ made_final v.log.entries w (old (PoolWord w))
+    redone_makes w listed own_word =
+        let out = own_outside w own_word in
+        let under = writes_under o old k v w mine.locks own_word in
+        let flying : flight v ≡ Some fits.number = ap (λ p. flight_in p v.number) sealing ∙ fits.drawn in
+        let pool : is_final (pool_entries v) w ≡ true = pool_entries-final v w out ∙ listed in
+        let final : is_final (difference_of v) w ≡ true = difference-words v w ∙ or_right (is_recorded v.log.records w) (is_final (pool_entries v) w) pool in
+        makes fits.number fits.flying flying w final
+        ∙ ⊎_elim (λ (recorded : is_recorded v.log.records w ≡ true).
+        difference-recorded v w (settled o log decided w) recorded ∙ (pool_entries-makes v w (slice_index v.words w) out
+        ∙ ap (made_final v.log.entries w) (sym (known_word o old views log decided world k inside v is new same may w recorded))))
+        (λ (not_recorded : is_recorded v.log.records w ≡ false).
+        let was : old (PoolWord w) ≡ settled o log decided w =
+        world.each_word w (guarded_lives o world.sound under.0 w under.1)
+        (unlogged_before o old views log decided world k inside v is view' w (unlogged_word o old views log decided world k inside v is new same may (ap is_redoing sealing) w not_recorded) (others_unlogged w own_word)) in
+        difference-unrecorded v w (settled o log decided w) not_recorded ∙ (pool_entries-makes v w (settled o log decided w) out ∙ ap (made_final v.log.entries w) (sym was)))
+        (cases_Bool (is_recorded v.log.records w))
+
+    redone_word : (w : ℕ) → is_entered v.log.entries w ≡ true → IsTrue (is_written v w) → RedoneWord old (settled o log (λ n. decided n || eqb fits.number n)) view' w
+    redone_word w listed own_word =
+        let masked = entries_masked v mine.entries in
+        let now = redone_makes w listed own_word in
+        record {
+          again = λ x agree. made_final-agree v.log.entries w x (old (PoolWord w)) masked listed
+              (λ i small beside. agree i small beside ∙ (ap (λ n. bit_at n i) now ∙ made_final-beside v.log.entries w (old (PoolWord w)) masked i small beside)) ∙ sym now;
+          rest = sym now;
+        }
 
     -- the seal is drained
     pub seals : (m : ℕ) → v.number ≡ Some m → World o new (with_view views k (record v { changes = []; calls = v.calls + 1; log = record v.log { phase = Applying 0; records = [] } })) log (λ n. decided n || eqb m n)
@@ -201,7 +232,7 @@ module _ (o : Opening) (old : Memory) (views : Views) (log : List Entry) (decide
         subst (λ i. World o new (with_view views k view') log (λ n. decided n || eqb i n)) number
         (decided_world fits.number fits.flying flying sealed
         (drained_fits o old views log decided world k inside v is new same may sealed settled' flies' (sealed_log settled') sealed_entries
-        (λ w again own_word. let out = own_outside w own_word in record { again = redone_word w again out; rest = redone_word w again out (old (PoolWord w)) })
+        (λ w again own_word. redone_word w again own_word)
         (sealed_phase flies'))
         (λ w heap un others.
         let out : is_in_area v.lane w ≡ false = ap (λ n. is_in_area n w) mine.lane.lane ∙ heap_outside o.lanes o.zones k w inside heap.heap in

@@ -19,7 +19,7 @@ pub record IsTakenFrom (words : List ℕ) (f : Final) : Type 0 where
   pub whole : f.mask ≡ all_bits
   pub bits : f.bits ≡ slice_index words f.word
 
-with_all_bits : (x y : ℕ) → with_bits all_bits y x ≡ y
+pub with_all_bits : (x y : ℕ) → with_bits all_bits y x ≡ y
 with_all_bits x y = ap (λ n. bit_or n y) (and_zero_r x) ∙ or_zero_l y
 
 pub made_final-taken : (words : List ℕ) (difference : List Final) (w x : ℕ) → All (IsTakenFrom words) difference → is_final difference w ≡ true → made_final difference w x ≡ slice_index words w
@@ -79,19 +79,6 @@ SetsWhole f = f.mask ≡ all_bits
 
 pub made_whole : (f : Final) (x : ℕ) → SetsWhole f → with_bits f.mask f.bits x ≡ f.bits
 made_whole f x whole = ap (λ m. with_bits m f.bits x) whole ∙ with_all_bits x f.bits
-
--- what entries that set whole words make of a word of theirs does not depend on what it was
-pub made_final-whole : (entries : List Final) (w x y : ℕ) → All SetsWhole entries → is_final entries w ≡ true → made_final entries w x ≡ made_final entries w y
-unfolding made_final
-made_final-whole [] w x y whole e = absurd (false≢true e)
-made_final-whole (f ∷ entries) w x y whole e =
-    let first = All-head SetsWhole f entries whole in
-    let rest = All-tail SetsWhole f entries whole in
-    ⊎_elim (λ (again : is_final entries w ≡ true). made_final-whole entries w (cond (eqb f.word w) (with_bits f.mask f.bits x) x) (cond (eqb f.word w) (with_bits f.mask f.bits y) y) rest again)
-    (λ (never : is_final entries w ≡ false).
-    let here : eqb f.word w ≡ true = ⊎_elim (λ (h : eqb f.word w ≡ true). h) (λ (later : is_final entries w ≡ true). absurd (false≢true (sym never ∙ later))) (or_cases (eqb f.word w) (is_final entries w) e) in
-    ap (made_final entries w) (cond-true _ _ _ here ∙ (made_whole f x first ∙ (sym (made_whole f y first) ∙ sym (cond-true (eqb f.word w) (with_bits f.mask f.bits y) y here)))))
-    (cases_Bool (is_final entries w))
 
 -- the entries of words outside of an area
 abbrev outside : ℕ → List Final → List Final
@@ -163,9 +150,3 @@ difference-unrecorded v w x e =
 -- without entries the difference is that of the records
 pub difference-unentered : (v : View) → v.log.entries ≡ [] → difference_of v ≡ flat_map (finals_of v.words) v.log.records
 difference-unentered v none = ap (λ entries. flat_map (finals_of v.words) v.log.records ++ outside v.lane entries) none ∙ append-nil (flat_map (finals_of v.words) v.log.records)
-
--- it sets whole words
-pub difference-whole : (v : View) → All SetsWhole v.log.entries → All SetsWhole (difference_of v)
-difference-whole v whole = All-append SetsWhole (flat_map (finals_of v.words) v.log.records) (pool_entries v)
-    (All-weaker (IsTakenFrom v.words) SetsWhole (λ f taken. taken.whole) (flat_map (finals_of v.words) v.log.records) (records_taken v.words v.log.records))
-    (All-filter (λ (f : Final). not (is_in_area v.lane f.word)) SetsWhole v.log.entries whole)

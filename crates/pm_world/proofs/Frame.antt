@@ -31,7 +31,7 @@ phase_kept flies flies' v same Idle fits = fits
 phase_kept flies flies' v same (Open slot pair) fits = fits
 phase_kept flies flies' v same Drawn fits = record { number = fits.number; drawn = fits.drawn; flying = same fits.number fits.flying; drained = fits.drained }
 phase_kept flies flies' v same Sealing fits =
-    record { number = fits.number; drawn = fits.drawn; flying = same fits.number fits.flying; changes = fits.changes; whole = fits.whole; below = fits.below }
+    record { number = fits.number; drawn = fits.drawn; flying = same fits.number fits.flying; changes = fits.changes; whole = fits.whole; known = fits.known; below = fits.below }
 phase_kept flies flies' v same (Applying applied) fits = fits
 phase_kept flies flies' v same Clearing fits = fits
 phase_kept flies flies' v same Retiring fits = record { changes = fits.changes; ends = ends_kept flies flies' v same v.number fits.ends }

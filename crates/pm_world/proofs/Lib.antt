@@ -23,6 +23,7 @@ pub mod Locations
 pub mod LockBits
 pub mod Longer
 pub mod Losses
+pub mod MadeBits
 pub mod Numbers
 pub mod OpeningLaw
 pub mod Pairs
@@ -38,6 +39,7 @@ pub mod Sequencing
 pub mod Settling
 pub mod Shapes
 pub mod Slots
+pub mod StepChange
 pub mod StepDrain
 pub mod StepDraw
 pub mod StepFlush
@@ -56,5 +58,6 @@ pub mod StoreSeal
 pub mod StoreSlot
 pub mod StoreWord
 pub mod Stored
+pub mod TakenBits
 pub mod Vacated
 pub mod Worlds

@@ -1,21 +1,26 @@
 -- Which words a lane's entries are of, what its pairs hold, and what stays of both.
-use Rattle.std.proofs.Common.{◌≡◌, ℕ, ◌+◌, ◌*◌, ◌<◌, ◌≤◌, inl, inr, ⊎_elim, true, false, eqb, ◌&&◌, ◌++◌, IsTrue, All, [], ◌∷◌, length, drop, get_or, slice_get, slice_index, Some, refl, sym, ap, ◌∙◌, subst, arith}
-use Rattle.std.proofs.lemmas.Bool.{and_from, le-leb, lt-ltb, and_parts, or_cases, or_parts, or_from, eqb-true, false≢true, false_from_ne_true}
+use Rattle.std.proofs.Common.{◌≡◌, ◌⊎◌, ℕ, ◌+◌, ◌*◌, ◌^◌, ◌<◌, ◌≤◌, inl, inr, ⊎_elim, true, false, not, eqb, ◌&&◌, ◌++◌, IsTrue, All, [], ◌∷◌, length, drop, get_or, slice_get, slice_index, Some, refl, sym, ap, ◌∙◌, subst, arith}
+use Rattle.std.proofs.lemmas.Bool.{and_from, eq-eqb, le-leb, lt-ltb, and_parts, or_cases, or_parts, or_from, eqb-true, false≢true, false_from_ne_true}
 use Rattle.std.proofs.lemmas.List.Elements.{All-weaker}
 use Rattle.std.proofs.lemmas.List.Folds.{Any-from_list_any}
 use Rattle.std.proofs.lemmas.Option.{none-some, slice_get-get_or, slice_get_within}
+use Rattle.std.specs.Int.{bit_at}
+use Rattle.pm_record.specs.declared.redo.Op.{Op}
+use Rattle.pm_record.specs.declared.redo.Op.TheVariants.{Set}
 use Rattle.pm_view.specs.Area.{area_word, is_in_area}
+use Rattle.pm_view.specs.Bits.{all_bits}
 use Rattle.pm_view.specs.Log.{Phase, Log, Final}
 use Rattle.pm_view.specs.Log.Phase.{Idle, Open, Drawn, Sealing, Applying, Clearing, Retiring}
 use Rattle.pm_view.specs.Rights.{is_written}
 use Rattle.pm_view.specs.View.{View}
-use Rattle.pm_world.specs.Entries.{AreWhole, EntryStands, HasNone, IsEnterable, IsEntryAt, applied_in, entry_word, is_entered, is_in_log, is_redoing, is_redone, pair_at, seal_in, set_word}
+use Rattle.pm_world.specs.Entries.{AreWhole, EntryStands, HasNone, IsEnterable, IsEntryAt, applied_in, entry_word, final_by, is_bit_entered, is_entered, is_in_log, is_part_entered, is_redoing, is_redone, pair_at, seal_in, set_word}
 use Rattle.pm_world.specs.Fits.{EntriesFit, LogFits, RedoneWord}
 use Rattle.pm_world.specs.History.{is_final, made_final}
 use Rattle.pm_world.specs.Memory.{Memory}
 use Rattle.pm_world.specs.Memory.Location.{PoolWord}
 use Rattle.pm_world.specs.Records.{is_recorded, is_logged, pool_entries, difference_of}
-use Rattle.pm_world.proofs.Differences.{SetsWhole, difference-words, pool_entries-final, pool_entries-area}
+use Rattle.pm_world.proofs.Differences.{difference-words, pool_entries-final, pool_entries-area}
+use Rattle.pm_world.proofs.MadeBits.{IsMasked, masked_by}
 use Rattle.pm_world.proofs.Slots.{word_recorded, logged_recorded}
 
 -- an entry of the word
@@ -26,8 +31,11 @@ entered_at v w e =
     (t.0, f, slice_get-get_or v.log.entries t.0 f t.2 ∙ ap Some t.3, eqb-true f.word w t.4)
 
 -- a word that an entry is of may be one
-pub entered : (v : View) (w : ℕ) → EntriesFit v → is_entered v.log.entries w ≡ true → IsEnterable v w
-entered v w fits e = let t = entered_at v w e in subst (IsEnterable v) t.3 (fits.each t.0 t.1 t.2).of
+pub entered : (v : View) (w : ℕ) → EntriesFit v → is_entered v.log.entries w ≡ true → IsTrue (is_written v w) ⊎ (w ≡ area_word v.lane)
+entered v w fits e =
+    let t = entered_at v w e in
+    ⊎_elim (λ (written : IsTrue (is_written v t.1.word)). inl (subst (λ u. IsTrue (is_written v u)) t.3 written))
+    (λ own. inr (sym t.3 ∙ own.0)) (fits.each t.0 t.1 t.2).may.of
 
 -- outside of its area it is locked for writing
 pub entered_written : (v : View) (w : ℕ) → EntriesFit v → is_entered v.log.entries w ≡ true → is_in_area v.lane w ≡ false → IsTrue (is_written v w)
@@ -38,9 +46,25 @@ entered_written v w fits e out =
     in_own : (lane : ℕ) → is_in_area lane (area_word lane) ≡ true
     in_own lane = and_from _ _ (le-leb (area_word lane) (area_word lane) (omega arith)) (lt-ltb (area_word lane) (area_word lane + 1024) (omega arith))
 
--- each entry sets a whole word
-pub entries_whole : (v : View) → EntriesFit v → All SetsWhole v.log.entries
-entries_whole v fits = λ n d low. (fits.each n (get_or v.log.entries n d) (slice_get-get_or v.log.entries n d low)).whole
+-- a word of which an entry is in part is one that the lane writes
+pub part_written : (v : View) (w : ℕ) → EntriesFit v → is_part_entered v.log.entries w ≡ true → IsTrue (is_written v w)
+part_written v w fits e =
+    let t = Any-from_list_any (λ (f : Final). eqb f.word w && not (eqb f.mask all_bits)) v.log.entries e in
+    let f : Final = t.1 in
+    let parts = and_parts (eqb f.word w) (not (eqb f.mask all_bits)) t.4 in
+    let stands = fits.each t.0 f (slice_get-get_or v.log.entries t.0 f t.2 ∙ ap Some t.3) in
+    ⊎_elim (λ (written : IsTrue (is_written v f.word)). subst (λ u. IsTrue (is_written v u)) (eqb-true f.word w parts.0) written)
+    (λ (own : (f.word ≡ area_word v.lane) × (stands.op ≡ Set)).
+    let whole : f.mask ≡ all_bits = ap (λ (g : Final). g.mask) stands.is ∙ ap (λ op. (final_by op f.word stands.value).mask) own.1 in
+    absurd (false≢true (ap not (sym (eq-eqb f.mask all_bits whole)) ∙ parts.1)))
+    stands.may.of
+
+-- an entry has bits of its mask alone
+pub stands_masked : (v : View) (i : ℕ) (f : Final) → EntryStands v i f → IsMasked f
+stands_masked v i f fits = subst IsMasked (sym fits.is) (masked_by fits.op f.word fits.value fits.may.word)
+
+pub entries_masked : (v : View) → EntriesFit v → All IsMasked v.log.entries
+entries_masked v fits = λ n d low. stands_masked v n (get_or v.log.entries n d) (fits.each n (get_or v.log.entries n d) (slice_get-get_or v.log.entries n d low))
 
 -- a word of the call's difference is one that the lane writes
 pub difference-written : (settled : ℕ → ℕ) (v : View) (generation w : ℕ) → LogFits settled v generation → EntriesFit v → is_final (difference_of v) w ≡ true → IsTrue (is_written v w)
@@ -81,8 +105,12 @@ none_again Retiring v v' same none = same ∙ none
 module _ (v v' : View) (lane : v'.lane ≡ v.lane) (entries : v'.log.entries ≡ v.log.entries)
     (pairs : (w : ℕ) → 520 + 1024 * v.lane ≤ w → w < 648 + 1024 * v.lane → slice_index v'.words w ≡ slice_index v.words w)
     (written : (w : ℕ) → IsTrue (is_written v w) → IsTrue (is_written v' w)) where
-  enterable_again : (w : ℕ) → IsEnterable v w → IsEnterable v' w
-  enterable_again w = ⊎_elim (λ (own : IsTrue (is_written v w)). inl (written w own)) (λ (generation : w ≡ area_word v.lane). inr (generation ∙ ap area_word (sym lane)))
+  enterable_again : (op : Op) (w x : ℕ) → IsEnterable v op w x → IsEnterable v' op w x
+  enterable_again op w x may = record {
+    of = ⊎_elim (λ (own : IsTrue (is_written v w)). inl (written w own)) (λ (generation : (w ≡ area_word v.lane) × (op ≡ Set)). inr (generation.0 ∙ ap area_word (sym lane), generation.1)) may.of;
+    word = may.word;
+    part = may.part;
+  }
 
   pair_again : (i : ℕ) → i < 64 → pair_at v' i ≡ pair_at v i
   pair_again i low =
@@ -91,7 +119,7 @@ module _ (v v' : View) (lane : v'.lane ≡ v.lane) (entries : v'.log.entries ≡
       λ j. first j ∷ second j ∷ []
 
   pub stands_again : (i : ℕ) (f : Final) → i < 64 → EntryStands v i f → EntryStands v' i f
-  stands_again i f low fits = record { whole = fits.whole; of = enterable_again f.word fits.of; spells = pair_again i low ∙ fits.spells }
+  stands_again i f low fits = record { op = fits.op; value = fits.value; is = fits.is; may = enterable_again fits.op f.word fits.value fits.may; spells = pair_again i low ∙ fits.spells }
 
   -- with another seal
   pub entries_sealed : slice_index v'.words (area_word v'.lane + 1) ≡ seal_in v'.log.phase v' → HasNone v'.log.phase v' → EntriesFit v → EntriesFit v'
@@ -143,14 +171,14 @@ applied_again Retiring v v' same = ap length same
 -- a word that the log would redo, of another memory and history
 pub redone_kept : (mem mem' : Memory) (settled settled' : ℕ → ℕ) (v : View) (w : ℕ) → mem' (PoolWord w) ≡ mem (PoolWord w) → settled' w ≡ settled w → RedoneWord mem settled v w → RedoneWord mem' settled' v w
 redone_kept mem mem' settled settled' v w same settles fits = record {
-  again = λ x. fits.again x ∙ sym settles;
+  again = λ x agree. fits.again x (λ i low beside. agree i low beside ∙ ap (λ n. bit_at n i) settles) ∙ sym settles;
   rest = ap (made_final (drop (applied_in v.log.phase v) v.log.entries) w) same ∙ (fits.rest ∙ sym settles);
 }
 
 -- and of another view with the same log
 pub redone_again : (mem : Memory) (settled : ℕ → ℕ) (v v' : View) (w : ℕ) → v'.log ≡ v.log → RedoneWord mem settled v w → RedoneWord mem settled v' w
 redone_again mem settled v v' w same fits = record {
-  again = λ x. ap (λ (l : Log). made_final l.entries w x) same ∙ fits.again x;
+  again = λ x agree. ap (λ (l : Log). made_final l.entries w x) same ∙ fits.again x (λ i low beside. agree i low (ap (λ (l : Log). is_bit_entered l.entries w i) same ∙ beside));
   rest = ap (λ n. made_final (drop n v'.log.entries) w (mem (PoolWord w))) (ap (λ (l : Log). applied_in l.phase v') same ∙ applied_again v.log.phase v v' (ap (λ (l : Log). l.entries) same))
       ∙ (ap (λ (l : Log). made_final (drop (applied_in v.log.phase v) l.entries) w (mem (PoolWord w))) same ∙ fits.rest);
 }

@@ -82,6 +82,7 @@ phase_again flies v changes calls seen call actions leaves Sealing fits = record
   flying = fits.flying;
   changes = leaves.sealed 0 fits.changes;
   whole = record { front = fits.whole.front; are = fits.whole.are; owned = fits.whole.owned };
+  known = λ w part. let t = fits.known w part in record { known = t.known; small = t.small };
   below = fits.below;
 }
 phase_again flies v changes calls seen call actions leaves (Applying applied) fits = record {
@@ -89,12 +90,14 @@ phase_again flies v changes calls seen call actions leaves (Applying applied) fi
   most = fits.most;
   changes = leaves.applied applied fits.changes;
   whole = record { front = fits.whole.front; are = fits.whole.are; owned = fits.whole.owned };
+  known = λ w part. let t = fits.known w part in record { known = t.known; small = t.small };
   last = fits.last;
 }
 phase_again flies v changes calls seen call actions leaves Clearing fits = record {
   no_records = fits.no_records;
   changes = leaves.sealed (length v.log.entries) fits.changes;
   whole = record { front = fits.whole.front; are = fits.whole.are; owned = fits.whole.owned };
+  known = λ w part. let t = fits.known w part in record { known = t.known; small = t.small };
 }
 phase_again flies v changes calls seen call actions leaves Retiring fits = record { changes = leaves.retiring fits.changes; ends = ends_again flies v changes calls seen call actions v.number fits.ends }
 

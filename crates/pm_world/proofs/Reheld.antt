@@ -20,10 +20,11 @@ use Rattle.pm_world.specs.Opening.{Opening}
 use Rattle.pm_world.specs.World.{Views, World, may_draw}
 use Rattle.pm_world.proofs.Frame.{lane_kept}
 use Rattle.pm_world.proofs.Locations.{IsPlain, plain_counter, plain_lock, plain_pool, plain_stop}
-use Rattle.pm_world.proofs.Pairs.{entries_again, in_log_before, redone_again, redone_kept}
+use Rattle.pm_world.proofs.Pairs.{entries_again, in_log_before, part_written, redone_again, redone_kept}
 use Rattle.pm_world.proofs.Recoursed.{open_again, used_again}
 use Rattle.pm_world.proofs.Relocked.{generation_same}
 use Rattle.pm_world.proofs.Worlds.{at_stop_kept, hold_kept, quiet, room_kept, stop_kept, unlogged_before}
+use Rattle.pm_world.specs.Entries.{is_part_entered}
 
 -- the view with other pictures of the occupancy words, blocks, zones, known words and steps seen
 abbrev pub reheld : View → List ℕ → List ℕ → List ℕ → List Taken → List Taken → List ℕ → List Step → View
@@ -49,32 +50,39 @@ module _ (v : View) (known run_words zone_words : List ℕ) (reserved freed : Li
   ends_reheld flies None ends = ends
   ends_reheld flies (Some n) ends = ends
 
-  phase_reheld : KeepsChanges → (flies : ℕ → List Final → Type 0) (phase : Phase) → PhaseFits flies v phase → PhaseFits flies v' phase
-  phase_reheld still flies Idle fits = record { no_records = fits.no_records; drained = fits.drained }
-  phase_reheld still flies (Open slot pair) fits =
+  -- a word of which an entry is in part is known still
+  abbrev KeepsParts : Type 0
+  KeepsParts = (w : ℕ) → is_part_entered v.log.entries w ≡ true → Contains v.known w → Contains known w
+
+  phase_reheld : KeepsChanges → KeepsParts → (flies : ℕ → List Final → Type 0) (phase : Phase) → PhaseFits flies v phase → PhaseFits flies v' phase
+  phase_reheld still parts flies Idle fits = record { no_records = fits.no_records; drained = fits.drained }
+  phase_reheld still parts flies (Open slot pair) fits =
       record { undrawn = fits.undrawn; short = fits.short; stands = fits.stands; short_pair = fits.short_pair; in_pairs = fits.in_pairs; pair_stands = fits.pair_stands; changes = open_reheld still fits.changes }
-  phase_reheld still flies Drawn fits = record { number = fits.number; drawn = fits.drawn; flying = fits.flying; drained = fits.drained }
-  phase_reheld still flies Sealing fits = record {
+  phase_reheld still parts flies Drawn fits = record { number = fits.number; drawn = fits.drawn; flying = fits.flying; drained = fits.drained }
+  phase_reheld still parts flies Sealing fits = record {
     number = fits.number;
     drawn = fits.drawn;
     flying = fits.flying;
     changes = sealed_reheld 0 fits.changes;
     whole = record { front = fits.whole.front; are = fits.whole.are; owned = fits.whole.owned };
+    known = λ w part. let t = fits.known w part in record { known = parts w part t.known; small = t.small };
     below = fits.below;
   }
-  phase_reheld still flies (Applying applied) fits = record {
+  phase_reheld still parts flies (Applying applied) fits = record {
     no_records = fits.no_records;
     most = fits.most;
-    changes = All-weaker (AppliedChange v applied) (AppliedChange v' applied) (λ c of. record { whole = of.whole; of = of.of; next = of.next }) v.changes fits.changes;
+    changes = All-weaker (AppliedChange v applied) (AppliedChange v' applied) (λ c of. record { of = of.of; bits = of.bits; next = of.next }) v.changes fits.changes;
     whole = record { front = fits.whole.front; are = fits.whole.are; owned = fits.whole.owned };
+    known = λ w part. let t = fits.known w part in record { known = parts w part t.known; small = t.small };
     last = fits.last;
   }
-  phase_reheld still flies Clearing fits = record {
+  phase_reheld still parts flies Clearing fits = record {
     no_records = fits.no_records;
     changes = sealed_reheld (length v.log.entries) fits.changes;
     whole = record { front = fits.whole.front; are = fits.whole.are; owned = fits.whole.owned };
+    known = λ w part. let t = fits.known w part in record { known = parts w part t.known; small = t.small };
   }
-  phase_reheld still flies Retiring fits = record {
+  phase_reheld still parts flies Retiring fits = record {
     changes = All-weaker (RetiringChange v) (RetiringChange v') (λ c of. record { whole = of.whole; of = of.of; before = of.before }) v.changes fits.changes;
     ends = ends_reheld flies v.number fits.ends;
   }
@@ -100,7 +108,7 @@ module _ (v : View) (known run_words zone_words : List ℕ) (reserved freed : Li
     });
     entries = entries_again v v' refl refl (λ w low high. refl) (λ w own_word. own_word) refl refl fits.entries;
     redone = λ w again own_word. redone_moved w (redone_again old settled v v' w refl (fits.redone w again own_word));
-    phase = phase_reheld still flies v.log.phase fits.phase;
+    phase = phase_reheld still (λ w part there. kept w (part_written v w fits.entries part) there) flies v.log.phase fits.phase;
     blocks = blocks;
     first_generation = fits.first_generation;
     last_generation = fits.last_generation;

@@ -45,17 +45,29 @@ replayed-same keep other (e ∷ log) w x same =
     ap (replayed keep log w) one
     ∙ replayed-same keep other log w (cond (other e.number) (made_final e.difference w x) x) (λ d there. same d (suc there.0, (let inside = there.1 in omega arith), there.2))
 
--- the last entry of the word is kept, and makes it y
-pub replayed-last : (keep : ℕ → Bool) (n : ℕ) (log : List Entry) (w x y : ℕ) (e : Entry) → AreNumbered n log → Contains log e → keep e.number ≡ true → ((z : ℕ) → made_final e.difference w z ≡ y)
-    → ((d : Entry) → Contains log d → e.number < d.number → is_final d.difference w ≡ false) → replayed keep log w x ≡ y
+-- the last entry of the word is kept by one test and left out by another, which agree on those before: it makes the word what it makes of what the
+-- other gives
+pub replayed-added : (keep other : ℕ → Bool) (n : ℕ) (log : List Entry) (w x : ℕ) (e : Entry) → AreNumbered n log → Contains log e → keep e.number ≡ true → other e.number ≡ false
+    → ((d : Entry) → Contains log d → d.number < e.number → is_final d.difference w ≡ true → keep d.number ≡ other d.number)
+    → ((d : Entry) → Contains log d → e.number < d.number → is_final d.difference w ≡ false) → replayed keep log w x ≡ made_final e.difference w (replayed other log w x)
 unfolding replayed AreNumbered
-replayed-last keep n [] w x y e numbered (k, inside, at) kept makes last = absurd (omega arith)
-replayed-last keep n (d ∷ log) w x y e numbered (zero, inside, at) kept makes last =
-    let first = numbered.0 in let same = ap (λ (z : Entry). z.number) at in
-    ap (replayed keep log w) (cond-true _ _ _ (ap (λ (z : Entry). keep z.number) at ∙ kept) ∙ (ap (λ (z : Entry). made_final z.difference w x) at ∙ makes x))
-    ∙ replayed-other keep log w y (λ c there. let later = number_from (n + 1) log c numbered.1 there in last c (suc there.0, (let i = there.1 in omega arith), there.2) (omega arith))
-replayed-last keep n (d ∷ log) w x y e numbered (suc k, inside, at) kept makes last =
-    replayed-last keep (n + 1) log w (cond (keep d.number) (made_final d.difference w x) x) y e numbered.1 (k, omega arith, at) kept makes (λ c there. last c (suc there.0, (let i = there.1 in omega arith), there.2))
+replayed-added keep other n [] w x e numbered (k, inside, at) kept left same last = absurd (omega arith)
+replayed-added keep other n (d ∷ log) w x e numbered (zero, inside, at) kept left same last =
+    let first = numbered.0 in let number = ap (λ (z : Entry). z.number) at in
+    let none : (c : Entry) → Contains log c → is_final c.difference w ≡ false = λ c there. let later = number_from (n + 1) log c numbered.1 there in last c (suc there.0, (let i = there.1 in omega arith), there.2) (omega arith) in
+    ap (replayed keep log w) (cond-true _ _ _ (ap keep number ∙ kept) ∙ ap (λ (z : Entry). made_final z.difference w x) at)
+    ∙ (replayed-other keep log w (made_final e.difference w x) none
+    ∙ ap (made_final e.difference w) (sym (ap (replayed other log w) (cond-false _ _ _ (ap other number ∙ left)) ∙ replayed-other other log w x none)))
+replayed-added keep other n (d ∷ log) w x e numbered (suc k, inside, at) kept left same last =
+    let first = numbered.0 in
+    let before = number_from (n + 1) log e numbered.1 (k, omega arith, at) in
+    let one : cond (keep d.number) (made_final d.difference w x) x ≡ cond (other d.number) (made_final d.difference w x) x =
+    ⊎_elim (λ (of : is_final d.difference w ≡ true). ap (λ b. cond b (made_final d.difference w x) x) (same d (0, omega arith, refl) (omega arith) of))
+    (λ (not_of : is_final d.difference w ≡ false). passed_over keep d w x not_of ∙ sym (passed_over other d w x not_of))
+    (cases_Bool (is_final d.difference w)) in
+    ap (replayed keep log w) one
+    ∙ replayed-added keep other (n + 1) log w (cond (other d.number) (made_final d.difference w x) x) e numbered.1 (k, omega arith, at) kept left
+    (λ c there low of. same c (suc there.0, (let i = there.1 in omega arith), there.2) low of) (λ c there after. last c (suc there.0, (let i = there.1 in omega arith), there.2) after)
 
 -- one more entry, that is left out
 pub replayed-more : (keep : ℕ → Bool) (log : List Entry) (e : Entry) (w x : ℕ) → keep e.number ≡ false → replayed keep (log ++ e ∷ []) w x ≡ replayed keep log w x

@@ -1,6 +1,9 @@
 -- How sequences are put together.
-use Rattle.std.proofs.Common.{◌≡◌, ◌+◌, ◌-◌, ℕ, zero, suc, ◌<◌, ◌≤◌, ⊎_elim, List, [], ◌∷◌, ◌++◌, take, length-append, Result, Ok, Err, refl, sym, ap, ◌∙◌, subst, T, IsErr, slice_index, arith, rules}
+use Rattle.std.proofs.Common.{true, eqb, eq-eqb, Contains, ◌≡◌, ◌+◌, ◌-◌, ℕ, zero, suc, ◌<◌, ◌≤◌, ⊎_elim, List, [], ◌∷◌, ◌++◌, take, length-append, Result, Ok, Err, refl, sym, ap, ◌∙◌, subst, T, IsErr, slice_index, arith, rules}
 use Rattle.std.proofs.Math.Nat.{eq-or-lt_of_le}
+use Rattle.std.specs.List.{list_any}
+use Rattle.std.proofs.lemmas.Bool.{or_right}
+use Rattle.std.proofs.lemmas.List.Folds.{list_any_at}
 use Rattle.std.proofs.lemmas.List.{take-append-le}
 use Rattle.pm_memory.proofs.Runs.{stops_after, stops_at_once}
 use Rattle.pm_memory.specs.Runs.{Ran, Stops, MadeOrStopped, Made}
@@ -8,11 +11,14 @@ use Rattle.pm_memory.specs.declared.lane_mem.Stopped.{Stopped}
 use Rattle.pm_view.proofs.Sequences.{after_all-append}
 use Rattle.pm_view.specs.Counts.{IsAtStop, is_counted, counted as calls_in}
 use Rattle.pm_view.specs.Steps.{Step}
-use Rattle.pm_view.specs.Steps.Step.{Load}
+use Rattle.pm_view.specs.Steps.Step.{Load, Or, And}
 use Rattle.pm_view.specs.View.{View}
 use Rattle.pm_view.specs.Views.{after, after_all}
-use Rattle.pm_world.specs.Lawful.{Allowed}
-use Rattle.pm_world.specs.Sequences.{Sequence, nothing, one, in_turn, counted, by_view, by_lane, with_word, looks, Ready, IsReady, Runs}
+use Rattle.pm_record.specs.declared.redo.Op.TheVariants as op
+use Rattle.pm_view.specs.Area.{is_in_area}
+use Rattle.pm_view.specs.Held.{is_known}
+use Rattle.pm_world.specs.Lawful.{Allowed, MayChange}
+use Rattle.pm_world.specs.Sequences.{Sequence, nothing, one, in_turn, counted, by_view, by_lane, with_word, finds_in, looks, Ready, IsReady, Runs}
 
 -- the first of steps that may be made may be made, and the rest from where they end
 pub ready_left : (v : View) (xs ys : List Step) → Ready v (xs ++ ys) → Ready v xs
@@ -105,6 +111,32 @@ runs_one old new s (Err stopped) counts made v seen r = let m = made v seen in s
 pub allowed_one : (old : View → Type 0) (s : Step) → IsReady old (one s) → (v : View) × (old v × Allowed v s)
 unfolding IsReady one Ready
 allowed_one old s r = (r.0, (r.1.0, r.1.1.0))
+
+-- one OR or AND of a word that the view knows, which finds what the view has
+listed_known : (v : View) (w : ℕ) → Contains v.known w → is_known v w ≡ true
+listed_known v w there = or_right (is_in_area v.lane w) (list_any (λ other. eqb other w) v.known) (list_any_at (λ other. eqb other w) v.known there.0 w there.1 (ap (λ other. eqb other w) there.2 ∙ eq-eqb w w refl))
+
+pub may_or : (old : View → Type 0) (w bits : ℕ) → IsReady old (finds_in w (Or w bits)) → (v : View) × (old v × MayChange v op.Or w bits)
+unfolding IsReady finds_in Ready
+may_or old w bits r = (r.0, (r.1.0, r.1.1.0))
+
+pub may_and : (old : View → Type 0) (w bits : ℕ) → IsReady old (finds_in w (And w bits)) → (v : View) × (old v × MayChange v op.And w bits)
+unfolding IsReady finds_in Ready
+may_and old w bits r = (r.0, (r.1.0, r.1.1.0))
+
+pub ran_or : (old new : View → Type 0) (w bits found : ℕ) → MadeOrStopped old new (Or w bits) (Ok found) → Runs {T = Unit {0}} old new (finds_in w (Or w bits)) (Ok tt)
+unfolding Runs finds_in Ready after_all
+ran_or old new w bits found made v seen r =
+    let t = made v seen in subst (λ x. new (after v (Or w bits x))) (t.1 (listed_known v w r.0.known.known)) t.0
+
+pub ran_and : (old new : View → Type 0) (w bits found : ℕ) → MadeOrStopped old new (And w bits) (Ok found) → Runs {T = Unit {0}} old new (finds_in w (And w bits)) (Ok tt)
+unfolding Runs finds_in Ready after_all
+ran_and old new w bits found made v seen r =
+    let t = made v seen in subst (λ x. new (after v (And w bits x))) (t.1 (listed_known v w r.0.known.known)) t.0
+
+pub stopped_in : (old new : View → Type 0) (w : ℕ) (step : ℕ → Step) (stopped : Stopped) → ((found : ℕ) → T (is_counted (step found))) → MadeOrStopped old new step (Err stopped) → Runs {T = Unit {0}} old new (finds_in w step) (Err stopped)
+unfolding Runs finds_in
+stopped_in old new w step stopped counts made v seen r = let m = made v seen in stops_at_once new v (step (slice_index v.words w)) [] (counts (slice_index v.words w)) m.0 m.1
 
 -- one load of a known word
 pub runs_look : (old new : View → Type 0) (w found : ℕ) → Made old new (Load w found) → Runs {T = Unit {0}} old new (looks w) (Ok tt)

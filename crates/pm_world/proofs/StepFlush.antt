@@ -1,5 +1,5 @@
 -- A flush keeps the world.
-use Rattle.std.proofs.Common.{◌≡◌, ℕ, ◌+◌, le_of_eq, Bool, true, false, not, cond, ◌||◌, List, [], ◌∷◌, map, take, refl, sym, ap, ◌∙◌, arith}
+use Rattle.std.proofs.Common.{◌≡◌, ℕ, ◌+◌, le_of_eq, Bool, true, false, not, cond, ◌||◌, List, [], ◌∷◌, map, take, refl, sym, ap, ◌∙◌, arith, subst}
 use Rattle.std.specs.List.{list_any}
 use Rattle.std.proofs.lemmas.List.{length-map}
 use Rattle.std.proofs.lemmas.List.Elements.{All-map, All-weaker}
@@ -11,7 +11,7 @@ use Rattle.pm_view.specs.Steps.Step.{Flush}
 use Rattle.pm_view.specs.View.{View}
 use Rattle.pm_image.specs.Logs.{slot_line}
 use Rattle.pm_world.specs.Entries.{is_entered}
-use Rattle.pm_world.specs.Fits.{OpenChange, RetiringChange, SealChange, AppliedChange}
+use Rattle.pm_world.specs.Fits.{OpenChange, RetiringChange, SealChange, AppliedChange, IsOfEntries}
 use Rattle.pm_world.specs.Laws.{Keeps}
 use Rattle.pm_world.specs.Records.{is_drained_slot, is_logged, generation_of}
 use Rattle.pm_world.proofs.Recoursed.{Leaves, logged_more, open_again, recoursed}
@@ -46,10 +46,16 @@ sealed_marked v v' old c lane of true = record { whole = of.whole; of = of.of �
 sealed_marked v v' old c lane of false = record { whole = of.whole; of = of.of ∙ ap (λ l. area_word l + 1) (sym lane); before = of.before }
 
 applied_marked : (v v' : View) (n : ℕ) (c : Change) → v'.lane ≡ v.lane → generation_of v' ≡ generation_of v → v'.log.entries ≡ v.log.entries → AppliedChange v n c → (b : Bool) → AppliedChange v' n (cond b (record c { flushed = true }) c)
-applied_marked v v' n c lane generation entries of true =
-    record { whole = of.whole; of = ap (λ fs. is_entered (take n fs) c.word) entries ∙ of.of; next = λ here. of.next (here ∙ ap area_word lane) ∙ sym generation }
-applied_marked v v' n c lane generation entries of false =
-    record { whole = of.whole; of = ap (λ fs. is_entered (take n fs) c.word) entries ∙ of.of; next = λ here. of.next (here ∙ ap area_word lane) ∙ sym generation }
+applied_marked v v' n c lane generation entries of true = record {
+  of = ap (λ fs. is_entered (take n fs) c.word) entries ∙ of.of;
+  bits = let b = subst (λ fs. IsOfEntries fs c) (sym entries) of.bits in record { mask = b.mask; bits = b.bits; small = b.small };
+  next = λ here. let t = of.next (here ∙ ap area_word lane) in (t.0, t.1 ∙ sym generation);
+}
+applied_marked v v' n c lane generation entries of false = record {
+  of = ap (λ fs. is_entered (take n fs) c.word) entries ∙ of.of;
+  bits = subst (λ fs. IsOfEntries fs c) (sym entries) of.bits;
+  next = λ here. let t = of.next (here ∙ ap area_word lane) in (t.0, t.1 ∙ sym generation);
+}
 
 pub flushes : (line : ℕ) → Keeps (Flush line)
 flushes line o old new views log decided k v world inside is lawful same =

@@ -1,5 +1,5 @@
 -- A load keeps the world: what it finds is what the lane's view knows, and of a word that tells of a block what the view's locks then say.
-use Rattle.std.proofs.Common.{◌≡◌, ◌≢◌, ℕ, zero, suc, ◌+◌, ◌*◌, ◌/◌, ◌<◌, ◌≤◌, ◌⊎◌, inl, inr, ⊎_elim, le_refl, Bool, true, false, cond, eqb, leb, ltb, ◌&&◌, ◌||◌, IsTrue, All, Any, Contains, List, [], ◌∷◌, ◌++◌, length, map, set, slice_get, slice_index, get_or, Option, Some, None, is_some, refl, sym, ap, ◌∙◌, subst, arith, length-set, get_or-set_same, get_or-set_other}
+use Rattle.std.proofs.Common.{◌≡◌, ◌≢◌, ℕ, zero, suc, ◌+◌, ◌*◌, ◌/◌, ◌^◌, ◌<◌, ◌≤◌, ◌⊎◌, inl, inr, ⊎_elim, le_refl, Bool, true, false, cond, eqb, leb, ltb, ◌&&◌, ◌||◌, IsTrue, All, Any, Contains, List, [], ◌∷◌, ◌++◌, length, map, set, slice_get, slice_index, get_or, Option, Some, None, is_some, refl, sym, ap, ◌∙◌, subst, arith, length-set, get_or-set_same, get_or-set_other}
 use Rattle.std.specs.Int.{bit_at}
 use Rattle.std.specs.List.{list_any}
 use Rattle.std.proofs.lemmas.Bool.{cases_eq, cases_lt, cases_Bool, cond-true, cond-false, and_from, and_parts, le-leb, lt-ltb, and_cases, or_cases, or_left, or_right, leb-false, ltb-false, eqb-true}
@@ -19,7 +19,7 @@ use Rattle.pm_view.specs.Steps.Step.{Load}
 use Rattle.pm_view.specs.View.{View, Lock}
 use Rattle.pm_view.specs.Views.{with_block, with_seen, loaded}
 use Rattle.pm_image.specs.Logs.{undo_slot}
-use Rattle.pm_world.specs.Entries.{AreWhole, entry_word, is_entered, is_redoing, is_redone}
+use Rattle.pm_world.specs.Entries.{AreWhole, entry_word, is_entered, is_redoing, is_redone, KnowsParts}
 use Rattle.pm_world.specs.Fits.{EntriesFit, ShowsHold, LockFits, LaneFits, LogFits, PhaseFits, EndFits, RedoneWord, OpenChange, RetiringChange, SealChange, AppliedChange}
 use Rattle.pm_world.specs.History.{Entry, Flies, settled}
 use Rattle.pm_world.specs.Laws.{Keeps, with_view}
@@ -194,6 +194,12 @@ module _ (o : Opening) (old : Memory) (views : Views) (log : List Entry) (decide
   whole_now : (g : ℕ) → AreWhole v g → AreWhole v' g
   whole_now g whole = whole_again v v' refl refl pairs_same written_now g whole
 
+  -- what is known stays
+  parts_now : KnowsParts v → KnowsParts v'
+  parts_now knows u part =
+      let t = knows u part in
+      record { known = contains-more (is_held v w) w v.known u t.known; small = subst (λ n. n < 2 ^ 64) (sym (agrees u (mine.picture.known u t.known))) t.small }
+
   -- what may be written now and is redone could be written before
   redone_now : (u : ℕ) → IsTrue (is_redone v' u) → IsTrue (is_written v' u) → RedoneWord new (settled o log decided) v' u
   redone_now u again own_word =
@@ -232,20 +238,23 @@ module _ (o : Opening) (old : Memory) (views : Views) (log : List Entry) (decide
     flying = subst (Flies log decided k fits.number) (sym same_difference) fits.flying;
     changes = sealed_now 0 fits.changes;
     whole = whole_now (generation_of v' + 1) (subst (λ g. AreWhole v (g + 1)) (sym generation) fits.whole);
+    known = parts_now fits.known;
     below = subst (λ g. g < generation_limit) (sym generation) fits.below;
   }
   phase_now (Applying applied) e fits =
       let g : records_generation (Applying applied) v' ≡ records_generation (Applying applied) v = generation_same (Applying applied) v v' generation refl in record {
         no_records = fits.no_records;
         most = fits.most;
-        changes = All-weaker (AppliedChange v applied) (AppliedChange v' applied) (λ c of. record { whole = of.whole; of = of.of; next = λ at. of.next at ∙ sym generation }) v.changes fits.changes;
+        changes = All-weaker (AppliedChange v applied) (AppliedChange v' applied) (λ c of. record { of = of.of; bits = of.bits; next = λ at. let n = of.next at in (n.0, n.1 ∙ sym generation) }) v.changes fits.changes;
         whole = whole_now (records_generation (Applying applied) v') (subst (AreWhole v) (sym g) fits.whole);
+        known = parts_now fits.known;
         last = subst (λ n. n ≤ generation_limit) (sym g) fits.last;
       }
   phase_now Clearing e fits = record {
     no_records = fits.no_records;
     changes = sealed_now (length v.log.entries) fits.changes;
     whole = whole_now (generation_of v') (subst (AreWhole v) (sym generation) fits.whole);
+    known = parts_now fits.known;
   }
   phase_now Retiring e fits = record {
     changes = All-weaker (RetiringChange v) (RetiringChange v') (λ c of. record { whole = of.whole; of = of.of; before = of.before ∙ sym generation }) v.changes fits.changes;

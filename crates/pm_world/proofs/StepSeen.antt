@@ -52,7 +52,7 @@ module _ (o : Opening) (old : Memory) (views : Views) (log : List Entry) (decide
         open_ = λ all n d low. let c = all n d low in record { whole = c.whole; of = c.of };
         retiring = λ all n d low. let c = all n d low in record { whole = c.whole; of = c.of; before = c.before };
         sealed = λ before all n d low. let c = all n d low in record { whole = c.whole; of = c.of; before = c.before };
-        applied = λ count all n d low. let c = all n d low in record { whole = c.whole; of = c.of; next = c.next };
+        applied = λ count all n d low. let c = all n d low in record { of = c.of; bits = c.bits; next = c.next };
         fewer = le_refl (length v.changes);
       } in
       let mine : LaneFits o old (settled o log decided) (Flies log decided k) k v = own o old views log decided world k inside v is in

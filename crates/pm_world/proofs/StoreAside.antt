@@ -44,12 +44,12 @@ module _ (o : Opening) (old : Memory) (views : Views) (log : List Entry) (decide
       let apart : (s : ℕ) → s < 64 → (w < 8 * slot_line v.lane s) ⊎ (8 * slot_line v.lane s + 8 ≤ w) = λ s low. inr (omega arith) in
       let fits = subst (PhaseFits (Flies log decided k) v) e mine.phase in
       let others : (u : ℕ) → u ≢ w → slice_index v'.words u ≡ slice_index v.words u = other_word o old views log decided world k inside v is new w x moves in_pool right may room in
-      let still : (u : ℕ) → is_reserved v u ≡ true → is_reserved v' u ≡ true = reserved_still o old views log decided world k inside v is new w x moves in_pool right may room v.log in
+      let still : (u : ℕ) → is_reserved v u ≡ true → is_reserved v' u ≡ true = reserved_still o old views log decided world k inside v is new w x moves in_pool right may room (store_change w (slice_index v.words w) x) v.log in
       let generation : generation_of v' ≡ generation_of v = others (area_word v.lane) (λ same. absurd (omega arith)) in
-      stored_world o old views log decided world k inside v is new w x moves in_pool right may room v.log
-      (stored_fits o old views log decided world k inside v is new w x moves in_pool right may room v.log
+      stored_world o old views log decided world k inside v is new w x moves in_pool right may room (store_change w (slice_index v.words w) x) v.log
+      (stored_fits o old views log decided world k inside v is new w x moves in_pool right may room (store_change w (slice_index v.words w) x) v.log
       (subst (LogFits (settled o log decided) v') (subst (λ p. records_generation p v ≡ records_generation p v') (sym e) (sym generation))
-      (log_beside o old views log decided world k inside v is new w x moves in_pool right may room v.log.phase (records_generation v.log.phase v) apart (used_again v.log.phase v v' refl) mine.log))
+      (log_beside o old views log decided world k inside v is new w x moves in_pool right may room (store_change w (slice_index v.words w) x) v.log.phase (records_generation v.log.phase v) apart (used_again v.log.phase v v' refl) mine.log))
       (entries_again v v' refl refl (λ u low high. others u (λ same. absurd (omega arith))) (λ u own_word. own_word) refl (others (area_word v.lane + 1) (λ same. absurd (omega arith))) mine.entries)
       (λ u again. absurd (false≢true (sym (none_redone v u (ap is_redoing e)) ∙ again)))
       (subst (PhaseFits (Flies log decided k) v') (sym e) (record {

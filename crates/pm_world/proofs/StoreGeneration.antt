@@ -84,11 +84,11 @@ module _ (o : Opening) (old : Memory) (views : Views) (log : List Entry) (decide
         let t = first v.log.phase refl in
         let before : LogFits (settled o log decided) v (generation_of v) = subst (LogFits (settled o log decided) v) t.0 mine.log in
         let earlier : generation_of v ≡ generation_of view' - 1 = omega arith in
-        stored_world o old views log decided world k inside v is new w x moves in_pool right may room (in_phase Retiring v.log)
-        (stored_fits o old views log decided world k inside v is new w x moves in_pool right may room (in_phase Retiring v.log)
+        stored_world o old views log decided world k inside v is new w x moves in_pool right may room (store_change w (slice_index v.words w) x) (in_phase Retiring v.log)
+        (stored_fits o old views log decided world k inside v is new w x moves in_pool right may room (store_change w (slice_index v.words w) x) (in_phase Retiring v.log)
         (subst (LogFits (settled o log decided) view') earlier
-        (log_beside o old views log decided world k inside v is new w x moves in_pool right may room Retiring (generation_of v) (λ s low. inl (omega arith)) (sym t.1) before))
-        (entries_beside o old views log decided world k inside v is new w x moves in_pool right may room Retiring (inl (omega arith))
+        (log_beside o old views log decided world k inside v is new w x moves in_pool right may room (store_change w (slice_index v.words w) x) Retiring (generation_of v) (λ s low. inl (omega arith)) (sym t.1) before))
+        (entries_beside o old views log decided world k inside v is new w x moves in_pool right may room (store_change w (slice_index v.words w) x) Retiring (inl (omega arith))
         (others (area_word v.lane + 1) (λ same. absurd (omega arith)) ∙ (mine.entries.seal ∙ t.2)) ends.unentered)
         (λ u again. absurd (false≢true again))
         (record {

@@ -5,6 +5,8 @@ use Rattle.std.proofs.lemmas.List.{get_or_append_left, get_or_push}
 use Rattle.std.proofs.lemmas.List.Elements.{All-push, All-weaker}
 use Rattle.std.proofs.lemmas.Option.{none-some, slice_get_within}
 use Rattle.pm_record.specs.Redo.{redo_words}
+use Rattle.pm_record.specs.declared.redo.Op.{Op}
+use Rattle.pm_record.specs.declared.redo.Op.TheVariants.{Set, Or, And}
 use Rattle.pm_view.specs.Area.{area_word, part_of}
 use Rattle.pm_view.specs.Area.Part.{EntryWord}
 use Rattle.pm_view.specs.Changes.{store_change}
@@ -14,7 +16,7 @@ use Rattle.pm_view.specs.Log.Phase.{Open}
 use Rattle.pm_view.specs.View.{View}
 use Rattle.pm_view.specs.Views.{changed}
 use Rattle.pm_world.specs.Course.{flight_in}
-use Rattle.pm_world.specs.Entries.{EntryStands, IsEntryAt, entry_word, is_redoing, seal_in, set_word, setting}
+use Rattle.pm_world.specs.Entries.{EntryStands, IsEnterable, IsEntryAt, entry_word, final_by, is_redoing, redo_on, seal_in}
 use Rattle.pm_world.specs.Fits.{EntriesFit, OpenChange, OpenFits, LaneFits, LogFits, PhaseFits}
 use Rattle.pm_world.specs.History.{Entry, Flies, settled}
 use Rattle.pm_world.specs.Laws.{with_view}
@@ -43,10 +45,22 @@ abbrev pub with_entry : Log → List ℕ → Final → Log
 with_entry log slot f = record log { phase = Open slot []; entries = log.entries ++ f ∷ [] }
 
 -- two are one
-pub with_pair-whole : (log : Log) (slot : List ℕ) (word value : ℕ) → with_pair log slot (redo_words (setting word value)) ≡ with_entry log slot (set_word word value)
-with_pair-whole log slot word value =
+pub with_pair-whole : (log : Log) (slot : List ℕ) (op : Op) (word value : ℕ) → with_pair log slot (redo_words (redo_on op word value)) ≡ with_entry log slot (final_by op word value)
+with_pair-whole log slot Set word value =
     let code : (8 * word + 0) % 8 ≡ 0 = omega arith in let place : (8 * word + 0) / 8 ≡ word = omega arith in
     λ i. with_entry log slot (final_of (code i) (place i) value)
+with_pair-whole log slot Or word value =
+    let code : (8 * word + 1) % 8 ≡ 1 = omega arith in let place : (8 * word + 1) / 8 ≡ word = omega arith in
+    λ i. with_entry log slot (final_of (code i) (place i) value)
+with_pair-whole log slot And word value =
+    let code : (8 * word + 2) % 8 ≡ 2 = omega arith in let place : (8 * word + 2) / 8 ≡ word = omega arith in
+    λ i. with_entry log slot (final_of (code i) (place i) value)
+
+-- the word of an entry
+pub final_word : (op : Op) (w x : ℕ) → (final_by op w x).word ≡ w
+final_word Set w x = refl
+final_word Or w x = refl
+final_word And w x = refl
 
 -- the pair in the making is none of the slots
 used-pair : (slot pair pair' : List ℕ) (v v' : View) → length v'.log.records ≡ length v.log.records → used_slots (Open slot pair') v' ≡ used_slots (Open slot pair) v
@@ -84,13 +98,17 @@ module _ (o : Opening) (old : Memory) (views : Views) (log : List Entry) (decide
     logged_same lg records u there = ap (λ rs. is_logged_from (view' lg) 0 rs u) records ∙ logged_upto v (view' lg) 0 v.log.records
         (λ s low. drained_more v.lane s v.changes (store_change w (slice_index v.words w) x) (λ same. let here = adds.at in let short = open_fits.short_pair in let free = adds.free in absurd (omega arith))) u there
 
+    -- what an entry may be of it may be of still
+    enterable_here : (lg : Log) (op : Op) (u y : ℕ) → IsEnterable v op u y → IsEnterable (view' lg) op u y
+    enterable_here lg op u y enterable = record { of = enterable.of; word = enterable.word; part = enterable.part }
+
     -- the entries stand where they stood
     stand : (lg : Log) (i : ℕ) (f : Final) → IsEntryAt v i f → EntryStands (view' lg) i f
     stand lg i f there =
         let fits = mine.entries.each i f there in let low = slice_get_within v.log.entries i f there in let here = adds.at in
         let first : slice_index (view' v.log).words (entry_word v.lane i) ≡ slice_index v.words (entry_word v.lane i) = others (entry_word v.lane i) (λ same. absurd (omega arith)) in
         let second : slice_index (view' v.log).words (entry_word v.lane i + 1) ≡ slice_index v.words (entry_word v.lane i + 1) = others (entry_word v.lane i + 1) (λ same. absurd (omega arith)) in
-        record { whole = fits.whole; of = fits.of; spells = (λ j. first j ∷ second j ∷ []) ∙ fits.spells }
+        record { op = fits.op; value = fits.value; is = fits.is; may = enterable_here lg fits.op f.word fits.value fits.may; spells = (λ j. first j ∷ second j ∷ []) ∙ fits.spells }
 
     unsealed : slice_index (view' v.log).words (area_word v.lane + 1) ≡ 0
     unsealed = others (area_word v.lane + 1) (λ same. let here = adds.at in absurd (omega arith)) ∙ (mine.entries.seal ∙ ap (λ p. seal_in p v) open_)
@@ -111,7 +129,7 @@ module _ (o : Opening) (old : Memory) (views : Views) (log : List Entry) (decide
 
     changes_fit : (lg : Log) → ((u : ℕ) → is_logged v u ≡ true → is_logged (view' lg) u ≡ true) → All (OpenChange (view' lg)) (view' lg).changes
     changes_fit lg logged = All-push (OpenChange (view' lg)) v.changes (store_change w (slice_index v.words w) x)
-        (All-weaker (OpenChange v) (OpenChange (view' lg)) (λ c of. open_again v (view' lg) c refl logged (reserved_still o old views log decided world k inside v is new w x moves in_pool right may room lg c.word) of) v.changes open_fits.changes)
+        (All-weaker (OpenChange v) (OpenChange (view' lg)) (λ c of. open_again v (view' lg) c refl logged (reserved_still o old views log decided world k inside v is new w x moves in_pool right may room (store_change w (slice_index v.words w) x) lg c.word) of) v.changes open_fits.changes)
         (record { whole = refl; of = inr (inl part) })
 
     goes_on : (lg : Log) (pair' : List ℕ) → lg.phase ≡ Open slot pair' → lg.records ≡ v.log.records → EntriesFit (view' lg) → OpenFits (view' lg) slot pair' → World o new (with_view views k (view' lg)) log decided
@@ -119,10 +137,10 @@ module _ (o : Opening) (old : Memory) (views : Views) (log : List Entry) (decide
         let here = adds.at in let short = open_fits.short_pair in let free = adds.free in
         let quiet : is_redoing lg.phase ≡ false = ap is_redoing phase in
         let used : used_slots lg.phase (view' lg) ≡ used_slots v.log.phase v = ap (λ p. used_slots p (view' lg)) phase ∙ (used-pair slot pair pair' v (view' lg) (ap length records) ∙ sym (ap (λ p. used_slots p v) open_)) in
-        stored_world o old views log decided world k inside v is new w x moves in_pool right may room lg
-        (stored_fits o old views log decided world k inside v is new w x moves in_pool right may room lg
+        stored_world o old views log decided world k inside v is new w x moves in_pool right may room (store_change w (slice_index v.words w) x) lg
+        (stored_fits o old views log decided world k inside v is new w x moves in_pool right may room (store_change w (slice_index v.words w) x) lg
         (subst (LogFits (settled o log decided) (view' lg)) (subst (λ p. generation_of v ≡ records_generation p (view' lg)) (sym phase) (sym (generation lg)))
-        (log_with o old views log decided world k inside v is new w x moves in_pool right may room lg (generation_of v) records (λ s low. inl (omega arith)) used open_log))
+        (log_with o old views log decided world k inside v is new w x moves in_pool right may room (store_change w (slice_index v.words w) x) lg (generation_of v) records (λ s low. inl (omega arith)) used open_log))
         entries_fit (λ u again. absurd (false≢true (sym (none_redone (view' lg) u quiet) ∙ again)))
         (subst (PhaseFits (Flies log decided k) (view' lg)) (sym phase) fits)
         (subst (λ g. 1 ≤ g) (sym (generation lg)) mine.first_generation) (subst (λ g. g ≤ generation_limit) (sym (generation lg)) mine.last_generation))
@@ -150,21 +168,28 @@ module _ (o : Opening) (old : Memory) (views : Views) (log : List Entry) (decide
         })
 
     -- the new entry stands in its pair
-    new_stands : length pair + 1 ≡ 2 → (lg : Log) → EntryStands (view' lg) (length v.log.entries) (set_word adds.word adds.value)
+    new_stands : length pair + 1 ≡ 2 → (lg : Log) → EntryStands (view' lg) (length v.log.entries) (final_by adds.op adds.word adds.value)
     new_stands last lg =
         let size = length-append pair (x ∷ []) in
         let from : ℕ = entry_word v.lane (length v.log.entries) in
-        let spells : pair ++ x ∷ [] ≡ redo_words (setting adds.word adds.value) = adds.spells ∙ ap (λ n. take n (redo_words (setting adds.word adds.value))) last in
+        let spells : pair ++ x ∷ [] ≡ redo_words (redo_on adds.op adds.word adds.value) = adds.spells ∙ ap (λ n. take n (redo_words (redo_on adds.op adds.word adds.value))) last in
         let zeroth : from + 0 ≡ from = omega arith in
-        let first : slice_index (view' v.log).words from ≡ slice_index (redo_words (setting adds.word adds.value)) 0 =
+        let first : slice_index (view' v.log).words from ≡ slice_index (redo_words (redo_on adds.op adds.word adds.value)) 0 =
         ap (slice_index (view' v.log).words) (sym zeroth) ∙ (stands 0 (omega (arith, size, last)) ∙ ap (λ ws. slice_index ws 0) spells) in
-        let second : slice_index (view' v.log).words (from + 1) ≡ slice_index (redo_words (setting adds.word adds.value)) 1 = stands 1 (omega (arith, size, last)) ∙ ap (λ ws. slice_index ws 1) spells in
-        record { whole = refl; of = adds.may; spells = λ j. first j ∷ second j ∷ [] }
+        let second : slice_index (view' v.log).words (from + 1) ≡ slice_index (redo_words (redo_on adds.op adds.word adds.value)) 1 = stands 1 (omega (arith, size, last)) ∙ ap (λ ws. slice_index ws 1) spells in
+        let word : adds.word ≡ (final_by adds.op adds.word adds.value).word = sym (final_word adds.op adds.word adds.value) in
+        record {
+          op = adds.op;
+          value = adds.value;
+          is = ap (λ u. final_by adds.op u adds.value) word;
+          may = enterable_here lg adds.op (final_by adds.op adds.word adds.value).word adds.value (subst (λ u. IsEnterable v adds.op u adds.value) word adds.may);
+          spells = (λ j. first j ∷ second j ∷ []) ∙ ap (λ u. redo_words (redo_on adds.op u adds.value)) word;
+        }
 
     -- the entry is whole
-    completes : length pair + 1 ≡ 2 → World o new (with_view views k (view' (with_entry v.log slot (set_word adds.word adds.value)))) log decided
+    completes : length pair + 1 ≡ 2 → World o new (with_view views k (view' (with_entry v.log slot (final_by adds.op adds.word adds.value)))) log decided
     completes last =
-        let e : Final = set_word adds.word adds.value in
+        let e : Final = final_by adds.op adds.word adds.value in
         let lg : Log = with_entry v.log slot e in
         let longer = length-append v.log.entries (e ∷ []) in let free = adds.free in
         goes_on lg [] refl refl
@@ -192,6 +217,6 @@ module _ (o : Opening) (old : Memory) (views : Views) (log : List Entry) (decide
         ⊎_elim (λ (short : length pair + 1 < 2). subst (λ lg. World o new (with_view views k (view' lg)) log decided) (sym (with_pair-short v.log slot (pair ++ x ∷ []) (omega (arith, size, short)))) (grows short))
         (λ (whole : 2 ≤ length pair + 1).
         let last : length pair + 1 ≡ 2 = omega (arith, whole, most) in
-        let spells : pair ++ x ∷ [] ≡ redo_words (setting adds.word adds.value) = adds.spells ∙ ap (λ n. take n (redo_words (setting adds.word adds.value))) last in
-        subst (λ lg. World o new (with_view views k (view' lg)) log decided) (sym (ap (with_pair v.log slot) spells ∙ with_pair-whole v.log slot adds.word adds.value)) (completes last))
+        let spells : pair ++ x ∷ [] ≡ redo_words (redo_on adds.op adds.word adds.value) = adds.spells ∙ ap (λ n. take n (redo_words (redo_on adds.op adds.word adds.value))) last in
+        subst (λ lg. World o new (with_view views k (view' lg)) log decided) (sym (ap (with_pair v.log slot) spells ∙ with_pair-whole v.log slot adds.op adds.word adds.value)) (completes last))
         (cases_lt (length pair + 1) 2)

@@ -1,5 +1,5 @@
 -- A store of the seal: it seals the entries, or clears the seal once all of them are applied.
-use Rattle.std.proofs.Common.{◌≡◌, ◌≢◌, ℕ, ◌+◌, ◌*◌, ◌<◌, ◌≤◌, inl, ⊎_elim, Bool, true, IsTrue, All, List, [], ◌++◌, length, drop, slice_index, Some, refl, sym, ap, ◌∙◌, subst, arith, eq-eqb}
+use Rattle.std.proofs.Common.{◌≡◌, ◌≢◌, ℕ, ◌+◌, ◌*◌, ◌<◌, ◌≤◌, inl, ⊎_elim, Bool, true, IsTrue, All, List, [], ◌++◌, length, drop, slice_index, Some, refl, sym, ap, ◌∙◌, subst, arith, eq-eqb, ◌^◌}
 use Rattle.std.proofs.lemmas.Bool.{and_parts, and_from, cond-true, false≢true}
 use Rattle.std.proofs.lemmas.List.Elements.{All-nil, All-push, All-same}
 use Rattle.std.proofs.lemmas.Option.{none-some}
@@ -13,7 +13,7 @@ use Rattle.pm_view.specs.Rights.{is_written}
 use Rattle.pm_view.specs.View.{View}
 use Rattle.pm_view.specs.Views.{changed}
 use Rattle.pm_world.specs.Course.{flight, flight_in}
-use Rattle.pm_world.specs.Entries.{AreWhole, HasNone, applied_in, is_entered, is_redoing, is_redone, seal_in}
+use Rattle.pm_world.specs.Entries.{AreWhole, HasNone, applied_in, is_entered, is_redoing, is_redone, seal_in, KnowsParts}
 use Rattle.pm_world.specs.Fits.{ApplyingFits, DrawnFits, SealChange, LaneFits, LogFits, PhaseFits, RedoneWord}
 use Rattle.pm_world.specs.History.{Entry, Flies, settled, made_final}
 use Rattle.pm_world.specs.Laws.{with_view}
@@ -26,10 +26,10 @@ use Rattle.pm_world.specs.World.{Views, World}
 use Rattle.pm_world.proofs.Exclusion.{writes_under}
 use Rattle.pm_world.proofs.Frame.{in_phase}
 use Rattle.pm_world.proofs.Locations.{other_pool}
-use Rattle.pm_world.proofs.Pairs.{in_log_before, none_redone}
+use Rattle.pm_world.proofs.Pairs.{in_log_before, none_redone, part_written}
 use Rattle.pm_world.proofs.Parts.{seal_part}
 use Rattle.pm_world.proofs.Recoursed.{logged_upto}
-use Rattle.pm_world.proofs.Stored.{IsOwnWord, other_word, this_word, log_beside, entries_beside, stored_fits, stored_world}
+use Rattle.pm_world.proofs.Stored.{IsOwnWord, other_word, this_word, log_beside, entries_beside, stored_fits, stored_world, known_more}
 use Rattle.pm_world.proofs.StoreGeneration.{difference_same}
 use Rattle.pm_world.proofs.StoreWord.{drained_more}
 use Rattle.pm_world.proofs.Worlds.{own}
@@ -64,6 +64,15 @@ module _ (o : Opening) (old : Memory) (views : Views) (log : List Entry) (decide
         let under = writes_under o old k v u mine.locks own_word in
         let behind = world.sound.behind_areas under.0 u under.1 in let lane = mine.lane.lane in let here = at.1 in absurd (omega arith)
 
+    -- what it knows it knows still
+    knows_still : (phase : Phase) → KnowsParts v → KnowsParts (view' phase)
+    knows_still phase knows u part =
+        let t = knows u part in
+        record {
+          known = known_more o old views log decided world k inside v is new w x moves in_pool right may room u t.known;
+          small = subst (λ n. n < 2 ^ 64) (sym (others u (own_other u (part_written v u mine.entries part)))) t.small;
+        }
+
     same_difference : (phase : Phase) → difference_of (view' phase) ≡ difference_of v
     same_difference phase = ap (λ difference. difference ++ pool_entries v) (difference_same v.words (view' phase).words v.log.records
         (λ slot r i there low. others (r.word + i) (own_other (r.word + i) ((mine.log.each slot r there).each i low).own)))
@@ -80,11 +89,11 @@ module _ (o : Opening) (old : Memory) (views : Views) (log : List Entry) (decide
         → World o new (with_view views k (view' phase)) log decided
     turns phase used records seal none redone fits flies redoes =
         let here = at.1 in let lane = mine.lane.lane in
-        stored_world o old views log decided world k inside v is new w x moves in_pool right may room (in_phase phase v.log)
-        (stored_fits o old views log decided world k inside v is new w x moves in_pool right may room (in_phase phase v.log)
+        stored_world o old views log decided world k inside v is new w x moves in_pool right may room (store_change w (slice_index v.words w) x) (in_phase phase v.log)
+        (stored_fits o old views log decided world k inside v is new w x moves in_pool right may room (store_change w (slice_index v.words w) x) (in_phase phase v.log)
         (subst (LogFits (settled o log decided) (view' phase)) (sym records)
-        (log_beside o old views log decided world k inside v is new w x moves in_pool right may room phase (records_generation v.log.phase v) (λ s low. inl (omega arith)) used mine.log))
-        (entries_beside o old views log decided world k inside v is new w x moves in_pool right may room phase (inl (omega arith)) (now ∙ seal) none)
+        (log_beside o old views log decided world k inside v is new w x moves in_pool right may room (store_change w (slice_index v.words w) x) phase (records_generation v.log.phase v) (λ s low. inl (omega arith)) used mine.log))
+        (entries_beside o old views log decided world k inside v is new w x moves in_pool right may room (store_change w (slice_index v.words w) x) phase (inl (omega arith)) (now ∙ seal) none)
         redone fits
         (subst (λ g. 1 ≤ g) (sym generation) mine.first_generation) (subst (λ g. g ≤ generation_limit) (sym generation) mine.last_generation))
         flies
@@ -108,6 +117,7 @@ module _ (o : Opening) (old : Memory) (views : Views) (log : List Entry) (decide
         flying = subst (Flies log decided k fits.number) (sym (same_difference part Sealing)) fits.flying;
         changes = seal_change part Sealing 0 adds.drained (ap (λ p. seal_in p v) e);
         whole = let whole = subst (λ g. AreWhole v (g + 1)) (sym is_same) adds.whole in record { front = whole.front; are = whole.are; owned = whole.owned };
+        known = knows_still part Sealing adds.known;
         below = subst (λ g. g < generation_limit) (sym is_same) adds.below;
       })
       (λ n flying. sym (ap (λ p. flight_in p v.number) e) ∙ flying)
@@ -136,6 +146,7 @@ module _ (o : Opening) (old : Memory) (views : Views) (log : List Entry) (decide
           no_records = fits.no_records;
           changes = seal_change part Clearing (length v.log.entries) adds.drained (ap (λ p. seal_in p v) e);
           whole = let whole = subst (AreWhole v) (ended ∙ sym is_same) fits.whole in record { front = whole.front; are = whole.are; owned = whole.owned };
+          known = knows_still part Clearing fits.known;
         })
         (λ n flying. absurd (none-some n (sym (ap (λ p. flight_in p v.number) e) ∙ flying)))
         (λ u redone. (and_parts (is_redoing v.log.phase) (is_entered v.log.entries u) redone).1)

@@ -187,14 +187,14 @@ module _ (o : Opening) (old : Memory) (views : Views) (log : List Entry) (decide
 
     changes_fit : (lg : Log) → ((u : ℕ) → is_logged v u ≡ true → is_logged (view' lg) u ≡ true) → All (OpenChange (view' lg)) (view' lg).changes
     changes_fit lg logged = All-push (OpenChange (view' lg)) v.changes (store_change w (slice_index v.words w) x)
-        (All-weaker (OpenChange v) (OpenChange (view' lg)) (λ c of. open_again v (view' lg) c refl logged (reserved_still o old views log decided world k inside v is new w x moves in_pool right may room lg c.word) of) v.changes open_fits.changes)
+        (All-weaker (OpenChange v) (OpenChange (view' lg)) (λ c of. open_again v (view' lg) c refl logged (reserved_still o old views log decided world k inside v is new w x moves in_pool right may room (store_change w (slice_index v.words w) x) lg c.word) of) v.changes open_fits.changes)
         (record { whole = refl; of = inl part })
 
     goes_on : (lg : Log) → LogFits (settled o log decided) (view' lg) (records_generation lg.phase (view' lg)) → EntriesFit (view' lg) → is_redoing lg.phase ≡ false → PhaseFits (Flies log decided k) (view' lg) lg.phase → ((u : ℕ) → is_logged v u ≡ true → is_logged (view' lg) u ≡ true)
         → World o new (with_view views k (view' lg)) log decided
     goes_on lg log_fits entries_fit quiet phase_fits logged =
-        stored_world o old views log decided world k inside v is new w x moves in_pool right may room lg
-        (stored_fits o old views log decided world k inside v is new w x moves in_pool right may room lg log_fits entries_fit
+        stored_world o old views log decided world k inside v is new w x moves in_pool right may room (store_change w (slice_index v.words w) x) lg
+        (stored_fits o old views log decided world k inside v is new w x moves in_pool right may room (store_change w (slice_index v.words w) x) lg log_fits entries_fit
         (λ u again. absurd (false≢true (sym (none_redone (view' lg) u quiet) ∙ again))) phase_fits
         (subst (λ g. 1 ≤ g) (sym (generation lg)) mine.first_generation) (subst (λ g. g ≤ generation_limit) (sym (generation lg)) mine.last_generation))
         (λ n flying. absurd (none-some n (sym (ap (λ p. flight_in p v.number) open_) ∙ flying)))

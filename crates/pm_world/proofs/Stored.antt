@@ -7,7 +7,7 @@ use Rattle.std.specs.List.{list_any}
 use Rattle.std.specs.Int.{bit_at}
 use Rattle.pm_view.specs.Area.{area_word, is_in_area}
 use Rattle.pm_view.specs.Blocks.{descriptor_word, is_chunk}
-use Rattle.pm_view.specs.Changes.{store_change}
+use Rattle.pm_view.specs.declared.change.Change.{Change}
 use Rattle.pm_view.specs.Counts.{MayCount, HasRoom, IsAtStop}
 use Rattle.pm_view.specs.Held.{is_held, is_under, is_reserved}
 use Rattle.pm_view.specs.Log.{Phase, Log, Recorded}
@@ -88,9 +88,6 @@ module _ (o : Opening) (old : Memory) (views : Views) (log : List Entry) (decide
     no_written there = ⊎_elim (λ (own_word : IsOwn o old k w). written_apart o old j k w (views j) world.sound inside other own_word fits_of.locks there)
         (λ (aside : IsAside o views k w). aside_written o views k w world.sound aside old j (views j) fits_of.locks there) owned
 
-  abbrev pub stored_view : Log → View
-  stored_view lg = changed v w x (store_change w (slice_index v.words w) x) lg
-
   pub others_kept : (j : ℕ) → j < o.lanes → j ≢ k → LaneFits o new (settled o log decided) (Flies log decided j) j (views j)
   others_kept j low other =
       let fits = world.each_lane j low in
@@ -126,84 +123,89 @@ module _ (o : Opening) (old : Memory) (views : Views) (log : List Entry) (decide
       (λ (t : WritesUnder o old k w). world.sound.apart t.0 w t.1 (page, (chunk, inl (sym same)))) own_word)
       (λ (aside : IsAside o views k w). false≢true (sym (descriptor_page o.lanes page chunk) ∙ (ap (λ u. is_chunk o.lanes (u / 512)) same ∙ (and_parts (is_chunk o.lanes (w / 512)) _ (and_parts _ _ aside.apart.idle).0).0))) owned
 
-  -- what the lane reserved it has reserved still
-  pub reserved_still : (lg : Log) (u : ℕ) → is_reserved v u ≡ true → is_reserved (stored_view lg) u ≡ true
-  reserved_still lg u = reserved_again (slice_index o.words) o.lanes o.zones v (stored_view lg) u mine.lane.lanes refl refl mine.blocks (λ page chunk. other_word (descriptor_word o.lanes page) (no_descriptor page chunk))
+  -- the word is changed so: by a store of all of it, or of some bits
+  module _ (c : Change) where
+    abbrev pub stored_view : Log → View
+    stored_view lg = changed v w x c lg
 
-  own_held : (lg : Log) → is_held (stored_view lg) w ≡ true
-  own_held lg =
-      let core : Bool = is_in_area v.lane w || list_any (is_under w) v.locks in
-      ⊎_elim (λ (area : is_in_area v.lane w ≡ true). or_left core (is_reserved (stored_view lg) w) (or_left (is_in_area v.lane w) (list_any (is_under w) v.locks) area))
-      (λ (behind : IsTrue (is_written v w) ⊎ IsTrue (is_reserved v w)).
-      ⊎_elim (λ (written : is_written v w ≡ true). or_left core (is_reserved (stored_view lg) w) (or_right (is_in_area v.lane w) (list_any (is_under w) v.locks) (written_under v.locks w written)))
-      (λ (reserved : is_reserved v w ≡ true). or_right core (is_reserved (stored_view lg) w) (reserved_still lg w reserved)) behind) right
+    -- what the lane reserved it has reserved still
+    pub reserved_still : (lg : Log) (u : ℕ) → is_reserved v u ≡ true → is_reserved (stored_view lg) u ≡ true
+    reserved_still lg u = reserved_again (slice_index o.words) o.lanes o.zones v (stored_view lg) u mine.lane.lanes refl refl mine.blocks (λ page chunk. other_word (descriptor_word o.lanes page) (no_descriptor page chunk))
 
-  -- the lane's own facts after the store, from those of its log
-  pub stored_fits : (lg : Log) → LogFits (settled o log decided) (stored_view lg) (records_generation lg.phase (stored_view lg)) → EntriesFit (stored_view lg)
-      → ((u : ℕ) → IsTrue (is_redone (stored_view lg) u) → IsTrue (is_written v u) → RedoneWord new (settled o log decided) (stored_view lg) u)
-      → PhaseFits (Flies log decided k) (stored_view lg) lg.phase
-      → 1 ≤ generation_of (stored_view lg) → generation_of (stored_view lg) ≤ generation_limit → LaneFits o new (settled o log decided) (Flies log decided k) k (stored_view lg)
-  stored_fits lg log_fits entries_fit redone phase_fits first last = record {
-    lane = record { lanes = mine.lane.lanes; zones = mine.lane.zones; lane = mine.lane.lane; size = length-set v.words w x ∙ mine.lane.size };
-    picture = record {
-      area = λ u in_area. word_now u (λ differ. mine.picture.area u in_area);
-      known = λ u known. word_now u (λ differ. mine.picture.known u (known_before u differ known));
-      held = λ u known. ⊎_elim
-          (λ (this : u ≡ w). subst (λ z. is_held (stored_view lg) z ≡ true) (sym this) (own_held lg))
-          (λ (differ : u ≢ w). held_by_parts (is_in_area v.lane u || list_any (is_under u) v.locks) (is_in_area v.lane u || list_any (is_under u) v.locks) (is_reserved v u) (is_reserved (stored_view lg) u) (λ core. core)
-          (reserved_still lg u)
-          (mine.picture.held u (known_before u differ known))) (cases_eq u w);
-      descriptors = λ page chunk. other_word (descriptor_word o.lanes page) (no_descriptor page chunk) ∙ mine.picture.descriptors page chunk;
-    };
-    locks = All-weaker (LockFits o old k) (LockFits o new k) (λ l f. record { shows = subst (λ word. ShowsHold k l.write word) (sym (moves.0 (LockWord l.line) (lock-pool l.line w))) f.shows; found = f.found }) v.locks mine.locks;
-    log = log_fits;
-    entries = entries_fit;
-    redone = redone;
-    phase = phase_fits;
-    blocks = record { of_pool = mine.blocks.of_pool; free = mine.blocks.free; freed = mine.blocks.freed };
-    first_generation = first;
-    last_generation = last;
-    room = let before = room in let e = length-append v.changes (store_change w (slice_index v.words w) x ∷ []) in omega (arith, e, before);
-    within = λ stop e. let due = may stop e in omega arith;
-  }
+    own_held : (lg : Log) → is_held (stored_view lg) w ≡ true
+    own_held lg =
+        let core : Bool = is_in_area v.lane w || list_any (is_under w) v.locks in
+        ⊎_elim (λ (area : is_in_area v.lane w ≡ true). or_left core (is_reserved (stored_view lg) w) (or_left (is_in_area v.lane w) (list_any (is_under w) v.locks) area))
+        (λ (behind : IsTrue (is_written v w) ⊎ IsTrue (is_reserved v w)).
+        ⊎_elim (λ (written : is_written v w ≡ true). or_left core (is_reserved (stored_view lg) w) (or_right (is_in_area v.lane w) (list_any (is_under w) v.locks) (written_under v.locks w written)))
+        (λ (reserved : is_reserved v w ≡ true). or_right core (is_reserved (stored_view lg) w) (reserved_still lg w reserved)) behind) right
 
-  -- the world after it
-  pub stored_world : (lg : Log) → LaneFits o new (settled o log decided) (Flies log decided k) k (stored_view lg)
-      → ((n : ℕ) → flight v ≡ Some n → flight (stored_view lg) ≡ Some n)
-      → ((u : ℕ) → IsLivingWord o u → is_in_log (stored_view lg) u ≡ false → (u ≢ w) × (is_in_log v u ≡ false))
-      → World o new (with_view views k (stored_view lg)) log decided
-  stored_world lg fits flies words =
-      let v' : View = stored_view lg in
-      quiet o old views log decided world k inside v is v' new others_kept fits
-      (λ u heap un others. let t = words u heap un in moves.0 (PoolWord u) (other_pool u w t.0) ∙ world.each_word u heap (unlogged_before o old views log decided world k inside v is v' u t.1 others))
-      (λ line bit one. hold_kept o old views log decided world k inside v is v' line bit (λ there. there) (world.each_line line bit (subst (λ n. bit_at n bit ≡ 1) (moves.0 (LockWord line) (lock-pool line w)) one)))
-      flies (moves.0 CommitCounter (counter-pool w)) (room_kept o old views log decided world k inside v is v' (λ can. can)) refl (heap_here o old views log decided world k inside v is v' new (beside_same old new (PoolWord w) (plain_pool w) moves.0) (record { reserved = refl; freed = refl; zones = refl }))
-      (⊎_elim (λ (unset : old StopWord ≡ 0). inl (moves.0 StopWord (stop-pool w) ∙ unset))
-      (λ (t : (j : ℕ) × (j < o.lanes) × IsAtStop (views j)). inr (at_stop_kept o old views log decided world k inside v is v' (stop_kept v v' refl (omega arith)) t)) world.stop_word)
+    -- the lane's own facts after the store, from those of its log
+    pub stored_fits : (lg : Log) → LogFits (settled o log decided) (stored_view lg) (records_generation lg.phase (stored_view lg)) → EntriesFit (stored_view lg)
+        → ((u : ℕ) → IsTrue (is_redone (stored_view lg) u) → IsTrue (is_written v u) → RedoneWord new (settled o log decided) (stored_view lg) u)
+        → PhaseFits (Flies log decided k) (stored_view lg) lg.phase
+        → 1 ≤ generation_of (stored_view lg) → generation_of (stored_view lg) ≤ generation_limit → LaneFits o new (settled o log decided) (Flies log decided k) k (stored_view lg)
+    stored_fits lg log_fits entries_fit redone phase_fits first last = record {
+      lane = record { lanes = mine.lane.lanes; zones = mine.lane.zones; lane = mine.lane.lane; size = length-set v.words w x ∙ mine.lane.size };
+      picture = record {
+        area = λ u in_area. word_now u (λ differ. mine.picture.area u in_area);
+        known = λ u known. word_now u (λ differ. mine.picture.known u (known_before u differ known));
+        held = λ u known. ⊎_elim
+            (λ (this : u ≡ w). subst (λ z. is_held (stored_view lg) z ≡ true) (sym this) (own_held lg))
+            (λ (differ : u ≢ w). held_by_parts (is_in_area v.lane u || list_any (is_under u) v.locks) (is_in_area v.lane u || list_any (is_under u) v.locks) (is_reserved v u) (is_reserved (stored_view lg) u) (λ core. core)
+            (reserved_still lg u)
+            (mine.picture.held u (known_before u differ known))) (cases_eq u w);
+        descriptors = λ page chunk. other_word (descriptor_word o.lanes page) (no_descriptor page chunk) ∙ mine.picture.descriptors page chunk;
+      };
+      locks = All-weaker (LockFits o old k) (LockFits o new k) (λ l f. record { shows = subst (λ word. ShowsHold k l.write word) (sym (moves.0 (LockWord l.line) (lock-pool l.line w))) f.shows; found = f.found }) v.locks mine.locks;
+      log = log_fits;
+      entries = entries_fit;
+      redone = redone;
+      phase = phase_fits;
+      blocks = record { of_pool = mine.blocks.of_pool; free = mine.blocks.free; freed = mine.blocks.freed };
+      first_generation = first;
+      last_generation = last;
+      room = let before = room in let e = length-append v.changes (c ∷ []) in omega (arith, e, before);
+      within = λ stop e. let due = may stop e in omega arith;
+    }
 
-  -- the log after a store of a word of no slot
-  pub log_with : (lg : Log) (generation : ℕ) → lg.records ≡ v.log.records → ((slot : ℕ) → slot < 64 → (w < 8 * slot_line v.lane slot) ⊎ (8 * slot_line v.lane slot + 8 ≤ w))
-      → used_slots lg.phase (stored_view lg) ≡ used_slots v.log.phase v → LogFits (settled o log decided) v generation → LogFits (settled o log decided) (stored_view lg) generation
-  log_with lg generation records apart used fits =
-      let before : (slot : ℕ) (r : Recorded) → IsRecordAt (stored_view lg) slot r → IsRecordAt v slot r = λ slot r there. ap (λ rs. slice_get rs slot) (sym records) ∙ there in record {
-        most = subst (λ (rs : List Recorded). length rs ≤ 64) (sym records) fits.most;
-        stored = λ slot r there. let at = before slot r there in let low = slice_get_within v.log.records slot r at in let most = fits.most in slot_set_other v.words w x v.lane slot (apart slot (omega arith)) ∙ fits.stored slot r at;
-        each = λ slot r there. let f = fits.each slot r (before slot r there) in record {
-          some = f.some;
-          most = f.most;
-          each = λ i low. let e = f.each i low in record { own = e.own; known = known_more (r.word + i) e.known; before = e.before };
-        };
-        once = λ slot other r q u there there'. fits.once slot other r q u (before slot r there) (before other q there');
-        stale = λ slot u low high there. fits.stale slot u (subst (λ n. n ≤ slot) used low) high (ap undo_of (sym (slot_set_other v.words w x v.lane slot (apart slot high))) ∙ there);
-      }
+    -- the world after it
+    pub stored_world : (lg : Log) → LaneFits o new (settled o log decided) (Flies log decided k) k (stored_view lg)
+        → ((n : ℕ) → flight v ≡ Some n → flight (stored_view lg) ≡ Some n)
+        → ((u : ℕ) → IsLivingWord o u → is_in_log (stored_view lg) u ≡ false → (u ≢ w) × (is_in_log v u ≡ false))
+        → World o new (with_view views k (stored_view lg)) log decided
+    stored_world lg fits flies words =
+        let v' : View = stored_view lg in
+        quiet o old views log decided world k inside v is v' new others_kept fits
+        (λ u heap un others. let t = words u heap un in moves.0 (PoolWord u) (other_pool u w t.0) ∙ world.each_word u heap (unlogged_before o old views log decided world k inside v is v' u t.1 others))
+        (λ line bit one. hold_kept o old views log decided world k inside v is v' line bit (λ there. there) (world.each_line line bit (subst (λ n. bit_at n bit ≡ 1) (moves.0 (LockWord line) (lock-pool line w)) one)))
+        flies (moves.0 CommitCounter (counter-pool w)) (room_kept o old views log decided world k inside v is v' (λ can. can)) refl (heap_here o old views log decided world k inside v is v' new (beside_same old new (PoolWord w) (plain_pool w) moves.0) (record { reserved = refl; freed = refl; zones = refl }))
+        (⊎_elim (λ (unset : old StopWord ≡ 0). inl (moves.0 StopWord (stop-pool w) ∙ unset))
+        (λ (t : (j : ℕ) × (j < o.lanes) × IsAtStop (views j)). inr (at_stop_kept o old views log decided world k inside v is v' (stop_kept v v' refl (omega arith)) t)) world.stop_word)
 
-  pub log_beside : (phase : Phase) (generation : ℕ) → ((slot : ℕ) → slot < 64 → (w < 8 * slot_line v.lane slot) ⊎ (8 * slot_line v.lane slot + 8 ≤ w))
-      → used_slots phase (stored_view (in_phase phase v.log)) ≡ used_slots v.log.phase v → LogFits (settled o log decided) v generation → LogFits (settled o log decided) (stored_view (in_phase phase v.log)) generation
-  log_beside phase generation apart used fits = log_with (in_phase phase v.log) generation refl apart used fits
+    -- the log after a store of a word of no slot
+    pub log_with : (lg : Log) (generation : ℕ) → lg.records ≡ v.log.records → ((slot : ℕ) → slot < 64 → (w < 8 * slot_line v.lane slot) ⊎ (8 * slot_line v.lane slot + 8 ≤ w))
+        → used_slots lg.phase (stored_view lg) ≡ used_slots v.log.phase v → LogFits (settled o log decided) v generation → LogFits (settled o log decided) (stored_view lg) generation
+    log_with lg generation records apart used fits =
+        let before : (slot : ℕ) (r : Recorded) → IsRecordAt (stored_view lg) slot r → IsRecordAt v slot r = λ slot r there. ap (λ rs. slice_get rs slot) (sym records) ∙ there in record {
+          most = subst (λ (rs : List Recorded). length rs ≤ 64) (sym records) fits.most;
+          stored = λ slot r there. let at = before slot r there in let low = slice_get_within v.log.records slot r at in let most = fits.most in slot_set_other v.words w x v.lane slot (apart slot (omega arith)) ∙ fits.stored slot r at;
+          each = λ slot r there. let f = fits.each slot r (before slot r there) in record {
+            some = f.some;
+            most = f.most;
+            each = λ i low. let e = f.each i low in record { own = e.own; known = known_more (r.word + i) e.known; before = e.before };
+          };
+          once = λ slot other r q u there there'. fits.once slot other r q u (before slot r there) (before other q there');
+          stale = λ slot u low high there. fits.stale slot u (subst (λ n. n ≤ slot) used low) high (ap undo_of (sym (slot_set_other v.words w x v.lane slot (apart slot high))) ∙ there);
+        }
 
-  -- the entries after a store of a word of no pair, in this phase
-  pub entries_beside : (phase : Phase) → (w < 520 + 1024 * v.lane) ⊎ (648 + 1024 * v.lane ≤ w) → slice_index (set v.words w x) (area_word v.lane + 1) ≡ seal_in phase (stored_view (in_phase phase v.log))
-      → HasNone phase (stored_view (in_phase phase v.log)) → EntriesFit (stored_view (in_phase phase v.log))
-  entries_beside phase apart seal none = entries_sealed v (stored_view (in_phase phase v.log)) refl refl
-      (λ u low high. other_word u (λ same. ⊎_elim (λ (below : w < 520 + 1024 * v.lane). absurd (omega arith)) (λ (above : 648 + 1024 * v.lane ≤ w). absurd (omega arith)) apart))
-      (λ u own_word. own_word) seal none mine.entries
+    pub log_beside : (phase : Phase) (generation : ℕ) → ((slot : ℕ) → slot < 64 → (w < 8 * slot_line v.lane slot) ⊎ (8 * slot_line v.lane slot + 8 ≤ w))
+        → used_slots phase (stored_view (in_phase phase v.log)) ≡ used_slots v.log.phase v → LogFits (settled o log decided) v generation → LogFits (settled o log decided) (stored_view (in_phase phase v.log)) generation
+    log_beside phase generation apart used fits = log_with (in_phase phase v.log) generation refl apart used fits
+
+    -- the entries after a store of a word of no pair, in this phase
+    pub entries_beside : (phase : Phase) → (w < 520 + 1024 * v.lane) ⊎ (648 + 1024 * v.lane ≤ w) → slice_index (set v.words w x) (area_word v.lane + 1) ≡ seal_in phase (stored_view (in_phase phase v.log))
+        → HasNone phase (stored_view (in_phase phase v.log)) → EntriesFit (stored_view (in_phase phase v.log))
+    entries_beside phase apart seal none = entries_sealed v (stored_view (in_phase phase v.log)) refl refl
+        (λ u low high. other_word u (λ same. ⊎_elim (λ (below : w < 520 + 1024 * v.lane). absurd (omega arith)) (λ (above : 648 + 1024 * v.lane ≤ w). absurd (omega arith)) apart))
+        (λ u own_word. own_word) seal none mine.entries

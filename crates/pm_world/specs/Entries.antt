@@ -1,9 +1,11 @@
--- A lane's redo entries as its view has them: how they stand in its area, and which words they give after a power failure. So far each entry
--- sets a whole word; those that set or clear bits come with the heap, whose bitmaps lanes share.
-use Rattle.std.specs.Prelude.{◌≡◌, ◌⊎◌, ℕ, ◌+◌, ◌*◌, ◌==◌, Bool, true, false, ◌&&◌, ◌||◌, IsTrue, All, List, [], ◌∷◌, ◌++◌, length, slice_get, slice_index, Some}
+-- A lane's redo entries as its view has them: how they stand in its area, and which words they give after a power failure. So far each is of a
+-- word that the lane has for itself; those of words whose bits lanes share come with the heap's bitmaps.
+use Rattle.std.specs.Prelude.{◌≡◌, ◌≢◌, ◌⊎◌, ℕ, ◌+◌, ◌*◌, ◌^◌, ◌<◌, ◌==◌, Bool, true, false, not, ◌&&◌, ◌||◌, IsTrue, All, Contains, List, [], ◌∷◌, ◌++◌, length, slice_get, slice_index, Some}
+use Rattle.std.specs.Int.{bit_at, bit_not, w64}
 use Rattle.std.specs.List.{list_any}
 use Rattle.pm_record.specs.Redo.{redo_words}
-use Rattle.pm_record.specs.declared.redo.Op.TheVariants.{Set}
+use Rattle.pm_record.specs.declared.redo.Op.{Op}
+use Rattle.pm_record.specs.declared.redo.Op.TheVariants.{Set, Or, And}
 use Rattle.pm_record.specs.declared.redo.Redo.{Redo}
 use Rattle.pm_view.specs.Area.{area_word}
 use Rattle.pm_view.specs.Bits.{all_bits}
@@ -21,6 +23,12 @@ entry_word lane i = area_word lane + 8 + 2 * i
 abbrev pub set_word : ℕ → ℕ → Final
 set_word w x = record { word = w; mask = all_bits; bits = x }
 
+-- what an operation makes of a word: all bits become those of x, the bits set in x are set, or those clear in x are cleared
+abbrev pub final_by : Op → ℕ → ℕ → Final
+final_by Set w x = set_word w x
+final_by Or w x = record { word = w; mask = x; bits = x }
+final_by And w x = record { word = w; mask = bit_not w64 x; bits = 0 }
+
 -- the entry that ends a generation: the lane's generation becomes this
 abbrev pub ends_with : View → ℕ → Final
 ends_with v generation = set_word (area_word v.lane) generation
@@ -33,23 +41,48 @@ IsEntryAt v i f = slice_get v.log.entries i ≡ Some f
 abbrev pub pair_at : View → ℕ → List ℕ
 pair_at v i = slice_index v.words (entry_word v.lane i) ∷ slice_index v.words (entry_word v.lane i + 1) ∷ []
 
--- the redo entry that sets a word
-abbrev pub setting : ℕ → ℕ → Redo
-setting w x = record { place = 8 * w; op = Set; value = x }
+-- the redo entry of an operation on a word
+abbrev pub redo_on : Op → ℕ → ℕ → Redo
+redo_on op w x = record { place = 8 * w; op = op; value = x }
 
--- an entry may be of a word that the lane locked for writing, or of its own generation
-abbrev pub IsEnterable : View → ℕ → Type 0
-IsEnterable v w = IsTrue (is_written v w) ⊎ (w ≡ area_word v.lane)
+-- an entry may be of a word that the lane locked for writing, or set its own generation; an OR of all bits is spelled as a SET
+pub record IsEnterable (v : View) (op : Op) (w x : ℕ) : Type 0 where
+  pub of : IsTrue (is_written v w) ⊎ ((w ≡ area_word v.lane) × (op ≡ Set))
+  pub word : x < 2 ^ 64
+  pub part : op ≡ Or → x ≢ all_bits
 
--- the entry sets a word that it may be of, and its pair spells it
+-- the entry is of an operation on a word that it may be of, and its pair spells it
 pub record EntryStands (v : View) (i : ℕ) (f : Final) : Type 0 where
-  pub whole : f.mask ≡ all_bits
-  pub of : IsEnterable v f.word
-  pub spells : pair_at v i ≡ redo_words (setting f.word f.bits)
+  pub op : Op
+  pub value : ℕ
+  pub is : f ≡ final_by op f.word value
+  pub may : IsEnterable v op f.word value
+  pub spells : pair_at v i ≡ redo_words (redo_on op f.word value)
 
 -- one of these entries is of word w
 abbrev pub is_entered : List Final → ℕ → Bool
 is_entered entries w = list_any (λ (f : Final). f.word == w) entries
+
+-- one of these entries is of this bit of word w
+abbrev pub is_bit_entered : List Final → ℕ → ℕ → Bool
+is_bit_entered entries w i = list_any (λ (f : Final). f.word == w && bit_at f.mask i == 1) entries
+
+-- two values of word w agree on the bits that none of these entries is of
+abbrev pub AgreeBeside : List Final → ℕ → ℕ → ℕ → Type 0
+AgreeBeside entries w x y = (i : ℕ) → i < 64 → is_bit_entered entries w i ≡ false → bit_at x i ≡ bit_at y i
+
+-- one of these entries is of some bits of word w, and not of all
+abbrev pub is_part_entered : List Final → ℕ → Bool
+is_part_entered entries w = list_any (λ (f : Final). f.word == w && not (f.mask == all_bits)) entries
+
+-- the lane knows the word, as one of 64 bits
+pub record IsKnownWord (v : View) (w : ℕ) : Type 0 where
+  pub known : Contains v.known w
+  pub small : slice_index v.words w < 2 ^ 64
+
+-- the lane knows each word of which an entry is of some bits, and not of all
+abbrev pub KnowsParts : View → Type 0
+KnowsParts v = (w : ℕ) → is_part_entered v.log.entries w ≡ true → IsKnownWord v w
 
 -- the entries are of words that the lane locked for writing, and the last one, behind them, sets the lane's generation to this
 pub record AreWhole (v : View) (generation : ℕ) : Type 0 where

@@ -17,7 +17,7 @@ use Rattle.pm_view.specs.Rights.{is_written}
 use Rattle.pm_view.specs.View.{View, Lock}
 use Rattle.pm_image.specs.Logs.{undo_slot}
 use Rattle.pm_memory.specs.LockWords.{writer_bit}
-use Rattle.pm_world.specs.Entries.{AreWhole, EntryStands, HasNone, IsEntryAt, applied_in, entry_word, is_entered, is_redone, seal_in}
+use Rattle.pm_world.specs.Entries.{AgreeBeside, AreWhole, EntryStands, HasNone, IsEntryAt, KnowsParts, applied_in, entry_word, is_bit_entered, is_entered, is_part_entered, is_redone, seal_in}
 use Rattle.pm_world.specs.Heap.{BlocksFit}
 use Rattle.pm_world.specs.History.{made_final}
 use Rattle.pm_world.specs.Lawful.{generation_limit}
@@ -78,9 +78,10 @@ pub record EntriesFit (v : View) : Type 0 where
   pub seal : slice_index v.words (area_word v.lane + 1) ≡ seal_in v.log.phase v
   pub none : HasNone v.log.phase v
 
--- a word that the log would redo: with all entries, or with those that are not applied yet, it is what it is to be
+-- A word that the log would redo: with those entries that are not applied yet it is what it is to be, and with all of them whatever has, beside the bits
+-- that they are of, the bits that it is to have.
 pub record RedoneWord (mem : Memory) (settled : ℕ → ℕ) (v : View) (w : ℕ) : Type 0 where
-  pub again : (x : ℕ) → made_final v.log.entries w x ≡ settled w
+  pub again : (x : ℕ) → AgreeBeside v.log.entries w x (settled w) → made_final v.log.entries w x ≡ settled w
   pub rest : made_final (drop (applied_in v.log.phase v) v.log.entries) w (mem (PoolWord w)) ≡ settled w
 
 -- nothing is open
@@ -140,13 +141,20 @@ pub record SealingFits (flies : ℕ → List Final → Type 0) (v : View) : Type
   pub flying : flies number (difference_of v)
   pub changes : All (SealChange v 0) v.changes
   pub whole : AreWhole v (generation_of v + 1)
+  pub known : KnowsParts v
   pub below : generation_of v < generation_limit
 
--- an undrained change while entries are applied: of a word of one that is; of the generation it is that of the next one over the last
+-- the change is of bits that these entries are of, and found a word of 64 bits where they are of some bits of it alone
+pub record IsOfEntries (entries : List Final) (c : Change) : Type 0 where
+  pub mask : c.mask < 2 ^ 64
+  pub bits : (i : ℕ) → i < 64 → is_bit_entered entries c.word i ≡ false → (bit_at c.mask i ≡ 0) × (bit_at c.old i ≡ 0)
+  pub small : is_part_entered entries c.word ≡ true → c.old < 2 ^ 64
+
+-- an undrained change while entries are applied: of bits of a word of one that is; of the generation it is that of the next one over the last
 pub record AppliedChange (v : View) (applied : ℕ) (c : Change) : Type 0 where
-  pub whole : c.mask ≡ all_bits
   pub of : IsTrue (is_entered (take applied v.log.entries) c.word)
-  pub next : c.word ≡ area_word v.lane → c.old + 1 ≡ generation_of v
+  pub bits : IsOfEntries v.log.entries c
+  pub next : c.word ≡ area_word v.lane → (c.mask ≡ all_bits) × (c.old + 1 ≡ generation_of v)
 
 -- so many entries are applied, the seal being drained; no records are left
 pub record ApplyingFits (v : View) (applied : ℕ) : Type 0 where
@@ -154,6 +162,7 @@ pub record ApplyingFits (v : View) (applied : ℕ) : Type 0 where
   pub most : applied ≤ length v.log.entries
   pub changes : All (AppliedChange v applied) v.changes
   pub whole : AreWhole v (records_generation (Applying applied) v)
+  pub known : KnowsParts v
   pub last : records_generation (Applying applied) v ≤ generation_limit
 
 -- the seal 0 is stored, and the generation is the next one
@@ -161,6 +170,7 @@ pub record ClearingFits (v : View) : Type 0 where
   pub no_records : v.log.records ≡ []
   pub changes : All (SealChange v (length v.log.entries)) v.changes
   pub whole : AreWhole v (generation_of v)
+  pub known : KnowsParts v
 
 -- by how far the lane's call has come
 abbrev pub PhaseFits : (ℕ → List Final → Type 0) → View → Phase → Type 0

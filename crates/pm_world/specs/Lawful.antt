@@ -1,9 +1,10 @@
--- Which steps a lane may make, by its own view alone, whatever a load or a lock answers. A step that no line allows comes with its stage:
--- ORs, ANDs and raises.
+-- Which steps a lane may make, by its own view alone, whatever a load or a lock answers. A step that no line allows comes with its stage: raises.
 use Rattle.std.specs.Prelude.{◌≡◌, ◌⊎◌, ℕ, ◌+◌, ◌-◌, ◌*◌, ◌/◌, ◌^◌, ◌<◌, ◌≤◌, ◌==◌, Bool, true, false, IsTrue, All, Any, Contains, List, [], ◌∷◌, ◌++◌, length, take, slice_index, None}
 use Rattle.std.specs.Int.{bit_at}
 use Rattle.std.specs.List.{list_any}
 use Rattle.pm_record.specs.Redo.{redo_words}
+use Rattle.pm_record.specs.declared.redo.Op.{Op}
+use Rattle.pm_record.specs.declared.redo.Op.TheVariants as op
 use Rattle.pm_view.specs.declared.change.Change.{Change}
 use Rattle.pm_view.specs.declared.occ.Occ.{Occ}
 use Rattle.pm_view.specs.declared.occ.Occ.TheVariants.{Run, Zone}
@@ -16,9 +17,9 @@ use Rattle.pm_view.specs.Log.{Phase, Recorded, Final}
 use Rattle.pm_view.specs.Log.Phase.{Idle, Open, Drawn, Applying}
 use Rattle.pm_view.specs.Rights.{is_written}
 use Rattle.pm_view.specs.Steps.{Step}
-use Rattle.pm_view.specs.Steps.Step.{Load, Store, Flush, Drain, TakeWrite, TakeRead, Give, ZoneTry, ZoneGive, Occupied, Occupy, Vacate, Draw, NumberSeen, StopSeen, SetStop, Tell}
+use Rattle.pm_view.specs.Steps.Step.{Load, Store, Or, And, Flush, Drain, TakeWrite, TakeRead, Give, ZoneTry, ZoneGive, Occupied, Occupy, Vacate, Draw, NumberSeen, StopSeen, SetStop, Tell}
 use Rattle.pm_view.specs.View.{View, Lock}
-use Rattle.pm_world.specs.Entries.{AreWhole, IsEnterable, IsEntryAt, entry_word, is_entered, set_word, setting}
+use Rattle.pm_world.specs.Entries.{AreWhole, IsEnterable, IsEntryAt, IsKnownWord, KnowsParts, entry_word, final_by, is_entered, redo_on, set_word}
 use Rattle.pm_world.specs.Heap.{IsOcc, holds_zone, reserves}
 use Rattle.pm_world.specs.Records.{generation_of, slot_word, is_recorded, is_logged, spelled, AreRestored}
 
@@ -48,12 +49,13 @@ pub record AppendsToSlot (v : View) (w x : ℕ) (slot : List ℕ) : Type 0 where
   pub free : length v.log.records < 64
   pub below : generation_of v < generation_limit
 
--- x is the next word of an entry's pair: the pairs are taken in order, and their words too, and the entry sets a word that it may be of
+-- x is the next word of an entry's pair: the pairs are taken in order, and their words too, and the entry is of a word that it may be of
 pub record AppendsToPair (v : View) (w x : ℕ) (pair : List ℕ) : Type 0 where
+  pub op : Op
   pub word : ℕ
   pub value : ℕ
-  pub may : IsEnterable v word
-  pub spells : pair ++ x ∷ [] ≡ take (length pair + 1) (redo_words (setting word value))
+  pub may : IsEnterable v op word value
+  pub spells : pair ++ x ∷ [] ≡ take (length pair + 1) (redo_words (redo_on op word value))
   pub at : w ≡ entry_word v.lane (length v.log.entries) + length pair
   pub free : length v.log.entries < 64
   pub below : generation_of v < generation_limit
@@ -75,10 +77,12 @@ pub record EndsGeneration (v : View) (x : ℕ) : Type 0 where
   pub drained : v.changes ≡ []
   pub unentered : v.log.entries ≡ []
 
--- x seals the entries: it is their number, the last of them ends the generation, and nothing is undrained
+-- x seals the entries: it is their number, the last of them ends the generation, the lane knows what some set or clear bits of, and nothing is
+-- undrained
 pub record SealsEntries (v : View) (x : ℕ) : Type 0 where
   pub all : x ≡ length v.log.entries
   pub whole : AreWhole v (generation_of v + 1)
+  pub known : KnowsParts v
   pub below : generation_of v < generation_limit
   pub drained : v.changes ≡ []
 
@@ -116,6 +120,19 @@ pub record MayStore (v : View) (w x : ℕ) : Type 0 where
   pub inside : w < length v.words
   pub room : HasRoom v.changes
   pub fits : StoreFits v w x v.log.phase (part_of v.lane w)
+
+-- by how far the call has come, and what the word is to the lane: the next entry sets or clears these bits of it
+abbrev pub BitsFit : View → Op → ℕ → ℕ → Phase → Part → Type 0
+BitsFit v op w bits (Applying applied) OtherWord = IsEntryAt v applied (final_by op w bits)
+BitsFit v op w bits phase part = ⊥
+
+-- bits of a word may be set or cleared, which the lane knows, and so what is found there
+pub record MayChange (v : View) (op : Op) (w bits : ℕ) : Type 0 where
+  pub inside : w < length v.words
+  pub room : HasRoom v.changes
+  pub fits : BitsFit v op w bits v.log.phase (part_of v.lane w)
+  pub known : IsKnownWord v w
+  pub word : bits < 2 ^ 64
 
 -- locks are taken before the draw
 abbrev pub IsEarly : Phase → Type 0
@@ -211,6 +228,8 @@ pub record MayGiveZone (v : View) (zone : ℕ) : Type 0 where
 abbrev pub Allowed : View → Step → Type 0
 Allowed v (Load w found) = w < length v.words
 Allowed v (Store w x) = MayStore v w x
+Allowed v (Or w bits found) = MayChange v op.Or w bits
+Allowed v (And w bits found) = MayChange v op.And w bits
 Allowed v (Flush line) = FlushesSome line v.changes
 Allowed v Drain = DropsSome v.changes
 Allowed v (TakeWrite line won) = MayTake v line

@@ -1,16 +1,18 @@
 -- What each step of a lane does to the memory, and what it is answered.
 use Rattle.std.specs.Prelude.{◌≡◌, ◌≢◌, ℕ, ◌+◌, ◌==◌, true, false, not, bit_and, bit_or, Some, None}
 use Rattle.pm_view.specs.Steps.{Step}
-use Rattle.pm_view.specs.Steps.Step.{Load, Store, Flush, Drain, TakeWrite, TakeRead, Give, ZoneTry, ZoneGive, Occupied, Occupy, Vacate, Draw, NumberSeen, StopSeen, SetStop, Tell}
+use Rattle.pm_view.specs.Steps.Step.{Load, Store, Or, And, Flush, Drain, TakeWrite, TakeRead, Give, ZoneTry, ZoneGive, Occupied, Occupy, Vacate, Draw, NumberSeen, StopSeen, SetStop, Tell}
 use Rattle.pm_view.specs.Views.{vacated_word}
 use Rattle.pm_memory.specs.LockWords.{with_writer, with_reader, without_lane}
 use Rattle.pm_world.specs.Memory.{Memory, IsSame, IsSameBut, Becomes, occ_at}
 use Rattle.pm_world.specs.Memory.Location.{PoolWord, LockWord, ZoneLock, CommitCounter, StopWord}
 
--- The step of the lane takes the memory from old to new. ORs, ANDs and raises come with their stages.
+-- The step of the lane takes the memory from old to new. Raises come with their stage.
 abbrev pub Moves : ℕ → Step → Memory → Memory → Type 0
 Moves lane (Load w found) old new = IsSame old new × (found ≡ old (PoolWord w))
 Moves lane (Store w x) old new = Becomes (PoolWord w) x old new
+Moves lane (Or w bits found) old new = Becomes (PoolWord w) (bit_or found bits) old new × (found ≡ old (PoolWord w))
+Moves lane (And w bits found) old new = Becomes (PoolWord w) (bit_and found bits) old new × (found ≡ old (PoolWord w))
 Moves lane (Flush line) old new = IsSame old new
 Moves lane Drain old new = IsSame old new
 Moves lane (TakeWrite line true) old new = IsSameBut (LockWord line) old new × (with_writer lane (old (LockWord line)) ≡ Some (new (LockWord line)))

@@ -6,7 +6,7 @@ use Rattle.pm_view.specs.Counts.{max_changes, unflushed_lines}
 use Rattle.pm_view.specs.Founds.{FoundAlone}
 use Rattle.pm_view.specs.Held.{is_known}
 use Rattle.pm_view.specs.Steps.{Step}
-use Rattle.pm_view.specs.Steps.Step.{Load, Store, Flush, Drain}
+use Rattle.pm_view.specs.Steps.Step.{Load, Store, Or, And, Flush, Drain}
 use Rattle.pm_view.specs.View.{View}
 use Rattle.pm_view.specs.Views.{after, after_all}
 use Rattle.pm_world.specs.Lawful.{Allowed}
@@ -65,6 +65,18 @@ makes_room v = if nat_lt (length v.changes) max_changes then [] else settles v
 -- a store, with room made for its change
 unfoldable pub stores : ℕ → ℕ → Sequence
 stores w x = in_turn makes_room (one (Store w x))
+
+-- a step on a word, which finds there what the view knows
+unfoldable pub finds_in : ℕ → (ℕ → Step) → Sequence
+finds_in w step v = step (slice_index v.words w) ∷ []
+
+-- these bits of a word that the view knows are set, with room made for the change
+unfoldable pub ors : ℕ → ℕ → Sequence
+ors w bits = in_turn makes_room (finds_in w (Or w bits))
+
+-- and its others are cleared
+unfoldable pub ands : ℕ → ℕ → Sequence
+ands w bits = in_turn makes_room (finds_in w (And w bits))
 
 -- what the step answers is known before: a load is of a word that the view knows, and finds that, and any other step finds what it does where
 -- the lane is alone

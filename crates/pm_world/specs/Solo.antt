@@ -38,8 +38,8 @@ some_undrained (c ∷ changes) drops = omega arith
 pub meets_solo : (m : Solo) (v : View) (s : Step) → Sees m v → Allowed v s → CanStep m s
 meets_solo m v (Load w found) sees may = subst (λ (words : List ℕ). w < length words) sees.words may
 meets_solo m v (Store w x) sees may = (subst (λ (words : List ℕ). w < length words) sees.words may.inside, subst HasRoom sees.changes may.room)
-meets_solo m v (Or w bits found) sees may = absurd may
-meets_solo m v (And w bits found) sees may = absurd may
+meets_solo m v (Or w bits found) sees may = (subst (λ (words : List ℕ). w < length words) sees.words may.inside, subst HasRoom sees.changes may.room)
+meets_solo m v (And w bits found) sees may = (subst (λ (words : List ℕ). w < length words) sees.words may.inside, subst HasRoom sees.changes may.room)
 meets_solo m v (Flush line) sees may = subst (FlushesSome line) sees.changes may
 meets_solo m v Drain sees may = subst DrainsSome sees.changes (some_undrained v.changes may)
 meets_solo m v (TakeWrite line won) sees may = let inside = near m v line sees may.inside in (inside, free m v line sees inside may.free)

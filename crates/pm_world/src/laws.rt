@@ -2,7 +2,7 @@ ghost use Rattle.std.specs.Prelude.{ℕ, Bool, Option};
 ghost use Rattle.pm_objects.specs.declared.calls.Operation.{Operation};
 ghost use Rattle.pm_objects.specs.declared.history.Value.{Value};
 ghost use Rattle.pm_view.specs.declared.occ.Occ.{Occ};
-ghost use Rattle.pm_view.specs.Steps.Step.{Load, Store, Flush, Drain, TakeWrite, TakeRead, Give, ZoneTry, ZoneGive, Occupied, Occupy, Vacate, Draw, NumberSeen, StopSeen, SetStop, Tell};
+ghost use Rattle.pm_view.specs.Steps.Step.{Load, Store, Or, And, Flush, Drain, TakeWrite, TakeRead, Give, ZoneTry, ZoneGive, Occupied, Occupy, Vacate, Draw, NumberSeen, StopSeen, SetStop, Tell};
 ghost use Rattle.pm_world.specs.Laws.{Keeps, CrashLaw, AcknowledgedLaw};
 ghost use Rattle.pm_world.specs.Opens.{OpeningLaw};
 
@@ -15,6 +15,8 @@ pub fn recovered_words_open_a_world()
 pub fn lawful_steps_keep_the_world()
     ensures load { (w found : ℕ) → Keeps (Load w found) }
     ensures store { (w x : ℕ) → Keeps (Store w x) }
+    ensures or { (w bits found : ℕ) → Keeps (Or w bits found) }
+    ensures and { (w bits found : ℕ) → Keeps (And w bits found) }
     ensures flush { (line : ℕ) → Keeps (Flush line) }
     ensures drain { Keeps Drain }
     ensures take_write { (line : ℕ) (won : Bool) → Keeps (TakeWrite line won) }

@@ -18,7 +18,7 @@ pub use laws::{
     a_crash_keeps_whole_calls, an_acknowledged_call_is_kept, lawful_steps_keep_the_world,
     recovered_words_open_a_world,
 };
-pub use sequences::{settle, store};
+pub use sequences::{and, or, settle, store};
 
 #[cfg(test)]
 mod tests;

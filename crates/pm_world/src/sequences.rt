@@ -1,5 +1,5 @@
-ghost use Rattle.pm_view.specs.Steps.Step.{Store};
-ghost use Rattle.pm_world.specs.Sequences.{IsReady, Runs, drains, flushes, makes_room, settles, stores};
+ghost use Rattle.pm_view.specs.Steps.Step.{And, Or, Store};
+ghost use Rattle.pm_world.specs.Sequences.{IsReady, Runs, ands, drains, finds_in, flushes, makes_room, ors, settles, stores};
 
 use crate::LawfulMem;
 use pm_memory::Stopped;
@@ -63,4 +63,46 @@ pub fn store<M: LawfulMem>(mem: &mut M, word: u64, value: u64) -> Result<(), Sto
 {
     make_room(mem)?;
     mem.store(word, value)
+}
+
+/// Sets bits of a word that the lane knows, at once.
+fn or_known<M: LawfulMem>(mem: &mut M, word: u64, bits: u64) -> Result<(), Stopped>
+    requires { IsReady (M.at mem.old) (finds_in word (Or word bits)) }
+    ensures { Runs (M.at mem.old) (M.at mem.new) (finds_in word (Or word bits)) result }
+{
+    match mem.or(word, bits) {
+        Ok(_) => Ok(()),
+        Err(stopped) => Err(stopped),
+    }
+}
+
+/// Clears the other bits of a word that the lane knows, at once.
+fn and_known<M: LawfulMem>(mem: &mut M, word: u64, bits: u64) -> Result<(), Stopped>
+    requires { IsReady (M.at mem.old) (finds_in word (And word bits)) }
+    ensures { Runs (M.at mem.old) (M.at mem.new) (finds_in word (And word bits)) result }
+{
+    match mem.and(word, bits) {
+        Ok(_) => Ok(()),
+        Err(stopped) => Err(stopped),
+    }
+}
+
+/// Sets these bits of a word. Where as many changes are undrained as may be, they are made persistent first.
+#[tactic(auto, using(crate::proofs::Sequencing::runs_then, crate::proofs::Sequencing::runs_err, crate::proofs::Sequencing::ready_first, crate::proofs::Sequencing::ready_then), unfolding(crate::specs::Sequences::ors))]
+pub fn or<M: LawfulMem>(mem: &mut M, word: u64, bits: u64) -> Result<(), Stopped>
+    requires { IsReady (M.at mem.old) (ors word bits) }
+    ensures { Runs (M.at mem.old) (M.at mem.new) (ors word bits) result }
+{
+    make_room(mem)?;
+    or_known(mem, word, bits)
+}
+
+/// Clears the other bits of a word. Where as many changes are undrained as may be, they are made persistent first.
+#[tactic(auto, using(crate::proofs::Sequencing::runs_then, crate::proofs::Sequencing::runs_err, crate::proofs::Sequencing::ready_first, crate::proofs::Sequencing::ready_then), unfolding(crate::specs::Sequences::ands))]
+pub fn and<M: LawfulMem>(mem: &mut M, word: u64, bits: u64) -> Result<(), Stopped>
+    requires { IsReady (M.at mem.old) (ands word bits) }
+    ensures { Runs (M.at mem.old) (M.at mem.new) (ands word bits) result }
+{
+    make_room(mem)?;
+    and_known(mem, word, bits)
 }

@@ -6,7 +6,10 @@ use Rattle.pm_redo.specs.Sequences.{applies}
 use Rattle.pm_redo.proofs.OneLane.{both, may_apply}
 use Rattle.pm_redo.proofs.tests.applies.Goals as goal
 
-pub apply_all-requires-clause-ready : goal.apply_all-requires-clause-ready
-apply_all-requires-clause-ready g c =
+pub apply_all-requires : goal.apply_all-requires
+apply_all-requires g c =
     let items : c.push-2.new.self.items ≡ both = search rules in
-    subst (λ (es : List Redo). IsReady (Sees c.in_ok-lane.lane.memory) (applies es)) (sym items) (may_apply c.in_ok-lane.lane.memory c.in_ok-lane.ensures.held c.in_ok-lane.ensures.whole c.in_ok-lane.ensures.generation)
+    record {
+      ready =
+          subst (λ (es : List Redo). IsReady (Sees c.in_ok-lane.lane.memory) (applies es)) (sym items) (may_apply c.in_ok-lane.lane.memory c.in_ok-lane.ensures.held c.in_ok-lane.ensures.whole c.in_ok-lane.ensures.generation);
+    }

@@ -1,3 +1,4 @@
+use Rattle.pm_world.proofs.StepChange.{clears, sets}
 use Rattle.pm_world.proofs.StepDrain.{drains}
 use Rattle.pm_world.proofs.StepDraw.{draws}
 use Rattle.pm_world.proofs.StepFlush.{flushes}
@@ -14,6 +15,8 @@ pub returns : goal.returns
 returns c = record {
   load = loads;
   store = stores;
+  or = sets;
+  and = clears;
   flush = flushes;
   drain = drains;
   take_write = takes_write;

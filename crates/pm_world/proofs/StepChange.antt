@@ -1,0 +1,87 @@
+-- An OR and an AND of a word keep the world: the next entry sets or clears these bits.
+use Rattle.std.proofs.Common.{◌≡◌, ℕ, ◌+◌, ◌-◌, ◌<◌, ⊎_elim, IsTrue, List, length, true, eqb, bit_and, bit_or, refl, sym, ap, ◌∙◌, subst, arith, eq-eqb}
+use Rattle.std.proofs.lemmas.Bool.{and_from, cond-true, le-leb, lt-ltb}
+use Rattle.pm_view.specs.Area.{Part, area_word, is_in_area, part_of}
+use Rattle.pm_view.specs.Area.Part.{GenerationWord, SealWord, EntryWord, SlotWord, OtherWord}
+use Rattle.pm_view.specs.Changes.{and_change, or_change}
+use Rattle.pm_view.specs.Log.{Final, Phase, log_changed}
+use Rattle.pm_view.specs.Log.Phase.{Idle, Open, Drawn, Sealing, Applying, Clearing, Retiring}
+use Rattle.pm_view.specs.Steps.Step.{Or, And}
+use Rattle.pm_view.specs.Rights.{is_written}
+use Rattle.pm_view.specs.View.{View}
+use Rattle.pm_view.specs.Views.{changed}
+use Rattle.pm_record.specs.declared.redo.Op.{Op}
+use Rattle.pm_record.specs.declared.redo.Op.TheVariants as op
+use Rattle.pm_world.specs.Entries.{IsEntryAt, ends_with, final_by}
+use Rattle.pm_world.specs.Fits.{PhaseFits}
+use Rattle.pm_world.specs.Records.{generation_of}
+use Rattle.pm_world.specs.Laws.{Keeps, with_view}
+use Rattle.pm_world.specs.Lawful.{BitsFit}
+use Rattle.pm_world.specs.World.{World}
+use Rattle.pm_world.proofs.Frame.{in_phase}
+use Rattle.pm_world.proofs.StoreEntry.{clears_bits, next_entry, sets_bits}
+use Rattle.pm_world.proofs.StorePair.{final_word}
+use Rattle.pm_world.proofs.Worlds.{own}
+
+-- the next entry is of those bits of a word outside of the lane's area
+pub record ChangesNext (v : View) (op : Op) (w bits : ℕ) : Type 0 where
+  pub applied : ℕ
+  pub phase : v.log.phase ≡ Applying applied
+  pub next : IsEntryAt v applied (final_by op w bits)
+  pub outside : part_of v.lane w ≡ OtherWord
+
+pub changes_next : (v : View) (op : Op) (w bits : ℕ) (phase : Phase) → v.log.phase ≡ phase → (part : Part) → part_of v.lane w ≡ part → BitsFit v op w bits phase part → ChangesNext v op w bits
+changes_next v op w bits Idle is part of fits = absurd fits
+changes_next v op w bits (Open slot pair) is part of fits = absurd fits
+changes_next v op w bits Drawn is part of fits = absurd fits
+changes_next v op w bits Sealing is part of fits = absurd fits
+changes_next v op w bits (Applying applied) is OtherWord of fits = record { applied = applied; phase = is; next = fits; outside = of }
+changes_next v op w bits (Applying applied) is GenerationWord of fits = absurd fits
+changes_next v op w bits (Applying applied) is SealWord of fits = absurd fits
+changes_next v op w bits (Applying applied) is EntryWord of fits = absurd fits
+changes_next v op w bits (Applying applied) is SlotWord of fits = absurd fits
+changes_next v op w bits Clearing is part of fits = absurd fits
+changes_next v op w bits Retiring is part of fits = absurd fits
+
+-- so it is none of the lane's generation
+own_part : (lane : ℕ) → part_of lane (area_word lane) ≡ GenerationWord
+own_part lane =
+    let here : is_in_area lane (area_word lane) ≡ true = and_from _ _ (le-leb (area_word lane) (area_word lane) (omega arith)) (lt-ltb (area_word lane) (area_word lane + 1024) (omega arith)) in
+    let first : eqb (area_word lane - area_word lane) 0 ≡ true = eq-eqb (area_word lane - area_word lane) 0 (omega arith) in
+    cond-true _ _ _ here ∙ cond-true _ _ _ first
+
+pub no_generation : (lane w : ℕ) → part_of lane w ≡ OtherWord → w ≡ area_word lane → ⊥
+no_generation lane w part here =
+    let both : GenerationWord ≡ OtherWord = sym (own_part lane) ∙ (ap (part_of lane) (sym here) ∙ part) in absurd cc
+
+-- the lane writes the word, and the last entry is to come
+pub changes_written : (flies : ℕ → List Final → Type 0) (v : View) (op : Op) (w bits : ℕ) → PhaseFits flies v v.log.phase → (t : ChangesNext v op w bits) → IsTrue (is_written v w) × (t.applied + 1 < length v.log.entries)
+changes_written flies v op w bits fits t =
+    ⊎_elim (λ (s : IsTrue (is_written v (final_by op w bits).word) × (t.applied + 1 < length v.log.entries)). (subst (λ u. IsTrue (is_written v u)) (final_word op w bits) s.0, s.1))
+    (λ (s : (final_by op w bits ≡ ends_with v (generation_of v + 1)) × (t.applied + 1 ≡ length v.log.entries)).
+    absurd (no_generation v.lane w t.outside (sym (final_word op w bits) ∙ ap (λ (f : Final). f.word) s.0)))
+    (next_entry v t.applied (final_by op w bits) (subst (PhaseFits flies v) t.phase fits) t.next)
+
+-- the log goes on in its phase
+changed_log : (v : View) (applied : ℕ) → v.log.phase ≡ Applying applied → log_changed v.log.phase v.log ≡ in_phase (Applying (applied + 1)) v.log
+changed_log v applied is = ap (λ p. log_changed p v.log) is
+
+pub sets : (w bits found : ℕ) → Keeps (Or w bits found)
+sets w bits found o old new views log decided k v world inside is lawful moves =
+    let may = lawful.allowed in
+    let t = changes_next v op.Or w bits v.log.phase refl (part_of v.lane w) refl may.fits in
+    let fits = own o old views log decided world k inside v is in (
+      subst (λ lg. World o new (with_view views k (changed v w (bit_or found bits) (or_change w bits found) lg)) log decided) (sym (changed_log v t.applied t.phase))
+          (sets_bits o old views log decided world k inside v is new w bits found moves.1 may.inside (lawful.due refl) may.room may.known may.word (no_generation v.lane w t.outside) t.applied t.phase moves.0 t.next),
+      λ known. moves.1 ∙ fits.picture.known w may.known.known,
+    )
+
+pub clears : (w bits found : ℕ) → Keeps (And w bits found)
+clears w bits found o old new views log decided k v world inside is lawful moves =
+    let may = lawful.allowed in
+    let t = changes_next v op.And w bits v.log.phase refl (part_of v.lane w) refl may.fits in
+    let fits = own o old views log decided world k inside v is in (
+      subst (λ lg. World o new (with_view views k (changed v w (bit_and found bits) (and_change w bits found) lg)) log decided) (sym (changed_log v t.applied t.phase))
+          (clears_bits o old views log decided world k inside v is new w bits found moves.1 may.inside (lawful.due refl) may.room may.known may.word (no_generation v.lane w t.outside) t.applied t.phase moves.0 t.next),
+      λ known. moves.1 ∙ fits.picture.known w may.known.known,
+    )
