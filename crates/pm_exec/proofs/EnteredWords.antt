@@ -11,7 +11,7 @@ use Rattle.pm_view.specs.Steps.{Step}
 use Rattle.pm_view.specs.Steps.Step.{Load, Store, Or, And, Flush, Drain, TakeWrite, TakeRead, Raise, Give, ZoneTry, ZoneGive, Occupied, Occupy, Vacate, Draw, NumberSeen, StopSeen, SetStop, Tell}
 use Rattle.pm_view.specs.View.{View}
 use Rattle.pm_view.specs.Views.{after, begun, log_after_drain}
-use Rattle.pm_world.specs.Entries.{IsEnterable, set_word, final_by}
+use Rattle.pm_world.specs.Entries.{IsEnterable, final_by}
 use Rattle.pm_world.specs.Lawful.{Allowed, AppendsToPair, StoreFits}
 use Rattle.pm_world.proofs.StorePair.{with_pair-whole, final_word}
 use Rattle.pm_world.proofs.StoreSlot.{get-push_cases}

@@ -1,5 +1,5 @@
 -- Bits of a word are set or cleared, with room made for the change.
-use Rattle.std.proofs.Common.{◌≡◌, ℕ, slice_index, refl}
+use Rattle.std.proofs.Common.{ℕ, slice_index, refl}
 use Rattle.pm_record.specs.declared.redo.Op.TheVariants as op
 use Rattle.pm_view.specs.Steps.Step.{Or, And}
 use Rattle.pm_view.specs.View.{View}

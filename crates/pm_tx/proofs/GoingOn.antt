@@ -1,5 +1,5 @@
 -- A lane at work stays so by what keeps its locks, what it found under them, and its call.
-use Rattle.std.proofs.Common.{◌≡◌, refl, ℕ, ◌+◌, ◌*◌, All, Contains, [], map, slice_index, Some, sym, ap, ◌∙◌, subst, arith, ◌<◌, ◌≤◌, ◌/◌, ◌&&◌, List, is_some, length, Option, get_or, ⊎_elim, inl, inr, ◌^◌}
+use Rattle.std.proofs.Common.{◌≡◌, refl, ℕ, ◌+◌, ◌*◌, All, Contains, [], map, slice_index, Some, sym, ap, ◌∙◌, subst, arith, ◌<◌, ◌≤◌, ◌/◌, ◌&&◌, List, is_some, length, get_or, ⊎_elim, inl, inr, ◌^◌}
 use Rattle.std.specs.Prelude.{nat_eq}
 use Rattle.std.specs.List.{IsDistinct}
 use Rattle.std.specs.Option.{ForSome}
@@ -17,7 +17,7 @@ use Rattle.pm_world.specs.Opening.{Opening}
 use Rattle.pm_world.specs.declared.lane.Lane.{Lane}
 use Rattle.pm_world.proofs.Shapes.{shape_seen}
 use Rattle.pm_tx.specs.AtWork.{FindsObject, IsAtWork}
-use Rattle.std.proofs.lemmas.List.Elements.{All-nil, All-weaker, All-map}
+use Rattle.std.proofs.lemmas.List.Elements.{All-nil, All-map}
 use Rattle.pm_crash.specs.Pending.{published_in}
 use Rattle.pm_model.specs.Actions.{Action}
 use Rattle.pm_pending.specs.Pending.{entry_of}

@@ -4,7 +4,7 @@ use Rattle.std.proofs.lemmas.List.Elements.{All-head, All-tail, All-weaker}
 use Rattle.pm_record.specs.declared.redo.Op.{Op}
 use Rattle.pm_record.specs.declared.redo.Op.TheVariants.{Set, Or, And}
 use Rattle.pm_crash.proofs.Raises.{raise_by}
-use Rattle.pm_crash.specs.Alone.{raises, is_raise}
+use Rattle.pm_crash.specs.Alone.{raises}
 use Rattle.pm_objects.specs.declared.calls.Operation.{Operation}
 use Rattle.pm_record.specs.declared.redo.Redo.{Redo}
 use Rattle.pm_record.specs.Redo.{op_code}

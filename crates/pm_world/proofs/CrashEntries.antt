@@ -1,9 +1,9 @@
 -- What an image has of a lane's redo log: which entries are sealed in it, the lane's generation, and the recovered word where a sealed entry is of it.
-use Rattle.std.proofs.Common.{◌≡◌, ◌≢◌, ℕ, zero, suc, ◌+◌, ◌*◌, ◌/◌, ◌%◌, ◌<◌, ◌≤◌, ◌⊎◌, inl, inr, ⊎_elim, eqb, leb, Bool, true, false, cond, All, Contains, List, [], ◌∷◌, ◌++◌, length, length-append, map, slice_get, slice_index, Option, Some, refl, sym, ap, ◌∙◌, subst, arith, ◌^◌, not, ◌&&◌}
+use Rattle.std.proofs.Common.{◌≡◌, ◌≢◌, ℕ, zero, suc, ◌+◌, ◌*◌, ◌/◌, ◌%◌, ◌<◌, ◌≤◌, ◌⊎◌, inl, inr, ⊎_elim, eqb, leb, Bool, true, false, cond, Contains, List, [], ◌∷◌, ◌++◌, length, length-append, slice_get, slice_index, Option, Some, refl, sym, ap, ◌∙◌, subst, arith, ◌^◌, not, ◌&&◌}
 use Rattle.std.specs.List.{cons_option, filter, filter_map, flat_map, range_with_len}
 use Rattle.std.specs.Option.{option_map}
 use Rattle.std.proofs.lemmas.Bool.{cases_Bool, cases_eq, cond-true, cond-false, or_cases, or_parts, and_from, le-leb, eq-eqb, ne_eqb, false≢true, or_left, or_right}
-use Rattle.std.proofs.lemmas.List.Elements.{All-head, All-tail, filter-append}
+use Rattle.std.proofs.lemmas.List.Elements.{filter-append}
 use Rattle.std.proofs.lemmas.Option.{none-some}
 use Rattle.pm_record.specs.Redo.{applied, op_of, outcome, redo_of, redo_words}
 use Rattle.pm_record.specs.declared.redo.Op.{Op}

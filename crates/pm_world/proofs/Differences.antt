@@ -4,7 +4,7 @@ use Rattle.std.specs.List.{filter, range_with_len}
 use Rattle.std.specs.Int.Bits.{and_zero_r, or_zero_l}
 use Rattle.std.proofs.lemmas.Bool.{cases_Bool, cond-true, cond-false, eqb-true, leb-true, ltb-true, le-leb, lt-ltb, and_parts, and_from, or_cases, or_from, or_left, or_right, cases_eq, false_from_ne_true, false≢true}
 use Rattle.std.proofs.lemmas.List.{append-nil}
-use Rattle.std.proofs.lemmas.List.Elements.{All-nil, All-cons, All-append, All-filter, All-head, All-tail, All-weaker}
+use Rattle.std.proofs.lemmas.List.Elements.{All-nil, All-cons, All-append, All-head, All-tail}
 use Rattle.std.proofs.lemmas.List.Folds.{list_any-append}
 use Rattle.pm_view.specs.Area.{is_in_area}
 use Rattle.pm_view.specs.Bits.{all_bits, with_bits}

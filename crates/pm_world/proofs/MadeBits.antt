@@ -1,17 +1,16 @@
 -- What entries make of a word, bit by bit, and that an OR and an AND do to a word of 64 bits what their entries say.
-use Rattle.std.proofs.Common.{◌≡◌, ◌≢◌, ℕ, ◌-◌, ◌^◌, ◌<◌, ◌≤◌, ⊎_elim, eqb, Bool, true, false, not, cond, ◌&&◌, ◌||◌, min, max, bit_and, bit_or, All, List, [], ◌∷◌, refl, sym, ap, ◌∙◌, subst, arith, eq-eqb, ne_eqb}
+use Rattle.std.proofs.Common.{◌≡◌, ◌≢◌, ℕ, ◌-◌, ◌^◌, ◌<◌, ◌≤◌, ⊎_elim, eqb, Bool, true, false, ◌&&◌, min, max, bit_and, bit_or, All, List, [], ◌∷◌, refl, sym, ap, ◌∙◌, arith, eq-eqb}
 use Rattle.std.specs.Int.{bit_at, bit_not, w64}
-use Rattle.std.proofs.lemmas.Bool.{cases_Bool, cases_eq, cases_lt, cond-true, cond-false, eqb-true, or_cases, or_parts, or_right, false≢true, false_from_ne_true}
+use Rattle.std.proofs.lemmas.Bool.{cases_Bool, cases_eq, cases_lt, cond-true, cond-false, eqb-true, or_cases, or_parts, false≢true, false_from_ne_true}
 use Rattle.std.proofs.lemmas.List.Elements.{All-head, All-tail}
 use Rattle.std.proofs.lemmas.Nat.{and_le_r, or_lt}
 use Rattle.std.proofs.lemmas.Nat.Bits.{bit_at_and, bit_at_or, bit_at_not, bit_at_ones, bit_at-zero, bit_at-lt, bit_at_above, same_from_bits}
 use Rattle.pm_record.specs.declared.redo.Op.{Op}
 use Rattle.pm_record.specs.declared.redo.Op.TheVariants.{Set, Or, And}
-use Rattle.pm_view.specs.Bits.{all_bits, with_bits}
+use Rattle.pm_view.specs.Bits.{with_bits}
 use Rattle.pm_view.specs.Log.{Final}
 use Rattle.pm_world.specs.Entries.{AgreeBeside, final_by, is_bit_entered, is_entered}
 use Rattle.pm_world.specs.History.{made_final}
-use Rattle.pm_world.proofs.Replays.{made_final-other}
 
 -- the entry's mask and bits are words, and no bit lies outside of the mask
 pub record IsMasked (f : Final) : Type 0 where

@@ -1,7 +1,7 @@
 -- An entry takes effect while the entries are applied, the lane's generation being the last: a store, an OR or an AND.
 use Rattle.std.proofs.Common.{◌≡◌, ◌≢◌, ℕ, zero, suc, ◌+◌, ◌*◌, ◌<◌, ◌≤◌, ◌⊎◌, inl, inr, ⊎_elim, Bool, true, false, eqb, IsTrue, All, List, [], ◌∷◌, ◌++◌, length, take, drop, slice_get, slice_index, Some, refl, sym, ap, ◌∙◌, subst, arith, eq-eqb, ne_eqb, length-append, drop-cons, get_or-set_same, get_or-set_other, ◌^◌, bit_or, bit_and, ◌&&◌, w64}
 use Rattle.std.proofs.Math.Seq.{take-suc}
-use Rattle.std.proofs.lemmas.Bool.{cases_eq, le-leb, lt-ltb, and_parts, and_from, cond-true, cond-false, or_cases, or_left, or_right, or_parts, eqb-true, false≢true, and_cases, and_left}
+use Rattle.std.proofs.lemmas.Bool.{cases_eq, le-leb, lt-ltb, and_parts, and_from, cond-true, cond-false, or_cases, or_left, or_right, or_parts, eqb-true, false≢true}
 use Rattle.std.proofs.lemmas.List.Elements.{All-contains, All-push, All-weaker}
 use Rattle.std.proofs.lemmas.List.Folds.{Any-from_list_any, list_any-append, list_any_at}
 use Rattle.std.proofs.lemmas.Nat.{and_le_r, or_lt}
@@ -31,7 +31,7 @@ use Rattle.pm_world.specs.Memory.Location.{PoolWord}
 use Rattle.pm_world.specs.Opening.{Opening}
 use Rattle.pm_world.specs.Records.{generation_of, is_logged, records_generation, used_slots}
 use Rattle.pm_world.specs.World.{Views, World}
-use Rattle.pm_world.proofs.Differences.{made_whole, with_all_bits}
+use Rattle.pm_world.proofs.Differences.{with_all_bits}
 use Rattle.pm_world.proofs.Exclusion.{writes_under}
 use Rattle.pm_world.proofs.Frame.{in_phase}
 use Rattle.pm_world.proofs.Locations.{other_pool}

@@ -1,5 +1,5 @@
 -- What is left of a word of which changes of some bits were taken back.
-use Rattle.std.proofs.Common.{◌≡◌, ℕ, zero, suc, ◌+◌, ◌-◌, ◌^◌, ◌<◌, ⊎_elim, eqb, Bool, true, false, ◌&&◌, max, min, All, List, [], ◌∷◌, drop, refl, sym, ap, ◌∙◌, subst, arith}
+use Rattle.std.proofs.Common.{◌≡◌, ℕ, zero, suc, ◌^◌, ◌<◌, eqb, true, false, ◌&&◌, All, List, [], ◌∷◌, drop, refl, sym, ap, ◌∙◌, arith}
 use Rattle.std.specs.Int.{bit_at}
 use Rattle.std.proofs.lemmas.Bool.{or_parts}
 use Rattle.std.proofs.lemmas.List.Elements.{All-head, All-tail, All-drop}
@@ -10,7 +10,6 @@ use Rattle.pm_view.specs.Survivors.{all_taken_back}
 use Rattle.pm_view.specs.View.{View}
 use Rattle.pm_world.specs.Entries.{AgreeBeside, applied_in, is_bit_entered, is_part_entered}
 use Rattle.pm_world.specs.Fits.{IsOfEntries, RedoneWord}
-use Rattle.pm_world.specs.History.{made_final}
 use Rattle.pm_world.specs.Memory.{Memory}
 use Rattle.pm_world.specs.Memory.Location.{PoolWord}
 use Rattle.pm_world.proofs.MadeBits.{IsMasked, bit_at-with_bits, made_final-beside, with_bits-lt}
