@@ -80,7 +80,7 @@ module _ (v : View) (finds : FindsSound v) (objects : FindsObjects v) where
       let own : (l.write && is_some l.block && is_under w l) ≡ true =
       and_from (l.write && is_some l.block) (is_under w l) (and_from l.write (is_some l.block) (write_so l.write h.allows) (ap is_some f.block)) (ap (λ b. is_under_found l.line b w) f.block ∙ under) in
       record {
-        entry = record { aligned = omega (arith, place, aligned); word = low; part = λ or. absurd cc };
+        entry = record { aligned = omega (arith, place, aligned); word = low };
         own = list_any_at (λ (m : Lock). m.write && is_some m.block && is_under w m) v.locks h.held.0 l h.held.1 (ap (λ (m : Lock). m.write && is_some m.block && is_under w m) h.held.2 ∙ own);
         outside = word_outside l h.held w under;
         inside = word_inside l h.held w under;

@@ -25,6 +25,7 @@ may_occupy v zone first count within is = record {
   small = bits_small first count within;
   one = (first, count, refl);
   locked = zone_held v zone is.locked;
+  run = tt;
   early = is.early;
 }
 

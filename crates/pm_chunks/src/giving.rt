@@ -14,8 +14,9 @@ use pm_layout::{CHUNK_BYTES, LINES_PER_CHUNK, ZONE_BYTES};
 use pm_view::Occ;
 use pm_world::{Lane, LawfulMem};
 
-/// Gives back a block of whole chunks that the lane reserved: their bits of the zone's occupancy word are cleared. The lane may do so before its call
-/// draws its number, where nothing of the block is undrained or in its log. Nothing is waited for, no call is counted, and no word of the pool is changed.
+/// Gives back a block of whole chunks that the lane reserved, none of which it made a run: their bits of the zone's occupancy word are cleared. The lane
+/// may do so before its call draws its number, where nothing of the block is undrained or in its log. Nothing is waited for, no call is counted, and no
+/// word of the pool is changed.
 pub fn give_back<M: LawfulMem>(lane: &mut Lane<M>, block: Block)
     requires { (v : View) × (M.at lane.old.memory v × IsOfShape v lane.old.shape × MayGiveBack v block) }
     ensures given { (zone first count : ℕ) → 1 ≤ count → first + count ≤ 64 → block ≡ chunk_block lane.old.shape.lanes zone first count

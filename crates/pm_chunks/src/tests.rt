@@ -1,4 +1,4 @@
-ghost use Rattle.std.specs.Prelude.{◌≡◌, ◌≤◌, IfOk, length};
+ghost use Rattle.std.specs.Prelude.{◌≡◌, ◌≤◌, IfOk, length, replicate};
 ghost use Rattle.pm_chunks.specs.Tests.{Rests};
 
 use super::*;
@@ -13,7 +13,8 @@ use std::test::Fail;
 
 /// So many times this word.
 fn filled(alloc: Global, word: u64, count: usize) -> Result<Vec<u64>, AllocError>
-    ensures { IfOk result (λ words. length words.items ≡ count) }
+    ensures length { IfOk result (λ words. length words.items ≡ count) }
+    ensures items { IfOk result (λ words. words.items ≡ replicate count word) }
 {
     vec![in alloc; word; count]
 }

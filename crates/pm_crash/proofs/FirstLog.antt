@@ -25,8 +25,8 @@ use Rattle.pm_view.specs.Rights.{is_written}
 use Rattle.pm_view.specs.Steps.{Step}
 use Rattle.pm_view.specs.Steps.Step.{Load, Store, Or, And, Flush, Drain, TakeWrite, TakeRead, Raise, Give, ZoneTry, ZoneGive, Occupied, Occupy, Vacate, Draw, NumberSeen, StopSeen, SetStop, Tell}
 use Rattle.pm_view.specs.View.{Lock, View}
-use Rattle.pm_view.specs.Views.{after, begun, changed, log_after_drain, with_seen, without_taken}
-use Rattle.pm_world.specs.Entries.{ends_with, set_word, final_by}
+use Rattle.pm_view.specs.Views.{after, begun, changed, exchanged, log_after_drain, with_seen, without_taken}
+use Rattle.pm_world.specs.Entries.{ends_with, set_word}
 use Rattle.pm_world.specs.Fits.{ApplyingFits, LaneFits, PhaseFits, SealingFits}
 use Rattle.pm_world.specs.History.{Flies, settled}
 use Rattle.pm_world.specs.Lawful.{Allowed, AppendsToPair, AppendsToSlot, CanRecord, EndsGeneration, GiveFits, IsNextEntry, MayGive, MayWrite, StoreFits, MayChange}
@@ -50,8 +50,9 @@ use Rattle.pm_crash.proofs.AloneImages.{own_fits}
 use Rattle.pm_crash.proofs.LogCourse.{Paired, paired}
 use Rattle.pm_crash.proofs.AloneMemory.{load_moves, load_words, memory_of}
 use Rattle.pm_record.specs.declared.redo.Op.{Op}
-use Rattle.pm_world.proofs.StepChange.{changes_next, changes_written, no_generation}
+use Rattle.pm_world.proofs.StepChange.{changes_next, changes_written, changing, no_generation}
 use Rattle.pm_world.proofs.StorePair.{final_word}
+use Rattle.pm_world.proofs.Reserved.{describing_reserved}
 
 -- from this word on the slots are as at the origin, and so is what undrained stores found in them
 pub record Unwritten (o : Opening) (v : View) (end : ℕ) : Type 0 where
@@ -231,7 +232,7 @@ module _ (o : Opening) (header : Header) (pool : PoolView) (v : View) (stands : 
 
     vacate_carries : (at : Occ) (bits : ℕ) → Carries v (after v (Vacate at bits))
     vacate_carries at bits =
-        let bare : View = record v { reserved = without_taken at bits v.reserved } in
+        let bare : View = record v { reserved = without_taken at bits (exchanged v at) } in
         quiet (after v (Vacate at bits)) refl refl refl refl (itself v.changes) (λ u own. own)
         (λ u own known. held_known bare u
         (or_left (is_in_area v.lane u || list_any (is_under u) v.locks) (is_reserved bare u) (or_right (is_in_area v.lane u) (list_any (is_under u) v.locks) (written_under v.locks u own))) known)
@@ -417,7 +418,8 @@ module _ (o : Opening) (header : Header) (pool : PoolView) (v : View) (stands : 
       store_first (Open slot pair) EntryWord is of may fit first = in_pair slot pair is may fit.short_pair first
       store_first (Open slot pair) SlotWord is of may fit first = in_slot slot pair may fit.short first
       store_first (Open slot pair) OtherWord is of (inl writes) fit first = first_still (stored v.log) (object_carries writes) refl (subst (FirstLog origin v) (sym is) first)
-      store_first (Open slot pair) OtherWord is of (inr fills) fit first = first_still (stored v.log) (reserved_carries fills.reserved) refl (subst (FirstLog origin v) (sym is) first)
+      store_first (Open slot pair) OtherWord is of (inr (inl fills)) fit first = first_still (stored v.log) (reserved_carries fills.reserved) refl (subst (FirstLog origin v) (sym is) first)
+      store_first (Open slot pair) OtherWord is of (inr (inr describes)) fit first = first_still (stored v.log) (reserved_carries (describing_reserved v w y describes)) refl (subst (FirstLog origin v) (sym is) first)
       store_first Drawn GenerationWord is of may fit first = raises of may first (record v.log { phase = Retiring })
       store_first Drawn SealWord is of may fit first = sealed (λ g. generation_word origin.words 0 ≤ g) Sealing of first
       store_first Drawn EntryWord is of may fit first = absurd may
@@ -443,7 +445,7 @@ module _ (o : Opening) (header : Header) (pool : PoolView) (v : View) (stands : 
         subst (λ (p : Phase). FirstLog origin (changed v w y c (log_changed p v.log)) (log_changed p v.log).phase) (sym t.phase)
         (subst (λ g. generation_word origin.words 0 < g)
         (sym (subst (λ u. records_generation (Applying (t.applied + 1)) (changed v u y c (in_phase (Applying (t.applied + 1)) v.log)) ≡ records_generation (Applying t.applied) v) (final_word op w bits)
-        (applied_generation v t.applied y (final_by op w bits) c fit t.next (subst (λ u. u < length v.words) (sym (final_word op w bits)) may.inside)
+        (applied_generation v t.applied y (changing op w bits t.ors) c fit t.next (subst (λ u. u < length v.words) (sym (final_word op w bits)) may.inside)
         (λ ends. absurd (apart (sym (ap (λ (f : Final). f.word) ends) ∙ final_word op w bits))) (λ own_ e. apart (e ∙ final_word op w bits)))))
         (subst (FirstLog origin v) t.phase first))
 

@@ -1,10 +1,10 @@
 -- No meaning reads a word of a free block of a run, or of a free chunk.
-use Rattle.std.proofs.Common.{◌≡◌, ◌≢◌, ⊎_elim, inl, inr, ℕ, ◌+◌, ◌-◌, ◌*◌, ◌/◌, ◌%◌, ◌^◌, ◌<◌, ◌≤◌, ◌&&◌, ◌||◌, Bool, true, false, not, eqb, leb, All, List, [], ◌∷◌, slice_index, None, refl, sym, ◌∙◌, ap, subst, arith, eq-eqb, div-le_self}
+use Rattle.std.proofs.Common.{◌≡◌, ◌≢◌, ⊎_elim, inl, inr, ℕ, ◌+◌, ◌-◌, ◌*◌, ◌/◌, ◌%◌, ◌^◌, ◌<◌, ◌≤◌, ◌&&◌, ◌||◌, Bool, true, false, not, eqb, leb, List, [], ◌∷◌, slice_index, None, refl, sym, ◌∙◌, ap, subst, arith, eq-eqb, div-le_self}
 use Rattle.std.specs.Int.{bit_at}
 use Rattle.std.specs.List.{Contains, list_any, range_with_len}
-use Rattle.std.proofs.lemmas.Bool.{and_parts, cases_eq, eqb-true, false≢true, leb-true, or_cases, or_left, or_parts, or_right}
+use Rattle.std.proofs.lemmas.Bool.{and_from, and_parts, cases_Bool, cases_eq, eqb-true, false≢true, leb-true, not-true, or_cases, or_left, or_parts, or_right}
 use Rattle.std.proofs.lemmas.List.Elements.{All-head, All-tail}
-use Rattle.std.proofs.lemmas.Nat.Bits.{bit_at-pow_other}
+use Rattle.std.proofs.lemmas.Nat.Bits.{bit_at-pow_other, bit_at-pow_same}
 use Rattle.pm_layout.specs.Sizes.{blocks_of}
 use Rattle.pm_image.specs.declared.block.Block.{Block}
 use Rattle.pm_image.specs.Blocks.{blocks, chunk_word, descriptor_word}
@@ -15,13 +15,16 @@ use Rattle.pm_image.proofs.FaultFree.{block_good}
 use Rattle.pm_image.proofs.HeapWords.{object_fits}
 use Rattle.pm_view.specs.declared.occ.Occ.{Occ}
 use Rattle.pm_view.specs.declared.occ.Occ.TheVariants.{Run, Zone}
-use Rattle.pm_view.specs.Blocks.{bitmap_word, chunk_of, covers, descriptor_word as lane_descriptor, is_chunk, is_run, zone_of, zone_page}
+use Rattle.pm_view.specs.Blocks.{bitmap_word, chunk_of, covers, describes, descriptor_word as lane_descriptor, is_chunk, is_run, page_told, zone_of, zone_page}
 use Rattle.pm_view.specs.Held.{is_reserved}
 use Rattle.pm_view.specs.Occupancy.{is_chunk_taken, is_in_block, is_taken, reaches}
 use Rattle.pm_view.specs.View.{Taken, View}
-use Rattle.pm_world.specs.Heap.{has_bit, BlocksFit, IsOcc}
-use Rattle.pm_world.specs.Opening.{IsChunk}
-use Rattle.pm_world.proofs.Reserved.{bit_had}
+use Rattle.pm_view.specs.Views.{has_bit}
+use Rattle.pm_world.specs.Heap.{BlocksFit, IsOcc, heap_words}
+use Rattle.pm_world.specs.Memory.{Memory}
+use Rattle.pm_world.specs.Opening.{IsChunk, Opening, is_free_chunk}
+use Rattle.pm_world.proofs.HeapWords.{taken_bitmap, taken_descriptor}
+use Rattle.pm_world.proofs.Reserved.{AreHeld, IsHeld, bit_had, blocks_held, in_chunk, in_run, is_chunk_from, told_here}
 use Rattle.pm_crash.specs.FreeWords.{HasDescriptor, IsFreeWord}
 use Rattle.pm_crash.proofs.Apart.{good_chunk}
 use Rattle.pm_crash.proofs.Classes.{lines_of_class}
@@ -54,13 +57,13 @@ in_taken_chunk w lanes i is =
     (leb-true 1 (chunk_of lanes page) (and_parts (leb (zone_page lanes 0) page) (leb 1 (chunk_of lanes page)) first.0).1, first.1, last.1)
 
 -- the word is behind the lanes' areas and no zone's first page, is no run's bitmap, and lies in no block
-record IsApart (w : ℕ → ℕ) (lanes i : ℕ) : Type 0 where
-  behind : 1 + 2 * lanes ≤ i / 512
-  in_chunk : 1 ≤ chunk_of lanes (i / 512)
-  no_bitmap : i % 512 ≡ 0 → is_run (w (lane_descriptor lanes (i / 512))) ≡ true → ⊥
-  outside : is_in_block w lanes i ≡ true → ⊥
+pub record IsApart (w : ℕ → ℕ) (lanes i : ℕ) : Type 0 where
+  pub behind : 1 + 2 * lanes ≤ i / 512
+  pub in_chunk : 1 ≤ chunk_of lanes (i / 512)
+  pub no_bitmap : i % 512 ≡ 0 → is_run (w (lane_descriptor lanes (i / 512))) ≡ true → ⊥
+  pub outside : is_in_block w lanes i ≡ true → ⊥
 
-not_read : (w : ℕ → ℕ) (lanes zones i : ℕ) → heap_fault w lanes zones ≡ None → IsApart w lanes i → Reads w lanes zones i → ⊥
+pub not_read : (w : ℕ → ℕ) (lanes zones i : ℕ) → heap_fault w lanes zones ≡ None → IsApart w lanes i → Reads w lanes zones i → ⊥
 not_read w lanes zones i none apart (inl root) = let behind = apart.behind in omega arith
 not_read w lanes zones i none apart (inr (inl descriptor)) =
     let is : i ≡ descriptor_word lanes descriptor.chunk = descriptor.is_word in
@@ -79,8 +82,9 @@ module _ (w : ℕ → ℕ) (words : List ℕ) (lanes zones i bits : ℕ) where
   abbrev page : ℕ
   page = i / 512
 
-  free_apart : (at : Occ) → IsOcc lanes zones at → HasDescriptor words w lanes at → ((bit : ℕ) → bit < 64 → bit_at bits bit ≡ 1 → is_taken w lanes at bit ≡ false) → covers lanes words at bits i ≡ true → IsApart w lanes i
-  free_apart (Run place) of_pool seen free covered =
+  free_apart : (at : Occ) → IsOcc lanes zones at → HasDescriptor words w lanes at → ((bit : ℕ) → bit < 64 → bit_at bits bit ≡ 1 → is_taken w lanes at bit ≡ false) → covers lanes words at bits i ≡ true
+      → describes lanes i ≡ false → IsApart w lanes i
+  free_apart (Run place) of_pool seen free covered none =
       let first = and_parts (eqb page (place / 4096) && leb 8 (i % 512)) (eqb (bit_at bits ((i % 512 / 8 - 1) / (slice_index words (lane_descriptor lanes (place / 4096)) / 256))) 1) covered in
       let second = and_parts (eqb page (place / 4096)) (leb 8 (i % 512)) first.0 in
       let here : page ≡ place / 4096 = eqb-true page (place / 4096) second.0 in
@@ -105,15 +109,15 @@ module _ (w : ℕ → ℕ) (words : List ℕ) (lanes zones i bits : ℕ) where
             (λ (in_one : (leb 8 (i % 512) && eqb (bit_at bitmap block) 1) ≡ true). false≢true (sym parts.1 ∙ (and_parts (leb 8 (i % 512)) (eqb (bit_at bitmap block) 1) in_one).1))
             (or_cases (not (is_run d)) (leb 8 (i % 512) && eqb (bit_at bitmap block) 1) (in_taken_chunk w lanes i inside).2);
       }
-  free_apart (Zone zone) of_pool seen free covered =
+  free_apart (Zone zone) of_pool seen free covered none =
+      let c = in_chunk lanes words zone bits i covered in
+      let told : page_told lanes i ≡ page = told_here lanes i none in
+      let in_one : IsChunk lanes page = subst (IsChunk lanes) told c.chunk in
       let chunk : ℕ = chunk_of lanes page - 1 in
-      let first = and_parts (leb (zone_page lanes zone) page && eqb (zone_of lanes page) zone && leb 1 (chunk_of lanes page)) (eqb (bit_at bits chunk) 1) covered in
-      let second = and_parts (leb (zone_page lanes zone) page && eqb (zone_of lanes page) zone) (leb 1 (chunk_of lanes page)) first.0 in
-      let third = and_parts (leb (zone_page lanes zone) page) (eqb (zone_of lanes page) zone) second.0 in
-      let low : zone_page lanes zone ≤ page = leb-true (zone_page lanes zone) page third.0 in
-      let here : zone_of lanes page ≡ zone = eqb-true (zone_of lanes page) zone third.1 in
-      let some : 1 ≤ chunk_of lanes page = leb-true 1 (chunk_of lanes page) second.1 in
-      let clear : is_chunk_taken w lanes zone chunk ≡ false = free chunk (omega arith) (eqb-true (bit_at bits chunk) 1 first.1) in
+      let low : zone_page lanes 0 ≤ page = in_one.0 in
+      let some : 1 ≤ chunk_of lanes page = in_one.1 in
+      let here : zone_of lanes page ≡ zone = ap (zone_of lanes) (sym told) ∙ c.zoned in
+      let clear : is_chunk_taken w lanes zone chunk ≡ false = free chunk (omega arith) (ap (λ p. bit_at bits (chunk_of lanes p - 1)) (sym told) ∙ c.set) in
       let no_run = (or_parts (is_run (w (512 * zone_page lanes zone + chunk))) (list_any (reaches w lanes zone chunk) (range_with_len 0 (chunk + 1))) clear).0 in
       let place : lane_descriptor lanes page ≡ 512 * zone_page lanes zone + chunk = ap (λ z. 512 * zone_page lanes z + chunk_of lanes page - 1) here ∙ (let e : 512 * zone_page lanes zone + chunk_of lanes page - 1 ≡ 512 * zone_page lanes zone + chunk = omega arith in e) in
       record {
@@ -124,7 +128,7 @@ module _ (w : ℕ → ℕ) (words : List ℕ) (lanes zones i bits : ℕ) where
       }
 
 pub free_not_read : (w : ℕ → ℕ) (lanes zones i : ℕ) → heap_fault w lanes zones ≡ None → IsFreeWord w lanes zones i → Reads w lanes zones i → ⊥
-free_not_read w lanes zones i none free read = not_read w lanes zones i none (free_apart w free.words lanes zones i free.bits free.at free.of_pool free.seen free.free free.covered) read
+free_not_read w lanes zones i none free read = not_read w lanes zones i none (free_apart w free.words lanes zones i free.bits free.at free.of_pool free.seen free.free free.covered free.undescribing) read
 
 -- of one bit alone
 one_bit : (bit other : ℕ) → bit_at (2 ^ bit) other ≡ 1 → other ≡ bit
@@ -134,8 +138,8 @@ one_bit bit other set = ⊎_elim
     (cases_eq other bit)
 
 pub bit_not_read : (w : ℕ → ℕ) (words : List ℕ) (lanes zones : ℕ) (at : Occ) (bit i : ℕ) → heap_fault w lanes zones ≡ None → IsOcc lanes zones at → HasDescriptor words w lanes at → is_taken w lanes at bit ≡ false
-    → covers lanes words at (2 ^ bit) i ≡ true → Reads w lanes zones i → ⊥
-bit_not_read w words lanes zones at bit i none of_pool seen free covered =
+    → covers lanes words at (2 ^ bit) i ≡ true → describes lanes i ≡ false → Reads w lanes zones i → ⊥
+bit_not_read w words lanes zones at bit i none of_pool seen free covered undescribing =
     free_not_read w lanes zones i none (record {
       words = words;
       at = at;
@@ -144,30 +148,105 @@ bit_not_read w words lanes zones at bit i none of_pool seen free covered =
       seen = seen;
       free = λ other low set. ap (is_taken w lanes at) (one_bit bit other set) ∙ free;
       covered = covered;
+      undescribing = undescribing;
     })
 
--- and of what a lane reserved
-module _ (w : ℕ → ℕ) (words : List ℕ) (lanes zones i : ℕ) (same : (page : ℕ) → IsChunk lanes page → slice_index words (lane_descriptor lanes page) ≡ w (lane_descriptor lanes page)) where
-  free_among : (blocks : List Taken) → All (λ (t : Taken). IsOcc lanes zones t.at) blocks → ((at : Occ) (bit : ℕ) → list_any (has_bit at bit) blocks ≡ true → is_taken w lanes at bit ≡ false)
-      → list_any (λ (t : Taken). covers lanes words t.at t.bits i) blocks ≡ true → IsFreeWord w lanes zones i
-  free_among [] of_pool free is = absurd (false≢true is)
-  free_among (t ∷ blocks) of_pool free is =
-      let first : IsOcc lanes zones t.at = All-head (λ (u : Taken). IsOcc lanes zones u.at) t blocks of_pool in
-      ⊎_elim
-      (λ (here : covers lanes words t.at t.bits i ≡ true). record {
+-- ---- and of what a lane reserved: by the opening's words it is free, though chunks that were free then may be runs now
+
+no_zone : (place zone : ℕ) → Zone zone ≡ Run place → ⊥
+no_zone place zone is = false≢true (ap is_run_word is) where
+  is_run_word : Occ → Bool
+  is_run_word (Run p) = true
+  is_run_word (Zone z) = false
+
+same_place : (place other : ℕ) → Run place ≡ Run other → place ≡ other
+same_place place other is = ap place_in is where
+  place_in : Occ → ℕ
+  place_in (Run p) = p
+  place_in (Zone z) = 0
+
+module _ (o : Opening) (mem : Memory) (words : List ℕ) (i : ℕ) (undescribing : describes o.lanes i ≡ false) where
+  abbrev w : ℕ → ℕ
+  w = slice_index o.words
+
+  abbrev lanes : ℕ
+  lanes = o.lanes
+
+  -- a word of a chunk that was free
+  of_free_chunk : IsChunk lanes (i / 512) → i / 512 < 1 + 2 * lanes + 65 * o.zones → is_free_chunk w lanes (i / 512) ≡ true → IsFreeWord w lanes o.zones i
+  of_free_chunk chunk in_pool free =
+      let low = chunk.0 in let some = chunk.1 in
+      let zone : ℕ = zone_of lanes (i / 512) in
+      let bit : ℕ = chunk_of lanes (i / 512) - 1 in
+      let told : page_told lanes i ≡ i / 512 = told_here lanes i undescribing in record {
         words = words;
-        at = t.at;
-        bits = t.bits;
-        of_pool = first;
-        seen = λ place run. same (place / 4096) (let of_run : IsOcc lanes zones (Run place) = subst (IsOcc lanes zones) run first in of_run.1);
-        free = λ bit low set. free t.at bit (or_left (has_bit t.at bit t) (list_any (has_bit t.at bit) blocks) (bit_had t bit set));
-        covered = here;
+        at = Zone zone;
+        bits = 2 ^ bit;
+        of_pool = omega (arith, in_pool, low, some);
+        seen = λ place is. absurd (no_zone place zone is);
+        free = λ other few set. ap (is_chunk_taken w lanes zone) (one_bit bit other set) ∙ not-true (is_chunk_taken w lanes zone bit) free;
+        covered =
+            (λ j. is_chunk lanes (told j) && eqb (zone_of lanes (told j)) zone && eqb (bit_at (2 ^ bit) (chunk_of lanes (told j) - 1)) 1)
+            ∙ and_from (is_chunk lanes (i / 512) && eqb zone zone) (eqb (bit_at (2 ^ bit) bit) 1) (and_from (is_chunk lanes (i / 512)) (eqb zone zone) (is_chunk_from lanes (i / 512) chunk) (eq-eqb zone zone refl)) (eq-eqb (bit_at (2 ^ bit) bit) 1 (bit_at-pow_same bit));
+        undescribing = undescribing;
+      }
+
+  free_of_one : (at : Occ) (bits : ℕ) → IsHeld o mem words i at bits → covers lanes words at bits i ≡ true → IsFreeWord w lanes o.zones i
+  free_of_one (Run place) bits held covered =
+      let here : i / 512 ≡ place / 4096 = (in_run lanes words place bits i covered).here in
+      let chunk : IsChunk lanes (place / 4096) = held.of_pool.1 in
+      ⊎_elim
+      (λ (free : is_free_chunk w lanes (place / 4096) ≡ true).
+      of_free_chunk (subst (IsChunk lanes) (sym here) chunk) (subst (λ p. p < 1 + 2 * lanes + 65 * o.zones) (sym here) held.of_pool.2) (ap (is_free_chunk w lanes) here ∙ free))
+      (λ (taken : is_free_chunk w lanes (place / 4096) ≡ false).
+      let d = taken_descriptor o mem (place / 4096) chunk taken in
+      let m = taken_bitmap o mem (place / 4096) chunk taken in record {
+        words = words;
+        at = Run place;
+        bits = bits;
+        of_pool = held.of_pool;
+        seen = λ other is. ap (λ p. slice_index words (lane_descriptor lanes (p / 4096))) (sym (same_place place other is))
+            ∙ (held.described _ (in_run lanes words place bits i covered).set ∙ d)
+            ∙ ap (λ p. w (lane_descriptor lanes (p / 4096))) (same_place place other is);
+        free = λ bit few set. (λ j. not (is_run (sym d j)) || leb (blocks_of (sym d j / 256)) bit || eqb (bit_at (sym m j) bit) 1) ∙ held.free bit set;
+        covered = covered;
+        undescribing = undescribing;
       })
-      (λ (later : list_any (λ (u : Taken). covers lanes words u.at u.bits i) blocks ≡ true).
-      free_among blocks (All-tail (λ (u : Taken). IsOcc lanes zones u.at) t blocks of_pool) (λ at bit there. free at bit (or_right (has_bit at bit t) (list_any (has_bit at bit) blocks) there)) later)
+      (cases_Bool (is_free_chunk w lanes (place / 4096)))
+  free_of_one (Zone zone) bits held covered = record {
+    words = words;
+    at = Zone zone;
+    bits = bits;
+    of_pool = held.of_pool;
+    seen = λ place is. absurd (no_zone place zone is);
+    free = λ bit few set. held.free bit set;
+    covered = covered;
+    undescribing = undescribing;
+  }
+
+  first_of : (t : Taken) (blocks : List Taken) → AreHeld o mem words i (t ∷ blocks) → IsHeld o mem words i t.at t.bits
+  first_of t blocks held = record {
+    of_pool = All-head (λ (u : Taken). IsOcc o.lanes o.zones u.at) t blocks held.of_pool;
+    free = λ bit set. held.free t.at bit (or_left (has_bit t.at bit t) (list_any (has_bit t.at bit) blocks) (bit_had t bit set));
+    described = λ bit set. held.described t.at bit (or_left (has_bit t.at bit t) (list_any (has_bit t.at bit) blocks) (bit_had t bit set));
+  }
+
+  others_of : (t : Taken) (blocks : List Taken) → AreHeld o mem words i (t ∷ blocks) → AreHeld o mem words i blocks
+  others_of t blocks held = record {
+    of_pool = All-tail (λ (u : Taken). IsOcc o.lanes o.zones u.at) t blocks held.of_pool;
+    free = λ at bit there. held.free at bit (or_right (has_bit at bit t) (list_any (has_bit at bit) blocks) there);
+    described = λ at bit there. held.described at bit (or_right (has_bit at bit t) (list_any (has_bit at bit) blocks) there);
+  }
+
+  free_among : (blocks : List Taken) → AreHeld o mem words i blocks → list_any (λ (t : Taken). covers lanes words t.at t.bits i) blocks ≡ true → IsFreeWord w lanes o.zones i
+  free_among [] held is = absurd (false≢true is)
+  free_among (t ∷ blocks) held is =
+      ⊎_elim
+      (λ (here : covers lanes words t.at t.bits i ≡ true). free_of_one t.at t.bits (first_of t blocks held) here)
+      (λ (later : list_any (λ (u : Taken). covers lanes words u.at u.bits i) blocks ≡ true). free_among blocks (others_of t blocks held) later)
       (or_cases (covers lanes words t.at t.bits i) (list_any (λ (u : Taken). covers lanes words u.at u.bits i) blocks) is)
 
-pub reserved_is_free : (w : ℕ → ℕ) (lanes zones i : ℕ) (v : View) → v.lanes ≡ lanes → ((page : ℕ) → IsChunk lanes page → slice_index v.words (lane_descriptor lanes page) ≡ w (lane_descriptor lanes page))
-    → BlocksFit w lanes zones v → is_reserved v i ≡ true → IsFreeWord w lanes zones i
-reserved_is_free w lanes zones i v of same fits is =
-    free_among w v.words lanes zones i same v.reserved fits.of_pool fits.free (ap (λ (n : ℕ). list_any (λ (t : Taken). covers n v.words t.at t.bits i) v.reserved) (sym of) ∙ is)
+pub reserved_is_free : (o : Opening) (mem : Memory) (i : ℕ) (v : View) → v.lanes ≡ o.lanes → BlocksFit o (heap_words o mem) v → is_reserved v i ≡ true → describes o.lanes i ≡ false
+    → IsFreeWord (slice_index o.words) o.lanes o.zones i
+reserved_is_free o mem i v of fits is undescribing =
+    free_among o mem v.words i undescribing v.reserved (blocks_held o mem v i fits) (ap (λ (n : ℕ). list_any (λ (t : Taken). covers n v.words t.at t.bits i) v.reserved) (sym of) ∙ is)

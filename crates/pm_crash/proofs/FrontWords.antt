@@ -30,6 +30,7 @@ use Rattle.pm_world.proofs.Exclusion.{WritesUnder, writes_under}
 use Rattle.pm_world.proofs.Locations.{other_occ, other_zone_lock, plain_pool, other_pool, pool-counter, pool-lock, pool-stop}
 use Rattle.pm_world.proofs.Parts.{generation_part, seal_part}
 use Rattle.pm_world.proofs.StepChange.{changes_next, changes_written}
+use Rattle.pm_world.proofs.Reserved.{describing_reserved}
 
 -- a list's front is another's, where its words are
 pub front_same : (one other : List ℕ) → 512 ≤ length one → length other ≡ length one → ((i : ℕ) → i < 512 → slice_index other i ≡ slice_index one i) → page other ≡ page one
@@ -49,7 +50,9 @@ module _ (o : Opening) (mem : Memory) (views : Views) (log : List Entry) (decide
     store_behind w x' (Open slot pair) SlotWord is fits = let at = fits.at in omega arith
     store_behind w x' (Open slot pair) OtherWord is (inl writes) =
         let behind = behind_areas o mem views log decided x k w (writes_under o mem k (views k) w (x.each_lane k inside).locks writes.own) in omega arith
-    store_behind w x' (Open slot pair) OtherWord is (inr fills) = let behind = (reserved_word o mem views log decided x k w inside fills.reserved).behind in omega arith
+    store_behind w x' (Open slot pair) OtherWord is (inr (inl fills)) = let behind = (reserved_word o mem views log decided x k w inside fills.reserved).behind in omega arith
+    store_behind w x' (Open slot pair) OtherWord is (inr (inr describes)) =
+        let behind = (reserved_word o mem views log decided x k w inside (describing_reserved (views k) w x' describes)).behind in omega arith
     store_behind w x' Drawn GenerationWord is fits = let at = (generation_part (views k).lane w is).1 in omega arith
     store_behind w x' Drawn SealWord is fits = let at = (seal_part (views k).lane w is).1 in omega arith
     store_behind w x' Drawn EntryWord is fits = absurd fits

@@ -12,12 +12,15 @@ use Rattle.pm_image.proofs.Rooms.{run_fits}
 use Rattle.pm_view.specs.Blocks.{chunk_of, descriptor_word as lane_descriptor, is_chunk, zone_of, zone_page}
 use Rattle.pm_view.specs.Held.{is_guarded}
 use Rattle.pm_view.specs.Occupancy.{is_in_block}
-use Rattle.pm_world.specs.Opening.{Guards, IsChunk, IsSound, Opening, TellsOfBlocks}
+use Rattle.pm_world.specs.Opening.{Guards, IsChunk, IsPoolChunk, IsSound, Opening, TellsOfBlocks, is_free_chunk}
+use Rattle.pm_world.proofs.Chunks.{chunk_is}
 use Rattle.pm_crash.specs.OpenCall.{block_at_line}
 use Rattle.pm_crash.proofs.Apart.{IsBehindHeader, IsInZone, apart, good_chunk, in_its_zone, no_bitmap, rising}
 use Rattle.pm_crash.proofs.Classes.{chunks_of_class, lines_of_class, run_by_byte, run_has_lines}
+use Rattle.pm_crash.proofs.EmptyRuns.{free_is_zero}
 use Rattle.pm_crash.proofs.FoundBlocks.{IsChunkOf, IsPageOf, chunk_of_page, found_of_words, page_of_chunk}
 use Rattle.pm_crash.proofs.InBlocks.{IsIn, in_chunk_block, in_run_block}
+use Rattle.pm_crash.proofs.LivingWords.{free_by_number}
 use Rattle.pm_crash.proofs.Standing.{IsChunkBlock, IsRunBlock, Stands, block_stands}
 
 -- a guarded word is in the block's words
@@ -137,6 +140,15 @@ module _ (o : Opening) (none : heap_fault (slice_index o.words) o.lanes o.zones 
       (λ (whole : IsChunkBlock w o.lanes stands.chunk block). in_chunk_block w o.lanes stands.chunk i block (good_chunk w o.lanes o.zones stands.chunk none stands.in_zones) whole inside)
       stands.is
 
+  -- a free chunk is described by 0
+  undescribed : (page : ℕ) → IsPoolChunk o.lanes o.zones page → is_free_chunk (slice_index o.words) o.lanes page ≡ true → slice_index o.words (lane_descriptor o.lanes page) ≡ 0
+  undescribed page chunk free =
+      let high = chunk.1 in
+      let found : (c : ℕ) × IsChunkOf o.lanes o.zones page c = chunk_of_page o.lanes o.zones page (omega (arith, high)) (chunk_is o.lanes page chunk.0) in
+      let of : IsPageOf o.lanes page found.0 = page_of_chunk o.lanes page found.0 found.1.page_is in
+      ap (slice_index o.words) of.descriptor
+      ∙ free_is_zero (slice_index o.words) o.lanes o.zones found.0 none (free_by_number (slice_index o.words) o.lanes found.0 (ap (is_free_chunk (slice_index o.words) o.lanes) (sym found.1.page_is) ∙ free)) found.1.in_zones
+
   pub sound_of_heap : 1 ≤ o.lanes → o.lanes ≤ 32 → IsSound o
   sound_of_heap some most = record {
     some_lanes = some;
@@ -146,6 +158,7 @@ module _ (o : Opening) (none : heap_fault (slice_index o.words) o.lanes o.zones 
     behind_areas = behind_areas;
     within = within;
     in_blocks = in_blocks;
+    undescribed = undescribed;
     apart = no_heads;
   }
 

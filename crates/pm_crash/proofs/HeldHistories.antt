@@ -1,15 +1,12 @@
 -- A history stays one of the plain model as calls are drawn and decided, and what a power failure leaves holds what its kept calls made.
-use Rattle.std.proofs.Common.{◌≡◌, ⊎_elim, ℕ, ◌+◌, ◌*◌, ◌<◌, ◌≤◌, Bool, true, false, cond, eqb, ◌&&◌, List, [], ◌∷◌, ◌++◌, length, slice_index, None, refl, sym, ◌∙◌, ap, subst, arith}
+use Rattle.std.proofs.Common.{◌≡◌, ⊎_elim, ℕ, ◌<◌, Bool, true, false, cond, eqb, ◌&&◌, List, [], ◌∷◌, ◌++◌, slice_index, None, refl, sym, ◌∙◌, ap, subst, arith}
 use Rattle.std.specs.List.{filter}
 use Rattle.std.proofs.lemmas.Bool.{cases_Bool, cond-false, cond-true, false_from_ne_true, false≢true, not_from_false, or_left}
 use Rattle.std.proofs.lemmas.List.{append-nil}
 use Rattle.pm_header.specs.declared.header.Header.{Header}
 use Rattle.pm_objects.specs.declared.history.TxErr.{TxErr}
 use Rattle.pm_objects.specs.declared.pool.PoolView.{PoolView}
-use Rattle.pm_image.specs.Blocks.{pool_words}
 use Rattle.pm_image.specs.Logs.{recovered_at}
-use Rattle.pm_image.specs.Reads.{IsHeapWord}
-use Rattle.pm_image.proofs.InPlace.{recovered_in_place}
 use Rattle.pm_model.specs.Step.{Act, State, Step}
 use Rattle.pm_model.specs.History.{opened}
 use Rattle.pm_model.specs.Names.{Replays}
@@ -19,15 +16,15 @@ use Rattle.pm_view.specs.Steps.{Step as LaneStep}
 use Rattle.pm_view.specs.Steps.Step.{Drain, Draw}
 use Rattle.pm_view.specs.View.{View}
 use Rattle.pm_world.specs.Course.{decided_after, entry_of, flight, flight_in, is_decided_by_drain, is_empty, log_after}
-use Rattle.pm_world.specs.Crash.{NoneTorn, Survives, is_kept, is_lost, loses}
+use Rattle.pm_world.specs.Crash.{MeansKept, NoneTorn, Survives, is_kept, is_lost, loses}
 use Rattle.pm_world.specs.Entries.{is_redoing}
 use Rattle.pm_world.specs.History.{Entry, Flies, replayed}
 use Rattle.pm_world.specs.Lawful.{IsLawful}
 use Rattle.pm_world.specs.Memory.{Memory}
-use Rattle.pm_world.specs.Opening.{IsLivingWord, Opening}
+use Rattle.pm_world.specs.Opening.{Opening}
 use Rattle.pm_world.specs.Records.{difference_of}
 use Rattle.pm_world.specs.World.{Views, World}
-use Rattle.pm_world.proofs.CrashLaw.{crash_law}
+use Rattle.pm_world.proofs.CrashRuns.{crash_law}
 use Rattle.pm_world.proofs.Losses.{loses-flight, some_lane}
 use Rattle.pm_world.proofs.Replays.{replayed-more}
 use Rattle.pm_crash.specs.Draws.{DrawsStep, KeepsDecided, kept_log, kept_words}
@@ -37,9 +34,8 @@ use Rattle.pm_crash.specs.OpenCall.{IsGivenUp, IsWholeCall}
 use Rattle.pm_crash.specs.Pending.{act_of, acts_of, pending_after, pending_before, state_after}
 use Rattle.pm_crash.proofs.Drawn.{given_up_draws, own, whole_draws}
 use Rattle.pm_crash.proofs.HistoryActs.{act_drawn, acts_further, replays_none}
-use Rattle.pm_crash.proofs.HeldAlike.{held_by_reads}
 use Rattle.pm_crash.proofs.InFlight.{tells_as_opening}
-use Rattle.pm_crash.proofs.LivingWords.{read_lives}
+use Rattle.pm_crash.proofs.NewRuns.{image_holds}
 
 -- an opening's words hold its pool, with no call made
 pub begins_held : (o : Opening) (decided : ℕ → Bool) (header : Header) (pool : PoolView) → HoldsPool (slice_index o.words) o.lanes o.zones header pool → IsHeldHistory o [] decided header pool
@@ -131,22 +127,14 @@ pub crash_leaves_replay : (o : Opening) (mem : Memory) (views : Views) (log : Li
 crash_leaves_replay o mem views log decided image header pool world history survives none_torn =
     let keep : ℕ → Bool = is_kept o views image in
     let held : HoldReplay (kept_words o keep log) o keep log header pool = history.each keep (decided_kept o mem views log decided image world) in
-    let size = world.sound.size in
-    let long : length image ≡ length o.words = survives.size in
+    let kept : MeansKept o views log image = crash_law o mem views log decided image world survives none_torn in
     record {
       last = held.last;
-      holds = held_by_reads (kept_words o keep log) (recovered_at image o.lanes) o.lanes o.zones header held.last held.holds (record {
-        same = λ i read.
-            let living : IsLivingWord o i = read_lives o (kept_words o keep log) (tells_as_opening o mem views log decided world keep) world.sound held.holds.no_fault i read in
-            sym (recovered_in_place image o.lanes i (in_image i living.heap) ∙ crash_law o mem views log decided image world survives none_torn i living);
-      });
+      holds =
+          image_holds o (kept_words o keep log) (tells_as_opening o mem views log decided world keep) world.sound image survives.size (λ i living. kept.words i living) kept.new_runs header held.last
+          held.holds;
       replays = held.replays;
-    } where
-      in_image : (i : ℕ) → IsHeapWord o.lanes o.zones i → i < length image
-      in_image i heap =
-          let size = world.sound.size in
-          let long : length image ≡ length o.words = survives.size in
-          ⊎_elim (λ (root : i ≡ 64). omega arith) (λ (zones : (512 + 1024 * o.lanes ≤ i) × (i < pool_words o.lanes o.zones)). let within = zones.1 in omega arith) heap
+    }
 
 -- so does each lawful step of a lane, if what it draws is an ended call
 pub step_stays_held : (o : Opening) (mem : Memory) (views : Views) (log : List Entry) (decided : ℕ → Bool) → World o mem views log decided → (k : ℕ) (s : LaneStep) → k < o.lanes → IsLawful (views k) s

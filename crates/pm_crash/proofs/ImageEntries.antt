@@ -20,14 +20,13 @@ use Rattle.pm_image.proofs.Redoing.{entries_unsealed}
 use Rattle.pm_view.specs.Area.{area_word, part_of}
 use Rattle.pm_view.specs.Area.Part.{EntryWord, SlotWord}
 use Rattle.pm_view.specs.Changes.{is_in_line}
-use Rattle.pm_view.specs.Held.{is_reserved}
 use Rattle.pm_view.specs.Log.{Final, Phase}
 use Rattle.pm_view.specs.Log.Phase.{Idle, Open, Drawn, Sealing, Applying, Clearing, Retiring}
 use Rattle.pm_view.specs.Rights.{is_written}
 use Rattle.pm_view.specs.View.{View}
 use Rattle.pm_world.specs.Crash.{Survives}
 use Rattle.pm_world.specs.Entries.{AreWhole, IsEntryAt, ends_with, final_by, is_entered, redo_on}
-use Rattle.pm_world.specs.Fits.{AppliedChange, ApplyingFits, LaneFits, LogFits, PhaseFits}
+use Rattle.pm_world.specs.Fits.{AppliedChange, ApplyingFits, LaneFits, LogFits, PhaseFits, ReservedChange}
 use Rattle.pm_world.specs.History.{Entry, Flies, is_final, settled}
 use Rattle.pm_world.specs.Memory.{Memory}
 use Rattle.pm_world.specs.Opening.{Opening}
@@ -120,11 +119,11 @@ module _ (o : Opening) (mem : Memory) (views : Views) (log : List Entry) (decide
   before j inside t (Open slot pair) fit change =
       let is = t.of_word in let at = lane_is o mem views log decided x j inside in
       ⊎_elim (λ (part : part_of (views j).lane t.change.word ≡ SlotWord). let s = slot_part (views j).lane t.change.word part in let low = s.low in absurd (omega arith))
-      (λ (other : (part_of (views j).lane t.change.word ≡ EntryWord) ⊎ ((is_logged (views j) t.change.word ≡ true) ⊎ (is_reserved (views j) t.change.word ≡ true))).
+      (λ (other : (part_of (views j).lane t.change.word ≡ EntryWord) ⊎ ((is_logged (views j) t.change.word ≡ true) ⊎ ReservedChange (views j) t.change)).
       ⊎_elim (λ (part : part_of (views j).lane t.change.word ≡ EntryWord). let s = entry_part (views j).lane t.change.word part in let low = s.low in absurd (omega arith))
-      (λ (last : (is_logged (views j) t.change.word ≡ true) ⊎ (is_reserved (views j) t.change.word ≡ true)).
+      (λ (last : (is_logged (views j) t.change.word ≡ true) ⊎ ReservedChange (views j) t.change).
       ⊎_elim (λ (logged : is_logged (views j) t.change.word ≡ true). let behind = logged_behind o mem views log decided x j t.change.word inside logged in absurd (omega arith))
-      (λ (own : is_reserved (views j) t.change.word ≡ true). let behind = (reserved_word o mem views log decided x j t.change.word inside own).behind in absurd (omega arith)) last) other)
+      (λ (own : ReservedChange (views j) t.change). let behind = (reserved_word o mem views log decided x j t.change.word inside own.reserved).behind in absurd (omega arith)) last) other)
       change.of
   before j inside t Drawn fit change = absurd change
   before j inside t Sealing fit change = let is = t.of_word in let at = lane_is o mem views log decided x j inside in let of = change.of in absurd (omega arith)

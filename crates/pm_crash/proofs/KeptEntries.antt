@@ -1,5 +1,5 @@
 -- What a power failure leaves of one lane's course: its history, or all of it but the last entry.
-use Rattle.std.proofs.Common.{◌≡◌, ◌≢◌, ⊎_elim, ℕ, suc, ◌+◌, ◌*◌, ◌<◌, ◌≤◌, Bool, true, false, not, List, [], ◌∷◌, length, take, slice_index, Option, Some, None, refl, sym, ◌∙◌, ap, subst, arith}
+use Rattle.std.proofs.Common.{◌≡◌, ◌≢◌, ⊎_elim, ℕ, suc, ◌+◌, ◌<◌, ◌≤◌, Bool, true, false, not, List, [], ◌∷◌, length, take, slice_index, Option, Some, None, refl, sym, ◌∙◌, ap, subst, arith}
 use Rattle.std.specs.List.{Contains, filter}
 use Rattle.std.specs.Option.{option_or}
 use Rattle.std.proofs.lemmas.Bool.{and_parts, cases_Bool, cases_eq, cond-false, cond-true, eqb-true, false_from_ne_true, false≢true, not_from_false}
@@ -10,33 +10,30 @@ use Rattle.pm_image.specs.HeapFaults.{heap_fault}
 use Rattle.pm_image.specs.LogFaults.{log_fault}
 use Rattle.pm_image.specs.Logs.{recovered_at}
 use Rattle.pm_image.specs.Means.{IsMeaning}
-use Rattle.pm_image.specs.Reads.{IsHeapWord}
-use Rattle.pm_image.proofs.InPlace.{recovered_in_place}
 use Rattle.pm_image.proofs.Members.{first_member, later_member, member_cases}
 use Rattle.pm_view.specs.Area.{area_word}
 use Rattle.pm_view.specs.Log.{Phase}
 use Rattle.pm_view.specs.Log.Phase.{Idle}
 use Rattle.pm_view.specs.View.{View}
 use Rattle.pm_world.specs.Course.{is_number}
-use Rattle.pm_world.specs.Crash.{IsAcknowledged, NoneTorn, Survives, is_deciding_in, is_kept, is_lost, loses}
+use Rattle.pm_world.specs.Crash.{IsAcknowledged, MeansKept, NoneTorn, Survives, is_deciding_in, is_kept, is_lost, loses}
 use Rattle.pm_world.specs.History.{AreNumbered, Entry}
 use Rattle.pm_world.specs.Memory.{Memory}
 use Rattle.pm_world.specs.Memory.Location.{PoolWord}
-use Rattle.pm_world.specs.Opening.{IsLivingWord, Opening, TellsOfBlocks}
+use Rattle.pm_world.specs.Opening.{Opening, TellsOfBlocks}
 use Rattle.pm_world.specs.Opens.{IsClean}
 use Rattle.pm_world.specs.World.{Views}
-use Rattle.pm_world.proofs.CrashLaw.{crash_law}
+use Rattle.pm_world.proofs.CrashRuns.{crash_law}
 use Rattle.pm_world.proofs.Losses.{acknowledged, some_lane}
 use Rattle.pm_crash.specs.Held.{HoldsImage}
 use Rattle.pm_crash.specs.OneLane.{Begins, HoldsReplay, IsCourse, MeansReplay, Moment, Move, beginning, kept_entries}
 use Rattle.pm_crash.proofs.CleanWords.{clean_words_hold}
 use Rattle.pm_crash.proofs.FrontWords.{header_survives}
-use Rattle.pm_crash.proofs.HeldAlike.{held_by_reads}
 use Rattle.pm_crash.proofs.InFlight.{tells_as_opening}
-use Rattle.pm_crash.proofs.LivingWords.{read_lives}
 use Rattle.pm_crash.proofs.ImageLogs.{no_log_fault}
 use Rattle.pm_crash.proofs.LogCourse.{InRange}
 use Rattle.pm_crash.proofs.LongerReplays.{replayed_without, words_after}
+use Rattle.pm_crash.proofs.NewRuns.{image_holds}
 use Rattle.pm_crash.proofs.OneCourse.{Goes, Reaches, goes_along, goes_first}
 
 is_number-some : (number : Option ℕ) (n : ℕ) → is_number number n ≡ true → number ≡ Some n
@@ -112,24 +109,16 @@ module _ (o : Opening) (k : ℕ) (header : Header) (pool : PoolView) (m : Moment
     last = kept_reached.last;
     replays = kept_reached.replays;
     holds =
-        held_by_reads (words_after (slice_index o.words) (kept_entries o m image)) (recovered_at image o.lanes) o.lanes o.zones header kept_reached.last kept_reached.holds (record {
-          same = λ i read.
-              let living : IsLivingWord o i = read_lives o (words_after (slice_index o.words) (kept_entries o m image)) kept_heads g.world.sound kept_reached.holds.no_fault i read in
-              sym (recovered_in_place image o.lanes i (inside i living.heap)
-              ∙ crash_law o m.memory m.views m.log m.decided image g.world survives whole i living
-              ∙ replayed_without (is_kept o m.views image) m.log i (slice_index o.words i));
-        });
+        image_holds o (words_after (slice_index o.words) (kept_entries o m image)) kept_heads g.world.sound image survives.size
+        (λ i living. kept.words i living ∙ replayed_without (is_kept o m.views image) m.log i (slice_index o.words i)) kept.new_runs header kept_reached.last kept_reached.holds;
   } where
     -- what tells of blocks is as at the opening
     kept_heads : (i : ℕ) → TellsOfBlocks o i → words_after (slice_index o.words) (kept_entries o m image) i ≡ slice_index o.words i
     kept_heads i tells =
         sym (replayed_without (is_kept o m.views image) m.log i (slice_index o.words i)) ∙ tells_as_opening o m.memory m.views m.log m.decided g.world (is_kept o m.views image) i tells
 
-    inside : (i : ℕ) → IsHeapWord o.lanes o.zones i → i < length image
-    inside i heap =
-        let size = g.world.sound.size in
-        let long = survives.size in
-        ⊎_elim (λ (root : i ≡ 64). omega arith) (λ (zone : (512 + 1024 * o.lanes ≤ i) × (i < 512 + 1024 * o.lanes + 33280 * o.zones)). let high = zone.1 in omega arith) heap
+    kept : MeansKept o m.views m.log image
+    kept = crash_law o m.memory m.views m.log m.decided image g.world survives whole
 
   pub acknowledged_kept : (e : Entry) → Contains m.log e → IsAcknowledged m.views e → Contains (kept_entries o m image) e
   acknowledged_kept e there ended =

@@ -1,5 +1,5 @@
 -- Where a lane works alone, its picture of the occupancy words is what the pool's words and what it has itself say.
-use Rattle.std.proofs.Common.{◌≡◌, ◌≢◌, ◌↔◌, ◌⊎◌, inl, inr, ⊎_elim, ℕ, ◌/◌, ◌<◌, true, List, slice_index, sym, ap, ◌∙◌}
+use Rattle.std.proofs.Common.{◌≡◌, ◌≢◌, ◌↔◌, ◌⊎◌, inl, inr, ⊎_elim, ℕ, ◌<◌, false, true, List, slice_index, refl, sym, ap, ◌∙◌}
 use Rattle.std.specs.Int.{bit_at}
 use Rattle.std.proofs.lemmas.Bool.{cases_eq, false≢true}
 use Rattle.pm_header.specs.declared.header.Header.{Header}
@@ -10,43 +10,40 @@ use Rattle.pm_view.specs.Occupancy.{is_taken}
 use Rattle.pm_view.specs.Steps.{Step}
 use Rattle.pm_view.specs.View.{View}
 use Rattle.pm_view.specs.Views.{occ_in}
-use Rattle.pm_world.specs.Heap.{Heap, IsOcc, SomeHasTaken, has_taken}
-use Rattle.pm_world.specs.Opening.{Opening, TellsOfBlocks}
-use Rattle.pm_crash.specs.Alone.{WorksAlone, standing}
+use Rattle.pm_world.specs.Heap.{Heap, IsOcc, SomeHasTaken, has_taken, heap_words}
+use Rattle.pm_world.specs.Opening.{Opening}
+use Rattle.pm_crash.specs.Alone.{WorksAlone, idle_view}
 use Rattle.pm_crash.proofs.AloneCourse.{StandsAlone, stands_at}
 use Rattle.pm_crash.proofs.AloneMemory.{memory_of, occ_memory}
-use Rattle.pm_crash.proofs.SameBlocks.{block_still, chunk_still, told_before}
-use Rattle.pm_crash.proofs.SoundPools.{telling_word}
+use Rattle.pm_crash.proofs.SameBlocks.{taken_now}
+use Rattle.pm_crash.proofs.SoundPools.{new_runs_seen, telling_word}
+
+-- a lane that makes no step has nothing
+idle_has_none : (o : Opening) (j : ℕ) (at : Occ) (bit : ℕ) → has_taken (idle_view o j) at bit ≡ false
+idle_has_none o j (Run place) bit = refl
+idle_has_none o j (Zone zone) bit = refl
 
 module _ (o : Opening) (header : Header) (pool : PoolView) (w : View) (s : StandsAlone o header pool w) where
-  abbrev heap : Heap o (slice_index o.words) (memory_of w) s.views
+  abbrev heap : Heap o (heap_words o (memory_of w)) (memory_of w) s.views
   heap = s.goes.world.heap
 
-  -- what was taken is, and the other way round
-  taken_now : (at : Occ) (bit : ℕ) → IsOcc o.lanes o.zones at → bit < 64 → is_taken (slice_index o.words) o.lanes at bit ≡ true → is_taken (slice_index w.words) o.lanes at bit ≡ true
-  taken_now (Run place) bit of low e = block_still o w.words (telling_word o header pool w s) (place / 4096) bit of.1 e
-  taken_now (Zone zone) bit of low e = chunk_still o w.words (telling_word o header pool w s) zone bit low e
-
-  told_again : (i : ℕ) → TellsOfBlocks (standing o w) i → slice_index o.words i ≡ slice_index w.words i
-  told_again i tells = sym (telling_word o header pool w s i (told_before o w.words (telling_word o header pool w s) i tells))
-
-  taken_then : (at : Occ) (bit : ℕ) → IsOcc o.lanes o.zones at → bit < 64 → is_taken (slice_index w.words) o.lanes at bit ≡ true → is_taken (slice_index o.words) o.lanes at bit ≡ true
-  taken_then (Run place) bit of low e = block_still (standing o w) o.words told_again (place / 4096) bit of.1 e
-  taken_then (Zone zone) bit of low e = chunk_still (standing o w) o.words told_again zone bit low e
+  -- the words that tell of blocks now say of what is taken what the lane's words say
+  taken_here : (at : Occ) (bit : ℕ) → IsOcc o.lanes o.zones at → bit < 64 → is_taken (heap_words o (memory_of w)) o.lanes at bit ≡ is_taken (slice_index w.words) o.lanes at bit
+  taken_here = taken_now o (memory_of w) w.words (λ i. refl) (new_runs_seen o header pool w s) (telling_word o header pool w s)
 
   -- no other lane has anything
   own_alone : (at : Occ) (bit : ℕ) → SomeHasTaken s.views o.lanes at bit → has_taken w at bit ≡ true
   own_alone at bit (j, inside, has) =
       ⊎_elim (λ (same : j ≡ 0). ap (λ u. has_taken u at bit) (sym s.here) ∙ (ap (λ n. has_taken (s.views n) at bit) (sym same) ∙ has))
-      (λ (other : j ≢ 0). absurd (false≢true (ap (λ u. has_taken u at bit) (sym (s.others j other)) ∙ has)))
+      (λ (other : j ≢ 0). absurd (false≢true (sym (idle_has_none o j at bit) ∙ (ap (λ u. has_taken u at bit) (sym (s.others j other)) ∙ has))))
       (cases_eq j 0)
 
   known : (at : Occ) (bit : ℕ) → IsOcc o.lanes o.zones at → bit < 64 → (bit_at (occ_in w at) bit ≡ 1) ↔ ((is_taken (slice_index w.words) o.lanes at bit ≡ true) ⊎ (has_taken w at bit ≡ true))
   known at bit of low = (
-    λ one. ⊎_elim (λ (taken : is_taken (slice_index o.words) o.lanes at bit ≡ true). inl (taken_now at bit of low taken)) (λ (some : SomeHasTaken s.views o.lanes at bit). inr (own_alone at bit some))
+    λ one. ⊎_elim (λ (taken : is_taken (heap_words o (memory_of w)) o.lanes at bit ≡ true). inl (sym (taken_here at bit of low) ∙ taken)) (λ (some : SomeHasTaken s.views o.lanes at bit). inr (own_alone at bit some))
         (heap.set at bit of low (ap (λ x. bit_at x bit) (occ_memory w at) ∙ one)),
     λ is. ap (λ x. bit_at x bit) (sym (occ_memory w at))
-        ∙ ⊎_elim (λ (taken : is_taken (slice_index w.words) o.lanes at bit ≡ true). heap.taken at bit of low (taken_then at bit of low taken))
+        ∙ ⊎_elim (λ (taken : is_taken (slice_index w.words) o.lanes at bit ≡ true). heap.taken at bit of low (taken_here at bit of low ∙ taken))
         (λ (has : has_taken w at bit ≡ true). heap.held 0 at bit s.goes.in_lanes of low (ap (λ u. has_taken u at bit) s.here ∙ has)) is,
   )
 

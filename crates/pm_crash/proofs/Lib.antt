@@ -39,6 +39,8 @@ pub mod Staying
 pub mod RisingWants
 pub mod HistoryActs
 pub mod LivingWords
+pub mod NewRuns
+pub mod UnreadNow
 pub mod LongerReplays
 pub mod DrawnWords
 pub mod OneCourse

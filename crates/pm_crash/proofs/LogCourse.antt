@@ -37,6 +37,7 @@ use Rattle.pm_world.proofs.Locations.{other_occ, other_zone_lock, plain_pool, ot
 use Rattle.pm_world.proofs.Parts.{generation_part, seal_part}
 use Rattle.pm_world.proofs.StepChange.{changes_next, changes_written}
 use Rattle.pm_world.proofs.StoreEntry.{next_entry}
+use Rattle.pm_world.proofs.Reserved.{describing_reserved}
 
 -- nothing of the log is written yet
 pub record IsUnwritten (v : View) (slot : List ℕ) : Type 0 where
@@ -269,7 +270,8 @@ module _ (o : Opening) (mem : Memory) (views : Views) (log : List Entry) (decide
       stored_range (Open slot pair) EntryWord is of may range = in_pair slot pair is may (subst (PhaseFits (Flies log decided k) v) is fits.phase) range
       stored_range (Open slot pair) SlotWord is of may range = in_slot slot pair is may range
       stored_range (Open slot pair) OtherWord is of (inl writes) range = subst (InRange g' (stored v.log)) (sym is) (in_object slot pair is writes range)
-      stored_range (Open slot pair) OtherWord is of (inr fills) range = subst (InRange g' (stored v.log)) (sym is) (in_reserved slot pair is fills.reserved range)
+      stored_range (Open slot pair) OtherWord is of (inr (inl fills)) range = subst (InRange g' (stored v.log)) (sym is) (in_reserved slot pair is fills.reserved range)
+      stored_range (Open slot pair) OtherWord is of (inr (inr describes)) range = subst (InRange g' (stored v.log)) (sym is) (in_reserved slot pair is (describing_reserved v w y describes) range)
       stored_range Drawn GenerationWord is of may range = raised (generation_part v.lane w of).1 may.next
       stored_range Drawn SealWord is of may range = tt
       stored_range Drawn EntryWord is of may range = absurd may

@@ -1,5 +1,5 @@
 -- A lane that is alone raises its generation by one with each store of it, and with nothing else.
-use Rattle.std.proofs.Common.{◌≡◌, inr, inl, ◌≢◌, ⊎_elim, IsTrue, ℕ, ◌+◌, ◌*◌, ◌<◌, ◌≤◌, Bool, false, cond, List, [], ◌∷◌, length, slice_index, refl, sym, ◌∙◌, ap, subst, arith, eq-eqb, ne_eqb, get_or-set_same, get_or-set_other, set, bit_or, bit_and}
+use Rattle.std.proofs.Common.{◌≡◌, inr, inl, ◌≢◌, ⊎_elim, IsTrue, ℕ, ◌+◌, ◌*◌, ◌<◌, ◌≤◌, Bool, true, false, cond, List, [], ◌∷◌, length, slice_index, refl, sym, ◌∙◌, ap, subst, arith, eq-eqb, ne_eqb, get_or-set_same, get_or-set_other, set, bit_or, bit_and}
 use Rattle.std.specs.Option.{ForSome}
 use Rattle.pm_record.specs.declared.redo.Op.TheVariants as op
 use Rattle.pm_header.specs.declared.header.Header.{Header}
@@ -36,6 +36,7 @@ use Rattle.pm_crash.proofs.Raises.{raise_by}
 use Rattle.pm_record.specs.declared.redo.Op.{Op}
 use Rattle.pm_world.proofs.StepChange.{changes_next, no_generation}
 use Rattle.pm_world.specs.Entries.{set_word, ends_with}
+use Rattle.pm_world.proofs.Reserved.{describing_reserved}
 
 begun_generation : (phase : Phase) (v : View) → generation_of (begun phase v) ≡ generation_of v
 begun_generation Idle v = refl
@@ -75,6 +76,11 @@ module _ (o : Opening) (header : Header) (pool : PoolView) where
           (λ (t : (set_word w y ≡ ends_with v (generation_of v + 1)) × (applied + 1 ≡ length v.log.entries)). raised (ap (λ (f : Final). f.word) t.0) (ap (λ (f : Final). f.bits) t.0))
           (next_entry v applied (set_word w y) (subst (PhaseFits (Flies stands.log stands.decided 0) v) is (own_fits o header pool v stands).phase) next)
 
+      -- a word that the lane reserved
+      beyond_areas : is_reserved v w ≡ true → generation_of (after v (Store w y)) ≡ generation_of v + raise_by (Store w y)
+      beyond_areas reserved =
+          other (λ e. let far = (reserved_word o (memory_of v) stands.views stands.log stands.decided stands.goes.world 0 w stands.goes.in_lanes (ap (λ u. is_reserved u w) stands.here ∙ reserved)).behind in omega (arith, e, far))
+
       stored : (p : Phase) (part : Part) → v.log.phase ≡ p → part_of v.lane w ≡ part → StoreFits v w y p part → generation_of (after v (Store w y)) ≡ generation_of v + raise_by (Store w y)
       stored Idle part is of may = absurd may
       stored (Open slot pair) GenerationWord is of may = raised (generation_part v.lane w of).1 may.ends.next
@@ -82,8 +88,8 @@ module _ (o : Opening) (header : Header) (pool : PoolView) where
       stored (Open slot pair) EntryWord is of may = other (λ e. let at = may.at in omega (arith, e, at))
       stored (Open slot pair) SlotWord is of may = other (λ e. let at = may.at in omega (arith, e, at))
       stored (Open slot pair) OtherWord is of (inl writes) = other (λ e. let far = behind o header pool v stands alone w writes.own in omega (arith, e, far))
-      stored (Open slot pair) OtherWord is of (inr fills) =
-          other (λ e. let far = (reserved_word o (memory_of v) stands.views stands.log stands.decided stands.goes.world 0 w stands.goes.in_lanes (ap (λ u. is_reserved u w) stands.here ∙ fills.reserved)).behind in omega (arith, e, far))
+      stored (Open slot pair) OtherWord is of (inr (inl fills)) = beyond_areas fills.reserved
+      stored (Open slot pair) OtherWord is of (inr (inr describes)) = beyond_areas (describing_reserved v w y describes)
       stored Drawn GenerationWord is of may = raised (generation_part v.lane w of).1 may.next
       stored Drawn SealWord is of may = other (λ e. let at = (seal_part v.lane w of).1 in omega (arith, e, at))
       stored Drawn EntryWord is of may = absurd may

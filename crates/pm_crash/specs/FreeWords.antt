@@ -7,7 +7,7 @@ use Rattle.pm_image.specs.Blocks.{chunk_word, descriptor_word}
 use Rattle.pm_image.specs.Reads.{Reads}
 use Rattle.pm_view.specs.declared.occ.Occ.{Occ}
 use Rattle.pm_view.specs.declared.occ.Occ.TheVariants.{Run}
-use Rattle.pm_view.specs.Blocks.{covers, descriptor_word as lane_descriptor}
+use Rattle.pm_view.specs.Blocks.{covers, describes, descriptor_word as lane_descriptor}
 use Rattle.pm_view.specs.Occupancy.{is_chunk_taken, is_taken}
 use Rattle.pm_world.specs.Heap.{IsOcc}
 
@@ -15,7 +15,8 @@ use Rattle.pm_world.specs.Heap.{IsOcc}
 abbrev pub HasDescriptor : List ℕ → (ℕ → ℕ) → ℕ → Occ → Type 0
 HasDescriptor words w lanes at = (place : ℕ) → at ≡ Run place → slice_index words (lane_descriptor lanes (place / 4096)) ≡ w (lane_descriptor lanes (place / 4096))
 
--- the word is in one of these blocks of an occupancy word of the pool, and each of them is free; `words` are those by which a lane tells the blocks
+-- The word is in one of these blocks of an occupancy word of the pool, and each of them is free; `words` are those by which a lane tells the blocks. It is
+-- no descriptor, since a meaning reads those of free chunks too.
 pub record IsFreeWord (w : ℕ → ℕ) (lanes zones i : ℕ) : Type 0 where
   pub words : List ℕ
   pub at : Occ
@@ -24,6 +25,7 @@ pub record IsFreeWord (w : ℕ → ℕ) (lanes zones i : ℕ) : Type 0 where
   pub seen : HasDescriptor words w lanes at
   pub free : (bit : ℕ) → bit < 64 → bit_at bits bit ≡ 1 → is_taken w lanes at bit ≡ false
   pub covered : covers lanes words at bits i ≡ true
+  pub undescribing : describes lanes i ≡ false
 
 -- the word is one of the chunk's, or its descriptor
 abbrev pub IsOfChunk : ℕ → ℕ → ℕ → Type 0

@@ -4,6 +4,7 @@ ghost use Rattle.pm_header.specs.declared.header.Header.{Header};
 ghost use Rattle.pm_objects.specs.declared.pool.PoolView.{PoolView};
 ghost use Rattle.pm_image.specs.Logs.{generation, generation_word, seal_word};
 ghost use Rattle.pm_view.specs.declared.occ.Occ.{Occ};
+ghost use Rattle.pm_view.specs.Blocks.{block_at};
 ghost use Rattle.pm_view.specs.Log.{Recorded};
 ghost use Rattle.pm_view.specs.Log.Phase.{Idle};
 ghost use Rattle.pm_view.specs.Occupancy.{is_taken};
@@ -13,7 +14,7 @@ ghost use Rattle.pm_view.specs.Views.{occ_in};
 ghost use Rattle.pm_memory.specs.Keep.{IsKeptImage};
 ghost use Rattle.pm_world.specs.Course.{flight};
 ghost use Rattle.pm_world.specs.Crash.{NoneTorn, loses};
-ghost use Rattle.pm_world.specs.Heap.{IsOcc, has_taken};
+ghost use Rattle.pm_world.specs.Heap.{AreNewRuns, IsOcc, has_taken};
 ghost use Rattle.pm_world.specs.Opening.{IsSound, Opening};
 ghost use Rattle.pm_world.specs.Records.{generation_of, records_generation};
 ghost use Rattle.pm_crash.specs.Alone.{GrowsFirst, HasNoTornMatch, IsDrawnAt, IsUnsealed, MayRecord, MeansCalls, Rests, WorksAlone, alone_views, is_of_words, kept_numbered, raises, standing};
@@ -91,16 +92,21 @@ pub fn a_generation_rises_with_each_store_of_it()
         → WorksAlone o header pool v steps w → generation_of w ≡ generation_word o.words 0 + raises steps }
 {}
 
-/// A law: where a lane works alone, each bit of its picture of an occupancy word is set exactly where what it is of is taken by the pool's words, or
-/// the lane has reserved it, or freed it and not given it back: docs/FORMAT.md, "Volatile words". No code runs.
+/// A law: where a lane works alone, each bit of its picture of an occupancy word is set exactly where what it is of is taken by the pool's words as it
+/// has them, or the lane has reserved it, or the chunk of the run, or freed it and not given it back: docs/FORMAT.md, "Volatile words". No code
+/// runs.
 pub fn a_lane_alone_knows_what_is_taken()
     ensures { (o : Opening) (header : Header) (pool : PoolView) (v w : View) (steps : List Step) (at : Occ) (bit : ℕ)
         → WorksAlone o header pool v steps w → IsOcc o.lanes o.zones at → bit < 64
         → (bit_at (occ_in w at) bit ≡ 1) ↔ ((is_taken (slice_index w.words) o.lanes at bit ≡ true) ⊎ (has_taken w at bit ≡ true)) }
 {}
 
-/// A law: where a lane works alone, the words that tell of blocks stay as they were; so the pool is sound as each view of the lane has it, and
-/// so where the lane rests on its way. No code runs.
+/// A law: where a lane works alone, the pool is sound as each view of the lane has it, and so where the lane rests on its way: the same blocks
+/// begin at the same lines as at the opening, and a chunk that was free has no block, be it a run by now. No code runs.
 pub fn a_pool_stays_sound()
-    ensures { (o : Opening) (header : Header) (pool : PoolView) (v b : View) (steps : List Step) → WorksAlone o header pool v steps b → IsSound (standing o b) }
+    ensures sound { (o : Opening) (header : Header) (pool : PoolView) (v b : View) (steps : List Step) → WorksAlone o header pool v steps b → IsSound (standing o b) }
+    ensures blocks { (o : Opening) (header : Header) (pool : PoolView) (v b : View) (steps : List Step) → WorksAlone o header pool v steps b
+        → (line : ℕ) → block_at o.lanes b.words line ≡ block_at o.lanes o.words line }
+    ensures new_runs { (o : Opening) (header : Header) (pool : PoolView) (v b : View) (steps : List Step) → WorksAlone o header pool v steps b
+        → AreNewRuns o (slice_index b.words) }
 {}

@@ -6,12 +6,14 @@ ghost use Rattle.pm_image.specs.HeapFaults.{heap_fault};
 ghost use Rattle.pm_image.specs.Reads.{AgreeOn, Reads};
 ghost use Rattle.pm_view.specs.declared.occ.Occ.{Occ};
 ghost use Rattle.pm_view.specs.declared.occ.Occ.TheVariants.{Zone};
-ghost use Rattle.pm_view.specs.Blocks.{covers, descriptor_word as lane_descriptor};
+ghost use Rattle.pm_view.specs.Blocks.{covers, describes, tells_nothing};
 ghost use Rattle.pm_view.specs.Held.{is_reserved};
 ghost use Rattle.pm_view.specs.Occupancy.{is_taken};
 ghost use Rattle.pm_view.specs.View.{View};
-ghost use Rattle.pm_world.specs.Heap.{BlocksFit, IsOcc};
-ghost use Rattle.pm_world.specs.Opening.{IsChunk};
+ghost use Rattle.pm_world.specs.Heap.{AreNewRuns, BlocksFit, IsOcc, heap_words};
+ghost use Rattle.pm_world.specs.Memory.{Memory};
+ghost use Rattle.pm_world.specs.Memory.Location.{PoolWord};
+ghost use Rattle.pm_world.specs.Opening.{Opening};
 ghost use Rattle.pm_crash.specs.Held.{HoldsPool};
 ghost use Rattle.pm_crash.specs.FreeWords.{HasDescriptor, IsFreeWord, MakesEmptyRun, MayHaveNewRuns};
 
@@ -24,18 +26,23 @@ pub fn a_pool_is_held_by_what_is_read()
         → AgreeOn (Reads w lanes zones) w v → blocks v lanes zones ≡ blocks w lanes zones }
 {}
 
-/// A law: no meaning reads a word of what a bit of an occupancy word is of, where that is free; nor one of several that are, as those that
-/// a lane reserved. So whatever stands in free blocks and chunks, the pool is the same. No code runs.
+/// A law: no meaning reads a word of what a bit of an occupancy word is of, where that is free, but the descriptors of free chunks; nor one of
+/// several that are, as those that a lane reserved. These are free by the opening's words, though a chunk that was free may be a run by now; and by
+/// the words that tell of blocks now none is read that tells of no block. So whatever stands in free blocks and chunks, the pool is the same. No
+/// code runs.
 pub fn words_of_free_blocks_are_not_read()
     ensures bit { (w : ℕ → ℕ) (words : List ℕ) (lanes zones : ℕ) (at : Occ) (bit i : ℕ)
         → heap_fault w lanes zones ≡ None → IsOcc lanes zones at → HasDescriptor words w lanes at
-        → is_taken w lanes at bit ≡ false → covers lanes words at (2 ^ bit) i ≡ true
+        → is_taken w lanes at bit ≡ false → covers lanes words at (2 ^ bit) i ≡ true → describes lanes i ≡ false
         → ¬ Reads w lanes zones i }
     ensures free { (w : ℕ → ℕ) (lanes zones i : ℕ)
         → heap_fault w lanes zones ≡ None → IsFreeWord w lanes zones i → ¬ Reads w lanes zones i }
-    ensures reserved { (w : ℕ → ℕ) (lanes zones i : ℕ) (v : View) → v.lanes ≡ lanes
-        → ((page : ℕ) → IsChunk lanes page → slice_index v.words (lane_descriptor lanes page) ≡ w (lane_descriptor lanes page))
-        → BlocksFit w lanes zones v → is_reserved v i ≡ true → IsFreeWord w lanes zones i }
+    ensures reserved { (o : Opening) (memory : Memory) (i : ℕ) (v : View) → v.lanes ≡ o.lanes
+        → BlocksFit o (heap_words o memory) v → is_reserved v i ≡ true → describes o.lanes i ≡ false
+        → IsFreeWord (slice_index o.words) o.lanes o.zones i }
+    ensures unread { (o : Opening) (memory : Memory) (i : ℕ) (v : View) → v.lanes ≡ o.lanes → AreNewRuns o (λ w. memory (PoolWord w))
+        → BlocksFit o (heap_words o memory) v → is_reserved v i ≡ true → tells_nothing v.lanes v.words i ≡ true
+        → heap_fault (heap_words o memory) o.lanes o.zones ≡ None → ¬ Reads (heap_words o memory) o.lanes o.zones i }
     ensures pool { (w v : ℕ → ℕ) (lanes zones : ℕ) (header : Header) (pool : PoolView)
         → HoldsPool w lanes zones header pool → ((i : ℕ) → ¬ IsFreeWord w lanes zones i → v i ≡ w i)
         → HoldsPool v lanes zones header pool }

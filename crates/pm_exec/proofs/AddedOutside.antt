@@ -43,6 +43,7 @@ use Rattle.pm_undo.specs.Working.{IsWorking}
 use Rattle.pm_exec.proofs.Along.{alone_along}
 use Rattle.pm_exec.proofs.FilledSlots.{Fills, Next, adds_fill, fills_first}
 use Rattle.pm_exec.proofs.UndrainedSlots.{alone_lane}
+use Rattle.pm_world.proofs.Reserved.{describing_reserved}
 
 -- the words outside of lane 0's area are the same
 abbrev pub AreSameOutside : View → View → Type 0
@@ -60,7 +61,8 @@ stored_same words w x i inside outside = get_or-set_other words w i x 0 (λ same
 may_write : (v : View) (w x : ℕ) (p : Phase) → EntriesFit v → w ≢ area_word v.lane → StoreFits v w x p OtherWord → IsTrue (is_written v w) ⊎ (is_reserved v w ≡ true)
 may_write v w x Idle entries other may = absurd may
 may_write v w x (Open slot pair) entries other (inl writes) = inl writes.own
-may_write v w x (Open slot pair) entries other (inr fills) = inr fills.reserved
+may_write v w x (Open slot pair) entries other (inr (inl fills)) = inr fills.reserved
+may_write v w x (Open slot pair) entries other (inr (inr describes)) = inr (describing_reserved v w x describes)
 may_write v w x Drawn entries other may = absurd may
 may_write v w x Sealing entries other may = absurd may
 may_write v w x (Applying applied) entries other may =

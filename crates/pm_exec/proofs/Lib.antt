@@ -12,6 +12,7 @@ pub mod UndrawnSteps
 pub mod PublishFront
 pub mod CommitFront
 pub mod OpeningFound
+pub mod KnownChunks
 pub mod Standing
 pub mod CallParts
 pub mod CallsInTurn

@@ -130,6 +130,6 @@ module _ (o : Opening) where
     lane = lane;
     lanes = is.lanes;
     size = ap length is.words;
-    descriptors = λ page chunk. ap (λ (words : List ℕ). slice_index words (descriptor_word o.lanes page)) is.words;
+    descriptors = λ page chunk taken. ap (λ (words : List ℕ). slice_index words (descriptor_word o.lanes page)) is.words;
     locks = is.locks;
   }

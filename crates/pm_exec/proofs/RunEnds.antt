@@ -49,19 +49,23 @@ use Rattle.pm_exec.proofs.RisingCalls.{call_lines_rise}
 use Rattle.pm_exec.proofs.ShownHistories.{as_many, as_many_numbered, calls_are, numbers_count, shown_replay}
 use Rattle.pm_exec.proofs.StoppedEnd.{within_stop}
 use Rattle.pm_exec.proofs.Untorn.{none_torn_where_stopped}
+use Rattle.pm_occupancy.proofs.Words.{words_are_occupancy, zone_words_count}
+use Rattle.pm_occupancy.specs.Words.{run_words_of, zone_words_of}
+use Rattle.pm_view.specs.Occupancy.{IsOccupancy}
 
 -- before the first call none was answered
-pub run_begins : (o : Opening) (first : View) (lane : Lane Solo) (names : Names) (history : List Entry) → first.entries ≡ [] → history ≡ [] → IsStart o lane [] first → HasComeTo o first lane [] names [] history
+pub run_begins : (pool : PoolView) (words : List ℕ) (stop : Option ℕ) (lane : Lane Solo) (names : Names) (history : List Entry) → history ≡ [] → IsStart (opening_of pool words) lane [] (first_view pool words stop)
+    → HasComeTo (opening_of pool words) (first_view pool words stop) lane [] names [] history
 unfolding Leads CallsMade among
-run_begins o first lane names history entries none is = record {
-  opened = record { of_lane = is.of_lane; alone = is.alone; sound = is.sound; zones = is.zones; lanes_are = is.lanes_are; words_are = is.words_are; uncalled = entries; idle = is.idle; free = is.rests.free };
+run_begins pool words stop lane names history none is = record {
+  opened = record { of_lane = is.of_lane; alone = is.alone; sound = is.sound; zones = is.zones; lanes_are = is.lanes_are; zones_are = refl; words_are = is.words_are; uncalled = refl; idle = is.idle; free = is.rests.free; nothing_reserved = refl; zone_count = zone_words_count (slice_index words) pool.lanes pool.zones; taken = λ zone chunk in_pool low taken. (known.chunks zone chunk in_pool low).1 taken };
   answered = record {
-    view = first;
+    view = first_view pool words stop;
     called = record {
       steps = [];
       leads = refl;
-      are = subst (λ (es : List Entry). AreEntries names [] es first.entries) (sym none) (subst (AreEntries names [] []) (sym entries) tt);
-      made = subst (λ (es : List Entry). CallsMade names [] es first first) (sym none) refl;
+      are = subst (λ (es : List Entry). AreEntries names [] es []) (sym none) tt;
+      made = subst (λ (es : List Entry). CallsMade names [] es (first_view pool words stop) (first_view pool words stop)) (sym none) refl;
       few = omega arith;
     };
     rests = is.rests;
@@ -69,6 +73,9 @@ run_begins o first lane names history entries none is = record {
     pending = is.pending;
   };
 }
+  where
+    known : IsOccupancy (run_words_of (slice_index words) pool.lanes pool.zones) (zone_words_of (slice_index words) pool.lanes pool.zones) (slice_index words) pool.lanes pool.zones
+    known = words_are_occupancy (slice_index words) pool.lanes pool.zones is.zones
 
 -- the same of names and lines that are given otherwise
 pub run_of : (o : Opening) (first : View) (lane : Lane Solo) (history : List Entry) (halt : Halt) (names other : Names) (lines script : List ScriptLine) → names ≡ other → lines ≡ script

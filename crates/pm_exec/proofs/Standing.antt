@@ -1,6 +1,7 @@
--- Along all steps of a lane that is alone in a sound pool, what tells of blocks stays; so the pool is sound as each view of the lane has it.
-use Rattle.std.proofs.Common.{◌≡◌, ⊎_elim, eq-eqb, eqb, not, ◌%◌, ◌/◌, inr, inl, ℕ, ◌+◌, ◌*◌, ◌<◌, ◌≤◌, true, ◌&&◌, All, IsTrue, List, [], ◌∷◌, length, length-set, set, slice_index, is_some, refl, sym, ap, ◌∙◌, subst, arith, bit_or, bit_and}
-use Rattle.std.proofs.lemmas.Bool.{and_from, and_parts, false≢true}
+-- Along all steps of a lane that is alone in a sound pool, what tells of the chunks that were taken stays, and one that was free has no block; so the pool
+-- is sound as each view of the lane has it.
+use Rattle.std.proofs.Common.{◌≡◌, ⊎_elim, eq-eqb, eqb, not, ◌%◌, ◌/◌, inr, inl, ℕ, ◌+◌, ◌*◌, ◌<◌, ◌≤◌, true, ◌&&◌, All, IsTrue, List, [], ◌∷◌, length, length-set, set, slice_index, is_some, refl, sym, ap, ◌∙◌, subst, arith, bit_or, bit_and, ◌≢◌, ◌-◌, false, get_or-set_same, ◌⊎◌}
+use Rattle.std.proofs.lemmas.Bool.{and_from, and_parts, false≢true, cases_eq}
 use Rattle.std.proofs.lemmas.List.{get_or-set_other}
 use Rattle.std.proofs.lemmas.List.Elements.{All-nil}
 use Rattle.std.proofs.lemmas.List.Folds.{Any-from_list_any}
@@ -16,7 +17,7 @@ use Rattle.pm_undo.specs.Working.{FindsOpening}
 use Rattle.pm_view.proofs.SameLane.{same_lane-after}
 use Rattle.pm_view.specs.Area.{Part, area_word, is_in_area, part_of}
 use Rattle.pm_view.specs.Area.Part.{GenerationWord, SealWord, EntryWord, SlotWord, OtherWord}
-use Rattle.pm_view.specs.Blocks.{bitmap_word, descriptor_word, is_chunk, is_run, tells_nothing}
+use Rattle.pm_view.specs.Blocks.{bitmap_word, descriptor_word, is_chunk, is_run, tells_nothing, chunk_of, zone_of}
 use Rattle.pm_view.specs.Founds.{FoundAlone}
 use Rattle.pm_view.specs.Held.{is_under_found}
 use Rattle.pm_view.specs.Log.{Log, Phase, no_log}
@@ -25,13 +26,13 @@ use Rattle.pm_view.specs.Rights.{is_written}
 use Rattle.pm_view.specs.Steps.{Step}
 use Rattle.pm_view.specs.Steps.Step.{Or as Or_step, And as And_step, Store}
 use Rattle.pm_view.specs.View.{Lock, View}
-use Rattle.pm_view.specs.Views.{after}
+use Rattle.pm_view.specs.Views.{after, has_bit}
 use Rattle.pm_world.proofs.Apart.{area_bounds}
-use Rattle.pm_world.proofs.Living.{descriptor_page}
+use Rattle.pm_world.proofs.Living.{descriptor_page, TellsOf}
 use Rattle.pm_world.proofs.Parts.{entry_part, generation_part, seal_part, slot_part}
-use Rattle.pm_world.specs.Entries.{IsEnterable, set_word, final_by}
-use Rattle.pm_world.specs.Lawful.{Allowed, StoreFits, MayChange}
-use Rattle.pm_world.specs.Opening.{IsSound, Opening, TellsOfBlocks}
+use Rattle.pm_world.specs.Entries.{IsEnterable, set_word}
+use Rattle.pm_world.specs.Lawful.{Allowed, StoreFits, MayChange, MayDescribe}
+use Rattle.pm_world.specs.Opening.{IsSound, Opening, Guards, IsChunk, is_free_chunk}
 use Rattle.pm_world.specs.declared.lane.Lane.{Lane}
 use Rattle.pm_exec.specs.Progress.{IsStart}
 use Rattle.pm_exec.specs.Running.{IsOpenedAs}
@@ -44,108 +45,193 @@ use Rattle.pm_exec.specs.Progress.{IsPending}
 use Rattle.pm_record.specs.declared.redo.Op.TheVariants.{Set}
 use Rattle.pm_record.specs.declared.redo.Op.{Op}
 use Rattle.pm_view.specs.Counts.{is_store}
-use Rattle.pm_world.proofs.StepChange.{changes_next}
+use Rattle.pm_world.proofs.StepChange.{changes_next, changing}
 use Rattle.pm_world.proofs.StorePair.{final_word}
+use Rattle.std.specs.List.{list_any}
+use Rattle.pm_view.specs.Occupancy.{is_chunk_taken}
+use Rattle.pm_view.specs.declared.occ.Occ.TheVariants.{Zone}
+use Rattle.pm_world.specs.Heap.{AreNewRuns}
+use Rattle.pm_exec.proofs.KnownChunks.{KnowsChunks, chunk_free, knows_after}
 
--- as many words as at the opening, and what tells of blocks is the same
+-- as many words as at the opening; what tells of the chunks that were taken is the same, and a chunk that was free has no block
 pub record TellsAsOpened (o : Opening) (words : List ℕ) : Type 0 where
   pub size : length words ≡ length o.words
-  pub telling : (i : ℕ) → TellsOfBlocks o i → slice_index words i ≡ slice_index o.words i
+  pub telling : (page i : ℕ) → IsChunk o.lanes page → is_free_chunk (slice_index o.words) o.lanes page ≡ false → TellsOf o page i → slice_index words i ≡ slice_index o.words i
+  pub new_runs : AreNewRuns o (slice_index words)
 
 -- so the lane has them, and what was found under its locks is there
 abbrev pub Stands : Opening → View → Type 0
 Stands o v = HasFound o (TellsAsOpened o) v
 
--- what tells of blocks lies behind the lanes' areas
-tells_behind : (o : Opening) (w : ℕ) → TellsOfBlocks o w → 512 + 1024 * o.lanes ≤ w
-tells_behind o w (page, (chunk, tells)) =
+-- the word describes a chunk, or is the first of one that is a run or free
+abbrev pub Matters : Opening → ℕ → Type 0
+Matters o w = (page : ℕ) × (IsChunk o.lanes page × ((w ≡ descriptor_word o.lanes page)
+    ⊎ ((w ≡ bitmap_word page) × (IsTrue (is_run (slice_index o.words (descriptor_word o.lanes page))) ⊎ (is_free_chunk (slice_index o.words) o.lanes page ≡ true)))))
+
+-- it lies behind the lanes' areas
+matters_behind : (o : Opening) (w : ℕ) → Matters o w → 512 + 1024 * o.lanes ≤ w
+matters_behind o w (page, (chunk, tells)) =
     let first = chunk.0 in
     let some = chunk.1 in
-    ⊎_elim (λ (descriptor : w ≡ descriptor_word o.lanes page). omega (arith, descriptor, some)) (λ (bitmap : (w ≡ bitmap_word page) × IsTrue (is_run (slice_index o.words (descriptor_word o.lanes page)))). let e = bitmap.0 in omega (arith, e, first)) tells
+    ⊎_elim (λ (descriptor : w ≡ descriptor_word o.lanes page). omega (arith, descriptor, some)) (λ bitmap. let e = bitmap.0 in omega (arith, e, first)) tells
 
-module _ (o : Opening) (sound : IsSound o) (v : View) (is : Stands o v) (entered : NoneEnters (TellsOfBlocks o) v.log.entries) (lane : v.lane < o.lanes) where
+tells_matters : (o : Opening) (page w : ℕ) → IsChunk o.lanes page → TellsOf o page w → Matters o w
+tells_matters o page w chunk (inl descriptor) = (page, (chunk, inl descriptor))
+tells_matters o page w chunk (inr (bitmap, run)) = (page, (chunk, inr (bitmap, inl run)))
+
+module _ (o : Opening) (sound : IsSound o) (v : View) (is : Stands o v) (known : KnowsChunks o v) (entered : NoneEnters (Matters o) v.log.entries) (lane : v.lane < o.lanes) where
   -- what the view finds of blocks is as at the opening
   finds : FindsOpening o v
   finds = record {
     lane = (let same = is.lanes in omega (arith, lane, same));
     lanes = is.lanes;
     size = is.words.size;
-    descriptors = λ page chunk. is.words.telling (descriptor_word o.lanes page) (page, (chunk, inl refl));
+    descriptors = λ page chunk taken. is.words.telling page (descriptor_word o.lanes page) chunk taken (inl refl);
     locks = is.locks;
   }
 
-  -- no word of the own area tells of blocks
-  in_area : (w : ℕ) → is_in_area v.lane w ≡ true → TellsOfBlocks o w → ⊥
-  in_area w area tells = let low = tells_behind o w tells in let high = (area_bounds v.lane w area).1 in absurd (omega (arith, low, high, lane))
+  -- no word of the own area matters
+  in_area : (w : ℕ) → is_in_area v.lane w ≡ true → Matters o w → ⊥
+  in_area w area tells = let low = matters_behind o w tells in let high = (area_bounds v.lane w area).1 in absurd (omega (arith, low, high, lane))
 
   -- nor does one that is locked for writing
-  locked : (w : ℕ) → is_written v w ≡ true → TellsOfBlocks o w → ⊥
+  locked : (w : ℕ) → is_written v w ≡ true → Matters o w → ⊥
   locked w written =
       let t = Any-from_list_any (λ (l : Lock). l.write && is_some l.block && is_under_found l.line l.block w) v.locks written in
       let l : Lock = t.1 in
-      sound.apart l.line w (found_guards o v finds l w (t.0, t.2, t.3) l.write t.4)
-
-  -- nor one that may be filled
-  plain : (w : ℕ) → tells_nothing v.lanes v.words w ≡ true → TellsOfBlocks o w → ⊥
-  plain w nothing (page, (chunk, tells)) =
-      let parts = and_parts (is_chunk v.lanes (w / 512)) (not (eqb (w % 512) 0 && is_run (slice_index v.words (descriptor_word v.lanes (w / 512))))) nothing in
-      ⊎_elim
-      (λ (descriptor : w ≡ descriptor_word o.lanes page). false≢true (sym (descriptor_page o.lanes page chunk) ∙ ap (λ u. is_chunk o.lanes (u / 512)) (sym descriptor) ∙ ap (λ n. is_chunk n (w / 512)) (sym is.lanes) ∙ parts.0))
-      (λ (bitmap : (w ≡ bitmap_word page) × IsTrue (is_run (slice_index o.words (descriptor_word o.lanes page)))).
-      let at = bitmap.0 in
-      let here : w / 512 ≡ page = omega (arith, at) in
-      let first : w % 512 ≡ 0 = omega (arith, at) in
-      let run : is_run (slice_index v.words (descriptor_word v.lanes (w / 512))) ≡ true =
-      (λ i. is_run (slice_index v.words (descriptor_word (is.lanes i) (here i)))) ∙ ap is_run (is.words.telling (descriptor_word o.lanes page) (page, (chunk, inl refl))) ∙ bitmap.1 in
-      false≢true (sym (ap not (and_from (eqb (w % 512) 0) (is_run (slice_index v.words (descriptor_word v.lanes (w / 512)))) (eq-eqb (w % 512) 0 first) run)) ∙ parts.1))
-      tells
+      unguarded l.line w (found_guards o v finds l w (t.0, t.2, t.3) l.write t.4)
+    where
+      unguarded : (line i : ℕ) → Guards o line i → Matters o i → ⊥
+      unguarded line i guard (page, (chunk, inl descriptor)) = sound.apart line i guard (page, (chunk, inl descriptor))
+      unguarded line i guard (page, (chunk, inr (bitmap, inl run))) = sound.apart line i guard (page, (chunk, inr (bitmap, run)))
+      unguarded line i guard (page, (chunk, inr (bitmap, inr free))) =
+          let here : i / 512 ≡ page = omega (arith, bitmap) in
+          let taken = (and_parts (is_chunk o.lanes (i / 512)) (is_chunk_taken (slice_index o.words) o.lanes (zone_of o.lanes (i / 512)) (chunk_of o.lanes (i / 512) - 1))
+          (and_parts (is_chunk o.lanes (i / 512) && is_chunk_taken (slice_index o.words) o.lanes (zone_of o.lanes (i / 512)) (chunk_of o.lanes (i / 512) - 1)) _ (sound.in_blocks line i guard)).0).1 in
+          false≢true (sym (ap not (subst (λ p. is_chunk_taken (slice_index o.words) o.lanes (zone_of o.lanes p) (chunk_of o.lanes p - 1) ≡ true) here taken)) ∙ free)
 
   -- nor one that an entry may be of
-  enterable : (op : Op) (w x : ℕ) → IsEnterable v op w x → TellsOfBlocks o w → ⊥
+  enterable : (op : Op) (w x : ℕ) → IsEnterable v op w x → Matters o w → ⊥
   enterable op w x may = ⊎_elim (λ (own : IsTrue (is_written v w)). locked w own)
       (λ (generation : (w ≡ area_word v.lane) × (op ≡ Set)). in_area w (ap (is_in_area v.lane) generation.0 ∙ generation_in_area v.lane)) may.of
 
-  -- so none is stored that does
-  stored : (w x : ℕ) (phase : Phase) (part : Part) → part_of v.lane w ≡ part → StoreFits v w x phase part → TellsOfBlocks o w → ⊥
-  stored w x (Open slot pair) SlotWord at fits = in_area w (slot_part v.lane w at)
-  stored w x (Open slot pair) OtherWord at (inl writes) = locked w writes.own
-  stored w x (Open slot pair) OtherWord at (inr fills) = plain w fills.plain
-  stored w x (Open slot pair) GenerationWord at fits = in_area w (generation_part v.lane w at).0
-  stored w x (Open slot pair) SealWord at fits = absurd fits
-  stored w x (Open slot pair) EntryWord at fits = in_area w (entry_part v.lane w at)
-  stored w x Drawn GenerationWord at fits = in_area w (generation_part v.lane w at).0
-  stored w x Drawn SlotWord at fits = absurd fits
-  stored w x Drawn OtherWord at fits = absurd fits
-  stored w x Drawn SealWord at fits = in_area w (seal_part v.lane w at).0
-  stored w x Drawn EntryWord at fits = absurd fits
-  stored w x Idle part at fits = absurd fits
-  stored w x Sealing part at fits = absurd fits
-  stored w x (Applying applied) GenerationWord at fits = in_area w (generation_part v.lane w at).0
-  stored w x (Applying applied) SealWord at fits = in_area w (seal_part v.lane w at).0
-  stored w x (Applying applied) EntryWord at fits = absurd fits
-  stored w x (Applying applied) SlotWord at fits = absurd fits
-  stored w x (Applying applied) OtherWord at fits = entered applied (set_word w x) fits
-  stored w x Clearing part at fits = absurd fits
-  stored w x Retiring part at fits = absurd fits
-
-  -- a store leaves what tells of blocks
-  tells_after : (w x : ℕ) → Allowed v (Store w x) → TellsAsOpened o (set v.words w x)
-  tells_after w x may = record {
+  -- a word that does not matter may be what it likes
+  beside : (w x : ℕ) → (Matters o w → ⊥) → TellsAsOpened o (set v.words w x)
+  beside w x silent = record {
     size = length-set v.words w x ∙ is.words.size;
-    telling = λ i tells. get_or-set_other v.words w i x 0 (λ same. stored w x v.log.phase (part_of v.lane w) refl may.fits (subst (TellsOfBlocks o) same tells)) ∙ is.words.telling i tells;
+    telling = λ page i chunk taken tells. get_or-set_other v.words w i x 0 (λ same. silent (subst (Matters o) same (tells_matters o page i chunk tells))) ∙ is.words.telling page i chunk taken tells;
+    new_runs = λ page in_pool free.
+        let d = get_or-set_other v.words w (descriptor_word o.lanes page) x 0 (λ same. silent (page, (in_pool.0, inl (sym same)))) in
+        let b = get_or-set_other v.words w (bitmap_word page) x 0 (λ same. silent (page, (in_pool.0, inr (sym same, inr free)))) in
+        ⊎_elim (λ (zero_word : slice_index v.words (descriptor_word o.lanes page) ≡ 0). inl (d ∙ zero_word))
+        (λ run. inr (record { lines = run.lines; some_blocks = run.some_blocks; described = d ∙ run.described; no_block = b ∙ run.no_block })) (is.words.new_runs page in_pool free);
   }
 
-  -- and so does what sets or clears bits
+  -- a run by the view's words has a descriptor that it knows to be one
+  run_here : (page : ℕ) → is_run (slice_index v.words (descriptor_word o.lanes page)) ≡ true → (w : ℕ) → w ≡ bitmap_word page → tells_nothing v.lanes v.words w ≡ true → ⊥
+  run_here page run w at nothing =
+      let parts = and_parts (is_chunk v.lanes (w / 512)) (not (eqb (w % 512) 0 && is_run (slice_index v.words (descriptor_word v.lanes (w / 512))))) nothing in
+      let here : w / 512 ≡ page = omega (arith, at) in
+      let first : w % 512 ≡ 0 = omega (arith, at) in
+      let so : is_run (slice_index v.words (descriptor_word v.lanes (w / 512))) ≡ true = (λ i. is_run (slice_index v.words (descriptor_word (is.lanes i) (here i)))) ∙ run in
+      false≢true (sym (ap not (and_from (eqb (w % 512) 0) (is_run (slice_index v.words (descriptor_word v.lanes (w / 512)))) (eq-eqb (w % 512) 0 first) so)) ∙ parts.1)
+
+  no_descriptor : (w page : ℕ) → tells_nothing v.lanes v.words w ≡ true → IsChunk o.lanes page → w ≡ descriptor_word o.lanes page → ⊥
+  no_descriptor w page nothing chunk descriptor =
+      let parts = and_parts (is_chunk v.lanes (w / 512)) (not (eqb (w % 512) 0 && is_run (slice_index v.words (descriptor_word v.lanes (w / 512))))) nothing in
+      false≢true (sym (descriptor_page o.lanes page chunk) ∙ ap (λ u. is_chunk o.lanes (u / 512)) (sym descriptor) ∙ ap (λ n. is_chunk n (w / 512)) (sym is.lanes) ∙ parts.0)
+
+  -- so may one that tells of no block
+  filled : (w x : ℕ) → tells_nothing v.lanes v.words w ≡ true → TellsAsOpened o (set v.words w x)
+  filled w x nothing = record {
+    size = length-set v.words w x ∙ is.words.size;
+    telling = λ page i chunk taken tells. get_or-set_other v.words w i x 0 (λ same. ⊎_elim (λ (descriptor : i ≡ descriptor_word o.lanes page). no_descriptor w page nothing chunk (sym same ∙ descriptor))
+        (λ (bitmap : (i ≡ bitmap_word page) × IsTrue (is_run (slice_index o.words (descriptor_word o.lanes page)))).
+        run_here page (ap is_run (is.words.telling page (descriptor_word o.lanes page) chunk taken (inl refl)) ∙ bitmap.1) w (sym same ∙ bitmap.0) nothing) tells) ∙ is.words.telling page i chunk taken tells;
+    new_runs = λ page in_pool free.
+        let d = get_or-set_other v.words w (descriptor_word o.lanes page) x 0 (λ same. no_descriptor w page nothing in_pool.0 (sym same)) in
+        ⊎_elim (λ (zero_word : slice_index v.words (descriptor_word o.lanes page) ≡ 0). inl (d ∙ zero_word))
+        (λ run. inr (record {
+          lines = run.lines;
+          some_blocks = run.some_blocks;
+          described = d ∙ run.described;
+          no_block = get_or-set_other v.words w (bitmap_word page) x 0 (λ same. run_here page (let is_so = run.described in eq-eqb (slice_index v.words (descriptor_word o.lanes page) % 256) 1 (omega (arith, is_so))) w (sym same) nothing) ∙ run.no_block;
+        })) (is.words.new_runs page in_pool free);
+  }
+
+  -- and a chunk that it reserved may become a run
+  described_so : (w x : ℕ) → w < length v.words → MayDescribe v w x → TellsAsOpened o (set v.words w x)
+  described_so w x inside d = record {
+    size = length-set v.words w x ∙ is.words.size;
+    telling = λ page i its taken tells. get_or-set_other v.words w i x 0 (λ same. away page i its taken tells same) ∙ is.words.telling page i its taken tells;
+    new_runs = λ page in_pool free. ⊎_elim
+        (λ (here : page ≡ d.page).
+        let at : descriptor_word o.lanes page ≡ w = ap (descriptor_word o.lanes) here ∙ sym at_word in
+        inr (record {
+          lines = d.lines;
+          some_blocks = d.some_blocks;
+          described = ap (slice_index (set v.words w x)) at ∙ (get_or-set_same v.words w x 0 inside ∙ d.is);
+          no_block = get_or-set_other v.words w (bitmap_word page) x 0 (λ same. no_bitmap page in_pool.0 same) ∙ (ap (λ p. slice_index v.words (bitmap_word p)) here ∙ d.no_block);
+        }))
+        (λ (differ : page ≢ d.page).
+        let e = get_or-set_other v.words w (descriptor_word o.lanes page) x 0 (λ same. differ (one_page page in_pool.0 same)) in
+        ⊎_elim (λ (zero_word : slice_index v.words (descriptor_word o.lanes page) ≡ 0). inl (e ∙ zero_word))
+        (λ run. inr (record { lines = run.lines; some_blocks = run.some_blocks; described = e ∙ run.described; no_block = get_or-set_other v.words w (bitmap_word page) x 0 (λ same. no_bitmap page in_pool.0 same) ∙ run.no_block }))
+        (is.words.new_runs page in_pool free))
+        (cases_eq page d.page);
+  }
+    where
+      chunk : IsChunk o.lanes d.page
+      chunk = subst (λ n. IsChunk n d.page) is.lanes d.chunk
+
+      at_word : w ≡ descriptor_word o.lanes d.page
+      at_word = d.at ∙ ap (λ n. descriptor_word n d.page) is.lanes
+
+      one_page : (page : ℕ) → IsChunk o.lanes page → descriptor_word o.lanes page ≡ w → page ≡ d.page
+      one_page page its same = let here = at_word in let low = its.0 in let some = its.1 in let low' = chunk.0 in let some' = chunk.1 in omega (arith, here, low, some, low', some', same)
+
+      no_bitmap : (page : ℕ) → IsChunk o.lanes page → bitmap_word page ≡ w → ⊥
+      no_bitmap page its same = let here = at_word in let some = its.1 in let some' = chunk.1 in absurd (omega (arith, here, some, some', same))
+
+      -- the lane reserved no chunk that was taken
+      away : (page i : ℕ) → IsChunk o.lanes page → is_free_chunk (slice_index o.words) o.lanes page ≡ false → TellsOf o page i → i ≡ w → ⊥
+      away page i its taken (inr (bitmap, run)) same = no_bitmap page its (sym bitmap ∙ same)
+      away page i its taken (inl descriptor) same =
+          let here : page ≡ d.page = one_page page its (sym descriptor ∙ same) in
+          false≢true (sym (ap (λ p. is_free_chunk (slice_index o.words) o.lanes p) (sym here) ∙ taken) ∙ chunk_free o v is.lanes known d.page chunk (subst (λ u. u < length o.words) at_word (let size = is.words.size in omega (arith, size, inside))) sound d.reserved)
+
+  -- what a store leaves
+  stored : (w x : ℕ) (phase : Phase) (part : Part) → part_of v.lane w ≡ part → w < length v.words → StoreFits v w x phase part → TellsAsOpened o (set v.words w x)
+  stored w x (Open slot pair) SlotWord at inside fits = beside w x (in_area w (slot_part v.lane w at))
+  stored w x (Open slot pair) OtherWord at inside (inl writes) = beside w x (locked w writes.own)
+  stored w x (Open slot pair) OtherWord at inside (inr (inl fills)) = filled w x fills.plain
+  stored w x (Open slot pair) OtherWord at inside (inr (inr describes)) = described_so w x inside describes
+  stored w x (Open slot pair) GenerationWord at inside fits = beside w x (in_area w (generation_part v.lane w at).0)
+  stored w x (Open slot pair) SealWord at inside fits = absurd fits
+  stored w x (Open slot pair) EntryWord at inside fits = beside w x (in_area w (entry_part v.lane w at))
+  stored w x Drawn GenerationWord at inside fits = beside w x (in_area w (generation_part v.lane w at).0)
+  stored w x Drawn SlotWord at inside fits = absurd fits
+  stored w x Drawn OtherWord at inside fits = absurd fits
+  stored w x Drawn SealWord at inside fits = beside w x (in_area w (seal_part v.lane w at).0)
+  stored w x Drawn EntryWord at inside fits = absurd fits
+  stored w x Idle part at inside fits = absurd fits
+  stored w x Sealing part at inside fits = absurd fits
+  stored w x (Applying applied) GenerationWord at inside fits = beside w x (in_area w (generation_part v.lane w at).0)
+  stored w x (Applying applied) SealWord at inside fits = beside w x (in_area w (seal_part v.lane w at).0)
+  stored w x (Applying applied) EntryWord at inside fits = absurd fits
+  stored w x (Applying applied) SlotWord at inside fits = absurd fits
+  stored w x (Applying applied) OtherWord at inside fits = beside w x (entered applied (set_word w x) fits)
+  stored w x Clearing part at inside fits = absurd fits
+  stored w x Retiring part at inside fits = absurd fits
+
+  -- and what sets or clears bits
   bits_after : (op : Op) (w bits y : ℕ) → MayChange v op w bits → TellsAsOpened o (set v.words w y)
   bits_after op w bits y may =
       let t = changes_next v op w bits v.log.phase refl (part_of v.lane w) refl may.fits in
-      record {
-        size = length-set v.words w y ∙ is.words.size;
-        telling = λ i tells. get_or-set_other v.words w i y 0 (λ same. entered t.applied (final_by op w bits) t.next (subst (TellsOfBlocks o) (same ∙ sym (final_word op w bits)) tells)) ∙ is.words.telling i tells;
-      }
+      beside w y (λ matters. entered t.applied (changing op w bits t.ors) t.next (subst (Matters o) (sym (final_word op w bits)) matters))
 
   kept_after : (s : Step) → Allowed v s → is_store s ≡ true → TellsAsOpened o (after v s).words
-  kept_after (Store w x) may stores = tells_after w x may
+  kept_after (Store w x) may stores = stored w x v.log.phase (part_of v.lane w) refl may.inside may.fits
   kept_after (Or_step w bits found) may stores = bits_after op.Or w bits (bit_or found bits) may
   kept_after (And_step w bits found) may stores = bits_after op.And w bits (bit_and found bits) may
   kept_after s may stores = absurd (false≢true stores)
@@ -153,27 +239,33 @@ module _ (o : Opening) (sound : IsSound o) (v : View) (is : Stands o v) (entered
   -- and so does each step
   stands_after : (s : Step) → Allowed v s → FoundAlone v s → Stands o (after v s)
   stands_after s may found =
-      found_after o (TellsAsOpened o) (λ words tells line. same_blocks o words tells.telling line) v is s may found (kept_after s may)
+      found_after o (TellsAsOpened o) (λ words tells line. same_blocks o words tells.size sound tells.new_runs tells.telling line) v is s may found (kept_after s may)
 
 -- and so do all, one after another
-pub stands_along : (o : Opening) → IsSound o → (v w : View) (steps : List Step) → Leads v steps w → v.lane < o.lanes → Stands o v → NoneEnters (TellsOfBlocks o) v.log.entries → Stands o w
+pub stands_along : (o : Opening) → IsSound o → (v w : View) (steps : List Step) → Leads v steps w → v.lane < o.lanes → v.zones ≡ o.zones → o.zones ≤ 32 → Stands o v → KnowsChunks o v → NoneEnters (Matters o) v.log.entries → Stands o w
 unfolding Leads
-stands_along o sound v w [] leads lane is entered = subst (Stands o) (sym leads) is
-stands_along o sound v w (s ∷ steps) leads lane is entered =
-    stands_along o sound (after v s) w steps leads.3 (subst (λ (n : ℕ). n < o.lanes) (sym (same_lane-after v s).lane) lane) (stands_after o sound v is entered lane s leads.0 leads.1)
-    (enters_after (TellsOfBlocks o) v entered (enterable o sound v is entered lane) s leads.0)
+stands_along o sound v w [] leads lane zones few is known entered = subst (Stands o) (sym leads) is
+stands_along o sound v w (s ∷ steps) leads lane zones few is known entered =
+    stands_along o sound (after v s) w steps leads.3 (subst (λ (n : ℕ). n < o.lanes) (sym (same_lane-after v s).lane) lane) ((same_lane-after v s).zones ∙ zones) few (stands_after o sound v is known entered lane s leads.0 leads.1)
+    (knows_after o v is.alone few known s leads.0 leads.1)
+    (enters_after (Matters o) v entered (enterable o sound v is known entered lane) s leads.0)
 
 module _ (o : Opening) (first v : View) (steps : List Step) (opened : IsOpenedAs o first) (leads : Leads first steps v) where
   -- from the first view of a run on
   stands_there : Stands o v
   stands_there =
-      stands_along o opened.sound first v steps leads (let zeroth = opened.of_lane in let some = opened.sound.some_lanes in omega (arith, zeroth, some)) (record {
+      stands_along o opened.sound first v steps leads (let zeroth = opened.of_lane in let some = opened.sound.some_lanes in omega (arith, zeroth, some)) opened.zones_are opened.zones (record {
         lanes = opened.lanes_are;
         alone = opened.alone;
-        words = record { size = ap length opened.words_are; telling = λ i tells. ap (λ (words : List ℕ). slice_index words i) opened.words_are };
+        words = record {
+          size = ap length opened.words_are;
+          telling = λ page i chunk taken tells. ap (λ (words : List ℕ). slice_index words i) opened.words_are;
+          new_runs = λ page in_pool free. inl (ap (λ (words : List ℕ). slice_index words (descriptor_word o.lanes page)) opened.words_are ∙ opened.sound.undescribed page in_pool free);
+        };
         locks = subst (All (IsThere o)) (sym opened.free) (All-nil (IsThere o));
       })
-      (subst (λ (l : Log). NoneEnters (TellsOfBlocks o) l.entries) (sym opened.idle) (none_entered (TellsOfBlocks o)))
+      (record { count = opened.zone_count; taken = opened.taken; apart = λ zone chunk in_pool low taken. ap (list_any (has_bit (Zone zone) chunk)) opened.nothing_reserved })
+      (subst (λ (l : Log). NoneEnters (Matters o) l.entries) (sym opened.idle) (none_entered (Matters o)))
 
   -- a lane that rests again may begin its next call, over the pool as it stands
   pub starts_again : (lane : Lane Solo) (actions : List SetAction) → IsAtRest Sees lane v → v.log ≡ no_log Idle → IsPending actions (pending_before v) → IsStart (standing o v) lane actions v
@@ -182,7 +274,7 @@ module _ (o : Opening) (first v : View) (steps : List Step) (opened : IsOpenedAs
     idle = idle;
     of_lane = lane_along first v steps leads opened.of_lane;
     alone = alone_along first v steps leads opened.alone;
-    sound = sound_with o v.words stands_there.words.telling stands_there.words.size opened.sound;
+    sound = (let there = stands_there.words in sound_with o v.words there.size opened.sound there.new_runs there.telling);
     zones = opened.zones;
     lanes_are = stands_there.lanes;
     words_are = refl;

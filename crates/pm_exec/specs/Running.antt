@@ -1,5 +1,5 @@
 -- How far a run has come, call by call: for the crate's own functions.
-use Rattle.std.specs.Prelude.{◌≡◌, ◌⊎◌, ℕ, ◌≤◌, ◌%◌, ◌^◌, List, [], ◌∷◌, ◌++◌, slice_index, Option, None, Some, ⊤}
+use Rattle.std.specs.Prelude.{◌≡◌, ◌⊎◌, ℕ, ◌≤◌, ◌%◌, ◌^◌, List, [], ◌∷◌, ◌++◌, slice_index, Option, None, Some, ⊤, true, length, ◌<◌}
 use Rattle.pm_crash.specs.Alone.{standing}
 use Rattle.pm_crash.specs.Leading.{Leads}
 use Rattle.pm_memory.specs.Solo.{Sees, Solo}
@@ -28,6 +28,8 @@ use Rattle.pm_exec.specs.declared.running.Halt.{Halt}
 use Rattle.pm_crash.specs.Pending.{pending_before}
 use Rattle.pm_exec.specs.declared.ending.CallAnswer.{CallAnswer}
 use Rattle.pm_pending.specs.declared.actions.SetAction.{SetAction}
+use Rattle.std.specs.Int.{bit_at}
+use Rattle.pm_view.specs.Occupancy.{is_chunk_taken}
 
 -- the entry of an answered call of these lines, as the lane's view has the call
 pub record IsEntryOf (names : Names) (lines : List ScriptLine) (e : Entry) (n : Numbered) : Type 0 where
@@ -43,6 +45,10 @@ AreEntries names [] [] [] = ⊤
 AreEntries names (call ∷ calls) (e ∷ history) (n ∷ entries) = IsEntryOf names call e n × AreEntries names calls history entries
 AreEntries names calls history entries = ⊥
 
+-- the view has the bits set of the chunks that the pool's words say are taken
+abbrev pub KnowsTaken : Opening → View → Type 0
+KnowsTaken o v = (zone chunk : ℕ) → zone < o.zones → chunk < 64 → is_chunk_taken (slice_index o.words) o.lanes zone chunk ≡ true → bit_at (slice_index v.zone_words zone) chunk ≡ 1
+
 -- the view of lane 0, alone, over the words of a sound pool, before its first call
 pub record IsOpenedAs (o : Opening) (v : View) : Type 0 where
   pub of_lane : v.lane ≡ 0
@@ -50,10 +56,14 @@ pub record IsOpenedAs (o : Opening) (v : View) : Type 0 where
   pub sound : IsSound o
   pub zones : o.zones ≤ 32
   pub lanes_are : v.lanes ≡ o.lanes
+  pub zones_are : v.zones ≡ o.zones
   pub words_are : v.words ≡ o.words
   pub uncalled : v.entries ≡ []
   pub idle : v.log ≡ no_log Idle
   pub free : v.locks ≡ []
+  pub nothing_reserved : v.reserved ≡ []
+  pub zone_count : length v.zone_words ≡ 32
+  pub taken : KnowsTaken o v
 
 -- these calls were answered, one after another from the first view, and led to this view
 pub record HasCalled (first : View) (names : Names) (calls : List (List ScriptLine)) (history : List Entry) (view : View) : Type 0 where

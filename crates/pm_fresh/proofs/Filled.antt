@@ -31,7 +31,7 @@ use Rattle.pm_undo.proofs.Staying.{same_call, same_call-then, same_changed, same
 use Rattle.pm_undo.proofs.Storing.{goes_stores}
 use Rattle.pm_undo.proofs.Unflushed.{clean_drained, clean_more, drained_clean, flush_cleans, flush_keeps_clean, unclean_more}
 use Rattle.pm_undo.proofs.Written.{work_goes_on}
-use Rattle.pm_fresh.specs.Filled.{CanFill, IsAmong, IsFilled, describes}
+use Rattle.pm_fresh.specs.Filled.{CanFill, IsAmong, IsFilled, describes_run}
 use Rattle.pm_fresh.specs.Filling.{fresh_word, stores_fresh, stores_line, fills_line, fills_lines, fills}
 use Rattle.pm_fresh.proofs.Reserving.{reserved_kept}
 
@@ -48,13 +48,13 @@ flushed_lines k line (c ∷ changes) =
     ap (λ b. b || list_any (is_in_line k) (flushed line changes)) (marked_line k line c) ∙ ap (λ b. is_in_line k c || b) (flushed_lines k line changes)
 
 -- changes that are of no line are none
-no_lines : (changes : List Change) → ((k : ℕ) → list_any (is_in_line k) changes ≡ false) → changes ≡ []
+pub no_lines : (changes : List Change) → ((k : ℕ) → list_any (is_in_line k) changes ≡ false) → changes ≡ []
 no_lines [] none = refl
 no_lines (c ∷ changes) none =
     absurd (false≢true (sym (or_parts (is_in_line (c.word / 8) c) (list_any (is_in_line (c.word / 8)) changes) (none (c.word / 8))).0 ∙ eq-eqb (c.word / 8) (c.word / 8) refl))
 
 -- an open call's log stays as it is
-open_drained : (changes : List Change) (v : View) → v.log.phase ≡ Open [] [] → log_after_drain changes v ≡ v.log
+pub open_drained : (changes : List Change) (v : View) → v.log.phase ≡ Open [] [] → log_after_drain changes v ≡ v.log
 open_drained [] v e = ap (λ p. log_drained p (is_some v.number) v.log) e
 open_drained (c ∷ changes) v e = refl
 
@@ -103,7 +103,7 @@ module _ (v : View) (line lines kind size : ℕ) (working : IsWorking v) (can : 
   -- what the lane reserved it has so still
   still_reserved : (p : ℕ) (u : View) → p ≤ 8 * lines → Stored p u → (w : ℕ) → is_reserved u w ≡ is_reserved v w
   still_reserved p u most q = reserved_kept v u q.call.lane.lanes q.call.reserved each where
-    each : (w : ℕ) → (slice_index u.words w ≡ slice_index v.words w) ⊎ All (λ (t : Taken). describes v.lanes w t.at ≡ false) v.reserved
+    each : (w : ℕ) → (slice_index u.words w ≡ slice_index v.words w) ⊎ All (λ (t : Taken). describes_run v.lanes w t.at ≡ false) v.reserved
     each w =
         ⊎_elim (λ (low : w < 8 * line). inl (q.others w (inl low)))
         (λ (from : 8 * line ≤ w). ⊎_elim (λ (to : w < 8 * line + p). inr ((can w from (omega (arith, to, most))).silent)) (λ (high : 8 * line + p ≤ w). inl (q.others w (inr high))) (cases_lt w (8 * line + p)))
@@ -143,7 +143,7 @@ module _ (v : View) (line lines kind size : ℕ) (working : IsWorking v) (can : 
       inside = inside m q;
       room = room;
       fits = subst (λ part. StoreFits m w x m.log.phase part) (sym (part m q))
-          (subst (λ phase. StoreFits m w x phase OtherWord) (sym (ap (λ (l : Log). l.phase) q.log ∙ working.is_open)) (inr (record { reserved = still_reserved p m (omega (arith, low)) q w ∙ can_w.own; plain = plain m q })));
+          (subst (λ phase. StoreFits m w x phase OtherWord) (sym (ap (λ (l : Log). l.phase) q.log ∙ working.is_open)) (inr (inl (record { reserved = still_reserved p m (omega (arith, low)) q w ∙ can_w.own; plain = plain m q }))));
     }
 
     stored : (m : View) → Stored p m → Stored (p + 1) (after m (Store w x))

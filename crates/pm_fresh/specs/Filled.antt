@@ -4,7 +4,7 @@ use Rattle.std.specs.List.{list_any}
 use Rattle.pm_view.specs.declared.occ.Occ.{Occ}
 use Rattle.pm_view.specs.declared.occ.Occ.TheVariants.{Run, Zone}
 use Rattle.pm_view.specs.Area.{is_in_area}
-use Rattle.pm_view.specs.Blocks.{descriptor_word, is_run, tells_nothing}
+use Rattle.pm_view.specs.Blocks.{describes, descriptor_word, is_run, tells_nothing}
 use Rattle.pm_view.specs.Changes.{is_in_line}
 use Rattle.pm_view.specs.Counts.{is_unflushed, max_changes}
 use Rattle.pm_view.specs.Held.{is_known, is_reserved}
@@ -14,9 +14,9 @@ use Rattle.pm_undo.specs.Working.{IsSameCall, IsWorking}
 use Rattle.pm_fresh.specs.Filling.{fresh_word}
 
 -- the word describes the run whose blocks these are
-abbrev pub describes : ℕ → ℕ → Occ → Bool
-describes lanes w (Run place) = descriptor_word lanes (place / 4096) == w
-describes lanes w (Zone zone) = false
+abbrev pub describes_run : ℕ → ℕ → Occ → Bool
+describes_run lanes w (Run place) = descriptor_word lanes (place / 4096) == w
+describes_run lanes w (Zone zone) = false
 
 -- a word of the pool that the lane reserved, outside of its own area, that tells of no block, and by which it does not tell what it reserved
 pub record CanFill (v : View) (w : ℕ) : Type 0 where
@@ -24,14 +24,14 @@ pub record CanFill (v : View) (w : ℕ) : Type 0 where
   pub plain : IsTrue (tells_nothing v.lanes v.words w)
   pub inside : w < length v.words
   pub outside : is_in_area v.lane w ≡ false
-  pub silent : All (λ (t : Taken). describes v.lanes w t.at ≡ false) v.reserved
+  pub silent : All (λ (t : Taken). describes_run v.lanes w t.at ≡ false) v.reserved
 
 -- the view has all words of its pool, is of one of its lanes, and reserved nothing that is not of the pool, nor, by its words, a run's bitmap
 pub record HasWholePool (v : View) : Type 0 where
   pub lane : v.lane < v.lanes
   pub size : length v.words ≡ 512 + 1024 * v.lanes + 33280 * v.zones
   pub of_pool : All (λ (t : Taken). IsOcc v.lanes v.zones t.at) v.reserved
-  pub no_bitmap : (w : ℕ) → is_reserved v w ≡ true → w % 512 ≡ 0 → is_run (slice_index v.words (descriptor_word v.lanes (w / 512))) ≡ false
+  pub no_bitmap : (w : ℕ) → is_reserved v w ≡ true → describes v.lanes w ≡ false → w % 512 ≡ 0 → is_run (slice_index v.words (descriptor_word v.lanes (w / 512))) ≡ false
 
 -- the line is one of so many from this one on
 abbrev pub IsAmong : ℕ → ℕ → ℕ → Type 0

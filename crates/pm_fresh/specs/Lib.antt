@@ -1,2 +1,4 @@
 pub mod Filling
 pub mod Filled
+pub mod Making
+pub mod Made

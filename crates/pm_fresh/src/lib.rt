@@ -1,16 +1,20 @@
-//! A block that a lane reserved is made a new object: its type and size in its first two words, zeros in all others.
+//! A block that a lane reserved is made a new object: its type and size in its first two words, zeros in all others. And a chunk that it reserved is
+//! made a run, whose first block it has reserved then.
 //!
-//! Promises the calls that allocate, over any lawful memory of a lane, that `fill` makes exactly the stated sequence of memory calls, or the
-//! first of them up to the lane's stop, and that a lane at work may make it in what it reserved: then the words are those of the new object,
-//! and persistent, no other word changed, and the lane is at work as before. It takes no memory, and makes no load. It stands on `pm_world`
-//! for sequences and on `pm_undo` for lanes at work; docs/FORMAT.md, "Sizes" and "Sequences".
+//! Promises the calls that allocate, over any lawful memory of a lane, that `fill` and `make_run` make exactly the stated sequences of memory calls,
+//! or the first of them up to the lane's stop, and that a lane at work may make them in what it reserved: then the words are those of the new object,
+//! or of the run, and persistent, no other word changed, and the lane is at work as before. They take no memory, and make no load. It stands on
+//! `pm_layout` for places, on `pm_world` for sequences and on `pm_undo` for lanes at work; docs/FORMAT.md, "Sizes", "Runs are made" and "Sequences".
 #![tactic(auto)]
 
 mod filling;
 mod laws;
+mod making;
 
 pub use filling::{Header, fill};
 pub use laws::{
-    a_filled_block_changes_nothing_found, a_reserved_block_may_be_filled,
+    a_filled_block_changes_nothing_found, a_made_run_changes_nothing_found,
+    a_reserved_block_may_be_filled, a_reserved_chunk_may_be_made_a_run,
     reserved_words_may_be_filled,
 };
+pub use making::{NewRun, make_run};

@@ -13,7 +13,7 @@ use Rattle.pm_view.specs.Log.Phase.{Idle, Open, Drawn, Sealing, Applying, Cleari
 use Rattle.pm_view.specs.Steps.{Step}
 use Rattle.pm_view.specs.Steps.Step.{Occupied, Occupy, Vacate, Draw, NumberSeen, StopSeen}
 use Rattle.pm_view.specs.View.{View, Taken, Numbered}
-use Rattle.pm_view.specs.Views.{after, begun, occ_in, runs_with, zones_with, vacated_word, with_taken, without_taken, with_occ as pictured}
+use Rattle.pm_view.specs.Views.{after, begun, exchanged, occ_in, runs_with, zones_with, vacated_word, with_taken, without_taken, with_occ as pictured}
 use Rattle.pm_memory.specs.Solo.{Solo, Sees, AreNumbered, IsGranted, occ_word, with_occ}
 use Rattle.pm_memory.proofs.Seeing.{sees_seen}
 
@@ -121,7 +121,7 @@ occupy_made m n at bits found was free is v sees =
 pub vacate_made : (m n : Solo) (at : Occ) (bits found : ℕ) → found ≡ occ_word m at → n ≡ with_occ m at (bit_and found (bit_not w64 bits)) → (v : View) → Sees m v → Sees n (after v (Vacate at bits)) × Unit {0} × Unit {0}
 vacate_made m n at bits found was is v sees =
     let becomes : n ≡ with_occ m at (vacated_word bits (occ_in v at)) = is ∙ ap (λ w. with_occ m at (vacated_word bits w)) (was ∙ sym (pictured_so m at v sees)) in
-    (subst (λ (k : Solo). Sees k (after v (Vacate at bits))) (sym becomes) (sees_occ m at (vacated_word bits (occ_in v at)) v (without_taken at bits v.reserved) (without_taken at bits v.freed) _ sees), tt, tt)
+    (subst (λ (k : Solo). Sees k (after v (Vacate at bits))) (sym becomes) (sees_occ m at (vacated_word bits (occ_in v at)) v (without_taken at bits (exchanged v at)) (without_taken at bits v.freed) _ sees), tt, tt)
 
 -- entries that are numbered from one number on, with one more behind them
 numbered_more : (n : ℕ) (entries : List Numbered) (e : Numbered) → AreNumbered n entries → e.number ≡ n + length entries → AreNumbered n (entries ++ e ∷ [])

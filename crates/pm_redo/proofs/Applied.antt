@@ -216,7 +216,7 @@ module _ (v : View) (place : HasPlace v) (entries : List Redo) (are : AreEntered
             inside = inside_still;
             room = room_still;
             fits = subst (λ phase. BitsFit u op w e.value phase (part_of u.lane w)) (sym (ap (λ (l : Log). l.phase) has.log))
-                (subst (BitsFit u op w e.value (Applying k)) (sym part) (here (final_by op w e.value) (ap (λ o. final_by o w e.value) is)));
+                (subst (BitsFit u op w e.value (Applying k)) (sym part) ((final_by op w e.value).ors, here (final_by op w e.value) (ap (λ o. final_by o w e.value) is)));
             known = has.knows w t.0.outside t.1;
             word = t.0.entry.word;
           }

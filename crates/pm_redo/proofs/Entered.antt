@@ -110,7 +110,7 @@ module _ (v : View) (e : Redo) (entering : IsEntering v) (free : length v.log.en
           op = e.op;
           word = e.place / 8;
           value = e.value;
-          may = record { of = may.of; word = may.word; part = may.part };
+          may = record { of = may.of; word = may.word };
           spells = ap (λ (x : ℕ). x ∷ e.value ∷ []) first_word;
           at = let same = ap (λ (l : Log). length l.entries) log₁ in omega (arith, same);
           free = let same = ap (λ (l : Log). length l.entries) log₁ in omega (arith, same, free);

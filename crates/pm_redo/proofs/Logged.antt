@@ -79,7 +79,7 @@ module _ (v : View) (entries : List Redo) (ready : IsReadyToLog v) (few : length
 
     entry : IsOfWord e
     entry = ⊎_elim (λ (o : IsOfPool v e). o.entry)
-        (λ (same : e ≡ ending v). subst IsOfWord (sym same) (record { aligned = omega arith; word = let below = ready.entering.area.below in omega (arith, below); part = λ or. absurd cc })) which
+        (λ (same : e ≡ ending v). subst IsOfWord (sym same) (record { aligned = omega arith; word = let below = ready.entering.area.below in omega (arith, below) })) which
 
     may : IsEnterable u e.op (e.place / 8) e.value
     may = record {
@@ -89,8 +89,7 @@ module _ (v : View) (entries : List Redo) (ready : IsReadyToLog v) (few : length
           let word : e.place / 8 ≡ area_word v.lane = ap (λ (x : Redo). x.place / 8) same ∙ (let q : 8 * area_word v.lane / 8 ≡ area_word v.lane = omega arith in q) in
           inr (word ∙ ap area_word (sym lane), ap (λ (x : Redo). x.op) same))
           which;
-      word = entry.word;
-      part = entry.part;
+      word = λ other. entry.word;
     }
 
     one_more : (w : View) → HasEntered u e w → HasSome (k + 1) w

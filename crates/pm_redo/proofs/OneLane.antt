@@ -106,11 +106,11 @@ module _ (m : Solo) (held : m ≡ with_lock (opened m.words None) 193 (writer_bi
   own phase entries = search rules
 
   enterable_heap : (phase : Phase) (entries : List Redo) → IsEnterable (v phase entries) Set 1544 7
-  enterable_heap phase entries = record { of = inl (own phase entries); word = omega arith; part = λ or. absurd cc }
+  enterable_heap phase entries = record { of = inl (own phase entries); word = λ other. omega arith }
 
   heap_of_pool : (phase : Phase) (entries : List Redo) → IsOfPool (v phase entries) heap
   heap_of_pool phase entries = record {
-    entry = record { aligned = refl; word = omega arith; part = λ or. absurd cc };
+    entry = record { aligned = refl; word = omega arith };
     own = own phase entries;
     outside = refl;
     inside = omega (arith, whole);
@@ -130,7 +130,7 @@ module _ (m : Solo) (held : m ≡ with_lock (opened m.words None) 193 (writer_bi
   pub may_put_end : IsReady (Sees m) (puts 1 end)
   unfolding IsReady
   may_put_end = let p = Open [] [] in let es = heap ∷ [] in
-      (v p es, (sees p es, (put_lawful (v p es) end (record { is_open = refl; undrawn = refl; area = area p es; few = omega arith }) (omega arith) refl (record { of = inr (refl, refl); word = omega arith; part = λ or. absurd cc })).0))
+      (v p es, (sees p es, (put_lawful (v p es) end (record { is_open = refl; undrawn = refl; area = area p es; few = omega arith }) (omega arith) refl (record { of = inr (refl, refl); word = λ other. omega arith })).0))
 
   pub may_log : IsReady (Sees m) (logs (heap ∷ []))
   unfolding IsReady
@@ -186,7 +186,7 @@ module _ (m : Solo) (held : m ≡ with_lock (opened m.words None) 193 (writer_bi
 
     front_of_pool : (e : Redo) → e.place ≡ 12352 → e.value < 16 → IsOfPool knowing e
     front_of_pool e here low = record {
-      entry = record { aligned = ap (λ n. n % 8) here; word = omega (arith, low); part = λ or all. omega (arith, low, all) };
+      entry = record { aligned = ap (λ n. n % 8) here; word = omega (arith, low) };
       own = subst (λ n. IsTrue (is_written knowing (n / 8))) (sym here) (own (Applying 0) four);
       outside = ap (λ n. is_in_area 0 (n / 8)) here;
       inside = omega (arith, whole, here);

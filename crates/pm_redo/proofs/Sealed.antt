@@ -25,7 +25,7 @@ use Rattle.pm_redo.specs.Entering.{AreEntered, HasPlace, IsCleared, IsSealed, fi
 use Rattle.pm_redo.specs.Sequences.{clears, seals, writes_seal}
 use Rattle.pm_redo.proofs.Entered.{room_is_there}
 use Rattle.pm_redo.proofs.PairWords.{seal_part}
-use Rattle.pm_redo.proofs.Whole.{entered_whole, knows_parts}
+use Rattle.pm_redo.proofs.Whole.{entered_whole, knows_ors}
 
 module _ (v : View) (place : HasPlace v) (none : v.changes ≡ []) (n : ℕ) (fits : StoreFits v (area_word v.lane + 1) n v.log.phase SealWord) where
   abbrev s : ℕ
@@ -96,7 +96,7 @@ seal_lawful v entries place drawn none below are =
     let n : ℕ = length entries in
     let count : n ≡ length v.log.entries = sym (ap length are.logged ∙ length-map entries final_for) in
     let fits : StoreFits v (area_word v.lane + 1) n v.log.phase SealWord = subst (λ phase. StoreFits v (area_word v.lane + 1) n phase SealWord) (sym drawn)
-    (record { all = count; whole = entered_whole v entries are; known = knows_parts v entries are; below = below; drained = none }) in
+    (record { all = count; whole = entered_whole v entries are; known = knows_ors v entries are; below = below; drained = none }) in
     let r = writes v place none n fits v refl in
     let stored : log_stored v.log.phase SealWord n v.log ≡ record v.log { phase = Sealing } = ap (λ phase. log_stored phase SealWord n v.log) drawn in (
       r.0,

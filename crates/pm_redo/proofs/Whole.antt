@@ -1,20 +1,21 @@
 -- Entries that are of words of the pool, and then end the generation, are whole.
-use Rattle.std.proofs.Common.{◌≡◌, ℕ, ◌+◌, ◌*◌, ◌/◌, ◌^◌, ◌<◌, ◌&&◌, inl, inr, ⊎_elim, eqb, not, false, true, All, List, [], ◌∷◌, ◌++◌, map, is_some, IsTrue, refl, sym, subst, ap, ◌∙◌, arith}
+use Rattle.std.proofs.Common.{◌≡◌, ℕ, ◌+◌, ◌*◌, ◌/◌, ◌^◌, ◌<◌, ◌&&◌, inl, inr, ⊎_elim, eqb, false, true, All, List, [], ◌∷◌, ◌++◌, map, is_some, IsTrue, refl, sym, subst, ap, ◌∙◌, arith}
 use Rattle.std.specs.List.{list_any}
 use Rattle.std.proofs.lemmas.Bool.{and_parts, eqb-true, false≢true, or_cases}
 use Rattle.std.proofs.lemmas.List.Elements.{All-cons, All-head, All-nil, All-tail}
-use Rattle.pm_record.specs.declared.redo.Op.TheVariants.{Set}
+use Rattle.pm_record.specs.declared.redo.Op.{Op}
+use Rattle.pm_record.specs.declared.redo.Op.TheVariants.{Set, Or, And}
 use Rattle.pm_record.specs.declared.redo.Redo.{Redo}
-use Rattle.pm_view.specs.Bits.{all_bits}
 use Rattle.pm_view.specs.Area.{area_word, is_in_area}
 use Rattle.pm_view.specs.Held.{is_under}
 use Rattle.pm_view.specs.Log.{Final}
 use Rattle.pm_view.specs.Rights.{is_written}
 use Rattle.pm_view.specs.View.{View, Lock}
-use Rattle.pm_world.specs.Entries.{AreWhole, IsKnownWord, KnowsParts, ends_with, final_by, is_part_entered, set_word}
+use Rattle.pm_world.specs.Entries.{AreWhole, IsKnownWord, KnowsOrs, LeaveWord, ends_with, final_by, is_or_entered, set_word}
 use Rattle.pm_world.specs.Records.{generation_of}
 use Rattle.pm_world.proofs.StorePair.{final_word}
 use Rattle.pm_undo.specs.Working.{IsSameCall, KeepsOutside}
+use Rattle.pm_undo.proofs.Areas.{generation_in_area}
 use Rattle.pm_redo.specs.Entering.{AreEntered, IsOfPool, ending, final_of}
 
 map_append : (front : List Redo) (e : Redo) → map final_of (front ++ e ∷ []) ≡ map final_of front ++ final_of e ∷ []
@@ -37,24 +38,47 @@ logged_front v entries a =
 pub entered_whole : (v : View) (entries : List Redo) → AreEntered v entries → AreWhole v (generation_of v + 1)
 entered_whole v entries a = record { front = map final_of a.front; are = logged_front v entries a; owned = owned v a.front a.each }
 
--- the lane knows each word of which one is in part
-parts_known : (v : View) (front : List Redo) (g w : ℕ) → All (IsOfPool v) front → is_part_entered (map final_of front ++ ends_with v g ∷ []) w ≡ true → IsKnownWord v w
-parts_known v [] g w each part =
-    ⊎_elim (λ (here : (eqb (area_word v.lane) w && not (eqb all_bits all_bits)) ≡ true). absurd (false≢true (and_parts (eqb (area_word v.lane) w) (not (eqb all_bits all_bits)) here).1)) (λ (never : false ≡ true). absurd (false≢true never))
-    (or_cases (eqb (area_word v.lane) w && not (eqb all_bits all_bits)) false part)
-parts_known v (e ∷ front) g w each part =
+-- a word that one ORs is of the pool, and the lane knows it
+or_known : (v : View) (front : List Redo) (g w : ℕ) → All (IsOfPool v) front → is_or_entered (map final_of front ++ ends_with v g ∷ []) w ≡ true → IsKnownWord v w × (is_in_area v.lane w ≡ false)
+or_known v [] g w each or =
+    ⊎_elim (λ (here : (eqb (area_word v.lane) w && false) ≡ true). absurd (false≢true (and_parts (eqb (area_word v.lane) w) false here).1)) (λ (never : false ≡ true). absurd (false≢true never))
+    (or_cases (eqb (area_word v.lane) w && false) false or)
+or_known v (e ∷ front) g w each or =
     let f : Final = final_of e in
     let first = All-head (IsOfPool v) e front each in
     ⊎_elim
-    (λ (here : (eqb f.word w && not (eqb f.mask all_bits)) ≡ true).
-    let t = and_parts (eqb f.word w) (not (eqb f.mask all_bits)) here in
-    ⊎_elim (λ (sets : e.op ≡ Set). absurd (false≢true (ap (λ op. not (eqb (final_by op (e.place / 8) e.value).mask all_bits)) (sym sets) ∙ t.1)))
-    (λ (known : IsKnownWord v (e.place / 8)). subst (IsKnownWord v) (sym (final_word e.op (e.place / 8) e.value) ∙ eqb-true f.word w t.0) known) first.known)
-    (λ (later : is_part_entered (map final_of front ++ ends_with v g ∷ []) w ≡ true). parts_known v front g w (All-tail (IsOfPool v) e front each) later)
-    (or_cases (eqb f.word w && not (eqb f.mask all_bits)) (is_part_entered (map final_of front ++ ends_with v g ∷ []) w) part)
+    (λ (here : (eqb f.word w && f.ors) ≡ true).
+    let t = and_parts (eqb f.word w) f.ors here in
+    let word : e.place / 8 ≡ w = sym (final_word e.op (e.place / 8) e.value) ∙ eqb-true f.word w t.0 in (
+      ⊎_elim (λ (sets : e.op ≡ Set). absurd (false≢true (ap (λ op. (final_by op (e.place / 8) e.value).ors) (sym sets) ∙ t.1)))
+          (λ (known : IsKnownWord v (e.place / 8)). subst (IsKnownWord v) word known) first.known,
+      ap (is_in_area v.lane) (sym word) ∙ first.outside,
+    ))
+    (λ (later : is_or_entered (map final_of front ++ ends_with v g ∷ []) w ≡ true). or_known v front g w (All-tail (IsOfPool v) e front each) later)
+    (or_cases (eqb f.word w && f.ors) (is_or_entered (map final_of front ++ ends_with v g ∷ []) w) or)
 
-pub knows_parts : (v : View) (entries : List Redo) → AreEntered v entries → KnowsParts v
-knows_parts v entries a w part = parts_known v a.front (generation_of v + 1) w a.each (ap (λ fs. is_part_entered fs w) (sym (logged_front v entries a)) ∙ part)
+final_bits : (op : Op) (w x : ℕ) → x < 2 ^ 64 → (final_by op w x).bits < 2 ^ 64
+final_bits Set w x low = low
+final_bits Or w x low = low
+final_bits And w x low = omega arith
+
+-- each leaves a word of the pool one of 64 bits
+leave_word : (v : View) (front : List Redo) (g w : ℕ) → All (IsOfPool v) front → is_in_area v.lane w ≡ false → LeaveWord (map final_of front ++ ends_with v g ∷ []) w
+leave_word v front g w each out = by_front front each where
+  Leaves : Final → Type 0
+  Leaves f = f.word ≡ w → f.bits < 2 ^ 64
+
+  by_front : (es : List Redo) → All (IsOfPool v) es → LeaveWord (map final_of es ++ ends_with v g ∷ []) w
+  by_front [] all = All-cons Leaves (ends_with v g) [] (λ here. absurd (false≢true (sym out ∙ (ap (is_in_area v.lane) (sym here) ∙ generation_in_area v.lane)))) (All-nil Leaves)
+  by_front (e ∷ es) all =
+      All-cons Leaves (final_of e) (map final_of es ++ ends_with v g ∷ []) (λ here. final_bits e.op (e.place / 8) e.value (All-head (IsOfPool v) e es all).entry.word)
+      (by_front es (All-tail (IsOfPool v) e es all))
+
+pub knows_ors : (v : View) (entries : List Redo) → AreEntered v entries → KnowsOrs v
+knows_ors v entries a w or =
+    let fs = logged_front v entries a in
+    let t = or_known v a.front (generation_of v + 1) w a.each (ap (λ es. is_or_entered es w) (sym fs) ∙ or) in
+    (t.0, subst (λ es. LeaveWord es w) (sym fs) (leave_word v a.front (generation_of v + 1) w a.each t.1))
 
 -- what the entries are of stays so in the same call, where nothing changed outside of the lane's area
 pub of_pool_kept : (v w : View) (e : Redo) → IsSameCall v w → KeepsOutside v w → IsOfPool v e → IsOfPool w e

@@ -1,9 +1,8 @@
 -- What redo logging asks of a lane's view, and what it leaves of it.
-use Rattle.std.specs.Prelude.{◌≡◌, ◌≢◌, ◌⊎◌, ℕ, false, ◌+◌, ◌*◌, ◌/◌, ◌%◌, ◌^◌, ◌<◌, ◌≤◌, IsTrue, List, [], ◌∷◌, ◌++◌, All, length, map, slice_index, None}
-use Rattle.pm_record.specs.declared.redo.Op.TheVariants.{Set, Or}
+use Rattle.std.specs.Prelude.{◌≡◌, ◌⊎◌, ℕ, false, ◌+◌, ◌*◌, ◌/◌, ◌%◌, ◌^◌, ◌<◌, ◌≤◌, IsTrue, List, [], ◌∷◌, ◌++◌, All, length, map, slice_index, None}
+use Rattle.pm_record.specs.declared.redo.Op.TheVariants.{Set}
 use Rattle.pm_record.specs.declared.redo.Redo.{Redo}
 use Rattle.pm_view.specs.Area.{is_in_area}
-use Rattle.pm_view.specs.Bits.{all_bits}
 use Rattle.pm_view.specs.Log.{Final, no_log}
 use Rattle.pm_view.specs.Log.Phase.{Idle, Open, Drawn, Applying}
 use Rattle.pm_view.specs.Rights.{is_written}
@@ -25,11 +24,10 @@ pub record HasPlace (v : View) : Type 0 where
 abbrev pub IsSeenInPool : (View → Type 0) → Type 0
 IsSeenInPool at = (v : View) × (at v × HasPlace v)
 
--- an entry is of a word, and its value is one; an OR of all bits is spelled as a SET
+-- an entry is of a word, and its value is one
 pub record IsOfWord (e : Redo) : Type 0 where
   pub aligned : e.place % 8 ≡ 0
   pub word : e.value < 2 ^ 64
-  pub part : e.op ≡ Or → e.value ≢ all_bits
 
 -- what a redo entry makes final
 abbrev pub final_of : Redo → Final

@@ -1,22 +1,27 @@
 -- A lane that rests: it keeps the blocks that it has while it searches on, and gives one back after another.
-use Rattle.std.proofs.Common.{◌≡◌, ◌≢◌, ⊎_elim, ℕ, ◌*◌, ◌^◌, ◌<◌, true, All, List, [], ◌∷◌, ◌++◌, refl, sym, ap, ◌∙◌, subst, arith}
+use Rattle.std.proofs.Common.{◌≡◌, ◌≢◌, ⊎_elim, ℕ, ◌*◌, ◌/◌, ◌^◌, ◌<◌, Bool, true, false, cond, All, List, [], ◌∷◌, ◌++◌, refl, sym, ap, ◌∙◌, subst, arith}
 use Rattle.std.specs.Int.{bit_at}
-use Rattle.std.proofs.lemmas.Bool.{cases_eq}
-use Rattle.std.proofs.lemmas.List.Elements.{All-push, All-weaker}
+use Rattle.std.specs.List.{list_any}
+use Rattle.std.proofs.lemmas.Bool.{cases_eq, false≢true, or_left}
+use Rattle.std.proofs.lemmas.List.Elements.{All-nil, All-push, All-weaker}
+use Rattle.std.proofs.lemmas.List.Folds.{list_any-append}
 use Rattle.std.proofs.lemmas.Nat.{pow_below}
 use Rattle.std.proofs.lemmas.Nat.Bits.{bit_at-pow_other, bit_at-pow_same}
 use Rattle.pm_image.specs.declared.block.Block.{Block}
 use Rattle.pm_layout.specs.declared.shape.Shape.{Shape}
 use Rattle.pm_layout.specs.Sizes.{blocks_of}
 use Rattle.pm_memory.specs.Solo.{Sees, Solo}
+use Rattle.pm_view.specs.declared.change.Change.{Change}
+use Rattle.pm_view.specs.declared.occ.Occ.{Occ}
+use Rattle.pm_view.specs.declared.occ.Occ.TheVariants.{Run, Zone}
+use Rattle.pm_view.specs.Blocks.{covers, zone_of}
 use Rattle.pm_view.specs.Steps.Step.{Vacate}
 use Rattle.pm_view.specs.View.{View, Taken}
-use Rattle.pm_view.specs.Views.{after}
+use Rattle.pm_view.specs.Views.{after, all_of_run, chunk_bit, exchanged, has_bit, is_made, reserves, without_taken, zone_at}
 use Rattle.pm_world.proofs.Resting.{may_vacate_at_rest, reserved_before, reserved_last}
 use Rattle.pm_world.proofs.Searched.{early_still, shape_still}
 use Rattle.pm_world.proofs.Vacated.{vacated_after}
-use Rattle.pm_world.specs.Heap.{reserves}
-use Rattle.pm_world.specs.Lawful.{HasOcc}
+use Rattle.pm_world.specs.Lawful.{HasOcc, IsGivenWhole}
 use Rattle.pm_world.specs.Searches.{HasSearched}
 use Rattle.pm_runs.proofs.Rows.{index_low}
 use Rattle.pm_runs.proofs.SearchedRuns.{has_occ}
@@ -85,6 +90,33 @@ module _ (memory : Solo) (shape : Shape) (class : ℕ) (blocks : List Block) (ho
 
 -- ---- a block is given back
 
+is_zone : Occ → Bool
+is_zone (Run place) = false
+is_zone (Zone zone) = true
+
+no_zone : (place zone : ℕ) → Run place ≡ Zone zone → ⊥
+unfolding is_zone
+no_zone place zone same = false≢true (ap is_zone same)
+
+-- what a lane has of runs it has still as it gives back blocks of one
+run_kept : (v : View) (place other bit : ℕ) → bit < 64 → reserves v (Run other) bit ≡ true → list_any (has_bit (Run other) bit) (exchanged v (Run place)) ≡ true
+run_kept v place other bit low own = at (is_made v page) where
+  page : ℕ
+  page = place / 4096
+
+  left : List Taken
+  left = without_taken (zone_at v.lanes page) (2 ^ chunk_bit v.lanes page) v.reserved
+
+  small : 2 ^ chunk_bit v.lanes page < 2 ^ 64
+  small = pow_below (chunk_bit v.lanes page) 64 (omega arith)
+
+  at : (made : Bool) → list_any (has_bit (Run other) bit) (cond made (left ++ all_of_run v place ∷ []) v.reserved) ≡ true
+  at false = own
+  at true =
+      list_any-append (has_bit (Run other) bit) left (all_of_run v place ∷ [])
+      ∙ or_left (list_any (has_bit (Run other) bit) left) (list_any (has_bit (Run other) bit) (all_of_run v place ∷ []))
+      (vacated_after (zone_at v.lanes page) (2 ^ chunk_bit v.lanes page) small (Run other) bit v.reserved low (λ same. absurd (no_zone other (zone_of v.lanes page) same)) own)
+
 -- a lane that rests has those of these blocks, all of one class, that begin behind a place
 pub record HoldsBehind (memory : Solo) (shape : Shape) (blocks : List Block) (last : ℕ) : Type 0 where
   pub class : ℕ
@@ -126,13 +158,20 @@ module _ (memory : Solo) (shape : Shape) (rests : Rests memory shape) (class : �
       let inside = mine.in_zones in
       subst (λ n. HasOcc had (run_of n mine.chunk)) (sym rests.may.of_shape.lanes) (has_occ had shape rests.may mine.chunk (omega (arith, zones, inside)))
 
+  -- nothing is undrained, of whatever chunk
+  whole : IsGivenWhole had (run_of had.lanes mine.chunk) (2 ^ mine.index)
+  whole made =
+      let page : ℕ = 4096 * page_of had.lanes mine.chunk / 4096 in
+      let is_beside : Change → Type 0 = λ c. covers had.lanes had.words (zone_at had.lanes page) (2 ^ chunk_bit had.lanes page) c.word ≡ false in
+      subst (All is_beside) (sym rests.drained) (All-nil is_beside)
+
   pub may_give_back : MayGiveBack had block
   may_give_back = record {
     chunk = mine.chunk;
     index = mine.index;
     in_run = in_its_run;
     is_block = is_its_block;
-    may = may_vacate_at_rest had (run_of had.lanes mine.chunk) (2 ^ mine.index) has_its_word small owns rests.drained rests.log;
+    may = may_vacate_at_rest had (run_of had.lanes mine.chunk) (2 ^ mine.index) has_its_word small owns whole rests.drained rests.log;
   }
 
   abbrev pub given : View
@@ -150,7 +189,8 @@ module _ (memory : Solo) (shape : Shape) (rests : Rests memory shape) (class : �
   -- a block behind it is there still
   mine_behind : (other : Block) → block.place < other.place → IsMine had class other → IsMine given class other
   mine_behind other behind m = mine_on had given class other refl refl m
-      (vacated_after (run_of had.lanes mine.chunk) (2 ^ mine.index) small (run_of had.lanes m.chunk) m.index had.reserved (index_low class m.index m.in_run) apart m.own) where
+      (vacated_after (run_of had.lanes mine.chunk) (2 ^ mine.index) small (run_of had.lanes m.chunk) m.index (exchanged had (run_of had.lanes mine.chunk)) (index_low class m.index m.in_run) apart
+      (run_kept had (4096 * page_of had.lanes mine.chunk) (4096 * page_of had.lanes m.chunk) m.index (index_low class m.index m.in_run) m.own)) where
         apart : run_of had.lanes m.chunk ≡ run_of had.lanes mine.chunk → bit_at (2 ^ mine.index) m.index ≢ 1
         apart same set = ⊎_elim
             (λ (here : m.index ≡ mine.index).

@@ -17,7 +17,7 @@ use Rattle.pm_world.specs.Searches.{HasSearched}
 use Rattle.pm_runs.specs.Looking.{HasGotIn, HasGotOf, HasLooked, HasNoFree, HasNoneOf, IsRunOf, LookedOn, SawNone}
 use Rattle.pm_runs.specs.Runs.{HasFoundNone, HasGot, IsFree, IsLeast, MaySearch, descriptor_at, page_of, run_block, run_descriptor, run_of, taken_block}
 use Rattle.pm_runs.proofs.Searched.{looked_none, looked_then}
-use Rattle.pm_runs.proofs.SearchedRuns.{has_occ, may_still, occ_still, saw_still, taken_before}
+use Rattle.pm_runs.proofs.SearchedRuns.{has_occ, may_still, occ_still, saw_still, seen_run, taken_before}
 use Rattle.pm_runs.proofs.Rows.{index_low}
 use Rattle.pm_runs.proofs.TriedBlocks.{clear_bit}
 
@@ -107,6 +107,7 @@ module _ (v : View) (shape : Shape) (may : MaySearch v shape) (class : ℕ) (at 
           small = pow_below got.index 64 (index_low class got.index got.in_run);
           one = (got.index, refl);
           locked = tt;
+          run = seen_run got.from shape still i inside class got.run;
           early = still.early;
         }
 

@@ -1,19 +1,20 @@
 -- The blocks of a run are tried in turn, and a chunk is looked at.
-use Rattle.std.proofs.Common.{◌≡◌, ◌≢◌, inl, inr, ⊎_elim, ℕ, ◌+◌, ◌*◌, ◌/◌, ◌<◌, below_more, Contains, IfSome, Option, Some, None, length, slice_index, sym, ap, ◌∙◌, subst, arith}
+use Rattle.std.proofs.Common.{◌≡◌, ◌≢◌, inl, inr, ⊎_elim, ℕ, ◌+◌, ◌*◌, ◌/◌, ◌%◌, ◌<◌, below_more, Contains, IfSome, Option, Some, None, length, slice_index, refl, sym, ap, ◌∙◌, subst, arith, eq-eqb, get_or-set_same}
 use Rattle.std.specs.Int.{bit_at}
 use Rattle.pm_layout.specs.declared.shape.Shape.{Shape}
 use Rattle.pm_layout.specs.Sizes.{blocks_of}
 use Rattle.pm_image.specs.declared.block.Block.{Block}
 use Rattle.pm_view.specs.declared.occ.Occ.{Occ}
 use Rattle.pm_view.specs.declared.occ.Occ.TheVariants.{Run}
+use Rattle.pm_view.specs.Blocks.{descriptor_word, is_run}
 use Rattle.pm_view.specs.Founds.{Found, FoundAlone, IsAlone}
 use Rattle.pm_view.specs.Steps.Step.{Load, Occupied}
 use Rattle.pm_view.specs.View.{View}
 use Rattle.pm_view.specs.Views.{after, occ_in}
 use Rattle.pm_world.proofs.Searched.{alone_before, early_still, saw_one, shape_still, still_alone}
-use Rattle.pm_world.specs.Lawful.{HasOcc}
+use Rattle.pm_world.specs.Lawful.{HasOcc, IsSeenRun}
 use Rattle.pm_world.specs.Searches.{SawTaken}
-use Rattle.pm_runs.specs.Looking.{AreTaken, CanTry, HasGotIn, HasGotOf, HasLooked, HasLost, HasNoneBelow, HasNoneOf, HasWon, LookedOn}
+use Rattle.pm_runs.specs.Looking.{AreTaken, CanTry, HasGotIn, HasGotOf, HasLooked, HasLost, HasNoneBelow, HasNoneOf, HasWon, IsRunOf, LookedOn}
 use Rattle.pm_runs.specs.Runs.{MaySearch, descriptor_at, page_of, run_block, run_descriptor, run_of}
 use Rattle.pm_runs.proofs.Searched.{looked_load, looked_occupied, looked_then}
 
@@ -52,14 +53,23 @@ module _ (v : View) (shape : Shape) (may : MaySearch v shape) (chunk : ℕ) (ins
         inside = omega (arith, size, inside);
       }
 
+  -- a run of a class is seen to be a run
+  pub seen_run : (class : ℕ) → IsRunOf v shape.lanes class chunk → IsSeenRun v (run_of shape.lanes chunk)
+  seen_run class run =
+      let lanes = may.of_shape.lanes in
+      let page : ℕ = page_of shape.lanes chunk in
+      ap (λ n. is_run (slice_index v.words (descriptor_word n (4096 * page / 4096)))) lanes
+      ∙ (ap (λ n. is_run (slice_index v.words (descriptor_word shape.lanes n))) (let e : 4096 * page / 4096 ≡ page = omega arith in e)
+      ∙ (ap is_run run ∙ eq-eqb (run_descriptor class % 256) 1 (omega arith)))
+
   pub may_load : descriptor_at shape.lanes chunk < length v.words
   may_load = let size = may.of_shape.size in omega (arith, size, inside)
 
 -- ---- the blocks of a run
 
--- the run's word was read, and the first so many blocks were seen taken
+-- the run's word was read, and the first so many blocks were seen taken; no word of the pool was looked at
 pub record InRun (at : View → Type 0) (v : View) (lanes chunk found i : ℕ) : Type 0 where
-  pub looks : HasLooked at v (λ w. Contains w.seen (Occupied (run_of lanes chunk) found) × ((k : ℕ) → k < i → SawTaken w (run_of lanes chunk) k))
+  pub looks : HasLooked at v (λ w. (w.words ≡ v.words) × Contains w.seen (Occupied (run_of lanes chunk) found) × ((k : ℕ) → k < i → SawTaken w (run_of lanes chunk) k))
   pub found_so : IsAlone v → found ≡ occ_in v (run_of lanes chunk)
   pub taken : AreTaken v lanes chunk i
 
@@ -70,7 +80,7 @@ module _ (v : View) (shape : Shape) (may : MaySearch v shape) (chunk : ℕ) (ins
       view = after v (Occupied (run_of shape.lanes chunk) found);
       looked = looked_occupied v (4096 * page_of shape.lanes chunk) found (has_occ v shape may chunk inside) alone;
       there = there;
-      holds = (saw_one (Occupied (run_of shape.lanes chunk) found) v.seen, λ k low. absurd (omega (arith, low)));
+      holds = (refl, saw_one (Occupied (run_of shape.lanes chunk) found) v.seen, λ k low. absurd (omega (arith, low)));
     };
     found_so = alone;
     taken = λ is k low. absurd (omega (arith, low));
@@ -80,13 +90,17 @@ module _ (v : View) (shape : Shape) (may : MaySearch v shape) (chunk : ℕ) (ins
     abbrev w : View
     w = so.looks.view
 
-    pub can_try : CanTry w (4096 * page_of shape.lanes chunk) found
-    can_try =
+    run_still : (class : ℕ) → IsRunOf v shape.lanes class chunk → IsRunOf w shape.lanes class chunk
+    run_still class run = ap (λ words. slice_index words (descriptor_at shape.lanes chunk)) so.looks.holds.0 ∙ run
+
+    pub can_try : (class : ℕ) → IsRunOf v shape.lanes class chunk → CanTry w (4096 * page_of shape.lanes chunk) found
+    can_try class run =
         let still = may_still v w shape so.looks.looked may in
         record {
           there = has_occ w shape still chunk inside;
+          run = seen_run w shape still chunk inside class (run_still class run);
           early = still.early;
-          saw = so.looks.holds.0;
+          saw = so.looks.holds.1;
           alone = λ is. let before = alone_before v w so.looks.looked.kept is in so.found_so before ∙ sym (occ_still v w so.looks.looked before (4096 * page_of shape.lanes chunk));
         }
 
@@ -99,8 +113,9 @@ module _ (v : View) (shape : Shape) (may : MaySearch v shape) (chunk : ℕ) (ins
             looked = looked_then v w u so.looks.looked lost.looks.looked;
             there = lost.looks.there;
             holds = (
-              lost.looks.looked.kept.remembers _ so.looks.holds.0,
-              below_more (λ k. SawTaken u (run_of shape.lanes chunk) k) i (λ k low. saw_still w u lost.looks.looked (run_of shape.lanes chunk) k (so.looks.holds.1 k low)) lost.looks.holds,
+              lost.looks.holds.0 ∙ so.looks.holds.0,
+              lost.looks.looked.kept.remembers _ so.looks.holds.1,
+              below_more (λ k. SawTaken u (run_of shape.lanes chunk) k) i (λ k low. saw_still w u lost.looks.looked (run_of shape.lanes chunk) k (so.looks.holds.2 k low)) lost.looks.holds.1,
             );
           };
           found_so = so.found_so;
@@ -109,12 +124,12 @@ module _ (v : View) (shape : Shape) (may : MaySearch v shape) (chunk : ℕ) (ins
               (ap (λ x. bit_at x i) (sym (occ_still v w so.looks.looked is (4096 * page_of shape.lanes chunk))) ∙ lost.taken (still_alone v w so.looks.looked.kept is));
         }
 
-    pub got_in_run : (class : ℕ) → i < blocks_of class → (new : View → Type 0) → HasWon new w (4096 * page_of shape.lanes chunk) i → (block : Block) → block ≡ run_block shape.lanes chunk class i → HasGotIn new v shape.lanes class chunk block
-    got_in_run class low new won block is = record { index = i; in_run = low; is_block = is; from = w; looked = so.looks.looked; won = won; lower = so.taken }
+    pub got_in_run : (class : ℕ) → IsRunOf v shape.lanes class chunk → i < blocks_of class → (new : View → Type 0) → HasWon new w (4096 * page_of shape.lanes chunk) i → (block : Block) → block ≡ run_block shape.lanes chunk class i → HasGotIn new v shape.lanes class chunk block
+    got_in_run class run low new won block is = record { index = i; in_run = low; is_block = is; from = w; looked = so.looks.looked; run = run_still class run; won = won; lower = so.taken }
 
     pub none_in_run : (n : ℕ) → n ≡ i → HasNoneBelow at v shape.lanes chunk n
     none_in_run n is = subst (λ m. HasNoneBelow at v shape.lanes chunk m) (sym is) (record {
-      looks = record { view = w; looked = so.looks.looked; there = so.looks.there; holds = so.looks.holds.1 };
+      looks = record { view = w; looked = so.looks.looked; there = so.looks.there; holds = so.looks.holds.2 };
       taken = so.taken;
     })
 
@@ -129,6 +144,10 @@ module _ (v : View) (shape : Shape) (may : MaySearch v shape) (chunk : ℕ) (ins
 
   pub looked_at_chunk : LookedOn v m
   looked_at_chunk = looked_load v word found (may_load v shape may chunk inside) known alone
+
+  -- a run of the class is one by the view's words
+  pub run_now : found ≡ run_descriptor class → IsRunOf m shape.lanes class chunk
+  run_now run = get_or-set_same v.words word found 0 (may_load v shape may chunk inside) ∙ run
 
   -- no run of the class
   pub none_of_other : found ≢ run_descriptor class → (new : View → Type 0) → new m → HasNoneOf new v shape.lanes class chunk

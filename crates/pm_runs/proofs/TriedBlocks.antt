@@ -34,14 +34,14 @@ clear_bit x i none set =
 
 module _ (v : View) (place found index : ℕ) (can : CanTry v place found) where
   pub may_occupy : index < 64 → MayOccupy v (Run place) (2 ^ index)
-  may_occupy low = record { there = can.there; small = pow_below index 64 low; one = (index, refl); locked = tt; early = can.early }
+  may_occupy low = record { there = can.there; small = pow_below index 64 low; one = (index, refl); locked = tt; run = can.run; early = can.early }
 
   -- its bit was set in the word as it was found
   pub lost_as_found : bit_and (found / 2 ^ index) 1 ≢ 0 → (at : View → Type 0) → at v → HasLost at v place index
   lost_as_found some at there =
       let set : bit_at found index ≡ 1 = bit_is_set found index (λ clear. some (shr_and_one found index ∙ clear)) in
       record {
-        looks = record { view = v; looked = looked_none v; there = there; holds = inl (found, (can.saw, set)) };
+        looks = record { view = v; looked = looked_none v; there = there; holds = (refl, inl (found, (can.saw, set))) };
         taken = λ alone. ap (λ x. bit_at x index) (sym (can.alone alone)) ∙ set;
       }
 
@@ -52,7 +52,7 @@ module _ (v : View) (place found index : ℕ) (can : CanTry v place found) where
       view = after v (Occupy (Run place) (2 ^ index) false);
       looked = looked_lost v place (2 ^ index) (may_occupy low) alone;
       there = there;
-      holds = inr (2 ^ index, (saw_one (Occupy (Run place) (2 ^ index) false) v.seen, bit_at-pow_same index));
+      holds = (refl, inr (2 ^ index, (saw_one (Occupy (Run place) (2 ^ index) false) v.seen, bit_at-pow_same index)));
     };
     taken = λ is. set_in_vain (occ_in v (Run place)) index (λ clear. false≢true ((alone is).1 clear));
   }

@@ -10,7 +10,7 @@ use Rattle.pm_view.specs.Steps.{Step}
 use Rattle.pm_view.specs.Steps.Step.{Load, Occupied, Occupy}
 use Rattle.pm_view.specs.View.{View}
 use Rattle.pm_view.specs.Views.{after, occ_in}
-use Rattle.pm_world.specs.Lawful.{HasOcc, IsEarly}
+use Rattle.pm_world.specs.Lawful.{HasOcc, IsEarly, IsSeenRun}
 use Rattle.pm_world.specs.Searches.{IsKeptBySearch, Searches, SawTaken}
 use Rattle.pm_runs.specs.Runs.{page_of, run_of, run_descriptor, descriptor_at, run_block}
 
@@ -31,9 +31,10 @@ pub record HasLooked (at : View → Type 0) (v : View) (Q : View → Type 0) : T
 
 -- ---- one block of a run
 
--- the run's occupancy word was read, and its bits may be tried
+-- the chunk was seen to be a run, whose occupancy word was read, and its bits may be tried
 pub record CanTry (v : View) (place found : ℕ) : Type 0 where
   pub there : HasOcc v (Run place)
+  pub run : IsSeenRun v (Run place)
   pub early : IsEarly v.log.phase
   pub saw : Contains v.seen (Occupied (Run place) found)
   pub alone : IsAlone v → found ≡ occ_in v (Run place)
@@ -43,12 +44,16 @@ pub record HasWon (at : View → Type 0) (v : View) (place index : ℕ) : Type 0
   pub there : at (after v (Occupy (Run place) (2 ^ index) true))
   pub found : FoundAlone v (Occupy (Run place) (2 ^ index) true)
 
--- the bit was seen set
+-- the bit was seen set, and no word of the pool was looked at
 pub record HasLost (at : View → Type 0) (v : View) (place index : ℕ) : Type 0 where
-  pub looks : HasLooked at v (λ w. SawTaken w (Run place) index)
+  pub looks : HasLooked at v (λ w. (w.words ≡ v.words) × SawTaken w (Run place) index)
   pub taken : IsAlone v → bit_at (occ_in v (Run place)) index ≡ 1
 
 -- ---- the blocks of a run
+
+-- by the view's words the chunk is a run of the class
+abbrev pub IsRunOf : View → ℕ → ℕ → ℕ → Type 0
+IsRunOf v lanes class chunk = slice_index v.words (descriptor_at lanes chunk) ≡ run_descriptor class
 
 -- where the lane is alone, these first blocks of the run are taken
 abbrev pub AreTaken : View → ℕ → ℕ → ℕ → Type 0
@@ -66,6 +71,7 @@ pub record HasGotIn (at : View → Type 0) (v : View) (lanes class chunk : ℕ) 
   pub is_block : block ≡ run_block lanes chunk class index
   pub from : View
   pub looked : LookedOn v from
+  pub run : IsRunOf from lanes class chunk
   pub won : HasWon at from (4096 * page_of lanes chunk) index
   pub lower : AreTaken v lanes chunk index
 
@@ -76,10 +82,6 @@ abbrev pub SawNone : ℕ → ℕ → ℕ → View → Type 0
 SawNone lanes class chunk w =
     ((found : ℕ) × (Contains w.seen (Load (descriptor_at lanes chunk) found) × (found ≢ run_descriptor class)))
     ⊎ ((index : ℕ) → index < blocks_of class → SawTaken w (run_of lanes chunk) index)
-
--- by the view's words the chunk is a run of the class
-abbrev pub IsRunOf : View → ℕ → ℕ → ℕ → Type 0
-IsRunOf v lanes class chunk = slice_index v.words (descriptor_at lanes chunk) ≡ run_descriptor class
 
 -- where the lane is alone, the chunk has no free block of the class
 abbrev pub HasNoFree : View → ℕ → ℕ → ℕ → Type 0

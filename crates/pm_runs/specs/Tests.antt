@@ -7,7 +7,7 @@ use Rattle.pm_memory.specs.Solo.{Sees, Solo}
 use Rattle.pm_view.specs.Log.{no_log}
 use Rattle.pm_view.specs.Log.Phase.{Idle}
 use Rattle.pm_view.specs.View.{View}
-use Rattle.pm_world.specs.Heap.{reserves}
+use Rattle.pm_view.specs.Views.{reserves}
 use Rattle.pm_runs.specs.Runs.{MaySearch, run_block, run_of}
 
 -- a lane alone, with nothing undrained and no call, may search

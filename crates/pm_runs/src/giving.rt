@@ -12,8 +12,10 @@ use pm_layout::{CHUNK_BYTES, LINE_BYTES};
 use pm_view::Occ;
 use pm_world::{Lane, LawfulMem};
 
-/// Gives back a block of a run that the lane reserved: its bit of the run's occupancy word is cleared. The lane may do so before its call draws its
-/// number, where nothing of the block is undrained or in its log. Nothing is waited for, no call is counted, and no word of the pool is changed.
+/// Gives back a block of a run that the lane reserved: its bit of the run's occupancy word is cleared. Where the lane has the run's chunk, which it made
+/// the run, it has the run's other blocks in place of the chunk from then on. The lane may do so before its call draws its number, where nothing of the
+/// block is undrained or in its log, nor anything of such a chunk undrained. Nothing is waited for, no call is counted, and no word of the pool is
+/// changed.
 pub fn give_back<M: LawfulMem>(lane: &mut Lane<M>, block: Block)
     requires { (v : View) × (M.at lane.old.memory v × MayGiveBack v block) }
     ensures given { (chunk index : ℕ) → index < blocks_of block.lines → block ≡ run_block lane.old.shape.lanes chunk block.lines index

@@ -5,7 +5,7 @@ ghost use Rattle.std.specs.Prelude.{◌≡◌, ◌*◌, ◌<◌, Contains, IfSom
 ghost use Rattle.pm_layout.specs.Sizes.{blocks_of, classes};
 ghost use Rattle.pm_view.specs.Founds.{IsAlone};
 ghost use Rattle.pm_view.specs.View.{View};
-ghost use Rattle.pm_runs.specs.Looking.{CanTry, HasGotIn, HasGotOf, HasLost, HasNoneBelow, HasNoneOf, HasWon};
+ghost use Rattle.pm_runs.specs.Looking.{CanTry, HasGotIn, HasGotOf, HasLost, HasNoneBelow, HasNoneOf, HasWon, IsRunOf};
 ghost use Rattle.pm_runs.specs.Runs.{HasFoundNone, HasGot, IsLeast, MaySearch};
 
 use crate::places::{descriptor_at, run_place};
@@ -24,13 +24,15 @@ fn try_block<M: LawfulMem>(mem: &mut M, place: u64, found: u64, index: u64) -> b
     found >> index & 1 == 0 && mem.occupy(Occ::Run(place), 1 << index)
 }
 
-/// Reserves the first block of a run, by the run's chunk, that is seen free and is got.
+/// Reserves the first block of a run of the class, by the run's chunk, that is seen free and is got.
 fn reserve_in_run<M: LawfulMem>(mem: &mut M, shape: Shape, class: u64, chunk: u64) -> Option<Block>
     requires class { Contains classes class }
     requires inside { chunk < 64 * shape.zones }
-    requires may { (v : View) × (M.at mem.old v × MaySearch v shape) }
-    ensures got { IfSome result (λ block. (v : View) → M.at mem.old v → MaySearch v shape → HasGotIn (M.at mem.new) v shape.lanes class chunk block) }
-    ensures none { result ≡ None → (v : View) → M.at mem.old v → MaySearch v shape → HasNoneBelow (M.at mem.new) v shape.lanes chunk (blocks_of class) }
+    requires may { (v : View) × (M.at mem.old v × MaySearch v shape × IsRunOf v shape.lanes class chunk) }
+    ensures got { IfSome result (λ block. (v : View) → M.at mem.old v → MaySearch v shape → IsRunOf v shape.lanes class chunk
+        → HasGotIn (M.at mem.new) v shape.lanes class chunk block) }
+    ensures none { result ≡ None → (v : View) → M.at mem.old v → MaySearch v shape → IsRunOf v shape.lanes class chunk
+        → HasNoneBelow (M.at mem.new) v shape.lanes chunk (blocks_of class) }
 {
     let place = run_place(shape, chunk);
     let found = mem.occupied(Occ::Run(place));

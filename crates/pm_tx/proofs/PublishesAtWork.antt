@@ -174,7 +174,7 @@ module _ {M : Type 0} (o : Opening) (at : M → View → Type 0) (lane : Lane M)
       let under = covered_under v work.objects id off 8 true range ((id.off + off) / 8) (word_covered (id.off + off) even) in
       let t = locked_is_plain o work.sound v work.opening object.lock ((id.off + off) / 8) object.held found under in
       record {
-        entry = record { aligned = even; word = can.1.1; part = λ or. absurd cc };
+        entry = record { aligned = even; word = can.1.1 };
         own = written object.lock ((id.off + off) / 8) object.held (writes object.lock object.allows) found under;
         outside = t.2;
         inside = t.1;

@@ -35,10 +35,10 @@ opening_kept o v w finds lane locks same = record {
   lane = subst (λ n. n < w.lanes) (sym lane.lane) (subst (λ n. v.lane < n) (sym lane.lanes) finds.lane);
   lanes = lane.lanes ∙ finds.lanes;
   size = lane.size ∙ finds.size;
-  descriptors = λ page chunk.
+  descriptors = λ page chunk taken.
       let is : is_chunk v.lanes page ≡ true =
       ap (λ n. is_chunk n page) finds.lanes ∙ and_from (leb (zone_page o.lanes 0) page) (leb 1 (chunk_of o.lanes page)) (le-leb (zone_page o.lanes 0) page chunk.0) (le-leb 1 (chunk_of o.lanes page) chunk.1) in
-      subst (λ n. slice_index w.words (descriptor_word n page) ≡ slice_index v.words (descriptor_word n page)) finds.lanes (same page is) ∙ finds.descriptors page chunk;
+      subst (λ n. slice_index w.words (descriptor_word n page) ≡ slice_index v.words (descriptor_word n page)) finds.lanes (same page is) ∙ finds.descriptors page chunk taken;
   locks = subst (λ locks. All (λ (l : Lock). IfSome l.block (λ lines. block_at o.lanes o.words l.line ≡ Some lines)) locks) (sym locks) finds.locks;
 }
 
@@ -68,7 +68,6 @@ module _ (v : View) (w x : ℕ) (plain : IsPlain v w) where
       zone_locks = refl;
       reserved = refl;
       freed = refl;
-      runs = refl;
       call = refl;
       number = refl;
       chunks = refl;

@@ -1,15 +1,16 @@
 -- A known word under a lock held for writing may be recorded, where the view finds of blocks what the opening has.
-use Rattle.std.proofs.Common.{◌≡◌, ℕ, ◌/◌, ◌⊎◌, inl, inr, Bool, true, false, not, cond, leb, ◌&&◌, IfSome, IsTrue, Contains, length, ◌<◌, ◌||◌, slice_index, Option, Some, None, is_some, refl, sym, ap, ◌∙◌, subst, arith, ne_eqb}
+use Rattle.std.proofs.Common.{◌≡◌, ℕ, ◌-◌, ◌/◌, ◌⊎◌, inl, inr, Bool, true, false, not, cond, leb, ◌&&◌, IfSome, IsTrue, Contains, length, ◌<◌, ◌||◌, slice_index, Option, Some, None, is_some, refl, sym, ap, ◌∙◌, subst, arith, ne_eqb}
 use Rattle.std.specs.List.{list_any}
 use Rattle.std.proofs.lemmas.Bool.{and_from, and_parts, or_left, or_right, leb-true, false≢true, false_from_ne_true}
 use Rattle.std.proofs.lemmas.List.Elements.{All-contains}
 use Rattle.std.proofs.lemmas.List.Folds.{Any-from_list_any, list_any_at}
 use Rattle.pm_view.specs.Area.{is_in_area}
-use Rattle.pm_view.specs.Blocks.{bitmap_word, block_at, chunk_of, descriptor_word, is_chunk, is_run, is_word, zone_page}
+use Rattle.pm_view.specs.Blocks.{bitmap_word, block_at, chunk_of, descriptor_word, is_chunk, is_run, is_word, zone_of, zone_page}
 use Rattle.pm_view.specs.Held.{is_held, is_known, is_reserved, is_under, is_under_found}
+use Rattle.pm_view.specs.Occupancy.{is_chunk_taken}
 use Rattle.pm_view.specs.Rights.{is_written}
 use Rattle.pm_view.specs.View.{View, Lock}
-use Rattle.pm_world.specs.Opening.{Opening, Guards, IsChunk, IsSound, TellsOfBlocks}
+use Rattle.pm_world.specs.Opening.{Opening, Guards, IsChunk, IsSound, TellsOfBlocks, is_free_chunk}
 use Rattle.pm_world.proofs.Apart.{area_bounds}
 use Rattle.pm_undo.specs.Working.{CanSnapshot, FindsOpening, IsPlain, TellsNoBlock}
 
@@ -34,6 +35,13 @@ module _ (o : Opening) (sound : IsSound o) (v : View) (finds : FindsOpening o v)
       let t = and_parts (leb (zone_page v.lanes 0) page) (leb 1 (chunk_of v.lanes page)) chunk in
       subst (λ n. IsChunk n page) finds.lanes (leb-true (zone_page v.lanes 0) page t.0, leb-true 1 (chunk_of v.lanes page) t.1)
 
+  -- it lies in a chunk that was taken
+  lies_in_taken : is_free_chunk (slice_index o.words) o.lanes (w / 512) ≡ false
+  lies_in_taken =
+      let page : ℕ = w / 512 in
+      let t = and_parts (is_chunk o.lanes page && is_chunk_taken (slice_index o.words) o.lanes (zone_of o.lanes page) (chunk_of o.lanes page - 1)) _ (sound.in_blocks guarded.0 w guarded.1) in
+      ap not (and_parts (is_chunk o.lanes page) (is_chunk_taken (slice_index o.words) o.lanes (zone_of o.lanes page) (chunk_of o.lanes page - 1)) t.0).1
+
   -- it describes no chunk, and is no run's bitmap
   tells : (page : ℕ) → is_chunk v.lanes page ≡ true → (b : Bool) → is_run (slice_index v.words (descriptor_word v.lanes page)) ≡ b → cond b (bitmap_word page) (descriptor_word v.lanes page) ≡ w → TellsOfBlocks o w
   tells page chunk b run same =
@@ -41,7 +49,9 @@ module _ (o : Opening) (sound : IsSound o) (v : View) (finds : FindsOpening o v)
       (page, (is, at is b run same)) where
         at : IsChunk o.lanes page → (b : Bool) → is_run (slice_index v.words (descriptor_word v.lanes page)) ≡ b → cond b (bitmap_word page) (descriptor_word v.lanes page) ≡ w
             → (w ≡ descriptor_word o.lanes page) ⊎ ((w ≡ bitmap_word page) × IsTrue (is_run (slice_index o.words (descriptor_word o.lanes page))))
-        at is true run same = inr (sym same, ap is_run (sym (finds.descriptors page is)) ∙ (ap (λ n. is_run (slice_index v.words (descriptor_word n page))) (sym finds.lanes) ∙ run))
+        at is true run same =
+            let taken : is_free_chunk (slice_index o.words) o.lanes page ≡ false = ap (is_free_chunk (slice_index o.words) o.lanes) (let e : page ≡ w / 512 = omega (arith, same) in e) ∙ lies_in_taken in
+            inr (sym same, ap is_run (sym (finds.descriptors page is taken)) ∙ (ap (λ n. is_run (slice_index v.words (descriptor_word n page))) (sym finds.lanes) ∙ run))
         at is false run same = inl (sym same ∙ ap (λ n. descriptor_word n page) finds.lanes)
 
   quiet : TellsNoBlock v w

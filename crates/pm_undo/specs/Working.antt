@@ -13,7 +13,7 @@ use Rattle.pm_view.specs.Rights.{is_written}
 use Rattle.pm_view.specs.Steps.{Step}
 use Rattle.pm_view.specs.View.{View, Lock}
 use Rattle.pm_world.specs.Lawful.{generation_limit}
-use Rattle.pm_world.specs.Opening.{Opening, IsChunk}
+use Rattle.pm_world.specs.Opening.{Opening, IsChunk, is_free_chunk}
 use Rattle.pm_world.specs.Records.{AreRestored, IsRecordAt, covers, generation_of, is_drained_slot, is_recorded, spelled}
 use Rattle.pm_world.specs.declared.lane.Span.{Span}
 use Rattle.pm_undo.specs.Sequences.{recorded_in}
@@ -70,7 +70,6 @@ pub record IsSameCall (v w : View) : Type 0 where
   pub zone_locks : w.zone_locks ≡ v.zone_locks
   pub reserved : w.reserved ≡ v.reserved
   pub freed : w.freed ≡ v.freed
-  pub runs : w.runs ≡ v.runs
   pub call : w.call ≡ v.call
   pub number : w.number ≡ v.number
   pub chunks : w.chunks ≡ v.chunks
@@ -150,10 +149,12 @@ pub record IsWrittenWord (v : View) (word x : ℕ) (w : View) : Type 0 where
   pub there : slice_index w.words word ≡ x
   pub others : (u : ℕ) → (u ≡ word → ⊥) → slice_index w.words u ≡ slice_index v.words u
 
--- what the view finds of blocks is as at the opening: what describes chunks, and the blocks that its locks are for
+-- What the view finds of blocks is as at the opening: what describes the chunks that were taken, and the blocks that its locks are for. A chunk that was
+-- free some lane may have made a run since, whose blocks no lock is for.
 pub record FindsOpening (o : Opening) (v : View) : Type 0 where
   pub lane : v.lane < v.lanes
   pub lanes : v.lanes ≡ o.lanes
   pub size : length v.words ≡ length o.words
-  pub descriptors : (page : ℕ) → IsChunk o.lanes page → slice_index v.words (descriptor_word o.lanes page) ≡ slice_index o.words (descriptor_word o.lanes page)
+  pub descriptors : (page : ℕ) → IsChunk o.lanes page → is_free_chunk (slice_index o.words) o.lanes page ≡ false
+      → slice_index v.words (descriptor_word o.lanes page) ≡ slice_index o.words (descriptor_word o.lanes page)
   pub locks : All (λ (l : Lock). IfSome l.block (λ lines. block_at o.lanes o.words l.line ≡ Some lines)) v.locks

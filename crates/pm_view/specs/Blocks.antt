@@ -1,5 +1,5 @@
 -- Where blocks lie, in pages of 512 words, each of 64 lines: the header's page, two pages a lane, 65 pages a zone.
-use Rattle.std.specs.Prelude.{ℕ, ◌+◌, ◌-◌, ◌*◌, ◌/◌, ◌%◌, ◌==◌, ◌&&◌, nat_le, Bool, false, not, if◌then◌else◌, List, slice_index, Option, Some, None}
+use Rattle.std.specs.Prelude.{ℕ, ◌+◌, ◌-◌, ◌*◌, ◌/◌, ◌%◌, ◌==◌, ◌&&◌, nat_le, nat_lt, Bool, false, not, if◌then◌else◌, List, slice_index, Option, Some, None}
 use Rattle.std.specs.Int.{bit_at}
 use Rattle.pm_view.specs.declared.occ.Occ.{Occ}
 use Rattle.pm_view.specs.declared.occ.Occ.TheVariants.{Run, Zone}
@@ -18,6 +18,14 @@ chunk_of lanes page = (page - zone_page lanes 0) % 65
 -- the word of a chunk's descriptor
 abbrev pub descriptor_word : ℕ → ℕ → ℕ
 descriptor_word lanes page = 512 * zone_page lanes (zone_of lanes page) + chunk_of lanes page - 1
+
+-- the word describes a chunk: it is one of the first 64 of a zone's first page
+abbrev pub describes : ℕ → ℕ → Bool
+describes lanes w = nat_le (zone_page lanes 0) (w / 512) && chunk_of lanes (w / 512) == 0 && nat_lt (w % 512) 64
+
+-- the page of the chunk that the word describes, or else the page that it lies in
+abbrev pub page_told : ℕ → ℕ → ℕ
+page_told lanes w = if describes lanes w then w / 512 + 1 + w % 512 else w / 512
 
 -- the word of a run's bitmap
 abbrev pub bitmap_word : ℕ → ℕ
@@ -61,10 +69,11 @@ block_at lanes words line =
     if is_run descriptor && has_block (slice_index words (bitmap_word (line / 64))) (descriptor / 256) (line % 64) then Some (descriptor / 256) else
     if is_huge descriptor && line % 64 == 0 then Some (64 * (descriptor / 256)) else None
 
--- the word is in one of these blocks of an occupancy word; a run's descriptor tells their lines
+-- the word is in one of these blocks of an occupancy word, whose lines a run's descriptor tells; or it is in one of these chunks, or describes one
 abbrev pub covers : ℕ → List ℕ → Occ → ℕ → ℕ → Bool
 covers lanes words (Run place) bits w =
     let lines = slice_index words (descriptor_word lanes (place / 4096)) / 256 in
     w / 512 == place / 4096 && nat_le 8 (w % 512) && bit_at bits ((w % 512 / 8 - 1) / lines) == 1
 covers lanes words (Zone zone) bits w =
-    nat_le (zone_page lanes zone) (w / 512) && zone_of lanes (w / 512) == zone && nat_le 1 (chunk_of lanes (w / 512)) && bit_at bits (chunk_of lanes (w / 512) - 1) == 1
+    let page = page_told lanes w in
+    is_chunk lanes page && zone_of lanes page == zone && bit_at bits (chunk_of lanes page - 1) == 1

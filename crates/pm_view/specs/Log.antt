@@ -32,6 +32,8 @@ pub record Final : Type 0 where
   pub word : ℕ
   pub mask : ℕ
   pub bits : ℕ
+  -- an OR does it: that leaves what a word of more than 64 bits has above them, and so is no SET even where it is of all bits
+  pub ors : Bool
 
 pub record Log : Type 0 where
   pub phase : Phase
@@ -46,8 +48,8 @@ no_log phase = record { phase = phase; records = []; entries = [] }
 -- the bits of an operation's entry: SET, OR or AND
 abbrev pub final_of : ℕ → ℕ → ℕ → Final
 final_of operation word value =
-    if operation == 0 then record { word = word; mask = all_bits; bits = value } else
-    if operation == 1 then record { word = word; mask = value; bits = value } else record { word = word; mask = bit_not w64 value; bits = 0 }
+    if operation == 0 then record { word = word; mask = all_bits; bits = value; ors = false } else
+    if operation == 1 then record { word = word; mask = value; bits = value; ors = true } else record { word = word; mask = bit_not w64 value; bits = 0; ors = false }
 
 -- the log with these words stored in the next slot: a record is whole with its eighth word
 abbrev pub with_slot : Log → List ℕ → List ℕ → Log

@@ -6,7 +6,7 @@ use Rattle.std.specs.Int.{bit_at}
 use Rattle.pm_layout.specs.Sizes.{blocks_of}
 use Rattle.pm_view.specs.declared.occ.Occ.{Occ}
 use Rattle.pm_view.specs.declared.occ.Occ.TheVariants.{Run, Zone}
-use Rattle.pm_view.specs.Blocks.{zone_page, zone_of, chunk_of, descriptor_word, bitmap_word, is_run, is_huge, is_chunk}
+use Rattle.pm_view.specs.Blocks.{zone_page, zone_of, chunk_of, descriptor_word, bitmap_word, describes, is_run, is_huge, is_chunk}
 
 -- the run's block with this index is allocated, or the run has no such block; of a page that is no run each is taken
 abbrev pub is_block_taken : (ℕ → ℕ) → ℕ → ℕ → ℕ → Bool
@@ -38,11 +38,19 @@ is_in_block words lanes w =
     is_chunk lanes page && is_chunk_taken words lanes (zone_of lanes page) (chunk_of lanes page - 1)
     && (not (is_run descriptor) || nat_le 8 (w % 512) && bit_at (words (bitmap_word page)) ((w % 512 / 8 - 1) / (descriptor / 256)) == 1)
 
+-- the word describes a chunk that is free
+abbrev pub describes_free : (ℕ → ℕ) → ℕ → ℕ → Bool
+describes_free words lanes w = describes lanes w && not (is_chunk_taken words lanes (zone_of lanes (w / 512)) (w % 512))
+
 -- the word lies in a chunk, in no allocated block, and is no run's bitmap: whatever stands there, the pool means the same
-abbrev pub is_idle : (ℕ → ℕ) → ℕ → ℕ → Bool
-is_idle words lanes w =
+abbrev pub is_unread : (ℕ → ℕ) → ℕ → ℕ → Bool
+is_unread words lanes w =
     let page = w / 512 in
     is_chunk lanes page && not (is_in_block words lanes w) && not (w % 512 == 0 && is_run (words (descriptor_word lanes page)))
+
+-- so may it stand with a free chunk's descriptor, as long as that is of a run without blocks or 0
+abbrev pub is_idle : (ℕ → ℕ) → ℕ → ℕ → Bool
+is_idle words lanes w = describes_free words lanes w || is_unread words lanes w
 
 -- These are the occupancy words of a pool of these lanes and zones: one for each page, and one for each of 32 zones. Each bit of a chunk's page, and of a
 -- zone that the pool has, is set exactly where what it is of is taken by the pool's words.

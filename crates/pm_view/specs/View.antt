@@ -53,10 +53,9 @@ pub record View : Type 0 where
   -- the locks that it holds, marks among them, and the zones whose lock it holds
   pub locks : List Lock
   pub zone_locks : List ℕ
-  -- blocks that it reserved, blocks that it freed, and the chunks that it makes or made runs, by place, until it has given their blocks free
+  -- blocks that it reserved, and blocks that it freed
   pub reserved : List Taken
   pub freed : List Taken
-  pub runs : List ℕ
   -- the steps of this call that told it something, in order
   pub seen : List Step
   -- the operations of the open call with their replies, and the number that it drew
@@ -88,7 +87,6 @@ blank = record {
   zone_locks = [];
   reserved = [];
   freed = [];
-  runs = [];
   seen = [];
   call = [];
   number = None;

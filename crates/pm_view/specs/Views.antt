@@ -1,13 +1,14 @@
 -- What each step does to a lane's view.
-use Rattle.std.specs.Prelude.{ℕ, ◌+◌, ◌/◌, ◌==◌, Bool, true, false, not, if◌then◌else◌, List, [], ◌∷◌, ◌++◌, map, slice_index, slice_set, Option, Some, None, is_some, bit_and, bit_or}
-use Rattle.std.specs.List.{filter}
+use Rattle.std.specs.Prelude.{ℕ, ◌+◌, ◌-◌, ◌/◌, ◌^◌, ◌==◌, ◌&&◌, Bool, true, false, not, if◌then◌else◌, List, [], ◌∷◌, ◌++◌, map, slice_index, slice_set, Option, Some, None, is_some, bit_and, bit_or}
+use Rattle.std.specs.List.{filter, list_any}
 use Rattle.pm_objects.specs.declared.calls.Operation.{Operation}
 use Rattle.pm_objects.specs.declared.history.Value.{Value}
-use Rattle.std.specs.Int.{bit_not, w64}
+use Rattle.std.specs.Int.{bit_at, bit_not, w64}
+use Rattle.pm_layout.specs.Sizes.{blocks_of}
 use Rattle.pm_view.specs.declared.change.Change.{Change}
 use Rattle.pm_view.specs.declared.occ.Occ.{Occ}
 use Rattle.pm_view.specs.Area.{part_of}
-use Rattle.pm_view.specs.Blocks.{allocation_word, block_at, is_word}
+use Rattle.pm_view.specs.Blocks.{allocation_word, block_at, chunk_of, descriptor_word, is_run, is_word, zone_of}
 use Rattle.pm_view.specs.Changes.{store_change, or_change, and_change, flushed, drained}
 use Rattle.pm_view.specs.Held.{is_held}
 use Rattle.pm_objects.specs.declared.calls.Operation.TheVariants.{Reserve, DeferFree, SetValue, Publish, Cancel}
@@ -105,6 +106,40 @@ abbrev pub without_taken : Occ → ℕ → List Taken → List Taken
 without_taken at bits blocks =
     filter (λ (t : Taken). not (t.bits == 0)) (map (λ (t : Taken). if is_same_occ at t.at then record t { bits = bit_and t.bits (bit_not w64 bits) } else t) blocks)
 
+-- these blocks have the bit of the occupancy word
+abbrev pub has_bit : Occ → ℕ → Taken → Bool
+has_bit at bit t = is_same_occ at t.at && bit_at t.bits bit == 1
+
+-- the lane reserved what the bit is of
+abbrev pub reserves : View → Occ → ℕ → Bool
+reserves v at bit = list_any (has_bit at bit) v.reserved
+
+-- a page's zone as an occupancy word, and the bit of it that stands for the page's chunk
+abbrev pub zone_at : ℕ → ℕ → Occ
+zone_at lanes page = Zone (zone_of lanes page)
+
+abbrev pub chunk_bit : ℕ → ℕ → ℕ
+chunk_bit lanes page = chunk_of lanes page - 1
+
+-- the lane reserved the page's chunk
+abbrev pub has_chunk : View → ℕ → Bool
+has_chunk v page = reserves v (zone_at v.lanes page) (chunk_bit v.lanes page)
+
+-- the lane made the chunk a run: it reserved it, and its descriptor is a run's
+abbrev pub is_made : View → ℕ → Bool
+is_made v page = has_chunk v page && is_run (slice_index v.words (descriptor_word v.lanes page))
+
+-- all blocks of the run at this place, as the view has its descriptor
+abbrev pub all_of_run : View → ℕ → Taken
+all_of_run v place = record { at = Run place; bits = 2 ^ blocks_of (slice_index v.words (descriptor_word v.lanes (place / 4096)) / 256) - 1 }
+
+-- the lane's blocks as it gives blocks of this word back: of a run that it made it has the blocks in place of the chunk
+abbrev pub exchanged : View → Occ → List Taken
+exchanged v (Run place) =
+    let page = place / 4096 in
+    if is_made v page then without_taken (zone_at v.lanes page) (2 ^ chunk_bit v.lanes page) v.reserved ++ all_of_run v place ∷ [] else v.reserved
+exchanged v (Zone zone) = v.reserved
+
 -- a call begins where none is open
 abbrev pub begun : Phase → View → View
 begun Idle v = record v { log = no_log (Open [] []); seen = []; call = []; number = None }
@@ -139,7 +174,7 @@ after v (ZoneTry zone won) = with_seen (ZoneTry zone won) (record v { zone_locks
 after v (ZoneGive zone) = with_seen (ZoneGive zone) (record v { zone_locks = filter (λ other. not (other == zone)) v.zone_locks })
 after v (Occupied at found) = with_seen (Occupied at found) (with_occ at found v)
 after v (Occupy at bits won) = with_seen (Occupy at bits won) (record (with_occ at (occupied_word won bits (occ_in v at)) v) { reserved = with_taken at bits won v.reserved })
-after v (Vacate at bits) = forgetful (record (with_occ at (vacated_word bits (occ_in v at)) v) { reserved = without_taken at bits v.reserved; freed = without_taken at bits v.freed })
+after v (Vacate at bits) = forgetful (record (with_occ at (vacated_word bits (occ_in v at)) v) { reserved = without_taken at bits (exchanged v at); freed = without_taken at bits v.freed })
 after v (NumberSeen n) = with_seen (NumberSeen n) (begun v.log.phase v)
 after v (StopSeen set) = with_seen (StopSeen set) v
 after v SetStop = v

@@ -1,5 +1,5 @@
 -- What one lane may write another neither writes nor knows.
-use Rattle.std.proofs.Common.{◌≡◌, ◌≢◌, ℕ, ◌+◌, ◌*◌, ◌^◌, ◌<◌, ◌≤◌, ◌⊎◌, ⊎_elim, Bool, true, false, leb, ltb, eqb, ◌||◌, IsTrue, IfSome, All, List, slice_index, Option, Some, None, sym, ap, ◌∙◌, arith, pow_mono}
+use Rattle.std.proofs.Common.{◌≡◌, ◌≢◌, ℕ, ◌+◌, ◌*◌, ◌^◌, ◌<◌, ◌≤◌, ◌⊎◌, ⊎_elim, Bool, true, false, leb, ltb, eqb, ◌||◌, IsTrue, IfSome, All, List, Option, Some, None, sym, ap, ◌∙◌, arith, pow_mono}
 use Rattle.std.specs.List.{list_any}
 use Rattle.std.proofs.lemmas.Bool.{and_parts, or_cases, leb-true, ltb-true, eqb-true, false_from_ne_true}
 use Rattle.std.proofs.lemmas.List.Elements.{All-contains}
@@ -76,7 +76,7 @@ held_apart o mem settled flies j k w v sound low inside other own fits e =
     let fit = All-contains (LockFits o mem j) v.locks l fits.locks (t.0, t.2, t.3) in
     holds_apart o mem j k w l.line l.write l.block sound low inside other own fit.shows fit.found t.4 in
     let reserved : is_reserved v w ≡ true → ⊥ = λ there.
-    let apart = reserved_apart (slice_index o.words) o.lanes o.zones v w fits.lane.lanes fits.picture.descriptors fits.blocks there in
+    let apart = reserved_apart o mem v w fits.lane.lanes fits.blocks there in
     ⊎_elim (λ (area : IsTrue (is_in_area k w)). let a = (area_bounds k w area).1 in let behind = apart.behind in absurd (omega arith)) (λ (t : WritesUnder o mem k w). apart.outside (sound.in_blocks t.0 w t.1)) own in
     let by_area : is_in_area v.lane w ≡ true → ⊥ = λ there. area_apart o mem j k w sound low inside other own (ap (λ n. is_in_area n w) (sym fits.lane.lane) ∙ there) in
     ⊎_elim (λ (one : (is_in_area v.lane w || list_any (is_under w) v.locks) ≡ true). ⊎_elim by_area by_lock (or_cases (is_in_area v.lane w) (list_any (is_under w) v.locks) one)) reserved

@@ -1,64 +1,69 @@
 -- A word in a block that a lane reserved is that lane's alone: it lies in no area, no lock guards it, and no other lane reserved it.
-use Rattle.std.proofs.Common.{◌≡◌, ◌≢◌, ℕ, ◌-◌, ◌*◌, ◌/◌, ◌%◌, ◌<◌, ◌⊎◌, inl, inr, ⊎_elim, Bool, true, false, ◌||◌, eqb, All, IsTrue, IfSome, Option, Some, None, List, slice_index, sym, ap, ◌∙◌, arith}
+use Rattle.std.proofs.Common.{◌≡◌, ◌≢◌, ℕ, ◌-◌, ◌*◌, ◌/◌, ◌%◌, ◌<◌, inl, inr, ⊎_elim, Bool, true, ◌||◌, eqb, All, IsTrue, IfSome, Option, Some, None, List, slice_index, sym, ap, ◌∙◌, arith}
 use Rattle.std.specs.List.{list_any}
-use Rattle.std.proofs.lemmas.Bool.{and_parts, eqb-true, false≢true, or_cases, or_left}
+use Rattle.std.proofs.lemmas.Bool.{and_parts, eqb-true, or_cases, or_left, or_right}
 use Rattle.std.proofs.lemmas.List.Elements.{All-contains}
 use Rattle.std.proofs.lemmas.List.Folds.{Any-from_list_any}
 use Rattle.pm_view.specs.Area.{is_in_area}
 use Rattle.pm_view.specs.declared.occ.Occ.{Occ}
-use Rattle.pm_view.specs.declared.occ.Occ.TheVariants.{Run, Zone}
-use Rattle.pm_view.specs.Blocks.{block_at, chunk_of, descriptor_word, is_run, zone_of}
+use Rattle.pm_view.specs.declared.occ.Occ.TheVariants.{Run}
+use Rattle.pm_view.specs.Blocks.{block_at, descriptor_word, page_told}
 use Rattle.pm_view.specs.Held.{is_held, is_reserved, is_under, is_under_found, root_word}
 use Rattle.pm_view.specs.Log.{Final}
 use Rattle.pm_view.specs.Rights.{is_written}
 use Rattle.pm_view.specs.View.{Lock, View}
+use Rattle.pm_view.specs.Views.{chunk_bit, has_bit, has_chunk, reserves, zone_at}
 use Rattle.pm_world.specs.Fits.{LaneFits, LockFits}
-use Rattle.pm_world.specs.Heap.{has_bit, has_taken, reserves}
+use Rattle.pm_world.specs.Heap.{has_run_chunk, has_taken, heap_words}
 use Rattle.pm_world.specs.History.{Entry, settled}
 use Rattle.pm_world.specs.Memory.{Memory}
-use Rattle.pm_world.specs.Opening.{Guards, IsSound, Opening}
+use Rattle.pm_world.specs.Opening.{Guards, IsChunk, IsSound, Opening}
 use Rattle.pm_world.specs.World.{Views, World}
 use Rattle.pm_world.proofs.Apart.{area_bounds}
 use Rattle.pm_world.proofs.Exclusion.{writes_under}
-use Rattle.pm_world.proofs.Reserved.{IsApart, reserved_apart, reserved_bit}
+use Rattle.pm_world.proofs.Reserved.{IsApart, IsBitHad, chunk_word_here, reserved_apart, reserved_bit}
 
 -- the word lies apart, and no lane but this one reserved it
 pub record IsAside (o : Opening) (views : Views) (k w : ℕ) : Type 0 where
   pub apart : IsApart (slice_index o.words) o.lanes o.zones w
   pub alone : (j : ℕ) → j < o.lanes → is_reserved (views j) w ≡ true → j ≡ k
 
--- which block of a run the word is in
-abbrev block_of : Opening → ℕ → ℕ
-block_of o w = (w % 512 / 8 - 1) / (slice_index o.words (descriptor_word o.lanes (w / 512)) / 256)
+pub had_reserved : (v : View) (at : Occ) (bit : ℕ) → reserves v at bit ≡ true → has_taken v at bit ≡ true
+had_reserved v at bit e = or_left (reserves v at bit || has_run_chunk v at) (list_any (has_bit at bit) v.freed) (or_left (reserves v at bit) (has_run_chunk v at) e)
 
--- the lane reserved the block of the run, or, where the chunk is none, the chunk
-abbrev HasBit : Opening → ℕ → View → Type 0
-HasBit o w v =
-    ((is_run (slice_index o.words (descriptor_word o.lanes (w / 512))) ≡ true) × (reserves v (Run (4096 * (w / 512))) (block_of o w) ≡ true))
-    ⊎ ((is_run (slice_index o.words (descriptor_word o.lanes (w / 512))) ≡ false) × (reserves v (Zone (zone_of o.lanes (w / 512))) (chunk_of o.lanes (w / 512) - 1) ≡ true))
+-- the lane that reserved a chunk has each block of a run there
+pub had_chunk : (v : View) (lanes page bit : ℕ) → v.lanes ≡ lanes → reserves v (zone_at lanes page) (chunk_bit lanes page) ≡ true → has_taken v (Run (4096 * page)) bit ≡ true
+had_chunk v lanes page bit of e =
+    let here : (4096 * page) / 4096 ≡ page = omega arith in
+    or_left (reserves v (Run (4096 * page)) bit || has_run_chunk v (Run (4096 * page))) (list_any (has_bit (Run (4096 * page)) bit) v.freed)
+    (or_right (reserves v (Run (4096 * page)) bit) (has_run_chunk v (Run (4096 * page))) (ap (has_chunk v) here ∙ (ap (λ n. reserves v (zone_at n page) (chunk_bit n page)) of ∙ e)))
+
+-- which block of a run the word is in, as the words tell now
+abbrev block_in : Opening → Memory → ℕ → ℕ
+block_in o mem w = (w % 512 / 8 - 1) / (heap_words o mem (descriptor_word o.lanes (w / 512)) / 256)
 
 pub reserved_aside : (o : Opening) (mem : Memory) (views : Views) (log : List Entry) (decided : ℕ → Bool) → World o mem views log decided → (k w : ℕ) → k < o.lanes → is_reserved (views k) w ≡ true → IsAside o views k w
 reserved_aside o mem views log decided world k w inside own = record {
-  apart = let fits = world.each_lane k inside in reserved_apart (slice_index o.words) o.lanes o.zones (views k) w fits.lane.lanes fits.picture.descriptors fits.blocks own;
+  apart = let fits = world.each_lane k inside in reserved_apart o mem (views k) w fits.lane.lanes fits.blocks own;
   alone = λ j low there.
       let fits = world.each_lane k inside in let its = world.each_lane j low in
-      let mine = reserved_bit (slice_index o.words) o.lanes o.zones (views k) w fits.lane.lanes fits.picture.descriptors fits.blocks own in
-      let theirs = reserved_bit (slice_index o.words) o.lanes o.zones (views j) w its.lane.lanes its.picture.descriptors its.blocks there in
-      both j low theirs mine;
+      both j low (reserved_bit o mem (views j) w its.lane.lanes its.blocks there) (reserved_bit o mem (views k) w fits.lane.lanes fits.blocks own);
 }
   where
-    had : (v : View) (at : Occ) (bit : ℕ) → reserves v at bit ≡ true → has_taken v at bit ≡ true
-    had v at bit e = or_left (reserves v at bit) (list_any (has_bit at bit) v.freed) e
-
     -- the bit that stands for the word is of one lane alone
-    one_lane : (j : ℕ) (at : Occ) (bit : ℕ) → j < o.lanes → reserves (views j) at bit ≡ true → reserves (views k) at bit ≡ true → j ≡ k
-    one_lane j at bit low one other = world.heap.apart j k at bit low inside (had (views j) at bit one) (had (views k) at bit other)
+    one_lane : (j : ℕ) (at : Occ) (bit : ℕ) → j < o.lanes → has_taken (views j) at bit ≡ true → has_taken (views k) at bit ≡ true → j ≡ k
+    one_lane j at bit low one other = world.heap.apart j k at bit low inside one other
 
-    both : (j : ℕ) → j < o.lanes → HasBit o w (views j) → HasBit o w (views k) → j ≡ k
-    both j low (inl (is, one)) (inl (so, other)) = one_lane j (Run (4096 * (w / 512))) (block_of o w) low one other
-    both j low (inl (is, one)) (inr (none, other)) = absurd (false≢true (sym none ∙ is))
-    both j low (inr (none, one)) (inl (is, other)) = absurd (false≢true (sym none ∙ is))
-    both j low (inr (is, one)) (inr (so, other)) = one_lane j (Zone (zone_of o.lanes (w / 512))) (chunk_of o.lanes (w / 512) - 1) low one other
+    -- the lane has the chunk of the word, and so each block of a run there
+    chunk_had : (j : ℕ) → j < o.lanes → IsChunk o.lanes (w / 512) → reserves (views j) (zone_at o.lanes (page_told o.lanes w)) (chunk_bit o.lanes (page_told o.lanes w)) ≡ true → has_taken (views j) (Run (4096 * (w / 512))) (block_in o mem w) ≡ true
+    chunk_had j low chunk one =
+        had_chunk (views j) o.lanes (w / 512) (block_in o mem w) (world.each_lane j low).lane.lanes (ap (λ p. reserves (views j) (zone_at o.lanes p) (chunk_bit o.lanes p)) (sym (chunk_word_here o.lanes w chunk.1)) ∙ one)
+
+    both : (j : ℕ) → j < o.lanes → IsBitHad o mem (views j).words w (reserves (views j)) → IsBitHad o mem (views k).words w (reserves (views k)) → j ≡ k
+    both j low (inl one) (inl other) = let at : Occ = zone_at o.lanes (page_told o.lanes w) in let bit : ℕ = chunk_bit o.lanes (page_told o.lanes w) in one_lane j at bit low (had_reserved (views j) at bit one) (had_reserved (views k) at bit other)
+    both j low (inl one) (inr (chunk, other)) = one_lane j (Run (4096 * (w / 512))) (block_in o mem w) low (chunk_had j low chunk one) (had_reserved (views k) (Run (4096 * (w / 512))) (block_in o mem w) other)
+    both j low (inr (chunk, one)) (inl other) = one_lane j (Run (4096 * (w / 512))) (block_in o mem w) low (had_reserved (views j) (Run (4096 * (w / 512))) (block_in o mem w) one) (chunk_had k inside chunk other)
+    both j low (inr (chunk, one)) (inr (also, other)) = one_lane j (Run (4096 * (w / 512))) (block_in o mem w) low (had_reserved (views j) (Run (4096 * (w / 512))) (block_in o mem w) one) (had_reserved (views k) (Run (4096 * (w / 512))) (block_in o mem w) other)
 
 module _ (o : Opening) (views : Views) (k w : ℕ) (sound : IsSound o) (aside : IsAside o views k w) where
   pub aside_area : (j : ℕ) → j < o.lanes → is_in_area j w ≡ true → ⊥

@@ -1,9 +1,9 @@
 -- What an image has of a lane's redo log: which entries are sealed in it, the lane's generation, and the recovered word where a sealed entry is of it.
-use Rattle.std.proofs.Common.{◌≡◌, ◌≢◌, ℕ, zero, suc, ◌+◌, ◌*◌, ◌/◌, ◌%◌, ◌<◌, ◌≤◌, ◌⊎◌, inl, inr, ⊎_elim, eqb, leb, Bool, true, false, cond, Contains, List, [], ◌∷◌, ◌++◌, length, length-append, slice_get, slice_index, Option, Some, refl, sym, ap, ◌∙◌, subst, arith, ◌^◌, not, ◌&&◌}
+use Rattle.std.proofs.Common.{◌≡◌, ◌≢◌, ℕ, zero, suc, ◌+◌, ◌*◌, ◌/◌, ◌%◌, ◌<◌, ◌≤◌, ◌⊎◌, inl, inr, ⊎_elim, eqb, leb, Bool, true, false, cond, Contains, List, [], ◌∷◌, ◌++◌, length, length-append, slice_get, slice_index, Option, Some, refl, sym, ap, ◌∙◌, subst, arith, ◌^◌, ◌&&◌}
 use Rattle.std.specs.List.{cons_option, filter, filter_map, flat_map, range_with_len}
 use Rattle.std.specs.Option.{option_map}
-use Rattle.std.proofs.lemmas.Bool.{cases_Bool, cases_eq, cond-true, cond-false, or_cases, or_parts, and_from, le-leb, eq-eqb, ne_eqb, false≢true, or_left, or_right}
-use Rattle.std.proofs.lemmas.List.Elements.{filter-append}
+use Rattle.std.proofs.lemmas.Bool.{cases_Bool, cases_eq, cond-true, cond-false, or_cases, or_parts, and_from, le-leb, eq-eqb, ne_eqb, eqb-true, false≢true, or_left, or_right}
+use Rattle.std.proofs.lemmas.List.Elements.{All-head, All-tail, filter-append}
 use Rattle.std.proofs.lemmas.Option.{none-some}
 use Rattle.pm_record.specs.Redo.{applied, op_of, outcome, redo_of, redo_words}
 use Rattle.pm_record.specs.declared.redo.Op.{Op}
@@ -13,15 +13,14 @@ use Rattle.pm_view.specs.declared.change.Change.{Change}
 use Rattle.pm_view.specs.Area.{area_word, part_of}
 use Rattle.pm_view.specs.Bits.{all_bits, with_bits}
 use Rattle.pm_view.specs.Area.Part.{EntryWord}
-use Rattle.pm_view.specs.Held.{is_reserved}
 use Rattle.pm_view.specs.Log.{Phase, Final}
 use Rattle.pm_view.specs.Log.Phase.{Idle, Open, Drawn, Sealing, Applying, Clearing, Retiring}
 use Rattle.pm_view.specs.View.{View}
 use Rattle.pm_image.specs.Logs.{all_applied, entries, entries_for, entry_pair, generation, is_sealed, record_for, recovered, recovered_by, seal_word}
 use Rattle.pm_image.proofs.Redoing.{entries_sealed}
 use Rattle.pm_world.specs.Crash.{Survives}
-use Rattle.pm_world.specs.Entries.{AreWhole, EntryStands, IsEntryAt, ends_with, entry_word, final_by, is_part_entered, redo_on}
-use Rattle.pm_world.specs.Fits.{PhaseFits}
+use Rattle.pm_world.specs.Entries.{AreWhole, EntryStands, IsEntryAt, ends_with, entry_word, final_by, redo_on, LeaveWord, is_or_entered}
+use Rattle.pm_world.specs.Fits.{PhaseFits, ReservedChange}
 use Rattle.pm_world.specs.History.{Entry, Flies, is_final, made_final}
 use Rattle.pm_world.specs.Memory.{Memory}
 use Rattle.pm_world.specs.Opening.{Opening}
@@ -31,14 +30,13 @@ use Rattle.pm_world.proofs.CrashLogs.{ChangeFits, GenerationIs, SealIs, entered_
 use Rattle.pm_world.proofs.CrashRecords.{generation_unsealed}
 use Rattle.pm_world.proofs.CrashWords.{OwnTakenBack, area_left, fits_of, lane_is, logged_behind, reserved_word, seal_is, written_behind}
 use Rattle.pm_world.proofs.Differences.{with_all_bits}
-use Rattle.pm_world.proofs.MadeBits.{and_makes, masked_by, or_makes, with_bits-lt}
+use Rattle.pm_world.proofs.MadeBits.{and_makes, or_makes, with_bits-lt}
 
 -- the redo entry that an image has for one of a lane's
 pub record IsRedoFor (f : Final) (e : Redo) : Type 0 where
   pub place : e.place ≡ 8 * f.word
   pub is : f ≡ final_by e.op f.word e.value
-  pub word : e.value < 2 ^ 64
-  pub part : e.op ≡ Or → e.value ≢ all_bits
+  pub word : e.op ≢ Set → e.value < 2 ^ 64
 
 -- and for each of them, in order
 abbrev pub AreRedosFor : List Final → List Redo → Type 0
@@ -84,20 +82,19 @@ place_same u w =
 redo_place : (f : Final) (e : Redo) (w : ℕ) → IsRedoFor f e → eqb e.place (8 * w) ≡ eqb f.word w
 redo_place f e w redo = ap (λ n. eqb n (8 * w)) redo.place ∙ place_same f.word w
 
--- an operation does what its entry says: an OR of some bits to a word of 64 bits
-outcome_makes : (op : Op) (w value x : ℕ) → value < 2 ^ 64 → (op ≡ Or → value ≢ all_bits) → (not (eqb (final_by op w value).mask all_bits) ≡ true → x < 2 ^ 64)
-    → outcome op value x ≡ with_bits (final_by op w value).mask (final_by op w value).bits x
-outcome_makes Set w value x low part small = sym (with_all_bits x value)
-outcome_makes Or w value x low part small = or_makes value x low (small (ap not (ne_eqb value all_bits (part refl))))
-outcome_makes And w value x low part small = and_makes value x low
+-- an operation does what its entry says: an OR to a word of 64 bits
+outcome_makes : (op : Op) (w value x : ℕ) → (op ≢ Set → value < 2 ^ 64) → ((final_by op w value).ors ≡ true → x < 2 ^ 64) → outcome op value x ≡ with_bits (final_by op w value).mask (final_by op w value).bits x
+outcome_makes Set w value x low small = sym (with_all_bits x value)
+outcome_makes Or w value x low small = or_makes value x (low (λ sets. absurd cc)) (small refl)
+outcome_makes And w value x low small = and_makes value x (low (λ sets. absurd cc))
 
-redo_makes : (f : Final) (e : Redo) (x : ℕ) → IsRedoFor f e → (not (eqb f.mask all_bits) ≡ true → x < 2 ^ 64) → applied e x ≡ with_bits f.mask f.bits x
+redo_makes : (f : Final) (e : Redo) (x : ℕ) → IsRedoFor f e → (f.ors ≡ true → x < 2 ^ 64) → applied e x ≡ with_bits f.mask f.bits x
 redo_makes f e x redo small =
-    outcome_makes e.op f.word e.value x redo.word redo.part (λ part. small (ap (λ (g : Final). not (eqb g.mask all_bits)) redo.is ∙ part))
+    outcome_makes e.op f.word e.value x redo.word (λ or. small (ap (λ (g : Final). g.ors) redo.is ∙ or))
     ∙ ap (λ (g : Final). with_bits g.mask g.bits x) (sym redo.is)
 
--- what they make of a word, which is of 64 bits where one is of some bits of it alone
-applied_all : (fs : List Final) (es : List Redo) (w x : ℕ) → AreRedosFor fs es → (is_part_entered fs w ≡ true → x < 2 ^ 64) → all_applied (of_word w es) x ≡ made_final fs w x
+-- what they make of a word, which is of 64 bits where one ORs it, and is left so by all
+applied_all : (fs : List Final) (es : List Redo) (w x : ℕ) → AreRedosFor fs es → (is_or_entered fs w ≡ true → (x < 2 ^ 64) × LeaveWord fs w) → all_applied (of_word w es) x ≡ made_final fs w x
 unfolding made_final
 applied_all [] [] w x redos small = refl
 applied_all [] (e ∷ es) w x redos small = absurd redos
@@ -106,15 +103,21 @@ applied_all (f ∷ fs) (e ∷ es) w x redos small =
     ⊎_elim
     (λ (here : eqb f.word w ≡ true).
     let made : applied e x ≡ with_bits f.mask f.bits x =
-    redo_makes f e x redos.0 (λ part. small (or_left (eqb f.word w && not (eqb f.mask all_bits)) (is_part_entered fs w) (and_from (eqb f.word w) (not (eqb f.mask all_bits)) here part))) in
-    let bits : f.bits < 2 ^ 64 = subst (λ (g : Final). g.bits < 2 ^ 64) (sym redos.0.is) (masked_by e.op f.word e.value redos.0.word).bits in
+    redo_makes f e x redos.0 (λ or. (small (or_left (eqb f.word w && f.ors) (is_or_entered fs w) (and_from (eqb f.word w) f.ors here or))).0) in
+    let left : is_or_entered fs w ≡ true → (with_bits f.mask f.bits x < 2 ^ 64) × LeaveWord fs w = λ or.
+    let t = small (later or) in (with_bits-lt f.mask f.bits x (All-head Leaves f fs t.1 (eqb-true f.word w here)), All-tail Leaves f fs t.1) in
     ap (λ b. all_applied (cond b (e ∷ of_word w es) (of_word w es)) x) (redo_place f e w redos.0 ∙ here)
     ∙ (ap (all_applied (of_word w es)) made
-    ∙ (applied_all fs es w (with_bits f.mask f.bits x) redos.1 (λ part. with_bits-lt f.mask f.bits x bits) ∙ ap (made_final fs w) (sym (cond-true _ _ _ here)))))
+    ∙ (applied_all fs es w (with_bits f.mask f.bits x) redos.1 left ∙ ap (made_final fs w) (sym (cond-true _ _ _ here)))))
     (λ (other : eqb f.word w ≡ false).
     ap (λ b. all_applied (cond b (e ∷ of_word w es) (of_word w es)) x) (redo_place f e w redos.0 ∙ other)
-    ∙ (applied_all fs es w x redos.1 (λ part. small (or_right (eqb f.word w && not (eqb f.mask all_bits)) (is_part_entered fs w) part)) ∙ ap (made_final fs w) (sym (cond-false _ _ _ other))))
-    (cases_Bool (eqb f.word w))
+    ∙ (applied_all fs es w x redos.1 (λ or. let t = small (later or) in (t.0, All-tail Leaves f fs t.1)) ∙ ap (made_final fs w) (sym (cond-false _ _ _ other))))
+    (cases_Bool (eqb f.word w)) where
+      Leaves : Final → Type 0
+      Leaves g = g.word ≡ w → g.bits < 2 ^ 64
+
+      later : is_or_entered fs w ≡ true → is_or_entered (f ∷ fs) w ≡ true
+      later or = or_right (eqb f.word w && f.ors) (is_or_entered fs w) or
 
 -- none is of the word
 pub none_of : (fs : List Final) (es : List Redo) (w : ℕ) → AreRedosFor fs es → is_final fs w ≡ false → of_word w es ≡ []
@@ -167,7 +170,7 @@ unfolding entries_for
 unentered_word image lanes w none = no_part (λ (e : Redo). eqb e.place (8 * w)) (entries image) 0 lanes (λ j low high. none j (omega arith))
 
 -- one lane alone has sealed entries of the word: they make the recovered word
-pub redone_word : (image : List ℕ) (lanes w k : ℕ) (fs : List Final) (es : List Redo) → k < lanes → entries image k ≡ es → AreRedosFor fs es → (is_part_entered fs w ≡ true → slice_index image w < 2 ^ 64) → is_final fs w ≡ true
+pub redone_word : (image : List ℕ) (lanes w k : ℕ) (fs : List Final) (es : List Redo) → k < lanes → entries image k ≡ es → AreRedosFor fs es → (is_or_entered fs w ≡ true → (slice_index image w < 2 ^ 64) × LeaveWord fs w) → is_final fs w ≡ true
     → ((j : ℕ) → j < lanes → j ≢ k → of_word w (entries image j) ≡ []) → recovered image lanes w ≡ made_final fs w (slice_index image w)
 unfolding recovered entries_for
 redone_word image lanes w k fs es inside are redos small of others =
@@ -177,10 +180,10 @@ redone_word image lanes w k fs es inside are redos small of others =
     ∙ (ap (λ es. all_applied es (slice_index image w)) (sym t.2) ∙ applied_all fs es w (slice_index image w) redos small)
 
 -- an entry of all bits of a word spells them
-pub whole_value : (op : Op) (w x : ℕ) → x < 2 ^ 64 → (op ≡ Or → x ≢ all_bits) → (final_by op w x).mask ≡ all_bits → x ≡ (final_by op w x).bits
-whole_value Set w x low part whole = refl
-whole_value Or w x low part whole = absurd (part refl whole)
-whole_value And w x low part whole = omega arith
+pub whole_value : (op : Op) (w x : ℕ) → (final_by op w x).mask ≡ all_bits → x ≡ (final_by op w x).bits
+whole_value Set w x whole = refl
+whole_value Or w x whole = refl
+whole_value And w x whole = omega arith
 
 last_at : (front : List Final) (f : Final) → slice_get (front ++ f ∷ []) (length front) ≡ Some f
 last_at [] f = refl
@@ -266,7 +269,7 @@ module _ (o : Opening) (mem : Memory) (views : Views) (log : List Entry) (decide
           let first : 0 + i ≡ i = omega arith in
           let s = stands k i f inside at in (
             redo_on s.op f.word s.value,
-            record { place = refl; is = s.is; word = s.may.word; part = s.may.part },
+            record { place = refl; is = s.is; word = s.may.word },
             ap (λ j. redo_of (entry_pair image k j)) first ∙ (ap redo_of (entry_read k i f inside sealed (omega arith) at) ∙ redo_again s.op f.word s.value),
           )) in
           (t.0, t.1, sym (entries_sealed image k is_sealed_there) ∙ (ap (λ n. filter_map (λ i. redo_of (entry_pair image k i)) (range_with_len 0 n)) full ∙ t.2)) where
@@ -283,7 +286,7 @@ module _ (o : Opening) (mem : Memory) (views : Views) (log : List Entry) (decide
           let at : IsEntryAt (views k) (length whole.front) (ends_with (views k) g) = ap (λ fs. slice_get fs (length whole.front)) whole.are ∙ last_at whole.front (ends_with (views k) g) in
           let place : area_word k + 7 + 2 * seal_word image k ≡ area_word k + 9 + 2 * length whole.front = omega arith in
           let s = stands k (length whole.front) (ends_with (views k) g) inside at in
-          let bits : s.value ≡ g = whole_value s.op (area_word (views k).lane) s.value s.may.word s.may.part (ap (λ (f : Final). f.mask) (sym s.is)) ∙ ap (λ (f : Final). f.bits) (sym s.is) in
+          let bits : s.value ≡ g = whole_value s.op (area_word (views k).lane) s.value (ap (λ (f : Final). f.mask) (sym s.is)) ∙ ap (λ (f : Final). f.bits) (sym s.is) in
           cond-true _ _ _ is_sealed_there
           ∙ (ap (slice_index image) place ∙ (ap (λ (pair : List ℕ). slice_index pair 1) (entry_read k (length whole.front) (ends_with (views k) g) inside sealed (omega arith) at) ∙ bits))
 
@@ -319,11 +322,11 @@ module _ (o : Opening) (mem : Memory) (views : Views) (log : List Entry) (decide
       by_phase (Open slot pair) is seal fits = kept seal (λ t.
           let of_word = t.of_word in let lane = at in
           ⊎_elim (λ part. let s = slot_part (views k).lane t.change.word part in let low = s.low in omega arith)
-          (λ (other : (part_of (views k).lane t.change.word ≡ EntryWord) ⊎ ((is_logged (views k) t.change.word ≡ true) ⊎ (is_reserved (views k) t.change.word ≡ true))).
+          (λ (other : (part_of (views k).lane t.change.word ≡ EntryWord) ⊎ ((is_logged (views k) t.change.word ≡ true) ⊎ ReservedChange (views k) t.change)).
           ⊎_elim (λ (part : part_of (views k).lane t.change.word ≡ EntryWord). let s = entry_part (views k).lane t.change.word part in let low = s.low in omega arith)
-          (λ (last : (is_logged (views k) t.change.word ≡ true) ⊎ (is_reserved (views k) t.change.word ≡ true)).
+          (λ (last : (is_logged (views k) t.change.word ≡ true) ⊎ ReservedChange (views k) t.change).
           ⊎_elim (λ (logged : is_logged (views k) t.change.word ≡ true). let behind = logged_behind o mem views log decided x k t.change.word inside logged in omega arith)
-          (λ (own : is_reserved (views k) t.change.word ≡ true). let behind = (reserved_word o mem views log decided x k t.change.word inside own).behind in omega arith) last) other) (fits t.change t.there).of)
+          (λ (own : ReservedChange (views k) t.change). let behind = (reserved_word o mem views log decided x k t.change.word inside own.reserved).behind in omega arith) last) other) (fits t.change t.there).of)
       by_phase Drawn is seal fits = kept seal (λ t. fits t.change t.there)
       by_phase Sealing is (inl full) fits = inr (some_sealed Sealing is tt full, sealed_by Sealing is tt full)
       by_phase Sealing is (inr none) fits = inl (none, kept none (λ t. let of_word = t.of_word in let lane = at in let of = (fits t.change t.there).of in omega arith))

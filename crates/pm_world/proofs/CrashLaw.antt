@@ -20,10 +20,9 @@ use Rattle.pm_image.specs.Steps.{valid_record}
 use Rattle.pm_image.proofs.Redoing.{entries_unsealed}
 use Rattle.pm_world.specs.Course.{flight_in, flight, is_number}
 use Rattle.pm_world.specs.Crash.{NoneTorn, Survives, is_deciding_in, is_kept, loses}
-use Rattle.pm_world.specs.Entries.{HasNone, applied_in, is_entered, is_in_log, is_redoing, is_redone, KnowsParts, is_part_entered}
+use Rattle.pm_world.specs.Entries.{HasNone, applied_in, is_entered, is_in_log, is_redoing, is_redone, KnowsOrs, LeaveWord, is_or_entered}
 use Rattle.pm_world.specs.Fits.{PhaseFits, EndFits, RetiringChange, SealChange, SealingFits, IsOfEntries}
 use Rattle.pm_world.specs.History.{Entry, Flies, is_final, made_final, replayed, settled}
-use Rattle.pm_world.specs.Laws.{CrashLaw}
 use Rattle.pm_world.specs.Memory.{Memory}
 use Rattle.pm_world.specs.Memory.Location.{PoolWord}
 use Rattle.pm_world.specs.Opening.{IsLivingWord, Opening}
@@ -78,6 +77,32 @@ drop_all [] = refl
 drop_all (x ∷ xs) = drop_all xs
 
 module _ (o : Opening) (mem : Memory) (views : Views) (log : List Entry) (decided : ℕ → Bool) (x : World o mem views log decided) (image : List ℕ) (survives : Survives o mem views image) (whole : NoneTorn o views image) where
+  -- the image has no entries of a lane, or has it sealed, with the lane's own
+  pub entries_cases : (j : ℕ) → j < o.lanes → (logs.entries image j ≡ []) ⊎ (HasSealed (views j).log.phase × (logs.seal_word image j ≡ length (views j).log.entries))
+  entries_cases j low = by_phase (views j).log.phase (seal_is o mem views log decided x image survives j low) where
+    none : logs.seal_word image j ≡ 0 → logs.entries image j ≡ []
+    none zero_seal = entries_unsealed image j (unsealed image j zero_seal)
+
+    by_phase : (phase : Phase) → SealIs (views j) (logs.seal_word image j) phase → (logs.entries image j ≡ []) ⊎ (HasSealed phase × (logs.seal_word image j ≡ length (views j).log.entries))
+    by_phase Idle seal = inl (none seal)
+    by_phase (Open slot pair) seal = inl (none seal)
+    by_phase Drawn seal = inl (none seal)
+    by_phase Sealing (inl full) = inr (tt, full)
+    by_phase Sealing (inr zero_seal) = inl (none zero_seal)
+    by_phase (Applying applied) seal = inr (tt, seal)
+    by_phase Clearing (inl full) = inr (tt, full)
+    by_phase Clearing (inr zero_seal) = inl (none zero_seal)
+    by_phase Retiring seal = inl (none seal)
+
+  -- none of a lane's sealed entries is of the word where none of its entries is
+  pub no_other : (w j : ℕ) → j < o.lanes → (is_final (views j).log.entries w ≡ true → ⊥) → of_word w (logs.entries image j) ≡ []
+  no_other w j low never =
+      ⊎_elim (λ (none : logs.entries image j ≡ []). ap (of_word w) none)
+      (λ (sealed : HasSealed (views j).log.phase × (logs.seal_word image j ≡ length (views j).log.entries)).
+      let t = entries_read o mem views log decided x image survives j low sealed.0 sealed.1 in
+      ap (of_word w) t.2 ∙ none_of (views j).log.entries t.0 w t.1 (false_from_ne_true (is_final (views j).log.entries w) never))
+      (entries_cases j low)
+
   module _ (w : ℕ) (heap : IsLivingWord o w) where
     -- the word after the entries that are not lost
     abbrev Kept : ℕ
@@ -124,32 +149,6 @@ module _ (o : Opening) (mem : Memory) (views : Views) (log : List Entry) (decide
         ⊎_elim (λ (written : is_written (views j) t.held.word ≡ true). subst (λ u. is_written (views j) u ≡ true) t.of written)
         (λ own. let here : t.held.word ≡ area_word (views j).lane = own.0 in let same = t.of in absurd (⊎_elim (λ (front : w < 512). omega arith) (λ (back : 512 + 1024 * o.lanes ≤ w). omega arith) outside))
         ((x.each_lane j low).entries.each t.place t.held t.at).may.of
-
-    -- the image has no entries of a lane, or has it sealed, with the lane's own
-    entries_cases : (j : ℕ) → j < o.lanes → (logs.entries image j ≡ []) ⊎ (HasSealed (views j).log.phase × (logs.seal_word image j ≡ length (views j).log.entries))
-    entries_cases j low = by_phase (views j).log.phase (seal_is o mem views log decided x image survives j low) where
-      none : logs.seal_word image j ≡ 0 → logs.entries image j ≡ []
-      none zero_seal = entries_unsealed image j (unsealed image j zero_seal)
-
-      by_phase : (phase : Phase) → SealIs (views j) (logs.seal_word image j) phase → (logs.entries image j ≡ []) ⊎ (HasSealed phase × (logs.seal_word image j ≡ length (views j).log.entries))
-      by_phase Idle seal = inl (none seal)
-      by_phase (Open slot pair) seal = inl (none seal)
-      by_phase Drawn seal = inl (none seal)
-      by_phase Sealing (inl full) = inr (tt, full)
-      by_phase Sealing (inr zero_seal) = inl (none zero_seal)
-      by_phase (Applying applied) seal = inr (tt, seal)
-      by_phase Clearing (inl full) = inr (tt, full)
-      by_phase Clearing (inr zero_seal) = inl (none zero_seal)
-      by_phase Retiring seal = inl (none seal)
-
-    -- none of a lane's sealed entries is of the word where none of its entries is
-    no_other : (j : ℕ) → j < o.lanes → (is_final (views j).log.entries w ≡ true → ⊥) → of_word w (logs.entries image j) ≡ []
-    no_other j low never =
-        ⊎_elim (λ (none : logs.entries image j ≡ []). ap (of_word w) none)
-        (λ (sealed : HasSealed (views j).log.phase × (logs.seal_word image j ≡ length (views j).log.entries)).
-        let t = entries_read o mem views log decided x image survives j low sealed.0 sealed.1 in
-        ap (of_word w) t.2 ∙ none_of (views j).log.entries t.0 w t.1 (false_from_ne_true (is_final (views j).log.entries w) never))
-        (entries_cases j low)
 
     -- no change of the word, and it is in no lane's log
     plain_settled : ((k : ℕ) → k < o.lanes → is_in_log (views k) w ≡ false) → slice_index image w ≡ settled o log decided w
@@ -402,22 +401,24 @@ module _ (o : Opening) (mem : Memory) (views : Views) (log : List Entry) (decide
         by_phase Clearing some fits = absurd (seals_elsewhere (length (views k).log.entries) c fits of_w)
         by_phase Retiring none fits = absurd none
 
-      -- the lane knows the word where an entry is of some bits of it alone
-      known_part : (phase : Phase) → HasSealed phase → PhaseFits (Flies log decided k) (views k) phase → KnowsParts (views k)
-      known_part Idle sealed fits = absurd sealed
-      known_part (Open slot pair) sealed fits = absurd sealed
-      known_part Drawn sealed fits = absurd sealed
-      known_part Sealing sealed fits = fits.known
-      known_part (Applying applied) sealed fits = fits.known
-      known_part Clearing sealed fits = fits.known
-      known_part Retiring sealed fits = absurd sealed
+      -- the lane knows the word where an entry ORs it
+      known_or : (phase : Phase) → HasSealed phase → PhaseFits (Flies log decided k) (views k) phase → KnowsOrs (views k)
+      known_or Idle sealed fits = absurd sealed
+      known_or (Open slot pair) sealed fits = absurd sealed
+      known_or Drawn sealed fits = absurd sealed
+      known_or Sealing sealed fits = fits.known
+      known_or (Applying applied) sealed fits = fits.known
+      known_or Clearing sealed fits = fits.known
+      known_or Retiring sealed fits = absurd sealed
 
-      -- it is of 64 bits then, in the image too
-      small_there : HasSealed (views k).log.phase → is_part_entered (views k).log.entries w ≡ true → slice_index image w < 2 ^ 64
-      small_there sealed part =
-          let known = known_part (views k).log.phase sealed (x.each_lane k inside).phase w part in
-          word_small o mem views log decided x image survives (views k).log.entries w inside_image (of_entries (views k).log.phase refl sealed) part
-          (subst (λ n. n < 2 ^ 64) (sym ((x.each_lane k inside).picture.known w known.known)) known.small)
+      -- it is of 64 bits then, in the image too, and the entries leave it so
+      small_there : HasSealed (views k).log.phase → is_or_entered (views k).log.entries w ≡ true → (slice_index image w < 2 ^ 64) × LeaveWord (views k).log.entries w
+      small_there sealed or =
+          let t = known_or (views k).log.phase sealed (x.each_lane k inside).phase w or in (
+            word_small o mem views log decided x image survives (views k).log.entries w inside_image (of_entries (views k).log.phase refl sealed) or
+                (subst (λ n. n < 2 ^ 64) (sym ((x.each_lane k inside).picture.known w t.0.known)) t.0.small),
+            t.1,
+          )
 
       -- the call is decided: what its entries make of the word is settled
       redoing_kept : (phase : Phase) → (views k).log.phase ≡ phase → HasSealed phase → is_redoing phase ≡ true → ((n : ℕ) → flight_in phase (views k).number ≡ Some n → ⊥) → made_final (views k).log.entries w (slice_index image w) ≡ Kept
@@ -469,7 +470,7 @@ module _ (o : Opening) (mem : Memory) (views : Views) (log : List Entry) (decide
       redone_kept Retiring is sealed fits some = absurd sealed
 
       others_none : (j : ℕ) → j < o.lanes → j ≢ k → of_word w (logs.entries image j) ≡ []
-      others_none j low other = no_other j low (λ of_other. other (one_writer o mem j k w x.sound (entered_writes o mem views log decided x j w low outside of_other) enterer))
+      others_none j low other = no_other w j low (λ of_other. other (one_writer o mem j k w x.sound (entered_writes o mem views log decided x j w low outside of_other) enterer))
 
       crash_entered : HasSealed (views k).log.phase → logs.seal_word image k ≡ length (views k).log.entries → recovered image o.lanes w ≡ Kept
       crash_entered sealed full =
@@ -485,11 +486,11 @@ module _ (o : Opening) (mem : Memory) (views : Views) (log : List Entry) (decide
         (λ (sealed : HasSealed (views l.0).log.phase × (logs.seal_word image l.0 ≡ length (views l.0).log.entries)).
         ⊎_elim (λ (of : is_final (views l.0).log.entries w ≡ true). crash_entered l.0 inside of sealed.0 sealed.1)
         (λ (never : is_final (views l.0).log.entries w ≡ false).
-        absurd (false≢true (ap is_some_entry (sym (no_other l.0 inside (λ of. false≢true (sym never ∙ of)))) ∙ l.3)))
+        absurd (false≢true (ap is_some_entry (sym (no_other w l.0 inside (λ of. false≢true (sym never ∙ of)))) ∙ l.3)))
         (cases_Bool (is_final (views l.0).log.entries w)))
         (entries_cases l.0 inside)
 
-    crash_word : recovered image o.lanes w ≡ Kept
+    pub crash_word : recovered image o.lanes w ≡ Kept
     crash_word =
         ⊎_elim crash_by_entry
         (λ (nobody : list_any (λ j. is_some_entry (of_word w (logs.entries image j))) (range_with_len 0 o.lanes) ≡ false).
@@ -497,6 +498,3 @@ module _ (o : Opening) (mem : Memory) (views : Views) (log : List Entry) (decide
         (false_from_ne_true (is_some_entry (of_word w (logs.entries image k))) (λ there. false≢true (sym nobody ∙ lane_some (λ j. is_some_entry (of_word w (logs.entries image j))) o.lanes k inside there))) in
         recovered_unentered image o.lanes w Kept (unentered_word image o.lanes w none) restored_kept (plain none))
         (cases_Bool (list_any (λ j. is_some_entry (of_word w (logs.entries image j))) (range_with_len 0 o.lanes)))
-
-pub crash_law : CrashLaw
-crash_law o mem views log decided image world survives whole w heap = crash_word o mem views log decided world image survives whole w heap

@@ -9,15 +9,15 @@ use Rattle.pm_view.specs.declared.change.Change.{Change}
 use Rattle.pm_view.specs.Area.{Part, area_word, is_in_area, part_in_area, part_of}
 use Rattle.pm_view.specs.Area.Part.{GenerationWord, SealWord, EntryWord, SlotWord, OtherWord}
 use Rattle.pm_view.specs.Changes.{is_in_line}
-use Rattle.pm_view.specs.Held.{is_reserved}
 use Rattle.pm_view.specs.Log.{Phase, Recorded, Final}
 use Rattle.pm_view.specs.Log.Phase.{Idle, Open, Drawn, Sealing, Applying, Clearing, Retiring}
 use Rattle.pm_view.specs.Rights.{is_written}
 use Rattle.pm_view.specs.View.{View}
 use Rattle.pm_image.specs.Logs.{slot_line}
 use Rattle.pm_world.specs.Entries.{AreWhole, ends_with, is_entered, is_redoing, is_redone}
-use Rattle.pm_world.specs.Fits.{OpenChange, RetiringChange, SealChange, AppliedChange, PhaseFits, RecordedWordFits, RecordFits}
+use Rattle.pm_world.specs.Fits.{OpenChange, RetiringChange, SealChange, AppliedChange, PhaseFits, RecordedWordFits, RecordFits, ReservedChange}
 use Rattle.pm_world.specs.Records.{IsRecordAt, generation_of, records_generation, covers, is_recorded, is_drained_slot, is_logged_from, is_logged}
+use Rattle.pm_view.specs.Bits.{all_bits}
 
 -- what an undrained change is, by how far the call has come
 abbrev pub ChangeFits : View → Change → Phase → Type 0
@@ -143,7 +143,7 @@ whole_word v generation w whole e =
 
 -- a change is of a word of the lane's area, of one that the log would restore, of one that it would redo, or of one in a block that it reserved
 pub record ChangeLies (v : View) (c : Change) : Type 0 where
-  pub of : InArea v.lane c.word ⊎ (((is_logged v c.word ≡ true) ⊎ ((is_redone v c.word ≡ true) × (is_written v c.word ≡ true))) ⊎ (is_reserved v c.word ≡ true))
+  pub of : InArea v.lane c.word ⊎ (((is_logged v c.word ≡ true) ⊎ ((is_redone v c.word ≡ true) × (is_written v c.word ≡ true))) ⊎ (ReservedChange v c × (c.mask ≡ all_bits)))
 
 in_area : (lane w : ℕ) → area_word lane ≤ w → w < area_word lane + 1024 → InArea lane w
 in_area lane w low high = record { low = low; high = high }
@@ -158,9 +158,9 @@ pub change_lies : (v : View) (c : Change) (phase : Phase) → v.log.phase ≡ ph
 change_lies v c Idle is fits = absurd fits
 change_lies v c (Open slot pair) is fits = record {
   of = ⊎_elim (λ (part : part_of v.lane c.word ≡ SlotWord). inl (part_inside v.lane c.word SlotWord part (λ e. absurd cc)))
-      (λ (other : (part_of v.lane c.word ≡ EntryWord) ⊎ ((is_logged v c.word ≡ true) ⊎ (is_reserved v c.word ≡ true))).
+      (λ (other : (part_of v.lane c.word ≡ EntryWord) ⊎ ((is_logged v c.word ≡ true) ⊎ ReservedChange v c)).
       ⊎_elim (λ (part : part_of v.lane c.word ≡ EntryWord). inl (part_inside v.lane c.word EntryWord part (λ e. absurd cc)))
-      (λ (last : (is_logged v c.word ≡ true) ⊎ (is_reserved v c.word ≡ true)). inr (⊎_elim (λ (logged : is_logged v c.word ≡ true). inl (inl logged)) (λ (own : is_reserved v c.word ≡ true). inr own) last)) other) fits.of;
+      (λ (last : (is_logged v c.word ≡ true) ⊎ ReservedChange v c). inr (⊎_elim (λ (logged : is_logged v c.word ≡ true). inl (inl logged)) (λ (own : ReservedChange v c). inr (own, fits.whole)) last)) other) fits.of;
 }
 change_lies v c Drawn is fits = absurd fits
 change_lies v c Sealing is fits = seal_lies v 0 c fits

@@ -84,12 +84,14 @@ module _ (o : Opening) (mem : Memory) (views : Views) (log : List Entry) (decide
   -- a record of these words was settled
   pub record HasSettled (k : ℕ) (r : Recorded) : Type 0 where
     pub most : length r.old ≤ 4
-    pub each : (w : ℕ) → IsLivingWord o w → covers r w ≡ true → WritesUnder o mem k w × (slice_index r.old (w - r.word) ≡ settled o log decided w)
+    pub writes : (w : ℕ) → covers r w ≡ true → WritesUnder o mem k w
+    pub each : (w : ℕ) → IsLivingWord o w → covers r w ≡ true → slice_index r.old (w - r.word) ≡ settled o log decided w
 
   pub record_settled : (k slot : ℕ) (r : Recorded) → k < o.lanes → IsRecordAt (views k) slot r → HasSettled k r
   record_settled k slot r inside at = record {
     most = ((x.each_lane k inside).log.each slot r at).most;
-    each = λ w heap of. (recorded_writes o mem views log decided x k w inside (recorded_from (views k) w slot r at of), (recorded_fits o mem views log decided x k w inside (record { slot = slot; held = r; at = at; of = of })).before);
+    writes = λ w of. recorded_writes o mem views log decided x k w inside (recorded_from (views k) w slot r at of);
+    each = λ w heap of. (recorded_fits o mem views log decided x k w inside (record { slot = slot; held = r; at = at; of = of })).before;
   }
 
   -- a slot that is being written is of a call that has sealed nothing
@@ -120,25 +122,24 @@ module _ (o : Opening) (mem : Memory) (views : Views) (log : List Entry) (decide
   making_settled : (k : ℕ) (r : Recorded) → k < o.lanes → is_redoing (views k).log.phase ≡ false → CanRecord (views k) r → HasSettled k r
   making_settled k r inside early can = record {
     most = can.most;
+    writes = λ w of. writes_under o mem k (views k) w (x.each_lane k inside).locks (can_record_word (views k) r w can of).own;
     each = λ w heap of.
         let one = can_record_word (views k) r w can of in
         let writes = writes_under o mem k (views k) w (x.each_lane k inside).locks one.own in
         let behind = behind_areas o mem views log decided x k w writes in
         let at = (x.each_lane k inside).lane.lane in
-        let known = known_word (views k) w (omega arith) one.known in (
-          writes,
-          sym one.present ∙ (sym ((x.each_lane k inside).picture.known w known)
-              ∙ x.each_word w heap (λ j j_inside. or_from (is_logged (views j) w) (is_redone (views j) w)
-              (unrecorded_unlogged (views j) w
-              (⊎_elim (λ (other : is_recorded (views j).log.records w ≡ true).
-              let same : j ≡ k = one_writer o mem j k w x.sound (recorded_writes o mem views log decided x j w j_inside other) writes in
-              absurd (false≢true (sym one.new ∙ subst (λ i. is_recorded (views i).log.records w ≡ true) same other)))
-              (λ (none : is_recorded (views j).log.records w ≡ false). none) (cases_Bool (is_recorded (views j).log.records w))))
-              (false_from_ne_true (is_redone (views j) w) (λ redone.
-              let t = and_parts (is_redoing (views j).log.phase) (is_entered (views j).log.entries w) redone in
-              let same : j ≡ k = one_writer o mem j k w x.sound (entered_writes o mem views log decided x j w j_inside (outside_areas w heap) t.1) writes in
-              false≢true (sym early ∙ subst (λ i. is_redoing (views i).log.phase ≡ true) same t.0))))),
-        );
+        let known = known_word (views k) w (omega arith) one.known in
+        sym one.present ∙ (sym ((x.each_lane k inside).picture.known w known)
+        ∙ x.each_word w heap (λ j j_inside. or_from (is_logged (views j) w) (is_redone (views j) w)
+        (unrecorded_unlogged (views j) w
+        (⊎_elim (λ (other : is_recorded (views j).log.records w ≡ true).
+        let same : j ≡ k = one_writer o mem j k w x.sound (recorded_writes o mem views log decided x j w j_inside other) writes in
+        absurd (false≢true (sym one.new ∙ subst (λ i. is_recorded (views i).log.records w ≡ true) same other)))
+        (λ (none : is_recorded (views j).log.records w ≡ false). none) (cases_Bool (is_recorded (views j).log.records w))))
+        (false_from_ne_true (is_redone (views j) w) (λ redone.
+        let t = and_parts (is_redoing (views j).log.phase) (is_entered (views j).log.entries w) redone in
+        let same : j ≡ k = one_writer o mem j k w x.sound (entered_writes o mem views log decided x j w j_inside (outside_areas w heap) t.1) writes in
+        false≢true (sym early ∙ subst (λ i. is_redoing (views i).log.phase ≡ true) same t.0)))));
   }
 
   module _ (image : List ℕ) (survives : Survives o mem views image) (whole : NoneTorn o views image) where
@@ -191,6 +192,15 @@ module _ (o : Opening) (mem : Memory) (views : Views) (log : List Entry) (decide
       pub was : old_word u (8 * w) ≡ settled o log decided w
       pub loses_flight : (n : ℕ) → flight_in (views k).log.phase (views k).number ≡ Some n → (is_number (views k).number n && not (is_deciding_in image (views k) (views k).log.phase)) ≡ true
 
+    -- the lane of a valid slot writes each word that it covers
+    pub slot_writes : (k slot w : ℕ) (u : Undo) → k < o.lanes → slot < 64 → valid_record image k slot ≡ Some u → logs.covers u (8 * w) ≡ true → WritesUnder o mem k w
+    slot_writes k slot w u inside within valid covering =
+        let s = valid_spells k slot u inside within valid in
+        let p = valid_parts image k slot u valid in
+        let g : ℕ = records_generation (views k).log.phase (views k) in
+        let same : u ≡ undo_from g s.held = same_Some u (undo_from g s.held) (sym p.stands ∙ (ap undo_of s.spells ∙ undo_of-spelled g s.held s.was.most)) in
+        s.was.writes w (covers_back g s.held w (ap (λ z. logs.covers z (8 * w)) (sym same) ∙ covering))
+
     pub slot_says : (k slot w : ℕ) (u : Undo) → k < o.lanes → slot < 64 → IsLivingWord o w → valid_record image k slot ≡ Some u → logs.covers u (8 * w) ≡ true → Says k w u
     slot_says k slot w u inside within heap valid covering =
         let s = valid_spells k slot u inside within valid in
@@ -198,12 +208,11 @@ module _ (o : Opening) (mem : Memory) (views : Views) (log : List Entry) (decide
         let g : ℕ = records_generation (views k).log.phase (views k) in
         let same : u ≡ undo_from g s.held = same_Some u (undo_from g s.held) (sym p.stands ∙ (ap undo_of s.spells ∙ undo_of-spelled g s.held s.was.most)) in
         let of : covers s.held w ≡ true = covers_back g s.held w (ap (λ z. logs.covers z (8 * w)) (sym same) ∙ covering) in
-        let e = s.was.each w heap of in
         let now : generation image k ≡ g = sym p.present ∙ ap (λ (z : Undo). z.generation) same in
         let at : k ≡ (views k).lane = sym (x.each_lane k inside).lane.lane in
         record {
-          writes = e.0;
-          was = ap (λ z. old_word z (8 * w)) same ∙ (old_from g s.held w of ∙ e.1);
+          writes = s.was.writes w of;
+          was = ap (λ z. old_word z (8 * w)) same ∙ (old_from g s.held w of ∙ s.was.each w heap of);
           loses_flight = λ n flight. generation_loses image (views k) n (views k).log.phase (x.each_lane k inside).first_generation
               (subst (λ j. GenerationIs (views k) (seal_word image j) (generation image j) (views k).log.phase) at (generation_is o mem views log decided x image survives k inside))
               (ap (generation image) (sym at) ∙ now)

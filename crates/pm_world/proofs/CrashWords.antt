@@ -18,12 +18,12 @@ use Rattle.pm_view.specs.View.{View}
 use Rattle.pm_view.proofs.Finding.{whole-taken_back}
 use Rattle.pm_image.specs.Logs.{seal_word, slot_line, undo_slot}
 use Rattle.pm_world.specs.Crash.{IsUndrained, Survives}
-use Rattle.pm_world.specs.Fits.{LaneFits, RecordedWordFits, IsOfEntries}
+use Rattle.pm_world.specs.Fits.{LaneFits, RecordedWordFits, IsOfEntries, ReservedChange}
 use Rattle.pm_world.specs.History.{Entry, Flies, settled}
 use Rattle.pm_world.specs.Memory.{Memory}
 use Rattle.pm_world.specs.Memory.Location.{PoolWord}
 use Rattle.pm_world.specs.Opening.{Opening}
-use Rattle.pm_world.specs.Entries.{is_entered, is_redone, seal_in, AgreeBeside, is_part_entered}
+use Rattle.pm_world.specs.Entries.{is_entered, is_redone, seal_in, AgreeBeside, is_or_entered}
 use Rattle.pm_world.specs.Records.{is_recorded, is_drained_slot, is_logged, records_generation}
 use Rattle.pm_world.specs.World.{Views, World}
 use Rattle.pm_world.proofs.CrashLogs.{ChangeFits, change_fits, ChangeLies, InArea, change_lies, slot_part, entry_part, entered_front, entry_of_word, whole_word, RecordOf, record_of, recorded_word, logged_recorded, drained_slot, SealIs}
@@ -32,13 +32,13 @@ use Rattle.pm_world.proofs.TakenBits.{IsOfWord, left_beside, left_small}
 use Rattle.pm_world.proofs.Reserved.{IsApart, reserved_apart}
 
 -- an undrained change of the word was taken back: the word has the old value, where the change is of all of it
-record TakenBack (views : Views) (lanes : ℕ) (image : List ℕ) (w : ℕ) : Type 0 where
-  change : Change
-  lane : ℕ
-  of_lane : lane < lanes
-  there : Contains (views lane).changes change
-  of_word : change.word ≡ w
-  is_old : change.mask ≡ all_bits → slice_index image w ≡ change.old
+pub record TakenBack (views : Views) (lanes : ℕ) (image : List ℕ) (w : ℕ) : Type 0 where
+  pub change : Change
+  pub lane : ℕ
+  pub of_lane : lane < lanes
+  pub there : Contains (views lane).changes change
+  pub of_word : change.word ≡ w
+  pub is_old : change.mask ≡ all_bits → slice_index image w ≡ change.old
 
 -- of a change of this lane
 pub record OwnTakenBack (v : View) (image : List ℕ) (w : ℕ) : Type 0 where
@@ -114,15 +114,15 @@ module _ (o : Opening) (mem : Memory) (views : Views) (log : List Entry) (decide
   -- a word that a lane reserved lies apart
   pub reserved_word : (k w : ℕ) → k < o.lanes → is_reserved (views k) w ≡ true → IsApart (slice_index o.words) o.lanes o.zones w
   reserved_word k w inside own =
-      let fits = x.each_lane k inside in reserved_apart (slice_index o.words) o.lanes o.zones (views k) w fits.lane.lanes fits.picture.descriptors fits.blocks own
+      let fits = x.each_lane k inside in reserved_apart o mem (views k) w fits.lane.lanes fits.blocks own
 
   -- a change outside of the areas is of a word of its lane's log, or of one that it reserved
-  change_outside : (k : ℕ) (c : Change) → k < o.lanes → Contains (views k).changes c → (c.word < 512) ⊎ (512 + 1024 * o.lanes ≤ c.word) → Logs k c.word ⊎ (is_reserved (views k) c.word ≡ true)
+  pub change_outside : (k : ℕ) (c : Change) → k < o.lanes → Contains (views k).changes c → (c.word < 512) ⊎ (512 + 1024 * o.lanes ≤ c.word) → Logs k c.word ⊎ (ReservedChange (views k) c × (c.mask ≡ all_bits))
   change_outside k c inside there outside =
       let at = lane_is k inside in
       ⊎_elim (λ (area : InArea (views k).lane c.word). let low = area.low in let high = area.high in
       absurd (⊎_elim (λ (front : c.word < 512). omega arith) (λ (back : 512 + 1024 * o.lanes ≤ c.word). omega arith) outside))
-      (λ (other : Logs k c.word ⊎ (is_reserved (views k) c.word ≡ true)). other)
+      (λ (other : Logs k c.word ⊎ (ReservedChange (views k) c × (c.mask ≡ all_bits))). other)
       (lies k c inside there).of
 
   -- a change in the lane's own area is of a whole word
@@ -144,9 +144,9 @@ module _ (o : Opening) (mem : Memory) (views : Views) (log : List Entry) (decide
   change_inside j k c j_inside inside there low high =
       let at = lane_is j j_inside in
       ⊎_elim (λ (area : InArea (views j).lane c.word). let from = area.low in let to = area.high in omega arith)
-      (λ (other : Logs j c.word ⊎ (is_reserved (views j) c.word ≡ true)).
+      (λ (other : Logs j c.word ⊎ (ReservedChange (views j) c × (c.mask ≡ all_bits))).
       ⊎_elim (λ (logs : Logs j c.word). absurd (let behind = logs_behind j c.word j_inside logs in omega arith))
-      (λ (own : is_reserved (views j) c.word ≡ true). absurd (let behind = (reserved_word j c.word j_inside own).behind in omega arith)) other)
+      (λ (own : ReservedChange (views j) c × (c.mask ≡ all_bits)). absurd (let behind = (reserved_word j c.word j_inside own.0.reserved).behind in omega arith)) other)
       (lies j c j_inside there).of
 
   module _ (image : List ℕ) (survives : Survives o mem views image) where
@@ -156,7 +156,7 @@ module _ (o : Opening) (mem : Memory) (views : Views) (log : List Entry) (decide
         let u = All-head (IsUndrained views o.lanes w) c lost undrained in
         inr (record { change = c; lane = u.lane; of_lane = u.of_lane; there = u.there; of_word = u.of_word; is_old = λ whole. left ∙ whole-taken_back c (all_taken_back lost (mem (PoolWord w))) whole })
 
-    word_left : (w : ℕ) → w < length o.words → (slice_index image w ≡ mem (PoolWord w)) ⊎ TakenBack views o.lanes image w
+    pub word_left : (w : ℕ) → w < length o.words → (slice_index image w ≡ mem (PoolWord w)) ⊎ TakenBack views o.lanes image w
     word_left w inside = let l = survives.each w inside in left_cases w l.lost l.undrained l.left
 
     -- where each change of the word is of bits that these entries are of, what is left of it agrees with the memory beside them
@@ -171,16 +171,16 @@ module _ (o : Opening) (mem : Memory) (views : Views) (log : List Entry) (decide
         ap (λ x. bit_at x i) l.left ∙ left_beside entries w (mem (PoolWord w)) l.lost (lost_of entries w l.lost of l.undrained) i small beside
 
     pub word_small : (entries : List Final) (w : ℕ) → w < length o.words → ((j : ℕ) (c : Change) → j < o.lanes → Contains (views j).changes c → c.word ≡ w → IsOfEntries entries c)
-        → is_part_entered entries w ≡ true → mem (PoolWord w) < 2 ^ 64 → slice_index image w < 2 ^ 64
-    word_small entries w inside of part small =
+        → is_or_entered entries w ≡ true → mem (PoolWord w) < 2 ^ 64 → slice_index image w < 2 ^ 64
+    word_small entries w inside of or small =
         let l = survives.each w inside in
-        subst (λ x. x < 2 ^ 64) (sym l.left) (left_small entries w (mem (PoolWord w)) l.lost part small (lost_of entries w l.lost of l.undrained))
+        subst (λ x. x < 2 ^ 64) (sym l.left) (left_small entries w (mem (PoolWord w)) l.lost or small (lost_of entries w l.lost of l.undrained))
 
     -- a change of a word outside of the areas, and not idle, is of a lane that has it in its log
     pub changer : (w : ℕ) → (w < 512) ⊎ (512 + 1024 * o.lanes ≤ w) → is_idle (slice_index o.words) o.lanes w ≡ false → (j : ℕ) (c : Change) → j < o.lanes → Contains (views j).changes c → c.word ≡ w → Logs j w
     changer w outside living j c inside there of =
         ⊎_elim (λ (logs : Logs j c.word). subst (Logs j) of logs)
-        (λ (own : is_reserved (views j) c.word ≡ true). absurd (false≢true (sym living ∙ subst (λ u. is_idle (slice_index o.words) o.lanes u ≡ true) of (reserved_word j c.word inside own).idle)))
+        (λ (own : ReservedChange (views j) c × (c.mask ≡ all_bits)). absurd (false≢true (sym living ∙ subst (λ u. is_idle (slice_index o.words) o.lanes u ≡ true) of (reserved_word j c.word inside own.0.reserved).idle)))
         (change_outside j c inside there (subst (λ u. (u < 512) ⊎ (512 + 1024 * o.lanes ≤ u)) (sym of) outside))
 
     -- a word outside of the areas, and not idle, that nobody's change is of
@@ -191,8 +191,8 @@ module _ (o : Opening) (mem : Memory) (views : Views) (log : List Entry) (decide
         (λ (t : TakenBack views o.lanes image w).
         let there : (t.change.word < 512) ⊎ (512 + 1024 * o.lanes ≤ t.change.word) = subst (λ u. (u < 512) ⊎ (512 + 1024 * o.lanes ≤ u)) (sym t.of_word) outside in
         absurd (⊎_elim (λ (logs : Logs t.lane t.change.word). away t.lane t.change t.of_lane t.there t.of_word (subst (Logs t.lane) t.of_word logs))
-        (λ (own : is_reserved (views t.lane) t.change.word ≡ true).
-        false≢true (sym living ∙ subst (λ u. is_idle (slice_index o.words) o.lanes u ≡ true) t.of_word (reserved_word t.lane t.change.word t.of_lane own).idle))
+        (λ (own : ReservedChange (views t.lane) t.change × (t.change.mask ≡ all_bits)).
+        false≢true (sym living ∙ subst (λ u. is_idle (slice_index o.words) o.lanes u ≡ true) t.of_word (reserved_word t.lane t.change.word t.of_lane own.0.reserved).idle))
         (change_outside t.lane t.change t.of_lane t.there there)))
         (word_left w inside)
 
@@ -216,11 +216,11 @@ module _ (o : Opening) (mem : Memory) (views : Views) (log : List Entry) (decide
     seal_before k (Open slot pair) inside t fits =
         let is = t.of_word in let at = lane_is k inside in
         absurd (⊎_elim (λ (part : part_of (views k).lane t.change.word ≡ SlotWord). let s = slot_part (views k).lane t.change.word part in let low = s.low in omega arith)
-        (λ (other : (part_of (views k).lane t.change.word ≡ EntryWord) ⊎ ((is_logged (views k) t.change.word ≡ true) ⊎ (is_reserved (views k) t.change.word ≡ true))).
+        (λ (other : (part_of (views k).lane t.change.word ≡ EntryWord) ⊎ ((is_logged (views k) t.change.word ≡ true) ⊎ ReservedChange (views k) t.change)).
         ⊎_elim (λ (part : part_of (views k).lane t.change.word ≡ EntryWord). let s = entry_part (views k).lane t.change.word part in let low = s.low in omega arith)
-        (λ (last : (is_logged (views k) t.change.word ≡ true) ⊎ (is_reserved (views k) t.change.word ≡ true)).
+        (λ (last : (is_logged (views k) t.change.word ≡ true) ⊎ ReservedChange (views k) t.change).
         ⊎_elim (λ (logged : is_logged (views k) t.change.word ≡ true). let behind = logged_behind k t.change.word inside logged in omega arith)
-        (λ (own : is_reserved (views k) t.change.word ≡ true). let behind = (reserved_word k t.change.word inside own).behind in omega arith) last) other) fits.of)
+        (λ (own : ReservedChange (views k) t.change). let behind = (reserved_word k t.change.word inside own.reserved).behind in omega arith) last) other) fits.of)
     seal_before k Drawn inside t fits = absurd fits
     seal_before k Sealing inside t fits = inr (t.is_old ∙ fits.before)
     seal_before k (Applying applied) inside t fits =

@@ -105,7 +105,8 @@ module _ (o : Opening) (old : Memory) (views : Views) (log : List Entry) (decide
           counter = same CommitCounter ∙ world.counter;
           counter_room = let room = room_kept o old views log decided world k inside v is v' (λ can. can) in let count = same CommitCounter in omega arith;
           own_entries = λ j low. entries_kept o old views log decided world k inside v is v' j refl low;
-          heap = heap_here o old views log decided world k inside v is v' new (all_same old new same) (record { reserved = refl; freed = refl; zones = refl });
+          new_runs = (heap_here o old views log decided world k inside v is v' new (λ w. same (PoolWord w)) (all_same old new same) (record { lanes = refl; reserved = refl; freed = refl; zones = refl })).runs;
+          heap = (heap_here o old views log decided world k inside v is v' new (λ w. same (PoolWord w)) (all_same old new same) (record { lanes = refl; reserved = refl; freed = refl; zones = refl })).heap;
           stop_word = drained_stop o old views log decided world k inside v is new same may lg;
         }
 
@@ -175,7 +176,7 @@ module _ (o : Opening) (old : Memory) (views : Views) (log : List Entry) (decide
       most = omega arith;
       changes = All-nil (AppliedChange view' 0);
       whole = let g = generation in record { front = fits.whole.front; are = fits.whole.are ∙ ap (λ n. fits.whole.front ++ set_word (area_word v.lane) n ∷ []) (sym g); owned = fits.whole.owned };
-      known = λ w part. let t = fits.known w part in record { known = t.known; small = t.small };
+      known = λ w or. let t = fits.known w or in (record { known = t.0.known; small = t.0.small }, t.1);
       last = let g = generation in let below = fits.below in omega arith;
     }
 

@@ -35,7 +35,7 @@ made_final-taken words (f ∷ difference) w x taken e =
     ∙ (ap (λ m. with_bits m f.bits x) first.whole ∙ (with_all_bits x f.bits ∙ (first.bits ∙ ap (slice_index words) (eqb-true f.word w here))))))
     (cases_Bool (is_final difference w))
 
-range_taken : (words : List ℕ) (from n : ℕ) → All (IsTakenFrom words) (map (λ w. record { word = w; mask = all_bits; bits = slice_index words w }) (range_with_len from n))
+range_taken : (words : List ℕ) (from n : ℕ) → All (IsTakenFrom words) (map (λ w. record { word = w; mask = all_bits; bits = slice_index words w; ors = false }) (range_with_len from n))
 range_taken words from zero = All-nil (IsTakenFrom words)
 range_taken words from (suc n) = All-cons (IsTakenFrom words) _ _ (record { whole = refl; bits = refl }) (range_taken words (from + 1) n)
 
@@ -44,7 +44,7 @@ records_taken words [] = All-nil (IsTakenFrom words)
 records_taken words (r ∷ records) = All-append (IsTakenFrom words) (finals_of words r) (flat_map (finals_of words) records) (range_taken words r.word (length r.old)) (records_taken words records)
 
 abbrev range_finals : List ℕ → ℕ → ℕ → List Final
-range_finals words from n = map (λ u. record { word = u; mask = all_bits; bits = slice_index words u }) (range_with_len from n)
+range_finals words from n = map (λ u. record { word = u; mask = all_bits; bits = slice_index words u; ors = false }) (range_with_len from n)
 
 final-in_range : (words : List ℕ) (from n w : ℕ) → is_final (range_finals words from n) w ≡ true → (from ≤ w) × (w < from + n)
 final-in_range words from zero w e = absurd (false≢true e)

@@ -30,6 +30,7 @@ use Rattle.pm_world.proofs.Pairs.{entered_written, no_entries, none_redone}
 use Rattle.pm_world.proofs.Slots.{word_recorded, unrecorded, all_stale}
 use Rattle.pm_world.proofs.Heaps.{all_same}
 use Rattle.pm_world.proofs.Worlds.{heap_here, own, quiet, unlogged_before, hold_kept, room_kept, at_stop_kept, stop_kept}
+use Rattle.pm_world.proofs.HeapWords.{words_described}
 
 no_final : (w x : ℕ) → made_final [] w x ≡ x
 unfolding made_final
@@ -44,7 +45,7 @@ module _ (o : Opening) (old : Memory) (views : Views) (log : List Entry) (decide
   pub others_drained : (settled' : ℕ → ℕ) (flies' : ℕ → ℕ → List Final → Type 0) → ((j w : ℕ) → j < o.lanes → j ≢ k → IsTrue (is_written (views j) w) → settled' w ≡ settled o log decided w)
       → ((j n : ℕ) → j ≢ k → Flies log decided j n (difference_of (views j)) → flies' j n (difference_of (views j)))
       → (j : ℕ) → j < o.lanes → j ≢ k → LaneFits o new settled' (flies' j) j (views j)
-  others_drained settled' flies' settles flying j low other = lane_kept o old new (settled o log decided) settled' (Flies log decided j) (flies' j) j (views j)
+  others_drained settled' flies' settles flying j low other = lane_kept o old new (settled o log decided) settled' (Flies log decided j) (flies' j) j (views j) (words_described o old new (λ w. same (PoolWord w)))
       (λ w in_area. same (PoolWord w)) (λ w known. same (PoolWord w)) (λ w written. same (PoolWord w)) (λ line write. subst (ShowsHold j write) (sym (same (LockWord line))))
       (λ w written. settles j w low other written) (λ n flies. flying j n other flies) (world.each_lane j low)
 
@@ -62,7 +63,7 @@ module _ (o : Opening) (old : Memory) (views : Views) (log : List Entry) (decide
   -- the lane's own facts then, from those of its log
   pub drained_fits : (lg : Log) (settled' : ℕ → ℕ) (flies' : ℕ → List Final → Type 0) → LogFits settled' (drained_to lg) (records_generation lg.phase (drained_to lg)) → EntriesFit (drained_to lg)
       → ((w : ℕ) → IsTrue (is_redone (drained_to lg) w) → IsTrue (is_written v w) → RedoneWord old settled' (drained_to lg) w) → PhaseFits flies' (drained_to lg) lg.phase → LaneFits o new settled' flies' k (drained_to lg)
-  drained_fits lg settled' flies' log_fits entries_fit redone phase_fits = lane_kept o old new settled' settled' flies' flies' k (drained_to lg)
+  drained_fits lg settled' flies' log_fits entries_fit redone phase_fits = lane_kept o old new settled' settled' flies' flies' k (drained_to lg) (words_described o old new (λ w. same (PoolWord w)))
       (λ w in_area. same (PoolWord w)) (λ w known. same (PoolWord w)) (λ w written. same (PoolWord w)) (λ line write. subst (ShowsHold k write) (sym (same (LockWord line)))) (λ w own_word. refl) (λ n flies. flies)
       (coursed_fits o old settled' flies' k v [] (v.calls + 1) lg v.seen v.call v.number v.entries v.actions mine log_fits entries_fit redone phase_fits (omega arith) (λ stop e. let due = may stop e in omega arith))
 
@@ -116,7 +117,7 @@ module _ (o : Opening) (old : Memory) (views : Views) (log : List Entry) (decide
         (others_drained (settled o log decided) (λ j. Flies log decided j) (λ j w low other written. refl) (λ j n other flies. flies)) fits
         (λ w heap un others. same (PoolWord w) ∙ words w heap others)
         (drained_lines (no_log phase)) (λ n flying. absurd (unflown n flying))
-        (same CommitCounter) (room_kept o old views log decided world k inside v is (drained_to (no_log phase)) (λ can. can)) refl (heap_here o old views log decided world k inside v is (drained_to (no_log phase)) new (all_same old new same) (record { reserved = refl; freed = refl; zones = refl })) (drained_stop (no_log phase))
+        (same CommitCounter) (room_kept o old views log decided world k inside v is (drained_to (no_log phase)) (λ can. can)) refl (heap_here o old views log decided world k inside v is (drained_to (no_log phase)) new (λ w. same (PoolWord w)) (all_same old new same) (record { lanes = refl; reserved = refl; freed = refl; zones = refl })) (drained_stop (no_log phase))
 
   -- a call that was given up: what it recorded is as it was
   pub gives_up : v.log.phase ≡ Retiring → v.number ≡ None → World o new (with_view views k (record v { changes = []; calls = v.calls + 1; log = no_log (Open [] []) })) log decided

@@ -5,6 +5,7 @@ use Rattle.std.proofs.lemmas.Bool.{cases_eq}
 use Rattle.std.proofs.lemmas.List.Elements.{All-weaker}
 use Rattle.pm_view.specs.declared.change.Change.{Change}
 use Rattle.pm_view.specs.Area.{is_in_area}
+use Rattle.pm_view.specs.Blocks.{descriptor_word}
 use Rattle.pm_view.specs.Counts.{max_changes}
 use Rattle.pm_view.specs.Log.{Phase, Log, Final}
 use Rattle.pm_view.specs.Log.Phase.{Idle, Open, Drawn, Sealing, Applying, Clearing, Retiring}
@@ -12,13 +13,15 @@ use Rattle.pm_view.specs.Rights.{is_written}
 use Rattle.pm_view.specs.Steps.{Step}
 use Rattle.pm_view.specs.View.{View, Told, Numbered}
 use Rattle.pm_world.specs.Entries.{is_redone}
-use Rattle.pm_world.specs.Fits.{ShowsHold, LockFits, LogFits, PhaseFits, EndFits, EntriesFit, LaneFits, RedoneWord}
+use Rattle.pm_world.specs.Fits.{ShowsHold, LockFits, LogFits, PhaseFits, EndFits, EntriesFit, IsDescriptorSeen, LaneFits, RedoneWord}
+use Rattle.pm_world.specs.Heap.{BlocksFit, heap_words}
 use Rattle.pm_world.specs.Laws.{with_view}
 use Rattle.pm_world.specs.Memory.{Memory}
 use Rattle.pm_world.specs.Memory.Location.{PoolWord, LockWord}
-use Rattle.pm_world.specs.Opening.{Opening}
+use Rattle.pm_world.specs.Opening.{IsChunk, Opening}
 use Rattle.pm_world.specs.Records.{records_generation, used_slots, difference_of}
 use Rattle.pm_world.specs.World.{Views}
+use Rattle.pm_world.proofs.HeapWords.{AreDescribedSame, heap_same}
 use Rattle.pm_world.proofs.Pairs.{redone_kept}
 
 ends_kept : (flies flies' : ℕ → List Final → Type 0) (v : View) → ((n : ℕ) → flies n (difference_of v) → flies' n (difference_of v)) → (number : Option ℕ) → EndFits flies v number → EndFits flies' v number
@@ -50,8 +53,47 @@ log_kept settled settled' v generation same fits = record {
   stale = fits.stale;
 }
 
--- The lane that makes no step: its area, what it knows and what it may write are the same, its locks stay, and what it may write is settled as before.
+-- what a lane has of descriptors and of blocks fits the words that tell of blocks
+pub record HeapFits (o : Opening) (heap : ℕ → ℕ) (v : View) : Type 0 where
+  pub descriptors : (page : ℕ) → IsChunk o.lanes page → IsDescriptorSeen o heap v (descriptor_word o.lanes page)
+  pub blocks : BlocksFit o heap v
+
+-- where the descriptors are as they were, so do these facts stay
+pub heap_kept : (o : Opening) (old new : Memory) (v : View) → AreDescribedSame o old new → HeapFits o (heap_words o old) v → HeapFits o (heap_words o new) v
+heap_kept o old new v same fits = subst (λ heap. HeapFits o heap v) (sym (heap_same o old new same)) fits
+
+pub heap_of : (o : Opening) (mem : Memory) (settled : ℕ → ℕ) (flies : ℕ → List Final → Type 0) (j : ℕ) (v : View) → LaneFits o mem settled flies j v → HeapFits o (heap_words o mem) v
+heap_of o mem settled flies j v fits = record { descriptors = fits.picture.descriptors; blocks = fits.blocks }
+
+-- The lane that makes no step: its area, what it knows and what it may write are the same, its locks stay, what it may write is settled as before, and
+-- what it has of the heap fits.
+pub lane_stays : (o : Opening) (old new : Memory) (settled settled' : ℕ → ℕ) (flies flies' : ℕ → List Final → Type 0) (j : ℕ) (v : View)
+    → ((w : ℕ) → IsTrue (is_in_area v.lane w) → new (PoolWord w) ≡ old (PoolWord w))
+    → ((w : ℕ) → Contains v.known w → new (PoolWord w) ≡ old (PoolWord w))
+    → ((w : ℕ) → IsTrue (is_written v w) → new (PoolWord w) ≡ old (PoolWord w))
+    → ((line : ℕ) (write : Bool) → ShowsHold j write (old (LockWord line)) → ShowsHold j write (new (LockWord line)))
+    → ((w : ℕ) → IsTrue (is_written v w) → settled' w ≡ settled w)
+    → ((n : ℕ) → flies n (difference_of v) → flies' n (difference_of v))
+    → HeapFits o (heap_words o new) v
+    → LaneFits o old settled flies j v → LaneFits o new settled' flies' j v
+lane_stays o old new settled settled' flies flies' j v area known written shows same flying heap fits = record {
+  lane = fits.lane;
+  picture = record { area = λ w inside. area w inside ∙ fits.picture.area w inside; known = λ w there. known w there ∙ fits.picture.known w there; held = fits.picture.held; descriptors = heap.descriptors };
+  locks = All-weaker (LockFits o old j) (LockFits o new j) (λ l f. record { shows = shows l.line l.write f.shows; found = f.found }) v.locks fits.locks;
+  log = log_kept settled settled' v (records_generation v.log.phase v) same fits.log;
+  entries = fits.entries;
+  redone = λ w again own. redone_kept old new settled settled' v w (written w own) (same w own) (fits.redone w again own);
+  phase = phase_kept flies flies' v flying v.log.phase fits.phase;
+  blocks = heap.blocks;
+  first_generation = fits.first_generation;
+  last_generation = fits.last_generation;
+  room = fits.room;
+  within = fits.within;
+}
+
+-- the same where no descriptor changes
 pub lane_kept : (o : Opening) (old new : Memory) (settled settled' : ℕ → ℕ) (flies flies' : ℕ → List Final → Type 0) (j : ℕ) (v : View)
+    → AreDescribedSame o old new
     → ((w : ℕ) → IsTrue (is_in_area v.lane w) → new (PoolWord w) ≡ old (PoolWord w))
     → ((w : ℕ) → Contains v.known w → new (PoolWord w) ≡ old (PoolWord w))
     → ((w : ℕ) → IsTrue (is_written v w) → new (PoolWord w) ≡ old (PoolWord w))
@@ -59,20 +101,8 @@ pub lane_kept : (o : Opening) (old new : Memory) (settled settled' : ℕ → ℕ
     → ((w : ℕ) → IsTrue (is_written v w) → settled' w ≡ settled w)
     → ((n : ℕ) → flies n (difference_of v) → flies' n (difference_of v))
     → LaneFits o old settled flies j v → LaneFits o new settled' flies' j v
-lane_kept o old new settled settled' flies flies' j v area known written shows same flying fits = record {
-  lane = fits.lane;
-  picture = record { area = λ w inside. area w inside ∙ fits.picture.area w inside; known = λ w there. known w there ∙ fits.picture.known w there; held = fits.picture.held; descriptors = fits.picture.descriptors };
-  locks = All-weaker (LockFits o old j) (LockFits o new j) (λ l f. record { shows = shows l.line l.write f.shows; found = f.found }) v.locks fits.locks;
-  log = log_kept settled settled' v (records_generation v.log.phase v) same fits.log;
-  entries = fits.entries;
-  redone = λ w again own. redone_kept old new settled settled' v w (written w own) (same w own) (fits.redone w again own);
-  phase = phase_kept flies flies' v flying v.log.phase fits.phase;
-  blocks = fits.blocks;
-  first_generation = fits.first_generation;
-  last_generation = fits.last_generation;
-  room = fits.room;
-  within = fits.within;
-}
+lane_kept o old new settled settled' flies flies' j v described area known written shows same flying fits =
+    lane_stays o old new settled settled' flies flies' j v area known written shows same flying (heap_kept o old new v described (heap_of o old settled flies j v fits)) fits
 
 -- P of each lane, from P of lane k's new view and of the others
 pub view_here : (views : Views) (k : ℕ) (v : View) → with_view views k v k ≡ v
@@ -141,7 +171,7 @@ coursed_fits o mem settled flies k v changes calls log seen call number entries 
   entries = entries_fit;
   redone = redone;
   phase = phase_fits;
-  blocks = record { of_pool = fits.blocks.of_pool; free = fits.blocks.free; freed = fits.blocks.freed };
+  blocks = record { of_pool = fits.blocks.of_pool; small = fits.blocks.small; free = fits.blocks.free; described = fits.blocks.described; freed = fits.blocks.freed };
   first_generation = fits.first_generation;
   last_generation = fits.last_generation;
   room = room;

@@ -1,10 +1,12 @@
 -- The heap's volatile words stay in agreement where a step changes none of them, nor what the lane has of the heap.
-use Rattle.std.proofs.Common.{◌≡◌, ℕ, inl, inr, ⊎_elim, true, eqb, ◌||◌, sym, ap, ◌∙◌}
+use Rattle.std.proofs.Common.{◌≡◌, ℕ, ◌/◌, inl, inr, ⊎_elim, true, eqb, ◌||◌, refl, sym, ap, ◌∙◌}
 use Rattle.std.specs.Int.{bit_at}
 use Rattle.std.specs.List.{list_any}
 use Rattle.pm_view.specs.declared.occ.Occ.{Occ}
+use Rattle.pm_view.specs.declared.occ.Occ.TheVariants.{Run, Zone}
 use Rattle.pm_view.specs.View.{View}
-use Rattle.pm_world.specs.Heap.{Heap, SomeHasTaken, SomeHoldsZone, has_bit, has_taken, holds_zone}
+use Rattle.pm_view.specs.Views.{chunk_bit, has_bit, zone_at}
+use Rattle.pm_world.specs.Heap.{Heap, SomeHasTaken, SomeHoldsZone, has_run_chunk, has_taken, holds_zone}
 use Rattle.pm_world.specs.Laws.{with_view}
 use Rattle.pm_world.specs.Memory.{Memory, IsSame, IsSameBut, Location, occ_at}
 use Rattle.pm_world.specs.Memory.Location.{ZoneLock}
@@ -26,6 +28,7 @@ beside_same old new l plain same = record { words = λ at. same (occ_at at) (occ
 
 -- the lane has of the heap what it had
 pub record HasSame (v v' : View) : Type 0 where
+  pub lanes : v'.lanes ≡ v.lanes
   pub reserved : v'.reserved ≡ v.reserved
   pub freed : v'.freed ≡ v.freed
   pub zones : v'.zone_locks ≡ v.zone_locks
@@ -57,11 +60,15 @@ module _ (o : Opening) (words : ℕ → ℕ) (old new : Memory) (views : Views) 
             (λ (t : SomeHoldsZone views o.lanes old zone). inr (t.0, t.1, same.locks zone ∙ t.2, held_later t.0 zone t.3)) (heap.unlocked zone);
       }
 
+chunk_same : (v v' : View) → HasSame v v' → (at : Occ) → has_run_chunk v' at ≡ has_run_chunk v at
+chunk_same v v' has (Run place) = λ i. list_any (has_bit (zone_at (has.lanes i) (place / 4096)) (chunk_bit (has.lanes i) (place / 4096))) (has.reserved i)
+chunk_same v v' has (Zone zone) = refl
+
 taken_same : (v v' : View) → HasSame v v' → (at : Occ) (bit : ℕ) → has_taken v at bit ≡ true → has_taken v' at bit ≡ true
-taken_same v v' has at bit e = (λ i. list_any (has_bit at bit) (has.reserved i) || list_any (has_bit at bit) (has.freed i)) ∙ e
+taken_same v v' has at bit e = (λ i. list_any (has_bit at bit) (has.reserved i) || chunk_same v v' has at i || list_any (has_bit at bit) (has.freed i)) ∙ e
 
 turned : (v v' : View) → HasSame v v' → HasSame v' v
-turned v v' has = record { reserved = sym has.reserved; freed = sym has.freed; zones = sym has.zones }
+turned v v' has = record { lanes = sym has.lanes; reserved = sym has.reserved; freed = sym has.freed; zones = sym has.zones }
 
 zones_same : (v v' : View) → HasSame v v' → (zone : ℕ) → holds_zone v zone ≡ true → holds_zone v' zone ≡ true
 zones_same v v' has zone e = (λ i. list_any (λ held. eqb held zone) (has.zones i)) ∙ e

@@ -7,6 +7,7 @@ pub mod CrashLogs
 pub mod CrashRecords
 pub mod CrashReplays
 pub mod CrashSays
+pub mod CrashRuns
 pub mod CrashSpellings
 pub mod CrashWords
 pub mod Decided
@@ -17,6 +18,8 @@ pub mod Exclusion
 pub mod Frame
 pub mod Going
 pub mod Heaps
+pub mod HeapWords
+pub mod Exchanged
 pub mod Histories
 pub mod Living
 pub mod Locations
@@ -25,6 +28,7 @@ pub mod Longer
 pub mod Losses
 pub mod MadeBits
 pub mod Numbers
+pub mod OneLane
 pub mod OpeningLaw
 pub mod Pairs
 pub mod Parts
@@ -45,12 +49,15 @@ pub mod StepDraw
 pub mod StepFlush
 pub mod StepGive
 pub mod StepHeap
+pub mod StepOccupy
+pub mod StepVacate
 pub mod StepLoad
 pub mod StepSeen
 pub mod StepSetStop
 pub mod StepStore
 pub mod StepTake
 pub mod StoreAside
+pub mod StoreDescriptor
 pub mod StoreEntry
 pub mod StoreGeneration
 pub mod StorePair

@@ -12,16 +12,15 @@ use Rattle.pm_view.specs.Log.{Final}
 use Rattle.pm_world.specs.Entries.{AgreeBeside, final_by, is_bit_entered, is_entered}
 use Rattle.pm_world.specs.History.{made_final}
 
--- the entry's mask and bits are words, and no bit lies outside of the mask
+-- the entry's mask is a word, and no bit lies outside of it
 pub record IsMasked (f : Final) : Type 0 where
   pub mask : f.mask < 2 ^ 64
-  pub bits : f.bits < 2 ^ 64
   pub within : (i : ℕ) → i < 64 → bit_at f.mask i ≡ 0 → bit_at f.bits i ≡ 0
 
-pub masked_by : (op : Op) (w x : ℕ) → x < 2 ^ 64 → IsMasked (final_by op w x)
-masked_by Set w x low = record { mask = omega arith; bits = low; within = λ i small none. let one = bit_at_ones 64 i small in omega arith }
-masked_by Or w x low = record { mask = low; bits = low; within = λ i small none. none }
-masked_by And w x low = record { mask = omega arith; bits = omega arith; within = λ i small none. bit_at-zero i }
+pub masked_by : (op : Op) (w x : ℕ) → (op ≢ Set → x < 2 ^ 64) → IsMasked (final_by op w x)
+masked_by Set w x low = record { mask = omega arith; within = λ i small none. let one = bit_at_ones 64 i small in omega arith }
+masked_by Or w x low = record { mask = low (λ sets. absurd cc); within = λ i small none. none }
+masked_by And w x low = record { mask = omega arith; within = λ i small none. bit_at-zero i }
 
 -- a bit of the mask is that of the bits, and any other stays
 pub bit_at-with_bits : (mask bits x i : ℕ) → mask < 2 ^ 64 → i < 64 → bit_at (with_bits mask bits x) i ≡ max (min (bit_at x i) (1 - bit_at mask i)) (bit_at bits i)

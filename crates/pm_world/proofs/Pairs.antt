@@ -1,6 +1,6 @@
 -- Which words a lane's entries are of, what its pairs hold, and what stays of both.
-use Rattle.std.proofs.Common.{◌≡◌, ◌⊎◌, ℕ, ◌+◌, ◌*◌, ◌<◌, ◌≤◌, inl, inr, ⊎_elim, true, false, not, eqb, ◌&&◌, ◌++◌, IsTrue, All, [], ◌∷◌, length, drop, get_or, slice_get, slice_index, Some, refl, sym, ap, ◌∙◌, subst, arith}
-use Rattle.std.proofs.lemmas.Bool.{and_from, eq-eqb, le-leb, lt-ltb, and_parts, or_cases, or_parts, or_from, eqb-true, false≢true, false_from_ne_true}
+use Rattle.std.proofs.Common.{◌≡◌, ◌⊎◌, ℕ, ◌+◌, ◌*◌, ◌<◌, ◌≤◌, inl, inr, ⊎_elim, true, false, eqb, ◌&&◌, ◌++◌, IsTrue, All, [], ◌∷◌, length, drop, get_or, slice_get, slice_index, Some, refl, sym, ap, ◌∙◌, subst, arith}
+use Rattle.std.proofs.lemmas.Bool.{and_from, le-leb, lt-ltb, and_parts, or_cases, or_parts, or_from, eqb-true, false≢true, false_from_ne_true}
 use Rattle.std.proofs.lemmas.List.Elements.{All-weaker}
 use Rattle.std.proofs.lemmas.List.Folds.{Any-from_list_any}
 use Rattle.std.proofs.lemmas.Option.{none-some, slice_get-get_or, slice_get_within}
@@ -8,12 +8,11 @@ use Rattle.std.specs.Int.{bit_at}
 use Rattle.pm_record.specs.declared.redo.Op.{Op}
 use Rattle.pm_record.specs.declared.redo.Op.TheVariants.{Set}
 use Rattle.pm_view.specs.Area.{area_word, is_in_area}
-use Rattle.pm_view.specs.Bits.{all_bits}
 use Rattle.pm_view.specs.Log.{Phase, Log, Final}
 use Rattle.pm_view.specs.Log.Phase.{Idle, Open, Drawn, Sealing, Applying, Clearing, Retiring}
 use Rattle.pm_view.specs.Rights.{is_written}
 use Rattle.pm_view.specs.View.{View}
-use Rattle.pm_world.specs.Entries.{AreWhole, EntryStands, HasNone, IsEnterable, IsEntryAt, applied_in, entry_word, final_by, is_bit_entered, is_entered, is_in_log, is_part_entered, is_redoing, is_redone, pair_at, seal_in, set_word}
+use Rattle.pm_world.specs.Entries.{AreWhole, EntryStands, HasNone, IsEnterable, IsEntryAt, applied_in, entry_word, final_by, is_bit_entered, is_entered, is_in_log, is_or_entered, is_redoing, is_redone, pair_at, seal_in, set_word}
 use Rattle.pm_world.specs.Fits.{EntriesFit, LogFits, RedoneWord}
 use Rattle.pm_world.specs.History.{is_final, made_final}
 use Rattle.pm_world.specs.Memory.{Memory}
@@ -46,17 +45,17 @@ entered_written v w fits e out =
     in_own : (lane : ℕ) → is_in_area lane (area_word lane) ≡ true
     in_own lane = and_from _ _ (le-leb (area_word lane) (area_word lane) (omega arith)) (lt-ltb (area_word lane) (area_word lane + 1024) (omega arith))
 
--- a word of which an entry is in part is one that the lane writes
-pub part_written : (v : View) (w : ℕ) → EntriesFit v → is_part_entered v.log.entries w ≡ true → IsTrue (is_written v w)
-part_written v w fits e =
-    let t = Any-from_list_any (λ (f : Final). eqb f.word w && not (eqb f.mask all_bits)) v.log.entries e in
+-- a word that an entry ORs is one that the lane writes
+pub or_written : (v : View) (w : ℕ) → EntriesFit v → is_or_entered v.log.entries w ≡ true → IsTrue (is_written v w)
+or_written v w fits e =
+    let t = Any-from_list_any (λ (f : Final). eqb f.word w && f.ors) v.log.entries e in
     let f : Final = t.1 in
-    let parts = and_parts (eqb f.word w) (not (eqb f.mask all_bits)) t.4 in
+    let parts = and_parts (eqb f.word w) f.ors t.4 in
     let stands = fits.each t.0 f (slice_get-get_or v.log.entries t.0 f t.2 ∙ ap Some t.3) in
     ⊎_elim (λ (written : IsTrue (is_written v f.word)). subst (λ u. IsTrue (is_written v u)) (eqb-true f.word w parts.0) written)
     (λ (own : (f.word ≡ area_word v.lane) × (stands.op ≡ Set)).
-    let whole : f.mask ≡ all_bits = ap (λ (g : Final). g.mask) stands.is ∙ ap (λ op. (final_by op f.word stands.value).mask) own.1 in
-    absurd (false≢true (ap not (sym (eq-eqb f.mask all_bits whole)) ∙ parts.1)))
+    let sets : f.ors ≡ false = ap (λ (g : Final). g.ors) stands.is ∙ ap (λ op. (final_by op f.word stands.value).ors) own.1 in
+    absurd (false≢true (sym sets ∙ parts.1)))
     stands.may.of
 
 -- an entry has bits of its mask alone
@@ -109,7 +108,6 @@ module _ (v v' : View) (lane : v'.lane ≡ v.lane) (entries : v'.log.entries ≡
   enterable_again op w x may = record {
     of = ⊎_elim (λ (own : IsTrue (is_written v w)). inl (written w own)) (λ (generation : (w ≡ area_word v.lane) × (op ≡ Set)). inr (generation.0 ∙ ap area_word (sym lane), generation.1)) may.of;
     word = may.word;
-    part = may.part;
   }
 
   pair_again : (i : ℕ) → i < 64 → pair_at v' i ≡ pair_at v i

@@ -5,17 +5,16 @@ use Rattle.std.proofs.lemmas.Bool.{and_parts, and_from, or_cases, or_left, or_ri
 use Rattle.pm_view.specs.declared.change.Change.{Change}
 use Rattle.pm_view.specs.Area.{part_of}
 use Rattle.pm_view.specs.Area.Part.{EntryWord, SlotWord}
-use Rattle.pm_view.specs.Held.{is_reserved}
 use Rattle.pm_view.specs.Log.{Phase, Recorded, Final}
 use Rattle.pm_view.specs.Log.Phase.{Idle, Open, Drawn, Sealing, Applying, Clearing, Retiring}
 use Rattle.pm_view.specs.Steps.{Step}
 use Rattle.pm_view.specs.View.{View, Told}
-use Rattle.pm_world.specs.Fits.{LaneFits, LogFits, PhaseFits, EndFits, OpenChange, RetiringChange, SealChange, AppliedChange}
+use Rattle.pm_world.specs.Fits.{LaneFits, LogFits, PhaseFits, EndFits, OpenChange, RetiringChange, SealChange, AppliedChange, ReservedChange}
 use Rattle.pm_world.specs.History.{Entry, Flies, settled}
 use Rattle.pm_world.specs.Laws.{with_view}
 use Rattle.pm_world.specs.Lawful.{generation_limit}
 use Rattle.pm_world.specs.Memory.{Memory, IsSame}
-use Rattle.pm_world.specs.Memory.Location.{CommitCounter}
+use Rattle.pm_world.specs.Memory.Location.{CommitCounter, PoolWord}
 use Rattle.pm_world.specs.Opening.{Opening}
 use Rattle.pm_world.specs.Records.{covers, is_drained_slot, is_logged_from, is_logged, records_generation, used_slots}
 use Rattle.pm_world.specs.World.{Views, World, may_draw_count}
@@ -45,13 +44,13 @@ logged_upto v v' slot (r ∷ records) drained w e =
     (or_cases (covers r w && is_drained_slot v slot) (is_logged_from v (slot + 1) records w) e)
 
 -- a change of a slot, of a pair, of a word that the log would restore or of one that the lane reserved is one still
-pub open_again : (v v' : View) (c : Change) → v'.lane ≡ v.lane → ((w : ℕ) → is_logged v w ≡ true → is_logged v' w ≡ true) → (is_reserved v c.word ≡ true → is_reserved v' c.word ≡ true)
+pub open_again : (v v' : View) (c : Change) → v'.lane ≡ v.lane → ((w : ℕ) → is_logged v w ≡ true → is_logged v' w ≡ true) → (ReservedChange v c → ReservedChange v' c)
     → OpenChange v c → OpenChange v' c
 open_again v v' c lane logged kept of = record {
   whole = of.whole;
   of = ⊎_elim (λ (slot : part_of v.lane c.word ≡ SlotWord). inl (ap (λ l. part_of l c.word) lane ∙ slot))
-      (λ (other : (part_of v.lane c.word ≡ EntryWord) ⊎ (IsTrue (is_logged v c.word) ⊎ IsTrue (is_reserved v c.word))). inr (⊎_elim (λ (pair : part_of v.lane c.word ≡ EntryWord). inl (ap (λ l. part_of l c.word) lane ∙ pair))
-      (λ (last : IsTrue (is_logged v c.word) ⊎ IsTrue (is_reserved v c.word)). inr (⊎_elim (λ (there : is_logged v c.word ≡ true). inl (logged c.word there)) (λ (own : is_reserved v c.word ≡ true). inr (kept own)) last)) other)) of.of;
+      (λ (other : (part_of v.lane c.word ≡ EntryWord) ⊎ (IsTrue (is_logged v c.word) ⊎ ReservedChange v c)). inr (⊎_elim (λ (pair : part_of v.lane c.word ≡ EntryWord). inl (ap (λ l. part_of l c.word) lane ∙ pair))
+      (λ (last : IsTrue (is_logged v c.word) ⊎ ReservedChange v c). inr (⊎_elim (λ (there : is_logged v c.word ≡ true). inl (logged c.word there)) (λ (own : ReservedChange v c). inr (kept own)) last)) other)) of.of;
 }
 
 ends_again : (flies : ℕ → List Final → Type 0) (v : View) (changes : List Change) (calls : ℕ) (seen : List Step) (call : List Told) (actions : List Told) (number : Option ℕ)
@@ -82,7 +81,7 @@ phase_again flies v changes calls seen call actions leaves Sealing fits = record
   flying = fits.flying;
   changes = leaves.sealed 0 fits.changes;
   whole = record { front = fits.whole.front; are = fits.whole.are; owned = fits.whole.owned };
-  known = λ w part. let t = fits.known w part in record { known = t.known; small = t.small };
+  known = λ w or. let t = fits.known w or in (record { known = t.0.known; small = t.0.small }, t.1);
   below = fits.below;
 }
 phase_again flies v changes calls seen call actions leaves (Applying applied) fits = record {
@@ -90,14 +89,14 @@ phase_again flies v changes calls seen call actions leaves (Applying applied) fi
   most = fits.most;
   changes = leaves.applied applied fits.changes;
   whole = record { front = fits.whole.front; are = fits.whole.are; owned = fits.whole.owned };
-  known = λ w part. let t = fits.known w part in record { known = t.known; small = t.small };
+  known = λ w or. let t = fits.known w or in (record { known = t.0.known; small = t.0.small }, t.1);
   last = fits.last;
 }
 phase_again flies v changes calls seen call actions leaves Clearing fits = record {
   no_records = fits.no_records;
   changes = leaves.sealed (length v.log.entries) fits.changes;
   whole = record { front = fits.whole.front; are = fits.whole.are; owned = fits.whole.owned };
-  known = λ w part. let t = fits.known w part in record { known = t.known; small = t.small };
+  known = λ w or. let t = fits.known w or in (record { known = t.0.known; small = t.0.small }, t.1);
 }
 phase_again flies v changes calls seen call actions leaves Retiring fits = record { changes = leaves.retiring fits.changes; ends = ends_again flies v changes calls seen call actions v.number fits.ends }
 
@@ -140,4 +139,4 @@ module _ (o : Opening) (old : Memory) (views : Views) (log : List Entry) (decide
       (phase_again (Flies log decided k) v changes calls seen call actions leaves v.log.phase mine.phase)
       (let few = leaves.fewer in let room = mine.room in omega arith) within)
       (λ w. in_log_before v v' w (logged_more v v' leaves.slots 0 v.log.records w) (λ e. e))
-      refl (λ n flying. flying) room refl refl more (heap_here o old views log decided world k inside v is v' new (all_same old new same) (record { reserved = refl; freed = refl; zones = refl }))
+      refl (λ n flying. flying) room refl refl more (heap_here o old views log decided world k inside v is v' new (λ w. same (PoolWord w)) (all_same old new same) (record { lanes = refl; reserved = refl; freed = refl; zones = refl }))

@@ -1,5 +1,5 @@
 -- A step that changes what a lane has of the heap, what it knows and what it saw, and no word of the pool and no lock.
-use Rattle.std.proofs.Common.{◌≡◌, ℕ, ◌+◌, ◌<◌, ◌≤◌, inl, inr, ⊎_elim, le_refl, Bool, true, IsTrue, All, Contains, List, length, slice_index, Option, Some, None, refl, sym, ◌∙◌, subst}
+use Rattle.std.proofs.Common.{◌≡◌, ℕ, ◌+◌, ◌<◌, ◌≤◌, inl, inr, ⊎_elim, le_refl, Bool, true, IsTrue, All, Contains, List, length, Option, Some, None, refl, sym, ◌∙◌, subst}
 use Rattle.std.specs.Int.{bit_at}
 use Rattle.std.proofs.lemmas.List.Elements.{All-contains, All-contains_itself, All-weaker}
 use Rattle.pm_view.specs.declared.change.Change.{Change}
@@ -11,20 +11,21 @@ use Rattle.pm_view.specs.Rights.{is_written}
 use Rattle.pm_view.specs.Steps.{Step}
 use Rattle.pm_view.specs.View.{View, Taken}
 use Rattle.pm_world.specs.Fits.{AppliedChange, EndFits, LaneFits, LogFits, LockFits, OpenChange, PhaseFits, RedoneWord, RetiringChange, SealChange, ShowsHold}
-use Rattle.pm_world.specs.Heap.{BlocksFit, Heap}
+use Rattle.pm_world.specs.Heap.{BlocksFit, Heap, heap_words}
 use Rattle.pm_world.specs.History.{Entry, Flies, settled}
 use Rattle.pm_world.specs.Laws.{with_view}
 use Rattle.pm_world.specs.Memory.{Location, Memory}
 use Rattle.pm_world.specs.Memory.Location.{CommitCounter, LockWord, PoolWord, StopWord}
 use Rattle.pm_world.specs.Opening.{Opening}
 use Rattle.pm_world.specs.World.{Views, World, may_draw}
-use Rattle.pm_world.proofs.Frame.{lane_kept}
+use Rattle.pm_world.proofs.Frame.{HeapFits, heap_kept, lane_kept}
 use Rattle.pm_world.proofs.Locations.{IsPlain, plain_counter, plain_lock, plain_pool, plain_stop}
-use Rattle.pm_world.proofs.Pairs.{entries_again, in_log_before, part_written, redone_again, redone_kept}
+use Rattle.pm_world.proofs.Pairs.{entries_again, in_log_before, or_written, redone_again, redone_kept}
 use Rattle.pm_world.proofs.Recoursed.{open_again, used_again}
 use Rattle.pm_world.proofs.Relocked.{generation_same}
 use Rattle.pm_world.proofs.Worlds.{at_stop_kept, hold_kept, quiet, room_kept, stop_kept, unlogged_before}
-use Rattle.pm_world.specs.Entries.{is_part_entered}
+use Rattle.pm_world.specs.Entries.{is_or_entered}
+use Rattle.pm_world.proofs.HeapWords.{words_described, heap_same, runs_same}
 
 -- the view with other pictures of the occupancy words, blocks, zones, known words and steps seen
 abbrev pub reheld : View → List ℕ → List ℕ → List ℕ → List Taken → List Taken → List ℕ → List Step → View
@@ -41,7 +42,7 @@ module _ (v : View) (known run_words zone_words : List ℕ) (reserved freed : Li
 
   open_reheld : KeepsChanges → All (OpenChange v) v.changes → All (OpenChange v') v.changes
   open_reheld still all =
-      All-weaker (Contains v.changes) (OpenChange v') (λ c there. open_again v v' c refl (λ w logged. logged) (still c there) (All-contains (OpenChange v) v.changes c all there)) v.changes (All-contains_itself v.changes)
+      All-weaker (Contains v.changes) (OpenChange v') (λ c there. open_again v v' c refl (λ w logged. logged) (λ of. record { reserved = still c there of.reserved; plain = of.plain }) (All-contains (OpenChange v) v.changes c all there)) v.changes (All-contains_itself v.changes)
 
   sealed_reheld : (old : ℕ) → All (SealChange v old) v.changes → All (SealChange v' old) v.changes
   sealed_reheld old all = All-weaker (SealChange v old) (SealChange v' old) (λ c of. record { whole = of.whole; of = of.of; before = of.before }) v.changes all
@@ -50,39 +51,39 @@ module _ (v : View) (known run_words zone_words : List ℕ) (reserved freed : Li
   ends_reheld flies None ends = ends
   ends_reheld flies (Some n) ends = ends
 
-  -- a word of which an entry is in part is known still
-  abbrev KeepsParts : Type 0
-  KeepsParts = (w : ℕ) → is_part_entered v.log.entries w ≡ true → Contains v.known w → Contains known w
+  -- a word that an entry ORs is known still
+  abbrev KeepsOrs : Type 0
+  KeepsOrs = (w : ℕ) → is_or_entered v.log.entries w ≡ true → Contains v.known w → Contains known w
 
-  phase_reheld : KeepsChanges → KeepsParts → (flies : ℕ → List Final → Type 0) (phase : Phase) → PhaseFits flies v phase → PhaseFits flies v' phase
-  phase_reheld still parts flies Idle fits = record { no_records = fits.no_records; drained = fits.drained }
-  phase_reheld still parts flies (Open slot pair) fits =
+  phase_reheld : KeepsChanges → KeepsOrs → (flies : ℕ → List Final → Type 0) (phase : Phase) → PhaseFits flies v phase → PhaseFits flies v' phase
+  phase_reheld still ors flies Idle fits = record { no_records = fits.no_records; drained = fits.drained }
+  phase_reheld still ors flies (Open slot pair) fits =
       record { undrawn = fits.undrawn; short = fits.short; stands = fits.stands; short_pair = fits.short_pair; in_pairs = fits.in_pairs; pair_stands = fits.pair_stands; changes = open_reheld still fits.changes }
-  phase_reheld still parts flies Drawn fits = record { number = fits.number; drawn = fits.drawn; flying = fits.flying; drained = fits.drained }
-  phase_reheld still parts flies Sealing fits = record {
+  phase_reheld still ors flies Drawn fits = record { number = fits.number; drawn = fits.drawn; flying = fits.flying; drained = fits.drained }
+  phase_reheld still ors flies Sealing fits = record {
     number = fits.number;
     drawn = fits.drawn;
     flying = fits.flying;
     changes = sealed_reheld 0 fits.changes;
     whole = record { front = fits.whole.front; are = fits.whole.are; owned = fits.whole.owned };
-    known = λ w part. let t = fits.known w part in record { known = parts w part t.known; small = t.small };
+    known = λ w or. let t = fits.known w or in (record { known = ors w or t.0.known; small = t.0.small }, t.1);
     below = fits.below;
   }
-  phase_reheld still parts flies (Applying applied) fits = record {
+  phase_reheld still ors flies (Applying applied) fits = record {
     no_records = fits.no_records;
     most = fits.most;
     changes = All-weaker (AppliedChange v applied) (AppliedChange v' applied) (λ c of. record { of = of.of; bits = of.bits; next = of.next }) v.changes fits.changes;
     whole = record { front = fits.whole.front; are = fits.whole.are; owned = fits.whole.owned };
-    known = λ w part. let t = fits.known w part in record { known = parts w part t.known; small = t.small };
+    known = λ w or. let t = fits.known w or in (record { known = ors w or t.0.known; small = t.0.small }, t.1);
     last = fits.last;
   }
-  phase_reheld still parts flies Clearing fits = record {
+  phase_reheld still ors flies Clearing fits = record {
     no_records = fits.no_records;
     changes = sealed_reheld (length v.log.entries) fits.changes;
     whole = record { front = fits.whole.front; are = fits.whole.are; owned = fits.whole.owned };
-    known = λ w part. let t = fits.known w part in record { known = parts w part t.known; small = t.small };
+    known = λ w or. let t = fits.known w or in (record { known = ors w or t.0.known; small = t.0.small }, t.1);
   }
-  phase_reheld still parts flies Retiring fits = record {
+  phase_reheld still ors flies Retiring fits = record {
     changes = All-weaker (RetiringChange v) (RetiringChange v') (λ c of. record { whole = of.whole; of = of.of; before = of.before }) v.changes fits.changes;
     ends = ends_reheld flies v.number fits.ends;
   }
@@ -90,10 +91,10 @@ module _ (v : View) (known run_words zone_words : List ℕ) (reserved freed : Li
   -- what is known stays so and is held; a recorded word is known still
   pub reheld_fits : (o : Opening) (old new : Memory) (settled : ℕ → ℕ) (flies : ℕ → List Final → Type 0) (k : ℕ) → ((w : ℕ) → new (PoolWord w) ≡ old (PoolWord w)) → ((line : ℕ) → new (LockWord line) ≡ old (LockWord line))
       → ((w : ℕ) → Contains known w → Contains v.known w) → ((w : ℕ) → Contains known w → IsTrue (is_held v' w)) → ((w : ℕ) → IsTrue (is_written v w) → Contains v.known w → Contains known w)
-      → KeepsChanges → BlocksFit (slice_index o.words) o.lanes o.zones v' → LaneFits o old settled flies k v → LaneFits o new settled flies k v'
+      → KeepsChanges → BlocksFit o (heap_words o old) v' → LaneFits o old settled flies k v → LaneFits o new settled flies k v'
   reheld_fits o old new settled flies k same locks fewer held kept still blocks fits = record {
     lane = record { lanes = fits.lane.lanes; zones = fits.lane.zones; lane = fits.lane.lane; size = fits.lane.size };
-    picture = record { area = λ w inside. same w ∙ fits.picture.area w inside; known = λ w there. same w ∙ fits.picture.known w (fewer w there); held = held; descriptors = fits.picture.descriptors };
+    picture = record { area = λ w inside. same w ∙ fits.picture.area w inside; known = λ w there. same w ∙ fits.picture.known w (fewer w there); held = held; descriptors = now.descriptors };
     locks = All-weaker (LockFits o old k) (LockFits o new k) (λ l f. record { shows = subst (ShowsHold k l.write) (sym (locks l.line)) f.shows; found = f.found }) v.locks fits.locks;
     log = subst (LogFits settled v') (sym (generation_same v.log.phase v v' refl refl)) (let f = fits.log in record {
       most = f.most;
@@ -108,14 +109,17 @@ module _ (v : View) (known run_words zone_words : List ℕ) (reserved freed : Li
     });
     entries = entries_again v v' refl refl (λ w low high. refl) (λ w own_word. own_word) refl refl fits.entries;
     redone = λ w again own_word. redone_moved w (redone_again old settled v v' w refl (fits.redone w again own_word));
-    phase = phase_reheld still (λ w part there. kept w (part_written v w fits.entries part) there) flies v.log.phase fits.phase;
-    blocks = blocks;
+    phase = phase_reheld still (λ w or there. kept w (or_written v w fits.entries or) there) flies v.log.phase fits.phase;
+    blocks = now.blocks;
     first_generation = fits.first_generation;
     last_generation = fits.last_generation;
     room = fits.room;
     within = fits.within;
   }
     where
+      now : HeapFits o (heap_words o new) v'
+      now = heap_kept o old new v' (words_described o old new same) (record { descriptors = fits.picture.descriptors; blocks = blocks })
+
       redone_moved : (w : ℕ) → RedoneWord old settled v' w → RedoneWord new settled v' w
       redone_moved w r = redone_kept old new settled settled v' w (same w) refl r
 
@@ -124,17 +128,19 @@ module _ (o : Opening) (old : Memory) (views : Views) (log : List Entry) (decide
   pub reholds : (new : Memory) (known run_words zone_words : List ℕ) (reserved freed : List Taken) (zones : List ℕ) (seen : List Step) → ((l : Location) → IsPlain l → new l ≡ old l)
       → LaneFits o new (settled o log decided) (Flies log decided k) k (reheld v known run_words zone_words reserved freed zones seen)
       → (may_draw (reheld v known run_words zone_words reserved freed zones seen) ≡ true → may_draw v ≡ true)
-      → Heap o (slice_index o.words) new (with_view views k (reheld v known run_words zone_words reserved freed zones seen))
+      → Heap o (heap_words o old) new (with_view views k (reheld v known run_words zone_words reserved freed zones seen))
       → World o new (with_view views k (reheld v known run_words zone_words reserved freed zones seen)) log decided
   reholds new known run_words zone_words reserved freed zones seen same fits less heap =
       let v' : View = reheld v known run_words zone_words reserved freed zones seen in
       quiet o old views log decided world k inside v is v' new
-      (λ j low other. lane_kept o old new (settled o log decided) (settled o log decided) (Flies log decided j) (Flies log decided j) j (views j)
+      (λ j low other. lane_kept o old new (settled o log decided) (settled o log decided) (Flies log decided j) (Flies log decided j) j (views j) (words_described o old new (λ w. same (PoolWord w) (plain_pool w)))
       (λ w in_area. same (PoolWord w) (plain_pool w)) (λ w there. same (PoolWord w) (plain_pool w)) (λ w written. same (PoolWord w) (plain_pool w))
       (λ line write. subst (ShowsHold j write) (sym (same (LockWord line) (plain_lock line)))) (λ w written. refl) (λ n flies. flies) (world.each_lane j low))
       fits
       (λ w heap_word un others. same (PoolWord w) (plain_pool w) ∙ world.each_word w heap_word (unlogged_before o old views log decided world k inside v is v' w (in_log_before v v' w (λ e. e) (λ e. e) un) others))
       (λ line bit set. hold_kept o old views log decided world k inside v is v' line bit (λ there. there) (world.each_line line bit (subst (λ n. bit_at n bit ≡ 1) (same (LockWord line) (plain_lock line)) set)))
-      (λ n flying. flying) (same CommitCounter plain_counter) (room_kept o old views log decided world k inside v is v' less) refl heap
+      (λ n flying. flying) (same CommitCounter plain_counter) (room_kept o old views log decided world k inside v is v' less) refl
+      (let words : (w : ℕ) → new (PoolWord w) ≡ old (PoolWord w) = λ w. same (PoolWord w) (plain_pool w) in
+      record { runs = runs_same o old new words world.new_runs; heap = subst (λ h. Heap o h new (with_view views k v')) (sym (heap_same o old new (words_described o old new words))) heap })
       (⊎_elim (λ (unset : old StopWord ≡ 0). inl (same StopWord plain_stop ∙ unset))
       (λ (t : (j : ℕ) × (j < o.lanes) × IsAtStop (views j)). inr (at_stop_kept o old views log decided world k inside v is v' (stop_kept v v' refl (le_refl v.calls)) t)) world.stop_word)

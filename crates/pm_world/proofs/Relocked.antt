@@ -20,11 +20,13 @@ use Rattle.pm_world.specs.Memory.Location.{PoolWord, LockWord, CommitCounter, St
 use Rattle.pm_world.specs.Opening.{Opening}
 use Rattle.pm_world.specs.Records.{IsRecordAt, generation_of, records_generation}
 use Rattle.pm_world.specs.World.{Views, World, IsHold, may_draw}
-use Rattle.pm_world.proofs.Frame.{lane_kept}
+use Rattle.pm_world.proofs.Frame.{HeapFits, heap_kept, lane_kept}
 use Rattle.pm_world.proofs.Locations.{plain_lock, pool-lock, counter-lock, stop-lock, other_lock}
-use Rattle.pm_world.proofs.Recoursed.{used_again}
+use Rattle.pm_world.proofs.Recoursed.{used_again, open_again}
 use Rattle.pm_world.proofs.Heaps.{beside_same}
 use Rattle.pm_world.proofs.Worlds.{heap_here, quiet, unlogged_before, room_kept, at_stop_kept, stop_kept}
+use Rattle.pm_world.proofs.HeapWords.{words_described}
+use Rattle.pm_world.specs.Heap.{heap_words}
 
 -- the view with other locks, known words and steps seen
 abbrev pub relocked : View → List Lock → List ℕ → List Step → View
@@ -44,7 +46,7 @@ module _ (v : View) (locks : List Lock) (known : List ℕ) (seen : List Step) wh
   v' = relocked v locks known seen
 
   open_relocked : All (OpenChange v) v.changes → All (OpenChange v') v.changes
-  open_relocked all = All-weaker (OpenChange v) (OpenChange v') (λ c of. record { whole = of.whole; of = of.of }) v.changes all
+  open_relocked all = All-weaker (OpenChange v) (OpenChange v') (λ c of. open_again v v' c refl (λ w logged. logged) (λ own. record { reserved = own.reserved; plain = own.plain }) of) v.changes all
 
   phase_relocked : (flies : ℕ → List Final → Type 0) (phase : Phase) → IsEarly phase → PhaseFits flies v phase → PhaseFits flies v' phase
   phase_relocked flies Idle early fits = record { no_records = fits.no_records; drained = fits.drained }
@@ -72,7 +74,7 @@ module _ (v : View) (locks : List Lock) (known : List ℕ) (seen : List Step) wh
       → EntriesFit v' → LaneFits o old settled flies k v → LaneFits o new settled flies k v'
   relocked_fits o old new settled flies k early same fewer held locks_fit kept entries_fit fits = record {
     lane = record { lanes = fits.lane.lanes; zones = fits.lane.zones; lane = fits.lane.lane; size = fits.lane.size };
-    picture = record { area = λ w inside. same w ∙ fits.picture.area w inside; known = λ w there. same w ∙ fits.picture.known w (fewer w there); held = held; descriptors = fits.picture.descriptors };
+    picture = record { area = λ w inside. same w ∙ fits.picture.area w inside; known = λ w there. same w ∙ fits.picture.known w (fewer w there); held = held; descriptors = now.descriptors };
     locks = locks_fit;
     log = subst (LogFits settled v') (sym (generation_same v.log.phase v v' refl refl)) (let f = fits.log in record {
       most = f.most;
@@ -88,12 +90,18 @@ module _ (v : View) (locks : List Lock) (known : List ℕ) (seen : List Step) wh
     entries = entries_fit;
     redone = λ w again. absurd (false≢true (sym (ap (λ b. b && is_entered v.log.entries w) (none_redone v.log.phase early)) ∙ again));
     phase = phase_relocked flies v.log.phase early fits.phase;
-    blocks = record { of_pool = fits.blocks.of_pool; free = fits.blocks.free; freed = fits.blocks.freed };
+    blocks = now.blocks;
     first_generation = fits.first_generation;
     last_generation = fits.last_generation;
     room = fits.room;
     within = fits.within;
   }
+    where
+      now : HeapFits o (heap_words o new) v'
+      now = heap_kept o old new v' (words_described o old new same) (record {
+        descriptors = fits.picture.descriptors;
+        blocks = record { of_pool = fits.blocks.of_pool; small = fits.blocks.small; free = fits.blocks.free; described = fits.blocks.described; freed = fits.blocks.freed };
+      })
 
 module _ (o : Opening) (old : Memory) (views : Views) (log : List Entry) (decided : ℕ → Bool) (world : World o old views log decided) (k : ℕ) (inside : k < o.lanes) (v : View) (is : views k ≡ v) where
   -- only a lock word changed: the other lanes' holds of it stay
@@ -106,13 +114,13 @@ module _ (o : Opening) (old : Memory) (views : Views) (log : List Entry) (decide
   relocks new line locks known seen same shows fits lines less =
       let v'' : View = relocked v locks known seen in
       quiet o old views log decided world k inside v is v'' new
-      (λ j low other. lane_kept o old new (settled o log decided) (settled o log decided) (Flies log decided j) (Flies log decided j) j (views j)
+      (λ j low other. lane_kept o old new (settled o log decided) (settled o log decided) (Flies log decided j) (Flies log decided j) j (views j) (words_described o old new (λ w. same (PoolWord w) (pool-lock w line)))
       (λ w in_area. same (PoolWord w) (pool-lock w line)) (λ w there. same (PoolWord w) (pool-lock w line)) (λ w written. same (PoolWord w) (pool-lock w line))
       (λ at write held. ⊎_elim (λ (this : at ≡ line). subst (λ l. ShowsHold j write (new (LockWord l))) (sym this) (shows j write low other (subst (λ l. ShowsHold j write (old (LockWord l))) this held)))
       (λ (differ : at ≢ line). subst (ShowsHold j write) (sym (same (LockWord at) (other_lock at line differ))) held) (cases_eq at line))
       (λ w written. refl) (λ n flies. flies) (world.each_lane j low))
       fits
       (λ w heap un others. same (PoolWord w) (pool-lock w line) ∙ world.each_word w heap (unlogged_before o old views log decided world k inside v is v'' w un others))
-      lines (λ n flying. flying) (same CommitCounter (counter-lock line)) (room_kept o old views log decided world k inside v is v'' less) refl (heap_here o old views log decided world k inside v is v'' new (beside_same old new (LockWord line) (plain_lock line) same) (record { reserved = refl; freed = refl; zones = refl }))
+      lines (λ n flying. flying) (same CommitCounter (counter-lock line)) (room_kept o old views log decided world k inside v is v'' less) refl (heap_here o old views log decided world k inside v is v'' new (λ w. same (PoolWord w) (pool-lock w line)) (beside_same old new (LockWord line) (plain_lock line) same) (record { lanes = refl; reserved = refl; freed = refl; zones = refl }))
       (⊎_elim (λ (unset : old StopWord ≡ 0). inl (same StopWord (stop-lock line) ∙ unset))
       (λ (t : (j : ℕ) × (j < o.lanes) × IsAtStop (views j)). inr (at_stop_kept o old views log decided world k inside v is v'' (stop_kept v v'' refl (le_refl v.calls)) t)) world.stop_word)

@@ -13,11 +13,13 @@ use Rattle.pm_view.specs.declared.occ.Occ.{Occ}
 use Rattle.pm_view.specs.Log.{Log, no_log}
 use Rattle.pm_view.specs.Log.Phase.{Idle}
 use Rattle.pm_view.specs.View.{View, Taken}
+use Rattle.pm_view.specs.Views.{has_bit, reserves}
 use Rattle.pm_world.proofs.Reserved.{bit_had}
 use Rattle.pm_world.specs.Entries.{is_entered}
-use Rattle.pm_world.specs.Heap.{has_bit, reserves}
-use Rattle.pm_world.specs.Lawful.{HasOcc, IsEarly, MayVacate}
+use Rattle.pm_world.specs.Lawful.{HasOcc, IsEarly, IsGivenWhole, MayVacate}
 use Rattle.pm_world.specs.Records.{is_recorded}
+use Rattle.pm_world.proofs.Exchanged.{exchanged_has}
+use Rattle.pm_world.proofs.Vacated.{low_bit}
 
 -- ---- over words that were opened with their occupancy words
 
@@ -68,11 +70,12 @@ module _ (v : View) where
       ap (list_any (has_bit t.at bit)) reserved ∙ list_any-append (has_bit t.at bit) blocks (t ∷ [])
       ∙ or_right (list_any (has_bit t.at bit) blocks) (list_any (has_bit t.at bit) (t ∷ [])) (or_left (has_bit t.at bit t) false (bit_had t bit set))
 
-  pub may_vacate_at_rest : (at : Occ) (bits : ℕ) → HasOcc v at → bits < 2 ^ 64 → ((bit : ℕ) → bit_at bits bit ≡ 1 → reserves v at bit ≡ true) → v.changes ≡ [] → v.log ≡ no_log Idle → MayVacate v at bits
-  may_vacate_at_rest at bits there small own drained log = record {
+  pub may_vacate_at_rest : (at : Occ) (bits : ℕ) → HasOcc v at → bits < 2 ^ 64 → ((bit : ℕ) → bit_at bits bit ≡ 1 → reserves v at bit ≡ true) → IsGivenWhole v at bits → v.changes ≡ [] → v.log ≡ no_log Idle → MayVacate v at bits
+  may_vacate_at_rest at bits there small own whole drained log = record {
     there = there;
     small = small;
-    own = own;
+    own = λ bit set. exchanged_has v at bit (low_bit bits bit small set) (own bit set);
+    whole = whole;
     drained = subst (All (λ (c : Change). covers v.lanes v.words at bits c.word ≡ false)) (sym drained) (All-nil (λ (c : Change). covers v.lanes v.words at bits c.word ≡ false));
     unlogged = λ w covered. (ap (λ (l : Log). is_recorded l.records w) log, ap (λ (l : Log). is_entered l.entries w) log);
     early = subst IsEarly (sym (ap (λ (l : Log). l.phase) log)) tt;

@@ -1,5 +1,5 @@
 -- An OR and an AND of a word keep the world: the next entry sets or clears these bits.
-use Rattle.std.proofs.Common.{◌≡◌, ℕ, ◌+◌, ◌-◌, ◌<◌, ⊎_elim, IsTrue, List, length, true, eqb, bit_and, bit_or, refl, sym, ap, ◌∙◌, subst, arith, eq-eqb}
+use Rattle.std.proofs.Common.{◌≡◌, ℕ, ◌+◌, ◌-◌, ◌<◌, ⊎_elim, IsTrue, Bool, List, length, true, eqb, bit_and, bit_or, refl, sym, ap, ◌∙◌, subst, arith, eq-eqb}
 use Rattle.std.proofs.lemmas.Bool.{and_from, cond-true, le-leb, lt-ltb}
 use Rattle.pm_view.specs.Area.{Part, area_word, is_in_area, part_of}
 use Rattle.pm_view.specs.Area.Part.{GenerationWord, SealWord, EntryWord, SlotWord, OtherWord}
@@ -23,11 +23,16 @@ use Rattle.pm_world.proofs.StoreEntry.{clears_bits, next_entry, sets_bits}
 use Rattle.pm_world.proofs.StorePair.{final_word}
 use Rattle.pm_world.proofs.Worlds.{own}
 
+-- the entry that sets or clears those bits, whether it is an OR or not
+abbrev pub changing : Op → ℕ → ℕ → Bool → Final
+changing op w bits ors = record (final_by op w bits) { ors = ors }
+
 -- the next entry is of those bits of a word outside of the lane's area
 pub record ChangesNext (v : View) (op : Op) (w bits : ℕ) : Type 0 where
   pub applied : ℕ
   pub phase : v.log.phase ≡ Applying applied
-  pub next : IsEntryAt v applied (final_by op w bits)
+  pub ors : Bool
+  pub next : IsEntryAt v applied (changing op w bits ors)
   pub outside : part_of v.lane w ≡ OtherWord
 
 pub changes_next : (v : View) (op : Op) (w bits : ℕ) (phase : Phase) → v.log.phase ≡ phase → (part : Part) → part_of v.lane w ≡ part → BitsFit v op w bits phase part → ChangesNext v op w bits
@@ -35,7 +40,7 @@ changes_next v op w bits Idle is part of fits = absurd fits
 changes_next v op w bits (Open slot pair) is part of fits = absurd fits
 changes_next v op w bits Drawn is part of fits = absurd fits
 changes_next v op w bits Sealing is part of fits = absurd fits
-changes_next v op w bits (Applying applied) is OtherWord of fits = record { applied = applied; phase = is; next = fits; outside = of }
+changes_next v op w bits (Applying applied) is OtherWord of fits = record { applied = applied; phase = is; ors = fits.0; next = fits.1; outside = of }
 changes_next v op w bits (Applying applied) is GenerationWord of fits = absurd fits
 changes_next v op w bits (Applying applied) is SealWord of fits = absurd fits
 changes_next v op w bits (Applying applied) is EntryWord of fits = absurd fits
@@ -57,10 +62,10 @@ no_generation lane w part here =
 -- the lane writes the word, and the last entry is to come
 pub changes_written : (flies : ℕ → List Final → Type 0) (v : View) (op : Op) (w bits : ℕ) → PhaseFits flies v v.log.phase → (t : ChangesNext v op w bits) → IsTrue (is_written v w) × (t.applied + 1 < length v.log.entries)
 changes_written flies v op w bits fits t =
-    ⊎_elim (λ (s : IsTrue (is_written v (final_by op w bits).word) × (t.applied + 1 < length v.log.entries)). (subst (λ u. IsTrue (is_written v u)) (final_word op w bits) s.0, s.1))
-    (λ (s : (final_by op w bits ≡ ends_with v (generation_of v + 1)) × (t.applied + 1 ≡ length v.log.entries)).
+    ⊎_elim (λ (s : IsTrue (is_written v (changing op w bits t.ors).word) × (t.applied + 1 < length v.log.entries)). (subst (λ u. IsTrue (is_written v u)) (final_word op w bits) s.0, s.1))
+    (λ (s : (changing op w bits t.ors ≡ ends_with v (generation_of v + 1)) × (t.applied + 1 ≡ length v.log.entries)).
     absurd (no_generation v.lane w t.outside (sym (final_word op w bits) ∙ ap (λ (f : Final). f.word) s.0)))
-    (next_entry v t.applied (final_by op w bits) (subst (PhaseFits flies v) t.phase fits) t.next)
+    (next_entry v t.applied (changing op w bits t.ors) (subst (PhaseFits flies v) t.phase fits) t.next)
 
 -- the log goes on in its phase
 changed_log : (v : View) (applied : ℕ) → v.log.phase ≡ Applying applied → log_changed v.log.phase v.log ≡ in_phase (Applying (applied + 1)) v.log
@@ -72,7 +77,7 @@ sets w bits found o old new views log decided k v world inside is lawful moves =
     let t = changes_next v op.Or w bits v.log.phase refl (part_of v.lane w) refl may.fits in
     let fits = own o old views log decided world k inside v is in (
       subst (λ lg. World o new (with_view views k (changed v w (bit_or found bits) (or_change w bits found) lg)) log decided) (sym (changed_log v t.applied t.phase))
-          (sets_bits o old views log decided world k inside v is new w bits found moves.1 may.inside (lawful.due refl) may.room may.known may.word (no_generation v.lane w t.outside) t.applied t.phase moves.0 t.next),
+          (sets_bits o old views log decided world k inside v is new w bits found moves.1 may.inside (lawful.due refl) may.room may.known may.word (no_generation v.lane w t.outside) t.applied t.phase moves.0 t.ors t.next),
       λ known. moves.1 ∙ fits.picture.known w may.known.known,
     )
 
@@ -82,6 +87,6 @@ clears w bits found o old new views log decided k v world inside is lawful moves
     let t = changes_next v op.And w bits v.log.phase refl (part_of v.lane w) refl may.fits in
     let fits = own o old views log decided world k inside v is in (
       subst (λ lg. World o new (with_view views k (changed v w (bit_and found bits) (and_change w bits found) lg)) log decided) (sym (changed_log v t.applied t.phase))
-          (clears_bits o old views log decided world k inside v is new w bits found moves.1 may.inside (lawful.due refl) may.room may.known may.word (no_generation v.lane w t.outside) t.applied t.phase moves.0 t.next),
+          (clears_bits o old views log decided world k inside v is new w bits found moves.1 may.inside (lawful.due refl) may.room may.known may.word (no_generation v.lane w t.outside) t.applied t.phase moves.0 t.ors t.next),
       λ known. moves.1 ∙ fits.picture.known w may.known.known,
     )

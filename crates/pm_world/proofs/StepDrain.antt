@@ -67,7 +67,7 @@ module _ (o : Opening) (old : Memory) (views : Views) (log : List Entry) (decide
         slots = slots_drained v;
         none = λ empty. ap drained empty;
         open_ = λ all. All-filter (λ c. not c.flushed) (OpenChange v') v.changes (All-weaker (OpenChange v) (OpenChange v')
-            (λ c of. open_again v v' c refl logged (λ own. own) of) v.changes all);
+            (λ c of. open_again v v' c refl logged (λ own. record { reserved = own.reserved; plain = own.plain }) of) v.changes all);
         retiring = λ all. All-filter (λ c. not c.flushed) (RetiringChange v') v.changes (All-weaker (RetiringChange v) (RetiringChange v') (λ c of. record { whole = of.whole; of = of.of; before = of.before }) v.changes all);
         sealed = λ before all. All-filter (λ c. not c.flushed) (SealChange v' before) v.changes (All-weaker (SealChange v before) (SealChange v' before) (λ c of. record { whole = of.whole; of = of.of; before = of.before }) v.changes all);
         applied = λ count all. All-filter (λ c. not c.flushed) (AppliedChange v' count) v.changes (All-weaker (AppliedChange v count) (AppliedChange v' count) (λ c of. record { of = of.of; bits = of.bits; next = of.next }) v.changes all);

@@ -36,6 +36,7 @@ use Rattle.pm_world.proofs.Pairs.{difference-written, entries_sealed, in_log_bef
 use Rattle.pm_world.proofs.Replays.{made_final-other, replayed-same}
 use Rattle.pm_world.proofs.Heaps.{beside_same}
 use Rattle.pm_world.proofs.Worlds.{heap_here, own, own_numbers, each_lane', unlogged_here, unlogged_else, unlogged_before, hold_kept, entry_kept, at_stop_kept, stop_kept}
+use Rattle.pm_world.proofs.HeapWords.{words_described}
 
 or_false : (b : Bool) → (b || false) ≡ b
 or_false true = refl
@@ -46,7 +47,7 @@ and_false true = refl
 and_false false = refl
 
 -- a record is of some word
-some_finals : (words : List ℕ) (from n : ℕ) (rest more : List Final) → 1 ≤ n → is_empty ((map (λ w. record { word = w; mask = 2 ^ 64 - 1; bits = slice_index words w }) (range_with_len from n) ++ rest) ++ more) ≡ false
+some_finals : (words : List ℕ) (from n : ℕ) (rest more : List Final) → 1 ≤ n → is_empty ((map (λ w. record { word = w; mask = 2 ^ 64 - 1; bits = slice_index words w; ors = false }) (range_with_len from n) ++ rest) ++ more) ≡ false
 some_finals words from zero rest more some = absurd (omega arith)
 some_finals words from (suc n) rest more some = refl
 
@@ -150,7 +151,7 @@ module _ (o : Opening) (old : Memory) (views : Views) (log : List Entry) (decide
       let v' : View = view' phase in
       let same = moves.0 in
       let keeps : (j : ℕ) (u : View) (flew flies : ℕ → List Final → Type 0) → ((m : ℕ) → flew m (difference_of u) → flies m (difference_of u)) → LaneFits o old S flew j u → LaneFits o new (settled o log' decided') flies j u =
-      λ j u flew flies' on. lane_kept o old new S (settled o log' decided') flew flies' j u
+      λ j u flew flies' on. lane_kept o old new S (settled o log' decided') flew flies' j u (words_described o old new (λ w. same (PoolWord w) (pool-counter w)))
       (λ w in_area. same (PoolWord w) (pool-counter w)) (λ w known. same (PoolWord w) (pool-counter w)) (λ w own_word. same (PoolWord w) (pool-counter w)) (λ line write. subst (ShowsHold j write) (sym (same (LockWord line) (lock-counter line)))) (λ w own_word. settles w) on in
       record {
         sound = world.sound;
@@ -181,7 +182,8 @@ module _ (o : Opening) (old : Memory) (views : Views) (log : List Entry) (decide
             ((λ i. own_numbers o old views log decided world k inside v is i ++ cond (eq-eqb v.lane k mine.lane.lane i) (record { number = n; call = v.call } ∷ []) [])) j
             (λ other. ap (λ b. entries_by j log ++ cond b (record { number = n; call = v.call } ∷ []) []) (ne_eqb v.lane j (λ same_lane. other (sym same_lane ∙ mine.lane.lane)))
             ∙ (append-nil (entries_by j log) ∙ world.own_entries j low));
-        heap = heap_here o old views log decided world k inside v is v' new (beside_same old new CommitCounter plain_counter same) (record { reserved = refl; freed = refl; zones = refl });
+        new_runs = (heap_here o old views log decided world k inside v is v' new (λ w. same (PoolWord w) (pool-counter w)) (beside_same old new CommitCounter plain_counter same) (record { lanes = refl; reserved = refl; freed = refl; zones = refl })).runs;
+        heap = (heap_here o old views log decided world k inside v is v' new (λ w. same (PoolWord w) (pool-counter w)) (beside_same old new CommitCounter plain_counter same) (record { lanes = refl; reserved = refl; freed = refl; zones = refl })).heap;
         stop_word = ⊎_elim (λ (unset : old StopWord ≡ 0). inl (same StopWord stop-counter ∙ unset))
             (λ (t : (j : ℕ) × (j < o.lanes) × IsAtStop (views j)). inr (at_stop_kept o old views log decided world k inside v is v' (stop_kept v v' refl (le_refl v.calls)) t)) world.stop_word;
       }

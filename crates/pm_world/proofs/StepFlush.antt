@@ -1,17 +1,17 @@
 -- A flush keeps the world.
-use Rattle.std.proofs.Common.{◌≡◌, ℕ, ◌+◌, le_of_eq, Bool, true, false, not, cond, ◌||◌, List, [], ◌∷◌, map, take, refl, sym, ap, ◌∙◌, arith, subst}
+use Rattle.std.proofs.Common.{◌≡◌, ℕ, ◌+◌, le_of_eq, Bool, true, false, not, cond, ◌||◌, List, [], ◌∷◌, map, take, refl, sym, ap, ◌∙◌, arith, subst, inl, inr, ◌⊎◌, ⊎_elim, IsTrue}
 use Rattle.std.specs.List.{list_any}
 use Rattle.std.proofs.lemmas.List.{length-map}
 use Rattle.std.proofs.lemmas.List.Elements.{All-map, All-weaker}
 use Rattle.pm_view.specs.declared.change.Change.{Change}
-use Rattle.pm_view.specs.Area.{area_word}
+use Rattle.pm_view.specs.Area.{area_word, part_of}
+use Rattle.pm_view.specs.Area.Part.{EntryWord, SlotWord}
 use Rattle.pm_view.specs.Changes.{is_in_line, mark, flushed}
-use Rattle.pm_view.specs.Held.{is_reserved}
 use Rattle.pm_view.specs.Steps.Step.{Flush}
 use Rattle.pm_view.specs.View.{View}
 use Rattle.pm_image.specs.Logs.{slot_line}
 use Rattle.pm_world.specs.Entries.{is_entered}
-use Rattle.pm_world.specs.Fits.{OpenChange, RetiringChange, SealChange, AppliedChange, IsOfEntries}
+use Rattle.pm_world.specs.Fits.{OpenChange, RetiringChange, SealChange, AppliedChange, IsOfEntries, ReservedChange}
 use Rattle.pm_world.specs.Laws.{Keeps}
 use Rattle.pm_world.specs.Records.{is_drained_slot, is_logged, generation_of}
 use Rattle.pm_world.proofs.Recoursed.{Leaves, logged_more, open_again, recoursed}
@@ -32,10 +32,18 @@ slots_marked line calls v slot e = ap not (any_marked line (slot_line v.lane slo
 logged_marked : (line calls : ℕ) (v : View) (w : ℕ) → is_logged v w ≡ true → is_logged (record v { changes = flushed line v.changes; calls = calls }) w ≡ true
 logged_marked line calls v w e = logged_more v (record v { changes = flushed line v.changes; calls = calls }) (slots_marked line calls v) 0 v.log.records w e
 
-open_marked : (v v' : View) (c : Change) → v'.lane ≡ v.lane → ((w : ℕ) → is_logged v w ≡ true → is_logged v' w ≡ true) → (is_reserved v c.word ≡ true → is_reserved v' c.word ≡ true)
+flushed_open : (v : View) (c : Change) → OpenChange v c → OpenChange v (record c { flushed = true })
+flushed_open v c of = record {
+  whole = of.whole;
+  of = ⊎_elim (λ (slot : part_of v.lane c.word ≡ SlotWord). inl slot) (λ (other : (part_of v.lane c.word ≡ EntryWord) ⊎ (IsTrue (is_logged v c.word) ⊎ ReservedChange v c)).
+      inr (⊎_elim (λ (pair : part_of v.lane c.word ≡ EntryWord). inl pair) (λ (last : IsTrue (is_logged v c.word) ⊎ ReservedChange v c).
+      inr (⊎_elim (λ (there : IsTrue (is_logged v c.word)). inl there) (λ (own : ReservedChange v c). inr (record { reserved = own.reserved; plain = own.plain })) last)) other)) of.of;
+}
+
+open_marked : (v v' : View) (c : Change) → v'.lane ≡ v.lane → ((w : ℕ) → is_logged v w ≡ true → is_logged v' w ≡ true) → (ReservedChange v c → ReservedChange v' c)
     → OpenChange v c → (b : Bool) → OpenChange v' (cond b (record c { flushed = true }) c)
-open_marked v v' c lane logged kept of true = record { whole = of.whole; of = (open_again v v' c lane logged kept of).of }
-open_marked v v' c lane logged kept of false = record { whole = of.whole; of = (open_again v v' c lane logged kept of).of }
+open_marked v v' c lane logged kept of true = flushed_open v' c (open_again v v' c lane logged kept of)
+open_marked v v' c lane logged kept of false = open_again v v' c lane logged kept of
 
 retiring_marked : (v v' : View) (c : Change) → v'.lane ≡ v.lane → generation_of v' ≡ generation_of v → RetiringChange v c → (b : Bool) → RetiringChange v' (cond b (record c { flushed = true }) c)
 retiring_marked v v' c lane generation of true = record { whole = of.whole; of = of.of ∙ ap area_word (sym lane); before = of.before ∙ sym generation }
@@ -63,7 +71,7 @@ flushes line o old new views log decided k v world inside is lawful same =
     let leaves : Leaves v v' (flushed line v.changes) = record {
       slots = slots_marked line (v.calls + 1) v;
       none = λ empty. ap (map (mark line)) empty;
-      open_ = λ all. All-map (OpenChange v') (mark line) v.changes (All-weaker (OpenChange v) (λ c. OpenChange v' (mark line c)) (λ c of. open_marked v v' c refl (logged_marked line (v.calls + 1) v) (λ own. own) of (is_in_line line c)) v.changes all);
+      open_ = λ all. All-map (OpenChange v') (mark line) v.changes (All-weaker (OpenChange v) (λ c. OpenChange v' (mark line c)) (λ c of. open_marked v v' c refl (logged_marked line (v.calls + 1) v) (λ own. record { reserved = own.reserved; plain = own.plain }) of (is_in_line line c)) v.changes all);
       retiring = λ all. All-map (RetiringChange v') (mark line) v.changes (All-weaker (RetiringChange v) (λ c. RetiringChange v' (mark line c)) (λ c of. retiring_marked v v' c refl refl of (is_in_line line c)) v.changes all);
       sealed = λ before all. All-map (SealChange v' before) (mark line) v.changes (All-weaker (SealChange v before) (λ c. SealChange v' before (mark line c)) (λ c of. sealed_marked v v' before c refl of (is_in_line line c)) v.changes all);
       applied = λ n all. All-map (AppliedChange v' n) (mark line) v.changes (All-weaker (AppliedChange v n) (λ c. AppliedChange v' n (mark line c)) (λ c of. applied_marked v v' n c refl refl refl of (is_in_line line c)) v.changes all);

@@ -1,5 +1,5 @@
 -- A load keeps the world: what it finds is what the lane's view knows, and of a word that tells of a block what the view's locks then say.
-use Rattle.std.proofs.Common.{◌≡◌, ◌≢◌, ℕ, zero, suc, ◌+◌, ◌*◌, ◌/◌, ◌^◌, ◌<◌, ◌≤◌, ◌⊎◌, inl, inr, ⊎_elim, le_refl, Bool, true, false, cond, eqb, leb, ltb, ◌&&◌, ◌||◌, IsTrue, All, Any, Contains, List, [], ◌∷◌, ◌++◌, length, map, set, slice_get, slice_index, get_or, Option, Some, None, is_some, refl, sym, ap, ◌∙◌, subst, arith, length-set, get_or-set_same, get_or-set_other}
+use Rattle.std.proofs.Common.{◌≡◌, ◌≢◌, ℕ, zero, suc, ◌+◌, ◌*◌, ◌/◌, ◌^◌, ◌<◌, ◌≤◌, ◌⊎◌, inl, inr, ⊎_elim, le_refl, Bool, true, false, cond, eqb, leb, ltb, ◌&&◌, ◌||◌, IsTrue, All, Any, Contains, List, [], ◌∷◌, ◌++◌, length, map, set, slice_get, slice_index, get_or, Option, Some, None, is_some, refl, sym, ap, ◌∙◌, subst, arith, length-set, get_or-set_same, get_or-set_other, not, ◌%◌, eq-eqb}
 use Rattle.std.specs.Int.{bit_at}
 use Rattle.std.specs.List.{list_any}
 use Rattle.std.proofs.lemmas.Bool.{cases_eq, cases_lt, cases_Bool, cond-true, cond-false, and_from, and_parts, le-leb, lt-ltb, and_cases, or_cases, or_left, or_right, leb-false, ltb-false, eqb-true}
@@ -9,7 +9,7 @@ use Rattle.std.proofs.lemmas.List.Folds.{Any-from_list_any}
 use Rattle.std.proofs.lemmas.Option.{slice_get_within}
 use Rattle.pm_record.specs.Undo.{undo_of}
 use Rattle.pm_view.specs.Area.{area_word, is_in_area}
-use Rattle.pm_view.specs.Blocks.{block_at, allocation_word, is_word, descriptor_word, bitmap_word, is_run}
+use Rattle.pm_view.specs.Blocks.{block_at, allocation_word, is_word, descriptor_word, bitmap_word, is_run, is_chunk, tells_nothing}
 use Rattle.pm_view.specs.Counts.{IsAtStop}
 use Rattle.pm_view.specs.Held.{is_held, is_known, is_under, is_reserved}
 use Rattle.pm_view.specs.Log.{Phase, Recorded}
@@ -17,21 +17,21 @@ use Rattle.pm_view.specs.Log.Phase.{Idle, Open, Drawn, Sealing, Applying, Cleari
 use Rattle.pm_view.specs.Rights.{is_written}
 use Rattle.pm_view.specs.Steps.Step.{Load}
 use Rattle.pm_view.specs.View.{View, Lock}
-use Rattle.pm_view.specs.Views.{with_block, with_seen, loaded}
+use Rattle.pm_view.specs.Views.{with_block, with_seen, loaded, reserves}
 use Rattle.pm_image.specs.Logs.{undo_slot}
-use Rattle.pm_world.specs.Entries.{AreWhole, entry_word, is_entered, is_redoing, is_redone, KnowsParts}
-use Rattle.pm_world.specs.Fits.{EntriesFit, ShowsHold, LockFits, LaneFits, LogFits, PhaseFits, EndFits, RedoneWord, OpenChange, RetiringChange, SealChange, AppliedChange}
+use Rattle.pm_world.specs.Entries.{AreWhole, entry_word, is_entered, is_redoing, is_redone, KnowsOrs}
+use Rattle.pm_world.specs.Fits.{EntriesFit, ShowsHold, LockFits, LaneFits, LogFits, PhaseFits, EndFits, RedoneWord, OpenChange, RetiringChange, SealChange, AppliedChange, IsDescriptorSeen, ReservedChange}
 use Rattle.pm_world.specs.History.{Entry, Flies, settled}
 use Rattle.pm_world.specs.Laws.{Keeps, with_view}
 use Rattle.pm_world.specs.Lawful.{generation_limit}
 use Rattle.pm_world.specs.Memory.{Memory, IsSame}
 use Rattle.pm_world.specs.Memory.Location.{PoolWord, LockWord, CommitCounter, StopWord}
-use Rattle.pm_world.specs.Opening.{Opening, IsChunk}
+use Rattle.pm_world.specs.Opening.{Opening, IsChunk, IsPoolChunk, is_free_chunk}
 use Rattle.pm_world.specs.Records.{generation_of, slot_word, pool_entries, difference_of, records_generation}
 use Rattle.pm_world.specs.World.{Views, World, hold_bit}
-use Rattle.pm_world.proofs.Chunks.{told_by_bitmap, block_same, under_found, written_found, found_block, opening_word}
+use Rattle.pm_world.proofs.Chunks.{told_by_bitmap, block_same, under_found, written_found, found_block, opening_word, chunk_here, no_block_here, no_block_outside, told_word}
 use Rattle.pm_world.proofs.Exclusion.{writes_under}
-use Rattle.pm_world.proofs.Frame.{lane_kept}
+use Rattle.pm_world.proofs.Frame.{HeapFits, heap_kept, lane_kept}
 use Rattle.pm_world.proofs.Pairs.{entered, entries_again, redone_again, redone_kept, whole_again}
 use Rattle.pm_world.proofs.Recoursed.{open_again, used_again}
 use Rattle.pm_world.proofs.Relocked.{generation_same}
@@ -39,8 +39,13 @@ use Rattle.pm_world.proofs.Stored.{slot_set_other}
 use Rattle.pm_world.proofs.StoreGeneration.{difference_same}
 use Rattle.pm_world.proofs.StepTake.{low_before}
 use Rattle.pm_world.proofs.Heaps.{all_same}
-use Rattle.pm_world.proofs.Reserved.{held_by_parts, reserved_again}
+use Rattle.pm_world.proofs.Reserved.{held_by_parts, reserved_again, describing_chunk, reserved_described}
 use Rattle.pm_world.proofs.Worlds.{heap_here, own, quiet, unlogged_before, hold_kept, room_kept, at_stop_kept, stop_kept}
+use Rattle.pm_world.proofs.HeapWords.{words_described, free_descriptor, now_no_block, taken_descriptor}
+use Rattle.pm_world.specs.Heap.{IsEmptyRun, describing, heap_words}
+use Rattle.pm_view.specs.declared.change.Change.{Change}
+use Rattle.pm_view.specs.declared.occ.Occ.{Occ}
+use Rattle.pm_view.specs.declared.occ.Occ.TheVariants.{Run}
 
 list_any-map : {X : Type 0} (p : X → Bool) (f : X → X) (xs : List X) → All (λ x. p x ≡ true → p (f x) ≡ true) xs → list_any p xs ≡ true → list_any p (map f xs) ≡ true
 list_any-map p f [] all e = e
@@ -108,19 +113,82 @@ module _ (o : Opening) (old : Memory) (views : Views) (log : List Entry) (decide
   in_opening : w < length o.words
   in_opening = subst (λ n. w < n) mine.lane.size in_pool
 
-  -- descriptors are as at the opening
-  descriptors_now : (page : ℕ) → IsChunk o.lanes page → slice_index words' (descriptor_word o.lanes page) ≡ slice_index o.words (descriptor_word o.lanes page)
+  -- a descriptor is as it was at the opening, or as it is now
+  now_seen : (page : ℕ) → IsChunk o.lanes page → w ≡ descriptor_word o.lanes page → x ≡ heap_words o old w
+  now_seen page chunk this =
+      ⊎_elim
+      (λ (free : is_free_chunk (slice_index o.words) o.lanes page ≡ true). here ∙ (ap (λ u. old (PoolWord u)) this ∙ (sym (free_descriptor o old page chunk free) ∙ ap (heap_words o old) (sym this))))
+      (λ (taken : is_free_chunk (slice_index o.words) o.lanes page ≡ false).
+      here ∙ (opening_word o old views log decided world page w chunk taken (inl this) in_opening ∙ (ap (slice_index o.words) this ∙ (sym (taken_descriptor o old page chunk taken) ∙ ap (heap_words o old) (sym this)))))
+      (cases_Bool (is_free_chunk (slice_index o.words) o.lanes page))
+
+  descriptors_now : (page : ℕ) → IsChunk o.lanes page → IsDescriptorSeen o (heap_words o old) v' (descriptor_word o.lanes page)
   descriptors_now page chunk =
-      ⊎_elim (λ (this : descriptor_word o.lanes page ≡ w). ap (slice_index words') this ∙ (now_word ∙ (opening_word o old views log decided world w (page, (chunk, inl (sym this))) in_opening ∙ ap (slice_index o.words) (sym this))))
-      (λ (differ : descriptor_word o.lanes page ≢ w). other_word (descriptor_word o.lanes page) differ ∙ mine.picture.descriptors page chunk)
+      ⊎_elim (λ (this : descriptor_word o.lanes page ≡ w). inr (ap (slice_index words') this ∙ (now_word ∙ (sym here ∙ (now_seen page chunk (sym this) ∙ ap (heap_words o old) (sym this))))))
+      (λ (differ : descriptor_word o.lanes page ≢ w). subst (λ y. (y ≡ slice_index o.words (descriptor_word o.lanes page)) ⊎ (y ≡ heap_words o old (descriptor_word o.lanes page))) (sym (other_word (descriptor_word o.lanes page) differ)) (mine.picture.descriptors page chunk))
       (cases_eq (descriptor_word o.lanes page) w)
 
+  -- what describes what the lane reserved is as it was
+  described_still : (at : Occ) (bit : ℕ) → reserves v at bit ≡ true → slice_index words' (describing o.lanes at bit) ≡ slice_index v.words (describing o.lanes at bit)
+  described_still at bit has =
+      let t = describing_chunk o (heap_words o old) v at bit mine.blocks has in
+      ⊎_elim (λ (this : describing o.lanes at bit ≡ w).
+      ap (slice_index words') this ∙ (now_word ∙ (sym here ∙ (now_seen t.0 t.1.0 (sym this ∙ sym t.1.1) ∙ (ap (heap_words o old) (sym this) ∙ sym (mine.blocks.described at bit has))))))
+      (λ (differ : describing o.lanes at bit ≢ w). other_word (describing o.lanes at bit) differ) (cases_eq (describing o.lanes at bit) w)
+
+  -- in a chunk that was free no block is found, whatever the picture has of its bitmap
+  found_none : (line : ℕ) → IsPoolChunk o.lanes o.zones (line / 64) → is_free_chunk (slice_index o.words) o.lanes (line / 64) ≡ true → is_word (allocation_word o.lanes words' line) w ≡ true → block_at o.lanes words' line ≡ block_at o.lanes o.words line
+  found_none line chunk free e =
+      let page : ℕ = line / 64 in
+      let d : ℕ = descriptor_word o.lanes page in
+      let was_zero : slice_index o.words d ≡ 0 = world.sound.undescribed page chunk free in
+      no_block_here o.lanes words' line (by_seen (descriptors_now page chunk.0)) ∙ sym (no_block_here o.lanes o.words line (inl was_zero))
+    where
+      by_seen : IsDescriptorSeen o (heap_words o old) v' (descriptor_word o.lanes (line / 64)) → (slice_index words' (descriptor_word o.lanes (line / 64)) ≡ 0) ⊎ ((is_run (slice_index words' (descriptor_word o.lanes (line / 64))) ≡ true) × (slice_index words' (bitmap_word (line / 64)) ≡ 0))
+      by_seen (inl was) = inl (was ∙ world.sound.undescribed (line / 64) chunk free)
+      by_seen (inr now) = ⊎_elim
+          (λ (zero_now : heap_words o old (descriptor_word o.lanes (line / 64)) ≡ 0). inl (now ∙ zero_now))
+          (λ run. let is_so : is_run (slice_index words' (descriptor_word o.lanes (line / 64))) ≡ true = ap is_run now ∙ (let is = run.described in eq-eqb (heap_words o old (descriptor_word o.lanes (line / 64)) % 256) 1 (omega (arith, is))) in
+          inr (
+            is_so,
+            let bitmap : w ≡ bitmap_word (line / 64) = told_by_bitmap o.lanes words' line w chunk.0 is_so e in
+                ap (slice_index words') (sym bitmap) ∙ (now_word ∙ (ap (λ u. old (PoolWord u)) bitmap ∙ memory_bitmap run now)),
+          ))
+          (now_no_block o old world.new_runs (line / 64) chunk free)
+        where
+          memory_bitmap : IsEmptyRun (heap_words o old) o.lanes (line / 64) → slice_index words' (descriptor_word o.lanes (line / 64)) ≡ heap_words o old (descriptor_word o.lanes (line / 64)) → old (PoolWord (bitmap_word (line / 64))) ≡ 0
+          memory_bitmap run now = ⊎_elim
+              (λ (zero_now : old (PoolWord (descriptor_word o.lanes (line / 64))) ≡ 0). absurd (let is = run.described in let at = free_descriptor o old (line / 64) chunk.0 free in omega (arith, is, at, zero_now)))
+              (λ made. made.no_block) (world.new_runs (line / 64) chunk free)
+
   found_here : (line : ℕ) → is_word (allocation_word o.lanes words' line) w ≡ true → block_at o.lanes words' line ≡ block_at o.lanes o.words line
-  found_here line e = block_same o.lanes words' o.words line (descriptors_now (line / 64))
+  found_here line e =
+      ⊎_elim
+      (λ (free : is_free_chunk (slice_index o.words) o.lanes (line / 64) ≡ true). by_chunk line e free)
+      (λ (taken : is_free_chunk (slice_index o.words) o.lanes (line / 64) ≡ false).
+      block_same o.lanes words' o.words line (λ chunk. taken_seen (line / 64) chunk taken (descriptors_now (line / 64) chunk))
       (λ chunk run.
-      let run_now : is_run (slice_index words' (descriptor_word o.lanes (line / 64))) ≡ true = ap is_run (descriptors_now (line / 64) chunk) ∙ run in
+      let run_now : is_run (slice_index words' (descriptor_word o.lanes (line / 64))) ≡ true = ap is_run (taken_seen (line / 64) chunk taken (descriptors_now (line / 64) chunk)) ∙ run in
       let bitmap : w ≡ bitmap_word (line / 64) = told_by_bitmap o.lanes words' line w chunk run_now e in
-      ap (slice_index words') (sym bitmap) ∙ (now_word ∙ (opening_word o old views log decided world w (line / 64, (chunk, inr (bitmap, run))) in_opening ∙ ap (slice_index o.words) bitmap)))
+      ap (slice_index words') (sym bitmap) ∙ (now_word ∙ (opening_word o old views log decided world (line / 64) w chunk taken (inr (bitmap, run)) in_opening ∙ ap (slice_index o.words) bitmap))))
+      (cases_Bool (is_free_chunk (slice_index o.words) o.lanes (line / 64)))
+    where
+      -- the descriptor of a chunk that was taken is the opening's
+      taken_seen : (page : ℕ) → IsChunk o.lanes page → is_free_chunk (slice_index o.words) o.lanes page ≡ false → IsDescriptorSeen o (heap_words o old) v' (descriptor_word o.lanes page) → slice_index words' (descriptor_word o.lanes page) ≡ slice_index o.words (descriptor_word o.lanes page)
+      taken_seen page chunk taken (inl was) = was
+      taken_seen page chunk taken (inr now) = now ∙ taken_descriptor o old page chunk taken
+
+      -- a word of the pool that tells of a line is of a chunk of the pool
+      in_the_pool : (page : ℕ) → IsChunk o.lanes page → (w ≡ bitmap_word page) ⊎ (w ≡ descriptor_word o.lanes page) → IsPoolChunk o.lanes o.zones page
+      in_the_pool page chunk told =
+          let size = world.sound.size in let low = chunk.0 in let some = chunk.1 in let high = in_opening in
+          (chunk, ⊎_elim (λ (e' : w ≡ bitmap_word page). omega arith) (λ (e' : w ≡ descriptor_word o.lanes page). omega arith) told)
+
+      by_chunk : (l : ℕ) → is_word (allocation_word o.lanes words' l) w ≡ true → is_free_chunk (slice_index o.words) o.lanes (l / 64) ≡ true → block_at o.lanes words' l ≡ block_at o.lanes o.words l
+      by_chunk l told free =
+          ⊎_elim (λ (chunk : is_chunk o.lanes (l / 64) ≡ true). let c = chunk_here o.lanes (l / 64) chunk in found_none l (in_the_pool (l / 64) c (told_word o.lanes words' l w c told)) free told)
+          (λ (none : is_chunk o.lanes (l / 64) ≡ false). no_block_outside o.lanes words' l none ∙ sym (no_block_outside o.lanes o.words l none))
+          (cases_Bool (is_chunk o.lanes (l / 64)))
 
   lock_now : (l : Lock) → (f l ≡ l) ⊎ (f l ≡ record l { block = block_at o.lanes o.words l.line })
   lock_now l = lock_cases v.lanes words' w (block_at o.lanes o.words l.line) l
@@ -145,7 +213,18 @@ module _ (o : Opening) (old : Memory) (views : Views) (log : List Entry) (decide
       (λ l fit e. of_lock (λ m. (m.write && is_some m.block && is_under u m) ≡ true) l e (written_found o.lanes o.words l.line l.write l.block u fit.found e)) v.locks mine.locks)
 
   reserved_now : (u : ℕ) → is_reserved v u ≡ true → is_reserved v' u ≡ true
-  reserved_now u = reserved_again (slice_index o.words) o.lanes o.zones v v' u mine.lane.lanes refl refl mine.blocks (λ page chunk. descriptors_now page chunk ∙ sym (mine.picture.descriptors page chunk))
+  reserved_now u = reserved_again o v v' u mine.lane.lanes refl refl (λ place bit has. described_still (Run place) bit has)
+
+  change_still : (d : Change) → ReservedChange v d → ReservedChange v' d
+  change_still d of = record {
+    reserved = reserved_now d.word of.reserved;
+    plain = ⊎_elim (λ (tells : tells_nothing v.lanes v.words d.word ≡ true).
+        let chunk : IsChunk o.lanes (d.word / 512) = chunk_here o.lanes (d.word / 512) (ap (λ n. is_chunk n (d.word / 512)) (sym mine.lane.lanes) ∙ (and_parts (is_chunk v.lanes (d.word / 512)) _ tells).0) in
+        inl (ap (λ z. is_chunk v.lanes (d.word / 512) && not (eqb (d.word % 512) 0 && is_run z))
+        (subst (λ n. slice_index words' (descriptor_word n (d.word / 512)) ≡ slice_index v.words (descriptor_word n (d.word / 512))) (sym mine.lane.lanes)
+        (reserved_described o old v d.word mine.lane.lanes mine.blocks of.reserved chunk (λ u. slice_index words' u ≡ slice_index v.words u) described_still)) ∙ tells))
+        (λ found. inr found) of.plain;
+  }
 
   core_now : (u : ℕ) → is_held v u ≡ true → is_held v' u ≡ true
   core_now u held = held_by_parts (is_in_area v.lane u || list_any (is_under u) v.locks) (is_in_area v.lane u || list_any (is_under u) (map f v.locks)) (is_reserved v u) (is_reserved v' u)
@@ -195,10 +274,10 @@ module _ (o : Opening) (old : Memory) (views : Views) (log : List Entry) (decide
   whole_now g whole = whole_again v v' refl refl pairs_same written_now g whole
 
   -- what is known stays
-  parts_now : KnowsParts v → KnowsParts v'
-  parts_now knows u part =
-      let t = knows u part in
-      record { known = contains-more (is_held v w) w v.known u t.known; small = subst (λ n. n < 2 ^ 64) (sym (agrees u (mine.picture.known u t.known))) t.small }
+  ors_now : KnowsOrs v → KnowsOrs v'
+  ors_now knows u or =
+      let t = knows u or in
+      (record { known = contains-more (is_held v w) w v.known u t.0.known; small = subst (λ n. n < 2 ^ 64) (sym (agrees u (mine.picture.known u t.0.known))) t.0.small }, t.1)
 
   -- what may be written now and is redone could be written before
   redone_now : (u : ℕ) → IsTrue (is_redone v' u) → IsTrue (is_written v' u) → RedoneWord new (settled o log decided) v' u
@@ -226,7 +305,7 @@ module _ (o : Opening) (old : Memory) (views : Views) (log : List Entry) (decide
         ⊎_elim (λ (room : length v.log.records < 64). area_same (slot_word v.lane (length v.log.records) + i) (omega (arith, room, low, short)) (omega (arith, room, low, short)) ∙ fits.stands i low)
         (λ (full : 64 ≤ length v.log.records). area_same (slot_word v.lane (length v.log.records) + i) (omega (arith, full, most, low, short)) (omega (arith, full, most, low, short)) ∙ fits.stands i low)
         (cases_lt (length v.log.records) 64);
-    changes = All-weaker (OpenChange v) (OpenChange v') (λ c of. open_again v v' c refl (λ u logged. logged) (reserved_now c.word) of) v.changes fits.changes;
+    changes = All-weaker (OpenChange v) (OpenChange v') (λ c of. open_again v v' c refl (λ u logged. logged) (change_still c) of) v.changes fits.changes;
     short_pair = fits.short_pair;
     in_pairs = fits.in_pairs;
     pair_stands = λ i low. let room = fits.in_pairs in area_same (entry_word v.lane (length v.log.entries) + i) (omega (arith, room, low)) (omega (arith, room, low)) ∙ fits.pair_stands i low;
@@ -238,7 +317,7 @@ module _ (o : Opening) (old : Memory) (views : Views) (log : List Entry) (decide
     flying = subst (Flies log decided k fits.number) (sym same_difference) fits.flying;
     changes = sealed_now 0 fits.changes;
     whole = whole_now (generation_of v' + 1) (subst (λ g. AreWhole v (g + 1)) (sym generation) fits.whole);
-    known = parts_now fits.known;
+    known = ors_now fits.known;
     below = subst (λ g. g < generation_limit) (sym generation) fits.below;
   }
   phase_now (Applying applied) e fits =
@@ -247,19 +326,25 @@ module _ (o : Opening) (old : Memory) (views : Views) (log : List Entry) (decide
         most = fits.most;
         changes = All-weaker (AppliedChange v applied) (AppliedChange v' applied) (λ c of. record { of = of.of; bits = of.bits; next = λ at. let n = of.next at in (n.0, n.1 ∙ sym generation) }) v.changes fits.changes;
         whole = whole_now (records_generation (Applying applied) v') (subst (AreWhole v) (sym g) fits.whole);
-        known = parts_now fits.known;
+        known = ors_now fits.known;
         last = subst (λ n. n ≤ generation_limit) (sym g) fits.last;
       }
   phase_now Clearing e fits = record {
     no_records = fits.no_records;
     changes = sealed_now (length v.log.entries) fits.changes;
     whole = whole_now (generation_of v') (subst (AreWhole v) (sym generation) fits.whole);
-    known = parts_now fits.known;
+    known = ors_now fits.known;
   }
   phase_now Retiring e fits = record {
     changes = All-weaker (RetiringChange v) (RetiringChange v') (λ c of. record { whole = of.whole; of = of.of; before = of.before ∙ sym generation }) v.changes fits.changes;
     ends = ends_now v.number fits.ends;
   }
+
+  heap_now : HeapFits o (heap_words o new) v'
+  heap_now = heap_kept o old new v' (words_described o old new (λ u. same (PoolWord u))) (record {
+    descriptors = descriptors_now;
+    blocks = record { of_pool = mine.blocks.of_pool; small = mine.blocks.small; free = mine.blocks.free; described = λ at bit has. described_still at bit has ∙ mine.blocks.described at bit has; freed = mine.blocks.freed };
+  })
 
   loaded_fits : LaneFits o new (settled o log decided) (Flies log decided k) k v'
   loaded_fits = record {
@@ -268,14 +353,14 @@ module _ (o : Opening) (old : Memory) (views : Views) (log : List Entry) (decide
       area = λ u area. word_now u (λ differ. mine.picture.area u area);
       known = λ u there. ⊎_elim (λ (t : (u ≡ w) × (is_held v w ≡ true)). word_now u (λ differ. absurd (differ t.0))) (λ (before : Contains v.known u). word_now u (λ differ. mine.picture.known u before)) (contains-less (is_held v w) w v.known u there);
       held = λ u there. ⊎_elim (λ (t : (u ≡ w) × (is_held v w ≡ true)). core_now u (ap (is_held v) t.0 ∙ t.1)) (λ (before : Contains v.known u). core_now u (mine.picture.held u before)) (contains-less (is_held v w) w v.known u there);
-      descriptors = descriptors_now;
+      descriptors = heap_now.descriptors;
     };
     locks = locks_fit;
     log = subst (LogFits (settled o log decided) v') (sym (generation_same v.log.phase v v' generation refl)) log_now;
     entries = entries_now;
     redone = redone_now;
     phase = phase_now v.log.phase refl mine.phase;
-    blocks = record { of_pool = mine.blocks.of_pool; free = mine.blocks.free; freed = mine.blocks.freed };
+    blocks = heap_now.blocks;
     first_generation = subst (λ g. 1 ≤ g) (sym generation) mine.first_generation;
     last_generation = subst (λ g. g ≤ generation_limit) (sym generation) mine.last_generation;
     room = mine.room;
@@ -285,14 +370,14 @@ module _ (o : Opening) (old : Memory) (views : Views) (log : List Entry) (decide
   loads_word : World o new (with_view views k v') log decided
   loads_word =
       quiet o old views log decided world k inside v is v' new
-      (λ j low other. lane_kept o old new (settled o log decided) (settled o log decided) (Flies log decided j) (Flies log decided j) j (views j)
+      (λ j low other. lane_kept o old new (settled o log decided) (settled o log decided) (Flies log decided j) (Flies log decided j) j (views j) (words_described o old new (λ u. same (PoolWord u)))
       (λ u area. same (PoolWord u)) (λ u known. same (PoolWord u)) (λ u written. same (PoolWord u)) (λ line write. subst (ShowsHold j write) (sym (same (LockWord line)))) (λ u written. refl) (λ n flies. flies) (world.each_lane j low))
       loaded_fits
       (λ u heap un others. same (PoolWord u) ∙ world.each_word u heap (unlogged_before o old views log decided world k inside v is v' u un others))
       (λ line bit set. hold_kept o old views log decided world k inside v is v' line bit
       (any-map (λ (l : Lock). (l.line ≡ line) × (bit ≡ hold_bit k l.write)) f v.locks (λ l t. of_lock (λ m. (m.line ≡ line) × (bit ≡ hold_bit k m.write)) l t t))
       (world.each_line line bit (subst (λ n. bit_at n bit ≡ 1) (same (LockWord line)) set)))
-      (λ n flying. flying) (same CommitCounter) (room_kept o old views log decided world k inside v is v' (low_before v (Load w x) refl)) refl (heap_here o old views log decided world k inside v is v' new (all_same old new same) (record { reserved = refl; freed = refl; zones = refl }))
+      (λ n flying. flying) (same CommitCounter) (room_kept o old views log decided world k inside v is v' (low_before v (Load w x) refl)) refl (heap_here o old views log decided world k inside v is v' new (λ w. same (PoolWord w)) (all_same old new same) (record { lanes = refl; reserved = refl; freed = refl; zones = refl }))
       (⊎_elim (λ (unset : old StopWord ≡ 0). inl (same StopWord ∙ unset))
       (λ (t : (j : ℕ) × (j < o.lanes) × IsAtStop (views j)). inr (at_stop_kept o old views log decided world k inside v is v' (stop_kept v v' refl (le_refl v.calls)) t)) world.stop_word)
 

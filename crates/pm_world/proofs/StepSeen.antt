@@ -20,7 +20,7 @@ use Rattle.pm_world.specs.History.{Entry, Flies, settled}
 use Rattle.pm_world.specs.Laws.{Keeps, with_view}
 use Rattle.pm_world.specs.Lawful.{generation_limit}
 use Rattle.pm_world.specs.Memory.{Memory, IsSame}
-use Rattle.pm_world.specs.Memory.Location.{CommitCounter}
+use Rattle.pm_world.specs.Memory.Location.{CommitCounter, PoolWord}
 use Rattle.pm_world.specs.Opening.{Opening}
 use Rattle.pm_world.specs.Records.{generation_of, records_generation, used_slots, is_logged_from, is_logged}
 use Rattle.pm_world.specs.World.{Views, World, is_low, may_draw, may_draw_count}
@@ -28,7 +28,7 @@ use Rattle.pm_world.proofs.Draws.{draws_at_most}
 use Rattle.pm_world.proofs.Frame.{coursed_fits}
 use Rattle.pm_world.proofs.Numbers.{own_below}
 use Rattle.pm_world.proofs.Pairs.{no_entries, none_redone}
-use Rattle.pm_world.proofs.Recoursed.{Leaves, recoursed}
+use Rattle.pm_world.proofs.Recoursed.{Leaves, recoursed, open_again}
 use Rattle.pm_world.proofs.Heaps.{all_same}
 use Rattle.pm_world.proofs.Worlds.{heap_here, own, own_numbers, still, room_kept}
 
@@ -49,7 +49,7 @@ module _ (o : Opening) (old : Memory) (views : Views) (log : List Entry) (decide
       let leaves : Leaves v v' v.changes = record {
         slots = λ slot e. e;
         none = λ empty. empty;
-        open_ = λ all n d low. let c = all n d low in record { whole = c.whole; of = c.of };
+        open_ = λ all. All-weaker (OpenChange v) (OpenChange v') (λ c of. open_again v v' c refl (λ w logged. logged) (λ own. record { reserved = own.reserved; plain = own.plain }) of) v.changes all;
         retiring = λ all n d low. let c = all n d low in record { whole = c.whole; of = c.of; before = c.before };
         sealed = λ before all n d low. let c = all n d low in record { whole = c.whole; of = c.of; before = c.before };
         applied = λ count all n d low. let c = all n d low in record { of = c.of; bits = c.bits; next = c.next };
@@ -104,7 +104,7 @@ module _ (o : Opening) (old : Memory) (views : Views) (log : List Entry) (decide
       mine.room mine.within)
       (λ w un. or_from (is_logged v w) (is_redone v w) (ap (λ records. is_logged_from v 0 records w) idle_fits.no_records) (none_redone v w (ap is_redoing idle))) refl
       (λ m flying. absurd (none-some m (sym (ap (λ p. flight_in p v.number) idle) ∙ flying)))
-      (low_room v' n seen (λ can. inl (let t = or_cases (is_low (NumberSeen n)) false can in ⊎_elim (λ (low : ltb n generation_limit ≡ true). ltb-true n generation_limit low) (λ (none : false ≡ true). absurd (false≢true none)) t))) refl refl (le_refl v.calls) (heap_here o old views log decided world k inside v is v' new (all_same old new same) (record { reserved = refl; freed = refl; zones = refl }))
+      (low_room v' n seen (λ can. inl (let t = or_cases (is_low (NumberSeen n)) false can in ⊎_elim (λ (low : ltb n generation_limit ≡ true). ltb-true n generation_limit low) (λ (none : false ≡ true). absurd (false≢true none)) t))) refl refl (le_refl v.calls) (heap_here o old views log decided world k inside v is v' new (λ w. same (PoolWord w)) (all_same old new same) (record { lanes = refl; reserved = refl; freed = refl; zones = refl }))
 
 pub tells : (operation : Operation) (reply : Option Value) → Keeps (Tell operation reply)
 tells operation reply o old new views log decided k v world inside is lawful same = (

@@ -18,6 +18,7 @@ use Rattle.pm_world.specs.Memory.Location.{PoolWord}
 use Rattle.pm_world.specs.Opening.{Opening}
 use Rattle.pm_world.specs.World.{Views, World}
 use Rattle.pm_world.proofs.StoreAside.{stores_aside}
+use Rattle.pm_world.proofs.StoreDescriptor.{stores_descriptor}
 use Rattle.pm_world.proofs.StoreGeneration.{stores_generation, stores_last}
 use Rattle.pm_world.proofs.StoreEntry.{stores_entry}
 use Rattle.pm_world.proofs.StorePair.{stores_pair}
@@ -31,7 +32,8 @@ module _ (o : Opening) (old : Memory) (views : Views) (log : List Entry) (decide
       → World o new (with_view views k (changed v w x (store_change w (slice_index v.words w) x) (log_stored phase part x v.log))) log decided
   by_part (Open slot pair) e SlotWord f fits = stores_slot o old views log decided world k inside v is new w x moves in_pool may room slot pair e f fits
   by_part (Open slot pair) e OtherWord f (inl writes) = stores_word o old views log decided world k inside v is new w x moves in_pool may room slot pair e writes
-  by_part (Open slot pair) e OtherWord f (inr fills) = stores_aside o old views log decided world k inside v is new w x moves in_pool may room slot pair e fills.reserved
+  by_part (Open slot pair) e OtherWord f (inr (inl fills)) = stores_aside o old views log decided world k inside v is new w x moves in_pool may room slot pair e fills
+  by_part (Open slot pair) e OtherWord f (inr (inr describes)) = stores_descriptor o old views log decided world k inside v is new w x moves in_pool may room describes slot pair e
   by_part (Open slot pair) e GenerationWord f fits = stores_last o old views log decided world k inside v is new w x moves in_pool may room slot pair e f fits
   by_part (Open slot pair) e SealWord f fits = absurd fits
   by_part (Open slot pair) e EntryWord f fits = stores_pair o old views log decided world k inside v is new w x moves in_pool may room slot pair e f fits

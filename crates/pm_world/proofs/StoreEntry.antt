@@ -21,7 +21,7 @@ use Rattle.pm_view.specs.Views.{changed}
 use Rattle.pm_image.specs.Logs.{slot_line}
 use Rattle.pm_view.specs.Bits.{with_bits, all_bits}
 use Rattle.pm_world.specs.Course.{flight_in}
-use Rattle.pm_world.specs.Entries.{AreWhole, applied_in, ends_with, is_entered, is_redoing, is_redone, seal_in, set_word, IsEntryAt, is_bit_entered, IsKnownWord, KnowsParts, final_by}
+use Rattle.pm_world.specs.Entries.{AreWhole, applied_in, ends_with, is_entered, is_redoing, is_redone, seal_in, set_word, IsEntryAt, is_bit_entered, is_or_entered, IsKnownWord, KnowsOrs, final_by}
 use Rattle.pm_world.specs.Fits.{AppliedChange, ApplyingFits, LaneFits, LogFits, PhaseFits, RedoneWord, IsOfEntries}
 use Rattle.pm_world.specs.History.{Entry, Flies, settled, made_final}
 use Rattle.pm_world.specs.Laws.{with_view}
@@ -36,9 +36,9 @@ use Rattle.pm_world.proofs.Exclusion.{writes_under}
 use Rattle.pm_world.proofs.Frame.{in_phase}
 use Rattle.pm_world.proofs.Locations.{other_pool}
 use Rattle.pm_world.proofs.MadeBits.{or_makes, and_makes}
-use Rattle.pm_world.proofs.Pairs.{in_log_before, stands_masked}
+use Rattle.pm_world.proofs.Pairs.{in_log_before}
 use Rattle.pm_world.proofs.Recoursed.{logged_upto}
-use Rattle.pm_world.proofs.Stored.{IsOwnWord, other_word, this_word, log_beside, entries_beside, stored_fits, stored_world, known_more}
+use Rattle.pm_world.proofs.Stored.{IsPlainWord, other_word, this_word, log_beside, entries_beside, stored_fits, stored_world, known_more}
 use Rattle.pm_world.proofs.StoreSlot.{get-push_cases}
 use Rattle.pm_world.proofs.Worlds.{own}
 
@@ -133,7 +133,7 @@ pub record Effects (v : View) (old : Memory) (f : Final) (x : ℕ) (c : Change) 
   pub word : c.word ≡ f.word
   pub bits : IsOfEntries v.log.entries c
   pub ends : f.word ≡ area_word v.lane → (c.mask ≡ all_bits) × (c.old ≡ slice_index v.words f.word)
-  pub small : x < 2 ^ 64
+  pub small : is_or_entered v.log.entries f.word ≡ true → x < 2 ^ 64
 
 module _ (o : Opening) (old : Memory) (views : Views) (log : List Entry) (decided : ℕ → Bool) (world : World o old views log decided) (k : ℕ) (inside : k < o.lanes) (v : View) (is : views k ≡ v)
     (new : Memory) (x : ℕ) (applied : ℕ) (e : v.log.phase ≡ Applying applied) (f : Final) (next : IsEntryAt v applied f) (c : Change) (effect : Effects v old f x c)
@@ -191,7 +191,7 @@ module _ (o : Opening) (old : Memory) (views : Views) (log : List Entry) (decide
       }
 
   -- the world then, from where the word lies and what the generation is
-  module _ (right : IsOwnWord v w) (pairs : (w < 520 + 1024 * v.lane) ⊎ (648 + 1024 * v.lane ≤ w)) (slots : (s : ℕ) → s < 64 → (w < 8 * slot_line v.lane s) ⊎ (8 * slot_line v.lane s + 8 ≤ w))
+  module _ (right : IsPlainWord v w) (pairs : (w < 520 + 1024 * v.lane) ⊎ (648 + 1024 * v.lane ≤ w)) (slots : (s : ℕ) → s < 64 → (w < 8 * slot_line v.lane s) ⊎ (8 * slot_line v.lane s + 8 ≤ w))
       (seal : area_word v.lane + 1 ≢ w) (now_next : w ≡ area_word v.lane → slice_index v.words w + 1 ≡ generation_of view') (generation : records_generation (Applying (applied + 1)) view' ≡ generation_of v + 1) (first : 1 ≤ generation_of view') (last : generation_of view' ≤ generation_limit) where
     changes_fit : All (AppliedChange view' (applied + 1)) view'.changes
     changes_fit = All-push (AppliedChange view' (applied + 1)) v.changes c
@@ -205,14 +205,18 @@ module _ (o : Opening) (old : Memory) (views : Views) (log : List Entry) (decide
     unlogged : (u : ℕ) → is_logged v u ≡ true → is_logged view' u ≡ true
     unlogged u = logged_upto v view' 0 v.log.records (λ s under. absurd (let none : length v.log.records ≡ 0 = ap length fits.no_records in omega arith)) u
 
-    knows_still : KnowsParts view'
-    knows_still u part =
-        let t = fits.known u part in
-        record {
-          known = known_more o old views log decided world k inside v is new w x moves in_pool right may room u t.known;
-          small = ⊎_elim (λ (this : u ≡ w). subst (λ n. n < 2 ^ 64) (sym (ap (slice_index view'.words) this ∙ this_word o old views log decided world k inside v is new w x moves in_pool right may room)) effect.small)
-              (λ (other : u ≢ w). subst (λ n. n < 2 ^ 64) (sym (other_word o old views log decided world k inside v is new w x moves in_pool right may room u other)) t.small) (cases_eq u w);
-        }
+    knows_still : KnowsOrs view'
+    knows_still u or =
+        let t = fits.known u or in (
+          record {
+            known = known_more o old views log decided world k inside v is new w x moves in_pool may room u t.0.known;
+            small = ⊎_elim
+                (λ (this : u ≡ w). subst (λ n. n < 2 ^ 64) (sym (ap (slice_index view'.words) this ∙ this_word o old views log decided world k inside v is new w x moves in_pool may room))
+                (effect.small (ap (is_or_entered v.log.entries) (sym this) ∙ or)))
+                (λ (other : u ≢ w). subst (λ n. n < 2 ^ 64) (sym (other_word o old views log decided world k inside v is new w x moves in_pool may room u other)) t.0.small) (cases_eq u w);
+          },
+          t.1,
+        )
 
     applies : World o new (with_view views k view') log decided
     applies =
@@ -221,8 +225,8 @@ module _ (o : Opening) (old : Memory) (views : Views) (log : List Entry) (decide
         stored_world o old views log decided world k inside v is new w x moves in_pool right may room c (in_phase (Applying (applied + 1)) v.log)
         (stored_fits o old views log decided world k inside v is new w x moves in_pool right may room c (in_phase (Applying (applied + 1)) v.log)
         (subst (LogFits (settled o log decided) view') (sym now)
-        (log_beside o old views log decided world k inside v is new w x moves in_pool right may room c (Applying (applied + 1)) (records_generation v.log.phase v) slots (sym (ap (λ p. used_slots p v) e)) mine.log))
-        (entries_beside o old views log decided world k inside v is new w x moves in_pool right may room c (Applying (applied + 1)) pairs (other_word o old views log decided world k inside v is new w x moves in_pool right may room (area_word v.lane + 1) seal ∙ (mine.entries.seal ∙ ap (λ p. seal_in p v) e)) tt)
+        (log_beside o old views log decided world k inside v is new w x moves in_pool may room c (Applying (applied + 1)) (records_generation v.log.phase v) slots (sym (ap (λ p. used_slots p v) e)) mine.log))
+        (entries_beside o old views log decided world k inside v is new w x moves in_pool may room c (Applying (applied + 1)) pairs (other_word o old views log decided world k inside v is new w x moves in_pool may room (area_word v.lane + 1) seal ∙ (mine.entries.seal ∙ ap (λ p. seal_in p v) e)) tt)
         redone_now
         (record {
           no_records = fits.no_records;
@@ -242,10 +246,10 @@ module _ (o : Opening) (old : Memory) (views : Views) (log : List Entry) (decide
   -- of a word that the lane writes
   applies_word : IsTrue (is_written v w) → applied + 1 < length v.log.entries → World o new (with_view views k view') log decided
   applies_word own_word more =
-      let right : IsOwnWord v w = inr (inl own_word) in
+      let right : IsPlainWord v w = inr (inl own_word) in
       let under = writes_under o old k v w mine.locks own_word in
       let behind = world.sound.behind_areas under.0 w under.1 in let lane = mine.lane.lane in
-      let same : generation_of view' ≡ generation_of v = other_word o old views log decided world k inside v is new w x moves in_pool right may room (area_word v.lane) (λ this. absurd (omega arith)) in
+      let same : generation_of view' ≡ generation_of v = other_word o old views log decided world k inside v is new w x moves in_pool may room (area_word v.lane) (λ this. absurd (omega arith)) in
       applies right (inr (omega arith)) (λ s under'. inr (omega arith)) (λ this. absurd (omega arith)) (λ this. absurd (omega arith))
       (cond-false _ (generation_of view') (generation_of view' + 1) (ne_eqb (applied + 1) (length v.log.entries) (λ all. absurd (omega arith))) ∙ ap (λ g. g + 1) same)
       (subst (λ g. 1 ≤ g) (sym same) mine.first_generation) (subst (λ g. g ≤ generation_limit) (sym same) mine.last_generation)
@@ -256,8 +260,8 @@ module _ (o : Opening) (old : Memory) (views : Views) (log : List Entry) (decide
       let here : w ≡ area_word v.lane = ap (λ (g : Final). g.word) is_last in
       let is_next : x ≡ generation_of v + 1 = effect.makes ∙ (ap (λ (g : Final). with_bits g.mask g.bits (old (PoolWord g.word))) is_last ∙ with_all_bits (old (PoolWord (area_word v.lane))) (generation_of v + 1)) in
       let within : is_in_area v.lane w ≡ true = ap (is_in_area v.lane) here ∙ and_from _ _ (le-leb (area_word v.lane) (area_word v.lane) (omega arith)) (lt-ltb (area_word v.lane) (area_word v.lane + 1024) (omega arith)) in
-      let right : IsOwnWord v w = inl within in
-      let now : generation_of view' ≡ x = ap (slice_index view'.words) (sym here) ∙ this_word o old views log decided world k inside v is new w x moves in_pool right may room in
+      let right : IsPlainWord v w = inl within in
+      let now : generation_of view' ≡ x = ap (slice_index view'.words) (sym here) ∙ this_word o old views log decided world k inside v is new w x moves in_pool may room in
       let most : generation_of v + 1 ≤ generation_limit = subst (λ g. g ≤ generation_limit) before fits.last in
       applies right (inl (omega arith)) (λ s under. inl (omega arith)) (λ this. absurd (omega arith))
       (λ this. ap (λ n. slice_index v.words n + 1) here ∙ (sym is_next ∙ sym now))
@@ -283,10 +287,13 @@ module _ (o : Opening) (old : Memory) (views : Views) (log : List Entry) (decide
         bits = record {
           mask = omega arith;
           bits = λ i small none. let clear = bit_listed v.log.entries applied i (set_word w x) next none in let set = bit_at_ones 64 i small in absurd (omega arith);
-          small = λ part. (fits.known w part).small;
+          small = λ or. (fits.known w or).0.small;
         };
         ends = λ here. (refl, refl);
-        small = (stands_masked v applied (set_word w x) (mine.entries.each applied (set_word w x) next)).bits;
+        small = λ or.
+            let fs : List Final = v.log.entries in
+            let f : Final = set_word w x in
+            subst (λ (g : Final). g.word ≡ w → g.bits < 2 ^ 64) (get_or_from_slice_get fs applied f f next) ((fits.known w or).1 applied f (slice_get_within fs applied f next)) refl;
       })
       moves in_pool may room
 
@@ -300,40 +307,40 @@ module _ (o : Opening) (old : Memory) (views : Views) (log : List Entry) (decide
   small = subst (λ n. n < 2 ^ 64) (sym (finds ∙ own_fits.picture.known w known.known)) known.small
 
   module _ (no_generation : w ≡ area_word v.lane → ⊥) (applied : ℕ) (e : v.log.phase ≡ Applying applied) where
-    pub sets_bits : Becomes (PoolWord w) (bit_or found bits) old new → IsEntryAt v applied (final_by Or w bits) → World o new (with_view views k (changed v w (bit_or found bits) (or_change w bits found) (in_phase (Applying (applied + 1)) v.log))) log decided
-    sets_bits moves next =
-        applies_entry o old views log decided world k inside v is new (bit_or found bits) applied e (final_by Or w bits) next (or_change w bits found)
+    pub sets_bits : Becomes (PoolWord w) (bit_or found bits) old new → (ors : Bool) → IsEntryAt v applied (record (final_by Or w bits) { ors = ors }) → World o new (with_view views k (changed v w (bit_or found bits) (or_change w bits found) (in_phase (Applying (applied + 1)) v.log))) log decided
+    sets_bits moves ors next =
+        applies_entry o old views log decided world k inside v is new (bit_or found bits) applied e (record (final_by Or w bits) { ors = ors }) next (or_change w bits found)
         (record {
           makes = or_makes bits found word small ∙ ap (with_bits bits bits) finds;
           word = refl;
           bits = record {
             mask = word;
             bits = λ i under none.
-                let clear = bit_listed v.log.entries applied i (final_by Or w bits) next none in
+                let clear = bit_listed v.log.entries applied i (record (final_by Or w bits) { ors = ors }) next none in
                 let both = bit_at_and found bits i in
                 (clear, omega arith);
-            small = λ part. let least = and_le_r found bits in omega arith;
+            small = λ or. let least = and_le_r found bits in omega arith;
           };
           ends = λ here. absurd (no_generation here);
-          small = or_lt 64 found bits small word;
+          small = λ or. or_lt 64 found bits small word;
         })
         moves in_pool may room
 
-    pub clears_bits : Becomes (PoolWord w) (bit_and found bits) old new → IsEntryAt v applied (final_by And w bits) → World o new (with_view views k (changed v w (bit_and found bits) (and_change w bits found) (in_phase (Applying (applied + 1)) v.log))) log decided
-    clears_bits moves next =
-        applies_entry o old views log decided world k inside v is new (bit_and found bits) applied e (final_by And w bits) next (and_change w bits found)
+    pub clears_bits : Becomes (PoolWord w) (bit_and found bits) old new → (ors : Bool) → IsEntryAt v applied (record (final_by And w bits) { ors = ors }) → World o new (with_view views k (changed v w (bit_and found bits) (and_change w bits found) (in_phase (Applying (applied + 1)) v.log))) log decided
+    clears_bits moves ors next =
+        applies_entry o old views log decided world k inside v is new (bit_and found bits) applied e (record (final_by And w bits) { ors = ors }) next (and_change w bits found)
         (record {
           makes = and_makes bits found word ∙ ap (with_bits (bit_not w64 bits) 0) finds;
           word = refl;
           bits = record {
             mask = omega arith;
             bits = λ i under none.
-                let clear = bit_listed v.log.entries applied i (final_by And w bits) next none in
+                let clear = bit_listed v.log.entries applied i (record (final_by And w bits) { ors = ors }) next none in
                 let both = bit_at_and found (bit_not w64 bits) i in
                 (clear, omega arith);
-            small = λ part. let least = and_le_r found (bit_not w64 bits) in omega arith;
+            small = λ or. let least = and_le_r found (bit_not w64 bits) in omega arith;
           };
           ends = λ here. absurd (no_generation here);
-          small = let least = and_le_r found bits in omega arith;
+          small = λ or. let least = and_le_r found bits in omega arith;
         })
         moves in_pool may room

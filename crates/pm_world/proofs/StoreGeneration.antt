@@ -1,5 +1,5 @@
 -- A store of the next generation: it ends a call that has drawn, or one that is given up.
-use Rattle.std.proofs.Common.{◌≡◌, ◌≢◌, ℕ, zero, suc, ◌+◌, ◌-◌, ◌*◌, ◌^◌, ◌<◌, ◌≤◌, inl, ⊎_elim, Bool, true, List, [], ◌∷◌, ◌++◌, length, map, flat_map, slice_get, slice_index, Some, refl, sym, ap, ◌∙◌, subst, arith}
+use Rattle.std.proofs.Common.{◌≡◌, ◌≢◌, ℕ, zero, suc, ◌+◌, ◌-◌, ◌*◌, ◌^◌, ◌<◌, ◌≤◌, inl, ⊎_elim, Bool, true, false, List, [], ◌∷◌, ◌++◌, length, map, flat_map, slice_get, slice_index, Some, refl, sym, ap, ◌∙◌, subst, arith}
 use Rattle.std.specs.List.{range_with_len}
 use Rattle.std.proofs.lemmas.Bool.{and_parts, false≢true}
 use Rattle.std.proofs.lemmas.List.Elements.{All-nil, All-push, All-same}
@@ -28,16 +28,16 @@ use Rattle.pm_world.proofs.Frame.{in_phase}
 use Rattle.pm_world.proofs.Pairs.{in_log_before}
 use Rattle.pm_world.proofs.Parts.{generation_part}
 use Rattle.pm_world.proofs.Recoursed.{logged_upto}
-use Rattle.pm_world.proofs.Stored.{IsOwnWord, other_word, this_word, log_beside, entries_beside, stored_fits, stored_world}
+use Rattle.pm_world.proofs.Stored.{IsPlainWord, other_word, this_word, log_beside, entries_beside, stored_fits, stored_world}
 use Rattle.pm_world.proofs.StoreWord.{drained_more}
 use Rattle.pm_world.proofs.Worlds.{own}
 
 range_same : (words others : List ℕ) (from n : ℕ) → ((i : ℕ) → i < n → slice_index others (from + i) ≡ slice_index words (from + i))
-    → map (λ w. record { word = w; mask = 2 ^ 64 - 1; bits = slice_index others w }) (range_with_len from n) ≡ map (λ (w : ℕ). let f : Final = record { word = w; mask = 2 ^ 64 - 1; bits = slice_index words w } in f) (range_with_len from n)
+    → map (λ w. record { word = w; mask = 2 ^ 64 - 1; bits = slice_index others w; ors = false }) (range_with_len from n) ≡ map (λ (w : ℕ). let f : Final = record { word = w; mask = 2 ^ 64 - 1; bits = slice_index words w; ors = false } in f) (range_with_len from n)
 range_same words others from zero same = refl
 range_same words others from (suc n) same =
     let here : slice_index others from ≡ slice_index words from = subst (λ u. slice_index others u ≡ slice_index words u) (let e : from + 0 ≡ from = omega arith in e) (same 0 (omega arith)) in
-    λ i. record { word = from; mask = 2 ^ 64 - 1; bits = here i } ∷ range_same words others (from + 1) n (λ j low. subst (λ u. slice_index others u ≡ slice_index words u) (let e : from + (j + 1) ≡ from + 1 + j = omega arith in e) (same (j + 1) (omega arith))) i
+    λ i. record { word = from; mask = 2 ^ 64 - 1; bits = here i; ors = false } ∷ range_same words others (from + 1) n (λ j low. subst (λ u. slice_index others u ≡ slice_index words u) (let e : from + (j + 1) ≡ from + 1 + j = omega arith in e) (same (j + 1) (omega arith))) i
 
 -- the difference is the same where the recorded words are
 pub difference_same : (words others : List ℕ) (records : List Recorded) → ((slot : ℕ) (r : Recorded) (i : ℕ) → slice_get records slot ≡ Some r → i < length r.old → slice_index others (r.word + i) ≡ slice_index words (r.word + i))
@@ -55,17 +55,17 @@ module _ (o : Opening) (old : Memory) (views : Views) (log : List Entry) (decide
     at : (is_in_area v.lane w ≡ true) × (w ≡ area_word v.lane)
     at = generation_part v.lane w part
 
-    right : IsOwnWord v w
+    right : IsPlainWord v w
     right = inl at.0
 
     abbrev view' : View
     view' = changed v w x (store_change w (slice_index v.words w) x) (in_phase Retiring v.log)
 
     others : (u : ℕ) → u ≢ w → slice_index view'.words u ≡ slice_index v.words u
-    others = other_word o old views log decided world k inside v is new w x moves in_pool right may room
+    others = other_word o old views log decided world k inside v is new w x moves in_pool may room
 
     now : generation_of view' ≡ x
-    now = ap (slice_index view'.words) (sym at.1) ∙ this_word o old views log decided world k inside v is new w x moves in_pool right may room
+    now = ap (slice_index view'.words) (sym at.1) ∙ this_word o old views log decided world k inside v is new w x moves in_pool may room
 
     -- a recorded word is none of the area
     recorded_word : (slot : ℕ) (r : Recorded) (i : ℕ) → IsRecordAt v slot r → i < length r.old → slice_index view'.words (r.word + i) ≡ slice_index v.words (r.word + i)
@@ -87,8 +87,8 @@ module _ (o : Opening) (old : Memory) (views : Views) (log : List Entry) (decide
         stored_world o old views log decided world k inside v is new w x moves in_pool right may room (store_change w (slice_index v.words w) x) (in_phase Retiring v.log)
         (stored_fits o old views log decided world k inside v is new w x moves in_pool right may room (store_change w (slice_index v.words w) x) (in_phase Retiring v.log)
         (subst (LogFits (settled o log decided) view') earlier
-        (log_beside o old views log decided world k inside v is new w x moves in_pool right may room (store_change w (slice_index v.words w) x) Retiring (generation_of v) (λ s low. inl (omega arith)) (sym t.1) before))
-        (entries_beside o old views log decided world k inside v is new w x moves in_pool right may room (store_change w (slice_index v.words w) x) Retiring (inl (omega arith))
+        (log_beside o old views log decided world k inside v is new w x moves in_pool may room (store_change w (slice_index v.words w) x) Retiring (generation_of v) (λ s low. inl (omega arith)) (sym t.1) before))
+        (entries_beside o old views log decided world k inside v is new w x moves in_pool may room (store_change w (slice_index v.words w) x) Retiring (inl (omega arith))
         (others (area_word v.lane + 1) (λ same. absurd (omega arith)) ∙ (mine.entries.seal ∙ t.2)) ends.unentered)
         (λ u again. absurd (false≢true again))
         (record {

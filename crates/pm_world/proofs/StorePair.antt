@@ -30,7 +30,7 @@ use Rattle.pm_world.proofs.Frame.{in_phase}
 use Rattle.pm_world.proofs.Pairs.{in_log_before, none_redone}
 use Rattle.pm_world.proofs.Parts.{entry_part}
 use Rattle.pm_world.proofs.Recoursed.{logged_upto, open_again}
-use Rattle.pm_world.proofs.Stored.{IsOwnWord, reserved_still, other_word, this_word, log_with, stored_fits, stored_world}
+use Rattle.pm_world.proofs.Stored.{IsPlainWord, change_still, other_word, this_word, log_with, stored_fits, stored_world}
 use Rattle.pm_world.proofs.StoreSlot.{get-push_cases}
 use Rattle.pm_world.proofs.StoreWord.{drained_more}
 use Rattle.pm_world.proofs.Worlds.{own}
@@ -73,7 +73,7 @@ module _ (o : Opening) (old : Memory) (views : Views) (log : List Entry) (decide
   mine = own o old views log decided world k inside v is
 
   module _ (slot pair : List ℕ) (open_ : v.log.phase ≡ Open slot pair) (part : part_of v.lane w ≡ EntryWord) (adds : AppendsToPair v w x pair) where
-    right : IsOwnWord v w
+    right : IsPlainWord v w
     right = inl (entry_part v.lane w part)
 
     open_fits : OpenFits v slot pair
@@ -86,10 +86,10 @@ module _ (o : Opening) (old : Memory) (views : Views) (log : List Entry) (decide
     view' lg = changed v w x (store_change w (slice_index v.words w) x) lg
 
     others : (u : ℕ) → u ≢ w → slice_index (view' v.log).words u ≡ slice_index v.words u
-    others = other_word o old views log decided world k inside v is new w x moves in_pool right may room
+    others = other_word o old views log decided world k inside v is new w x moves in_pool may room
 
     now : slice_index (view' v.log).words w ≡ x
-    now = this_word o old views log decided world k inside v is new w x moves in_pool right may room
+    now = this_word o old views log decided world k inside v is new w x moves in_pool may room
 
     generation : (lg : Log) → generation_of (view' lg) ≡ generation_of v
     generation lg = others (area_word v.lane) (λ same. let here = adds.at in absurd (omega arith))
@@ -100,7 +100,7 @@ module _ (o : Opening) (old : Memory) (views : Views) (log : List Entry) (decide
 
     -- what an entry may be of it may be of still
     enterable_here : (lg : Log) (op : Op) (u y : ℕ) → IsEnterable v op u y → IsEnterable (view' lg) op u y
-    enterable_here lg op u y enterable = record { of = enterable.of; word = enterable.word; part = enterable.part }
+    enterable_here lg op u y enterable = record { of = enterable.of; word = enterable.word }
 
     -- the entries stand where they stood
     stand : (lg : Log) (i : ℕ) (f : Final) → IsEntryAt v i f → EntryStands (view' lg) i f
@@ -129,7 +129,7 @@ module _ (o : Opening) (old : Memory) (views : Views) (log : List Entry) (decide
 
     changes_fit : (lg : Log) → ((u : ℕ) → is_logged v u ≡ true → is_logged (view' lg) u ≡ true) → All (OpenChange (view' lg)) (view' lg).changes
     changes_fit lg logged = All-push (OpenChange (view' lg)) v.changes (store_change w (slice_index v.words w) x)
-        (All-weaker (OpenChange v) (OpenChange (view' lg)) (λ c of. open_again v (view' lg) c refl logged (reserved_still o old views log decided world k inside v is new w x moves in_pool right may room (store_change w (slice_index v.words w) x) lg c.word) of) v.changes open_fits.changes)
+        (All-weaker (OpenChange v) (OpenChange (view' lg)) (λ c of. open_again v (view' lg) c refl logged (change_still o old views log decided world k inside v is new w x moves in_pool right may room (store_change w (slice_index v.words w) x) lg c) of) v.changes open_fits.changes)
         (record { whole = refl; of = inr (inl part) })
 
     goes_on : (lg : Log) (pair' : List ℕ) → lg.phase ≡ Open slot pair' → lg.records ≡ v.log.records → EntriesFit (view' lg) → OpenFits (view' lg) slot pair' → World o new (with_view views k (view' lg)) log decided
@@ -140,7 +140,7 @@ module _ (o : Opening) (old : Memory) (views : Views) (log : List Entry) (decide
         stored_world o old views log decided world k inside v is new w x moves in_pool right may room (store_change w (slice_index v.words w) x) lg
         (stored_fits o old views log decided world k inside v is new w x moves in_pool right may room (store_change w (slice_index v.words w) x) lg
         (subst (LogFits (settled o log decided) (view' lg)) (subst (λ p. generation_of v ≡ records_generation p (view' lg)) (sym phase) (sym (generation lg)))
-        (log_with o old views log decided world k inside v is new w x moves in_pool right may room (store_change w (slice_index v.words w) x) lg (generation_of v) records (λ s low. inl (omega arith)) used open_log))
+        (log_with o old views log decided world k inside v is new w x moves in_pool may room (store_change w (slice_index v.words w) x) lg (generation_of v) records (λ s low. inl (omega arith)) used open_log))
         entries_fit (λ u again. absurd (false≢true (sym (none_redone (view' lg) u quiet) ∙ again)))
         (subst (PhaseFits (Flies log decided k) (view' lg)) (sym phase) fits)
         (subst (λ g. 1 ≤ g) (sym (generation lg)) mine.first_generation) (subst (λ g. g ≤ generation_limit) (sym (generation lg)) mine.last_generation))

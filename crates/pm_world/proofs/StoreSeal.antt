@@ -13,7 +13,7 @@ use Rattle.pm_view.specs.Rights.{is_written}
 use Rattle.pm_view.specs.View.{View}
 use Rattle.pm_view.specs.Views.{changed}
 use Rattle.pm_world.specs.Course.{flight, flight_in}
-use Rattle.pm_world.specs.Entries.{AreWhole, HasNone, applied_in, is_entered, is_redoing, is_redone, seal_in, KnowsParts}
+use Rattle.pm_world.specs.Entries.{AreWhole, HasNone, applied_in, is_entered, is_redoing, is_redone, seal_in, KnowsOrs}
 use Rattle.pm_world.specs.Fits.{ApplyingFits, DrawnFits, SealChange, LaneFits, LogFits, PhaseFits, RedoneWord}
 use Rattle.pm_world.specs.History.{Entry, Flies, settled, made_final}
 use Rattle.pm_world.specs.Laws.{with_view}
@@ -26,10 +26,10 @@ use Rattle.pm_world.specs.World.{Views, World}
 use Rattle.pm_world.proofs.Exclusion.{writes_under}
 use Rattle.pm_world.proofs.Frame.{in_phase}
 use Rattle.pm_world.proofs.Locations.{other_pool}
-use Rattle.pm_world.proofs.Pairs.{in_log_before, none_redone, part_written}
+use Rattle.pm_world.proofs.Pairs.{in_log_before, none_redone, or_written}
 use Rattle.pm_world.proofs.Parts.{seal_part}
 use Rattle.pm_world.proofs.Recoursed.{logged_upto}
-use Rattle.pm_world.proofs.Stored.{IsOwnWord, other_word, this_word, log_beside, entries_beside, stored_fits, stored_world, known_more}
+use Rattle.pm_world.proofs.Stored.{IsPlainWord, other_word, this_word, log_beside, entries_beside, stored_fits, stored_world, known_more}
 use Rattle.pm_world.proofs.StoreGeneration.{difference_same}
 use Rattle.pm_world.proofs.StoreWord.{drained_more}
 use Rattle.pm_world.proofs.Worlds.{own}
@@ -43,17 +43,17 @@ module _ (o : Opening) (old : Memory) (views : Views) (log : List Entry) (decide
     at : (is_in_area v.lane w ≡ true) × (w ≡ area_word v.lane + 1)
     at = seal_part v.lane w part
 
-    right : IsOwnWord v w
+    right : IsPlainWord v w
     right = inl at.0
 
     abbrev view' : Phase → View
     view' phase = changed v w x (store_change w (slice_index v.words w) x) (in_phase phase v.log)
 
     others : (u : ℕ) → u ≢ w → slice_index (view' v.log.phase).words u ≡ slice_index v.words u
-    others = other_word o old views log decided world k inside v is new w x moves in_pool right may room
+    others = other_word o old views log decided world k inside v is new w x moves in_pool may room
 
     now : slice_index (view' v.log.phase).words (area_word v.lane + 1) ≡ x
-    now = ap (slice_index (view' v.log.phase).words) (sym at.1) ∙ this_word o old views log decided world k inside v is new w x moves in_pool right may room
+    now = ap (slice_index (view' v.log.phase).words) (sym at.1) ∙ this_word o old views log decided world k inside v is new w x moves in_pool may room
 
     generation : generation_of (view' v.log.phase) ≡ generation_of v
     generation = others (area_word v.lane) (λ same. let here = at.1 in absurd (omega arith))
@@ -65,13 +65,15 @@ module _ (o : Opening) (old : Memory) (views : Views) (log : List Entry) (decide
         let behind = world.sound.behind_areas under.0 u under.1 in let lane = mine.lane.lane in let here = at.1 in absurd (omega arith)
 
     -- what it knows it knows still
-    knows_still : (phase : Phase) → KnowsParts v → KnowsParts (view' phase)
-    knows_still phase knows u part =
-        let t = knows u part in
-        record {
-          known = known_more o old views log decided world k inside v is new w x moves in_pool right may room u t.known;
-          small = subst (λ n. n < 2 ^ 64) (sym (others u (own_other u (part_written v u mine.entries part)))) t.small;
-        }
+    knows_still : (phase : Phase) → KnowsOrs v → KnowsOrs (view' phase)
+    knows_still phase knows u or =
+        let t = knows u or in (
+          record {
+            known = known_more o old views log decided world k inside v is new w x moves in_pool may room u t.0.known;
+            small = subst (λ n. n < 2 ^ 64) (sym (others u (own_other u (or_written v u mine.entries or)))) t.0.small;
+          },
+          t.1,
+        )
 
     same_difference : (phase : Phase) → difference_of (view' phase) ≡ difference_of v
     same_difference phase = ap (λ difference. difference ++ pool_entries v) (difference_same v.words (view' phase).words v.log.records
@@ -92,8 +94,8 @@ module _ (o : Opening) (old : Memory) (views : Views) (log : List Entry) (decide
         stored_world o old views log decided world k inside v is new w x moves in_pool right may room (store_change w (slice_index v.words w) x) (in_phase phase v.log)
         (stored_fits o old views log decided world k inside v is new w x moves in_pool right may room (store_change w (slice_index v.words w) x) (in_phase phase v.log)
         (subst (LogFits (settled o log decided) (view' phase)) (sym records)
-        (log_beside o old views log decided world k inside v is new w x moves in_pool right may room (store_change w (slice_index v.words w) x) phase (records_generation v.log.phase v) (λ s low. inl (omega arith)) used mine.log))
-        (entries_beside o old views log decided world k inside v is new w x moves in_pool right may room (store_change w (slice_index v.words w) x) phase (inl (omega arith)) (now ∙ seal) none)
+        (log_beside o old views log decided world k inside v is new w x moves in_pool may room (store_change w (slice_index v.words w) x) phase (records_generation v.log.phase v) (λ s low. inl (omega arith)) used mine.log))
+        (entries_beside o old views log decided world k inside v is new w x moves in_pool may room (store_change w (slice_index v.words w) x) phase (inl (omega arith)) (now ∙ seal) none)
         redone fits
         (subst (λ g. 1 ≤ g) (sym generation) mine.first_generation) (subst (λ g. g ≤ generation_limit) (sym generation) mine.last_generation))
         flies

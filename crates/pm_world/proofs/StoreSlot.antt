@@ -37,7 +37,7 @@ use Rattle.pm_world.proofs.Pairs.{entries_sealed, in_log_before, in_log_written,
 use Rattle.pm_world.proofs.Parts.{slot_part}
 use Rattle.pm_world.proofs.Recoursed.{logged_upto, open_again}
 use Rattle.pm_world.proofs.Slots.{unrecorded}
-use Rattle.pm_world.proofs.Stored.{IsOwnWord, reserved_still, slot_set_other, other_word, this_word, known_more, stored_fits, stored_world}
+use Rattle.pm_world.proofs.Stored.{IsPlainWord, change_still, slot_set_other, other_word, this_word, known_more, stored_fits, stored_world}
 use Rattle.pm_world.proofs.StoreWord.{drained_more}
 use Rattle.pm_world.proofs.Worlds.{own, unlogged_before}
 
@@ -124,7 +124,7 @@ module _ (o : Opening) (old : Memory) (views : Views) (log : List Entry) (decide
   mine = own o old views log decided world k inside v is
 
   module _ (slot pair : List ℕ) (open_ : v.log.phase ≡ Open slot pair) (part : part_of v.lane w ≡ SlotWord) (adds : AppendsToSlot v w x slot) where
-    right : IsOwnWord v w
+    right : IsPlainWord v w
     right = inl (slot_part v.lane w part)
 
     open_fits : OpenFits v slot pair
@@ -137,10 +137,10 @@ module _ (o : Opening) (old : Memory) (views : Views) (log : List Entry) (decide
     view' lg = changed v w x (store_change w (slice_index v.words w) x) lg
 
     others : (u : ℕ) → u ≢ w → slice_index (view' v.log).words u ≡ slice_index v.words u
-    others = other_word o old views log decided world k inside v is new w x moves in_pool right may room
+    others = other_word o old views log decided world k inside v is new w x moves in_pool may room
 
     now : slice_index (view' v.log).words w ≡ x
-    now = this_word o old views log decided world k inside v is new w x moves in_pool right may room
+    now = this_word o old views log decided world k inside v is new w x moves in_pool may room
 
     slot_apart : (s : ℕ) → s ≢ length v.log.records → (w < 8 * slot_line v.lane s) ⊎ (8 * slot_line v.lane s + 8 ≤ w)
     slot_apart s other =
@@ -187,7 +187,7 @@ module _ (o : Opening) (old : Memory) (views : Views) (log : List Entry) (decide
 
     changes_fit : (lg : Log) → ((u : ℕ) → is_logged v u ≡ true → is_logged (view' lg) u ≡ true) → All (OpenChange (view' lg)) (view' lg).changes
     changes_fit lg logged = All-push (OpenChange (view' lg)) v.changes (store_change w (slice_index v.words w) x)
-        (All-weaker (OpenChange v) (OpenChange (view' lg)) (λ c of. open_again v (view' lg) c refl logged (reserved_still o old views log decided world k inside v is new w x moves in_pool right may room (store_change w (slice_index v.words w) x) lg c.word) of) v.changes open_fits.changes)
+        (All-weaker (OpenChange v) (OpenChange (view' lg)) (λ c of. open_again v (view' lg) c refl logged (change_still o old views log decided world k inside v is new w x moves in_pool right may room (store_change w (slice_index v.words w) x) lg c) of) v.changes open_fits.changes)
         (record { whole = refl; of = inl part })
 
     goes_on : (lg : Log) → LogFits (settled o log decided) (view' lg) (records_generation lg.phase (view' lg)) → EntriesFit (view' lg) → is_redoing lg.phase ≡ false → PhaseFits (Flies log decided k) (view' lg) lg.phase → ((u : ℕ) → is_logged v u ≡ true → is_logged (view' lg) u ≡ true)
@@ -215,7 +215,7 @@ module _ (o : Opening) (old : Memory) (views : Views) (log : List Entry) (decide
           each = λ s r there. let f = open_log.each s r there in record {
             some = f.some;
             most = f.most;
-            each = λ i low. let e = f.each i low in record { own = e.own; known = known_more o old views log decided world k inside v is new w x moves in_pool right may room (r.word + i) e.known; before = e.before };
+            each = λ i low. let e = f.each i low in record { own = e.own; known = known_more o old views log decided world k inside v is new w x moves in_pool may room (r.word + i) e.known; before = e.before };
           };
           once = open_log.once;
           stale = λ s u low. stale s u (subst (λ n. n ≤ s) (used-more slot pair x (view' lg)) low);
@@ -264,7 +264,7 @@ module _ (o : Opening) (old : Memory) (views : Views) (log : List Entry) (decide
         let logged : (u : ℕ) → is_logged v u ≡ true → is_logged (view' lg) u ≡ true = λ u there. logged-longer (view' lg) 0 v.log.records (adds.next ∷ []) u (logged_same lg u there) in
         let size = length-append slot (x ∷ []) in
         let longer : length (v.log.records ++ adds.next ∷ []) ≡ length v.log.records + 1 = length-append v.log.records (adds.next ∷ []) in
-        let more : (u : ℕ) → Contains v.known u → Contains (w ∷ v.known) u = known_more o old views log decided world k inside v is new w x moves in_pool right may room in
+        let more : (u : ℕ) → Contains v.known u → Contains (w ∷ v.known) u = known_more o old views log decided world k inside v is new w x moves in_pool may room in
         let spelled_now : undo_slot (view' v.log).words v.lane (length v.log.records) ≡ spelled (generation_of v) adds.next =
         let pool = world.sound.size in let words = mine.lane.size in let lane = mine.lane.lane in let free = adds.free in let set_size = length-set v.words w x in
         eight (view' v.log).words (slot ++ x ∷ []) (8 * slot_line v.lane (length v.log.records)) (omega (arith, size, last)) (omega (arith, pool, words, lane, free, set_size, inside)) (λ i low. stands i (omega (arith, size, last, low)))

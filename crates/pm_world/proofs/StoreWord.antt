@@ -25,7 +25,7 @@ use Rattle.pm_world.specs.World.{Views, World}
 use Rattle.pm_world.proofs.Exclusion.{writes_under}
 use Rattle.pm_world.proofs.Pairs.{entries_again, in_log_before, none_redone}
 use Rattle.pm_world.proofs.Recoursed.{logged_upto, open_again, used_again}
-use Rattle.pm_world.proofs.Stored.{IsOwnWord, reserved_still, other_word, log_beside, stored_fits, stored_world}
+use Rattle.pm_world.proofs.Stored.{IsPlainWord, change_still, other_word, log_beside, stored_fits, stored_world}
 use Rattle.pm_world.proofs.Worlds.{own}
 
 -- one more change, of a word of another line, leaves a slot drained
@@ -43,18 +43,18 @@ module _ (o : Opening) (old : Memory) (views : Views) (log : List Entry) (decide
       let at_lane = mine.lane.lane in
       let under = writes_under o old k v w mine.locks writes.own in
       let behind = world.sound.behind_areas under.0 w under.1 in
-      let right : IsOwnWord v w = inr (inl writes.own) in
+      let right : IsPlainWord v w = inr (inl writes.own) in
       let most = mine.log.most in
       let logged : (u : ℕ) → is_logged v u ≡ true → is_logged v' u ≡ true = λ u. logged_upto v v' 0 v.log.records
       (λ s low. drained_more v.lane s v.changes (store_change w (slice_index v.words w) x) (λ same. absurd (omega arith))) u in
       let apart : (s : ℕ) → s < 64 → (w < 8 * slot_line v.lane s) ⊎ (8 * slot_line v.lane s + 8 ≤ w) = λ s low. inr (omega arith) in
       let fits = subst (PhaseFits (Flies log decided k) v) e mine.phase in
-      let others : (u : ℕ) → u ≢ w → slice_index v'.words u ≡ slice_index v.words u = other_word o old views log decided world k inside v is new w x moves in_pool right may room in
+      let others : (u : ℕ) → u ≢ w → slice_index v'.words u ≡ slice_index v.words u = other_word o old views log decided world k inside v is new w x moves in_pool may room in
       let generation : generation_of v' ≡ generation_of v = others (area_word v.lane) (λ same. absurd (omega arith)) in
       stored_world o old views log decided world k inside v is new w x moves in_pool right may room (store_change w (slice_index v.words w) x) v.log
       (stored_fits o old views log decided world k inside v is new w x moves in_pool right may room (store_change w (slice_index v.words w) x) v.log
       (subst (LogFits (settled o log decided) v') (subst (λ p. records_generation p v ≡ records_generation p v') (sym e) (sym generation))
-      (log_beside o old views log decided world k inside v is new w x moves in_pool right may room (store_change w (slice_index v.words w) x) v.log.phase (records_generation v.log.phase v) apart (used_again v.log.phase v v' refl) mine.log))
+      (log_beside o old views log decided world k inside v is new w x moves in_pool may room (store_change w (slice_index v.words w) x) v.log.phase (records_generation v.log.phase v) apart (used_again v.log.phase v v' refl) mine.log))
       (entries_again v v' refl refl (λ u low high. others u (λ same. absurd (omega arith))) (λ u own_word. own_word) refl (others (area_word v.lane + 1) (λ same. absurd (omega arith))) mine.entries)
       (λ u again. absurd (false≢true (sym (none_redone v u (ap is_redoing e)) ∙ again)))
       (subst (PhaseFits (Flies log decided k) v') (sym e) (record {
@@ -66,7 +66,7 @@ module _ (o : Opening) (old : Memory) (views : Views) (log : List Entry) (decide
         pair_stands = λ i low. let short = fits.short_pair in let few = mine.entries.most in
             others (entry_word v.lane (length v.log.entries) + i) (λ same. absurd (omega arith)) ∙ fits.pair_stands i low;
         changes = All-push (OpenChange v') v.changes (store_change w (slice_index v.words w) x)
-            (All-weaker (OpenChange v) (OpenChange v') (λ c of. open_again v v' c refl logged (reserved_still o old views log decided world k inside v is new w x moves in_pool right may room (store_change w (slice_index v.words w) x) v.log c.word) of) v.changes fits.changes)
+            (All-weaker (OpenChange v) (OpenChange v') (λ c of. open_again v v' c refl logged (change_still o old views log decided world k inside v is new w x moves in_pool right may room (store_change w (slice_index v.words w) x) v.log c) of) v.changes fits.changes)
             (record { whole = refl; of = inr (inr (inl (logged w writes.logged))) });
       }))
       (subst (λ g. 1 ≤ g) (sym generation) mine.first_generation) (subst (λ g. g ≤ generation_limit) (sym generation) mine.last_generation))

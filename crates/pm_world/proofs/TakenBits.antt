@@ -8,7 +8,7 @@ use Rattle.pm_view.specs.declared.change.Change.{Change}
 use Rattle.pm_view.specs.Log.{Final}
 use Rattle.pm_view.specs.Survivors.{all_taken_back}
 use Rattle.pm_view.specs.View.{View}
-use Rattle.pm_world.specs.Entries.{AgreeBeside, applied_in, is_bit_entered, is_part_entered}
+use Rattle.pm_world.specs.Entries.{AgreeBeside, applied_in, is_bit_entered, is_or_entered}
 use Rattle.pm_world.specs.Fits.{IsOfEntries, RedoneWord}
 use Rattle.pm_world.specs.Memory.{Memory}
 use Rattle.pm_world.specs.Memory.Location.{PoolWord}
@@ -31,11 +31,11 @@ left_beside entries w x (c ∷ lost) all i small beside =
     omega arith
 
 -- and a word of 64 bits is one still
-pub left_small : (entries : List Final) (w x : ℕ) (lost : List Change) → is_part_entered entries w ≡ true → x < 2 ^ 64 → All (IsOfWord entries w) lost → all_taken_back lost x < 2 ^ 64
+pub left_small : (entries : List Final) (w x : ℕ) (lost : List Change) → is_or_entered entries w ≡ true → x < 2 ^ 64 → All (IsOfWord entries w) lost → all_taken_back lost x < 2 ^ 64
 left_small entries w x [] part small all = small
 left_small entries w x (c ∷ lost) part small all =
     let first = All-head (IsOfWord entries w) c lost all in
-    with_bits-lt c.mask c.old (all_taken_back lost x) (first.1.small (ap (is_part_entered entries) first.0 ∙ part))
+    with_bits-lt c.mask c.old (all_taken_back lost x) (first.1.small (ap (is_or_entered entries) first.0 ∙ part))
 
 -- a bit that no entry is of is of none of the last ones
 dropped_beside : (entries : List Final) (n w i : ℕ) → is_bit_entered entries w i ≡ false → is_bit_entered (drop n entries) w i ≡ false

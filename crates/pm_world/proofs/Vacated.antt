@@ -8,11 +8,11 @@ use Rattle.std.proofs.lemmas.List.Elements.{All-cons, All-head, All-tail}
 use Rattle.std.proofs.lemmas.Nat.Bits.{bit_at-lt, bit_at-zero, bit_at_above, bit_at_and, bit_at_not, bit_at_or}
 use Rattle.pm_view.specs.declared.occ.Occ.{Occ}
 use Rattle.pm_view.specs.declared.occ.Occ.TheVariants.{Run, Zone}
-use Rattle.pm_view.specs.Blocks.{zone_page, zone_of, chunk_of, descriptor_word, covers}
+use Rattle.pm_view.specs.Blocks.{zone_of, chunk_of, descriptor_word, is_chunk, page_told, covers}
 use Rattle.pm_view.specs.View.{Taken}
-use Rattle.pm_view.specs.Views.{is_same_occ, without_taken}
-use Rattle.pm_world.specs.Heap.{has_bit}
+use Rattle.pm_view.specs.Views.{has_bit, is_same_occ, without_taken}
 use Rattle.pm_world.proofs.Reserved.{held_by_parts, occ_same}
+use Rattle.std.proofs.lemmas.Nat.{and_le_l}
 
 -- ---- single bits
 
@@ -90,7 +90,7 @@ all_kept P q f each (x ∷ xs) all =
 -- which bit of the occupancy word a word's block or chunk has
 abbrev index_of : ℕ → List ℕ → ℕ → Occ → ℕ
 index_of lanes words w (Run place) = (w % 512 / 8 - 1) / (slice_index words (descriptor_word lanes (place / 4096)) / 256)
-index_of lanes words w (Zone zone) = chunk_of lanes (w / 512) - 1
+index_of lanes words w (Zone zone) = chunk_of lanes (page_told lanes w) - 1
 
 index_low : (lanes : ℕ) (words : List ℕ) (w : ℕ) (at : Occ) → index_of lanes words w at < 64
 index_low lanes words w (Run place) =
@@ -104,14 +104,14 @@ index_low lanes words w (Zone zone) = omega arith
 -- a word is covered by these bits, and by others that have its bit
 covered_bit : (lanes : ℕ) (words : List ℕ) (w : ℕ) (at : Occ) (bits : ℕ) → covers lanes words at bits w ≡ true → bit_at bits (index_of lanes words w at) ≡ 1
 covered_bit lanes words w (Run place) bits e = eqb-true (bit_at bits (index_of lanes words w (Run place))) 1 (and_parts (eqb (w / 512) (place / 4096) && leb 8 (w % 512)) _ e).1
-covered_bit lanes words w (Zone zone) bits e = eqb-true (bit_at bits (index_of lanes words w (Zone zone))) 1 (and_parts (leb (zone_page lanes zone) (w / 512) && eqb (zone_of lanes (w / 512)) zone && leb 1 (chunk_of lanes (w / 512))) _ e).1
+covered_bit lanes words w (Zone zone) bits e = eqb-true (bit_at bits (index_of lanes words w (Zone zone))) 1 (and_parts (is_chunk lanes (page_told lanes w) && eqb (zone_of lanes (page_told lanes w)) zone) _ e).1
 
 covered_by : (lanes : ℕ) (words : List ℕ) (w : ℕ) (at : Occ) (bits others : ℕ) → covers lanes words at bits w ≡ true → bit_at others (index_of lanes words w at) ≡ 1 → covers lanes words at others w ≡ true
 covered_by lanes words w (Run place) bits others e set =
     let t = and_parts (eqb (w / 512) (place / 4096) && leb 8 (w % 512)) _ e in and_from (eqb (w / 512) (place / 4096) && leb 8 (w % 512)) _ t.0 (eq-eqb (bit_at others (index_of lanes words w (Run place))) 1 set)
 covered_by lanes words w (Zone zone) bits others e set =
-    let t = and_parts (leb (zone_page lanes zone) (w / 512) && eqb (zone_of lanes (w / 512)) zone && leb 1 (chunk_of lanes (w / 512))) _ e in
-    and_from (leb (zone_page lanes zone) (w / 512) && eqb (zone_of lanes (w / 512)) zone && leb 1 (chunk_of lanes (w / 512))) _ t.0 (eq-eqb (bit_at others (index_of lanes words w (Zone zone))) 1 set)
+    let t = and_parts (is_chunk lanes (page_told lanes w) && eqb (zone_of lanes (page_told lanes w)) zone) _ e in
+    and_from (is_chunk lanes (page_told lanes w) && eqb (zone_of lanes (page_told lanes w)) zone) _ t.0 (eq-eqb (bit_at others (index_of lanes words w (Zone zone))) 1 set)
 
 module _ (at : Occ) (bits : ℕ) (small : bits < 2 ^ 64) where
   cleared : Taken → Taken
@@ -191,4 +191,12 @@ module _ (at : Occ) (bits : ℕ) (small : bits < 2 ^ 64) where
   unfolding cleared
   vacated_all P blocks all = subst (All (λ (t : Taken). P t.at)) (sym (left_is blocks)) (all_kept (λ (t : Taken). P t.at) left given
       (λ t of. ⊎_elim (λ (s : (is_same_occ at t.at ≡ true) × (given t ≡ cleared t)). subst (λ (u : Taken). P u.at) (sym s.1) of) (λ (s : (is_same_occ at t.at ≡ false) × (given t ≡ t)). subst (λ (u : Taken). P u.at) (sym s.1) of) (given_so t))
+      blocks all)
+
+  -- and its bits are a word of 64 still
+  pub vacated_small : (blocks : List Taken) → All (λ (t : Taken). t.bits < 2 ^ 64) blocks → All (λ (t : Taken). t.bits < 2 ^ 64) (without_taken at bits blocks)
+  unfolding cleared
+  vacated_small blocks all = subst (All (λ (t : Taken). t.bits < 2 ^ 64)) (sym (left_is blocks)) (all_kept (λ (t : Taken). t.bits < 2 ^ 64) left given
+      (λ t few. ⊎_elim (λ (s : (is_same_occ at t.at ≡ true) × (given t ≡ cleared t)). subst (λ (u : Taken). u.bits < 2 ^ 64) (sym s.1) (let less = and_le_l t.bits (bit_not w64 bits) in omega (arith, less, few)))
+      (λ (s : (is_same_occ at t.at ≡ false) × (given t ≡ t)). subst (λ (u : Taken). u.bits < 2 ^ 64) (sym s.1) few) (given_so t))
       blocks all)

@@ -1,5 +1,5 @@
 -- The world after a step of lane k, from what the step owes: the lane's own facts, and what it leaves to the others.
-use Rattle.std.proofs.Common.{◌≡◌, ◌≢◌, ℕ, ◌+◌, ◌<◌, ◌≤◌, ◌⊎◌, inl, inr, ⊎_elim, Bool, true, false, IsSomeAnd, Any, List, slice_index, Option, Some, None, refl, sym, ap, ◌∙◌, subst, arith}
+use Rattle.std.proofs.Common.{◌≡◌, ◌≢◌, ℕ, ◌+◌, ◌<◌, ◌≤◌, ◌⊎◌, inl, inr, ⊎_elim, Bool, true, false, IsSomeAnd, Any, List, Option, Some, None, refl, sym, ap, ◌∙◌, subst, arith}
 use Rattle.std.specs.Int.{bit_at}
 use Rattle.std.proofs.lemmas.Bool.{cases_eq}
 use Rattle.pm_view.specs.Counts.{IsAtStop}
@@ -8,7 +8,7 @@ use Rattle.pm_view.specs.View.{View, Lock}
 use Rattle.pm_world.specs.Course.{flight}
 use Rattle.pm_world.specs.Entries.{is_in_log}
 use Rattle.pm_world.specs.Fits.{LaneFits, ShowsHold}
-use Rattle.pm_world.specs.Heap.{Heap}
+use Rattle.pm_world.specs.Heap.{AreNewRuns, Heap, heap_words}
 use Rattle.pm_world.specs.History.{Entry, Flies, settled, entries_by}
 use Rattle.pm_world.specs.Laws.{with_view}
 use Rattle.pm_world.specs.Lawful.{generation_limit}
@@ -19,6 +19,7 @@ use Rattle.pm_world.specs.World.{Views, World, EntryFits, IsHold, hold_bit, may_
 use Rattle.pm_world.proofs.Draws.{draws_no_more}
 use Rattle.pm_world.proofs.Heaps.{HasSame, IsHeapSame, heap_still}
 use Rattle.pm_world.proofs.Frame.{lane_kept, view_here, view_else, view_all}
+use Rattle.pm_world.proofs.HeapWords.{words_described, heap_same, runs_same}
 
 -- it is at its stop number still
 later_stop : (stop : Option ℕ) (calls calls' : ℕ) → calls ≤ calls' → IsSomeAnd stop (λ s. s ≤ calls) → IsSomeAnd stop (λ s. s ≤ calls')
@@ -27,6 +28,11 @@ later_stop (Some s) calls calls' more at = omega arith
 
 pub stop_kept : (v v' : View) → v'.stop ≡ v.stop → v.calls ≤ v'.calls → IsAtStop v → IsAtStop v'
 stop_kept v v' same more at = subst (λ stop. IsSomeAnd stop (λ s. s ≤ v'.calls)) (sym same) (later_stop v.stop v.calls v'.calls more at)
+
+-- the heap's part of a world
+pub record HeapNow (o : Opening) (mem : Memory) (views : Views) : Type 0 where
+  pub runs : AreNewRuns o (λ w. mem (PoolWord w))
+  pub heap : Heap o (heap_words o mem) mem views
 
 module _ (o : Opening) (old : Memory) (views : Views) (log : List Entry) (decided : ℕ → Bool) (world : World o old views log decided) (k : ℕ) (inside : k < o.lanes) (v : View) (is : views k ≡ v) where
   pub own : LaneFits o old (settled o log decided) (Flies log decided k) k v
@@ -92,7 +98,7 @@ module _ (o : Opening) (old : Memory) (views : Views) (log : List Entry) (decide
         → new CommitCounter ≡ old CommitCounter
         → old CommitCounter + may_draw_count (with_view views k v') o.lanes < generation_limit + 32
         → v'.entries ≡ v.entries
-        → Heap o (slice_index o.words) new (with_view views k v')
+        → HeapNow o new (with_view views k v')
         → (new StopWord ≡ 0) ⊎ ((j : ℕ) × (j < o.lanes) × IsAtStop (with_view views k v' j))
         → World o new (with_view views k v') log decided
     quiet new others here words lines flying counter room entries heap stops = record {
@@ -106,13 +112,17 @@ module _ (o : Opening) (old : Memory) (views : Views) (log : List Entry) (decide
       counter = counter ∙ world.counter;
       counter_room = subst (λ n. n + may_draw_count (with_view views k v') o.lanes < generation_limit + 32) (sym counter) room;
       own_entries = λ j low. entries_kept j entries low;
-      heap = heap;
+      new_runs = heap.runs;
+      heap = heap.heap;
       stop_word = stops;
     }
 
-    -- the heap after a step that changes none of its volatile words, nor what the lane has of them
-    pub heap_here : (new : Memory) → IsHeapSame old new → HasSame v v' → Heap o (slice_index o.words) new (with_view views k v')
-    heap_here new same has = heap_still o (slice_index o.words) old new views k v v' is world.heap same has
+    -- the heap after a step that changes no word of the pool, none of the heap's volatile words, nor what the lane has of them
+    pub heap_here : (new : Memory) → ((w : ℕ) → new (PoolWord w) ≡ old (PoolWord w)) → IsHeapSame old new → HasSame v v' → HeapNow o new (with_view views k v')
+    heap_here new words same has = record {
+      runs = runs_same o old new words world.new_runs;
+      heap = subst (λ h. Heap o h new (with_view views k v')) (sym (heap_same o old new (words_described o old new words))) (heap_still o (heap_words o old) old new views k v v' is world.heap same has);
+    }
 
     -- a step that changes no word
     pub still : (new : Memory) → IsSame old new
@@ -121,12 +131,12 @@ module _ (o : Opening) (old : Memory) (views : Views) (log : List Entry) (decide
         → v'.locks ≡ v.locks
         → ((n : ℕ) → flight v ≡ Some n → flight v' ≡ Some n)
         → old CommitCounter + may_draw_count (with_view views k v') o.lanes < generation_limit + 32
-        → v'.entries ≡ v.entries → v'.stop ≡ v.stop → v.calls ≤ v'.calls → Heap o (slice_index o.words) new (with_view views k v')
+        → v'.entries ≡ v.entries → v'.stop ≡ v.stop → v.calls ≤ v'.calls → HeapNow o new (with_view views k v')
         → World o new (with_view views k v') log decided
     still new same here logs locks flying room entries stop more heap = quiet new
-        (λ j low other. lane_kept o old new (settled o log decided) (settled o log decided) (Flies log decided j) (Flies log decided j) j (views j)
+        (λ j low other. lane_kept o old new (settled o log decided) (settled o log decided) (Flies log decided j) (Flies log decided j) j (views j) (words_described o old new (λ w. same (PoolWord w)))
         (λ w in_area. same (PoolWord w)) (λ w known. same (PoolWord w)) (λ w own_word. same (PoolWord w)) (λ line write. subst (ShowsHold j write) (sym (same (LockWord line)))) (λ w own_word. refl) (λ n flies. flies) (world.each_lane j low))
-        (lane_kept o old new (settled o log decided) (settled o log decided) (Flies log decided k) (Flies log decided k) k v'
+        (lane_kept o old new (settled o log decided) (settled o log decided) (Flies log decided k) (Flies log decided k) k v' (words_described o old new (λ w. same (PoolWord w)))
         (λ w in_area. same (PoolWord w)) (λ w known. same (PoolWord w)) (λ w own_word. same (PoolWord w)) (λ line write. subst (ShowsHold k write) (sym (same (LockWord line)))) (λ w own_word. refl) (λ n flies. flies) here)
         (λ w heap here_un others. same (PoolWord w) ∙ world.each_word w heap (unlogged_before w (logs w here_un) others))
         (λ line bit set. hold_kept line bit (subst (λ ls. Any (λ (l : Lock). (l.line ≡ line) × (bit ≡ hold_bit k l.write)) ls) (sym locks)) (world.each_line line bit (subst (λ n. bit_at n bit ≡ 1) (same (LockWord line)) set)))

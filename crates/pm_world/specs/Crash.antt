@@ -10,6 +10,7 @@ use Rattle.pm_image.specs.Logs.{undo_slot, generation_word, recovered, seal_word
 use Rattle.pm_image.specs.Steps.{valid_record}
 use Rattle.pm_view.specs.Survivors.{all_taken_back}
 use Rattle.pm_world.specs.Course.{is_number}
+use Rattle.pm_world.specs.Heap.{AreNewRuns}
 use Rattle.pm_world.specs.History.{Entry, replayed}
 use Rattle.pm_world.specs.Lawful.{CanRecord}
 use Rattle.pm_world.specs.Memory.{Memory}
@@ -72,6 +73,8 @@ is_kept o views image n = not (is_lost o views image n)
 abbrev pub IsAcknowledged : Views → Entry → Type 0
 IsAcknowledged views e = ((views e.lane).log.phase ≡ Idle) ⊎ ((views e.lane).number ≢ Some e.number)
 
--- at each word that the meaning may read the image has for recovered word what the entries that are not lost make of the opening's
-abbrev pub MeansKept : Opening → Views → List Entry → List ℕ → Type 0
-MeansKept o views log image = (w : ℕ) → IsLivingWord o w → recovered image o.lanes w ≡ replayed (is_kept o views image) log w (slice_index o.words w)
+-- At each word that the meaning may read the image has for recovered word what the entries that are not lost make of the opening's; and a chunk that
+-- was free has no block.
+pub record MeansKept (o : Opening) (views : Views) (log : List Entry) (image : List ℕ) : Type 0 where
+  pub words : (w : ℕ) → IsLivingWord o w → recovered image o.lanes w ≡ replayed (is_kept o views image) log w (slice_index o.words w)
+  pub new_runs : AreNewRuns o (recovered image o.lanes)

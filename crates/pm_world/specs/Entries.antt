@@ -1,6 +1,6 @@
 -- A lane's redo entries as its view has them: how they stand in its area, and which words they give after a power failure. So far each is of a
 -- word that the lane has for itself; those of words whose bits lanes share come with the heap's bitmaps.
-use Rattle.std.specs.Prelude.{◌≡◌, ◌≢◌, ◌⊎◌, ℕ, ◌+◌, ◌*◌, ◌^◌, ◌<◌, ◌==◌, Bool, true, false, not, ◌&&◌, ◌||◌, IsTrue, All, Contains, List, [], ◌∷◌, ◌++◌, length, slice_get, slice_index, Some}
+use Rattle.std.specs.Prelude.{◌≡◌, ◌≢◌, ◌⊎◌, ℕ, ◌+◌, ◌*◌, ◌^◌, ◌<◌, ◌==◌, Bool, true, false, ◌&&◌, ◌||◌, IsTrue, All, Contains, List, [], ◌∷◌, ◌++◌, length, slice_get, slice_index, Some}
 use Rattle.std.specs.Int.{bit_at, bit_not, w64}
 use Rattle.std.specs.List.{list_any}
 use Rattle.pm_record.specs.Redo.{redo_words}
@@ -21,13 +21,13 @@ entry_word lane i = area_word lane + 8 + 2 * i
 
 -- the word becomes x
 abbrev pub set_word : ℕ → ℕ → Final
-set_word w x = record { word = w; mask = all_bits; bits = x }
+set_word w x = record { word = w; mask = all_bits; bits = x; ors = false }
 
 -- what an operation makes of a word: all bits become those of x, the bits set in x are set, or those clear in x are cleared
 abbrev pub final_by : Op → ℕ → ℕ → Final
 final_by Set w x = set_word w x
-final_by Or w x = record { word = w; mask = x; bits = x }
-final_by And w x = record { word = w; mask = bit_not w64 x; bits = 0 }
+final_by Or w x = record { word = w; mask = x; bits = x; ors = true }
+final_by And w x = record { word = w; mask = bit_not w64 x; bits = 0; ors = false }
 
 -- the entry that ends a generation: the lane's generation becomes this
 abbrev pub ends_with : View → ℕ → Final
@@ -45,11 +45,10 @@ pair_at v i = slice_index v.words (entry_word v.lane i) ∷ slice_index v.words 
 abbrev pub redo_on : Op → ℕ → ℕ → Redo
 redo_on op w x = record { place = 8 * w; op = op; value = x }
 
--- an entry may be of a word that the lane locked for writing, or set its own generation; an OR of all bits is spelled as a SET
+-- an entry may be of a word that the lane locked for writing, or set its own generation; an OR and an AND are of 64 bits
 pub record IsEnterable (v : View) (op : Op) (w x : ℕ) : Type 0 where
   pub of : IsTrue (is_written v w) ⊎ ((w ≡ area_word v.lane) × (op ≡ Set))
-  pub word : x < 2 ^ 64
-  pub part : op ≡ Or → x ≢ all_bits
+  pub word : op ≢ Set → x < 2 ^ 64
 
 -- the entry is of an operation on a word that it may be of, and its pair spells it
 pub record EntryStands (v : View) (i : ℕ) (f : Final) : Type 0 where
@@ -71,18 +70,22 @@ is_bit_entered entries w i = list_any (λ (f : Final). f.word == w && bit_at f.m
 abbrev pub AgreeBeside : List Final → ℕ → ℕ → ℕ → Type 0
 AgreeBeside entries w x y = (i : ℕ) → i < 64 → is_bit_entered entries w i ≡ false → bit_at x i ≡ bit_at y i
 
--- one of these entries is of some bits of word w, and not of all
-abbrev pub is_part_entered : List Final → ℕ → Bool
-is_part_entered entries w = list_any (λ (f : Final). f.word == w && not (f.mask == all_bits)) entries
+-- one of these entries is an OR of word w
+abbrev pub is_or_entered : List Final → ℕ → Bool
+is_or_entered entries w = list_any (λ (f : Final). f.word == w && f.ors) entries
 
 -- the lane knows the word, as one of 64 bits
 pub record IsKnownWord (v : View) (w : ℕ) : Type 0 where
   pub known : Contains v.known w
   pub small : slice_index v.words w < 2 ^ 64
 
--- the lane knows each word of which an entry is of some bits, and not of all
-abbrev pub KnowsParts : View → Type 0
-KnowsParts v = (w : ℕ) → is_part_entered v.log.entries w ≡ true → IsKnownWord v w
+-- each of these entries leaves word w one of 64 bits
+abbrev pub LeaveWord : List Final → ℕ → Type 0
+LeaveWord entries w = All (λ (f : Final). f.word ≡ w → f.bits < 2 ^ 64) entries
+
+-- a word that an entry ORs is one of 64 bits: the lane knows it so, and the entries leave it so
+abbrev pub KnowsOrs : View → Type 0
+KnowsOrs v = (w : ℕ) → is_or_entered v.log.entries w ≡ true → IsKnownWord v w × LeaveWord v.log.entries w
 
 -- the entries are of words that the lane locked for writing, and the last one, behind them, sets the lane's generation to this
 pub record AreWhole (v : View) (generation : ℕ) : Type 0 where

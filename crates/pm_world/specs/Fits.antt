@@ -8,7 +8,7 @@ use Rattle.pm_view.specs.declared.change.Change.{Change}
 use Rattle.pm_view.specs.Area.{area_word, is_in_area, part_of}
 use Rattle.pm_view.specs.Area.Part.{EntryWord, SlotWord}
 use Rattle.pm_view.specs.Bits.{all_bits}
-use Rattle.pm_view.specs.Blocks.{block_at, descriptor_word}
+use Rattle.pm_view.specs.Blocks.{block_at, describes, descriptor_word, tells_nothing}
 use Rattle.pm_view.specs.Counts.{max_changes}
 use Rattle.pm_view.specs.Held.{is_held, is_reserved}
 use Rattle.pm_view.specs.Log.{Phase, Recorded, Final}
@@ -17,8 +17,8 @@ use Rattle.pm_view.specs.Rights.{is_written}
 use Rattle.pm_view.specs.View.{View, Lock}
 use Rattle.pm_image.specs.Logs.{undo_slot}
 use Rattle.pm_memory.specs.LockWords.{writer_bit}
-use Rattle.pm_world.specs.Entries.{AgreeBeside, AreWhole, EntryStands, HasNone, IsEntryAt, KnowsParts, applied_in, entry_word, is_bit_entered, is_entered, is_part_entered, is_redone, seal_in}
-use Rattle.pm_world.specs.Heap.{BlocksFit}
+use Rattle.pm_world.specs.Entries.{AgreeBeside, AreWhole, EntryStands, HasNone, IsEntryAt, applied_in, entry_word, is_bit_entered, is_entered, is_redone, seal_in, KnowsOrs, is_or_entered}
+use Rattle.pm_world.specs.Heap.{BlocksFit, heap_words}
 use Rattle.pm_world.specs.History.{made_final}
 use Rattle.pm_world.specs.Lawful.{generation_limit}
 use Rattle.pm_world.specs.Memory.{Memory}
@@ -33,13 +33,17 @@ pub record IsLane (o : Opening) (k : ℕ) (v : View) : Type 0 where
   pub lane : v.lane ≡ k
   pub size : length v.words ≡ length o.words
 
+-- the view has the descriptor as it was at the opening, or as it is now
+abbrev pub IsDescriptorSeen : Opening → (ℕ → ℕ) → View → ℕ → Type 0
+IsDescriptorSeen o heap v w = (slice_index v.words w ≡ slice_index o.words w) ⊎ (slice_index v.words w ≡ heap w)
+
 -- the view's picture of the pool: of its own area and of what it knows it has the values, and what it knows stays, being held
 pub record PictureFits (o : Opening) (mem : Memory) (v : View) : Type 0 where
   pub area : (w : ℕ) → IsTrue (is_in_area v.lane w) → mem (PoolWord w) ≡ slice_index v.words w
   pub known : (w : ℕ) → Contains v.known w → mem (PoolWord w) ≡ slice_index v.words w
   pub held : (w : ℕ) → Contains v.known w → IsTrue (is_held v w)
-  -- what describes chunks is as at the opening; with the heap: a run stays one
-  pub descriptors : (page : ℕ) → IsChunk o.lanes page → slice_index v.words (descriptor_word o.lanes page) ≡ slice_index o.words (descriptor_word o.lanes page)
+  -- what describes chunks is as at the opening, or as it is now: a run stays one
+  pub descriptors : (page : ℕ) → IsChunk o.lanes page → IsDescriptorSeen o (heap_words o mem) v (descriptor_word o.lanes page)
 
 -- the lock word shows that lane k holds it, for writing or for reading
 abbrev pub ShowsHold : ℕ → Bool → ℕ → Type 0
@@ -89,11 +93,16 @@ pub record IdleFits (v : View) : Type 0 where
   pub no_records : v.log.records ≡ []
   pub drained : v.changes ≡ []
 
+-- a change in a block that the lane reserved: of a word that tells of no block, or of a chunk's descriptor, which was 0
+pub record ReservedChange (v : View) (c : Change) : Type 0 where
+  pub reserved : IsTrue (is_reserved v c.word)
+  pub plain : IsTrue (tells_nothing v.lanes v.words c.word) ⊎ (IsTrue (describes v.lanes c.word) × (c.old ≡ 0))
+
 -- an undrained change while the log may grow: a store of a slot's or a pair's word, of a word that the log would restore, or in a block that the
 -- lane reserved
 pub record OpenChange (v : View) (c : Change) : Type 0 where
   pub whole : c.mask ≡ all_bits
-  pub of : (part_of v.lane c.word ≡ SlotWord) ⊎ ((part_of v.lane c.word ≡ EntryWord) ⊎ (IsTrue (is_logged v c.word) ⊎ IsTrue (is_reserved v c.word)))
+  pub of : (part_of v.lane c.word ≡ SlotWord) ⊎ ((part_of v.lane c.word ≡ EntryWord) ⊎ (IsTrue (is_logged v c.word) ⊎ ReservedChange v c))
 
 -- the log may grow: these words of the next record stand in their slot, and these of the next entry in its pair
 pub record OpenFits (v : View) (slot pair : List ℕ) : Type 0 where
@@ -141,14 +150,14 @@ pub record SealingFits (flies : ℕ → List Final → Type 0) (v : View) : Type
   pub flying : flies number (difference_of v)
   pub changes : All (SealChange v 0) v.changes
   pub whole : AreWhole v (generation_of v + 1)
-  pub known : KnowsParts v
+  pub known : KnowsOrs v
   pub below : generation_of v < generation_limit
 
--- the change is of bits that these entries are of, and found a word of 64 bits where they are of some bits of it alone
+-- the change is of bits that these entries are of, and found a word of 64 bits where one ORs it
 pub record IsOfEntries (entries : List Final) (c : Change) : Type 0 where
   pub mask : c.mask < 2 ^ 64
   pub bits : (i : ℕ) → i < 64 → is_bit_entered entries c.word i ≡ false → (bit_at c.mask i ≡ 0) × (bit_at c.old i ≡ 0)
-  pub small : is_part_entered entries c.word ≡ true → c.old < 2 ^ 64
+  pub small : is_or_entered entries c.word ≡ true → c.old < 2 ^ 64
 
 -- an undrained change while entries are applied: of bits of a word of one that is; of the generation it is that of the next one over the last
 pub record AppliedChange (v : View) (applied : ℕ) (c : Change) : Type 0 where
@@ -162,7 +171,7 @@ pub record ApplyingFits (v : View) (applied : ℕ) : Type 0 where
   pub most : applied ≤ length v.log.entries
   pub changes : All (AppliedChange v applied) v.changes
   pub whole : AreWhole v (records_generation (Applying applied) v)
-  pub known : KnowsParts v
+  pub known : KnowsOrs v
   pub last : records_generation (Applying applied) v ≤ generation_limit
 
 -- the seal 0 is stored, and the generation is the next one
@@ -170,7 +179,7 @@ pub record ClearingFits (v : View) : Type 0 where
   pub no_records : v.log.records ≡ []
   pub changes : All (SealChange v (length v.log.entries)) v.changes
   pub whole : AreWhole v (generation_of v)
-  pub known : KnowsParts v
+  pub known : KnowsOrs v
 
 -- by how far the lane's call has come
 abbrev pub PhaseFits : (ℕ → List Final → Type 0) → View → Phase → Type 0
@@ -192,7 +201,7 @@ pub record LaneFits (o : Opening) (mem : Memory) (settled : ℕ → ℕ) (flies 
   pub entries : EntriesFit v
   pub redone : (w : ℕ) → IsTrue (is_redone v w) → IsTrue (is_written v w) → RedoneWord mem settled v w
   pub phase : PhaseFits flies v v.log.phase
-  pub blocks : BlocksFit (slice_index o.words) o.lanes o.zones v
+  pub blocks : BlocksFit o (heap_words o mem) v
   pub first_generation : 1 ≤ generation_of v
   pub last_generation : generation_of v ≤ generation_limit
   pub room : length v.changes ≤ max_changes

@@ -1,7 +1,8 @@
 -- Which steps a lane may make, by its own view alone, whatever a load or a lock answers. A step that no line allows comes with its stage: raises.
-use Rattle.std.specs.Prelude.{◌≡◌, ◌⊎◌, ℕ, ◌+◌, ◌-◌, ◌*◌, ◌/◌, ◌^◌, ◌<◌, ◌≤◌, ◌==◌, Bool, true, false, IsTrue, All, Any, Contains, List, [], ◌∷◌, ◌++◌, length, take, slice_index, None}
+use Rattle.std.specs.Prelude.{◌≡◌, ◌≢◌, ◌⊎◌, ℕ, ◌+◌, ◌-◌, ◌*◌, ◌/◌, ◌^◌, ◌<◌, ◌≤◌, ◌==◌, Bool, true, false, IsTrue, All, Any, Contains, List, [], ◌∷◌, ◌++◌, length, take, slice_index, None}
 use Rattle.std.specs.Int.{bit_at}
 use Rattle.std.specs.List.{list_any}
+use Rattle.pm_layout.specs.Sizes.{blocks_of}
 use Rattle.pm_record.specs.Redo.{redo_words}
 use Rattle.pm_record.specs.declared.redo.Op.{Op}
 use Rattle.pm_record.specs.declared.redo.Op.TheVariants as op
@@ -10,7 +11,7 @@ use Rattle.pm_view.specs.declared.occ.Occ.{Occ}
 use Rattle.pm_view.specs.declared.occ.Occ.TheVariants.{Run, Zone}
 use Rattle.pm_view.specs.Area.{Part, part_of}
 use Rattle.pm_view.specs.Area.Part.{GenerationWord, SealWord, EntryWord, SlotWord, OtherWord}
-use Rattle.pm_view.specs.Blocks.{covers, tells_nothing}
+use Rattle.pm_view.specs.Blocks.{bitmap_word, covers, descriptor_word, is_run, tells_nothing, zone_of}
 use Rattle.pm_view.specs.Counts.{is_counted, MayCount, IsAtStop, HasRoom, FlushesSome, DropsSome}
 use Rattle.pm_view.specs.Held.{is_under, is_known, is_reserved}
 use Rattle.pm_view.specs.Log.{Phase, Recorded, Final}
@@ -19,8 +20,10 @@ use Rattle.pm_view.specs.Rights.{is_written}
 use Rattle.pm_view.specs.Steps.{Step}
 use Rattle.pm_view.specs.Steps.Step.{Load, Store, Or, And, Flush, Drain, TakeWrite, TakeRead, Give, ZoneTry, ZoneGive, Occupied, Occupy, Vacate, Draw, NumberSeen, StopSeen, SetStop, Tell}
 use Rattle.pm_view.specs.View.{View, Lock}
-use Rattle.pm_world.specs.Entries.{AreWhole, IsEnterable, IsEntryAt, IsKnownWord, KnowsParts, entry_word, final_by, is_entered, redo_on, set_word}
-use Rattle.pm_world.specs.Heap.{IsOcc, holds_zone, reserves}
+use Rattle.pm_view.specs.Views.{chunk_bit, exchanged, has_bit, has_chunk, is_made, zone_at}
+use Rattle.pm_world.specs.Entries.{AreWhole, IsEnterable, IsEntryAt, IsKnownWord, entry_word, final_by, is_entered, redo_on, set_word, KnowsOrs}
+use Rattle.pm_world.specs.Heap.{IsOcc, holds_zone}
+use Rattle.pm_world.specs.Opening.{IsChunk}
 use Rattle.pm_world.specs.Records.{generation_of, slot_word, is_recorded, is_logged, spelled, AreRestored}
 
 -- generations, and the numbers after which a call begins, are below this
@@ -70,6 +73,20 @@ pub record MayFill (v : View) (w : ℕ) : Type 0 where
   pub reserved : IsTrue (is_reserved v w)
   pub plain : IsTrue (tells_nothing v.lanes v.words w)
 
+-- A chunk that the lane reserved may become a run of some class: its descriptor is 0 so far, and its bitmap is 0 and persistent.
+pub record MayDescribe (v : View) (w x : ℕ) : Type 0 where
+  pub page : ℕ
+  pub chunk : IsChunk v.lanes page
+  pub at : w ≡ descriptor_word v.lanes page
+  pub reserved : IsTrue (has_chunk v page)
+  pub undescribed : slice_index v.words w ≡ 0
+  pub known : IsTrue (is_known v (bitmap_word page))
+  pub no_block : slice_index v.words (bitmap_word page) ≡ 0
+  pub drained : All (λ (c : Change). c.word ≢ bitmap_word page) v.changes
+  pub lines : ℕ
+  pub some_blocks : 0 < blocks_of lines
+  pub is : x ≡ 256 * lines + 1
+
 -- x ends the generation of a call without entries: it is the next one, and nothing is undrained
 pub record EndsGeneration (v : View) (x : ℕ) : Type 0 where
   pub next : x ≡ generation_of v + 1
@@ -77,12 +94,11 @@ pub record EndsGeneration (v : View) (x : ℕ) : Type 0 where
   pub drained : v.changes ≡ []
   pub unentered : v.log.entries ≡ []
 
--- x seals the entries: it is their number, the last of them ends the generation, the lane knows what some set or clear bits of, and nothing is
--- undrained
+-- x seals the entries: it is their number, the last of them ends the generation, the lane knows the words that some OR, and nothing is undrained
 pub record SealsEntries (v : View) (x : ℕ) : Type 0 where
   pub all : x ≡ length v.log.entries
   pub whole : AreWhole v (generation_of v + 1)
-  pub known : KnowsParts v
+  pub known : KnowsOrs v
   pub below : generation_of v < generation_limit
   pub drained : v.changes ≡ []
 
@@ -103,10 +119,11 @@ pub record GivesUp (v : View) (x : ℕ) (slot pair : List ℕ) : Type 0 where
   pub whole : slot ≡ []
   pub no_pair : pair ≡ []
 
--- by how far the call has come, and what the word is to the lane: in a block that it reserved it may store what it likes
+-- by how far the call has come, and what the word is to the lane: in a block that it reserved it may store what it likes, and it may make a chunk that it
+-- reserved a run
 abbrev pub StoreFits : View → ℕ → ℕ → Phase → Part → Type 0
 StoreFits v w x (Open slot pair) SlotWord = AppendsToSlot v w x slot
-StoreFits v w x (Open slot pair) OtherWord = MayWrite v w ⊎ MayFill v w
+StoreFits v w x (Open slot pair) OtherWord = MayWrite v w ⊎ (MayFill v w ⊎ MayDescribe v w x)
 StoreFits v w x (Open slot pair) EntryWord = AppendsToPair v w x pair
 StoreFits v w x (Open slot pair) GenerationWord = GivesUp v x slot pair
 StoreFits v w x Drawn GenerationWord = EndsGeneration v x
@@ -121,9 +138,10 @@ pub record MayStore (v : View) (w x : ℕ) : Type 0 where
   pub room : HasRoom v.changes
   pub fits : StoreFits v w x v.log.phase (part_of v.lane w)
 
--- by how far the call has come, and what the word is to the lane: the next entry sets or clears these bits of it
+-- by how far the call has come, and what the word is to the lane: the next entry sets or clears these bits of it, also where another operation
+-- does so, as a SET of all bits
 abbrev pub BitsFit : View → Op → ℕ → ℕ → Phase → Part → Type 0
-BitsFit v op w bits (Applying applied) OtherWord = IsEntryAt v applied (final_by op w bits)
+BitsFit v op w bits (Applying applied) OtherWord = (ors : Bool) × IsEntryAt v applied (record (final_by op w bits) { ors = ors })
 BitsFit v op w bits phase part = ⊥
 
 -- bits of a word may be set or cleared, which the lane knows, and so what is found there
@@ -195,19 +213,34 @@ abbrev pub IsLocked : View → Occ → Type 0
 IsLocked v (Run place) = Unit {0}
 IsLocked v (Zone zone) = holds_zone v zone ≡ true
 
+-- blocks are taken of what the lane saw to be a run
+abbrev pub IsSeenRun : View → Occ → Type 0
+IsSeenRun v (Run place) = IsTrue (is_run (slice_index v.words (descriptor_word v.lanes (place / 4096))))
+IsSeenRun v (Zone zone) = Unit {0}
+
 -- a lane tries to take what these bits are of before its call's draw
 pub record MayOccupy (v : View) (at : Occ) (bits : ℕ) : Type 0 where
   pub there : HasOcc v at
   pub small : bits < 2 ^ 64
   pub one : IsOneBlock at bits
   pub locked : IsLocked v at
+  pub run : IsSeenRun v at
   pub early : IsEarly v.log.phase
 
--- a lane gives back what it reserved: nothing undrained is of it, nor any record or entry of its log
+-- A chunk that the lane made a run is given back by its blocks alone, and first when nothing of it is undrained.
+abbrev pub IsGivenWhole : View → Occ → ℕ → Type 0
+IsGivenWhole v (Run place) bits =
+    let page = place / 4096 in
+    is_made v page ≡ true → All (λ (c : Change). covers v.lanes v.words (zone_at v.lanes page) (2 ^ chunk_bit v.lanes page) c.word ≡ false) v.changes
+IsGivenWhole v (Zone zone) bits = (page : ℕ) → IsChunk v.lanes page → zone_of v.lanes page ≡ zone → bit_at bits (chunk_bit v.lanes page) ≡ 1 → is_made v page ≡ false
+
+-- A lane gives back what it reserved, or blocks of a run that it made of a chunk that it reserved: nothing undrained is of it, nor any record or entry
+-- of its log.
 pub record MayVacate (v : View) (at : Occ) (bits : ℕ) : Type 0 where
   pub there : HasOcc v at
   pub small : bits < 2 ^ 64
-  pub own : (bit : ℕ) → bit_at bits bit ≡ 1 → reserves v at bit ≡ true
+  pub own : (bit : ℕ) → bit_at bits bit ≡ 1 → list_any (has_bit at bit) (exchanged v at) ≡ true
+  pub whole : IsGivenWhole v at bits
   pub drained : All (λ (c : Change). covers v.lanes v.words at bits c.word ≡ false) v.changes
   pub unlogged : (w : ℕ) → covers v.lanes v.words at bits w ≡ true → (is_recorded v.log.records w ≡ false) × (is_entered v.log.entries w ≡ false)
   pub early : IsEarly v.log.phase

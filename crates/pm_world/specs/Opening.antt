@@ -1,8 +1,8 @@
 -- What a world began from, and which line's lock guards a word.
-use Rattle.std.specs.Prelude.{◌≡◌, ℕ, ◌+◌, ◌*◌, ◌<◌, ◌≤◌, ◌⊎◌, true, IsTrue, false, List, length, slice_index, Some}
-use Rattle.pm_view.specs.Blocks.{block_at, zone_page, chunk_of, descriptor_word, bitmap_word, is_run}
+use Rattle.std.specs.Prelude.{◌≡◌, ℕ, ◌+◌, ◌-◌, ◌*◌, ◌<◌, ◌≤◌, ◌⊎◌, Bool, true, not, IsTrue, false, List, length, slice_index, Some}
+use Rattle.pm_view.specs.Blocks.{block_at, zone_page, zone_of, chunk_of, descriptor_word, bitmap_word, is_run}
 use Rattle.pm_view.specs.Held.{is_under_found}
-use Rattle.pm_view.specs.Occupancy.{is_idle, is_in_block}
+use Rattle.pm_view.specs.Occupancy.{is_chunk_taken, is_idle, is_in_block}
 use Rattle.pm_image.specs.Reads.{IsHeapWord}
 
 -- the pool's shape, and its words at the opening, after recovery
@@ -20,6 +20,14 @@ pub record Guards (o : Opening) (line w : ℕ) : Type 0 where
 -- the page is a chunk: behind the lanes' areas, and not the first of a zone
 abbrev pub IsChunk : ℕ → ℕ → Type 0
 IsChunk lanes page = (zone_page lanes 0 ≤ page) × (1 ≤ chunk_of lanes page)
+
+-- the chunk is one of the pool's
+abbrev pub IsPoolChunk : ℕ → ℕ → ℕ → Type 0
+IsPoolChunk lanes zones page = IsChunk lanes page × (page < 1 + 2 * lanes + 65 * zones)
+
+-- the chunk is free by these words
+abbrev pub is_free_chunk : (ℕ → ℕ) → ℕ → ℕ → Bool
+is_free_chunk words lanes page = not (is_chunk_taken words lanes (zone_of lanes page) (chunk_of lanes page - 1))
 
 -- the word tells of the blocks in a chunk: it describes the chunk, or is its bitmap where the chunk is a run
 abbrev pub TellsOfBlocks : Opening → ℕ → Type 0
@@ -41,5 +49,7 @@ pub record IsSound (o : Opening) : Type 0 where
   pub within : (line w : ℕ) → Guards o line w → w < length o.words
   -- what a lock guards lies in an allocated block
   pub in_blocks : (line w : ℕ) → Guards o line w → is_in_block (slice_index o.words) o.lanes w ≡ true
+  -- a free chunk is described by 0
+  pub undescribed : (page : ℕ) → IsPoolChunk o.lanes o.zones page → is_free_chunk (slice_index o.words) o.lanes page ≡ true → slice_index o.words (descriptor_word o.lanes page) ≡ 0
   -- no lock guards what tells of blocks
   pub apart : (line w : ℕ) → Guards o line w → TellsOfBlocks o w → ⊥

@@ -61,7 +61,7 @@ used_slots phase v = length v.log.records
 
 -- the words of a record, with these values
 abbrev pub finals_of : List ℕ → Recorded → List Final
-finals_of words r = map (λ w. record { word = w; mask = all_bits; bits = slice_index words w }) (range_with_len r.word (length r.old))
+finals_of words r = map (λ w. record { word = w; mask = all_bits; bits = slice_index words w; ors = false }) (range_with_len r.word (length r.old))
 
 -- the entries of words outside of the lane's area: all but that of its generation
 abbrev pub pool_entries : View → List Final

@@ -1,5 +1,5 @@
 -- The invariant of the words that lanes share.
-use Rattle.std.specs.Prelude.{◌≡◌, ℕ, zero, suc, ◌+◌, ◌<◌, ◌⊎◌, ◌&&◌, nat_lt, Bool, true, false, if◌then◌else◌, Any, Contains, List, length, slice_index, Some, is_none}
+use Rattle.std.specs.Prelude.{◌≡◌, ℕ, zero, suc, ◌+◌, ◌<◌, ◌⊎◌, ◌&&◌, nat_lt, Bool, true, false, if◌then◌else◌, Any, Contains, List, length, Some, is_none}
 use Rattle.std.specs.Int.{bit_at}
 use Rattle.std.specs.List.{list_any}
 use Rattle.pm_view.specs.Counts.{IsAtStop}
@@ -9,7 +9,7 @@ use Rattle.pm_view.specs.Steps.Step.{NumberSeen}
 use Rattle.pm_view.specs.View.{View, Lock}
 use Rattle.pm_world.specs.Course.{flight}
 use Rattle.pm_world.specs.Fits.{LaneFits}
-use Rattle.pm_world.specs.Heap.{Heap}
+use Rattle.pm_world.specs.Heap.{AreNewRuns, Heap, heap_words}
 use Rattle.pm_world.specs.History.{Entry, settled, AreNumbered, entries_by, Flies}
 use Rattle.pm_world.specs.Lawful.{generation_limit}
 use Rattle.pm_world.specs.Memory.{Memory}
@@ -64,6 +64,7 @@ pub record World (o : Opening) (mem : Memory) (views : Views) (log : List Entry)
   pub counter : mem CommitCounter ≡ length log
   pub counter_room : mem CommitCounter + may_draw_count views o.lanes < generation_limit + 32
   pub own_entries : (k : ℕ) → k < o.lanes → entries_by k log ≡ (views k).entries
-  -- the words that tell of blocks are those of the opening so far, since no call makes or frees one
-  pub heap : Heap o (slice_index o.words) mem views
+  -- each chunk that was free has no block so far, since no call makes or frees one
+  pub new_runs : AreNewRuns o (λ w. mem (PoolWord w))
+  pub heap : Heap o (heap_words o mem) mem views
   pub stop_word : (mem StopWord ≡ 0) ⊎ ((k : ℕ) × (k < o.lanes) × IsAtStop (views k))

@@ -1,7 +1,7 @@
 use Rattle.std.proofs.Common.{◌≡◌, sym, ap, ◌∙◌, subst}
 use Rattle.pm_layout.specs.declared.shape.Shape.{Shape}
 use Rattle.pm_world.specs.Lanes.{IsOfShape}
-use Rattle.pm_chunks.proofs.Resting.{got_there, may_give_back, rests_given, rests_got}
+use Rattle.pm_chunks.proofs.Resting.{got_there, may_give_back, rests_ended, rests_given, rests_got}
 use Rattle.pm_chunks.specs.Chunks.{chunk_bits, chunk_block}
 use Rattle.pm_chunks.specs.Tests.{Rests}
 use Rattle.pm_chunks.proofs.tests.reserve_and_give_back.Goals as goal
@@ -17,6 +17,14 @@ give_back-requires c =
     let may = may_give_back c.args.lane.now.memory shape rests mid.memory c.args.count block got shape.zones_to c.requires.some in
     let same : mid.shape ≡ shape = ap (λ l. l.shape) c.reserve_chunks.ensures.else_same in
     (on.view, (on.sees, subst (λ (s : Shape). IsOfShape on.view s) (sym same) on.may.shape, may))
+
+pub returns-in_err-block : goal.returns-in_err-block
+returns-in_err-block c =
+    let rests = c.requires.rests in
+    let new = c.reserve_chunks.new.lane in
+    let ends = c.reserve_chunks.ensures in
+    subst (λ (s : Shape). Rests new.memory s) (sym (ap (λ l. l.shape) ends.else_same))
+    (rests_ended c.args.lane.now.memory c.args.lane.now.shape rests new.memory c.args.count c.reserve_chunks.result ends.causes (ends.ends rests.view rests.sees rests.may))
 
 pub returns : goal.returns
 returns c =

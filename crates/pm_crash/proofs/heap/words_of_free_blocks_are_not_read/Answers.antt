@@ -1,6 +1,7 @@
 use Rattle.std.proofs.Common.{sym}
 use Rattle.pm_crash.proofs.HeldAlike.{held_by_reads}
 use Rattle.pm_crash.proofs.FreeWords.{bit_not_read, free_not_read, reserved_is_free}
+use Rattle.pm_crash.proofs.UnreadNow.{unread_now}
 use Rattle.pm_crash.proofs.heap.words_of_free_blocks_are_not_read.Goals as goal
 
 pub returns-clause-bit : goal.returns-clause-bit
@@ -11,6 +12,9 @@ returns-clause-free c = free_not_read
 
 pub returns-clause-reserved : goal.returns-clause-reserved
 returns-clause-reserved c = reserved_is_free
+
+pub returns-clause-unread : goal.returns-clause-unread
+returns-clause-unread c = unread_now
 
 pub returns-clause-pool : goal.returns-clause-pool
 returns-clause-pool c = λ w v lanes zones header pool holds same.

@@ -1,4 +1,4 @@
-use Rattle.std.proofs.Common.{◌&&◌, ◌≡◌, ◌<◌, ◌^◌, Bool, true, List, length, not, eqb, slice_index, refl, sym, subst, arith, rules}
+use Rattle.std.proofs.Common.{◌&&◌, ◌≡◌, ◌<◌, ◌^◌, Bool, true, List, length, not, eqb, slice_index, sym, subst, arith, rules}
 use Rattle.std.specs.Option.{ForSome}
 use Rattle.pm_objects.specs.declared.history.Entry.{Entry}
 use Rattle.pm_exec.specs.Calls.{names_of}
@@ -16,7 +16,7 @@ pub run_all-requires-clause-start : goal.run_all-requires-clause-start
 run_all-requires-clause-start c =
     let o = opening_of c.args.pool.now c.args.image.now in
     let first = first_view c.args.pool.now c.args.image.now c.args.stop in
-    (o, (first, run_begins o first c.in_ok-lane.lane c.names_of.result c.new-history.result.items refl (search rules) c.in_ok-lane.ensures))
+    (o, (first, run_begins c.args.pool.now c.args.image.now c.args.stop c.in_ok-lane.lane c.names_of.result c.new-history.result.items (search rules) c.in_ok-lane.ensures))
 
 pub is_decided-decided-requires : goal.is_decided-decided-requires
 is_decided-decided-requires c =
@@ -26,7 +26,7 @@ is_decided-decided-requires c =
     let o = opening_of pool words in
     let first = first_view pool words c.args.stop in
     let fits : ForSome c.args.stop (λ n. n < 2 ^ 64) = search rules in
-    let came = c.in_ok-halt.ensures o first (run_begins o first c.in_ok-lane.lane c.names_of.result c.new-history.result.items refl (search rules) c.in_ok-lane.ensures) in
+    let came = c.in_ok-halt.ensures o first (run_begins pool words c.args.stop c.in_ok-lane.lane c.names_of.result c.new-history.result.items (search rules) c.in_ok-lane.ensures) in
     let run = run_of o first c.run_all.new.lane c.run_all.new.history.items c.in_ok-halt.halt c.names_of.result (names_of pool) c.as_slice-lines.result.now lines (search rules) (search rules) came in
     let size = run_size pool words c.args.stop lines c.requires.rising fits c.run_all.new.lane c.run_all.new.history.items c.in_ok-halt.halt run true c.args.keep c.in_ok-words.words.items c.in_ok-words.ensures in
     let r = c.requires.recovered in
@@ -42,7 +42,7 @@ returns-clause-size c =
     let o = opening_of pool words in
     let first = first_view pool words c.args.stop in
     let fits : ForSome c.args.stop (λ n. n < 2 ^ 64) = search rules in
-    let came = c.in_ok-halt.ensures o first (run_begins o first c.in_ok-lane.lane c.names_of.result c.new-history.result.items refl (search rules) c.in_ok-lane.ensures) in
+    let came = c.in_ok-halt.ensures o first (run_begins pool words c.args.stop c.in_ok-lane.lane c.names_of.result c.new-history.result.items (search rules) c.in_ok-lane.ensures) in
     let run = run_of o first c.run_all.new.lane c.run_all.new.history.items c.in_ok-halt.halt c.names_of.result (names_of pool) c.as_slice-lines.result.now lines (search rules) (search rules) came in
     run_size pool words c.args.stop lines c.requires.rising fits c.run_all.new.lane c.run_all.new.history.items c.in_ok-halt.halt run true c.args.keep c.in_ok-words.words.items c.in_ok-words.ensures
 
@@ -54,7 +54,7 @@ returns-clause-history c =
     let o = opening_of pool words in
     let first = first_view pool words c.args.stop in
     let fits : ForSome c.args.stop (λ n. n < 2 ^ 64) = search rules in
-    let came = c.in_ok-halt.ensures o first (run_begins o first c.in_ok-lane.lane c.names_of.result c.new-history.result.items refl (search rules) c.in_ok-lane.ensures) in
+    let came = c.in_ok-halt.ensures o first (run_begins pool words c.args.stop c.in_ok-lane.lane c.names_of.result c.new-history.result.items (search rules) c.in_ok-lane.ensures) in
     let run = run_of o first c.run_all.new.lane c.run_all.new.history.items c.in_ok-halt.halt c.names_of.result (names_of pool) c.as_slice-lines.result.now lines (search rules) (search rules) came in
     let decided : Bool = c.is_decided-decided.result in
     let decides : decided ≡ not (eqb (slice_index c.in_ok-words.words.items 513) 0 && eqb (slice_index c.in_ok-words.words.items 512) c.in_ok-halt.halt.generation) = search rules in
@@ -70,7 +70,7 @@ returns-clause-made c =
     let o = opening_of pool words in
     let first = first_view pool words c.args.stop in
     let fits : ForSome c.args.stop (λ n. n < 2 ^ 64) = search rules in
-    let came = c.in_ok-halt.ensures o first (run_begins o first c.in_ok-lane.lane c.names_of.result c.new-history.result.items refl (search rules) c.in_ok-lane.ensures) in
+    let came = c.in_ok-halt.ensures o first (run_begins pool words c.args.stop c.in_ok-lane.lane c.names_of.result c.new-history.result.items (search rules) c.in_ok-lane.ensures) in
     let run = run_of o first c.run_all.new.lane c.run_all.new.history.items c.in_ok-halt.halt c.names_of.result (names_of pool) c.as_slice-lines.result.now lines (search rules) (search rules) came in
     let decided : Bool = c.is_decided-decided.result in
     let decides : decided ≡ not (eqb (slice_index c.in_ok-words.words.items 513) 0 && eqb (slice_index c.in_ok-words.words.items 512) c.in_ok-halt.halt.generation) = search rules in
@@ -86,7 +86,7 @@ returns-clause-replay c before means recovered past none =
     let o = opening_of pool words in
     let first = first_view pool words c.args.stop in
     let fits : ForSome c.args.stop (λ n. n < 2 ^ 64) = search rules in
-    let came = c.in_ok-halt.ensures o first (run_begins o first c.in_ok-lane.lane c.names_of.result c.new-history.result.items refl (search rules) c.in_ok-lane.ensures) in
+    let came = c.in_ok-halt.ensures o first (run_begins pool words c.args.stop c.in_ok-lane.lane c.names_of.result c.new-history.result.items (search rules) c.in_ok-lane.ensures) in
     let run = run_of o first c.run_all.new.lane c.run_all.new.history.items c.in_ok-halt.halt c.names_of.result (names_of pool) c.as_slice-lines.result.now lines (search rules) (search rules) came in
     let decided : Bool = c.is_decided-decided.result in
     let decides : decided ≡ not (eqb (slice_index c.in_ok-words.words.items 513) 0 && eqb (slice_index c.in_ok-words.words.items 512) c.in_ok-halt.halt.generation) = search rules in

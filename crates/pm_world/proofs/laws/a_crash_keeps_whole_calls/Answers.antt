@@ -1,4 +1,4 @@
-use Rattle.pm_world.proofs.CrashLaw.{crash_law}
+use Rattle.pm_world.proofs.CrashRuns.{crash_law}
 use Rattle.pm_world.proofs.laws.a_crash_keeps_whole_calls.Goals as goal
 
 pub returns : goal.returns
