@@ -38,7 +38,6 @@ use Rattle.pm_undo.proofs.Storing.{Is}
 use Rattle.pm_undo.proofs.Unflushed.{clean_drained}
 use Rattle.pm_fresh.specs.Made.{CanMakeRun, IsRunMade, first_block, touches_chunk, without_chunk}
 use Rattle.pm_fresh.specs.Making.{behind_first, keeps_first, makes_run, run_at, run_descriptor, stores_persistent}
-use Rattle.pm_fresh.proofs.Filled.{no_lines}
 use Rattle.pm_fresh.proofs.Persisting.{IsPersisted, IsRoomy, goes_persistent}
 
 -- ---- lists
@@ -432,7 +431,7 @@ module _ (v : View) (page lines : ℕ) (working : IsWorking v) (can : CanMakeRun
             occupied = ap (λ n. slice_set v.run_words n (vacated_word bits (slice_index v.run_words n))) here;
             drained = touches_none;
             clean = clean;
-            none = λ e. no_lines changes' (λ k. clean k (inr (ap (λ (cs : List Change). is_unflushed cs k) e)));
+            beside = λ t none. q.of_none t (p.of_none t none);
             calls = λ room. let one = p.calls room in let two = q.calls one.1 in let first = one.0 in let second = two.0 in omega (arith, first, second);
           }
 

@@ -26,12 +26,9 @@ use Rattle.pm_undo.proofs.Staying.{same_call-then, same_changed, same_coursed}
 use Rattle.pm_undo.proofs.Storing.{Is, goes_stores}
 use Rattle.pm_undo.proofs.Unflushed.{clean_more, drained_clean, flush_cleans, flush_keeps_clean, unclean_more}
 use Rattle.pm_undo.proofs.Written.{work_goes_on}
+use Rattle.pm_fresh.specs.Made.{touches}
 use Rattle.pm_fresh.specs.Making.{stores_persistent}
 use Rattle.pm_fresh.proofs.Filled.{open_drained}
-
--- some of these changes is of a word that passes the test
-abbrev pub of_some : (ℕ → Bool) → List Change → Bool
-of_some p changes = list_any (λ (c : Change). p c.word) changes
 
 marked_word : (p : ℕ → Bool) (line : ℕ) (c : Change) → p (mark line c).word ≡ p c.word
 marked_word p line c = at (is_in_line line c) where
@@ -40,15 +37,15 @@ marked_word p line c = at (is_in_line line c) where
   at false = refl
 
 -- a flush and a drain of the last change's line leave of the others no more than there were
-left_of_some : (p : ℕ → Bool) (line : ℕ) (changes : List Change) (c : Change) → is_in_line line c ≡ true → of_some p changes ≡ false → of_some p (drained (flushed line (changes ++ c ∷ []))) ≡ false
-left_of_some p line [] c here none = ap (λ (d : Change). of_some p (cond (not d.flushed) (d ∷ []) [])) (cond-true (is_in_line line c) (record c { flushed = true }) c here)
-left_of_some p line (d ∷ changes) c here none =
-    let t = or_parts (p d.word) (of_some p changes) none in
-    at (mark line d).flushed (marked_word p line d ∙ t.0) (left_of_some p line changes c here t.1) where
-      at : (f : Bool) → p (mark line d).word ≡ false → of_some p (drained (flushed line (changes ++ c ∷ []))) ≡ false
-          → of_some p (cond (not f) (mark line d ∷ drained (flushed line (changes ++ c ∷ []))) (drained (flushed line (changes ++ c ∷ [])))) ≡ false
+left_touched : (p : ℕ → Bool) (line : ℕ) (changes : List Change) (c : Change) → is_in_line line c ≡ true → touches p changes ≡ false → touches p (drained (flushed line (changes ++ c ∷ []))) ≡ false
+left_touched p line [] c here none = ap (λ (d : Change). touches p (cond (not d.flushed) (d ∷ []) [])) (cond-true (is_in_line line c) (record c { flushed = true }) c here)
+left_touched p line (d ∷ changes) c here none =
+    let t = or_parts (p d.word) (touches p changes) none in
+    at (mark line d).flushed (marked_word p line d ∙ t.0) (left_touched p line changes c here t.1) where
+      at : (f : Bool) → p (mark line d).word ≡ false → touches p (drained (flushed line (changes ++ c ∷ []))) ≡ false
+          → touches p (cond (not f) (mark line d ∷ drained (flushed line (changes ++ c ∷ []))) (drained (flushed line (changes ++ c ∷ [])))) ≡ false
       at true apart rest = rest
-      at false apart rest = or_from (p (mark line d).word) (of_some p (drained (flushed line (changes ++ c ∷ [])))) apart rest
+      at false apart rest = or_from (p (mark line d).word) (touches p (drained (flushed line (changes ++ c ∷ [])))) apart rest
 
 left_few : (line : ℕ) (changes : List Change) (c : Change) → is_in_line line c ≡ true → length (drained (flushed line (changes ++ c ∷ []))) ≤ length changes
 left_few line [] c here = let e = ap (λ (d : Change). length (cond (not d.flushed) (d ∷ []) [])) (cond-true (is_in_line line c) (record c { flushed = true }) c here) in omega (arith, e)
@@ -67,14 +64,14 @@ pub record IsPersisted (v : View) (w x : ℕ) (u : View) : Type 0 where
   pub others : (z : ℕ) → z ≢ w → slice_index u.words z ≡ slice_index v.words z
   pub knows : is_known u w ≡ true
   pub clean : (k : ℕ) → (k ≡ w / 8) ⊎ (is_unflushed v.changes k ≡ false) → list_any (is_in_line k) u.changes ≡ false
-  pub of_none : (p : ℕ → Bool) → of_some p v.changes ≡ false → of_some p u.changes ≡ false
+  pub of_none : (p : ℕ → Bool) → touches p v.changes ≡ false → touches p u.changes ≡ false
   pub calls : HasRoom v.changes → (u.calls ≡ v.calls + 3) × HasRoom u.changes
 
 -- with room made for a change, the view has other changes and another count of calls
 pub record IsRoomy (v m : View) : Type 0 where
   pub same : m ≡ record v { changes = m.changes; calls = m.calls }
   pub clean : (k : ℕ) → is_unflushed v.changes k ≡ false → is_unflushed m.changes k ≡ false
-  pub of_none : (p : ℕ → Bool) → of_some p v.changes ≡ false → of_some p m.changes ≡ false
+  pub of_none : (p : ℕ → Bool) → touches p v.changes ≡ false → touches p m.changes ≡ false
   pub few : HasRoom v.changes → (m.calls ≡ v.calls) × (m.changes ≡ v.changes)
 
 module _ (v : View) (working : IsWorking v) where
@@ -84,7 +81,7 @@ module _ (v : View) (working : IsWorking v) where
       (λ (full : (512 ≤ length v.changes) × IsSettled v m). record {
         same = full.1 ∙ ap (λ log. record v { changes = []; calls = m.calls; log = log }) (open_settled v.changes v [] [] working.is_open) ∙ ap (λ (cs : List Change). record v { changes = cs; calls = m.calls }) (sym (ap (λ (z : View). z.changes) full.1));
         clean = λ k none. ap (λ (z : View). is_unflushed z.changes k) full.1;
-        of_none = λ p none. ap (λ (z : View). of_some p z.changes) full.1;
+        of_none = λ p none. ap (λ (z : View). touches p z.changes) full.1;
         few = λ room. absurd (let most = full.0 in omega (arith, most, room));
       })
       made.1
@@ -129,8 +126,8 @@ module _ (v : View) (working : IsWorking v) where
             (λ (none : is_unflushed v.changes k ≡ false). flush_keeps_clean line k (changes ++ c ∷ []) (clean_more k changes c (λ same. other (sym same)) (of.clean k none))) fine)
             (cases_eq k line))
 
-        of_none : (p : ℕ → Bool) → of_some p v.changes ≡ false → of_some p left ≡ false
-        of_none p none = left_of_some p line changes c here (of.of_none p none)
+        of_none : (p : ℕ → Bool) → touches p v.changes ≡ false → touches p left ≡ false
+        of_none p none = left_touched p line changes c here (of.of_none p none)
 
         call : IsSameCall v u
         call = same_call-then v (record v { words = set v.words w x; known = w ∷ v.known; changes = changes ++ c ∷ []; calls = calls + 1 }) u

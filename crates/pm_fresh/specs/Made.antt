@@ -15,9 +15,13 @@ use Rattle.pm_world.specs.Records.{is_recorded}
 use Rattle.pm_undo.specs.Working.{IsWorking}
 use Rattle.pm_fresh.specs.Making.{behind_first, run_at, run_descriptor}
 
+-- some of these changes is of a word that passes the test
+abbrev pub touches : (ℕ → Bool) → List Change → Bool
+touches p changes = list_any (λ (c : Change). p c.word) changes
+
 -- some of these changes is of a word of the chunk, or of its descriptor
 abbrev pub touches_chunk : ℕ → ℕ → List Change → Bool
-touches_chunk lanes page changes = list_any (λ (c : Change). page_told lanes c.word == page) changes
+touches_chunk lanes page changes = touches (λ w. page_told lanes w == page) changes
 
 -- The lane may make the chunk a run of blocks of so many lines: it reserved the chunk, which is described by 0, and no block of it. Nothing undrained is
 -- of the chunk, nor any record or entry of the log.
@@ -51,9 +55,9 @@ pub record IsRunMade (v : View) (page lines : ℕ) (w : View) : Type 0 where
   pub reserved : w.reserved ≡ without_chunk v page ++ first_block page ∷ []
   pub freed : w.freed ≡ without_taken (run_at page) (behind_first lines) v.freed
   pub occupied : w.run_words ≡ slice_set v.run_words page (vacated_word (behind_first lines) (slice_index v.run_words page))
-  -- nothing undrained is of the chunk or of its descriptor's line, nor of another line that had nothing unflushed
+  -- nothing undrained is of the chunk or of its descriptor's line, nor of another line that had nothing unflushed, nor of a word that had nothing undrained
   pub drained : touches_chunk v.lanes page w.changes ≡ false
   pub clean : (k : ℕ) → (k ≡ descriptor_word v.lanes page / 8) ⊎ (is_unflushed v.changes k ≡ false) → list_any (is_in_line k) w.changes ≡ false
-  pub none : v.changes ≡ [] → w.changes ≡ []
+  pub beside : (p : ℕ → Bool) → touches p v.changes ≡ false → touches p w.changes ≡ false
   -- where there is room for a change, two stores, two flushes and two drains
   pub calls : HasRoom v.changes → w.calls ≡ v.calls + 6

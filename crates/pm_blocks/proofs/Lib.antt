@@ -1,0 +1,9 @@
+pub mod Again
+pub mod Classes
+pub mod GoingOn
+pub mod Onward
+pub mod Searching
+pub mod SetBits
+pub mod Starting
+pub mod StillMay
+pub mod Taking

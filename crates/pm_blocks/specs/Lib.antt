@@ -1,0 +1,4 @@
+pub mod AnyBlocks
+pub mod NewRuns
+pub mod Tests
+pub mod SmallBlocks
