@@ -19,7 +19,7 @@ use thiserror::Error;
 /// Why no block was reserved.
 #[derive(Clone, Copy, Debug, PartialEq, Eq, Error)]
 pub enum NoBlock {
-    /// No chunk is free. A lane that is alone is refused for nothing else.
+    /// No chunk is free, or nowhere do so many lie together. A lane that is alone is refused for nothing else.
     #[error("{0}")]
     Refused(Refusal),
     /// The lane is at its stop number.
