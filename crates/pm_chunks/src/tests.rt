@@ -53,7 +53,7 @@ fn reserve_and_give_back(lane: &mut Lane<SoloMem>, count: u64) -> Result<Block, 
     Ok(block)
 }
 
-/// Of the zone's chunks 0 and 2 are taken: two that lie one after another are free from 3 on, at place 28,672, and 62 are nowhere.
+/// Of the zone's chunks 0 and 2 are taken: two that lie one after another are free from 3 on, at place 28,672, one alone is at 20,480, and 62 are nowhere.
 #[test]
 fn least_free_chunks(rt: HostRuntime) -> Result<(), Fail> {
     let mut lane = lane_over(rt.alloc(), 0b101)?;
@@ -62,6 +62,11 @@ fn least_free_chunks(rt: HostRuntime) -> Result<(), Fail> {
         lines: 128,
     };
     assert_eq!(rt; reserve(&mut lane, 2), Ok(two));
+    let one = Block {
+        place: 20_480,
+        lines: 64,
+    };
+    assert_eq!(rt; reserve(&mut lane, 1), Ok(one));
     let mut other = lane_over(rt.alloc(), 0b101)?;
     assert_eq!(rt; reserve(&mut other, 62), Err(Refusal::NoSpace));
     Ok(())

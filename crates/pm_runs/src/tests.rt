@@ -81,7 +81,16 @@ fn give_all_back(lane: &mut Lane<SoloMem>, blocks: &[Block]) -> bool
 /// A zone of runs of a class has 64 times the blocks of one, which are got by rising place. Once all are given back the first is got again.
 #[test]
 fn all_blocks_of_a_zone(rt: HostRuntime) -> Result<(), Fail> {
-    for (class, count) in [(2, 1_984), (5, 768), (15, 256), (31, 128)] {
+    for (class, count) in [
+        (2, 1_984),
+        (3, 1_344),
+        (4, 960),
+        (5, 768),
+        (7, 576),
+        (9, 448),
+        (15, 256),
+        (31, 128),
+    ] {
         assert!(rt; blocks_of(class) > 0, "{class} is a class");
         let mut lane = lane_over(rt.alloc(), class)?;
         let blocks = reserve_all(rt.alloc(), &mut lane, class)?;
