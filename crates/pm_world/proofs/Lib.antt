@@ -38,6 +38,7 @@ pub mod Reheld
 pub mod Reserved
 pub mod Resting
 pub mod Replays
+pub mod Runs
 pub mod Searched
 pub mod Sequencing
 pub mod Settling

@@ -61,7 +61,7 @@ module _ (o : Opening) (old : Memory) (views : Views) (log : List Entry) (decide
     chunk : IsChunk o.lanes d.page
     chunk = subst (λ n. IsChunk n d.page) mine.lane.lanes d.chunk
 
-    at_word : w ≡ descriptor_word o.lanes d.page
+    pub at_word : w ≡ descriptor_word o.lanes d.page
     at_word = d.at ∙ ap (λ n. descriptor_word n d.page) mine.lane.lanes
 
     free : is_free_chunk (slice_index o.words) o.lanes d.page ≡ true
@@ -81,7 +81,7 @@ module _ (o : Opening) (old : Memory) (views : Views) (log : List Entry) (decide
     was_zero : heap (descriptor_word o.lanes d.page) ≡ 0
     was_zero = sym (chunk_seen o old v mine.lane.lanes mine.blocks d.page chunk d.reserved) ∙ (ap (slice_index v.words) (sym d.at) ∙ d.undescribed)
 
-    memory_zero : old (PoolWord (descriptor_word o.lanes d.page)) ≡ 0
+    pub memory_zero : old (PoolWord (descriptor_word o.lanes d.page)) ≡ 0
     memory_zero = sym (free_descriptor o old d.page chunk free) ∙ was_zero
 
     is_now : heap' (descriptor_word o.lanes d.page) ≡ x

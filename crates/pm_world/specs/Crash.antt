@@ -73,7 +73,7 @@ is_kept o views image n = not (is_lost o views image n)
 abbrev pub IsAcknowledged : Views → Entry → Type 0
 IsAcknowledged views e = ((views e.lane).log.phase ≡ Idle) ⊎ ((views e.lane).number ≢ Some e.number)
 
--- At each word that the meaning may read the image has for recovered word what the entries that are not lost make of the opening's; and a chunk that
+-- At each living word the image has for recovered word what the entries that are not lost make of the opening's; and a chunk that
 -- was free has no block.
 pub record MeansKept (o : Opening) (views : Views) (log : List Entry) (image : List ℕ) : Type 0 where
   pub words : (w : ℕ) → IsLivingWord o w → recovered image o.lanes w ≡ replayed (is_kept o views image) log w (slice_index o.words w)

@@ -1,5 +1,6 @@
 -- The laws of a world: each lawful step of a lane keeps it, whatever the others hold; and what a power failure leaves.
 use Rattle.std.specs.Prelude.{◌≡◌, ℕ, ◌<◌, ◌==◌, Bool, true, if◌then◌else◌, Contains, List}
+use Rattle.pm_view.specs.Blocks.{descriptor_word, is_run}
 use Rattle.pm_view.specs.Founds.{Found}
 use Rattle.pm_view.specs.Steps.{Step}
 use Rattle.pm_view.specs.View.{View}
@@ -9,8 +10,9 @@ use Rattle.pm_world.specs.Crash.{Survives, NoneTorn, MeansKept, IsAcknowledged, 
 use Rattle.pm_world.specs.History.{Entry}
 use Rattle.pm_world.specs.Lawful.{IsLawful}
 use Rattle.pm_world.specs.Memory.{Memory}
+use Rattle.pm_world.specs.Memory.Location.{PoolWord}
 use Rattle.pm_world.specs.Moves.{Moves}
-use Rattle.pm_world.specs.Opening.{Opening}
+use Rattle.pm_world.specs.Opening.{IsChunk, Opening}
 use Rattle.pm_world.specs.World.{Views, World}
 
 -- the views, with another of lane k
@@ -22,6 +24,13 @@ abbrev pub Keeps : Step → Type 0
 Keeps s = (o : Opening) (old new : Memory) (views : Views) (log : List Entry) (decided : ℕ → Bool) (k : ℕ) (v : View)
     → World o old views log decided → k < o.lanes → views k ≡ v → IsLawful v s → Moves k s old new
     → World o new (with_view views k (after v s)) (log_after log v s) (decided_after decided v s) × Found v s
+
+-- A run stays one: no lawful step of any lane changes the word that describes it.
+abbrev pub KeepsRuns : Type 0
+KeepsRuns = (s : Step) (o : Opening) (old new : Memory) (views : Views) (log : List Entry) (decided : ℕ → Bool) (k page : ℕ)
+    → World o old views log decided → k < o.lanes → IsLawful (views k) s → Moves k s old new
+    → IsChunk o.lanes page → is_run (old (PoolWord (descriptor_word o.lanes page))) ≡ true
+    → new (PoolWord (descriptor_word o.lanes page)) ≡ old (PoolWord (descriptor_word o.lanes page))
 
 -- every image that survives means the history without the entries that it loses
 abbrev pub CrashLaw : Type 0

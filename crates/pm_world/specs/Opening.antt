@@ -33,7 +33,8 @@ is_free_chunk words lanes page = not (is_chunk_taken words lanes (zone_of lanes 
 abbrev pub TellsOfBlocks : Opening → ℕ → Type 0
 TellsOfBlocks o w = (page : ℕ) × (IsChunk o.lanes page × ((w ≡ descriptor_word o.lanes page) ⊎ ((w ≡ bitmap_word page) × IsTrue (is_run (slice_index o.words (descriptor_word o.lanes page))))))
 
--- the pool's meaning may read the word: it is of the root or the zones, and not idle by the opening's words
+-- The word is of the root or the zones, and not idle by the opening's words: the pool's meaning may read it, and only entries of the history change it. The
+-- meaning reads a free chunk's descriptor too, but that is idle, since a lane may make the chunk a run with no entry.
 pub record IsLivingWord (o : Opening) (w : ℕ) : Type 0 where
   pub heap : IsHeapWord o.lanes o.zones w
   pub living : is_idle (slice_index o.words) o.lanes w ≡ false

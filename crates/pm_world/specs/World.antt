@@ -54,7 +54,7 @@ pub record EntryFits (o : Opening) (views : Views) (decided : ℕ → Bool) (e :
 pub record World (o : Opening) (mem : Memory) (views : Views) (log : List Entry) (decided : ℕ → Bool) : Type 0 where
   pub sound : IsSound o
   pub each_lane : (k : ℕ) → k < o.lanes → LaneFits o mem (settled o log decided) (Flies log decided k) k (views k)
-  -- a word that the meaning may read, and that no lane's log would restore or redo, is settled
+  -- a living word that no lane's log would restore or redo is settled
   pub each_word : (w : ℕ) → IsLivingWord o w → ((k : ℕ) → k < o.lanes → is_in_log (views k) w ≡ false) → mem (PoolWord w) ≡ settled o log decided w
   -- a lock word has no bit but of a lane that holds the lock
   pub each_line : (line bit : ℕ) → bit_at (mem (LockWord line)) bit ≡ 1 → IsHold views o.lanes line bit

@@ -3,7 +3,7 @@ ghost use Rattle.pm_objects.specs.declared.calls.Operation.{Operation};
 ghost use Rattle.pm_objects.specs.declared.history.Value.{Value};
 ghost use Rattle.pm_view.specs.declared.occ.Occ.{Occ};
 ghost use Rattle.pm_view.specs.Steps.Step.{Load, Store, Or, And, Flush, Drain, TakeWrite, TakeRead, Give, ZoneTry, ZoneGive, Occupied, Occupy, Vacate, Draw, NumberSeen, StopSeen, SetStop, Tell};
-ghost use Rattle.pm_world.specs.Laws.{Keeps, CrashLaw, AcknowledgedLaw};
+ghost use Rattle.pm_world.specs.Laws.{Keeps, KeepsRuns, CrashLaw, AcknowledgedLaw};
 ghost use Rattle.pm_world.specs.Opens.{OpeningLaw};
 
 /// A law: over the words that recovery leaves a world begins. No code runs.
@@ -32,6 +32,11 @@ pub fn lawful_steps_keep_the_world()
     ensures stop_seen { (stopped : Bool) → Keeps (StopSeen stopped) }
     ensures set_stop { Keeps SetStop }
     ensures tell { (operation : Operation) (reply : Option Value) → Keeps (Tell operation reply) }
+{}
+
+/// A law: a run that was made stays a run of its class, since no lawful step of any lane changes the word that describes it. No code runs.
+pub fn a_run_stays_a_run()
+    ensures { KeepsRuns }
 {}
 
 /// A law: every image that a power failure leaves of a world means the history without the calls that the image loses. No code runs.
