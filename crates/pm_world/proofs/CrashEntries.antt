@@ -64,7 +64,7 @@ redo_again And w x =
     ap (λ c. option_map (λ op. record { place = (8 * w + 2) / 8 * 8; op = op; value = x }) (op_of c)) code ∙ ap (λ (p : ℕ). let e : Redo = record { place = p; op = And; value = x } in Some e) place
 
 -- entries that are read one after another
-read_all : (read : ℕ → Option Redo) (fs : List Final) (from : ℕ) → ((i : ℕ) (f : Final) → slice_get fs i ≡ Some f → (e : Redo) × IsRedoFor f e × (read (from + i) ≡ Some e))
+pub read_all : (read : ℕ → Option Redo) (fs : List Final) (from : ℕ) → ((i : ℕ) (f : Final) → slice_get fs i ≡ Some f → (e : Redo) × IsRedoFor f e × (read (from + i) ≡ Some e))
     → (es : List Redo) × AreRedosFor fs es × (filter_map read (range_with_len from (length fs)) ≡ es)
 read_all read [] from each = ([], tt, refl)
 read_all read (f ∷ fs) from each =
@@ -185,7 +185,7 @@ whole_value Set w x whole = refl
 whole_value Or w x whole = refl
 whole_value And w x whole = omega arith
 
-last_at : (front : List Final) (f : Final) → slice_get (front ++ f ∷ []) (length front) ≡ Some f
+pub last_at : (front : List Final) (f : Final) → slice_get (front ++ f ∷ []) (length front) ≡ Some f
 last_at [] f = refl
 last_at (g ∷ front) f = last_at front f
 

@@ -47,7 +47,7 @@ pub record OwnTakenBack (v : View) (image : List ℕ) (w : ℕ) : Type 0 where
   pub of_word : change.word ≡ w
   pub is_old : slice_index image w ≡ change.old
 
-slot_same : (one other : List ℕ) (a : ℕ) → a + 8 ≤ length one → a + 8 ≤ length other → ((i : ℕ) → a ≤ i → i < a + 8 → slice_index one i ≡ slice_index other i)
+pub slot_same : (one other : List ℕ) (a : ℕ) → a + 8 ≤ length one → a + 8 ≤ length other → ((i : ℕ) → a ≤ i → i < a + 8 → slice_index one i ≡ slice_index other i)
     → slice_range one a (a + 8) ≡ slice_range other a (a + 8)
 slot_same one other a long as_long same =
     let eight : a + 8 - a ≡ 8 = omega arith in

@@ -48,7 +48,7 @@ drop_next xs n x at =
     let next : suc n ≡ n + 1 = omega arith in
     drop-cons xs n x (slice_get_within xs n x at) ∙ (λ i. get_or_from_slice_get xs n x x at i ∷ drop (next i) xs)
 
-take_next : {X : Type 0} (xs : List X) (n : ℕ) (x : X) → slice_get xs n ≡ Some x → take (n + 1) xs ≡ take n xs ++ x ∷ []
+pub take_next : {X : Type 0} (xs : List X) (n : ℕ) (x : X) → slice_get xs n ≡ Some x → take (n + 1) xs ≡ take n xs ++ x ∷ []
 take_next xs n x at =
     let next : n + 1 ≡ suc n = omega arith in
     ap (λ m. take m xs) next ∙ (take-suc xs n x (slice_get_within xs n x at) ∙ ap (λ y. take n xs ++ y ∷ []) (get_or_from_slice_get xs n x x at))
@@ -117,7 +117,7 @@ listed_at : (entries : List Final) (i : ℕ) (f : Final) → slice_get entries i
 listed_at entries i f at = list_any_at (λ (g : Final). eqb g.word f.word) entries i f (slice_get_within entries i f at) (ap (λ (g : Final). eqb g.word f.word) (get_or_from_slice_get entries i f f at) ∙ eq-eqb f.word f.word refl)
 
 -- and so is each bit of its mask
-bit_listed : (entries : List Final) (i j : ℕ) (f : Final) → slice_get entries i ≡ Some f → is_bit_entered entries f.word j ≡ false → bit_at f.mask j ≡ 0
+pub bit_listed : (entries : List Final) (i j : ℕ) (f : Final) → slice_get entries i ≡ Some f → is_bit_entered entries f.word j ≡ false → bit_at f.mask j ≡ 0
 bit_listed entries i j f at none =
     let bound = bit_at-lt f.mask j in
     ⊎_elim (λ (clear : bit_at f.mask j ≡ 0). clear)

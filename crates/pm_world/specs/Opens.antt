@@ -1,21 +1,26 @@
 -- How a world begins: the words that recovery leaves, no lane having made a step.
-use Rattle.std.specs.Prelude.{◌≡◌, ℕ, ◌<◌, ◌≤◌, [], slice_index, true, false, Some, None}
+use Rattle.std.specs.Prelude.{◌≡◌, ◌⊎◌, ℕ, ◌+◌, ◌^◌, ◌<◌, ◌≤◌, Bool, IsTrue, All, Contains, List, [], length, slice_index, true, false, Some, None}
 use Rattle.std.specs.Int.{bit_at}
+use Rattle.std.specs.Option.{ForSome}
 use Rattle.pm_record.specs.Undo.{undo_of}
 use Rattle.pm_record.specs.declared.undo.Undo.{Undo}
 use Rattle.pm_view.specs.declared.occ.Occ.{Occ}
+use Rattle.pm_view.specs.Counts.{IsAtStop}
+use Rattle.pm_view.specs.Held.{is_held}
 use Rattle.pm_view.specs.Occupancy.{is_taken}
 use Rattle.pm_view.specs.Log.{no_log}
 use Rattle.pm_view.specs.Log.Phase.{Idle}
-use Rattle.pm_view.specs.View.{View}
+use Rattle.pm_view.specs.View.{Taken, View}
+use Rattle.pm_view.specs.Views.{reserves}
 use Rattle.pm_image.specs.Logs.{generation_word, seal_word, undo_slot}
 use Rattle.pm_world.specs.Fits.{IsLane}
-use Rattle.pm_world.specs.Heap.{IsOcc}
+use Rattle.pm_world.specs.Heap.{Heap, IsOcc}
+use Rattle.pm_world.specs.History.{AreNumbered, Entry, entries_by}
 use Rattle.pm_world.specs.Lawful.{generation_limit}
 use Rattle.pm_world.specs.Memory.{Memory, occ_at}
 use Rattle.pm_world.specs.Memory.Location.{PoolWord, LockWord, ZoneLock, CommitCounter, StopWord}
 use Rattle.pm_world.specs.Opening.{Opening, IsSound}
-use Rattle.pm_world.specs.World.{Views, World}
+use Rattle.pm_world.specs.World.{Views, World, may_draw_count}
 
 -- the lane's log is empty: it is not sealed, and no slot holds a record of its generation or of one to come
 pub record IsClean (o : Opening) (k : ℕ) : Type 0 where
@@ -49,6 +54,46 @@ pub record IsOpened (o : Opening) (mem : Memory) : Type 0 where
   pub zones : (zone : ℕ) → mem (ZoneLock zone) ≡ 0
   pub counter : mem CommitCounter ≡ 0
   pub stop_word : mem StopWord ≡ 0
+
+-- ---- between calls
+
+-- The view of lane k between two calls: its log is empty and nothing is undrained, it holds no lock, and what it reserved is free; what it knows it holds.
+pub record IsRested (o : Opening) (k : ℕ) (v : View) : Type 0 where
+  pub lane : IsLane o k v
+  pub words : v.words ≡ o.words
+  pub held : (w : ℕ) → Contains v.known w → IsTrue (is_held v w)
+  pub drained : v.changes ≡ []
+  pub idle : v.log ≡ no_log Idle
+  pub no_locks : v.locks ≡ []
+  pub of_pool : All (λ (t : Taken). IsOcc o.lanes o.zones t.at) v.reserved
+  pub small : All (λ (t : Taken). t.bits < 2 ^ 64) v.reserved
+  pub free : (at : Occ) (bit : ℕ) → reserves v at bit ≡ true → is_taken (slice_index o.words) o.lanes at bit ≡ false
+  pub nothing_freed : v.freed ≡ []
+  pub within : ForSome v.stop (λ stop. v.calls ≤ stop)
+
+-- the history of calls that are over: what they made final is in the words, so no difference is left of them
+pub record IsOver (o : Opening) (views : Views) (log : List Entry) (decided : ℕ → Bool) : Type 0 where
+  pub numbered : AreNumbered 1 log
+  pub of_lanes : (e : Entry) → Contains log e → e.lane < o.lanes
+  pub made : All (λ (e : Entry). e.difference ≡ []) log
+  pub all : (e : Entry) → Contains log e → decided e.number ≡ true
+  pub undrawn : (n : ℕ) → length log < n → decided n ≡ false
+  pub own_entries : (k : ℕ) → k < o.lanes → entries_by k log ≡ (views k).entries
+
+-- the memory between calls: these words, no lock held, the bits set of what is taken by them or some lane has, and as many numbers drawn as calls are over
+pub record IsStanding (o : Opening) (mem : Memory) (views : Views) (log : List Entry) : Type 0 where
+  pub words : (w : ℕ) → mem (PoolWord w) ≡ slice_index o.words w
+  pub locks : (line : ℕ) → mem (LockWord line) ≡ 0
+  pub heap : Heap o (slice_index o.words) mem views
+  pub counter : mem CommitCounter ≡ length log
+  pub counter_room : mem CommitCounter + may_draw_count views o.lanes < generation_limit + 32
+  pub stop_word : (mem StopWord ≡ 0) ⊎ ((k : ℕ) × (k < o.lanes) × IsAtStop (views k))
+
+-- a world begins anew, from the words as they stand between calls
+abbrev pub BetweenCallsLaw : Type 0
+BetweenCallsLaw = (o : Opening) (mem : Memory) (views : Views) (log : List Entry) (decided : ℕ → Bool)
+    → IsSound o → ((k : ℕ) → k < o.lanes → IsClean o k) → ((k : ℕ) → k < o.lanes → IsRested o k (views k)) → IsOver o views log decided → IsStanding o mem views log
+    → World o mem views log decided
 
 -- a world begins
 abbrev pub OpeningLaw : Type 0

@@ -4,11 +4,18 @@ ghost use Rattle.pm_objects.specs.declared.history.Value.{Value};
 ghost use Rattle.pm_view.specs.declared.occ.Occ.{Occ};
 ghost use Rattle.pm_view.specs.Steps.Step.{Load, Store, Or, And, Flush, Drain, TakeWrite, TakeRead, Give, ZoneTry, ZoneGive, Occupied, Occupy, Vacate, Draw, NumberSeen, StopSeen, SetStop, Tell};
 ghost use Rattle.pm_world.specs.Laws.{Keeps, KeepsRuns, CrashLaw, AcknowledgedLaw};
-ghost use Rattle.pm_world.specs.Opens.{OpeningLaw};
+ghost use Rattle.pm_world.specs.Opens.{BetweenCallsLaw, OpeningLaw};
 
 /// A law: over the words that recovery leaves a world begins. No code runs.
 pub fn recovered_words_open_a_world()
     ensures { OpeningLaw }
+{}
+
+/// A law: between calls a world begins anew, from the words as they stand: where no lock is held, nothing is undrained, each log is clean, and
+/// the bits are set of what the words say is taken or some lane reserved, these words are as good as recovered ones, with the calls so far
+/// as a history that is over. No code runs.
+pub fn words_between_calls_open_a_world()
+    ensures { BetweenCallsLaw }
 {}
 
 /// A law: each lawful step of a lane keeps the world, whatever the other lanes hold. No code runs.

@@ -16,7 +16,7 @@ pub use lane::{HeldLock, Lane, MAX_ENTRIES, MAX_LOCKS, MAX_RECORDS, Span, Stage}
 pub use lawful_mem::LawfulMem;
 pub use laws::{
     a_crash_keeps_whole_calls, a_run_stays_a_run, an_acknowledged_call_is_kept,
-    lawful_steps_keep_the_world, recovered_words_open_a_world,
+    lawful_steps_keep_the_world, recovered_words_open_a_world, words_between_calls_open_a_world,
 };
 pub use sequences::{and, or, settle, store};
 

@@ -1,0 +1,6 @@
+pub mod Stages
+pub mod Steps
+pub mod Unentered
+pub mod SealedImages
+pub mod LeftImages
+pub mod EndedLog

@@ -1,0 +1,10 @@
+use Rattle.pm_sealed.proofs.LeftImages.{all_of_it, decides, nothing, same_size}
+use Rattle.pm_sealed.proofs.laws.a_lane_alone_publishes_all_or_nothing.Goals as goal
+
+pub returns : goal.returns
+returns c = record {
+  nothing = nothing;
+  all = all_of_it;
+  decided = decides;
+  size = same_size;
+}

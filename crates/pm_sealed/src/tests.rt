@@ -1,0 +1,8 @@
+use super::*;
+
+/// Each law by its name: none runs any code.
+#[test]
+fn laws(_rt: HostRuntime) {
+    a_lane_alone_publishes_all_or_nothing();
+    a_log_at_its_end_is_clean();
+}
