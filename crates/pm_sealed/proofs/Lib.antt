@@ -4,3 +4,4 @@ pub mod Unentered
 pub mod SealedImages
 pub mod LeftImages
 pub mod EndedLog
+pub mod FromWorlds

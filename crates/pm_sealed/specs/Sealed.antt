@@ -10,15 +10,20 @@ use Rattle.pm_view.specs.Founds.{FoundAlone, IsAlone}
 use Rattle.pm_view.specs.Log.{Final, Phase}
 use Rattle.pm_view.specs.Log.Phase.{Applying, Clearing, Drawn, Idle, Sealing}
 use Rattle.pm_view.specs.Steps.{Step}
+use Rattle.pm_view.specs.Steps.Step.{Draw}
 use Rattle.pm_view.specs.View.{View}
 use Rattle.pm_view.specs.Views.{after}
 use Rattle.pm_image.specs.Logs.{generation_word, seal_word, undo_slot}
 use Rattle.pm_memory.specs.Keep.{IsKeptImage}
 use Rattle.pm_world.specs.Entries.{IsEntryAt, LeaveWord, ends_with, final_by, is_or_entered, pair_at, redo_on}
+use Rattle.pm_world.specs.History.{Entry}
 use Rattle.pm_world.specs.Lawful.{Allowed, generation_limit}
+use Rattle.pm_world.specs.Memory.{Memory}
+use Rattle.pm_world.specs.Memory.Location.{PoolWord}
 use Rattle.pm_world.specs.Opening.{Opening}
 use Rattle.pm_world.specs.Opens.{IsClean}
 use Rattle.pm_world.specs.Records.{generation_of}
+use Rattle.pm_world.specs.World.{Views, World}
 
 -- the pool as the lane sees it
 abbrev pub pool_seen : View → Opening
@@ -90,3 +95,20 @@ is_decided (Applying applied) = true
 is_decided Clearing = true
 is_decided Idle = true
 is_decided phase = false
+
+-- ---- from a world
+
+-- The lane's entries, at work: each is of the pool, but the last, which ends the generation; and what an entry ORs is a word of 64 bits, and is left so.
+pub record HasWholeLog (v : View) : Type 0 where
+  pub front : List Final
+  pub ends : v.log.entries ≡ front ++ ends_with v (generation_of v + 1) ∷ []
+  pub of_pool : All (IsOfPool v) front
+  pub small : (w : ℕ) → is_or_entered v.log.entries w ≡ true → (slice_index v.words w < 2 ^ 64) × LeaveWord v.log.entries w
+  pub below : generation_of v < generation_limit
+
+-- in a world where no other lane is at work, a lane whose view has each word as it is and that draws its call's number with such a log may seal it
+abbrev pub SealingLaw : Type 0
+SealingLaw = (o : Opening) (mem : Memory) (views : Views) (log : List Entry) (decided : ℕ → Bool) (k n : ℕ)
+    → World o mem views log decided → k < o.lanes → ((j : ℕ) → j < o.lanes → j ≢ k → (views j).log.phase ≡ Idle)
+    → ((w : ℕ) → mem (PoolWord w) ≡ slice_index (views k).words w) → Allowed (views k) (Draw n) → HasWholeLog (views k)
+    → MaySeal (after (views k) (Draw n))

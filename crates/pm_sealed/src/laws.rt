@@ -6,7 +6,13 @@ ghost use Rattle.pm_view.specs.Steps.{Step};
 ghost use Rattle.pm_view.specs.View.{View};
 ghost use Rattle.pm_world.specs.History.{made_final};
 ghost use Rattle.pm_world.specs.Opens.{IsClean};
-ghost use Rattle.pm_sealed.specs.Sealed.{IsOutside, LeavesSealed, MaySeal, Publishes, has_nothing, is_decided, pool_seen};
+ghost use Rattle.pm_sealed.specs.Sealed.{IsOutside, LeavesSealed, MaySeal, Publishes, SealingLaw, has_nothing, is_decided, pool_seen};
+
+/// A law: in a world where no other lane is at work, a lane that has each word as it is, and draws its call's number with a whole log, may seal
+/// that log: what it needs of its own log and of the others' is what the world says. No code runs.
+pub fn a_world_leads_to_the_seal()
+    ensures { SealingLaw }
+{}
 
 /// A law: a lane that is alone publishes all of its entries or nothing, whatever words they are of. What a power failure leaves either has
 /// nothing of the call, and then each word is as before the seal was stored; or its recovered words, but for the lanes' areas, are what the

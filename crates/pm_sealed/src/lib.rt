@@ -8,7 +8,9 @@
 
 mod laws;
 
-pub use laws::{a_lane_alone_publishes_all_or_nothing, a_log_at_its_end_is_clean};
+pub use laws::{
+    a_lane_alone_publishes_all_or_nothing, a_log_at_its_end_is_clean, a_world_leads_to_the_seal,
+};
 
 #[cfg(test)]
 mod tests;

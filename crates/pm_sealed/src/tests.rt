@@ -5,4 +5,5 @@ use super::*;
 fn laws(_rt: HostRuntime) {
     a_lane_alone_publishes_all_or_nothing();
     a_log_at_its_end_is_clean();
+    a_world_leads_to_the_seal();
 }
