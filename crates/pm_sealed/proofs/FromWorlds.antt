@@ -1,0 +1,140 @@
+-- What a world says of the logs is what a lane needs to seal its own.
+use Rattle.std.proofs.Common.{◌≡◌, ◌≢◌, ℕ, ◌+◌, ◌*◌, ◌<◌, ◌≤◌, ◌⊎◌, inl, inr, ⊎_elim, Bool, true, false, List, [], ◌∷◌, ◌++◌, length, slice_get, slice_index, slice_range, Some, refl, sym, ap, ◌∙◌, subst, arith, get_or, length-append, ◌^◌}
+use Rattle.std.proofs.lemmas.Bool.{and_from, cases_lt, le-leb, lt-ltb}
+use Rattle.std.proofs.lemmas.List.Elements.{All-weaker}
+use Rattle.std.proofs.lemmas.Option.{none-some, same_Some, slice_get-get_or}
+use Rattle.pm_record.specs.Undo.{undo_of}
+use Rattle.pm_record.specs.declared.undo.Undo.{Undo}
+use Rattle.pm_view.specs.Area.{area_word, is_in_area}
+use Rattle.pm_view.specs.Log.{Final, Log, Phase, Recorded, log_drawn, phase_drawn}
+use Rattle.pm_view.specs.Log.Phase.{Drawn, Idle, Open}
+use Rattle.pm_view.specs.Steps.Step.{Draw}
+use Rattle.pm_view.specs.View.{View}
+use Rattle.pm_view.specs.Views.{after}
+use Rattle.pm_image.specs.Logs.{slot_line, undo_slot}
+use Rattle.pm_world.specs.Entries.{IsEntryAt, LeaveWord, ends_with, is_or_entered, seal_in}
+use Rattle.pm_world.specs.Fits.{LaneFits, LogFits, PhaseFits}
+use Rattle.pm_world.specs.History.{Entry, Flies, settled}
+use Rattle.pm_world.specs.Lawful.{Allowed}
+use Rattle.pm_world.specs.Memory.{Memory}
+use Rattle.pm_world.specs.Memory.Location.{PoolWord}
+use Rattle.pm_world.specs.Opening.{Opening}
+use Rattle.pm_world.specs.Opens.{IsClean}
+use Rattle.pm_world.specs.Records.{IsRecordAt, generation_of, records_generation, spelled, used_slots}
+use Rattle.pm_world.specs.World.{Views, World}
+use Rattle.pm_world.proofs.CrashSpellings.{undo_from, undo_of-spelled}
+use Rattle.pm_world.proofs.CrashWords.{slot_same}
+use Rattle.pm_sealed.specs.Sealed.{HasWholeLog, IsOfPool, MaySeal, SealingLaw, pool_seen}
+
+module _ (o : Opening) (mem : Memory) (views : Views) (log : List Entry) (decided : ℕ → Bool) (k n : ℕ) (world : World o mem views log decided) (inside : k < o.lanes)
+    (rest : (j : ℕ) → j < o.lanes → j ≢ k → (views j).log.phase ≡ Idle) (sees : (w : ℕ) → mem (PoolWord w) ≡ slice_index (views k).words w) (may : Allowed (views k) (Draw n)) (whole : HasWholeLog (views k)) where
+  abbrev v : View
+  v = views k
+
+  abbrev b : View
+  b = after v (Draw n)
+
+  mine : LaneFits o mem (settled o log decided) (Flies log decided k) k v
+  mine = world.each_lane k inside
+
+  size : length v.words ≡ 512 + 1024 * v.lanes + 33280 * v.zones
+  size =
+      let long = mine.lane.size in let all = world.sound.size in let lanes = mine.lane.lanes in let zones = mine.lane.zones in
+      omega (arith, long, all, lanes, zones)
+
+  -- a draw with entries leaves the call drawn, and not at its end
+  some_entries : (records : List Recorded) (entries : List Final) → 1 ≤ length entries → phase_drawn records entries ≡ Drawn
+  some_entries [] [] some = absurd (omega (arith, some))
+  some_entries [] (f ∷ entries) some = refl
+  some_entries (r ∷ records) entries some = refl
+
+  drawn_log : b.log ≡ record v.log { phase = phase_drawn v.log.records v.log.entries }
+  drawn_log = ap (λ p. log_drawn p v.log) may.is_open
+
+  drawn : b.log.phase ≡ Drawn
+  drawn =
+      ap (λ (l : Log). l.phase) drawn_log
+      ∙ some_entries v.log.records v.log.entries (let long = ap (λ (fs : List Final). length fs) whole.ends ∙ length-append whole.front (ends_with v (generation_of v + 1) ∷ []) in omega (arith, long))
+
+  entries_same : b.log.entries ≡ v.log.entries
+  entries_same = ap (λ (l : Log). l.entries) drawn_log
+
+  -- a slot has no record of a generation to come
+  at_work : records_generation v.log.phase v ≡ generation_of v
+  at_work = ap (λ p. records_generation p v) may.is_open
+
+  used : used_slots v.log.phase v ≡ length v.log.records
+  used = ap (λ p. used_slots p v) may.is_open
+
+  stale : (slot : ℕ) (u : Undo) → slot < 64 → undo_of (undo_slot v.words v.lane slot) ≡ Some u → u.generation ≤ generation_of v
+  stale slot u low there = ⊎_elim
+      (λ (recorded : slot < length v.log.records).
+      let r : Recorded = get_or v.log.records slot (record { word = 0; old = [] }) in
+      let at : IsRecordAt v slot r = slice_get-get_or v.log.records slot (record { word = 0; old = [] }) recorded in
+      let g : ℕ = records_generation v.log.phase v in
+      let read : Some (undo_from g r) ≡ Some u = sym (undo_of-spelled g r (mine.log.each slot r at).most) ∙ (ap undo_of (sym (mine.log.stored slot r at)) ∙ there) in
+      let is : g ≡ u.generation = ap (λ (x : Undo). x.generation) (same_Some (undo_from g r) u read) in
+      let same = at_work in omega (arith, is, same))
+      (λ (free : length v.log.records ≤ slot). let older = mine.log.stale slot u (let n_used = used in omega (arith, free, n_used)) low there in let same = at_work in omega (arith, older, same))
+      (cases_lt slot (length v.log.records))
+
+  module _ (j : ℕ) (in_lanes : j < o.lanes) (other : j ≢ k) where
+    its : LaneFits o mem (settled o log decided) (Flies log decided j) j (views j)
+    its = world.each_lane j in_lanes
+
+    idle : (views j).log.phase ≡ Idle
+    idle = rest j in_lanes other
+
+    -- a word of its area is as this lane sees it
+    area : (w : ℕ) → area_word j ≤ w → w < area_word j + 1024 → slice_index v.words w ≡ slice_index (views j).words w
+    area w low high =
+        let here : is_in_area (views j).lane w ≡ true = ap (λ lane. is_in_area lane w) its.lane.lane ∙ and_from _ _ (le-leb (area_word j) w low) (lt-ltb w (area_word j + 1024) high) in
+        sym (sees w) ∙ its.picture.area w here
+
+    its_lane : (lane : ℕ) → lane ≡ j → slice_index (views j).words (area_word lane) ≡ slice_index v.words (area_word j)
+    its_lane lane same = ap (λ l. slice_index (views j).words (area_word l)) same ∙ sym (area (area_word j) (omega arith) (omega arith))
+
+    generation : generation_of (views j) ≡ slice_index v.words (area_word j)
+    generation = its_lane (views j).lane its.lane.lane
+
+    slot_stays : (slot : ℕ) → slot < 64 → undo_slot v.words j slot ≡ undo_slot (views j).words (views j).lane slot
+    slot_stays slot low =
+        let all = world.sound.size in let long = mine.lane.size in let its_long = its.lane.size in
+        slot_same v.words (views j).words (8 * slot_line j slot) (omega (arith, all, long, in_lanes, low)) (omega (arith, all, its_long, in_lanes, low))
+        (λ i from to. area i (omega (arith, from)) (omega (arith, to, low)))
+        ∙ ap (λ lane. undo_slot (views j).words lane slot) (sym its.lane.lane)
+
+    clean : IsClean (pool_seen b) j
+    clean =
+        let same = generation in let first = its.first_generation in let last = its.last_generation in record {
+          unsealed = area (area_word j + 1) (omega arith) (omega arith) ∙ (ap (λ l. slice_index (views j).words (area_word l + 1)) (sym its.lane.lane) ∙ (its.entries.seal ∙ ap (λ p. seal_in p (views j)) idle));
+          first_generation = omega (arith, same, first);
+          last_generation = omega (arith, same, last);
+          stale = λ slot u low there.
+              let none = (subst (PhaseFits (Flies log decided j) (views j)) idle its.phase).no_records in
+              let no_records : used_slots (views j).log.phase (views j) ≡ 0 = ap (λ p. used_slots p (views j)) idle ∙ ap (λ (rs : List Recorded). length rs) none in
+              let older = its.log.stale slot u (omega (arith, no_records)) low (ap undo_of (sym (slot_stays slot low)) ∙ there) in
+              let is : records_generation (views j).log.phase (views j) ≡ generation_of (views j) = ap (λ p. records_generation p (views j)) idle in
+              omega (arith, older, is, same);
+        }
+
+  may_seal : MaySeal b
+  may_seal = record {
+    in_lanes = let lanes = mine.lane.lanes in let lane = mine.lane.lane in omega (arith, lanes, lane, inside);
+    size = size;
+    drawn = drawn;
+    drained = may.drained;
+    few = subst (λ fs. length fs ≤ 64) (sym entries_same) mine.entries.most;
+    front = whole.front;
+    ends = entries_same ∙ whole.ends;
+    of_pool = All-weaker (IsOfPool v) (IsOfPool b) (λ f of. record { outside = of.outside; inside = of.inside }) whole.front whole.of_pool;
+    spelled = λ i f at. let s = mine.entries.each i f (ap (λ fs. slice_get fs i) (sym entries_same) ∙ at) in record { op = s.op; value = s.value; is = s.is; word = s.may.word; spells = s.spells };
+    small = subst (λ fs. (w : ℕ) → is_or_entered fs w ≡ true → (slice_index v.words w < 2 ^ 64) × LeaveWord fs w) (sym entries_same) whole.small;
+    below = whole.below;
+    unsealed = mine.entries.seal ∙ ap (λ p. seal_in p v) may.is_open;
+    stale = stale;
+    clean = λ j low other. let lanes = mine.lane.lanes in clean j (omega (arith, lanes, low)) (λ same. other (same ∙ sym mine.lane.lane));
+  }
+
+pub leads_to_seal : SealingLaw
+leads_to_seal o mem views log decided k n world inside rest sees may whole = may_seal o mem views log decided k n world inside rest sees may whole
