@@ -79,7 +79,7 @@ module _ (w v : ℕ → ℕ) (lanes zones c lines index : ℕ) (none : heap_faul
       let most : 2 ^ blocks_of lines ≤ 2 ^ 64 = pow-le-pow_right two few in
       omega arith
 
-  bit_here : HasBitMore (v (chunk_word lanes c)) (w (chunk_word lanes c)) index
+  pub bit_here : HasBitMore (v (chunk_word lanes c)) (w (chunk_word lanes c)) index
   bit_here = cleared_bit (v (chunk_word lanes c)) (w (chunk_word lanes c)) index (index_small lines index freed.may.inside) of_64_bits freed.may.is_set freed.bitmap
 
   -- the block's words are behind the bitmap's line in its chunk
@@ -91,10 +91,10 @@ module _ (w v : ℕ → ℕ) (lanes zones c lines index : ℕ) (none : heap_faul
       let to : i < (8 * chunk_word lanes c + 64 * (1 + before)) / 8 + 8 * lines = word.to in
       (omega arith, omega arith)
 
-  descriptors_here : (k : ℕ) → k < 64 * zones → v (descriptor_word lanes k) ≡ w (descriptor_word lanes k)
+  pub descriptors_here : (k : ℕ) → k < 64 * zones → v (descriptor_word lanes k) ≡ w (descriptor_word lanes k)
   descriptors_here k inside = freed.others (descriptor_word lanes k) (reads_descriptor w lanes zones k inside) (λ same. omega arith) (λ word. let at = in_chunk (descriptor_word lanes k) word in let from = at.0 in let to = at.1 in omega arith)
 
-  bitmaps_here : (k other : ℕ) → k < 64 * zones → k ≢ c → class_in (w (descriptor_word lanes k)) ≡ Some (Lines other) → v (chunk_word lanes k) ≡ w (chunk_word lanes k)
+  pub bitmaps_here : (k other : ℕ) → k < 64 * zones → k ≢ c → class_in (w (descriptor_word lanes k)) ≡ Some (Lines other) → v (chunk_word lanes k) ≡ w (chunk_word lanes k)
   bitmaps_here k other inside differ run = freed.others (chunk_word lanes k) (reads_bitmap w lanes zones k other inside run) (λ same. differ (omega arith)) (λ word. let at = in_chunk (chunk_word lanes k) word in let from = at.0 in let to = at.1 in omega arith)
 
   run_still : class_in (v (descriptor_word lanes c)) ≡ Some (Lines lines)
@@ -158,10 +158,10 @@ module _ (w v : ℕ → ℕ) (lanes zones c chunks : ℕ) (none : heap_fault w l
   abbrev whole_block : Block
   whole_block = block_of_chunks lanes c chunks
 
-  good_here : bad_chunk w lanes c ≡ false
+  pub good_here : bad_chunk w lanes c ≡ false
   good_here = good_chunk w lanes zones c none freed.may.in_zones
 
-  whole_here : class_in (w (descriptor_word lanes c)) ≡ Some (Chunks chunks)
+  pub whole_here : class_in (w (descriptor_word lanes c)) ≡ Some (Chunks chunks)
   whole_here =
       let is : w (descriptor_word lanes c) ≡ 2 + 256 * chunks = freed.may.is_first in
       let high : w (descriptor_word lanes c) / 256 ≡ chunks = omega arith in
@@ -176,7 +176,7 @@ module _ (w v : ℕ → ℕ) (lanes zones c chunks : ℕ) (none : heap_fault w l
       let to : i < 8 * chunk_word lanes c / 8 + 8 * (64 * chunks) = word.to in
       (omega arith, omega arith)
 
-  descriptors_elsewhere : (k : ℕ) → k < 64 * zones → k ≢ c → v (descriptor_word lanes k) ≡ w (descriptor_word lanes k)
+  pub descriptors_elsewhere : (k : ℕ) → k < 64 * zones → k ≢ c → v (descriptor_word lanes k) ≡ w (descriptor_word lanes k)
   descriptors_elsewhere k inside differ = freed.others (descriptor_word lanes k) (reads_descriptor w lanes zones k inside) (λ same. differ (omega arith))
       (λ word. let at = in_chunks (descriptor_word lanes k) word in let from = at.0 in let to = at.1 in let fits = first_fits in omega arith)
 
@@ -193,7 +193,7 @@ module _ (w v : ℕ → ℕ) (lanes zones c chunks : ℕ) (none : heap_fault w l
       let clash : Some (Lines lines) ≡ None = sym run ∙ ap class_in free ∙ no_class in
       cc
 
-  bitmaps_elsewhere : (k lines : ℕ) → k < 64 * zones → k ≢ c → class_in (w (descriptor_word lanes k)) ≡ Some (Lines lines) → v (chunk_word lanes k) ≡ w (chunk_word lanes k)
+  pub bitmaps_elsewhere : (k lines : ℕ) → k < 64 * zones → k ≢ c → class_in (w (descriptor_word lanes k)) ≡ Some (Lines lines) → v (chunk_word lanes k) ≡ w (chunk_word lanes k)
   bitmaps_elsewhere k lines inside differ run = freed.others (chunk_word lanes k) (reads_bitmap w lanes zones k lines inside run) (λ same. omega arith) (no_run_inside k lines differ run)
 
   nothing_after : class_in (v (descriptor_word lanes c)) ≡ None

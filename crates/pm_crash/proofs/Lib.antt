@@ -70,6 +70,7 @@ pub mod TornSlots
 pub mod AtRest
 pub mod SameBlocks
 pub mod SoundPools
+pub mod TakenChanges
 pub mod KnownHeap
 pub mod Raises
 pub mod Raising

@@ -81,16 +81,16 @@ module _ (w v : ℕ → ℕ) (lanes zones c lines index kind size : ℕ) (none :
   run_here : class_in (w (descriptor_word lanes c)) ≡ Some (Lines lines)
   run_here = let within = made.free.inside in class_of_run (w (descriptor_word lanes c)) lines (made.free.is_run ∙ omega arith) (omega arith)
 
-  bit_here : HasBitMore (w (chunk_word lanes c)) (v (chunk_word lanes c)) index
+  pub bit_here : HasBitMore (w (chunk_word lanes c)) (v (chunk_word lanes c)) index
   bit_here = set_bit (w (chunk_word lanes c)) (v (chunk_word lanes c)) index made.free.is_clear made.bitmap
 
-  descriptors_here : (k : ℕ) → k < 64 * zones → v (descriptor_word lanes k) ≡ w (descriptor_word lanes k)
+  pub descriptors_here : (k : ℕ) → k < 64 * zones → v (descriptor_word lanes k) ≡ w (descriptor_word lanes k)
   descriptors_here k inside = made.others (descriptor_word lanes k) (reads_descriptor w lanes zones k inside) (λ same. omega arith)
 
   run_still : class_in (v (descriptor_word lanes c)) ≡ Some (Lines lines)
   run_still = ap class_in (descriptors_here c made.free.in_zones) ∙ run_here
 
-  bitmaps_here : (k other : ℕ) → k < 64 * zones → k ≢ c → class_in (w (descriptor_word lanes k)) ≡ Some (Lines other) → v (chunk_word lanes k) ≡ w (chunk_word lanes k)
+  pub bitmaps_here : (k other : ℕ) → k < 64 * zones → k ≢ c → class_in (w (descriptor_word lanes k)) ≡ Some (Lines other) → v (chunk_word lanes k) ≡ w (chunk_word lanes k)
   bitmaps_here k other inside differ run = made.others (chunk_word lanes k) (reads_bitmap w lanes zones k other inside run) (λ same. differ (omega arith))
 
   more_here : ChunkHasMore w v lanes zones c (block_of_run lanes c lines index)
@@ -197,7 +197,7 @@ module _ (w v : ℕ → ℕ) (lanes zones c : ℕ) (none : heap_fault w lanes zo
 
 -- a block of whole chunks
 module _ (w v : ℕ → ℕ) (lanes zones c chunks kind size : ℕ) (none : heap_fault w lanes zones ≡ None) (made : MakesChunksObject w v lanes zones c chunks kind size) where
-  some_of_size : 1 ≤ chunks
+  pub some_of_size : 1 ≤ chunks
   some_of_size =
       let object : HasNewObject v (block_of_chunks lanes c chunks) kind size = made.object in
       let is : block_lines (class_of size) ≡ 64 * chunks = object.of_size in
@@ -211,7 +211,7 @@ module _ (w v : ℕ → ℕ) (lanes zones c chunks kind size : ℕ) (none : heap
       let chunk : (c + j) % 64 ≡ c % 64 + j = omega arith in
       (λ i. is_chunk_taken w lanes (zone i) (chunk i)) ∙ made.free.are_free j near
 
-  first_free : is_chunk_taken w lanes (c / 64) (c % 64) ≡ false
+  pub first_free : is_chunk_taken w lanes (c / 64) (c % 64) ≡ false
   first_free = let none_behind : c + 0 ≡ c = omega arith in ap (λ (k : ℕ). is_chunk_taken w lanes (k / 64) (k % 64)) (sym none_behind) ∙ each_free 0 some_of_size
 
   is_whole : class_in (v (descriptor_word lanes c)) ≡ Some (Chunks chunks)

@@ -16,3 +16,4 @@ pub mod OpenCall
 pub mod Operations
 pub mod OnActions
 pub mod Writes
+pub mod Taken

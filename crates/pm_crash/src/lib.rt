@@ -17,6 +17,7 @@ mod course;
 mod heap;
 mod histories;
 mod laws;
+mod taken;
 
 pub use actions::{
     a_call_on_actions_is_a_step, a_call_on_actions_keeps_the_call, a_publish_is_a_step,
@@ -59,6 +60,7 @@ pub use laws::{
     covered_words_have_a_byte, each_write_has_its_words, images_hold_their_pools,
     the_root_is_its_word,
 };
+pub use taken::what_is_taken_follows_the_blocks;
 
 #[cfg(test)]
 mod tests;

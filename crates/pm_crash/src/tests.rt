@@ -42,6 +42,7 @@ fn laws(_rt: HostRuntime) {
     no_record_is_torn_behind_a_rest();
     a_pool_stays_sound();
     a_lane_alone_knows_what_is_taken();
+    what_is_taken_follows_the_blocks();
     a_generation_rises_with_each_store_of_it();
     entries_perform_actions();
     a_call_on_actions_keeps_the_call();

@@ -1,0 +1,10 @@
+use Rattle.pm_crash.proofs.TakenChanges.{chunks_give, chunks_take, freed_takes, made_takes}
+use Rattle.pm_crash.proofs.taken.what_is_taken_follows_the_blocks.Goals as goal
+
+pub returns : goal.returns
+returns c = record {
+  block = made_takes;
+  chunks = chunks_take;
+  freed_block = freed_takes;
+  freed_chunks = chunks_give;
+}

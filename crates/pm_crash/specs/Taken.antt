@@ -1,0 +1,25 @@
+-- Which bits of the occupancy words are of a block: docs/FORMAT.md, "Volatile words". Chunks are counted in one row over all zones.
+use Rattle.std.specs.Prelude.{◌≡◌, ◌⊎◌, ◌↔◌, ℕ, ◌+◌, ◌*◌, ◌/◌, ◌%◌, ◌<◌, ◌≤◌, true}
+use Rattle.pm_image.specs.Blocks.{chunk_word}
+use Rattle.pm_view.specs.declared.occ.Occ.{Occ}
+use Rattle.pm_view.specs.declared.occ.Occ.TheVariants.{Run, Zone}
+use Rattle.pm_view.specs.Occupancy.{is_taken}
+use Rattle.pm_world.specs.Heap.{IsOcc}
+
+-- the bit is that of block `index` of the run at a chunk
+abbrev pub IsBlockBit : ℕ → ℕ → ℕ → Occ → ℕ → Type 0
+IsBlockBit lanes c index at bit = (at ≡ Run (8 * chunk_word lanes c)) × (bit ≡ index)
+
+-- the bit is that of one of so many chunks from this one on
+abbrev pub IsChunkBit : ℕ → ℕ → Occ → ℕ → Type 0
+IsChunkBit c chunks at bit = (at ≡ Zone (c / 64)) × ((c % 64 ≤ bit) × (bit < c % 64 + chunks))
+
+-- by `v` the bits are taken that are by `w`, and these
+abbrev pub TakesMore : (ℕ → ℕ) → (ℕ → ℕ) → ℕ → ℕ → (Occ → ℕ → Type 0) → Type 0
+TakesMore w v lanes zones these =
+    (at : Occ) (bit : ℕ) → IsOcc lanes zones at → bit < 64 → (is_taken v lanes at bit ≡ true) ↔ ((is_taken w lanes at bit ≡ true) ⊎ these at bit)
+
+-- by `v` the bits are taken that are by `w`, but for these, which were
+pub record TakesLess (w v : ℕ → ℕ) (lanes zones : ℕ) (these : Occ → ℕ → Type 0) : Type 0 where
+  pub less : (at : Occ) (bit : ℕ) → IsOcc lanes zones at → bit < 64 → (is_taken v lanes at bit ≡ true) ↔ ((is_taken w lanes at bit ≡ true) × ¬ these at bit)
+  pub were : (at : Occ) (bit : ℕ) → IsOcc lanes zones at → bit < 64 → these at bit → is_taken w lanes at bit ≡ true
