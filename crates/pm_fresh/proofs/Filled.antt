@@ -1,7 +1,8 @@
 -- A lane at work may make a new object of what it reserved.
-use Rattle.std.proofs.Common.{◌≡◌, ◌≢◌, inl, inr, ℕ, ◌+◌, ◌*◌, ◌/◌, ◌%◌, ◌&&◌, ◌-◌, ◌<◌, ◌≤◌, ◌⊎◌, ⊎_elim, Bool, true, false, not, cond, eqb, ◌||◌, All, List, [], ◌∷◌, is_some, length, length-append, set, slice_index, refl, sym, ap, ◌∙◌, subst, arith, eq-eqb, get_or-set_same, get_or-set_other}
+use Rattle.std.proofs.Common.{◌≡◌, ◌≢◌, inl, inr, ℕ, ◌+◌, ◌*◌, ◌/◌, ◌%◌, ◌&&◌, ◌-◌, ◌<◌, ◌≤◌, ◌⊎◌, ⊎_elim, Bool, true, false, not, cond, eqb, leb, ltb, ◌||◌, All, List, [], ◌∷◌, is_some, length, length-append, set, slice_index, refl, sym, ap, ◌∙◌, subst, arith, eq-eqb, get_or-set_same, get_or-set_other}
 use Rattle.std.specs.List.{list_any}
-use Rattle.std.proofs.lemmas.Bool.{and_parts, cases_eq, cases_lt, false≢true, or_left, or_parts, or_right}
+use Rattle.std.proofs.lemmas.Bool.{and_from, and_left, and_parts, and_right, cases_Bool, cases_eq, cases_lt, false_from_ne_true, false≢true, le-leb, leb-true, lt-ltb, ltb-true, or_from, or_left, or_parts, or_right}
+use Rattle.std.proofs.lemmas.List.Folds.{list_any-append}
 use Rattle.pm_image.specs.Logs.{slot_line}
 use Rattle.pm_view.specs.declared.change.Change.{Change}
 use Rattle.pm_view.specs.Area.{is_in_area, part_of}
@@ -33,6 +34,7 @@ use Rattle.pm_undo.proofs.Unflushed.{clean_drained, clean_more, drained_clean, f
 use Rattle.pm_undo.proofs.Written.{work_goes_on}
 use Rattle.pm_fresh.specs.Filled.{CanFill, IsAmong, IsFilled, describes_run}
 use Rattle.pm_fresh.specs.Filling.{fresh_word, stores_fresh, stores_line, fills_line, fills_lines, fills}
+use Rattle.pm_fresh.specs.Made.{touches}
 use Rattle.pm_fresh.proofs.Reserving.{reserved_kept}
 
 -- a flush leaves each change in its line
@@ -58,8 +60,56 @@ pub open_drained : (changes : List Change) (v : View) → v.log.phase ≡ Open [
 open_drained [] v e = ap (λ p. log_drained p (is_some v.number) v.log) e
 open_drained (c ∷ changes) v e = refl
 
+-- the word is one of the lines, and the test for those that are not
+abbrev is_within : ℕ → ℕ → ℕ → Bool
+is_within line lines w = leb (8 * line) w && ltb w (8 * (line + lines))
+
+abbrev outside : ℕ → ℕ → (ℕ → Bool) → ℕ → Bool
+outside line lines test w = test w && not (is_within line lines w)
+
+-- where no change is of a word that passes the test, none is of one outside of the lines
+outside_none : (line lines : ℕ) (test : ℕ → Bool) (changes : List Change) → touches test changes ≡ false → touches (outside line lines test) changes ≡ false
+outside_none line lines test [] none = refl
+outside_none line lines test (c ∷ changes) none =
+    let t = or_parts (test c.word) (touches test changes) none in
+    or_from (outside line lines test c.word) (touches (outside line lines test) changes) (and_left (test c.word) (not (is_within line lines c.word)) t.0) (outside_none line lines test changes t.1)
+
+-- and the other way round, where none is of the lines
+outside_all : (line lines : ℕ) (test : ℕ → Bool) (changes : List Change) → ((k : ℕ) → IsAmong line lines k → list_any (is_in_line k) changes ≡ false) → touches (outside line lines test) changes ≡ false → touches test changes ≡ false
+outside_all line lines test [] clean none = refl
+outside_all line lines test (c ∷ changes) clean none =
+    let t = or_parts (outside line lines test c.word) (touches (outside line lines test) changes) none in
+    or_from (test c.word) (touches test changes)
+    (⊎_elim
+    (λ (within : is_within line lines c.word ≡ true).
+    let s = and_parts (leb (8 * line) c.word) (ltb c.word (8 * (line + lines))) within in
+    let low = leb-true (8 * line) c.word s.0 in let high = ltb-true c.word (8 * (line + lines)) s.1 in
+    let none_here = clean (c.word / 8) (omega (arith, low), omega (arith, high)) in
+    absurd (false≢true (sym (or_parts (is_in_line (c.word / 8) c) (list_any (is_in_line (c.word / 8)) changes) none_here).0 ∙ eq-eqb (c.word / 8) (c.word / 8) refl)))
+    (λ (apart : is_within line lines c.word ≡ false). false_from_ne_true (test c.word) (λ passes. false≢true (sym t.0 ∙ and_from (test c.word) (not (is_within line lines c.word)) passes (ap not apart))))
+    (cases_Bool (is_within line lines c.word)))
+    (outside_all line lines test changes (λ k among. (or_parts (is_in_line k c) (list_any (is_in_line k) changes) (clean k among)).1) t.1)
+
+-- a flush leaves each change its word, and a drain leaves fewer
+touches_flushed : (p : ℕ → Bool) (line : ℕ) (changes : List Change) → touches p (flushed line changes) ≡ touches p changes
+touches_flushed p line [] = refl
+touches_flushed p line (c ∷ changes) = ap (λ b. b || touches p (flushed line changes)) (at (is_in_line line c)) ∙ ap (λ b. p c.word || b) (touches_flushed p line changes) where
+  at : (b : Bool) → p (cond b (record c { flushed = true }) c).word ≡ p c.word
+  at true = refl
+  at false = refl
+
+touches_drained : (p : ℕ → Bool) (changes : List Change) → touches p changes ≡ false → touches p (drained changes) ≡ false
+touches_drained p [] none = refl
+touches_drained p (c ∷ changes) none =
+    let t = or_parts (p c.word) (touches p changes) none in
+    let rest = touches_drained p changes t.1 in
+    at c.flushed t.0 rest where
+      at : (f : Bool) → p c.word ≡ false → touches p (drained changes) ≡ false → touches p (cond (not f) (c ∷ drained changes) (drained changes)) ≡ false
+      at true apart rest = rest
+      at false apart rest = or_from (p c.word) (touches p (drained changes)) apart rest
+
 -- the first so many words are those of a new object, and no other word changed
-record IsStored (v : View) (line kind size p : ℕ) (u : View) : Type 0 where
+record IsStored (v : View) (line lines kind size p : ℕ) (u : View) : Type 0 where
   call : IsSameCall v u
   log : u.log ≡ v.log
   run_words : u.run_words ≡ v.run_words
@@ -68,15 +118,17 @@ record IsStored (v : View) (line kind size p : ℕ) (u : View) : Type 0 where
   there : (place : ℕ) → place < p → slice_index u.words (8 * line + place) ≡ fresh_word kind size place
   knows : (place : ℕ) → place < p → is_known u (8 * line + place) ≡ true
   others : (w : ℕ) → (w < 8 * line) ⊎ (8 * line + p ≤ w) → slice_index u.words w ≡ slice_index v.words w
+  beside : (test : ℕ → Bool) → touches test v.changes ≡ false → touches (outside line lines test) u.changes ≡ false
 
 module _ (v : View) (line lines kind size : ℕ) (working : IsWorking v) (can : (w : ℕ) → 8 * line ≤ w → w < 8 * (line + lines) → CanFill v w) where
   abbrev Stored : ℕ → View → Type 0
-  Stored p u = IsStored v line kind size p u
+  Stored p u = IsStored v line lines kind size p u
 
   -- only changes, counts and log are others
   quiet : (p : ℕ) (u m : View) → IsSameCall u m → m.log ≡ u.log → m.words ≡ u.words → m.run_words ≡ u.run_words → m.zone_words ≡ u.zone_words
-      → ((s : ℕ) → not (list_any (is_in_line (slot_line v.lane s)) u.changes) ≡ true → not (list_any (is_in_line (slot_line v.lane s)) m.changes) ≡ true) → Stored p u → Stored p m
-  quiet p u m call log words run_words zone_words slots q = record {
+      → ((s : ℕ) → not (list_any (is_in_line (slot_line v.lane s)) u.changes) ≡ true → not (list_any (is_in_line (slot_line v.lane s)) m.changes) ≡ true)
+      → ((test : ℕ → Bool) → touches test u.changes ≡ false → touches test m.changes ≡ false) → Stored p u → Stored p m
+  quiet p u m call log words run_words zone_words slots fewer q = record {
     call = same_call-then v u m q.call call;
     log = log ∙ q.log;
     run_words = run_words ∙ q.run_words;
@@ -85,13 +137,14 @@ module _ (v : View) (line lines kind size : ℕ) (working : IsWorking v) (can : 
     there = λ place low. ap (λ ws. slice_index ws (8 * line + place)) words ∙ q.there place low;
     knows = λ place low. call.known (8 * line + place) (q.knows place low);
     others = λ w out. ap (λ ws. slice_index ws w) words ∙ q.others w out;
+    beside = λ test none. fewer (outside line lines test) (q.beside test none);
   }
 
   settled : (p : ℕ) (u m : View) → IsSettled u m → Stored p u → Stored p m
   settled p u m e q =
       quiet p u m (same_settled u m e) (ap (λ (z : View). z.log) e ∙ open_settled u.changes u [] [] (ap (λ (l : Log). l.phase) q.log ∙ working.is_open))
       (ap (λ (z : View). z.words) e) (ap (λ (z : View). z.run_words) e) (ap (λ (z : View). z.zone_words) e)
-      (λ s none. ap (λ (z : View). not (list_any (is_in_line (slot_line v.lane s)) z.changes)) e) q
+      (λ s none. ap (λ (z : View). not (list_any (is_in_line (slot_line v.lane s)) z.changes)) e) (λ test none. ap (λ (z : View). touches test z.changes) e) q
 
   roomy : (p : ℕ) (u m : View) → HasMadeRoom u m → Stored p u → Stored p m
   roomy p u m made q = ⊎_elim (λ (same : m ≡ u). subst (Stored p) (sym same) q) (λ (full : (512 ≤ length u.changes) × IsSettled u m). settled p u m full.1 q) made.1
@@ -164,6 +217,11 @@ module _ (v : View) (line lines kind size : ℕ) (working : IsWorking v) (can : 
           (cases_eq place p);
       others = λ u out. get_or-set_other m.words w u x 0 (λ same. ⊎_elim (λ (under : u < 8 * line). absurd (omega (arith, same, under))) (λ (high : 8 * line + (p + 1) ≤ u). absurd (omega (arith, same, high))) out)
           ∙ q.others u (⊎_elim (λ (under : u < 8 * line). inl under) (λ (high : 8 * line + (p + 1) ≤ u). inr (omega (arith, high))) out);
+      beside = λ test none.
+          let c : Change = store_change w (slice_index m.words w) x in
+          let within : is_within line lines w ≡ true = and_from (leb (8 * line) w) (ltb w (8 * (line + lines))) (le-leb (8 * line) w (omega arith)) (lt-ltb w (8 * (line + lines)) (omega (arith, low))) in
+          list_any-append (λ (d : Change). outside line lines test d.word) m.changes (c ∷ [])
+          ∙ or_from (touches (outside line lines test) m.changes) (touches (outside line lines test) (c ∷ [])) (q.beside test none) (or_from (outside line lines test w) false (and_right (test w) (not (is_within line lines w)) (ap not within)) refl);
     } where
       changes : IsSameCall m (after m (Store w x))
       changes = same_changed m w x _ _
@@ -217,7 +275,8 @@ module _ (v : View) (line lines kind size : ℕ) (working : IsWorking v) (can : 
           tt,
           (
             subst (λ n. Stored n u) (let e : 8 * i + 8 ≡ 8 * (i + 1) = omega arith in e)
-                (quiet (8 * i + 8) m u (same_coursed m (flushed (line + i) m.changes) (m.calls + 1) m.log) refl refl refl refl (λ s none. ap not (flushed_lines (slot_line v.lane s) (line + i) m.changes) ∙ none) at.0),
+                (quiet (8 * i + 8) m u (same_coursed m (flushed (line + i) m.changes) (m.calls + 1) m.log) refl refl refl refl (λ s none. ap not (flushed_lines (slot_line v.lane s) (line + i) m.changes) ∙ none)
+                (λ test none. touches_flushed test (line + i) m.changes ∙ none) at.0),
             (λ k fine. ⊎_elim
                 (λ (this : k ≡ line + i). ap (λ n. is_unflushed (flushed (line + i) m.changes) n) this ∙ flush_cleans (line + i) m.changes)
                 (λ (other : k ≢ line + i). flush_keeps_clean (line + i) k m.changes (at.1 k other
@@ -254,6 +313,7 @@ module _ (v : View) (line lines kind size : ℕ) (working : IsWorking v) (can : 
       there = λ place low. absurd (omega (arith, low));
       knows = λ place low. absurd (omega (arith, low));
       others = λ w out. refl;
+      beside = λ test none. outside_none line lines test v.changes none;
     },
     (λ k fine. ⊎_elim (λ (among : IsAmong line 0 k). absurd (let from = among.0 in let to = among.1 in omega (arith, from, to))) (λ (clean : is_unflushed v.changes k ≡ false). clean) fine),
     (λ none. absurd (omega (arith, none))),
@@ -282,7 +342,7 @@ module _ (v : View) (line lines kind size : ℕ) (working : IsWorking v) (can : 
 
     q : Stored (8 * lines) u
     q = quiet (8 * lines) m u (same_coursed m (drained m.changes) (m.calls + 1) (log_after_drain (drained m.changes) m)) log refl refl refl
-        (λ s none. ap not (drained_clean (slot_line v.lane s) m.changes (clean_drained (slot_line v.lane s) m.changes none))) at.0
+        (λ s none. ap not (drained_clean (slot_line v.lane s) m.changes (clean_drained (slot_line v.lane s) m.changes none))) (λ test none. touches_drained test m.changes none) at.0
 
     filled : IsFilled v line lines kind size u
     filled = record {
@@ -296,7 +356,7 @@ module _ (v : View) (line lines kind size : ℕ) (working : IsWorking v) (can : 
       others = λ w out. q.others w (⊎_elim (λ (low : w < 8 * line). inl low) (λ (high : 8 * (line + lines) ≤ w). inr (omega (arith, high))) out);
       reserved = still_reserved (8 * lines) u (omega arith) q;
       drained = λ k fine. drained_clean k m.changes (at.1 k fine);
-      none = λ e. no_lines (drained m.changes) (λ k. drained_clean k m.changes (at.1 k (inr (ap (λ (changes : List Change). is_unflushed changes k) e))));
+      beside = λ test none. outside_all line lines test (drained m.changes) (λ k among. drained_clean k m.changes (at.1 k (inl among))) (q.beside test none);
       calls = λ fits. (let calls = (at.3 fits).1 in omega (arith, calls));
     }
 

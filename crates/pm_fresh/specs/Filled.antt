@@ -12,6 +12,7 @@ use Rattle.pm_view.specs.View.{View, Taken}
 use Rattle.pm_world.specs.Heap.{IsOcc}
 use Rattle.pm_undo.specs.Working.{IsSameCall, IsWorking}
 use Rattle.pm_fresh.specs.Filling.{fresh_word}
+use Rattle.pm_fresh.specs.Made.{touches}
 
 -- the word describes the run whose blocks these are
 abbrev pub describes_run : ℕ → ℕ → Occ → Bool
@@ -50,6 +51,7 @@ pub record IsFilled (v : View) (line lines kind size : ℕ) (w : View) : Type 0 
   pub reserved : (u : ℕ) → is_reserved w u ≡ is_reserved v u
   -- nothing undrained is of these lines, nor of another that had nothing unflushed
   pub drained : (k : ℕ) → IsAmong line lines k ⊎ (is_unflushed v.changes k ≡ false) → list_any (is_in_line k) w.changes ≡ false
-  pub none : v.changes ≡ [] → w.changes ≡ []
+  -- nor of a word that had nothing undrained
+  pub beside : (p : ℕ → Bool) → touches p v.changes ≡ false → touches p w.changes ≡ false
   -- where there is room for all of its changes, nine counted calls a line and a drain
   pub calls : length v.changes + 8 * lines ≤ max_changes → w.calls ≡ v.calls + 9 * lines + 1
