@@ -88,7 +88,6 @@ pub mod BitEntries
 pub mod OneChange
 pub mod ChangesApart
 pub mod ChangesBehind
-pub mod ObjectsByOffset
 pub mod MayChange
 pub mod ChangesKept
 pub mod PublishedInTurn
