@@ -16,6 +16,7 @@ pub mod FoundBlocks
 pub mod HeapWordsAlone
 pub mod HeldAlike
 pub mod Passing
+pub mod Unmade
 pub mod Runs
 pub mod PendingOn
 pub mod CallWords
