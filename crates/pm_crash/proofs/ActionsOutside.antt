@@ -84,7 +84,7 @@ first_outside unaligned no_place missing past_end full = option_map (λ (check :
 
 -- what a lane saw that found an object or not
 abbrev found_missing : Bool → Seen
-found_missing missing = record { spent = false; busy = false; missing = missing }
+found_missing missing = record { spent = false; busy = false; missing = missing; full = false }
 
 five_checks : (missing : Bool) (s : Outside) (op : Operation)
     → refusal_outside (found_missing missing) s op ≡ first_outside (is_unaligned op) (names_no_place s op) (names_missing (found_missing missing) s op) (names_past_end s op) (has_no_room s op)

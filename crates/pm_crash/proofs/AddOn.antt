@@ -16,7 +16,7 @@ use Rattle.pm_view.specs.View.{View}
 use Rattle.pm_world.specs.Records.{covers, is_recorded}
 use Rattle.pm_crash.proofs.CallWords.{locks_kept}
 use Rattle.pm_crash.specs.Held.{HoldsPool}
-use Rattle.pm_crash.specs.OpenCall.{IsBefore, call_words, IsOpen, words_recorded}
+use Rattle.pm_crash.specs.OpenCall.{IsBefore, call_words, IsOpen, words_recorded, ComesTo}
 use Rattle.pm_crash.specs.Operations.{AddsRange, IsPresent}
 use Rattle.pm_crash.proofs.CallWords.{call_works, covered_is_outside, held_is_locked, object_under, other_call_word, recorded_call_word, same_pool, IsObjectOf}
 use Rattle.pm_crash.proofs.Continued.{answers_done, still_open}
@@ -25,6 +25,7 @@ use Rattle.pm_crash.proofs.NewRecords.{new_is_covered, number_of_new, recorded_m
 use Rattle.pm_crash.proofs.Passing.{passes_all, Works}
 use Rattle.std.proofs.lemmas.List.Elements.{All-nil}
 use Rattle.pm_crash.specs.Performing.{CanPerform}
+use Rattle.pm_crash.proofs.Unmade.{told_unmade}
 
 -- a word is recorded after where it was before, or is new
 recorded_after : (v next : View) (id : Oid) (off len i : ℕ) → (adds : AddsRange v next id off len) → is_recorded next.log.records i ≡ (is_recorded v.log.records i || is_recorded adds.added i)
@@ -106,7 +107,8 @@ add_keeps_open v next id off len level some is_open adds =
       before = add_back v next id off len adds;
       entries = adds.entries;
     })
-    (λ w header pool same_id before next_before c.
+    (λ w header pool same_id before next_before given.
+    let c : ComesTo v w header pool level stage.Work error.None = told_unmade v w header pool level stage.Work error.None given in
     let object : IsObjectOf v w c.tx id held.lock.line = object_under v w header pool level id true is_open before c held adds.range.size_known in
     let works : Works c.tx = call_works v w header pool level some is_open c in
     let inside : off + len ≤ slice_index v.words (8 * held.lock.line + 1) = adds.range.inside in
@@ -119,8 +121,8 @@ add_keeps_open v next id off len level some is_open adds =
     let all : length next.log.records ≡ length v.log.records + length added = ap (λ (rs : List Recorded). length rs) adds.records ∙ length-append v.log.records added in
     record {
       answers =
-          answers_done c.tx (AddRange id off len) None refl (record { no_wants = refl; no_begin = refl; aligned = refl; no_more = λ tx. refl; no_action = refl })
-          (passes_all c.tx (AddRange id off len) works (record { no_wants = refl; no_begin = refl; aligned = refl; no_more = λ tx. refl; no_action = refl })
+          answers_done c.tx (AddRange id off len) None refl (record { known = refl; no_wants = refl; no_begin = refl; aligned = refl; no_more = λ tx. refl; no_action = refl })
+          (passes_all c.tx (AddRange id off len) works (record { known = refl; no_wants = refl; no_begin = refl; aligned = refl; no_more = λ tx. refl; no_action = refl })
           (held_is_locked v id true c.tx held c.locks (same_pool v w header c.tx c.holds same_id))
           (le-ltb (length (bytes_of c.tx.pool.objects id.off)) (off + len) (omega arith))
           refl
@@ -140,6 +142,9 @@ add_keeps_open v next id off len level some is_open adds =
       fails = refl;
       actions = refl;
       moved = sym (append-nil c.tx.moved);
+      no_made = refl;
+      no_dropped = refl;
+      no_freed = refl;
       performable = All-nil (CanPerform w v.lanes v.zones);
       blocks_stay = ap (λ (f : ℕ → ℕ). blocks f v.lanes v.zones) same;
       sizes_stay = λ block there. ap (λ (f : ℕ → ℕ). size_in f block) same;

@@ -23,19 +23,20 @@ use Rattle.pm_model.specs.declared.stage.Stage.TheVariants as stage
 use Rattle.pm_model.specs.Actions.{Action}
 use Rattle.pm_model.specs.Places.{can_begin, has_place}
 use Rattle.pm_model.specs.Transaction.{Transaction, locked_all, resting}
-use Rattle.pm_model.specs.Checks.{passes_locks, wants_no_place, takes_first_lock, is_missing, first_refusal}
+use Rattle.pm_model.specs.Checks.{objects_named, passes_locks, wants_no_place, takes_first_lock, is_missing, first_refusal}
 use Rattle.pm_model.specs.Answers.{Told as Answered, Answers, IsDone, IsRefused, after}
 use Rattle.pm_view.specs.Log.{Recorded}
 use Rattle.pm_view.specs.View.{View}
 use Rattle.pm_world.specs.Records.{is_recorded}
 use Rattle.pm_crash.proofs.SameLocks.{turned_locks}
 use Rattle.pm_crash.specs.Held.{HoldsPool}
+use Rattle.pm_crash.specs.Locks.{AreSameLocks}
 use Rattle.pm_crash.specs.OpenCall.{IsBefore, IsOpen, RunsTo, block_at_line, call_words, words_recorded, lock_of, locks_of}
 use Rattle.pm_crash.specs.Pending.{pending_before, told_of}
 use Rattle.pm_crash.specs.Performing.{CanPerform}
 use Rattle.pm_crash.specs.Operations.{BeginsCall, IsHeld, IsWantHeld}
 use Rattle.pm_crash.proofs.ObjectsOfBlocks.{object_is_there}
-use Rattle.pm_crash.proofs.Passing.{unhindered}
+use Rattle.pm_crash.proofs.Passing.{none_named, unhindered}
 use Rattle.pm_crash.proofs.PendingOn.{pending_first, published_first}
 use Rattle.pm_crash.proofs.Runs.{runs_first}
 
@@ -72,6 +73,7 @@ begin_passes pool actions wants places few =
     ∷ (refusal.NoObject, place j)
     ∷ (refusal.Busy, false)
     ∷ (refusal.NoObject, missing j)
+    ∷ (refusal.NoObject, none_named tx (λ off. refl) (objects_named tx op) j)
     ∷ (refusal.OutOfRange, false)
     ∷ (refusal.NotAdded, false)
     ∷ (refusal.LogFull, false)
@@ -133,7 +135,9 @@ begin_opens v wants begins = record {
         runs = subst (λ (ts : List Answered). RunsTo pool (pending_before v) ts tx) (sym (ap (map told_of) begins.call)) (runs_first told pool (pending_before v) (begin_answers v wants w header pool (pending_before v) begins holds id before));
         holds = subst (λ (f : ℕ → ℕ). HoldsPool f v.lanes v.zones header pool) (sym same) holds;
         before = refl;
-        locks = turned_locks (locks_of v) (locked_all wants []) begins.takes.locks;
+        locks =
+            subst (λ (ws : List Want). AreSameLocks (locked_all ws []) (locks_of v)) (sym (all_pass (λ (want : Want). true) wants (λ want there. refl)))
+            (turned_locks (locks_of v) (locked_all wants []) begins.takes.locks);
         recorded = ap words_recorded (sym begins.no_records);
         records = ap (λ (records : List Recorded). length records) (sym begins.no_records);
         levels = refl;
@@ -141,6 +145,9 @@ begin_opens v wants begins = record {
         fails = refl;
         actions = sym (pending_first v (record { operation = Begin wants; reply = None }) begins.call);
         moved = sym (published_first v (record { operation = Begin wants; reply = None }) begins.call);
+        no_made = refl;
+        no_dropped = refl;
+        no_freed = refl;
         performable = subst (All (CanPerform w v.lanes v.zones)) (sym (published_first v (record { operation = Begin wants; reply = None }) begins.call)) (All-nil (CanPerform w v.lanes v.zones));
         blocks_stay = ap (λ (f : ℕ → ℕ). blocks f v.lanes v.zones) same;
         sizes_stay = λ block there. ap (λ (f : ℕ → ℕ). size_in f block) same;

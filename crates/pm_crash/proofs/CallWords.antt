@@ -15,7 +15,7 @@ use Rattle.pm_image.specs.Contents.{bytes_in, offset_in, size_in}
 use Rattle.pm_image.proofs.Members.{member_cases, no_member}
 use Rattle.pm_model.specs.declared.stage.Stage.TheVariants as stage
 use Rattle.pm_model.specs.Transaction.{Transaction, is_locked}
-use Rattle.pm_model.specs.Bytes.{bytes_of, covered_words}
+use Rattle.pm_model.specs.Bytes.{bytes_of, covered_words, is_among}
 use Rattle.pm_view.specs.Area.{area_word, is_in_area}
 use Rattle.pm_view.specs.Blocks.{chunk_of, is_chunk, zone_page}
 use Rattle.pm_view.specs.Log.{Final}
@@ -152,7 +152,12 @@ call_works v w header pool level some is_open c =
     let levels : c.tx.level ≡ level = c.levels in
     let long : length c.tx.locks ≡ length v.locks = c.locks.count ∙ length-map v.locks lock_of in
     let few : length v.locks ≤ 64 = is_open.few in
-    record { level = omega arith; working = c.stands; few = omega arith }
+    record {
+      level = omega arith;
+      working = c.stands;
+      few = omega arith;
+      none_gone = λ off. (λ j. (is_among (c.no_freed j) off || is_among (c.no_dropped j) off) && not (is_among c.tx.made off));
+    }
 
 -- it is of the lane's pool
 pub same_pool : (v : View) (w : ℕ → ℕ) (header : Header) (tx : Transaction) → HoldsPool (call_words v w) v.lanes v.zones header tx.pool → v.pool ≡ header.id → tx.pool.id ≡ v.pool

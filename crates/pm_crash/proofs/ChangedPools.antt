@@ -10,7 +10,8 @@ use Rattle.pm_image.specs.Blocks.{blocks}
 use Rattle.pm_image.specs.Contents.{offset_in, size_in}
 use Rattle.pm_image.proofs.LocalContents.{contents_local}
 use Rattle.pm_crash.specs.Held.{HoldsPool, IsBlockOf}
-use Rattle.pm_crash.specs.NewObjects.{new_object, pool_with, pool_without, with_block, without_block, HasNewObject}
+use Rattle.pm_model.specs.NewObjects.{new_object, pool_with, pool_without}
+use Rattle.pm_crash.specs.NewObjects.{with_block, without_block, HasNewObject}
 use Rattle.pm_crash.proofs.FreedBlocks.{ShrinksBy}
 use Rattle.pm_crash.proofs.FreshObjects.{fresh_has_no_links, fresh_is_good, fresh_object}
 use Rattle.pm_crash.proofs.MadeObjects.{GrowsBy}

@@ -91,7 +91,7 @@ commit_is_whole v next is_open commits_call = record {
       → RunsFrom (resting pool (pending_before next)) (told_in next) (last c)
   ran w header pool id c rests =
       let works : Works c.tx = call_works v w header pool 1 (omega arith) is_open c in
-      let asks : AsksNoLock Commit = record { no_wants = refl; no_begin = refl; aligned = refl; no_more = λ tx. refl; no_action = refl } in
+      let asks : AsksNoLock Commit = record { known = refl; no_wants = refl; no_begin = refl; aligned = refl; no_more = λ tx. refl; no_action = refl } in
       let answers : Answers c.tx Commit None = answers_done c.tx Commit None refl asks (passes_all c.tx Commit works asks refl refl refl refl) refl in
       let told : List Answered = told_in v ++ record { operation = Commit; reply = None } ∷ [] in
       let goes : RunsTo pool (pending_before v) told (last c) = runs_once_more (told_in v) (record { operation = Commit; reply = None }) pool (pending_before v) c.tx c.runs (ap is_working c.stands) answers in

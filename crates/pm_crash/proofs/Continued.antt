@@ -17,9 +17,10 @@ use Rattle.pm_image.specs.Blocks.{blocks}
 use Rattle.pm_image.specs.Contents.{size_in}
 use Rattle.pm_model.specs.declared.stage.Stage.TheVariants as stage
 use Rattle.pm_model.specs.Actions.{Action}
-use Rattle.pm_model.specs.Transaction.{Transaction, is_locked, is_working}
+use Rattle.pm_model.specs.Transaction.{Transaction, holds_object, is_working}
 use Rattle.pm_model.specs.Checks.{first_refusal, wants_of}
 use Rattle.pm_model.specs.Answers.{Told as Answered, Answers, IsDone, IsRefused, after_reply, is_known, value_of}
+use Rattle.pm_model.proofs.Alike.{value_known}
 use Rattle.pm_view.specs.Area.{is_in_area}
 use Rattle.pm_view.specs.Blocks.{is_chunk}
 use Rattle.pm_view.specs.View.{View, Lock}
@@ -33,6 +34,7 @@ use Rattle.pm_crash.specs.Pending.{pending_before, pending_behind, pending_in, p
 use Rattle.pm_crash.specs.Performing.{CanPerform}
 use Rattle.pm_crash.proofs.PendingOn.{pending_once_more, published_once_more, same_before}
 use Rattle.pm_crash.proofs.Runs.{runs_once_more}
+use Rattle.pm_crash.proofs.Unmade.{told_unmade, unmade}
 
 -- an operation that asks for no lock, and is not refused, answers its value
 pub answers_value : (tx : Transaction) (op : Operation) (reply : Option Value) → IsTrue (is_known op) → wants_of op ≡ [] → first_refusal unhindered tx op ≡ None → reply ≡ value_of tx op
@@ -40,9 +42,9 @@ pub answers_value : (tx : Transaction) (op : Operation) (reply : Option Value) �
 answers_value tx op reply known no_wants none value =
     let done : IsDone tx op reply = record {
       there =
-          subst (λ (wants : List Want). All (λ (want : Want). is_locked tx.locks want.id.off false ≡ false → IsSome (object_at tx.pool.objects want.id.off)) wants) (sym no_wants)
-          (All-nil (λ (want : Want). is_locked tx.locks want.id.off false ≡ false → IsSome (object_at tx.pool.objects want.id.off)));
-      value = value;
+          subst (λ (wants : List Want). All (λ (want : Want). holds_object tx want.id.off false ≡ false → IsSome (object_at tx.pool.objects want.id.off)) wants) (sym no_wants)
+          (All-nil (λ (want : Want). holds_object tx want.id.off false ≡ false → IsSome (object_at tx.pool.objects want.id.off)));
+      value = value_known tx op reply known value;
     } in
     record {
       known = known;
@@ -82,6 +84,9 @@ pub record Continues (v next : View) (w : ℕ → ℕ) (header : Header) (op : O
   pub fails : (after_reply op reply tx).error ≡ tx.error
   pub actions : (after_reply op reply tx).actions ≡ pending_behind op reply tx.actions
   pub moved : (after_reply op reply tx).moved ≡ tx.moved ++ published_by op reply tx.actions
+  pub no_made : (after_reply op reply tx).made ≡ []
+  pub no_dropped : (after_reply op reply tx).dropped ≡ []
+  pub no_freed : (after_reply op reply tx).freed ≡ []
   pub performable : All (CanPerform w v.lanes v.zones) (published_by op reply tx.actions)
   pub blocks_stay : blocks (call_words next w) v.lanes v.zones ≡ blocks (call_words v w) v.lanes v.zones
   pub sizes_stay : (block : Block) → Contains (blocks w v.lanes v.zones) block → size_in (call_words next w) block ≡ size_in (call_words v w) block
@@ -115,6 +120,9 @@ next_comes v next level to op reply w header pool lane call c on =
       fails = on.fails ∙ c.fails;
       actions = on.actions ∙ ap (pending_behind op reply) c.actions ∙ sym (pending_once_more v next op reply lane.entries call);
       moved = on.moved ∙ (λ j. c.moved j ++ published_by op reply (c.actions j)) ∙ sym (published_once_more v next op reply lane.entries call);
+      no_made = on.no_made;
+      no_dropped = on.no_dropped;
+      no_freed = on.no_freed;
       performable = performed_on v next op reply w lane call c on.performable;
       blocks_stay =
           two_same (λ (lanes zones : ℕ). blocks (call_words next w) lanes zones ≡ blocks w lanes zones) v.lanes next.lanes v.zones next.zones (sym lane.lanes) (sym lane.zones)
@@ -133,7 +141,7 @@ pub record GoesBack (v next : View) : Type 0 where
 
 pub still_open : (v next : View) (level to : ℕ) (op : Operation) (reply : Option Value) → IsOpen v level stage.Work error.None → Tells v next op reply → GoesBack v next
     → ((w : ℕ → ℕ) (header : Header) (pool : PoolView) → v.pool ≡ header.id → IsBefore v w → IsBefore next w → (c : ComesTo v w header pool level stage.Work error.None)
-    → Continues v next w header op reply to c.tx)
+    → Continues v next w header op reply to (unmade c.tx))
     → IsOpen next to stage.Work error.None
 still_open v next level to op reply is_open tells back continues =
     let lane : next.lane ≡ v.lane = tells.keeps.lane in
@@ -151,5 +159,5 @@ still_open v next level to op reply is_open tells back continues =
           let old_before : IsBefore v w = back.before w before in
           let old_holds : HoldsPool w v.lanes v.zones header pool = two_same (λ (n m : ℕ). HoldsPool w n m header pool) next.lanes v.lanes next.zones v.zones tells.keeps.lanes tells.keeps.zones holds in
           let c : ComesTo v w header pool level stage.Work error.None = is_open.comes w header pool old_holds old_id old_before in
-          next_comes v next level to op reply w header pool tells.keeps tells.call c (continues w header pool old_id old_before before c);
+          next_comes v next level to op reply w header pool tells.keeps tells.call (told_unmade v w header pool level stage.Work error.None c) (continues w header pool old_id old_before before c);
     }

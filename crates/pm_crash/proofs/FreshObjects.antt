@@ -13,7 +13,8 @@ use Rattle.pm_image.specs.Contents.{bytes_in, data_words, first_in, header_word,
 use Rattle.pm_image.specs.HeapFaults.{good_block}
 use Rattle.pm_image.specs.Narrowings.{takes_links}
 use Rattle.pm_image.proofs.Reading.{walk_nowhere}
-use Rattle.pm_crash.specs.NewObjects.{new_object, HasNewObject}
+use Rattle.pm_model.specs.NewObjects.{new_object}
+use Rattle.pm_crash.specs.NewObjects.{HasNewObject}
 
 -- the bytes of a word that is 0, and of some such words
 zero_word : bytes_of (0 ∷ []) ≡ replicate 8 0

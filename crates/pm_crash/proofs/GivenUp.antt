@@ -19,10 +19,11 @@ use Rattle.pm_model.specs.declared.stage.Stage.TheVariants as stage
 use Rattle.pm_model.specs.Transaction.{Transaction, aborted, is_locked, is_working, resting}
 use Rattle.pm_model.specs.Bytes.{bytes_of, is_among, new_words, records_of}
 use Rattle.pm_model.specs.Actions.{Action, passes_object}
-use Rattle.pm_model.specs.Checks.{Range, range_of, is_publish, is_unlocked_action, is_record, is_write, needs_write, is_lock_missing, is_not_locked, passes_end_of, passes_end, has_unrecorded, is_not_added, overfills, passes_log, first_refusal, words_in}
+use Rattle.pm_model.specs.Checks.{Range, range_of, is_publish, is_unlocked_action, frees_unlocked, is_record, is_write, needs_write, is_lock_missing, is_not_locked, passes_end_of, passes_end, has_unrecorded, is_not_added, overfills, passes_log, first_refusal, words_in}
 use Rattle.pm_model.specs.Answers.{Told as Answered, Answers, IsDone, IsRefused, after_reply, changes_nothing, error_for, is_known}
 use Rattle.pm_model.specs.Step.{RunsFrom, State, with_pending}
 use Rattle.pm_model.proofs.Alike.{after_refused}
+use Rattle.pm_model.proofs.Asked.{frees_none_unlocked}
 use Rattle.pm_view.specs.Area.{is_in_area}
 use Rattle.pm_view.specs.Log.{Recorded}
 use Rattle.pm_view.specs.View.{View}
@@ -40,6 +41,7 @@ use Rattle.pm_crash.proofs.Passing.{fails_added, fails_end, fails_lock, fails_ro
 use Rattle.pm_crash.proofs.RecordedWords.{among_recorded}
 use Rattle.pm_crash.proofs.Runs.{runs_once_more, runs_to_end}
 use Rattle.pm_crash.proofs.PendingOn.{pending_once_more}
+use Rattle.pm_crash.proofs.Unmade.{told_unmade, unmade}
 
 -- what was before the call, for the view before it was taken back
 pub taken_back : (v next : View) → KeepsLane v next → KeepsFound v next → TakesBack v next → ((i : ℕ) → is_recorded v.log.records i ≡ true → is_in_area v.lane i ≡ false)
@@ -84,9 +86,9 @@ outside_taken_back v next lane back outside i is = ⊎_elim
 
 -- the operations on ranges ask for no lock, and are known
 ranged_asks : (op : Operation) (range : Range) → range_of op ≡ Some range → AsksNoLock op
-ranged_asks (AddRange id off len) range is = record { no_wants = refl; no_begin = refl; aligned = refl; no_more = λ tx. refl; no_action = refl }
-ranged_asks (Write id off bytes) range is = record { no_wants = refl; no_begin = refl; aligned = refl; no_more = λ tx. refl; no_action = refl }
-ranged_asks (Read id off len) range is = record { no_wants = refl; no_begin = refl; aligned = refl; no_more = λ tx. refl; no_action = refl }
+ranged_asks (AddRange id off len) range is = record { known = refl; no_wants = refl; no_begin = refl; aligned = refl; no_more = λ tx. refl; no_action = refl }
+ranged_asks (Write id off bytes) range is = record { known = refl; no_wants = refl; no_begin = refl; aligned = refl; no_more = λ tx. refl; no_action = refl }
+ranged_asks (Read id off len) range is = record { known = refl; no_wants = refl; no_begin = refl; aligned = refl; no_more = λ tx. refl; no_action = refl }
 ranged_asks op range is = absurd cc
 
 ranged_known : (op : Operation) (range : Range) → range_of op ≡ Some range → is_known op ≡ true
@@ -107,7 +109,8 @@ record_is_no_write op is = refl
 
 -- the checks of an operation on a range
 lock_check : (tx : Transaction) (op : Operation) (range : Range) → range_of op ≡ Some range → is_not_locked tx op ≡ is_lock_missing tx (needs_write op) range
-lock_check tx op range is = ap (λ (b : Bool). (b && list_any (is_unlocked_action tx) tx.actions) || option_map_or (is_lock_missing tx (needs_write op)) (range_of op) false) (ranged_publishes_none op range is)
+lock_check tx op range is = ap (λ (b : Bool). (b && list_any (is_unlocked_action tx) tx.actions) || frees_unlocked tx op || option_map_or (is_lock_missing tx (needs_write op)) (range_of op) false) (ranged_publishes_none op range is)
+    ∙ ap (λ (b : Bool). b || option_map_or (is_lock_missing tx (needs_write op)) (range_of op) false) (frees_none_unlocked tx op (ranged_known op range is))
     ∙ ap (λ (r : Option Range). option_map_or (is_lock_missing tx (needs_write op)) r false) is
 
 end_check : (tx : Transaction) (op : Operation) (range : Range) → range_of op ≡ Some range → passes_end tx op ≡ passes_end_of tx range
@@ -130,7 +133,7 @@ not_all words (y ∷ xs) x there none = ⊎_elim
 
 -- the transaction of the open call, and what it finds of a range
 record Asked (v : View) (w : ℕ → ℕ) (header : Header) (op : Operation) (range : Range) (tx : Transaction) : Type 0 where
-  works : Works tx
+  works : Works (unmade tx)
   is_range : range_of op ≡ Some range
   of_pool : tx.pool.id ≡ v.pool
   locks : AreSameLocks tx.locks (locks_of v)
@@ -138,14 +141,14 @@ record Asked (v : View) (w : ℕ → ℕ) (header : Header) (op : Operation) (ra
   records : tx.records ≡ length v.log.records
   long : (write : Bool) → (held : IsHeld v range.id write) → Contains v.known (8 * held.lock.line + 1) → length (bytes_of tx.pool.objects range.id.off) ≡ slice_index v.words (8 * held.lock.line + 1)
 
-asked_lock : (v : View) (w : ℕ → ℕ) (header : Header) (op : Operation) (range : Range) (tx : Transaction) → Asked v w header op range tx → IsHeld v range.id (needs_write op) → is_not_locked tx op ≡ false
-asked_lock v w header op range tx asked held = lock_check tx op range asked.is_range ∙ held_is_locked v range.id (needs_write op) tx held asked.locks asked.of_pool
+asked_lock : (v : View) (w : ℕ → ℕ) (header : Header) (op : Operation) (range : Range) (tx : Transaction) → Asked v w header op range tx → IsHeld v range.id (needs_write op) → is_not_locked (unmade tx) op ≡ false
+asked_lock v w header op range tx asked held = lock_check (unmade tx) op range asked.is_range ∙ held_is_locked v range.id (needs_write op) tx held asked.locks asked.of_pool
 
-asked_end : (v : View) (w : ℕ → ℕ) (header : Header) (op : Operation) (range : Range) (tx : Transaction) → Asked v w header op range tx → HasRange v range.id range.off range.len (needs_write op) → passes_end tx op ≡ false
+asked_end : (v : View) (w : ℕ → ℕ) (header : Header) (op : Operation) (range : Range) (tx : Transaction) → Asked v w header op range tx → HasRange v range.id range.off range.len (needs_write op) → passes_end (unmade tx) op ≡ false
 asked_end v w header op range tx asked has =
     let long = asked.long (needs_write op) has.object has.size_known in
     let inside : range.off + range.len ≤ slice_index v.words (8 * has.object.lock.line + 1) = has.inside in
-    end_check tx op range asked.is_range ∙ le-ltb (length (bytes_of tx.pool.objects range.id.off)) (range.off + range.len) (omega arith)
+    end_check (unmade tx) op range asked.is_range ∙ le-ltb (length (bytes_of tx.pool.objects range.id.off)) (range.off + range.len) (omega arith)
 
 -- the operation is refused for the reason, which leaves a trace
 pub record IsRefusedFor (tx : Transaction) (op : Operation) (r : Refusal) : Type 0 where
@@ -159,11 +162,11 @@ lock_is_missing v tx id write of_pool locks unheld =
     (λ (other : id.pool ≢ tx.pool.id). and_left (eqb id.pool tx.pool.id) (is_locked tx.locks id.off write) (ne_eqb id.pool tx.pool.id other))
     (cases_eq id.pool tx.pool.id))
 
-by_reason : (v : View) (w : ℕ → ℕ) (header : Header) (op : Operation) (range : Range) (tx : Transaction) (r : Refusal) → Asked v w header op range tx → IsReason v op range r → IsRefusedFor tx op r
+by_reason : (v : View) (w : ℕ → ℕ) (header : Header) (op : Operation) (range : Range) (tx : Transaction) (r : Refusal) → Asked v w header op range tx → IsReason v op range r → IsRefusedFor (unmade tx) op r
 by_reason v w header op range tx refusal.NotLocked asked reason = record {
   refused_first =
-      fails_lock tx op asked.works (ranged_asks op range asked.is_range)
-      (lock_check tx op range asked.is_range ∙ lock_is_missing v tx range.id (needs_write op) asked.of_pool asked.locks reason);
+      fails_lock (unmade tx) op asked.works (ranged_asks op range asked.is_range)
+      (lock_check (unmade tx) op range asked.is_range ∙ lock_is_missing v tx range.id (needs_write op) asked.of_pool asked.locks reason);
   traced = refl;
 }
 by_reason v w header op range tx refusal.OutOfRange asked reason =
@@ -171,8 +174,8 @@ by_reason v w header op range tx refusal.OutOfRange asked reason =
     let outside : slice_index v.words (8 * reason.object.lock.line + 1) < range.off + range.len = reason.outside in
     record {
       refused_first =
-          fails_end tx op asked.works (ranged_asks op range asked.is_range) (asked_lock v w header op range tx asked reason.object)
-          (end_check tx op range asked.is_range ∙ lt-ltb (length (bytes_of tx.pool.objects range.id.off)) (range.off + range.len) (omega arith));
+          fails_end (unmade tx) op asked.works (ranged_asks op range asked.is_range) (asked_lock v w header op range tx asked reason.object)
+          (end_check (unmade tx) op range asked.is_range ∙ lt-ltb (length (bytes_of tx.pool.objects range.id.off)) (range.off + range.len) (omega arith));
       traced = refl;
     }
 by_reason v w header op range tx refusal.NotAdded asked reason =
@@ -180,8 +183,8 @@ by_reason v w header op range tx refusal.NotAdded asked reason =
     let none : is_among tx.recorded missing.word ≡ false = ap (λ (ws : List ℕ). is_among ws missing.word) asked.recorded ∙ among_recorded v.log.records missing.word ∙ missing.unrecorded in
     record {
       refused_first =
-          fails_added tx op asked.works (ranged_asks op range asked.is_range) (asked_lock v w header op range tx asked missing.range.object) (asked_end v w header op range tx asked missing.range)
-          (added_check tx op range asked.is_range ∙ and_from (is_write op) (has_unrecorded tx range) reason.0 (ap not (not_all tx.recorded (words_in range) missing.word missing.written none)));
+          fails_added (unmade tx) op asked.works (ranged_asks op range asked.is_range) (asked_lock v w header op range tx asked missing.range.object) (asked_end v w header op range tx asked missing.range)
+          (added_check (unmade tx) op range asked.is_range ∙ and_from (is_write op) (has_unrecorded (unmade tx) range) reason.0 (ap not (not_all tx.recorded (words_in range) missing.word missing.written none)));
       traced = refl;
     }
 by_reason v w header op range tx refusal.LogFull asked reason =
@@ -192,10 +195,10 @@ by_reason v w header op range tx refusal.LogFull asked reason =
     let over : 64 < length v.log.records + length (records_of (new_words (words_recorded v.log.records) (words_in range))) = full.overfull in
     record {
       refused_first =
-          fails_room tx op asked.works (ranged_asks op range asked.is_range) (asked_lock v w header op range tx asked full.range.object) (asked_end v w header op range tx asked full.range)
-          (added_check tx op range asked.is_range ∙ and_left (is_write op) (has_unrecorded tx range) (record_is_no_write op reason.0))
-          (room_check tx op range asked.is_range
-          ∙ and_from (is_record op) (overfills tx range) reason.0 (lt-ltb 64 (tx.records + length (records_of (new_words tx.recorded (words_in range)))) (omega arith)));
+          fails_room (unmade tx) op asked.works (ranged_asks op range asked.is_range) (asked_lock v w header op range tx asked full.range.object) (asked_end v w header op range tx asked full.range)
+          (added_check (unmade tx) op range asked.is_range ∙ and_left (is_write op) (has_unrecorded (unmade tx) range) (record_is_no_write op reason.0))
+          (room_check (unmade tx) op range asked.is_range
+          ∙ and_from (is_record op) (overfills (unmade tx) range) reason.0 (lt-ltb 64 (tx.records + length (records_of (new_words tx.recorded (words_in range)))) (omega arith)));
       traced = refl;
     }
 by_reason v w header op range tx r asked reason = absurd reason
@@ -229,7 +232,7 @@ comes_to_nothing v next op reply level e w header pool entries kept call c answe
 pub gives_up : (v next : View) (op : Operation) (reply : Option Value) (level : ℕ) (e : TxErr) → IsOpen v level stage.Work error.None → KeepsLane v next → KeepsFound v next
     → ((actions : List Action) → pending_behind op reply actions ≡ actions) → next.call ≡ v.call ++ record { operation = op; reply = reply } ∷ [] → TakesBack v next
     → ((w : ℕ → ℕ) (header : Header) (pool : PoolView) → v.pool ≡ header.id → IsBefore v w → (c : ComesTo v w header pool level stage.Work error.None)
-    → Answers c.tx op reply × (after_reply op reply c.tx ≡ aborted e c.tx))
+    → Answers (unmade c.tx) op reply × (after_reply op reply (unmade c.tx) ≡ aborted e (unmade c.tx)))
     → IsGivenUp next e
 gives_up v next op reply level e is_open lane finds kept call back aborts = record {
   outside = outside_taken_back v next lane back is_open.outside;
@@ -238,7 +241,7 @@ gives_up v next op reply level e is_open lane finds kept call back aborts = reco
       let old_id : v.pool ≡ header.id = sym lane.pool ∙ id in
       let old_before : IsBefore v w = taken_back v next lane finds back is_open.outside is_open.under w before in
       let old_holds : HoldsPool w v.lanes v.zones header pool = two_same (λ (n m : ℕ). HoldsPool w n m header pool) next.lanes v.lanes next.zones v.zones lane.lanes lane.zones holds in
-      let c : ComesTo v w header pool level stage.Work error.None = is_open.comes w header pool old_holds old_id old_before in
+      let c : ComesTo v w header pool level stage.Work error.None = told_unmade v w header pool level stage.Work error.None (is_open.comes w header pool old_holds old_id old_before) in
       let how = aborts w header pool old_id old_before c in
       comes_to_nothing v next op reply level e w header pool lane.entries kept call c how.0 how.1;
 }
@@ -247,7 +250,8 @@ pub refusal_gives_up : (v next : View) (op : Operation) (range : Range) (r : Ref
     → IsGivenUp next (error.Refused r)
 refusal_gives_up v next op range r level some is_open refuses =
     gives_up v next op (Some (Refused r)) level (error.Refused r) is_open refuses.tells.keeps (same_found v next refuses.tells.locks) (λ actions. refl) refuses.tells.call refuses.takes_back
-    (λ w header pool same_id before c.
+    (λ w header pool same_id before given.
+    let c : ComesTo v w header pool level stage.Work error.None = told_unmade v w header pool level stage.Work error.None given in
     let asked : Asked v w header op range c.tx = record {
       works = call_works v w header pool level some is_open c;
       is_range = refuses.is_range;
@@ -266,9 +270,10 @@ refusal_gives_up v next op range r level some is_open refuses =
 pub abort_gives_up : (v next : View) (errnum level : ℕ) → 1 ≤ level → IsOpen v level stage.Work error.None → Tells v next (Abort errnum) None → TakesBack v next → IsGivenUp next (error_for errnum)
 abort_gives_up v next errnum level some is_open tells back =
     gives_up v next (Abort errnum) None level (error_for errnum) is_open tells.keeps (same_found v next tells.locks) (λ actions. refl) tells.call back
-    (λ w header pool same_id before c. (
-      answers_done c.tx (Abort errnum) None refl (record { no_wants = refl; no_begin = refl; aligned = refl; no_more = λ tx. refl; no_action = refl })
-          (passes_all c.tx (Abort errnum) (call_works v w header pool level some is_open c) (record { no_wants = refl; no_begin = refl; aligned = refl; no_more = λ tx. refl; no_action = refl }) refl refl refl refl) refl,
+    (λ w header pool same_id before given.
+    let c : ComesTo v w header pool level stage.Work error.None = told_unmade v w header pool level stage.Work error.None given in (
+      answers_done c.tx (Abort errnum) None refl (record { known = refl; no_wants = refl; no_begin = refl; aligned = refl; no_more = λ tx. refl; no_action = refl })
+          (passes_all c.tx (Abort errnum) (call_works v w header pool level some is_open c) (record { known = refl; no_wants = refl; no_begin = refl; aligned = refl; no_more = λ tx. refl; no_action = refl }) refl refl refl refl) refl,
       refl,
     ))
 

@@ -23,8 +23,8 @@ use Rattle.pm_image.specs.Contents.{size_in}
 use Rattle.pm_model.specs.declared.stage.Stage.TheVariants as stage
 use Rattle.pm_model.specs.Places.{can_begin, has_place}
 use Rattle.pm_model.specs.Actions.{with_actions}
-use Rattle.pm_model.specs.Transaction.{Transaction, resting, committed, ended_inner, is_unharmed, locked_all}
-use Rattle.pm_model.specs.Checks.{is_too_deep, passes_locks, wants_no_place, first_refusal}
+use Rattle.pm_model.specs.Transaction.{Transaction, resting, committed, ended_inner, is_unharmed, locked_all, wants_of_old}
+use Rattle.pm_model.specs.Checks.{is_too_deep, objects_named, passes_locks, wants_no_place, first_refusal}
 use Rattle.pm_model.specs.Answers.{IsDone, IsRefused, after_reply}
 use Rattle.pm_view.specs.Log.{Recorded}
 use Rattle.pm_view.specs.View.{View}
@@ -39,8 +39,9 @@ use Rattle.pm_crash.proofs.CallWords.{call_works, same_pool}
 use Rattle.pm_crash.proofs.Continued.{answers_done, next_comes, still_open, two_same, Continues}
 use Rattle.pm_crash.proofs.KeptWords.{before_back, goes_back, outside_kept, same_call_words, same_found, under_kept}
 use Rattle.pm_crash.proofs.ObjectsOfBlocks.{object_is_there}
-use Rattle.pm_crash.proofs.Passing.{no_tx, no_work, not_busy, not_missing, not_spent, passes_all, unhindered, Works}
+use Rattle.pm_crash.proofs.Passing.{no_tx, no_work, none_named, not_busy, not_missing, not_spent, passes_all, unhindered, Works}
 use Rattle.pm_crash.specs.Performing.{CanPerform}
+use Rattle.pm_crash.proofs.Unmade.{told_unmade, unmade}
 
 -- an inner commit leaves one level less, and changes nothing else
 commits_inner : (tx : Transaction) (level : ℕ) → 1 ≤ level → tx.level ≡ level + 1 → after_reply Commit None tx ≡ ended_inner (committed tx)
@@ -51,14 +52,15 @@ pub inner_commit_keeps_open : (v next : View) (level : ℕ) → 1 ≤ level → 
 inner_commit_keeps_open v next level some is_open tells logs keeps =
     still_open v next (level + 1) level Commit None is_open tells
     (goes_back v next tells.keeps (same_found v next tells.locks) logs (λ i outside none. keeps.words i outside) is_open.outside is_open.under)
-    (λ w header pool same_id before next_before c.
+    (λ w header pool same_id before next_before given.
+    let c : ComesTo v w header pool (level + 1) stage.Work error.None = told_unmade v w header pool (level + 1) stage.Work error.None given in
     let same : call_words next w ≡ call_words v w = same_call_words v next logs.records keeps is_open.outside w in
     let levels : c.tx.level ≡ level + 1 = c.levels in
     let ends : after_reply Commit None c.tx ≡ ended_inner (committed c.tx) = commits_inner c.tx level some levels in
     let works : Works c.tx = call_works v w header pool (level + 1) (omega arith) is_open c in
     record {
       answers =
-          answers_done c.tx Commit None refl (record { no_wants = refl; no_begin = refl; aligned = refl; no_more = λ tx. refl; no_action = refl }) (passes_all c.tx Commit works (record { no_wants = refl; no_begin = refl; aligned = refl; no_more = λ tx. refl; no_action = refl }) refl refl refl refl) refl;
+          answers_done c.tx Commit None refl (record { known = refl; no_wants = refl; no_begin = refl; aligned = refl; no_more = λ tx. refl; no_action = refl }) (passes_all c.tx Commit works (record { known = refl; no_wants = refl; no_begin = refl; aligned = refl; no_more = λ tx. refl; no_action = refl }) refl refl refl refl) refl;
       holds =
           subst (λ (x : Transaction). HoldsPool (call_words next w) v.lanes v.zones header x.pool) (sym ends)
           (subst (λ (f : ℕ → ℕ). HoldsPool f v.lanes v.zones header c.tx.pool) (sym same) c.holds);
@@ -71,32 +73,36 @@ inner_commit_keeps_open v next level some is_open tells logs keeps =
       fails = ap (λ (x : Transaction). x.error) ends;
       actions = ap (λ (x : Transaction). x.actions) ends;
       moved = ap (λ (x : Transaction). x.moved) ends ∙ sym (append-nil c.tx.moved);
+      no_made = ap (λ (x : Transaction). x.made) ends;
+      no_dropped = ap (λ (x : Transaction). x.dropped) ends;
+      no_freed = ap (λ (x : Transaction). x.freed) ends;
       performable = All-nil (CanPerform w v.lanes v.zones);
       blocks_stay = ap (λ (f : ℕ → ℕ). blocks f v.lanes v.zones) same;
       sizes_stay = λ block there. ap (λ (f : ℕ → ℕ). size_in f block) same;
     })
 
 -- the checks of a begin inside a transaction
-further_passes : (tx : Transaction) (wants : List Want) → Works tx → tx.level < 64 → ((want : Want) → Contains wants want → has_place tx.pool want.id ≡ true)
-    → length (locked_all wants tx.locks) ≤ 64 → first_refusal unhindered tx (Begin wants) ≡ None
+further_passes : (tx : Transaction) (wants : List Want) → Works (unmade tx) → tx.level < 64 → ((want : Want) → Contains wants want → has_place tx.pool want.id ≡ true)
+    → length (locked_all wants tx.locks) ≤ 64 → first_refusal unhindered (unmade tx) (Begin wants) ≡ None
 unfolding first_refusal
 further_passes tx wants works shallow places few =
     let op : Operation = Begin wants in
     let placed : Want → Bool = λ want. has_place tx.pool want.id in
-    let deep : is_too_deep tx op ≡ false = lt-leb 64 tx.level (omega arith) in
-    let locks : passes_locks tx op ≡ false =
+    let deep : is_too_deep (unmade tx) op ≡ false = lt-leb 64 tx.level (omega arith) in
+    let locks : passes_locks (unmade tx) op ≡ false =
     ap (λ (ws : List Want). ltb 64 (length (locked_all ws tx.locks))) (all_pass placed wants places) ∙ le-ltb 64 (length (locked_all wants tx.locks)) few in
-    let place : wants_no_place tx op ≡ false = none_fails placed wants places in
+    let place : wants_no_place (unmade tx) op ≡ false = none_fails placed wants places in
     (λ j. option_map (λ (check : Refusal × Bool). check.0) (find (λ (check : Refusal × Bool). check.1)
-    ((refusal.NotWork, no_work tx works j)
-    ∷ (refusal.NoTx, no_tx tx op works j)
-    ∷ (refusal.Spent, not_spent tx j)
+    ((refusal.NotWork, no_work (unmade tx) works j)
+    ∷ (refusal.NoTx, no_tx (unmade tx) op works j)
+    ∷ (refusal.Spent, not_spent (unmade tx) j)
     ∷ (refusal.Deep, deep j)
     ∷ (refusal.LocksFull, locks j)
     ∷ (refusal.NotLocked, false)
     ∷ (refusal.NoObject, place j)
-    ∷ (refusal.Busy, not_busy tx op j)
-    ∷ (refusal.NoObject, not_missing tx op j)
+    ∷ (refusal.Busy, not_busy (unmade tx) op j)
+    ∷ (refusal.NoObject, not_missing (unmade tx) op j)
+    ∷ (refusal.NoObject, none_named (unmade tx) works.none_gone (objects_named (unmade tx) op) j)
     ∷ (refusal.OutOfRange, false)
     ∷ (refusal.NotAdded, false)
     ∷ (refusal.LogFull, false)
@@ -127,8 +133,9 @@ want_is_there v next wants level w header pool want begins id before c wanted =
 
 further_continues : (v next : View) (wants : List Want) (level : ℕ) → 1 ≤ level → level < 64 → IsOpen v level stage.Work error.None → BeginsLevel v next wants
     → (w : ℕ → ℕ) (header : Header) (pool : PoolView) → v.pool ≡ header.id → IsBefore next w → (c : ComesTo v w header pool level stage.Work error.None)
-    → Continues v next w header (Begin wants) None (level + 1) c.tx
-further_continues v next wants level some shallow is_open begins w header pool id before c =
+    → Continues v next w header (Begin wants) None (level + 1) (unmade c.tx)
+further_continues v next wants level some shallow is_open begins w header pool id before given =
+    let c : ComesTo v w header pool level stage.Work error.None = told_unmade v w header pool level stage.Work error.None given in
     let works : Works c.tx = call_works v w header pool level some is_open c in
     let levels : c.tx.level ≡ level = c.levels in
     let there : (want : Want) → Contains wants want → IsWantThere c.tx want =
@@ -136,6 +143,8 @@ further_continues v next wants level some shallow is_open begins w header pool i
     let locks : AreSameLocks (locked_all wants c.tx.locks) (locks_of next) =
     joined_locks (locked_all wants c.tx.locks) (locked_all wants (locks_of v)) (locks_of next) (wanted_alike wants c.tx.locks (locks_of v) c.locks)
     (turned_locks (locks_of next) (locked_all wants (locks_of v)) begins.takes.locks) in
+    let taken : AreSameLocks (locked_all (wants_of_old c.tx wants) c.tx.locks) (locks_of next) =
+    subst (λ (ws : List Want). AreSameLocks (locked_all ws c.tx.locks) (locks_of next)) (sym (all_pass (λ (want : Want). true) wants (λ want inside. refl))) locks in
     let long : length (locked_all wants c.tx.locks) ≡ length next.locks = locks.count ∙ length-map next.locks lock_of in
     let few : length next.locks ≤ 64 = begins.takes.few in
     let passes : first_refusal unhindered c.tx (Begin wants) ≡ None = further_passes c.tx wants works (omega arith) (λ want inside. (there want inside).place) (omega arith) in
@@ -152,7 +161,7 @@ further_continues v next wants level some shallow is_open begins w header pool i
       };
       holds = subst (λ (f : ℕ → ℕ). HoldsPool f v.lanes v.zones header c.tx.pool) (sym same) c.holds;
       before = refl;
-      locks = locks;
+      locks = taken;
       recorded = c.recorded ∙ ap words_recorded (sym begins.logs.records);
       records = c.records ∙ ap (λ (rs : List Recorded). length rs) (sym begins.logs.records);
       levels = omega arith;
@@ -160,6 +169,9 @@ further_continues v next wants level some shallow is_open begins w header pool i
       fails = refl;
       actions = refl;
       moved = sym (append-nil c.tx.moved);
+      no_made = refl;
+      no_dropped = refl;
+      no_freed = refl;
       performable = All-nil (CanPerform w v.lanes v.zones);
       blocks_stay = ap (λ (f : ℕ → ℕ). blocks f v.lanes v.zones) same;
       sizes_stay = λ block there. ap (λ (f : ℕ → ℕ). size_in f block) same;
@@ -182,6 +194,6 @@ further_begin_opens v next wants level some shallow is_open begins =
           let old_id : v.pool ≡ header.id = sym begins.keeps.pool ∙ id in
           let old_before : IsBefore v w = before_back v next begins.keeps begins.finds begins.logs.records (λ i outside none. begins.words.words i outside) w before in
           let old_holds : HoldsPool w v.lanes v.zones header pool = two_same (λ (n m : ℕ). HoldsPool w n m header pool) next.lanes v.lanes next.zones v.zones begins.keeps.lanes begins.keeps.zones holds in
-          let c : ComesTo v w header pool level stage.Work error.None = is_open.comes w header pool old_holds old_id old_before in
+          let c : ComesTo v w header pool level stage.Work error.None = told_unmade v w header pool level stage.Work error.None (is_open.comes w header pool old_holds old_id old_before) in
           next_comes v next level (level + 1) (Begin wants) None w header pool begins.keeps begins.call c (further_continues v next wants level some shallow is_open begins w header pool old_id before c);
     }

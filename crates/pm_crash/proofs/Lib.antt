@@ -16,6 +16,7 @@ pub mod FoundBlocks
 pub mod HeapWordsAlone
 pub mod HeldAlike
 pub mod Passing
+pub mod Unmade
 pub mod Runs
 pub mod PendingOn
 pub mod CallWords
@@ -89,7 +90,6 @@ pub mod BitEntries
 pub mod OneChange
 pub mod ChangesApart
 pub mod ChangesBehind
-pub mod ObjectsByOffset
 pub mod MayChange
 pub mod ChangesKept
 pub mod PublishedInTurn

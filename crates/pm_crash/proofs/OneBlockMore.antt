@@ -22,7 +22,8 @@ use Rattle.pm_image.proofs.Pools.{no_bad_root, no_root_fault}
 use Rattle.pm_image.proofs.Reading.{walk_nowhere}
 use Rattle.pm_crash.specs.Held.{HoldsPool}
 use Rattle.pm_crash.specs.HeapChanges.{AreDisjoint}
-use Rattle.pm_crash.specs.NewObjects.{pool_with, pool_without, with_block, with_object, without_block, without_object}
+use Rattle.pm_model.specs.NewObjects.{pool_with, pool_without, with_object, without_object}
+use Rattle.pm_crash.specs.NewObjects.{with_block, without_block}
 use Rattle.pm_crash.proofs.Apart.{apart}
 use Rattle.pm_crash.proofs.NoHeapFault.{no_heap_fault, root_stays}
 use Rattle.pm_crash.proofs.RisingBlocks.{same_by_members, with_has, with_keeps, with_only, with_rises, without_keeps, without_only, without_rises}

@@ -1,35 +1,41 @@
 -- An operation inside a transaction that passes each check is not refused, and else is refused for the first that it fails.
-use Rattle.std.proofs.Common.{◌≡◌, ◌≤◌, List, [], ◌∷◌, length, Option, Some, None, Bool, true, false, not, eqb, leb, ltb, ◌&&◌, refl, ◌∙◌, ap, arith}
+use Rattle.std.proofs.Common.{◌≡◌, ◌≤◌, ℕ, IsTrue, List, [], ◌∷◌, length, Option, Some, None, Bool, true, false, not, eqb, leb, ltb, ◌&&◌, refl, ◌∙◌, ap, arith}
 use Rattle.std.specs.List.{find, filter, list_any}
 use Rattle.std.specs.Option.{option_map}
-use Rattle.std.proofs.lemmas.Bool.{and_left, and_right, ne_eqb, le-ltb}
+use Rattle.std.proofs.lemmas.Bool.{and_left, and_right, false≢true, ne_eqb, or_from, le-ltb}
 use Rattle.pm_objects.specs.declared.calls.Operation.{Operation}
+use Rattle.pm_objects.specs.declared.calls.Operation.TheVariants.{Alloc}
 use Rattle.pm_objects.specs.declared.calls.Want.{Want}
 use Rattle.pm_objects.specs.declared.refusal.Refusal.{Refusal}
 use Rattle.pm_objects.specs.declared.refusal.Refusal.TheVariants as refusal
 use Rattle.pm_model.specs.declared.stage.Stage.{Stage}
 use Rattle.pm_model.specs.declared.stage.Stage.TheVariants as stage
 use Rattle.pm_model.specs.Places.{has_place}
-use Rattle.pm_model.specs.Transaction.{Transaction, is_working, locked_all}
-use Rattle.pm_model.specs.Checks.{Seen, wants_of, is_begin, is_action, is_unaligned, passes_actions, finds_no_work, finds_no_tx, is_spent, is_too_deep, passes_locks, is_not_locked, wants_no_place, takes_lock, is_busy, takes_first_lock, is_missing, passes_end, is_not_added, passes_log, first_refusal}
+use Rattle.pm_model.specs.Answers.{is_known}
+use Rattle.pm_model.specs.Transaction.{Transaction, is_gone, is_new, is_working, locked_all}
+use Rattle.pm_model.specs.Checks.{Seen, wants_of, is_alloc, is_begin, is_action, is_bad_size, is_unaligned, objects_named, finds_no_space, passes_actions, finds_no_work, finds_no_tx, is_spent, is_too_deep, passes_locks, is_not_locked, wants_no_place, takes_lock, is_busy, takes_first_lock, is_missing, passes_end, is_not_added, passes_log, first_refusal}
+use Rattle.pm_model.proofs.Asked.{frees_no_root, frees_none_listed}
 
 -- what a lane saw that nothing hindered
 abbrev pub unhindered : Seen
-unhindered = record { spent = false; busy = false; missing = false }
+unhindered = record { spent = false; busy = false; missing = false; full = false }
 
--- the transaction works, with 64 locks at most
+-- the transaction works, with 64 locks at most, and freed no object
 pub record Works (tx : Transaction) : Type 0 where
   pub level : 1 ≤ tx.level
   pub working : tx.stage ≡ stage.Work
   pub few : length tx.locks ≤ 64
+  pub none_gone : (off : ℕ) → is_gone tx off ≡ false
 
--- the operation asks for no lock
+-- the operation is known, and asks for no lock
 pub record WantsNone (op : Operation) : Type 0 where
+  pub known : IsTrue (is_known op)
   pub no_wants : wants_of op ≡ []
   pub no_begin : is_begin op ≡ false
 
 -- and is about no pending action
 pub record AsksNoLock (op : Operation) : Type 0 where
+  pub known : IsTrue (is_known op)
   pub no_wants : wants_of op ≡ []
   pub no_begin : is_begin op ≡ false
   pub aligned : is_unaligned op ≡ false
@@ -51,7 +57,7 @@ not_deep tx op asks = and_left (is_begin op) (leb 64 tx.level) asks.no_begin
 few_locks : (tx : Transaction) (op : Operation) → Works tx → WantsNone op → passes_locks tx op ≡ false
 unfolding locked_all
 few_locks tx op works asks =
-    ap (λ (wants : List Want). ltb 64 (length (locked_all (filter (λ (want : Want). has_place tx.pool want.id) wants) tx.locks))) asks.no_wants
+    ap (λ (wants : List Want). ltb 64 (length (locked_all (filter (λ (want : Want). not (is_new tx want.id.off) && has_place tx.pool want.id) wants) tx.locks))) asks.no_wants
     ∙ le-ltb 64 (length tx.locks) works.few
 
 has_places : (tx : Transaction) (op : Operation) → WantsNone op → wants_no_place tx op ≡ false
@@ -65,6 +71,19 @@ not_missing tx op = and_right (takes_first_lock tx op) false refl
 
 pub not_spent : (tx : Transaction) → is_spent unhindered tx ≡ false
 not_spent tx = and_right (eqb tx.level 0) false refl
+
+-- no object is named that is gone
+pub none_named : (tx : Transaction) → ((off : ℕ) → is_gone tx off ≡ false) → (offs : List ℕ) → list_any (is_gone tx) offs ≡ false
+none_named tx none [] = refl
+none_named tx none (off ∷ offs) = or_from (is_gone tx off) (list_any (is_gone tx) offs) (none off) (none_named tx none offs)
+
+-- an operation that is known makes no object
+makes_none : (op : Operation) → IsTrue (is_known op) → is_bad_size op ≡ false
+makes_none (Alloc size kind) known = absurd (false≢true known)
+makes_none op known = refl
+
+not_full : (op : Operation) → finds_no_space unhindered op ≡ false
+not_full op = and_right (is_alloc op) false refl
 
 -- the first refusal, by what the checks of places, locks, ends, words, room and pending actions say
 unfoldable pub first_of_six : Bool → Bool → Bool → Bool → Bool → Bool → Option Refusal
@@ -82,14 +101,19 @@ six_checks tx op works wants =
     ∷ (refusal.Deep, not_deep tx op wants j)
     ∷ (refusal.LocksFull, few_locks tx op works wants j)
     ∷ (refusal.Unaligned, is_unaligned op)
+    ∷ (refusal.BadSize, makes_none op wants.known j)
     ∷ (refusal.NotLocked, is_not_locked tx op)
     ∷ (refusal.NoObject, has_places tx op wants j)
     ∷ (refusal.Busy, not_busy tx op j)
     ∷ (refusal.NoObject, not_missing tx op j)
+    ∷ (refusal.NoObject, none_named tx works.none_gone (objects_named tx op) j)
+    ∷ (refusal.RootKept, frees_no_root tx op wants.known j)
+    ∷ (refusal.Listed, frees_none_listed tx op wants.known j)
     ∷ (refusal.OutOfRange, passes_end tx op)
     ∷ (refusal.NotAdded, is_not_added tx op)
     ∷ (refusal.LogFull, passes_log tx op)
     ∷ (refusal.ActionsFull, passes_actions tx op)
+    ∷ (refusal.NoSpace, not_full op j)
     ∷ [])))
 
 -- about no pending action, by four of them
@@ -100,7 +124,7 @@ four_checks : (tx : Transaction) (op : Operation) → Works tx → AsksNoLock op
     → first_refusal unhindered tx op ≡ first_of_four (is_not_locked tx op) (passes_end tx op) (is_not_added tx op) (passes_log tx op)
 unfolding first_of_four
 four_checks tx op works asks =
-    six_checks tx op works (record { no_wants = asks.no_wants; no_begin = asks.no_begin })
+    six_checks tx op works (record { known = asks.known; no_wants = asks.no_wants; no_begin = asks.no_begin })
     ∙ (λ j. first_of_six (asks.aligned j) (is_not_locked tx op) (passes_end tx op) (is_not_added tx op) (passes_log tx op) (asks.no_more tx j))
 
 pub passes_all : (tx : Transaction) (op : Operation) → Works tx → AsksNoLock op → is_not_locked tx op ≡ false → passes_end tx op ≡ false → is_not_added tx op ≡ false → passes_log tx op ≡ false

@@ -33,6 +33,7 @@ use Rattle.pm_crash.proofs.Passing.{passes_all, Works}
 use Rattle.std.proofs.lemmas.List.Elements.{All-nil}
 use Rattle.std.proofs.lemmas.List.{append-nil}
 use Rattle.pm_crash.specs.Performing.{CanPerform}
+use Rattle.pm_crash.proofs.Unmade.{told_unmade}
 
 -- so many bytes are in their words
 in_words : (size : ℕ) → size ≤ 8 * data_words size
@@ -71,15 +72,16 @@ read_keeps_open v next id off len level some is_open reads =
     let bytes : List ℕ = bytes_seen v id off len in
     still_open v next level level (Read id off len) (Some (Bytes bytes)) is_open reads.tells
     (goes_back v next reads.tells.keeps (same_found v next reads.tells.locks) reads.logs (λ i outside none. reads.keeps.words i outside) is_open.outside is_open.under)
-    (λ w header pool same_id before next_before c.
+    (λ w header pool same_id before next_before given.
+    let c : ComesTo v w header pool level stage.Work error.None = told_unmade v w header pool level stage.Work error.None given in
     let object : IsObjectOf v w c.tx id held.lock.line = object_under v w header pool level id false is_open before c held reads.range.size_known in
     let works : Works c.tx = call_works v w header pool level some is_open c in
     let inside : off + len ≤ slice_index v.words (8 * held.lock.line + 1) = reads.range.inside in
     let long : length (bytes_of c.tx.pool.objects id.off) ≡ slice_index v.words (8 * held.lock.line + 1) = object.long in
     let same : call_words next w ≡ call_words v w = same_call_words v next reads.logs.records reads.keeps is_open.outside w in
     let answers : Answers c.tx (Read id off len) (Some (Bytes bytes)) =
-    answers_done c.tx (Read id off len) (Some (Bytes bytes)) refl (record { no_wants = refl; no_begin = refl; aligned = refl; no_more = λ tx. refl; no_action = refl })
-    (passes_all c.tx (Read id off len) works (record { no_wants = refl; no_begin = refl; aligned = refl; no_more = λ tx. refl; no_action = refl })
+    answers_done c.tx (Read id off len) (Some (Bytes bytes)) refl (record { known = refl; no_wants = refl; no_begin = refl; aligned = refl; no_more = λ tx. refl; no_action = refl })
+    (passes_all c.tx (Read id off len) works (record { known = refl; no_wants = refl; no_begin = refl; aligned = refl; no_more = λ tx. refl; no_action = refl })
     (held_is_locked v id false c.tx held c.locks (same_pool v w header c.tx c.holds same_id))
     (le-ltb (length (bytes_of c.tx.pool.objects id.off)) (off + len) (omega arith)) refl refl)
     (ap (λ (bs : List ℕ). Some (Bytes bs)) (seen_is_read v next id off len level w header pool is_open reads before c)) in
@@ -95,6 +97,9 @@ read_keeps_open v next id off len level some is_open reads =
       fails = refl;
       actions = refl;
       moved = sym (append-nil c.tx.moved);
+      no_made = refl;
+      no_dropped = refl;
+      no_freed = refl;
       performable = All-nil (CanPerform w v.lanes v.zones);
       blocks_stay = ap (λ (f : ℕ → ℕ). blocks f v.lanes v.zones) same;
       sizes_stay = λ block there. ap (λ (f : ℕ → ℕ). size_in f block) same;

@@ -12,8 +12,8 @@ use Rattle.pm_objects.specs.declared.refusal.Refusal.{Refusal}
 use Rattle.pm_objects.specs.declared.refusal.Refusal.TheVariants as refusal
 use Rattle.pm_model.specs.declared.stage.Stage.TheVariants as stage
 use Rattle.pm_model.specs.Places.{can_begin, has_place}
-use Rattle.pm_model.specs.Transaction.{Transaction, Lock as Locked, aborted, locked_all, resting}
-use Rattle.pm_model.specs.Checks.{Seen, finds_no_work, passes_locks, wants_no_place, takes_lock, takes_first_lock, first_refusal}
+use Rattle.pm_model.specs.Transaction.{Transaction, Lock as Locked, aborted, is_gone, locked_all, resting}
+use Rattle.pm_model.specs.Checks.{Seen, finds_no_work, objects_named, passes_locks, wants_no_place, takes_lock, takes_first_lock, first_refusal}
 use Rattle.pm_model.specs.Answers.{Told as Answered, Answers, IsDone, IsRefused, after, after_reply, changes_nothing}
 use Rattle.pm_model.proofs.Alike.{after_refused}
 use Rattle.pm_view.specs.Log.{Recorded}
@@ -26,9 +26,10 @@ use Rattle.pm_crash.specs.Pending.{pending_before, told_of}
 use Rattle.pm_crash.specs.Operations.{IsBeginReason, RefusesCall, RefusesLevel, is_placed, lacks_place, locks_wanted, wants_first, wants_more}
 use Rattle.pm_crash.proofs.CallWords.{call_works, same_pool}
 use Rattle.pm_crash.proofs.GivenUp.{gives_up}
-use Rattle.pm_crash.proofs.Passing.{no_work}
+use Rattle.pm_crash.proofs.Passing.{no_work, none_named}
 use Rattle.pm_crash.proofs.PendingOn.{pending_first}
 use Rattle.pm_crash.proofs.Runs.{runs_first}
+use Rattle.pm_crash.proofs.Unmade.{unmade}
 
 -- the first refusal of a begin, by what the checks of depth, locks and places say
 first_of_five : Bool → Bool → Bool → Bool → Bool → Option Refusal
@@ -37,13 +38,13 @@ first_of_five deep full placeless busy missing = option_map (λ (check : Refusal
 
 -- what the lane saw of other lanes, where its numbers are not at their end
 abbrev saw : Bool → Bool → Seen
-saw busy missing = record { spent = false; busy = busy; missing = missing }
+saw busy missing = record { spent = false; busy = busy; missing = missing; full = false }
 
-five_checks : (busy missing : Bool) (tx : Transaction) (wants : List Want) → finds_no_work tx ≡ false
+five_checks : (busy missing : Bool) (tx : Transaction) (wants : List Want) → finds_no_work tx ≡ false → ((off : ℕ) → is_gone tx off ≡ false)
     → first_refusal (saw busy missing) tx (Begin wants)
     ≡ first_of_five (leb 64 tx.level) (passes_locks tx (Begin wants)) (wants_no_place tx (Begin wants)) (leb 1 tx.level && takes_lock tx (Begin wants) && busy) (takes_first_lock tx (Begin wants) && missing)
 unfolding first_refusal first_of_five
-five_checks busy missing tx wants works =
+five_checks busy missing tx wants works none_gone =
     (λ j. option_map (λ (check : Refusal × Bool). check.0) (find (λ (check : Refusal × Bool). check.1)
     ((refusal.NotWork, works j)
     ∷ (refusal.NoTx, and_right (eqb tx.level 0) false refl j)
@@ -54,6 +55,7 @@ five_checks busy missing tx wants works =
     ∷ (refusal.NoObject, wants_no_place tx (Begin wants))
     ∷ (refusal.Busy, leb 1 tx.level && takes_lock tx (Begin wants) && busy)
     ∷ (refusal.NoObject, takes_first_lock tx (Begin wants) && missing)
+    ∷ (refusal.NoObject, none_named tx none_gone (objects_named tx (Begin wants)) j)
     ∷ (refusal.OutOfRange, false)
     ∷ (refusal.NotAdded, false)
     ∷ (refusal.LogFull, false)
@@ -68,7 +70,7 @@ record IsAt (v : View) (level : ℕ) (before : List Locked) (tx : Transaction) :
 
 -- the check of room for locks does not depend on their order
 full_check : (v : View) (level : ℕ) (before : List Locked) (tx : Transaction) (wants : List Want) → IsAt v level before tx
-    → passes_locks tx (Begin wants) ≡ ltb 64 (length (locks_wanted v before wants))
+    → passes_locks (unmade tx) (Begin wants) ≡ ltb 64 (length (locks_wanted v before wants))
 full_check v level before tx wants at =
     (λ j. ltb 64 (length (locked_all (filter (at.placed j) wants) tx.locks))) ∙ ap (ltb 64) (wanted_alike (filter (is_placed v) wants) tx.locks before at.locks).count
 
@@ -79,41 +81,41 @@ record IsBeginRefused (tx : Transaction) (wants : List Want) (r : Refusal) : Typ
   traced : changes_nothing r ≡ false
 
 begin_refused : (v : View) (level : ℕ) (before : List Locked) (tx : Transaction) (wants : List Want) (r : Refusal) → IsAt v level before tx → IsBeginReason v level before wants r
-    → IsBeginRefused tx wants r
+    → IsBeginRefused (unmade tx) wants r
 unfolding first_of_five
 begin_refused v level before tx wants refusal.Deep at reason =
     let levels : tx.level ≡ level = at.levels in
     let deep : leb 64 tx.level ≡ true = le-leb 64 tx.level (omega arith) in
     record {
       seen = saw false false;
-      refused_first = five_checks false false tx wants at.works ∙ (λ j. first_of_five (deep j) (passes_locks tx (Begin wants)) (wants_no_place tx (Begin wants)) (leb 1 tx.level && takes_lock tx (Begin wants) && false) (takes_first_lock tx (Begin wants) && false));
+      refused_first = five_checks false false (unmade tx) wants at.works (λ off. refl) ∙ (λ j. first_of_five (deep j) (passes_locks (unmade tx) (Begin wants)) (wants_no_place (unmade tx) (Begin wants)) (leb 1 tx.level && takes_lock (unmade tx) (Begin wants) && false) (takes_first_lock (unmade tx) (Begin wants) && false));
       traced = refl;
     }
 begin_refused v level before tx wants refusal.LocksFull at reason =
     let levels : tx.level ≡ level = at.levels in
     let shallow : level < 64 = reason.0 in
     let deep : leb 64 tx.level ≡ false = lt-leb 64 tx.level (omega arith) in
-    let full : passes_locks tx (Begin wants) ≡ true =
+    let full : passes_locks (unmade tx) (Begin wants) ≡ true =
     full_check v level before tx wants at ∙ lt-ltb 64 (length (locks_wanted v before wants)) reason.1 in
     record {
       seen = saw false false;
-      refused_first = five_checks false false tx wants at.works ∙ (λ j. first_of_five (deep j) (full j) (wants_no_place tx (Begin wants)) (leb 1 tx.level && takes_lock tx (Begin wants) && false) (takes_first_lock tx (Begin wants) && false));
+      refused_first = five_checks false false (unmade tx) wants at.works (λ off. refl) ∙ (λ j. first_of_five (deep j) (full j) (wants_no_place (unmade tx) (Begin wants)) (leb 1 tx.level && takes_lock (unmade tx) (Begin wants) && false) (takes_first_lock (unmade tx) (Begin wants) && false));
       traced = refl;
     }
 begin_refused v level before tx wants refusal.NoObject at reason =
     let levels : tx.level ≡ level = at.levels in
     let shallow : level < 64 = reason.0 in
     let deep : leb 64 tx.level ≡ false = lt-leb 64 tx.level (omega arith) in
-    let full : passes_locks tx (Begin wants) ≡ false =
+    let full : passes_locks (unmade tx) (Begin wants) ≡ false =
     full_check v level before tx wants at ∙ le-ltb 64 (length (locks_wanted v before wants)) reason.1 in
-    let place : wants_no_place tx (Begin wants) ≡ lacks_place v wants = (λ j. list_any (λ (want : Want). not (at.placed j want)) wants) in
-    let first : takes_first_lock tx (Begin wants) ≡ wants_first before wants = (λ j. list_any (λ (want : Want). not (at.locks.same want.id.off false j)) wants) in
-    let by_place : lacks_place v wants ≡ true → IsBeginRefused tx wants refusal.NoObject = λ lacks.
+    let place : wants_no_place (unmade tx) (Begin wants) ≡ lacks_place v wants = (λ j. list_any (λ (want : Want). not (at.placed j want)) wants) in
+    let first : takes_first_lock (unmade tx) (Begin wants) ≡ wants_first before wants = (λ j. list_any (λ (want : Want). not (at.locks.same want.id.off false j)) wants) in
+    let by_place : lacks_place v wants ≡ true → IsBeginRefused (unmade tx) wants refusal.NoObject = λ lacks.
     record {
       seen = saw false false;
       refused_first =
-          five_checks false false tx wants at.works
-          ∙ (λ j. first_of_five (deep j) (full j) ((place ∙ lacks) j) (leb 1 tx.level && takes_lock tx (Begin wants) && false) (takes_first_lock tx (Begin wants) && false));
+          five_checks false false (unmade tx) wants at.works (λ off. refl)
+          ∙ (λ j. first_of_five (deep j) (full j) ((place ∙ lacks) j) (leb 1 tx.level && takes_lock (unmade tx) (Begin wants) && false) (takes_first_lock (unmade tx) (Begin wants) && false));
       traced = refl;
     } in
     ⊎_elim by_place
@@ -121,9 +123,9 @@ begin_refused v level before tx wants refusal.NoObject at reason =
     (λ (all_placed : lacks_place v wants ≡ false). record {
       seen = saw false true;
       refused_first =
-          five_checks false true tx wants at.works
-          ∙ (λ j. first_of_five (deep j) (full j) ((place ∙ all_placed) j) (and_right (leb 1 tx.level && takes_lock tx (Begin wants)) false refl j)
-          (and_from (takes_first_lock tx (Begin wants)) true (first ∙ more) refl j));
+          five_checks false true (unmade tx) wants at.works (λ off. refl)
+          ∙ (λ j. first_of_five (deep j) (full j) ((place ∙ all_placed) j) (and_right (leb 1 tx.level && takes_lock (unmade tx) (Begin wants)) false refl j)
+          (and_from (takes_first_lock (unmade tx) (Begin wants)) true (first ∙ more) refl j));
       traced = refl;
     })
     (cases_Bool (lacks_place v wants)))
@@ -133,15 +135,15 @@ begin_refused v level before tx wants refusal.Busy at reason =
     let shallow : level < 64 = reason.0 in
     let some : 1 ≤ level = reason.3 in
     let deep : leb 64 tx.level ≡ false = lt-leb 64 tx.level (omega arith) in
-    let full : passes_locks tx (Begin wants) ≡ false =
+    let full : passes_locks (unmade tx) (Begin wants) ≡ false =
     full_check v level before tx wants at ∙ le-ltb 64 (length (locks_wanted v before wants)) reason.1 in
-    let place : wants_no_place tx (Begin wants) ≡ lacks_place v wants = (λ j. list_any (λ (want : Want). not (at.placed j want)) wants) in
-    let more : takes_lock tx (Begin wants) ≡ wants_more before wants = (λ j. list_any (λ (want : Want). not (at.locks.same want.id.off want.write j)) wants) in
-    let busy : (leb 1 tx.level && takes_lock tx (Begin wants) && true) ≡ true =
-    and_from (leb 1 tx.level && takes_lock tx (Begin wants)) true (and_from (leb 1 tx.level) (takes_lock tx (Begin wants)) (le-leb 1 tx.level (omega arith)) (more ∙ reason.4)) refl in
+    let place : wants_no_place (unmade tx) (Begin wants) ≡ lacks_place v wants = (λ j. list_any (λ (want : Want). not (at.placed j want)) wants) in
+    let more : takes_lock (unmade tx) (Begin wants) ≡ wants_more before wants = (λ j. list_any (λ (want : Want). not (at.locks.same want.id.off want.write j)) wants) in
+    let busy : (leb 1 tx.level && takes_lock (unmade tx) (Begin wants) && true) ≡ true =
+    and_from (leb 1 tx.level && takes_lock (unmade tx) (Begin wants)) true (and_from (leb 1 tx.level) (takes_lock (unmade tx) (Begin wants)) (le-leb 1 tx.level (omega arith)) (more ∙ reason.4)) refl in
     record {
       seen = saw true false;
-      refused_first = five_checks true false tx wants at.works ∙ (λ j. first_of_five (deep j) (full j) ((place ∙ reason.2) j) (busy j) (takes_first_lock tx (Begin wants) && false));
+      refused_first = five_checks true false (unmade tx) wants at.works (λ off. refl) ∙ (λ j. first_of_five (deep j) (full j) ((place ∙ reason.2) j) (busy j) (takes_first_lock (unmade tx) (Begin wants) && false));
       traced = refl;
     }
 begin_refused v level before tx wants r at reason = absurd reason
@@ -201,5 +203,5 @@ level_refused v next level wants r some is_open refuses =
       placed =
           same_places v c.tx.pool (same_pool v w header c.tx c.holds same_id) (ap (λ (p : PoolView). p.lanes) c.holds.is_pool) (ap (λ (p : PoolView). p.zones) c.holds.is_pool);
     } in
-    let is : IsBeginRefused c.tx wants r = begin_refused v level (locks_of v) c.tx wants r at refuses.reason in
-    (begin_refused_answers c.tx wants r is, begin_refused_aborts c.tx wants r is))
+    let is : IsBeginRefused (unmade c.tx) wants r = begin_refused v level (locks_of v) c.tx wants r at refuses.reason in
+    (begin_refused_answers (unmade c.tx) wants r is, begin_refused_aborts (unmade c.tx) wants r is))

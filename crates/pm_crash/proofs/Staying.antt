@@ -69,6 +69,9 @@ open_stays_so v next level at_stage e w header pool quiet logs same c =
       fails = c.fails;
       actions = c.actions ∙ sym (pending_same v next quiet.keeps.entries quiet.call);
       moved = c.moved ∙ sym (published_same v next quiet.keeps.entries quiet.call);
+      no_made = c.no_made;
+      no_dropped = c.no_dropped;
+      no_freed = c.no_freed;
       performable =
           two_same (λ (n m : ℕ). All (CanPerform w n m) (published_in next)) v.lanes next.lanes v.zones next.zones (sym quiet.keeps.lanes) (sym quiet.keeps.zones)
           (subst (All (CanPerform w v.lanes v.zones)) (sym (published_same v next quiet.keeps.entries quiet.call)) c.performable);

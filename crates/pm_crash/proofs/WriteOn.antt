@@ -17,7 +17,7 @@ use Rattle.pm_view.specs.View.{View}
 use Rattle.pm_world.specs.Records.{is_recorded}
 use Rattle.pm_crash.proofs.CallWords.{locks_kept}
 use Rattle.pm_crash.specs.Held.{HoldsPool}
-use Rattle.pm_crash.specs.OpenCall.{call_words, IsOpen, words_recorded}
+use Rattle.pm_crash.specs.OpenCall.{call_words, IsOpen, words_recorded, ComesTo}
 use Rattle.pm_crash.specs.Operations.{WritesBytes}
 use Rattle.pm_crash.specs.Writes.{IsWritten, KeepsOthers, WritesObject, words_written, written_word}
 use Rattle.pm_crash.proofs.Apart.{heads_kept}
@@ -32,6 +32,7 @@ use Rattle.pm_crash.proofs.Written.{write_keeps_others, written_pool}
 use Rattle.std.proofs.lemmas.List.Elements.{All-nil}
 use Rattle.std.proofs.lemmas.List.{append-nil}
 use Rattle.pm_crash.specs.Performing.{CanPerform}
+use Rattle.pm_crash.proofs.Unmade.{told_unmade}
 
 -- the words of the call after the write are those before it with the bytes written
 made_written : (v next : View) (id : Oid) (off : ℕ) (bytes : List ℕ) (w : ℕ → ℕ) → ((i : ℕ) → is_recorded v.log.records i ≡ true → is_in_area v.lane i ≡ false) → WritesBytes v next id off bytes → IsWritten (call_words v w) (call_words next w) (id.off + off) bytes
@@ -70,7 +71,8 @@ write_keeps_open v next id off level bytes some is_open writes =
     let held = writes.range.object in
     still_open v next level level (Write id off bytes) None is_open writes.tells
     (goes_back v next writes.tells.keeps (same_found v next writes.tells.locks) writes.logs (unwritten_stays v next id off bytes writes) is_open.outside is_open.under)
-    (λ w header pool same_id before next_before c.
+    (λ w header pool same_id before next_before given.
+    let c : ComesTo v w header pool level stage.Work error.None = told_unmade v w header pool level stage.Work error.None given in
     let object : IsObjectOf v w c.tx id held.lock.line = object_under v w header pool level id true is_open before c held writes.range.size_known in
     let works : Works c.tx = call_works v w header pool level some is_open c in
     let words : ℕ → ℕ = call_words v w in
@@ -89,8 +91,8 @@ write_keeps_open v next id off level bytes some is_open writes =
     λ i there. ap (λ (ws : List ℕ). is_among ws i) c.recorded ∙ among_recorded v.log.records i ∙ writes.added i there in
     record {
       answers =
-          answers_done c.tx (Write id off bytes) None refl (record { no_wants = refl; no_begin = refl; aligned = refl; no_more = λ tx. refl; no_action = refl })
-          (passes_all c.tx (Write id off bytes) works (record { no_wants = refl; no_begin = refl; aligned = refl; no_more = λ tx. refl; no_action = refl })
+          answers_done c.tx (Write id off bytes) None refl (record { known = refl; no_wants = refl; no_begin = refl; aligned = refl; no_more = λ tx. refl; no_action = refl })
+          (passes_all c.tx (Write id off bytes) works (record { known = refl; no_wants = refl; no_begin = refl; aligned = refl; no_more = λ tx. refl; no_action = refl })
           (held_is_locked v id true c.tx held c.locks (same_pool v w header c.tx c.holds same_id))
           (le-ltb (length (bytes_of c.tx.pool.objects id.off)) (off + length bytes) (omega arith))
           (ap not (all_among c.tx.recorded (covered_words (id.off + off) (length bytes)) among)) refl)
@@ -107,6 +109,9 @@ write_keeps_open v next id off level bytes some is_open writes =
       fails = refl;
       actions = refl;
       moved = sym (append-nil c.tx.moved);
+      no_made = refl;
+      no_dropped = refl;
+      no_freed = refl;
       performable = All-nil (CanPerform w v.lanes v.zones);
       blocks_stay = blocks_same words (call_words next w) v.lanes v.zones (heads_kept words (call_words next w) v.lanes v.zones block c.holds.no_fault object.is_there keeps);
       sizes_stay = λ other there.

@@ -10,7 +10,8 @@ use Rattle.pm_view.specs.declared.occ.Occ.{Occ}
 use Rattle.pm_view.specs.declared.occ.Occ.TheVariants.{Run}
 use Rattle.pm_view.specs.Log.{final_of, Final}
 use Rattle.pm_world.specs.History.{made_final}
-use Rattle.pm_crash.specs.NewObjects.{block_of_chunks, block_of_run, new_object, pool_with, pool_without, with_block, without_block, AreFreeChunks, HasNewObject, IsFreeInRun, MayFreeChunks, MayFreeInRun}
+use Rattle.pm_model.specs.NewObjects.{new_object, pool_with, pool_without}
+use Rattle.pm_crash.specs.NewObjects.{block_of_chunks, block_of_run, with_block, without_block, AreFreeChunks, HasNewObject, IsFreeInRun, MayFreeChunks, MayFreeInRun}
 
 pub data HeapChange : Type 0 where
   -- a block of a run is allocated: the chunk, the lines of a block, the block's index, and the object's type and size

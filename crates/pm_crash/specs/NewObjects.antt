@@ -1,33 +1,15 @@
 -- What a block that is made an object's, and one that is freed, make of the pool that words hold. `w` gives words by their number before, `v` after;
 -- chunks are counted in one row over all zones.
-use Rattle.std.specs.Prelude.{◌≡◌, ◌≢◌, ℕ, ◌+◌, ◌-◌, ◌*◌, ◌/◌, ◌%◌, ◌^◌, ◌<◌, ◌≤◌, ◌==◌, not, nat_lt, if◌then◌else◌, false, List, [], ◌∷◌, filter, replicate, bit_and, bit_or}
+use Rattle.std.specs.Prelude.{◌≡◌, ◌≢◌, ℕ, ◌+◌, ◌-◌, ◌*◌, ◌/◌, ◌%◌, ◌^◌, ◌<◌, ◌≤◌, ◌==◌, not, nat_lt, if◌then◌else◌, false, List, [], ◌∷◌, filter, bit_and, bit_or}
 use Rattle.std.specs.Int.{bit_at}
 use Rattle.pm_layout.specs.Sizes.{block_place, blocks_of, class_of, descriptor_of}
 use Rattle.pm_layout.specs.declared.class.Class.TheVariants.{Lines, Chunks}
-use Rattle.pm_objects.specs.Pool.{block_lines, Objects}
-use Rattle.pm_objects.specs.declared.pool.Object.{Object}
-use Rattle.pm_objects.specs.declared.pool.PoolView.{PoolView}
+use Rattle.pm_objects.specs.Pool.{block_lines}
 use Rattle.pm_image.specs.declared.block.Block.{Block}
 use Rattle.pm_image.specs.Blocks.{chunk_word, descriptor_word}
 use Rattle.pm_image.specs.Contents.{data_words, header_word, offset_in}
 use Rattle.pm_image.specs.Reads.{Reads}
 use Rattle.pm_view.specs.Occupancy.{is_chunk_taken}
-
--- objects with one more, in rising offsets
-unfoldable pub with_object : ℕ → Object → Objects → Objects
-with_object off object [] = (off, object) ∷ []
-with_object off object (entry ∷ objects) = if nat_lt off entry.0 then (off, object) ∷ entry ∷ objects else entry ∷ with_object off object objects
-
--- objects but the one at an offset
-unfoldable pub without_object : ℕ → Objects → Objects
-without_object off objects = filter (λ entry. not (entry.0 == off)) objects
-
--- a pool with one object more, and one without the object at an offset
-abbrev pub pool_with : ℕ → Object → PoolView → PoolView
-pool_with off object pool = record pool { objects = with_object off object pool.objects }
-
-abbrev pub pool_without : ℕ → PoolView → PoolView
-pool_without off pool = record pool { objects = without_object off pool.objects }
 
 -- blocks with one more, in rising place
 unfoldable pub with_block : Block → List Block → List Block
@@ -37,10 +19,6 @@ with_block block (b ∷ bs) = if nat_lt block.place b.place then block ∷ b ∷
 -- blocks but the one at a place
 unfoldable pub without_block : ℕ → List Block → List Block
 without_block place bs = filter (λ b. not (b.place == place)) bs
-
--- an object as it is made: of zeros, and with no members
-abbrev pub new_object : ℕ → ℕ → Object
-new_object kind size = record { kind = kind; bytes = replicate size 0; members = [] }
 
 -- block i of a run at a chunk, and the block that is so many whole chunks from this one on
 abbrev pub block_of_run : ℕ → ℕ → ℕ → ℕ → Block

@@ -113,6 +113,10 @@ pub record ComesTo (v : View) (w : ℕ → ℕ) (header : Header) (pool : PoolVi
   pub fails : tx.error ≡ error
   pub actions : tx.actions ≡ pending_in v
   pub moved : tx.moved ≡ published_in v
+  -- no call makes or frees an object yet
+  pub no_made : tx.made ≡ []
+  pub no_dropped : tx.dropped ≡ []
+  pub no_freed : tx.freed ≡ []
   pub performable : All (CanPerform w v.lanes v.zones) (published_in v)
   pub blocks_stay : blocks (call_words v w) v.lanes v.zones ≡ blocks w v.lanes v.zones
   pub sizes_stay : (block : Block) → Contains (blocks w v.lanes v.zones) block → size_in (call_words v w) block ≡ size_in w block

@@ -1,9 +1,8 @@
-ghost use Rattle.std.specs.Prelude.{◌≡◌, ◌≢◌, ℕ, ◌+◌, ◌*◌, ◌<◌, ◌≤◌, false, List, All, Contains, Some, None};
-ghost use Rattle.std.specs.List.Sorted.{IsStrictlyIncreasing};
+ghost use Rattle.std.specs.Prelude.{◌≡◌, ◌≢◌, ℕ, ◌+◌, ◌*◌, ◌<◌, ◌≤◌, false, List, All, Contains, None};
 ghost use Rattle.pm_header.specs.declared.header.Header.{Header};
 ghost use Rattle.pm_layout.specs.Sizes.{descriptor_of};
 ghost use Rattle.pm_layout.specs.declared.class.Class.TheVariants.{Lines};
-ghost use Rattle.pm_objects.specs.Pool.{object_at, Objects, offsets};
+ghost use Rattle.pm_objects.specs.Pool.{object_at};
 ghost use Rattle.pm_objects.specs.declared.pool.Object.{Object};
 ghost use Rattle.pm_objects.specs.declared.pool.PoolView.{PoolView};
 ghost use Rattle.pm_image.specs.declared.block.Block.{Block};
@@ -14,7 +13,8 @@ ghost use Rattle.pm_view.specs.declared.occ.Occ.TheVariants.{Zone};
 ghost use Rattle.pm_view.specs.Occupancy.{is_in_block, is_taken};
 ghost use Rattle.pm_crash.specs.Held.{HoldsPool};
 ghost use Rattle.pm_crash.specs.HeapChanges.{run_at, CanChange, HeapChange, MayBeFreed};
-ghost use Rattle.pm_crash.specs.NewObjects.{block_of_chunks, block_of_run, new_object, pool_with, pool_without, with_block, with_object, without_block, without_object, AreFreeChunks, FreesChunksBlock, FreesRunBlock, IsFreeInRun, MakesChunksObject, MakesObjectOfNewRun, MakesRunObject};
+ghost use Rattle.pm_model.specs.NewObjects.{new_object, pool_with, pool_without};
+ghost use Rattle.pm_crash.specs.NewObjects.{block_of_chunks, block_of_run, with_block, without_block, AreFreeChunks, FreesChunksBlock, FreesRunBlock, IsFreeInRun, MakesChunksObject, MakesObjectOfNewRun, MakesRunObject};
 ghost use Rattle.pm_crash.specs.Publishing.{all_blocks_published, all_pool_published, published, AreInOrder, CanPublish, Published};
 
 /// A law: where a free block of a run is allocated, and its words are a new object's, the pool has that object more, of zeros, at an offset
@@ -116,21 +116,4 @@ pub fn blocks_may_be_changed()
         → MayBeFreed w lanes zones block }
     ensures kept { (w v : ℕ → ℕ) (lanes zones : ℕ) (change : HeapChange)
         → CanChange w lanes zones change → ((i : ℕ) → is_in_block w lanes i ≡ false → v i ≡ w i) → CanChange v lanes zones change }
-{}
-
-/// A law: objects with one more, where none was, have it at its offset, and objects without one have none there; at each other offset they have
-/// what was there, and they are in rising offsets still. No code runs.
-pub fn objects_are_told_by_their_offsets()
-    ensures there { (objects : Objects) (off : ℕ) (object : Object) → object_at objects off ≡ None
-        → object_at (with_object off object objects) off ≡ Some object }
-    ensures others { (objects : Objects) (off other : ℕ) (object : Object) → other ≢ off
-        → object_at (with_object off object objects) other ≡ object_at objects other }
-    ensures rising { (objects : Objects) (off : ℕ) (object : Object) → IsStrictlyIncreasing (offsets objects) → object_at objects off ≡ None
-        → IsStrictlyIncreasing (offsets (with_object off object objects)) }
-    ensures gone { (objects : Objects) (off : ℕ)
-        → object_at (without_object off objects) off ≡ None }
-    ensures others_stay { (objects : Objects) (off other : ℕ) → other ≢ off
-        → object_at (without_object off objects) other ≡ object_at objects other }
-    ensures rising_still { (objects : Objects) (off : ℕ) → IsStrictlyIncreasing (offsets objects)
-        → IsStrictlyIncreasing (offsets (without_object off objects)) }
 {}

@@ -32,7 +32,7 @@ pub use alone::{
 pub use blocks::{
     a_freed_block_holds_none, a_new_block_holds_a_new_object, a_new_run_holds_a_new_object,
     blocks_may_be_changed, entries_publish_all_at_once, freed_chunks_hold_none,
-    new_chunks_hold_a_new_object, objects_are_told_by_their_offsets,
+    new_chunks_hold_a_new_object,
 };
 pub use bounds::no_counted_call_is_idle;
 pub use calls::{

@@ -1,5 +1,5 @@
 -- A transaction runs alike over other objects that are the same wherever it takes a lock.
-use Rattle.std.proofs.Common.{◌≡◌, ⊎_elim, ℕ, List, [], ◌∷◌, ◌++◌, get_or, Option, Some, None, MatchOption, Bool, true, false, not, cond, eqb, leb, ◌&&◌, ◌||◌, refl, sym, ◌∙◌, ap, subst}
+use Rattle.std.proofs.Common.{◌≡◌, ⊎_elim, ℕ, ◌+◌, IsTrue, length, List, [], ◌∷◌, ◌++◌, get_or, Option, Some, None, MatchOption, Bool, true, false, not, cond, eqb, leb, ◌&&◌, ◌||◌, refl, sym, ◌∙◌, ap, subst}
 use Rattle.std.specs.Prelude.{IsSome}
 use Rattle.std.specs.List.{list_any}
 use Rattle.std.specs.Option.{option_map}
@@ -7,24 +7,24 @@ use Rattle.std.proofs.lemmas.Bool.{false≢true, eq-eqb, and_from, or_left, or_r
 use Rattle.std.proofs.lemmas.List.Folds.{list_any-append, list_any_at}
 use Rattle.pm_objects.specs.Pool.{Objects, object_at}
 use Rattle.pm_objects.specs.declared.calls.Operation.{Operation}
-use Rattle.pm_objects.specs.declared.calls.Operation.TheVariants.{Begin, AddRange, Write, Read, Commit, Abort}
+use Rattle.pm_objects.specs.declared.calls.Operation.TheVariants.{Begin, AddRange, Write, Read, Alloc, Free, Commit, Abort}
 use Rattle.pm_objects.specs.declared.calls.Want.{Want}
 use Rattle.pm_objects.specs.declared.history.TxErr.{TxErr}
 use Rattle.pm_objects.specs.declared.history.TxErr.TheVariants as error
 use Rattle.pm_objects.specs.declared.history.Value.{Value}
-use Rattle.pm_objects.specs.declared.history.Value.TheVariants.{Bytes, Refused}
+use Rattle.pm_objects.specs.declared.history.Value.TheVariants.{Offset, Bytes, Refused}
 use Rattle.pm_objects.specs.declared.pool.Object.{Object}
 use Rattle.pm_objects.specs.declared.refusal.Refusal.{Refusal}
 use Rattle.pm_model.specs.Actions.{Action, all_performed, number_bytes, with_actions}
 use Rattle.pm_model.specs.Actions.Action.{SetWord}
-use Rattle.pm_model.specs.Transaction.{Transaction, resting, aborted, ended_inner, committed, is_working, is_locked}
-use Rattle.pm_model.specs.Bytes.{bytes_at, put_object, with_bytes}
-use Rattle.pm_model.specs.Checks.{Range, wants_of, is_action, is_not_locked, first_refusal}
-use Rattle.pm_model.specs.Answers.{Told, changes_nothing, value_of, error_for, performed, after_reply, after, IsDone, IsRefused, Answers}
+use Rattle.pm_model.specs.Transaction.{Transaction, resting, aborted, ended_inner, committed, is_working, is_locked, is_new, holds_object}
+use Rattle.pm_model.specs.Bytes.{bytes_at, put_object, with_bytes, new_words, records_of}
+use Rattle.pm_model.specs.Checks.{Range, wants_of, words_in, is_action, is_not_locked, first_refusal}
+use Rattle.pm_model.specs.Answers.{Told, changes_nothing, is_known, value_of, error_for, performed, after_reply, after, IsDone, IsRefused, IsValue, Answers}
 use Rattle.pm_model.specs.Step.{RunsOn}
 use Rattle.pm_model.specs.Names.{is_refusal, wants_taken, is_wanted}
 use Rattle.pm_model.proofs.Objects.{object_at-put}
-use Rattle.pm_model.proofs.Locking.{locked_all_from}
+use Rattle.pm_model.proofs.Locking.{held_from}
 use Rattle.pm_model.proofs.Asked.{over, range_held, same_bytes, same_refusal, passed_lock}
 
 -- what an operation that is done answers is no refusal
@@ -32,14 +32,28 @@ no_refusal : (tx : Transaction) (op : Operation) → is_refusal (value_of tx op)
 no_refusal tx (Read id off len) = refl
 no_refusal tx op = refl
 
--- so it leaves what it performs
-pub after_value : (op : Operation) (reply : Option Value) (tx : Transaction) → is_refusal reply ≡ false → after_reply op reply tx ≡ performed op tx
-after_value op None tx plain = refl
-after_value op (Some (Refused r)) tx plain = absurd (false≢true (sym plain))
-after_value op (Some value) tx plain = refl
+-- one that is known gives its value, and no place of an object
+pub known_value : (tx : Transaction) (op : Operation) (reply : Option Value) → IsTrue (is_known op) → IsValue tx op reply → reply ≡ value_of tx op
+known_value tx (Alloc size kind) reply known value = absurd (false≢true known)
+known_value tx op reply known value = value
 
-pub done_is_plain : (tx : Transaction) (op : Operation) (reply : Option Value) → reply ≡ value_of tx op → is_refusal reply ≡ false
-done_is_plain tx op reply value = ap is_refusal value ∙ no_refusal tx op
+pub value_known : (tx : Transaction) (op : Operation) (reply : Option Value) → IsTrue (is_known op) → reply ≡ value_of tx op → IsValue tx op reply
+value_known tx (Alloc size kind) reply known value = absurd (false≢true known)
+value_known tx op reply known value = value
+
+after_place : (op : Operation) (off : ℕ) (tx : Transaction) → IsTrue (is_known op) → after_reply op (Some (Offset off)) tx ≡ performed op tx
+after_place (Alloc size kind) off tx known = absurd (false≢true known)
+after_place op off tx known = refl
+
+-- so it leaves what it performs
+pub after_value : (op : Operation) (reply : Option Value) (tx : Transaction) → IsTrue (is_known op) → is_refusal reply ≡ false → after_reply op reply tx ≡ performed op tx
+after_value op None tx known plain = refl
+after_value op (Some (Refused r)) tx known plain = absurd (false≢true (sym plain))
+after_value op (Some (Offset off)) tx known plain = after_place op off tx known
+after_value op (Some value) tx known plain = refl
+
+pub done_is_plain : (tx : Transaction) (op : Operation) (reply : Option Value) → IsTrue (is_known op) → IsValue tx op reply → is_refusal reply ≡ false
+done_is_plain tx op reply known value = ap is_refusal (known_value tx op reply known value) ∙ no_refusal tx op
 
 -- a refusal that leaves a trace aborts, but of an operation on the pending actions alone, which it leaves as it was
 pub after_refused : (op : Operation) (reply : Option Value) (tx : Transaction) (r : Refusal) → IsRefused r reply → after_reply op reply tx ≡ cond (is_action op) tx (aborted (error.Refused r) tx)
@@ -67,14 +81,14 @@ takes_rest T write t told within off wanted =
     let front : List Want = cond (is_refusal t.reply) [] (wants_of t.operation) in
     within off (list_any-append asks front (wants_taken told) ∙ or_right (list_any asks front) (list_any asks (wants_taken told)) wanted)
 
--- the other transaction is this one over other objects, which are the same in T, where all its locks are
+-- the other transaction is this one over other objects, which are the same in T, where all that it holds is
 pub record Alike (T : ℕ → Bool) (root : Option ℕ) (tx other : Transaction) : Type 0 where
   pub objects : Objects
   pub before : Objects
   pub is : other ≡ over tx objects before root
   pub now : (off : ℕ) → T off ≡ true → object_at objects off ≡ object_at tx.pool.objects off
   pub at_start : (off : ℕ) → T off ≡ true → object_at before off ≡ object_at tx.before.objects off
-  pub held : (off : ℕ) → is_locked tx.locks off false ≡ true → T off ≡ true
+  pub held : (off : ℕ) → holds_object tx off false ≡ true → T off ≡ true
 
 alike_along : (T : ℕ → Bool) (root : Option ℕ) (tx tx' other other' : Transaction) → tx ≡ tx' → other ≡ other' → Alike T root tx other → Alike T root tx' other'
 alike_along T root tx tx' other other' e f h = subst (λ (o : Transaction). Alike T root tx' o) f (subst (λ (t : Transaction). Alike T root t other) e h)
@@ -95,7 +109,7 @@ all_alike (SetWord id off value ∷ actions) one other x same =
 module _ (T : ℕ → Bool) (root : Option ℕ) (tx : Transaction) (objects before : Objects)
     (now : (off : ℕ) → T off ≡ true → object_at objects off ≡ object_at tx.pool.objects off)
     (at_start : (off : ℕ) → T off ≡ true → object_at before off ≡ object_at tx.before.objects off)
-    (held : (off : ℕ) → is_locked tx.locks off false ≡ true → T off ≡ true) where
+    (held : (off : ℕ) → holds_object tx off false ≡ true → T off ≡ true) where
   same_value : (op : Operation) → is_not_locked tx op ≡ false → value_of (over tx objects before root) op ≡ value_of tx op
   same_value (Read id off len) locked =
       let range : Range = record { id = id; off = off; len = len } in
@@ -103,9 +117,9 @@ module _ (T : ℕ → Bool) (root : Option ℕ) (tx : Transaction) (objects befo
       (same_bytes objects tx.pool.objects id.off (now id.off (held id.off (range_held tx false range locked))))
   same_value op locked = refl
 
-  done_alike : (op : Operation) (reply : Option Value) → is_not_locked tx op ≡ false → ((off : ℕ) → is_wanted (wants_of op) off false ≡ true → T off ≡ true)
+  done_alike : (op : Operation) (reply : Option Value) → IsTrue (is_known op) → is_not_locked tx op ≡ false → ((off : ℕ) → is_wanted (wants_of op) off false ≡ true → T off ≡ true)
       → IsDone tx op reply → IsDone (over tx objects before root) op reply
-  done_alike op reply locked within done = record {
+  done_alike op reply known locked within done = record {
     there = λ k d inside first.
         let want : Want = get_or (wants_of op) k d in
         let off : ℕ = want.id.off in
@@ -113,7 +127,7 @@ module _ (T : ℕ → Bool) (root : Option ℕ) (tx : Transaction) (objects befo
         list_any_at (λ (w : Want). eqb w.id.off off && (w.write || not false)) (wants_of op) k d inside
         (and_from (eqb off off) (want.write || true) (eq-eqb off off refl) (or_right want.write true refl)) in
         subst (λ (o : Option Object). IsSome o) (sym (now off (within off wanted))) (done.there k d inside first);
-    value = done.value ∙ sym (same_value op locked);
+    value = value_known (over tx objects before root) op reply known (known_value tx op reply known done.value ∙ sym (same_value op locked));
   }
 
   same_match : (fr fr' : Option Refusal) (A A' : Type 0) (B : Refusal → Type 0) → fr' ≡ fr → (fr ≡ None → A → A') → MatchOption fr A B → MatchOption fr' A' B
@@ -126,14 +140,21 @@ module _ (T : ℕ → Bool) (root : Option ℕ) (tx : Transaction) (objects befo
     seen = a.seen;
     answer = same_match (first_refusal a.seen tx t.operation) (first_refusal a.seen (over tx objects before root) t.operation)
         (IsDone tx t.operation t.reply) (IsDone (over tx objects before root) t.operation t.reply) (λ r. IsRefused r t.reply)
-        (same_refusal a.seen tx t.operation objects before root (λ off h. now off (held off h)))
-        (λ none done. done_alike t.operation t.reply (passed_lock a.seen tx t.operation none)
-        (takes_first T false t told within (done_is_plain tx t.operation t.reply done.value)) done)
+        (same_refusal a.seen tx t.operation objects before root a.known (λ off h. now off (held off h)))
+        (λ none done. done_alike t.operation t.reply a.known (passed_lock a.seen tx t.operation none)
+        (takes_first T false t told within (done_is_plain tx t.operation t.reply a.known done.value)) done)
         a.answer;
   }
 
   abort_alike : (e : TxErr) → Alike T root (aborted e tx) (aborted e (over tx objects before root))
-  abort_alike e = record { objects = before; before = before; is = refl; now = at_start; at_start = at_start; held = held }
+  abort_alike e = record {
+    objects = before;
+    before = before;
+    is = refl;
+    now = at_start;
+    at_start = at_start;
+    held = λ off h. held off (or_right (is_new tx off) (is_locked tx.locks off false) h);
+  }
 
   end_alike : (outermost : Bool) → Alike T root
       (cond outermost (resting (with_actions tx.moved tx.pool) tx.actions) (ended_inner (committed tx)))
@@ -143,17 +164,26 @@ module _ (T : ℕ → Bool) (root : Option ℕ) (tx : Transaction) (objects befo
       record { objects = all_performed tx.moved objects; before = all_performed tx.moved objects; is = refl; now = performed_alike_; at_start = performed_alike_; held = λ off h. absurd (false≢true h) }
   end_alike false = record { objects = objects; before = before; is = refl; now = now; at_start = at_start; held = held }
 
-  performed_alike : (op : Operation) → ((off : ℕ) → is_wanted (wants_of op) off false ≡ true → T off ≡ true) → Alike T root (performed op tx) (performed op (over tx objects before root))
-  performed_alike (Begin wants) within = record {
+  -- what is recorded, where the object is new or not
+  recorded_alike : (range : Range) (new : Bool) → Alike T root
+      (cond new tx (record tx { recorded = tx.recorded ++ new_words tx.recorded (words_in range); records = tx.records + length (records_of (new_words tx.recorded (words_in range))) }))
+      (cond new (over tx objects before root)
+      (record (over tx objects before root) { recorded = tx.recorded ++ new_words tx.recorded (words_in range); records = tx.records + length (records_of (new_words tx.recorded (words_in range))) }))
+  recorded_alike range true = record { objects = objects; before = before; is = refl; now = now; at_start = at_start; held = held }
+  recorded_alike range false = record { objects = objects; before = before; is = refl; now = now; at_start = at_start; held = held }
+
+  performed_alike : (op : Operation) → IsTrue (is_known op) → ((off : ℕ) → is_wanted (wants_of op) off false ≡ true → T off ≡ true)
+      → Alike T root (performed op tx) (performed op (over tx objects before root))
+  performed_alike (Begin wants) known within = record {
     objects = objects;
     before = before;
     is = refl;
     now = now;
     at_start = at_start;
-    held = λ off h. ⊎_elim (λ (w : is_wanted wants off false ≡ true). within off w) (λ (old : is_locked tx.locks off false ≡ true). held off old) (locked_all_from wants tx.locks off false h);
+    held = λ off h. ⊎_elim (λ (w : is_wanted wants off false ≡ true). within off w) (λ (old : holds_object tx off false ≡ true). held off old) (held_from wants tx off false h);
   }
-  performed_alike (AddRange id off len) within = record { objects = objects; before = before; is = refl; now = now; at_start = at_start; held = held }
-  performed_alike (Write id off bytes) within = record {
+  performed_alike (AddRange id off len) known within = recorded_alike (record { id = id; off = off; len = len }) (is_new tx id.off)
+  performed_alike (Write id off bytes) known within = record {
     objects = put_object id.off off bytes objects;
     before = before;
     is = refl;
@@ -161,18 +191,19 @@ module _ (T : ℕ → Bool) (root : Option ℕ) (tx : Transaction) (objects befo
     at_start = at_start;
     held = held;
   }
-  performed_alike Commit within = end_alike (leb tx.level 1)
-  performed_alike (Abort errnum) within = abort_alike (error_for errnum)
-  performed_alike op within = record { objects = objects; before = before; is = refl; now = now; at_start = at_start; held = held }
+  performed_alike (Free id) known within = absurd (false≢true known)
+  performed_alike Commit known within = end_alike (leb tx.level 1)
+  performed_alike (Abort errnum) known within = abort_alike (error_for errnum)
+  performed_alike op known within = record { objects = objects; before = before; is = refl; now = now; at_start = at_start; held = held }
 
-  after_alike : (t : Told) (told : List Told) → TakesWithin T false (t ∷ told) → (fr : Option Refusal) → MatchOption fr (IsDone tx t.operation t.reply) (λ r. IsRefused r t.reply)
+  after_alike : (t : Told) (told : List Told) → IsTrue (is_known t.operation) → TakesWithin T false (t ∷ told) → (fr : Option Refusal) → MatchOption fr (IsDone tx t.operation t.reply) (λ r. IsRefused r t.reply)
       → Alike T root (after t tx) (after t (over tx objects before root))
-  after_alike t told within None done =
-      let plain : is_refusal t.reply ≡ false = done_is_plain tx t.operation t.reply done.value in
+  after_alike t told known within None done =
+      let plain : is_refusal t.reply ≡ false = done_is_plain tx t.operation t.reply known done.value in
       alike_along T root (performed t.operation tx) (after t tx) (performed t.operation (over tx objects before root)) (after t (over tx objects before root))
-      (sym (after_value t.operation t.reply tx plain)) (sym (after_value t.operation t.reply (over tx objects before root) plain))
-      (performed_alike t.operation (takes_first T false t told within plain))
-  after_alike t told within (Some r) is =
+      (sym (after_value t.operation t.reply tx known plain)) (sym (after_value t.operation t.reply (over tx objects before root) known plain))
+      (performed_alike t.operation known (takes_first T false t told within plain))
+  after_alike t told known within (Some r) is =
       alike_along T root (cond (is_action t.operation) tx (aborted (error.Refused r) tx)) (after t tx)
       (cond (is_action t.operation) (over tx objects before root) (aborted (error.Refused r) (over tx objects before root))) (after t (over tx objects before root))
       (sym (after_refused t.operation t.reply tx r is)) (sym (after_refused t.operation t.reply (over tx objects before root) r is))
@@ -189,7 +220,7 @@ step_alike T root t told tx other within alike answers =
       subst (λ (o : Transaction). Answers o t.operation t.reply) (sym alike.is)
           (answers_alike T root tx alike.objects alike.before alike.now alike.at_start alike.held t told within answers),
       alike_along T root (after t tx) (after t tx) (after t there) (after t other) refl (ap (after t) (sym alike.is))
-          (after_alike T root tx alike.objects alike.before alike.now alike.at_start alike.held t told within (first_refusal answers.seen tx t.operation) answers.answer),
+          (after_alike T root tx alike.objects alike.before alike.now alike.at_start alike.held t told answers.known within (first_refusal answers.seen tx t.operation) answers.answer),
     )
 
 -- the same operations run with the same replies

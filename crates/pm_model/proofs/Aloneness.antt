@@ -8,11 +8,12 @@ use Rattle.pm_objects.specs.Pool.{object_at}
 use Rattle.pm_objects.specs.declared.calls.Operation.{Operation}
 use Rattle.pm_objects.specs.declared.calls.Want.{Want}
 use Rattle.pm_objects.specs.declared.refusal.Refusal.{Refusal}
-use Rattle.pm_model.specs.Transaction.{Transaction, is_locked}
+use Rattle.pm_model.specs.Transaction.{Transaction, holds_object}
 use Rattle.pm_model.specs.Checks.{wants_of, is_missing}
 use Rattle.pm_model.specs.Answers.{value_of, changes_nothing, is_known, AreThere, IsDone, IsRefused, Answers}
 use Rattle.pm_model.specs.Alone.{seen_alone, refusal_alone, reply_by, answer_alone}
 use Rattle.pm_model.proofs.Locking.{list_any_weaker}
+use Rattle.pm_model.proofs.Alike.{value_known}
 use Rattle.pm_model.proofs.Asked.{passed_missing}
 
 some_from_none : {A : Type 0} (o : Option A) → is_none o ≡ false → IsSome o
@@ -20,35 +21,36 @@ some_from_none None is = absurd (false≢true (sym is))
 some_from_none (Some x) is = refl
 
 abbrev is_first : Transaction → Want → Bool
-is_first tx want = not (is_locked tx.locks want.id.off false)
+is_first tx want = not (holds_object tx want.id.off false)
 
-abbrev is_gone : Transaction → Want → Bool
-is_gone tx want = is_first tx want && is_none (object_at tx.pool.objects want.id.off)
+abbrev is_lacking : Transaction → Want → Bool
+is_lacking tx want = is_first tx want && is_none (object_at tx.pool.objects want.id.off)
 
 -- where none is gone, each that is locked first is there
-all_there : (tx : Transaction) (wants : List Want) → list_any (is_gone tx) wants ≡ false
-    → All (λ (want : Want). is_locked tx.locks want.id.off false ≡ false → IsSome (object_at tx.pool.objects want.id.off)) wants
+all_there : (tx : Transaction) (wants : List Want) → list_any (is_lacking tx) wants ≡ false
+    → All (λ (want : Want). holds_object tx want.id.off false ≡ false → IsSome (object_at tx.pool.objects want.id.off)) wants
 all_there tx wants none k d inside first =
     let want : Want = get_or wants k d in
     let found : Bool = is_none (object_at tx.pool.objects want.id.off) in
     some_from_none (object_at tx.pool.objects want.id.off) (false_from_ne_true found
-    (λ gone. false≢true (sym none ∙ list_any_at (is_gone tx) wants k d inside (and_from (is_first tx want) found (ap not first) gone))))
+    (λ gone. false≢true (sym none ∙ list_any_at (is_lacking tx) wants k d inside (and_from (is_first tx want) found (ap not first) gone))))
 
 -- what is gone is locked first
-no_gone : (first gone : Bool) → (gone ≡ true → first ≡ true) → (first && gone) ≡ false → gone ≡ false
-no_gone true gone implies none = none
-no_gone false gone implies none = false_from_ne_true gone (λ g. false≢true (implies g))
+none_lacking : (first gone : Bool) → (gone ≡ true → first ≡ true) → (first && gone) ≡ false → gone ≡ false
+none_lacking true gone implies none = none
+none_lacking false gone implies none = false_from_ne_true gone (λ g. false≢true (implies g))
 
 there_alone : (spent : Bool) (tx : Transaction) (op : Operation) → is_missing (seen_alone spent tx op) tx op ≡ false → AreThere tx op
 there_alone spent tx op none =
-    all_there tx (wants_of op) (no_gone (list_any (is_first tx) (wants_of op)) (list_any (is_gone tx) (wants_of op))
-    (list_any_weaker (is_gone tx) (is_first tx) (wants_of op) (λ want gone. (and_parts (is_first tx want) (is_none (object_at tx.pool.objects want.id.off)) gone).0)) none)
+    all_there tx (wants_of op) (none_lacking (list_any (is_first tx) (wants_of op)) (list_any (is_lacking tx) (wants_of op))
+    (list_any_weaker (is_lacking tx) (is_first tx) (wants_of op) (λ want gone. (and_parts (is_first tx want) (is_none (object_at tx.pool.objects want.id.off)) gone).0)) none)
 
-by_refusal : (spent : Bool) (tx : Transaction) (op : Operation) (fr : Option Refusal) → fr ≡ refusal_alone spent tx op → MatchOption fr (Unit {0}) (λ r. changes_nothing r ≡ false)
+by_refusal : (spent : Bool) (tx : Transaction) (op : Operation) → IsTrue (is_known op) → (fr : Option Refusal) → fr ≡ refusal_alone spent tx op → MatchOption fr (Unit {0}) (λ r. changes_nothing r ≡ false)
     → MatchOption fr (IsDone tx op (reply_by fr (value_of tx op))) (λ r. IsRefused r (reply_by fr (value_of tx op)))
-by_refusal spent tx op None is traced = record { there = there_alone spent tx op (passed_missing (seen_alone spent tx op) tx op (sym is)); value = refl }
-by_refusal spent tx op (Some r) is traced = record { traced = traced; told = refl }
+by_refusal spent tx op known None is traced =
+    record { there = there_alone spent tx op (passed_missing (seen_alone spent tx op) tx op (sym is)); value = value_known tx op (value_of tx op) known refl }
+by_refusal spent tx op known (Some r) is traced = record { traced = traced; told = refl }
 
 pub answers_alone : (spent : Bool) (tx : Transaction) (op : Operation) → IsTrue (is_known op) → MatchOption (refusal_alone spent tx op) (Unit {0}) (λ r. changes_nothing r ≡ false)
     → Answers tx op (answer_alone spent tx op)
-answers_alone spent tx op known traced = record { known = known; seen = seen_alone spent tx op; answer = by_refusal spent tx op (refusal_alone spent tx op) refl traced }
+answers_alone spent tx op known traced = record { known = known; seen = seen_alone spent tx op; answer = by_refusal spent tx op known (refusal_alone spent tx op) refl traced }

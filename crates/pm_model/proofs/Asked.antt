@@ -1,18 +1,21 @@
 -- What an operation that is done has passed, and on what its answer depends.
-use Rattle.std.proofs.Common.{◌≡◌, ⊎_elim, ℕ, ◌+◌, List, [], ◌∷◌, length, Option, Some, None, Bool, true, false, cond, eqb, ltb, ◌&&◌, ◌||◌, refl, sym, ◌∙◌, ap}
+use Rattle.std.proofs.Common.{◌≡◌, ⊎_elim, ℕ, ◌+◌, IsTrue, List, [], ◌∷◌, length, Option, Some, None, Bool, true, false, cond, eqb, ltb, ◌&&◌, ◌||◌, refl, sym, ◌∙◌, ap}
 use Rattle.std.specs.List.{find, list_any}
 use Rattle.std.specs.Option.{option_map, option_map_or}
-use Rattle.std.proofs.lemmas.Bool.{cases_Bool, not-false, and_parts, or_parts}
+use Rattle.std.proofs.lemmas.Bool.{cases_Bool, false≢true, not-false, and_parts, or_parts}
 use Rattle.pm_objects.specs.Pool.{Objects, object_at}
 use Rattle.pm_objects.specs.declared.calls.Operation.{Operation}
+use Rattle.pm_objects.specs.declared.calls.Operation.TheVariants.{Free}
+use Rattle.pm_objects.specs.declared.ids.Oid.{Oid}
 use Rattle.pm_objects.specs.declared.pool.Object.{Object}
 use Rattle.pm_objects.specs.declared.refusal.Refusal.{Refusal}
 use Rattle.pm_objects.specs.declared.refusal.Refusal.TheVariants as refusal
-use Rattle.pm_model.specs.Transaction.{Transaction, is_locked}
+use Rattle.pm_model.specs.Transaction.{Transaction, holds_object}
 use Rattle.pm_model.specs.Actions.{Action, end_of, object_of, passes_object}
 use Rattle.pm_model.specs.Bytes.{bytes_of}
-use Rattle.pm_model.specs.Checks.{Seen, Range, range_of, needs_write, finds_no_work, finds_no_tx, is_spent, is_too_deep, passes_locks, is_lock_missing, is_publish, is_unaligned, is_unlocked_action, publishes_unlocked, publishes_past_end, passes_actions, is_not_locked, wants_no_place, is_busy, is_missing, passes_end_of, passes_end, is_not_added, passes_log, checks, first_refusal}
-use Rattle.pm_model.proofs.Locking.{is_locked_to_read}
+use Rattle.pm_model.specs.Checks.{Seen, Range, range_of, needs_write, finds_no_work, finds_no_tx, is_spent, is_too_deep, passes_locks, is_lock_missing, is_publish, is_unaligned, is_bad_size, is_not_held, is_unlocked_action, publishes_unlocked, frees_unlocked, names_gone, frees_root, frees_listed, finds_no_space, publishes_past_end, passes_actions, is_not_locked, wants_no_place, is_busy, is_missing, passes_end_of, passes_end, is_not_added, passes_log, checks, first_refusal}
+use Rattle.pm_model.specs.Answers.{is_known}
+use Rattle.pm_model.proofs.Locking.{holds_to_read}
 
 -- the transaction over other objects, of a pool with another root
 abbrev pub over : Transaction → Objects → Objects → Option ℕ → Transaction
@@ -21,46 +24,67 @@ over tx objects before root = record tx {
   before = record tx.before { objects = before; root = root };
 }
 
--- the rows of the checks, for any answers of those on locks and on the object's end
-rows : Seen → Transaction → Operation → Bool → Bool → List (Refusal × Bool)
-rows seen tx op not_locked past_end =
+-- the rows of the checks, for any answers of those on locks, on frees and on the object's end
+rows : Seen → Transaction → Operation → Bool → Bool → Bool → Bool → List (Refusal × Bool)
+rows seen tx op not_locked of_root listed past_end =
     (refusal.NotWork, finds_no_work tx)
     ∷ (refusal.NoTx, finds_no_tx tx op)
     ∷ (refusal.Spent, is_spent seen tx)
     ∷ (refusal.Deep, is_too_deep tx op)
     ∷ (refusal.LocksFull, passes_locks tx op)
     ∷ (refusal.Unaligned, is_unaligned op)
+    ∷ (refusal.BadSize, is_bad_size op)
     ∷ (refusal.NotLocked, not_locked)
     ∷ (refusal.NoObject, wants_no_place tx op)
     ∷ (refusal.Busy, is_busy seen tx op)
     ∷ (refusal.NoObject, is_missing seen tx op)
+    ∷ (refusal.NoObject, names_gone tx op)
+    ∷ (refusal.RootKept, of_root)
+    ∷ (refusal.Listed, listed)
     ∷ (refusal.OutOfRange, past_end)
     ∷ (refusal.NotAdded, is_not_added tx op)
     ∷ (refusal.LogFull, passes_log tx op)
     ∷ (refusal.ActionsFull, passes_actions tx op)
+    ∷ (refusal.NoSpace, finds_no_space seen op)
     ∷ []
 
 first_row : List (Refusal × Bool) → Option Refusal
 first_row checks = option_map (λ check. check.0) (find (λ check. check.1) checks)
 
 -- an object's end is looked at only under its lock
-end_under_lock : (seen : Seen) (tx : Transaction) (op : Operation) (not_locked one other : Bool) → (not_locked ≡ false → one ≡ other)
-    → first_row (rows seen tx op not_locked one) ≡ first_row (rows seen tx op not_locked other)
+end_under_lock : (seen : Seen) (tx : Transaction) (op : Operation) (not_locked of_root listed one other : Bool) → (not_locked ≡ false → one ≡ other)
+    → first_row (rows seen tx op not_locked of_root listed one) ≡ first_row (rows seen tx op not_locked of_root listed other)
 unfolding rows first_row
-end_under_lock seen tx op true one other same = refl
-end_under_lock seen tx op false one other same = ap (λ (b : Bool). first_row (rows seen tx op false b)) (same refl)
+end_under_lock seen tx op true of_root listed one other same = refl
+end_under_lock seen tx op false of_root listed one other same = ap (λ (b : Bool). first_row (rows seen tx op false of_root listed b)) (same refl)
+
+-- an operation that is known frees nothing
+pub frees_no_root : (tx : Transaction) (op : Operation) → IsTrue (is_known op) → frees_root tx op ≡ false
+frees_no_root tx (Free id) known = absurd (false≢true known)
+frees_no_root tx op known = refl
+
+pub frees_none_listed : (tx : Transaction) (op : Operation) → IsTrue (is_known op) → frees_listed tx op ≡ false
+frees_none_listed tx (Free id) known = absurd (false≢true known)
+frees_none_listed tx op known = refl
+
+pub frees_none_unlocked : (tx : Transaction) (op : Operation) → IsTrue (is_known op) → frees_unlocked tx op ≡ false
+frees_none_unlocked tx (Free id) known = absurd (false≢true known)
+frees_none_unlocked tx op known = refl
+
+-- an object that an access finds held is held
+pub held_object : (tx : Transaction) (write : Bool) (id : Oid) → is_not_held tx write id ≡ false → holds_object tx id.off write ≡ true
+held_object tx write id held =
+    (and_parts (eqb id.pool tx.pool.id) (holds_object tx id.off write) (not-false (eqb id.pool tx.pool.id && holds_object tx id.off write) held)).1
 
 -- a range under a lock is held
-pub range_held : (tx : Transaction) (write : Bool) (range : Range) → is_lock_missing tx write range ≡ false → is_locked tx.locks range.id.off false ≡ true
-range_held tx write range held =
-    is_locked_to_read tx.locks range.id.off write
-    (and_parts (eqb range.id.pool tx.pool.id) (is_locked tx.locks range.id.off write) (not-false (eqb range.id.pool tx.pool.id && is_locked tx.locks range.id.off write) held)).1
+pub range_held : (tx : Transaction) (write : Bool) (range : Range) → is_lock_missing tx write range ≡ false → holds_object tx range.id.off false ≡ true
+range_held tx write range held = holds_to_read tx range.id.off write (held_object tx write range.id held)
 
 pub same_bytes : (one other : Objects) (off : ℕ) → object_at one off ≡ object_at other off → bytes_of one off ≡ bytes_of other off
 same_bytes one other off same = ap (λ (o : Option Object). option_map_or (λ (object : Object). object.bytes) o []) same
 
 same_end : (tx : Transaction) (objects before : Objects) (root : Option ℕ) (write : Bool) (range : Option Range)
-    → ((off : ℕ) → is_locked tx.locks off false ≡ true → object_at objects off ≡ object_at tx.pool.objects off)
+    → ((off : ℕ) → holds_object tx off false ≡ true → object_at objects off ≡ object_at tx.pool.objects off)
     → option_map_or (is_lock_missing tx write) range false ≡ false
     → option_map_or (passes_end_of (over tx objects before root)) range false ≡ option_map_or (passes_end_of tx) range false
 same_end tx objects before root write None same held = refl
@@ -72,37 +96,40 @@ pub same_passes : (one other : Objects) (a : Action) → object_at one (object_o
 same_passes one other a same = ap (λ (bytes : List ℕ). ltb (length bytes) (end_of a)) (same_bytes one other (object_of a).off same)
 
 -- an action under a lock is of a held object
-pub action_held : (tx : Transaction) (a : Action) → is_unlocked_action tx a ≡ false → is_locked tx.locks (object_of a).off true ≡ true
-action_held tx a held =
-    (and_parts (eqb (object_of a).pool tx.pool.id) (is_locked tx.locks (object_of a).off true) (not-false (eqb (object_of a).pool tx.pool.id && is_locked tx.locks (object_of a).off true) held)).1
+pub action_held : (tx : Transaction) (a : Action) → is_unlocked_action tx a ≡ false → holds_object tx (object_of a).off true ≡ true
+action_held tx a held = held_object tx true (object_of a) held
 
-same_ends : (tx : Transaction) (objects : Objects) (actions : List Action) → ((off : ℕ) → is_locked tx.locks off false ≡ true → object_at objects off ≡ object_at tx.pool.objects off)
+same_ends : (tx : Transaction) (objects : Objects) (actions : List Action) → ((off : ℕ) → holds_object tx off false ≡ true → object_at objects off ≡ object_at tx.pool.objects off)
     → list_any (is_unlocked_action tx) actions ≡ false → list_any (passes_object objects) actions ≡ list_any (passes_object tx.pool.objects) actions
 same_ends tx objects [] same held = refl
 same_ends tx objects (a ∷ actions) same held =
     let t = or_parts (is_unlocked_action tx a) (list_any (is_unlocked_action tx) actions) held in
     let off : ℕ = (object_of a).off in
-    let one : passes_object objects a ≡ passes_object tx.pool.objects a = same_passes objects tx.pool.objects a (same off (is_locked_to_read tx.locks off true (action_held tx a t.0))) in
+    let one : passes_object objects a ≡ passes_object tx.pool.objects a = same_passes objects tx.pool.objects a (same off (holds_to_read tx off true (action_held tx a t.0))) in
     let rest : list_any (passes_object objects) actions ≡ list_any (passes_object tx.pool.objects) actions = same_ends tx objects actions same t.1 in
     (λ i. one i || rest i)
 
-same_published : (tx : Transaction) (objects before : Objects) (root : Option ℕ) (publishes : Bool) → ((off : ℕ) → is_locked tx.locks off false ≡ true → object_at objects off ≡ object_at tx.pool.objects off)
+same_published : (tx : Transaction) (objects before : Objects) (root : Option ℕ) (publishes : Bool) → ((off : ℕ) → holds_object tx off false ≡ true → object_at objects off ≡ object_at tx.pool.objects off)
     → (publishes && list_any (is_unlocked_action tx) tx.actions) ≡ false → (publishes && list_any (passes_object objects) tx.actions) ≡ (publishes && list_any (passes_object tx.pool.objects) tx.actions)
 same_published tx objects before root true same held = same_ends tx objects tx.actions same held
 same_published tx objects before root false same held = refl
 
--- objects that are the same under all held locks have the same first refusal
-pub same_refusal : (seen : Seen) (tx : Transaction) (op : Operation) (objects before : Objects) (root : Option ℕ)
-    → ((off : ℕ) → is_locked tx.locks off false ≡ true → object_at objects off ≡ object_at tx.pool.objects off)
+-- objects that are the same wherever one is held have the same first refusal
+pub same_refusal : (seen : Seen) (tx : Transaction) (op : Operation) (objects before : Objects) (root : Option ℕ) → IsTrue (is_known op)
+    → ((off : ℕ) → holds_object tx off false ≡ true → object_at objects off ≡ object_at tx.pool.objects off)
     → first_refusal seen (over tx objects before root) op ≡ first_refusal seen tx op
 unfolding first_refusal first_row rows
-same_refusal seen tx op objects before root same =
-    end_under_lock seen tx op (is_not_locked tx op) (passes_end (over tx objects before root) op) (passes_end tx op)
+same_refusal seen tx op objects before root known same =
+    let other_tx : Transaction = over tx objects before root in
+    (λ i. first_row (rows seen tx op (is_not_locked tx op)
+    ((frees_no_root other_tx op known ∙ sym (frees_no_root tx op known)) i)
+    ((frees_none_listed other_tx op known ∙ sym (frees_none_listed tx op known)) i) (passes_end other_tx op)))
+    ∙ end_under_lock seen tx op (is_not_locked tx op) (frees_root tx op) (frees_listed tx op) (passes_end other_tx op) (passes_end tx op)
     (λ held.
-    let t = or_parts (publishes_unlocked tx op) (option_map_or (is_lock_missing tx (needs_write op)) (range_of op) false) held in
-    let one : publishes_past_end (over tx objects before root) op ≡ publishes_past_end tx op = same_published tx objects before root (is_publish op) same t.0 in
+    let both = or_parts (publishes_unlocked tx op || frees_unlocked tx op) (option_map_or (is_lock_missing tx (needs_write op)) (range_of op) false) held in
+    let one : publishes_past_end (over tx objects before root) op ≡ publishes_past_end tx op = same_published tx objects before root (is_publish op) same (or_parts (publishes_unlocked tx op) (frees_unlocked tx op) both.0).0 in
     let other : option_map_or (passes_end_of (over tx objects before root)) (range_of op) false ≡ option_map_or (passes_end_of tx) (range_of op) false =
-    same_end tx objects before root (needs_write op) (range_of op) same t.1 in
+    same_end tx objects before root (needs_write op) (range_of op) same both.1 in
     (λ i. one i || other i))
 
 -- none of them passes the test
@@ -129,7 +156,7 @@ passed_lock seen tx op none =
     let found : Option (Refusal × Bool) = find (λ (check : Refusal × Bool). check.1) (checks seen tx op) in
     let passed : NonePasses (λ (check : Refusal × Bool). check.1) (checks seen tx op) =
     none_passes (λ (check : Refusal × Bool). check.1) (checks seen tx op) (unmapped (λ (check : Refusal × Bool). check.0) found none) in
-    passed.1.1.1.1.1.1.0
+    passed.1.1.1.1.1.1.1.0
 
 pub passed_end : (seen : Seen) (tx : Transaction) (op : Operation) → first_refusal seen tx op ≡ None → passes_end tx op ≡ false
 unfolding first_refusal NonePasses
@@ -137,7 +164,7 @@ passed_end seen tx op none =
     let found : Option (Refusal × Bool) = find (λ (check : Refusal × Bool). check.1) (checks seen tx op) in
     let passed : NonePasses (λ (check : Refusal × Bool). check.1) (checks seen tx op) =
     none_passes (λ (check : Refusal × Bool). check.1) (checks seen tx op) (unmapped (λ (check : Refusal × Bool). check.0) found none) in
-    passed.1.1.1.1.1.1.1.1.1.1.0
+    passed.1.1.1.1.1.1.1.1.1.1.1.1.1.1.0
 
 -- an operation that is not refused misses no object
 pub passed_missing : (seen : Seen) (tx : Transaction) (op : Operation) → first_refusal seen tx op ≡ None → is_missing seen tx op ≡ false
@@ -146,4 +173,4 @@ passed_missing seen tx op none =
     let found : Option (Refusal × Bool) = find (λ (check : Refusal × Bool). check.1) (checks seen tx op) in
     let passed : NonePasses (λ (check : Refusal × Bool). check.1) (checks seen tx op) =
     none_passes (λ (check : Refusal × Bool). check.1) (checks seen tx op) (unmapped (λ (check : Refusal × Bool). check.0) found none) in
-    passed.1.1.1.1.1.1.1.1.1.0
+    passed.1.1.1.1.1.1.1.1.1.1.0

@@ -1,28 +1,28 @@
 -- A transaction keeps all but the objects that it locks for writing.
-use Rattle.std.proofs.Common.{◌≡◌, ⊎_elim, ℕ, ◌+◌, ◌/◌, ◌%◌, ◌^◌, ◌≤◌, All, List, [], ◌∷◌, length, map, Some, Bool, true, false, cond, eqb, leb, ltb, ◌&&◌, refl, sym, ◌∙◌, ap, arith}
+use Rattle.std.proofs.Common.{◌≡◌, ⊎_elim, IsTrue, ℕ, ◌+◌, ◌/◌, ◌%◌, ◌^◌, ◌≤◌, All, List, [], ◌∷◌, ◌++◌, length, map, Some, Bool, true, false, cond, eqb, leb, ltb, ◌||◌, refl, sym, ◌∙◌, ap, arith}
 use Rattle.std.specs.List.{list_any}
 use Rattle.std.specs.Option.{option_map, option_map_or}
-use Rattle.std.proofs.lemmas.Bool.{cases_Bool, false≢true, ne_eqb, and_parts, or_parts, not-false, ltb-false}
+use Rattle.std.proofs.lemmas.Bool.{cases_Bool, false≢true, ne_eqb, or_parts, or_right, ltb-false}
 use Rattle.std.proofs.lemmas.List.Elements.{All-append, All-cons, All-head, All-nil, All-tail}
 use Rattle.std.proofs.lemmas.List.FromFn.{length-map-range_with_len}
 use Rattle.pm_objects.specs.Pool.{Objects, offsets, object_at, all_members}
 use Rattle.pm_objects.specs.declared.calls.Operation.{Operation}
-use Rattle.pm_objects.specs.declared.calls.Operation.TheVariants.{Begin, AddRange, Write, SetValue, Publish, Cancel, Commit, Abort}
+use Rattle.pm_objects.specs.declared.calls.Operation.TheVariants.{Begin, AddRange, Write, Free, SetValue, Publish, Cancel, Commit, Abort}
 use Rattle.pm_objects.specs.declared.history.TxErr.{TxErr}
 use Rattle.pm_objects.specs.declared.history.TxErr.TheVariants as error
 use Rattle.pm_objects.specs.declared.pool.Object.{Object}
 use Rattle.pm_objects.specs.declared.pool.PoolView.{PoolView}
 use Rattle.pm_model.specs.Actions.{Action, all_performed, end_of, number_bytes, object_of, passes_object, with_actions}
 use Rattle.pm_model.specs.Actions.Action.{SetWord}
-use Rattle.pm_model.specs.Transaction.{Transaction, resting, aborted, ended_inner, committed, is_locked}
-use Rattle.pm_model.specs.Bytes.{put_object, with_bytes, bytes_of}
-use Rattle.pm_model.specs.Checks.{wants_of, is_not_locked, is_unlocked_action, passes_end}
-use Rattle.pm_model.specs.Answers.{Told, error_for, performed, after, Answers}
+use Rattle.pm_model.specs.Transaction.{Transaction, resting, aborted, ended_inner, committed, is_locked, is_new, holds_object}
+use Rattle.pm_model.specs.Bytes.{put_object, with_bytes, bytes_of, new_words, records_of}
+use Rattle.pm_model.specs.Checks.{Range, wants_of, words_in, is_not_locked, is_unlocked_action, passes_end}
+use Rattle.pm_model.specs.Answers.{Told, is_known, error_for, performed, after, Answers}
 use Rattle.pm_model.specs.Step.{RunsFrom}
 use Rattle.pm_model.specs.Names.{is_wanted}
 use Rattle.pm_model.proofs.Objects.{object_at-put, offsets-put, size_of, sizes-put, members-put}
-use Rattle.pm_model.proofs.Locking.{locked_all_from}
-use Rattle.pm_model.proofs.Asked.{action_held, passed_lock, passed_end}
+use Rattle.pm_model.proofs.Locking.{held_from}
+use Rattle.pm_model.proofs.Asked.{action_held, held_object, passed_lock, passed_end}
 use Rattle.pm_model.proofs.Alike.{TakesWithin, takes_first, takes_rest, done_is_plain}
 use Rattle.pm_model.proofs.Running.{after_cases, runs_keep}
 
@@ -55,11 +55,11 @@ same_size one other off same = size_by one off ∙ (ap (size_in off) same ∙ sy
 abbrev pub MayPerform : (ℕ → Bool) → PoolView → Action → Type 0
 MayPerform W from a = (W (object_of a).off ≡ true) × (passes_object from.objects a ≡ false)
 
--- both pools of a transaction are so, its locks for writing are in W, and what was published in it is of objects there
+-- both pools of a transaction are so, what it holds for writing is in W, and what was published in it is of objects there
 pub record Keeps (W : ℕ → Bool) (from : PoolView) (tx : Transaction) : Type 0 where
   pub now : IsChangedIn W from tx.pool
   pub at_start : IsChangedIn W from tx.before
-  pub held : (off : ℕ) → is_locked tx.locks off true ≡ true → W off ≡ true
+  pub held : (off : ℕ) → holds_object tx off true ≡ true → W off ≡ true
   pub moved : All (MayPerform W from) tx.moved
 
 pub unchanged : (W : ℕ → Bool) (pool : PoolView) → IsChangedIn W pool pool
@@ -98,7 +98,7 @@ actions_changed W from (SetWord id off value ∷ actions) pool changed may =
     (All-tail (MayPerform W from) (SetWord id off value) actions may)
 
 -- what is published is of locked objects, within them
-published_within : (W : ℕ → Bool) (from : PoolView) (tx : Transaction) → IsChangedIn W from tx.pool → ((off : ℕ) → is_locked tx.locks off true ≡ true → W off ≡ true) → (actions : List Action)
+published_within : (W : ℕ → Bool) (from : PoolView) (tx : Transaction) → IsChangedIn W from tx.pool → ((off : ℕ) → holds_object tx off true ≡ true → W off ≡ true) → (actions : List Action)
     → list_any (is_unlocked_action tx) actions ≡ false → list_any (passes_object tx.pool.objects) actions ≡ false → All (MayPerform W from) actions
 published_within W from tx changed held [] locked ends = All-nil (MayPerform W from)
 published_within W from tx changed held (a ∷ actions) locked ends =
@@ -110,7 +110,12 @@ published_within W from tx changed held (a ∷ actions) locked ends =
 
 module _ (W : ℕ → Bool) (from : PoolView) (tx : Transaction) (keeps : Keeps W from tx) where
   abort_keeps : (e : TxErr) → Keeps W from (aborted e tx)
-  abort_keeps e = record { now = keeps.at_start; at_start = keeps.at_start; held = keeps.held; moved = All-nil (MayPerform W from) }
+  abort_keeps e = record {
+    now = keeps.at_start;
+    at_start = keeps.at_start;
+    held = λ off h. keeps.held off (or_right (is_new tx off) (is_locked tx.locks off true) h);
+    moved = All-nil (MayPerform W from);
+  }
 
   end_keeps : (outermost : Bool) → Keeps W from (cond outermost (resting (with_actions tx.moved tx.pool) tx.actions) (ended_inner (committed tx)))
   end_keeps true =
@@ -121,21 +126,27 @@ module _ (W : ℕ → Bool) (from : PoolView) (tx : Transaction) (keeps : Keeps 
   put_keeps : (off at : ℕ) (bytes : List ℕ) → W off ≡ true → at + length bytes ≤ length (bytes_of tx.pool.objects off) → IsChangedIn W from (record tx.pool { objects = put_object off at bytes tx.pool.objects })
   put_keeps off at bytes inside fits = put_changed W from tx.pool keeps.now off at bytes inside fits
 
-  performed_keeps : (op : Operation) → is_not_locked tx op ≡ false → passes_end tx op ≡ false → ((off : ℕ) → is_wanted (wants_of op) off true ≡ true → W off ≡ true) → Keeps W from (performed op tx)
-  performed_keeps (Begin wants) locked ends within = record {
+  -- what is recorded, where the object is new or not
+  recorded_keeps : (range : Range) (new : Bool)
+      → Keeps W from (cond new tx (record tx { recorded = tx.recorded ++ new_words tx.recorded (words_in range); records = tx.records + length (records_of (new_words tx.recorded (words_in range))) }))
+  recorded_keeps range true = keeps
+  recorded_keeps range false = record { now = keeps.now; at_start = keeps.at_start; held = keeps.held; moved = keeps.moved }
+
+  performed_keeps : (op : Operation) → IsTrue (is_known op) → is_not_locked tx op ≡ false → passes_end tx op ≡ false → ((off : ℕ) → is_wanted (wants_of op) off true ≡ true → W off ≡ true) → Keeps W from (performed op tx)
+  performed_keeps (Begin wants) known locked ends within = record {
     now = keeps.now;
     at_start = keeps.at_start;
-    held = λ off h. ⊎_elim (λ (w : is_wanted wants off true ≡ true). within off w) (λ (old : is_locked tx.locks off true ≡ true). keeps.held off old) (locked_all_from wants tx.locks off true h);
+    held = λ off h. ⊎_elim (λ (w : is_wanted wants off true ≡ true). within off w) (λ (old : holds_object tx off true ≡ true). keeps.held off old) (held_from wants tx off true h);
     moved = keeps.moved;
   }
-  performed_keeps (AddRange id off len) locked ends within = record { now = keeps.now; at_start = keeps.at_start; held = keeps.held; moved = keeps.moved }
-  performed_keeps (Write id off bytes) locked ends within =
-      let lock : is_locked tx.locks id.off true ≡ true =
-      (and_parts (eqb id.pool tx.pool.id) (is_locked tx.locks id.off true) (not-false (eqb id.pool tx.pool.id && is_locked tx.locks id.off true) locked)).1 in
+  performed_keeps (AddRange id off len) known locked ends within = recorded_keeps (record { id = id; off = off; len = len }) (is_new tx id.off)
+  performed_keeps (Write id off bytes) known locked ends within =
+      let lock : holds_object tx id.off true ≡ true = held_object tx true id locked in
       record { now = put_keeps id.off off bytes (keeps.held id.off lock) (ltb-false (length (bytes_of tx.pool.objects id.off)) (off + length bytes) ends); at_start = keeps.at_start; held = keeps.held; moved = keeps.moved }
-  performed_keeps (SetValue id off value) locked ends within = record { now = keeps.now; at_start = keeps.at_start; held = keeps.held; moved = keeps.moved }
-  performed_keeps Publish locked ends within =
-      let l : list_any (is_unlocked_action tx) tx.actions ≡ false = (or_parts (list_any (is_unlocked_action tx) tx.actions) false locked).0 in
+  performed_keeps (SetValue id off value) known locked ends within = record { now = keeps.now; at_start = keeps.at_start; held = keeps.held; moved = keeps.moved }
+  performed_keeps Publish known locked ends within =
+      let l : list_any (is_unlocked_action tx) tx.actions ≡ false =
+      (or_parts (list_any (is_unlocked_action tx) tx.actions) false (or_parts (list_any (is_unlocked_action tx) tx.actions || false) false locked).0).0 in
       let e : list_any (passes_object tx.pool.objects) tx.actions ≡ false = (or_parts (list_any (passes_object tx.pool.objects) tx.actions) false ends).0 in
       record {
         now = keeps.now;
@@ -143,10 +154,11 @@ module _ (W : ℕ → Bool) (from : PoolView) (tx : Transaction) (keeps : Keeps 
         held = keeps.held;
         moved = All-append (MayPerform W from) tx.moved tx.actions keeps.moved (published_within W from tx keeps.now keeps.held tx.actions l e);
       }
-  performed_keeps Cancel locked ends within = record { now = keeps.now; at_start = keeps.at_start; held = keeps.held; moved = keeps.moved }
-  performed_keeps Commit locked ends within = end_keeps (leb tx.level 1)
-  performed_keeps (Abort errnum) locked ends within = abort_keeps (error_for errnum)
-  performed_keeps op locked ends within = keeps
+  performed_keeps Cancel known locked ends within = record { now = keeps.now; at_start = keeps.at_start; held = keeps.held; moved = keeps.moved }
+  performed_keeps (Free id) known locked ends within = absurd (false≢true known)
+  performed_keeps Commit known locked ends within = end_keeps (leb tx.level 1)
+  performed_keeps (Abort errnum) known locked ends within = abort_keeps (error_for errnum)
+  performed_keeps op known locked ends within = keeps
 
 abbrev StillKeeps : (W : ℕ → Bool) → PoolView → List Told → Transaction → Type 0
 StillKeeps W from told tx = TakesWithin W true told × Keeps W from tx
@@ -156,8 +168,8 @@ after_keeps : (W : ℕ → Bool) (from : PoolView) (t : Told) (told : List Told)
 after_keeps W from t told tx answers holds = (
   takes_rest W true t told holds.0,
   after_cases (Keeps W from) t tx answers holds.1
-      (λ seen none done. performed_keeps W from tx holds.1 t.operation (passed_lock seen tx t.operation none) (passed_end seen tx t.operation none)
-      (takes_first W true t told holds.0 (done_is_plain tx t.operation t.reply done.value)))
+      (λ seen none done. performed_keeps W from tx holds.1 t.operation answers.known (passed_lock seen tx t.operation none) (passed_end seen tx t.operation none)
+      (takes_first W true t told holds.0 (done_is_plain tx t.operation t.reply answers.known done.value)))
       (λ r. abort_keeps W from tx holds.1 (error.Refused r)),
 )
 

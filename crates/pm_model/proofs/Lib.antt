@@ -1,5 +1,6 @@
 pub mod Changing
 pub mod Objects
+pub mod ObjectsByOffset
 pub mod OutsideCalls
 pub mod Locking
 pub mod Asked

@@ -7,18 +7,19 @@ use Rattle.pm_objects.specs.declared.calls.Want.{Want}
 use Rattle.pm_objects.specs.declared.history.Value.{Value}
 use Rattle.pm_objects.specs.declared.history.Value.TheVariants.{Refused}
 use Rattle.pm_objects.specs.declared.refusal.Refusal.{Refusal}
-use Rattle.pm_model.specs.Transaction.{Transaction, is_locked}
+use Rattle.pm_model.specs.Transaction.{Transaction, holds_object}
 use Rattle.pm_model.specs.Checks.{Seen, wants_of, first_refusal}
 use Rattle.pm_model.specs.Answers.{value_of}
 
 -- some object of which a first lock is taken is not there
 abbrev pub wants_missing : Transaction → Operation → Bool
 wants_missing tx op =
-    list_any (λ (want : Want). not (is_locked tx.locks want.id.off false) && is_none (object_at tx.pool.objects want.id.off)) (wants_of op)
+    list_any (λ (want : Want). not (holds_object tx want.id.off false) && is_none (object_at tx.pool.objects want.id.off)) (wants_of op)
 
--- what it sees; whether its numbers are spent the pool doesn't say
+-- what it sees; whether its numbers are spent the pool doesn't say. Whether a block is free for a new object a lane alone tells with its
+-- calls: no operation that asks for it is known yet
 abbrev pub seen_alone : Bool → Transaction → Operation → Seen
-seen_alone spent tx op = record { spent = spent; busy = false; missing = wants_missing tx op }
+seen_alone spent tx op = record { spent = spent; busy = false; missing = wants_missing tx op; full = false }
 
 -- the refusal of an operation, if any
 abbrev pub refusal_alone : Bool → Transaction → Operation → Option Refusal

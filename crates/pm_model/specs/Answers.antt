@@ -1,17 +1,21 @@
 -- What an operation of a transaction may answer, and what it leaves.
-use Rattle.std.specs.Prelude.{◌≡◌, ℕ, ◌+◌, ◌==◌, ◌||◌, Bool, true, false, IsTrue, IsSome, All, if◌then◌else◌, List, [], ◌∷◌, ◌++◌, length, Option, None, Some, MatchOption}
-use Rattle.pm_objects.specs.Pool.{object_at}
+use Rattle.std.specs.Prelude.{◌≡◌, ◌⊎◌, ℕ, ◌+◌, ◌-◌, ◌*◌, ◌≤◌, ◌==◌, ◌||◌, not, Bool, true, false, IsTrue, IsSome, All, if◌then◌else◌, List, [], ◌∷◌, ◌++◌, length, filter, Option, None, Some, MatchOption}
+use Rattle.pm_layout.specs.Sizes.{class_of}
+use Rattle.pm_objects.specs.Pool.{object_at, block_end, block_lines}
 use Rattle.pm_objects.specs.declared.calls.Operation.{Operation}
-use Rattle.pm_objects.specs.declared.calls.Operation.TheVariants.{Begin, AddRange, Write, Read, SetValue, Publish, Cancel, Commit, Abort}
+use Rattle.pm_objects.specs.declared.calls.Operation.TheVariants.{Begin, AddRange, Write, Read, Alloc, Free, SetValue, Publish, Cancel, Commit, Abort}
 use Rattle.pm_objects.specs.declared.calls.Want.{Want}
 use Rattle.pm_objects.specs.declared.history.TxErr.{TxErr}
 use Rattle.pm_objects.specs.declared.history.TxErr.TheVariants as error
 use Rattle.pm_objects.specs.declared.history.Value.{Value}
-use Rattle.pm_objects.specs.declared.history.Value.TheVariants.{Bytes, Refused}
+use Rattle.pm_objects.specs.declared.history.Value.TheVariants.{Offset, Bytes, Refused}
+use Rattle.pm_objects.specs.declared.pool.Object.{Object}
 use Rattle.pm_objects.specs.declared.refusal.Refusal.{Refusal}
 use Rattle.pm_objects.specs.declared.refusal.Refusal.TheVariants as refusal
-use Rattle.pm_model.specs.Transaction.{Transaction, begun, committed, aborted, ended, is_locked}
-use Rattle.pm_model.specs.Bytes.{bytes_at, bytes_of, put_object, new_words, records_of}
+use Rattle.pm_model.specs.Places.{CanHold}
+use Rattle.pm_model.specs.NewObjects.{new_object, pool_with, pool_without}
+use Rattle.pm_model.specs.Transaction.{Transaction, begun, committed, aborted, ended, is_new, holds_object}
+use Rattle.pm_model.specs.Bytes.{bytes_at, bytes_of, put_object, is_among, new_words, records_of}
 use Rattle.pm_model.specs.Actions.Action.{SetWord}
 use Rattle.pm_model.specs.Checks.{Seen, Range, words_in, wants_of, is_action, first_refusal}
 
@@ -20,7 +24,7 @@ pub record Told : Type 0 where
   pub operation : Operation
   pub reply : Option Value
 
--- the operations of transactions that are here so far
+-- the operations of transactions that are here so far. Allocations and frees are described, and no call makes them yet
 abbrev pub is_known : Operation → Bool
 is_known (Begin wants) = true
 is_known (AddRange id off len) = true
@@ -33,7 +37,7 @@ is_known Commit = true
 is_known (Abort errnum) = true
 is_known op = false
 
--- what an operation answers that is not refused: a read gives its bytes, from the copy
+-- what an operation answers that is not refused, but for an allocation: a read gives its bytes, from the copy
 abbrev pub value_of : Transaction → Operation → Option Value
 value_of tx (Read id off len) = Some (Bytes (bytes_at off len (bytes_of tx.pool.objects id.off)))
 value_of tx op = None
@@ -42,21 +46,33 @@ value_of tx op = None
 abbrev pub error_for : ℕ → TxErr
 error_for errnum = if errnum == 0 then error.Canceled else error.User errnum
 
--- the words of a range are recorded
+-- the words of a range are recorded, but for those of a new object
 abbrev pub recorded : Range → Transaction → Transaction
 recorded range tx =
     let words = new_words tx.recorded (words_in range) in
-    record tx { recorded = tx.recorded ++ words; records = tx.records + length (records_of words) }
+    if is_new tx range.id.off then tx else record tx { recorded = tx.recorded ++ words; records = tx.records + length (records_of words) }
 
 -- bytes are written into the copy
 abbrev pub written : ℕ → ℕ → List ℕ → Transaction → Transaction
 written off at bytes tx = record tx { pool = record tx.pool { objects = put_object off at bytes tx.pool.objects } }
 
--- what an operation leaves that is not refused. A commit ends its level too
+-- a new object stands at the offset
+abbrev pub allocated : ℕ → ℕ → ℕ → Transaction → Transaction
+allocated off size kind tx = record tx { pool = pool_with off (new_object kind size) tx.pool; made = tx.made ++ off ∷ [] }
+
+-- the object at the offset is freed: one that was made here is dropped
+abbrev pub released : ℕ → Transaction → Transaction
+released off tx =
+    if is_among tx.made off
+    then record tx { pool = pool_without off tx.pool; made = filter (λ other. not (other == off)) tx.made; dropped = tx.dropped ++ off ∷ [] }
+    else record tx { pool = pool_without off tx.pool; freed = tx.freed ++ off ∷ [] }
+
+-- what an operation leaves that is not refused, but for an allocation. A commit ends its level too
 abbrev pub performed : Operation → Transaction → Transaction
 performed (Begin wants) tx = begun wants tx
 performed (AddRange id off len) tx = recorded (record { id = id; off = off; len = len }) tx
 performed (Write id off bytes) tx = written id.off off bytes tx
+performed (Free id) tx = released id.off tx
 performed (SetValue id off value) tx = record tx { actions = tx.actions ++ SetWord id off value ∷ [] }
 performed Publish tx = record tx { moved = tx.moved ++ tx.actions; actions = [] }
 performed Cancel tx = record tx { actions = [] }
@@ -76,9 +92,10 @@ changes_nothing r = false
 abbrev pub refused : Operation → Refusal → Transaction → Transaction
 refused op r tx = if is_action op || changes_nothing r then tx else aborted (error.Refused r) tx
 
--- what an operation with its reply leaves
+-- what an operation with its reply leaves: an allocation tells where its object stands
 abbrev pub after_reply : Operation → Option Value → Transaction → Transaction
 after_reply op (Some (Refused r)) tx = refused op r tx
+after_reply (Alloc size kind) (Some (Offset off)) tx = allocated off size kind tx
 after_reply op reply tx = performed op tx
 
 abbrev pub after : Told → Transaction → Transaction
@@ -87,12 +104,27 @@ after told tx = after_reply told.operation told.reply tx
 -- each object of which a first lock is taken is there
 abbrev pub AreThere : Transaction → Operation → Type 0
 AreThere tx op =
-    All (λ (want : Want). is_locked tx.locks want.id.off false ≡ false → IsSome (object_at tx.pool.objects want.id.off)) (wants_of op)
+    All (λ (want : Want). holds_object tx want.id.off false ≡ false → IsSome (object_at tx.pool.objects want.id.off)) (wants_of op)
+
+-- the block of a new object of so many bytes at an offset, and that of an object: one ends before the other begins
+abbrev pub IsBeside : ℕ → ℕ → ℕ × Object → Type 0
+IsBeside size off entry = (off - 64 + 64 * block_lines (class_of size) ≤ entry.0 - 64) ⊎ (block_end entry ≤ off - 64)
+
+-- a new object of so many bytes may stand at the offset: a block of its class can begin there, and overlaps no block of the pool, as the
+-- call began or now
+pub record IsNewPlace (tx : Transaction) (size off : ℕ) : Type 0 where
+  pub begins : CanHold tx.pool.lanes tx.pool.zones (class_of size) off
+  pub apart : All (IsBeside size off) (tx.before.objects ++ tx.pool.objects)
+
+-- what an operation answers that is not refused: an allocation the offset of its object, which may stand there
+abbrev pub IsValue : Transaction → Operation → Option Value → Type 0
+IsValue tx (Alloc size kind) reply = (off : ℕ) × IsNewPlace tx size off × (reply ≡ Some (Offset off))
+IsValue tx op reply = reply ≡ value_of tx op
 
 -- the operation is not refused: what it wants is there, and this is its value
 pub record IsDone (tx : Transaction) (op : Operation) (reply : Option Value) : Type 0 where
   pub there : AreThere tx op
-  pub value : reply ≡ value_of tx op
+  pub value : IsValue tx op reply
 
 -- it is refused for this reason, which leaves a trace
 pub record IsRefused (r : Refusal) (reply : Option Value) : Type 0 where

@@ -30,7 +30,7 @@ bytes_of objects off = option_map_or (λ (object : Object). object.bytes) (objec
 unfoldable pub covered_words : ℕ → ℕ → List ℕ
 covered_words place len = if len == 0 then [] else range_with_len (place / 8) ((place + len - 1) / 8 + 1 - place / 8)
 
--- the word is among these
+-- the number is among these: a word, or the offset of an object
 abbrev pub is_among : List ℕ → ℕ → Bool
 is_among words w = list_any (λ other. other == w) words
 

@@ -1,4 +1,5 @@
 pub mod Places
+pub mod NewObjects
 pub mod Actions
 pub mod Transaction
 pub mod Bytes

@@ -1,6 +1,8 @@
 -- At which offsets an object can stand in a pool of some shape, whatever is in the pool: docs/FORMAT.md, "Shapes and places".
-use Rattle.std.specs.Prelude.{◌≡◌, ◌⊎◌, ℕ, ◌+◌, ◌-◌, ◌/◌, ◌%◌, ◌<◌, ◌==◌, ◌&&◌, ◌||◌, nat_lt, nat_le, Bool}
+use Rattle.std.specs.Prelude.{◌≡◌, ◌⊎◌, ℕ, ◌+◌, ◌-◌, ◌/◌, ◌%◌, ◌<◌, ◌≤◌, ◌==◌, ◌&&◌, ◌||◌, nat_lt, nat_le, Bool}
 use Rattle.std.specs.List.{list_any}
+use Rattle.pm_layout.specs.declared.class.Class.{Class}
+use Rattle.pm_layout.specs.declared.class.Class.TheVariants.{Lines, Chunks}
 use Rattle.pm_layout.specs.Layout.{zone_place, chunk_place}
 use Rattle.pm_layout.specs.Sizes.{blocks_of, blocks_by_class, block_place}
 use Rattle.pm_objects.specs.declared.ids.Oid.{Oid}
@@ -30,6 +32,19 @@ pub record CanBegin (lanes zones off : ℕ) : Type 0 where
   pub chunk_in_range : chunk < 64
   pub begins : (off ≡ chunk_place lanes zone chunk + 64)
       ⊎ ((lines : ℕ) × (index : ℕ) × (index < blocks_of lines) × (off ≡ block_place (chunk_place lanes zone chunk) lines index + 64))
+
+-- a block of this class can begin 64 bytes before the offset, in this chunk of a zone: whole chunks that all lie in the zone, or a block of a run
+abbrev pub BeginsInChunk : Class → ℕ → ℕ → ℕ → ℕ → Type 0
+BeginsInChunk (Chunks chunks) lanes zone chunk off = (chunk + chunks ≤ 64) × (off ≡ chunk_place lanes zone chunk + 64)
+BeginsInChunk (Lines lines) lanes zone chunk off = (index : ℕ) × (index < blocks_of lines) × (off ≡ block_place (chunk_place lanes zone chunk) lines index + 64)
+
+-- so it can in some chunk of the pool
+pub record CanHold (lanes zones : ℕ) (class : Class) (off : ℕ) : Type 0 where
+  pub zone : ℕ
+  pub chunk : ℕ
+  pub zone_in_range : zone < zones
+  pub chunk_in_range : chunk < 64
+  pub begins : BeginsInChunk class lanes zone chunk off
 
 -- the id has the form of an object's id in this pool
 abbrev pub has_place : PoolView → Oid → Bool

@@ -1,11 +1,12 @@
 -- A transaction as it runs: pmemobj_tx_begin(3). It works on a copy of the pool, which the outermost commit makes the pool.
-use Rattle.std.specs.Prelude.{ℕ, ◌+◌, ◌-◌, ◌==◌, ◌&&◌, ◌||◌, not, nat_le, Bool, true, false, if◌then◌else◌, List, [], ◌∷◌}
+use Rattle.std.specs.Prelude.{ℕ, ◌+◌, ◌-◌, ◌==◌, ◌&&◌, ◌||◌, not, nat_le, Bool, true, false, if◌then◌else◌, List, [], ◌∷◌, length, filter}
 use Rattle.std.specs.List.{list_any}
 use Rattle.pm_objects.specs.declared.calls.Want.{Want}
 use Rattle.pm_objects.specs.declared.history.TxErr.{TxErr}
 use Rattle.pm_objects.specs.declared.history.TxErr.TheVariants as error
 use Rattle.pm_objects.specs.declared.pool.PoolView.{PoolView}
 use Rattle.pm_model.specs.Actions.{Action, with_actions}
+use Rattle.pm_model.specs.Bytes.{is_among}
 use Rattle.pm_model.specs.declared.stage.Stage.{Stage}
 use Rattle.pm_model.specs.declared.stage.Stage.TheVariants as stage
 
@@ -29,12 +30,18 @@ pub record Transaction : Type 0 where
   -- the lane's pending actions, and those that were published in the transaction: they take effect when it is committed
   pub actions : List Action
   pub moved : List Action
+  -- the offsets of the objects that it made, in the order of their calls
+  pub made : List ℕ
+  -- those that it made and freed again: their blocks stay reserved to its end
+  pub dropped : List ℕ
+  -- and those that it found and freed
+  pub freed : List ℕ
   pub error : TxErr
 
 -- no transaction is open, and these actions are pending
 abbrev pub resting : PoolView → List Action → Transaction
 resting pool actions =
-    record { before = pool; pool = pool; level = 0; stage = stage.None; locks = []; recorded = []; records = 0; actions = actions; moved = []; error = error.None }
+    record { before = pool; pool = pool; level = 0; stage = stage.None; locks = []; recorded = []; records = 0; actions = actions; moved = []; made = []; dropped = []; freed = []; error = error.None }
 
 -- and none
 abbrev pub at_rest : PoolView → Transaction
@@ -64,17 +71,38 @@ locked_all (want ∷ wants) locks = locked_all wants (locked want.id.off want.wr
 abbrev pub is_locked : List Lock → ℕ → Bool → Bool
 is_locked locks off write = list_any (λ (lock : Lock). lock.off == off && (lock.write || not write)) locks
 
+-- the transaction made the object at the offset: no other lane knows of it, so it needs no lock
+abbrev pub is_new : Transaction → ℕ → Bool
+is_new tx off = is_among tx.made off || is_among tx.dropped off
+
+-- it freed the object at the offset, and made none there since
+abbrev pub is_gone : Transaction → ℕ → Bool
+is_gone tx off = (is_among tx.freed off || is_among tx.dropped off) && not (is_among tx.made off)
+
+-- it may use the object at the offset, to write if so asked: the object is new, or its lock is held
+abbrev pub holds_object : Transaction → ℕ → Bool → Bool
+holds_object tx off write = is_new tx off || is_locked tx.locks off write
+
+-- what is wanted of objects that are not new: of a new one no lock is taken
+abbrev pub wants_of_old : Transaction → List Want → List Want
+wants_of_old tx wants = filter (λ (want : Want). not (is_new tx want.id.off)) wants
+
+-- the entries of its redo log, but for that of its generation: one for each action that was published, and for each object made or freed
+abbrev pub entries_of : Transaction → ℕ
+entries_of tx = length tx.moved + length tx.made + length tx.freed
+
 -- one level more, with the locks that it wants
 abbrev pub begun : List Want → Transaction → Transaction
-begun wants tx = record tx { level = tx.level + 1; stage = stage.Work; locks = locked_all wants tx.locks }
+begun wants tx = record tx { level = tx.level + 1; stage = stage.Work; locks = locked_all (wants_of_old tx wants) tx.locks }
 
 -- the innermost level is committed: at the outermost one the copy is the pool from now on
 abbrev pub committed : Transaction → Transaction
 committed tx = record tx { stage = stage.OnCommit }
 
--- all of it is given up for this reason, what was published among it. A refused outermost begin leaves level 1
+-- all of it is given up for this reason, what was published, made and freed among it. A refused outermost begin leaves level 1
 abbrev pub aborted : TxErr → Transaction → Transaction
-aborted e tx = record tx { pool = tx.before; level = if tx.level == 0 then 1 else tx.level; stage = stage.OnAbort; moved = []; error = e }
+aborted e tx =
+    record tx { pool = tx.before; level = if tx.level == 0 then 1 else tx.level; stage = stage.OnAbort; moved = []; made = []; dropped = []; freed = []; error = e }
 
 -- an inner level is ended: what is open goes on working, unless it was aborted
 abbrev pub ended_inner : Transaction → Transaction

@@ -1,8 +1,11 @@
-ghost use Rattle.std.specs.Prelude.{◌≡◌, ◌≢◌, ◌↔◌, ℕ, Bool, true, false, not, IsTrue, List, filter, MatchOption};
-ghost use Rattle.pm_objects.specs.Pool.{IsPool};
+ghost use Rattle.std.specs.Prelude.{◌≡◌, ◌≢◌, ◌↔◌, ℕ, Bool, true, false, not, IsTrue, List, filter, MatchOption, Some, None};
+ghost use Rattle.std.specs.List.Sorted.{IsStrictlyIncreasing};
+ghost use Rattle.pm_objects.specs.Pool.{object_at, IsPool, Objects, offsets};
 ghost use Rattle.pm_objects.specs.declared.calls.Operation.{Operation};
-ghost use Rattle.pm_objects.specs.declared.history.TxErr.TheVariants.{None};
+ghost use Rattle.pm_objects.specs.declared.history.TxErr.TheVariants as error;
+ghost use Rattle.pm_objects.specs.declared.pool.Object.{Object};
 ghost use Rattle.pm_model.specs.Places.{can_begin, CanBegin};
+ghost use Rattle.pm_model.specs.NewObjects.{with_object, without_object};
 ghost use Rattle.pm_model.specs.Transaction.{Transaction};
 ghost use Rattle.pm_model.specs.Answers.{changes_nothing, is_known, Answers};
 ghost use Rattle.pm_model.specs.Step.{State, Act, Step, TransactionStep};
@@ -63,7 +66,7 @@ pub fn calls_keep_pools()
 /// A law: a transaction's error is told by its operations, and a call that is told as an error changed no pool. No code runs.
 pub fn aborted_calls_change_nothing()
     ensures error { (act : Act) (s t : State) → (step : TransactionStep s act t) → step.last.error ≡ error_of act.told }
-    ensures unchanged { (act : Act) (s t : State) → Step s act t → error_of act.told ≢ None → t.pool ≡ s.pool }
+    ensures unchanged { (act : Act) (s t : State) → Step s act t → error_of act.told ≢ error.None → t.pool ≡ s.pool }
 {}
 
 /// A law: what a lane answers that runs alone is an answer, where its refusal is one that leaves a trace. No code runs.
@@ -76,4 +79,21 @@ pub fn answers_alone_are_answers()
 /// A law: a block can begin before an offset exactly where whole chunks or a block of a run can. No code runs.
 pub fn blocks_begin_at_chunks_and_in_runs()
     ensures { (lanes zones off : ℕ) → (can_begin lanes zones off ≡ true) ↔ CanBegin lanes zones off }
+{}
+
+/// A law: objects with one more, where none was, have it at its offset, and objects without one have none there; at each other offset they have
+/// what was there, and they are in rising offsets still. No code runs.
+pub fn objects_are_told_by_their_offsets()
+    ensures there { (objects : Objects) (off : ℕ) (object : Object) → object_at objects off ≡ None
+        → object_at (with_object off object objects) off ≡ Some object }
+    ensures others { (objects : Objects) (off other : ℕ) (object : Object) → other ≢ off
+        → object_at (with_object off object objects) other ≡ object_at objects other }
+    ensures rising { (objects : Objects) (off : ℕ) (object : Object) → IsStrictlyIncreasing (offsets objects) → object_at objects off ≡ None
+        → IsStrictlyIncreasing (offsets (with_object off object objects)) }
+    ensures gone { (objects : Objects) (off : ℕ)
+        → object_at (without_object off objects) off ≡ None }
+    ensures others_stay { (objects : Objects) (off other : ℕ) → other ≢ off
+        → object_at (without_object off objects) other ≡ object_at objects other }
+    ensures rising_still { (objects : Objects) (off : ℕ) → IsStrictlyIncreasing (offsets objects)
+        → IsStrictlyIncreasing (offsets (without_object off objects)) }
 {}

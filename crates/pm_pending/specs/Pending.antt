@@ -30,4 +30,4 @@ refusal_in (Err reason) = Some reason
 
 -- the lane sees nothing that hinders the call: it has generations and numbers left, and misses no object
 abbrev pub unhindered : Seen
-unhindered = record { spent = false; busy = false; missing = false }
+unhindered = record { spent = false; busy = false; missing = false; full = false }

@@ -7,7 +7,7 @@ use Rattle.std.proofs.lemmas.List.Kept.{IsStrictlyIncreasing-filter}
 use Rattle.pm_objects.specs.Pool.{object_at, Objects, offsets}
 use Rattle.pm_objects.specs.declared.pool.Object.{Object}
 use Rattle.pm_model.proofs.Objects.{rising_tail}
-use Rattle.pm_crash.specs.NewObjects.{with_object, without_object}
+use Rattle.pm_model.specs.NewObjects.{with_object, without_object}
 
 -- where none is at an offset, none of the objects is
 not_first : (e : ℕ × Object) (es : Objects) (off : ℕ) → object_at (e ∷ es) off ≡ None → (e.0 ≢ off) × (object_at es off ≡ None)

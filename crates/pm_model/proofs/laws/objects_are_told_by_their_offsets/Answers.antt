@@ -1,5 +1,5 @@
-use Rattle.pm_crash.proofs.ObjectsByOffset.{fewer_elsewhere, fewer_rise, fewer_there, more_elsewhere, more_rise, more_there}
-use Rattle.pm_crash.proofs.blocks.objects_are_told_by_their_offsets.Goals as goal
+use Rattle.pm_model.proofs.ObjectsByOffset.{fewer_elsewhere, fewer_rise, fewer_there, more_elsewhere, more_rise, more_there}
+use Rattle.pm_model.proofs.laws.objects_are_told_by_their_offsets.Goals as goal
 
 pub returns-clause-there : goal.returns-clause-there
 returns-clause-there c = more_there
