@@ -5,6 +5,7 @@ use Rattle.std.specs.Option.{option_map_or}
 use Rattle.std.proofs.lemmas.Bool.{and_from, and_parts, and_right, cases_Bool, cond-false, cond-true, eq-eqb, le-ltb, leb-true, or_left, or_right}
 use Rattle.std.proofs.lemmas.List.{length-map}
 use Rattle.pm_header.specs.declared.header.Header.{Header}
+use Rattle.pm_objects.specs.Pool.{offsets}
 use Rattle.pm_objects.specs.declared.history.TxErr.TheVariants as error
 use Rattle.pm_objects.specs.declared.ids.Oid.{Oid}
 use Rattle.pm_objects.specs.declared.pool.Object.{Object}
@@ -156,7 +157,7 @@ call_works v w header pool level some is_open c =
       level = omega arith;
       working = c.stands;
       few = omega arith;
-      none_gone = λ off. (λ j. (is_among (c.no_freed j) off || is_among (c.no_dropped j) off) && not (is_among c.tx.made off));
+      none_gone = λ off. (λ j. is_among (c.no_freed j) off || is_among (offsets (c.no_dropped j)) off);
     }
 
 -- it is of the lane's pool

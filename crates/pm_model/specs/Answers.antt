@@ -64,7 +64,7 @@ allocated off size kind tx = record tx { pool = pool_with off (new_object kind s
 abbrev pub released : ℕ → Transaction → Transaction
 released off tx =
     if is_among tx.made off
-    then record tx { pool = pool_without off tx.pool; made = filter (λ other. not (other == off)) tx.made; dropped = tx.dropped ++ off ∷ [] }
+    then record tx { pool = pool_without off tx.pool; made = filter (λ other. not (other == off)) tx.made; dropped = tx.dropped ++ filter (λ entry. entry.0 == off) tx.pool.objects }
     else record tx { pool = pool_without off tx.pool; freed = tx.freed ++ off ∷ [] }
 
 -- what an operation leaves that is not refused, but for an allocation. A commit ends its level too
@@ -111,10 +111,10 @@ abbrev pub IsBeside : ℕ → ℕ → ℕ × Object → Type 0
 IsBeside size off entry = (off - 64 + 64 * block_lines (class_of size) ≤ entry.0 - 64) ⊎ (block_end entry ≤ off - 64)
 
 -- a new object of so many bytes may stand at the offset: a block of its class can begin there, and overlaps no block of the pool, as the
--- call began or now
+-- call began or now, nor that of an object which the call dropped
 pub record IsNewPlace (tx : Transaction) (size off : ℕ) : Type 0 where
   pub begins : CanHold tx.pool.lanes tx.pool.zones (class_of size) off
-  pub apart : All (IsBeside size off) (tx.before.objects ++ tx.pool.objects)
+  pub apart : All (IsBeside size off) (tx.before.objects ++ tx.pool.objects ++ tx.dropped)
 
 -- what an operation answers that is not refused: an allocation the offset of its object, which may stand there
 abbrev pub IsValue : Transaction → Operation → Option Value → Type 0

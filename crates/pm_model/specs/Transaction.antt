@@ -1,6 +1,7 @@
 -- A transaction as it runs: pmemobj_tx_begin(3). It works on a copy of the pool, which the outermost commit makes the pool.
 use Rattle.std.specs.Prelude.{ℕ, ◌+◌, ◌-◌, ◌==◌, ◌&&◌, ◌||◌, not, nat_le, Bool, true, false, if◌then◌else◌, List, [], ◌∷◌, length, filter}
 use Rattle.std.specs.List.{list_any}
+use Rattle.pm_objects.specs.Pool.{Objects, offsets}
 use Rattle.pm_objects.specs.declared.calls.Want.{Want}
 use Rattle.pm_objects.specs.declared.history.TxErr.{TxErr}
 use Rattle.pm_objects.specs.declared.history.TxErr.TheVariants as error
@@ -32,8 +33,8 @@ pub record Transaction : Type 0 where
   pub moved : List Action
   -- the offsets of the objects that it made, in the order of their calls
   pub made : List ℕ
-  -- those that it made and freed again: their blocks stay reserved to its end
-  pub dropped : List ℕ
+  -- those that it made and freed again, as they were then: their blocks stay reserved to its end
+  pub dropped : Objects
   -- and those that it found and freed
   pub freed : List ℕ
   pub error : TxErr
@@ -71,13 +72,17 @@ locked_all (want ∷ wants) locks = locked_all wants (locked want.id.off want.wr
 abbrev pub is_locked : List Lock → ℕ → Bool → Bool
 is_locked locks off write = list_any (λ (lock : Lock). lock.off == off && (lock.write || not write)) locks
 
+-- the transaction made an object at the offset, and freed it again
+abbrev pub is_dropped : Transaction → ℕ → Bool
+is_dropped tx off = is_among (offsets tx.dropped) off
+
 -- the transaction made the object at the offset: no other lane knows of it, so it needs no lock
 abbrev pub is_new : Transaction → ℕ → Bool
-is_new tx off = is_among tx.made off || is_among tx.dropped off
+is_new tx off = is_among tx.made off || is_dropped tx off
 
--- it freed the object at the offset, and made none there since
+-- it freed the object at the offset
 abbrev pub is_gone : Transaction → ℕ → Bool
-is_gone tx off = (is_among tx.freed off || is_among tx.dropped off) && not (is_among tx.made off)
+is_gone tx off = is_among tx.freed off || is_dropped tx off
 
 -- it may use the object at the offset, to write if so asked: the object is new, or its lock is held
 abbrev pub holds_object : Transaction → ℕ → Bool → Bool
