@@ -55,7 +55,7 @@ module _ (w : ℕ → ℕ) (lanes c lines : ℕ) (is : w (descriptor_word lanes 
       ))
       (or_cases (not (is_run d)) (leb 8 (i % 512) && test) (in_taken_chunk w lanes i inside).2)
 
-  bitmap_outside : is_in_block w lanes (chunk_word lanes c) ≡ false
+  pub bitmap_outside : is_in_block w lanes (chunk_word lanes c) ≡ false
   bitmap_outside = false_from_ne_true (is_in_block w lanes (chunk_word lanes c)) (λ inside.
       let low = (in_run (chunk_word lanes c) (omega arith) inside).0 in
       omega arith)
@@ -84,7 +84,7 @@ chunk_outside w lanes i zone chunk is_zone is_chunk free = false_from_ne_true (i
     false≢true (sym free ∙ (λ j. is_chunk_taken w lanes (sym is_zone j) (sym is_chunk j)) ∙ (in_taken_chunk w lanes i inside).1))
 
 module _ (w v : ℕ → ℕ) (lanes zones : ℕ) (same : (i : ℕ) → is_in_block w lanes i ≡ false → v i ≡ w i) where
-  descriptor_same : (k : ℕ) → v (descriptor_word lanes k) ≡ w (descriptor_word lanes k)
+  pub descriptor_same : (k : ℕ) → v (descriptor_word lanes k) ≡ w (descriptor_word lanes k)
   descriptor_same k = same (descriptor_word lanes k) (descriptor_outside w lanes (descriptor_word lanes k) (k / 64) (k % 64) (omega arith) (omega arith))
 
   pub can_kept : (a : HeapChange) → CanChange w lanes zones a → CanChange v lanes zones a

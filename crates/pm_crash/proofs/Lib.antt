@@ -72,6 +72,7 @@ pub mod AtRest
 pub mod SameBlocks
 pub mod SoundPools
 pub mod TakenChanges
+pub mod TakenInTurn
 pub mod KnownHeap
 pub mod Raises
 pub mod Raising

@@ -79,7 +79,7 @@ module _ (w : ℕ → ℕ) (lanes zones : ℕ) (none : heap_fault w lanes zones 
 
 module _ (w : ℕ → ℕ) (lanes zones : ℕ) (header : Header) (pool : PoolView) (holds : HoldsPool w lanes zones header pool) where
   -- an action changes words of its object's block alone
-  outside_stays : (a : Action) → CanPerform w lanes zones a → (i : ℕ) → is_in_block w lanes i ≡ false → made a w i ≡ w i
+  pub outside_stays : (a : Action) → CanPerform w lanes zones a → (i : ℕ) → is_in_block w lanes i ≡ false → made a w i ≡ w i
   outside_stays a can i outside =
       let keeps : KeepsOthers w (made a w) can.block = keeps_others w lanes zones header pool holds a can in
       let from : ℕ = can.block.place / 8 + 8 in

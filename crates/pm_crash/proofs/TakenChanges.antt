@@ -26,7 +26,7 @@ use Rattle.pm_crash.proofs.FreedBlocks as freeing
 use Rattle.pm_crash.proofs.MadeObjects as making
 
 -- the chunk of a page
-chunk_in : ℕ → ℕ → ℕ
+pub chunk_in : ℕ → ℕ → ℕ
 chunk_in lanes page = 64 * zone_of lanes page + (chunk_of lanes page - 1)
 
 pub record PageChunk (lanes zones page c : ℕ) : Type 0 where
@@ -34,7 +34,7 @@ pub record PageChunk (lanes zones page c : ℕ) : Type 0 where
   pub of : IsPageOf lanes page c
   pub is : page ≡ 2 + 2 * lanes + 65 * (c / 64) + c % 64
 
-page_chunk : (lanes zones page : ℕ) → IsChunk lanes page → page < 1 + 2 * lanes + 65 * zones → PageChunk lanes zones page (chunk_in lanes page)
+pub page_chunk : (lanes zones page : ℕ) → IsChunk lanes page → page < 1 + 2 * lanes + 65 * zones → PageChunk lanes zones page (chunk_in lanes page)
 unfolding chunk_in
 page_chunk lanes zones page chunk inside =
     let low = chunk.0 in let some = chunk.1 in
@@ -43,7 +43,7 @@ page_chunk lanes zones page chunk inside =
     record { in_zones = omega (arith, low, some, inside); of = page_of_chunk lanes page c is; is = is }
 
 -- a zone's descriptor, by the chunk's number in the row
-row_word : (lanes zone chunk : ℕ) → chunk < 64 → 512 * zone_page lanes zone + chunk ≡ descriptor_word lanes (64 * zone + chunk)
+pub row_word : (lanes zone chunk : ℕ) → chunk < 64 → 512 * zone_page lanes zone + chunk ≡ descriptor_word lanes (64 * zone + chunk)
 row_word lanes zone chunk low = omega arith
 
 -- ---- what makes a chunk taken
@@ -78,7 +78,7 @@ reaches_from w lanes zone chunk first less is far =
     reached_by w lanes zone chunk first less (and_from (is_huge d) (ltb chunk (first + d / 256)) is (lt-ltb chunk (first + d / 256) far))
 
 -- where each descriptor of the zone is the same, the same chunks are taken
-still_taken : (w v : ℕ → ℕ) (lanes zone chunk : ℕ) → ((k : ℕ) → k ≤ chunk → v (512 * zone_page lanes zone + k) ≡ w (512 * zone_page lanes zone + k)) → is_chunk_taken w lanes zone chunk ≡ true → is_chunk_taken v lanes zone chunk ≡ true
+pub still_taken : (w v : ℕ → ℕ) (lanes zone chunk : ℕ) → ((k : ℕ) → k ≤ chunk → v (512 * zone_page lanes zone + k) ≡ w (512 * zone_page lanes zone + k)) → is_chunk_taken w lanes zone chunk ≡ true → is_chunk_taken v lanes zone chunk ≡ true
 still_taken w v lanes zone chunk same taken = ⊎_elim
     (λ (run : is_run (w (512 * zone_page lanes zone + chunk)) ≡ true). run_taken v lanes zone chunk (ap is_run (same chunk (omega arith)) ∙ run))
     (λ (from : ReachedFrom w lanes zone chunk).
@@ -90,7 +90,7 @@ still_taken w v lanes zone chunk same taken = ⊎_elim
 
 module _ (w v : ℕ → ℕ) (lanes zones : ℕ) (none : heap_fault w lanes zones ≡ None) where
   -- a run's block is taken where it was, by the same descriptor and bit
-  block_still : (page bit : ℕ) → v (lane_descriptor lanes page) ≡ w (lane_descriptor lanes page) → (is_run (w (lane_descriptor lanes page)) ≡ true → bit_at (v (bitmap_word page)) bit ≡ bit_at (w (bitmap_word page)) bit)
+  pub block_still : (page bit : ℕ) → v (lane_descriptor lanes page) ≡ w (lane_descriptor lanes page) → (is_run (w (lane_descriptor lanes page)) ≡ true → bit_at (v (bitmap_word page)) bit ≡ bit_at (w (bitmap_word page)) bit)
       → is_block_taken v lanes page bit ≡ is_block_taken w lanes page bit
   block_still page bit same bits =
       let d : ℕ = w (lane_descriptor lanes page) in
@@ -103,7 +103,7 @@ module _ (w v : ℕ → ℕ) (lanes zones : ℕ) (none : heap_fault w lanes zone
       (cases_Bool (is_run d))
 
   -- a run of the pool has a class
-  run_class : (k : ℕ) → k < 64 * zones → is_run (w (descriptor_word lanes k)) ≡ true → class_in (w (descriptor_word lanes k)) ≡ Some (Lines (w (descriptor_word lanes k) / 256))
+  pub run_class : (k : ℕ) → k < 64 * zones → is_run (w (descriptor_word lanes k)) ≡ true → class_in (w (descriptor_word lanes k)) ≡ Some (Lines (w (descriptor_word lanes k) / 256))
   run_class k inside run = run_by_byte w lanes k (good_chunk w lanes zones k none inside) (eqb-true (w (descriptor_word lanes k) % 256) 1 run)
 
   -- the words of another chunk's runs stay

@@ -1,10 +1,14 @@
 -- Which bits of the occupancy words are of a block: docs/FORMAT.md, "Volatile words". Chunks are counted in one row over all zones.
-use Rattle.std.specs.Prelude.{◌≡◌, ◌⊎◌, ◌↔◌, ℕ, ◌+◌, ◌*◌, ◌/◌, ◌%◌, ◌<◌, ◌≤◌, true}
+use Rattle.std.specs.Prelude.{◌≡◌, ◌⊎◌, ◌↔◌, ℕ, ◌+◌, ◌*◌, ◌/◌, ◌%◌, ◌<◌, ◌≤◌, true, List, [], ◌∷◌}
 use Rattle.pm_image.specs.Blocks.{chunk_word}
 use Rattle.pm_view.specs.declared.occ.Occ.{Occ}
 use Rattle.pm_view.specs.declared.occ.Occ.TheVariants.{Run, Zone}
 use Rattle.pm_view.specs.Occupancy.{is_taken}
 use Rattle.pm_world.specs.Heap.{IsOcc}
+use Rattle.pm_crash.specs.HeapChanges.{HeapChange}
+use Rattle.pm_crash.specs.HeapChanges.HeapChange.{AllocatesChunks, AllocatesInRun, FreesChunks, FreesInRun}
+use Rattle.pm_crash.specs.Publishing.{Published}
+use Rattle.pm_crash.specs.Publishing.Published.{Changes, Performs}
 
 -- the bit is that of block `index` of the run at a chunk
 abbrev pub IsBlockBit : ℕ → ℕ → ℕ → Occ → ℕ → Type 0
@@ -23,3 +27,26 @@ TakesMore w v lanes zones these =
 pub record TakesLess (w v : ℕ → ℕ) (lanes zones : ℕ) (these : Occ → ℕ → Type 0) : Type 0 where
   pub less : (at : Occ) (bit : ℕ) → IsOcc lanes zones at → bit < 64 → (is_taken v lanes at bit ≡ true) ↔ ((is_taken w lanes at bit ≡ true) × ¬ these at bit)
   pub were : (at : Occ) (bit : ℕ) → IsOcc lanes zones at → bit < 64 → these at bit → is_taken w lanes at bit ≡ true
+
+-- ---- of all that is published
+
+-- the bits of a block that a change allocates, and of one that it frees
+abbrev pub AllocatesBit : ℕ → HeapChange → Occ → ℕ → Type 0
+AllocatesBit lanes (AllocatesInRun c lines index kind size) at bit = IsBlockBit lanes c index at bit
+AllocatesBit lanes (AllocatesChunks c chunks kind size) at bit = IsChunkBit c chunks at bit
+AllocatesBit lanes change at bit = ⊥
+
+abbrev pub FreesBit : ℕ → HeapChange → Occ → ℕ → Type 0
+FreesBit lanes (FreesInRun c lines index) at bit = IsBlockBit lanes c index at bit
+FreesBit lanes (FreesChunks c chunks) at bit = IsChunkBit c chunks at bit
+FreesBit lanes change at bit = ⊥
+
+-- the bit is taken behind this, where that said whether it was before: an action takes and gives none
+abbrev pub TakenBehind : ℕ → Published → Occ → ℕ → Type 0 → Type 0
+TakenBehind lanes (Performs a) at bit before = before
+TakenBehind lanes (Changes change) at bit before = (before × ¬ FreesBit lanes change at bit) ⊎ AllocatesBit lanes change at bit
+
+-- and behind all of these, one after another
+unfoldable pub TakenBehindAll : ℕ → List Published → Occ → ℕ → Type 0 → Type 0
+TakenBehindAll lanes [] at bit before = before
+TakenBehindAll lanes (s ∷ steps) at bit before = TakenBehindAll lanes steps at bit (TakenBehind lanes s at bit before)

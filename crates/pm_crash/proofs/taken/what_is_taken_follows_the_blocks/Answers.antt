@@ -1,4 +1,5 @@
 use Rattle.pm_crash.proofs.TakenChanges.{chunks_give, chunks_take, freed_takes, made_takes}
+use Rattle.pm_crash.proofs.TakenInTurn.{all_take}
 use Rattle.pm_crash.proofs.taken.what_is_taken_follows_the_blocks.Goals as goal
 
 pub returns : goal.returns
@@ -7,4 +8,5 @@ returns c = record {
   chunks = chunks_take;
   freed_block = freed_takes;
   freed_chunks = chunks_give;
+  all = all_take;
 }
