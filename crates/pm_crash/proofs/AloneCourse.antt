@@ -1,5 +1,5 @@
 -- The steps of a lane that is alone are a course of a world: its memory is what the lane's view says, and no other lane makes a step.
-use Rattle.std.proofs.Common.{◌≡◌, ◌≢◌, ⊎_elim, inl, inr, ℕ, ◌+◌, ◌/◌, ◌<◌, ◌≤◌, Bool, true, false, eqb, is_none, List, [], ◌∷◌, ◌++◌, length, slice_index, Option, refl, sym, ◌∙◌, ap, subst, arith, append_assoc, le_refl, ne_eqb}
+use Rattle.std.proofs.Common.{◌≡◌, ◌≢◌, ⊎_elim, inl, inr, ℕ, ◌+◌, ◌/◌, ◌<◌, ◌≤◌, Bool, true, false, eqb, is_none, List, [], ◌∷◌, ◌++◌, length, slice_index, Option, Some, refl, sym, ◌∙◌, ap, subst, arith, append_assoc, le_refl, ne_eqb}
 use Rattle.std.specs.Option.{ForSome}
 use Rattle.std.specs.List.{list_any}
 use Rattle.std.proofs.lemmas.Bool.{and_from, and_parts, cases_eq, cond-false, false≢true}
@@ -246,6 +246,11 @@ module _ (o : Opening) (header : Header) (pool : PoolView) where
             newest = λ n e. g.newest n (ap (λ (u : View). u.number) stands.here ∙ (ap (λ (u : View). u.number) (sym here) ∙ e));
             front = g.front;
             range = subst (λ (u : View). InRange (memory_of next (PoolWord (area_word 0))) u u.log.phase) (sym here) range;
+            over = g.over;
+            few = g.few;
+            behind = λ n e low.
+                let now : v.number ≡ Some n = ap (λ (u : View). u.number) (sym here) ∙ e in
+                ap (λ (u : View). u.log.phase) here ∙ (ap (λ (u : View). u.log.phase) (sym stands.here) ∙ g.behind n (ap (λ (u : View). u.number) stands.here ∙ now) low);
             reached = g.reached;
           };
           here = here;

@@ -190,7 +190,7 @@ module _ (o : Opening) (header : Header) (pool : PoolView) (w : View) (s : Stand
               subst (λ (calls : List Numbered). Replays (opened pool) (acts_alone calls) (state_alone held.last calls)) kept_calls
               (subst (λ (s : State). Replays (opened pool) (acts_alone (entries_by 0 (kept_entries o now image))) s) (state_of_one held.last (kept_entries o now image) kept_alone)
               (subst (λ (acts : List Act). Replays (opened pool) acts (state_after held.last (kept_entries o now image))) (acts_of_all (kept_entries o now image) kept_alone) held.replays));
-          means = image_means o 0 header pool now s.goes image begins.holds begins.clean survives whole held;
+          means = image_means o 0 header pool now s.goes image pool begins.holds begins.clean survives whole held;
           blocks_are = blocks_offsets (recovered_at image o.lanes) o.lanes o.zones header held.last held.holds.is_pool;
         }
 

@@ -1,5 +1,5 @@
 -- The course of one lane: its history is the plain model's, entry by entry.
-use Rattle.std.proofs.Common.{◌≡◌, ◌≢◌, ◌⊎◌, ⊎_elim, inl, inr, ℕ, ◌+◌, ◌<◌, ◌≤◌, List, [], ◌∷◌, ◌++◌, length, take, slice_index, Some, refl, sym, ◌∙◌, ap, subst, arith}
+use Rattle.std.proofs.Common.{◌≡◌, ◌≢◌, ◌⊎◌, ⊎_elim, inl, inr, ℕ, ◌+◌, ◌<◌, ◌≤◌, List, [], ◌∷◌, ◌++◌, length, take, slice_index, is_some, Some, refl, sym, ◌∙◌, ap, subst, arith}
 use Rattle.std.specs.List.{Contains}
 use Rattle.std.proofs.lemmas.Bool.{cases_lt}
 use Rattle.std.proofs.lemmas.List.{length-append, take-append-le, take_all}
@@ -8,26 +8,31 @@ use Rattle.std.proofs.lemmas.Option.{none-some}
 use Rattle.pm_header.specs.declared.header.Header.{Header}
 use Rattle.pm_objects.specs.declared.pool.PoolView.{PoolView}
 use Rattle.pm_image.proofs.Members.{no_member, only_member}
-use Rattle.pm_view.specs.Area.{area_word}
-use Rattle.pm_view.specs.Log.{Phase}
+use Rattle.pm_record.specs.declared.redo.Op.TheVariants as op
+use Rattle.pm_view.specs.declared.change.Change.{Change}
+use Rattle.pm_view.specs.Area.{area_word, part_of}
+use Rattle.pm_view.specs.Changes.{drained}
+use Rattle.pm_view.specs.Log.{Phase, log_drained}
 use Rattle.pm_view.specs.Log.Phase.{Idle, Open, Drawn, Sealing, Applying, Clearing, Retiring}
 use Rattle.pm_model.specs.Step.{Act, Step as CallStep}
 use Rattle.pm_view.specs.Steps.{Step}
 use Rattle.pm_view.specs.Steps.Step.{Load, Store, Or, And, Flush, Drain, TakeWrite, TakeRead, Raise, Give, ZoneTry, ZoneGive, Occupied, Occupy, Vacate, Draw, NumberSeen, StopSeen, SetStop, Tell}
 use Rattle.pm_view.specs.View.{View}
-use Rattle.pm_view.specs.Views.{after, begun}
+use Rattle.pm_view.specs.Views.{after, begun, log_after_drain}
 use Rattle.pm_view.proofs.SameLane.{same_lane-after}
 use Rattle.pm_world.specs.Course.{entry_of, log_after}
 use Rattle.pm_world.specs.Entries.{HasNone}
 use Rattle.pm_world.specs.Fits.{PhaseFits}
 use Rattle.pm_world.specs.History.{Entry, Flies, made_final, replayed}
 use Rattle.pm_world.specs.Laws.{Keeps}
+use Rattle.pm_world.specs.Lawful.{Allowed, BitsFit, MayTell, StoreFits}
 use Rattle.pm_world.specs.Memory.{Memory}
 use Rattle.pm_world.specs.Memory.Location.{CommitCounter, PoolWord}
 use Rattle.pm_world.specs.Opening.{Opening}
 use Rattle.pm_world.specs.Records.{difference_of}
 use Rattle.pm_world.specs.World.{Views, World}
 use Rattle.pm_world.proofs.Frame.{view_else, view_here}
+use Rattle.pm_world.proofs.OpeningLaw.{between_calls_law, made_nothing}
 use Rattle.pm_world.proofs.StepChange.{clears, sets}
 use Rattle.pm_world.proofs.StepDrain.{drains}
 use Rattle.pm_world.proofs.StepDraw.{draws}
@@ -40,10 +45,10 @@ use Rattle.pm_world.proofs.StepSetStop.{sets_stop}
 use Rattle.pm_world.proofs.StepStore.{stores}
 use Rattle.pm_world.proofs.StepTake.{takes_read, takes_write}
 use Rattle.pm_crash.specs.Held.{HoldsPool}
-use Rattle.pm_crash.specs.OneLane.{Begins, HoldsReplay, IsCourse, Makes, Moment, Move, beginning, moved}
+use Rattle.pm_crash.specs.OneLane.{Begins, BeginsBetween, HoldsReplay, IsCourse, Makes, Moment, Move, beginning, moved}
 use Rattle.pm_crash.specs.OpenCall.{MakesStep, made_words}
 use Rattle.pm_crash.specs.Pending.{pending_after, pending_before, pending_from, state_after}
-use Rattle.pm_crash.proofs.CleanWords.{clean_words_hold, world_begins}
+use Rattle.pm_crash.proofs.CleanWords.{clean_words_hold, clean_words_sound, world_begins}
 use Rattle.pm_crash.proofs.Continued.{two_same}
 use Rattle.pm_crash.proofs.Differing.{difference_makes_call}
 use Rattle.pm_crash.proofs.DrawnWords.{drawn_before}
@@ -51,7 +56,7 @@ use Rattle.pm_crash.proofs.FrontWords.{front_stays}
 use Rattle.pm_crash.proofs.HeapWordsAlone.{held_by_heap}
 use Rattle.pm_crash.proofs.HistoryActs.{act_drawn, replays_none, turns_history}
 use Rattle.pm_crash.proofs.LogCourse.{InRange, range_after}
-use Rattle.pm_crash.proofs.LongerReplays.{holds_once_more, words_after}
+use Rattle.pm_crash.proofs.LongerReplays.{every, holds_once_more, words_after}
 
 -- each step keeps the world
 keeps_each : (s : Step) → Keeps s
@@ -129,7 +134,11 @@ pub record Goes (o : Opening) (k : ℕ) (header : Header) (pool : PoolView) (m :
   pub newest : (n : ℕ) → (m.views k).number ≡ Some n → n ≡ length m.log
   pub front : (i : ℕ) → i < 512 → m.memory (PoolWord i) ≡ slice_index o.words i
   pub range : InRange (m.memory (PoolWord (area_word k))) (m.views k) (m.views k).log.phase
-  pub reached : (n : ℕ) → n ≤ length m.log → Reaches o header pool (take n m.log)
+  -- so many calls were over as the world began, and the lane is in none of them
+  pub over : ℕ
+  pub few : over ≤ length m.log
+  pub behind : (n : ℕ) → (m.views k).number ≡ Some n → n ≤ over → (m.views k).log.phase ≡ Idle
+  pub reached : (n : ℕ) → over ≤ n → n ≤ length m.log → Reaches o header pool (take n m.log)
 
 -- it begins so
 pub goes_first : (o : Opening) (memory : Memory) (views : Views) (k : ℕ) (header : Header) (pool : PoolView) → Begins o memory views k header pool → Goes o k header pool (beginning memory views)
@@ -143,10 +152,63 @@ goes_first o memory views k header pool b = record {
   newest = λ n e. absurd (none-some n (sym (b.fresh k b.in_lanes).no_number ∙ e));
   front = λ i low. b.opens.words i;
   range = subst (InRange (memory (PoolWord (area_word k))) (views k)) (sym (ap (λ log. log.phase) (b.fresh k b.in_lanes).idle)) tt;
-  reached = λ n low. nothing (take n []) (take_all n [] (omega arith));
+  over = 0;
+  few = omega arith;
+  behind = λ n e. absurd (none-some n (sym (b.fresh k b.in_lanes).no_number ∙ e));
+  reached = λ n from low. nothing (take n []) (take_all n [] (omega arith));
 } where
   nothing : (log : List Entry) → log ≡ [] → Reaches o header pool log
   nothing log none = subst (Reaches o header pool) (sym none) (record { last = pool; replays = replays_none pool; holds = clean_words_hold o header pool b.holds b.clean })
+
+-- and so between calls
+pub goes_between : (o : Opening) (k : ℕ) (header : Header) (pool : PoolView) (m : Moment) → BeginsBetween o k header pool m → Goes o k header pool m
+goes_between o k header pool m b = record {
+  world = between_calls_law o m.memory m.views m.log m.decided (clean_words_sound o header b.now b.holds b.clean) b.clean b.rested b.over b.stands;
+  in_lanes = b.in_lanes;
+  alone = b.alone;
+  others = λ j low other. phase_of j low;
+  of_pool = b.of_pool;
+  newest = b.newest;
+  front = λ i low. b.stands.words i;
+  range = subst (InRange (m.memory (PoolWord (area_word k))) (m.views k)) (sym (phase_of k b.in_lanes)) tt;
+  over = length m.log;
+  few = omega arith;
+  behind = λ n e low. phase_of k b.in_lanes;
+  reached = λ n from low. subst (Reaches o header pool) (sym (take_all n m.log from)) (record {
+    last = b.now;
+    replays = b.replays;
+    holds = held_by_heap (slice_index o.words) (words_after (slice_index o.words) m.log) o.lanes o.zones header b.now (clean_words_hold o header b.now b.holds b.clean)
+        (λ i heap. made_nothing every m.log i (slice_index o.words i) b.over.made);
+  });
+} where
+  phase_of : (j : ℕ) → j < o.lanes → (m.views j).log.phase ≡ Idle
+  phase_of j low = ap (λ log. log.phase) (b.rested j low).idle
+
+-- a lane that has ended a call is in none until it sees the numbers again
+idle_stays : (v : View) (s : Step) → Allowed v s → v.log.phase ≡ Idle → (n : ℕ) → (after v s).number ≡ Some n → (after v s).log.phase ≡ Idle
+idle_stays v (Load w x) may idle n e = idle
+idle_stays v (Store w x) may idle n e = absurd (subst (λ p. StoreFits v w x p (part_of v.lane w)) idle may.fits)
+idle_stays v (Or w bits found) may idle n e = absurd (subst (λ p. BitsFit v op.Or w bits p (part_of v.lane w)) idle may.fits)
+idle_stays v (And w bits found) may idle n e = absurd (subst (λ p. BitsFit v op.And w bits p (part_of v.lane w)) idle may.fits)
+idle_stays v (Flush line) may idle n e = idle
+idle_stays v Drain may idle n e = by_left (drained v.changes) where
+  by_left : (left : List Change) → (log_after_drain left v).phase ≡ Idle
+  by_left [] = ap (λ p. (log_drained p (is_some v.number) v.log).phase) idle ∙ idle
+  by_left (c ∷ left) = idle
+idle_stays v (TakeWrite line won) may idle n e = idle
+idle_stays v (TakeRead line won) may idle n e = idle
+idle_stays v (Raise line won) may idle n e = absurd may
+idle_stays v (Give line) may idle n e = idle
+idle_stays v (ZoneTry zone won) may idle n e = idle
+idle_stays v (ZoneGive zone) may idle n e = idle
+idle_stays v (Occupied at found) may idle n e = idle
+idle_stays v (Occupy at bits won) may idle n e = idle
+idle_stays v (Vacate at bits) may idle n e = idle
+idle_stays v (Draw m) may idle n e = absurd (let both : Idle ≡ Open [] [] = sym idle ∙ may.is_open in cc)
+idle_stays v (NumberSeen m) may idle n e = absurd (none-some n (sym (ap (λ p. (begun p v).number) idle) ∙ e))
+idle_stays v (StopSeen set) may idle n e = idle
+idle_stays v SetStop may idle n e = idle
+idle_stays v (Tell operation reply) may idle n e = absurd (subst MayTell idle may)
 
 module _ (o : Opening) (k : ℕ) (header : Header) (pool : PoolView) (m : Moment) (g : Goes o k header pool m) where
   idle_records : (j : ℕ) → j < o.lanes → j ≢ k → (m.views j).log.records ≡ []
@@ -187,12 +249,17 @@ module _ (o : Opening) (k : ℕ) (header : Header) (pool : PoolView) (m : Moment
       newest = subst (λ (log : List Entry). (n : ℕ) → ((moved k m s).views k).number ≡ Some n → n ≡ length log) (sym none.same_log) (λ n e. g.newest n (none.no_other n (number_here n e)));
       front = front_here;
       range = range_here;
-      reached = subst (λ (log : List Entry). (n : ℕ) → n ≤ length log → Reaches o header pool (take n log)) (sym none.same_log) g.reached;
+      over = g.over;
+      few = subst (λ (log : List Entry). g.over ≤ length log) (sym none.same_log) g.few;
+      behind = λ n e low.
+          let now = number_here n e in
+          ap (λ (u : View). u.log.phase) (view_here m.views k (after (m.views k) s.step)) ∙ idle_stays (m.views k) s.step makes.lawful.allowed (g.behind n (none.no_other n now) low) n now;
+      reached = subst (λ (log : List Entry). (n : ℕ) → g.over ≤ n → n ≤ length log → Reaches o header pool (take n log)) (sym none.same_log) g.reached;
     }
 
   -- the whole history
   pub reached_all : Reaches o header pool m.log
-  reached_all = subst (Reaches o header pool) (take_all (length m.log) m.log (omega arith)) (g.reached (length m.log) (omega arith))
+  reached_all = subst (Reaches o header pool) (take_all (length m.log) m.log (omega arith)) (g.reached (length m.log) g.few (omega arith))
 
   module _ (n : ℕ) (memory : Memory) (makes : Makes k m (record { step = Draw n; memory = memory })) where
     abbrev longer : List Entry
@@ -238,10 +305,19 @@ module _ (o : Opening) (k : ℕ) (header : Header) (pool : PoolView) (m : Moment
           omega arith;
       front = front_here (record { step = Draw n; memory = memory }) makes;
       range = range_here (record { step = Draw n; memory = memory }) makes;
-      reached = λ j low. ⊎_elim
+      over = g.over;
+      few = let long = longer_length in let was = g.few in omega (arith, long, was);
+      behind = λ j e low.
+          let same : Some n ≡ Some j = number_here (record { step = Draw n; memory = memory }) makes j e in
+          let is : n ≡ j = cc in
+          let counted : n ≡ m.memory CommitCounter + 1 = makes.moves.1 in
+          let counter = g.world.counter in
+          let was = g.few in
+          absurd (omega (arith, is, counted, counter, was, low));
+      reached = λ j from low. ⊎_elim
           (λ (more : length m.log < j).
           let long = longer_length in subst (Reaches o header pool) (sym (take_all j longer (omega arith))) draw_reaches)
-          (λ (few : j ≤ length m.log). subst (Reaches o header pool) (sym (take-append-le j m.log (entry_of (m.views k) n ∷ []) few)) (g.reached j few))
+          (λ (few : j ≤ length m.log). subst (Reaches o header pool) (sym (take-append-le j m.log (entry_of (m.views k) n ∷ []) few)) (g.reached j from few))
           (cases_lt (length m.log) j);
     }
 

@@ -1,5 +1,5 @@
 -- The course of a world in which one lane makes steps, and what its history makes of the pool that the world began from.
-use Rattle.std.specs.Prelude.{◌≡◌, ℕ, ◌<◌, Bool, false, List, [], ◌∷◌}
+use Rattle.std.specs.Prelude.{◌≡◌, ℕ, ◌<◌, Bool, false, Contains, List, [], ◌∷◌, length, Some}
 use Rattle.std.specs.List.{filter}
 use Rattle.pm_header.specs.declared.header.Header.{Header}
 use Rattle.pm_objects.specs.declared.pool.PoolView.{PoolView}
@@ -18,7 +18,7 @@ use Rattle.pm_world.specs.Lawful.{IsLawful}
 use Rattle.pm_world.specs.Memory.{Memory}
 use Rattle.pm_world.specs.Moves.{Moves}
 use Rattle.pm_world.specs.Opening.{Opening}
-use Rattle.pm_world.specs.Opens.{IsClean, IsFresh, IsOpened}
+use Rattle.pm_world.specs.Opens.{IsClean, IsFresh, IsOpened, IsOver, IsRested, IsStanding}
 use Rattle.pm_world.specs.World.{Views}
 use Rattle.pm_crash.specs.Pending.{acts_of, state_after}
 use Rattle.pm_crash.specs.Held.{HoldsImage, HoldsPool}
@@ -78,6 +78,21 @@ pub record Begins (o : Opening) (memory : Memory) (views : Views) (k : ℕ) (hea
   pub opens : IsOpened o memory
   pub in_lanes : k < o.lanes
   pub of_pool : (views k).pool ≡ header.id
+
+-- A world begins anew between calls, at this moment: its words hold a pool, to which the history so far leads, all of it lane k's; with each log clean, no
+-- lane in a call, and lane k of this pool
+pub record BeginsBetween (o : Opening) (k : ℕ) (header : Header) (pool : PoolView) (m : Moment) : Type 0 where
+  pub now : PoolView
+  pub holds : HoldsImage o.words o.lanes o.zones header now
+  pub clean : (j : ℕ) → j < o.lanes → IsClean o j
+  pub rested : (j : ℕ) → j < o.lanes → IsRested o j (m.views j)
+  pub over : IsOver o m.views m.log m.decided
+  pub stands : IsStanding o m.memory m.views m.log
+  pub in_lanes : k < o.lanes
+  pub of_pool : (m.views k).pool ≡ header.id
+  pub alone : (e : Entry) → Contains m.log e → e.lane ≡ k
+  pub newest : (n : ℕ) → (m.views k).number ≡ Some n → n ≡ length m.log
+  pub replays : Replays (opened pool) (acts_of m.log) (state_after now m.log)
 
 -- the entries that the image does not lose, in order
 abbrev pub kept_entries : Opening → Moment → List ℕ → List Entry

@@ -11,7 +11,7 @@ ghost use Rattle.pm_world.specs.Opening.{IsSound, Opening};
 ghost use Rattle.pm_world.specs.Opens.{IsClean, IsFresh, IsOpened};
 ghost use Rattle.pm_world.specs.World.{Views, World};
 ghost use Rattle.pm_crash.specs.Held.{HoldsImage, HoldsPool};
-ghost use Rattle.pm_crash.specs.OneLane.{Begins, HoldsReplay, IsCourse, IsModelStep, MeansReplay, Moment, Move, beginning, kept_entries};
+ghost use Rattle.pm_crash.specs.OneLane.{Begins, BeginsBetween, HoldsReplay, IsCourse, IsModelStep, MeansReplay, Moment, Move, beginning, kept_entries};
 ghost use Rattle.pm_crash.specs.OpenCall.{IsGivenUp, IsWholeCall};
 
 /// A law: an image that holds a pool, with each lane's log clean, is what a world can begin from: its words hold the pool as they stand, its
@@ -34,7 +34,8 @@ pub fn an_ended_call_is_a_model_step()
 {}
 
 /// A law: where one lane alone makes steps, every image that a power failure leaves means the pool to which the entries that it does not lose
-/// lead, in order, from the pool at the opening; its recovered words hold that pool; and it loses no call that has ended. No code runs.
+/// lead, in order, from the pool at the opening; its recovered words hold that pool; and it loses no call that has ended. So it is of a course
+/// that begins between calls, from the words as they stand, with the calls so far. No code runs.
 pub fn one_lanes_images_mean_the_replay()
     ensures meaning { (o : Opening) (memory : Memory) (views : Views) (k : ℕ) (header : Header) (pool : PoolView) (steps : List Move) (m : Moment) (image : List ℕ)
         → Begins o memory views k header pool → IsCourse k (beginning memory views) steps m → Survives o m.memory m.views image → NoneTorn o m.views image
@@ -44,5 +45,11 @@ pub fn one_lanes_images_mean_the_replay()
         → HoldsReplay (recovered_at image o.lanes) o.lanes o.zones header pool (kept_entries o m image) }
     ensures ended { (o : Opening) (memory : Memory) (views : Views) (k : ℕ) (header : Header) (pool : PoolView) (steps : List Move) (m : Moment) (image : List ℕ)
         → Begins o memory views k header pool → IsCourse k (beginning memory views) steps m
+        → (e : Entry) → Contains m.log e → IsAcknowledged m.views e → Contains (kept_entries o m image) e }
+    ensures between { (o : Opening) (k : ℕ) (header : Header) (pool : PoolView) (steps : List Move) (m : Moment) (image : List ℕ) (first : Moment)
+        → BeginsBetween o k header pool first → IsCourse k first steps m → Survives o m.memory m.views image → NoneTorn o m.views image
+        → MeansReplay image pool (kept_entries o m image) }
+    ensures between_ended { (o : Opening) (k : ℕ) (header : Header) (pool : PoolView) (steps : List Move) (m : Moment) (image : List ℕ) (first : Moment)
+        → BeginsBetween o k header pool first → IsCourse k first steps m
         → (e : Entry) → Contains m.log e → IsAcknowledged m.views e → Contains (kept_entries o m image) e }
 {}

@@ -192,7 +192,7 @@ has_nothing v (Run place) bit reserved freed has =
 has_nothing v (Zone zone) bit reserved freed has = false≢true ((λ i. list_any (has_bit (Zone zone) bit) (sym reserved i) || false || list_any (has_bit (Zone zone) bit) (sym freed i)) ∙ has)
 
 -- differences of which none is left make nothing
-made_nothing : (keep : ℕ → Bool) (log : List Entry) (w x : ℕ) → All (λ (e : Entry). e.difference ≡ []) log → replayed keep log w x ≡ x
+pub made_nothing : (keep : ℕ → Bool) (log : List Entry) (w x : ℕ) → All (λ (e : Entry). e.difference ≡ []) log → replayed keep log w x ≡ x
 unfolding replayed made_final
 made_nothing keep [] w x made = refl
 made_nothing keep (e ∷ log) w x made =
