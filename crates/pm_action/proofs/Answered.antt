@@ -18,7 +18,8 @@ use Rattle.pm_view.specs.Steps.Step.{Tell}
 use Rattle.pm_view.specs.View.{Told, View}
 use Rattle.pm_view.specs.Views.{after, after_all}
 use Rattle.pm_world.specs.declared.lane.Lane.{Lane}
-use Rattle.pm_tx.specs.Beginning.{IsBegun, IsBegunBy}
+use Rattle.pm_lock.specs.Begun.{IsBegun}
+use Rattle.pm_tx.specs.Beginning.{IsBegunBy}
 use Rattle.pm_tx.specs.Sequences.{starts}
 use Rattle.pm_action.proofs.Started.{pending_started, told_at_once_since}
 use Rattle.pm_action.specs.Outside.{IsAnsweredAtOnce, IsLeftPending, IsSetCause, IsToldAtOnce, IsWholeOnceTold}

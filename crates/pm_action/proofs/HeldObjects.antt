@@ -17,11 +17,12 @@ use Rattle.pm_view.specs.Blocks.{is_chunk}
 use Rattle.pm_view.specs.View.{View, Lock}
 use Rattle.pm_world.specs.Lanes.{lock_of}
 use Rattle.pm_world.specs.declared.lane.HeldLock.{HeldLock}
-use Rattle.pm_tx.specs.AtWork.{FindsObject, FindsObjects, HoldsLines}
-use Rattle.pm_tx.specs.Plans.{IsChunkLine, IsPlan, model_locks}
-use Rattle.pm_tx.specs.Sequences.{no_lock}
+use Rattle.pm_lock.proofs.PlannedLocks.{all_at}
+use Rattle.pm_lock.specs.Begun.{HoldsLines}
+use Rattle.pm_lock.specs.Finding.{FindsObject, FindsObjects}
+use Rattle.pm_lock.specs.Locking.{no_lock}
+use Rattle.pm_lock.specs.Plans.{IsChunkLine, IsPlan, model_locks}
 use Rattle.pm_tx.proofs.BeganWanted.{count, locked_by, same_locks, wanted_locked}
-use Rattle.pm_tx.proofs.PlannedLocks.{all_at}
 use Rattle.pm_action.specs.Holding.{HoldsEach, HoldsObject}
 use Rattle.pm_action.proofs.WantedObjects.{want_for}
 

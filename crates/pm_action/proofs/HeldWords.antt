@@ -16,7 +16,7 @@ use Rattle.pm_view.specs.Blocks.{block_at}
 use Rattle.pm_view.specs.Held.{is_guarded, is_under, is_under_found}
 use Rattle.pm_view.specs.View.{Lock, View}
 use Rattle.pm_world.specs.Opening.{Guards, Opening}
-use Rattle.pm_tx.specs.AtWork.{FindsObject, FindsObjects}
+use Rattle.pm_lock.specs.Finding.{FindsObject, FindsObjects}
 use Rattle.pm_action.specs.Publishing.{FindsSound}
 
 -- a lock that is held for writing, if it allows that

@@ -17,12 +17,11 @@ use Rattle.pm_view.specs.Held.{is_held}
 use Rattle.pm_view.specs.Steps.Step.{Load}
 use Rattle.pm_view.specs.View.{View}
 use Rattle.pm_view.specs.Views.{after, with_block}
-use Rattle.pm_tx.specs.AtWork.{FindsObjects}
-use Rattle.pm_tx.specs.Begins.{OnlyLooks}
+use Rattle.pm_lock.proofs.Allocations.{size_marks_none}
+use Rattle.pm_lock.proofs.FoundUnder.{map_none}
+use Rattle.pm_lock.proofs.Leads.{led_none, led_once, led_then}
+use Rattle.pm_lock.specs.Finding.{FindsObjects, OnlyLooks}
 use Rattle.pm_tx.proofs.AddsAtWork.{listed_is_known}
-use Rattle.pm_tx.proofs.Allocations.{size_marks_none}
-use Rattle.pm_tx.proofs.FoundUnder.{map_none}
-use Rattle.pm_tx.proofs.Leads.{led_none, led_once, led_then}
 use Rattle.pm_action.specs.Holding.{HasLookedAgain, HoldsObject, LooksAgain}
 
 pub looks_at_none : (v : View) → LooksAgain v v

@@ -30,16 +30,17 @@ use Rattle.pm_view.specs.Views.{after, after_all}
 use Rattle.pm_world.specs.Lanes.{lock_of}
 use Rattle.pm_world.specs.Sequences.{Ready}
 use Rattle.pm_world.specs.declared.lane.Lane.{Lane}
-use Rattle.pm_tx.specs.Beginning.{IsBegun}
-use Rattle.pm_tx.specs.Begins.{IsLed}
-use Rattle.pm_tx.specs.Ending.{DrawEnded, IsClosedBy, IsEndedBy, IsStoppedIn, drawn_more}
-use Rattle.pm_tx.specs.Lacking.{LacksObject}
-use Rattle.pm_tx.specs.Sequences.{gives, publishes}
+use Rattle.pm_lock.proofs.Drawless.{drawless}
+use Rattle.pm_lock.proofs.GivenBack.{none_counted}
+use Rattle.pm_lock.proofs.Leads.{led_same, led_then, ready_led}
+use Rattle.pm_lock.proofs.LookedAlone.{any_lacks_same, led_words}
+use Rattle.pm_lock.specs.Begun.{IsBegun}
+use Rattle.pm_lock.specs.Lacking.{LacksObject}
+use Rattle.pm_lock.specs.Leading.{DrawEnded, IsLed}
+use Rattle.pm_lock.specs.Locking.{gives}
+use Rattle.pm_tx.specs.Ending.{IsClosedBy, IsEndedBy, IsStoppedIn, drawn_more}
+use Rattle.pm_tx.specs.Sequences.{publishes}
 use Rattle.pm_tx.proofs.BeginPlanned.{busy_further}
-use Rattle.pm_tx.proofs.Drawless.{drawless}
-use Rattle.pm_tx.proofs.GivenBack.{none_counted}
-use Rattle.pm_tx.proofs.Leads.{led_same, led_then, ready_led}
-use Rattle.pm_tx.proofs.LookedAlone.{any_lacks_same, led_words}
 use Rattle.pm_action.specs.Holding.{GoesOnTo, HasFoundNone, HasFoundShort, HoldsActions, Overruns}
 use Rattle.pm_action.specs.Outside.{IsWholeOnceTold}
 use Rattle.pm_action.specs.Publishing.{IsBegunPublishCause, IsPublished, IsPublishedBy, IsStoppedPublishing, MayPublishHeld, PublishEnds, StaysSound, entries_of}

@@ -33,8 +33,9 @@ use Rattle.pm_world.proofs.Sequencing.{ready_left}
 use Rattle.pm_world.proofs.Shapes.{IsOfSamePool}
 use Rattle.pm_world.specs.Sequences.{IsStopped, Ready, Runs, in_turn}
 use Rattle.pm_world.specs.declared.lane.Lane.{Lane}
-use Rattle.pm_tx.specs.Beginning.{IsBegun}
-use Rattle.pm_tx.specs.Ending.{DrawEnded, IsAfterCall, IsEndedBy, IsOver, IsStoppedIn}
+use Rattle.pm_lock.specs.Begun.{IsBegun}
+use Rattle.pm_lock.specs.Leading.{DrawEnded}
+use Rattle.pm_tx.specs.Ending.{IsAfterCall, IsEndedBy, IsOver, IsStoppedIn}
 use Rattle.pm_tx.specs.Publishing.{MayPublish, StopsPublished, TellsLogged, logged_view, published_view}
 use Rattle.pm_tx.specs.Sequences.{ends_call, performs_logged, publishes}
 use Rattle.pm_tx.proofs.Beginnings.{no_records, works}

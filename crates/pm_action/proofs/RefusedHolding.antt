@@ -26,13 +26,13 @@ use Rattle.pm_view.specs.Views.{after}
 use Rattle.pm_world.specs.Lanes.{lock_of}
 use Rattle.pm_world.specs.declared.lane.HeldLock.{HeldLock}
 use Rattle.pm_world.specs.declared.lane.Lane.{Lane}
-use Rattle.pm_tx.specs.Beginning.{IsBegun}
-use Rattle.pm_tx.specs.Begins.{IsBusy}
-use Rattle.pm_tx.specs.Plans.{has_form, locks_of_form}
-use Rattle.pm_tx.specs.Lacking.{LacksObject}
+use Rattle.pm_lock.proofs.Leads.{led_none}
+use Rattle.pm_lock.proofs.LookedAlone.{any_lacks_same}
+use Rattle.pm_lock.specs.Begun.{IsBegun}
+use Rattle.pm_lock.specs.Lacking.{LacksObject}
+use Rattle.pm_lock.specs.Locking.{IsBusy}
+use Rattle.pm_lock.specs.Plans.{has_form, locks_of_form}
 use Rattle.pm_tx.proofs.BeganWanted.{form_lacks}
-use Rattle.pm_tx.proofs.Leads.{led_none}
-use Rattle.pm_tx.proofs.LookedAlone.{any_lacks_same}
 use Rattle.pm_action.specs.Holding.{GoesOnTo, HasFoundNone, HasFoundShort, IsHoldCause, IsHoldReason, RefusesToHold, SeeksObjects}
 use Rattle.pm_action.specs.Outside.{IsLeftPending, IsToldAtOnce, IsToldOutside, IsWholeOnceTold}
 use Rattle.pm_action.proofs.Started.{told_further}

@@ -4,8 +4,8 @@ use Rattle.arrayvec.specs.ArrayVec.{ArrayVec}
 use Rattle.pm_view.specs.View.{View}
 use Rattle.pm_world.specs.declared.lane.HeldLock.{HeldLock}
 use Rattle.pm_world.specs.declared.lane.Lane.{Lane}
+use Rattle.pm_lock.specs.Resting.{IsAtRest}
 use Rattle.pm_tx.specs.Beginning.{IsBegunBy}
-use Rattle.pm_tx.specs.Resting.{IsAtRest}
 use Rattle.pm_tx.specs.Sequences.{starts}
 use Rattle.pm_tx.proofs.BeginPlanned.{no_locks}
 

@@ -12,7 +12,7 @@ use Rattle.pm_view.specs.View.{View}
 use Rattle.pm_view.specs.Views.{after_all}
 use Rattle.pm_world.specs.Sequences.{Runs, drains, flushes, in_turn, settles}
 use Rattle.pm_world.specs.declared.lane.Lane.{Lane}
-use Rattle.pm_tx.specs.Beginning.{IsBegun}
+use Rattle.pm_lock.specs.Begun.{IsBegun}
 
 flushes_nothing : (v : View) → v.changes ≡ [] → flushes v ≡ []
 unfolding flushes unflushed_lines lines_up_to

@@ -13,12 +13,13 @@ use Rattle.pm_view.specs.View.{View, Lock}
 use Rattle.pm_world.specs.Lanes.{lock_of}
 use Rattle.pm_world.specs.declared.lane.HeldLock.{HeldLock}
 use Rattle.pm_world.specs.declared.lane.Lane.{Lane}
-use Rattle.pm_tx.specs.Begins.{HasFound, HasTaken}
-use Rattle.pm_tx.specs.Plans.{IsPlan, unfound}
+use Rattle.pm_lock.proofs.Leads.{led_then}
+use Rattle.pm_lock.proofs.OnlyLooking.{begun_looks}
+use Rattle.pm_lock.specs.Finding.{HasFound}
+use Rattle.pm_lock.specs.Locking.{HasTaken}
+use Rattle.pm_lock.specs.Plans.{IsPlan, unfound}
 use Rattle.pm_tx.proofs.BeganWanted.{lacks_wanted}
 use Rattle.pm_tx.proofs.BeginPlanned.{entries, led, models, of_pool, plan_so}
-use Rattle.pm_tx.proofs.Leads.{led_then}
-use Rattle.pm_tx.proofs.OnlyLooking.{begun_looks}
 use Rattle.pm_action.specs.Holding.{GoesOnTo, HasLookedAgain, HoldsActions, HoldsEach, IsHoldReason}
 use Rattle.pm_tx.proofs.EachAction.{some_mapped}
 use Rattle.pm_action.proofs.EachEnd.{Passes, Sets}

@@ -13,13 +13,13 @@ use Rattle.pm_view.specs.View.{Numbered, View}
 use Rattle.pm_view.specs.Views.{after, after_all}
 use Rattle.pm_world.specs.Sequences.{by_lane, by_view, in_turn, looks, one}
 use Rattle.pm_world.specs.declared.lane.Lane.{Lane}
+use Rattle.pm_lock.proofs.Leads.{led_same, led_then}
+use Rattle.pm_lock.proofs.LookedAlone.{begun_words}
+use Rattle.pm_lock.specs.Leading.{IsLed}
 use Rattle.pm_tx.specs.Beginning.{IsBegunBy}
-use Rattle.pm_tx.specs.Begins.{IsLed}
 use Rattle.pm_tx.specs.Ending.{drawn_more}
 use Rattle.pm_tx.specs.Sequences.{sees_generation, starts}
 use Rattle.pm_tx.proofs.BeginPlanned.{started_led}
-use Rattle.pm_tx.proofs.Leads.{led_same, led_then}
-use Rattle.pm_tx.proofs.LookedAlone.{begun_words}
 use Rattle.pm_action.specs.Outside.{IsToldAtOnce, IsToldOutside}
 
 -- a start looks at a word that the lane knows

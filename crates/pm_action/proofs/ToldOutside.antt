@@ -13,15 +13,17 @@ use Rattle.pm_view.specs.Views.{after_all}
 use Rattle.pm_world.proofs.Shapes.{IsOfSamePool}
 use Rattle.pm_world.specs.Sequences.{IsMade, Ready, Runs, in_turn, one}
 use Rattle.pm_world.specs.declared.lane.Lane.{Lane}
-use Rattle.pm_tx.specs.Beginning.{IsBegun}
-use Rattle.pm_tx.specs.Begins.{IsLed}
-use Rattle.pm_tx.specs.Ending.{DrawEnded, IsAfterCall, IsClosedBy, IsOver, drawn_more}
-use Rattle.pm_tx.specs.Sequences.{ends_call, gives}
+use Rattle.pm_lock.proofs.Drawless.{drawless}
+use Rattle.pm_lock.proofs.GivenBack.{none_counted}
+use Rattle.pm_lock.proofs.Leads.{led_same, led_then, ready_led}
+use Rattle.pm_lock.specs.Begun.{IsBegun}
+use Rattle.pm_lock.specs.Leading.{DrawEnded, IsLed}
+use Rattle.pm_lock.specs.Locking.{gives}
+use Rattle.pm_tx.specs.Ending.{IsAfterCall, IsClosedBy, IsOver, drawn_more}
+use Rattle.pm_tx.specs.Sequences.{ends_call}
 use Rattle.pm_tx.proofs.Beginnings.{no_spans, taken, works}
-use Rattle.pm_tx.proofs.Drawless.{drawless}
-use Rattle.pm_tx.proofs.GivenBack.{closed, none_counted}
+use Rattle.pm_tx.proofs.GivenBack.{closed}
 use Rattle.pm_tx.proofs.GivenUp.{after_over, end_is_over, end_ready, place_at_work}
-use Rattle.pm_tx.proofs.Leads.{led_same, led_then, ready_led}
 use Rattle.pm_action.specs.Outside.{IsLeftPending, IsToldAtOnce, IsWholeOnceTold}
 
 -- what is pending behind a call of one operation

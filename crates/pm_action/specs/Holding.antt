@@ -16,10 +16,11 @@ use Rattle.pm_view.specs.Blocks.{is_chunk}
 use Rattle.pm_view.specs.Steps.{Step}
 use Rattle.pm_view.specs.View.{View}
 use Rattle.pm_world.specs.declared.lane.Lane.{Lane}
-use Rattle.pm_tx.specs.AtWork.{FindsObjects}
-use Rattle.pm_tx.specs.Beginning.{IsBegun}
-use Rattle.pm_tx.specs.Begins.{IsBusy, IsLed}
-use Rattle.pm_tx.specs.Lacking.{LacksObject}
+use Rattle.pm_lock.specs.Begun.{IsBegun}
+use Rattle.pm_lock.specs.Finding.{FindsObjects}
+use Rattle.pm_lock.specs.Lacking.{LacksObject}
+use Rattle.pm_lock.specs.Leading.{IsLed}
+use Rattle.pm_lock.specs.Locking.{IsBusy}
 use Rattle.pm_action.specs.Outside.{IsToldOutside}
 
 -- the id is of the view's pool, and eight bytes at this offset pass the end of its object, by the size that the view's words have in the object's header

@@ -18,10 +18,10 @@ use Rattle.pm_view.specs.Steps.Step.{Tell}
 use Rattle.pm_view.specs.View.{View}
 use Rattle.pm_view.specs.Views.{after}
 use Rattle.pm_world.specs.declared.lane.Lane.{Lane}
+use Rattle.pm_lock.specs.Leading.{IsLed}
+use Rattle.pm_lock.specs.Resting.{IsAtRest}
 use Rattle.pm_tx.specs.Beginning.{IsSpent}
-use Rattle.pm_tx.specs.Begins.{IsLed}
 use Rattle.pm_tx.specs.Ending.{drawn_more}
-use Rattle.pm_tx.specs.Resting.{IsAtRest}
 
 -- once the operation is told with its reply, the call is whole
 abbrev pub IsWholeOnceTold : View → Operation → Option Value → Type 0

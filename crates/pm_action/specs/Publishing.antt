@@ -17,10 +17,12 @@ use Rattle.pm_view.specs.Views.{after_all}
 use Rattle.pm_world.specs.Opening.{Opening, IsSound}
 use Rattle.pm_world.specs.Sequences.{Ready}
 use Rattle.pm_world.specs.declared.lane.Lane.{Lane}
-use Rattle.pm_tx.specs.Beginning.{IsBegun, IsSpent}
-use Rattle.pm_tx.specs.Begins.{IsBusy, IsLed}
-use Rattle.pm_tx.specs.Ending.{DrawEnded, IsStoppedIn, drawn_more}
-use Rattle.pm_tx.specs.Resting.{IsAtRest}
+use Rattle.pm_lock.specs.Begun.{IsBegun}
+use Rattle.pm_lock.specs.Leading.{DrawEnded, IsLed}
+use Rattle.pm_lock.specs.Locking.{IsBusy}
+use Rattle.pm_lock.specs.Resting.{IsAtRest}
+use Rattle.pm_tx.specs.Beginning.{IsSpent}
+use Rattle.pm_tx.specs.Ending.{IsStoppedIn, drawn_more}
 use Rattle.pm_tx.specs.Publishing.{MayPublish}
 use Rattle.pm_tx.specs.Sequences.{publishes}
 use Rattle.pm_action.specs.Holding.{HasFoundNone, HasFoundShort, HoldsActions}

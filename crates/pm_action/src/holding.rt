@@ -7,15 +7,15 @@ ghost use Rattle.pm_objects.specs.declared.refusal.Refusal.TheVariants as refusa
 ghost use Rattle.pm_pending.specs.Pending.{action_of, pending_of};
 ghost use Rattle.pm_pending.specs.declared.actions.SetAction.{SetAction};
 ghost use Rattle.pm_view.specs.View.{View};
-ghost use Rattle.pm_tx.specs.Beginning.{IsBegun, IsLaneBegun};
-ghost use Rattle.pm_tx.specs.Plans.{IsPlan};
+ghost use Rattle.pm_lock.specs.Begun.{IsBegun, IsLaneBegun};
+ghost use Rattle.pm_lock.specs.Plans.{IsPlan};
 ghost use Rattle.pm_action.specs.Holding.{GoesOnTo, HasLookedAgain, HoldsActions, HoldsEach, HoldsObject, IsHoldCause, RefusesToHold, SeeksObjects};
 
 use crate::telling::end_outside;
 use pm_layout::{LINE_BYTES, WORD_BYTES};
+use pm_lock::{find_objects, give_back, plan_locks, take_all};
 use pm_objects::{Oid, Operation, Refusal, Want};
 use pm_pending::{MAX_ACTIONS, SetAction};
-use pm_tx::{find_objects, give_back, plan_locks, take_all};
 use pm_world::{HeldLock, Lane, LawfulMem};
 
 /// Words of a line.

@@ -6,9 +6,9 @@ ghost use Rattle.pm_objects.specs.declared.refusal.Refusal.TheVariants as refusa
 ghost use Rattle.pm_pending.specs.Pending.{pending_of};
 ghost use Rattle.pm_pending.specs.declared.actions.SetAction.{SetAction};
 ghost use Rattle.pm_view.specs.View.{View};
-ghost use Rattle.pm_tx.specs.Beginning.{IsBegun};
-ghost use Rattle.pm_tx.specs.Lacking.{LacksObject};
-ghost use Rattle.pm_tx.specs.Resting.{IsAtRest};
+ghost use Rattle.pm_lock.specs.Begun.{IsBegun};
+ghost use Rattle.pm_lock.specs.Lacking.{LacksObject};
+ghost use Rattle.pm_lock.specs.Resting.{IsAtRest};
 ghost use Rattle.pm_view.specs.Founds.{IsAlone};
 ghost use Rattle.pm_tx.specs.Ending.{IsEndedBy, IsLaneAfterCall, IsStoppedIn};
 ghost use Rattle.pm_tx.specs.Sequences.{publishes};

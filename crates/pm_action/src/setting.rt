@@ -5,8 +5,8 @@ ghost use Rattle.pm_objects.specs.declared.calls.Operation.TheVariants as operat
 ghost use Rattle.pm_objects.specs.declared.refusal.Refusal.TheVariants as refusal;
 ghost use Rattle.pm_pending.specs.Pending.{pending_of};
 ghost use Rattle.pm_view.specs.View.{View};
-ghost use Rattle.pm_tx.specs.Beginning.{IsBegun, IsLaneBegun};
-ghost use Rattle.pm_tx.specs.Resting.{IsAtRest, IsLaneAtRest};
+ghost use Rattle.pm_lock.specs.Begun.{IsBegun, IsLaneBegun};
+ghost use Rattle.pm_lock.specs.Resting.{IsAtRest, IsLaneAtRest};
 ghost use Rattle.pm_action.specs.Outside.{IsAnsweredAtOnce, IsCancelCause, IsSetCause};
 
 use crate::telling::end_outside;

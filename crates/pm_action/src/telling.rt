@@ -4,13 +4,15 @@ ghost use Rattle.pm_pending.specs.declared.actions.SetAction.{SetAction};
 ghost use Rattle.pm_view.specs.View.{View};
 ghost use Rattle.pm_world.specs.Sequences.{IsMade};
 ghost use Rattle.pm_world.specs.Tellings.{reply_of};
-ghost use Rattle.pm_tx.specs.Beginning.{IsBegun, IsLaneBegun};
+ghost use Rattle.pm_lock.specs.Begun.{IsBegun, IsLaneBegun};
+ghost use Rattle.pm_lock.specs.Locking.{gives};
 ghost use Rattle.pm_tx.specs.Ending.{IsAfterCall, IsClosedBy, IsLaneAfterCall};
-ghost use Rattle.pm_tx.specs.Sequences.{ends_call, gives};
+ghost use Rattle.pm_tx.specs.Sequences.{ends_call};
 ghost use Rattle.pm_action.specs.Outside.{IsLeftPending, IsToldAtOnce, IsWholeOnceTold};
 
+use pm_lock::give_all;
 use pm_objects::{Operation, Refusal, Value};
-use pm_tx::{end_call, give_all};
+use pm_tx::end_call;
 use pm_world::{Lane, LawfulMem};
 
 /// Tells the operation that is all of the open call, done or refused, and draws the call's number.

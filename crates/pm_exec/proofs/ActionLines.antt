@@ -26,14 +26,14 @@ use Rattle.pm_script.specs.declared.script.ScriptWant.{ScriptWant}
 use Rattle.pm_model.specs.Checks.{is_action}
 use Rattle.pm_objects.specs.declared.history.TxErr.TheVariants as error
 use Rattle.pm_world.specs.declared.lane.Stage.TheVariants as stage
+use Rattle.pm_lock.proofs.Leads.{led_none, led_then, ready_led}
+use Rattle.pm_lock.specs.Leading.{DrawEnded, IsLed}
 use Rattle.pm_tx.specs.Actions.{HasCanceled, HasPublished, IsPublishGivenUp, IsPublishStopped, cancels}
 use Rattle.pm_tx.specs.AtWork.{IsAtWork}
-use Rattle.pm_tx.specs.Ending.{DrawEnded, IsEndedBy, IsStoppedIn}
+use Rattle.pm_tx.specs.Ending.{IsEndedBy, IsStoppedIn}
 use Rattle.pm_tx.specs.Learning.{Looks}
 use Rattle.pm_tx.proofs.StepKinds.{HasOnly, only_in_turn, only_one, only_settles}
 use Rattle.pm_tx.proofs.StoreCounts.{HasStores, none_in_one, none_in_settles, stores_in_turn}
-use Rattle.pm_tx.proofs.Leads.{led_none, led_then, ready_led}
-use Rattle.pm_tx.specs.Begins.{IsLed}
 use Rattle.pm_tx.specs.Calls.{HasLooked}
 use Rattle.pm_tx.specs.Sequences.{gives_up}
 use Rattle.pm_tx.proofs.Unraised.{IsWork, quiet_work}

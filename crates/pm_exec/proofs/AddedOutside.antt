@@ -35,8 +35,8 @@ use Rattle.pm_world.specs.Lawful.{Allowed, StoreFits}
 use Rattle.pm_world.specs.Opening.{Opening}
 use Rattle.pm_world.specs.Sequences.{Ready}
 use Rattle.pm_world.specs.declared.lane.Span.{Span}
-use Rattle.pm_tx.proofs.Leading.{front_leads}
-use Rattle.pm_tx.specs.Ending.{DrawEnded}
+use Rattle.pm_lock.proofs.Leading.{front_leads}
+use Rattle.pm_lock.specs.Leading.{DrawEnded}
 use Rattle.pm_tx.specs.Ranges.{adds_range}
 use Rattle.pm_undo.proofs.Areas.{in_area}
 use Rattle.pm_undo.specs.Working.{IsWorking}

@@ -12,10 +12,12 @@ use Rattle.pm_objects.specs.declared.calls.Operation.{Operation}
 use Rattle.pm_objects.specs.declared.calls.Operation.TheVariants as operation
 use Rattle.pm_script.specs.declared.script.ScriptLine.{ScriptLine}
 use Rattle.pm_script.specs.declared.script.ScriptOp.TheVariants as op
-use Rattle.pm_tx.proofs.Leading.{ready_leads}
-use Rattle.pm_tx.specs.Beginning.{IsSpent, RestsBehind, takes}
-use Rattle.pm_tx.specs.Begins.{FailsToBegin, HasBegun, HasRefused, IsBusy, LeavesLane}
-use Rattle.pm_tx.specs.Lacking.{LacksObject}
+use Rattle.pm_lock.proofs.Leading.{ready_leads}
+use Rattle.pm_lock.specs.Lacking.{LacksObject}
+use Rattle.pm_lock.specs.Leading.{IsLed}
+use Rattle.pm_lock.specs.Locking.{IsBusy, takes}
+use Rattle.pm_tx.specs.Beginning.{IsSpent, RestsBehind}
+use Rattle.pm_tx.specs.Begins.{FailsToBegin, HasBegun, HasRefused, LeavesLane}
 use Rattle.pm_tx.specs.Sequences.{sees_generation, starts}
 use Rattle.pm_tx.specs.Stages.{is_work}
 use Rattle.pm_view.specs.Area.{area_word}
@@ -36,7 +38,6 @@ use Rattle.pm_objects.specs.declared.calls.Want.{Want}
 use Rattle.pm_script.specs.declared.script.ScriptOp.{ScriptOp}
 use Rattle.pm_script.specs.declared.script.ScriptWant.{ScriptWant}
 use Rattle.pm_view.specs.Counts.{counted}
-use Rattle.pm_tx.specs.Begins.{IsLed}
 use Rattle.pm_world.specs.Lawful.{generation_limit}
 use Rattle.pm_exec.specs.Course.{IsLineMade, IsRefusalMade, IsUsedUp, LinesMade, line_calls, IsBeginRefusal}
 use Rattle.pm_exec.specs.Progress.{AreToldDone, IsAtLine, IsGivenUpAt, IsNotDone, IsStart, IsToldDone, IsUnbegun, done, not_done, numbered, refused, values_told}

@@ -14,8 +14,10 @@ use Rattle.pm_objects.specs.declared.history.Value.TheVariants.{Refused}
 use Rattle.pm_objects.specs.declared.refusal.Refusal.{Refusal}
 use Rattle.pm_script.specs.declared.script.ScriptLine.{ScriptLine}
 use Rattle.pm_script.specs.declared.script.ScriptOp.{ScriptOp}
+use Rattle.pm_lock.proofs.Leading.{ready_leads}
+use Rattle.pm_lock.specs.Leading.{DrawEnded}
 use Rattle.pm_tx.proofs.GiveUpCourse.{gives_up_of}
-use Rattle.pm_tx.proofs.Leading.{ended_leads, ready_leads, stopped_leads}
+use Rattle.pm_tx.proofs.Leading.{ended_leads, stopped_leads}
 use Rattle.pm_tx.proofs.OpeningGeneration.{give_up_first, unraised_first}
 use Rattle.pm_tx.proofs.ReadyGenerations.{looks_generation, unraised_when_ready}
 use Rattle.pm_tx.proofs.StepKinds.{Each, each_first}
@@ -24,7 +26,7 @@ use Rattle.pm_tx.proofs.StoreCounts.{stores_append, stores_counted, stores_first
 use Rattle.pm_tx.proofs.Unraised.{IsWork, all_work_raises}
 use Rattle.pm_tx.specs.AtWork.{IsAtWork}
 use Rattle.pm_tx.specs.Calls.{IsGivenUpFor, IsStoppedFor}
-use Rattle.pm_tx.specs.Ending.{DrawEnded, IsEndedBy, IsStoppedIn}
+use Rattle.pm_tx.specs.Ending.{IsEndedBy, IsStoppedIn}
 use Rattle.pm_tx.specs.Generations.{is_ending}
 use Rattle.pm_tx.specs.Learning.{Looks}
 use Rattle.pm_tx.specs.Sequences.{gives_up}

@@ -8,11 +8,11 @@ use Rattle.pm_objects.specs.declared.history.TxErr.{TxErr}
 use Rattle.pm_objects.specs.declared.history.TxErr.TheVariants as error
 use Rattle.pm_objects.specs.declared.refusal.Refusal.{Refusal}
 use Rattle.pm_script.specs.declared.script.ScriptLine.{ScriptLine}
-use Rattle.pm_tx.proofs.Drawless.{drawless}
-use Rattle.pm_tx.proofs.Leading.{ready_leads}
+use Rattle.pm_lock.proofs.Drawless.{drawless}
+use Rattle.pm_lock.proofs.Leading.{ready_leads}
+use Rattle.pm_lock.specs.Locking.{gives, line_at}
 use Rattle.pm_tx.proofs.StepKinds.{Each, only_counted, only_one}
 use Rattle.pm_tx.specs.Ending.{IsClosedBy}
-use Rattle.pm_tx.specs.Sequences.{gives, line_at}
 use Rattle.pm_view.specs.Counts.{counted, is_counted}
 use Rattle.pm_view.specs.Steps.{Step}
 use Rattle.pm_view.specs.Steps.Step.{Give}

@@ -16,6 +16,7 @@ use Rattle.pm_record.specs.declared.redo.Redo.{Redo}
 use Rattle.pm_script.specs.declared.script.ScriptLine.{ScriptLine}
 use Rattle.pm_script.specs.declared.script.ScriptOp.{ScriptOp}
 use Rattle.pm_script.specs.declared.script.ScriptOp.TheVariants as op
+use Rattle.pm_lock.proofs.Leads.{led_none}
 use Rattle.pm_tx.proofs.CommitCourse.{commits_of}
 use Rattle.pm_tx.proofs.Leading.{ended_leads, stopped_leads}
 use Rattle.pm_tx.proofs.OpeningGeneration.{commit_first}
@@ -43,7 +44,6 @@ use Rattle.pm_exec.proofs.ChangeLines.{front_of}
 use Rattle.pm_exec.proofs.LineStores.{commits_few}
 use Rattle.pm_exec.proofs.PendingLists.{drawn_pending, still_pending}
 use Rattle.pm_exec.proofs.LineLists.{gave_nothing, made_more, told_more}
-use Rattle.pm_tx.proofs.Leads.{led_none}
 use Rattle.pm_exec.proofs.QuietSequences.{quiet_in_commit}
 use Rattle.pm_exec.proofs.CommitFront.{commit_flies}
 use Rattle.pm_pending.specs.declared.actions.SetAction.{SetAction}

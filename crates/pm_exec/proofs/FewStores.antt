@@ -12,9 +12,9 @@ use Rattle.pm_crash.specs.Operations.{AddsRange}
 use Rattle.pm_model.specs.Bytes.{covered_words, new_words}
 use Rattle.pm_objects.specs.declared.ids.Oid.{Oid}
 use Rattle.pm_script.specs.declared.script.ScriptLine.{ScriptLine}
+use Rattle.pm_lock.specs.Leading.{IsLed}
 use Rattle.pm_tx.proofs.PlannedWords.{new_are_covered}
 use Rattle.pm_tx.proofs.StoreCounts.{stores_counted}
-use Rattle.pm_tx.specs.Begins.{IsLed}
 use Rattle.pm_tx.specs.Sequences.{word_count}
 use Rattle.pm_undo.specs.Spans.{words_in}
 use Rattle.pm_view.specs.Counts.{counted, is_counted, stores_among}

@@ -7,6 +7,10 @@ use Rattle.std.specs.Option.{option_map}
 use Rattle.std.specs.List.{Any}
 use Rattle.std.proofs.lemmas.List.{length-map}
 use Rattle.std.proofs.lemmas.List.Elements.{All-append, All-cons, All-nil}
+use Rattle.pm_lock.proofs.Leading.{ready_leads}
+use Rattle.pm_lock.proofs.Leads.{led_same}
+use Rattle.pm_lock.specs.Lacking.{LacksObject}
+use Rattle.pm_lock.specs.Leading.{IsLed}
 use Rattle.pm_action.specs.Holding.{Overruns}
 use Rattle.pm_action.specs.Outside.{IsAnsweredAtOnce, IsCancelCause, IsSetCause, IsToldOutside}
 use Rattle.pm_action.specs.Publishing.{IsPublished, IsPublishedBy, IsStoppedPublishing, PublishEnds, RestsSoundly, StaysSound, entries_of}
@@ -33,15 +37,12 @@ use Rattle.pm_script.specs.declared.script.ScriptId.{ScriptId}
 use Rattle.pm_script.specs.declared.script.ScriptLine.{ScriptLine}
 use Rattle.pm_script.specs.declared.script.ScriptOp.{ScriptOp}
 use Rattle.pm_script.specs.declared.script.ScriptOp.TheVariants as op
-use Rattle.pm_tx.proofs.Leading.{ready_leads, stopped_leads}
+use Rattle.pm_tx.proofs.Leading.{stopped_leads}
 use Rattle.pm_tx.proofs.LineStores.{publish_stores}
 use Rattle.pm_tx.proofs.PublishCourse.{publishes_so}
-use Rattle.pm_tx.proofs.Leads.{led_same}
 use Rattle.pm_tx.proofs.OpeningGeneration.{publish_first}
 use Rattle.pm_tx.proofs.StoreCounts.{stores_append, stores_first}
-use Rattle.pm_tx.specs.Begins.{IsLed}
 use Rattle.pm_tx.specs.Ending.{IsDrawnAs}
-use Rattle.pm_tx.specs.Lacking.{LacksObject}
 use Rattle.pm_tx.specs.Sequences.{publishes}
 use Rattle.pm_view.specs.Area.{area_word}
 use Rattle.pm_view.specs.Steps.{Step}

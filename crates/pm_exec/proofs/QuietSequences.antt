@@ -30,12 +30,12 @@ use Rattle.pm_world.specs.Entries.{entry_word}
 use Rattle.pm_world.specs.Sequences.{Sequence, in_turn, looks, one, settles, stores, finds_in, ors, makes_room, ands}
 use Rattle.pm_world.specs.declared.lane.HeldLock.{HeldLock}
 use Rattle.pm_world.specs.declared.lane.Span.{Span}
+use Rattle.pm_lock.specs.Locking.{gives, line_at, takes}
 use Rattle.pm_tx.proofs.Retirement.{records_beside}
 use Rattle.pm_tx.proofs.StepKinds.{Each, HasOnly, HasQuietSteps, each_first, each_more, only_by_lane, only_counted, only_in_turn, only_looks, only_looks_from, only_nothing, only_one, only_persists, only_restores, only_settles, only_stores, only_with_generation, only_with_word, only_makes_room}
 use Rattle.pm_tx.proofs.Unraised.{added_outside}
-use Rattle.pm_tx.specs.Beginning.{takes}
 use Rattle.pm_tx.specs.Ranges.{CanWrite, reads_range, writes_range}
-use Rattle.pm_tx.specs.Sequences.{commits, decides, decides_all, ends_call, gives, gives_up, line_at, performs_logged, publishes, reads, retires_any, sees_generation, starts, takes_back, undoes, word_count, writes, writes_word}
+use Rattle.pm_tx.specs.Sequences.{commits, decides, decides_all, ends_call, gives_up, performs_logged, publishes, reads, retires_any, sees_generation, starts, takes_back, undoes, word_count, writes, writes_word}
 use Rattle.pm_exec.specs.Quiet.{IsQuiet, MakesNone}
 use Rattle.pm_exec.proofs.QuietSlots.{IsCalm, quiet_after, quiet_at, quiet_store}
 use Rattle.pm_image.proofs.Members.{only_member}

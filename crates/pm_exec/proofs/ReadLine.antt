@@ -13,7 +13,7 @@ use Rattle.pm_script.specs.declared.script.ScriptId.{ScriptId}
 use Rattle.pm_script.specs.declared.script.ScriptLine.{ScriptLine}
 use Rattle.pm_script.specs.declared.script.ScriptOp.{ScriptOp}
 use Rattle.pm_script.specs.declared.script.ScriptOp.TheVariants as op
-use Rattle.pm_tx.proofs.Leads.{counted_then, led_then, ready_led}
+use Rattle.pm_lock.proofs.Leads.{counted_then, led_then, ready_led}
 use Rattle.pm_tx.proofs.Unraised.{reads_work}
 use Rattle.pm_tx.specs.Calls.{HasLooked, IsStoppedFor}
 use Rattle.pm_tx.specs.Learning.{Looks}

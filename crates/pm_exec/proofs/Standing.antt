@@ -10,7 +10,7 @@ use Rattle.pm_crash.proofs.SameBlocks.{same_blocks, sound_with}
 use Rattle.pm_crash.specs.Alone.{standing}
 use Rattle.pm_crash.specs.Leading.{Leads}
 use Rattle.pm_memory.specs.Solo.{Sees, Solo}
-use Rattle.pm_tx.specs.Resting.{IsAtRest}
+use Rattle.pm_lock.specs.Resting.{IsAtRest}
 use Rattle.pm_undo.proofs.Areas.{generation_in_area}
 use Rattle.pm_undo.proofs.Lockings.{found_guards}
 use Rattle.pm_undo.specs.Working.{FindsOpening}

@@ -13,8 +13,8 @@ use Rattle.pm_script.specs.declared.script.ScriptOp.TheVariants.{Begin, Add, Wri
 use Rattle.pm_script.specs.declared.script.ScriptWant.{ScriptWant}
 use Rattle.pm_text.specs.declared.report.LaneEnd.{LaneEnd}
 use Rattle.pm_text.specs.declared.report.LaneEnd.TheVariants as end
-use Rattle.pm_tx.specs.Begins.{IsLed}
-use Rattle.pm_tx.specs.Lacking.{LacksObject}
+use Rattle.pm_lock.specs.Lacking.{LacksObject}
+use Rattle.pm_lock.specs.Leading.{IsLed}
 use Rattle.pm_tx.specs.Ranges.{adds_range, writes_range}
 use Rattle.pm_tx.specs.Sequences.{commits, gives_up, publishes}
 use Rattle.pm_view.specs.View.{View}

@@ -22,10 +22,11 @@ use Rattle.pm_objects.specs.declared.refusal.Refusal.TheVariants as refusal
 use Rattle.pm_script.specs.declared.script.ScriptLine.{ScriptLine}
 use Rattle.pm_script.specs.declared.script.ScriptOp.{ScriptOp}
 use Rattle.pm_script.specs.declared.script.ScriptOp.TheVariants.{Read, Set}
+use Rattle.pm_lock.specs.Leading.{DrawEnded}
+use Rattle.pm_lock.specs.Resting.{IsAtRest, IsFresh}
 use Rattle.pm_tx.specs.AtWork.{IsAtWork}
-use Rattle.pm_tx.specs.Ending.{DrawEnded, IsAfterCall}
+use Rattle.pm_tx.specs.Ending.{IsAfterCall}
 use Rattle.pm_tx.specs.Generations.{IsOfOpening}
-use Rattle.pm_tx.specs.Resting.{IsAtRest, IsFresh}
 use Rattle.pm_tx.specs.Ranges.{adds_range}
 use Rattle.pm_tx.specs.Stages.{is_work}
 use Rattle.pm_undo.specs.Working.{IsWorking}

@@ -8,7 +8,7 @@ use Rattle.pm_objects.specs.declared.history.Fate.TheVariants as fate
 use Rattle.pm_objects.specs.declared.history.Reply.{Reply}
 use Rattle.pm_script.specs.declared.script.ScriptLine.{ScriptLine}
 use Rattle.pm_text.specs.declared.report.LaneEnd.TheVariants as end
-use Rattle.pm_tx.specs.Resting.{IsAtRest}
+use Rattle.pm_lock.specs.Resting.{IsAtRest}
 use Rattle.pm_view.specs.Counts.{stores_among}
 use Rattle.pm_view.specs.Log.{no_log}
 use Rattle.pm_view.specs.Log.Phase.{Idle}

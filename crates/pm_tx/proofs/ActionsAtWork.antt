@@ -36,13 +36,14 @@ use Rattle.pm_world.specs.Lawful.{MayTell}
 use Rattle.pm_world.specs.Opening.{Opening}
 use Rattle.pm_world.specs.Sequences.{Ready, Runs, one, settles}
 use Rattle.pm_world.specs.declared.lane.Lane.{Lane}
-use Rattle.pm_tx.proofs.Drawless.{drawless}
+use Rattle.pm_lock.proofs.Drawless.{drawless}
+use Rattle.pm_lock.specs.Leading.{DrawEnded}
 use Rattle.pm_tx.proofs.Fronts.{front_undrawn}
 use Rattle.pm_tx.proofs.GivenUp.{undrawn_lane}
 use Rattle.pm_tx.proofs.GoingOn.{HasSameFields, KeepsObjects, goes_on}
 use Rattle.pm_tx.specs.Actions.{HasCanceled, cancels}
 use Rattle.pm_tx.specs.AtWork.{IsAtWork}
-use Rattle.pm_tx.specs.Ending.{DrawEnded, IsStoppedIn}
+use Rattle.pm_tx.specs.Ending.{IsStoppedIn}
 
 -- the call, its log and its words are as before: more may be persistent
 pub record IsAsBefore (v m : View) : Type 0 where

@@ -39,13 +39,13 @@ use Rattle.pm_world.specs.Records.{is_recorded}
 use Rattle.pm_world.specs.Sequences.{Ready, one}
 use Rattle.pm_world.specs.declared.lane.Lane.{Lane}
 use Rattle.pm_world.specs.declared.lane.Span.{Span}
+use Rattle.pm_lock.proofs.Drawless.{drawless}
+use Rattle.pm_lock.specs.Leading.{DrawEnded}
 use Rattle.pm_tx.proofs.GoingOn.{HasSameFields, KeepsObjects, goes_on}
 use Rattle.pm_tx.proofs.Objects.{covered_block, covered_under, is_found, size_under}
 use Rattle.pm_tx.proofs.PlannedRecords.{extents_planned, planned_count, present_planned, spans_again}
 use Rattle.pm_memory.specs.Runs.{Stops}
-use Rattle.pm_tx.proofs.Drawless.{drawless}
 use Rattle.pm_tx.proofs.Fronts.{front_undrawn}
-use Rattle.pm_tx.specs.Ending.{DrawEnded}
 use Rattle.pm_tx.specs.AtWork.{IsAtWork}
 use Rattle.pm_tx.specs.Ranges.{CanAdd, HasAddedRange, StopsUndrawn, adds_range}
 use Rattle.pm_crash.proofs.PendingOn.{published_once_more}

@@ -24,12 +24,12 @@ use Rattle.pm_view.specs.View.{View, Lock}
 use Rattle.pm_world.specs.Opening.{Opening}
 use Rattle.pm_world.specs.declared.lane.HeldLock.{HeldLock}
 use Rattle.pm_world.specs.declared.lane.Lane.{Lane}
+use Rattle.pm_lock.proofs.LookedAlone.{any_lacks_same}
+use Rattle.pm_lock.proofs.PlannedLocks.{model_length}
+use Rattle.pm_lock.specs.Finding.{FindsObject, FindsObjects}
+use Rattle.pm_lock.specs.Lacking.{HoldsNoObject, LacksObject}
+use Rattle.pm_lock.specs.Plans.{IsPlan, has_form, locks_of_form, model_locks}
 use Rattle.pm_tx.specs.Begins.{FailsToBegin, HasFoundNone, IsRefusedAtOnce}
-use Rattle.pm_tx.specs.Lacking.{HoldsNoObject, LacksObject}
-use Rattle.pm_tx.proofs.LookedAlone.{any_lacks_same}
-use Rattle.pm_tx.proofs.PlannedLocks.{model_length}
-use Rattle.pm_tx.specs.AtWork.{FindsObject, FindsObjects}
-use Rattle.pm_tx.specs.Plans.{IsPlan, has_form, locks_of_form, model_locks}
 
 -- what is locked stays locked as more is wanted
 stays_locked : (wants : List Want) (locks : List Locked) (off : ℕ) (write : Bool) → is_locked locks off write ≡ true → is_locked (locked_all wants locks) off write ≡ true

@@ -1,6 +1,5 @@
 -- What a begin comes to once its locks are planned.
 use Rattle.std.proofs.Common.{◌≡◌, ◌⊎◌, inl, inr, ℕ, ◌≤◌, Bool, true, false, List, [], ◌∷◌, ◌++◌, map, length, None, Some, Result, Ok, Err, refl, sym, ap, ◌∙◌, subst, arith}
-use Rattle.std.specs.List.{Contains}
 use Rattle.std.specs.Prelude.{IfErr, OnOk}
 use Rattle.pm_crash.specs.Locks.{AreSameLocks}
 use Rattle.pm_crash.specs.OpenCall.{locks_of}
@@ -17,7 +16,7 @@ use Rattle.pm_undo.specs.Working.{FindsOpening}
 use Rattle.pm_view.proofs.SameLane.{same_lane-then}
 use Rattle.pm_view.specs.Counts.{counted}
 use Rattle.pm_view.specs.Steps.Step.{Tell}
-use Rattle.pm_view.specs.View.{View, Lock, Told, Numbered}
+use Rattle.pm_view.specs.View.{View, Told, Numbered}
 use Rattle.pm_view.specs.Views.{after, after_all}
 use Rattle.pm_world.specs.Lanes.{IsSeenAs, lock_of}
 use Rattle.pm_world.specs.Opening.{Opening, IsSound}
@@ -25,31 +24,19 @@ use Rattle.pm_world.specs.declared.lane.HeldLock.{HeldLock}
 use Rattle.pm_world.specs.Sequences.{by_lane, by_view, in_turn, looks, one}
 use Rattle.pm_world.specs.declared.lane.Lane.{Lane}
 use Rattle.pm_world.specs.declared.lane.Stage.TheVariants as stage
+use Rattle.pm_lock.proofs.FoundObjects.{plan_models}
+use Rattle.pm_lock.proofs.Leads.{led_once, led_same, led_then, ready_led}
+use Rattle.pm_lock.specs.Finding.{FindsObjects, HasFound}
+use Rattle.pm_lock.specs.Leading.{IsLed}
+use Rattle.pm_lock.specs.Locking.{HasTaken, IsBusy}
+use Rattle.pm_lock.specs.Plans.{IsPlan, model_locks, unfound}
+use Rattle.pm_lock.specs.Resting.{IsAtRest}
 use Rattle.pm_tx.proofs.BeganWanted.{found_none, lacks_wanted, no_object, takes_wanted}
 use Rattle.pm_tx.proofs.Beginnings.{may_tell}
-use Rattle.pm_tx.proofs.FoundObjects.{plan_lines, plan_models}
-use Rattle.pm_tx.proofs.Leads.{led_once, led_same, led_then, ready_led}
-use Rattle.pm_tx.specs.AtWork.{FindsObjects, IsAtWork}
-use Rattle.pm_tx.specs.Beginning.{IsBegunBy, takes}
-use Rattle.pm_tx.specs.Begins.{FailsToBegin, HasBegun, HasFound, HasFoundNone, HasLines, HasNotTaken, HasRefused, HasTaken, IsBeginCause, IsBusy, IsGivenBack, IsLed, IsRefusedAtOnce, IsStartedCause, LeavesLane}
-use Rattle.pm_tx.specs.Plans.{IsPlan, model_locks, unfound}
-use Rattle.pm_tx.specs.Resting.{IsAtRest}
+use Rattle.pm_tx.specs.AtWork.{IsAtWork}
+use Rattle.pm_tx.specs.Beginning.{IsBegunBy}
+use Rattle.pm_tx.specs.Begins.{FailsToBegin, HasBegun, HasFoundNone, HasRefused, IsBeginCause, IsRefusedAtOnce, IsStartedCause, LeavesLane}
 use Rattle.pm_tx.specs.Sequences.{sees_generation, starts}
-
--- a lock was refused, and the others were given back
-pub busy : {M : Type 0} (at : M → View → Type 0) (lane new : Lane M) (v : View) → (t : HasNotTaken at lane v) → IsGivenBack at new t.view → IsBusy at new v
-busy at lane new v t back =
-    let led : IsLed v back.view = led_then v t.view back.view t.led back.led in
-    record {
-      view = back.view;
-      led = led;
-      same = led_same v back.view led;
-      rests = back.rests;
-      entries = back.entries ∙ t.entries;
-      line = t.line;
-      write = t.write;
-      refused = subst (λ seen. Contains seen (takes t.line t.write false)) (sym back.seen) t.refused;
-    }
 
 -- what a view further on was refused, the one before was
 pub refused_further : {M : Type 0} (at : M → View → Type 0) (lane : Lane M) (u v : View) (wants : List Want) (r : Refusal) → IsLed u v → v.entries ≡ u.entries → HasRefused at lane v wants r → HasRefused at lane u wants r
@@ -94,10 +81,6 @@ busy_further at lane u v led entries was = record {
   write = was.write;
   refused = was.refused;
 }
-
--- the locks that were taken are of the plan's lines
-pub taken_lines : {M : Type 0} (at : M → View → Type 0) (lane : Lane M) (v : View) (plan : List HeldLock) → (t : HasTaken at lane v (map lock_of (map unfound plan))) → HasLines t.view plan
-taken_lines at lane v plan t = ap (map (λ (l : Lock). l.line)) t.locks_are ∙ plan_lines plan
 
 module _ {M : Type 0} (at : M → View → Type 0) (old mid lane : Lane M) (wants : List Want) (plan : List HeldLock) (is : IsPlan old.pool old.shape.lanes old.shape.zones wants plan) (pool : lane.pool ≡ old.pool) (shape : lane.shape ≡ old.shape) (v : View)
     (t : HasTaken at mid v (map lock_of (map unfound plan))) (all : Bool) (f : HasFound at lane t.view all) where

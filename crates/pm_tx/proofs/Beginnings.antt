@@ -30,12 +30,14 @@ use Rattle.pm_world.specs.Sequences.{IsMade, Ready, Runs, in_turn, one}
 use Rattle.pm_world.specs.declared.lane.Lane.{Lane}
 use Rattle.pm_world.specs.declared.lane.Stage.TheVariants as stage
 use Rattle.pm_world.proofs.Shapes.{IsOfSamePool}
-use Rattle.pm_tx.specs.AtWork.{IsAtWork, FindsObjects}
-use Rattle.pm_tx.specs.Beginning.{IsBegun}
+use Rattle.pm_lock.proofs.Leads.{ready_led}
+use Rattle.pm_lock.specs.Begun.{IsBegun}
+use Rattle.pm_lock.specs.Finding.{FindsObjects}
+use Rattle.pm_lock.specs.Leading.{DrawEnded}
+use Rattle.pm_tx.specs.AtWork.{IsAtWork}
 use Rattle.pm_tx.specs.Begins.{IsRefusedAtOnce}
-use Rattle.pm_tx.specs.Ending.{DrawEnded, IsAfterCall, IsOver, IsReadyForAny, IsTakenBack}
+use Rattle.pm_tx.specs.Ending.{IsAfterCall, IsOver, IsReadyForAny, IsTakenBack}
 use Rattle.pm_tx.specs.Sequences.{ends_call}
-use Rattle.pm_tx.proofs.Leads.{ready_led}
 use Rattle.pm_tx.proofs.GivenUp.{after_over, end_is_over, end_ready, place_at_work}
 use Rattle.pm_crash.proofs.PendingOn.{published_first}
 use Rattle.pm_tx.proofs.GoingOn.{lists_none}

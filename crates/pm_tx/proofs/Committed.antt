@@ -45,14 +45,16 @@ use Rattle.pm_world.specs.declared.lane.Lane.{Lane}
 use Rattle.pm_world.specs.declared.lane.Span.{Span}
 use Rattle.pm_world.specs.declared.lane.Stage.TheVariants as stage
 use Rattle.pm_world.proofs.Shapes.{IsOfSamePool}
-use Rattle.pm_tx.specs.AtWork.{IsAtWork, MayCome}
-use Rattle.pm_tx.specs.Ending.{CanDecide, DrawEnded, IsDecidable, IsDrawnBy, IsEndedBy, IsOver, IsStoppedIn, IsUndrawn, StopsDrawn, decided_view, drawn_more, drawn_view, told_more}
+use Rattle.pm_lock.proofs.Drawless.{drawless, drawn_in_turn}
+use Rattle.pm_lock.specs.Begun.{MayCome}
+use Rattle.pm_lock.specs.Leading.{DrawEnded}
+use Rattle.pm_tx.specs.AtWork.{IsAtWork}
+use Rattle.pm_tx.specs.Ending.{CanDecide, IsDecidable, IsDrawnBy, IsEndedBy, IsOver, IsStoppedIn, IsUndrawn, StopsDrawn, decided_view, drawn_more, drawn_view, told_more}
 use Rattle.pm_tx.specs.Publishing.{IsWholeOnceLogged, MayPublish, published_view}
 use Rattle.pm_tx.proofs.Fronts.{front_drawn, front_undrawn, stopped_left, stopped_right}
 use Rattle.pm_tx.proofs.Published.{performing_drawn, publish_drawn, publish_last, publish_lawful, written}
 use Rattle.pm_memory.specs.Runs.{Stops}
 use Rattle.pm_tx.specs.Sequences.{commits, completes, decides, decides_all, ends_call, logs_listed, performs_logged, publishes, retires_any}
-use Rattle.pm_tx.proofs.Drawless.{drawless, drawn_in_turn}
 use Rattle.pm_tx.proofs.GivenUp.{after_over, last_behind, place_at_work, undrawn_lane}
 use Rattle.pm_crash.proofs.PendingOn.{published_once_more, published_same}
 use Rattle.pm_crash.specs.Pending.{published_in}

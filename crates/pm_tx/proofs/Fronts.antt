@@ -9,7 +9,10 @@ use Rattle.pm_view.proofs.Sequences.{after_all-append}
 use Rattle.pm_view.specs.Counts.{IsAtStop, counted}
 use Rattle.pm_world.specs.Sequences.{Ready, Sequence}
 use Rattle.pm_world.specs.declared.lane.Lane.{Lane}
-use Rattle.pm_tx.specs.Ending.{DrawEnded, IsDrawnOrNot, IsStoppedIn, IsUndrawn}
+use Rattle.pm_lock.proofs.Drawless.{kept, kept_by_all}
+use Rattle.pm_lock.proofs.Leads.{counted_then}
+use Rattle.pm_lock.specs.Leading.{DrawEnded}
+use Rattle.pm_tx.specs.Ending.{IsDrawnOrNot, IsStoppedIn, IsUndrawn}
 use Rattle.std.proofs.lemmas.Option.{none-some}
 use Rattle.pm_view.specs.Log.{Phase}
 use Rattle.pm_view.specs.Log.Phase.{Idle, Open, Drawn, Sealing, Applying, Clearing, Retiring}
@@ -17,8 +20,6 @@ use Rattle.pm_view.specs.Steps.{Step}
 use Rattle.pm_view.specs.Steps.Step.{Load, Store, Or, And, Flush, Drain, TakeWrite, TakeRead, Raise, Give, ZoneTry, ZoneGive, Occupied, Occupy, Vacate, Draw, NumberSeen, StopSeen, SetStop, Tell}
 use Rattle.pm_view.specs.View.{View}
 use Rattle.pm_view.specs.Views.{after, after_all, begun}
-use Rattle.pm_tx.proofs.Drawless.{kept, kept_by_all}
-use Rattle.pm_tx.proofs.Leads.{counted_then}
 
 begun_undrawn : (phase : Phase) (v : View) → v.number ≡ None → IsUndrawn v (begun phase v)
 begun_undrawn Idle v none = (refl, refl)

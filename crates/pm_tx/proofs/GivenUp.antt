@@ -26,17 +26,19 @@ use Rattle.pm_world.specs.Sequences.{Ready, Runs, in_turn, one}
 use Rattle.pm_world.specs.declared.lane.Lane.{Lane}
 use Rattle.pm_world.specs.declared.lane.Span.{Span}
 use Rattle.pm_world.proofs.Shapes.{IsOfSamePool, shape_seen}
-use Rattle.pm_tx.specs.AtWork.{HoldsLines, IsAtWork, MayCome}
+use Rattle.pm_lock.proofs.Drawless.{drawless, drawn_in_turn}
+use Rattle.pm_lock.specs.Begun.{HoldsLines, MayCome}
+use Rattle.pm_lock.specs.Leading.{DrawEnded}
+use Rattle.pm_lock.specs.Resting.{HasPlace}
+use Rattle.pm_tx.specs.AtWork.{IsAtWork}
 use Rattle.pm_memory.specs.Runs.{Stops}
 use Rattle.std.proofs.lemmas.Bool.{cases_lt}
 use Rattle.std.proofs.lemmas.List.{take-append-le}
 use Rattle.std.proofs.Math.Seq.{take-append-add}
 use Rattle.std.proofs.lemmas.Option.{none-some}
 use Rattle.pm_tx.proofs.Fronts.{front_undrawn}
-use Rattle.pm_tx.specs.Ending.{told_more, drawn_more, DrawEnded, GivesUpBy, IsAfterCall, IsEndedBy, IsOver, IsReadyForAny, IsStoppedIn, IsTakenBack, IsUndrawn, IsWorkingLane}
-use Rattle.pm_tx.specs.Resting.{HasPlace}
+use Rattle.pm_tx.specs.Ending.{told_more, drawn_more, GivesUpBy, IsAfterCall, IsEndedBy, IsOver, IsReadyForAny, IsStoppedIn, IsTakenBack, IsUndrawn, IsWorkingLane}
 use Rattle.pm_tx.specs.Sequences.{ends_call, gives_up, takes_back}
-use Rattle.pm_tx.proofs.Drawless.{drawless, drawn_in_turn}
 use Rattle.pm_tx.proofs.TakenBack.{take_back_lawful}
 
 -- the call came to this operation, and its entry is the last

@@ -16,7 +16,8 @@ use Rattle.pm_world.specs.Lanes.{lock_of, last_number_of, span_of}
 use Rattle.pm_world.specs.Opening.{Opening}
 use Rattle.pm_world.specs.declared.lane.Lane.{Lane}
 use Rattle.pm_world.proofs.Shapes.{shape_seen}
-use Rattle.pm_tx.specs.AtWork.{FindsObject, IsAtWork}
+use Rattle.pm_lock.specs.Finding.{FindsObject}
+use Rattle.pm_tx.specs.AtWork.{IsAtWork}
 use Rattle.std.proofs.lemmas.List.Elements.{All-nil, All-map}
 use Rattle.pm_crash.specs.Pending.{published_in}
 use Rattle.pm_model.specs.Actions.{Action}

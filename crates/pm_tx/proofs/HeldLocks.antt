@@ -18,11 +18,12 @@ use Rattle.pm_world.specs.Lanes.{lock_of as view_lock}
 use Rattle.pm_world.specs.Opening.{Opening}
 use Rattle.pm_world.specs.declared.lane.HeldLock.{HeldLock}
 use Rattle.pm_world.specs.declared.lane.Lane.{Lane}
+use Rattle.pm_lock.specs.Finding.{FindsObject}
 use Rattle.pm_tx.proofs.AddsAtWork.{listed_is_known}
 use Rattle.pm_tx.proofs.GoingOn.{HasSameFields, KeepsObjects}
 use Rattle.pm_tx.proofs.LearnsAtWork.{Anywhere, forget, end_kept, look_at_work, moved, objects_learned, range_kept, looks_none, looks_once}
 use Rattle.pm_tx.proofs.Objects.{is_found, size_under}
-use Rattle.pm_tx.specs.AtWork.{FindsObject, IsAtWork}
+use Rattle.pm_tx.specs.AtWork.{IsAtWork}
 use Rattle.pm_tx.specs.Learning.{Finds, HasChecked}
 use Rattle.pm_tx.specs.Ranges.{is_lock_of}
 

@@ -1,37 +1,19 @@
--- What a lane makes leads from the view before to the view behind: whole sequences, the first of their steps, and loads.
+-- What a call makes leads from the view before to the view behind, ended or stopped, and so do loads.
 use Rattle.std.proofs.Common.{◌≡◌, ◌+◌, ℕ, zero, suc, List, [], ◌∷◌, ◌++◌, take, Option, refl, ◌∙◌, ap, if◌then◌else◌}
 use Rattle.pm_crash.proofs.Leading.{leads_then}
 use Rattle.pm_crash.specs.Leading.{Leads}
 use Rattle.pm_objects.specs.declared.calls.Operation.{Operation}
 use Rattle.pm_objects.specs.declared.history.Value.{Value}
-use Rattle.pm_view.specs.Counts.{counted, is_counted}
-use Rattle.pm_view.specs.Founds.{FoundAlone}
-use Rattle.pm_view.specs.Steps.{Step}
-use Rattle.pm_view.specs.Steps.Step.{Load}
-use Rattle.pm_view.specs.View.{View}
-use Rattle.pm_view.specs.Views.{after, after_all}
-use Rattle.pm_world.specs.Sequences.{IsForeseen, Ready, Sequence}
-use Rattle.pm_world.specs.declared.lane.Lane.{Lane}
-use Rattle.pm_tx.specs.Ending.{DrawEnded, IsEndedBy, IsStoppedIn}
+use Rattle.pm_lock.proofs.Leading.{front_leads, ready_leads}
+use Rattle.pm_tx.specs.Ending.{IsEndedBy, IsStoppedIn}
 use Rattle.pm_tx.specs.Learning.{Looks}
-
--- what is known before is what a lane that is alone finds
-foreseen_is_found : (v : View) (s : Step) → IsForeseen v s → FoundAlone v s
-foreseen_is_found v (Load w found) foreseen = λ alone. foreseen.1
-foreseen_is_found v s foreseen = foreseen
-
--- the first of steps that may be made, and what they draw is an ended call's
-pub front_leads : (v : View) (steps : List Step) (made : ℕ) → Ready v steps → DrawEnded v steps → Leads v (take made steps) (after_all v (take made steps))
-unfolding Leads Ready DrawEnded after_all
-front_leads v steps zero ready draws = refl
-front_leads v [] (suc made) ready draws = refl
-front_leads v (s ∷ steps) (suc made) ready draws = (ready.0, foreseen_is_found v s ready.1, draws.0, front_leads (after v s) steps made ready.2 draws.1)
-
--- and all of them
-pub ready_leads : (v : View) (steps : List Step) → Ready v steps → DrawEnded v steps → Leads v steps (after_all v steps)
-unfolding Leads Ready DrawEnded after_all
-ready_leads v [] ready draws = refl
-ready_leads v (s ∷ steps) ready draws = (ready.0, foreseen_is_found v s ready.1, draws.0, ready_leads (after v s) steps ready.2 draws.1)
+use Rattle.pm_view.specs.Counts.{counted, is_counted}
+use Rattle.pm_view.specs.Steps.Step.{Load}
+use Rattle.pm_view.specs.Steps.{Step}
+use Rattle.pm_view.specs.View.{View}
+use Rattle.pm_view.specs.Views.{after_all}
+use Rattle.pm_world.specs.Sequences.{Sequence}
+use Rattle.pm_world.specs.declared.lane.Lane.{Lane}
 
 module _ {M : Type 0} (at : M → View → Type 0) (lane : Lane M) (v : View) (steps : Sequence) (operation : Operation) (reply : Option Value) where
   -- a call that ended

@@ -9,6 +9,7 @@ use Rattle.pm_crash.proofs.Staying.{open_learns}
 use Rattle.pm_model.specs.Bytes.{is_among}
 use Rattle.pm_undo.specs.Spans.{words_in}
 use Rattle.pm_world.specs.Records.{is_recorded}
+use Rattle.pm_lock.specs.Finding.{FindsObject}
 use Rattle.pm_tx.proofs.PlannedRecords.{words_same}
 use Rattle.pm_crash.specs.Operations.{HasRange, IsHeld, PassesEnd}
 use Rattle.pm_objects.specs.declared.ids.Oid.{Oid}
@@ -31,7 +32,7 @@ use Rattle.pm_view.proofs.SameLane.{same_lane, same_lane-then}
 use Rattle.pm_tx.proofs.AddsAtWork.{listed_is_known}
 use Rattle.pm_tx.proofs.GoingOn.{HasSameFields, KeepsObjects, goes_on, objects_kept}
 use Rattle.pm_tx.proofs.Objects.{covered_under, is_found}
-use Rattle.pm_tx.specs.AtWork.{FindsObject, IsAtWork}
+use Rattle.pm_tx.specs.AtWork.{IsAtWork}
 use Rattle.pm_tx.specs.Learning.{Finds, HasChecked, Learns, Looks}
 use Rattle.pm_tx.specs.Ranges.{KnowsRange}
 use Rattle.pm_tx.specs.Sequences.{word_count}

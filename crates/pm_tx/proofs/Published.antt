@@ -27,11 +27,12 @@ use Rattle.pm_world.proofs.Sequencing.{ready_both}
 use Rattle.pm_world.specs.Lanes.{last_number_of}
 use Rattle.pm_world.specs.Lawful.{MayDraw, MayTell}
 use Rattle.pm_world.specs.Sequences.{Ready, in_turn, one}
-use Rattle.pm_tx.proofs.Drawless.{drawless, drawn_in_turn}
+use Rattle.pm_lock.proofs.Drawless.{drawless, drawn_in_turn}
+use Rattle.pm_lock.specs.Leading.{DrawEnded}
 use Rattle.pm_tx.proofs.Fronts.{front_drawn, front_undrawn}
 use Rattle.pm_tx.proofs.GivenUp.{last_behind}
 use Rattle.pm_tx.proofs.GoingOn.{knows_on, of_pool_on}
-use Rattle.pm_tx.specs.Ending.{DrawEnded, IsDrawnBy, IsOver, IsUndrawn, drawn_more, told_more}
+use Rattle.pm_tx.specs.Ending.{IsDrawnBy, IsOver, IsUndrawn, drawn_more, told_more}
 use Rattle.pm_tx.specs.Publishing.{IsWholeOnceLogged, MayPublish, TellsLogged, logged_view, published_view}
 use Rattle.pm_tx.specs.Sequences.{ends_call, performs_logged, publishes}
 use Rattle.pm_world.proofs.StorePair.{final_word}

@@ -33,11 +33,11 @@ use Rattle.pm_world.specs.Lawful.{MayTell}
 use Rattle.pm_world.specs.Opening.{Opening}
 use Rattle.pm_world.specs.Sequences.{Ready, looks, one}
 use Rattle.pm_world.specs.declared.lane.Lane.{Lane}
+use Rattle.pm_lock.proofs.Drawless.{drawless}
 use Rattle.pm_tx.proofs.AddsAtWork.{listed_is_known}
 use Rattle.pm_tx.proofs.GoingOn.{HasSameFields, goes_on}
 use Rattle.pm_tx.proofs.Objects.{covered_under, is_found}
 use Rattle.pm_tx.proofs.WrittenBytes.{counted_covered}
-use Rattle.pm_tx.proofs.Drawless.{drawless}
 use Rattle.pm_tx.specs.AtWork.{IsAtWork}
 use Rattle.pm_tx.specs.Ranges.{HasReadRange, KnowsRange, reads_range}
 use Rattle.pm_tx.specs.Sequences.{byte_in, reads, word_count}

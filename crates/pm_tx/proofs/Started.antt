@@ -1,9 +1,8 @@
 -- A lane at rest may begin a call.
-use Rattle.std.proofs.Common.{◌≡◌, ℕ, ◌/◌, All, ◌<◌, true, eqb, inl, inr, Contains, List, [], ◌∷◌, ◌++◌, map, length, None, Ok, refl, sym, ap, ◌∙◌, subst, arith}
-use Rattle.std.specs.List.{IsDistinct, list_any}
-use Rattle.std.specs.Prelude.{nat_eq}
+use Rattle.std.proofs.Common.{◌≡◌, ℕ, ◌<◌, true, eqb, inl, inr, Contains, List, [], ◌∷◌, ◌++◌, map, length, None, Ok, refl, sym, ap, ◌∙◌, subst, arith}
+use Rattle.std.specs.List.{list_any}
 use Rattle.std.proofs.lemmas.Bool.{or_left}
-use Rattle.std.proofs.lemmas.List.Elements.{All-nil, Contains-append_right}
+use Rattle.std.proofs.lemmas.List.Elements.{Contains-append_right}
 use Rattle.std.proofs.lemmas.Option.{none-some}
 use Rattle.pm_memory.specs.Runs.{Made}
 use Rattle.pm_undo.proofs.Areas.{area_tells_nothing, generation_in_area}
@@ -17,7 +16,7 @@ use Rattle.pm_view.specs.Log.{Log, no_log}
 use Rattle.pm_view.specs.Log.Phase.{Open}
 use Rattle.pm_view.specs.Steps.{Step}
 use Rattle.pm_view.specs.Steps.Step.{Load, NumberSeen}
-use Rattle.pm_view.specs.View.{View, Lock}
+use Rattle.pm_view.specs.View.{View}
 use Rattle.pm_view.specs.Views.{after, after_all, begun, with_seen}
 use Rattle.pm_world.proofs.Sequencing.{lane_runs, ready_both, runs_look}
 use Rattle.pm_world.specs.Lanes.{IsSeenAs, span_of}
@@ -25,12 +24,13 @@ use Rattle.pm_world.specs.Lawful.{generation_limit}
 use Rattle.pm_world.specs.Records.{generation_of}
 use Rattle.pm_world.specs.Sequences.{IsMade, Ready, Runs, by_lane, by_view, in_turn, looks, one}
 use Rattle.pm_world.specs.declared.lane.Lane.{Lane}
-use Rattle.pm_tx.specs.AtWork.{HoldsLines}
-use Rattle.pm_tx.specs.Beginning.{IsBegun, IsBegunBy, RestsBehind}
-use Rattle.pm_tx.specs.Resting.{IsAtRest, IsFresh}
-use Rattle.pm_tx.specs.Ending.{DrawEnded}
+use Rattle.pm_lock.proofs.Drawless.{drawless}
+use Rattle.pm_lock.specs.Begun.{IsBegun}
+use Rattle.pm_lock.specs.Leading.{DrawEnded}
+use Rattle.pm_lock.specs.Resting.{IsAtRest, IsFresh}
+use Rattle.pm_lock.proofs.Taken.{no_lines}
+use Rattle.pm_tx.specs.Beginning.{IsBegunBy, RestsBehind}
 use Rattle.pm_tx.specs.Sequences.{sees_generation, starts}
-use Rattle.pm_tx.proofs.Drawless.{drawless}
 
 -- the view of a call that has just begun
 abbrev pub fresh_call : View → List Step → View
@@ -55,14 +55,6 @@ started u n (inr (log, number, call)) = (
 fresh_records : (v : View) → IsFresh v → v.log.records ≡ []
 fresh_records v (inl idle) = ap (λ (log : Log). log.records) idle
 fresh_records v (inr (log, number, call)) = ap (λ (log : Log). log.records) log
-
--- no lock is held
-no_lines : (v : View) → v.locks ≡ [] → HoldsLines v
-unfolding IsDistinct
-no_lines v none = record {
-  inside = subst (All (λ (l : Lock). l.line < length v.words / 8)) (sym none) (All-nil (λ (l : Lock). l.line < length v.words / 8));
-  once = subst (λ (locks : List Lock). IsDistinct nat_eq (map (λ (l : Lock). l.line) locks)) (sym none) tt;
-}
 
 module _ {M : Type 0} (at : M → View → Type 0) (lane : Lane M) (v : View) (is : IsAtRest at lane v) where
   abbrev pub word : ℕ

@@ -24,12 +24,12 @@ use Rattle.pm_world.specs.Records.{is_recorded}
 use Rattle.pm_world.specs.Sequences.{looks, one, stores}
 use Rattle.pm_world.specs.declared.lane.HeldLock.{HeldLock}
 use Rattle.pm_world.specs.declared.lane.Span.{Span}
+use Rattle.pm_lock.specs.Locking.{gives, line_at, takes}
 use Rattle.pm_tx.proofs.StepKinds.{Each, HasOnly, HasQuietSteps, only_by_lane, only_counted, only_in_turn, only_looks, only_looks_from, only_one, only_snapshots, only_stores, only_with_word}
 use Rattle.pm_tx.proofs.WrittenBytes.{counted_covered}
 use Rattle.pm_tx.specs.Learning.{Looks}
 use Rattle.pm_tx.specs.Ranges.{adds_range, reads_range, writes_range}
-use Rattle.pm_tx.specs.Beginning.{takes}
-use Rattle.pm_tx.specs.Sequences.{ends_call, gives, line_at, reads, sees_generation, starts, word_count, writes, writes_word}
+use Rattle.pm_tx.specs.Sequences.{ends_call, reads, sees_generation, starts, word_count, writes, writes_word}
 
 -- a step of lane 0 that ends no generation: none but a store of it does
 abbrev pub IsWork : Step → Type 0

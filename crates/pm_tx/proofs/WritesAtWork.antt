@@ -19,14 +19,14 @@ use Rattle.pm_world.specs.Lawful.{MayTell}
 use Rattle.pm_world.specs.Opening.{Opening}
 use Rattle.pm_world.specs.Sequences.{Ready, one}
 use Rattle.pm_world.specs.declared.lane.Lane.{Lane}
+use Rattle.pm_lock.proofs.Drawless.{drawless}
+use Rattle.pm_lock.specs.Leading.{DrawEnded}
 use Rattle.pm_tx.proofs.GoingOn.{HasSameFields, KeepsObjects, goes_on}
 use Rattle.pm_tx.proofs.Objects.{covers_no_size}
 use Rattle.pm_tx.proofs.WrittenBytes.{HasWritten, all_written, counted_covered, writes_lawful}
 use Rattle.pm_memory.specs.Runs.{Stops}
-use Rattle.pm_tx.proofs.Drawless.{drawless}
 use Rattle.pm_tx.proofs.Fronts.{front_undrawn}
 use Rattle.pm_tx.specs.AtWork.{IsAtWork}
-use Rattle.pm_tx.specs.Ending.{DrawEnded}
 use Rattle.pm_tx.specs.Ranges.{CanWrite, HasWrittenRange, StopsUndrawn, writes_range}
 use Rattle.pm_tx.specs.Sequences.{word_count, writes}
 use Rattle.pm_crash.proofs.PendingOn.{published_once_more}

@@ -14,8 +14,9 @@ use Rattle.pm_world.specs.Opening.{Opening}
 use Rattle.pm_world.specs.Sequences.{Ready, Sequence, in_turn, one, settles}
 use Rattle.pm_world.specs.declared.lane.Lane.{Lane}
 use Rattle.pm_world.specs.declared.lane.Span.{Span}
+use Rattle.pm_lock.specs.Leading.{DrawEnded}
 use Rattle.pm_tx.specs.AtWork.{IsAtWork}
-use Rattle.pm_tx.specs.Ending.{DrawEnded, IsEndedBy, IsStoppedIn}
+use Rattle.pm_tx.specs.Ending.{IsEndedBy, IsStoppedIn}
 use Rattle.pm_tx.specs.Sequences.{gives_up}
 
 -- all that is undrained is made persistent, and the cancel is told

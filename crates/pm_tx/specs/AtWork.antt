@@ -1,42 +1,20 @@
 -- How a lane stands between two operations of a transaction: what its fields say, what its view has, and what its call came to.
-use Rattle.std.specs.Prelude.{◌≡◌, ℕ, ◌+◌, ◌*◌, ◌/◌, ◌<◌, ◌≤◌, false, [], All, Contains, Some, length, map, nat_eq, slice_index}
-use Rattle.std.specs.List.{IsDistinct}
+use Rattle.std.specs.Prelude.{◌≡◌, ◌≤◌, false, [], All, length, map}
 use Rattle.pm_crash.specs.OpenCall.{IsOpen}
 use Rattle.pm_crash.specs.Pending.{published_in}
 use Rattle.pm_model.specs.declared.stage.Stage.TheVariants as model_stage
 use Rattle.pm_objects.specs.declared.history.TxErr.TheVariants as error
-use Rattle.pm_view.specs.Steps.Step.{NumberSeen}
-use Rattle.pm_view.specs.View.{View, Lock}
+use Rattle.pm_view.specs.View.{View}
 use Rattle.pm_pending.specs.Pending.{entry_of}
 use Rattle.pm_redo.specs.Entering.{IsOfPool}
 use Rattle.pm_undo.specs.Spans.{IsSpan}
 use Rattle.pm_undo.specs.Working.{FindsOpening, IsWorking}
 use Rattle.pm_world.specs.Lanes.{IsSeenAs}
-use Rattle.pm_world.specs.Lawful.{generation_limit}
 use Rattle.pm_world.specs.Opening.{Opening, IsSound}
 use Rattle.pm_world.specs.declared.lane.Lane.{Lane}
 use Rattle.pm_world.specs.declared.lane.Stage.TheVariants as stage
-
--- the view saw, as its call began, that a number is left for it
-pub record MayCome (v : View) : Type 0 where
-  pub found : ℕ
-  pub seen : Contains v.seen (NumberSeen found)
-  pub below : found < generation_limit
-
--- each lock that it holds is of a line of the pool, and no two are of one
-pub record HoldsLines (v : View) : Type 0 where
-  pub inside : All (λ (l : Lock). l.line < length v.words / 8) v.locks
-  pub once : IsDistinct nat_eq (map (λ (l : Lock). l.line) v.locks)
-
--- under the lock it found a block, and it knows the size of the object there, which ends in the block
-pub record FindsObject (v : View) (l : Lock) : Type 0 where
-  pub lines : ℕ
-  pub block : l.block ≡ Some lines
-  pub known : Contains v.known (8 * l.line + 1)
-  pub fits : 64 + slice_index v.words (8 * l.line + 1) ≤ 64 * lines
-
-abbrev pub FindsObjects : View → Type 0
-FindsObjects v = (l : Lock) → Contains v.locks l → FindsObject v l
+use Rattle.pm_lock.specs.Begun.{HoldsLines, MayCome}
+use Rattle.pm_lock.specs.Finding.{FindsObjects}
 
 -- the entries that the lane lists are those of the actions that its call published, in their order, each of a word of the pool that it locked for
 -- writing; and the one that ends its generation fits behind them

@@ -5,23 +5,23 @@ use Rattle.pm_objects.specs.declared.calls.Operation.TheVariants.{Commit}
 use Rattle.pm_objects.specs.declared.history.TxErr.{TxErr}
 use Rattle.pm_objects.specs.declared.history.Value.{Value}
 use Rattle.pm_memory.specs.Runs.{Stops}
-use Rattle.pm_crash.specs.HeldHistory.{DrawsEnded}
 use Rattle.pm_crash.specs.OpenCall.{IsGivenUp}
 use Rattle.pm_crash.specs.Operations.{TakesBack, Tells}
 use Rattle.pm_undo.specs.Working.{HasArea, IsSameCall, IsWorking}
 use Rattle.pm_view.specs.Log.{no_log}
 use Rattle.pm_view.specs.Constants.{IsSameLane}
 use Rattle.pm_view.specs.Log.Phase.{Idle, Open}
-use Rattle.pm_view.specs.Steps.{Step}
 use Rattle.pm_view.specs.View.{Numbered, Told, View}
-use Rattle.pm_view.specs.Views.{after, after_all}
+use Rattle.pm_view.specs.Views.{after_all}
 use Rattle.pm_world.specs.Lanes.{IsSeenAs, last_number_of}
 use Rattle.pm_world.specs.Opening.{Opening}
 use Rattle.pm_world.specs.Sequences.{Sequence, Ready, settles}
 use Rattle.pm_world.specs.declared.lane.Lane.{Lane}
 use Rattle.pm_world.specs.declared.lane.Span.{Span}
-use Rattle.pm_tx.specs.AtWork.{HoldsLines, IsAtWork}
-use Rattle.pm_tx.specs.Resting.{HasPlace, IsAtRest}
+use Rattle.pm_lock.specs.Begun.{HoldsLines}
+use Rattle.pm_lock.specs.Leading.{DrawEnded}
+use Rattle.pm_lock.specs.Resting.{HasPlace, IsAtRest}
+use Rattle.pm_tx.specs.AtWork.{IsAtWork}
 use Rattle.pm_tx.specs.Publishing.{MayPublish}
 use Rattle.pm_record.specs.declared.redo.Redo.{Redo}
 use Rattle.pm_tx.specs.Sequences.{commits, completes, decides, decides_all, ends_call, logs_listed}
@@ -36,11 +36,6 @@ pub record IsTakenBack (v w : View) : Type 0 where
   pub log : w.log ≡ no_log (Open [] [])
   pub drained : w.changes ≡ []
   pub takes_back : TakesBack v w
-
--- each of the steps that draws does so with an ended call
-unfoldable pub DrawEnded : View → List Step → Type 0
-DrawEnded v [] = Unit {0}
-DrawEnded v (s ∷ steps) = DrawsEnded v s × DrawEnded (after v s) steps
 
 -- the lane is at work, whatever it was opened with, as some view
 abbrev pub IsLaneAtWork : {M : Type 0} → (M → View → Type 0) → Lane M → Type 0

@@ -12,7 +12,7 @@ use Rattle.pm_view.specs.Views.{after}
 use Rattle.pm_world.specs.Entries.{is_redoing}
 use Rattle.pm_world.specs.Opening.{Opening}
 use Rattle.pm_world.specs.Records.{records_generation}
-use Rattle.pm_tx.specs.AtWork.{MayCome}
+use Rattle.pm_lock.specs.Begun.{MayCome}
 
 -- the next generation is stored, and not drained
 abbrev pub is_ending : Phase → Bool

@@ -1,15 +1,12 @@
 pub mod Sequences
 pub mod AtWork
 pub mod Learning
-pub mod Resting
 pub mod Ending
 pub mod Ranges
 pub mod Calls
 pub mod Stages
 pub mod Publishing
 pub mod Beginning
-pub mod Plans
-pub mod Lacking
 pub mod Begins
 pub mod Generations
 pub mod Actions

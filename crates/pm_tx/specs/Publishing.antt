@@ -9,7 +9,7 @@ use Rattle.pm_crash.specs.Operations.{KeepsWords, Tells}
 use Rattle.pm_redo.specs.Entering.{HasPlace, IsOfPool, IsReadyToLog, final_of}
 use Rattle.pm_redo.specs.Sequences.{logs}
 use Rattle.pm_world.specs.Records.{pool_entries}
-use Rattle.pm_tx.specs.AtWork.{MayCome}
+use Rattle.pm_lock.specs.Begun.{MayCome}
 use Rattle.pm_memory.specs.Runs.{Stops}
 use Rattle.pm_world.specs.Sequences.{Ready}
 use Rattle.pm_tx.specs.Sequences.{ends_call, performs_logged, publishes}

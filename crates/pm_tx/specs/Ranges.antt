@@ -16,8 +16,8 @@ use Rattle.pm_world.specs.declared.lane.HeldLock.{HeldLock}
 use Rattle.pm_world.specs.declared.lane.Lane.{Lane}
 use Rattle.pm_world.specs.declared.lane.Span.{Span}
 use Rattle.pm_undo.specs.Sequences.{snapshots}
+use Rattle.pm_lock.specs.Leading.{DrawEnded}
 use Rattle.pm_tx.specs.AtWork.{IsAtWork}
-use Rattle.pm_tx.specs.Ending.{DrawEnded}
 use Rattle.pm_tx.specs.Sequences.{reads, writes}
 
 -- it holds the object for writing, the range is inside, and each word of it is recorded

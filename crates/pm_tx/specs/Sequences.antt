@@ -1,5 +1,5 @@
 -- The sequences of a transaction's reads, writes and ends: docs/FORMAT.md, "Sequences".
-use Rattle.std.specs.Prelude.{ℕ, ◌+◌, ◌-◌, ◌/◌, ◌%◌, ◌==◌, if◌then◌else◌, List, [], ◌∷◌, ◌++◌, Option, None, false, length, slice_index, slice_index_or}
+use Rattle.std.specs.Prelude.{ℕ, ◌+◌, ◌-◌, ◌/◌, ◌%◌, ◌==◌, if◌then◌else◌, List, [], ◌∷◌, ◌++◌, Option, None, length, slice_index}
 use Rattle.pm_words.specs.Words.{bytes_of}
 use Rattle.pm_objects.specs.declared.calls.Operation.{Operation}
 use Rattle.pm_objects.specs.declared.calls.Operation.TheVariants.{Commit}
@@ -10,9 +10,8 @@ use Rattle.pm_redo.specs.Entering.{ending}
 use Rattle.pm_redo.specs.Sequences.{logs, performs}
 use Rattle.pm_undo.specs.Sequences.{looks_from, restores, retires}
 use Rattle.pm_view.specs.Area.{area_word}
-use Rattle.pm_view.specs.Steps.Step.{Draw, Give, NumberSeen, Tell}
+use Rattle.pm_view.specs.Steps.Step.{Draw, NumberSeen, Tell}
 use Rattle.pm_world.specs.Sequences.{Sequence, by_lane, counted, in_turn, looks, nothing, one, settles, stores, with_word}
-use Rattle.pm_world.specs.declared.lane.HeldLock.{HeldLock}
 use Rattle.pm_world.specs.declared.lane.Span.{Span}
 
 -- how many words have some of so many bytes from a place on
@@ -87,17 +86,6 @@ logs_listed (e ∷ entries) = logs (e ∷ entries)
 unfoldable pub completes : List Span → List Redo → Sequence
 completes spans [] = retires_any spans
 completes spans (e ∷ entries) = performs_logged (e ∷ entries)
-
-abbrev pub no_lock : HeldLock
-no_lock = record { line = 0; write = false; block = None }
-
--- the line of a lock, by the lock's place in the lane's list
-abbrev pub line_at : List HeldLock → ℕ → ℕ
-line_at locks i = (slice_index_or locks i no_lock).line
-
--- each lock is given back, in their order
-unfoldable pub gives : List HeldLock → Sequence
-gives locks = counted (λ i. one (Give (line_at locks i))) (length locks)
 
 -- the lane looks at its generation
 unfoldable pub sees_generation : Sequence

@@ -13,18 +13,17 @@ ghost use Rattle.pm_world.specs.Lanes.{IsSeenAs};
 ghost use Rattle.pm_world.specs.Opening.{Opening, IsSound};
 ghost use Rattle.pm_world.specs.Sequences.{IsMade, one};
 ghost use Rattle.pm_world.specs.declared.lane.Stage.TheVariants as stage;
-ghost use Rattle.pm_tx.specs.AtWork.{IsAtWork, FindsObjects};
-ghost use Rattle.pm_tx.specs.Beginning.{IsBegun, IsLaneBegun};
+ghost use Rattle.pm_lock.specs.Begun.{IsBegun, IsLaneBegun};
+ghost use Rattle.pm_lock.specs.Finding.{FindsObjects};
+ghost use Rattle.pm_lock.specs.Lacking.{LacksObject};
+ghost use Rattle.pm_lock.specs.Plans.{IsPlan};
+ghost use Rattle.pm_lock.specs.Resting.{IsAtRest, IsLaneAtRest};
+ghost use Rattle.pm_tx.specs.AtWork.{IsAtWork};
 ghost use Rattle.pm_tx.specs.Begins.{FailsToBegin, HasBegun, HasFoundNone, IsBeginCause, IsRefusedAtOnce, IsStartedCause, LeavesLane};
-ghost use Rattle.pm_tx.specs.Lacking.{LacksObject};
-ghost use Rattle.pm_tx.specs.Plans.{IsPlan};
-ghost use Rattle.pm_tx.specs.Resting.{IsAtRest, IsLaneAtRest};
 ghost use Rattle.pm_tx.specs.Sequences.{ends_call};
 
-use crate::finding::find_objects;
-use crate::locking::{give_back, take_all};
 use crate::starting::start;
-use crate::wants::plan_locks;
+use pm_lock::{find_objects, give_back, plan_locks, take_all};
 use pm_objects::{Refusal, TxErr, Want};
 use pm_world::{HeldLock, Lane, LawfulMem, Stage};
 

@@ -3,25 +3,16 @@ ghost use Rattle.pm_objects.specs.declared.history.TxErr.TheVariants as error;
 ghost use Rattle.pm_objects.specs.declared.refusal.Refusal.{Refusal};
 ghost use Rattle.pm_view.specs.View.{View};
 ghost use Rattle.pm_world.specs.Lanes.{IsIdle};
-ghost use Rattle.pm_world.specs.Sequences.{IsMade, IsReady};
+ghost use Rattle.pm_world.specs.Sequences.{IsMade};
 ghost use Rattle.pm_world.specs.declared.lane.Stage.TheVariants as stage;
+ghost use Rattle.pm_lock.specs.Locking.{gives};
 ghost use Rattle.pm_tx.specs.Ending.{IsAfterCall, IsClosedBy, IsLaneAfterCall};
-ghost use Rattle.pm_tx.specs.Sequences.{gives};
 ghost use Rattle.pm_tx.specs.Stages.{end_refusal, stage_behind};
 
 use crate::stages::check_end;
+use pm_lock::give_all;
 use pm_objects::{Refusal, TxErr};
-use pm_world::{HeldLock, Lane, LawfulMem, Stage};
-
-/// Gives each lock back.
-pub fn give_all<M: LawfulMem>(mem: &mut M, locks: &[HeldLock])
-    requires { IsReady (M.at mem.old) (gives locks.now) }
-    ensures { IsMade (M.at mem.old) (M.at mem.new) (gives locks.now) }
-{
-    for held in locks {
-        mem.give(held.line);
-    }
-}
+use pm_world::{Lane, LawfulMem, Stage};
 
 /// Closes the transaction: the lane gives its locks back, and is as before it.
 pub fn close<M: LawfulMem>(lane: &mut Lane<M>)

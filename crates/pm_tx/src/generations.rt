@@ -18,13 +18,13 @@ ghost use Rattle.pm_world.specs.Records.{generation_of};
 ghost use Rattle.pm_world.specs.Sequences.{Ready};
 ghost use Rattle.pm_world.specs.declared.lane.HeldLock.{HeldLock};
 ghost use Rattle.pm_world.specs.declared.lane.Span.{Span};
-ghost use Rattle.pm_tx.specs.Beginning.{takes};
-ghost use Rattle.pm_tx.specs.Ending.{DrawEnded};
+ghost use Rattle.pm_lock.specs.Leading.{DrawEnded};
+ghost use Rattle.pm_lock.specs.Locking.{gives, takes};
 ghost use Rattle.pm_tx.specs.Generations.{AppliesNone, CanPublish, IsCommitting, IsGivingUp, IsOfOpening, IsPublishing, is_ending};
 ghost use Rattle.pm_tx.specs.Learning.{Looks};
 ghost use Rattle.pm_tx.specs.Ranges.{CanWrite, adds_range, reads_range, writes_range};
 ghost use Rattle.pm_tx.specs.Publishing.{MayPublish};
-ghost use Rattle.pm_tx.specs.Sequences.{commits, ends_call, gives, gives_up, publishes, starts};
+ghost use Rattle.pm_tx.specs.Sequences.{commits, ends_call, gives_up, publishes, starts};
 
 /// A law: lane 0 stores no generation as it begins a call, takes a lock, tells an operation, looks at words, records, writes and reads
 /// ranges, is refused its begin, and gives its locks back; and where some steps store none, their first ones don't. The loads of looks lead

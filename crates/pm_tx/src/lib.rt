@@ -4,7 +4,7 @@
 //! `abort`, `end`). Each makes exactly the stated sequence of memory calls, or the first of them up to the lane's stop, and what it makes
 //! of the call is the plain model's: a refusal is the model's reason, takes back what was done and gives the transaction up. The parts
 //! stand beside them: checks (`check_range`, `check_words`, `check_write`), and the work (`do_add`, `do_write`, `do_read`). They stand on
-//! `pm_undo` for the records without which no word is stored, and on `pm_crash` for what the operations of a call come to.
+//! `pm_lock` for a begin's locks, on `pm_undo` for the records without which no word is stored, and on `pm_crash` for what a call comes to.
 #![tactic(auto)]
 
 mod aborting;
@@ -15,14 +15,11 @@ mod checking;
 mod committing;
 mod ending;
 mod ending_level;
-mod finding;
 mod generations;
 mod giving_up;
 mod laws;
 mod learning;
-mod locking;
 mod pending;
-mod places;
 mod publishing;
 mod publishing_actions;
 mod reading;
@@ -30,7 +27,6 @@ mod refusing;
 mod stages;
 mod starting;
 mod taking_back;
-mod wants;
 mod words;
 mod writing;
 
@@ -41,8 +37,7 @@ pub use bounds::a_call_makes_few_stores;
 pub use checking::{check_range, check_words, check_write};
 pub use committing::commit;
 pub use ending::end_call;
-pub use ending_level::{end, give_all};
-pub use finding::find_objects;
+pub use ending_level::end;
 pub use generations::{
     a_call_given_up_ends_one_generation, a_commit_ends_one_generation,
     a_first_generation_is_the_openings, a_generation_lasts_while_a_call_works,
@@ -51,15 +46,12 @@ pub use generations::{
 pub use giving_up::give_up;
 pub use laws::a_call_may_be_taken_back;
 pub use learning::learn;
-pub use locking::{give_back, take_all, take_line};
 pub use pending::{cancel_at_work, set_at_work};
-pub use places::can_begin;
 pub use publishing::{a_log_may_be_published, publish_log};
 pub use publishing_actions::publish;
 pub use reading::{do_read, read};
 pub use stages::check_work;
 pub use starting::start;
 pub use taking_back::take_back;
-pub use wants::plan_locks;
 pub use words::{read_words, write_words};
 pub use writing::{do_write, write};

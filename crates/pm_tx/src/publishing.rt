@@ -5,7 +5,8 @@ ghost use Rattle.pm_redo.specs.Sequences.{logs};
 ghost use Rattle.pm_view.specs.View.{View};
 ghost use Rattle.pm_view.specs.Views.{after_all};
 ghost use Rattle.pm_world.specs.Sequences.{IsStopped, Ready, Runs};
-ghost use Rattle.pm_tx.specs.Ending.{DrawEnded, IsDrawnBy, IsOver, IsUndrawn};
+ghost use Rattle.pm_lock.specs.Leading.{DrawEnded};
+ghost use Rattle.pm_tx.specs.Ending.{IsDrawnBy, IsOver, IsUndrawn};
 ghost use Rattle.pm_tx.specs.Publishing.{IsWholeOnceLogged, MayPublish, StopsPublished, published_view};
 ghost use Rattle.pm_tx.specs.Sequences.{performs_logged, publishes};
 

@@ -3,8 +3,8 @@ ghost use Rattle.pm_objects.specs.declared.refusal.Refusal.TheVariants as refusa
 ghost use Rattle.pm_view.specs.View.{View};
 ghost use Rattle.pm_world.specs.Records.{generation_of};
 ghost use Rattle.pm_world.specs.Sequences.{IsMade};
+ghost use Rattle.pm_lock.specs.Resting.{IsAtRest, IsLaneAtRest};
 ghost use Rattle.pm_tx.specs.Beginning.{IsBegunBy, IsSpent};
-ghost use Rattle.pm_tx.specs.Resting.{IsAtRest, IsLaneAtRest};
 ghost use Rattle.pm_tx.specs.Sequences.{sees_generation, starts};
 
 use pm_objects::Refusal;

@@ -1,4 +1,5 @@
-use Rattle.pm_tx.proofs.BeginPlanned.{busy, taken_lines}
+use Rattle.pm_lock.proofs.FoundObjects.{taken_lines}
+use Rattle.pm_lock.proofs.GivenBack.{busy}
 use Rattle.pm_action.proofs.Sought.{all_held, holds_each, none_found, past_end}
 use Rattle.pm_action.proofs.holding.seek_objects.Goals as goal
 

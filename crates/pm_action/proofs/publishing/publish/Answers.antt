@@ -3,8 +3,8 @@ use Rattle.std.proofs.lemmas.Bool.{false≢true}
 use Rattle.pm_world.specs.declared.lane.Lane.{Lane}
 use Rattle.pm_objects.specs.declared.calls.Operation.TheVariants.{Publish}
 use Rattle.pm_pending.specs.Pending.{pending_of}
+use Rattle.pm_lock.proofs.Leads.{led_then}
 use Rattle.pm_tx.proofs.BeginPlanned.{no_locks, started_led}
-use Rattle.pm_tx.proofs.Leads.{led_then}
 use Rattle.pm_action.proofs.PublishEnds.{empty_whole, ends_further, missing_alone, no_elements, past_alone, published_nothing}
 use Rattle.pm_action.proofs.RestingAgain.{fields_kept, fields_rested}
 use Rattle.pm_action.proofs.Started.{pending_started, told_at_once_since}

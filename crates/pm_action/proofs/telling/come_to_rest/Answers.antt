@@ -1,7 +1,7 @@
 use Rattle.std.proofs.Common.{List, refl, subst, sym}
 use Rattle.pm_world.specs.Sequences.{IsMade, IsReady}
 use Rattle.pm_world.specs.declared.lane.HeldLock.{HeldLock}
-use Rattle.pm_tx.specs.Sequences.{gives}
+use Rattle.pm_lock.specs.Locking.{gives}
 use Rattle.pm_tx.proofs.GivenBack.{closed, give_ready}
 use Rattle.pm_action.proofs.telling.come_to_rest.Goals as goal
 

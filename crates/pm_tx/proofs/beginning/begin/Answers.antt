@@ -1,7 +1,7 @@
 use Rattle.pm_view.specs.View.{View}
-use Rattle.pm_tx.specs.Beginning.{IsBegun}
+use Rattle.pm_lock.specs.Begun.{IsBegun}
+use Rattle.pm_lock.specs.Resting.{IsAtRest}
 use Rattle.pm_tx.specs.Begins.{FailsToBegin, HasBegun, IsStartedCause}
-use Rattle.pm_tx.specs.Resting.{IsAtRest}
 use Rattle.pm_tx.proofs.BeginPlanned.{begun_further, err_so, fails_further, no_locks, none_further, ok_so, started_led}
 use Rattle.pm_tx.proofs.LookedAlone.{lacks_alone}
 use Rattle.pm_tx.proofs.beginning.begin.Goals as goal

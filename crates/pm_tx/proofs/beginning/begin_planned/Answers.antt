@@ -1,6 +1,8 @@
 use Rattle.std.proofs.Common.{◌∙◌, ap, refl}
 use Rattle.pm_world.specs.declared.lane.Lane.{Lane}
-use Rattle.pm_tx.proofs.BeginPlanned.{begun, busy, missing, taken_lines}
+use Rattle.pm_lock.proofs.FoundObjects.{taken_lines}
+use Rattle.pm_lock.proofs.GivenBack.{busy}
+use Rattle.pm_tx.proofs.BeginPlanned.{begun, missing}
 use Rattle.pm_tx.proofs.beginning.begin_planned.Goals as goal
 
 pub returns-then-not-take_all-clause-fails : goal.returns-then-not-take_all-clause-fails

@@ -1,8 +1,8 @@
 use Rattle.std.proofs.Common.{None}
 use Rattle.pm_objects.specs.declared.calls.Operation.TheVariants.{Begin}
 use Rattle.pm_view.specs.Steps.Step.{Tell}
+use Rattle.pm_lock.proofs.GivenBack.{made_one}
 use Rattle.pm_tx.proofs.Beginnings.{may_tell, opened, opened_seen}
-use Rattle.pm_tx.proofs.GivenBack.{made_one}
 use Rattle.pm_tx.proofs.beginning.open_call.Goals as goal
 
 pub tell_begin-requires : goal.tell_begin-requires

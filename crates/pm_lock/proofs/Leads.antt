@@ -1,0 +1,43 @@
+-- Steps that lead from one view to another, one after another.
+use Rattle.std.proofs.Common.{◌≡◌, ◌+◌, Bool, false, cond, List, [], ◌∷◌, ◌++◌, refl, sym, ap, subst, arith}
+use Rattle.pm_crash.proofs.Leading.{leads_end, leads_then}
+use Rattle.pm_lock.proofs.Leading.{ready_leads}
+use Rattle.pm_crash.specs.HeldHistory.{DrawsEnded}
+use Rattle.pm_crash.specs.Leading.{Leads}
+use Rattle.pm_view.proofs.SameLane.{same_lane-after_all}
+use Rattle.pm_view.specs.Constants.{IsSameLane}
+use Rattle.pm_view.specs.Counts.{counted, is_counted}
+use Rattle.pm_view.specs.Founds.{FoundAlone}
+use Rattle.pm_view.specs.Steps.{Step}
+use Rattle.pm_view.specs.View.{View}
+use Rattle.pm_view.specs.Views.{after, after_all}
+use Rattle.pm_world.specs.Lawful.{Allowed}
+use Rattle.pm_world.specs.Sequences.{Ready}
+use Rattle.pm_lock.specs.Leading.{DrawEnded, IsLed}
+
+pub counted_then : (xs ys : List Step) → counted (xs ++ ys) ≡ counted xs + counted ys
+unfolding counted
+counted_then [] ys = omega arith
+counted_then (x ∷ xs) ys = let rest = counted_then xs ys in omega (arith, rest)
+
+pub led_none : (v : View) → IsLed v v
+unfolding Leads counted
+led_none v = record { steps = []; leads = refl; uncounted = refl }
+
+pub led_then : (u v w : View) → IsLed u v → IsLed v w → IsLed u w
+led_then u v w first second = record {
+  steps = first.steps ++ second.steps;
+  leads = leads_then u v w first.steps second.steps first.leads second.leads;
+  uncounted = (let a = first.uncounted in let b = second.uncounted in let c = counted_then first.steps second.steps in omega (arith, a, b, c));
+}
+
+pub led_once : (v : View) (s : Step) → Allowed v s → FoundAlone v s → DrawsEnded v s → is_counted s ≡ false → IsLed v (after v s)
+unfolding Leads counted
+led_once v s allowed found draws free = record { steps = s ∷ []; leads = (allowed, found, draws, refl); uncounted = ap (λ (b : Bool). cond b 1 0 + 0) free }
+
+pub ready_led : (v : View) (steps : List Step) → Ready v steps → DrawEnded v steps → counted steps ≡ 0 → IsLed v (after_all v steps)
+ready_led v steps ready draws free = record { steps = steps; leads = ready_leads v steps ready draws; uncounted = free }
+
+-- no step changes the lane
+pub led_same : (v w : View) → IsLed v w → IsSameLane v w
+led_same v w led = subst (IsSameLane v) (sym (leads_end v w led.steps led.leads)) (same_lane-after_all v led.steps)
