@@ -1,1 +1,3 @@
+pub mod Targets
 pub mod PublishedPools
+pub mod PublishedImages

@@ -1,5 +1,5 @@
 -- What entries that publish blocks and words make of the pool, in the image and in the words at the log's end.
-use Rattle.std.proofs.Common.{◌≡◌, ◌↔◌, ⊎_elim, inl, inr, ℕ, ◌+◌, ◌*◌, ◌/◌, ◌<◌, ◌≤◌, None, true, false, eqb, cond, List, [], ◌∷◌, ◌++◌, length, map, slice_index, refl, sym, ap, ◌∙◌, subst, arith, ne_eqb}
+use Rattle.std.proofs.Common.{◌≡◌, ◌↔◌, ⊎_elim, inl, inr, ℕ, ◌+◌, ◌*◌, ◌/◌, ◌<◌, ◌≤◌, None, true, false, eqb, List, [], ◌∷◌, length, map, slice_index, sym, ap, ◌∙◌, subst, arith, ne_eqb}
 use Rattle.std.specs.Int.{bit_at}
 use Rattle.std.proofs.lemmas.Bool.{cond-false}
 use Rattle.std.proofs.lemmas.List.{ext_get_or}
@@ -28,7 +28,7 @@ use Rattle.pm_world.specs.Heap.{IsOcc}
 use Rattle.pm_world.specs.History.{made_final}
 use Rattle.pm_world.specs.Records.{generation_of}
 use Rattle.pm_world.proofs.Replays.{made_final-append}
-use Rattle.pm_crash.specs.Held.{HoldsPool}
+use Rattle.pm_crash.specs.Held.{HoldsImage, HoldsPool}
 use Rattle.pm_crash.specs.Publishing.{Published, all_blocks_published, all_pool_published, entry_published, published}
 use Rattle.pm_crash.specs.Taken.{TakenBehindAll}
 use Rattle.pm_crash.proofs.HeapWordsAlone.{held_by_heap}
@@ -87,7 +87,7 @@ module _ (b : View) (header : Header) (before now : PoolView) (all : List Publis
       (ne_eqb (area_word b.lane) i (λ same. absurd (⊎_elim (λ (front : i < 512). omega (arith, front, same)) (λ (behind : 512 + 1024 * b.lanes ≤ i). omega (arith, behind, same, low)) (heap_outside i heap)))))
 
   -- words that are so wherever the heap is hold the pool with all of it
-  record HoldsAll (v : ℕ → ℕ) : Type 0 where
+  pub record HoldsAll (v : ℕ → ℕ) : Type 0 where
     pub pool : HoldsPool v b.lanes b.zones header (all_pool_published b.lanes all now)
     pub are : blocks v b.lanes b.zones ≡ all_blocks_published b.lanes all (blocks (slice_index b.words) b.lanes b.zones)
 
@@ -102,16 +102,16 @@ module _ (b : View) (header : Header) (before now : PoolView) (all : List Publis
   -- ---- in the image
 
   module _ (w : View) (steps : List Step) (keep : ℕ) (image : List ℕ) (leaves : LeavesSealed b steps w keep image) where
-    abbrev size : length image ≡ length b.words
+    abbrev pub size : length image ≡ length b.words
     size = same_size b w steps keep image leaves
 
-    same_words : has_nothing image b ≡ true → image ≡ b.words
+    pub same_words : has_nothing image b ≡ true → image ≡ b.words
     same_words none = ext_get_or 0 image b.words size (λ i low. nothing b w steps keep image leaves none i (let long = size in omega (arith, low, long)))
 
-    was_left : has_nothing image b ≡ true → HoldsPool (recovered_at image b.lanes) b.lanes b.zones header before
-    was_left none = subst (λ ws. HoldsPool (recovered_at ws b.lanes) b.lanes b.zones header before) (sym (same_words none)) may.was
+    pub was_left : has_nothing image b ≡ true → HoldsImage image b.lanes b.zones header before
+    was_left none = subst (λ ws. HoldsImage ws b.lanes b.zones header before) (sym (same_words none)) may.was
 
-    holds_left : has_nothing image b ≡ false → HoldsAll (recovered_at image b.lanes)
+    pub holds_left : has_nothing image b ≡ false → HoldsAll (recovered_at image b.lanes)
     holds_left some = holds_all (recovered_at image b.lanes) (λ i heap.
         recovered_in_place image b.lanes i (let low = heap_inside i heap in let long = size in omega (arith, low, long))
         ∙ (all_of_it b w steps keep image leaves some i (heap_inside i heap) (heap_outside i heap) ∙ made_published i heap))
@@ -135,14 +135,6 @@ module _ (b : View) (header : Header) (before now : PoolView) (all : List Publis
         (λ taken. t.0 (same.0 taken), λ behind. same.1 (t.1 behind)) where
           holds_published : heap_fault (published b.lanes all (slice_index b.words)) b.lanes b.zones ≡ None
           holds_published = (all_are_published (slice_index b.words) b.lanes b.zones header now all may.holds may.can may.ordered).holds.no_fault
-
-pub nothing_left : (b w : View) (header : Header) (before now : PoolView) (all : List Published) (steps : List Step) (keep : ℕ) (image : List ℕ) → MayPublish b header before now all → LeavesSealed b steps w keep image → has_nothing image b ≡ true
-    → HoldsPool (recovered_at image b.lanes) b.lanes b.zones header before
-nothing_left b w header before now all steps keep image may leaves none = was_left b header before now all may w steps keep image leaves none
-
-pub all_left : (b w : View) (header : Header) (before now : PoolView) (all : List Published) (steps : List Step) (keep : ℕ) (image : List ℕ) → MayPublish b header before now all → LeavesSealed b steps w keep image → has_nothing image b ≡ false
-    → HoldsPool (recovered_at image b.lanes) b.lanes b.zones header (all_pool_published b.lanes all now)
-all_left b w header before now all steps keep image may leaves some = (holds_left b header before now all may w steps keep image leaves some).pool
 
 pub blocks_left : (b w : View) (header : Header) (before now : PoolView) (all : List Published) (steps : List Step) (keep : ℕ) (image : List ℕ) → MayPublish b header before now all → LeavesSealed b steps w keep image → has_nothing image b ≡ false
     → blocks (recovered_at image b.lanes) b.lanes b.zones ≡ all_blocks_published b.lanes all (blocks (slice_index b.words) b.lanes b.zones)

@@ -3,20 +3,19 @@
 use Rattle.std.specs.Prelude.{◌≡◌, ◌+◌, All, List, [], ◌∷◌, ◌++◌, map, slice_index}
 use Rattle.pm_header.specs.declared.header.Header.{Header}
 use Rattle.pm_objects.specs.declared.pool.PoolView.{PoolView}
-use Rattle.pm_image.specs.Logs.{recovered_at}
 use Rattle.pm_view.specs.View.{View}
 use Rattle.pm_world.specs.Entries.{ends_with}
 use Rattle.pm_world.specs.Records.{generation_of}
-use Rattle.pm_crash.specs.Held.{HoldsPool}
+use Rattle.pm_crash.specs.Held.{HoldsImage, HoldsPool}
 use Rattle.pm_crash.specs.Publishing.{AreInOrder, CanPublish, Published, entry_published}
 use Rattle.pm_sealed.specs.Sealed.{MaySeal}
 
--- The lane may seal a log that has an entry for each of these, in their order, and behind them the one that ends its generation. Recovery would make the pool
--- before the call of its words; as they stand they hold the pool that the call made so far, and on that each of these may be published.
+-- The lane may seal a log that has an entry for each of these, in their order, and behind them the one that ends its generation. An image of its words would
+-- mean the pool before the call; as they stand they hold the pool that the call made so far, and on that each of these may be published.
 pub record MayPublish (b : View) (header : Header) (before now : PoolView) (all : List Published) : Type 0 where
   pub seal : MaySeal b
   pub entries : b.log.entries ≡ map (entry_published b.lanes) all ++ ends_with b (generation_of b + 1) ∷ []
-  pub was : HoldsPool (recovered_at b.words b.lanes) b.lanes b.zones header before
+  pub was : HoldsImage b.words b.lanes b.zones header before
   pub holds : HoldsPool (slice_index b.words) b.lanes b.zones header now
   pub can : All (CanPublish (slice_index b.words) b.lanes b.zones) all
   pub ordered : AreInOrder b.lanes all

@@ -1,26 +1,26 @@
 -- What a world says of the logs is what a lane needs to seal its own.
-use Rattle.std.proofs.Common.{◌≡◌, ◌≢◌, ℕ, ◌+◌, ◌*◌, ◌<◌, ◌≤◌, ◌⊎◌, inl, inr, ⊎_elim, Bool, true, false, List, [], ◌∷◌, ◌++◌, length, slice_get, slice_index, slice_range, Some, refl, sym, ap, ◌∙◌, subst, arith, get_or, length-append, ◌^◌}
+use Rattle.std.proofs.Common.{◌≡◌, ◌≢◌, ℕ, ◌+◌, ◌*◌, ◌<◌, ◌≤◌, ⊎_elim, Bool, true, List, [], ◌∷◌, length, slice_get, slice_index, Some, refl, sym, ap, ◌∙◌, subst, arith, get_or, length-append, ◌^◌}
 use Rattle.std.proofs.lemmas.Bool.{and_from, cases_lt, le-leb, lt-ltb}
 use Rattle.std.proofs.lemmas.List.Elements.{All-weaker}
-use Rattle.std.proofs.lemmas.Option.{none-some, same_Some, slice_get-get_or}
+use Rattle.std.proofs.lemmas.Option.{same_Some, slice_get-get_or}
 use Rattle.pm_record.specs.Undo.{undo_of}
 use Rattle.pm_record.specs.declared.undo.Undo.{Undo}
 use Rattle.pm_view.specs.Area.{area_word, is_in_area}
-use Rattle.pm_view.specs.Log.{Final, Log, Phase, Recorded, log_drawn, phase_drawn}
-use Rattle.pm_view.specs.Log.Phase.{Drawn, Idle, Open}
+use Rattle.pm_view.specs.Log.{Final, Log, Recorded, log_drawn, phase_drawn}
+use Rattle.pm_view.specs.Log.Phase.{Drawn, Idle}
 use Rattle.pm_view.specs.Steps.Step.{Draw}
 use Rattle.pm_view.specs.View.{View}
 use Rattle.pm_view.specs.Views.{after}
 use Rattle.pm_image.specs.Logs.{slot_line, undo_slot}
-use Rattle.pm_world.specs.Entries.{IsEntryAt, LeaveWord, ends_with, is_or_entered, seal_in}
-use Rattle.pm_world.specs.Fits.{LaneFits, LogFits, PhaseFits}
+use Rattle.pm_world.specs.Entries.{LeaveWord, ends_with, is_or_entered, seal_in}
+use Rattle.pm_world.specs.Fits.{LaneFits, PhaseFits}
 use Rattle.pm_world.specs.History.{Entry, Flies, settled}
 use Rattle.pm_world.specs.Lawful.{Allowed}
 use Rattle.pm_world.specs.Memory.{Memory}
 use Rattle.pm_world.specs.Memory.Location.{PoolWord}
 use Rattle.pm_world.specs.Opening.{Opening}
 use Rattle.pm_world.specs.Opens.{IsClean}
-use Rattle.pm_world.specs.Records.{IsRecordAt, generation_of, records_generation, spelled, used_slots}
+use Rattle.pm_world.specs.Records.{IsRecordAt, generation_of, records_generation, used_slots}
 use Rattle.pm_world.specs.World.{Views, World}
 use Rattle.pm_world.proofs.CrashSpellings.{undo_from, undo_of-spelled}
 use Rattle.pm_world.proofs.CrashWords.{slot_same}
@@ -130,6 +130,7 @@ module _ (o : Opening) (mem : Memory) (views : Views) (log : List Entry) (decide
     of_pool = All-weaker (IsOfPool v) (IsOfPool b) (λ f of. record { outside = of.outside; inside = of.inside }) whole.front whole.of_pool;
     spelled = λ i f at. let s = mine.entries.each i f (ap (λ fs. slice_get fs i) (sym entries_same) ∙ at) in record { op = s.op; value = s.value; is = s.is; word = s.may.word; spells = s.spells };
     small = subst (λ fs. (w : ℕ) → is_or_entered fs w ≡ true → (slice_index v.words w < 2 ^ 64) × LeaveWord fs w) (sym entries_same) whole.small;
+    first = mine.first_generation;
     below = whole.below;
     unsealed = mine.entries.seal ∙ ap (λ p. seal_in p v) may.is_open;
     stale = stale;

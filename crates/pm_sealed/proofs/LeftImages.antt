@@ -1,7 +1,7 @@
 -- What a power failure leaves at each stage of a log that is published.
-use Rattle.std.proofs.Common.{◌≡◌, ◌≢◌, ℕ, zero, suc, ◌^◌, ◌<◌, ◌⊎◌, inl, inr, ⊎_elim, true, false, eqb, ◌&&◌, All, Contains, List, [], ◌∷◌, length, take, drop, slice_index, refl, sym, ap, ◌∙◌, subst, arith, eq-eqb, ne_eqb}
+use Rattle.std.proofs.Common.{◌≡◌, ◌≢◌, ℕ, zero, suc, ◌+◌, ◌^◌, ◌<◌, ◌⊎◌, inl, inr, ⊎_elim, true, false, eqb, ◌&&◌, All, Contains, List, [], ◌∷◌, length, take, drop, slice_index, refl, sym, ap, ◌∙◌, subst, arith, eq-eqb, ne_eqb, ◌≤◌, length-append}
 use Rattle.std.specs.Int.{bit_at}
-use Rattle.std.proofs.lemmas.Bool.{and_from, and_left, and_right, cases_eq, eqb-true, false≢true, false_from_ne_true, or_from, or_parts}
+use Rattle.std.proofs.lemmas.Bool.{and_from, and_left, and_right, cases_eq, cases_lt, eqb-true, false≢true, false_from_ne_true, or_from, or_parts}
 use Rattle.std.proofs.lemmas.List.{take_all}
 use Rattle.std.proofs.lemmas.List.Elements.{All-contains, All-contains_itself, All-head, All-weaker, All-drop, All-take}
 use Rattle.pm_view.specs.declared.change.Change.{Change}
@@ -16,7 +16,7 @@ use Rattle.pm_view.specs.View.{View}
 use Rattle.pm_view.proofs.Finding.{whole-taken_back}
 use Rattle.pm_image.specs.Logs.{generation_word, recovered, seal_word}
 use Rattle.pm_memory.specs.Keep.{IsKeptImage, kept}
-use Rattle.pm_world.specs.Entries.{is_bit_entered, is_entered}
+use Rattle.pm_world.specs.Entries.{ends_with, is_bit_entered, is_entered}
 use Rattle.pm_world.specs.Fits.{SealChange}
 use Rattle.pm_world.specs.History.{made_final}
 use Rattle.pm_world.specs.Records.{generation_of}
@@ -27,9 +27,9 @@ use Rattle.pm_world.proofs.StepGive.{filter-contains, filter-passed}
 use Rattle.pm_world.proofs.TakenBits.{IsOfWord, left_beside, left_small}
 use Rattle.pm_sealed.specs.Sealed.{IsOutside, LeavesSealed, MaySeal, has_nothing, is_decided}
 use Rattle.pm_sealed.proofs.SealedImages.{IsClearedImage, IsSealedImage, Looks, cleared_makes, next_generation, sealed_makes}
-use Rattle.pm_sealed.proofs.Stages.{AppliedOf, AtApplying, AtClearing, AtDrawn, AtIdle, AtSealing, IsAtStage, Stage, entries, made_small, seal_at}
-use Rattle.pm_sealed.proofs.Steps.{at_along, at_first, some_entries}
-use Rattle.pm_sealed.proofs.Unentered.{masked, unentered}
+use Rattle.pm_sealed.proofs.Stages.{AppliedOf, AtApplying, AtClearing, AtDrawn, AtIdle, AtSealing, IsAtStage, Stage, entries, made, made_small, seal_at}
+use Rattle.pm_sealed.proofs.Steps.{at_along, at_first, some_entries, unapplied}
+use Rattle.pm_sealed.proofs.Unentered.{made_generation, masked, unentered}
 
 -- ---- what is left of a word, of whose changes some were taken back
 
@@ -56,8 +56,11 @@ bit_front (suc n) (f ∷ fs) w i none =
     let t = or_parts (eqb f.word w && eqb (bit_at f.mask i) 1) (is_bit_entered fs w i) none in or_from (eqb f.word w && eqb (bit_at f.mask i) 1) (is_bit_entered (take n fs) w i) t.0 (bit_front n fs w i t.1)
 
 module _ (b : View) (may_seal : MaySeal b) (w : View) (at : IsAtStage b w) (keep : ℕ) (image : List ℕ) (is : IsKeptImage keep w.words (w.changes ∷ []) image) where
-  as_long : length image ≡ length b.words
+  pub as_long : length image ≡ length b.words
   as_long = is.size ∙ at.size
+
+  lane_words : (seal_at b < length b.words) × (area_word b.lane < length b.words)
+  lane_words = let size = may_seal.size in let low = may_seal.in_lanes in (omega (arith, size, low), omega (arith, size, low))
 
   abbrev lost : ℕ → List Change
   lost i = drop (kept keep (length w.words) (w.changes ∷ []) 0 i) (changes_of i w.changes)
@@ -89,6 +92,14 @@ module _ (b : View) (may_seal : MaySeal b) (w : View) (at : IsAtStage b w) (keep
         (dropped_all (λ c. (c.mask ≡ all_bits) × (c.old ≡ old)) (kept keep (length w.words) (w.changes ∷ []) 0 (seal_at b)) (seal_at b) w.changes
         (λ c there of. let t = All-contains (SealChange b old) w.changes c changes there in (t.whole, t.before))))
 
+  -- the generation as the first so many entries leave it
+  generation_made : (applied : ℕ) → (made b applied (area_word b.lane) ≡ generation_of b) ⊎ (made b applied (area_word b.lane) ≡ generation_of b + 1)
+  generation_made applied = ⊎_elim
+      (λ (early : applied < length (entries b)).
+      let long = ap length may_seal.ends ∙ length-append may_seal.front (ends_with b (generation_of b + 1) ∷ []) in inl (unapplied b may_seal applied (omega (arith, early, long))))
+      (λ (all : length (entries b) ≤ applied). inr (ap (λ fs. made_final fs (area_word b.lane) (slice_index b.words (area_word b.lane))) (take_all applied (entries b) all) ∙ made_generation b may_seal (slice_index b.words (area_word b.lane))))
+      (cases_lt applied (length (entries b)))
+
   -- an image of a word as it was looks so
   looks_same : (i : ℕ) → slice_index image i ≡ slice_index b.words i → Looks b image i
   looks_same i same = record {
@@ -98,7 +109,7 @@ module _ (b : View) (may_seal : MaySeal b) (w : View) (at : IsAtStage b w) (keep
   }
 
   -- nothing of the call is in the image, or its seal, or that cleared
-  data Kind : Type 0 where
+  pub data Kind : Type 0 where
     Nothing : ((i : ℕ) → i < length b.words → slice_index image i ≡ slice_index b.words i) → Kind
     Sealed : IsSealedImage b image → Kind
     Cleared : IsClearedImage b image → Kind
@@ -111,6 +122,7 @@ module _ (b : View) (may_seal : MaySeal b) (w : View) (at : IsAtStage b w) (keep
       (λ (full : slice_index image (seal_at b) ≡ slice_index w.words (seal_at b)). Sealed (record {
         size = as_long;
         seal = full ∙ s.seal;
+        generation = inl (let low = lane_words.1 in beside_seal 0 s.changes (area_word b.lane) low (λ same. absurd (omega (arith, same))) ∙ s.words (area_word b.lane) (λ same. absurd (omega (arith, same))));
         looks = λ i inside other. looks_same i (beside_seal 0 s.changes i inside other ∙ s.words i other);
       }))
       (λ (none : slice_index image (seal_at b) ≡ 0). Nothing (λ i inside. ⊎_elim
@@ -119,9 +131,9 @@ module _ (b : View) (may_seal : MaySeal b) (w : View) (at : IsAtStage b w) (keep
       (seal_left 0 s.changes)
 
   -- a word of a change has an entry
-  changed_entered : (applied : ℕ) → All (AppliedOf (entries b) applied) w.changes → (i : ℕ) (c : Change) → Contains w.changes c → c.word ≡ i → is_entered (entries b) i ≡ true
+  changed_entered : (applied : ℕ) → All (AppliedOf b applied) w.changes → (i : ℕ) (c : Change) → Contains w.changes c → c.word ≡ i → is_entered (entries b) i ≡ true
   changed_entered applied changes i c there here =
-      entered_front applied (entries b) i (ap (is_entered (take applied (entries b))) (sym here) ∙ (All-contains (AppliedOf (entries b) applied) w.changes c changes there).of)
+      entered_front applied (entries b) i (ap (is_entered (take applied (entries b))) (sym here) ∙ (All-contains (AppliedOf b applied) w.changes c changes there).of)
 
   applying_looks : (applied : ℕ) → AtApplying b applied w → (i : ℕ) → i < length b.words → i ≢ seal_at b → Looks b image i
   applying_looks applied s i inside other = record {
@@ -140,11 +152,19 @@ module _ (b : View) (may_seal : MaySeal b) (w : View) (at : IsAtStage b w) (keep
   }
     where
       of_word : All (IsOfWord (entries b) i) (lost i)
-      of_word = dropped_all (IsOfWord (entries b) i) (kept keep (length w.words) (w.changes ∷ []) 0 i) i w.changes (λ c there here. (here, (All-contains (AppliedOf (entries b) applied) w.changes c s.changes there).bits))
+      of_word = dropped_all (IsOfWord (entries b) i) (kept keep (length w.words) (w.changes ∷ []) 0 i) i w.changes (λ c there here. (here, (All-contains (AppliedOf b applied) w.changes c s.changes there).bits))
 
   applying_kind : (applied : ℕ) → AtApplying b applied w → IsSealedImage b image
   applying_kind applied s = record {
     size = as_long;
+    generation =
+        let now : (slice_index w.words (area_word b.lane) ≡ generation_of b) ⊎ (slice_index w.words (area_word b.lane) ≡ generation_of b + 1) =
+        ⊎_elim (λ before. inl (s.words (area_word b.lane) (λ same. absurd (omega (arith, same))) ∙ before)) (λ next. inr (s.words (area_word b.lane) (λ same. absurd (omega (arith, same))) ∙ next)) (generation_made applied) in
+        let here = left (area_word b.lane) lane_words.1 in
+        ⊎_elim (λ stays. ⊎_elim (λ before. inl (here ∙ (stays ∙ before))) (λ next. inr (here ∙ (stays ∙ next))) now) (λ found. inl (here ∙ found))
+        (left_whole (lost (area_word b.lane)) (slice_index w.words (area_word b.lane)) (generation_of b)
+        (dropped_all (λ c. (c.mask ≡ all_bits) × (c.old ≡ generation_of b)) (kept keep (length w.words) (w.changes ∷ []) 0 (area_word b.lane)) (area_word b.lane) w.changes
+        (λ c there of. (All-contains (AppliedOf b applied) w.changes c s.changes there).ends of)));
     seal =
         let size = may_seal.size in let low = may_seal.in_lanes in
         unchanged (seal_at b) (omega (arith, size, low)) (λ c there here. false≢true (sym (unentered b may_seal b.lane (seal_at b) low (omega arith) (omega arith) (λ same. absurd (omega (arith, same)))) ∙ changed_entered applied s.changes (seal_at b) c there here))
@@ -173,6 +193,9 @@ module _ (b : View) (may_seal : MaySeal b) (w : View) (at : IsAtStage b w) (keep
       (λ (full : slice_index image (seal_at b) ≡ length (entries b)). inl (record {
         size = as_long;
         seal = full;
+        generation = inr (
+            let low = lane_words.1 in beside_seal (length (entries b)) s.changes (area_word b.lane) low (λ same. absurd (omega (arith, same)))
+            ∙ (s.words (area_word b.lane) (λ same. absurd (omega (arith, same))) ∙ made_generation b may_seal (slice_index b.words (area_word b.lane))));
         looks = λ i inside other. looks_made i (beside_seal (length (entries b)) s.changes i inside other ∙ s.words i other);
       }))
       (seal_left (length (entries b)) s.changes)
@@ -193,15 +216,12 @@ module _ (b : View) (may_seal : MaySeal b) (w : View) (at : IsAtStage b w) (keep
   by_stage Clearing s = ⊎_elim (λ sealed. Sealed sealed) (λ cleared. Cleared cleared) (clearing_kind s)
   by_stage Retiring s = absurd s
 
-  kind_of : Kind
+  pub kind_of : Kind
   kind_of = by_stage w.log.phase at.stage
 
   -- ---- whether it has something of the call
 
-  lane_words : (seal_at b < length b.words) × (area_word b.lane < length b.words)
-  lane_words = let size = may_seal.size in let low = may_seal.in_lanes in (omega (arith, size, low), omega (arith, size, low))
-
-  has_none : ((i : ℕ) → i < length b.words → slice_index image i ≡ slice_index b.words i) → has_nothing image b ≡ true
+  pub has_none : ((i : ℕ) → i < length b.words → slice_index image i ≡ slice_index b.words i) → has_nothing image b ≡ true
   has_none same =
       and_from (eqb (seal_word image b.lane) 0) (eqb (generation_word image b.lane) (generation_of b)) (eq-eqb (seal_word image b.lane) 0 (same (seal_at b) lane_words.0 ∙ may_seal.unsealed))
       (eq-eqb (generation_word image b.lane) (generation_of b) (same (area_word b.lane) lane_words.1))
@@ -243,7 +263,7 @@ module _ (b : View) (may_seal : MaySeal b) (w : View) (at : IsAtStage b w) (keep
   decided_left Retiring decided s = absurd s
 
 module _ (b w : View) (steps : List Step) (keep : ℕ) (image : List ℕ) (leaves : LeavesSealed b steps w keep image) where
-  at_end : IsAtStage b w
+  pub at_end : IsAtStage b w
   at_end = at_along b leaves.may b steps w (at_first b leaves.may) leaves.alone leaves.publishes
 
   pub nothing : has_nothing image b ≡ true → (i : ℕ) → i < length b.words → slice_index image i ≡ slice_index b.words i

@@ -1,5 +1,5 @@
 -- What recovery gives for an image that has the lane's seal, and for one in which the seal is cleared.
-use Rattle.std.proofs.Common.{◌≡◌, ◌≢◌, ℕ, ◌+◌, ◌*◌, ◌^◌, ◌<◌, ◌≤◌, ⊎_elim, true, false, leb, List, [], ◌∷◌, ◌++◌, length, slice_get, slice_index, Some, refl, sym, ap, ◌∙◌, arith, length-append}
+use Rattle.std.proofs.Common.{◌≡◌, ◌≢◌, ℕ, ◌+◌, ◌*◌, ◌^◌, ◌<◌, ◌≤◌, ◌⊎◌, ⊎_elim, true, false, leb, List, [], ◌∷◌, length, slice_get, slice_index, Some, refl, sym, ap, ◌∙◌, arith, length-append}
 use Rattle.std.specs.List.{filter_map, range_with_len}
 use Rattle.std.proofs.lemmas.Bool.{and_from, cases_Bool, cases_eq, cond-true, le-leb}
 use Rattle.std.proofs.lemmas.Option.{slice_get_within}
@@ -36,6 +36,7 @@ pub record Looks (b : View) (image : List ℕ) (i : ℕ) : Type 0 where
 pub record IsSealedImage (b : View) (image : List ℕ) : Type 0 where
   pub size : length image ≡ length b.words
   pub seal : slice_index image (seal_at b) ≡ length (entries b)
+  pub generation : (slice_index image (area_word b.lane) ≡ generation_of b) ⊎ (slice_index image (area_word b.lane) ≡ generation_of b + 1)
   pub looks : (i : ℕ) → i < length b.words → i ≢ seal_at b → Looks b image i
 
 -- the seal is cleared in it
@@ -64,7 +65,7 @@ module _ (b : View) (may_seal : MaySeal b) (image : List ℕ) (as_long : length 
   last = ends_with b (g + 1)
 
   -- the slots are as they were
-  slot_stays : (lane slot : ℕ) → lane < b.lanes → slot < 64 → undo_slot image lane slot ≡ undo_slot b.words lane slot
+  pub slot_stays : (lane slot : ℕ) → lane < b.lanes → slot < 64 → undo_slot image lane slot ≡ undo_slot b.words lane slot
   slot_stays lane slot inside low =
       let size = may_seal.size in
       slot_same image b.words (8 * slot_line lane slot) (omega (arith, as_long, size, inside, low)) (omega (arith, size, inside, low))
@@ -87,11 +88,11 @@ module _ (b : View) (may_seal : MaySeal b) (image : List ℕ) (as_long : length 
       (cases_eq lane b.lane)
 
   -- another lane is not sealed in the image
-  other_seal : (j : ℕ) → j < b.lanes → j ≢ b.lane → seal_word image j ≡ 0
+  pub other_seal : (j : ℕ) → j < b.lanes → j ≢ b.lane → seal_word image j ≡ 0
   other_seal j inside other =
       area j (area_word j + 1) inside (omega arith) (omega arith) (λ same. absurd (omega (arith, same))) (λ same. other (omega (arith, same))) ∙ (may_seal.clean j inside other).unsealed
 
-  other_generation : (j : ℕ) → j < b.lanes → j ≢ b.lane → generation image j ≡ generation_word b.words j
+  pub other_generation : (j : ℕ) → j < b.lanes → j ≢ b.lane → generation image j ≡ generation_word b.words j
   other_generation j inside other =
       generation_unsealed image j (other_seal j inside other)
       ∙ area j (area_word j) inside (omega arith) (omega arith) (λ same. other (omega (arith, same))) (λ same. absurd (omega (arith, same)))
@@ -102,13 +103,13 @@ module _ (b : View) (may_seal : MaySeal b) (image : List ℕ) (as_long : length 
     long : length (entries b) ≡ length may_seal.front + 1
     long = ap (λ (fs : List Final). length fs) may_seal.ends ∙ length-append may_seal.front (last ∷ [])
 
-    sealed : is_sealed image b.lane ≡ true
+    pub sealed : is_sealed image b.lane ≡ true
     sealed =
         let few = may_seal.few in let n = long in
         and_from (leb 1 (seal_word image b.lane)) (leb (seal_word image b.lane) 64) (le-leb 1 (seal_word image b.lane) (omega (arith, n, seal))) (le-leb (seal_word image b.lane) 64 (omega (arith, few, seal)))
 
     -- a pair is as the lane stored it
-    pair_stays : (i : ℕ) (f : Final) → slice_get (entries b) i ≡ Some f → (t : IsSpelled b i f) → entry_pair image b.lane i ≡ redo_words (redo_on t.op f.word t.value)
+    pub pair_stays : (i : ℕ) (f : Final) → slice_get (entries b) i ≡ Some f → (t : IsSpelled b i f) → entry_pair image b.lane i ≡ redo_words (redo_on t.op f.word t.value)
     pair_stays i f at t =
         let low = slice_get_within (entries b) i f at in
         let few = may_seal.few in
@@ -121,7 +122,7 @@ module _ (b : View) (may_seal : MaySeal b) (image : List ℕ) (as_long : length 
         (λ j. one j ∷ other j ∷ []) ∙ t.spells
 
     -- the entries are read as they were written
-    entries_read : (es : List Redo) × AreRedosFor (entries b) es × (sealed_entries image b.lane ≡ es)
+    pub entries_read : (es : List Redo) × AreRedosFor (entries b) es × (sealed_entries image b.lane ≡ es)
     entries_read =
         let t = read_all (λ i. redo_of (entry_pair image b.lane i)) (entries b) 0 (λ i f at.
         let first : 0 + i ≡ i = omega arith in
@@ -133,7 +134,7 @@ module _ (b : View) (may_seal : MaySeal b) (image : List ℕ) (as_long : length 
         (t.0, t.1, sym (entries_sealed image b.lane sealed) ∙ (ap (λ n. filter_map (λ i. redo_of (entry_pair image b.lane i)) (range_with_len 0 n)) seal ∙ t.2))
 
     -- and the last of them sets the generation
-    generation_sealed : generation image b.lane ≡ g + 1
+    pub generation_sealed : generation image b.lane ≡ g + 1
     generation_sealed =
         let n = long in
         let at : slice_get (entries b) (length may_seal.front) ≡ Some last = ap (λ fs. slice_get fs (length may_seal.front)) may_seal.ends ∙ last_at may_seal.front last in
@@ -142,7 +143,7 @@ module _ (b : View) (may_seal : MaySeal b) (image : List ℕ) (as_long : length 
         let bits : s.value ≡ g + 1 = whole_value s.op (area_word b.lane) s.value (ap (λ (f : Final). f.mask) (sym s.is)) ∙ ap (λ (f : Final). f.bits) (sym s.is) in
         cond-true _ _ _ sealed ∙ (ap (slice_index image) place ∙ (ap (λ (pair : List ℕ). slice_index pair 1) (pair_stays (length may_seal.front) last at s) ∙ bits))
 
-    none_of_others : (w j : ℕ) → j < b.lanes → j ≢ b.lane → of_word w (sealed_entries image j) ≡ []
+    pub none_of_others : (w j : ℕ) → j < b.lanes → j ≢ b.lane → of_word w (sealed_entries image j) ≡ []
     none_of_others w j inside other = ap (of_word w) (entries_unsealed image j (unsealed image j (other_seal j inside other)))
 
     pub sealed_recovered : (i : ℕ) → Looks b image i → recovered image b.lanes i ≡ made_final (entries b) i (slice_index b.words i)
@@ -164,7 +165,7 @@ module _ (b : View) (may_seal : MaySeal b) (image : List ℕ) (as_long : length 
   -- ---- with the seal cleared
 
   module _ (seal : slice_index image (seal_at b) ≡ 0) (next : slice_index image (area_word b.lane) ≡ g + 1) where
-    no_seal : (j : ℕ) → j < b.lanes → seal_word image j ≡ 0
+    pub no_seal : (j : ℕ) → j < b.lanes → seal_word image j ≡ 0
     no_seal j inside = ⊎_elim (λ (same : j ≡ b.lane). ap (seal_word image) same ∙ seal) (λ (other : j ≢ b.lane). other_seal j inside other) (cases_eq j b.lane)
 
     pub cleared_recovered : (i : ℕ) → slice_index image i ≡ made_final (entries b) i (slice_index b.words i) → recovered image b.lanes i ≡ made_final (entries b) i (slice_index b.words i)

@@ -4,7 +4,7 @@ use Rattle.std.proofs.lemmas.Bool.{cases_Bool, cond-true, cond-false, eqb-true}
 use Rattle.std.proofs.lemmas.List.Elements.{All-head, All-map, All-tail, All-weaker}
 use Rattle.pm_view.specs.declared.change.Change.{Change}
 use Rattle.pm_view.specs.Area.{area_word}
-use Rattle.pm_view.specs.Bits.{with_bits}
+use Rattle.pm_view.specs.Bits.{all_bits, with_bits}
 use Rattle.pm_view.specs.Changes.{flushed, is_in_line, mark}
 use Rattle.pm_view.specs.Log.{Final, Phase}
 use Rattle.pm_view.specs.Log.Phase.{Applying, Clearing, Drawn, Idle, Open, Retiring, Sealing}
@@ -12,49 +12,51 @@ use Rattle.pm_view.specs.View.{View}
 use Rattle.pm_world.specs.Entries.{LeaveWord, is_entered}
 use Rattle.pm_world.specs.Fits.{IsOfEntries, SealChange}
 use Rattle.pm_world.specs.History.{made_final}
+use Rattle.pm_world.specs.Records.{generation_of}
 use Rattle.pm_world.proofs.MadeBits.{with_bits-lt}
 
--- a change of a word of the first so many entries, and of bits that entries are of
-pub record AppliedOf (entries : List Final) (applied : ℕ) (c : Change) : Type 0 where
-  pub of : is_entered (take applied entries) c.word ≡ true
-  pub bits : IsOfEntries entries c
+abbrev pub entries : View → List Final
+entries b = b.log.entries
+
+-- a change of a word of the first so many entries, and of bits that entries are of; one of the lane's generation found the present one there
+pub record AppliedOf (b : View) (applied : ℕ) (c : Change) : Type 0 where
+  pub of : is_entered (take applied (entries b)) c.word ≡ true
+  pub bits : IsOfEntries (entries b) c
+  pub ends : c.word ≡ area_word b.lane → (c.mask ≡ all_bits) × (c.old ≡ generation_of b)
 
 module _ (b : View) where
-  abbrev pub entries : List Final
-  entries = b.log.entries
-
   abbrev pub seal_at : ℕ
   seal_at = area_word b.lane + 1
 
-  -- word w as the first so many entries leave it
+  -- word w as the first so many (entries b) leave it
   abbrev pub made : ℕ → ℕ → ℕ
-  made applied w = made_final (take applied entries) w (slice_index b.words w)
+  made applied w = made_final (take applied (entries b)) w (slice_index b.words w)
 
   pub record AtDrawn (v : View) : Type 0 where
-    pub entered : v.log.entries ≡ entries
+    pub entered : v.log.entries ≡ entries b
     pub words : (w : ℕ) → slice_index v.words w ≡ slice_index b.words w
     pub drained : v.changes ≡ []
 
   pub record AtSealing (v : View) : Type 0 where
-    pub entered : v.log.entries ≡ entries
+    pub entered : v.log.entries ≡ entries b
     pub words : (w : ℕ) → w ≢ seal_at → slice_index v.words w ≡ slice_index b.words w
-    pub seal : slice_index v.words seal_at ≡ length entries
+    pub seal : slice_index v.words seal_at ≡ length (entries b)
     pub changes : All (SealChange b 0) v.changes
 
   pub record AtApplying (applied : ℕ) (v : View) : Type 0 where
-    pub entered : v.log.entries ≡ entries
+    pub entered : v.log.entries ≡ entries b
     pub words : (w : ℕ) → w ≢ seal_at → slice_index v.words w ≡ made applied w
-    pub seal : slice_index v.words seal_at ≡ length entries
-    pub changes : All (AppliedOf entries applied) v.changes
+    pub seal : slice_index v.words seal_at ≡ length (entries b)
+    pub changes : All (AppliedOf b applied) v.changes
 
   pub record AtClearing (v : View) : Type 0 where
-    pub entered : v.log.entries ≡ entries
-    pub words : (w : ℕ) → w ≢ seal_at → slice_index v.words w ≡ made_final entries w (slice_index b.words w)
+    pub entered : v.log.entries ≡ entries b
+    pub words : (w : ℕ) → w ≢ seal_at → slice_index v.words w ≡ made_final (entries b) w (slice_index b.words w)
     pub seal : slice_index v.words seal_at ≡ 0
-    pub changes : All (SealChange b (length entries)) v.changes
+    pub changes : All (SealChange b (length (entries b))) v.changes
 
   pub record AtIdle (v : View) : Type 0 where
-    pub words : (w : ℕ) → w ≢ seal_at → slice_index v.words w ≡ made_final entries w (slice_index b.words w)
+    pub words : (w : ℕ) → w ≢ seal_at → slice_index v.words w ≡ made_final (entries b) w (slice_index b.words w)
     pub seal : slice_index v.words seal_at ≡ 0
     pub drained : v.changes ≡ []
 
@@ -79,9 +81,9 @@ module _ (b : View) where
   still Drawn v w changes log same s = record { entered = ap (λ l. l.entries) log ∙ s.entered; words = λ i. same i ∙ s.words i; drained = changes ∙ s.drained }
   still Sealing v w changes log same s = record { entered = ap (λ l. l.entries) log ∙ s.entered; words = λ i other. same i ∙ s.words i other; seal = same seal_at ∙ s.seal; changes = subst (All (SealChange b 0)) (sym changes) s.changes }
   still (Applying applied) v w changes log same s =
-      record { entered = ap (λ l. l.entries) log ∙ s.entered; words = λ i other. same i ∙ s.words i other; seal = same seal_at ∙ s.seal; changes = subst (All (AppliedOf entries applied)) (sym changes) s.changes }
+      record { entered = ap (λ l. l.entries) log ∙ s.entered; words = λ i other. same i ∙ s.words i other; seal = same seal_at ∙ s.seal; changes = subst (All (AppliedOf b applied)) (sym changes) s.changes }
   still Clearing v w changes log same s =
-      record { entered = ap (λ l. l.entries) log ∙ s.entered; words = λ i other. same i ∙ s.words i other; seal = same seal_at ∙ s.seal; changes = subst (All (SealChange b (length entries))) (sym changes) s.changes }
+      record { entered = ap (λ l. l.entries) log ∙ s.entered; words = λ i other. same i ∙ s.words i other; seal = same seal_at ∙ s.seal; changes = subst (All (SealChange b (length (entries b)))) (sym changes) s.changes }
   still Idle v w changes log same s = record { words = λ i other. same i ∙ s.words i other; seal = same seal_at ∙ s.seal; drained = changes ∙ s.drained }
   still (Open slot pair) v w changes log same s = absurd s
   still Retiring v w changes log same s = absurd s
@@ -96,13 +98,13 @@ pub seals_flushed : (b : View) (old line : ℕ) (changes : List Change) → All 
 seals_flushed b old line changes all =
     All-map (SealChange b old) (mark line) changes (All-weaker (SealChange b old) (λ c. SealChange b old (mark line c)) (λ c of. flushed_seal b old c (is_in_line line c) of) changes all)
 
-flushed_applied : (fs : List Final) (applied : ℕ) (c : Change) (marked : Bool) → AppliedOf fs applied c → AppliedOf fs applied (cond marked (record c { flushed = true }) c)
-flushed_applied fs applied c true of = record { of = of.of; bits = record { mask = of.bits.mask; bits = of.bits.bits; small = of.bits.small } }
-flushed_applied fs applied c false of = of
+flushed_applied : (b : View) (applied : ℕ) (c : Change) (marked : Bool) → AppliedOf b applied c → AppliedOf b applied (cond marked (record c { flushed = true }) c)
+flushed_applied b applied c true of = record { of = of.of; bits = record { mask = of.bits.mask; bits = of.bits.bits; small = of.bits.small }; ends = of.ends }
+flushed_applied b applied c false of = of
 
-pub applied_flushed : (fs : List Final) (applied line : ℕ) (changes : List Change) → All (AppliedOf fs applied) changes → All (AppliedOf fs applied) (flushed line changes)
-applied_flushed fs applied line changes all =
-    All-map (AppliedOf fs applied) (mark line) changes (All-weaker (AppliedOf fs applied) (λ c. AppliedOf fs applied (mark line c)) (λ c of. flushed_applied fs applied c (is_in_line line c) of) changes all)
+pub applied_flushed : (b : View) (applied line : ℕ) (changes : List Change) → All (AppliedOf b applied) changes → All (AppliedOf b applied) (flushed line changes)
+applied_flushed b applied line changes all =
+    All-map (AppliedOf b applied) (mark line) changes (All-weaker (AppliedOf b applied) (λ c. AppliedOf b applied (mark line c)) (λ c of. flushed_applied b applied c (is_in_line line c) of) changes all)
 
 -- ---- what entries make of a word of 64 bits is one still
 

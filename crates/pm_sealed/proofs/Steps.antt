@@ -2,9 +2,9 @@
 use Rattle.std.proofs.Common.{◌≡◌, ◌≢◌, ℕ, ◌+◌, ◌^◌, ◌<◌, ◌≤◌, ◌⊎◌, inl, inr, ⊎_elim, Bool, true, false, not, cond, eqb, All, Contains, List, [], ◌∷◌, ◌++◌, length, take, set, slice_get, slice_index, Some, refl, sym, ap, ◌∙◌, subst, arith, length-append, ◌*◌, get_or-set_same, get_or-set_other, bit_and, bit_or, is_some, w64, eq-eqb, ne_eqb}
 use Rattle.std.specs.Int.{bit_not}
 use Rattle.std.specs.List.{filter}
-use Rattle.std.proofs.lemmas.Bool.{cases_eq, cond-true, cond-false, eqb-true, false≢true, or_left, or_right}
+use Rattle.std.proofs.lemmas.Bool.{cases_eq, cond-true, cond-false, eqb-true, false_from_ne_true, false≢true, or_left, or_right}
 use Rattle.std.proofs.lemmas.List.Elements.{All-contains, All-contains_itself, All-cons, All-nil, All-push, All-weaker}
-use Rattle.std.proofs.lemmas.List.{take_all}
+use Rattle.std.proofs.lemmas.List.{take-append-le, take_all}
 use Rattle.std.proofs.lemmas.List.Folds.{Any-from_list_any, list_any-append}
 use Rattle.std.proofs.lemmas.Nat.{and_le_r}
 use Rattle.std.proofs.lemmas.Nat.Bits.{bit_at_and, bit_at_ones}
@@ -13,7 +13,7 @@ use Rattle.pm_record.specs.declared.redo.Op.TheVariants as op
 use Rattle.pm_view.specs.declared.change.Change.{Change}
 use Rattle.pm_view.specs.Area.{Part, area_word, part_of}
 use Rattle.pm_view.specs.Area.Part.{EntryWord, GenerationWord, OtherWord, SealWord, SlotWord}
-use Rattle.pm_view.specs.Bits.{with_bits}
+use Rattle.pm_view.specs.Bits.{all_bits, with_bits}
 use Rattle.pm_view.specs.Changes.{and_change, drained, flushed, or_change, store_change}
 use Rattle.pm_view.specs.Founds.{FoundAlone, IsAlone}
 use Rattle.pm_view.specs.Log.{Final, Log, Phase, log_changed, log_drained, log_stored}
@@ -28,10 +28,11 @@ use Rattle.pm_world.specs.Fits.{IsOfEntries, SealChange}
 use Rattle.pm_world.specs.History.{made_final}
 use Rattle.pm_world.specs.Lawful.{Allowed, GiveFits, IsEarly, MayTell, StoreFits, is_holder}
 use Rattle.pm_world.specs.Records.{generation_of}
+use Rattle.pm_world.proofs.CrashLogs.{entered_front, entry_of_word}
 use Rattle.pm_world.proofs.Differences.{with_all_bits}
 use Rattle.pm_world.proofs.MadeBits.{and_makes, or_makes}
 use Rattle.pm_world.proofs.Parts.{seal_part}
-use Rattle.pm_world.proofs.Replays.{made_final-append}
+use Rattle.pm_world.proofs.Replays.{made_final-append, made_final-other}
 use Rattle.pm_world.proofs.StepChange.{ChangesNext, changes_next}
 use Rattle.pm_world.proofs.StepGive.{filter-contains}
 use Rattle.pm_world.proofs.StoreEntry.{bit_listed, take_next}
@@ -141,6 +142,32 @@ module _ (b : View) (may_seal : MaySeal b) where
       (λ (last : (i ≡ length may_seal.front) × (ends_with b (generation_of b + 1) ≡ f)). let here = ap (λ (g : Final). g.word) last.1 in absurd (omega (arith, here, same)))
       (entry_kind i f listed)
 
+  -- one of the lane's generation is the last
+  last_of : (i : ℕ) (f : Final) → slice_get (entries b) i ≡ Some f → f.word ≡ area_word b.lane → (i ≡ length may_seal.front) × (ends_with b (generation_of b + 1) ≡ f)
+  last_of i f listed here = ⊎_elim
+      (λ (of : IsOfPool b f). let low = may_seal.in_lanes in absurd (⊎_elim (λ (front : f.word < 512). omega (arith, front, here)) (λ (behind : 512 + 1024 * b.lanes ≤ f.word). omega (arith, behind, here, low)) of.outside))
+      (λ (last : (i ≡ length may_seal.front) × (ends_with b (generation_of b + 1) ≡ f)). last)
+      (entry_kind i f listed)
+
+  only_last : (i : ℕ) (f : Final) → slice_get (entries b) i ≡ Some f → f.word ≡ area_word b.lane → i ≡ length may_seal.front
+  only_last i f listed here = (last_of i f listed here).0
+
+  is_last : (i : ℕ) (f : Final) → slice_get (entries b) i ≡ Some f → f.word ≡ area_word b.lane → ends_with b (generation_of b + 1) ≡ f
+  is_last i f listed here = (last_of i f listed here).1
+
+  -- so while it is to come the generation is the present one
+  pub unapplied : (applied : ℕ) → applied ≤ length may_seal.front → made b applied (area_word b.lane) ≡ generation_of b
+  unapplied applied early =
+      let last : List Final = ends_with b (generation_of b + 1) ∷ [] in
+      let first : take applied (entries b) ≡ take applied may_seal.front = ap (take applied) may_seal.ends ∙ take-append-le applied may_seal.front last early in
+      ap (λ fs. made_final fs (area_word b.lane) (slice_index b.words (area_word b.lane))) first
+      ∙ made_final-other (take applied may_seal.front) (area_word b.lane) (slice_index b.words (area_word b.lane))
+      (false_from_ne_true (is_entered (take applied may_seal.front) (area_word b.lane)) (λ e.
+      let t = entry_of_word may_seal.front (area_word b.lane) (entered_front applied may_seal.front (area_word b.lane) e) in
+      let of = subst (IsOfPool b) (get_or_from_slice_get may_seal.front t.place t.held t.held t.at) (may_seal.of_pool t.place t.held (slice_get_within may_seal.front t.place t.held t.at)) in
+      let is = t.of in let low = may_seal.in_lanes in
+      absurd (⊎_elim (λ (front : t.held.word < 512). omega (arith, front, is)) (λ (behind : 512 + 1024 * b.lanes ≤ t.held.word). omega (arith, behind, is, low)) of.outside)))
+
   module _ (v : View) (at : IsAtStage b v) (publishing : is_publishing v.log.phase ≡ true) (alone : IsAlone v) where
     -- the lane's own seal's word
     seal_is : area_word v.lane + 1 ≡ seal_at b
@@ -149,7 +176,8 @@ module _ (b : View) (may_seal : MaySeal b) where
     -- ---- an entry takes effect
 
     module _ (applied : ℕ) (s : AtApplying b applied v) (f : Final) (entry : IsEntryAt v applied f) (x : ℕ) (c : Change) (inside : f.word < length v.words) (apart : f.word ≢ seal_at b)
-        (makes : x ≡ with_bits f.mask f.bits (slice_index v.words f.word)) (word : c.word ≡ f.word) (bits : IsOfEntries (entries b) c) where
+        (makes : x ≡ with_bits f.mask f.bits (slice_index v.words f.word)) (word : c.word ≡ f.word) (bits : IsOfEntries (entries b) c)
+        (ends : c.word ≡ area_word b.lane → (c.mask ≡ all_bits) × (c.old ≡ generation_of b)) where
       listed : slice_get (entries b) applied ≡ Some f
       listed = ap (λ fs. slice_get fs applied) (sym s.entered) ∙ entry
 
@@ -169,9 +197,9 @@ module _ (b : View) (may_seal : MaySeal b) where
         entered = same ∙ s.entered;
         words = word_now;
         seal = set_else v.words f.word x (seal_at b) (λ is. apart (sym is)) ∙ s.seal;
-        changes = All-push (AppliedOf (entries b) (applied + 1)) v.changes c
-            (All-weaker (AppliedOf (entries b) applied) (AppliedOf (entries b) (applied + 1)) (λ d of. record { of = entered_more (entries b) applied f d.word listed of.of; bits = of.bits }) v.changes s.changes)
-            (record { of = ap (is_entered (take (applied + 1) (entries b))) word ∙ entered_now (entries b) applied f listed; bits = bits });
+        changes = All-push (AppliedOf b (applied + 1)) v.changes c
+            (All-weaker (AppliedOf b applied) (AppliedOf b (applied + 1)) (λ d of. record { of = entered_more (entries b) applied f d.word listed of.of; bits = of.bits; ends = of.ends }) v.changes s.changes)
+            (record { of = ap (is_entered (take (applied + 1) (entries b))) word ∙ entered_now (entries b) applied f listed; bits = bits; ends = ends });
       }
 
     -- ---- a store, an OR and an AND, by the stage
@@ -188,6 +216,11 @@ module _ (b : View) (may_seal : MaySeal b) where
           bits = λ i low none. let one = bit_at_ones 64 i low in let clear = bit_listed (entries b) applied i (set_word w x) listed none in absurd (omega (arith, one, clear));
           small = λ or. let t = may_seal.small w or in subst (λ y. y < 2 ^ 64) (sym (s.words w apart)) (made_small applied (entries b) w (slice_index b.words w) t.0 t.1);
         })
+        (λ here. (
+          refl,
+          ap (slice_index v.words) here ∙ (s.words (area_word b.lane) (λ same. absurd (omega (arith, same)))
+              ∙ unapplied applied (let last = only_last applied (set_word w x) listed here in omega (arith, last))),
+        ))
         lg same
 
     stored : (w x : ℕ) → w < length v.words → (phase : Phase) → v.log.phase ≡ phase → (part : Part) → part_of v.lane w ≡ part → StoreFits v w x phase part → Stage b v phase
@@ -237,6 +270,8 @@ module _ (b : View) (may_seal : MaySeal b) where
           bits = λ i few none. let clear = bit_listed (entries b) t.applied i f listed none in let both = bit_at_and found bits i in (clear, omega (arith, clear, both));
           small = λ or. let least = and_le_r found bits in omega (arith, least, low);
         })
+        (λ here. let is = is_last t.applied f listed here in
+        let whole = ap (λ (g : Final). g.mask) is in let ends = ap (λ (g : Final). g.bits) is in let below = may_seal.below in absurd (omega (arith, whole, ends, below)))
         (record v.log { phase = Applying (t.applied + 1) }) refl
 
     anded : (w bits found : ℕ) → w < length v.words → bits < 2 ^ 64 → found ≡ slice_index v.words w → (t : ChangesNext v op.And w bits) → Stage b v (Applying t.applied)
@@ -252,6 +287,7 @@ module _ (b : View) (may_seal : MaySeal b) where
           bits = λ i few none. let clear = bit_listed (entries b) t.applied i f listed none in let both = bit_at_and found mask i in (clear, omega (arith, clear, both));
           small = λ or. let least = and_le_r found mask in omega (arith, least);
         })
+        (λ here. let ends = ap (λ (g : Final). g.bits) (is_last t.applied f listed here) in absurd (omega (arith, ends)))
         (record v.log { phase = Applying (t.applied + 1) }) refl
 
     -- ---- a flush, and a drain
@@ -261,7 +297,7 @@ module _ (b : View) (may_seal : MaySeal b) where
     flushed_stage line calls (Open slot pair) s = absurd s
     flushed_stage line calls Drawn s = record { entered = s.entered; words = s.words; drained = ap (flushed line) s.drained }
     flushed_stage line calls Sealing s = record { entered = s.entered; words = s.words; seal = s.seal; changes = seals_flushed b 0 line v.changes s.changes }
-    flushed_stage line calls (Applying applied) s = record { entered = s.entered; words = s.words; seal = s.seal; changes = applied_flushed (entries b) applied line v.changes s.changes }
+    flushed_stage line calls (Applying applied) s = record { entered = s.entered; words = s.words; seal = s.seal; changes = applied_flushed b applied line v.changes s.changes }
     flushed_stage line calls Clearing s = record { entered = s.entered; words = s.words; seal = s.seal; changes = seals_flushed b (length (entries b)) line v.changes s.changes }
     flushed_stage line calls Retiring s = absurd s
 
@@ -275,7 +311,7 @@ module _ (b : View) (may_seal : MaySeal b) where
     drained_part lg same Drawn s = record { entered = ap (λ (l : Log). l.entries) same ∙ s.entered; words = s.words; drained = ap drained s.drained }
     drained_part lg same Sealing s = record { entered = ap (λ (l : Log). l.entries) same ∙ s.entered; words = s.words; seal = s.seal; changes = kept_all (SealChange b 0) (λ c. not c.flushed) v.changes s.changes }
     drained_part lg same (Applying applied) s =
-        record { entered = ap (λ (l : Log). l.entries) same ∙ s.entered; words = s.words; seal = s.seal; changes = kept_all (AppliedOf (entries b) applied) (λ c. not c.flushed) v.changes s.changes }
+        record { entered = ap (λ (l : Log). l.entries) same ∙ s.entered; words = s.words; seal = s.seal; changes = kept_all (AppliedOf b applied) (λ c. not c.flushed) v.changes s.changes }
     drained_part lg same Clearing s =
         record { entered = ap (λ (l : Log). l.entries) same ∙ s.entered; words = s.words; seal = s.seal; changes = kept_all (SealChange b (length (entries b))) (λ c. not c.flushed) v.changes s.changes }
     drained_part lg same Retiring s = absurd s
@@ -287,10 +323,10 @@ module _ (b : View) (may_seal : MaySeal b) where
     drained_all was cs none Idle e s = subst (Stage b (record v { changes = cs; calls = v.calls + 1; log = v.log })) (sym e) (record { words = s.words; seal = s.seal; drained = none })
     drained_all was cs none (Open slot pair) e s = absurd s
     drained_all was cs none Drawn e s = subst (Stage b (record v { changes = cs; calls = v.calls + 1; log = v.log })) (sym e) (record { entered = s.entered; words = s.words; drained = none })
-    drained_all was cs none Sealing e s = record { entered = s.entered; words = s.words; seal = s.seal; changes = subst (All (AppliedOf (entries b) 0)) (sym none) (All-nil (AppliedOf (entries b) 0)) }
+    drained_all was cs none Sealing e s = record { entered = s.entered; words = s.words; seal = s.seal; changes = subst (All (AppliedOf b 0)) (sym none) (All-nil (AppliedOf b 0)) }
     drained_all was cs none (Applying applied) e s =
         subst (Stage b (record v { changes = cs; calls = v.calls + 1; log = v.log })) (sym e)
-        (record { entered = s.entered; words = s.words; seal = s.seal; changes = subst (All (AppliedOf (entries b) applied)) (sym none) (All-nil (AppliedOf (entries b) applied)) })
+        (record { entered = s.entered; words = s.words; seal = s.seal; changes = subst (All (AppliedOf b applied)) (sym none) (All-nil (AppliedOf b applied)) })
     drained_all was cs none Clearing e s = record { words = s.words; seal = s.seal; drained = none }
     drained_all was cs none Retiring e s = absurd s
 

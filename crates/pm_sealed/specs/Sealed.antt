@@ -13,6 +13,7 @@ use Rattle.pm_view.specs.Steps.{Step}
 use Rattle.pm_view.specs.Steps.Step.{Draw}
 use Rattle.pm_view.specs.View.{View}
 use Rattle.pm_view.specs.Views.{after}
+use Rattle.pm_image.specs.LogFaults.{is_target}
 use Rattle.pm_image.specs.Logs.{generation_word, seal_word, undo_slot}
 use Rattle.pm_memory.specs.Keep.{IsKeptImage}
 use Rattle.pm_world.specs.Entries.{IsEntryAt, LeaveWord, ends_with, final_by, is_or_entered, pair_at, redo_on}
@@ -60,6 +61,7 @@ pub record MaySeal (b : View) : Type 0 where
   pub of_pool : All (IsOfPool b) front
   pub spelled : (i : ℕ) (f : Final) → IsEntryAt b i f → IsSpelled b i f
   pub small : (w : ℕ) → is_or_entered b.log.entries w ≡ true → (slice_index b.words w < 2 ^ 64) × LeaveWord b.log.entries w
+  pub first : 1 ≤ generation_of b
   pub below : generation_of b < generation_limit
   pub unsealed : seal_word b.words b.lane ≡ 0
   pub stale : (slot : ℕ) (u : Undo) → slot < 64 → undo_of (undo_slot b.words b.lane slot) ≡ Some u → u.generation ≤ generation_of b
@@ -95,6 +97,10 @@ is_decided (Applying applied) = true
 is_decided Clearing = true
 is_decided Idle = true
 is_decided phase = false
+
+-- each entry but the last is of a word that an image's entries may change
+abbrev pub AreTargets : View → Type 0
+AreTargets b = (i : ℕ) (f : Final) → IsEntryAt b i f → i + 1 < length b.log.entries → IsTrue (is_target b.lanes b.zones f.word)
 
 -- ---- from a world
 

@@ -9,7 +9,8 @@
 mod laws;
 
 pub use laws::{
-    a_lane_alone_publishes_all_or_nothing, a_log_at_its_end_is_clean, a_world_leads_to_the_seal,
+    a_lane_alone_publishes_all_or_nothing, a_log_at_its_end_is_clean, a_published_log_has_no_fault,
+    a_world_leads_to_the_seal,
 };
 
 #[cfg(test)]

@@ -1,4 +1,5 @@
 use Rattle.pm_sealed.proofs.LeftImages.{all_of_it, decides, nothing, same_size}
+use Rattle.pm_sealed.proofs.NoFaults.{beside}
 use Rattle.pm_sealed.proofs.laws.a_lane_alone_publishes_all_or_nothing.Goals as goal
 
 pub returns : goal.returns
@@ -6,5 +7,6 @@ returns c = record {
   nothing = nothing;
   all = all_of_it;
   decided = decides;
+  beside = beside;
   size = same_size;
 }
