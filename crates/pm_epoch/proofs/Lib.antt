@@ -1,3 +1,4 @@
 pub mod Targets
 pub mod PublishedPools
 pub mod PublishedImages
+pub mod ReservedBlocks

@@ -1,9 +1,12 @@
 -- What a lane that is alone publishes over the pool that its words hold: blocks for new objects, blocks freed, words of objects set (docs/MODEL.md, "From call to
 -- call").
-use Rattle.std.specs.Prelude.{◌≡◌, ◌+◌, All, List, [], ◌∷◌, ◌++◌, map, slice_index}
+use Rattle.std.specs.Prelude.{◌≡◌, ℕ, ◌+◌, ◌*◌, true, All, List, [], ◌∷◌, ◌++◌, map, slice_index}
 use Rattle.pm_header.specs.declared.header.Header.{Header}
 use Rattle.pm_objects.specs.declared.pool.PoolView.{PoolView}
+use Rattle.pm_image.specs.Blocks.{descriptor_word}
+use Rattle.pm_view.specs.declared.occ.Occ.TheVariants.{Zone}
 use Rattle.pm_view.specs.View.{View}
+use Rattle.pm_view.specs.Views.{reserves}
 use Rattle.pm_world.specs.Entries.{ends_with}
 use Rattle.pm_world.specs.Records.{generation_of}
 use Rattle.pm_crash.specs.Held.{HoldsImage, HoldsPool}
@@ -19,3 +22,8 @@ pub record MayPublish (b : View) (header : Header) (before now : PoolView) (all 
   pub holds : HoldsPool (slice_index b.words) b.lanes b.zones header now
   pub can : All (CanPublish (slice_index b.words) b.lanes b.zones) all
   pub ordered : AreInOrder b.lanes all
+
+-- the lane reserved the chunk of a zone, 0 for the first, and its words describe it by 0
+pub record IsUnusedChunk (lanes : ℕ) (v : View) (zone chunk : ℕ) : Type 0 where
+  pub reserved : reserves v (Zone zone) chunk ≡ true
+  pub undescribed : slice_index v.words (descriptor_word lanes (64 * zone + chunk)) ≡ 0

@@ -1,7 +1,10 @@
-ghost use Rattle.std.specs.Prelude.{◌≡◌, ◌↔◌, ℕ, ◌<◌, true, false, List, slice_index};
+ghost use Rattle.std.specs.Prelude.{◌≡◌, ◌≢◌, ◌↔◌, ℕ, ◌+◌, ◌*◌, ◌<◌, ◌≤◌, Bool, true, false, Contains, List, slice_index, None, Some};
 ghost use Rattle.pm_header.specs.declared.header.Header.{Header};
 ghost use Rattle.pm_objects.specs.declared.pool.PoolView.{PoolView};
-ghost use Rattle.pm_image.specs.Blocks.{blocks};
+ghost use Rattle.pm_layout.specs.Sizes.{descriptor_of};
+ghost use Rattle.pm_layout.specs.declared.class.Class.TheVariants.{Lines};
+ghost use Rattle.pm_image.specs.Blocks.{blocks, descriptor_word};
+ghost use Rattle.pm_image.specs.HeapFaults.{heap_fault};
 ghost use Rattle.pm_image.specs.Logs.{recovered_at};
 ghost use Rattle.pm_image.specs.Means.{IsMeaning};
 ghost use Rattle.pm_view.specs.declared.occ.Occ.{Occ};
@@ -9,13 +12,41 @@ ghost use Rattle.pm_view.specs.Founds.{IsAlone};
 ghost use Rattle.pm_view.specs.Log.Phase.{Idle};
 ghost use Rattle.pm_view.specs.Occupancy.{is_taken};
 ghost use Rattle.pm_view.specs.Steps.{Step};
-ghost use Rattle.pm_view.specs.View.{View};
+ghost use Rattle.pm_view.specs.View.{Lock, View};
+ghost use Rattle.pm_view.specs.Views.{reserves};
 ghost use Rattle.pm_world.specs.Heap.{IsOcc};
+ghost use Rattle.pm_world.specs.History.{Entry};
+ghost use Rattle.pm_world.specs.Memory.{Memory};
+ghost use Rattle.pm_world.specs.Memory.Location.{PoolWord};
+ghost use Rattle.pm_world.specs.Opening.{Opening};
+ghost use Rattle.pm_world.specs.World.{Views, World};
+ghost use Rattle.pm_crash.specs.HeapChanges.{MayBeFreed, run_at};
+ghost use Rattle.pm_crash.specs.NewObjects.{AreFreeChunks, IsFreeInRun};
 ghost use Rattle.pm_crash.specs.Held.{HoldsImage, HoldsPool};
 ghost use Rattle.pm_crash.specs.Publishing.{Published, all_blocks_published, all_pool_published};
 ghost use Rattle.pm_crash.specs.Taken.{TakenBehindAll};
 ghost use Rattle.pm_sealed.specs.Sealed.{LeavesSealed, Publishes, has_nothing};
-ghost use Rattle.pm_epoch.specs.Epochs.{MayPublish};
+ghost use Rattle.pm_epoch.specs.Epochs.{IsUnusedChunk, MayPublish};
+
+/// A law: in a world where a lane has each word as it is, what it reserved may be allocated: a block of a run, by the class that the run's
+/// descriptor says, and chunks that are described by 0; and a block that it found under a lock may be freed, unless it is the root's, where
+/// the words have no fault. No code runs.
+pub fn a_lane_alone_may_change_its_blocks()
+    ensures run { (o : Opening) (mem : Memory) (views : Views) (log : List Entry) (decided : ℕ → Bool) (k c lines index : ℕ)
+        → World o mem views log decided → k < o.lanes → ((i : ℕ) → mem (PoolWord i) ≡ slice_index (views k).words i)
+        → c < 64 * o.zones → index < 64 → slice_index (views k).words (descriptor_word o.lanes c) ≡ descriptor_of (Lines lines)
+        → reserves (views k) (run_at o.lanes c) index ≡ true
+        → IsFreeInRun (slice_index (views k).words) o.lanes o.zones c lines index }
+    ensures chunks { (o : Opening) (mem : Memory) (views : Views) (log : List Entry) (decided : ℕ → Bool) (k zone first count : ℕ)
+        → World o mem views log decided → k < o.lanes → ((i : ℕ) → mem (PoolWord i) ≡ slice_index (views k).words i)
+        → zone < o.zones → first < 64 → first + count ≤ 64 → ((j : ℕ) → j < count → IsUnusedChunk o.lanes (views k) zone (first + j))
+        → AreFreeChunks (slice_index (views k).words) o.lanes o.zones (64 * zone + first) count }
+    ensures freed { (o : Opening) (mem : Memory) (views : Views) (log : List Entry) (decided : ℕ → Bool) (k lines : ℕ) (l : Lock)
+        → World o mem views log decided → k < o.lanes → ((i : ℕ) → mem (PoolWord i) ≡ slice_index (views k).words i)
+        → heap_fault (slice_index (views k).words) o.lanes o.zones ≡ None → Contains (views k).locks l → l.block ≡ Some lines
+        → slice_index (views k).words 64 ≢ 64 * l.line + 64
+        → MayBeFreed (slice_index (views k).words) o.lanes o.zones (record { place = 64 * l.line; lines = lines }) }
+{}
 
 /// A law: what a lane that is alone publishes is in a power failure's image as a whole or not at all. An image that has nothing of the call
 /// means the pool before it; any other the pool with all that is published, whose blocks are the blocks before with those that were allocated

@@ -8,7 +8,9 @@
 
 mod laws;
 
-pub use laws::{a_lane_alone_publishes_a_pool, a_published_pool_stands};
+pub use laws::{
+    a_lane_alone_may_change_its_blocks, a_lane_alone_publishes_a_pool, a_published_pool_stands,
+};
 
 #[cfg(test)]
 mod tests;
