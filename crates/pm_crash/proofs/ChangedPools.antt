@@ -1,5 +1,5 @@
 -- The pool that words hold which have a block more than others, or one less.
-use Rattle.std.proofs.Common.{◌≡◌, ◌≢◌, ℕ, length, Option, Some, None, refl, sym, arith}
+use Rattle.std.proofs.Common.{◌≡◌, ◌≢◌, ℕ, length, Option, Some, None, refl, sym, arith, List}
 use Rattle.std.specs.List.{Contains}
 use Rattle.pm_header.specs.declared.header.Header.{Header}
 use Rattle.pm_objects.specs.Pool.{object_at}
@@ -10,8 +10,8 @@ use Rattle.pm_image.specs.Blocks.{blocks}
 use Rattle.pm_image.specs.Contents.{offset_in, size_in}
 use Rattle.pm_image.proofs.LocalContents.{contents_local}
 use Rattle.pm_crash.specs.Held.{HoldsPool, IsBlockOf}
-use Rattle.pm_model.specs.NewObjects.{new_object, pool_with, pool_without}
-use Rattle.pm_crash.specs.NewObjects.{with_block, without_block, HasNewObject}
+use Rattle.pm_model.specs.NewObjects.{pool_with, pool_without}
+use Rattle.pm_crash.specs.NewObjects.{unlinked, with_block, without_block, HasNewObject}
 use Rattle.pm_crash.proofs.FreedBlocks.{ShrinksBy}
 use Rattle.pm_crash.proofs.FreshObjects.{fresh_has_no_links, fresh_is_good, fresh_object}
 use Rattle.pm_crash.proofs.MadeObjects.{GrowsBy}
@@ -36,11 +36,11 @@ module _ (w v : ℕ → ℕ) (lanes zones : ℕ) (block : Block) (grows : GrowsB
         go None never = refl
         go (Some object) never = absurd (never object refl)
 
-  pub grown_pool : (header : Header) (pool : PoolView) (kind size : ℕ) → HoldsPool w lanes zones header pool → HasNewObject v block kind size
-      → HoldsPool v lanes zones header (pool_with (offset_in block) (new_object kind size) pool)
-  grown_pool header pool kind size holds object = pool_more w v lanes zones block grows.one header pool (new_object kind size) holds
-      (fault_more w v lanes zones block grows.one holds.no_fault grows.bitmaps (fresh_is_good v block kind size object) (fresh_has_no_links v block kind size object))
-      (fresh_object v block kind size object (length (blocks v lanes zones)))
+  pub grown_pool : (header : Header) (pool : PoolView) (kind : ℕ) (bytes : List ℕ) → HoldsPool w lanes zones header pool → HasNewObject v block kind bytes
+      → HoldsPool v lanes zones header (pool_with (offset_in block) (unlinked kind bytes) pool)
+  grown_pool header pool kind bytes holds object = pool_more w v lanes zones block grows.one header pool (unlinked kind bytes) holds
+      (fault_more w v lanes zones block grows.one holds.no_fault grows.bitmaps (fresh_is_good v block kind bytes object) (fresh_has_no_links v block kind bytes object))
+      (fresh_object v block kind bytes object (length (blocks v lanes zones)))
 
 -- a block less, which is not the root's
 module _ (w v : ℕ → ℕ) (lanes zones : ℕ) (block : Block) (shrinks : ShrinksBy w v lanes zones block) where

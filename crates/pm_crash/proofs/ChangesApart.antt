@@ -1,5 +1,5 @@
 -- What a change of the heap asks of the words before it they still have after a change of another block, which lies apart.
-use Rattle.std.proofs.Common.{◌≡◌, ◌≢◌, ◌⊎◌, ⊎_elim, inl, inr, ℕ, ◌+◌, ◌*◌, ◌/◌, ◌%◌, ◌<◌, ◌≤◌, ◌&&◌, Bool, false, ltb, List, Some, None, sym, ◌∙◌, ap, subst, arith, ne_eqb}
+use Rattle.std.proofs.Common.{◌≡◌, ◌≢◌, ◌⊎◌, ⊎_elim, inl, inr, ℕ, ◌+◌, ◌*◌, ◌/◌, ◌%◌, ◌<◌, ◌≤◌, ◌&&◌, Bool, false, ltb, List, Some, None, sym, ◌∙◌, ap, subst, arith, ne_eqb, length}
 use Rattle.std.specs.Int.{bit_at}
 use Rattle.std.specs.List.{Contains, list_any, range_with_len}
 use Rattle.std.proofs.lemmas.Bool.{and_parts, cases_eq, eqb-true, false_from_ne_true, false≢true, ltb-true, or_from, or_parts}
@@ -86,10 +86,10 @@ some_of_first w lanes zones c chunks none may =
     let some : 0 < w (descriptor_word lanes c) / 256 = some_chunks (w (descriptor_word lanes c)) (w (descriptor_word lanes c) / 256) whole in
     omega arith
 
-pub some_of_object : (v : ℕ → ℕ) (lanes c chunks kind size : ℕ) → HasNewObject v (block_of_chunks lanes c chunks) kind size → 1 ≤ chunks
-some_of_object v lanes c chunks kind size object =
-    let is : block_lines (class_of size) ≡ 64 * chunks = object.of_size in
-    let needed : lines_for size ≤ block_lines (class_of size) = lines_needed size in
+pub some_of_object : (v : ℕ → ℕ) (lanes c chunks kind : ℕ) (bytes : List ℕ) → HasNewObject v (block_of_chunks lanes c chunks) kind bytes → 1 ≤ chunks
+some_of_object v lanes c chunks kind bytes object =
+    let is : block_lines (class_of (length bytes)) ≡ 64 * chunks = object.of_size in
+    let needed : lines_for (length bytes) ≤ block_lines (class_of (length bytes)) = lines_needed (length bytes) in
     omega arith
 
 turned : (a b : Block) → AreDisjoint a b → AreDisjoint b a
@@ -130,11 +130,11 @@ module _ (w u : ℕ → ℕ) (lanes : ℕ) where
   }
 
   -- a new object's words stay
-  object_by_run : (c lines index : ℕ) (block : Block) (kind size : ℕ) → OfRun w u lanes c lines index → ((i : ℕ) → block.place / 8 ≤ i → i < block.place / 8 + 8 * block.lines → i ≢ chunk_word lanes c) → HasNewObject w block kind size → HasNewObject u block kind size
-  object_by_run c lines index block kind size of apart object = object_stays w u block kind size object (λ i from to. of.others i (apart i from to))
+  object_by_run : (c lines index : ℕ) (block : Block) (kind : ℕ) (bytes : List ℕ) → OfRun w u lanes c lines index → ((i : ℕ) → block.place / 8 ≤ i → i < block.place / 8 + 8 * block.lines → i ≢ chunk_word lanes c) → HasNewObject w block kind bytes → HasNewObject u block kind bytes
+  object_by_run c lines index block kind bytes of apart object = object_stays w u block kind bytes object (λ i from to. of.others i (apart i from to))
 
-  object_by_chunks : (c chunks : ℕ) (block : Block) (kind size : ℕ) → OfChunks w u lanes c chunks → ((i : ℕ) → block.place / 8 ≤ i → i < block.place / 8 + 8 * block.lines → i ≢ descriptor_word lanes c) → HasNewObject w block kind size → HasNewObject u block kind size
-  object_by_chunks c chunks block kind size of apart object = object_stays w u block kind size object (λ i from to. of.others i (apart i from to))
+  object_by_chunks : (c chunks : ℕ) (block : Block) (kind : ℕ) (bytes : List ℕ) → OfChunks w u lanes c chunks → ((i : ℕ) → block.place / 8 ≤ i → i < block.place / 8 + 8 * block.lines → i ≢ descriptor_word lanes c) → HasNewObject w block kind bytes → HasNewObject u block kind bytes
+  object_by_chunks c chunks block kind bytes of apart object = object_stays w u block kind bytes object (λ i from to. of.others i (apart i from to))
 
   -- a chunk is free still where its descriptor is no run's, and no block of whole chunks reaches it
   pub free_still : (zone chunk : ℕ) → is_chunk_taken w lanes zone chunk ≡ false → is_run (u (512 * zone_page lanes zone + chunk)) ≡ false
@@ -205,19 +205,19 @@ module _ (w u : ℕ → ℕ) (lanes : ℕ) where
 -- what another change asks is there still, after a change of a run and after one of whole chunks
 module _ (w u : ℕ → ℕ) (lanes zones : ℕ) (none : heap_fault w lanes zones ≡ None) where
   pub still_after_run : (c lines index : ℕ) → OfRun w u lanes c lines index → (other : HeapChange) → AreDisjoint (block_of_run lanes c lines index) (block_changed lanes other) → CanChange w lanes zones other → CanChange u lanes zones other
-  still_after_run c lines index of (AllocatesInRun k many i kind size) apart can =
+  still_after_run c lines index of (AllocatesInRun k many i kind bytes) apart can =
       let kept : KeepsBit w u lanes k i = bit_by_run w u lanes c lines index k many i of can.0.inside can.0.is_run apart in (
         record { in_zones = can.0.in_zones; inside = can.0.inside; is_run = kept.descriptor ∙ can.0.is_run; is_clear = kept.bit ∙ can.0.is_clear },
-        object_by_run w u lanes c lines index (block_of_run lanes k many i) kind size of (λ n from to same.
+        object_by_run w u lanes c lines index (block_of_run lanes k many i) kind bytes of (λ n from to same.
             let at = run_block_words lanes k many i n can.0.inside from to in
             let begins = at.0 in
             let ends = at.1 in
             omega arith) can.1,
       )
-  still_after_run c lines index of (AllocatesChunks k chunks kind size) apart can =
+  still_after_run c lines index of (AllocatesChunks k chunks kind bytes) apart can =
       let fits : k % 64 + chunks ≤ 64 = can.0.in_zone in (
         record { in_zones = can.0.in_zones; in_zone = can.0.in_zone; are_free = λ j near. free_by_run w u lanes c lines index of (k / 64) (k % 64 + j) (omega arith) (can.0.are_free j near) },
-        object_by_run w u lanes c lines index (block_of_chunks lanes k chunks) kind size of (λ n from to same.
+        object_by_run w u lanes c lines index (block_of_chunks lanes k chunks) kind bytes of (λ n from to same.
             let at = chunks_block_words lanes k chunks n from to in
             let begins = at.0 in
             let ends = at.1 in
@@ -230,19 +230,19 @@ module _ (w u : ℕ → ℕ) (lanes zones : ℕ) (none : heap_fault w lanes zone
       record { in_zones = can.in_zones; is_first = of.others (descriptor_word lanes k) (λ same. omega arith) ∙ can.is_first; not_root = λ root. can.not_root (sym (of.others 64 (λ same. omega arith)) ∙ root) }
 
   pub still_after_chunks : (c chunks : ℕ) → OfChunks w u lanes c chunks → (other : HeapChange) → AreDisjoint (block_of_chunks lanes c chunks) (block_changed lanes other) → CanChange w lanes zones other → CanChange u lanes zones other
-  still_after_chunks c chunks of (AllocatesInRun k many i kind size) apart can =
+  still_after_chunks c chunks of (AllocatesInRun k many i kind bytes) apart can =
       let kept : KeepsBit w u lanes k i = bit_by_chunks w u lanes c chunks k many i of can.0.inside apart in (
         record { in_zones = can.0.in_zones; inside = can.0.inside; is_run = kept.descriptor ∙ can.0.is_run; is_clear = kept.bit ∙ can.0.is_clear },
-        object_by_chunks w u lanes c chunks (block_of_run lanes k many i) kind size of (λ n from to same.
+        object_by_chunks w u lanes c chunks (block_of_run lanes k many i) kind bytes of (λ n from to same.
             let at = run_block_words lanes k many i n can.0.inside from to in
             let begins = at.0 in
             let ends = at.1 in
             omega arith) can.1,
       )
-  still_after_chunks c chunks of (AllocatesChunks k count kind size) apart can =
+  still_after_chunks c chunks of (AllocatesChunks k count kind bytes) apart can =
       let fits : k % 64 + count ≤ 64 = can.0.in_zone in (
         record { in_zones = can.0.in_zones; in_zone = can.0.in_zone; are_free = λ j near. free_by_chunks w u lanes c chunks k count j of apart fits near (can.0.are_free j near) },
-        object_by_chunks w u lanes c chunks (block_of_chunks lanes k count) kind size of (λ n from to same.
+        object_by_chunks w u lanes c chunks (block_of_chunks lanes k count) kind bytes of (λ n from to same.
             let at = chunks_block_words lanes k count n from to in
             let begins = at.0 in
             let ends = at.1 in

@@ -13,19 +13,19 @@ use Rattle.pm_crash.proofs.OneChange.{allocated_chunks, allocated_in_run, change
 module _ (w : ℕ → ℕ) (lanes zones : ℕ) (none : heap_fault w lanes zones ≡ None) where
   -- what may be changed still may be, after a change of a block that lies apart
   pub can_still : (a other : HeapChange) → CanChange w lanes zones a → AreDisjoint (block_changed lanes a) (block_changed lanes other) → CanChange w lanes zones other → CanChange (changed lanes a w) lanes zones other
-  can_still (AllocatesInRun c lines index kind size) other can apart of =
-      let a : HeapChange = AllocatesInRun c lines index kind size in
+  can_still (AllocatesInRun c lines index kind bytes) other can apart of =
+      let a : HeapChange = AllocatesInRun c lines index kind bytes in
       let u : ℕ → ℕ = changed lanes a w in
-      let made : MakesRunObject w u lanes zones c lines index kind size = allocated_in_run w lanes zones none c lines index kind size can in
+      let made : MakesRunObject w u lanes zones c lines index kind bytes = allocated_in_run w lanes zones none c lines index kind bytes can in
       let bit : HasBitMore (w (chunk_word lanes c)) (u (chunk_word lanes c)) index = set_bit (w (chunk_word lanes c)) (u (chunk_word lanes c)) index can.0.is_clear made.bitmap in
       still_after_run w u lanes zones none c lines index
       (record { inside = can.0.inside; is_run = can.0.is_run; bits = bit.others; others = changed_elsewhere lanes a w }) other apart of
-  can_still (AllocatesChunks c chunks kind size) other can apart of =
-      let a : HeapChange = AllocatesChunks c chunks kind size in
+  can_still (AllocatesChunks c chunks kind bytes) other can apart of =
+      let a : HeapChange = AllocatesChunks c chunks kind bytes in
       let u : ℕ → ℕ = changed lanes a w in
-      let made : MakesChunksObject w u lanes zones c chunks kind size = allocated_chunks w lanes zones none c chunks kind size can in
+      let made : MakesChunksObject w u lanes zones c chunks kind bytes = allocated_chunks w lanes zones none c chunks kind bytes can in
       still_after_chunks w u lanes zones none c chunks
-      (record { some = some_of_object w lanes c chunks kind size can.1; fits = can.0.in_zone; becomes = inl made.descriptor; others = changed_elsewhere lanes a w }) other apart of
+      (record { some = some_of_object w lanes c chunks kind bytes can.1; fits = can.0.in_zone; becomes = inl made.descriptor; others = changed_elsewhere lanes a w }) other apart of
   can_still (FreesInRun c lines index) other can apart of =
       let a : HeapChange = FreesInRun c lines index in
       let u : ℕ → ℕ = changed lanes a w in

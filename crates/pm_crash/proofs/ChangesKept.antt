@@ -88,7 +88,7 @@ module _ (w v : ℕ → ℕ) (lanes zones : ℕ) (same : (i : ℕ) → is_in_blo
   descriptor_same k = same (descriptor_word lanes k) (descriptor_outside w lanes (descriptor_word lanes k) (k / 64) (k % 64) (omega arith) (omega arith))
 
   pub can_kept : (a : HeapChange) → CanChange w lanes zones a → CanChange v lanes zones a
-  can_kept (AllocatesInRun c lines index kind size) can =
+  can_kept (AllocatesInRun c lines index kind bytes) can =
       let free : IsFreeInRun w lanes zones c lines index = can.0 in (
         record {
           in_zones = free.in_zones;
@@ -96,9 +96,9 @@ module _ (w v : ℕ → ℕ) (lanes zones : ℕ) (same : (i : ℕ) → is_in_blo
           is_run = descriptor_same c ∙ free.is_run;
           is_clear = ap (λ (n : ℕ). bit_at n index) (same (chunk_word lanes c) (bitmap_outside w lanes c lines free.is_run)) ∙ free.is_clear;
         },
-        object_stays w v (block_of_run lanes c lines index) kind size can.1 (λ i from to. same i (free_outside w lanes c lines free.is_run index i free.inside free.is_clear from to)),
+        object_stays w v (block_of_run lanes c lines index) kind bytes can.1 (λ i from to. same i (free_outside w lanes c lines free.is_run index i free.inside free.is_clear from to)),
       )
-  can_kept (AllocatesChunks c chunks kind size) can =
+  can_kept (AllocatesChunks c chunks kind bytes) can =
       let free : AreFreeChunks w lanes zones c chunks = can.0 in
       let fits : c % 64 + chunks ≤ 64 = free.in_zone in (
         record {
@@ -113,7 +113,7 @@ module _ (w v : ℕ → ℕ) (lanes zones : ℕ) (same : (i : ℕ) → is_in_blo
               (ap is_run (at (c % 64 + k) low) ∙ (or_parts (is_run (w (512 * zone_page lanes (c / 64) + (c % 64 + k)))) (list_any (reaches w lanes (c / 64) (c % 64 + k)) (range_with_len 0 (c % 64 + k + 1))) before).0)
               (λ j below none. ap (λ (d : ℕ). is_huge d && ltb (c % 64 + k) (j + d / 256)) (at j (omega arith)) ∙ none);
         },
-        object_stays w v (block_of_chunks lanes c chunks) kind size can.1 (λ i from to.
+        object_stays w v (block_of_chunks lanes c chunks) kind bytes can.1 (λ i from to.
             let at = chunks_block_words lanes c chunks i from to in
             let begins = at.0 in
             let ends = at.1 in

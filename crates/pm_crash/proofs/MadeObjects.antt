@@ -1,5 +1,5 @@
 -- Words of which a free block is made a new object's have one block more: a block of a run, of whole chunks, or of a new run.
-use Rattle.std.proofs.Common.{◌≡◌, ◌≢◌, ⊎_elim, inl, inr, ℕ, ◌+◌, ◌-◌, ◌*◌, ◌/◌, ◌%◌, ◌^◌, ◌<◌, ◌≤◌, ◌&&◌, true, false, not, eqb, leb, Some, None, refl, sym, ◌∙◌, ap, subst, arith, eq-eqb}
+use Rattle.std.proofs.Common.{◌≡◌, ◌≢◌, ⊎_elim, inl, inr, ℕ, ◌+◌, ◌-◌, ◌*◌, ◌/◌, ◌%◌, ◌^◌, ◌<◌, ◌≤◌, ◌&&◌, true, false, not, eqb, leb, Some, None, refl, sym, ◌∙◌, ap, subst, arith, eq-eqb, List, length}
 use Rattle.std.specs.Int.{bit_at}
 use Rattle.std.specs.List.{Contains}
 use Rattle.std.proofs.lemmas.Bool.{and_parts, cases_eq, false≢true, leb-false, lt-leb, or_cases}
@@ -77,7 +77,7 @@ pub record GrowsBy (w v : ℕ → ℕ) (lanes zones : ℕ) (block : Block) : Typ
   pub bitmaps : (c : ℕ) → c < 64 * zones → bad_bitmap v lanes c ≡ false
 
 -- a block of a run
-module _ (w v : ℕ → ℕ) (lanes zones c lines index kind size : ℕ) (none : heap_fault w lanes zones ≡ None) (made : MakesRunObject w v lanes zones c lines index kind size) where
+module _ (w v : ℕ → ℕ) (lanes zones c lines index kind : ℕ) (bytes : List ℕ) (none : heap_fault w lanes zones ≡ None) (made : MakesRunObject w v lanes zones c lines index kind bytes) where
   run_here : class_in (w (descriptor_word lanes c)) ≡ Some (Lines lines)
   run_here = let within = made.free.inside in class_of_run (w (descriptor_word lanes c)) lines (made.free.is_run ∙ omega arith) (omega arith)
 
@@ -196,12 +196,12 @@ module _ (w v : ℕ → ℕ) (lanes zones c : ℕ) (none : heap_fault w lanes zo
     }
 
 -- a block of whole chunks
-module _ (w v : ℕ → ℕ) (lanes zones c chunks kind size : ℕ) (none : heap_fault w lanes zones ≡ None) (made : MakesChunksObject w v lanes zones c chunks kind size) where
+module _ (w v : ℕ → ℕ) (lanes zones c chunks kind : ℕ) (bytes : List ℕ) (none : heap_fault w lanes zones ≡ None) (made : MakesChunksObject w v lanes zones c chunks kind bytes) where
   pub some_of_size : 1 ≤ chunks
   some_of_size =
-      let object : HasNewObject v (block_of_chunks lanes c chunks) kind size = made.object in
-      let is : block_lines (class_of size) ≡ 64 * chunks = object.of_size in
-      let needed : lines_for size ≤ block_lines (class_of size) = lines_needed size in
+      let object : HasNewObject v (block_of_chunks lanes c chunks) kind bytes = made.object in
+      let is : block_lines (class_of (length bytes)) ≡ 64 * chunks = object.of_size in
+      let needed : lines_for (length bytes) ≤ block_lines (class_of (length bytes)) = lines_needed (length bytes) in
       omega arith
 
   each_free : (j : ℕ) → j < chunks → is_chunk_taken w lanes ((c + j) / 64) ((c + j) % 64) ≡ false
@@ -237,7 +237,7 @@ module _ (w v : ℕ → ℕ) (lanes zones c chunks kind size : ℕ) (none : heap
       (good_bitmap_by_class v lanes c (Some (Chunks chunks)) is_whole refl)
 
 -- a block of a new run
-module _ (w v : ℕ → ℕ) (lanes zones c lines index kind size : ℕ) (none : heap_fault w lanes zones ≡ None) (made : MakesObjectOfNewRun w v lanes zones c lines index kind size) where
+module _ (w v : ℕ → ℕ) (lanes zones c lines index kind : ℕ) (bytes : List ℕ) (none : heap_fault w lanes zones ≡ None) (made : MakesObjectOfNewRun w v lanes zones c lines index kind bytes) where
   is_new_run : class_in (v (descriptor_word lanes c)) ≡ Some (Lines lines)
   is_new_run = let within = made.inside in class_of_run (v (descriptor_word lanes c)) lines (made.descriptor ∙ omega arith) (omega arith)
 

@@ -1,5 +1,5 @@
 -- The entry of one change of the heap makes of words that hold a pool words that hold it with that change.
-use Rattle.std.proofs.Common.{◌≡◌, ◌≢◌, ℕ, ◌+◌, ◌-◌, ◌*◌, ◌/◌, ◌^◌, ◌<◌, ◌≤◌, eqb, Some, None, refl, sym, ◌∙◌, subst, arith, eq-eqb, ne_eqb}
+use Rattle.std.proofs.Common.{◌≡◌, ◌≢◌, ℕ, ◌+◌, ◌-◌, ◌*◌, ◌/◌, ◌^◌, ◌<◌, ◌≤◌, eqb, Some, None, refl, sym, ◌∙◌, subst, arith, eq-eqb, ne_eqb, List, length}
 use Rattle.std.proofs.lemmas.Bool.{cond-false, cond-true}
 use Rattle.std.proofs.Math.Nat.{pow-le-pow_right}
 use Rattle.std.proofs.Math.Pow.{pow-lt}
@@ -11,6 +11,8 @@ use Rattle.pm_image.specs.declared.block.Block.{Block}
 use Rattle.pm_image.specs.Blocks.{blocks, chunk_word, class_in, descriptor_word}
 use Rattle.pm_image.specs.Contents.{data_words}
 use Rattle.pm_image.specs.HeapFaults.{heap_fault}
+use Rattle.pm_image.specs.Reads.{ReadsBlock}
+use Rattle.pm_image.proofs.LocalContents.{contents_local}
 use Rattle.pm_image.proofs.Rooms.{lines_needed, run_fits, words_fit}
 use Rattle.pm_view.specs.Bits.{with_bits}
 use Rattle.pm_world.specs.History.{made_final}
@@ -49,15 +51,20 @@ run_bitmap_fits w lanes zones c lines index none inside within is =
     omega arith
 
 -- a new object stands still where no word of its block changes
-pub object_stays : (w u : ℕ → ℕ) (block : Block) (kind size : ℕ) → HasNewObject w block kind size → ((i : ℕ) → block.place / 8 ≤ i → i < block.place / 8 + 8 * block.lines → u i ≡ w i) → HasNewObject u block kind size
-object_stays w u block kind size object same = record {
+pub object_stays : (w u : ℕ → ℕ) (block : Block) (kind : ℕ) (bytes : List ℕ) → HasNewObject w block kind bytes → ((i : ℕ) → block.place / 8 ≤ i → i < block.place / 8 + 8 * block.lines → u i ≡ w i) → HasNewObject u block kind bytes
+object_stays w u block kind bytes object same = record {
   some = object.some;
   most = object.most;
   of_size = object.of_size;
-  words = λ place near.
-      let enough : 8 + data_words size ≤ 8 * block.lines = words_fit size block.lines (subst (λ (n : ℕ). lines_for size ≤ n) object.of_size (lines_needed size)) in
-      same (block.place / 8 + place) (omega arith) (omega arith) ∙ object.words place near;
-}
+  header = λ place low. same (block.place / 8 + place) (omega arith) (let fits = enough in omega (arith, low, fits)) ∙ object.header place low;
+  holds = (contents_local w u block (record {
+    same = λ i (read : ReadsBlock w block i).
+        let from = read.from in let to = read.to in let fits = enough in let size = object.header 1 (omega arith) in
+        sym (same i from (omega (arith, to, fits, size)));
+  })).same_bytes ∙ object.holds;
+} where
+  enough : 8 + data_words (length bytes) ≤ 8 * block.lines
+  enough = words_fit (length bytes) block.lines (subst (λ (n : ℕ). lines_for (length bytes) ≤ n) object.of_size (lines_needed (length bytes)))
 
 -- the words of a run's block, and of whole chunks
 pub run_block_words : (lanes c lines index i : ℕ) → index < blocks_of lines → (block_of_run lanes c lines index).place / 8 ≤ i → i < (block_of_run lanes c lines index).place / 8 + 8 * lines
@@ -77,31 +84,31 @@ chunks_block_words lanes c chunks i from to =
 
 module _ (w : ℕ → ℕ) (lanes zones : ℕ) (none : heap_fault w lanes zones ≡ None) where
   -- each change is one of the four
-  pub allocated_in_run : (c lines index kind size : ℕ) → CanChange w lanes zones (AllocatesInRun c lines index kind size)
-      → MakesRunObject w (changed lanes (AllocatesInRun c lines index kind size) w) lanes zones c lines index kind size
-  allocated_in_run c lines index kind size can =
-      let a : HeapChange = AllocatesInRun c lines index kind size in
+  pub allocated_in_run : (c lines index kind : ℕ) (bytes : List ℕ) → CanChange w lanes zones (AllocatesInRun c lines index kind bytes)
+      → MakesRunObject w (changed lanes (AllocatesInRun c lines index kind bytes) w) lanes zones c lines index kind bytes
+  allocated_in_run c lines index kind bytes can =
+      let a : HeapChange = AllocatesInRun c lines index kind bytes in
       let u : ℕ → ℕ = changed lanes a w in
       record {
         free = can.0;
         bitmap = changed_here lanes a w (chunk_word lanes c) refl
             ∙ or_entry (2 ^ index) (w (chunk_word lanes c)) (pow-lt (index_small lines index can.0.inside)) (run_bitmap_fits w lanes zones c lines index none can.0.in_zones can.0.inside can.0.is_run);
-        object = object_stays w u (block_of_run lanes c lines index) kind size can.1 (λ i from to. changed_elsewhere lanes a w i (λ same.
+        object = object_stays w u (block_of_run lanes c lines index) kind bytes can.1 (λ i from to. changed_elsewhere lanes a w i (λ same.
             let at = run_block_words lanes c lines index i can.0.inside from to in
             let begins = at.0 in
             omega arith));
         others = λ i read other. changed_elsewhere lanes a w i other;
       }
 
-  pub allocated_chunks : (c chunks kind size : ℕ) → CanChange w lanes zones (AllocatesChunks c chunks kind size)
-      → MakesChunksObject w (changed lanes (AllocatesChunks c chunks kind size) w) lanes zones c chunks kind size
-  allocated_chunks c chunks kind size can =
-      let a : HeapChange = AllocatesChunks c chunks kind size in
+  pub allocated_chunks : (c chunks kind : ℕ) (bytes : List ℕ) → CanChange w lanes zones (AllocatesChunks c chunks kind bytes)
+      → MakesChunksObject w (changed lanes (AllocatesChunks c chunks kind bytes) w) lanes zones c chunks kind bytes
+  allocated_chunks c chunks kind bytes can =
+      let a : HeapChange = AllocatesChunks c chunks kind bytes in
       let u : ℕ → ℕ = changed lanes a w in
       record {
         free = can.0;
         descriptor = changed_here lanes a w (descriptor_word lanes c) refl ∙ made_whole (entry_of lanes a) (w (descriptor_word lanes c)) refl;
-        object = object_stays w u (block_of_chunks lanes c chunks) kind size can.1 (λ i from to. changed_elsewhere lanes a w i (λ same.
+        object = object_stays w u (block_of_chunks lanes c chunks) kind bytes can.1 (λ i from to. changed_elsewhere lanes a w i (λ same.
             let at = chunks_block_words lanes c chunks i from to in
             let begins = at.0 in
             omega arith));
@@ -127,12 +134,12 @@ module _ (w : ℕ → ℕ) (lanes zones : ℕ) (none : heap_fault w lanes zones 
       }
 
   pub blocks_one : (a : HeapChange) → CanChange w lanes zones a → blocks (changed lanes a w) lanes zones ≡ blocks_changed lanes a (blocks w lanes zones)
-  blocks_one (AllocatesInRun c lines index kind size) can =
-      grown_blocks w (changed lanes (AllocatesInRun c lines index kind size) w) lanes zones (block_of_run lanes c lines index)
-      (run_grows w (changed lanes (AllocatesInRun c lines index kind size) w) lanes zones c lines index kind size none (allocated_in_run c lines index kind size can))
-  blocks_one (AllocatesChunks c chunks kind size) can =
-      grown_blocks w (changed lanes (AllocatesChunks c chunks kind size) w) lanes zones (block_of_chunks lanes c chunks)
-      (chunks_grow w (changed lanes (AllocatesChunks c chunks kind size) w) lanes zones c chunks kind size none (allocated_chunks c chunks kind size can))
+  blocks_one (AllocatesInRun c lines index kind bytes) can =
+      grown_blocks w (changed lanes (AllocatesInRun c lines index kind bytes) w) lanes zones (block_of_run lanes c lines index)
+      (run_grows w (changed lanes (AllocatesInRun c lines index kind bytes) w) lanes zones c lines index kind bytes none (allocated_in_run c lines index kind bytes can))
+  blocks_one (AllocatesChunks c chunks kind bytes) can =
+      grown_blocks w (changed lanes (AllocatesChunks c chunks kind bytes) w) lanes zones (block_of_chunks lanes c chunks)
+      (chunks_grow w (changed lanes (AllocatesChunks c chunks kind bytes) w) lanes zones c chunks kind bytes none (allocated_chunks c chunks kind bytes can))
   blocks_one (FreesInRun c lines index) can =
       shrunk_blocks w (changed lanes (FreesInRun c lines index) w) lanes zones (block_of_run lanes c lines index)
       (run_shrinks w (changed lanes (FreesInRun c lines index) w) lanes zones c lines index none (freed_in_run c lines index can))
@@ -142,14 +149,14 @@ module _ (w : ℕ → ℕ) (lanes zones : ℕ) (none : heap_fault w lanes zones 
 
 pub holds_one : (w : ℕ → ℕ) (lanes zones : ℕ) (header : Header) (pool : PoolView) (a : HeapChange) → HoldsPool w lanes zones header pool → CanChange w lanes zones a
     → HoldsPool (changed lanes a w) lanes zones header (pool_changed lanes a pool)
-holds_one w lanes zones header pool (AllocatesInRun c lines index kind size) holds can =
-    let made : MakesRunObject w (changed lanes (AllocatesInRun c lines index kind size) w) lanes zones c lines index kind size = allocated_in_run w lanes zones holds.no_fault c lines index kind size can in
-    grown_pool w (changed lanes (AllocatesInRun c lines index kind size) w) lanes zones (block_of_run lanes c lines index)
-    (run_grows w (changed lanes (AllocatesInRun c lines index kind size) w) lanes zones c lines index kind size holds.no_fault made) header pool kind size holds made.object
-holds_one w lanes zones header pool (AllocatesChunks c chunks kind size) holds can =
-    let made : MakesChunksObject w (changed lanes (AllocatesChunks c chunks kind size) w) lanes zones c chunks kind size = allocated_chunks w lanes zones holds.no_fault c chunks kind size can in
-    grown_pool w (changed lanes (AllocatesChunks c chunks kind size) w) lanes zones (block_of_chunks lanes c chunks)
-    (chunks_grow w (changed lanes (AllocatesChunks c chunks kind size) w) lanes zones c chunks kind size holds.no_fault made) header pool kind size holds made.object
+holds_one w lanes zones header pool (AllocatesInRun c lines index kind bytes) holds can =
+    let made : MakesRunObject w (changed lanes (AllocatesInRun c lines index kind bytes) w) lanes zones c lines index kind bytes = allocated_in_run w lanes zones holds.no_fault c lines index kind bytes can in
+    grown_pool w (changed lanes (AllocatesInRun c lines index kind bytes) w) lanes zones (block_of_run lanes c lines index)
+    (run_grows w (changed lanes (AllocatesInRun c lines index kind bytes) w) lanes zones c lines index kind bytes holds.no_fault made) header pool kind bytes holds made.object
+holds_one w lanes zones header pool (AllocatesChunks c chunks kind bytes) holds can =
+    let made : MakesChunksObject w (changed lanes (AllocatesChunks c chunks kind bytes) w) lanes zones c chunks kind bytes = allocated_chunks w lanes zones holds.no_fault c chunks kind bytes can in
+    grown_pool w (changed lanes (AllocatesChunks c chunks kind bytes) w) lanes zones (block_of_chunks lanes c chunks)
+    (chunks_grow w (changed lanes (AllocatesChunks c chunks kind bytes) w) lanes zones c chunks kind bytes holds.no_fault made) header pool kind bytes holds made.object
 holds_one w lanes zones header pool (FreesInRun c lines index) holds can =
     shrunk_pool w (changed lanes (FreesInRun c lines index) w) lanes zones (block_of_run lanes c lines index)
     (run_shrinks w (changed lanes (FreesInRun c lines index) w) lanes zones c lines index holds.no_fault (freed_in_run w lanes zones holds.no_fault c lines index can)) header pool holds can.not_root

@@ -38,19 +38,19 @@ module _ (w : ℕ → ℕ) (lanes zones : ℕ) (none : heap_fault w lanes zones 
     size : size_in u block ≡ size_in w block
 
   stays : (a : HeapChange) (block : Block) → CanChange w lanes zones a → Contains (blocks w lanes zones) block → offset_in block ≢ offset_in (block_changed lanes a) → StaysWith (changed lanes a w) block
-  stays (AllocatesInRun c lines index kind size) block can there differ =
-      let a : HeapChange = AllocatesInRun c lines index kind size in
+  stays (AllocatesInRun c lines index kind bytes) block can there differ =
+      let a : HeapChange = AllocatesInRun c lines index kind bytes in
       let u : ℕ → ℕ = changed lanes a w in
       record {
         is_there = subst (λ (bs : List Block). Contains bs block) (sym (change_blocks w lanes zones none a can)) (with_keeps (block_of_run lanes c lines index) block (blocks w lanes zones) there);
-        size = grown_sizes w u lanes zones (block_of_run lanes c lines index) (run_grows w u lanes zones c lines index kind size none (allocated_in_run w lanes zones none c lines index kind size can)) block there;
+        size = grown_sizes w u lanes zones (block_of_run lanes c lines index) (run_grows w u lanes zones c lines index kind bytes none (allocated_in_run w lanes zones none c lines index kind bytes can)) block there;
       }
-  stays (AllocatesChunks c chunks kind size) block can there differ =
-      let a : HeapChange = AllocatesChunks c chunks kind size in
+  stays (AllocatesChunks c chunks kind bytes) block can there differ =
+      let a : HeapChange = AllocatesChunks c chunks kind bytes in
       let u : ℕ → ℕ = changed lanes a w in
       record {
         is_there = subst (λ (bs : List Block). Contains bs block) (sym (change_blocks w lanes zones none a can)) (with_keeps (block_of_chunks lanes c chunks) block (blocks w lanes zones) there);
-        size = grown_sizes w u lanes zones (block_of_chunks lanes c chunks) (chunks_grow w u lanes zones c chunks kind size none (allocated_chunks w lanes zones none c chunks kind size can)) block there;
+        size = grown_sizes w u lanes zones (block_of_chunks lanes c chunks) (chunks_grow w u lanes zones c chunks kind bytes none (allocated_chunks w lanes zones none c chunks kind bytes can)) block there;
       }
   stays (FreesInRun c lines index) block can there differ =
       let a : HeapChange = FreesInRun c lines index in

@@ -1,5 +1,5 @@
 -- What is taken by words in which a block was made a new object's, or freed.
-use Rattle.std.proofs.Common.{◌≡◌, ◌≢◌, ◌⊎◌, ◌↔◌, inl, inr, ⊎_elim, ℕ, ◌+◌, ◌-◌, ◌*◌, ◌/◌, ◌%◌, ◌<◌, ◌≤◌, ◌||◌, Bool, true, false, not, eqb, leb, ltb, Some, None, sym, ◌∙◌, ap, subst, arith, eq-eqb}
+use Rattle.std.proofs.Common.{◌≡◌, ◌≢◌, ◌⊎◌, ◌↔◌, inl, inr, ⊎_elim, ℕ, ◌+◌, ◌-◌, ◌*◌, ◌/◌, ◌%◌, ◌<◌, ◌≤◌, ◌||◌, Bool, true, false, not, eqb, leb, ltb, Some, None, sym, ◌∙◌, ap, subst, arith, eq-eqb, List}
 use Rattle.std.specs.Int.{bit_at}
 use Rattle.std.specs.List.{list_any, range_with_len}
 use Rattle.std.proofs.lemmas.Bool.{and_from, and_parts, cases_Bool, cases_eq, cases_lt, eqb-true, false≢true, false_from_ne_true, lt-leb, lt-ltb, ltb-true, ne_eqb, or_cases, or_from, or_left, or_right}
@@ -150,16 +150,16 @@ either_way a b same P never = (λ yes. inl (sym same ∙ yes), λ some. ⊎_elim
 
 -- ---- a block of a run becomes an object's
 
-module _ (w v : ℕ → ℕ) (lanes zones c lines index kind size : ℕ) (none : heap_fault w lanes zones ≡ None) (made : MakesRunObject w v lanes zones c lines index kind size) where
+module _ (w v : ℕ → ℕ) (lanes zones c lines index kind : ℕ) (bytes : List ℕ) (none : heap_fault w lanes zones ≡ None) (made : MakesRunObject w v lanes zones c lines index kind bytes) where
   descriptors : (k : ℕ) → k < 64 * zones → v (descriptor_word lanes k) ≡ w (descriptor_word lanes k)
-  descriptors = making.descriptors_here w v lanes zones c lines index kind size none made
+  descriptors = making.descriptors_here w v lanes zones c lines index kind bytes none made
 
   zones_still : (zone bit k : ℕ) → zone < zones → bit < 64 → k ≤ bit → v (512 * zone_page lanes zone + k) ≡ w (512 * zone_page lanes zone + k)
   zones_still zone bit k inside low less =
       let at = row_word lanes zone k (omega (arith, less, low)) in ap v at ∙ (descriptors (64 * zone + k) (omega (arith, inside, less, low)) ∙ ap w (sym at))
 
   bit : HasBitMore (w (chunk_word lanes c)) (v (chunk_word lanes c)) index
-  bit = making.bit_here w v lanes zones c lines index kind size none made
+  bit = making.bit_here w v lanes zones c lines index kind bytes none made
 
   run_here : is_run (w (descriptor_word lanes c)) ≡ true
   run_here = let is : w (descriptor_word lanes c) ≡ 1 + 256 * lines = made.free.is_run in eq-eqb (w (descriptor_word lanes c) % 256) 1 (omega (arith, is))
@@ -195,7 +195,7 @@ module _ (w v : ℕ → ℕ) (lanes zones c lines index kind size : ℕ) (none :
         (λ some. own.1 (⊎_elim (λ was. inl was) (λ (t : IsBlockBit lanes c index (Run place) i). inr t.1) some)),
       ))
       (λ (other : k ≢ c). either_way (is_block_taken v lanes page i) (is_block_taken w lanes page i)
-      (blocks_elsewhere w v lanes zones none c (λ j inside differ. descriptors j inside) (making.bitmaps_here w v lanes zones c lines index kind size none made) page i k at other)
+      (blocks_elsewhere w v lanes zones none c (λ j inside differ. descriptors j inside) (making.bitmaps_here w v lanes zones c lines index kind bytes none made) page i k at other)
       (IsBlockBit lanes c index (Run place) i) (λ t. other (run_place lanes zones place k c of at t.0)))
       (cases_eq k c)
 
@@ -296,12 +296,12 @@ no_run_block w lanes page bit none =
 in_row : (zone first c : ℕ) → first < 64 → 64 * zone + first ≡ c → (zone ≡ c / 64) × (first ≡ c % 64)
 in_row zone first c low same = (omega (arith, low, same), omega (arith, low, same))
 
-module _ (w v : ℕ → ℕ) (lanes zones c chunks kind size : ℕ) (none : heap_fault w lanes zones ≡ None) (made : MakesChunksObject w v lanes zones c chunks kind size) where
+module _ (w v : ℕ → ℕ) (lanes zones c chunks kind : ℕ) (bytes : List ℕ) (none : heap_fault w lanes zones ≡ None) (made : MakesChunksObject w v lanes zones c chunks kind bytes) where
   free : is_chunk_taken w lanes (c / 64) (c % 64) ≡ false
-  free = making.first_free w v lanes zones c chunks kind size none made
+  free = making.first_free w v lanes zones c chunks kind bytes none made
 
   some : 1 ≤ chunks
-  some = making.some_of_size w v lanes zones c chunks kind size none made
+  some = making.some_of_size w v lanes zones c chunks kind bytes none made
 
   elsewhere : (k : ℕ) → k < 64 * zones → k ≢ c → v (descriptor_word lanes k) ≡ w (descriptor_word lanes k)
   elsewhere = making.descriptors_elsewhere w v lanes zones c none made.free.in_zones free made.others

@@ -84,10 +84,10 @@ less_behind alike = (
 
 module _ (w : ℕ → ℕ) (lanes zones : ℕ) (header : Header) (pool : PoolView) (holds : HoldsPool w lanes zones header pool) (at : Occ) (bit : ℕ) (of : IsOcc lanes zones at) (low : bit < 64) where
   change_takes : (change : HeapChange) → CanChange w lanes zones change → (is_taken (changed lanes change w) lanes at bit ≡ true) ↔ TakenBehind lanes (Changes change) at bit (is_taken w lanes at bit ≡ true)
-  change_takes (AllocatesInRun c lines index kind size) can =
-      more_behind (made_takes w (changed lanes (AllocatesInRun c lines index kind size) w) lanes zones c lines index kind size holds.no_fault (allocated_in_run w lanes zones holds.no_fault c lines index kind size can) at bit of low)
-  change_takes (AllocatesChunks c chunks kind size) can =
-      more_behind (chunks_take w (changed lanes (AllocatesChunks c chunks kind size) w) lanes zones c chunks kind size holds.no_fault (allocated_chunks w lanes zones holds.no_fault c chunks kind size can) at bit of low)
+  change_takes (AllocatesInRun c lines index kind bytes) can =
+      more_behind (made_takes w (changed lanes (AllocatesInRun c lines index kind bytes) w) lanes zones c lines index kind bytes holds.no_fault (allocated_in_run w lanes zones holds.no_fault c lines index kind bytes can) at bit of low)
+  change_takes (AllocatesChunks c chunks kind bytes) can =
+      more_behind (chunks_take w (changed lanes (AllocatesChunks c chunks kind bytes) w) lanes zones c chunks kind bytes holds.no_fault (allocated_chunks w lanes zones holds.no_fault c chunks kind bytes can) at bit of low)
   change_takes (FreesInRun c lines index) can =
       less_behind ((freed_takes w (changed lanes (FreesInRun c lines index) w) lanes zones c lines index holds.no_fault (freed_in_run w lanes zones holds.no_fault c lines index can)).less at bit of low)
   change_takes (FreesChunks c chunks) can =

@@ -32,8 +32,8 @@ pub record TakesLess (w v : ℕ → ℕ) (lanes zones : ℕ) (these : Occ → �
 
 -- the bits of a block that a change allocates, and of one that it frees
 abbrev pub AllocatesBit : ℕ → HeapChange → Occ → ℕ → Type 0
-AllocatesBit lanes (AllocatesInRun c lines index kind size) at bit = IsBlockBit lanes c index at bit
-AllocatesBit lanes (AllocatesChunks c chunks kind size) at bit = IsChunkBit c chunks at bit
+AllocatesBit lanes (AllocatesInRun c lines index kind bytes) at bit = IsBlockBit lanes c index at bit
+AllocatesBit lanes (AllocatesChunks c chunks kind bytes) at bit = IsChunkBit c chunks at bit
 AllocatesBit lanes change at bit = ⊥
 
 abbrev pub FreesBit : ℕ → HeapChange → Occ → ℕ → Type 0

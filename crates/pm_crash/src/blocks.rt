@@ -1,5 +1,6 @@
-ghost use Rattle.std.specs.Prelude.{◌≡◌, ◌≢◌, ℕ, ◌+◌, ◌*◌, ◌<◌, ◌≤◌, false, List, All, Contains, None};
+ghost use Rattle.std.specs.Prelude.{◌≡◌, ◌≢◌, ℕ, ◌+◌, ◌*◌, ◌%◌, ◌<◌, ◌≤◌, false, List, All, Contains, None, length, replicate};
 ghost use Rattle.pm_header.specs.declared.header.Header.{Header};
+ghost use Rattle.pm_words.specs.Words.{AreBytes};
 ghost use Rattle.pm_layout.specs.Sizes.{descriptor_of};
 ghost use Rattle.pm_layout.specs.declared.class.Class.TheVariants.{Lines};
 ghost use Rattle.pm_objects.specs.Pool.{object_at};
@@ -13,56 +14,69 @@ ghost use Rattle.pm_view.specs.declared.occ.Occ.TheVariants.{Zone};
 ghost use Rattle.pm_view.specs.Occupancy.{is_in_block, is_taken};
 ghost use Rattle.pm_crash.specs.Held.{HoldsPool};
 ghost use Rattle.pm_crash.specs.HeapChanges.{run_at, CanChange, HeapChange, MayBeFreed};
-ghost use Rattle.pm_model.specs.NewObjects.{new_object, pool_with, pool_without};
-ghost use Rattle.pm_crash.specs.NewObjects.{block_of_chunks, block_of_run, with_block, without_block, AreFreeChunks, FreesChunksBlock, FreesRunBlock, IsFreeInRun, MakesChunksObject, MakesObjectOfNewRun, MakesRunObject};
+ghost use Rattle.pm_model.specs.Bytes.{put_bytes};
+ghost use Rattle.pm_model.specs.NewObjects.{pool_with, pool_without};
+ghost use Rattle.pm_crash.specs.NewObjects.{block_of_chunks, block_of_run, unlinked, with_block, without_block, AreFreeChunks, FreesChunksBlock, FreesRunBlock, HasNewObject, IsFreeInRun, IsFreshBlock, MakesChunksObject, MakesObjectOfNewRun, MakesRunObject};
+ghost use Rattle.pm_crash.specs.Writes.{IsWritten};
 ghost use Rattle.pm_crash.specs.Publishing.{all_blocks_published, all_pool_published, published, AreInOrder, CanPublish, Published};
 
-/// A law: where a free block of a run is allocated, and its words are a new object's, the pool has that object more, of zeros, at an offset
-/// where none was; and else the same blocks. No code runs.
+/// A law: a block that was filled for an object of some type and size has a new object of that type and of so many zeros. No code runs.
+pub fn a_filled_block_has_a_new_object()
+    ensures { (v : ℕ → ℕ) (block : Block) (kind size : ℕ) → IsFreshBlock v block kind size → HasNewObject v block kind (replicate size 0) }
+{}
+
+/// A law: bytes that are written inside a new object are its bytes from there on, and it is a new object still. No code runs.
+pub fn a_write_in_a_new_object_stays()
+    ensures { (w v : ℕ → ℕ) (block : Block) (kind at : ℕ) (bytes new : List ℕ) → block.place % 8 ≡ 0 → HasNewObject w block kind bytes
+        → at + length new ≤ length bytes → AreBytes new → IsWritten w v (offset_in block + at) new → HasNewObject v block kind (put_bytes at new bytes) }
+{}
+
+/// A law: where a free block of a run is allocated, in which a new object stands, the pool has that object more, with its type and bytes as they
+/// stand, at an offset where none was; and else the same blocks. No code runs.
 pub fn a_new_block_holds_a_new_object()
-    ensures pool { (w v : ℕ → ℕ) (lanes zones c lines index kind size : ℕ) (header : Header) (pool : PoolView)
-        → HoldsPool w lanes zones header pool → MakesRunObject w v lanes zones c lines index kind size
-        → HoldsPool v lanes zones header (pool_with (offset_in (block_of_run lanes c lines index)) (new_object kind size) pool) }
-    ensures blocks { (w v : ℕ → ℕ) (lanes zones c lines index kind size : ℕ)
-        → heap_fault w lanes zones ≡ None → MakesRunObject w v lanes zones c lines index kind size
+    ensures pool { (w v : ℕ → ℕ) (lanes zones c lines index kind : ℕ) (bytes : List ℕ) (header : Header) (pool : PoolView)
+        → HoldsPool w lanes zones header pool → MakesRunObject w v lanes zones c lines index kind bytes
+        → HoldsPool v lanes zones header (pool_with (offset_in (block_of_run lanes c lines index)) (unlinked kind bytes) pool) }
+    ensures blocks { (w v : ℕ → ℕ) (lanes zones c lines index kind : ℕ) (bytes : List ℕ)
+        → heap_fault w lanes zones ≡ None → MakesRunObject w v lanes zones c lines index kind bytes
         → blocks v lanes zones ≡ with_block (block_of_run lanes c lines index) (blocks w lanes zones) }
-    ensures new { (w v : ℕ → ℕ) (lanes zones c lines index kind size : ℕ) (header : Header) (pool : PoolView)
-        → HoldsPool w lanes zones header pool → MakesRunObject w v lanes zones c lines index kind size
+    ensures new { (w v : ℕ → ℕ) (lanes zones c lines index kind : ℕ) (bytes : List ℕ) (header : Header) (pool : PoolView)
+        → HoldsPool w lanes zones header pool → MakesRunObject w v lanes zones c lines index kind bytes
         → object_at pool.objects (offset_in (block_of_run lanes c lines index)) ≡ None }
-    ensures sizes { (w v : ℕ → ℕ) (lanes zones c lines index kind size : ℕ) (other : Block)
-        → heap_fault w lanes zones ≡ None → MakesRunObject w v lanes zones c lines index kind size → Contains (blocks w lanes zones) other
+    ensures sizes { (w v : ℕ → ℕ) (lanes zones c lines index kind : ℕ) (bytes : List ℕ) (other : Block)
+        → heap_fault w lanes zones ≡ None → MakesRunObject w v lanes zones c lines index kind bytes → Contains (blocks w lanes zones) other
         → size_in v other ≡ size_in w other }
 {}
 
 /// A law: so it is where free chunks are made one block. No code runs.
 pub fn new_chunks_hold_a_new_object()
-    ensures pool { (w v : ℕ → ℕ) (lanes zones c chunks kind size : ℕ) (header : Header) (pool : PoolView)
-        → HoldsPool w lanes zones header pool → MakesChunksObject w v lanes zones c chunks kind size
-        → HoldsPool v lanes zones header (pool_with (offset_in (block_of_chunks lanes c chunks)) (new_object kind size) pool) }
-    ensures blocks { (w v : ℕ → ℕ) (lanes zones c chunks kind size : ℕ)
-        → heap_fault w lanes zones ≡ None → MakesChunksObject w v lanes zones c chunks kind size
+    ensures pool { (w v : ℕ → ℕ) (lanes zones c chunks kind : ℕ) (bytes : List ℕ) (header : Header) (pool : PoolView)
+        → HoldsPool w lanes zones header pool → MakesChunksObject w v lanes zones c chunks kind bytes
+        → HoldsPool v lanes zones header (pool_with (offset_in (block_of_chunks lanes c chunks)) (unlinked kind bytes) pool) }
+    ensures blocks { (w v : ℕ → ℕ) (lanes zones c chunks kind : ℕ) (bytes : List ℕ)
+        → heap_fault w lanes zones ≡ None → MakesChunksObject w v lanes zones c chunks kind bytes
         → blocks v lanes zones ≡ with_block (block_of_chunks lanes c chunks) (blocks w lanes zones) }
-    ensures new { (w v : ℕ → ℕ) (lanes zones c chunks kind size : ℕ) (header : Header) (pool : PoolView)
-        → HoldsPool w lanes zones header pool → MakesChunksObject w v lanes zones c chunks kind size
+    ensures new { (w v : ℕ → ℕ) (lanes zones c chunks kind : ℕ) (bytes : List ℕ) (header : Header) (pool : PoolView)
+        → HoldsPool w lanes zones header pool → MakesChunksObject w v lanes zones c chunks kind bytes
         → object_at pool.objects (offset_in (block_of_chunks lanes c chunks)) ≡ None }
-    ensures sizes { (w v : ℕ → ℕ) (lanes zones c chunks kind size : ℕ) (other : Block)
-        → heap_fault w lanes zones ≡ None → MakesChunksObject w v lanes zones c chunks kind size → Contains (blocks w lanes zones) other
+    ensures sizes { (w v : ℕ → ℕ) (lanes zones c chunks kind : ℕ) (bytes : List ℕ) (other : Block)
+        → heap_fault w lanes zones ≡ None → MakesChunksObject w v lanes zones c chunks kind bytes → Contains (blocks w lanes zones) other
         → size_in v other ≡ size_in w other }
 {}
 
 /// A law: and where a free chunk is made a run with one block. No code runs.
 pub fn a_new_run_holds_a_new_object()
-    ensures pool { (w v : ℕ → ℕ) (lanes zones c lines index kind size : ℕ) (header : Header) (pool : PoolView)
-        → HoldsPool w lanes zones header pool → MakesObjectOfNewRun w v lanes zones c lines index kind size
-        → HoldsPool v lanes zones header (pool_with (offset_in (block_of_run lanes c lines index)) (new_object kind size) pool) }
-    ensures blocks { (w v : ℕ → ℕ) (lanes zones c lines index kind size : ℕ)
-        → heap_fault w lanes zones ≡ None → MakesObjectOfNewRun w v lanes zones c lines index kind size
+    ensures pool { (w v : ℕ → ℕ) (lanes zones c lines index kind : ℕ) (bytes : List ℕ) (header : Header) (pool : PoolView)
+        → HoldsPool w lanes zones header pool → MakesObjectOfNewRun w v lanes zones c lines index kind bytes
+        → HoldsPool v lanes zones header (pool_with (offset_in (block_of_run lanes c lines index)) (unlinked kind bytes) pool) }
+    ensures blocks { (w v : ℕ → ℕ) (lanes zones c lines index kind : ℕ) (bytes : List ℕ)
+        → heap_fault w lanes zones ≡ None → MakesObjectOfNewRun w v lanes zones c lines index kind bytes
         → blocks v lanes zones ≡ with_block (block_of_run lanes c lines index) (blocks w lanes zones) }
-    ensures new { (w v : ℕ → ℕ) (lanes zones c lines index kind size : ℕ) (header : Header) (pool : PoolView)
-        → HoldsPool w lanes zones header pool → MakesObjectOfNewRun w v lanes zones c lines index kind size
+    ensures new { (w v : ℕ → ℕ) (lanes zones c lines index kind : ℕ) (bytes : List ℕ) (header : Header) (pool : PoolView)
+        → HoldsPool w lanes zones header pool → MakesObjectOfNewRun w v lanes zones c lines index kind bytes
         → object_at pool.objects (offset_in (block_of_run lanes c lines index)) ≡ None }
-    ensures sizes { (w v : ℕ → ℕ) (lanes zones c lines index kind size : ℕ) (other : Block)
-        → heap_fault w lanes zones ≡ None → MakesObjectOfNewRun w v lanes zones c lines index kind size → Contains (blocks w lanes zones) other
+    ensures sizes { (w v : ℕ → ℕ) (lanes zones c lines index kind : ℕ) (bytes : List ℕ) (other : Block)
+        → heap_fault w lanes zones ≡ None → MakesObjectOfNewRun w v lanes zones c lines index kind bytes → Contains (blocks w lanes zones) other
         → size_in v other ≡ size_in w other }
 {}
 

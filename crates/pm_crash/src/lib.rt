@@ -30,9 +30,9 @@ pub use alone::{
     no_record_is_torn, no_record_is_torn_behind_a_rest,
 };
 pub use blocks::{
-    a_freed_block_holds_none, a_new_block_holds_a_new_object, a_new_run_holds_a_new_object,
-    blocks_may_be_changed, entries_publish_all_at_once, freed_chunks_hold_none,
-    new_chunks_hold_a_new_object,
+    a_filled_block_has_a_new_object, a_freed_block_holds_none, a_new_block_holds_a_new_object,
+    a_new_run_holds_a_new_object, a_write_in_a_new_object_stays, blocks_may_be_changed,
+    entries_publish_all_at_once, freed_chunks_hold_none, new_chunks_hold_a_new_object,
 };
 pub use bounds::no_counted_call_is_idle;
 pub use calls::{

@@ -14,11 +14,11 @@ ghost use Rattle.pm_crash.specs.Taken.{IsBlockBit, IsChunkBit, TakenBehindAll, T
 /// the occupancy words are taken besides; where they are freed these bits alone are taken no more. So it is, in turn, of all that is published at
 /// once. No code runs.
 pub fn what_is_taken_follows_the_blocks()
-    ensures block { (w v : ℕ → ℕ) (lanes zones c lines index kind size : ℕ)
-        → heap_fault w lanes zones ≡ None → MakesRunObject w v lanes zones c lines index kind size
+    ensures block { (w v : ℕ → ℕ) (lanes zones c lines index kind : ℕ) (bytes : List ℕ)
+        → heap_fault w lanes zones ≡ None → MakesRunObject w v lanes zones c lines index kind bytes
         → TakesMore w v lanes zones (IsBlockBit lanes c index) }
-    ensures chunks { (w v : ℕ → ℕ) (lanes zones c chunks kind size : ℕ)
-        → heap_fault w lanes zones ≡ None → MakesChunksObject w v lanes zones c chunks kind size
+    ensures chunks { (w v : ℕ → ℕ) (lanes zones c chunks kind : ℕ) (bytes : List ℕ)
+        → heap_fault w lanes zones ≡ None → MakesChunksObject w v lanes zones c chunks kind bytes
         → TakesMore w v lanes zones (IsChunkBit c chunks) }
     ensures freed_block { (w v : ℕ → ℕ) (lanes zones c lines index : ℕ)
         → heap_fault w lanes zones ≡ None → FreesRunBlock w v lanes zones c lines index

@@ -61,7 +61,7 @@ published_target w lanes zones none (Performs (SetWord id off value)) can =
     let from = zone.begins in let to = zone.ends in
     let begins = can.begins in let inside = can.inside in
     chunk_target lanes zones stands.chunk ((id.off + off) / 8) stands.in_zones (omega (arith, from, begins)) (omega (arith, to, fits, word, begins, inside))
-published_target w lanes zones none (Changes (AllocatesInRun c lines index kind size)) can = chunk_target lanes zones c (chunk_word lanes c) can.0.in_zones (omega arith) (omega arith)
-published_target w lanes zones none (Changes (AllocatesChunks c chunks kind size)) can = descriptor_target lanes zones c can.0.in_zones
+published_target w lanes zones none (Changes (AllocatesInRun c lines index kind bytes)) can = chunk_target lanes zones c (chunk_word lanes c) can.0.in_zones (omega arith) (omega arith)
+published_target w lanes zones none (Changes (AllocatesChunks c chunks kind bytes)) can = descriptor_target lanes zones c can.0.in_zones
 published_target w lanes zones none (Changes (FreesInRun c lines index)) can = chunk_target lanes zones c (chunk_word lanes c) can.in_zones (omega arith) (omega arith)
 published_target w lanes zones none (Changes (FreesChunks c chunks)) can = descriptor_target lanes zones c can.in_zones
