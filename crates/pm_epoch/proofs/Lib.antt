@@ -2,3 +2,4 @@ pub mod Targets
 pub mod PublishedPools
 pub mod PublishedImages
 pub mod ReservedBlocks
+pub mod OwnBits

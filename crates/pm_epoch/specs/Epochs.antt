@@ -1,16 +1,19 @@
 -- What a lane that is alone publishes over the pool that its words hold: blocks for new objects, blocks freed, words of objects set (docs/MODEL.md, "From call to
 -- call").
-use Rattle.std.specs.Prelude.{◌≡◌, ℕ, ◌+◌, ◌*◌, true, All, List, [], ◌∷◌, ◌++◌, map, slice_index}
+use Rattle.std.specs.Prelude.{◌≡◌, ◌⊎◌, ℕ, ◌+◌, ◌*◌, true, All, List, [], ◌∷◌, ◌++◌, map, slice_index}
 use Rattle.pm_header.specs.declared.header.Header.{Header}
 use Rattle.pm_objects.specs.declared.pool.PoolView.{PoolView}
 use Rattle.pm_image.specs.Blocks.{descriptor_word}
+use Rattle.pm_view.specs.declared.occ.Occ.{Occ}
 use Rattle.pm_view.specs.declared.occ.Occ.TheVariants.{Zone}
 use Rattle.pm_view.specs.View.{View}
 use Rattle.pm_view.specs.Views.{reserves}
 use Rattle.pm_world.specs.Entries.{ends_with}
 use Rattle.pm_world.specs.Records.{generation_of}
+use Rattle.pm_crash.specs.HeapChanges.{HeapChange}
 use Rattle.pm_crash.specs.Held.{HoldsImage, HoldsPool}
 use Rattle.pm_crash.specs.Publishing.{AreInOrder, CanPublish, Published, entry_published}
+use Rattle.pm_crash.specs.Taken.{AllocatesBit, FreesBit}
 use Rattle.pm_sealed.specs.Sealed.{MaySeal}
 
 -- The lane may seal a log that has an entry for each of these, in their order, and behind them the one that ends its generation. An image of its words would
@@ -27,3 +30,16 @@ pub record MayPublish (b : View) (header : Header) (before now : PoolView) (all 
 pub record IsUnusedChunk (lanes : ℕ) (v : View) (zone chunk : ℕ) : Type 0 where
   pub reserved : reserves v (Zone zone) chunk ≡ true
   pub undescribed : slice_index v.words (descriptor_word lanes (64 * zone + chunk)) ≡ 0
+
+-- a bit of an occupancy word that the change makes taken, or free
+abbrev pub ChangesBit : ℕ → HeapChange → Occ → ℕ → Type 0
+ChangesBit lanes change at bit = AllocatesBit lanes change at bit ⊎ FreesBit lanes change at bit
+
+-- the two changes have no bit in common
+abbrev pub HasNoBitOf : ℕ → HeapChange → HeapChange → Type 0
+HasNoBitOf lanes change other = (at : Occ) (bit : ℕ) → ChangesBit lanes change at bit → ChangesBit lanes other at bit → ⊥
+
+-- no two of these have
+abbrev pub AreOfOwnBits : ℕ → List HeapChange → Type 0
+AreOfOwnBits lanes [] = Unit {0}
+AreOfOwnBits lanes (change ∷ others) = All (HasNoBitOf lanes change) others × AreOfOwnBits lanes others

@@ -1,4 +1,4 @@
-ghost use Rattle.std.specs.Prelude.{◌≡◌, ◌≢◌, ◌↔◌, ℕ, ◌+◌, ◌*◌, ◌<◌, ◌≤◌, Bool, true, false, Contains, List, slice_index, None, Some};
+ghost use Rattle.std.specs.Prelude.{◌≡◌, ◌≢◌, ◌↔◌, ℕ, ◌+◌, ◌*◌, ◌<◌, ◌≤◌, Bool, true, false, All, Contains, List, ◌++◌, map, slice_index, None, Some};
 ghost use Rattle.pm_header.specs.declared.header.Header.{Header};
 ghost use Rattle.pm_objects.specs.declared.pool.PoolView.{PoolView};
 ghost use Rattle.pm_layout.specs.Sizes.{descriptor_of};
@@ -7,6 +7,7 @@ ghost use Rattle.pm_image.specs.Blocks.{blocks, descriptor_word};
 ghost use Rattle.pm_image.specs.HeapFaults.{heap_fault};
 ghost use Rattle.pm_image.specs.Logs.{recovered_at};
 ghost use Rattle.pm_image.specs.Means.{IsMeaning};
+ghost use Rattle.pm_model.specs.Actions.{Action};
 ghost use Rattle.pm_view.specs.declared.occ.Occ.{Occ};
 ghost use Rattle.pm_view.specs.Founds.{IsAlone};
 ghost use Rattle.pm_view.specs.Log.Phase.{Idle};
@@ -20,13 +21,14 @@ ghost use Rattle.pm_world.specs.Memory.{Memory};
 ghost use Rattle.pm_world.specs.Memory.Location.{PoolWord};
 ghost use Rattle.pm_world.specs.Opening.{Opening};
 ghost use Rattle.pm_world.specs.World.{Views, World};
-ghost use Rattle.pm_crash.specs.HeapChanges.{MayBeFreed, run_at};
+ghost use Rattle.pm_crash.specs.HeapChanges.{CanChange, HeapChange, MayBeFreed, run_at};
 ghost use Rattle.pm_crash.specs.NewObjects.{AreFreeChunks, IsFreeInRun};
 ghost use Rattle.pm_crash.specs.Held.{HoldsImage, HoldsPool};
-ghost use Rattle.pm_crash.specs.Publishing.{Published, all_blocks_published, all_pool_published};
+ghost use Rattle.pm_crash.specs.Publishing.Published.{Changes, Performs};
+ghost use Rattle.pm_crash.specs.Publishing.{AreInOrder, Published, all_blocks_published, all_pool_published};
 ghost use Rattle.pm_crash.specs.Taken.{TakenBehindAll};
 ghost use Rattle.pm_sealed.specs.Sealed.{LeavesSealed, Publishes, has_nothing};
-ghost use Rattle.pm_epoch.specs.Epochs.{IsUnusedChunk, MayPublish};
+ghost use Rattle.pm_epoch.specs.Epochs.{AreOfOwnBits, IsUnusedChunk, MayPublish};
 
 /// A law: in a world where a lane has each word as it is, what it reserved may be allocated: a block of a run, by the class that the run's
 /// descriptor says, and chunks that are described by 0; and a block that it found under a lock may be freed, unless it is the root's, where
@@ -46,6 +48,14 @@ pub fn a_lane_alone_may_change_its_blocks()
         → heap_fault (slice_index (views k).words) o.lanes o.zones ≡ None → Contains (views k).locks l → l.block ≡ Some lines
         → slice_index (views k).words 64 ≢ 64 * l.line + 64
         → MayBeFreed (slice_index (views k).words) o.lanes o.zones (record { place = 64 * l.line; lines = lines }) }
+{}
+
+/// A law: changes of the heap that may be made of the same words, no two of one bit of an occupancy word, may be published in any order, behind
+/// any actions. No code runs.
+pub fn changes_of_own_bits_are_in_order()
+    ensures { (w : ℕ → ℕ) (lanes zones : ℕ) (actions : List Action) (changes : List HeapChange)
+        → heap_fault w lanes zones ≡ None → All (CanChange w lanes zones) changes → AreOfOwnBits lanes changes
+        → AreInOrder lanes (map Performs actions ++ map Changes changes) }
 {}
 
 /// A law: what a lane that is alone publishes is in a power failure's image as a whole or not at all. An image that has nothing of the call

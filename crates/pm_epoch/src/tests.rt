@@ -6,4 +6,5 @@ fn laws(_rt: HostRuntime) {
     a_lane_alone_may_change_its_blocks();
     a_lane_alone_publishes_a_pool();
     a_published_pool_stands();
+    changes_of_own_bits_are_in_order();
 }
