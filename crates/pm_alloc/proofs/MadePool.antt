@@ -1,5 +1,5 @@
 -- What a lane knows of its pool stays so as it makes a chunk a run, whatever it finds under locks.
-use Rattle.std.proofs.Common.{◌≡◌, ◌≢◌, ⊎_elim, ℕ, ◌+◌, ◌-◌, ◌*◌, ◌/◌, ◌%◌, ◌^◌, ◌<◌, ◌&&◌, ◌||◌, Bool, true, false, not, cond, eqb, leb, bit_and, All, List, [], ◌∷◌, ◌++◌, map, slice_index, Some, IfSome, refl, sym, ap, ◌∙◌, subst, arith, eq-eqb, ne_eqb}
+use Rattle.std.proofs.Common.{◌≡◌, ◌≢◌, ⊎_elim, ℕ, ◌+◌, ◌-◌, ◌*◌, ◌/◌, ◌%◌, ◌^◌, ◌<◌, ◌&&◌, ◌||◌, Bool, true, false, not, cond, eqb, leb, bit_and, All, List, [], ◌∷◌, ◌++◌, map, slice_index, refl, sym, ap, ◌∙◌, subst, arith, eq-eqb, ne_eqb}
 use Rattle.std.specs.Int.{bit_at, bit_not, w64}
 use Rattle.std.specs.List.{filter, list_any}
 use Rattle.std.proofs.lemmas.Bool.{and_from, and_parts, cond-false, eqb-true, false≢true, leb-true, not_from_false, or_cases, or_left, or_right}
@@ -8,16 +8,15 @@ use Rattle.std.proofs.lemmas.List.Folds.{Any-from_list_any, list_any-append, lis
 use Rattle.std.proofs.lemmas.Nat.Bits.{bit_at-pow_same}
 use Rattle.pm_view.specs.declared.occ.Occ.{Occ}
 use Rattle.pm_view.specs.declared.occ.Occ.TheVariants.{Run, Zone}
-use Rattle.pm_view.specs.Blocks.{block_at, chunk_of, covers, describes, descriptor_word, is_chunk, is_run, page_told, zone_of}
+use Rattle.pm_view.specs.Blocks.{chunk_of, covers, describes, descriptor_word, is_chunk, is_run, page_told, zone_of}
 use Rattle.pm_view.specs.Held.{is_reserved}
-use Rattle.pm_view.specs.View.{View, Lock, Taken}
+use Rattle.pm_view.specs.View.{View, Taken}
 use Rattle.pm_view.specs.Views.{chunk_bit, is_same_occ, zone_at}
 use Rattle.pm_world.specs.Heap.{IsOcc}
-use Rattle.pm_world.specs.Opening.{IsChunk, Opening, is_free_chunk}
+use Rattle.pm_world.specs.Opening.{IsChunk}
 use Rattle.pm_world.proofs.Exchanged.{chunk_small}
 use Rattle.pm_world.proofs.HeapWords.{descriptor_tells}
 use Rattle.pm_world.proofs.Vacated.{and_bits, not_both, vacated_all}
-use Rattle.pm_undo.specs.Working.{FindsOpening}
 use Rattle.pm_fresh.specs.Filled.{HasWholePool}
 use Rattle.pm_fresh.specs.Made.{CanMakeRun, IsRunMade, first_block, without_chunk}
 use Rattle.pm_fresh.specs.Making.{run_at}

@@ -1,5 +1,5 @@
 -- The first block of a new run has room for an object.
-use Rattle.std.proofs.Common.{◌≡◌, ◌⊎◌, inl, inr, ℕ, ◌+◌, ◌*◌, ◌/◌, ◌<◌, ◌≤◌, ◌||◌, true, false, List, [], ◌∷◌, ◌++◌, slice_index, refl, sym, ap, ◌∙◌, subst, arith}
+use Rattle.std.proofs.Common.{◌≡◌, ◌⊎◌, inl, inr, ℕ, ◌+◌, ◌*◌, ◌/◌, ◌<◌, ◌≤◌, true, false, [], ◌∷◌, slice_index, Bool, refl, sym, ap, ◌∙◌, subst, arith}
 use Rattle.std.specs.List.{list_any}
 use Rattle.std.proofs.lemmas.Bool.{or_left, or_right}
 use Rattle.std.proofs.lemmas.List.Folds.{list_any-append}
@@ -15,7 +15,7 @@ use Rattle.pm_world.specs.Opening.{IsChunk}
 use Rattle.pm_runs.proofs.Rows.{has_lines}
 use Rattle.pm_chunks.specs.Chunks.{AreFree, HasGot, chunk_block, taken_chunks}
 use Rattle.pm_fresh.specs.Filled.{HasWholePool}
-use Rattle.pm_fresh.specs.Made.{CanMakeRun, IsRunMade, first_block as new_block, without_chunk}
+use Rattle.pm_fresh.specs.Made.{CanMakeRun, IsRunMade, first_block as new_block, touches, without_chunk}
 use Rattle.pm_fresh.specs.Making.{page_in, run_at}
 use Rattle.pm_blocks.proofs.Onward.{another}
 use Rattle.pm_blocks.proofs.Taking.{can, least_is_free}
@@ -25,7 +25,7 @@ use Rattle.pm_alloc.proofs.MadePool.{made_pool}
 use Rattle.pm_alloc.proofs.Rooms.{IsRoom, plain_word}
 use Rattle.pm_alloc.proofs.RoomsInRuns.{block_covers, on_page}
 use Rattle.pm_alloc.proofs.RoomsOfChunks.{pool_of_chunks}
-use Rattle.pm_alloc.proofs.StillWhole.{words_still}
+use Rattle.pm_alloc.proofs.StillWhole.{beside_still, words_still}
 
 module _ (v : View) (shape : Shape) (may : MayMakeRun v shape) (pool : HasWholePool v) (at : View → Type 0) (lines : ℕ) (block : Block) (class : 0 < blocks_of lines) (run : HasNewRun at v lines block) where
   abbrev zone : ℕ
@@ -85,6 +85,10 @@ module _ (v : View) (shape : Shape) (may : MayMakeRun v shape) (pool : HasWholeP
   unfolding got
   words_same = words_still v shape may (λ z. at (with_run zone chunk lines z)) (taken_chunks zone chunk 1 ∷ []) _ got.searched
 
+  beside_here : (p : ℕ → Bool) → touches p v.changes ≡ false → touches p w.changes ≡ false
+  unfolding got
+  beside_here = beside_still v shape may (λ z. at (with_run zone chunk lines z)) (taken_chunks zone chunk 1 ∷ []) _ got.searched
+
   can_make : CanMakeRun w page lines
   unfolding got
   can_make = subst (λ n. CanMakeRun w (page_in n zone chunk) lines) (sym lanes_same) (can v shape may lines class (λ z. at (with_run zone chunk lines z)) whole got run.least)
@@ -114,7 +118,7 @@ module _ (v : View) (shape : Shape) (may : MayMakeRun v shape) (pool : HasWholeP
       let here = on_page w.lanes page lines 0 q u.words block.place block.lines class place_is lines_are described from to in
       let it = λ (t : Taken). covers w.lanes u.words t.at t.bits q in (
         (λ i. list_any (λ (t : Taken). covers (lanes_made i) u.words t.at t.bits q) (made.reserved i))
-        ∙ (list_any-append it (without_chunk w page) (new_block page ∷ []) ∙ or_right (list_any it (without_chunk w page)) (list_any it (new_block page ∷ [])) (or_left (covers w.lanes u.words (run_at page) 1 q) false covered)),
+            ∙ (list_any-append it (without_chunk w page) (new_block page ∷ []) ∙ or_right (list_any it (without_chunk w page)) (list_any it (new_block page ∷ [])) (or_left (covers w.lanes u.words (run_at page) 1 q) false covered)),
         ap (λ n. describes n q) lanes_made ∙ plain_word w.lanes q (subst (λ p. 1 ≤ chunk_of w.lanes p) (sym here) is_chunk_here.1),
       )
 
@@ -140,5 +144,6 @@ module _ (v : View) (shape : Shape) (may : MayMakeRun v shape) (pool : HasWholeP
     pool = pool_now;
     some = (let has = has_lines lines 0 class in let same = lines_are in omega (arith, has, same));
     own = own_first;
+    beside = λ p none. made.beside p (beside_here p none);
     others = λ q no. made.others q (λ same. no (of_run q (inl same))) (λ same. no (of_run q (inr same))) ∙ ap (λ ws. slice_index ws q) words_same;
   }

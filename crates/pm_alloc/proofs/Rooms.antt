@@ -1,5 +1,5 @@
 -- A block for a new object, in a view that has reserved it.
-use Rattle.std.proofs.Common.{◌≡◌, ℕ, ◌+◌, ◌*◌, ◌/◌, ◌<◌, ◌≤◌, true, false, slice_index, arith}
+use Rattle.std.proofs.Common.{◌≡◌, ℕ, Bool, ◌+◌, ◌*◌, ◌/◌, ◌<◌, ◌≤◌, true, false, slice_index, arith}
 use Rattle.std.proofs.lemmas.Bool.{false_from_ne_true}
 use Rattle.pm_image.specs.declared.block.Block.{Block}
 use Rattle.pm_layout.specs.declared.shape.Shape.{Shape}
@@ -8,6 +8,7 @@ use Rattle.pm_view.specs.Held.{is_reserved}
 use Rattle.pm_view.specs.View.{View}
 use Rattle.pm_world.proofs.HeapWords.{described}
 use Rattle.pm_fresh.specs.Filled.{HasWholePool}
+use Rattle.pm_fresh.specs.Made.{touches}
 use Rattle.pm_blocks.specs.NewRuns.{MayMakeRun}
 use Rattle.pm_alloc.specs.NewObjects.{IsOfNewRun}
 
@@ -17,6 +18,7 @@ pub record IsRoom (v x : View) (shape : Shape) (block : Block) : Type 0 where
   pub pool : HasWholePool x
   pub some : 1 ≤ block.lines
   pub own : (u : ℕ) → 8 * (block.place / 64) ≤ u → u < 8 * (block.place / 64 + block.lines) → (is_reserved x u ≡ true) × (describes x.lanes u ≡ false)
+  pub beside : (p : ℕ → Bool) → touches p v.changes ≡ false → touches p x.changes ≡ false
   pub others : (u : ℕ) → (IsOfNewRun v block u → ⊥) → slice_index x.words u ≡ slice_index v.words u
 
 -- a chunk's words describe none

@@ -1,5 +1,5 @@
 -- A block of a run that was reserved has room for an object.
-use Rattle.std.proofs.Common.{◌≡◌, ⊎_elim, ℕ, ◌+◌, ◌-◌, ◌*◌, ◌/◌, ◌%◌, ◌^◌, ◌<◌, ◌≤◌, ◌&&◌, ◌||◌, eqb, leb, true, false, All, List, [], ◌∷◌, slice_index, refl, sym, ap, ◌∙◌, subst, arith, eq-eqb}
+use Rattle.std.proofs.Common.{◌≡◌, ⊎_elim, ℕ, ◌+◌, ◌-◌, ◌*◌, ◌/◌, ◌%◌, ◌^◌, ◌<◌, ◌≤◌, ◌&&◌, eqb, leb, true, false, All, List, [], ◌∷◌, slice_index, refl, sym, ap, ◌∙◌, subst, arith, eq-eqb}
 use Rattle.std.specs.Int.{bit_at}
 use Rattle.std.specs.List.{list_any}
 use Rattle.std.proofs.Math.Nat.{mul_comm}
@@ -24,7 +24,7 @@ use Rattle.pm_fresh.specs.Filled.{HasWholePool}
 use Rattle.pm_blocks.proofs.StillMay.{may_still}
 use Rattle.pm_blocks.specs.NewRuns.{MayMakeRun}
 use Rattle.pm_alloc.proofs.Rooms.{IsRoom, plain_word}
-use Rattle.pm_alloc.proofs.StillWhole.{lanes_still, own_still, pool_still, words_still}
+use Rattle.pm_alloc.proofs.StillWhole.{beside_still, lanes_still, own_still, pool_still, words_still}
 
 -- a word of the block is covered by its bit
 module _ (lanes page lines index u : ℕ) (words : List ℕ) (place n : ℕ) (inside : index < blocks_of lines) (place_is : place ≡ 4096 * page + 64 * (1 + lines * index)) (lines_are : n ≡ lines)
@@ -122,5 +122,6 @@ module _ (v : View) (shape : Shape) (may : MayMakeRun v shape) (pool : HasWholeP
     pool = pool_still v shape may at blocks _ got.searched pool of_pool no_run;
     some = has_lines block.lines got.index got.in_run;
     own = own_block;
+    beside = beside_still v shape may at blocks _ got.searched;
     others = λ u no. ap (λ ws. slice_index ws u) (words_still v shape may at blocks _ got.searched);
   }

@@ -1,5 +1,5 @@
 -- Chunks that were reserved have room for an object.
-use Rattle.std.proofs.Common.{◌≡◌, ⊎_elim, ℕ, ◌+◌, ◌-◌, ◌*◌, ◌/◌, ◌%◌, ◌<◌, ◌≤◌, ◌&&◌, ◌||◌, eqb, true, false, All, List, [], ◌∷◌, slice_index, sym, ap, ◌∙◌, subst, arith, eq-eqb}
+use Rattle.std.proofs.Common.{◌≡◌, ⊎_elim, ℕ, ◌+◌, ◌-◌, ◌*◌, ◌/◌, ◌%◌, ◌<◌, ◌≤◌, ◌&&◌, eqb, true, false, All, List, [], ◌∷◌, slice_index, sym, ap, ◌∙◌, subst, arith, eq-eqb}
 use Rattle.std.specs.Int.{bit_at}
 use Rattle.std.specs.List.{list_any}
 use Rattle.std.proofs.lemmas.Bool.{and_from, false≢true, or_cases, or_left}
@@ -21,7 +21,7 @@ use Rattle.pm_blocks.proofs.StillMay.{may_still}
 use Rattle.pm_blocks.specs.NewRuns.{IsUnused, MayMakeRun}
 use Rattle.pm_alloc.proofs.Remaining.{set_inside}
 use Rattle.pm_alloc.proofs.Rooms.{IsRoom, plain_word}
-use Rattle.pm_alloc.proofs.StillWhole.{lanes_still, own_still, pool_still, words_still}
+use Rattle.pm_alloc.proofs.StillWhole.{beside_still, lanes_still, own_still, pool_still, words_still}
 
 module _ (v : View) (shape : Shape) (may : MayMakeRun v shape) (pool : HasWholePool v) (at : View → Type 0) (count : ℕ) (block : Block) (some : 1 ≤ count) (got : HasGot at v count block) (least : AreLeastFree v count block) where
   abbrev zone : ℕ
@@ -125,5 +125,6 @@ module _ (v : View) (shape : Shape) (may : MayMakeRun v shape) (pool : HasWholeP
     pool = pool_of_chunks;
     some = (let lines = ap (λ (b : Block). b.lines) got.is_block in omega (arith, lines, some));
     own = own_chunk;
+    beside = beside_still v shape may at blocks _ got.searched;
     others = λ u no. ap (λ ws. slice_index ws u) (words_still v shape may at blocks _ got.searched);
   }

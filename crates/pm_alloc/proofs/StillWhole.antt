@@ -1,5 +1,5 @@
 -- What a lane that is alone knows of its pool behind a search.
-use Rattle.std.proofs.Common.{◌≡◌, ◌||◌, ⊎_elim, ℕ, ◌/◌, ◌%◌, true, false, All, List, ◌++◌, slice_index, sym, ap, ◌∙◌, subst}
+use Rattle.std.proofs.Common.{◌≡◌, ⊎_elim, ℕ, ◌/◌, ◌%◌, true, false, All, List, slice_index, Bool, sym, ap, ◌∙◌, subst}
 use Rattle.std.specs.List.{list_any}
 use Rattle.std.proofs.lemmas.Bool.{or_cases, or_right}
 use Rattle.std.proofs.lemmas.List.Elements.{All-append}
@@ -11,6 +11,7 @@ use Rattle.pm_view.specs.View.{Taken, View}
 use Rattle.pm_world.specs.Heap.{IsOcc}
 use Rattle.pm_world.specs.Searches.{HasSearched}
 use Rattle.pm_fresh.specs.Filled.{HasWholePool}
+use Rattle.pm_fresh.specs.Made.{touches}
 use Rattle.pm_blocks.proofs.Searching.{IsLeft, is_searched, left_by_search}
 use Rattle.pm_blocks.specs.NewRuns.{MayMakeRun}
 
@@ -33,6 +34,9 @@ module _ (v : View) (shape : Shape) (may : MayMakeRun v shape) (at : View → Ty
 
   pub lanes_still : w.lanes ≡ v.lanes
   lanes_still = ap (λ (z : View). z.lanes) searched.kept.same
+
+  pub beside_still : (p : ℕ → Bool) → touches p v.changes ≡ false → touches p w.changes ≡ false
+  beside_still p none = ap (λ (z : View). touches p z.changes) searched.kept.same ∙ none
 
   abbrev has : ℕ → List Taken → Type 0
   has u blocks = list_any (λ (t : Taken). covers v.lanes v.words t.at t.bits u) blocks ≡ true

@@ -1,18 +1,19 @@
 -- A new object in a block that was reserved for it: docs/FORMAT.md, "Sizes", "Blocks are found" and "Sequences".
-use Rattle.std.specs.Prelude.{◌≡◌, ℕ, ◌⊎◌, ◌+◌, ◌*◌, ◌/◌, ◌<◌, ◌≤◌, true, false, Result, Err, slice_index}
+use Rattle.std.specs.Prelude.{◌≡◌, ℕ, Bool, ◌⊎◌, ◌+◌, ◌*◌, ◌/◌, ◌<◌, ◌≤◌, true, false, Result, Err, slice_index}
 use Rattle.std.specs.List.{list_any}
 use Rattle.pm_image.specs.declared.block.Block.{Block}
-use Rattle.pm_layout.specs.Sizes.{class_of}
+use Rattle.pm_layout.specs.Sizes.{class_of, lines_for}
 use Rattle.pm_layout.specs.declared.shape.Shape.{Shape}
 use Rattle.pm_memory.specs.Runs.{Stops}
 use Rattle.pm_view.specs.Blocks.{bitmap_word, descriptor_word}
 use Rattle.pm_view.specs.Changes.{is_in_line}
-use Rattle.pm_view.specs.Held.{is_reserved}
+use Rattle.pm_view.specs.Held.{is_known, is_reserved}
 use Rattle.pm_view.specs.View.{View}
 use Rattle.pm_view.specs.Views.{after_all}
 use Rattle.pm_world.specs.Sequences.{Sequence}
 use Rattle.pm_fresh.specs.Filled.{HasWholePool, IsAmong}
 use Rattle.pm_fresh.specs.Filling.{fills, fresh_word}
+use Rattle.pm_fresh.specs.Made.{touches}
 use Rattle.pm_blocks.specs.declared.making.NoBlock.{NoBlock}
 use Rattle.pm_blocks.specs.declared.making.NoBlock.TheVariants as no_block
 use Rattle.pm_blocks.specs.AnyBlocks.{HasNoRoom, HasRoom}
@@ -50,15 +51,18 @@ pub record IsOfNewRun (v : View) (block : Block) (u : ℕ) : Type 0 where
   pub undescribed : slice_index v.words (descriptor_word v.lanes (block.place / 4096)) ≡ 0
   pub tells : (u ≡ descriptor_word v.lanes (block.place / 4096)) ⊎ (u ≡ bitmap_word (block.place / 4096))
 
--- the memory may be seen as a view in which the block is a new object of the lane, persistent; no other word changed but of a new run
+-- The memory may be seen as a view in which the block is a new object, which holds so many bytes: the lane has reserved each of its words and knows it, and
+-- nothing undrained is of its lines. No other word changed but those of a new run, and nothing undrained is of a word that had nothing undrained.
 pub record HasObject (at : View → Type 0) (v : View) (size kind : ℕ) (block : Block) : Type 0 where
   pub view : View
   pub there : at view
-  pub some : 1 ≤ block.lines
+  pub holds : lines_for size ≤ block.lines
   pub words : (place : ℕ) → place < 8 * block.lines → slice_index view.words (8 * (block.place / 64) + place) ≡ fresh_word kind size place
   pub own : (place : ℕ) → place < 8 * block.lines → is_reserved view (8 * (block.place / 64) + place) ≡ true
+  pub known : (place : ℕ) → place < 8 * block.lines → is_known view (8 * (block.place / 64) + place) ≡ true
   pub persistent : (line : ℕ) → IsAmong (block.place / 64) block.lines line → list_any (is_in_line line) view.changes ≡ false
   pub others : (u : ℕ) → IsBeside block u → (IsOfNewRun v block u → ⊥) → slice_index view.words u ≡ slice_index v.words u
+  pub beside : (p : ℕ → Bool) → touches p v.changes ≡ false → touches p view.changes ≡ false
 
 -- why there is no object: no block was reserved, or the lane stopped as it filled the one that it reserved
 abbrev pub GivesNoObject : (View → Type 0) → View → ℕ → ℕ → NoBlock → Type 0

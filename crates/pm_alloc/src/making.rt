@@ -24,6 +24,8 @@ pub fn new_object<M: LawfulMem>(lane: &mut Lane<M>, size: u64, kind: u64) -> Res
     ensures else_same { lane.new ≡ record lane.old { memory = lane.new.memory } }
 {
     let block = reserve(lane, size)?;
-    fill(&mut lane.memory, block.place / LINE_BYTES, block.lines, Header { kind, size })?;
+    let line = block.place / LINE_BYTES;
+    let header = Header { kind, size };
+    fill(&mut lane.memory, line, block.lines, header)?;
     Ok(block)
 }

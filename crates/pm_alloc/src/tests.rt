@@ -52,8 +52,27 @@ fn two_objects(rt: HostRuntime) -> Result<(), Fail> {
     let places = [first.place, second.place];
     assert_eq!(rt; places, [20_544, 20_736]);
     let left = lane.memory.survive(rt.alloc(), 0)?;
-    let words = [left.get(2568), left.get(2569), left.get(2570), left.get(2591), left.get(2592), left.get(2593), left.get(2594)];
-    assert_eq!(rt; words, [Some(&9), Some(&100), Some(&0), Some(&0), Some(&8), Some(&90), Some(&0)]);
+    let words = [
+        left.get(2568),
+        left.get(2569),
+        left.get(2570),
+        left.get(2591),
+        left.get(2592),
+        left.get(2593),
+        left.get(2594),
+    ];
+    assert_eq!(rt;
+        words,
+        [
+            Some(&9),
+            Some(&100),
+            Some(&0),
+            Some(&0),
+            Some(&8),
+            Some(&90),
+            Some(&0)
+        ]
+    );
     Ok(())
 }
 
@@ -64,7 +83,10 @@ fn large_object(rt: HostRuntime) -> Result<(), Fail> {
     let large = make(&mut lane, 200_000, 5)?;
     assert_eq!(rt; large.place, 20_480);
     let left = lane.memory.survive(rt.alloc(), 0)?;
-    assert_eq!(rt; [left.get(2560), left.get(2561)], [Some(&5), Some(&200_000)]);
+    assert_eq!(rt;
+        [left.get(2560), left.get(2561)],
+        [Some(&5), Some(&200_000)]
+    );
     let full = Err(NoBlock::Refused(Refusal::NoSpace));
     assert_eq!(rt; new_object(&mut lane, 70_000, 5), full);
     Ok(())

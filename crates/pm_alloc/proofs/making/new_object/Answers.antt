@@ -1,8 +1,8 @@
-use Rattle.std.proofs.Common.{◌≡◌, Result, Ok, Err, IfErr, IsErrAnd, sym, subst, inr}
+use Rattle.std.proofs.Common.{sym, subst, inr}
 use Rattle.pm_layout.specs.Sizes.{class_of}
 use Rattle.pm_blocks.specs.declared.making.NoBlock.{NoBlock}
 use Rattle.pm_blocks.proofs.Taking.{if_err}
-use Rattle.pm_alloc.specs.NewObjects.{GivesNoObject, MayMakeAnother}
+use Rattle.pm_alloc.specs.NewObjects.{GivesNoObject}
 use Rattle.pm_alloc.proofs.Objects.{has_new, has_object, is_ready, may_next, next_of, stops}
 use Rattle.pm_alloc.proofs.making.new_object.Goals as goal
 
@@ -31,9 +31,11 @@ pub returns-in_err-fill-clause-none : goal.returns-in_err-fill-clause-none
 returns-in_err-fill-clause-none g c =
     if_err _ _ c.from_residual-in_err-fill.result c.from_residual-in_err-fill.ensures.1 (λ why is v there can.
     subst (λ (e : NoBlock). GivesNoObject (g.M.LaneMem.at c.fill.new.mem) v c.args.size c.args.kind e) (sym is)
-    (inr (c.in_ok-block.block,
-    stops v c.args.lane.now.shape can (g.M.LaneMem.at c.reserve.new.lane.memory) c.args.size c.args.kind c.in_ok-block.block (c.in_ok-block.ensures.got v there can.run)
-    (g.M.LaneMem.at c.fill.new.mem) c.in_err-fill.field-0.0 c.in_err-fill.ensures)))
+    (inr (
+      c.in_ok-block.block,
+      stops v c.args.lane.now.shape can (g.M.LaneMem.at c.reserve.new.lane.memory) c.args.size c.args.kind c.in_ok-block.block (c.in_ok-block.ensures.got v there can.run)
+          (g.M.LaneMem.at c.fill.new.mem) c.in_err-fill.field-0.0 c.in_err-fill.ensures,
+    )))
 
 pub returns-in_err-block-clause-next : goal.returns-in_err-block-clause-next
 returns-in_err-block-clause-next g c v there can =
