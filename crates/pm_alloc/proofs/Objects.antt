@@ -61,7 +61,13 @@ module _ (v : View) (shape : Shape) (can : CanMakeObject v shape) (at : View →
       pub has_new : HasNewObject new v size kind block
       has_new = room_then at v (λ w. new (after_all w (fills_block block kind size w))) (class_of size) block room there_then
 
-      pub has_object : HasObject new v size kind block
+      can_next : CanMakeObject y shape
+      can_next = record {
+        run = filled_may x shape (block.place / 64) block.lines kind size is.may is.pool is.some is.own y both.1;
+        pool = filled_pool x shape (block.place / 64) block.lines kind size is.may is.pool is.some is.own y both.1;
+      }
+
+      pub has_object : HasObject new v shape size kind block
       has_object = record {
         view = y;
         there = there_then;
@@ -72,19 +78,11 @@ module _ (v : View) (shape : Shape) (can : CanMakeObject v shape) (at : View →
         persistent = λ line among. both.1.drained line (inl among);
         others = λ u beside no. both.1.others u beside ∙ is.others u no;
         beside = λ p none. both.1.beside p (is.beside p none);
+        another = can_next;
       }
 
       pub may_next : (w : View) × (new w × CanMakeObject w shape)
-      may_next = (
-        y,
-        (
-          there_then,
-          record {
-            run = filled_may x shape (block.place / 64) block.lines kind size is.may is.pool is.some is.own y both.1;
-            pool = filled_pool x shape (block.place / 64) block.lines kind size is.may is.pool is.some is.own y both.1;
-          },
-        ),
-      )
+      may_next = (y, (there_then, can_next))
 
 -- ---- where none was reserved
 

@@ -52,8 +52,9 @@ pub record IsOfNewRun (v : View) (block : Block) (u : ℕ) : Type 0 where
   pub tells : (u ≡ descriptor_word v.lanes (block.place / 4096)) ⊎ (u ≡ bitmap_word (block.place / 4096))
 
 -- The memory may be seen as a view in which the block is a new object, which holds so many bytes: the lane has reserved each of its words and knows it, and
--- nothing undrained is of its lines. No other word changed but those of a new run, and nothing undrained is of a word that had nothing undrained.
-pub record HasObject (at : View → Type 0) (v : View) (size kind : ℕ) (block : Block) : Type 0 where
+-- nothing undrained is of its lines. No other word changed but those of a new run, and nothing undrained is of a word that had nothing undrained. From
+-- there the lane may make another object.
+pub record HasObject (at : View → Type 0) (v : View) (shape : Shape) (size kind : ℕ) (block : Block) : Type 0 where
   pub view : View
   pub there : at view
   pub holds : lines_for size ≤ block.lines
@@ -63,6 +64,7 @@ pub record HasObject (at : View → Type 0) (v : View) (size kind : ℕ) (block 
   pub persistent : (line : ℕ) → IsAmong (block.place / 64) block.lines line → list_any (is_in_line line) view.changes ≡ false
   pub others : (u : ℕ) → IsBeside block u → (IsOfNewRun v block u → ⊥) → slice_index view.words u ≡ slice_index v.words u
   pub beside : (p : ℕ → Bool) → touches p v.changes ≡ false → touches p view.changes ≡ false
+  pub another : CanMakeObject view shape
 
 -- why there is no object: no block was reserved, or the lane stopped as it filled the one that it reserved
 abbrev pub GivesNoObject : (View → Type 0) → View → ℕ → ℕ → NoBlock → Type 0

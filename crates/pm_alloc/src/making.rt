@@ -18,7 +18,7 @@ pub fn new_object<M: LawfulMem>(lane: &mut Lane<M>, size: u64, kind: u64) -> Res
     requires size { size ≤ MAX_SIZE }
     requires may { (v : View) × (M.at lane.old.memory v × CanMakeObject v lane.old.shape) }
     ensures got { IfOk result (λ block. (v : View) → M.at lane.old.memory v → CanMakeObject v lane.old.shape → HasNewObject (M.at lane.new.memory) v size kind block) }
-    ensures made { IfOk result (λ block. (v : View) → M.at lane.old.memory v → CanMakeObject v lane.old.shape → HasObject (M.at lane.new.memory) v size kind block) }
+    ensures made { IfOk result (λ block. (v : View) → M.at lane.old.memory v → CanMakeObject v lane.old.shape → HasObject (M.at lane.new.memory) v lane.old.shape size kind block) }
     ensures none { IfErr result (λ why. (v : View) → M.at lane.old.memory v → CanMakeObject v lane.old.shape → GivesNoObject (M.at lane.new.memory) v size kind why) }
     ensures next { (v : View) → M.at lane.old.memory v → CanMakeObject v lane.old.shape → MayMakeAnother (M.at lane.new.memory) lane.old.shape result }
     ensures else_same { lane.new ≡ record lane.old { memory = lane.new.memory } }
