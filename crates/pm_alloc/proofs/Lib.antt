@@ -1,0 +1,12 @@
+pub mod FilledRooms
+pub mod Fitting
+pub mod GoingOn
+pub mod MadePool
+pub mod NewRooms
+pub mod Objects
+pub mod Remaining
+pub mod Rooms
+pub mod RoomsInRuns
+pub mod RoomsOfChunks
+pub mod SomeRoom
+pub mod StillWhole

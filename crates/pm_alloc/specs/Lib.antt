@@ -1,0 +1,2 @@
+pub mod NewObjects
+pub mod Tests

@@ -1,0 +1,13 @@
+//! A new object: a block is reserved for it, and filled with its type, its size and zeros, all of it persistent.
+//!
+//! Promises whoever allocates for a lane that is alone and at work, over any lawful memory, a block as `pm_blocks` finds it, of which each word is that of
+//! a new object then and nothing is undrained; no word besides changed, but those of a run that was made for it; and, where the lane stops, what it made
+//! so far. Unless it stopped, it may make another object. It stands on `pm_blocks` and `pm_fresh`; docs/FORMAT.md, "Sizes" and "Sequences".
+#![tactic(auto)]
+
+mod making;
+
+pub use making::new_object;
+
+#[cfg(test)]
+mod tests;
