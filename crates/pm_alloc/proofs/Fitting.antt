@@ -1,7 +1,5 @@
 -- What an object takes has a class, or whole chunks.
-use Rattle.std.proofs.Common.{◌≡◌, ℕ, ◌*◌, ◌<◌, ◌≤◌, Bool, true, false, cond, All, IfSome, List, [], ◌∷◌, Option, Some, None, find, leb, lit<, refl, arith}
-use Rattle.std.proofs.lemmas.Bool.{leb-true}
-use Rattle.std.proofs.lemmas.Grind.{div_ceil_times}
+use Rattle.std.proofs.Common.{ℕ, ◌<◌, ◌≤◌, Bool, true, false, cond, All, IfSome, List, [], ◌∷◌, Option, Some, None, find, leb, lit<, arith}
 use Rattle.std.specs.Int.{div_ceil}
 use Rattle.std.specs.Option.{option_map_or}
 use Rattle.std.proofs.lemmas.List.Elements.{All-cons, All-head, All-nil, All-tail}
@@ -9,12 +7,10 @@ use Rattle.pm_layout.specs.Sizes.{IfChunks, IfLines, blocks_of, class_of, classe
 use Rattle.pm_layout.specs.declared.class.Class.{Class}
 use Rattle.pm_layout.specs.declared.class.Class.TheVariants.{Chunks, Lines}
 
--- a class has blocks, and whole chunks are one at least; both have so many lines
-pub record IsClass (need : ℕ) (class : Class) : Type 0 where
+-- a class has blocks, and whole chunks are one at least
+pub record IsClass (class : Class) : Type 0 where
   pub lines : IfLines class (λ lines. 0 < blocks_of lines)
   pub chunks : IfChunks class (λ chunks. 1 ≤ chunks)
-  pub lines_hold : IfLines class (λ lines. need ≤ lines)
-  pub chunks_hold : IfChunks class (λ chunks. need ≤ 64 * chunks)
 
 found_has : (p : ℕ → Bool) (xs : List ℕ) → All (λ n. 0 < blocks_of n) xs → IfSome (find p xs) (λ n. 0 < blocks_of n)
 found_has p [] all = tt
@@ -23,16 +19,9 @@ found_has p (x ∷ xs) all = at (p x) (All-head (λ n. 0 < blocks_of n) x xs all
   at true here rest = here
   at false here rest = rest
 
-found_holds : (need : ℕ) (xs : List ℕ) → IfSome (find (λ n. leb need n) xs) (λ n. need ≤ n)
-found_holds need [] = tt
-found_holds need (x ∷ xs) = at (leb need x) (λ is. leb-true need x is) (found_holds need xs) where
-  at : (b : Bool) → (b ≡ true → need ≤ x) → IfSome (find (λ n. leb need n) xs) (λ n. need ≤ n) → IfSome (cond b (Some x) (find (λ n. leb need n) xs)) (λ n. need ≤ n)
-  at true here rest = here refl
-  at false here rest = rest
-
-class_from : (need : ℕ) (found : Option ℕ) (chunks : ℕ) → IfSome found (λ n. 0 < blocks_of n) → IfSome found (λ n. need ≤ n) → 1 ≤ chunks → need ≤ 64 * chunks → IsClass need (option_map_or Lines found (Chunks chunks))
-class_from need None chunks has holds some most = record { lines = tt; chunks = some; lines_hold = tt; chunks_hold = most }
-class_from need (Some lines) chunks has holds some most = record { lines = has; chunks = tt; lines_hold = holds; chunks_hold = tt }
+class_from : (found : Option ℕ) (chunks : ℕ) → IfSome found (λ n. 0 < blocks_of n) → 1 ≤ chunks → IsClass (option_map_or Lines found (Chunks chunks))
+class_from None chunks has some = record { lines = tt; chunks = some }
+class_from (Some lines) chunks has some = record { lines = has; chunks = tt }
 
 all_have : All (λ n. 0 < blocks_of n) classes
 all_have =
@@ -42,10 +31,7 @@ all_have =
 some_chunks : (lines : ℕ) → 1 ≤ lines → 1 ≤ div_ceil lines 64
 some_chunks lines some = grind arith
 
-chunks_hold_all : (lines : ℕ) → lines ≤ 64 * div_ceil lines 64
-chunks_hold_all lines = let whole = (div_ceil_times lines 64 (omega arith)).0 in omega (arith, whole)
-
-pub class_fits : (size : ℕ) → IsClass (lines_for size) (class_of size)
+pub class_fits : (size : ℕ) → IsClass (class_of size)
 class_fits size =
     let need : ℕ = lines_for size in
-    class_from need (find (λ lines. leb need lines) classes) (div_ceil need 64) (found_has (λ lines. leb need lines) classes all_have) (found_holds need classes) (some_chunks need (omega arith)) (chunks_hold_all need)
+    class_from (find (λ lines. leb need lines) classes) (div_ceil need 64) (found_has (λ lines. leb need lines) classes all_have) (some_chunks need (omega arith))

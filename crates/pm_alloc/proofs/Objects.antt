@@ -3,7 +3,7 @@ use Rattle.std.proofs.Common.{◌≡◌, ℕ, ◌+◌, ◌*◌, ◌/◌, [], Res
 use Rattle.std.proofs.lemmas.Bool.{false≢true}
 use Rattle.std.proofs.lemmas.List.Elements.{All-nil}
 use Rattle.pm_image.specs.declared.block.Block.{Block}
-use Rattle.pm_layout.specs.Sizes.{class_of, lines_for}
+use Rattle.pm_layout.specs.Sizes.{class_of}
 use Rattle.pm_layout.specs.declared.class.Class.{Class}
 use Rattle.pm_layout.specs.declared.class.Class.TheVariants.{Chunks, Lines}
 use Rattle.pm_layout.specs.declared.shape.Shape.{Shape}
@@ -25,7 +25,7 @@ use Rattle.pm_alloc.specs.NewObjects.{CanMakeObject, HasNewObject, HasObject, Ha
 use Rattle.pm_alloc.proofs.Fitting.{class_fits}
 use Rattle.pm_alloc.proofs.FilledRooms.{filled, filled_may, filled_pool}
 use Rattle.pm_alloc.proofs.Rooms.{IsRoom}
-use Rattle.pm_alloc.proofs.SomeRoom.{has_room, room_holds, room_then, room_there, room_view}
+use Rattle.pm_alloc.proofs.SomeRoom.{has_room, room_lines, room_then, room_there, room_view}
 use Rattle.pm_alloc.proofs.StillWhole.{pool_still}
 
 module _ (v : View) (shape : Shape) (can : CanMakeObject v shape) (at : View → Type 0) (size kind : ℕ) (block : Block) (room : HasRoom at v (class_of size) block) where
@@ -36,7 +36,7 @@ module _ (v : View) (shape : Shape) (can : CanMakeObject v shape) (at : View →
   there = room_there at v (class_of size) block room
 
   is : IsRoom v x shape block
-  is = has_room at v shape can.run can.pool (lines_for size) (class_of size) block (class_fits size) room
+  is = has_room at v shape can.run can.pool (class_of size) block (class_fits size) room
 
   abbrev y : View
   y = after_all x (fills_block block kind size x)
@@ -71,7 +71,7 @@ module _ (v : View) (shape : Shape) (can : CanMakeObject v shape) (at : View →
       has_object = record {
         view = y;
         there = there_then;
-        holds = room_holds at v (lines_for size) (class_of size) block (class_fits size) room;
+        of_size = room_lines at v (class_of size) block room;
         words = both.1.there;
         own = λ place low. both.1.reserved (8 * (block.place / 64) + place) ∙ (is.own (8 * (block.place / 64) + place) (omega arith) (omega (arith, low))).0;
         known = both.1.knows;

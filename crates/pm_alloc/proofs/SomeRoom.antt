@@ -1,9 +1,10 @@
 -- The view in which the lane has room for an object, and what is made from there.
-use Rattle.std.proofs.Common.{ap, arith, ℕ, ◌≤◌, inl, inr, List}
+use Rattle.std.proofs.Common.{◌≡◌, ap, sym, inl, inr, List}
 use Rattle.pm_image.specs.declared.block.Block.{Block}
 use Rattle.pm_layout.specs.declared.class.Class.{Class}
 use Rattle.pm_layout.specs.declared.class.Class.TheVariants.{Chunks, Lines}
 use Rattle.pm_layout.specs.declared.shape.Shape.{Shape}
+use Rattle.pm_objects.specs.Pool.{block_lines}
 use Rattle.pm_view.specs.View.{Taken, View}
 use Rattle.pm_world.specs.Searches.{HasSearched}
 use Rattle.pm_fresh.specs.Filled.{HasWholePool}
@@ -76,14 +77,14 @@ module _ (at : View → Type 0) (v : View) where
     room.1,
   )
 
-  pub has_room : (shape : Shape) → MayMakeRun v shape → HasWholePool v → (need : ℕ) (class : Class) (block : Block) → IsClass need class → (room : HasRoom at v class block) → IsRoom v (room_view class block room) shape block
+  pub has_room : (shape : Shape) → MayMakeRun v shape → HasWholePool v → (class : Class) (block : Block) → IsClass class → (room : HasRoom at v class block) → IsRoom v (room_view class block room) shape block
   unfolding room_view
-  has_room shape may pool need (Lines lines) block is (inl found) = room_in_run v shape may pool at lines block found.0 found.1
-  has_room shape may pool need (Lines lines) block is (inr new) = new_room v shape may pool at lines block is.lines new.1
-  has_room shape may pool need (Chunks count) block is room = room_of_chunks v shape may pool at count block is.chunks room.0 room.1
+  has_room shape may pool (Lines lines) block is (inl found) = room_in_run v shape may pool at lines block found.0 found.1
+  has_room shape may pool (Lines lines) block is (inr new) = new_room v shape may pool at lines block is.lines new.1
+  has_room shape may pool (Chunks count) block is room = room_of_chunks v shape may pool at count block is.chunks room.0 room.1
 
   -- the block has as many lines as its class
-  pub room_holds : (need : ℕ) (class : Class) (block : Block) → IsClass need class → HasRoom at v class block → need ≤ block.lines
-  room_holds need (Lines lines) block is (inl found) = let same = ap (λ (b : Block). b.lines) found.1.is_block in let holds = is.lines_hold in omega (arith, same, holds)
-  room_holds need (Lines lines) block is (inr new) = let same = ap (λ (b : Block). b.lines) new.1.is_block in let holds = is.lines_hold in omega (arith, same, holds)
-  room_holds need (Chunks count) block is room = let same = ap (λ (b : Block). b.lines) room.0.is_block in let holds = is.chunks_hold in omega (arith, same, holds)
+  pub room_lines : (class : Class) (block : Block) → HasRoom at v class block → block_lines class ≡ block.lines
+  room_lines (Lines lines) block (inl found) = sym (ap (λ (b : Block). b.lines) found.1.is_block)
+  room_lines (Lines lines) block (inr new) = sym (ap (λ (b : Block). b.lines) new.1.is_block)
+  room_lines (Chunks count) block room = sym (ap (λ (b : Block). b.lines) room.0.is_block)

@@ -2,9 +2,10 @@
 use Rattle.std.specs.Prelude.{◌≡◌, ℕ, Bool, ◌⊎◌, ◌+◌, ◌*◌, ◌/◌, ◌<◌, ◌≤◌, true, false, Result, Err, slice_index}
 use Rattle.std.specs.List.{list_any}
 use Rattle.pm_image.specs.declared.block.Block.{Block}
-use Rattle.pm_layout.specs.Sizes.{class_of, lines_for}
+use Rattle.pm_layout.specs.Sizes.{class_of}
 use Rattle.pm_layout.specs.declared.shape.Shape.{Shape}
 use Rattle.pm_memory.specs.Runs.{Stops}
+use Rattle.pm_objects.specs.Pool.{block_lines}
 use Rattle.pm_view.specs.Blocks.{bitmap_word, descriptor_word}
 use Rattle.pm_view.specs.Changes.{is_in_line}
 use Rattle.pm_view.specs.Held.{is_known, is_reserved}
@@ -51,13 +52,13 @@ pub record IsOfNewRun (v : View) (block : Block) (u : ℕ) : Type 0 where
   pub undescribed : slice_index v.words (descriptor_word v.lanes (block.place / 4096)) ≡ 0
   pub tells : (u ≡ descriptor_word v.lanes (block.place / 4096)) ⊎ (u ≡ bitmap_word (block.place / 4096))
 
--- The memory may be seen as a view in which the block is a new object, which holds so many bytes: the lane has reserved each of its words and knows it, and
+-- The memory may be seen as a view in which the block is a new object, and of the class of so many bytes: the lane has reserved each of its words and knows it, and
 -- nothing undrained is of its lines. No other word changed but those of a new run, and nothing undrained is of a word that had nothing undrained. From
 -- there the lane may make another object.
 pub record HasObject (at : View → Type 0) (v : View) (shape : Shape) (size kind : ℕ) (block : Block) : Type 0 where
   pub view : View
   pub there : at view
-  pub holds : lines_for size ≤ block.lines
+  pub of_size : block_lines (class_of size) ≡ block.lines
   pub words : (place : ℕ) → place < 8 * block.lines → slice_index view.words (8 * (block.place / 64) + place) ≡ fresh_word kind size place
   pub own : (place : ℕ) → place < 8 * block.lines → is_reserved view (8 * (block.place / 64) + place) ≡ true
   pub known : (place : ℕ) → place < 8 * block.lines → is_known view (8 * (block.place / 64) + place) ≡ true
