@@ -3,3 +3,4 @@ pub mod PublishedPools
 pub mod PublishedImages
 pub mod ReservedBlocks
 pub mod OwnBits
+pub mod FilledBlocks

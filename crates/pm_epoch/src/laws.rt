@@ -1,7 +1,8 @@
 ghost use Rattle.std.specs.Prelude.{◌≡◌, ◌≢◌, ◌↔◌, ℕ, ◌+◌, ◌*◌, ◌<◌, ◌≤◌, Bool, true, false, All, Contains, List, ◌++◌, map, slice_index, None, Some};
 ghost use Rattle.pm_header.specs.declared.header.Header.{Header};
+ghost use Rattle.pm_objects.specs.Pool.{block_lines};
 ghost use Rattle.pm_objects.specs.declared.pool.PoolView.{PoolView};
-ghost use Rattle.pm_layout.specs.Sizes.{descriptor_of};
+ghost use Rattle.pm_layout.specs.Sizes.{class_of, descriptor_of};
 ghost use Rattle.pm_layout.specs.declared.class.Class.TheVariants.{Lines};
 ghost use Rattle.pm_image.specs.Blocks.{blocks, descriptor_word};
 ghost use Rattle.pm_image.specs.HeapFaults.{heap_fault};
@@ -22,11 +23,12 @@ ghost use Rattle.pm_world.specs.Memory.Location.{PoolWord};
 ghost use Rattle.pm_world.specs.Opening.{Opening};
 ghost use Rattle.pm_world.specs.World.{Views, World};
 ghost use Rattle.pm_crash.specs.HeapChanges.{CanChange, HeapChange, MayBeFreed, run_at};
-ghost use Rattle.pm_crash.specs.NewObjects.{AreFreeChunks, IsFreeInRun};
+ghost use Rattle.pm_crash.specs.NewObjects.{AreFreeChunks, IsFreeInRun, IsFreshBlock};
 ghost use Rattle.pm_crash.specs.Held.{HoldsImage, HoldsPool};
 ghost use Rattle.pm_crash.specs.Publishing.Published.{Changes, Performs};
 ghost use Rattle.pm_crash.specs.Publishing.{AreInOrder, Published, all_blocks_published, all_pool_published};
 ghost use Rattle.pm_crash.specs.Taken.{TakenBehindAll};
+ghost use Rattle.pm_fresh.specs.Filled.{IsFilled};
 ghost use Rattle.pm_sealed.specs.Sealed.{LeavesSealed, Publishes, has_nothing};
 ghost use Rattle.pm_epoch.specs.Epochs.{AreOfOwnBits, IsUnusedChunk, MayPublish};
 
@@ -48,6 +50,12 @@ pub fn a_lane_alone_may_change_its_blocks()
         → heap_fault (slice_index (views k).words) o.lanes o.zones ≡ None → Contains (views k).locks l → l.block ≡ Some lines
         → slice_index (views k).words 64 ≢ 64 * l.line + 64
         → MayBeFreed (slice_index (views k).words) o.lanes o.zones (record { place = 64 * l.line; lines = lines }) }
+{}
+
+/// A law: the block that a lane filled for an object has a new object's words in the lane's view. No code runs.
+pub fn a_filled_block_is_fresh()
+    ensures { (v w : View) (line lines kind size : ℕ) → IsFilled v line lines kind size w → 1 ≤ size → size ≤ 262080 → block_lines (class_of size) ≡ lines
+        → IsFreshBlock (slice_index w.words) (record { place = 64 * line; lines = lines }) kind size }
 {}
 
 /// A law: changes of the heap that may be made of the same words, no two of one bit of an occupancy word, may be published in any order, behind
