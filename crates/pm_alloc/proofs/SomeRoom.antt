@@ -9,6 +9,7 @@ use Rattle.pm_world.specs.Searches.{HasSearched}
 use Rattle.pm_fresh.specs.Filled.{HasWholePool}
 use Rattle.pm_blocks.specs.AnyBlocks.{HasRoom}
 use Rattle.pm_blocks.specs.NewRuns.{MayMakeRun, with_run}
+use Rattle.pm_alloc.specs.NewObjects.{ArePictured}
 use Rattle.pm_alloc.proofs.Fitting.{IsClass}
 use Rattle.pm_alloc.proofs.NewRooms.{new_room}
 use Rattle.pm_alloc.proofs.Rooms.{IsRoom}
@@ -76,11 +77,11 @@ module _ (at : View → Type 0) (v : View) where
     room.1,
   )
 
-  pub has_room : (shape : Shape) → MayMakeRun v shape → HasWholePool v → (need : ℕ) (class : Class) (block : Block) → IsClass need class → (room : HasRoom at v class block) → IsRoom v (room_view class block room) shape block
+  pub has_room : (shape : Shape) → MayMakeRun v shape → HasWholePool v → ArePictured v → (need : ℕ) (class : Class) (block : Block) → IsClass need class → (room : HasRoom at v class block) → IsRoom v (room_view class block room) shape block
   unfolding room_view
-  has_room shape may pool need (Lines lines) block is (inl found) = room_in_run v shape may pool at lines block found.0 found.1
-  has_room shape may pool need (Lines lines) block is (inr new) = new_room v shape may pool at lines block is.lines new.1
-  has_room shape may pool need (Chunks count) block is room = room_of_chunks v shape may pool at count block is.chunks room.0 room.1
+  has_room shape may pool pictured need (Lines lines) block is (inl found) = room_in_run v shape may pool pictured at lines block found.0 found.1
+  has_room shape may pool pictured need (Lines lines) block is (inr new) = new_room v shape may pool pictured at lines block is.lines new.1
+  has_room shape may pool pictured need (Chunks count) block is room = room_of_chunks v shape may pool pictured at count block is.chunks room.0 room.1
 
   -- the block has as many lines as its class
   pub room_holds : (need : ℕ) (class : Class) (block : Block) → IsClass need class → HasRoom at v class block → need ≤ block.lines
