@@ -60,8 +60,8 @@ pub record IsOfNewRun (v : View) (block : Block) (u : ℕ) : Type 0 where
   pub tells : (u ≡ descriptor_word v.lanes (block.place / 4096)) ⊎ (u ≡ bitmap_word (block.place / 4096))
 
 -- The memory may be seen as a view in which the block is a new object, which holds so many bytes: the lane has reserved each of its words, of which it had
--- reserved none, and knows it, and nothing undrained is of its lines. No other word changed but those of a new run, and nothing undrained is of a word that had nothing undrained. From
--- there the lane may make another object.
+-- reserved none, and knows it, and nothing undrained is of its lines. No other word changed but those of a new run, and nothing undrained is of a word
+-- that had nothing undrained. From there the lane may make another object.
 pub record HasObject (at : View → Type 0) (v : View) (shape : Shape) (size kind : ℕ) (block : Block) : Type 0 where
   pub view : View
   pub there : at view
