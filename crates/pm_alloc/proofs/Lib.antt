@@ -4,9 +4,11 @@ pub mod GoingOn
 pub mod MadePool
 pub mod NewRooms
 pub mod Objects
+pub mod Pictures
 pub mod Remaining
 pub mod Rooms
 pub mod RoomsInRuns
 pub mod RoomsOfChunks
 pub mod SomeRoom
 pub mod StillWhole
+pub mod Unreserved

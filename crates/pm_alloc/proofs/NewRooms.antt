@@ -1,7 +1,7 @@
 -- The first block of a new run has room for an object.
-use Rattle.std.proofs.Common.{◌≡◌, ◌⊎◌, inl, inr, ℕ, ◌+◌, ◌*◌, ◌/◌, ◌<◌, ◌≤◌, true, false, [], ◌∷◌, slice_index, Bool, refl, sym, ap, ◌∙◌, subst, arith}
+use Rattle.std.proofs.Common.{◌≡◌, ◌⊎◌, inl, inr, ⊎_elim, ℕ, ◌+◌, ◌*◌, ◌/◌, ◌<◌, ◌≤◌, true, false, [], ◌∷◌, slice_index, Bool, refl, sym, ap, ◌∙◌, subst, arith}
 use Rattle.std.specs.List.{list_any}
-use Rattle.std.proofs.lemmas.Bool.{or_left, or_right}
+use Rattle.std.proofs.lemmas.Bool.{false≢true, or_left, or_right}
 use Rattle.std.proofs.lemmas.List.Folds.{list_any-append}
 use Rattle.pm_image.specs.declared.block.Block.{Block}
 use Rattle.pm_image.proofs.Rooms.{run_fits}
@@ -20,14 +20,17 @@ use Rattle.pm_fresh.specs.Making.{page_in, run_at}
 use Rattle.pm_blocks.proofs.Onward.{another}
 use Rattle.pm_blocks.proofs.Taking.{can, least_is_free}
 use Rattle.pm_blocks.specs.NewRuns.{HasNewRun, IsUnused, MayMakeRun, with_run}
-use Rattle.pm_alloc.specs.NewObjects.{IsOfNewRun}
+use Rattle.pm_alloc.specs.NewObjects.{ArePictured, IsOfNewRun}
+use Rattle.pm_alloc.proofs.Pictures.{pictured_made, pictured_still}
+use Rattle.pm_alloc.proofs.Unreserved.{block_number, reserved_by}
+use Rattle.pm_view.specs.Views.{has_chunk, reserves}
 use Rattle.pm_alloc.proofs.MadePool.{made_pool}
 use Rattle.pm_alloc.proofs.Rooms.{IsRoom, plain_word}
 use Rattle.pm_alloc.proofs.RoomsInRuns.{block_covers, on_page}
 use Rattle.pm_alloc.proofs.RoomsOfChunks.{pool_of_chunks}
 use Rattle.pm_alloc.proofs.StillWhole.{beside_still, words_still}
 
-module _ (v : View) (shape : Shape) (may : MayMakeRun v shape) (pool : HasWholePool v) (at : View → Type 0) (lines : ℕ) (block : Block) (class : 0 < blocks_of lines) (run : HasNewRun at v lines block) where
+module _ (v : View) (shape : Shape) (may : MayMakeRun v shape) (pool : HasWholePool v) (pictured : ArePictured v) (at : View → Type 0) (lines : ℕ) (block : Block) (class : 0 < blocks_of lines) (run : HasNewRun at v lines block) where
   abbrev zone : ℕ
   zone = run.zone
 
@@ -93,9 +96,19 @@ module _ (v : View) (shape : Shape) (may : MayMakeRun v shape) (pool : HasWholeP
   unfolding got
   can_make = subst (λ n. CanMakeRun w (page_in n zone chunk) lines) (sym lanes_same) (can v shape may lines class (λ z. at (with_run zone chunk lines z)) whole got run.least)
 
-  pool_now : HasWholePool u
+  pool_then : HasWholePool w
   unfolding got
-  pool_now = made_pool w u page lines (pool_of_chunks v shape may pool (λ z. at (with_run zone chunk lines z)) 1 whole (omega arith) got run.least) can_make made
+  pool_then = pool_of_chunks v shape may pool pictured (λ z. at (with_run zone chunk lines z)) 1 whole (omega arith) got run.least
+
+  pictured_then : ArePictured w
+  unfolding got
+  pictured_then = pictured_still v shape may pictured (λ z. at (with_run zone chunk lines z)) (taken_chunks zone chunk 1 ∷ []) _ got.searched pool_then
+
+  pictured_now : ArePictured u
+  pictured_now = pictured_made w u page lines pictured_then pool_then can_make made run.made.holds.1
+
+  pool_now : HasWholePool u
+  pool_now = made_pool w u page lines pool_then can_make made
 
   is_chunk_here : IsChunk w.lanes page
   is_chunk_here = page_in_chunk w.lanes zone chunk low
@@ -128,6 +141,16 @@ module _ (v : View) (shape : Shape) (may : MayMakeRun v shape) (pool : HasWholeP
   page_is : block.place / 4096 ≡ page_in v.lanes zone chunk
   page_is = let place = ap (λ (b : Block). b.place) run.is_block in omega (arith, place)
 
+  not_reserved : (q : ℕ) → 8 * (block.place / 64) ≤ q → q < 8 * (block.place / 64 + block.lines) → is_reserved v q ≡ true → ⊥
+  not_reserved q from to has =
+      let there : ℕ = page_in v.lanes zone chunk in
+      let here : q / 512 ≡ there = on_page w.lanes page lines 0 q u.words block.place block.lines class place_is lines_are described from to ∙ ap (λ n. page_in n zone chunk) lanes_same in
+      let plain : describes v.lanes q ≡ false = plain_word v.lanes q (subst (λ p. 1 ≤ chunk_of v.lanes p) (sym here) (page_in_chunk v.lanes zone chunk low).1) in
+      ⊎_elim
+      (λ (by_chunk : has_chunk v there ≡ true). false≢true (sym unused.no_chunk ∙ by_chunk))
+      (λ (by_block : reserves v (run_at there) (block_number v pool there q) ≡ true). false≢true (sym (unused.no_block (block_number v pool there q)) ∙ by_block))
+      (reserved_by v pool there q here plain has)
+
   page_then : page ≡ block.place / 4096
   page_then = ap (λ n. page_in n zone chunk) lanes_same ∙ sym page_is
 
@@ -142,6 +165,8 @@ module _ (v : View) (shape : Shape) (may : MayMakeRun v shape) (pool : HasWholeP
   new_room = record {
     may = another v shape may at lines block run;
     pool = pool_now;
+    pictured = pictured_now;
+    fresh = not_reserved;
     some = (let has = has_lines lines 0 class in let same = lines_are in omega (arith, has, same));
     own = own_first;
     beside = λ p none. made.beside p (beside_here p none);

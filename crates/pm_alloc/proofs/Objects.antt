@@ -1,6 +1,6 @@
 -- What a lane makes of the block that it reserved, and what it may do behind that.
 use Rattle.std.proofs.Common.{◌≡◌, ℕ, ◌+◌, ◌*◌, ◌/◌, [], Result, Ok, Err, IsErrAnd, sym, ◌∙◌, subst, arith, inl}
-use Rattle.std.proofs.lemmas.Bool.{false≢true}
+use Rattle.std.proofs.lemmas.Bool.{false_from_ne_true, false≢true}
 use Rattle.std.proofs.lemmas.List.Elements.{All-nil}
 use Rattle.pm_image.specs.declared.block.Block.{Block}
 use Rattle.pm_layout.specs.Sizes.{class_of}
@@ -11,12 +11,13 @@ use Rattle.pm_memory.specs.Runs.{Stops}
 use Rattle.pm_memory.specs.declared.lane_mem.Stopped.{Stopped}
 use Rattle.pm_objects.specs.declared.refusal.Refusal.{Refusal}
 use Rattle.pm_objects.specs.declared.refusal.Refusal.TheVariants as refusal
+use Rattle.pm_view.specs.Held.{is_reserved}
 use Rattle.pm_view.specs.View.{Taken, View}
 use Rattle.pm_view.specs.Views.{after_all}
 use Rattle.pm_world.specs.Heap.{IsOcc}
 use Rattle.pm_world.specs.Searches.{HasSearched}
 use Rattle.pm_world.specs.Sequences.{IsReady, Ready, Runs}
-use Rattle.pm_fresh.specs.Filled.{IsFilled}
+use Rattle.pm_fresh.specs.Filled.{HasWholePool, IsFilled}
 use Rattle.pm_blocks.proofs.StillMay.{may_still}
 use Rattle.pm_blocks.specs.declared.making.NoBlock.{NoBlock}
 use Rattle.pm_blocks.specs.declared.making.NoBlock.TheVariants as no_block
@@ -24,6 +25,7 @@ use Rattle.pm_blocks.specs.AnyBlocks.{HasNoRoom, HasRoom}
 use Rattle.pm_alloc.specs.NewObjects.{CanMakeObject, HasNewObject, HasObject, HasStoppedFilling, MayMakeAnother, fills_block}
 use Rattle.pm_alloc.proofs.Fitting.{class_fits}
 use Rattle.pm_alloc.proofs.FilledRooms.{filled, filled_may, filled_pool}
+use Rattle.pm_alloc.proofs.Pictures.{pictured_filled, pictured_still}
 use Rattle.pm_alloc.proofs.Rooms.{IsRoom}
 use Rattle.pm_alloc.proofs.SomeRoom.{has_room, room_lines, room_then, room_there, room_view}
 use Rattle.pm_alloc.proofs.StillWhole.{pool_still}
@@ -36,7 +38,7 @@ module _ (v : View) (shape : Shape) (can : CanMakeObject v shape) (at : View →
   there = room_there at v (class_of size) block room
 
   is : IsRoom v x shape block
-  is = has_room at v shape can.run can.pool (class_of size) block (class_fits size) room
+  is = has_room at v shape can.run can.pool can.pictured (class_of size) block (class_fits size) room
 
   abbrev y : View
   y = after_all x (fills_block block kind size x)
@@ -65,6 +67,7 @@ module _ (v : View) (shape : Shape) (can : CanMakeObject v shape) (at : View →
       can_next = record {
         run = filled_may x shape (block.place / 64) block.lines kind size is.may is.pool is.some is.own y both.1;
         pool = filled_pool x shape (block.place / 64) block.lines kind size is.may is.pool is.some is.own y both.1;
+        pictured = pictured_filled x (block.place / 64) block.lines kind size y both.1 is.pictured;
       }
 
       pub has_object : HasObject new v shape size kind block
@@ -73,6 +76,7 @@ module _ (v : View) (shape : Shape) (can : CanMakeObject v shape) (at : View →
         there = there_then;
         of_size = room_lines at v (class_of size) block room;
         words = both.1.there;
+        fresh = λ place low. false_from_ne_true (is_reserved v (8 * (block.place / 64) + place)) (is.fresh (8 * (block.place / 64) + place) (omega arith) (omega (arith, low)));
         own = λ place low. both.1.reserved (8 * (block.place / 64) + place) ∙ (is.own (8 * (block.place / 64) + place) (omega arith) (omega (arith, low))).0;
         known = both.1.knows;
         persistent = λ line among. both.1.drained line (inl among);
@@ -87,6 +91,9 @@ module _ (v : View) (shape : Shape) (can : CanMakeObject v shape) (at : View →
 -- ---- where none was reserved
 
 module _ (v : View) (shape : Shape) (can : CanMakeObject v shape) (at : View → Type 0) where
+  pool_now : (Q : View → Type 0) (searched : HasSearched at v [] Q) → HasWholePool searched.view
+  pool_now Q searched = pool_still v shape can.run at [] Q searched can.pool (All-nil (λ (t : Taken). IsOcc v.lanes v.zones t.at)) (λ u start plain has. absurd (false≢true has))
+
   searched_none : (Q : View → Type 0) → HasSearched at v [] Q → (w : View) × (at w × CanMakeObject w shape)
   searched_none Q searched = (
     searched.view,
@@ -94,7 +101,8 @@ module _ (v : View) (shape : Shape) (can : CanMakeObject v shape) (at : View →
       searched.there,
       record {
         run = may_still v shape can.run at [] Q searched;
-        pool = pool_still v shape can.run at [] Q searched can.pool (All-nil (λ (t : Taken). IsOcc v.lanes v.zones t.at)) (λ u start plain has. absurd (false≢true has));
+        pool = pool_now Q searched;
+        pictured = pictured_still v shape can.run can.pictured at [] Q searched (pool_now Q searched);
       },
     ),
   )

@@ -10,13 +10,15 @@ use Rattle.pm_world.proofs.HeapWords.{described}
 use Rattle.pm_fresh.specs.Filled.{HasWholePool}
 use Rattle.pm_fresh.specs.Made.{touches}
 use Rattle.pm_blocks.specs.NewRuns.{MayMakeRun}
-use Rattle.pm_alloc.specs.NewObjects.{IsOfNewRun}
+use Rattle.pm_alloc.specs.NewObjects.{ArePictured, IsOfNewRun}
 
 -- the lane may make the block a new object, which it reserved since the first view; no word changed but of a new run
 pub record IsRoom (v x : View) (shape : Shape) (block : Block) : Type 0 where
   pub may : MayMakeRun x shape
   pub pool : HasWholePool x
+  pub pictured : ArePictured x
   pub some : 1 ≤ block.lines
+  pub fresh : (u : ℕ) → 8 * (block.place / 64) ≤ u → u < 8 * (block.place / 64 + block.lines) → is_reserved v u ≡ true → ⊥
   pub own : (u : ℕ) → 8 * (block.place / 64) ≤ u → u < 8 * (block.place / 64 + block.lines) → (is_reserved x u ≡ true) × (describes x.lanes u ≡ false)
   pub beside : (p : ℕ → Bool) → touches p v.changes ≡ false → touches p x.changes ≡ false
   pub others : (u : ℕ) → (IsOfNewRun v block u → ⊥) → slice_index x.words u ≡ slice_index v.words u

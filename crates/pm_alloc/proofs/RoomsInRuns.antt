@@ -2,7 +2,7 @@
 use Rattle.std.proofs.Common.{◌≡◌, ⊎_elim, ℕ, ◌+◌, ◌-◌, ◌*◌, ◌/◌, ◌%◌, ◌^◌, ◌<◌, ◌≤◌, ◌&&◌, eqb, leb, true, false, All, List, [], ◌∷◌, slice_index, refl, sym, ap, ◌∙◌, subst, arith, eq-eqb}
 use Rattle.std.specs.Int.{bit_at}
 use Rattle.std.specs.List.{list_any}
-use Rattle.std.proofs.Math.Nat.{mul_comm}
+use Rattle.std.proofs.Math.Nat.{mul-div_cancel_left, mul_comm}
 use Rattle.std.proofs.lemmas.Bool.{and_from, false≢true, le-leb, or_cases, or_left}
 use Rattle.std.proofs.lemmas.List.Elements.{All-cons, All-nil}
 use Rattle.std.proofs.lemmas.Nat.{div-mul-add}
@@ -23,6 +23,11 @@ use Rattle.pm_runs.specs.Runs.{HasGot, IsLeastFree, page_of, taken_block}
 use Rattle.pm_fresh.specs.Filled.{HasWholePool}
 use Rattle.pm_blocks.proofs.StillMay.{may_still}
 use Rattle.pm_blocks.specs.NewRuns.{MayMakeRun}
+use Rattle.pm_alloc.specs.NewObjects.{ArePictured}
+use Rattle.pm_alloc.proofs.Pictures.{pictured_still}
+use Rattle.pm_alloc.proofs.Unreserved.{block_number, no_chunk_of_run, reserved_by}
+use Rattle.pm_view.specs.Views.{has_chunk, occ_in, reserves}
+use Rattle.pm_fresh.specs.Making.{run_at}
 use Rattle.pm_alloc.proofs.Rooms.{IsRoom, plain_word}
 use Rattle.pm_alloc.proofs.StillWhole.{beside_still, lanes_still, own_still, pool_still, words_still}
 
@@ -47,7 +52,7 @@ module _ (lanes page lines index u : ℕ) (words : List ℕ) (place n : ℕ) (in
   high : u % 512 / 8 - 1 < lines * index + lines
   high = let line = line_is in let room = fits in let page_here = on_page in omega (arith, line, room, from, to, lines_are, page_here)
 
-  number : (u % 512 / 8 - 1) / lines ≡ index
+  pub number : (u % 512 / 8 - 1) / lines ≡ index
   number =
       let rest : ℕ = u % 512 / 8 - 1 - lines * index in
       let least = low in let most = high in
@@ -65,7 +70,7 @@ module _ (lanes page lines index u : ℕ) (words : List ℕ) (place n : ℕ) (in
       (and_from (eqb (u / 512) (4096 * page / 4096)) (leb 8 (u % 512)) (eq-eqb (u / 512) (4096 * page / 4096) (on_page ∙ here)) (le-leb 8 (u % 512) behind))
       (eq-eqb (bit_at (2 ^ index) ((u % 512 / 8 - 1) / d)) 1 bit)
 
-module _ (v : View) (shape : Shape) (may : MayMakeRun v shape) (pool : HasWholePool v) (at : View → Type 0) (lines : ℕ) (block : Block) (got : HasGot at v block) (least : IsLeastFree v lines block) where
+module _ (v : View) (shape : Shape) (may : MayMakeRun v shape) (pool : HasWholePool v) (pictured : ArePictured v) (at : View → Type 0) (lines : ℕ) (block : Block) (got : HasGot at v block) (least : IsLeastFree v lines block) where
   abbrev w : View
   w = got.searched.view
 
@@ -116,10 +121,39 @@ module _ (v : View) (shape : Shape) (may : MayMakeRun v shape) (pool : HasWholeP
         ap (λ n. describes n u) (lanes_still v shape may at blocks _ got.searched) ∙ plain_word v.lanes u (subst (λ p. 1 ≤ chunk_of v.lanes p) (sym here) chunk.1),
       )
 
+  index_same : got.index ≡ least.index
+  index_same =
+      let here = place_is in let there = ap (λ (b : Block). b.place) least.is_block in
+      let room = run_fits block.lines got.index got.in_run in let other = run_fits lines least.index least.free.in_run in
+      let some = has_lines lines least.index least.free.in_run in
+      let as_many : block.lines * got.index ≡ lines * got.index = ap (λ n. n * got.index) lines_same in
+      let same : lines * got.index ≡ lines * least.index = omega (arith, here, there, room, other, as_many) in
+      sym (mul-div_cancel_left got.index some) ∙ (ap (λ n. n / lines) same ∙ mul-div_cancel_left least.index some)
+
+  is_run_here : is_run (slice_index v.words (descriptor_word v.lanes page)) ≡ true
+  is_run_here = let is = ap (λ p. slice_index v.words (descriptor_word v.lanes p)) page_same ∙ least.free.is_run in eq-eqb (slice_index v.words (descriptor_word v.lanes page) % 256) 1 (omega (arith, is))
+
+  not_reserved : (u : ℕ) → 8 * (block.place / 64) ≤ u → u < 8 * (block.place / 64 + block.lines) → is_reserved v u ≡ true → ⊥
+  not_reserved u from to has =
+      let here = on_page v.lanes page block.lines got.index u v.words block.place block.lines got.in_run place_is refl described from to in
+      let n = number v.lanes page block.lines got.index u v.words block.place block.lines got.in_run place_is refl described from to in
+      let plain = plain_word v.lanes u (subst (λ p. 1 ≤ chunk_of v.lanes p) (sym here) chunk.1) in
+      let is : block_number v pool page u ≡ least.index = ap (λ d. (u % 512 / 8 - 1) / d) described ∙ (n ∙ index_same) in
+      ⊎_elim
+      (λ (by_chunk : has_chunk v page ≡ true). no_chunk_of_run v pool page chunk is_run_here by_chunk)
+      (λ (by_block : reserves v (run_at page) (block_number v pool page u) ≡ true).
+      least.free.clear (subst (λ p. bit_at (occ_in v (run_at p)) least.index ≡ 1) page_same (subst (λ k. bit_at (occ_in v (run_at page)) k ≡ 1) is (pictured.taken (run_at page) (block_number v pool page u) by_block))))
+      (reserved_by v pool page u here plain has)
+
+  pool_now : HasWholePool w
+  pool_now = pool_still v shape may at blocks _ got.searched pool of_pool no_run
+
   pub room_in_run : IsRoom v w shape block
   room_in_run = record {
     may = may_still v shape may at blocks _ got.searched;
-    pool = pool_still v shape may at blocks _ got.searched pool of_pool no_run;
+    pool = pool_now;
+    pictured = pictured_still v shape may pictured at blocks _ got.searched pool_now;
+    fresh = not_reserved;
     some = has_lines block.lines got.index got.in_run;
     own = own_block;
     beside = beside_still v shape may at blocks _ got.searched;

@@ -16,14 +16,18 @@ use Rattle.pm_world.specs.Heap.{IsOcc}
 use Rattle.pm_chunks.proofs.ChunkBits.{bit_inside}
 use Rattle.pm_chunks.specs.Chunks.{AreFree, AreLeastFree, HasGot, chunk_bits, taken_chunks}
 use Rattle.pm_fresh.specs.Filled.{HasWholePool}
-use Rattle.pm_fresh.specs.Making.{page_in}
+use Rattle.pm_fresh.specs.Making.{page_in, run_at}
 use Rattle.pm_blocks.proofs.StillMay.{may_still}
 use Rattle.pm_blocks.specs.NewRuns.{IsUnused, MayMakeRun}
+use Rattle.pm_alloc.specs.NewObjects.{ArePictured}
+use Rattle.pm_alloc.proofs.Pictures.{pictured_still}
+use Rattle.pm_alloc.proofs.Unreserved.{block_number, reserved_by}
+use Rattle.pm_view.specs.Views.{has_chunk, reserves}
 use Rattle.pm_alloc.proofs.Remaining.{set_inside}
 use Rattle.pm_alloc.proofs.Rooms.{IsRoom, plain_word}
 use Rattle.pm_alloc.proofs.StillWhole.{beside_still, lanes_still, own_still, pool_still, words_still}
 
-module _ (v : View) (shape : Shape) (may : MayMakeRun v shape) (pool : HasWholePool v) (at : View → Type 0) (count : ℕ) (block : Block) (some : 1 ≤ count) (got : HasGot at v count block) (least : AreLeastFree v count block) where
+module _ (v : View) (shape : Shape) (may : MayMakeRun v shape) (pool : HasWholePool v) (pictured : ArePictured v) (at : View → Type 0) (count : ℕ) (block : Block) (some : 1 ≤ count) (got : HasGot at v count block) (least : AreLeastFree v count block) where
   abbrev zone : ℕ
   zone = got.zone
 
@@ -119,10 +123,25 @@ module _ (v : View) (shape : Shape) (may : MayMakeRun v shape) (pool : HasWholeP
       ap (λ n. describes n u) (lanes_still v shape may at blocks _ got.searched) ∙ plain,
     )
 
+    is_page : u / 512 ≡ page_in v.lanes zone (chunk_of v.lanes (u / 512) - 1)
+    is_page = let low = page_from in let n = number in omega (arith, low, n)
+
+    pub not_reserved : is_reserved v u ≡ true → ⊥
+    not_reserved has =
+        let low = page_from in let high = page_to in let n = number in
+        let it = unused (chunk_of v.lanes (u / 512) - 1) (omega (arith, low, n)) (omega (arith, high, n, low)) in
+        let page : ℕ = page_in v.lanes zone (chunk_of v.lanes (u / 512) - 1) in
+        ⊎_elim
+        (λ (by_chunk : has_chunk v page ≡ true). false≢true (sym it.no_chunk ∙ by_chunk))
+        (λ (by_block : reserves v (run_at page) (block_number v pool page u) ≡ true). false≢true (sym (it.no_block (block_number v pool page u)) ∙ by_block))
+        (reserved_by v pool page u is_page plain has)
+
   pub room_of_chunks : IsRoom v w shape block
   room_of_chunks = record {
     may = may_still v shape may at blocks _ got.searched;
     pool = pool_of_chunks;
+    pictured = pictured_still v shape may pictured at blocks _ got.searched pool_of_chunks;
+    fresh = not_reserved;
     some = (let lines = ap (λ (b : Block). b.lines) got.is_block in omega (arith, lines, some));
     own = own_chunk;
     beside = beside_still v shape may at blocks _ got.searched;

@@ -10,6 +10,7 @@ use Rattle.pm_world.specs.Searches.{HasSearched}
 use Rattle.pm_fresh.specs.Filled.{HasWholePool}
 use Rattle.pm_blocks.specs.AnyBlocks.{HasRoom}
 use Rattle.pm_blocks.specs.NewRuns.{MayMakeRun, with_run}
+use Rattle.pm_alloc.specs.NewObjects.{ArePictured}
 use Rattle.pm_alloc.proofs.Fitting.{IsClass}
 use Rattle.pm_alloc.proofs.NewRooms.{new_room}
 use Rattle.pm_alloc.proofs.Rooms.{IsRoom}
@@ -77,11 +78,11 @@ module _ (at : View → Type 0) (v : View) where
     room.1,
   )
 
-  pub has_room : (shape : Shape) → MayMakeRun v shape → HasWholePool v → (class : Class) (block : Block) → IsClass class → (room : HasRoom at v class block) → IsRoom v (room_view class block room) shape block
+  pub has_room : (shape : Shape) → MayMakeRun v shape → HasWholePool v → ArePictured v → (class : Class) (block : Block) → IsClass class → (room : HasRoom at v class block) → IsRoom v (room_view class block room) shape block
   unfolding room_view
-  has_room shape may pool (Lines lines) block is (inl found) = room_in_run v shape may pool at lines block found.0 found.1
-  has_room shape may pool (Lines lines) block is (inr new) = new_room v shape may pool at lines block is.lines new.1
-  has_room shape may pool (Chunks count) block is room = room_of_chunks v shape may pool at count block is.chunks room.0 room.1
+  has_room shape may pool pictured (Lines lines) block is (inl found) = room_in_run v shape may pool pictured at lines block found.0 found.1
+  has_room shape may pool pictured (Lines lines) block is (inr new) = new_room v shape may pool pictured at lines block is.lines new.1
+  has_room shape may pool pictured (Chunks count) block is room = room_of_chunks v shape may pool pictured at count block is.chunks room.0 room.1
 
   -- the block has as many lines as its class
   pub room_lines : (class : Class) (block : Block) → HasRoom at v class block → block_lines class ≡ block.lines

@@ -1,16 +1,18 @@
 -- A new object in a block that was reserved for it: docs/FORMAT.md, "Sizes", "Blocks are found" and "Sequences".
-use Rattle.std.specs.Prelude.{◌≡◌, ℕ, Bool, ◌⊎◌, ◌+◌, ◌*◌, ◌/◌, ◌<◌, ◌≤◌, true, false, Result, Err, slice_index}
+use Rattle.std.specs.Prelude.{◌≡◌, ℕ, Bool, ◌⊎◌, ◌+◌, ◌*◌, ◌/◌, ◌<◌, ◌≤◌, true, false, Result, Err, length, slice_index}
+use Rattle.std.specs.Int.{bit_at}
 use Rattle.std.specs.List.{list_any}
 use Rattle.pm_image.specs.declared.block.Block.{Block}
 use Rattle.pm_layout.specs.Sizes.{class_of}
 use Rattle.pm_layout.specs.declared.shape.Shape.{Shape}
 use Rattle.pm_memory.specs.Runs.{Stops}
 use Rattle.pm_objects.specs.Pool.{block_lines}
+use Rattle.pm_view.specs.declared.occ.Occ.{Occ}
 use Rattle.pm_view.specs.Blocks.{bitmap_word, descriptor_word}
 use Rattle.pm_view.specs.Changes.{is_in_line}
 use Rattle.pm_view.specs.Held.{is_known, is_reserved}
 use Rattle.pm_view.specs.View.{View}
-use Rattle.pm_view.specs.Views.{after_all}
+use Rattle.pm_view.specs.Views.{after_all, occ_in, reserves}
 use Rattle.pm_world.specs.Sequences.{Sequence}
 use Rattle.pm_fresh.specs.Filled.{HasWholePool, IsAmong}
 use Rattle.pm_fresh.specs.Filling.{fills, fresh_word}
@@ -22,11 +24,17 @@ use Rattle.pm_blocks.specs.NewRuns.{MayMakeRun}
 
 -- ---- what is asked of the lane
 
--- A lane of a pool of this shape may make a new object: it may look for a block, and make a free chunk a run; and its view has all words of its pool, of
--- which it reserved no bitmap of a run.
+-- the lane has a picture of each chunk's occupancy word, and what it reserved is taken in its pictures
+pub record ArePictured (v : View) : Type 0 where
+  pub runs : 1 + 2 * v.lanes + 65 * v.zones ≤ length v.run_words
+  pub taken : (at : Occ) (bit : ℕ) → reserves v at bit ≡ true → bit_at (occ_in v at) bit ≡ 1
+
+-- A lane of a pool of this shape may make a new object: it may look for a block, and make a free chunk a run; its view has all words of its pool, of
+-- which it reserved no bitmap of a run; and what it reserved it will not find free.
 pub record CanMakeObject (v : View) (shape : Shape) : Type 0 where
   pub run : MayMakeRun v shape
   pub pool : HasWholePool v
+  pub pictured : ArePictured v
 
 -- ---- what is made
 
@@ -52,14 +60,15 @@ pub record IsOfNewRun (v : View) (block : Block) (u : ℕ) : Type 0 where
   pub undescribed : slice_index v.words (descriptor_word v.lanes (block.place / 4096)) ≡ 0
   pub tells : (u ≡ descriptor_word v.lanes (block.place / 4096)) ⊎ (u ≡ bitmap_word (block.place / 4096))
 
--- The memory may be seen as a view in which the block is a new object, and of the class of so many bytes: the lane has reserved each of its words and knows it, and
--- nothing undrained is of its lines. No other word changed but those of a new run, and nothing undrained is of a word that had nothing undrained. From
--- there the lane may make another object.
+-- The memory may be seen as a view in which the block is a new object, and of the class of so many bytes: the lane has reserved each of its words, of which
+-- it had reserved none, and knows it, and nothing undrained is of its lines. No other word changed but those of a new run, and nothing undrained is of a
+-- word that had nothing undrained. From there the lane may make another object.
 pub record HasObject (at : View → Type 0) (v : View) (shape : Shape) (size kind : ℕ) (block : Block) : Type 0 where
   pub view : View
   pub there : at view
   pub of_size : block_lines (class_of size) ≡ block.lines
   pub words : (place : ℕ) → place < 8 * block.lines → slice_index view.words (8 * (block.place / 64) + place) ≡ fresh_word kind size place
+  pub fresh : (place : ℕ) → place < 8 * block.lines → is_reserved v (8 * (block.place / 64) + place) ≡ false
   pub own : (place : ℕ) → place < 8 * block.lines → is_reserved view (8 * (block.place / 64) + place) ≡ true
   pub known : (place : ℕ) → place < 8 * block.lines → is_known view (8 * (block.place / 64) + place) ≡ true
   pub persistent : (line : ℕ) → IsAmong (block.place / 64) block.lines line → list_any (is_in_line line) view.changes ≡ false

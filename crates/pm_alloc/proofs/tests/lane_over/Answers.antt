@@ -33,5 +33,6 @@ returns c =
           of_pool = All-nil (λ (t : Taken). IsOcc w.lanes w.zones t.at);
           no_bitmap = λ u there plain start. absurd (false≢true there);
         };
+        pictured = record { runs = omega (arith, pages); taken = λ o bit has. absurd (false≢true has) };
       };
     }
