@@ -4,3 +4,4 @@ pub mod PublishedImages
 pub mod ReservedBlocks
 pub mod OwnBits
 pub mod FilledBlocks
+pub mod ClearChunks

@@ -1,4 +1,5 @@
 ghost use Rattle.std.specs.Prelude.{◌≡◌, ◌≢◌, ◌↔◌, ℕ, ◌+◌, ◌*◌, ◌<◌, ◌≤◌, Bool, true, false, All, Contains, List, ◌++◌, map, slice_index, None, Some};
+ghost use Rattle.std.specs.Int.{bit_at};
 ghost use Rattle.pm_header.specs.declared.header.Header.{Header};
 ghost use Rattle.pm_objects.specs.Pool.{block_lines};
 ghost use Rattle.pm_objects.specs.declared.pool.PoolView.{PoolView};
@@ -10,15 +11,16 @@ ghost use Rattle.pm_image.specs.Logs.{recovered_at};
 ghost use Rattle.pm_image.specs.Means.{IsMeaning};
 ghost use Rattle.pm_model.specs.Actions.{Action};
 ghost use Rattle.pm_view.specs.declared.occ.Occ.{Occ};
+ghost use Rattle.pm_view.specs.declared.occ.Occ.TheVariants.{Zone};
 ghost use Rattle.pm_view.specs.Founds.{IsAlone};
 ghost use Rattle.pm_view.specs.Log.Phase.{Idle};
 ghost use Rattle.pm_view.specs.Occupancy.{is_taken};
 ghost use Rattle.pm_view.specs.Steps.{Step};
 ghost use Rattle.pm_view.specs.View.{Lock, View};
-ghost use Rattle.pm_view.specs.Views.{reserves};
+ghost use Rattle.pm_view.specs.Views.{occ_in, reserves};
 ghost use Rattle.pm_world.specs.Heap.{IsOcc};
 ghost use Rattle.pm_world.specs.History.{Entry};
-ghost use Rattle.pm_world.specs.Memory.{Memory};
+ghost use Rattle.pm_world.specs.Memory.{Memory, occ_at};
 ghost use Rattle.pm_world.specs.Memory.Location.{PoolWord};
 ghost use Rattle.pm_world.specs.Opening.{Opening};
 ghost use Rattle.pm_world.specs.World.{Views, World};
@@ -29,6 +31,8 @@ ghost use Rattle.pm_crash.specs.Publishing.Published.{Changes, Performs};
 ghost use Rattle.pm_crash.specs.Publishing.{AreInOrder, Published, all_blocks_published, all_pool_published};
 ghost use Rattle.pm_crash.specs.Taken.{TakenBehindAll};
 ghost use Rattle.pm_fresh.specs.Filled.{IsFilled};
+ghost use Rattle.pm_fresh.specs.Making.{page_in};
+ghost use Rattle.pm_blocks.specs.NewRuns.{IsUnused};
 ghost use Rattle.pm_sealed.specs.Sealed.{LeavesSealed, Publishes, has_nothing};
 ghost use Rattle.pm_epoch.specs.Epochs.{AreOfOwnBits, IsUnusedChunk, MayPublish};
 
@@ -50,6 +54,15 @@ pub fn a_lane_alone_may_change_its_blocks()
         → heap_fault (slice_index (views k).words) o.lanes o.zones ≡ None → Contains (views k).locks l → l.block ≡ Some lines
         → slice_index (views k).words 64 ≢ 64 * l.line + 64
         → MayBeFreed (slice_index (views k).words) o.lanes o.zones (record { place = 64 * l.line; lines = lines }) }
+{}
+
+/// A law: in a world where a lane has each word and each occupancy word as it is, a chunk whose bit is clear there has nothing, as the search for a
+/// block asks: no block, and nothing reserved, undrained, recorded or entered of it. No code runs.
+pub fn a_clear_chunk_is_unused()
+    ensures { (o : Opening) (mem : Memory) (views : Views) (log : List Entry) (decided : ℕ → Bool) (k zone chunk : ℕ)
+        → World o mem views log decided → k < o.lanes → ((i : ℕ) → mem (PoolWord i) ≡ slice_index (views k).words i)
+        → ((at : Occ) → mem (occ_at at) ≡ occ_in (views k) at) → zone < o.zones → chunk < 64 → bit_at (occ_in (views k) (Zone zone)) chunk ≢ 1
+        → IsUnused (views k) (page_in (views k).lanes zone chunk) }
 {}
 
 /// A law: the block that a lane filled for an object has a new object's words in the lane's view. No code runs.
