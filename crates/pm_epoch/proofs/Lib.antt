@@ -5,3 +5,4 @@ pub mod ReservedBlocks
 pub mod OwnBits
 pub mod FilledBlocks
 pub mod ClearChunks
+pub mod ReadyLanes

@@ -73,9 +73,13 @@ module _ (o : Opening) (mem : Memory) (views : Views) (log : List Entry) (decide
       free_chunks w o.lanes o.zones zone first count in_pool low fits
       (λ j near. let t = each j near in chunk_free zone (first + j) in_pool (omega (arith, near, fits)) t.undescribed t.reserved)
 
+  -- the same blocks begin at the same lines as at the opening
+  pub found_stands : (line : ℕ) → block_at o.lanes v.words line ≡ block_at o.lanes o.words line
+  found_stands = same_blocks o v.words as_long world.sound runs telling
+
   pub found_freed : heap_fault w o.lanes o.zones ≡ None → (l : Lock) (lines : ℕ) → Contains v.locks l → l.block ≡ Some lines → w 64 ≢ 64 * l.line + 64 → MayBeFreed w o.lanes o.zones (record { place = 64 * l.line; lines = lines })
   found_freed none l lines there is not_root =
       let found = (All-contains (LockFits o mem k) v.locks l (world.each_lane k inside).locks there).found in
       let at : block_at o.lanes o.words l.line ≡ Some lines = subst (λ (block : Option ℕ). IfSome block (λ n. block_at o.lanes o.words l.line ≡ Some n)) is found in
-      let stands : block_at o.lanes v.words l.line ≡ Some lines = same_blocks o v.words as_long world.sound runs telling l.line ∙ at in
+      let stands : block_at o.lanes v.words l.line ≡ Some lines = found_stands l.line ∙ at in
       may_be_freed w o.lanes o.zones (record { place = 64 * l.line; lines = lines }) ((found_of_words v.words o.lanes o.zones l.line lines none (let long = as_long in let size = world.sound.size in omega (arith, long, size))).0 stands) not_root

@@ -1,15 +1,19 @@
 -- What a lane that is alone publishes over the pool that its words hold: blocks for new objects, blocks freed, words of objects set (docs/MODEL.md, "From call to
 -- call").
-use Rattle.std.specs.Prelude.{◌≡◌, ◌⊎◌, ℕ, ◌+◌, ◌*◌, true, All, List, [], ◌∷◌, ◌++◌, map, slice_index}
+use Rattle.std.specs.Prelude.{◌≡◌, ◌⊎◌, ℕ, ◌+◌, ◌*◌, ◌≤◌, true, false, length, All, List, [], ◌∷◌, ◌++◌, map, slice_index}
+use Rattle.pm_layout.specs.declared.shape.Shape.{Shape}
 use Rattle.pm_header.specs.declared.header.Header.{Header}
 use Rattle.pm_objects.specs.declared.pool.PoolView.{PoolView}
 use Rattle.pm_image.specs.Blocks.{descriptor_word}
 use Rattle.pm_view.specs.declared.occ.Occ.{Occ}
 use Rattle.pm_view.specs.declared.occ.Occ.TheVariants.{Zone}
 use Rattle.pm_view.specs.View.{View}
-use Rattle.pm_view.specs.Views.{reserves}
+use Rattle.pm_view.specs.Founds.{IsAlone}
+use Rattle.pm_view.specs.Views.{is_made, reserves}
 use Rattle.pm_world.specs.Entries.{ends_with}
+use Rattle.pm_world.specs.Lanes.{IsOfShape}
 use Rattle.pm_world.specs.Records.{generation_of}
+use Rattle.pm_undo.specs.Working.{IsWorking}
 use Rattle.pm_crash.specs.HeapChanges.{HeapChange}
 use Rattle.pm_crash.specs.Held.{HoldsImage, HoldsPool}
 use Rattle.pm_crash.specs.Publishing.{AreInOrder, CanPublish, Published, entry_published}
@@ -43,3 +47,14 @@ HasNoBitOf lanes change other = (at : Occ) (bit : ℕ) → ChangesBit lanes chan
 abbrev pub AreOfOwnBits : ℕ → List HeapChange → Type 0
 AreOfOwnBits lanes [] = Unit {0}
 AreOfOwnBits lanes (change ∷ others) = All (HasNoBitOf lanes change) others × AreOfOwnBits lanes others
+
+-- The lane is alone and at work on a pool of this shape, and holds no zone's lock; it has a picture of each occupancy word, and no chunk that it reserved is
+-- a run.
+pub record IsAtWorkAlone (v : View) (shape : Shape) : Type 0 where
+  pub alone : IsAlone v
+  pub working : IsWorking v
+  pub of_shape : IsOfShape v shape
+  pub unlocked : v.zone_locks ≡ []
+  pub zones : v.zones ≤ length v.zone_words
+  pub runs : 1 + 2 * v.lanes + 65 * v.zones ≤ length v.run_words
+  pub no_run : (page : ℕ) → is_made v page ≡ false

@@ -4,6 +4,7 @@ ghost use Rattle.pm_header.specs.declared.header.Header.{Header};
 ghost use Rattle.pm_objects.specs.Pool.{block_lines};
 ghost use Rattle.pm_objects.specs.declared.pool.PoolView.{PoolView};
 ghost use Rattle.pm_layout.specs.Sizes.{class_of, descriptor_of};
+ghost use Rattle.pm_layout.specs.declared.shape.Shape.{Shape};
 ghost use Rattle.pm_layout.specs.declared.class.Class.TheVariants.{Lines};
 ghost use Rattle.pm_image.specs.Blocks.{blocks, descriptor_word};
 ghost use Rattle.pm_image.specs.HeapFaults.{heap_fault};
@@ -33,8 +34,9 @@ ghost use Rattle.pm_crash.specs.Taken.{TakenBehindAll};
 ghost use Rattle.pm_fresh.specs.Filled.{IsFilled};
 ghost use Rattle.pm_fresh.specs.Making.{page_in};
 ghost use Rattle.pm_blocks.specs.NewRuns.{IsUnused};
+ghost use Rattle.pm_alloc.specs.NewObjects.{CanMakeObject};
 ghost use Rattle.pm_sealed.specs.Sealed.{LeavesSealed, Publishes, has_nothing};
-ghost use Rattle.pm_epoch.specs.Epochs.{AreOfOwnBits, IsUnusedChunk, MayPublish};
+ghost use Rattle.pm_epoch.specs.Epochs.{AreOfOwnBits, IsAtWorkAlone, IsUnusedChunk, MayPublish};
 
 /// A law: in a world where a lane has each word as it is, what it reserved may be allocated: a block of a run, by the class that the run's
 /// descriptor says, and chunks that are described by 0; and a block that it found under a lock may be freed, unless it is the root's, where
@@ -63,6 +65,13 @@ pub fn a_clear_chunk_is_unused()
         → World o mem views log decided → k < o.lanes → ((i : ℕ) → mem (PoolWord i) ≡ slice_index (views k).words i)
         → ((at : Occ) → mem (occ_at at) ≡ occ_in (views k) at) → zone < o.zones → chunk < 64 → bit_at (occ_in (views k) (Zone zone)) chunk ≢ 1
         → IsUnused (views k) (page_in (views k).lanes zone chunk) }
+{}
+
+/// A law: such a lane, at work, may make objects, as `pm_alloc` asks. No code runs.
+pub fn a_lane_alone_may_make_objects()
+    ensures { (o : Opening) (mem : Memory) (views : Views) (log : List Entry) (decided : ℕ → Bool) (k : ℕ) (shape : Shape)
+        → World o mem views log decided → k < o.lanes → ((i : ℕ) → mem (PoolWord i) ≡ slice_index (views k).words i)
+        → ((at : Occ) → mem (occ_at at) ≡ occ_in (views k) at) → IsAtWorkAlone (views k) shape → CanMakeObject (views k) shape }
 {}
 
 /// A law: the block that a lane filled for an object has a new object's words in the lane's view. No code runs.

@@ -6,6 +6,7 @@ fn laws(_rt: HostRuntime) {
     a_clear_chunk_is_unused();
     a_filled_block_is_fresh();
     a_lane_alone_may_change_its_blocks();
+    a_lane_alone_may_make_objects();
     a_lane_alone_publishes_a_pool();
     a_published_pool_stands();
     changes_of_own_bits_are_in_order();
