@@ -1,5 +1,5 @@
 -- A chunk whose bit is clear in the picture of a lane that is alone has nothing: no block, and nothing of the lane.
-use Rattle.std.proofs.Common.{◌≡◌, ◌≢◌, ⊎_elim, ℕ, ◌+◌, ◌-◌, ◌*◌, ◌/◌, ◌%◌, ◌<◌, ◌≤◌, ◌⊎◌, ◌||◌, Bool, true, false, not, eqb, Contains, List, [], ◌&&◌, slice_index, refl, sym, ap, ◌∙◌, subst, arith}
+use Rattle.std.proofs.Common.{◌≡◌, ◌≢◌, ⊎_elim, ℕ, ◌+◌, ◌-◌, ◌*◌, ◌/◌, ◌%◌, ◌<◌, ◌≤◌, ◌||◌, Bool, true, false, not, eqb, Contains, List, ◌&&◌, slice_index, refl, sym, ap, ◌∙◌, subst, arith}
 use Rattle.std.specs.Int.{bit_at}
 use Rattle.std.specs.List.{list_any}
 use Rattle.std.proofs.lemmas.Bool.{and_parts, cases_Bool, eq-eqb, eqb-true, false_from_ne_true, false≢true, not_from_true, or_parts}
@@ -7,17 +7,15 @@ use Rattle.std.proofs.lemmas.List.Folds.{Any-from_list_any}
 use Rattle.pm_view.specs.declared.change.Change.{Change}
 use Rattle.pm_view.specs.declared.occ.Occ.{Occ}
 use Rattle.pm_view.specs.declared.occ.Occ.TheVariants.{Run, Zone}
-use Rattle.pm_view.specs.Area.{area_word}
 use Rattle.pm_view.specs.Blocks.{chunk_of, describes, descriptor_word, is_chunk, is_run, page_told, zone_of, zone_page}
 use Rattle.pm_view.specs.Held.{is_reserved}
-use Rattle.pm_view.specs.Log.Phase.{Open}
 use Rattle.pm_view.specs.Occupancy.{is_chunk_taken, is_in_block, is_taken}
 use Rattle.pm_view.specs.Rights.{is_written}
 use Rattle.pm_view.specs.View.{View}
 use Rattle.pm_view.specs.Views.{has_bit, has_chunk, occ_in, reserves}
 use Rattle.pm_world.specs.Entries.{is_entered}
-use Rattle.pm_world.specs.Fits.{LaneFits, ReservedChange}
-use Rattle.pm_world.specs.Heap.{HasNoBlock, IsEmptyRun, IsOcc, has_taken, heap_words}
+use Rattle.pm_world.specs.Fits.{LaneFits}
+use Rattle.pm_world.specs.Heap.{IsEmptyRun, IsOcc, has_taken, heap_words}
 use Rattle.pm_world.specs.History.{Entry, Flies, settled}
 use Rattle.pm_world.specs.Memory.{Memory, occ_at}
 use Rattle.pm_world.specs.Memory.Location.{PoolWord}
@@ -159,12 +157,12 @@ module _ (o : Opening) (mem : Memory) (views : Views) (log : List Entry) (decide
       let told : page_told o.lanes w ≡ page = chunk_word_here o.lanes w (subst (λ p. 1 ≤ chunk_of o.lanes p) (sym at) of_chunk.1) ∙ at in (
         false_from_ne_true (is_recorded v.log.records w) (λ e. guarded w (recorded_writes o mem views log decided world k w inside e) told),
         false_from_ne_true (is_entered v.log.entries w) (λ e.
-        let t = entry_of_word v.log.entries w e in
-        let is = t.of in
-        ⊎_elim
-        (λ own. guarded w (written_under o mem views log decided world k w inside (subst (λ u. is_written v u ≡ true) is own)) told)
-        (λ own. let area = own.0 in let lane = fits.lane.lane in in_areas w (omega (arith, area, is, lane, inside)) told)
-        (fits.entries.each t.place t.held t.at).may.of),
+            let t = entry_of_word v.log.entries w e in
+            let is = t.of in
+            ⊎_elim
+            (λ own. guarded w (written_under o mem views log decided world k w inside (subst (λ u. is_written v u ≡ true) is own)) told)
+            (λ own. let area = own.0 in let lane = fits.lane.lane in in_areas w (omega (arith, area, is, lane, inside)) told)
+            (fits.entries.each t.place t.held t.at).may.of),
       )
 
   pub is_unused : IsUnused v (page_in v.lanes zone chunk)

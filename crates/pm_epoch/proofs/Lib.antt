@@ -6,3 +6,4 @@ pub mod OwnBits
 pub mod FilledBlocks
 pub mod ClearChunks
 pub mod ReadyLanes
+pub mod DrawnCalls

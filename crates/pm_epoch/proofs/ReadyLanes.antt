@@ -1,9 +1,9 @@
 -- A lane that is alone and at work may make objects, as a world says of it.
-use Rattle.std.proofs.Common.{◌≡◌, ⊎_elim, ℕ, ◌+◌, ◌-◌, ◌*◌, ◌/◌, ◌%◌, ◌<◌, ◌≤◌, ◌&&◌, ◌||◌, Bool, true, false, eqb, All, Contains, List, [], length, None, Option, Some, slice_index, refl, sym, ap, ◌∙◌, subst, arith}
+use Rattle.std.proofs.Common.{◌≡◌, ℕ, ◌-◌, ◌/◌, ◌%◌, ◌<◌, ◌||◌, Bool, true, false, All, Contains, List, None, Option, Some, slice_index, refl, sym, ap, ◌∙◌, subst, arith}
 use Rattle.std.specs.Int.{bit_at}
 use Rattle.std.specs.List.{list_any}
 use Rattle.std.specs.Option.{IfSome}
-use Rattle.std.proofs.lemmas.Bool.{and_from, and_left, cases_Bool, eq-eqb, false≢true, false_from_ne_true, or_left}
+use Rattle.std.proofs.lemmas.Bool.{and_from, false≢true, false_from_ne_true, or_left}
 use Rattle.std.proofs.lemmas.List.Elements.{All-weaker}
 use Rattle.std.proofs.lemmas.List.Folds.{Any-from_list_any, list_any-from_Any}
 use Rattle.pm_layout.specs.declared.shape.Shape.{Shape}
@@ -12,7 +12,7 @@ use Rattle.pm_view.specs.declared.occ.Occ.TheVariants.{Run, Zone}
 use Rattle.pm_view.specs.Blocks.{block_at, chunk_of, covers, describes, descriptor_word, is_run, page_told, zone_of}
 use Rattle.pm_view.specs.Held.{is_reserved}
 use Rattle.pm_view.specs.View.{Lock, Taken, View}
-use Rattle.pm_view.specs.Views.{has_bit, has_chunk, is_made, occ_in, reserves}
+use Rattle.pm_view.specs.Views.{has_bit, has_chunk, occ_in, reserves}
 use Rattle.pm_world.specs.Fits.{LaneFits, LockFits}
 use Rattle.pm_world.specs.Heap.{IsOcc, has_run_chunk, heap_words}
 use Rattle.pm_world.specs.History.{Entry, Flies, settled}
@@ -24,7 +24,7 @@ use Rattle.pm_world.specs.World.{Views, World}
 use Rattle.pm_world.proofs.Reserved.{bit_had, in_chunk, in_run, reserved_low, reserved_of_pool, told_here}
 use Rattle.pm_fresh.specs.Filled.{HasWholePool}
 use Rattle.pm_blocks.specs.NewRuns.{IsThere, MayMakeRun}
-use Rattle.pm_alloc.specs.NewObjects.{ArePictured, CanMakeObject}
+use Rattle.pm_alloc.specs.NewObjects.{CanMakeObject}
 use Rattle.pm_epoch.specs.Epochs.{IsAtWorkAlone}
 use Rattle.pm_epoch.proofs.ClearChunks.{is_unused}
 use Rattle.pm_epoch.proofs.ReservedBlocks.{found_stands}

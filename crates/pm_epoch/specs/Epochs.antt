@@ -1,6 +1,6 @@
 -- What a lane that is alone publishes over the pool that its words hold: blocks for new objects, blocks freed, words of objects set (docs/MODEL.md, "From call to
 -- call").
-use Rattle.std.specs.Prelude.{◌≡◌, ◌⊎◌, ℕ, ◌+◌, ◌*◌, ◌≤◌, true, false, length, All, List, [], ◌∷◌, ◌++◌, map, slice_index}
+use Rattle.std.specs.Prelude.{◌≡◌, ◌⊎◌, ℕ, ◌+◌, ◌*◌, ◌<◌, ◌≤◌, true, false, length, All, List, [], ◌∷◌, ◌++◌, map, slice_index}
 use Rattle.pm_layout.specs.declared.shape.Shape.{Shape}
 use Rattle.pm_header.specs.declared.header.Header.{Header}
 use Rattle.pm_objects.specs.declared.pool.PoolView.{PoolView}
@@ -11,6 +11,7 @@ use Rattle.pm_view.specs.View.{View}
 use Rattle.pm_view.specs.Founds.{IsAlone}
 use Rattle.pm_view.specs.Views.{is_made, reserves}
 use Rattle.pm_world.specs.Entries.{ends_with}
+use Rattle.pm_world.specs.Lawful.{generation_limit}
 use Rattle.pm_world.specs.Lanes.{IsOfShape}
 use Rattle.pm_world.specs.Records.{generation_of}
 use Rattle.pm_undo.specs.Working.{IsWorking}
@@ -29,6 +30,16 @@ pub record MayPublish (b : View) (header : Header) (before now : PoolView) (all 
   pub holds : HoldsPool (slice_index b.words) b.lanes b.zones header now
   pub can : All (CanPublish (slice_index b.words) b.lanes b.zones) all
   pub ordered : AreInOrder b.lanes all
+
+-- The same of a call that is to draw its number: its log has an entry for each of these, in their order, and behind them the one that ends its generation; an
+-- image of its words holds the pool before the call, and as they stand they hold the pool that it made so far, on which each may be published.
+pub record HasEntriesFor (v : View) (header : Header) (before now : PoolView) (all : List Published) : Type 0 where
+  pub entries : v.log.entries ≡ map (entry_published v.lanes) all ++ ends_with v (generation_of v + 1) ∷ []
+  pub below : generation_of v < generation_limit
+  pub was : HoldsImage v.words v.lanes v.zones header before
+  pub holds : HoldsPool (slice_index v.words) v.lanes v.zones header now
+  pub can : All (CanPublish (slice_index v.words) v.lanes v.zones) all
+  pub ordered : AreInOrder v.lanes all
 
 -- the lane reserved the chunk of a zone, 0 for the first, and its words describe it by 0
 pub record IsUnusedChunk (lanes : ℕ) (v : View) (zone chunk : ℕ) : Type 0 where

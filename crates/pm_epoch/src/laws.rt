@@ -17,10 +17,12 @@ ghost use Rattle.pm_view.specs.Founds.{IsAlone};
 ghost use Rattle.pm_view.specs.Log.Phase.{Idle};
 ghost use Rattle.pm_view.specs.Occupancy.{is_taken};
 ghost use Rattle.pm_view.specs.Steps.{Step};
+ghost use Rattle.pm_view.specs.Steps.Step.{Draw};
 ghost use Rattle.pm_view.specs.View.{Lock, View};
-ghost use Rattle.pm_view.specs.Views.{occ_in, reserves};
+ghost use Rattle.pm_view.specs.Views.{after, occ_in, reserves};
 ghost use Rattle.pm_world.specs.Heap.{IsOcc};
 ghost use Rattle.pm_world.specs.History.{Entry};
+ghost use Rattle.pm_world.specs.Lawful.{Allowed};
 ghost use Rattle.pm_world.specs.Memory.{Memory, occ_at};
 ghost use Rattle.pm_world.specs.Memory.Location.{PoolWord};
 ghost use Rattle.pm_world.specs.Opening.{Opening};
@@ -36,7 +38,7 @@ ghost use Rattle.pm_fresh.specs.Making.{page_in};
 ghost use Rattle.pm_blocks.specs.NewRuns.{IsUnused};
 ghost use Rattle.pm_alloc.specs.NewObjects.{CanMakeObject};
 ghost use Rattle.pm_sealed.specs.Sealed.{LeavesSealed, Publishes, has_nothing};
-ghost use Rattle.pm_epoch.specs.Epochs.{AreOfOwnBits, IsAtWorkAlone, IsUnusedChunk, MayPublish};
+ghost use Rattle.pm_epoch.specs.Epochs.{AreOfOwnBits, HasEntriesFor, IsAtWorkAlone, IsUnusedChunk, MayPublish};
 
 /// A law: in a world where a lane has each word as it is, what it reserved may be allocated: a block of a run, by the class that the run's
 /// descriptor says, and chunks that are described by 0; and a block that it found under a lock may be freed, unless it is the root's, where
@@ -86,6 +88,15 @@ pub fn changes_of_own_bits_are_in_order()
     ensures { (w : ℕ → ℕ) (lanes zones : ℕ) (actions : List Action) (changes : List HeapChange)
         → heap_fault w lanes zones ≡ None → All (CanChange w lanes zones) changes → AreOfOwnBits lanes changes
         → AreInOrder lanes (map Performs actions ++ map Changes changes) }
+{}
+
+/// A law: in a world where no other lane is at work, a call that draws its number may publish what its log has entries for: its words, as an image,
+/// hold the pool before the call, and as they stand the pool that it made so far, on which each may be published. No code runs.
+pub fn a_world_leads_to_what_is_published()
+    ensures { (o : Opening) (mem : Memory) (views : Views) (log : List Entry) (decided : ℕ → Bool) (k n : ℕ) (header : Header) (before now : PoolView) (all : List Published)
+        → World o mem views log decided → k < o.lanes → ((j : ℕ) → j < o.lanes → j ≢ k → (views j).log.phase ≡ Idle)
+        → ((i : ℕ) → mem (PoolWord i) ≡ slice_index (views k).words i) → Allowed (views k) (Draw n) → HasEntriesFor (views k) header before now all
+        → MayPublish (after (views k) (Draw n)) header before now all }
 {}
 
 /// A law: what a lane that is alone publishes is in a power failure's image as a whole or not at all. An image that has nothing of the call

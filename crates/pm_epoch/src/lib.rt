@@ -1,16 +1,17 @@
 //! A pool from call to call, where a lane that is alone allocates and frees.
 //!
 //! Promises whoever proves what a lane's calls leave that what such a call publishes, blocks for new objects, blocks freed and words set, is in
-//! the pool that a power failure leaves as a whole or not at all (`a_lane_alone_publishes_a_pool`), and that at the call's end the words as they
-//! stand hold that pool, from which the next call begins (`a_published_pool_stands`). No code runs. It stands on `pm_sealed` for what a sealed
-//! log leaves of words, and on `pm_crash` for what entries make of a pool; docs/MODEL.md.
+//! the pool that a power failure leaves as a whole or not at all (`a_lane_alone_publishes_a_pool`), and that the words at the call's end hold
+//! that pool, from which the next call begins (`a_published_pool_stands`); and that a world lets a lane make objects, and publish what it reserved
+//! and found. No code runs. It stands on `pm_sealed` for what a sealed log leaves, and on `pm_crash` for what entries make of a pool; docs/MODEL.md.
 #![tactic(auto)]
 
 mod laws;
 
 pub use laws::{
-    a_clear_chunk_is_unused, a_filled_block_is_fresh, a_lane_alone_may_change_its_blocks, a_lane_alone_may_make_objects, a_lane_alone_publishes_a_pool,
-    a_published_pool_stands, changes_of_own_bits_are_in_order,
+    a_clear_chunk_is_unused, a_filled_block_is_fresh, a_lane_alone_may_change_its_blocks,
+    a_lane_alone_may_make_objects, a_lane_alone_publishes_a_pool, a_published_pool_stands,
+    a_world_leads_to_what_is_published, changes_of_own_bits_are_in_order,
 };
 
 #[cfg(test)]

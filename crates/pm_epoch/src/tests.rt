@@ -9,5 +9,6 @@ fn laws(_rt: HostRuntime) {
     a_lane_alone_may_make_objects();
     a_lane_alone_publishes_a_pool();
     a_published_pool_stands();
+    a_world_leads_to_what_is_published();
     changes_of_own_bits_are_in_order();
 }
