@@ -21,15 +21,15 @@ use Rattle.pm_world.specs.Opening.{Opening}
 use Rattle.pm_world.specs.Records.{generation_of}
 use Rattle.pm_world.specs.World.{Views, World}
 use Rattle.pm_model.specs.Actions.Action.{SetWord}
-use Rattle.pm_crash.specs.Held.{HoldsImage, HoldsPool}
+use Rattle.pm_crash.specs.Held.{HoldsPool}
 use Rattle.pm_crash.specs.HeapChanges.HeapChange.{AllocatesChunks, AllocatesInRun, FreesChunks, FreesInRun}
-use Rattle.pm_crash.specs.Publishing.{AreInOrder, CanPublish, Published, entry_published}
+use Rattle.pm_crash.specs.Publishing.{CanPublish, Published, entry_published}
 use Rattle.pm_crash.specs.Publishing.Published.{Changes, Performs}
 use Rattle.pm_crash.proofs.BitMore.{index_small}
 use Rattle.pm_crash.proofs.OneChange.{run_bitmap_fits}
-use Rattle.pm_sealed.specs.Sealed.{HasWholeLog, IsOfPool, MaySeal}
+use Rattle.pm_sealed.specs.Sealed.{HasWholeLog, IsOfPool}
 use Rattle.pm_sealed.proofs.FromWorlds.{leads_to_seal}
-use Rattle.pm_epoch.specs.Epochs.{MayPublish}
+use Rattle.pm_epoch.specs.Epochs.{HasEntriesFor, MayPublish}
 use Rattle.pm_epoch.proofs.Targets.{published_target}
 
 -- what is asked of an entry beside its word: bits of 64, and of an OR a word of 64 bits
@@ -80,21 +80,14 @@ module _ (v : View) (header : Header) (now : PoolView) (all : List Published) (h
   }
 
 pub may_publish : (o : Opening) (mem : Memory) (views : Views) (log : List Entry) (decided : ℕ → Bool) (k n : ℕ) (header : Header) (before now : PoolView) (all : List Published) → World o mem views log decided → k < o.lanes
-    → ((j : ℕ) → j < o.lanes → j ≢ k → (views j).log.phase ≡ Idle) → ((w : ℕ) → mem (PoolWord w) ≡ slice_index (views k).words w) → Allowed (views k) (Draw n) → generation_of (views k) < generation_limit
-    → (views k).log.entries ≡ map (entry_published (views k).lanes) all ++ ends_with (views k) (generation_of (views k) + 1) ∷ []
-    → HoldsImage (views k).words (views k).lanes (views k).zones header before → HoldsPool (slice_index (views k).words) (views k).lanes (views k).zones header now
-    → All (CanPublish (slice_index (views k).words) (views k).lanes (views k).zones) all → AreInOrder (views k).lanes all → MayPublish (after (views k) (Draw n)) header before now all
-may_publish o mem views log decided k n header before now all world inside rest sees may below entries was holds can ordered =
+    → ((j : ℕ) → j < o.lanes → j ≢ k → (views j).log.phase ≡ Idle) → ((w : ℕ) → mem (PoolWord w) ≡ slice_index (views k).words w) → Allowed (views k) (Draw n) → HasEntriesFor (views k) header before now all
+    → MayPublish (after (views k) (Draw n)) header before now all
+may_publish o mem views log decided k n header before now all world inside rest sees may has =
     let v : View = views k in
     let fits = world.each_lane k inside in
     let size : length v.words ≡ 512 + 1024 * v.lanes + 33280 * v.zones =
     let long = fits.lane.size in let size = world.sound.size in let lanes = fits.lane.lanes in let zones = fits.lane.zones in omega (arith, long, size, lanes, zones) in
-    let seal : MaySeal (after v (Draw n)) = leads_to_seal o mem views log decided k n world inside rest sees may (whole_log v header now all holds can entries size below) in
     record {
-      seal = seal;
-      entries = ap (λ (l : Log). l.entries) (ap (λ p. log_drawn p v.log) may.is_open) ∙ entries;
-      was = was;
-      holds = holds;
-      can = can;
-      ordered = ordered;
+      seal = leads_to_seal o mem views log decided k n world inside rest sees may (whole_log v header now all has.holds has.can has.entries size has.below);
+      has = record { entries = ap (λ (l : Log). l.entries) (ap (λ p. log_drawn p v.log) may.is_open) ∙ has.entries; below = has.below; was = has.was; holds = has.holds; can = has.can; ordered = has.ordered };
     }

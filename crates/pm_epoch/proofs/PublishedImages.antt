@@ -55,16 +55,16 @@ module _ (b : View) (header : Header) (before now : PoolView) (all : List Publis
   are_targets : All (λ (f : Final). IsTarget b.lanes b.zones f.word) front
   are_targets =
       All-map (λ (f : Final). IsTarget b.lanes b.zones f.word) (entry_published b.lanes) all
-      (All-weaker (CanPublish (slice_index b.words) b.lanes b.zones) (λ s. IsTarget b.lanes b.zones (entry_published b.lanes s).word) (λ s can. published_target (slice_index b.words) b.lanes b.zones may.holds.no_fault s can) all may.can)
+      (All-weaker (CanPublish (slice_index b.words) b.lanes b.zones) (λ s. IsTarget b.lanes b.zones (entry_published b.lanes s).word) (λ s can. published_target (slice_index b.words) b.lanes b.zones may.has.holds.no_fault s can) all may.has.can)
 
   in_front : (i : ℕ) (f : Final) → slice_get front i ≡ Some f → IsTarget b.lanes b.zones f.word
   in_front i f there = subst (λ (h : Final). IsTarget b.lanes b.zones h.word) (get_or_from_slice_get front i f f there) (are_targets i f (slice_get_within front i f there))
 
   targets : AreTargets b
   targets i f at low =
-      let long : length b.log.entries ≡ length front + 1 = ap (λ (fs : List Final). length fs) may.entries ∙ length-append front (last ∷ []) in
+      let long : length b.log.entries ≡ length front + 1 = ap (λ (fs : List Final). length fs) may.has.entries ∙ length-append front (last ∷ []) in
       ⊎_elim (λ (there : slice_get front i ≡ Some f). (in_front i f there).may) (λ (t : (i ≡ length front) × (last ≡ f)). let here = t.0 in absurd (omega (arith, here, low, long)))
-      (get-push_cases front last i f (ap (λ fs. slice_get fs i) (sym may.entries) ∙ at))
+      (get-push_cases front last i f (ap (λ fs. slice_get fs i) (sym may.has.entries) ∙ at))
 
   -- the header page has no entry
   unentered_front : (i : ℕ) → i < 512 → is_entered b.log.entries i ≡ false
@@ -73,7 +73,7 @@ module _ (b : View) (header : Header) (before now : PoolView) (all : List Publis
       let is = t.of in
       ⊎_elim (λ (there : slice_get front t.place ≡ Some t.held). let behind = (in_front t.place t.held there).behind in absurd (omega (arith, behind, is, low)))
       (λ (t2 : (t.place ≡ length front) × (last ≡ t.held)). let own = ap (λ (f : Final). f.word) t2.1 in absurd (omega (arith, own, is, low)))
-      (get-push_cases front last t.place t.held (ap (λ fs. slice_get fs t.place) (sym may.entries) ∙ t.at)))
+      (get-push_cases front last t.place t.held (ap (λ fs. slice_get fs t.place) (sym may.has.entries) ∙ t.at)))
 
   module _ (w : View) (steps : List Step) (keep : ℕ) (image : List ℕ) (leaves : LeavesSealed b steps w keep image) where
     holds_image : has_nothing image b ≡ false → HoldsImage image b.lanes b.zones header (all_pool_published b.lanes all now)
@@ -83,10 +83,10 @@ module _ (b : View) (header : Header) (before now : PoolView) (all : List Publis
         let same : page image ≡ page b.words = front_same b.words image (omega (arith, words)) long (λ i low. beside b w steps keep image leaves i (omega (arith, words, low)) (inl low) (unentered_front i low)) in
         record {
           has_header = record {
-            has_shape = record { shape = may.was.has_header.has_shape.shape; size = may.was.has_header.has_shape.size ∙ ap (λ (n : ℕ). 8 * n) (sym long) };
-            header_in = subst (λ (ws : List ℕ). IsHeaderIn ws header) (sym same) may.was.has_header.header_in;
+            has_shape = record { shape = may.has.was.has_header.has_shape.shape; size = may.has.was.has_header.has_shape.size ∙ ap (λ (n : ℕ). 8 * n) (sym long) };
+            header_in = subst (λ (ws : List ℕ). IsHeaderIn ws header) (sym same) may.has.was.has_header.header_in;
           };
-          fits = may.was.fits;
+          fits = may.has.was.fits;
           no_log_fault = no_fault b w steps keep image leaves targets some;
           holds = (holds_left b header before now all may w steps keep image leaves some).pool;
         }

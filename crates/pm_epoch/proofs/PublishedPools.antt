@@ -81,7 +81,7 @@ module _ (b : View) (header : Header) (before now : PoolView) (all : List Publis
       let fs : List Final = map (entry_published b.lanes) all in
       let x : ℕ = made_final fs i (slice_index b.words i) in
       let low = may.seal.in_lanes in
-      ap (λ es. made_final es i (slice_index b.words i)) may.entries
+      ap (λ es. made_final es i (slice_index b.words i)) may.has.entries
       ∙ (made_final-append fs (last ∷ []) i (slice_index b.words i)
       ∙ cond-false (eqb (area_word b.lane) i) (with_bits last.mask last.bits x) x
       (ne_eqb (area_word b.lane) i (λ same. absurd (⊎_elim (λ (front : i < 512). omega (arith, front, same)) (λ (behind : 512 + 1024 * b.lanes ≤ i). omega (arith, behind, same, low)) (heap_outside i heap)))))
@@ -93,7 +93,7 @@ module _ (b : View) (header : Header) (before now : PoolView) (all : List Publis
 
   holds_all : (v : ℕ → ℕ) → ((i : ℕ) → IsHeapWord b.lanes b.zones i → v i ≡ published b.lanes all (slice_index b.words) i) → HoldsAll v
   holds_all v same =
-      let t = all_are_published (slice_index b.words) b.lanes b.zones header now all may.holds may.can may.ordered in
+      let t = all_are_published (slice_index b.words) b.lanes b.zones header now all may.has.holds may.has.can may.has.ordered in
       record {
         pool = held_by_heap (published b.lanes all (slice_index b.words)) v b.lanes b.zones header (all_pool_published b.lanes all now) t.holds same;
         are = blocks_by_heap (published b.lanes all (slice_index b.words)) v b.lanes b.zones t.holds.no_fault same ∙ t.blocks_are;
@@ -109,7 +109,7 @@ module _ (b : View) (header : Header) (before now : PoolView) (all : List Publis
     same_words none = ext_get_or 0 image b.words size (λ i low. nothing b w steps keep image leaves none i (let long = size in omega (arith, low, long)))
 
     pub was_left : has_nothing image b ≡ true → HoldsImage image b.lanes b.zones header before
-    was_left none = subst (λ ws. HoldsImage ws b.lanes b.zones header before) (sym (same_words none)) may.was
+    was_left none = subst (λ ws. HoldsImage ws b.lanes b.zones header before) (sym (same_words none)) may.has.was
 
     pub holds_left : has_nothing image b ≡ false → HoldsAll (recovered_at image b.lanes)
     holds_left some = holds_all (recovered_at image b.lanes) (λ i heap.
@@ -130,11 +130,11 @@ module _ (b : View) (header : Header) (before now : PoolView) (all : List Publis
 
     taken_now : (at : Occ) (bit : ℕ) → IsOcc b.lanes b.zones at → bit < 64 → (is_taken u b.lanes at bit ≡ true) ↔ TakenBehindAll b.lanes all at bit (is_taken (slice_index b.words) b.lanes at bit ≡ true)
     taken_now at bit of low =
-        let t = all_take (slice_index b.words) b.lanes b.zones header now all at bit may.holds may.can may.ordered of low in
+        let t = all_take (slice_index b.words) b.lanes b.zones header now all at bit may.has.holds may.has.can may.has.ordered of low in
         let same = taken_alike (published b.lanes all (slice_index b.words)) u b.lanes b.zones holds_published as_published at bit of low in
         (λ taken. t.0 (same.0 taken), λ behind. same.1 (t.1 behind)) where
           holds_published : heap_fault (published b.lanes all (slice_index b.words)) b.lanes b.zones ≡ None
-          holds_published = (all_are_published (slice_index b.words) b.lanes b.zones header now all may.holds may.can may.ordered).holds.no_fault
+          holds_published = (all_are_published (slice_index b.words) b.lanes b.zones header now all may.has.holds may.has.can may.has.ordered).holds.no_fault
 
 pub blocks_left : (b w : View) (header : Header) (before now : PoolView) (all : List Published) (steps : List Step) (keep : ℕ) (image : List ℕ) → MayPublish b header before now all → LeavesSealed b steps w keep image → has_nothing image b ≡ false
     → blocks (recovered_at image b.lanes) b.lanes b.zones ≡ all_blocks_published b.lanes all (blocks (slice_index b.words) b.lanes b.zones)

@@ -21,18 +21,8 @@ use Rattle.pm_crash.specs.Publishing.{AreInOrder, CanPublish, Published, entry_p
 use Rattle.pm_crash.specs.Taken.{AllocatesBit, FreesBit}
 use Rattle.pm_sealed.specs.Sealed.{MaySeal}
 
--- The lane may seal a log that has an entry for each of these, in their order, and behind them the one that ends its generation. An image of its words would
--- mean the pool before the call; as they stand they hold the pool that the call made so far, and on that each of these may be published.
-pub record MayPublish (b : View) (header : Header) (before now : PoolView) (all : List Published) : Type 0 where
-  pub seal : MaySeal b
-  pub entries : b.log.entries ≡ map (entry_published b.lanes) all ++ ends_with b (generation_of b + 1) ∷ []
-  pub was : HoldsImage b.words b.lanes b.zones header before
-  pub holds : HoldsPool (slice_index b.words) b.lanes b.zones header now
-  pub can : All (CanPublish (slice_index b.words) b.lanes b.zones) all
-  pub ordered : AreInOrder b.lanes all
-
--- The same of a call that is to draw its number: its log has an entry for each of these, in their order, and behind them the one that ends its generation; an
--- image of its words holds the pool before the call, and as they stand they hold the pool that it made so far, on which each may be published.
+-- The lane's log has an entry for each of these, in their order, and behind them the one that ends its generation. An image of its words holds the pool before
+-- the call, and as they stand they hold the pool that the call made so far, on which each of these may be published.
 pub record HasEntriesFor (v : View) (header : Header) (before now : PoolView) (all : List Published) : Type 0 where
   pub entries : v.log.entries ≡ map (entry_published v.lanes) all ++ ends_with v (generation_of v + 1) ∷ []
   pub below : generation_of v < generation_limit
@@ -40,6 +30,11 @@ pub record HasEntriesFor (v : View) (header : Header) (before now : PoolView) (a
   pub holds : HoldsPool (slice_index v.words) v.lanes v.zones header now
   pub can : All (CanPublish (slice_index v.words) v.lanes v.zones) all
   pub ordered : AreInOrder v.lanes all
+
+-- the lane may publish these: it may seal a log that has an entry for each
+pub record MayPublish (b : View) (header : Header) (before now : PoolView) (all : List Published) : Type 0 where
+  pub seal : MaySeal b
+  pub has : HasEntriesFor b header before now all
 
 -- the lane reserved the chunk of a zone, 0 for the first, and its words describe it by 0
 pub record IsUnusedChunk (lanes : ℕ) (v : View) (zone chunk : ℕ) : Type 0 where
