@@ -9,7 +9,10 @@ use Rattle.pm_pending.specs.declared.actions.SetAction.{SetAction}
 use Rattle.pm_view.specs.Counts.{counted}
 use Rattle.pm_view.specs.Steps.{Step}
 use Rattle.pm_view.specs.View.{Told, View}
-use Rattle.pm_view.specs.Views.{after_all}
+use Rattle.pm_view.specs.Views.{after_all, after}
+use Rattle.pm_view.specs.Log.{Log}
+use Rattle.pm_view.specs.Steps.Step.{Tell}
+use Rattle.pm_world.proofs.Plain.{empty_plain}
 use Rattle.pm_world.proofs.Shapes.{IsOfSamePool}
 use Rattle.pm_world.specs.Sequences.{IsMade, Ready, Runs, in_turn, one}
 use Rattle.pm_world.specs.declared.lane.Lane.{Lane}
@@ -65,7 +68,7 @@ module _ {M : Type 0} (at : M → View → Type 0) (lane : Lane M) (v : View) (i
   -- what it drew is a whole call
   ends_drawn : IsWholeOnceTold v op reply → DrawEnded v ends
   unfolding ends_call in_turn one DrawEnded after_all
-  ends_drawn whole = (tt, (inl whole, tt))
+  ends_drawn whole = (tt, ((inl whole, empty_plain (after v (Tell op reply)) (ap (λ (log : Log). log.entries) is.log)), tt))
 
   ends_uncounted : counted ends ≡ 0
   unfolding ends_call in_turn one counted after_all

@@ -286,7 +286,7 @@ module _ (o : Opening) (header : Header) (pool : PoolView) where
     stands_after (Occupy at bits won) alone may found ended due next =
         goes_step (Occupy at bits won) (lawful_so (Occupy at bits won) may due) (occupy_moves v at bits won (in_picture v at stands.pages stands.zone_count may.there.inside) (found alone)) tt
     stands_after (Vacate at bits) alone may found ended due next = goes_step (Vacate at bits) (lawful_so (Vacate at bits) may due) (vacate_moves v at bits (in_picture v at stands.pages stands.zone_count may.there.inside)) tt
-    stands_after (Draw n) alone may found ended due next = goes_step (Draw n) (lawful_so (Draw n) may due) (draw_moves v n (next n refl)) (owes ended)
+    stands_after (Draw n) alone may found ended due next = goes_step (Draw n) (lawful_so (Draw n) may due) (draw_moves v n (next n refl)) (owes ended.0, ended.1)
     stands_after (NumberSeen n) alone may found ended due next = goes_step (NumberSeen n) (lawful_so (NumberSeen n) may due) (number_moves v n (found alone)) tt
     stands_after (StopSeen set) alone may found ended due next = sees_stop set
     stands_after SetStop alone may found ended due next = stands

@@ -1,7 +1,7 @@
 -- The log of a lane that is alone, while its generation is that of an origin, the pool at the opening or where the lane rested: what it has not
 -- written yet is as it was, so is what its undrained stores found in the slots, and the words of a record in the making are those of a record
 -- that may be made.
-use Rattle.std.proofs.Common.{◌≡◌, ◌≢◌, ◌⊎◌, inl, inr, ⊎_elim, ℕ, ◌+◌, ◌*◌, ◌<◌, ◌≤◌, Bool, true, false, not, eqb, cond, ◌&&◌, ◌||◌, List, [], ◌∷◌, ◌++◌, length, take, get_or, slice_index, None, Some, is_some, refl, sym, ◌∙◌, ap, subst, arith, length-append, get_or-set_same, get_or-set_other, eq-eqb, ne_eqb, bit_or, bit_and}
+use Rattle.std.proofs.Common.{◌≡◌, ◌≢◌, ◌⊎◌, inl, inr, ⊎_elim, ℕ, ◌+◌, ◌*◌, ◌<◌, ◌≤◌, Bool, true, false, not, eqb, cond, ◌&&◌, ◌||◌, List, [], ◌∷◌, ◌++◌, length, take, get_or, slice_index, None, is_some, refl, sym, ◌∙◌, ap, subst, arith, length-append, get_or-set_same, get_or-set_other, eq-eqb, ne_eqb, bit_or, bit_and}
 use Rattle.std.specs.List.{All, Contains, filter, list_any}
 use Rattle.std.proofs.lemmas.Bool.{cases_lt, cond-false, cond-true, false≢true, not_from_false, or_cases, or_left, or_right, eqb-true}
 use Rattle.std.proofs.lemmas.List.{take_all}
@@ -490,7 +490,7 @@ module _ (o : Opening) (header : Header) (pool : PoolView) (v : View) (stands : 
 
     -- the call draws
     abbrev numbered : ℕ → Log → View
-    numbered n lg = record v { log = lg; number = Some n; entries = v.entries ++ record { number = n; call = v.call } ∷ [] }
+    numbered n lg = record (after v (Draw n)) { log = lg }
 
     drawn_first : (n : ℕ) (lg : Log) (records : List Recorded) (entries : List Final) → v.log.records ≡ records → Since origin v (648 + 8 * length v.log.records + 0) → FirstLog origin (numbered n lg) (phase_drawn records entries)
     drawn_first n lg [] [] none since =

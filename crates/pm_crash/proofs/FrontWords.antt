@@ -14,7 +14,7 @@ use Rattle.pm_view.specs.Rights.{is_written}
 use Rattle.pm_view.specs.Steps.{Step}
 use Rattle.pm_view.specs.Steps.Step.{Load, Store, Or, And, Flush, Drain, TakeWrite, TakeRead, Raise, Give, ZoneTry, ZoneGive, Occupied, Occupy, Vacate, Draw, NumberSeen, StopSeen, SetStop, Tell}
 use Rattle.pm_world.specs.Crash.{Survives}
-use Rattle.pm_world.specs.Entries.{is_redone, set_word}
+use Rattle.pm_world.specs.Entries.{is_redone, set_word, EntersAlone, IsGrowing}
 use Rattle.pm_world.specs.History.{Entry, Flies}
 use Rattle.pm_world.specs.Lawful.{IsLawful, StoreFits, MayChange}
 use Rattle.pm_world.specs.Memory.{Memory}
@@ -42,33 +42,34 @@ front_same one other long as_long same =
 module _ (o : Opening) (mem : Memory) (views : Views) (log : List Entry) (decided : ℕ → Bool) (x : World o mem views log decided) where
   module _ (k : ℕ) (inside : k < o.lanes) where
     -- what the lane may store is not there
-    store_behind : (w x' : ℕ) (phase : Phase) (part : Part) → part_of (views k).lane w ≡ part → StoreFits (views k) w x' phase part → 512 ≤ w
-    store_behind w x' Idle part is fits = absurd fits
-    store_behind w x' (Open slot pair) GenerationWord is fits = let at = (generation_part (views k).lane w is).1 in omega arith
-    store_behind w x' (Open slot pair) SealWord is fits = absurd fits
-    store_behind w x' (Open slot pair) EntryWord is fits = let at = fits.at in omega arith
-    store_behind w x' (Open slot pair) SlotWord is fits = let at = fits.at in omega arith
-    store_behind w x' (Open slot pair) OtherWord is (inl writes) =
+    store_behind : (w x' : ℕ) (phase : Phase) → (views k).log.phase ≡ phase → (part : Part) → part_of (views k).lane w ≡ part → StoreFits (views k) w x' phase part → 512 ≤ w
+    store_behind w x' Idle phase_is part is fits = absurd fits
+    store_behind w x' (Open slot pair) phase_is GenerationWord is fits = let at = (generation_part (views k).lane w is).1 in omega arith
+    store_behind w x' (Open slot pair) phase_is SealWord is fits = absurd fits
+    store_behind w x' (Open slot pair) phase_is EntryWord is fits = let at = fits.at in omega arith
+    store_behind w x' (Open slot pair) phase_is SlotWord is fits = let at = fits.at in omega arith
+    store_behind w x' (Open slot pair) phase_is OtherWord is (inl writes) =
         let behind = behind_areas o mem views log decided x k w (writes_under o mem k (views k) w (x.each_lane k inside).locks writes.own) in omega arith
-    store_behind w x' (Open slot pair) OtherWord is (inr (inl fills)) = let behind = (reserved_word o mem views log decided x k w inside fills.reserved).behind in omega arith
-    store_behind w x' (Open slot pair) OtherWord is (inr (inr describes)) =
+    store_behind w x' (Open slot pair) phase_is OtherWord is (inr (inl fills)) = let behind = (reserved_word o mem views log decided x k w inside fills.reserved).behind in omega arith
+    store_behind w x' (Open slot pair) phase_is OtherWord is (inr (inr describes)) =
         let behind = (reserved_word o mem views log decided x k w inside (describing_reserved (views k) w x' describes)).behind in omega arith
-    store_behind w x' Drawn GenerationWord is fits = let at = (generation_part (views k).lane w is).1 in omega arith
-    store_behind w x' Drawn SealWord is fits = let at = (seal_part (views k).lane w is).1 in omega arith
-    store_behind w x' Drawn EntryWord is fits = absurd fits
-    store_behind w x' Drawn SlotWord is fits = absurd fits
-    store_behind w x' Drawn OtherWord is fits = absurd fits
-    store_behind w x' Sealing part is fits = absurd fits
-    store_behind w x' (Applying applied) GenerationWord is fits = let at = (generation_part (views k).lane w is).1 in omega arith
-    store_behind w x' (Applying applied) SealWord is fits = let at = (seal_part (views k).lane w is).1 in omega arith
-    store_behind w x' (Applying applied) EntryWord is fits = absurd fits
-    store_behind w x' (Applying applied) SlotWord is fits = absurd fits
-    store_behind w x' (Applying applied) OtherWord is fits =
+    store_behind w x' Drawn phase_is GenerationWord is fits = let at = (generation_part (views k).lane w is).1 in omega arith
+    store_behind w x' Drawn phase_is SealWord is fits = let at = (seal_part (views k).lane w is).1 in omega arith
+    store_behind w x' Drawn phase_is EntryWord is fits = absurd fits
+    store_behind w x' Drawn phase_is SlotWord is fits = absurd fits
+    store_behind w x' Drawn phase_is OtherWord is fits = absurd fits
+    store_behind w x' Sealing phase_is part is fits = absurd fits
+    store_behind w x' (Applying applied) phase_is GenerationWord is fits = let at = (generation_part (views k).lane w is).1 in omega arith
+    store_behind w x' (Applying applied) phase_is SealWord is fits = let at = (seal_part (views k).lane w is).1 in omega arith
+    store_behind w x' (Applying applied) phase_is EntryWord is fits = absurd fits
+    store_behind w x' (Applying applied) phase_is SlotWord is fits = absurd fits
+    store_behind w x' (Applying applied) phase_is OtherWord is fits =
         ⊎_elim (λ (own : IsTrue (is_written (views k) w)).
         let behind = behind_areas o mem views log decided x k w (writes_under o mem k (views k) w (x.each_lane k inside).locks own) in omega arith)
-        (λ generation. let here : w ≡ area_word (views k).lane = generation.0 in omega arith) ((x.each_lane k inside).entries.each applied (set_word w x') fits).may.of
-    store_behind w x' Clearing part is fits = absurd fits
-    store_behind w x' Retiring part is fits = absurd fits
+        (λ other. ⊎_elim (λ (generation : (w ≡ area_word (views k).lane) × (((x.each_lane k inside).entries.each applied (set_word w x') fits).op ≡ op.Set)). let here = generation.0 in omega arith)
+        (λ (alone : EntersAlone (views k) w). absurd (subst IsGrowing phase_is alone.1)) other) ((x.each_lane k inside).entries.each applied (set_word w x') fits).may.of
+    store_behind w x' Clearing phase_is part is fits = absurd fits
+    store_behind w x' Retiring phase_is part is fits = absurd fits
 
     -- nor what it may set or clear bits of
     change_behind : (op : Op) (w bits : ℕ) → MayChange (views k) op w bits → 512 ≤ w
@@ -81,7 +82,7 @@ module _ (o : Opening) (mem : Memory) (views : Views) (log : List Entry) (decide
     pub front_stays : (s : Step) (new : Memory) (i : ℕ) → IsLawful (views k) s → Moves k s mem new → i < 512 → new (PoolWord i) ≡ mem (PoolWord i)
     front_stays (Load w found) new i lawful moves low = moves.0 (PoolWord i)
     front_stays (Store w x') new i lawful moves low =
-        let behind = store_behind w x' (views k).log.phase (part_of (views k).lane w) refl lawful.allowed.fits in
+        let behind = store_behind w x' (views k).log.phase refl (part_of (views k).lane w) refl lawful.allowed.fits in
         moves.0 (PoolWord i) (other_pool i w (λ same. omega arith))
     front_stays (Or w bits found) new i lawful moves low =
         let behind = change_behind op.Or w bits lawful.allowed in moves.0.0 (PoolWord i) (other_pool i w (λ same. omega arith))

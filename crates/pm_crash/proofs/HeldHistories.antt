@@ -142,7 +142,7 @@ pub step_stays_held : (o : Opening) (mem : Memory) (views : Views) (log : List E
     → IsHeldHistory o (log_after log (views k) s) (decided_after decided (views k) s) header pool
 step_stays_held o mem views log decided world k (Draw n) inside lawful header pool id ended history =
     draw_stays_held o mem views log decided (decided_after decided (views k) (Draw n)) world k n inside (ap (λ (phase : Phase). flight_in phase (views k).number) lawful.allowed.is_open) (ap is_redoing lawful.allowed.is_open)
-    (λ m is. or_left (decided m) (eqb n m && is_empty (difference_of (views k))) is) header pool id ended history
+    (λ m is. or_left (decided m) (eqb n m && is_empty (difference_of (views k))) is) header pool id ended.0 history
 step_stays_held o mem views log decided world k Drain inside lawful header pool id ended history =
     stays_held o log decided (decided_after decided (views k) Drain) header pool history (λ m is. or_left (decided m) (is_decided_by_drain (drained (views k).changes) (views k) m) is)
 step_stays_held o mem views log decided world k s inside lawful header pool id ended history = history

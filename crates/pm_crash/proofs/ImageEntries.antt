@@ -17,7 +17,7 @@ use Rattle.pm_image.specs.Logs.{entries, entry_pair, generation_word, is_sealed,
 use Rattle.pm_image.specs.Steps.{valid_record}
 use Rattle.pm_image.proofs.Masks.{any_nowhere, in_common, lane_clashes, mask_of_entries, no_clash_at_end}
 use Rattle.pm_image.proofs.Redoing.{entries_unsealed}
-use Rattle.pm_view.specs.Area.{area_word, part_of}
+use Rattle.pm_view.specs.Area.{area_word, part_of, is_in_area}
 use Rattle.pm_view.specs.Area.Part.{EntryWord, SlotWord}
 use Rattle.pm_view.specs.Changes.{is_in_line}
 use Rattle.pm_view.specs.Log.{Final, Phase}
@@ -25,15 +25,16 @@ use Rattle.pm_view.specs.Log.Phase.{Idle, Open, Drawn, Sealing, Applying, Cleari
 use Rattle.pm_view.specs.Rights.{is_written}
 use Rattle.pm_view.specs.View.{View}
 use Rattle.pm_world.specs.Crash.{Survives}
-use Rattle.pm_world.specs.Entries.{AreWhole, IsEntryAt, ends_with, final_by, is_entered, redo_on}
+use Rattle.pm_world.specs.Entries.{AreWhole, IsEntryAt, ends_with, final_by, is_entered, redo_on, EntersAlone}
 use Rattle.pm_world.specs.Fits.{AppliedChange, ApplyingFits, LaneFits, LogFits, PhaseFits, ReservedChange}
 use Rattle.pm_world.specs.History.{Entry, Flies, is_final, settled}
 use Rattle.pm_world.specs.Memory.{Memory}
 use Rattle.pm_world.specs.Opening.{Opening}
 use Rattle.pm_world.specs.Records.{generation_of, is_drained_slot, is_logged, records_generation, used_slots}
 use Rattle.pm_world.specs.World.{Views, World}
+use Rattle.pm_world.proofs.Plain.{own_area}
 use Rattle.pm_world.proofs.CrashEntries.{HasSealed, entries_read, entry_read, generation_sealed, none_of, of_word, redo_again, sealed_generation, whole_of}
-use Rattle.pm_world.proofs.CrashLaw.{seal_drained}
+use Rattle.pm_world.proofs.CrashLaw.{seal_drained, sealed_still}
 use Rattle.pm_world.proofs.CrashLogs.{ChangeFits, SealIs, entered_front, entry_of_word, entry_part, slot_part, whole_word}
 use Rattle.pm_world.proofs.CrashRecords.{unsealed}
 use Rattle.pm_world.proofs.CrashSpellings.{valid_parts}
@@ -230,7 +231,7 @@ module _ (o : Opening) (mem : Memory) (views : Views) (log : List Entry) (decide
         let word : f.word ≡ area_word v.lane = ap (λ (h : Final). h.word) is in
         let sets : s.op ≡ Set = ⊎_elim
         (λ (own : is_written v f.word ≡ true). let far = written_behind o mem views log decided x j f.word inside own in let lane = lane_is o mem views log decided x j inside in absurd (omega (arith, far, word, lane, inside)))
-        (λ (own : (f.word ≡ area_word v.lane) × (s.op ≡ Set)). own.1) s.may.of in
+        (λ other. ⊎_elim (λ (own : (f.word ≡ area_word v.lane) × (s.op ≡ Set)). own.1) (λ (alone : EntersAlone v f.word). absurd (false≢true (sym alone.2 ∙ (ap (is_in_area v.lane) word ∙ own_area v.lane)))) other) s.may.of in
         let value : s.value ≡ g = sym (ap (λ (h : Final). h.bits) (sym is ∙ (s.is ∙ ap (λ (op : Op). final_by op f.word s.value) sets))) in
         λ n. redo_on (sets n) (word n) (value n)
 
@@ -314,7 +315,8 @@ module _ (o : Opening) (mem : Memory) (views : Views) (log : List Entry) (decide
       let t = entry_of_word (views j).log.entries i final in
       record {
         writes = ⊎_elim (λ (own : is_written (views j) t.held.word ≡ true). inl (written_under o mem views log decided x j i inside (subst (λ u. is_written (views j) u ≡ true) t.of own)))
-            (λ own. inr (sym t.of ∙ (own.0 ∙ ap area_word (lane_is o mem views log decided x j inside))))
+            (λ other. ⊎_elim (λ (own : (t.held.word ≡ area_word (views j).lane) × (((fits j inside).entries.each t.place t.held t.at).op ≡ Set)). inr (sym t.of ∙ (own.0 ∙ ap area_word (lane_is o mem views log decided x j inside))))
+            (λ (alone : EntersAlone (views j) t.held.word). absurd (sealed_still (views j).log.phase sealed.0 alone.1)) other)
             ((fits j inside).entries.each t.place t.held t.at).may.of;
         no_slot = none_valid j inside sealed.0 sealed.1;
       })

@@ -20,6 +20,7 @@ use Rattle.pm_world.specs.Memory.{Memory}
 use Rattle.pm_world.specs.Opening.{Guards, IsChunk, IsLivingWord, Opening, TellsOfBlocks}
 use Rattle.pm_world.specs.Records.{difference_of, is_logged, is_recorded, records_generation}
 use Rattle.pm_world.specs.World.{Views, World}
+use Rattle.pm_world.proofs.Plain.{flying_still, plain_still}
 use Rattle.pm_world.proofs.Apart.{heap_outside, held_apart}
 use Rattle.pm_world.proofs.Chunks.{chunk_here}
 use Rattle.pm_world.proofs.CrashReplays.{flies_of}
@@ -65,7 +66,7 @@ module _ (o : Opening) (mem : Memory) (views : Views) (log : List Entry) (decide
       let of : is_final (difference_of (views e.lane)) i ≡ true =
       (ap (λ (d : List Final). is_final d i) (sym f.has_difference) ∙ (ap (λ (d : Entry). is_final d.difference i) same ∙ final)) in
       writes_under o mem e.lane (views e.lane) i lane_fits.locks
-      (difference-written (settled o log decided) (views e.lane) (records_generation (views e.lane).log.phase (views e.lane)) i lane_fits.log lane_fits.entries of)
+      (difference-written (settled o log decided) (views e.lane) (records_generation (views e.lane).log.phase (views e.lane)) i lane_fits.log (plain_still (views e.lane) lane_fits.entries (flying_still (views e.lane).log.phase e.number (views e.lane).number (fit.in_flight undecided))) of)
 
   -- what a lane holds whose own call is not in flight is as it is settled, whatever of those in flight is left out
   held_is_settled : (k i : ℕ) → k < o.lanes → flight (views k) ≡ None → KeepsDecided decided keep → IsTrue (is_held (views k) i) → words_kept i ≡ settled o log decided i

@@ -1,6 +1,6 @@
 -- A lane's generation and its undrained slot words along its course: while a log is written its generation can be raised, and what is undrained
 -- of slots is of the log's records or of the one in the making.
-use Rattle.std.proofs.Common.{◌≡◌, ◌≢◌, ◌⊎◌, ⊎_elim, inl, inr, IsTrue, ℕ, ◌+◌, ◌*◌, ◌<◌, ◌≤◌, Bool, true, false, leb, ltb, cond, ◌/◌, not, take, Some, List, [], ◌∷◌, ◌++◌, length, slice_index, is_some, refl, sym, ◌∙◌, ap, subst, arith, bit_or, bit_and}
+use Rattle.std.proofs.Common.{◌≡◌, ◌≢◌, ◌⊎◌, ⊎_elim, inl, inr, IsTrue, ℕ, ◌+◌, ◌*◌, ◌<◌, ◌≤◌, Bool, true, false, leb, ltb, cond, ◌/◌, not, take, List, [], ◌∷◌, ◌++◌, length, slice_index, is_some, refl, sym, ◌∙◌, ap, subst, arith, bit_or, bit_and}
 use Rattle.std.specs.List.{Contains}
 use Rattle.std.proofs.lemmas.Bool.{and_from, false≢true, le-leb, lt-ltb}
 use Rattle.std.proofs.lemmas.List.{length-append}
@@ -327,11 +327,11 @@ module _ (o : Opening) (mem : Memory) (views : Views) (log : List Entry) (decide
     begun_range n Clearing is may same range = subst (InRange g' v) (sym is) (carried g g' v v Clearing same refl refl refl (all_of v.changes) range)
     begun_range n Retiring is may same range = subst (InRange g' v) (sym is) (carried g g' v v Retiring same refl refl refl (all_of v.changes) range)
 
-    draw_range : (n : ℕ) (p : Phase) → p ≡ Open [] [] → g' ≡ g → InRange g v p → InRange g' (record v { log = log_drawn p v.log; number = Some n; entries = v.entries ++ record { number = n; call = v.call } ∷ [] }) (log_drawn p v.log).phase
+    draw_range : (n : ℕ) (p : Phase) → p ≡ Open [] [] → g' ≡ g → InRange g v p → InRange g' (record (after v (Draw n)) { log = log_drawn p v.log }) (log_drawn p v.log).phase
     draw_range n p is same range =
-        subst (λ (q : Phase). InRange g' (record v { log = log_drawn q v.log; number = Some n; entries = v.entries ++ record { number = n; call = v.call } ∷ [] }) (log_drawn q v.log).phase) (sym is)
+        subst (λ (q : Phase). InRange g' (record (after v (Draw n)) { log = log_drawn q v.log }) (log_drawn q v.log).phase) (sym is)
         (let open_range : InRange g v (Open [] []) = subst (InRange g v) is range in
-        let drawn : View = record v { log = log_drawn (Open [] []) v.log; number = Some n; entries = v.entries ++ record { number = n; call = v.call } ∷ [] } in
+        let drawn : View = record (after v (Draw n)) { log = log_drawn (Open [] []) v.log } in
         ⊎_elim (λ (low : g < generation_limit). drawn_range g' drawn v.log.records v.log.entries (subst (λ m. m < generation_limit) (sym same) low))
         (λ (un : IsUnwritten v []). subst (InRange g' drawn) (λ i. phase_drawn (sym un.no_records i) (sym un.no_entries i)) tt) open_range.0)
 

@@ -24,8 +24,8 @@ use Rattle.pm_world.specs.Course.{entry_of, log_after}
 use Rattle.pm_world.specs.Entries.{HasNone}
 use Rattle.pm_world.specs.Fits.{PhaseFits}
 use Rattle.pm_world.specs.History.{Entry, Flies, made_final, replayed}
-use Rattle.pm_world.specs.Laws.{Keeps}
-use Rattle.pm_world.specs.Lawful.{Allowed, BitsFit, MayTell, StoreFits}
+use Rattle.pm_world.specs.Laws.{Keeps, KeepsFrom}
+use Rattle.pm_world.specs.Lawful.{Allowed, BitsFit, MayTell, StoreFits, IsLawful}
 use Rattle.pm_world.specs.Memory.{Memory}
 use Rattle.pm_world.specs.Memory.Location.{CommitCounter, PoolWord}
 use Rattle.pm_world.specs.Opening.{Opening}
@@ -45,7 +45,7 @@ use Rattle.pm_world.proofs.StepSetStop.{sets_stop}
 use Rattle.pm_world.proofs.StepStore.{stores}
 use Rattle.pm_world.proofs.StepTake.{takes_read, takes_write}
 use Rattle.pm_crash.specs.Held.{HoldsPool}
-use Rattle.pm_crash.specs.OneLane.{Begins, BeginsBetween, HoldsReplay, IsCourse, Makes, Moment, Move, beginning, moved}
+use Rattle.pm_crash.specs.OneLane.{Begins, BeginsBetween, HoldsReplay, IsCourse, Makes, Moment, Move, beginning, moved, IsPaid}
 use Rattle.pm_crash.specs.OpenCall.{MakesStep, made_words}
 use Rattle.pm_crash.specs.Pending.{pending_after, pending_before, pending_from, state_after}
 use Rattle.pm_crash.proofs.CleanWords.{clean_words_hold, clean_words_sound, world_begins}
@@ -58,28 +58,32 @@ use Rattle.pm_crash.proofs.HistoryActs.{act_drawn, replays_none, turns_history}
 use Rattle.pm_crash.proofs.LogCourse.{InRange, range_after}
 use Rattle.pm_crash.proofs.LongerReplays.{every, holds_once_more, words_after}
 
+-- a lawful step is one that is paid
+paid_keeps : (s : Step) → Keeps s → KeepsFrom (λ v. IsLawful v s × IsPaid v s) s
+paid_keeps s keeps o old new views log decided k v world inside is may moves = keeps o old new views log decided k v world inside is may.0 moves
+
 -- each step keeps the world
-keeps_each : (s : Step) → Keeps s
-keeps_each (Load w x) = loads w x
-keeps_each (Store w x) = stores w x
-keeps_each (Or w bits found) = sets w bits found
-keeps_each (And w bits found) = clears w bits found
-keeps_each (Flush line) = flushes line
-keeps_each Drain = drains
-keeps_each (TakeWrite line won) = takes_write line won
-keeps_each (TakeRead line won) = takes_read line won
+keeps_each : (s : Step) → KeepsFrom (λ v. IsLawful v s × IsPaid v s) s
+keeps_each (Load w x) = paid_keeps (Load w x) (loads w x)
+keeps_each (Store w x) = paid_keeps (Store w x) (stores w x)
+keeps_each (Or w bits found) = paid_keeps (Or w bits found) (sets w bits found)
+keeps_each (And w bits found) = paid_keeps (And w bits found) (clears w bits found)
+keeps_each (Flush line) = paid_keeps (Flush line) (flushes line)
+keeps_each Drain = paid_keeps Drain drains
+keeps_each (TakeWrite line won) = paid_keeps (TakeWrite line won) (takes_write line won)
+keeps_each (TakeRead line won) = paid_keeps (TakeRead line won) (takes_read line won)
 keeps_each (Raise line won) = λ o old new views log decided k v world inside is lawful moves. absurd moves
-keeps_each (Give line) = gives line
-keeps_each (ZoneTry zone won) = tries_zone zone won
-keeps_each (ZoneGive zone) = gives_zone_back zone
-keeps_each (Occupied at found) = sees_occupancy at found
-keeps_each (Occupy at bits won) = occupies at bits won
-keeps_each (Vacate at bits) = vacates at bits
-keeps_each (Draw n) = draws n
-keeps_each (NumberSeen n) = sees_numbers n
-keeps_each (StopSeen set) = sees_stops set
-keeps_each SetStop = sets_stop
-keeps_each (Tell operation reply) = tells operation reply
+keeps_each (Give line) = paid_keeps (Give line) (gives line)
+keeps_each (ZoneTry zone won) = paid_keeps (ZoneTry zone won) (tries_zone zone won)
+keeps_each (ZoneGive zone) = paid_keeps (ZoneGive zone) (gives_zone_back zone)
+keeps_each (Occupied at found) = paid_keeps (Occupied at found) (sees_occupancy at found)
+keeps_each (Occupy at bits won) = paid_keeps (Occupy at bits won) (occupies at bits won)
+keeps_each (Vacate at bits) = paid_keeps (Vacate at bits) (vacates at bits)
+keeps_each (Draw n) = λ o old new views log decided k v world inside is may moves. draws n o old new views log decided k v world inside is (may.0, may.1.1) moves
+keeps_each (NumberSeen n) = paid_keeps (NumberSeen n) (sees_numbers n)
+keeps_each (StopSeen set) = paid_keeps (StopSeen set) (sees_stops set)
+keeps_each SetStop = paid_keeps SetStop sets_stop
+keeps_each (Tell operation reply) = paid_keeps (Tell operation reply) (tells operation reply)
 
 -- a step that draws no number leaves the history, and the lane no other number
 record DrawsNone (log : List Entry) (v : View) (s : Step) : Type 0 where
@@ -219,7 +223,7 @@ module _ (o : Opening) (k : ℕ) (header : Header) (pool : PoolView) (m : Moment
 
   module _ (s : Move) (makes : Makes k m s) where
     world_goes : World o (moved k m s).memory (moved k m s).views (moved k m s).log (moved k m s).decided
-    world_goes = (keeps_each s.step o m.memory s.memory m.views m.log m.decided k (m.views k) g.world g.in_lanes refl makes.lawful makes.moves).0
+    world_goes = (keeps_each s.step o m.memory s.memory m.views m.log m.decided k (m.views k) g.world g.in_lanes refl (makes.lawful, makes.paid) makes.moves).0
 
     others_rest : (j : ℕ) → j < o.lanes → j ≢ k → ((moved k m s).views j).log.phase ≡ Idle
     others_rest j low other = ap (λ (u : View). u.log.phase) (view_else m.views k (after (m.views k) s.step) j other) ∙ g.others j low other
@@ -276,7 +280,7 @@ module _ (o : Opening) (k : ℕ) (header : Header) (pool : PoolView) (m : Moment
         let holds : HoldsPool words v.lanes v.zones header reached_all.last =
         two_same (λ (a b : ℕ). HoldsPool words a b header reached_all.last) o.lanes v.lanes o.zones v.zones (sym here.lanes) (sym here.zones) reached_all.holds in
         let step : MakesStep v words header reached_all.last =
-        makes.paid words header reached_all.last holds g.of_pool
+        makes.paid.0 words header reached_all.last holds g.of_pool
         (drawn_before o k m g.world g.in_lanes g.alone idle_records idle_entries makes.lawful.allowed.is_open reached_all.holds.no_fault) in
         let made : HoldsPool (made_words v words) o.lanes o.zones header step.next =
         two_same (λ (a b : ℕ). HoldsPool (made_words v words) a b header step.next) v.lanes o.lanes v.zones o.zones here.lanes here.zones step.holds in

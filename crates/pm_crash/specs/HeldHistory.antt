@@ -1,5 +1,5 @@
 -- A world's history as the plain model's: whichever of the calls in flight are left out, the others were made one whole call after another.
-use Rattle.std.specs.Prelude.{◌≡◌, ◌⊎◌, ℕ, Bool, List, []}
+use Rattle.std.specs.Prelude.{◌≡◌, ◌⊎◌, ℕ, Bool, List, [], false}
 use Rattle.pm_header.specs.declared.header.Header.{Header}
 use Rattle.pm_objects.specs.declared.history.TxErr.{TxErr}
 use Rattle.pm_objects.specs.declared.pool.PoolView.{PoolView}
@@ -14,6 +14,7 @@ use Rattle.pm_crash.specs.Draws.{KeepsDecided, kept_log, kept_words}
 use Rattle.pm_crash.specs.Held.{HoldsPool}
 use Rattle.pm_crash.specs.OpenCall.{IsGivenUp, IsWholeCall}
 use Rattle.pm_crash.specs.Pending.{acts_of, state_after}
+use Rattle.pm_view.specs.Views.{changes_heap}
 
 -- the words hold what the kept calls make of a pool, one whole call after another
 pub record HoldReplay (w : ℕ → ℕ) (o : Opening) (keep : ℕ → Bool) (log : List Entry) (header : Header) (pool : PoolView) : Type 0 where
@@ -29,7 +30,7 @@ pub record IsHeldHistory (o : Opening) (log : List Entry) (decided : ℕ → Boo
 abbrev pub IsEndedCall : View → Type 0
 IsEndedCall v = IsWholeCall v ⊎ ((e : TxErr) × IsGivenUp v e × (v.log.records ≡ []) × (v.log.entries ≡ []))
 
--- a draw is of an ended call
+-- a draw is of an ended call, which allocates and frees no block
 abbrev pub DrawsEnded : View → Step → Type 0
-DrawsEnded v (Draw n) = IsEndedCall v
+DrawsEnded v (Draw n) = IsEndedCall v × (changes_heap v ≡ false)
 DrawsEnded v s = Unit {0}

@@ -9,7 +9,7 @@ use Rattle.pm_model.specs.Names.{Replays}
 use Rattle.pm_view.specs.Steps.{Step}
 use Rattle.pm_view.specs.Steps.Step.{Draw}
 use Rattle.pm_view.specs.View.{View}
-use Rattle.pm_view.specs.Views.{after}
+use Rattle.pm_view.specs.Views.{after, changes_heap}
 use Rattle.pm_world.specs.Course.{log_after, decided_after}
 use Rattle.pm_world.specs.Crash.{is_kept}
 use Rattle.pm_world.specs.History.{Entry}
@@ -54,9 +54,9 @@ abbrev pub IsModelStep : View → Type 0
 IsModelStep v = (w : ℕ → ℕ) (header : Header) (pool : PoolView) → HoldsPool w v.lanes v.zones header pool → v.pool ≡ header.id → IsBefore v w
     → MakesStep v w header pool
 
--- what a lane owes for a step besides what is lawful: a call that draws is a step of the plain model
+-- what a lane owes for a step besides what is lawful: a call that draws is a step of the plain model, and allocates and frees no block
 abbrev pub IsPaid : View → Step → Type 0
-IsPaid v (Draw n) = IsModelStep v
+IsPaid v (Draw n) = IsModelStep v × (changes_heap v ≡ false)
 IsPaid v s = Unit {0}
 
 -- lane k makes the step

@@ -2,7 +2,7 @@
 use Rattle.std.proofs.Common.{◌≡◌, ◌≢◌, ⊎_elim, ℕ, ◌+◌, ◌-◌, ◌*◌, ◌/◌, ◌%◌, ◌<◌, ◌≤◌, ◌||◌, Bool, true, false, not, eqb, Contains, List, ◌&&◌, slice_index, refl, sym, ap, ◌∙◌, subst, arith}
 use Rattle.std.specs.Int.{bit_at}
 use Rattle.std.specs.List.{list_any}
-use Rattle.std.proofs.lemmas.Bool.{and_parts, cases_Bool, eq-eqb, eqb-true, false_from_ne_true, false≢true, not_from_true, or_parts}
+use Rattle.std.proofs.lemmas.Bool.{and_parts, cases_Bool, eq-eqb, eqb-true, false_from_ne_true, false≢true, not_from_true, or_parts, or_cases}
 use Rattle.std.proofs.lemmas.List.Folds.{Any-from_list_any}
 use Rattle.pm_view.specs.declared.change.Change.{Change}
 use Rattle.pm_view.specs.declared.occ.Occ.{Occ}
@@ -12,7 +12,7 @@ use Rattle.pm_view.specs.Held.{is_reserved}
 use Rattle.pm_view.specs.Occupancy.{is_chunk_taken, is_in_block, is_taken}
 use Rattle.pm_view.specs.Rights.{is_written}
 use Rattle.pm_view.specs.View.{View}
-use Rattle.pm_view.specs.Views.{has_bit, has_chunk, occ_in, reserves}
+use Rattle.pm_view.specs.Views.{has_bit, has_chunk, occ_in, reserves, changes_heap}
 use Rattle.pm_world.specs.Entries.{is_entered}
 use Rattle.pm_world.specs.Fits.{LaneFits}
 use Rattle.pm_world.specs.Heap.{IsEmptyRun, IsOcc, has_taken, heap_words}
@@ -22,7 +22,10 @@ use Rattle.pm_world.specs.Memory.Location.{PoolWord}
 use Rattle.pm_world.specs.Opening.{IsChunk, IsPoolChunk, Opening, is_free_chunk}
 use Rattle.pm_world.specs.Records.{is_logged, is_recorded}
 use Rattle.pm_world.specs.World.{Views, World}
-use Rattle.pm_world.proofs.CrashLogs.{change_lies, entry_of_word, logged_recorded}
+use Rattle.pm_view.specs.Area.{is_in_area}
+use Rattle.pm_world.proofs.Pairs.{plain_word}
+use Rattle.pm_world.proofs.Apart.{area_bounds}
+use Rattle.pm_world.proofs.CrashLogs.{change_lies, logged_recorded}
 use Rattle.pm_world.proofs.CrashWords.{fits_of, recorded_writes, written_under}
 use Rattle.pm_world.proofs.Exclusion.{WritesUnder}
 use Rattle.pm_world.proofs.HeapWords.{described, free_descriptor, free_in, no_run_taken, page_in_chunk, page_in_number, page_in_word, page_in_zone, taken_still}
@@ -35,7 +38,7 @@ use Rattle.pm_blocks.specs.NewRuns.{IsUnused}
 
 module _ (o : Opening) (mem : Memory) (views : Views) (log : List Entry) (decided : ℕ → Bool) (k : ℕ) (world : World o mem views log decided) (inside : k < o.lanes)
     (sees : (i : ℕ) → mem (PoolWord i) ≡ slice_index (views k).words i) (pictures : (at : Occ) → mem (occ_at at) ≡ occ_in (views k) at)
-    (zone chunk : ℕ) (in_pool : zone < o.zones) (low : chunk < 64) (clear : bit_at (occ_in (views k) (Zone zone)) chunk ≢ 1) where
+    (plain : changes_heap (views k) ≡ false) (zone chunk : ℕ) (in_pool : zone < o.zones) (low : chunk < 64) (clear : bit_at (occ_in (views k) (Zone zone)) chunk ≢ 1) where
   abbrev v : View
   v = views k
 
@@ -157,12 +160,10 @@ module _ (o : Opening) (mem : Memory) (views : Views) (log : List Entry) (decide
       let told : page_told o.lanes w ≡ page = chunk_word_here o.lanes w (subst (λ p. 1 ≤ chunk_of o.lanes p) (sym at) of_chunk.1) ∙ at in (
         false_from_ne_true (is_recorded v.log.records w) (λ e. guarded w (recorded_writes o mem views log decided world k w inside e) told),
         false_from_ne_true (is_entered v.log.entries w) (λ e.
-            let t = entry_of_word v.log.entries w e in
-            let is = t.of in
             ⊎_elim
-            (λ own. guarded w (written_under o mem views log decided world k w inside (subst (λ u. is_written v u ≡ true) is own)) told)
-            (λ own. let area = own.0 in let lane = fits.lane.lane in in_areas w (omega (arith, area, is, lane, inside)) told)
-            (fits.entries.each t.place t.held t.at).may.of),
+            (λ (area : is_in_area v.lane w ≡ true). let high = (area_bounds v.lane w area).1 in let lane = fits.lane.lane in in_areas w (omega (arith, high, lane, inside)) told)
+            (λ (own : is_written v w ≡ true). guarded w (written_under o mem views log decided world k w inside own) told)
+            (or_cases (is_in_area v.lane w) (is_written v w) (plain_word v w plain e))),
       )
 
   pub is_unused : IsUnused v (page_in v.lanes zone chunk)

@@ -55,7 +55,7 @@ module _ (o : Opening) (mem : Memory) (views : Views) (log : List Entry) (decide
     working = work.working;
     locked = there;
     pictured = work.zones;
-    unused = λ zone chunk in_pool low clear. is_unused o mem views log decided k world inside sees pictures zone chunk (let zones = fits.lane.zones in omega (arith, zones, in_pool)) low clear;
+    unused = λ zone chunk in_pool low clear. is_unused o mem views log decided k world inside sees pictures work.plain zone chunk (let zones = fits.lane.zones in omega (arith, zones, in_pool)) low clear;
   }
 
   -- ---- its pool

@@ -9,7 +9,7 @@ use Rattle.pm_view.specs.declared.occ.Occ.{Occ}
 use Rattle.pm_view.specs.declared.occ.Occ.TheVariants.{Zone}
 use Rattle.pm_view.specs.View.{View}
 use Rattle.pm_view.specs.Founds.{IsAlone}
-use Rattle.pm_view.specs.Views.{is_made, reserves}
+use Rattle.pm_view.specs.Views.{is_made, reserves, changes_heap}
 use Rattle.pm_world.specs.Entries.{ends_with}
 use Rattle.pm_world.specs.Lawful.{generation_limit}
 use Rattle.pm_world.specs.Lanes.{IsOfShape}
@@ -54,13 +54,14 @@ abbrev pub AreOfOwnBits : ℕ → List HeapChange → Type 0
 AreOfOwnBits lanes [] = Unit {0}
 AreOfOwnBits lanes (change ∷ others) = All (HasNoBitOf lanes change) others × AreOfOwnBits lanes others
 
--- The lane is alone and at work on a pool of this shape, and holds no zone's lock; it has a picture of each occupancy word, and no chunk that it reserved is
--- a run.
+-- The lane is alone and at work on a pool of this shape, holds no zone's lock, and has entered no change of a block; it has a picture of each occupancy word,
+-- and no chunk that it reserved is a run.
 pub record IsAtWorkAlone (v : View) (shape : Shape) : Type 0 where
   pub alone : IsAlone v
   pub working : IsWorking v
   pub of_shape : IsOfShape v shape
   pub unlocked : v.zone_locks ≡ []
+  pub plain : changes_heap v ≡ false
   pub zones : v.zones ≤ length v.zone_words
   pub runs : 1 + 2 * v.lanes + 65 * v.zones ≤ length v.run_words
   pub no_run : (page : ℕ) → is_made v page ≡ false

@@ -19,7 +19,7 @@ ghost use Rattle.pm_view.specs.Occupancy.{is_taken};
 ghost use Rattle.pm_view.specs.Steps.{Step};
 ghost use Rattle.pm_view.specs.Steps.Step.{Draw};
 ghost use Rattle.pm_view.specs.View.{Lock, View};
-ghost use Rattle.pm_view.specs.Views.{after, occ_in, reserves};
+ghost use Rattle.pm_view.specs.Views.{changes_heap, after, occ_in, reserves};
 ghost use Rattle.pm_world.specs.Heap.{IsOcc};
 ghost use Rattle.pm_world.specs.History.{Entry};
 ghost use Rattle.pm_world.specs.Lawful.{Allowed};
@@ -60,12 +60,12 @@ pub fn a_lane_alone_may_change_its_blocks()
         → MayBeFreed (slice_index (views k).words) o.lanes o.zones (record { place = 64 * l.line; lines = lines }) }
 {}
 
-/// A law: in a world where a lane has each word and each occupancy word as it is, a chunk whose bit is clear there has nothing, as the search for a
-/// block asks: no block, and nothing reserved, undrained, recorded or entered of it. No code runs.
+/// A law: in a world where a lane has each word and each occupancy word as it is, and has entered no change of a block, a chunk whose bit is clear
+/// there has nothing, as the search for a block asks: no block, and nothing reserved, undrained, recorded or entered of it. No code runs.
 pub fn a_clear_chunk_is_unused()
     ensures { (o : Opening) (mem : Memory) (views : Views) (log : List Entry) (decided : ℕ → Bool) (k zone chunk : ℕ)
         → World o mem views log decided → k < o.lanes → ((i : ℕ) → mem (PoolWord i) ≡ slice_index (views k).words i)
-        → ((at : Occ) → mem (occ_at at) ≡ occ_in (views k) at) → zone < o.zones → chunk < 64 → bit_at (occ_in (views k) (Zone zone)) chunk ≢ 1
+        → ((at : Occ) → mem (occ_at at) ≡ occ_in (views k) at) → changes_heap (views k) ≡ false → zone < o.zones → chunk < 64 → bit_at (occ_in (views k) (Zone zone)) chunk ≢ 1
         → IsUnused (views k) (page_in (views k).lanes zone chunk) }
 {}
 

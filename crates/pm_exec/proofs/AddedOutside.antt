@@ -26,9 +26,10 @@ use Rattle.pm_view.specs.Steps.Step.{Load, Store, Flush, Drain, Tell}
 use Rattle.pm_view.specs.View.{View}
 use Rattle.pm_view.specs.Views.{after, after_all}
 use Rattle.pm_view.proofs.SameLane.{same_lane-after}
+use Rattle.pm_record.specs.declared.redo.Op.TheVariants.{Set}
 use Rattle.pm_world.proofs.CrashWords.{reserved_word}
 use Rattle.pm_world.proofs.Exclusion.{writes_under}
-use Rattle.pm_world.specs.Entries.{set_word}
+use Rattle.pm_world.specs.Entries.{set_word, EntersAlone, IsGrowing}
 use Rattle.pm_world.specs.Fits.{EntriesFit}
 use Rattle.pm_world.specs.Lanes.{span_of}
 use Rattle.pm_world.specs.Lawful.{Allowed, StoreFits}
@@ -58,17 +59,19 @@ stored_same : (words : List ℕ) (w x i : ℕ) → is_in_area 0 w ≡ true → i
 stored_same words w x i inside outside = get_or-set_other words w i x 0 (λ same. false≢true (sym outside ∙ (ap (is_in_area 0) same ∙ inside)))
 
 -- a word outside of the area is stored under a lock that is held for writing, or in a block that the lane reserved
-may_write : (v : View) (w x : ℕ) (p : Phase) → EntriesFit v → w ≢ area_word v.lane → StoreFits v w x p OtherWord → IsTrue (is_written v w) ⊎ (is_reserved v w ≡ true)
-may_write v w x Idle entries other may = absurd may
-may_write v w x (Open slot pair) entries other (inl writes) = inl writes.own
-may_write v w x (Open slot pair) entries other (inr (inl fills)) = inr fills.reserved
-may_write v w x (Open slot pair) entries other (inr (inr describes)) = inr (describing_reserved v w x describes)
-may_write v w x Drawn entries other may = absurd may
-may_write v w x Sealing entries other may = absurd may
-may_write v w x (Applying applied) entries other may =
-    ⊎_elim (λ (own : IsTrue (is_written v w)). inl own) (λ generation. absurd (other generation.0)) (entries.each applied (set_word w x) may).may.of
-may_write v w x Clearing entries other may = absurd may
-may_write v w x Retiring entries other may = absurd may
+may_write : (v : View) (w x : ℕ) (p : Phase) → v.log.phase ≡ p → EntriesFit v → w ≢ area_word v.lane → StoreFits v w x p OtherWord → IsTrue (is_written v w) ⊎ (is_reserved v w ≡ true)
+may_write v w x Idle is entries other may = absurd may
+may_write v w x (Open slot pair) is entries other (inl writes) = inl writes.own
+may_write v w x (Open slot pair) is entries other (inr (inl fills)) = inr fills.reserved
+may_write v w x (Open slot pair) is entries other (inr (inr describes)) = inr (describing_reserved v w x describes)
+may_write v w x Drawn is entries other may = absurd may
+may_write v w x Sealing is entries other may = absurd may
+may_write v w x (Applying applied) is entries other may =
+    let stands = entries.each applied (set_word w x) may in
+    ⊎_elim (λ (own : IsTrue (is_written v w)). inl own) (λ (more : ((w ≡ area_word v.lane) × (stands.op ≡ Set)) ⊎ EntersAlone v w). absurd (⊎_elim (λ (generation : (w ≡ area_word v.lane) × (stands.op ≡ Set)). other generation.0)
+    (λ (alone : EntersAlone v w). subst IsGrowing is alone.1) more)) stands.may.of
+may_write v w x Clearing is entries other may = absurd may
+may_write v w x Retiring is entries other may = absurd may
 
 module _ (o : Opening) (header : Header) (pool : PoolView) where
   -- the word behind the last slot may not be stored
@@ -76,7 +79,7 @@ module _ (o : Opening) (header : Header) (pool : PoolView) where
   behind_slots v x stands lane may =
       let part : part_of v.lane 1160 ≡ OtherWord = ap (λ n. part_of n 1160) lane in
       let some = stands.goes.in_lanes in
-      let write : IsTrue (is_written v 1160) ⊎ (is_reserved v 1160 ≡ true) = may_write v 1160 x v.log.phase (own_fits o header pool v stands).entries (λ same. omega (arith, same, lane)) (subst (λ (p : Part). StoreFits v 1160 x v.log.phase p) part may.fits) in
+      let write : IsTrue (is_written v 1160) ⊎ (is_reserved v 1160 ≡ true) = may_write v 1160 x v.log.phase refl (own_fits o header pool v stands).entries (λ same. omega (arith, same, lane)) (subst (λ (p : Part). StoreFits v 1160 x v.log.phase p) part may.fits) in
       ⊎_elim (λ (own : IsTrue (is_written v 1160)).
       let under = writes_under o (memory_of v) 0 v 1160 (own_fits o header pool v stands).locks own in
       let behind = stands.goes.world.sound.behind_areas under.0 1160 under.1 in omega (arith, behind, some))

@@ -1,8 +1,8 @@
 -- A lane that is alone reserves no chunk that the pool's words say is taken: its picture of the zones' occupancy words has the bits of these set.
-use Rattle.std.proofs.Common.{◌≡◌, ◌≢◌, ℕ, ◌<◌, ◌≤◌, ⊎_elim, true, false, bit_and, bit_or, List, [], ◌∷◌, ◌++◌, length, set, slice_index, refl, sym, ap, ◌∙◌, subst, arith, get_or-set_same, get_or-set_other, length-set}
+use Rattle.std.proofs.Common.{◌≡◌, ◌≢◌, ℕ, ◌<◌, ◌≤◌, ⊎_elim, true, false, bit_and, bit_or, List, [], ◌∷◌, ◌++◌, length, set, slice_index, refl, sym, ap, ◌∙◌, subst, arith, get_or-set_same, get_or-set_other, length-set, flat_map}
 use Rattle.std.specs.Int.{bit_at, bit_not, w64}
 use Rattle.std.specs.List.{list_any}
-use Rattle.std.proofs.lemmas.Bool.{cases_eq, and_parts, eqb-true, false_from_ne_true, false≢true, not_from_false, or_cases}
+use Rattle.std.proofs.lemmas.Bool.{cases_eq, and_parts, eqb-true, false_from_ne_true, false≢true, not_from_false, or_cases, cond-false}
 use Rattle.std.proofs.lemmas.List.{set-get_or}
 use Rattle.std.proofs.lemmas.List.Folds.{list_any-append}
 use Rattle.std.proofs.lemmas.Nat.Bits.{bit_at-zero}
@@ -16,7 +16,8 @@ use Rattle.pm_view.specs.Occupancy.{is_chunk_taken}
 use Rattle.pm_view.specs.Steps.{Step}
 use Rattle.pm_view.specs.Steps.Step.{Load, Store, Or, And, Flush, Drain, TakeWrite, TakeRead, Raise, Give, ZoneTry, ZoneGive, Occupied, Occupy, Vacate, Draw, NumberSeen, StopSeen, SetStop, Tell}
 use Rattle.pm_view.specs.View.{View}
-use Rattle.pm_view.specs.Views.{after, begun, chunk_bit, exchanged, has_bit, has_chunk, is_same_occ, occ_in, reserves, vacated_word, zone_at, zones_with}
+use Rattle.pm_view.specs.Views.{after, begun, chunk_bit, exchanged, has_bit, has_chunk, is_same_occ, occ_in, reserves, vacated_word, zone_at, zones_with, changes_heap, freed_by, unallocated, without_taken}
+use Rattle.pm_crash.specs.HeldHistory.{DrawsEnded}
 use Rattle.pm_world.proofs.Exchanged.{IsNew, exchanged_before, run_no_zone}
 use Rattle.pm_world.proofs.Reserved.{occ_same}
 use Rattle.pm_world.proofs.Vacated.{and_bit, not_bit, or_bit_left, vacated_before}
@@ -24,11 +25,12 @@ use Rattle.pm_world.specs.Lawful.{Allowed}
 use Rattle.pm_world.specs.Opening.{IsChunk, IsSound, Opening, is_free_chunk}
 use Rattle.pm_exec.specs.Running.{KnowsTaken}
 
--- the bits of chunks that were taken are set, and none of them is reserved
+-- the bits of chunks that were taken are set, and none of them is reserved; nothing is freed
 pub record KnowsChunks (o : Opening) (v : View) : Type 0 where
   pub count : length v.zone_words ≡ 32
   pub taken : KnowsTaken o v
   pub apart : (zone chunk : ℕ) → zone < o.zones → chunk < 64 → is_chunk_taken (slice_index o.words) o.lanes zone chunk ≡ true → reserves v (Zone zone) chunk ≡ false
+  pub unfreed : v.freed ≡ []
 
 -- a chunk of the pool that it reserved was free
 pub chunk_free : (o : Opening) (v : View) → v.lanes ≡ o.lanes → KnowsChunks o v → (page : ℕ) → IsChunk o.lanes page → descriptor_word o.lanes page < length o.words → IsSound o → has_chunk v page ≡ true → is_free_chunk (slice_index o.words) o.lanes page ≡ true
@@ -42,24 +44,26 @@ chunk_free o v lanes known page chunk inside sound has =
 
 module _ (o : Opening) (v : View) (alone : IsAlone v) (few : o.zones ≤ 32) (known : KnowsChunks o v) where
   -- a step that changes neither the zones' words nor what is reserved
-  still : (w : View) → w.zone_words ≡ v.zone_words → w.reserved ≡ v.reserved → KnowsChunks o w
-  still w words reserved = record {
+  still : (w : View) → w.zone_words ≡ v.zone_words → w.reserved ≡ v.reserved → w.freed ≡ v.freed → KnowsChunks o w
+  still w words reserved freed = record {
     count = ap (λ (l : List ℕ). length l) words ∙ known.count;
     taken = λ zone chunk in_pool low taken. ap (λ (l : List ℕ). bit_at (slice_index l zone) chunk) words ∙ known.taken zone chunk in_pool low taken;
     apart = λ zone chunk in_pool low taken. ap (list_any (has_bit (Zone zone) chunk)) reserved ∙ known.apart zone chunk in_pool low taken;
+    unfreed = freed ∙ known.unfreed;
   }
 
   -- another word of a zone, in which the bits of chunks that were taken are set
   with_word : (w : View) (at : Occ) (x : ℕ) → w.zone_words ≡ zones_with at x v.zone_words
       → ((zone chunk : ℕ) → at ≡ Zone zone → zone < o.zones → chunk < 64 → is_chunk_taken (slice_index o.words) o.lanes zone chunk ≡ true → bit_at x chunk ≡ 1)
-      → ((zone chunk : ℕ) → zone < o.zones → chunk < 64 → is_chunk_taken (slice_index o.words) o.lanes zone chunk ≡ true → reserves w (Zone zone) chunk ≡ false)
+      → ((zone chunk : ℕ) → zone < o.zones → chunk < 64 → is_chunk_taken (slice_index o.words) o.lanes zone chunk ≡ true → reserves w (Zone zone) chunk ≡ false) → w.freed ≡ []
       → KnowsChunks o w
-  with_word w (Run place) x words keeps apart = record {
+  with_word w (Run place) x words keeps apart unfreed = record {
     count = ap (λ (l : List ℕ). length l) words ∙ known.count;
     taken = λ zone chunk in_pool low taken. ap (λ (l : List ℕ). bit_at (slice_index l zone) chunk) words ∙ known.taken zone chunk in_pool low taken;
     apart = apart;
+    unfreed = unfreed;
   }
-  with_word w (Zone z) x words keeps apart = record {
+  with_word w (Zone z) x words keeps apart unfreed = record {
     count = ap (λ (l : List ℕ). length l) words ∙ (length-set v.zone_words z x ∙ known.count);
     taken = λ zone chunk in_pool low taken. ap (λ (l : List ℕ). bit_at (slice_index l zone) chunk) words
         ∙ ⊎_elim (λ (same : zone ≡ z).
@@ -67,6 +71,7 @@ module _ (o : Opening) (v : View) (alone : IsAlone v) (few : o.zones ≤ 32) (kn
         ap (λ n. bit_at (slice_index (set v.zone_words z x) n) chunk) same ∙ (ap (λ n. bit_at n chunk) (get_or-set_same v.zone_words z x 0 inside) ∙ keeps zone chunk (ap Zone (sym same)) in_pool low taken))
         (λ (differ : zone ≢ z). ap (λ n. bit_at n chunk) (get_or-set_other v.zone_words z zone x 0 differ) ∙ known.taken zone chunk in_pool low taken) (cases_eq zone z);
     apart = apart;
+    unfreed = unfreed;
   }
 
   apart_still : (zone chunk : ℕ) → zone < o.zones → chunk < 64 → is_chunk_taken (slice_index o.words) o.lanes zone chunk ≡ true → reserves v (Zone zone) chunk ≡ false
@@ -97,7 +102,7 @@ module _ (o : Opening) (v : View) (alone : IsAlone v) (few : o.zones ≤ 32) (kn
   then_reserved (Run place) zone chunk has = ⊎_elim (λ (before : reserves v (Zone zone) chunk ≡ true). before) (λ (new_one : IsNew v place (Zone zone) chunk). absurd (run_no_zone place zone (sym new_one.at))) (exchanged_before v place (Zone zone) chunk has)
 
   begun_known : (p : Phase) → KnowsChunks o (begun p v)
-  begun_known Idle = still (begun Idle v) refl refl
+  begun_known Idle = still (begun Idle v) refl refl refl
   begun_known (Open slot pair) = known
   begun_known Drawn = known
   begun_known Sealing = known
@@ -109,31 +114,35 @@ module _ (o : Opening) (v : View) (alone : IsAlone v) (few : o.zones ≤ 32) (kn
   same_words (Run place) = refl
   same_words (Zone zone) = set-get_or v.zone_words zone 0
 
-  pub knows_after : (s : Step) → Allowed v s → FoundAlone v s → KnowsChunks o (after v s)
-  knows_after (Load w x) may found = still (after v (Load w x)) refl refl
-  knows_after (Store w x) may found = still (after v (Store w x)) refl refl
-  knows_after (Or w bits x) may found = still (after v (Or w bits x)) refl refl
-  knows_after (And w bits x) may found = still (after v (And w bits x)) refl refl
-  knows_after (Flush line) may found = still (after v (Flush line)) refl refl
-  knows_after Drain may found = still (after v Drain) refl refl
-  knows_after (TakeWrite line won) may found = still (after v (TakeWrite line won)) refl refl
-  knows_after (TakeRead line won) may found = still (after v (TakeRead line won)) refl refl
-  knows_after (Raise line won) may found = absurd may
-  knows_after (Give line) may found = still (after v (Give line)) refl refl
-  knows_after (ZoneTry zone won) may found = still (after v (ZoneTry zone won)) refl refl
-  knows_after (ZoneGive zone) may found = still (after v (ZoneGive zone)) refl refl
-  knows_after (Occupied at x) may found = still (after v (Occupied at x)) (ap (λ y. zones_with at y v.zone_words) (found alone) ∙ same_words at) refl
-  knows_after (Occupy at bits true) may found =
+  pub knows_after : (s : Step) → Allowed v s → FoundAlone v s → DrawsEnded v s → KnowsChunks o (after v s)
+  knows_after (Load w x) may found ended = still (after v (Load w x)) refl refl refl
+  knows_after (Store w x) may found ended = still (after v (Store w x)) refl refl refl
+  knows_after (Or w bits x) may found ended = still (after v (Or w bits x)) refl refl refl
+  knows_after (And w bits x) may found ended = still (after v (And w bits x)) refl refl refl
+  knows_after (Flush line) may found ended = still (after v (Flush line)) refl refl refl
+  knows_after Drain may found ended = still (after v Drain) refl refl refl
+  knows_after (TakeWrite line won) may found ended = still (after v (TakeWrite line won)) refl refl refl
+  knows_after (TakeRead line won) may found ended = still (after v (TakeRead line won)) refl refl refl
+  knows_after (Raise line won) may found ended = absurd may
+  knows_after (Give line) may found ended = still (after v (Give line)) refl refl refl
+  knows_after (ZoneTry zone won) may found ended = still (after v (ZoneTry zone won)) refl refl refl
+  knows_after (ZoneGive zone) may found ended = still (after v (ZoneGive zone)) refl refl refl
+  knows_after (Occupied at x) may found ended = still (after v (Occupied at x)) (ap (λ y. zones_with at y v.zone_words) (found alone) ∙ same_words at) refl refl
+  knows_after (Occupy at bits true) may found ended =
       with_word (after v (Occupy at bits true)) at (bit_or (occ_in v at) bits) refl (λ zone chunk same in_pool low taken. or_bit_left (occ_in v at) bits chunk (picture_set at zone chunk same in_pool low taken))
-      (got_apart at bits ((found alone).0 refl))
-  knows_after (Occupy at bits false) may found = still (after v (Occupy at bits false)) (same_words at) refl
-  knows_after (Vacate at bits) may found =
+      (got_apart at bits ((found alone).0 refl)) known.unfreed
+  knows_after (Occupy at bits false) may found ended = still (after v (Occupy at bits false)) (same_words at) refl refl
+  knows_after (Vacate at bits) may found ended =
       with_word (after v (Vacate at bits)) at (vacated_word bits (occ_in v at)) refl
       (λ zone chunk same in_pool low taken. and_bit (occ_in v at) (bit_not w64 bits) chunk (picture_set at zone chunk same in_pool low taken)
-      (not_bit bits chunk may.small low (λ one. false≢true (sym (known.apart zone chunk in_pool low taken) ∙ then_reserved at zone chunk (subst (λ x. list_any (has_bit x chunk) (exchanged v at) ≡ true) same (may.own chunk one))))))
-      (λ zone chunk in_pool low taken. false_from_ne_true _ (λ has. false≢true (sym (known.apart zone chunk in_pool low taken) ∙ then_reserved at zone chunk (vacated_before at bits may.small (Zone zone) chunk (exchanged v at) has))))
-  knows_after (Draw n) may found = still (after v (Draw n)) refl refl
-  knows_after (NumberSeen n) may found = let b = begun_known v.log.phase in record { count = b.count; taken = b.taken; apart = b.apart }
-  knows_after (StopSeen set) may found = still (after v (StopSeen set)) refl refl
-  knows_after SetStop may found = known
-  knows_after (Tell operation reply) may found = still (after v (Tell operation reply)) refl refl
+      (not_bit bits chunk may.small low (λ one. false≢true (sym (known.apart zone chunk in_pool low taken) ∙ then_reserved at zone chunk (subst (λ x. list_any (has_bit x chunk) (exchanged v at) ≡ true) same (own_here chunk one))))))
+      (λ zone chunk in_pool low taken. false_from_ne_true _ (λ has. false≢true (sym (known.apart zone chunk in_pool low taken) ∙ then_reserved at zone chunk (vacated_before at bits may.small (Zone zone) chunk (exchanged v at) has)))) (ap (without_taken at bits) known.unfreed)
+    where
+      own_here : (bit : ℕ) → bit_at bits bit ≡ 1 → list_any (has_bit at bit) (exchanged v at) ≡ true
+      own_here bit set = ⊎_elim (λ (has : list_any (has_bit at bit) (exchanged v at) ≡ true). has)
+          (λ (freed : list_any (has_bit at bit) v.freed ≡ true). absurd (false≢true (sym (ap (list_any (has_bit at bit)) known.unfreed) ∙ freed))) (may.own bit set)
+  knows_after (Draw n) may found ended = still (after v (Draw n)) refl (cond-false (changes_heap v) (unallocated v) v.reserved ended.1) (cond-false (changes_heap v) (v.freed ++ flat_map (freed_by v) v.log.entries) v.freed ended.1)
+  knows_after (NumberSeen n) may found ended = let b = begun_known v.log.phase in record { count = b.count; taken = b.taken; apart = b.apart; unfreed = b.unfreed }
+  knows_after (StopSeen set) may found ended = still (after v (StopSeen set)) refl refl refl
+  knows_after SetStop may found ended = known
+  knows_after (Tell operation reply) may found ended = still (after v (Tell operation reply)) refl refl refl

@@ -58,7 +58,7 @@ pub run_begins : (pool : PoolView) (words : List ℕ) (stop : Option ℕ) (lane 
     → HasComeTo (opening_of pool words) (first_view pool words stop) lane [] names [] history
 unfolding Leads CallsMade among
 run_begins pool words stop lane names history none is = record {
-  opened = record { of_lane = is.of_lane; alone = is.alone; sound = is.sound; zones = is.zones; lanes_are = is.lanes_are; zones_are = refl; words_are = is.words_are; uncalled = refl; idle = is.idle; free = is.rests.free; nothing_reserved = refl; zone_count = zone_words_count (slice_index words) pool.lanes pool.zones; taken = λ zone chunk in_pool low taken. (known.chunks zone chunk in_pool low).1 taken };
+  opened = record { of_lane = is.of_lane; alone = is.alone; sound = is.sound; zones = is.zones; lanes_are = is.lanes_are; zones_are = refl; words_are = is.words_are; uncalled = refl; idle = is.idle; free = is.rests.free; nothing_reserved = refl; nothing_freed = refl; zone_count = zone_words_count (slice_index words) pool.lanes pool.zones; taken = λ zone chunk in_pool low taken. (known.chunks zone chunk in_pool low).1 taken };
   answered = record {
     view = first_view pool words stop;
     called = record {

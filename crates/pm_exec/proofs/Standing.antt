@@ -1,7 +1,7 @@
 -- Along all steps of a lane that is alone in a sound pool, what tells of the chunks that were taken stays, and one that was free has no block; so the pool
 -- is sound as each view of the lane has it.
-use Rattle.std.proofs.Common.{◌≡◌, ⊎_elim, eq-eqb, eqb, not, ◌%◌, ◌/◌, inr, inl, ℕ, ◌+◌, ◌*◌, ◌<◌, ◌≤◌, true, ◌&&◌, All, IsTrue, List, [], ◌∷◌, length, length-set, set, slice_index, is_some, refl, sym, ap, ◌∙◌, subst, arith, bit_or, bit_and, ◌≢◌, ◌-◌, false, get_or-set_same, ◌⊎◌}
-use Rattle.std.proofs.lemmas.Bool.{and_from, and_parts, false≢true, cases_eq}
+use Rattle.std.proofs.Common.{◌≡◌, ⊎_elim, eq-eqb, eqb, not, ◌%◌, ◌/◌, inr, inl, ℕ, ◌+◌, ◌*◌, ◌<◌, ◌≤◌, true, ◌&&◌, All, IsTrue, List, [], ◌∷◌, length, length-set, set, slice_index, is_some, refl, sym, ap, ◌∙◌, subst, arith, bit_or, bit_and, ◌≢◌, ◌-◌, false, get_or-set_same, ◌⊎◌, ◌||◌}
+use Rattle.std.proofs.lemmas.Bool.{and_from, and_parts, false≢true, cases_eq, or_cases}
 use Rattle.std.proofs.lemmas.List.{get_or-set_other}
 use Rattle.std.proofs.lemmas.List.Elements.{All-nil}
 use Rattle.std.proofs.lemmas.List.Folds.{Any-from_list_any}
@@ -30,14 +30,14 @@ use Rattle.pm_view.specs.Views.{after, has_bit}
 use Rattle.pm_world.proofs.Apart.{area_bounds}
 use Rattle.pm_world.proofs.Living.{descriptor_page, TellsOf}
 use Rattle.pm_world.proofs.Parts.{entry_part, generation_part, seal_part, slot_part}
-use Rattle.pm_world.specs.Entries.{IsEnterable, set_word}
+use Rattle.pm_world.specs.Entries.{IsEnterable, set_word, IsGrowing}
 use Rattle.pm_world.specs.Lawful.{Allowed, StoreFits, MayChange, MayDescribe}
 use Rattle.pm_world.specs.Opening.{IsSound, Opening, Guards, IsChunk, is_free_chunk}
 use Rattle.pm_world.specs.declared.lane.Lane.{Lane}
 use Rattle.pm_exec.specs.Progress.{IsStart}
 use Rattle.pm_exec.specs.Running.{IsOpenedAs}
 use Rattle.pm_exec.proofs.Along.{alone_along, lane_along}
-use Rattle.pm_exec.proofs.EnteredWords.{NoneEnters, enters_after, none_entered}
+use Rattle.pm_exec.proofs.EnteredWords.{NoneEnters, enters_after, none_entered, NoneSealed}
 use Rattle.pm_exec.proofs.OpeningFound.{HasFound, IsThere, found_after}
 use Rattle.pm_pending.specs.declared.actions.SetAction.{SetAction}
 use Rattle.pm_crash.specs.Pending.{pending_before}
@@ -79,7 +79,7 @@ tells_matters : (o : Opening) (page w : ℕ) → IsChunk o.lanes page → TellsO
 tells_matters o page w chunk (inl descriptor) = (page, (chunk, inl descriptor))
 tells_matters o page w chunk (inr (bitmap, run)) = (page, (chunk, inr (bitmap, inl run)))
 
-module _ (o : Opening) (sound : IsSound o) (v : View) (is : Stands o v) (known : KnowsChunks o v) (entered : NoneEnters (Matters o) v.log.entries) (lane : v.lane < o.lanes) where
+module _ (o : Opening) (sound : IsSound o) (v : View) (is : Stands o v) (known : KnowsChunks o v) (entered : NoneSealed (Matters o) v.log) (lane : v.lane < o.lanes) where
   -- what the view finds of blocks is as at the opening
   finds : FindsOpening o v
   finds = record {
@@ -110,10 +110,9 @@ module _ (o : Opening) (sound : IsSound o) (v : View) (is : Stands o v) (known :
           (and_parts (is_chunk o.lanes (i / 512) && is_chunk_taken (slice_index o.words) o.lanes (zone_of o.lanes (i / 512)) (chunk_of o.lanes (i / 512) - 1)) _ (sound.in_blocks line i guard)).0).1 in
           false≢true (sym (ap not (subst (λ p. is_chunk_taken (slice_index o.words) o.lanes (zone_of o.lanes p) (chunk_of o.lanes p - 1) ≡ true) here taken)) ∙ free)
 
-  -- nor one that an entry may be of
-  enterable : (op : Op) (w x : ℕ) → IsEnterable v op w x → Matters o w → ⊥
-  enterable op w x may = ⊎_elim (λ (own : IsTrue (is_written v w)). locked w own)
-      (λ (generation : (w ≡ area_word v.lane) × (op ≡ Set)). in_area w (ap (is_in_area v.lane) generation.0 ∙ generation_in_area v.lane)) may.of
+  -- nor one of either
+  plain_silent : (w : ℕ) → (is_in_area v.lane w || is_written v w) ≡ true → Matters o w → ⊥
+  plain_silent w either = ⊎_elim (λ (area : is_in_area v.lane w ≡ true). in_area w area) (λ (own : is_written v w ≡ true). locked w own) (or_cases (is_in_area v.lane w) (is_written v w) either)
 
   -- a word that does not matter may be what it likes
   beside : (w x : ℕ) → (Matters o w → ⊥) → TellsAsOpened o (set v.words w x)
@@ -201,37 +200,37 @@ module _ (o : Opening) (sound : IsSound o) (v : View) (is : Stands o v) (known :
           false≢true (sym (ap (λ p. is_free_chunk (slice_index o.words) o.lanes p) (sym here) ∙ taken) ∙ chunk_free o v is.lanes known d.page chunk (subst (λ u. u < length o.words) at_word (let size = is.words.size in omega (arith, size, inside))) sound d.reserved)
 
   -- what a store leaves
-  stored : (w x : ℕ) (phase : Phase) (part : Part) → part_of v.lane w ≡ part → w < length v.words → StoreFits v w x phase part → TellsAsOpened o (set v.words w x)
-  stored w x (Open slot pair) SlotWord at inside fits = beside w x (in_area w (slot_part v.lane w at))
-  stored w x (Open slot pair) OtherWord at inside (inl writes) = beside w x (locked w writes.own)
-  stored w x (Open slot pair) OtherWord at inside (inr (inl fills)) = filled w x fills.plain
-  stored w x (Open slot pair) OtherWord at inside (inr (inr describes)) = described_so w x inside describes
-  stored w x (Open slot pair) GenerationWord at inside fits = beside w x (in_area w (generation_part v.lane w at).0)
-  stored w x (Open slot pair) SealWord at inside fits = absurd fits
-  stored w x (Open slot pair) EntryWord at inside fits = beside w x (in_area w (entry_part v.lane w at))
-  stored w x Drawn GenerationWord at inside fits = beside w x (in_area w (generation_part v.lane w at).0)
-  stored w x Drawn SlotWord at inside fits = absurd fits
-  stored w x Drawn OtherWord at inside fits = absurd fits
-  stored w x Drawn SealWord at inside fits = beside w x (in_area w (seal_part v.lane w at).0)
-  stored w x Drawn EntryWord at inside fits = absurd fits
-  stored w x Idle part at inside fits = absurd fits
-  stored w x Sealing part at inside fits = absurd fits
-  stored w x (Applying applied) GenerationWord at inside fits = beside w x (in_area w (generation_part v.lane w at).0)
-  stored w x (Applying applied) SealWord at inside fits = beside w x (in_area w (seal_part v.lane w at).0)
-  stored w x (Applying applied) EntryWord at inside fits = absurd fits
-  stored w x (Applying applied) SlotWord at inside fits = absurd fits
-  stored w x (Applying applied) OtherWord at inside fits = beside w x (entered applied (set_word w x) fits)
-  stored w x Clearing part at inside fits = absurd fits
-  stored w x Retiring part at inside fits = absurd fits
+  stored : (w x : ℕ) (phase : Phase) → v.log.phase ≡ phase → (part : Part) → part_of v.lane w ≡ part → w < length v.words → StoreFits v w x phase part → TellsAsOpened o (set v.words w x)
+  stored w x (Open slot pair) is SlotWord at inside fits = beside w x (in_area w (slot_part v.lane w at))
+  stored w x (Open slot pair) is OtherWord at inside (inl writes) = beside w x (locked w writes.own)
+  stored w x (Open slot pair) is OtherWord at inside (inr (inl fills)) = filled w x fills.plain
+  stored w x (Open slot pair) is OtherWord at inside (inr (inr describes)) = described_so w x inside describes
+  stored w x (Open slot pair) is GenerationWord at inside fits = beside w x (in_area w (generation_part v.lane w at).0)
+  stored w x (Open slot pair) is SealWord at inside fits = absurd fits
+  stored w x (Open slot pair) is EntryWord at inside fits = beside w x (in_area w (entry_part v.lane w at))
+  stored w x Drawn is GenerationWord at inside fits = beside w x (in_area w (generation_part v.lane w at).0)
+  stored w x Drawn is SlotWord at inside fits = absurd fits
+  stored w x Drawn is OtherWord at inside fits = absurd fits
+  stored w x Drawn is SealWord at inside fits = beside w x (in_area w (seal_part v.lane w at).0)
+  stored w x Drawn is EntryWord at inside fits = absurd fits
+  stored w x Idle is part at inside fits = absurd fits
+  stored w x Sealing is part at inside fits = absurd fits
+  stored w x (Applying applied) is GenerationWord at inside fits = beside w x (in_area w (generation_part v.lane w at).0)
+  stored w x (Applying applied) is SealWord at inside fits = beside w x (in_area w (seal_part v.lane w at).0)
+  stored w x (Applying applied) is EntryWord at inside fits = absurd fits
+  stored w x (Applying applied) is SlotWord at inside fits = absurd fits
+  stored w x (Applying applied) is OtherWord at inside fits = beside w x (entered (λ grows. subst IsGrowing is grows) applied (set_word w x) fits)
+  stored w x Clearing is part at inside fits = absurd fits
+  stored w x Retiring is part at inside fits = absurd fits
 
   -- and what sets or clears bits
   bits_after : (op : Op) (w bits y : ℕ) → MayChange v op w bits → TellsAsOpened o (set v.words w y)
   bits_after op w bits y may =
       let t = changes_next v op w bits v.log.phase refl (part_of v.lane w) refl may.fits in
-      beside w y (λ matters. entered t.applied (changing op w bits t.ors) t.next (subst (Matters o) (sym (final_word op w bits)) matters))
+      beside w y (λ matters. entered (λ grows. subst IsGrowing t.phase grows) t.applied (changing op w bits t.ors) t.next (subst (Matters o) (sym (final_word op w bits)) matters))
 
   kept_after : (s : Step) → Allowed v s → is_store s ≡ true → TellsAsOpened o (after v s).words
-  kept_after (Store w x) may stores = stored w x v.log.phase (part_of v.lane w) refl may.inside may.fits
+  kept_after (Store w x) may stores = stored w x v.log.phase refl (part_of v.lane w) refl may.inside may.fits
   kept_after (Or_step w bits found) may stores = bits_after op.Or w bits (bit_or found bits) may
   kept_after (And_step w bits found) may stores = bits_after op.And w bits (bit_and found bits) may
   kept_after s may stores = absurd (false≢true stores)
@@ -242,13 +241,13 @@ module _ (o : Opening) (sound : IsSound o) (v : View) (is : Stands o v) (known :
       found_after o (TellsAsOpened o) (λ words tells line. same_blocks o words tells.size sound tells.new_runs tells.telling line) v is s may found (kept_after s may)
 
 -- and so do all, one after another
-pub stands_along : (o : Opening) → IsSound o → (v w : View) (steps : List Step) → Leads v steps w → v.lane < o.lanes → v.zones ≡ o.zones → o.zones ≤ 32 → Stands o v → KnowsChunks o v → NoneEnters (Matters o) v.log.entries → Stands o w
+pub stands_along : (o : Opening) → IsSound o → (v w : View) (steps : List Step) → Leads v steps w → v.lane < o.lanes → v.zones ≡ o.zones → o.zones ≤ 32 → Stands o v → KnowsChunks o v → NoneSealed (Matters o) v.log → Stands o w
 unfolding Leads
 stands_along o sound v w [] leads lane zones few is known entered = subst (Stands o) (sym leads) is
 stands_along o sound v w (s ∷ steps) leads lane zones few is known entered =
     stands_along o sound (after v s) w steps leads.3 (subst (λ (n : ℕ). n < o.lanes) (sym (same_lane-after v s).lane) lane) ((same_lane-after v s).zones ∙ zones) few (stands_after o sound v is known entered lane s leads.0 leads.1)
-    (knows_after o v is.alone few known s leads.0 leads.1)
-    (enters_after (Matters o) v entered (enterable o sound v is known entered lane) s leads.0)
+    (knows_after o v is.alone few known s leads.0 leads.1 leads.2)
+    (enters_after (Matters o) v entered (plain_silent o sound v is known entered lane) s leads.0 leads.2)
 
 module _ (o : Opening) (first v : View) (steps : List Step) (opened : IsOpenedAs o first) (leads : Leads first steps v) where
   -- from the first view of a run on
@@ -264,8 +263,8 @@ module _ (o : Opening) (first v : View) (steps : List Step) (opened : IsOpenedAs
         };
         locks = subst (All (IsThere o)) (sym opened.free) (All-nil (IsThere o));
       })
-      (record { count = opened.zone_count; taken = opened.taken; apart = λ zone chunk in_pool low taken. ap (list_any (has_bit (Zone zone) chunk)) opened.nothing_reserved })
-      (subst (λ (l : Log). NoneEnters (Matters o) l.entries) (sym opened.idle) (none_entered (Matters o)))
+      (record { count = opened.zone_count; taken = opened.taken; apart = λ zone chunk in_pool low taken. ap (list_any (has_bit (Zone zone) chunk)) opened.nothing_reserved; unfreed = opened.nothing_freed })
+      (λ still. subst (λ (l : Log). NoneEnters (Matters o) l.entries) (sym opened.idle) (none_entered (Matters o)))
 
   -- a lane that rests again may begin its next call, over the pool as it stands
   pub starts_again : (lane : Lane Solo) (actions : List SetAction) → IsAtRest Sees lane v → v.log ≡ no_log Idle → IsPending actions (pending_before v) → IsStart (standing o v) lane actions v

@@ -62,6 +62,7 @@ pub record IsOpenedAs (o : Opening) (v : View) : Type 0 where
   pub idle : v.log ≡ no_log Idle
   pub free : v.locks ≡ []
   pub nothing_reserved : v.reserved ≡ []
+  pub nothing_freed : v.freed ≡ []
   pub zone_count : length v.zone_words ≡ 32
   pub taken : KnowsTaken o v
 

@@ -343,11 +343,11 @@ module _ (v : View) (page lines : ℕ) (working : IsWorking v) (can : CanMakeRun
           may_vacate = record {
             there = has_it;
             small = behind_small lines can.class;
-            own = λ bit set.
+            own = λ bit set. inl (
                 ap (list_any (has_bit (run_at page) bit)) exchanged_is
                 ∙ (list_any-append (has_bit (run_at page) bit) (without_chunk v page) (whole_run ∷ [])
                 ∙ or_right (list_any (has_bit (run_at page) bit) (without_chunk v page)) (list_any (has_bit (run_at page) bit) (whole_run ∷ []))
-                (or_left (has_bit (run_at page) bit whole_run) false (bit_had whole_run bit (behind_one lines can.class bit set))));
+                (or_left (has_bit (run_at page) bit whole_run) false (bit_had whole_run bit (behind_one lines can.class bit set)))));
             whole = λ so. beside (covers v.lanes words' (zone_at v.lanes (place / 4096)) (2 ^ chunk_bit v.lanes (place / 4096)))
                 (λ w e. covers_chunk v.lanes page chunk words' w (subst (λ n. covers v.lanes words' (zone_at v.lanes n) (2 ^ chunk_bit v.lanes n) w ≡ true) here e));
             drained = beside (covers v.lanes words' (run_at page) bits) (λ w e. told_here v.lanes page chunk w (in_run w e));

@@ -20,7 +20,7 @@ use Rattle.pm_view.specs.View.{View}
 use Rattle.pm_view.specs.Views.{after, after_all, changed}
 use Rattle.pm_world.specs.Entries.{IsKnownWord, ends_with, final_by, set_word}
 use Rattle.pm_world.specs.History.{made_final}
-use Rattle.pm_world.specs.Lawful.{BitsFit, MayChange, MayStore, StoreFits}
+use Rattle.pm_world.specs.Lawful.{BitsFit, MayChange, MayStore, StoreFits, ChangesAlone}
 use Rattle.pm_world.specs.Records.{generation_of}
 use Rattle.pm_world.specs.Sequences.{Ready, settles}
 use Rattle.pm_world.proofs.Differences.{with_all_bits}
@@ -33,11 +33,11 @@ use Rattle.pm_undo.proofs.Areas.{generation_in_area, generation_word, other_part
 use Rattle.pm_undo.proofs.Settled.{settle_lawful}
 use Rattle.pm_undo.proofs.Staying.{same_call, same_call-then, same_changed, same_settled}
 use Rattle.pm_undo.proofs.Storing.{goes_stores}
-use Rattle.pm_redo.specs.Entering.{AreEntered, HasPlace, IsApplied, IsOfPool, ending, final_of}
+use Rattle.pm_redo.specs.Entering.{AreEntered, HasPlace, IsApplied, IsOfPool, ending, final_of, EntersHeap, MayEnter}
 use Rattle.pm_redo.specs.Sequences.{applies, applies_each, applies_entry, does, entry_at}
 use Rattle.pm_redo.proofs.Changing.{goes_ands, goes_ors}
 use Rattle.pm_redo.proofs.Entered.{room_is_there}
-use Rattle.pm_redo.proofs.Whole.{logged_front}
+use Rattle.pm_redo.proofs.Whole.{logged_front, heap_entered, may_inside, may_outside, may_word, same_heap}
 
 -- the first so many, and one more
 pub take_more : (xs : List Final) (k : ℕ) (f : Final) → slice_get xs k ≡ Some f → take (k + 1) xs ≡ take k xs ++ f ∷ []
@@ -81,7 +81,7 @@ module _ (v : View) (place : HasPlace v) (entries : List Redo) (are : AreEntered
     log : u.log ≡ record v.log { phase = Applying k }
     few : length u.changes ≡ k
     words : (x : ℕ) → slice_index u.words x ≡ made_final (take k fs) x (slice_index v.words x)
-    knows : (x : ℕ) → is_in_area v.lane x ≡ false → IsKnownWord v x → IsKnownWord u x
+    small : (x : ℕ) → is_in_area v.lane x ≡ false → slice_index v.words x < 2 ^ 64 → slice_index u.words x < 2 ^ 64
 
   begins : HasApplied 0 v
   unfolding made_final
@@ -90,7 +90,7 @@ module _ (v : View) (place : HasPlace v) (entries : List Redo) (are : AreEntered
     log = ap (λ phase. let l : Log = record v.log { phase = phase } in l) start;
     few = ap length none;
     words = λ x. refl;
-    knows = λ x out known. known;
+    small = λ x out low. low;
   }
 
   module _ (k : ℕ) (low : k < length entries) where
@@ -109,25 +109,29 @@ module _ (v : View) (place : HasPlace v) (entries : List Redo) (are : AreEntered
     at : slice_get fs k ≡ Some f
     at = ap (λ es. slice_get es k) are.logged ∙ mapped_at entries k low
 
-    which : IsOfPool v e ⊎ (e ≡ ending v)
+    which : MayEnter v e ⊎ (e ≡ ending v)
     which =
-        subst (λ (es : List Redo). IsOfPool v (entry_at es k) ⊎ (entry_at es k ≡ ending v)) (sym are.are)
-        (front_or_last are.front (ending v) k (IsOfPool v) are.each (let n = ap length are.are in omega (arith, low, n)))
+        subst (λ (es : List Redo). MayEnter v (entry_at es k) ⊎ (entry_at es k ≡ ending v)) (sym are.are)
+        (front_or_last are.front (ending v) k (MayEnter v) are.each (let n = ap length are.are in omega (arith, low, n)))
 
     own_word : e ≡ ending v → w ≡ area_word v.lane
     own_word same = ap (λ (x : Redo). x.place / 8) same ∙ (let q : 8 * area_word v.lane / 8 ≡ area_word v.lane = omega arith in q)
 
     inside : w < length v.words
-    inside = ⊎_elim (λ (o : IsOfPool v e). o.inside) (λ (same : e ≡ ending v). let q = own_word same in let area = place.inside in omega (arith, q, area)) which
+    inside = ⊎_elim (λ (o : MayEnter v e). may_inside v e o) (λ (same : e ≡ ending v). let q = own_word same in let area = place.inside in omega (arith, q, area)) which
 
     -- a word outside of the lane's area is of an entry of the pool
-    pool_word : is_in_area v.lane w ≡ false → IsOfPool v e
-    pool_word out = ⊎_elim (λ (o : IsOfPool v e). o) (λ (same : e ≡ ending v). absurd (false≢true (sym out ∙ (ap (is_in_area v.lane) (own_word same) ∙ generation_in_area v.lane)))) which
+    pool_word : is_in_area v.lane w ≡ false → MayEnter v e
+    pool_word out = ⊎_elim (λ (o : MayEnter v e). o) (λ (same : e ≡ ending v). absurd (false≢true (sym out ∙ (ap (is_in_area v.lane) (own_word same) ∙ generation_in_area v.lane)))) which
 
-    -- an entry that does not set its word is of the pool, and the lane knows the word
-    changes : (op : Op) → (op ≡ Set → ⊥) → e.op ≡ op → IsOfPool v e × IsKnownWord v w
+    -- an entry that does not set its word is of the pool, and the lane knows the word, or is alone
+    changes : (op : Op) → (op ≡ Set → ⊥) → e.op ≡ op → MayEnter v e × (IsKnownWord v w ⊎ ChangesAlone v w)
     changes op other is = ⊎_elim
-        (λ (o : IsOfPool v e). (o, ⊎_elim (λ (sets : e.op ≡ Set). absurd (other (sym is ∙ sets))) (λ (known : IsKnownWord v w). known) o.known))
+        (λ (may : MayEnter v e). (
+          may,
+          ⊎_elim (λ (o : IsOfPool v e). ⊎_elim (λ (sets : e.op ≡ Set). absurd (other (sym is ∙ sets))) (λ (known : IsKnownWord v w). inl known) o.known)
+              (λ (h : EntersHeap v e). inr (record { alone = h.alone; heap = heap_entered v entries are k (omega (arith, low, count)) e at h; small = h.small })) may,
+        ))
         (λ (same : e ≡ ending v). absurd (other (sym is ∙ ap (λ (x : Redo). x.op) same))) which
 
     module _ (u : View) (has : HasApplied k u) where
@@ -144,7 +148,7 @@ module _ (v : View) (place : HasPlace v) (entries : List Redo) (are : AreEntered
       by_part : (P : Part → Type 0) → P GenerationWord → P OtherWord → P (part_of u.lane w)
       by_part P generation other =
           subst (λ j. P (part_of j w)) (sym lane)
-          (⊎_elim (λ (o : IsOfPool v e). subst P (sym (other_part v.lane w o.outside)) other)
+          (⊎_elim (λ (o : MayEnter v e). subst P (sym (other_part v.lane w (may_outside v e o))) other)
           (λ (same : e ≡ ending v). subst P (sym (ap (part_of v.lane) (own_word same) ∙ generation_word v.lane)) generation) which)
 
       here : (g : Final) → f ≡ g → slice_get u.log.entries k ≡ Some g
@@ -168,15 +172,10 @@ module _ (v : View) (place : HasPlace v) (entries : List Redo) (are : AreEntered
                   ap (λ (gs : List Final). made_final gs z (slice_index v.words z)) (take_more fs k f at)
                   ∙ (made_final-append (take k fs) (f ∷ []) z (slice_index v.words z) ∙ one_makes f z (made_final (take k fs) z (slice_index v.words z)))
 
-        knows' : (x : ℕ) → is_in_area v.lane x ≡ false → IsKnownWord v x → IsKnownWord u' x
-        knows' x out known =
-            let t = has.knows x out known in
-            let call = same_changed u w y c lg in
-            record {
-              known = call.remembers x t.known;
-              small = ⊎_elim (λ (same : x ≡ w). subst (λ n. n < 2 ^ 64) (sym (ap (slice_index u'.words) same ∙ get_or-set_same u.words w y 0 inside_still)) (small (ap (is_in_area v.lane) (sym same) ∙ out)))
-                  (λ (other : x ≢ w). subst (λ n. n < 2 ^ 64) (sym (get_or-set_other u.words w x y 0 other)) t.small) (cases_eq x w);
-            }
+        small' : (x : ℕ) → is_in_area v.lane x ≡ false → slice_index v.words x < 2 ^ 64 → slice_index u'.words x < 2 ^ 64
+        small' x out low_before =
+            ⊎_elim (λ (same : x ≡ w). subst (λ n. n < 2 ^ 64) (sym (ap (slice_index u'.words) same ∙ get_or-set_same u.words w y 0 inside_still)) (small (ap (is_in_area v.lane) (sym same) ∙ out)))
+            (λ (other : x ≢ w). subst (λ n. n < 2 ^ 64) (sym (get_or-set_other u.words w x y 0 other)) (has.small x out low_before)) (cases_eq x w)
 
         applied : HasApplied (k + 1) u'
         applied = record {
@@ -184,7 +183,7 @@ module _ (v : View) (place : HasPlace v) (entries : List Redo) (are : AreEntered
           log = log';
           few = length-append u.changes (c ∷ []) ∙ ap (λ n. n + 1) has.few;
           words = words';
-          knows = knows';
+          small = small';
         }
 
       -- an entry that sets its word
@@ -194,7 +193,7 @@ module _ (v : View) (place : HasPlace v) (entries : List Redo) (are : AreEntered
         applied e.value (store_change w (slice_index u.words w) e.value) (log_stored u.log.phase (part_of u.lane w) e.value u.log)
             (by_part (λ part. log_stored u.log.phase part e.value u.log ≡ record v.log { phase = Applying (k + 1) }) (stored GenerationWord refl) (stored OtherWord refl))
             (sym (with_all_bits (slice_index u.words w) e.value) ∙ ap (λ (g : Final). with_bits g.mask g.bits (slice_index u.words w)) (sym whole))
-            (λ out. (pool_word out).entry.word),
+            (λ out. (may_word v e (pool_word out)).word),
       ) where
         whole : f ≡ set_word w e.value
         whole = ap (λ op. final_by op w e.value) is
@@ -208,17 +207,26 @@ module _ (v : View) (place : HasPlace v) (entries : List Redo) (are : AreEntered
         stored part made = ap (λ (l : Log). log_stored l.phase part e.value l) has.log ∙ made
 
       -- one that sets or clears bits of it
+      small_here : (op : Op) → (op ≡ Set → ⊥) → e.op ≡ op → slice_index u.words w < 2 ^ 64
+      small_here op other is =
+          let t = changes op other is in
+          has.small w (may_outside v e t.0) (⊎_elim (λ (known : IsKnownWord v w). known.small) (λ (alone : ChangesAlone v w). alone.small) t.1)
+
+      -- a lane that is alone and changes the heap does so still
+      alone_still : ChangesAlone v w → slice_index u.words w < 2 ^ 64 → ChangesAlone u w
+      alone_still changes_ low_ = record { alone = has.call.lane.table ∙ changes_.alone; heap = same_heap v u has.call (ap (λ (l : Log). l.entries) has.log) ∙ changes_.heap; small = low_ }
+
       may : (op : Op) → (op ≡ Set → ⊥) → e.op ≡ op → MayChange u op w e.value
       may op other is =
           let t = changes op other is in
-          let part : part_of u.lane w ≡ OtherWord = ap (λ j. part_of j w) lane ∙ other_part v.lane w t.0.outside in
+          let part : part_of u.lane w ≡ OtherWord = ap (λ j. part_of j w) lane ∙ other_part v.lane w (may_outside v e t.0) in
           record {
             inside = inside_still;
             room = room_still;
             fits = subst (λ phase. BitsFit u op w e.value phase (part_of u.lane w)) (sym (ap (λ (l : Log). l.phase) has.log))
                 (subst (BitsFit u op w e.value (Applying k)) (sym part) ((final_by op w e.value).ors, here (final_by op w e.value) (ap (λ o. final_by o w e.value) is)));
-            known = has.knows w t.0.outside t.1;
-            word = t.0.entry.word;
+            known = ⊎_elim (λ (known : IsKnownWord v w). inl (record { known = has.call.remembers w known.known; small = small_here op other is })) (λ (alone : ChangesAlone v w). inr (alone_still alone (small_here op other is))) t.1;
+            word = (may_word v e t.0).word;
           }
 
       log_on : log_changed u.log.phase u.log ≡ record v.log { phase = Applying (k + 1) }
@@ -227,11 +235,11 @@ module _ (v : View) (place : HasPlace v) (entries : List Redo) (are : AreEntered
       ors_bits : e.op ≡ Or → MayChange u Or w e.value × HasApplied (k + 1) (after u (OrStep w e.value (slice_index u.words w)))
       ors_bits is =
           let found : ℕ = slice_index u.words w in
-          let m = may Or (λ sets. absurd cc) is in (
+          let m = may Or (λ sets. absurd cc) is in let low_ = small_here Or (λ sets. absurd cc) is in (
             m,
             applied (bit_or found e.value) (or_change w e.value found) (log_changed u.log.phase u.log) log_on
-                (or_makes e.value found m.word m.known.small ∙ ap (λ op. with_bits (final_by op w e.value).mask (final_by op w e.value).bits found) (sym is))
-                (λ out. or_lt 64 found e.value m.known.small m.word),
+                (or_makes e.value found m.word low_ ∙ ap (λ op. with_bits (final_by op w e.value).mask (final_by op w e.value).bits found) (sym is))
+                (λ out. or_lt 64 found e.value low_ m.word),
           )
 
       ands_bits : e.op ≡ And → MayChange u And w e.value × HasApplied (k + 1) (after u (AndStep w e.value (slice_index u.words w)))

@@ -1,5 +1,5 @@
 -- An entry may be stored behind the others, and what that leaves.
-use Rattle.std.proofs.Common.{◌≡◌, ◌≢◌, ℕ, ◌+◌, ◌*◌, ◌/◌, ◌%◌, ◌^◌, ◌<◌, ◌≤◌, ⊎_elim, [], ◌∷◌, ◌++◌, length, length-append, slice_index, refl, sym, ap, ◌∙◌, subst, arith, get_or-set_other}
+use Rattle.std.proofs.Common.{◌≡◌, ◌≢◌, ℕ, ◌+◌, ◌*◌, ◌/◌, ◌%◌, ◌^◌, ◌<◌, ◌≤◌, ⊎_elim, [], ◌∷◌, ◌++◌, length, length-append, slice_index, refl, sym, ap, ◌∙◌, subst, arith, get_or-set_other, ◌⊎◌, inl, inr, IsTrue}
 use Rattle.std.proofs.lemmas.Bool.{false≢true}
 use Rattle.pm_record.specs.Redo.{op_code}
 use Rattle.pm_record.specs.declared.redo.Op.{Op}
@@ -13,10 +13,11 @@ use Rattle.pm_view.specs.Log.Phase.{Open}
 use Rattle.pm_view.specs.Steps.Step.{Store}
 use Rattle.pm_view.specs.View.{View}
 use Rattle.pm_view.specs.Views.{after, after_all}
-use Rattle.pm_world.specs.Entries.{IsEnterable, entry_word, final_by}
+use Rattle.pm_world.specs.Entries.{IsEnterable, entry_word, final_by, EntersAlone, IsGrowing}
 use Rattle.pm_world.specs.Lawful.{MayStore, StoreFits}
 use Rattle.pm_world.specs.Records.{generation_of}
 use Rattle.pm_world.specs.Sequences.{Ready, by_lane, by_view, stores}
+use Rattle.pm_view.specs.Rights.{is_written}
 use Rattle.pm_world.proofs.Going.{goes_then}
 use Rattle.pm_undo.specs.Working.{HasMadeRoom, IsSettled}
 use Rattle.pm_undo.proofs.Kept.{area_kept}
@@ -110,7 +111,11 @@ module _ (v : View) (e : Redo) (entering : IsEntering v) (free : length v.log.en
           op = e.op;
           word = e.place / 8;
           value = e.value;
-          may = record { of = may.of; word = may.word };
+          may = record {
+            of = ⊎_elim (λ (own : IsTrue (is_written v (e.place / 8))). inl own) (λ (other : ((e.place / 8 ≡ area_word v.lane) × (e.op ≡ Set)) ⊎ EntersAlone v (e.place / 8)). inr (
+                ⊎_elim (λ (ends : (e.place / 8 ≡ area_word v.lane) × (e.op ≡ Set)). inl ends) (λ (alone : EntersAlone v (e.place / 8)). inr (alone.0, subst IsGrowing (sym (ap (λ (l : Log). l.phase) log₁)) tt, alone.2)) other)) may.of;
+            word = may.word;
+          };
           spells = ap (λ (x : ℕ). x ∷ e.value ∷ []) first_word;
           at = let same = ap (λ (l : Log). length l.entries) log₁ in omega (arith, same);
           free = let same = ap (λ (l : Log). length l.entries) log₁ in omega (arith, same, free);

@@ -9,7 +9,7 @@ use Rattle.pm_view.specs.Held.{is_under}
 use Rattle.pm_view.specs.Log.{Final, Log, log_drained}
 use Rattle.pm_view.specs.View.{View, Lock}
 use Rattle.pm_view.specs.Views.{after_all}
-use Rattle.pm_world.specs.Entries.{IsEnterable}
+use Rattle.pm_world.specs.Entries.{IsEnterable, IsGrowing}
 use Rattle.pm_world.specs.Records.{generation_of}
 use Rattle.pm_world.specs.Sequences.{Ready, by_lane, by_view, looks, settles, with_word}
 use Rattle.pm_world.proofs.Going.{Goes, goes_counted, goes_then, goes_weaker}
@@ -20,13 +20,13 @@ use Rattle.pm_undo.proofs.Retired.{area_look}
 use Rattle.pm_undo.proofs.Settled.{settle_lawful}
 use Rattle.pm_undo.proofs.Staying.{looked, same_call-then, same_looked, same_settled}
 use Rattle.pm_undo.proofs.Storing.{Is}
-use Rattle.pm_redo.specs.Entering.{HasEntered, HasLogged, IsEntering, IsOfPool, IsOfWord, IsReadyToLog, ending, final_of}
+use Rattle.pm_redo.specs.Entering.{HasEntered, HasLogged, IsEntering, IsOfPool, IsOfWord, IsReadyToLog, ending, final_of, EntersHeap, MayEnter}
 use Rattle.pm_redo.specs.Sequences.{ending_of, entry_at, logs, puts, writes_entries, writes_pair, writes_pairs}
 use Rattle.pm_redo.proofs.Applied.{front_or_last, mapped_at, take_all, take_more}
 use Rattle.pm_redo.proofs.Entered.{put_lawful}
-use Rattle.pm_redo.proofs.Whole.{of_pool_kept}
+use Rattle.pm_redo.proofs.Whole.{may_enter_kept, may_word}
 
-module _ (v : View) (entries : List Redo) (ready : IsReadyToLog v) (few : length entries ≤ 63) (of_pool : All (IsOfPool v) entries) where
+module _ (v : View) (entries : List Redo) (ready : IsReadyToLog v) (few : length entries ≤ 63) (of_pool : All (MayEnter v) entries) where
   abbrev all : List Redo
   all = entries ++ ending v ∷ []
 
@@ -68,8 +68,8 @@ module _ (v : View) (entries : List Redo) (ready : IsReadyToLog v) (few : length
     lane : u.lane ≡ v.lane
     lane = has.call.lane.lane
 
-    which : IsOfPool v e ⊎ (e ≡ ending v)
-    which = front_or_last entries (ending v) k (IsOfPool v) of_pool low
+    which : MayEnter v e ⊎ (e ≡ ending v)
+    which = front_or_last entries (ending v) k (MayEnter v) of_pool low
 
     stored : length u.log.entries ≡ k
     stored = ap (λ (l : Log). length l.entries) has.log ∙ length-take-le k finals (let c = count in omega (arith, c, low))
@@ -78,16 +78,18 @@ module _ (v : View) (entries : List Redo) (ready : IsReadyToLog v) (few : length
     free = let s = stored in let n = number in omega (arith, s, n, low, few)
 
     entry : IsOfWord e
-    entry = ⊎_elim (λ (o : IsOfPool v e). o.entry)
+    entry = ⊎_elim (λ (o : MayEnter v e). may_word v e o)
         (λ (same : e ≡ ending v). subst IsOfWord (sym same) (record { aligned = omega arith; word = let below = ready.entering.area.below in omega (arith, below) })) which
 
     may : IsEnterable u e.op (e.place / 8) e.value
     may = record {
       of = ⊎_elim
+          (λ (may : MayEnter v e). ⊎_elim
           (λ (o : IsOfPool v e). inl (subst (λ (locks : List Lock). list_any (λ (l : Lock). l.write && is_some l.block && is_under (e.place / 8) l) locks ≡ true) (sym has.call.locks) o.own))
+          (λ (h : EntersHeap v e). inr (inr (has.call.lane.table ∙ h.alone, subst IsGrowing (sym has.entering.is_open) tt, ap (λ j. is_in_area j (e.place / 8)) lane ∙ h.outside))) may)
           (λ (same : e ≡ ending v).
           let word : e.place / 8 ≡ area_word v.lane = ap (λ (x : Redo). x.place / 8) same ∙ (let q : 8 * area_word v.lane / 8 ≡ area_word v.lane = omega arith in q) in
-          inr (word ∙ ap area_word (sym lane), ap (λ (x : Redo). x.op) same))
+          inr (inl (word ∙ ap area_word (sym lane), ap (λ (x : Redo). x.op) same)))
           which;
       word = λ other. entry.word;
     }
@@ -128,7 +130,7 @@ module _ (v : View) (entries : List Redo) (ready : IsReadyToLog v) (few : length
         entered = record {
           front = entries;
           are = sym (λ j. entries ++ ending_of (lane j) (generation j) ∷ []);
-          each = All-weaker (IsOfPool v) (IsOfPool w) (λ r o. of_pool_kept v w r call (λ x out. ap (λ (ws : List ℕ). slice_index ws x) words ∙ has.outside x out) o) entries of_pool;
+          each = All-weaker (MayEnter v) (MayEnter w) (λ r o. may_enter_kept v w r call (λ x out. ap (λ (ws : List ℕ). slice_index ws x) words ∙ has.outside x out) o) entries of_pool;
           logged = ap (λ (l : Log). l.entries) log;
           most = let n = number in omega (arith, n, few);
         };

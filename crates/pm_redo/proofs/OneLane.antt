@@ -18,7 +18,7 @@ use Rattle.pm_view.specs.View.{View, Lock}
 use Rattle.pm_world.specs.Entries.{IsEnterable, IsKnownWord}
 use Rattle.pm_world.specs.Sequences.{IsReady}
 use Rattle.pm_undo.specs.Working.{HasArea, IsSeenWithArea}
-use Rattle.pm_redo.specs.Entering.{AreEntered, HasPlace, IsOfPool, IsSeenInPool, final_of}
+use Rattle.pm_redo.specs.Entering.{AreEntered, HasPlace, IsOfPool, IsSeenInPool, final_of, MayEnter}
 use Rattle.pm_redo.specs.Sequences.{applies, clears, logs, performs, puts, seals}
 use Rattle.pm_redo.proofs.Applied.{apply_lawful}
 use Rattle.pm_redo.proofs.Entered.{put_lawful}
@@ -130,18 +130,18 @@ module _ (m : Solo) (held : m ≡ with_lock (opened m.words None) 193 (writer_bi
   pub may_put_end : IsReady (Sees m) (puts 1 end)
   unfolding IsReady
   may_put_end = let p = Open [] [] in let es = heap ∷ [] in
-      (v p es, (sees p es, (put_lawful (v p es) end (record { is_open = refl; undrawn = refl; area = area p es; few = omega arith }) (omega arith) refl (record { of = inr (refl, refl); word = λ other. omega arith })).0))
+      (v p es, (sees p es, (put_lawful (v p es) end (record { is_open = refl; undrawn = refl; area = area p es; few = omega arith }) (omega arith) refl (record { of = inr (inl (refl, refl)); word = λ other. omega arith })).0))
 
   pub may_log : IsReady (Sees m) (logs (heap ∷ []))
   unfolding IsReady
   may_log = let p = Open [] [] in
-      (v p [], (sees p [], (log_lawful (v p []) (heap ∷ []) (record { entering = record { is_open = refl; undrawn = refl; area = area p []; few = omega arith }; none = refl }) (omega arith) (All-cons (IsOfPool (v p [])) heap [] (heap_of_pool p []) (All-nil (IsOfPool (v p []))))).0))
+      (v p [], (sees p [], (log_lawful (v p []) (heap ∷ []) (record { entering = record { is_open = refl; undrawn = refl; area = area p []; few = omega arith }; none = refl }) (omega arith) (All-cons (MayEnter (v p [])) heap [] (inl (heap_of_pool p [])) (All-nil (MayEnter (v p []))))).0))
 
   entered : (phase : Phase) → AreEntered (v phase both) both
   entered phase = record {
     front = heap ∷ [];
     are = ap (λ (x : ℕ). let e : Redo = record { place = 4096; op = Set; value = x + 1 } in heap ∷ e ∷ []) (sym generation);
-    each = All-cons (IsOfPool (v phase both)) heap [] (heap_of_pool phase both) (All-nil (IsOfPool (v phase both)));
+    each = All-cons (MayEnter (v phase both)) heap [] (inl (heap_of_pool phase both)) (All-nil (MayEnter (v phase both)));
     logged = refl;
     most = omega arith;
   }
@@ -202,9 +202,9 @@ module _ (m : Solo) (held : m ≡ with_lock (opened m.words None) 193 (writer_bi
         (apply_lawful knowing (let p = place (Applying 0) four in record { lane = p.lane; few = p.few; inside = p.inside }) four (record {
           front = heap ∷ sets_bit ∷ clears_bits ∷ [];
           are = ap (λ (x : ℕ). let e : Redo = record { place = 4096; op = Set; value = x + 1 } in heap ∷ sets_bit ∷ clears_bits ∷ e ∷ []) (sym generation);
-          each = All-cons (IsOfPool knowing) heap (sets_bit ∷ clears_bits ∷ []) (front_of_pool heap refl (omega arith))
-              (All-cons (IsOfPool knowing) sets_bit (clears_bits ∷ []) (front_of_pool sets_bit refl (omega arith))
-              (All-cons (IsOfPool knowing) clears_bits [] (front_of_pool clears_bits refl (omega arith)) (All-nil (IsOfPool knowing))));
+          each = All-cons (MayEnter knowing) heap (sets_bit ∷ clears_bits ∷ []) (inl (front_of_pool heap refl (omega arith)))
+              (All-cons (MayEnter knowing) sets_bit (clears_bits ∷ []) (inl (front_of_pool sets_bit refl (omega arith)))
+              (All-cons (MayEnter knowing) clears_bits [] (inl (front_of_pool clears_bits refl (omega arith))) (All-nil (MayEnter knowing))));
           logged = refl;
           most = omega arith;
         }) refl refl).0,

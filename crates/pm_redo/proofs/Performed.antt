@@ -14,10 +14,10 @@ use Rattle.pm_world.proofs.Going.{goes_then}
 use Rattle.pm_undo.specs.Working.{IsSameCall, KeepsOutside}
 use Rattle.pm_undo.proofs.Staying.{same_call-then}
 use Rattle.pm_undo.proofs.Storing.{Is}
-use Rattle.pm_redo.specs.Entering.{AreEntered, HasPlace, IsApplied, IsCleared, IsOfPool, IsPerformed, IsReadyToPerform, IsSealed}
+use Rattle.pm_redo.specs.Entering.{AreEntered, HasPlace, IsApplied, IsCleared, MayEnter, IsPerformed, IsReadyToPerform, IsSealed}
 use Rattle.pm_redo.specs.Sequences.{applies, clears, ending_of, performs, performs_on, seals, writes_seal}
 use Rattle.pm_redo.proofs.Applied.{apply_lawful}
-use Rattle.pm_redo.proofs.Whole.{of_pool_kept}
+use Rattle.pm_redo.proofs.Whole.{may_enter_kept}
 use Rattle.pm_redo.proofs.Sealed.{clear_lawful, seal_lawful}
 
 -- the lane's area stays in place
@@ -36,7 +36,7 @@ entered_kept : (v w : View) (entries : List Redo) → IsSameCall v w → KeepsOu
 entered_kept v w entries call outside same generation a = record {
   front = a.front;
   are = a.are ∙ sym (λ j. a.front ++ ending_of (call.lane.lane j) (generation j) ∷ []);
-  each = All-weaker (IsOfPool v) (IsOfPool w) (λ e o. of_pool_kept v w e call outside o) a.front a.each;
+  each = All-weaker (MayEnter v) (MayEnter w) (λ e o. may_enter_kept v w e call outside o) a.front a.each;
   logged = same ∙ a.logged;
   most = a.most;
 }

@@ -1,5 +1,5 @@
 -- The seal may be stored and made persistent, and cleared so, and what that leaves.
-use Rattle.std.proofs.Common.{◌≡◌, ◌≢◌, ℕ, ◌+◌, ◌/◌, ◌<◌, Bool, true, false, cond, eqb, List, [], ◌∷◌, ◌++◌, length, slice_index, is_some, refl, sym, ap, ◌∙◌, subst, arith, eq-eqb, get_or-set_other}
+use Rattle.std.proofs.Common.{◌≡◌, ◌≢◌, ℕ, ◌+◌, ◌/◌, ◌<◌, Bool, true, false, cond, eqb, List, [], ◌∷◌, ◌++◌, length, slice_index, is_some, refl, sym, ap, ◌∙◌, subst, arith, eq-eqb, get_or-set_other, ⊎_elim, inl, inr, map}
 use Rattle.std.proofs.lemmas.Bool.{false≢true}
 use Rattle.std.proofs.lemmas.List.{length-map}
 use Rattle.pm_view.specs.declared.change.Change.{Change}
@@ -25,7 +25,7 @@ use Rattle.pm_redo.specs.Entering.{AreEntered, HasPlace, IsCleared, IsSealed, fi
 use Rattle.pm_redo.specs.Sequences.{clears, seals, writes_seal}
 use Rattle.pm_redo.proofs.Entered.{room_is_there}
 use Rattle.pm_redo.proofs.PairWords.{seal_part}
-use Rattle.pm_redo.proofs.Whole.{entered_whole, knows_ors}
+use Rattle.pm_redo.proofs.Whole.{entered_whole, knows_ors, entered_own, logged_front}
 
 module _ (v : View) (place : HasPlace v) (none : v.changes ≡ []) (n : ℕ) (fits : StoreFits v (area_word v.lane + 1) n v.log.phase SealWord) where
   abbrev s : ℕ
@@ -96,7 +96,8 @@ seal_lawful v entries place drawn none below are =
     let n : ℕ = length entries in
     let count : n ≡ length v.log.entries = sym (ap length are.logged ∙ length-map entries final_for) in
     let fits : StoreFits v (area_word v.lane + 1) n v.log.phase SealWord = subst (λ phase. StoreFits v (area_word v.lane + 1) n phase SealWord) (sym drawn)
-    (record { all = count; whole = entered_whole v entries are; known = knows_ors v entries are; below = below; drained = none }) in
+    (⊎_elim (λ own. inl (record { all = count; whole = entered_whole v entries are own; known = knows_ors v entries are own; below = below; drained = none }))
+    (λ heap. inr (record { alone = heap.0; heap = heap.1; all = count; front = map final_for are.front; ends = logged_front v entries are; below = below; drained = none })) (entered_own v entries are)) in
     let r = writes v place none n fits v refl in
     let stored : log_stored v.log.phase SealWord n v.log ≡ record v.log { phase = Sealing } = ap (λ phase. log_stored phase SealWord n v.log) drawn in (
       r.0,

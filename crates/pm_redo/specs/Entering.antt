@@ -13,6 +13,7 @@ use Rattle.pm_world.specs.Lawful.{generation_limit}
 use Rattle.pm_world.specs.Records.{generation_of}
 use Rattle.pm_undo.specs.Working.{HasArea, IsSameCall, KeepsOutside}
 use Rattle.pm_redo.specs.Sequences.{ending_of}
+use Rattle.pm_view.specs.Founds.{IsAlone}
 
 -- a lane's area lies in the pool, before the zones
 pub record HasPlace (v : View) : Type 0 where
@@ -64,11 +65,24 @@ pub record IsOfPool (v : View) (e : Redo) : Type 0 where
   pub inside : e.place / 8 < length v.words
   pub known : KnowsWord v e
 
+-- an entry by which a lane that is alone allocates or frees a block: of a word of the pool outside of its area, one of 64 bits, that it has not locked
+pub record EntersHeap (v : View) (e : Redo) : Type 0 where
+  pub entry : IsOfWord e
+  pub alone : IsAlone v
+  pub unlocked : is_written v (e.place / 8) ≡ false
+  pub outside : is_in_area v.lane (e.place / 8) ≡ false
+  pub inside : e.place / 8 < length v.words
+  pub small : slice_index v.words (e.place / 8) < 2 ^ 64
+
+-- the lane may enter it
+abbrev pub MayEnter : View → Redo → Type 0
+MayEnter v e = IsOfPool v e ⊎ EntersHeap v e
+
 -- the lane's entries are these: of words of the pool, and then the one that ends the generation
 pub record AreEntered (v : View) (entries : List Redo) : Type 0 where
   pub front : List Redo
   pub are : entries ≡ front ++ ending v ∷ []
-  pub each : All (IsOfPool v) front
+  pub each : All (MayEnter v) front
   pub logged : v.log.entries ≡ map final_of entries
   pub most : length entries ≤ 64
 

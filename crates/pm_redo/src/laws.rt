@@ -7,7 +7,7 @@ ghost use Rattle.pm_world.specs.Entries.{IsEnterable};
 ghost use Rattle.pm_world.specs.Lawful.{generation_limit};
 ghost use Rattle.pm_world.specs.Records.{generation_of};
 ghost use Rattle.pm_world.specs.Sequences.{Ready};
-ghost use Rattle.pm_redo.specs.Entering.{AreEntered, HasEntered, HasLogged, HasPlace, IsApplied, IsCleared, IsEntering, IsOfPool, IsPerformed, IsReadyToLog, IsReadyToPerform, IsSealed};
+ghost use Rattle.pm_redo.specs.Entering.{AreEntered, HasEntered, HasLogged, HasPlace, IsApplied, IsCleared, IsEntering, MayEnter, IsPerformed, IsReadyToLog, IsReadyToPerform, IsSealed};
 ghost use Rattle.pm_redo.specs.Sequences.{applies, clears, logs, performs, puts, seals};
 
 /// A law: a lane that stores entries may store one more of a word that it locked for writing, or of its generation, and then that stands
@@ -20,7 +20,7 @@ pub fn entries_may_be_stored()
 /// A law: a lane that has no entry yet, and nothing undrained, may write its redo log: entries of words of the pool, 63 at most, and the one that ends its
 /// generation. Then they stand in the log, persistent, and nothing of the pool has changed. No code runs.
 pub fn a_log_may_be_written()
-    ensures { (v : View) (entries : List Redo) → IsReadyToLog v → length entries ≤ 63 → All (IsOfPool v) entries
+    ensures { (v : View) (entries : List Redo) → IsReadyToLog v → length entries ≤ 63 → All (MayEnter v) entries
         → Ready v (logs entries v) × HasLogged v entries (after_all v (logs entries v)) }
 {}
 

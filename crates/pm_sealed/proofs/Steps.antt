@@ -23,10 +23,10 @@ use Rattle.pm_view.specs.Steps.Step.{And, Drain, Draw, Flush, Give, Load, Number
 use Rattle.pm_view.specs.View.{Lock, View}
 use Rattle.pm_view.specs.Views.{after, begun, changed, log_after_drain}
 use Rattle.pm_view.proofs.SameLane.{same_lane-after}
-use Rattle.pm_world.specs.Entries.{IsEntryAt, ends_with, is_entered, set_word}
+use Rattle.pm_world.specs.Entries.{IsEntryAt, ends_with, is_entered, set_word, IsKnownWord}
 use Rattle.pm_world.specs.Fits.{IsOfEntries, SealChange}
 use Rattle.pm_world.specs.History.{made_final}
-use Rattle.pm_world.specs.Lawful.{Allowed, GiveFits, IsEarly, MayTell, StoreFits, is_holder}
+use Rattle.pm_world.specs.Lawful.{Allowed, GiveFits, IsEarly, MayTell, StoreFits, is_holder, SealsAlone, SealsEntries, ChangesAlone}
 use Rattle.pm_world.specs.Records.{generation_of}
 use Rattle.pm_world.proofs.CrashLogs.{entered_front, entry_of_word}
 use Rattle.pm_world.proofs.Differences.{with_all_bits}
@@ -229,10 +229,11 @@ module _ (b : View) (may_seal : MaySeal b) where
     stored w x inside (Open slot pair) e part f fits s = absurd s
     stored w x inside Drawn e GenerationWord f fits s = absurd (some_entries (sym s.entered ∙ fits.unentered))
     stored w x inside Drawn e SealWord f fits s =
+        let all : x ≡ length v.log.entries = ⊎_elim (λ (seals : SealsEntries v x). seals.all) (λ (alone : SealsAlone v x). alone.all) fits in
         let here : w ≡ seal_at b = (seal_part v.lane w f).1 ∙ seal_is in record {
           entered = s.entered;
           words = λ i other. set_else v.words w x i (λ same. other (same ∙ here)) ∙ s.words i;
-          seal = ap (slice_index (set v.words w x)) (sym here) ∙ (set_here v.words w x inside ∙ (fits.all ∙ ap (λ (fs : List Final). length fs) s.entered));
+          seal = ap (slice_index (set v.words w x)) (sym here) ∙ (set_here v.words w x inside ∙ (all ∙ ap (λ (fs : List Final). length fs) s.entered));
           changes = subst (λ cs. All (SealChange b 0) (cs ++ store_change w (slice_index v.words w) x ∷ [])) (sym s.drained)
               (All-one (SealChange b 0) (store_change w (slice_index v.words w) x)
               (record { whole = refl; of = here; before = ap (slice_index v.words) here ∙ (s.words (seal_at b) ∙ may_seal.unsealed) }));
@@ -357,7 +358,7 @@ module _ (b : View) (may_seal : MaySeal b) where
         let t = changes_next v op.Or w bits v.log.phase refl (part_of v.lane w) refl may.fits in
         let is = found_so alone in
         subst (λ lg. Stage b (changed v w (bit_or found bits) (or_change w bits found) lg) lg.phase) (sym (ap (λ p. log_changed p v.log) t.phase))
-        (ored w bits found may.inside may.word is (let small = may.known.small in omega (arith, small, is)) t (subst (Stage b v) t.phase at.stage))
+        (ored w bits found may.inside may.word is (let small : slice_index v.words w < 2 ^ 64 = ⊎_elim (λ (known : IsKnownWord v w). known.small) (λ (changes : ChangesAlone v w). changes.small) may.known in omega (arith, small, is)) t (subst (Stage b v) t.phase at.stage))
     stage_after (And w bits found) may found_so =
         let t = changes_next v op.And w bits v.log.phase refl (part_of v.lane w) refl may.fits in
         subst (λ lg. Stage b (changed v w (bit_and found bits) (and_change w bits found) lg) lg.phase) (sym (ap (λ p. log_changed p v.log) t.phase))

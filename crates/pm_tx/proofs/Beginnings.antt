@@ -29,6 +29,7 @@ use Rattle.pm_world.specs.Records.{IsRecordAt}
 use Rattle.pm_world.specs.Sequences.{IsMade, Ready, Runs, in_turn, one}
 use Rattle.pm_world.specs.declared.lane.Lane.{Lane}
 use Rattle.pm_world.specs.declared.lane.Stage.TheVariants as stage
+use Rattle.pm_world.proofs.Plain.{empty_plain}
 use Rattle.pm_world.proofs.Shapes.{IsOfSamePool}
 use Rattle.pm_lock.proofs.Leads.{ready_led}
 use Rattle.pm_lock.specs.Begun.{IsBegun}
@@ -160,11 +161,14 @@ module _ {M : Type 0} (at : M → View → Type 0) (lane : Lane M) (v : View) (i
     ends_drawn reason = (
       tt,
       (
-        inr (
-          error.Refused r,
-          call_refused (after v (Tell (Begin wants) (Some (Refused r)))) wants r (record { call = told_so; no_records = no_records; reason = reason_at r reason }),
-          no_records,
-          ap (λ (log : Log). log.entries) is.log,
+        (
+          inr (
+            error.Refused r,
+            call_refused (after v (Tell (Begin wants) (Some (Refused r)))) wants r (record { call = told_so; no_records = no_records; reason = reason_at r reason }),
+            no_records,
+            ap (λ (log : Log). log.entries) is.log,
+          ),
+          empty_plain (after v (Tell (Begin wants) (Some (Refused r)))) (ap (λ (log : Log). log.entries) is.log),
         ),
         tt,
       ),

@@ -36,6 +36,7 @@ use Rattle.pm_view.specs.Steps.{Step}
 use Rattle.pm_view.specs.Steps.Step.{Draw, NumberSeen, Tell}
 use Rattle.pm_view.specs.View.{Numbered, Told, View}
 use Rattle.pm_view.specs.Views.{after, after_all}
+use Rattle.pm_world.proofs.Plain.{empty_plain}
 use Rattle.pm_world.proofs.Sequencing.{ready_both, ready_left}
 use Rattle.pm_world.specs.Lanes.{last_number_of, span_of}
 use Rattle.pm_world.specs.Lawful.{MayDraw, MayTell}
@@ -134,14 +135,17 @@ module _ (v m : View) (working : IsWorking v) (no_entries : v.log.entries ≡ []
   end_drawn is_open nothing_published n = (
     tt,
     (
-      inl (commit_is_whole v told is_open (record {
-        tells = tells;
-        records = ap (λ (l : Log). l.records) log;
-        words = record { words = λ i outside. ap (λ (u : View). slice_index u.words i) settled };
-        entries =
-            ap (λ (l : Log). filter (λ (f : Final). not (is_in_area m.lane f.word)) l.entries) log
-            ∙ (ap (filter (λ (f : Final). not (is_in_area m.lane f.word))) no_entries ∙ sym (ap (map entry_for) nothing_published));
-      })),
+      (
+        inl (commit_is_whole v told is_open (record {
+          tells = tells;
+          records = ap (λ (l : Log). l.records) log;
+          words = record { words = λ i outside. ap (λ (u : View). slice_index u.words i) settled };
+          entries =
+              ap (λ (l : Log). filter (λ (f : Final). not (is_in_area m.lane f.word)) l.entries) log
+              ∙ (ap (filter (λ (f : Final). not (is_in_area m.lane f.word))) no_entries ∙ sym (ap (map entry_for) nothing_published));
+        })),
+        empty_plain told (ap (λ (l : Log). l.entries) log ∙ no_entries),
+      ),
       tt,
     ),
   )

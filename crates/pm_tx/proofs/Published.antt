@@ -1,5 +1,5 @@
 -- A call that publishes: its log is written, it is told and draws its number, the log is performed, and then it is over.
-use Rattle.std.proofs.Common.{◌≡◌, ℕ, ◌*◌, ◌/◌, ◌≤◌, not, inl, inr, List, [], ◌∷◌, ◌++◌, All, Any, IsTrue, length, length-append, map, take, None, Some, refl, sym, ap, ◌∙◌, subst, arith}
+use Rattle.std.proofs.Common.{◌≡◌, ℕ, ◌*◌, ◌/◌, ◌≤◌, not, inl, inr, List, [], ◌∷◌, ◌++◌, All, Any, IsTrue, length, length-append, map, take, None, Some, refl, sym, ap, ◌∙◌, subst, arith, false}
 use Rattle.std.specs.List.{filter}
 use Rattle.std.proofs.lemmas.Bool.{cond-false, cond-true}
 use Rattle.std.proofs.lemmas.List.{length-map}
@@ -9,7 +9,7 @@ use Rattle.pm_objects.specs.declared.calls.Operation.{Operation}
 use Rattle.pm_record.specs.declared.redo.Redo.{Redo}
 use Rattle.pm_redo.proofs.Logged.{log_lawful}
 use Rattle.pm_redo.proofs.Performed.{perform_lawful}
-use Rattle.pm_redo.specs.Entering.{AreEntered, HasLogged, IsOfPool, IsPerformed, IsReadyToPerform, ending, final_of}
+use Rattle.pm_redo.specs.Entering.{AreEntered, HasLogged, IsOfPool, IsPerformed, IsReadyToPerform, ending, final_of, MayEnter}
 use Rattle.pm_redo.specs.Sequences.{ending_of, logs}
 use Rattle.pm_undo.proofs.Areas.{generation_in_area}
 use Rattle.pm_view.proofs.SameLane.{same_lane-then}
@@ -22,7 +22,8 @@ use Rattle.pm_view.specs.Rights.{is_written}
 use Rattle.pm_view.specs.Steps.{Step}
 use Rattle.pm_view.specs.Steps.Step.{Draw, NumberSeen, Tell}
 use Rattle.pm_view.specs.View.{Numbered, Told, View}
-use Rattle.pm_view.specs.Views.{after, after_all}
+use Rattle.pm_view.specs.Views.{after, after_all, changes_heap}
+use Rattle.pm_redo.proofs.Whole.{own_plain_log}
 use Rattle.pm_world.proofs.Sequencing.{ready_both}
 use Rattle.pm_world.specs.Lanes.{last_number_of}
 use Rattle.pm_world.specs.Lawful.{MayDraw, MayTell}
@@ -66,7 +67,7 @@ module _ (v : View) (entries : List Redo) (may : MayPublish v entries) where
   m = logged_view v entries
 
   pub written : Ready v (logs entries v) × HasLogged v entries (logged_view v entries)
-  written = log_lawful v entries may.ready may.few may.each
+  written = log_lawful v entries may.ready may.few (All-weaker (IsOfPool v) (MayEnter v) (λ e is. inl is) entries may.each)
 
   -- while they are logged nothing is drawn
   pub logging_undrawn : (k : ℕ) → IsUndrawn v (after_all v (take k (logs entries v)))
@@ -97,8 +98,8 @@ module _ (v : View) (entries : List Redo) (may : MayPublish v entries) where
       found = may.may_come.found;
       seen = written.1.call.seen (NumberSeen may.may_come.found) may.may_come.seen;
       below = may.may_come.below;
-      entered = inr (subst (Any (λ (f : Final). IsTrue (is_written told f.word))) (sym logged)
-          (any_written told entries (ending v ∷ []) may.some (All-weaker (IsOfPool v) (IsOfPool told) (λ e is. of_pool_on v told told_lane written.1.call.locks e is (knows_on v told written.1.call.remembers written.1.outside e is)) entries may.each)));
+      entered = inr (inl (subst (Any (λ (f : Final). IsTrue (is_written told f.word))) (sym logged)
+          (any_written told entries (ending v ∷ []) may.some (All-weaker (IsOfPool v) (IsOfPool told) (λ e is. of_pool_on v told told_lane written.1.call.locks e is (knows_on v told written.1.call.remembers written.1.outside e is)) entries may.each))));
     } where
       told_lane : IsSameLane v told
       told_lane = let l = written.1.call.lane in record { lanes = l.lanes; zones = l.zones; pool = l.pool; lane = l.lane; stop = l.stop; table = l.table; size = l.size }
@@ -126,9 +127,24 @@ module _ (v : View) (entries : List Redo) (may : MayPublish v entries) where
           ∙ pool_of v entries may.each;
     }
 
+    -- each entry is of a word that the lane locked
+    own_told : All (IsOfPool told) entries
+    own_told = All-weaker (IsOfPool v) (IsOfPool told) (λ e is. of_pool_on v told lane_told written.1.call.locks e is (knows_on v told written.1.call.remembers written.1.outside e is)) entries may.each where
+      lane_told : IsSameLane v told
+      lane_told = let l = written.1.call.lane in record { lanes = l.lanes; zones = l.zones; pool = l.pool; lane = l.lane; stop = l.stop; table = l.table; size = l.size }
+
+    told_plain : changes_heap told ≡ false
+    told_plain = own_plain_log told (entries ++ ending told ∷ []) (record {
+      front = entries;
+      are = refl;
+      each = All-weaker (IsOfPool told) (MayEnter told) (λ e is. inl is) entries own_told;
+      logged = logged ∙ ap (λ (e : Redo). map final_of (entries ++ e ∷ [])) same_ending;
+      most = (let number = length-append entries (ending told ∷ []) in let few = may.few in omega (arith, number, few));
+    }) own_told
+
     end_drawn : IsWholeOnceLogged v entries operation → (n : ℕ) → DrawEnded m (ends_call operation None n m)
     unfolding ends_call in_turn one DrawEnded after_all
-    end_drawn whole n = (tt, (inl (whole told tells_logged), tt))
+    end_drawn whole n = (tt, ((inl (whole told tells_logged), told_plain), tt))
 
     module _ (n : ℕ) where
       abbrev drawn : View
@@ -148,7 +164,7 @@ module _ (v : View) (entries : List Redo) (may : MayPublish v entries) where
       entered = record {
         front = entries;
         are = refl;
-        each = All-weaker (IsOfPool v) (IsOfPool drawn) (λ e is. of_pool_on v drawn lane_drawn written.1.call.locks e is (knows_on v drawn written.1.call.remembers written.1.outside e is)) entries may.each;
+        each = All-weaker (IsOfPool v) (MayEnter drawn) (λ e is. inl (of_pool_on v drawn lane_drawn written.1.call.locks e is (knows_on v drawn written.1.call.remembers written.1.outside e is))) entries may.each;
         logged = ap (λ (p : Phase). (log_drawn p m.log).entries) written.1.is_open ∙ (logged ∙ ap (λ (e : Redo). map final_of (entries ++ e ∷ [])) same_ending);
         most = (let number = length-append entries (ending drawn ∷ []) in let few = may.few in omega (arith, number, few));
       }

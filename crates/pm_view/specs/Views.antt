@@ -1,5 +1,5 @@
 -- What each step does to a lane's view.
-use Rattle.std.specs.Prelude.{ℕ, ◌+◌, ◌-◌, ◌/◌, ◌^◌, ◌==◌, ◌&&◌, Bool, true, false, not, if◌then◌else◌, List, [], ◌∷◌, ◌++◌, map, slice_index, slice_set, Option, Some, None, is_some, bit_and, bit_or}
+use Rattle.std.specs.Prelude.{ℕ, ◌+◌, ◌-◌, ◌*◌, ◌/◌, ◌%◌, ◌^◌, ◌==◌, ◌&&◌, ◌||◌, Bool, true, false, not, if◌then◌else◌, List, [], ◌∷◌, ◌++◌, flat_map, map, slice_index, slice_set, Option, Some, None, is_some, bit_and, bit_or}
 use Rattle.std.specs.List.{filter, list_any}
 use Rattle.pm_objects.specs.declared.calls.Operation.{Operation}
 use Rattle.pm_objects.specs.declared.history.Value.{Value}
@@ -7,15 +7,16 @@ use Rattle.std.specs.Int.{bit_at, bit_not, w64}
 use Rattle.pm_layout.specs.Sizes.{blocks_of}
 use Rattle.pm_view.specs.declared.change.Change.{Change}
 use Rattle.pm_view.specs.declared.occ.Occ.{Occ}
-use Rattle.pm_view.specs.Area.{part_of}
-use Rattle.pm_view.specs.Blocks.{allocation_word, block_at, chunk_of, descriptor_word, is_run, is_word, zone_of}
+use Rattle.pm_view.specs.Area.{is_in_area, part_of}
+use Rattle.pm_view.specs.Blocks.{allocation_word, block_at, chunk_of, describes, descriptor_word, is_run, is_word, zone_of}
 use Rattle.pm_view.specs.Changes.{store_change, or_change, and_change, flushed, drained}
 use Rattle.pm_view.specs.Held.{is_held}
 use Rattle.pm_objects.specs.declared.calls.Operation.TheVariants.{Reserve, DeferFree, SetValue, Publish, Cancel}
 use Rattle.pm_objects.specs.declared.history.Value.TheVariants.{Offset}
 use Rattle.pm_view.specs.declared.occ.Occ.TheVariants.{Run, Zone}
-use Rattle.pm_view.specs.Log.{Log, Phase, no_log, log_stored, log_changed, log_drained, log_drawn}
+use Rattle.pm_view.specs.Log.{Final, Log, Phase, no_log, log_stored, log_changed, log_drained, log_drawn}
 use Rattle.pm_view.specs.Log.Phase.{Idle, Open}
+use Rattle.pm_view.specs.Rights.{allocation_bits, is_written}
 use Rattle.pm_view.specs.Steps.{Step}
 use Rattle.pm_view.specs.Steps.Step.{Load, Store, Or, And, Flush, Drain, TakeWrite, TakeRead, Raise, Give, ZoneTry, ZoneGive, Occupied, Occupy, Vacate, Draw, NumberSeen, StopSeen, SetStop, Tell}
 use Rattle.pm_view.specs.View.{View, Lock, Taken, Told}
@@ -140,9 +141,38 @@ exchanged v (Run place) =
     if is_made v page then without_taken (zone_at v.lanes page) (2 ^ chunk_bit v.lanes page) v.reserved ++ all_of_run v place ∷ [] else v.reserved
 exchanged v (Zone zone) = v.reserved
 
--- a call begins where none is open
+-- ---- blocks that a call allocates or frees by entries of its log
+
+-- the entry is of a word that is neither in the lane's area nor one that it wrote under a lock: it allocates a block or frees one
+abbrev pub is_of_heap : View → Final → Bool
+is_of_heap v f = not (is_in_area v.lane f.word || is_written v f.word)
+
+-- the lane's log has such an entry
+abbrev pub changes_heap : View → Bool
+changes_heap v = list_any (is_of_heap v) v.log.entries
+
+-- the entry is of a bit that says whether these blocks are allocated
+abbrev pub is_entered_of : View → Taken → Final → Bool
+is_entered_of v t f = is_of_heap v f && not (bit_and f.mask (allocation_bits v.lanes t.at t.bits f.word) == 0)
+
+-- what the lane reserved, without what its entries allocate
+abbrev pub unallocated : View → List Taken
+unallocated v = filter (λ (t : Taken). not (list_any (is_entered_of v t) v.log.entries)) v.reserved
+
+-- the chunks of the huge block that a descriptor begins, as bits of its zone
+abbrev pub chunks_described : View → ℕ → Taken
+chunks_described v w = record { at = Zone (zone_of v.lanes (w / 512)); bits = 2 ^ (w % 512) * (2 ^ (slice_index v.words w / 256) - 1) }
+
+-- the block that an entry frees, if any: a descriptor becomes 0, or a bit of a run's bitmap is cleared
+abbrev pub freed_by : View → Final → List Taken
+freed_by v f =
+    if not (is_of_heap v f) || f.ors then [] else
+    if not (describes v.lanes f.word) then record { at = Run (8 * f.word); bits = f.mask } ∷ [] else
+    if f.bits == 0 then chunks_described v f.word ∷ [] else []
+
+-- a call begins where none is open: of the words the lane knows those that stay as it knows them
 abbrev pub begun : Phase → View → View
-begun Idle v = record v { log = no_log (Open [] []); seen = []; call = []; number = None }
+begun Idle v = record v { log = no_log (Open [] []); seen = []; call = []; number = None; known = filter (is_held v) v.known }
 begun phase v = v
 
 -- the pending actions after an operation that was answered so: one more, or none where they were published or given up
@@ -169,6 +199,8 @@ after v (Draw n) = record v {
   log = log_drawn v.log.phase v.log;
   number = Some n;
   entries = v.entries ++ record { number = n; call = v.call } ∷ [];
+  reserved = if changes_heap v then unallocated v else v.reserved;
+  freed = if changes_heap v then v.freed ++ flat_map (freed_by v) v.log.entries else v.freed;
 }
 after v (ZoneTry zone won) = with_seen (ZoneTry zone won) (record v { zone_locks = zone_taken zone won v.zone_locks })
 after v (ZoneGive zone) = with_seen (ZoneGive zone) (record v { zone_locks = filter (λ other. not (other == zone)) v.zone_locks })

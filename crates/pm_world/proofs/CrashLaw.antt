@@ -20,7 +20,7 @@ use Rattle.pm_image.specs.Steps.{valid_record}
 use Rattle.pm_image.proofs.Redoing.{entries_unsealed}
 use Rattle.pm_world.specs.Course.{flight_in, flight, is_number}
 use Rattle.pm_world.specs.Crash.{NoneTorn, Survives, is_deciding_in, is_kept, loses}
-use Rattle.pm_world.specs.Entries.{HasNone, applied_in, is_entered, is_in_log, is_redoing, is_redone, KnowsOrs, LeaveWord, is_or_entered}
+use Rattle.pm_world.specs.Entries.{HasNone, applied_in, is_entered, is_in_log, is_redoing, is_redone, KnowsOrs, LeaveWord, is_or_entered, EntersAlone, IsGrowing}
 use Rattle.pm_world.specs.Fits.{PhaseFits, EndFits, RetiringChange, SealChange, SealingFits, IsOfEntries}
 use Rattle.pm_world.specs.History.{Entry, Flies, is_final, made_final, replayed, settled}
 use Rattle.pm_world.specs.Memory.{Memory}
@@ -28,6 +28,8 @@ use Rattle.pm_world.specs.Memory.Location.{PoolWord}
 use Rattle.pm_world.specs.Opening.{IsLivingWord, Opening}
 use Rattle.pm_world.specs.Records.{IsRecordAt, difference_of, generation_of, is_recorded, is_drained_slot, is_logged, pool_entries, records_generation}
 use Rattle.pm_world.specs.World.{Views, World}
+use Rattle.pm_record.specs.declared.redo.Op.TheVariants.{Set}
+use Rattle.pm_world.proofs.Plain.{flying_still, redoing_still}
 use Rattle.pm_world.proofs.CrashEntries.{HasSealed, entries_read, generation_is, none_of, of_word, redone_word, some_of, some_sealed, unentered_word}
 use Rattle.pm_world.proofs.CrashLogs.{ChangeFits, GenerationIs, RecordOf, SealIs, entry_of_word, record_of, recorded_from, logged_recorded, not_logged, unrecorded_unlogged}
 use Rattle.pm_world.proofs.CrashRecords.{generation_unsealed, recovered_unentered, unsealed}
@@ -63,6 +65,16 @@ seal_drained v old slot changes =
 no_record : (v : View) (slot : ℕ) (r : Recorded) → v.log.records ≡ [] → IsRecordAt v slot r → ⊥
 no_record v slot r none at = none-some r (sym (ap (λ records. slice_get records slot) none) ∙ at)
 
+-- a log that is sealed may not grow
+pub sealed_still : (phase : Phase) → HasSealed phase → IsGrowing phase → ⊥
+sealed_still (Open slot pair) sealed grows = sealed
+sealed_still Idle sealed grows = grows
+sealed_still Drawn sealed grows = grows
+sealed_still Sealing sealed grows = grows
+sealed_still (Applying applied) sealed grows = grows
+sealed_still Clearing sealed grows = grows
+sealed_still Retiring sealed grows = grows
+
 -- there is some entry
 abbrev is_some_entry : List Redo → Bool
 is_some_entry [] = false
@@ -95,12 +107,12 @@ module _ (o : Opening) (mem : Memory) (views : Views) (log : List Entry) (decide
     by_phase Retiring seal = inl (none seal)
 
   -- none of a lane's sealed entries is of the word where none of its entries is
-  pub no_other : (w j : ℕ) → j < o.lanes → (is_final (views j).log.entries w ≡ true → ⊥) → of_word w (logs.entries image j) ≡ []
+  pub no_other : (w j : ℕ) → j < o.lanes → ((IsGrowing (views j).log.phase → ⊥) → is_final (views j).log.entries w ≡ true → ⊥) → of_word w (logs.entries image j) ≡ []
   no_other w j low never =
       ⊎_elim (λ (none : logs.entries image j ≡ []). ap (of_word w) none)
       (λ (sealed : HasSealed (views j).log.phase × (logs.seal_word image j ≡ length (views j).log.entries)).
       let t = entries_read o mem views log decided x image survives j low sealed.0 sealed.1 in
-      ap (of_word w) t.2 ∙ none_of (views j).log.entries t.0 w t.1 (false_from_ne_true (is_final (views j).log.entries w) never))
+      ap (of_word w) t.2 ∙ none_of (views j).log.entries t.0 w t.1 (false_from_ne_true (is_final (views j).log.entries w) (never (sealed_still (views j).log.phase sealed.0))))
       (entries_cases j low)
 
   module _ (w : ℕ) (heap : IsLivingWord o w) where
@@ -131,24 +143,27 @@ module _ (o : Opening) (mem : Memory) (views : Views) (log : List Entry) (decide
         let at = (x.each_lane k inside).lane.lane in
         ⊎_elim (λ (front : w < 512). omega arith) (λ (back : 512 + 1024 * o.lanes ≤ w). omega arith) outside)
 
-    -- a lane whose call is of the word may write it
-    difference_writes : (k : ℕ) → k < o.lanes → is_final (difference_of (views k)) w ≡ true → WritesUnder o mem k w
-    difference_writes k inside e =
+    -- a lane whose call in flight is of the word may write it
+    difference_writes : (k n : ℕ) → k < o.lanes → flight (views k) ≡ Some n → is_final (difference_of (views k)) w ≡ true → WritesUnder o mem k w
+    difference_writes k n inside flies e =
         ⊎_elim (λ (recorded : is_recorded (views k).log.records w ≡ true). recorded_writes o mem views log decided x k w inside recorded)
-        (λ (entered : is_final (pool_entries (views k)) w ≡ true). entered_writes o mem views log decided x k w inside outside (sym (pool_entries-final (views k) w (elsewhere k inside)) ∙ entered))
+        (λ (entered : is_final (pool_entries (views k)) w ≡ true). entered_writes o mem views log decided x k w inside outside (flying_still (views k).log.phase n (views k).number flies) (sym (pool_entries-final (views k) w (elsewhere k inside)) ∙ entered))
         (or_cases (is_recorded (views k).log.records w) (is_final (pool_entries (views k)) w) (sym (difference-words (views k) w) ∙ e))
 
     redone_writes : (k : ℕ) → k < o.lanes → is_redone (views k) w ≡ true → WritesUnder o mem k w
-    redone_writes k inside e = entered_writes o mem views log decided x k w inside outside (and_parts (is_redoing (views k).log.phase) (is_entered (views k).log.entries w) e).1
+    redone_writes k inside e = let t = and_parts (is_redoing (views k).log.phase) (is_entered (views k).log.entries w) e in entered_writes o mem views log decided x k w inside outside (redoing_still (views k).log.phase t.0) t.1
 
     -- a lane that would redo the word locked it for writing
     redone_written : (j : ℕ) → j < o.lanes → is_redone (views j) w ≡ true → is_written (views j) w ≡ true
     redone_written j low e =
-        let t = entry_of_word (views j).log.entries w (and_parts (is_redoing (views j).log.phase) (is_entered (views j).log.entries w) e).1 in
+        let both = and_parts (is_redoing (views j).log.phase) (is_entered (views j).log.entries w) e in
+        let t = entry_of_word (views j).log.entries w both.1 in
         let lane = (x.each_lane j low).lane.lane in
+        let stands = (x.each_lane j low).entries.each t.place t.held t.at in
         ⊎_elim (λ (written : is_written (views j) t.held.word ≡ true). subst (λ u. is_written (views j) u ≡ true) t.of written)
-        (λ own. let here : t.held.word ≡ area_word (views j).lane = own.0 in let same = t.of in absurd (⊎_elim (λ (front : w < 512). omega arith) (λ (back : 512 + 1024 * o.lanes ≤ w). omega arith) outside))
-        ((x.each_lane j low).entries.each t.place t.held t.at).may.of
+        (λ other. absurd (⊎_elim (λ (own : (t.held.word ≡ area_word (views j).lane) × (stands.op ≡ Set)).
+        let here = own.0 in let same = t.of in ⊎_elim (λ (front : w < 512). omega arith) (λ (back : 512 + 1024 * o.lanes ≤ w). omega arith) outside)
+        (λ (alone : EntersAlone (views j) t.held.word). redoing_still (views j).log.phase both.0 alone.1) other)) stands.may.of
 
     -- no change of the word, and it is in no lane's log
     plain_settled : ((k : ℕ) → k < o.lanes → is_in_log (views k) w ≡ false) → slice_index image w ≡ settled o log decided w
@@ -247,7 +262,7 @@ module _ (o : Opening) (mem : Memory) (views : Views) (log : List Entry) (decide
       kept_as_settled : ((n : ℕ) → flight (views k) ≡ Some n → ⊥) → Kept ≡ settled o log decided w
       kept_as_settled rests =
           kept_settled o mem views log decided x image w
-          (λ j n j_inside other flies. absurd (rests n (subst (λ i. flight (views i) ≡ Some n) (one_writer o mem j k w x.sound (difference_writes j j_inside other) mine) flies)))
+          (λ j n j_inside other flies. absurd (rests n (subst (λ i. flight (views i) ≡ Some n) (one_writer o mem j k w x.sound (difference_writes j n j_inside flies other) mine) flies)))
 
       -- nobody changed the word, where the lane's changes are of none of its log
       stays : is_redoing (views k).log.phase ≡ false → ((c : Change) → Contains (views k).changes c → c.word ≡ w → ⊥) → slice_index image w ≡ mem (PoolWord w)
@@ -363,13 +378,13 @@ module _ (o : Opening) (mem : Memory) (views : Views) (log : List Entry) (decide
         let says : Says o mem views log decided x image survives whole k w u = slot_says o mem views log decided x image survives whole k slot w u inside within heap valid covering in
         says.was
         ∙ sym (kept_settled o mem views log decided x image w (λ j n j_inside other flies.
-        let same : j ≡ k = one_writer o mem j k w x.sound (difference_writes j j_inside other) says.writes in
+        let same : j ≡ k = one_writer o mem j k w x.sound (difference_writes j n j_inside flies other) says.writes in
         subst (λ i. loses image (views i) n ≡ true) (sym same) (says.loses_flight n (subst (λ i. flight (views i) ≡ Some n) same flies))))
 
     -- the lane's entries are sealed in the image, and one of them is of the word
-    module _ (k : ℕ) (inside : k < o.lanes) (of : is_final (views k).log.entries w ≡ true) where
+    module _ (k : ℕ) (inside : k < o.lanes) (still : IsGrowing (views k).log.phase → ⊥) (of : is_final (views k).log.entries w ≡ true) where
       enterer : WritesUnder o mem k w
-      enterer = entered_writes o mem views log decided x k w inside outside of
+      enterer = entered_writes o mem views log decided x k w inside outside still of
 
       masked : All IsMasked (views k).log.entries
       masked = entries_masked (views k) (x.each_lane k inside).entries
@@ -429,7 +444,7 @@ module _ (o : Opening) (mem : Memory) (views : Views) (log : List Entry) (decide
           word_beside o mem views log decided x image survives (views k).log.entries w inside_image (of_entries phase is sealed) i small beside
           ∙ redone_beside mem (settled o log decided) (views k) w masked word i small beside)
           ∙ sym (kept_settled o mem views log decided x image w (λ j n low other flies.
-          let same : j ≡ k = one_writer o mem j k w x.sound (difference_writes j low other) enterer in
+          let same : j ≡ k = one_writer o mem j k w x.sound (difference_writes j n low flies other) enterer in
           absurd (rests n (sym (ap (λ p. flight_in p (views k).number) is) ∙ subst (λ i. flight (views i) ≡ Some n) same flies))))
 
       -- while the seal is stored the word is as the call found it, or as it left it where it recorded it
@@ -470,7 +485,7 @@ module _ (o : Opening) (mem : Memory) (views : Views) (log : List Entry) (decide
       redone_kept Retiring is sealed fits some = absurd sealed
 
       others_none : (j : ℕ) → j < o.lanes → j ≢ k → of_word w (logs.entries image j) ≡ []
-      others_none j low other = no_other w j low (λ of_other. other (one_writer o mem j k w x.sound (entered_writes o mem views log decided x j w low outside of_other) enterer))
+      others_none j low other = no_other w j low (λ quiet of_other. other (one_writer o mem j k w x.sound (entered_writes o mem views log decided x j w low outside quiet of_other) enterer))
 
       crash_entered : HasSealed (views k).log.phase → logs.seal_word image k ≡ length (views k).log.entries → recovered image o.lanes w ≡ Kept
       crash_entered sealed full =
@@ -484,9 +499,9 @@ module _ (o : Opening) (mem : Memory) (views : Views) (log : List Entry) (decide
         let inside : l.0 < o.lanes = omega (arith, l.2) in
         ⊎_elim (λ (none : logs.entries image l.0 ≡ []). absurd (false≢true (ap (λ es. is_some_entry (of_word w es)) (sym none) ∙ l.3)))
         (λ (sealed : HasSealed (views l.0).log.phase × (logs.seal_word image l.0 ≡ length (views l.0).log.entries)).
-        ⊎_elim (λ (of : is_final (views l.0).log.entries w ≡ true). crash_entered l.0 inside of sealed.0 sealed.1)
+        ⊎_elim (λ (of : is_final (views l.0).log.entries w ≡ true). crash_entered l.0 inside (sealed_still (views l.0).log.phase sealed.0) of sealed.0 sealed.1)
         (λ (never : is_final (views l.0).log.entries w ≡ false).
-        absurd (false≢true (ap is_some_entry (sym (no_other w l.0 inside (λ of. false≢true (sym never ∙ of)))) ∙ l.3)))
+        absurd (false≢true (ap is_some_entry (sym (no_other w l.0 inside (λ quiet of. false≢true (sym never ∙ of)))) ∙ l.3)))
         (cases_Bool (is_final (views l.0).log.entries w)))
         (entries_cases l.0 inside)
 

@@ -38,7 +38,7 @@ module _ (o : Opening) (mem : Memory) (views : Views) (log : List Entry) (decide
 
     recovered_same : recovered image o.lanes w ≡ slice_index image w
     recovered_same = recovered_unentered image o.lanes w (slice_index image w)
-        (unentered_word image o.lanes w (λ j low. no_other o mem views log decided x image survives whole w j low (λ of. nobody_writes j (entered_writes o mem views log decided x j w low (inr behind) of))))
+        (unentered_word image o.lanes w (λ j low. no_other o mem views log decided x image survives whole w j low (λ still of. nobody_writes j (entered_writes o mem views log decided x j w low (inr behind) still of))))
         (λ k slot u low small valid covering. absurd (nobody_writes k (slot_writes o mem views log decided x image survives whole k slot w u low small valid covering)))
         (λ none. refl)
 

@@ -25,6 +25,7 @@ use Rattle.pm_world.specs.Memory.{Memory}
 use Rattle.pm_world.specs.Opening.{IsLivingWord, Opening}
 use Rattle.pm_world.specs.Records.{IsRecordAt, generation_of, covers, is_recorded, is_drained_slot, is_logged, spelled, records_generation, used_slots}
 use Rattle.pm_world.specs.World.{Views, World}
+use Rattle.pm_world.proofs.Plain.{redoing_still}
 use Rattle.pm_world.proofs.CrashLogs.{ChangeFits, RecordOf, SealIs, entered_front, recorded_from, unrecorded_unlogged, whole_word, GenerationIs}
 use Rattle.pm_world.proofs.CrashSpellings.{undo_from, undo_of-spelled, valid_from, valid_parts, covers_from, covers_back, old_from}
 use Rattle.pm_world.proofs.CrashEntries.{generation_is}
@@ -138,7 +139,7 @@ module _ (o : Opening) (mem : Memory) (views : Views) (log : List Entry) (decide
         (λ (none : is_recorded (views j).log.records w ≡ false). none) (cases_Bool (is_recorded (views j).log.records w))))
         (false_from_ne_true (is_redone (views j) w) (λ redone.
         let t = and_parts (is_redoing (views j).log.phase) (is_entered (views j).log.entries w) redone in
-        let same : j ≡ k = one_writer o mem j k w x.sound (entered_writes o mem views log decided x j w j_inside (outside_areas w heap) t.1) writes in
+        let same : j ≡ k = one_writer o mem j k w x.sound (entered_writes o mem views log decided x j w j_inside (outside_areas w heap) (redoing_still (views j).log.phase t.0) t.1) writes in
         false≢true (sym early ∙ subst (λ i. is_redoing (views i).log.phase ≡ true) same t.0)))));
   }
 

@@ -23,9 +23,10 @@ use Rattle.pm_world.specs.History.{Entry, Flies, settled}
 use Rattle.pm_world.specs.Memory.{Memory}
 use Rattle.pm_world.specs.Memory.Location.{PoolWord}
 use Rattle.pm_world.specs.Opening.{Opening}
-use Rattle.pm_world.specs.Entries.{is_entered, is_redone, seal_in, AgreeBeside, is_or_entered}
+use Rattle.pm_world.specs.Entries.{is_entered, is_redone, seal_in, AgreeBeside, is_or_entered, EntersAlone, IsGrowing}
 use Rattle.pm_world.specs.Records.{is_recorded, is_drained_slot, is_logged, records_generation}
 use Rattle.pm_world.specs.World.{Views, World}
+use Rattle.pm_record.specs.declared.redo.Op.TheVariants.{Set}
 use Rattle.pm_world.proofs.CrashLogs.{ChangeFits, change_fits, ChangeLies, InArea, change_lies, slot_part, entry_part, entered_front, entry_of_word, whole_word, RecordOf, record_of, recorded_word, logged_recorded, drained_slot, SealIs}
 use Rattle.pm_world.proofs.Exclusion.{WritesUnder, writes_under, one_writer}
 use Rattle.pm_world.proofs.TakenBits.{IsOfWord, left_beside, left_small}
@@ -100,13 +101,15 @@ module _ (o : Opening) (mem : Memory) (views : Views) (log : List Entry) (decide
   logs_behind k w inside (inr redone) = written_behind k w inside redone.1
 
   -- an entry of a word outside of the areas is of one that the lane may write
-  pub entered_writes : (k w : ℕ) → k < o.lanes → (w < 512) ⊎ (512 + 1024 * o.lanes ≤ w) → is_entered (views k).log.entries w ≡ true → WritesUnder o mem k w
-  entered_writes k w inside outside e =
+  pub entered_writes : (k w : ℕ) → k < o.lanes → (w < 512) ⊎ (512 + 1024 * o.lanes ≤ w) → (IsGrowing (views k).log.phase → ⊥) → is_entered (views k).log.entries w ≡ true → WritesUnder o mem k w
+  entered_writes k w inside outside still e =
       let t = entry_of_word (views k).log.entries w e in
       let at = lane_is k inside in
+      let stands = (x.each_lane k inside).entries.each t.place t.held t.at in
       ⊎_elim (λ (written : is_written (views k) t.held.word ≡ true). written_under k w inside (subst (λ u. is_written (views k) u ≡ true) t.of written))
-      (λ own. let here : t.held.word ≡ area_word (views k).lane = own.0 in let is = t.of in absurd (⊎_elim (λ (front : w < 512). omega arith) (λ (back : 512 + 1024 * o.lanes ≤ w). omega arith) outside))
-      ((x.each_lane k inside).entries.each t.place t.held t.at).may.of
+      (λ other. absurd (⊎_elim (λ (own : (t.held.word ≡ area_word (views k).lane) × (stands.op ≡ Set)).
+      let here = own.0 in let is = t.of in ⊎_elim (λ (front : w < 512). omega arith) (λ (back : 512 + 1024 * o.lanes ≤ w). omega arith) outside)
+      (λ (alone : EntersAlone (views k) t.held.word). still alone.1) other)) stands.may.of
 
   lies : (k : ℕ) (c : Change) → k < o.lanes → Contains (views k).changes c → ChangeLies (views k) c
   lies k c inside there = change_lies (views k) c (views k).log.phase refl (fits_of k c inside there)

@@ -12,7 +12,7 @@ use Rattle.pm_view.specs.Log.Phase.{Idle, Sealing, Applying, Retiring}
 use Rattle.pm_view.specs.Rights.{is_written}
 use Rattle.pm_view.specs.View.{View}
 use Rattle.pm_world.specs.Course.{flight, flight_in}
-use Rattle.pm_world.specs.Entries.{HasNone, ends_with, is_entered, is_in_log, is_redoing, seal_in, set_word}
+use Rattle.pm_world.specs.Entries.{HasNone, ends_with, is_entered, is_in_log, is_redoing, seal_in, set_word, IsGrowing}
 use Rattle.pm_world.specs.Fits.{AppliedChange, EndFits, EntriesFit, LaneFits, LogFits, PhaseFits, SealingFits, RedoneWord}
 use Rattle.pm_world.specs.History.{Entry, Flies, settled, is_final, made_final}
 use Rattle.pm_world.specs.Laws.{with_view}
@@ -28,6 +28,7 @@ use Rattle.pm_world.proofs.Exclusion.{writes_under, one_writer}
 use Rattle.pm_world.proofs.Histories.{one_entry}
 use Rattle.pm_world.proofs.Numbers.{number_upto}
 use Rattle.pm_world.proofs.Pairs.{difference-written, entries_masked, entries_sealed, in_log_written}
+use Rattle.pm_world.proofs.Plain.{flying_still, plain_still}
 use Rattle.pm_world.proofs.Replays.{made_final-other, replayed-added, replayed-same}
 use Rattle.pm_world.proofs.Slots.{all_stale}
 use Rattle.pm_world.proofs.Heaps.{all_same}
@@ -44,10 +45,10 @@ module _ (o : Opening) (old : Memory) (views : Views) (log : List Entry) (decide
   mine : LaneFits o old (settled o log decided) (Flies log decided k) k v
   mine = own o old views log decided world k inside v is
 
-  written : (w : ℕ) → is_final (difference_of v) w ≡ true → IsTrue (is_written v w)
-  written w final = difference-written (settled o log decided) v (records_generation v.log.phase v) w mine.log mine.entries final
-
   module _ (m : ℕ) (fl : Flies log decided k m (difference_of v)) (flying : flight v ≡ Some m) where
+    written : (w : ℕ) → is_final (difference_of v) w ≡ true → IsTrue (is_written v w)
+    written w final = difference-written (settled o log decided) v (records_generation v.log.phase v) w mine.log (plain_still v mine.entries (flying_still v.log.phase m v.number flying)) final
+
     abbrev decided' : ℕ → Bool
     decided' n = decided n || eqb m n
 
@@ -168,7 +169,7 @@ module _ (o : Opening) (old : Memory) (views : Views) (log : List Entry) (decide
         })
 
     sealed_entries : EntriesFit view'
-    sealed_entries = entries_sealed v view' refl refl (λ w low high. refl) (λ w own_word. own_word) (mine.entries.seal ∙ ap (λ p. seal_in p v) sealing) tt mine.entries
+    sealed_entries = entries_sealed v view' refl refl (λ w low high. refl) (λ w own_word. own_word) (λ i f at free. absurd (subst IsGrowing sealing free.1)) (mine.entries.seal ∙ ap (λ p. seal_in p v) sealing) tt mine.entries
 
     sealed_phase : (flies' : ℕ → List Final → Type 0) → PhaseFits flies' view' (Applying 0)
     sealed_phase flies' = record {

@@ -15,7 +15,7 @@ use Rattle.pm_view.specs.Rights.{is_written}
 use Rattle.pm_view.specs.View.{View}
 use Rattle.pm_image.specs.Logs.{undo_slot}
 use Rattle.pm_world.specs.Course.{flight, flight_in}
-use Rattle.pm_world.specs.Entries.{HasNone, applied_in, is_entered, is_in_log, is_redoing, is_redone, seal_in}
+use Rattle.pm_world.specs.Entries.{HasNone, applied_in, is_entered, is_in_log, is_redoing, is_redone, seal_in, IsGrowing}
 use Rattle.pm_world.specs.Fits.{EndFits, EntriesFit, LaneFits, LogFits, OpenChange, PhaseFits, RedoneWord, ShowsHold}
 use Rattle.pm_world.specs.History.{Entry, Flies, settled, made_final}
 use Rattle.pm_world.specs.Laws.{with_view}
@@ -24,6 +24,7 @@ use Rattle.pm_world.specs.Memory.Location.{PoolWord, LockWord, CommitCounter, St
 use Rattle.pm_world.specs.Opening.{IsLivingWord, Opening}
 use Rattle.pm_world.specs.Records.{generation_of, is_recorded, is_logged_from, is_logged, records_generation, used_slots, difference_of}
 use Rattle.pm_world.specs.World.{Views, World, IsHold}
+use Rattle.pm_world.proofs.Plain.{plain_still}
 use Rattle.pm_world.proofs.Apart.{heap_outside}
 use Rattle.pm_world.proofs.Frame.{lane_kept, coursed_fits}
 use Rattle.pm_world.proofs.Pairs.{entered_written, no_entries, none_redone}
@@ -146,7 +147,7 @@ module _ (o : Opening) (old : Memory) (views : Views) (log : List Entry) (decide
   applied_word : v.log.phase ≡ Clearing → (w : ℕ) → IsLivingWord o w → is_entered v.log.entries w ≡ true → old (PoolWord w) ≡ settled o log decided w
   applied_word clearing w heap listed =
       let out : is_in_area v.lane w ≡ false = ap (λ n. is_in_area n w) mine.lane.lane ∙ heap_outside o.lanes o.zones k w inside heap.heap in
-      let word = mine.redone w (and_from (is_redoing v.log.phase) (is_entered v.log.entries w) (ap is_redoing clearing) listed) (entered_written v w mine.entries listed out) in
+      let word = mine.redone w (and_from (is_redoing v.log.phase) (is_entered v.log.entries w) (ap is_redoing clearing) listed) (entered_written v w (plain_still v mine.entries (λ grows. subst IsGrowing clearing grows)) listed out) in
       let all : drop (applied_in v.log.phase v) v.log.entries ≡ [] = ap (λ p. drop (applied_in p v) v.log.entries) clearing ∙ drop_all (length v.log.entries) v.log.entries (le_refl (length v.log.entries)) in
       sym (ap (λ fs. made_final fs w (old (PoolWord w))) all ∙ no_final w (old (PoolWord w))) ∙ word.rest
 

@@ -32,6 +32,7 @@ pub mod OneLane
 pub mod OpeningLaw
 pub mod Pairs
 pub mod Parts
+pub mod Plain
 pub mod Recoursed
 pub mod Relocked
 pub mod Reheld

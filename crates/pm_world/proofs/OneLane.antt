@@ -1,5 +1,5 @@
 -- Lane 0 alone, whose next entries set a bit of word 1544 and clear others of it: it may do so. For the tests.
-use Rattle.std.proofs.Common.{◌≡◌, ◌^◌, ◌<◌, [], ◌∷◌, length, length-set, slice_index, slice_set, bit_or, get_or-set_same, None, false, true, refl, sym, subst, arith}
+use Rattle.std.proofs.Common.{◌≡◌, ◌^◌, ◌<◌, [], ◌∷◌, length, length-set, slice_index, slice_set, bit_or, get_or-set_same, None, false, true, refl, sym, subst, arith, inl}
 use Rattle.std.proofs.lemmas.Nat.{or_lt}
 use Rattle.pm_memory.specs.Solo.{Sees, Solo, opened, view_of}
 use Rattle.pm_memory.proofs.Unlocked.{sees_opened}
@@ -49,14 +49,14 @@ module _ (m : Solo) (is : m ≡ opened m.words None) (size : length m.words ≡ 
     (
       sees,
       (
-        record { inside = omega (arith, size); room = omega arith; fits = (true, refl); known = record { known = (0, omega arith, refl); small = omega (arith, seven) }; word = omega arith },
+        record { inside = omega (arith, size); room = omega arith; fits = (true, refl); known = inl (record { known = (0, omega arith, refl); small = omega (arith, seven) }); word = omega arith },
         λ alone. refl,
         (
           record {
             inside = let same = length-set m.words 1544 (bit_or (slice_index m.words 1544) 8) in omega (arith, same, size);
             room = omega arith;
             fits = (false, refl);
-            known = record { known = (0, omega arith, refl); small = set_small };
+            known = inl (record { known = (0, omega arith, refl); small = set_small });
             word = omega arith;
           },
           λ alone. refl,

@@ -134,7 +134,7 @@ module _ (o : Opening) (old : Memory) (views : Views) (log : List Entry) (decide
       (coursed_fits o old (settled o log decided) (Flies log decided k) k v changes calls v.log seen call v.number v.entries actions mine
       (subst (LogFits (settled o log decided) v') (sym (generation_again v changes calls seen call actions v.log.phase))
       (log_again (settled o log decided) v changes calls v.log.phase seen call v.number v.entries actions (records_generation v.log.phase v) refl mine.log))
-      (entries_again v v' refl refl (λ w low high. refl) (λ w own_word. own_word) refl refl mine.entries)
+      (entries_again v v' refl refl (λ w low high. refl) (λ w own_word. own_word) (λ i f at free. inr free) refl refl mine.entries)
       (λ w again own_word. redone_again old (settled o log decided) v v' w refl (mine.redone w again own_word))
       (phase_again (Flies log decided k) v changes calls seen call actions leaves v.log.phase mine.phase)
       (let few = leaves.fewer in let room = mine.room in omega arith) within)

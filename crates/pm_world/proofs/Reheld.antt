@@ -24,7 +24,7 @@ use Rattle.pm_world.proofs.Pairs.{entries_again, in_log_before, or_written, redo
 use Rattle.pm_world.proofs.Recoursed.{open_again, used_again}
 use Rattle.pm_world.proofs.Relocked.{generation_same}
 use Rattle.pm_world.proofs.Worlds.{at_stop_kept, hold_kept, quiet, room_kept, stop_kept, unlogged_before}
-use Rattle.pm_world.specs.Entries.{is_or_entered}
+use Rattle.pm_world.specs.Entries.{IsGrowing, is_or_entered}
 use Rattle.pm_world.proofs.HeapWords.{words_described, heap_same, runs_same}
 
 -- the view with other pictures of the occupancy words, blocks, zones, known words and steps seen
@@ -55,35 +55,35 @@ module _ (v : View) (known run_words zone_words : List ℕ) (reserved freed : Li
   abbrev KeepsOrs : Type 0
   KeepsOrs = (w : ℕ) → is_or_entered v.log.entries w ≡ true → Contains v.known w → Contains known w
 
-  phase_reheld : KeepsChanges → KeepsOrs → (flies : ℕ → List Final → Type 0) (phase : Phase) → PhaseFits flies v phase → PhaseFits flies v' phase
-  phase_reheld still ors flies Idle fits = record { no_records = fits.no_records; drained = fits.drained }
-  phase_reheld still ors flies (Open slot pair) fits =
+  phase_reheld : KeepsChanges → (flies : ℕ → List Final → Type 0) (phase : Phase) → ((IsGrowing phase → ⊥) → KeepsOrs) → PhaseFits flies v phase → PhaseFits flies v' phase
+  phase_reheld still flies Idle ors fits = record { no_records = fits.no_records; drained = fits.drained }
+  phase_reheld still flies (Open slot pair) ors fits =
       record { undrawn = fits.undrawn; short = fits.short; stands = fits.stands; short_pair = fits.short_pair; in_pairs = fits.in_pairs; pair_stands = fits.pair_stands; changes = open_reheld still fits.changes }
-  phase_reheld still ors flies Drawn fits = record { number = fits.number; drawn = fits.drawn; flying = fits.flying; drained = fits.drained }
-  phase_reheld still ors flies Sealing fits = record {
+  phase_reheld still flies Drawn ors fits = record { number = fits.number; drawn = fits.drawn; flying = fits.flying; drained = fits.drained }
+  phase_reheld still flies Sealing ors fits = record {
     number = fits.number;
     drawn = fits.drawn;
     flying = fits.flying;
     changes = sealed_reheld 0 fits.changes;
     whole = record { front = fits.whole.front; are = fits.whole.are; owned = fits.whole.owned };
-    known = λ w or. let t = fits.known w or in (record { known = ors w or t.0.known; small = t.0.small }, t.1);
+    known = λ w or. let t = fits.known w or in (record { known = ors (λ grows. grows) w or t.0.known; small = t.0.small }, t.1);
     below = fits.below;
   }
-  phase_reheld still ors flies (Applying applied) fits = record {
+  phase_reheld still flies (Applying applied) ors fits = record {
     no_records = fits.no_records;
     most = fits.most;
     changes = All-weaker (AppliedChange v applied) (AppliedChange v' applied) (λ c of. record { of = of.of; bits = of.bits; next = of.next }) v.changes fits.changes;
     whole = record { front = fits.whole.front; are = fits.whole.are; owned = fits.whole.owned };
-    known = λ w or. let t = fits.known w or in (record { known = ors w or t.0.known; small = t.0.small }, t.1);
+    known = λ w or. let t = fits.known w or in (record { known = ors (λ grows. grows) w or t.0.known; small = t.0.small }, t.1);
     last = fits.last;
   }
-  phase_reheld still ors flies Clearing fits = record {
+  phase_reheld still flies Clearing ors fits = record {
     no_records = fits.no_records;
     changes = sealed_reheld (length v.log.entries) fits.changes;
     whole = record { front = fits.whole.front; are = fits.whole.are; owned = fits.whole.owned };
-    known = λ w or. let t = fits.known w or in (record { known = ors w or t.0.known; small = t.0.small }, t.1);
+    known = λ w or. let t = fits.known w or in (record { known = ors (λ grows. grows) w or t.0.known; small = t.0.small }, t.1);
   }
-  phase_reheld still ors flies Retiring fits = record {
+  phase_reheld still flies Retiring ors fits = record {
     changes = All-weaker (RetiringChange v) (RetiringChange v') (λ c of. record { whole = of.whole; of = of.of; before = of.before }) v.changes fits.changes;
     ends = ends_reheld flies v.number fits.ends;
   }
@@ -107,9 +107,9 @@ module _ (v : View) (known run_words zone_words : List ℕ) (reserved freed : Li
       once = f.once;
       stale = λ slot u low. f.stale slot u (subst (λ n. n ≤ slot) (used_again v.log.phase v v' refl) low);
     });
-    entries = entries_again v v' refl refl (λ w low high. refl) (λ w own_word. own_word) refl refl fits.entries;
+    entries = entries_again v v' refl refl (λ w low high. refl) (λ w own_word. own_word) (λ i f at free. inr free) refl refl fits.entries;
     redone = λ w again own_word. redone_moved w (redone_again old settled v v' w refl (fits.redone w again own_word));
-    phase = phase_reheld still (λ w or there. kept w (or_written v w fits.entries or) there) flies v.log.phase fits.phase;
+    phase = phase_reheld still flies v.log.phase (λ quiet w or there. kept w (or_written v w fits.entries quiet or) there) fits.phase;
     blocks = now.blocks;
     first_generation = fits.first_generation;
     last_generation = fits.last_generation;

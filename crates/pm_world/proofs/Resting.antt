@@ -1,5 +1,5 @@
 -- A lane that rests, with nothing undrained and no call: one alone, as it is seen before its first call; and what it reserved it may give back.
-use Rattle.std.proofs.Common.{◌≡◌, ℕ, ◌/◌, ◌^◌, ◌<◌, true, false, All, List, [], ◌∷◌, ◌++◌, length, Option, refl, sym, ap, ◌∙◌, subst}
+use Rattle.std.proofs.Common.{◌≡◌, ℕ, ◌/◌, ◌^◌, ◌<◌, true, false, All, List, [], ◌∷◌, ◌++◌, length, Option, refl, sym, ap, ◌∙◌, subst, inl}
 use Rattle.std.specs.Int.{bit_at}
 use Rattle.std.specs.List.{list_any}
 use Rattle.std.proofs.lemmas.Bool.{or_left, or_right}
@@ -74,7 +74,7 @@ module _ (v : View) where
   may_vacate_at_rest at bits there small own whole drained log = record {
     there = there;
     small = small;
-    own = λ bit set. exchanged_has v at bit (low_bit bits bit small set) (own bit set);
+    own = λ bit set. inl (exchanged_has v at bit (low_bit bits bit small set) (own bit set));
     whole = whole;
     drained = subst (All (λ (c : Change). covers v.lanes v.words at bits c.word ≡ false)) (sym drained) (All-nil (λ (c : Change). covers v.lanes v.words at bits c.word ≡ false));
     unlogged = λ w covered. (ap (λ (l : Log). is_recorded l.records w) log, ap (λ (l : Log). is_entered l.entries w) log);

@@ -1,5 +1,5 @@
 -- How sequences are put together.
-use Rattle.std.proofs.Common.{true, eqb, eq-eqb, Contains, ◌≡◌, ◌+◌, ◌-◌, ℕ, zero, suc, ◌<◌, ◌≤◌, ⊎_elim, List, [], ◌∷◌, ◌++◌, take, length-append, Result, Ok, Err, refl, sym, ap, ◌∙◌, subst, T, IsErr, slice_index, arith, rules}
+use Rattle.std.proofs.Common.{true, eqb, eq-eqb, Contains, ◌≡◌, ◌+◌, ◌-◌, ℕ, zero, suc, ◌<◌, ◌≤◌, ⊎_elim, List, [], ◌∷◌, ◌++◌, take, length-append, Result, Ok, Err, refl, sym, ap, ◌∙◌, subst, T, IsErr, slice_index, arith, rules, ◌⊎◌}
 use Rattle.std.proofs.Math.Nat.{eq-or-lt_of_le}
 use Rattle.std.specs.List.{list_any}
 use Rattle.std.proofs.lemmas.Bool.{or_right}
@@ -17,8 +17,10 @@ use Rattle.pm_view.specs.Views.{after, after_all}
 use Rattle.pm_record.specs.declared.redo.Op.TheVariants as op
 use Rattle.pm_view.specs.Area.{is_in_area}
 use Rattle.pm_view.specs.Held.{is_known}
-use Rattle.pm_world.specs.Lawful.{Allowed, MayChange}
+use Rattle.pm_world.specs.Lawful.{Allowed, MayChange, ChangesAlone}
 use Rattle.pm_world.specs.Sequences.{Sequence, nothing, one, in_turn, counted, by_view, by_lane, with_word, finds_in, looks, Ready, IsReady, Runs}
+use Rattle.pm_world.specs.Entries.{IsKnownWord}
+use Rattle.pm_view.specs.Founds.{IsAlone}
 
 -- the first of steps that may be made may be made, and the rest from where they end
 pub ready_left : (v : View) (xs ys : List Step) → Ready v (xs ++ ys) → Ready v xs
@@ -116,6 +118,10 @@ allowed_one old s r = (r.0, (r.1.0, r.1.1.0))
 listed_known : (v : View) (w : ℕ) → Contains v.known w → is_known v w ≡ true
 listed_known v w there = or_right (is_in_area v.lane w) (list_any (λ other. eqb other w) v.known) (list_any_at (λ other. eqb other w) v.known there.0 w there.1 (ap (λ other. eqb other w) there.2 ∙ eq-eqb w w refl))
 
+-- so what is found there is what the view has, or it is where the lane is alone
+found_known : (v : View) (w found : ℕ) → IsKnownWord v w ⊎ ChangesAlone v w → (is_known v w ≡ true → found ≡ slice_index v.words w) → (IsAlone v → found ≡ slice_index v.words w) → found ≡ slice_index v.words w
+found_known v w found may known alone = ⊎_elim (λ (here : IsKnownWord v w). known (listed_known v w here.known)) (λ (changes : ChangesAlone v w). alone changes.alone) may
+
 pub may_or : (old : View → Type 0) (w bits : ℕ) → IsReady old (finds_in w (Or w bits)) → (v : View) × (old v × MayChange v op.Or w bits)
 unfolding IsReady finds_in Ready
 may_or old w bits r = (r.0, (r.1.0, r.1.1.0))
@@ -127,12 +133,12 @@ may_and old w bits r = (r.0, (r.1.0, r.1.1.0))
 pub ran_or : (old new : View → Type 0) (w bits found : ℕ) → MadeOrStopped old new (Or w bits) (Ok found) → Runs {T = Unit {0}} old new (finds_in w (Or w bits)) (Ok tt)
 unfolding Runs finds_in Ready after_all
 ran_or old new w bits found made v seen r =
-    let t = made v seen in subst (λ x. new (after v (Or w bits x))) (t.1 (listed_known v w r.0.known.known)) t.0
+    let t = made v seen in subst (λ x. new (after v (Or w bits x))) (found_known v w found r.0.known t.1 t.3) t.0
 
 pub ran_and : (old new : View → Type 0) (w bits found : ℕ) → MadeOrStopped old new (And w bits) (Ok found) → Runs {T = Unit {0}} old new (finds_in w (And w bits)) (Ok tt)
 unfolding Runs finds_in Ready after_all
 ran_and old new w bits found made v seen r =
-    let t = made v seen in subst (λ x. new (after v (And w bits x))) (t.1 (listed_known v w r.0.known.known)) t.0
+    let t = made v seen in subst (λ x. new (after v (And w bits x))) (found_known v w found r.0.known t.1 t.3) t.0
 
 pub stopped_in : (old new : View → Type 0) (w : ℕ) (step : ℕ → Step) (stopped : Stopped) → ((found : ℕ) → T (is_counted (step found))) → MadeOrStopped old new step (Err stopped) → Runs {T = Unit {0}} old new (finds_in w step) (Err stopped)
 unfolding Runs finds_in

@@ -1,6 +1,6 @@
 -- An OR and an AND of a word keep the world: the next entry sets or clears these bits.
-use Rattle.std.proofs.Common.{◌≡◌, ℕ, ◌+◌, ◌-◌, ◌<◌, ⊎_elim, IsTrue, Bool, List, length, true, eqb, bit_and, bit_or, refl, sym, ap, ◌∙◌, subst, arith, eq-eqb}
-use Rattle.std.proofs.lemmas.Bool.{and_from, cond-true, le-leb, lt-ltb}
+use Rattle.std.proofs.Common.{◌≡◌, ℕ, ◌+◌, ◌-◌, ◌<◌, ⊎_elim, IsTrue, Bool, List, length, true, eqb, bit_and, bit_or, refl, sym, ap, ◌∙◌, subst, arith, eq-eqb, ◌⊎◌}
+use Rattle.std.proofs.lemmas.Bool.{and_from, cond-true, le-leb, lt-ltb, false≢true}
 use Rattle.pm_view.specs.Area.{Part, area_word, is_in_area, part_of}
 use Rattle.pm_view.specs.Area.Part.{GenerationWord, SealWord, EntryWord, SlotWord, OtherWord}
 use Rattle.pm_view.specs.Changes.{and_change, or_change}
@@ -12,12 +12,16 @@ use Rattle.pm_view.specs.View.{View}
 use Rattle.pm_view.specs.Views.{changed}
 use Rattle.pm_record.specs.declared.redo.Op.{Op}
 use Rattle.pm_record.specs.declared.redo.Op.TheVariants as op
-use Rattle.pm_world.specs.Entries.{IsEntryAt, ends_with, final_by}
+use Rattle.pm_world.specs.Entries.{IsEntryAt, ends_with, final_by, IsGrowing, IsKnownWord}
 use Rattle.pm_world.specs.Fits.{PhaseFits}
 use Rattle.pm_world.specs.Records.{generation_of}
 use Rattle.pm_world.specs.Laws.{Keeps, with_view}
-use Rattle.pm_world.specs.Lawful.{BitsFit}
-use Rattle.pm_world.specs.World.{World}
+use Rattle.pm_world.specs.Lawful.{BitsFit, ChangesAlone}
+use Rattle.pm_world.specs.World.{World, Views}
+use Rattle.pm_world.specs.Opening.{Opening}
+use Rattle.pm_world.specs.Memory.{Memory}
+use Rattle.pm_world.specs.History.{Entry}
+use Rattle.pm_world.proofs.Plain.{plain_still}
 use Rattle.pm_world.proofs.Frame.{in_phase}
 use Rattle.pm_world.proofs.StoreEntry.{clears_bits, next_entry, sets_bits}
 use Rattle.pm_world.proofs.StorePair.{final_word}
@@ -67,6 +71,13 @@ changes_written flies v op w bits fits t =
     absurd (no_generation v.lane w t.outside (sym (final_word op w bits) ∙ ap (λ (f : Final). f.word) s.0)))
     (next_entry v t.applied (changing op w bits t.ors) (subst (PhaseFits flies v) t.phase fits) t.next)
 
+-- in a world the lane knows the word: its log has no entry of the heap
+changes_known : (o : Opening) (mem : Memory) (views : Views) (log : List Entry) (decided : ℕ → Bool) → World o mem views log decided → (k : ℕ) → k < o.lanes → (v : View) → views k ≡ v → (op : Op) (w bits : ℕ)
+    → ChangesNext v op w bits → IsKnownWord v w ⊎ ChangesAlone v w → IsKnownWord v w
+changes_known o mem views log decided world k inside v is op w bits t may =
+    ⊎_elim (λ (known : IsKnownWord v w). known)
+    (λ (alone : ChangesAlone v w). absurd (false≢true (sym (plain_still v (own o mem views log decided world k inside v is).entries (λ grows. subst IsGrowing t.phase grows)) ∙ alone.heap))) may
+
 -- the log goes on in its phase
 changed_log : (v : View) (applied : ℕ) → v.log.phase ≡ Applying applied → log_changed v.log.phase v.log ≡ in_phase (Applying (applied + 1)) v.log
 changed_log v applied is = ap (λ p. log_changed p v.log) is
@@ -75,18 +86,20 @@ pub sets : (w bits found : ℕ) → Keeps (Or w bits found)
 sets w bits found o old new views log decided k v world inside is lawful moves =
     let may = lawful.allowed in
     let t = changes_next v op.Or w bits v.log.phase refl (part_of v.lane w) refl may.fits in
+    let knows = changes_known o old views log decided world k inside v is op.Or w bits t may.known in
     let fits = own o old views log decided world k inside v is in (
       subst (λ lg. World o new (with_view views k (changed v w (bit_or found bits) (or_change w bits found) lg)) log decided) (sym (changed_log v t.applied t.phase))
-          (sets_bits o old views log decided world k inside v is new w bits found moves.1 may.inside (lawful.due refl) may.room may.known may.word (no_generation v.lane w t.outside) t.applied t.phase moves.0 t.ors t.next),
-      λ known. moves.1 ∙ fits.picture.known w may.known.known,
+          (sets_bits o old views log decided world k inside v is new w bits found moves.1 may.inside (lawful.due refl) may.room knows may.word (no_generation v.lane w t.outside) t.applied t.phase moves.0 t.ors t.next),
+      λ known. moves.1 ∙ fits.picture.known w knows.known,
     )
 
 pub clears : (w bits found : ℕ) → Keeps (And w bits found)
 clears w bits found o old new views log decided k v world inside is lawful moves =
     let may = lawful.allowed in
     let t = changes_next v op.And w bits v.log.phase refl (part_of v.lane w) refl may.fits in
+    let knows = changes_known o old views log decided world k inside v is op.And w bits t may.known in
     let fits = own o old views log decided world k inside v is in (
       subst (λ lg. World o new (with_view views k (changed v w (bit_and found bits) (and_change w bits found) lg)) log decided) (sym (changed_log v t.applied t.phase))
-          (clears_bits o old views log decided world k inside v is new w bits found moves.1 may.inside (lawful.due refl) may.room may.known may.word (no_generation v.lane w t.outside) t.applied t.phase moves.0 t.ors t.next),
-      λ known. moves.1 ∙ fits.picture.known w may.known.known,
+          (clears_bits o old views log decided world k inside v is new w bits found moves.1 may.inside (lawful.due refl) may.room knows may.word (no_generation v.lane w t.outside) t.applied t.phase moves.0 t.ors t.next),
+      λ known. moves.1 ∙ fits.picture.known w knows.known,
     )

@@ -13,17 +13,19 @@ use Rattle.pm_view.specs.Log.Phase.{Idle, Drawn}
 use Rattle.pm_view.specs.Rights.{is_written}
 use Rattle.pm_view.specs.Steps.Step.{Draw, NumberSeen}
 use Rattle.pm_view.specs.View.{View, Numbered}
-use Rattle.pm_world.specs.Course.{flight, flight_in, entry_of, is_empty}
+use Rattle.pm_world.specs.Course.{flight, flight_in, entry_of, is_empty, decided_after}
 use Rattle.pm_world.specs.Entries.{HasNone, is_redoing, seal_in}
 use Rattle.pm_world.specs.Fits.{LaneFits, LogFits, PhaseFits, ShowsHold}
 use Rattle.pm_world.specs.History.{Entry, Flies, settled, is_final, AreNumbered, entries_by}
-use Rattle.pm_world.specs.Laws.{Keeps, with_view}
+use Rattle.pm_world.specs.Laws.{with_view, DrawsPlainly, KeepsFrom}
 use Rattle.pm_world.specs.Lawful.{MayDraw, generation_limit}
 use Rattle.pm_world.specs.Memory.{Memory, Becomes}
 use Rattle.pm_world.specs.Memory.Location.{PoolWord, LockWord, CommitCounter, StopWord}
 use Rattle.pm_world.specs.Opening.{Opening, Guards}
 use Rattle.pm_world.specs.Records.{generation_of, finals_of, is_recorded, pool_entries, records_generation, used_slots, difference_of}
 use Rattle.pm_world.specs.World.{Views, World, EntryFits, is_low, may_draw, may_draw_count}
+use Rattle.pm_view.specs.Views.{after, changes_heap, freed_by, unallocated}
+use Rattle.pm_world.proofs.Plain.{flying_still, plain_still}
 use Rattle.pm_world.proofs.Apart.{outside_behind}
 use Rattle.pm_world.proofs.Differences.{difference-words, difference-unentered, pool_entries-final}
 use Rattle.pm_world.proofs.Draws.{draws_fewer}
@@ -32,7 +34,7 @@ use Rattle.pm_world.proofs.Frame.{coursed, in_phase, lane_kept, log_again, cours
 use Rattle.pm_world.proofs.Locations.{plain_counter, pool-counter, lock-counter, stop-counter}
 use Rattle.pm_world.proofs.Longer.{replayed-skip, empty-other, numbered-more, entries_by-more}
 use Rattle.pm_world.proofs.Numbers.{number_upto, own_below}
-use Rattle.pm_world.proofs.Pairs.{difference-written, entries_sealed, in_log_before, none_redone}
+use Rattle.pm_world.proofs.Pairs.{difference-written, entries_sealed, in_log_before, none_redone, plain_entry}
 use Rattle.pm_world.proofs.Replays.{made_final-other, replayed-same}
 use Rattle.pm_world.proofs.Heaps.{beside_same}
 use Rattle.pm_world.proofs.Worlds.{heap_here, own, own_numbers, each_lane', unlogged_here, unlogged_else, unlogged_before, hold_kept, entry_kept, at_stop_kept, stop_kept}
@@ -52,7 +54,7 @@ some_finals words from zero rest more some = absurd (omega arith)
 some_finals words from (suc n) rest more some = refl
 
 module _ (o : Opening) (old : Memory) (views : Views) (log : List Entry) (decided : ℕ → Bool) (world : World o old views log decided) (k : ℕ) (inside : k < o.lanes) (v : View) (is : views k ≡ v)
-    (new : Memory) (n : ℕ) (moves : Becomes CommitCounter n old new) (next : n ≡ old CommitCounter + 1) (may : MayDraw v) where
+    (new : Memory) (n : ℕ) (moves : Becomes CommitCounter n old new) (next : n ≡ old CommitCounter + 1) (may : MayDraw v) (plain : changes_heap v ≡ false) where
   abbrev S : ℕ → ℕ
   S = settled o log decided
 
@@ -95,7 +97,14 @@ module _ (o : Opening) (old : Memory) (views : Views) (log : List Entry) (decide
 
   -- a word of the call's difference is one that the lane writes
   written : (w : ℕ) → is_final (difference_of v) w ≡ true → IsTrue (is_written v w)
-  written w final = difference-written S v (generation_of v) w open_log mine.entries final
+  written w final = difference-written S v (generation_of v) w open_log plain final
+
+  -- a lane with a call in flight has no entry of the heap
+  flier_plain : (j m : ℕ) → j < o.lanes → Flies log decided j m (difference_of (views j)) → changes_heap (views j) ≡ false
+  flier_plain j m low fl =
+      let flies : flight (views fl.entry.lane) ≡ Some fl.entry.number = (world.each_entry fl.entry fl.there).in_flight (ap decided fl.has_number ∙ fl.undecided) in
+      let here : flight (views j) ≡ Some fl.entry.number = ap (λ i. flight (views i)) (sym fl.has_lane) ∙ flies in
+      plain_still (views j) (world.each_lane j low).entries (flying_still (views j).log.phase fl.entry.number (views j).number here)
 
   others_fly : (j : ℕ) → j < o.lanes → j ≢ k → (m : ℕ) → Flies log decided j m (difference_of (views j)) → Flies log' decided' j m (difference_of (views j))
   others_fly j low other m fl =
@@ -109,7 +118,7 @@ module _ (o : Opening) (old : Memory) (views : Views) (log : List Entry) (decide
         last = λ later w there after final.
             ⊎_elim (λ (before : Contains log later). fl.last later w before after final)
             (λ (this : entry_of v n ≡ later). false_from_ne_true (is_final later.difference w) (λ again. other (one_writer o old j k w world.sound
-            (writes_under o old j (views j) w fits.locks (difference-written S (views j) (records_generation (views j).log.phase (views j)) w fits.log fits.entries final))
+            (writes_under o old j (views j) w fits.locks (difference-written S (views j) (records_generation (views j).log.phase (views j)) w fits.log (flier_plain j m low fl) final))
             (writes_under o old k v w mine.locks (written w (ap (λ (e : Entry). is_final e.difference w) this ∙ again))))))
             (Contains-push_cases log (entry_of v n) later there);
       }
@@ -160,7 +169,7 @@ module _ (o : Opening) (old : Memory) (views : Views) (log : List Entry) (decide
             (keeps k v' (Flies log' decided' k) (Flies log' decided' k) (λ m flying. flying)
             (coursed_fits o old S (Flies log' decided' k) k v v.changes v.calls (in_phase phase v.log) v.seen v.call (Some n) (v.entries ++ record { number = n; call = v.call } ∷ []) v.actions mine
             (subst (LogFits S v') (sym (generation v')) (log_again S v v.changes v.calls phase v.seen v.call (Some n) (v.entries ++ record { number = n; call = v.call } ∷ []) v.actions (generation_of v) (used v ∙ sym (ap (λ p. used_slots p v) may.is_open)) open_log))
-            (entries_sealed v v' refl refl (λ w low high. refl) (λ w own_word. own_word) (mine.entries.seal ∙ (ap (λ p. seal_in p v) may.is_open ∙ seal)) none mine.entries)
+            (entries_sealed v v' refl refl (λ w low high. refl) (λ w own_word. own_word) (λ i f at free. inl (plain_entry v i f plain at free)) (mine.entries.seal ∙ (ap (λ p. seal_in p v) may.is_open ∙ seal)) none mine.entries)
             (λ w again. absurd (false≢true (sym (none_redone v' w quiet) ∙ again)))
             fits mine.room mine.within));
         each_word = λ w heap all. same (PoolWord w) (pool-counter w) ∙ (world.each_word w heap
@@ -204,13 +213,23 @@ module _ (o : Opening) (old : Memory) (views : Views) (log : List Entry) (decide
   draws_with : (records : List Recorded) (entries : List Final) → v.log.records ≡ records → v.log.entries ≡ entries → World o new (with_view views k (view' (phase_drawn records entries))) log' decided'
   draws_with [] [] e f = draws_to Idle (λ u. refl) (λ u. refl) refl f refl (record { no_records = e; drained = may.drained })
       (λ some. absurd (false≢true (sym some ∙ (ap is_empty (difference-unentered v f) ∙ ap (λ rs. is_empty (flat_map (finals_of v.words) rs)) e))))
-  draws_with [] (g ∷ entries) e f = to_decide (⊎_elim (λ (none : v.log.entries ≡ []). let both : length v.log.entries ≡ length (g ∷ entries) = ap length f in let empty : length v.log.entries ≡ 0 = ap length none in absurd (omega arith)) some_entries may.entered)
+  draws_with [] (g ∷ entries) e f = to_decide (⊎_elim (λ (none : v.log.entries ≡ []). let both : length v.log.entries ≡ length (g ∷ entries) = ap length f in let empty : length v.log.entries ≡ 0 = ap length none in absurd (omega arith)) (λ some. ⊎_elim some_entries (λ (heap : IsTrue (changes_heap v)). absurd (false≢true (sym plain ∙ heap))) some) may.entered)
   draws_with (r ∷ records) entries e f =
       to_decide (ap (λ rs. is_empty (flat_map (finals_of v.words) rs ++ pool_entries v)) e
       ∙ some_finals v.words r.word (length r.old) (flat_map (finals_of v.words) records) (pool_entries v) (open_log.each 0 r (ap (λ rs. slice_get rs 0) e)).some)
 
   drawn_log : log_drawn v.log.phase v.log ≡ in_phase (phase_drawn v.log.records v.log.entries) v.log
   drawn_log = ap (λ p. log_drawn p v.log) may.is_open
+
+  -- the view after the draw of such a call
+  drawn_view : after v (Draw n) ≡ record v { log = log_drawn v.log.phase v.log; number = Some n; entries = v.entries ++ record { number = n; call = v.call } ∷ [] }
+  drawn_view = λ i. record v {
+    log = log_drawn v.log.phase v.log;
+    number = Some n;
+    entries = v.entries ++ record { number = n; call = v.call } ∷ [];
+    reserved = cond (plain i) (unallocated v) v.reserved;
+    freed = cond (plain i) (v.freed ++ flat_map (freed_by v) v.log.entries) v.freed;
+  }
 
   drawn_world : World o new (with_view views k (record v { log = log_drawn v.log.phase v.log; number = Some n; entries = v.entries ++ record { number = n; call = v.call } ∷ [] })) log' decided'
   drawn_world = subst (λ l. World o new (with_view views k (record v { log = l; number = Some n; entries = v.entries ++ record { number = n; call = v.call } ∷ [] })) log' decided') (sym drawn_log) (draws_with v.log.records v.log.entries refl refl)
@@ -219,6 +238,9 @@ module _ (o : Opening) (old : Memory) (views : Views) (log : List Entry) (decide
   own_drawn = let l = last in All-weaker (λ (e : Numbered). e.number < 1 + length log) (λ (e : Numbered). e.number < n) (λ e low. omega arith) v.entries
       (subst (All (λ (e : Numbered). e.number < 1 + length log)) (own_numbers o old views log decided world k inside v is) (own_below 1 k log world.numbered))
 
-pub draws : (n : ℕ) → Keeps (Draw n)
-draws n o old new views log decided k v world inside is lawful moves =
-    (drawn_world o old views log decided world k inside v is new n moves.0 moves.1 lawful.allowed, own_drawn o old views log decided world k inside v is new n moves.0 moves.1 lawful.allowed)
+pub draws : (n : ℕ) → KeepsFrom (DrawsPlainly n) (Draw n)
+draws n o old new views log decided k v world inside is made moves = (
+  subst (λ w. World o new (with_view views k w) (log ++ entry_of v n ∷ []) (decided_after decided v (Draw n))) (sym (drawn_view o old views log decided world k inside v is new n moves.0 moves.1 made.0.allowed made.1))
+      (drawn_world o old views log decided world k inside v is new n moves.0 moves.1 made.0.allowed made.1),
+  own_drawn o old views log decided world k inside v is new n moves.0 moves.1 made.0.allowed made.1,
+)

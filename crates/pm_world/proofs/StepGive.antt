@@ -122,7 +122,7 @@ module _ (o : Opening) (old : Memory) (views : Views) (log : List Entry) (decide
       let v' : View = relocked v others (filter (is_held bare) v.known) v.seen in
       ⊎_elim (λ (none : (v.log.records ≡ []) × (v.log.entries ≡ [])).
       no_entries v v' none.1 refl (mine.entries.seal ∙ sym (seal_again v.log.phase v v' refl)) (none_again v.log.phase v v' refl mine.entries.none))
-      (λ (found : All (λ (l : Lock). l.line ≡ line → l.block ≡ None) v.locks). entries_again v v' refl refl (λ w low high. refl) (still_written found) refl refl mine.entries)
+      (λ (found : All (λ (l : Lock). l.line ≡ line → l.block ≡ None) v.locks). entries_again v v' refl refl (λ w low high. refl) (still_written found) (λ i f at free. inr free) refl refl mine.entries)
       (unused v.log.phase refl).1
 
   -- the other lanes' holds of the line stay

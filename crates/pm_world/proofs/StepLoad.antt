@@ -29,10 +29,12 @@ use Rattle.pm_world.specs.Memory.Location.{PoolWord, LockWord, CommitCounter, St
 use Rattle.pm_world.specs.Opening.{Opening, IsChunk, IsPoolChunk, is_free_chunk}
 use Rattle.pm_world.specs.Records.{generation_of, slot_word, pool_entries, difference_of, records_generation}
 use Rattle.pm_world.specs.World.{Views, World, hold_bit}
+use Rattle.pm_world.proofs.Apart.{outside_behind}
+use Rattle.pm_world.proofs.Plain.{plain_still, redoing_still}
 use Rattle.pm_world.proofs.Chunks.{told_by_bitmap, block_same, under_found, written_found, found_block, opening_word, chunk_here, no_block_here, no_block_outside, told_word}
 use Rattle.pm_world.proofs.Exclusion.{writes_under}
 use Rattle.pm_world.proofs.Frame.{HeapFits, heap_kept, lane_kept}
-use Rattle.pm_world.proofs.Pairs.{entered, entries_again, redone_again, redone_kept, whole_again}
+use Rattle.pm_world.proofs.Pairs.{entries_again, redone_again, redone_kept, whole_again, entered_written}
 use Rattle.pm_world.proofs.Recoursed.{open_again, used_again}
 use Rattle.pm_world.proofs.Relocked.{generation_same}
 use Rattle.pm_world.proofs.Stored.{slot_set_other}
@@ -268,10 +270,10 @@ module _ (o : Opening) (old : Memory) (views : Views) (log : List Entry) (decide
   pairs_same u low high = area_same u (omega arith) (omega arith)
 
   entries_now : EntriesFit v'
-  entries_now = entries_again v v' refl refl pairs_same written_now refl (area_same (area_word v.lane + 1) (omega arith) (omega arith)) mine.entries
+  entries_now = entries_again v v' refl refl pairs_same written_now (λ i f at free. inr free) refl (area_same (area_word v.lane + 1) (omega arith) (omega arith)) mine.entries
 
   whole_now : (g : ℕ) → AreWhole v g → AreWhole v' g
-  whole_now g whole = whole_again v v' refl refl pairs_same written_now g whole
+  whole_now g whole = whole_again v v' refl refl pairs_same written_now (λ i f at free. inr free) g whole
 
   -- what is known stays
   ors_now : KnowsOrs v → KnowsOrs v'
@@ -282,12 +284,11 @@ module _ (o : Opening) (old : Memory) (views : Views) (log : List Entry) (decide
   -- what may be written now and is redone could be written before
   redone_now : (u : ℕ) → IsTrue (is_redone v' u) → IsTrue (is_written v' u) → RedoneWord new (settled o log decided) v' u
   redone_now u again own_word =
-      ⊎_elim (λ (before : IsTrue (is_written v u)). redone_kept old new (settled o log decided) (settled o log decided) v' u (same (PoolWord u)) refl
-      (redone_again old (settled o log decided) v v' u refl (mine.redone u again before)))
-      (λ (generation : u ≡ area_word v.lane).
+      let t = and_parts (is_redoing v.log.phase) (is_entered v.log.entries u) again in
       let under = writes_under o new k v' u locks_fit own_word in
-      let behind = world.sound.behind_areas under.0 u under.1 in let lane = mine.lane.lane in absurd (omega arith))
-      (entered v u mine.entries (and_parts (is_redoing v.log.phase) (is_entered v.log.entries u) again).1)
+      let out : is_in_area v.lane u ≡ false = ap (λ n. is_in_area n u) mine.lane.lane ∙ outside_behind o.lanes k u inside (world.sound.behind_areas under.0 u under.1) in
+      redone_kept old new (settled o log decided) (settled o log decided) v' u (same (PoolWord u)) refl
+      (redone_again old (settled o log decided) v v' u refl (mine.redone u again (entered_written v u (plain_still v mine.entries (redoing_still v.log.phase t.0)) t.1 out)))
 
   ends_now : (number : Option ℕ) → EndFits (Flies log decided k) v number → EndFits (Flies log decided k) v' number
   ends_now None restored = λ slot r i there low. recorded_same slot r i there low ∙ restored slot r i there low

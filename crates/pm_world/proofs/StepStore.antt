@@ -1,6 +1,6 @@
 -- A store keeps the world: of a word whose record is drained, of one in a reserved block, of the next generation, of the next word of a record or of an entry, of the seal, and of
 -- the word of an entry that is applied.
-use Rattle.std.proofs.Common.{◌≡◌, ℕ, ◌<◌, inl, inr, Bool, List, length, slice_index, refl}
+use Rattle.std.proofs.Common.{◌≡◌, ℕ, ◌<◌, inl, inr, Bool, List, length, slice_index, refl, sym, ◌∙◌, subst}
 use Rattle.pm_view.specs.Area.{Part, part_of}
 use Rattle.pm_view.specs.Area.Part.{GenerationWord, SealWord, EntryWord, SlotWord, OtherWord}
 use Rattle.pm_view.specs.Changes.{store_change}
@@ -17,6 +17,10 @@ use Rattle.pm_world.specs.Memory.{Memory, Becomes}
 use Rattle.pm_world.specs.Memory.Location.{PoolWord}
 use Rattle.pm_world.specs.Opening.{Opening}
 use Rattle.pm_world.specs.World.{Views, World}
+use Rattle.pm_world.specs.Entries.{IsGrowing}
+use Rattle.std.proofs.lemmas.Bool.{false≢true}
+use Rattle.pm_world.proofs.Worlds.{own}
+use Rattle.pm_world.proofs.Plain.{plain_still}
 use Rattle.pm_world.proofs.StoreAside.{stores_aside}
 use Rattle.pm_world.proofs.StoreDescriptor.{stores_descriptor}
 use Rattle.pm_world.proofs.StoreGeneration.{stores_generation, stores_last}
@@ -38,7 +42,9 @@ module _ (o : Opening) (old : Memory) (views : Views) (log : List Entry) (decide
   by_part (Open slot pair) e SealWord f fits = absurd fits
   by_part (Open slot pair) e EntryWord f fits = stores_pair o old views log decided world k inside v is new w x moves in_pool may room slot pair e f fits
   by_part Drawn e GenerationWord f fits = stores_generation o old views log decided world k inside v is new w x moves in_pool may room e f fits
-  by_part Drawn e SealWord f fits = stores_seal o old views log decided world k inside v is new w x moves in_pool may room e f fits
+  by_part Drawn e SealWord f (inl seals) = stores_seal o old views log decided world k inside v is new w x moves in_pool may room e f seals
+  by_part Drawn e SealWord f (inr alone) =
+      absurd (false≢true (sym (plain_still v (own o old views log decided world k inside v is).entries (λ grows. subst IsGrowing e grows)) ∙ alone.heap))
   by_part Drawn e EntryWord f fits = absurd fits
   by_part Drawn e SlotWord f fits = absurd fits
   by_part Drawn e OtherWord f fits = absurd fits

@@ -1,5 +1,5 @@
 -- A lane's take of a line's lock, won or refused, keeps the world.
-use Rattle.std.proofs.Common.{◌≡◌, ◌≢◌, ℕ, ◌<◌, ◌⊎◌, inl, ⊎_elim, Bool, true, false, eqb, ◌&&◌, ◌||◌, Any, List, [], ◌∷◌, ◌++◌, length, get_or, None, is_some, is_none, refl, sym, ap, ◌∙◌, subst, arith, length-append}
+use Rattle.std.proofs.Common.{◌≡◌, ◌≢◌, ℕ, ◌<◌, ◌⊎◌, inl, ⊎_elim, Bool, true, false, eqb, ◌&&◌, ◌||◌, Any, List, [], ◌∷◌, ◌++◌, length, get_or, None, is_some, is_none, refl, sym, ap, ◌∙◌, subst, arith, length-append, inr}
 use Rattle.std.specs.Int.{bit_at}
 use Rattle.std.specs.List.{list_any}
 use Rattle.std.proofs.lemmas.Bool.{cases_eq, and_parts, and_from, or_left, eq-eqb, false≢true}
@@ -65,7 +65,7 @@ module _ (o : Opening) (old : Memory) (views : Views) (log : List Entry) (decide
       (λ n d low. let f = mine.locks n d low in record { shows = subst (ShowsHold k (get_or v.locks n d).write) (sym (same (LockWord (get_or v.locks n d).line) (other_lock (get_or v.locks n d).line line (differs n d low)))) f.shows; found = f.found })
       (record { shows = shows; found = tt }))
       (λ slot r there w written known. (list_any-left (λ (m : Lock). m.write && is_some m.block && is_under w m) v.locks (l ∷ []) written, known))
-      (entries_again v v' refl refl (λ w low high. refl) (λ w written. list_any-left (λ (m : Lock). m.write && is_some m.block && is_under w m) v.locks (l ∷ []) written) refl refl mine.entries)
+      (entries_again v v' refl refl (λ w low high. refl) (λ w written. list_any-left (λ (m : Lock). m.write && is_some m.block && is_under w m) v.locks (l ∷ []) written) (λ i f at free. inr free) refl refl mine.entries)
       mine)
       (λ at bit set. ⊎_elim
       (λ (this : at ≡ line). ⊎_elim

@@ -69,6 +69,11 @@ module _ (o : Opening) (old : Memory) (views : Views) (log : List Entry) (decide
     abbrev given_view : View
     given_view = reheld v known_left (runs_with at left v.run_words) (zones_with at left v.zone_words) (without_taken at bits had_then) (without_taken at bits v.freed) v.zone_locks v.seen
 
+    -- in a world it freed nothing
+    own_here : (bit : ℕ) → bit_at bits bit ≡ 1 → list_any (has_bit at bit) (exchanged v at) ≡ true
+    own_here bit set = ⊎_elim (λ (has : list_any (has_bit at bit) (exchanged v at) ≡ true). has)
+        (λ (freed : list_any (has_bit at bit) v.freed ≡ true). absurd (false≢true (sym (ap (list_any (has_bit at bit)) mine.blocks.freed) ∙ freed))) (may.own bit set)
+
     of_pool' : IsOcc o.lanes o.zones at
     of_pool' = subst (λ n. IsOcc n o.zones at) mine.lane.lanes (subst (λ n. IsOcc v.lanes n at) mine.lane.zones may.there.of_pool)
 
@@ -172,7 +177,7 @@ module _ (o : Opening) (old : Memory) (views : Views) (log : List Entry) (decide
 
     -- no block that is given back is taken, as the words tell now
     given_free : (x : Occ) (bit : ℕ) → x ≡ at → bit_at bits bit ≡ 1 → is_taken (heap_words o old) o.lanes x bit ≡ true → ⊥
-    given_free x bit same set taken = by_kind x (subst (IsOcc o.lanes o.zones) (sym same) of_pool') (subst (λ y. IsGivenWhole v y bits) (sym same) may.whole) taken (then_before x x bit (subst (λ y. list_any (has_bit y bit) (exchanged v y) ≡ true) (sym same) (may.own bit set))) where
+    given_free x bit same set taken = by_kind x (subst (IsOcc o.lanes o.zones) (sym same) of_pool') (subst (λ y. IsGivenWhole v y bits) (sym same) may.whole) taken (then_before x x bit (subst (λ y. list_any (has_bit y bit) (exchanged v y) ≡ true) (sym same) (own_here bit set))) where
       by_kind : (y : Occ) → IsOcc o.lanes o.zones y → IsGivenWhole v y bits → is_taken (heap_words o old) o.lanes y bit ≡ true → (reserves v y bit ≡ true) ⊎ NewAt y y bit → ⊥
       by_kind (Run place) of whole is_so (inl reserved) = false≢true (sym (mine.blocks.free (Run place) bit reserved) ∙ is_so)
       by_kind (Run place) of whole is_so (inr new_one) = false≢true (sym (new_is_free (Run place) (Run place) bit of new_one) ∙ is_so)
@@ -195,7 +200,7 @@ module _ (o : Opening) (old : Memory) (views : Views) (log : List Entry) (decide
 
     -- what is given back was this lane's, and no other's
     was_own : (bit : ℕ) → bit_at bits bit ≡ 1 → has_taken (views k) at bit ≡ true
-    was_own bit set = had at bit (⊎_elim (λ (reserved : reserves v at bit ≡ true). had_reserved v at bit reserved) (λ (new_one : NewAt at at bit). new_had at at bit new_one) (then_before at at bit (may.own bit set)))
+    was_own bit set = had at bit (⊎_elim (λ (reserved : reserves v at bit ≡ true). had_reserved v at bit reserved) (λ (new_one : NewAt at at bit). new_had at at bit new_one) (then_before at at bit (own_here bit set)))
 
     -- a word in which a bit is set
     word_left : (other : Occ) (bit : ℕ) → IsOcc o.lanes o.zones other → bit < 64 → bit_at (new (occ_at other)) bit ≡ 1 → (bit_at (old (occ_at other)) bit ≡ 1) × (other ≡ at → bit_at bits bit ≢ 1)
@@ -303,7 +308,7 @@ module _ (o : Opening) (old : Memory) (views : Views) (log : List Entry) (decide
           (λ (unmade : is_made v page ≡ false).
           ⊎_elim (λ (reserved : reserves v (Run place) bit ≡ true). false≢true (sym (mine.blocks.free (Run place) bit reserved) ∙ no_run_taken (heap_words o old) o.lanes place bit (unmade_no_run page of.1 chunk unmade)))
           (λ (new_one : IsNew v place (Run place) bit). false≢true (sym unmade ∙ new_one.made))
-          (exchanged_before v place (Run place) bit (subst (λ y. list_any (has_bit y bit) (exchanged v y) ≡ true) (sym same) (may.own bit set))))
+          (exchanged_before v place (Run place) bit (subst (λ y. list_any (has_bit y bit) (exchanged v y) ≡ true) (sym same) (own_here bit set))))
           (cases_Bool (is_made v page))
 
       by_kind : ((list_any (has_bit at bit) (without_taken at bits had_then) || has_run_chunk given_view at) ≡ true) ⊎ (list_any (has_bit at bit) (without_taken at bits v.freed) ≡ true) → ⊥

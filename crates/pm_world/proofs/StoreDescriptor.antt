@@ -317,7 +317,7 @@ module _ (o : Opening) (old : Memory) (views : Views) (log : List Entry) (decide
         (stored_stays o old views log decided world k inside v is new w x moves in_pool right may room c v.log still own_heap
         (subst (LogFits (settled o log decided) v') (subst (λ p. records_generation p v ≡ records_generation p v') (sym e) (sym generation))
         (log_beside o old views log decided world k inside v is new w x moves in_pool may room c v.log.phase (records_generation v.log.phase v) apart (used_again v.log.phase v v' refl) mine.log))
-        (entries_again v v' refl refl (λ u low high. others u (λ same. absurd (omega arith))) (λ u own_word. own_word) refl (others (area_word v.lane + 1) (λ same. absurd (omega arith))) mine.entries)
+        (entries_again v v' refl refl (λ u low high. others u (λ same. absurd (omega arith))) (λ u own_word. own_word) (λ i f at free. inr free) refl (others (area_word v.lane + 1) (λ same. absurd (omega arith))) mine.entries)
         (λ u again. absurd (false≢true (sym (none_redone v u (ap is_redoing e)) ∙ again)))
         (subst (PhaseFits (Flies log decided k) v') (sym e) (record {
           undrawn = fits.undrawn;

@@ -21,7 +21,7 @@ use Rattle.pm_view.specs.Views.{changed}
 use Rattle.pm_image.specs.Logs.{slot_line}
 use Rattle.pm_view.specs.Bits.{with_bits, all_bits}
 use Rattle.pm_world.specs.Course.{flight_in}
-use Rattle.pm_world.specs.Entries.{AreWhole, applied_in, ends_with, is_entered, is_redoing, is_redone, seal_in, set_word, IsEntryAt, is_bit_entered, is_or_entered, IsKnownWord, KnowsOrs, final_by}
+use Rattle.pm_world.specs.Entries.{AreWhole, applied_in, ends_with, is_entered, is_redoing, is_redone, seal_in, set_word, IsEntryAt, is_bit_entered, is_or_entered, IsKnownWord, KnowsOrs, final_by, IsGrowing}
 use Rattle.pm_world.specs.Fits.{AppliedChange, ApplyingFits, LaneFits, LogFits, PhaseFits, RedoneWord, IsOfEntries}
 use Rattle.pm_world.specs.History.{Entry, Flies, settled, made_final}
 use Rattle.pm_world.specs.Laws.{with_view}
@@ -226,7 +226,7 @@ module _ (o : Opening) (old : Memory) (views : Views) (log : List Entry) (decide
         (stored_fits o old views log decided world k inside v is new w x moves in_pool right may room c (in_phase (Applying (applied + 1)) v.log)
         (subst (LogFits (settled o log decided) view') (sym now)
         (log_beside o old views log decided world k inside v is new w x moves in_pool may room c (Applying (applied + 1)) (records_generation v.log.phase v) slots (sym (ap (λ p. used_slots p v) e)) mine.log))
-        (entries_beside o old views log decided world k inside v is new w x moves in_pool may room c (Applying (applied + 1)) pairs (other_word o old views log decided world k inside v is new w x moves in_pool may room (area_word v.lane + 1) seal ∙ (mine.entries.seal ∙ ap (λ p. seal_in p v) e)) tt)
+        (entries_beside o old views log decided world k inside v is new w x moves in_pool may room c (Applying (applied + 1)) (λ grows. absurd (subst IsGrowing e grows)) pairs (other_word o old views log decided world k inside v is new w x moves in_pool may room (area_word v.lane + 1) seal ∙ (mine.entries.seal ∙ ap (λ p. seal_in p v) e)) tt)
         redone_now
         (record {
           no_records = fits.no_records;

@@ -25,10 +25,10 @@ use Rattle.pm_world.specs.Records.{IsRecordAt, generation_of, finals_of, pool_en
 use Rattle.pm_world.specs.World.{Views, World}
 use Rattle.pm_world.proofs.Exclusion.{writes_under}
 use Rattle.pm_world.proofs.Frame.{in_phase}
-use Rattle.pm_world.proofs.Pairs.{in_log_before}
+use Rattle.pm_world.proofs.Pairs.{in_log_before, no_entries}
 use Rattle.pm_world.proofs.Parts.{generation_part}
 use Rattle.pm_world.proofs.Recoursed.{logged_upto}
-use Rattle.pm_world.proofs.Stored.{IsPlainWord, other_word, this_word, log_beside, entries_beside, stored_fits, stored_world}
+use Rattle.pm_world.proofs.Stored.{IsPlainWord, other_word, this_word, log_beside, stored_fits, stored_world}
 use Rattle.pm_world.proofs.StoreWord.{drained_more}
 use Rattle.pm_world.proofs.Worlds.{own}
 
@@ -88,8 +88,7 @@ module _ (o : Opening) (old : Memory) (views : Views) (log : List Entry) (decide
         (stored_fits o old views log decided world k inside v is new w x moves in_pool right may room (store_change w (slice_index v.words w) x) (in_phase Retiring v.log)
         (subst (LogFits (settled o log decided) view') earlier
         (log_beside o old views log decided world k inside v is new w x moves in_pool may room (store_change w (slice_index v.words w) x) Retiring (generation_of v) (λ s low. inl (omega arith)) (sym t.1) before))
-        (entries_beside o old views log decided world k inside v is new w x moves in_pool may room (store_change w (slice_index v.words w) x) Retiring (inl (omega arith))
-        (others (area_word v.lane + 1) (λ same. absurd (omega arith)) ∙ (mine.entries.seal ∙ t.2)) ends.unentered)
+        (no_entries v view' ends.unentered (others (area_word v.lane + 1) (λ same. absurd (omega arith))) (mine.entries.seal ∙ t.2) ends.unentered)
         (λ u again. absurd (false≢true again))
         (record {
           changes = All-push (RetiringChange view') v.changes (store_change w (slice_index v.words w) x) (All-same (RetiringChange view') v.changes [] ends.drained (All-nil (RetiringChange view')))

@@ -1,5 +1,5 @@
 -- A store of the next word of an entry's pair.
-use Rattle.std.proofs.Common.{◌≡◌, ◌≢◌, ℕ, ◌+◌, ◌*◌, ◌/◌, ◌%◌, ◌<◌, ◌≤◌, inl, inr, ⊎_elim, Bool, true, false, All, List, [], ◌∷◌, ◌++◌, length, take, slice_get, slice_index, Some, refl, sym, ap, ◌∙◌, subst, arith, length-append}
+use Rattle.std.proofs.Common.{◌⊎◌, ◌≡◌, ◌≢◌, ℕ, ◌+◌, ◌*◌, ◌/◌, ◌%◌, ◌<◌, ◌≤◌, inl, inr, ⊎_elim, Bool, true, false, All, List, [], ◌∷◌, ◌++◌, length, take, slice_get, slice_index, Some, refl, sym, ap, ◌∙◌, subst, arith, length-append, IsTrue}
 use Rattle.std.proofs.lemmas.Bool.{cases_lt, false≢true}
 use Rattle.std.proofs.lemmas.List.{get_or_append_left, get_or_push}
 use Rattle.std.proofs.lemmas.List.Elements.{All-push, All-weaker}
@@ -16,7 +16,7 @@ use Rattle.pm_view.specs.Log.Phase.{Open}
 use Rattle.pm_view.specs.View.{View}
 use Rattle.pm_view.specs.Views.{changed}
 use Rattle.pm_world.specs.Course.{flight_in}
-use Rattle.pm_world.specs.Entries.{EntryStands, IsEnterable, IsEntryAt, entry_word, final_by, is_redoing, redo_on, seal_in}
+use Rattle.pm_world.specs.Entries.{EntryStands, IsEnterable, IsEntryAt, entry_word, final_by, is_redoing, redo_on, seal_in, EntersAlone, IsGrowing}
 use Rattle.pm_world.specs.Fits.{EntriesFit, OpenChange, OpenFits, LaneFits, LogFits, PhaseFits}
 use Rattle.pm_world.specs.History.{Entry, Flies, settled}
 use Rattle.pm_world.specs.Laws.{with_view}
@@ -26,6 +26,7 @@ use Rattle.pm_world.specs.Memory.Location.{PoolWord}
 use Rattle.pm_world.specs.Opening.{Opening}
 use Rattle.pm_world.specs.Records.{generation_of, slot_word, is_logged_from, is_logged, records_generation, used_slots}
 use Rattle.pm_world.specs.World.{Views, World}
+use Rattle.pm_view.specs.Rights.{is_written}
 use Rattle.pm_world.proofs.Frame.{in_phase}
 use Rattle.pm_world.proofs.Pairs.{in_log_before, none_redone}
 use Rattle.pm_world.proofs.Parts.{entry_part}
@@ -99,16 +100,20 @@ module _ (o : Opening) (old : Memory) (views : Views) (log : List Entry) (decide
         (λ s low. drained_more v.lane s v.changes (store_change w (slice_index v.words w) x) (λ same. let here = adds.at in let short = open_fits.short_pair in let free = adds.free in absurd (omega arith))) u there
 
     -- what an entry may be of it may be of still
-    enterable_here : (lg : Log) (op : Op) (u y : ℕ) → IsEnterable v op u y → IsEnterable (view' lg) op u y
-    enterable_here lg op u y enterable = record { of = enterable.of; word = enterable.word }
+    enterable_here : (lg : Log) → IsGrowing lg.phase → (op : Op) (u y : ℕ) → IsEnterable v op u y → IsEnterable (view' lg) op u y
+    enterable_here lg grows op u y enterable = record {
+      of = ⊎_elim (λ (own : IsTrue (is_written v u)). inl own) (λ (other : ((u ≡ area_word v.lane) × (op ≡ Set)) ⊎ EntersAlone v u). inr (
+          ⊎_elim (λ (generation : (u ≡ area_word v.lane) × (op ≡ Set)). inl generation) (λ (alone : EntersAlone v u). inr (alone.0, grows, alone.2)) other)) enterable.of;
+      word = enterable.word;
+    }
 
     -- the entries stand where they stood
-    stand : (lg : Log) (i : ℕ) (f : Final) → IsEntryAt v i f → EntryStands (view' lg) i f
-    stand lg i f there =
+    stand : (lg : Log) → IsGrowing lg.phase → (i : ℕ) (f : Final) → IsEntryAt v i f → EntryStands (view' lg) i f
+    stand lg grows i f there =
         let fits = mine.entries.each i f there in let low = slice_get_within v.log.entries i f there in let here = adds.at in
         let first : slice_index (view' v.log).words (entry_word v.lane i) ≡ slice_index v.words (entry_word v.lane i) = others (entry_word v.lane i) (λ same. absurd (omega arith)) in
         let second : slice_index (view' v.log).words (entry_word v.lane i + 1) ≡ slice_index v.words (entry_word v.lane i + 1) = others (entry_word v.lane i + 1) (λ same. absurd (omega arith)) in
-        record { op = fits.op; value = fits.value; is = fits.is; may = enterable_here lg fits.op f.word fits.value fits.may; spells = (λ j. first j ∷ second j ∷ []) ∙ fits.spells }
+        record { op = fits.op; value = fits.value; is = fits.is; may = enterable_here lg grows fits.op f.word fits.value fits.may; spells = (λ j. first j ∷ second j ∷ []) ∙ fits.spells }
 
     unsealed : slice_index (view' v.log).words (area_word v.lane + 1) ≡ 0
     unsealed = others (area_word v.lane + 1) (λ same. let here = adds.at in absurd (omega arith)) ∙ (mine.entries.seal ∙ ap (λ p. seal_in p v) open_)
@@ -156,7 +161,7 @@ module _ (o : Opening) (old : Memory) (views : Views) (log : List Entry) (decide
     grows short =
         let lg : Log = in_phase (Open slot (pair ++ x ∷ [])) v.log in let size = length-append pair (x ∷ []) in let free = adds.free in
         goes_on lg (pair ++ x ∷ []) refl refl
-        (record { most = mine.entries.most; each = λ i f there. stand lg i f there; seal = unsealed; none = tt })
+        (record { most = mine.entries.most; each = λ i f there. stand lg tt i f there; seal = unsealed; none = tt })
         (record {
           undrawn = open_fits.undrawn;
           short = open_fits.short;
@@ -168,8 +173,8 @@ module _ (o : Opening) (old : Memory) (views : Views) (log : List Entry) (decide
         })
 
     -- the new entry stands in its pair
-    new_stands : length pair + 1 ≡ 2 → (lg : Log) → EntryStands (view' lg) (length v.log.entries) (final_by adds.op adds.word adds.value)
-    new_stands last lg =
+    new_stands : length pair + 1 ≡ 2 → (lg : Log) → IsGrowing lg.phase → EntryStands (view' lg) (length v.log.entries) (final_by adds.op adds.word adds.value)
+    new_stands last lg grows =
         let size = length-append pair (x ∷ []) in
         let from : ℕ = entry_word v.lane (length v.log.entries) in
         let spells : pair ++ x ∷ [] ≡ redo_words (redo_on adds.op adds.word adds.value) = adds.spells ∙ ap (λ n. take n (redo_words (redo_on adds.op adds.word adds.value))) last in
@@ -182,7 +187,7 @@ module _ (o : Opening) (old : Memory) (views : Views) (log : List Entry) (decide
           op = adds.op;
           value = adds.value;
           is = ap (λ u. final_by adds.op u adds.value) word;
-          may = enterable_here lg adds.op (final_by adds.op adds.word adds.value).word adds.value (subst (λ u. IsEnterable v adds.op u adds.value) word adds.may);
+          may = enterable_here lg grows adds.op (final_by adds.op adds.word adds.value).word adds.value (subst (λ u. IsEnterable v adds.op u adds.value) word adds.may);
           spells = (λ j. first j ∷ second j ∷ []) ∙ ap (λ u. redo_words (redo_on adds.op u adds.value)) word;
         }
 
@@ -195,8 +200,8 @@ module _ (o : Opening) (old : Memory) (views : Views) (log : List Entry) (decide
         goes_on lg [] refl refl
         (record {
           most = omega (arith, longer, free);
-          each = λ i f there. ⊎_elim (λ (before : slice_get v.log.entries i ≡ Some f). stand lg i f before)
-              (λ (t : (i ≡ length v.log.entries) × (e ≡ f)). subst (EntryStands (view' lg) i) t.1 (subst (λ n. EntryStands (view' lg) n e) (sym t.0) (new_stands last lg)))
+          each = λ i f there. ⊎_elim (λ (before : slice_get v.log.entries i ≡ Some f). stand lg tt i f before)
+              (λ (t : (i ≡ length v.log.entries) × (e ≡ f)). subst (EntryStands (view' lg) i) t.1 (subst (λ n. EntryStands (view' lg) n e) (sym t.0) (new_stands last lg tt)))
               (get-push_cases v.log.entries e i f there);
           seal = unsealed;
           none = tt;

@@ -13,7 +13,7 @@ use Rattle.pm_view.specs.Rights.{is_written}
 use Rattle.pm_view.specs.View.{View}
 use Rattle.pm_view.specs.Views.{changed}
 use Rattle.pm_world.specs.Course.{flight, flight_in}
-use Rattle.pm_world.specs.Entries.{AreWhole, HasNone, applied_in, is_entered, is_redoing, is_redone, seal_in, KnowsOrs}
+use Rattle.pm_world.specs.Entries.{AreWhole, HasNone, applied_in, is_entered, is_redoing, is_redone, seal_in, KnowsOrs, IsGrowing}
 use Rattle.pm_world.specs.Fits.{ApplyingFits, DrawnFits, SealChange, LaneFits, LogFits, PhaseFits, RedoneWord}
 use Rattle.pm_world.specs.History.{Entry, Flies, settled, made_final}
 use Rattle.pm_world.specs.Laws.{with_view}
@@ -65,12 +65,12 @@ module _ (o : Opening) (old : Memory) (views : Views) (log : List Entry) (decide
         let behind = world.sound.behind_areas under.0 u under.1 in let lane = mine.lane.lane in let here = at.1 in absurd (omega arith)
 
     -- what it knows it knows still
-    knows_still : (phase : Phase) → KnowsOrs v → KnowsOrs (view' phase)
-    knows_still phase knows u or =
+    knows_still : (IsGrowing v.log.phase → ⊥) → (phase : Phase) → KnowsOrs v → KnowsOrs (view' phase)
+    knows_still quiet phase knows u or =
         let t = knows u or in (
           record {
             known = known_more o old views log decided world k inside v is new w x moves in_pool may room u t.0.known;
-            small = subst (λ n. n < 2 ^ 64) (sym (others u (own_other u (or_written v u mine.entries or)))) t.0.small;
+            small = subst (λ n. n < 2 ^ 64) (sym (others u (own_other u (or_written v u mine.entries quiet or)))) t.0.small;
           },
           t.1,
         )
@@ -85,17 +85,17 @@ module _ (o : Opening) (old : Memory) (views : Views) (log : List Entry) (decide
         (record { whole = refl; of = at.1; before = ap (slice_index v.words) at.1 ∙ (mine.entries.seal ∙ sealed) })
 
     -- the world then, from what the phases say
-    turns : (phase : Phase) → used_slots phase (view' phase) ≡ used_slots v.log.phase v → records_generation phase (view' phase) ≡ records_generation v.log.phase v → x ≡ seal_in phase (view' phase)
+    turns : (IsGrowing v.log.phase → ⊥) → (phase : Phase) → used_slots phase (view' phase) ≡ used_slots v.log.phase v → records_generation phase (view' phase) ≡ records_generation v.log.phase v → x ≡ seal_in phase (view' phase)
         → HasNone phase (view' phase) → ((u : ℕ) → IsTrue (is_redone (view' phase) u) → IsTrue (is_written v u) → RedoneWord new (settled o log decided) (view' phase) u)
         → PhaseFits (Flies log decided k) (view' phase) phase → ((n : ℕ) → flight v ≡ Some n → flight (view' phase) ≡ Some n) → ((u : ℕ) → is_redone v u ≡ true → is_redone (view' phase) u ≡ true)
         → World o new (with_view views k (view' phase)) log decided
-    turns phase used records seal none redone fits flies redoes =
+    turns quiet phase used records seal none redone fits flies redoes =
         let here = at.1 in let lane = mine.lane.lane in
         stored_world o old views log decided world k inside v is new w x moves in_pool right may room (store_change w (slice_index v.words w) x) (in_phase phase v.log)
         (stored_fits o old views log decided world k inside v is new w x moves in_pool right may room (store_change w (slice_index v.words w) x) (in_phase phase v.log)
         (subst (LogFits (settled o log decided) (view' phase)) (sym records)
         (log_beside o old views log decided world k inside v is new w x moves in_pool may room (store_change w (slice_index v.words w) x) phase (records_generation v.log.phase v) (λ s low. inl (omega arith)) used mine.log))
-        (entries_beside o old views log decided world k inside v is new w x moves in_pool may room (store_change w (slice_index v.words w) x) phase (inl (omega arith)) (now ∙ seal) none)
+        (entries_beside o old views log decided world k inside v is new w x moves in_pool may room (store_change w (slice_index v.words w) x) phase (λ grows. absurd (quiet grows)) (inl (omega arith)) (now ∙ seal) none)
         redone fits
         (subst (λ g. 1 ≤ g) (sym generation) mine.first_generation) (subst (λ g. g ≤ generation_limit) (sym generation) mine.last_generation))
         flies
@@ -111,7 +111,7 @@ module _ (o : Opening) (old : Memory) (views : Views) (log : List Entry) (decide
   stores_seal e part adds =
       let fits : DrawnFits (Flies log decided k) v = subst (PhaseFits (Flies log decided k) v) e mine.phase in
       let is_same = generation part in
-      turns part Sealing (sym (ap (λ p. used_slots p v) e)) (is_same ∙ sym (ap (λ p. records_generation p v) e)) adds.all tt
+      turns part (λ grows. subst IsGrowing e grows) Sealing (sym (ap (λ p. used_slots p v) e)) (is_same ∙ sym (ap (λ p. records_generation p v) e)) adds.all tt
       (λ u again. absurd (false≢true again))
       (record {
         number = fits.number;
@@ -119,7 +119,7 @@ module _ (o : Opening) (old : Memory) (views : Views) (log : List Entry) (decide
         flying = subst (Flies log decided k fits.number) (sym (same_difference part Sealing)) fits.flying;
         changes = seal_change part Sealing 0 adds.drained (ap (λ p. seal_in p v) e);
         whole = let whole = subst (λ g. AreWhole v (g + 1)) (sym is_same) adds.whole in record { front = whole.front; are = whole.are; owned = whole.owned };
-        known = knows_still part Sealing adds.known;
+        known = knows_still part (λ grows. subst IsGrowing e grows) Sealing adds.known;
         below = subst (λ g. g < generation_limit) (sym is_same) adds.below;
       })
       (λ n flying. sym (ap (λ p. flight_in p v.number) e) ∙ flying)
@@ -142,13 +142,13 @@ module _ (o : Opening) (old : Memory) (views : Views) (log : List Entry) (decide
     pub clears_seal : World o new (with_view views k (changed v w x (store_change w (slice_index v.words w) x) (in_phase Clearing v.log))) log decided
     clears_seal =
         let is_same = generation part in
-        turns part Clearing (sym (ap (λ p. used_slots p v) e)) (is_same ∙ sym (ap (λ p. records_generation p v) e ∙ ended)) adds.zero tt
+        turns part (λ grows. subst IsGrowing e grows) Clearing (sym (ap (λ p. used_slots p v) e)) (is_same ∙ sym (ap (λ p. records_generation p v) e ∙ ended)) adds.zero tt
         redone_still
         (record {
           no_records = fits.no_records;
           changes = seal_change part Clearing (length v.log.entries) adds.drained (ap (λ p. seal_in p v) e);
           whole = let whole = subst (AreWhole v) (ended ∙ sym is_same) fits.whole in record { front = whole.front; are = whole.are; owned = whole.owned };
-          known = knows_still part Clearing fits.known;
+          known = knows_still part (λ grows. subst IsGrowing e grows) Clearing fits.known;
         })
         (λ n flying. absurd (none-some n (sym (ap (λ p. flight_in p v.number) e) ∙ flying)))
         (λ u redone. (and_parts (is_redoing v.log.phase) (is_entered v.log.entries u) redone).1)

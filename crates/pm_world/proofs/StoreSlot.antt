@@ -19,7 +19,7 @@ use Rattle.pm_view.specs.View.{View}
 use Rattle.pm_view.specs.Views.{changed}
 use Rattle.pm_image.specs.Logs.{undo_slot, slot_line}
 use Rattle.pm_world.specs.Course.{flight_in}
-use Rattle.pm_world.specs.Entries.{HasNone, entry_word, is_in_log, is_redoing, is_redone, seal_in}
+use Rattle.pm_world.specs.Entries.{HasNone, entry_word, is_in_log, is_redoing, is_redone, seal_in, IsGrowing}
 use Rattle.pm_world.specs.Fits.{EntriesFit, OpenChange, OpenFits, LaneFits, LogFits, PhaseFits, RecordFits, RecordedWordFits}
 use Rattle.pm_world.specs.History.{Entry, Flies, settled}
 use Rattle.pm_world.specs.Laws.{with_view}
@@ -158,10 +158,10 @@ module _ (o : Opening) (old : Memory) (views : Views) (log : List Entry) (decide
         open_log.stale s u (subst (λ p. used_slots p v ≤ s) (sym open_) (let most = used-most slot pair v in omega arith)) high (ap undo_of (sym (slot_same s (λ same. absurd (omega arith)))) ∙ there)
 
     -- the entries stand, and the seal is 0
-    entries_stand : (lg : Log) → lg.entries ≡ v.log.entries → 0 ≡ seal_in lg.phase (view' lg) → HasNone lg.phase (view' lg) → EntriesFit (view' lg)
-    entries_stand lg same seal none =
+    entries_stand : (lg : Log) → IsGrowing lg.phase → lg.entries ≡ v.log.entries → 0 ≡ seal_in lg.phase (view' lg) → HasNone lg.phase (view' lg) → EntriesFit (view' lg)
+    entries_stand lg grows same seal none =
         let here = adds.at in
-        entries_sealed v (view' lg) refl same (λ u low high. others u (λ this. absurd (omega arith))) (λ u own_word. own_word)
+        entries_sealed v (view' lg) refl same (λ u low high. others u (λ this. absurd (omega arith))) (λ u own_word. own_word) (λ i f at free. inr (free.0, grows, free.2))
         (others (area_word v.lane + 1) (λ this. absurd (omega arith)) ∙ (mine.entries.seal ∙ (ap (λ p. seal_in p v) open_ ∙ seal))) none mine.entries
 
     -- the pair in the making stands
@@ -220,7 +220,7 @@ module _ (o : Opening) (old : Memory) (views : Views) (log : List Entry) (decide
           once = open_log.once;
           stale = λ s u low. stale s u (subst (λ n. n ≤ s) (used-more slot pair x (view' lg)) low);
         }))
-        (entries_stand lg refl refl tt) refl
+        (entries_stand lg tt refl refl tt) refl
         (record {
           undrawn = open_fits.undrawn;
           short = let size = length-append slot (x ∷ []) in omega (arith, size, short);
@@ -300,7 +300,7 @@ module _ (o : Opening) (old : Memory) (views : Views) (log : List Entry) (decide
               (get-push_cases v.log.records adds.next s r there);
           stale = λ s u low. stale s u (omega (arith, longer, low));
         }))
-        (entries_stand lg refl refl tt) refl
+        (entries_stand lg tt refl refl tt) refl
         (record {
           undrawn = open_fits.undrawn;
           short = omega arith;

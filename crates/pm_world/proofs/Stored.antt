@@ -21,7 +21,7 @@ use Rattle.pm_view.specs.View.{View, Lock}
 use Rattle.pm_view.specs.Views.{changed, reserves}
 use Rattle.pm_image.specs.Logs.{undo_slot, slot_line}
 use Rattle.pm_world.specs.Course.{flight}
-use Rattle.pm_world.specs.Entries.{HasNone, is_in_log, is_redone, seal_in}
+use Rattle.pm_world.specs.Entries.{HasNone, is_in_log, is_redone, seal_in, IsGrowing}
 use Rattle.pm_world.specs.Fits.{EntriesFit, LaneFits, LockFits, LogFits, RedoneWord, PhaseFits, ShowsHold, ReservedChange}
 use Rattle.pm_world.specs.Heap.{AreNewRuns, Heap, describing, heap_words}
 use Rattle.pm_world.specs.History.{Entry, Flies, settled}
@@ -127,11 +127,11 @@ module _ (o : Opening) (old : Memory) (views : Views) (log : List Entry) (decide
     log_beside phase generation apart used fits = log_with (in_phase phase v.log) generation refl apart used fits
 
     -- the entries after a store of a word of no pair, in this phase
-    pub entries_beside : (phase : Phase) → (w < 520 + 1024 * v.lane) ⊎ (648 + 1024 * v.lane ≤ w) → slice_index (set v.words w x) (area_word v.lane + 1) ≡ seal_in phase (stored_view (in_phase phase v.log))
+    pub entries_beside : (phase : Phase) → (IsGrowing v.log.phase → IsGrowing phase) → (w < 520 + 1024 * v.lane) ⊎ (648 + 1024 * v.lane ≤ w) → slice_index (set v.words w x) (area_word v.lane + 1) ≡ seal_in phase (stored_view (in_phase phase v.log))
         → HasNone phase (stored_view (in_phase phase v.log)) → EntriesFit (stored_view (in_phase phase v.log))
-    entries_beside phase apart seal none = entries_sealed v (stored_view (in_phase phase v.log)) refl refl
+    entries_beside phase grows apart seal none = entries_sealed v (stored_view (in_phase phase v.log)) refl refl
         (λ u low high. other_word u (λ same. ⊎_elim (λ (below : w < 520 + 1024 * v.lane). absurd (omega arith)) (λ (above : 648 + 1024 * v.lane ≤ w). absurd (omega arith)) apart))
-        (λ u own_word. own_word) seal none mine.entries
+        (λ u own_word. own_word) (λ i f at free. inr (free.0, grows free.1, free.2)) seal none mine.entries
 
 module _ (o : Opening) (old : Memory) (views : Views) (log : List Entry) (decided : ℕ → Bool) (world : World o old views log decided) (k : ℕ) (inside : k < o.lanes) (v : View) (is : views k ≡ v)
     (new : Memory) (w x : ℕ) (moves : Becomes (PoolWord w) x old new) (in_pool : w < length v.words) (right : IsOwnWord v w) (may : MayCount v) (room : HasRoom v.changes) where

@@ -1,5 +1,5 @@
--- A lane's redo entries as its view has them: how they stand in its area, and which words they give after a power failure. So far each is of a
--- word that the lane has for itself; those of words whose bits lanes share come with the heap's bitmaps.
+-- A lane's redo entries as its view has them: how they stand in its area, and which words they give after a power failure. In a world of lanes each is
+-- of a word that its lane has for itself; one that allocates or frees a block is so far entered by a lane that is alone, and sealed outside of such a world.
 use Rattle.std.specs.Prelude.{◌≡◌, ◌≢◌, ◌⊎◌, ℕ, ◌+◌, ◌*◌, ◌^◌, ◌<◌, ◌==◌, Bool, true, false, ◌&&◌, ◌||◌, IsTrue, All, Contains, List, [], ◌∷◌, ◌++◌, length, slice_get, slice_index, Some}
 use Rattle.std.specs.Int.{bit_at, bit_not, w64}
 use Rattle.std.specs.List.{list_any}
@@ -7,10 +7,11 @@ use Rattle.pm_record.specs.Redo.{redo_words}
 use Rattle.pm_record.specs.declared.redo.Op.{Op}
 use Rattle.pm_record.specs.declared.redo.Op.TheVariants.{Set, Or, And}
 use Rattle.pm_record.specs.declared.redo.Redo.{Redo}
-use Rattle.pm_view.specs.Area.{area_word}
+use Rattle.pm_view.specs.Area.{area_word, is_in_area}
 use Rattle.pm_view.specs.Bits.{all_bits}
 use Rattle.pm_view.specs.Log.{Phase, Final}
-use Rattle.pm_view.specs.Log.Phase.{Idle, Sealing, Applying, Clearing, Retiring}
+use Rattle.pm_view.specs.Founds.{IsAlone}
+use Rattle.pm_view.specs.Log.Phase.{Idle, Open, Sealing, Applying, Clearing, Retiring}
 use Rattle.pm_view.specs.Rights.{is_written}
 use Rattle.pm_view.specs.View.{View}
 use Rattle.pm_world.specs.Records.{is_logged}
@@ -45,9 +46,18 @@ pair_at v i = slice_index v.words (entry_word v.lane i) ∷ slice_index v.words 
 abbrev pub redo_on : Op → ℕ → ℕ → Redo
 redo_on op w x = record { place = 8 * w; op = op; value = x }
 
--- an entry may be of a word that the lane locked for writing, or set its own generation; an OR and an AND are of 64 bits
+-- the log may grow
+abbrev pub IsGrowing : Phase → Type 0
+IsGrowing (Open slot pair) = Unit {0}
+IsGrowing phase = ⊥
+
+-- a lane that is alone may enter any word outside of its area while its log may grow: what it then seals is to be whole
+abbrev pub EntersAlone : View → ℕ → Type 0
+EntersAlone v w = IsAlone v × IsGrowing v.log.phase × (is_in_area v.lane w ≡ false)
+
+-- an entry may be of a word that the lane locked for writing, or set its own generation, or be that of a lane that is alone; an OR and an AND are of 64 bits
 pub record IsEnterable (v : View) (op : Op) (w x : ℕ) : Type 0 where
-  pub of : IsTrue (is_written v w) ⊎ ((w ≡ area_word v.lane) × (op ≡ Set))
+  pub of : IsTrue (is_written v w) ⊎ (((w ≡ area_word v.lane) × (op ≡ Set)) ⊎ EntersAlone v w)
   pub word : op ≢ Set → x < 2 ^ 64
 
 -- the entry is of an operation on a word that it may be of, and its pair spells it

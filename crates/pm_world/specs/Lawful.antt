@@ -12,6 +12,7 @@ use Rattle.pm_view.specs.declared.occ.Occ.TheVariants.{Run, Zone}
 use Rattle.pm_view.specs.Area.{Part, part_of}
 use Rattle.pm_view.specs.Area.Part.{GenerationWord, SealWord, EntryWord, SlotWord, OtherWord}
 use Rattle.pm_view.specs.Blocks.{bitmap_word, covers, descriptor_word, is_run, tells_nothing, zone_of}
+use Rattle.pm_view.specs.Founds.{IsAlone}
 use Rattle.pm_view.specs.Counts.{is_counted, MayCount, IsAtStop, HasRoom, FlushesSome, DropsSome}
 use Rattle.pm_view.specs.Held.{is_under, is_known, is_reserved}
 use Rattle.pm_view.specs.Log.{Phase, Recorded, Final}
@@ -20,8 +21,8 @@ use Rattle.pm_view.specs.Rights.{is_written}
 use Rattle.pm_view.specs.Steps.{Step}
 use Rattle.pm_view.specs.Steps.Step.{Load, Store, Or, And, Flush, Drain, TakeWrite, TakeRead, Give, ZoneTry, ZoneGive, Occupied, Occupy, Vacate, Draw, NumberSeen, StopSeen, SetStop, Tell}
 use Rattle.pm_view.specs.View.{View, Lock}
-use Rattle.pm_view.specs.Views.{chunk_bit, exchanged, has_bit, has_chunk, is_made, zone_at}
-use Rattle.pm_world.specs.Entries.{AreWhole, IsEnterable, IsEntryAt, IsKnownWord, entry_word, final_by, is_entered, redo_on, set_word, KnowsOrs}
+use Rattle.pm_view.specs.Views.{changes_heap, chunk_bit, exchanged, has_bit, has_chunk, is_made, zone_at}
+use Rattle.pm_world.specs.Entries.{AreWhole, IsEnterable, IsEntryAt, IsKnownWord, ends_with, entry_word, final_by, is_entered, redo_on, set_word, KnowsOrs}
 use Rattle.pm_world.specs.Heap.{IsOcc, holds_zone}
 use Rattle.pm_world.specs.Opening.{IsChunk}
 use Rattle.pm_world.specs.Records.{generation_of, slot_word, is_recorded, is_logged, spelled, AreRestored}
@@ -102,6 +103,17 @@ pub record SealsEntries (v : View) (x : ℕ) : Type 0 where
   pub below : generation_of v < generation_limit
   pub drained : v.changes ≡ []
 
+-- x seals the entries of a lane that is alone, which allocates or frees blocks by some of them: it is their number, the last of them ends the generation,
+-- and nothing is undrained
+pub record SealsAlone (v : View) (x : ℕ) : Type 0 where
+  pub alone : IsAlone v
+  pub heap : changes_heap v ≡ true
+  pub all : x ≡ length v.log.entries
+  pub front : List Final
+  pub ends : v.log.entries ≡ front ++ ends_with v (generation_of v + 1) ∷ []
+  pub below : generation_of v < generation_limit
+  pub drained : v.changes ≡ []
+
 -- the next entry makes word w be x
 abbrev pub IsNextEntry : View → ℕ → ℕ → ℕ → Type 0
 IsNextEntry v applied w x = IsEntryAt v applied (set_word w x)
@@ -127,7 +139,7 @@ StoreFits v w x (Open slot pair) OtherWord = MayWrite v w ⊎ (MayFill v w ⊎ M
 StoreFits v w x (Open slot pair) EntryWord = AppendsToPair v w x pair
 StoreFits v w x (Open slot pair) GenerationWord = GivesUp v x slot pair
 StoreFits v w x Drawn GenerationWord = EndsGeneration v x
-StoreFits v w x Drawn SealWord = SealsEntries v x
+StoreFits v w x Drawn SealWord = SealsEntries v x ⊎ SealsAlone v x
 StoreFits v w x (Applying applied) OtherWord = IsNextEntry v applied w x
 StoreFits v w x (Applying applied) GenerationWord = IsNextEntry v applied w x
 StoreFits v w x (Applying applied) SealWord = ClearsSeal v x applied
@@ -144,12 +156,18 @@ abbrev pub BitsFit : View → Op → ℕ → ℕ → Phase → Part → Type 0
 BitsFit v op w bits (Applying applied) OtherWord = (ors : Bool) × IsEntryAt v applied (record (final_by op w bits) { ors = ors })
 BitsFit v op w bits phase part = ⊥
 
+-- the lane is alone, and has each word as it is; it allocates or frees blocks
+pub record ChangesAlone (v : View) (w : ℕ) : Type 0 where
+  pub alone : IsAlone v
+  pub heap : changes_heap v ≡ true
+  pub small : slice_index v.words w < 2 ^ 64
+
 -- bits of a word may be set or cleared, which the lane knows, and so what is found there
 pub record MayChange (v : View) (op : Op) (w bits : ℕ) : Type 0 where
   pub inside : w < length v.words
   pub room : HasRoom v.changes
   pub fits : BitsFit v op w bits v.log.phase (part_of v.lane w)
-  pub known : IsKnownWord v w
+  pub known : IsKnownWord v w ⊎ ChangesAlone v w
   pub word : bits < 2 ^ 64
 
 -- locks are taken before the draw
@@ -187,7 +205,7 @@ pub record MayDraw (v : View) : Type 0 where
   pub seen : Contains v.seen (NumberSeen found)
   pub below : found < generation_limit
   -- where it has entries, one of them at least changes the pool
-  pub entered : (v.log.entries ≡ []) ⊎ Any (λ (f : Final). IsTrue (is_written v f.word)) v.log.entries
+  pub entered : (v.log.entries ≡ []) ⊎ (Any (λ (f : Final). IsTrue (is_written v f.word)) v.log.entries ⊎ IsTrue (changes_heap v))
 
 -- operations are told while the call is open
 abbrev pub MayTell : Phase → Type 0
@@ -234,12 +252,16 @@ IsGivenWhole v (Run place) bits =
     is_made v page ≡ true → All (λ (c : Change). covers v.lanes v.words (zone_at v.lanes page) (2 ^ chunk_bit v.lanes page) c.word ≡ false) v.changes
 IsGivenWhole v (Zone zone) bits = (page : ℕ) → IsChunk v.lanes page → zone_of v.lanes page ≡ zone → bit_at bits (chunk_bit v.lanes page) ≡ 1 → is_made v page ≡ false
 
--- A lane gives back what it reserved, or blocks of a run that it made of a chunk that it reserved: nothing undrained is of it, nor any record or entry
--- of its log.
+-- the lane has what the bit is of: it reserved it, or the chunk of the run that it made, or it freed it
+abbrev pub MayGiveBit : View → Occ → ℕ → Type 0
+MayGiveBit v at bit = (list_any (has_bit at bit) (exchanged v at) ≡ true) ⊎ (list_any (has_bit at bit) v.freed ≡ true)
+
+-- A lane gives back what it reserved, or blocks of a run that it made of a chunk that it reserved, or what it freed: nothing undrained is of it, nor any
+-- record or entry of its log.
 pub record MayVacate (v : View) (at : Occ) (bits : ℕ) : Type 0 where
   pub there : HasOcc v at
   pub small : bits < 2 ^ 64
-  pub own : (bit : ℕ) → bit_at bits bit ≡ 1 → list_any (has_bit at bit) (exchanged v at) ≡ true
+  pub own : (bit : ℕ) → bit_at bits bit ≡ 1 → MayGiveBit v at bit
   pub whole : IsGivenWhole v at bits
   pub drained : All (λ (c : Change). covers v.lanes v.words at bits c.word ≡ false) v.changes
   pub unlogged : (w : ℕ) → covers v.lanes v.words at bits w ≡ true → (is_recorded v.log.records w ≡ false) × (is_entered v.log.entries w ≡ false)

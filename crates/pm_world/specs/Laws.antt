@@ -1,10 +1,11 @@
 -- The laws of a world: each lawful step of a lane keeps it, whatever the others hold; and what a power failure leaves.
-use Rattle.std.specs.Prelude.{◌≡◌, ℕ, ◌<◌, ◌==◌, Bool, true, if◌then◌else◌, Contains, List}
+use Rattle.std.specs.Prelude.{◌≡◌, ℕ, ◌<◌, ◌==◌, Bool, true, false, if◌then◌else◌, Contains, List}
 use Rattle.pm_view.specs.Blocks.{descriptor_word, is_run}
 use Rattle.pm_view.specs.Founds.{Found}
 use Rattle.pm_view.specs.Steps.{Step}
+use Rattle.pm_view.specs.Steps.Step.{Draw}
 use Rattle.pm_view.specs.View.{View}
-use Rattle.pm_view.specs.Views.{after}
+use Rattle.pm_view.specs.Views.{after, changes_heap}
 use Rattle.pm_world.specs.Course.{log_after, decided_after}
 use Rattle.pm_world.specs.Crash.{Survives, NoneTorn, MeansKept, IsAcknowledged, is_kept}
 use Rattle.pm_world.specs.History.{Entry}
@@ -19,11 +20,20 @@ use Rattle.pm_world.specs.World.{Views, World}
 abbrev pub with_view : Views → ℕ → View → Views
 with_view views k v j = if j == k then v else views j
 
--- a lawful step of lane k keeps the world, moves its history on, and is answered as the lane's view knows
-abbrev pub Keeps : Step → Type 0
-Keeps s = (o : Opening) (old new : Memory) (views : Views) (log : List Entry) (decided : ℕ → Bool) (k : ℕ) (v : View)
-    → World o old views log decided → k < o.lanes → views k ≡ v → IsLawful v s → Moves k s old new
+-- a step that lane k makes from such a view keeps the world, moves its history on, and is answered as the lane's view knows
+abbrev pub KeepsFrom : (View → Type 0) → Step → Type 0
+KeepsFrom may s = (o : Opening) (old new : Memory) (views : Views) (log : List Entry) (decided : ℕ → Bool) (k : ℕ) (v : View)
+    → World o old views log decided → k < o.lanes → views k ≡ v → may v → Moves k s old new
     → World o new (with_view views k (after v s)) (log_after log v s) (decided_after decided v s) × Found v s
+
+-- a lawful step keeps the world
+abbrev pub Keeps : Step → Type 0
+Keeps s = KeepsFrom (λ v. IsLawful v s) s
+
+-- the lane draws its call's number, and the call allocates and frees no block: one that does leaves the world as it draws, and so far only a lane that is
+-- alone makes it
+abbrev pub DrawsPlainly : ℕ → View → Type 0
+DrawsPlainly n v = IsLawful v (Draw n) × (changes_heap v ≡ false)
 
 -- A run stays one: no lawful step of any lane changes the word that describes it.
 abbrev pub KeepsRuns : Type 0

@@ -3,7 +3,7 @@ ghost use Rattle.pm_objects.specs.declared.calls.Operation.{Operation};
 ghost use Rattle.pm_objects.specs.declared.history.Value.{Value};
 ghost use Rattle.pm_view.specs.declared.occ.Occ.{Occ};
 ghost use Rattle.pm_view.specs.Steps.Step.{Load, Store, Or, And, Flush, Drain, TakeWrite, TakeRead, Give, ZoneTry, ZoneGive, Occupied, Occupy, Vacate, Draw, NumberSeen, StopSeen, SetStop, Tell};
-ghost use Rattle.pm_world.specs.Laws.{Keeps, KeepsRuns, CrashLaw, AcknowledgedLaw};
+ghost use Rattle.pm_world.specs.Laws.{DrawsPlainly, Keeps, KeepsFrom, KeepsRuns, CrashLaw, AcknowledgedLaw};
 ghost use Rattle.pm_world.specs.Opens.{BetweenCallsLaw, OpeningLaw};
 
 /// A law: over the words that recovery leaves a world begins. No code runs.
@@ -18,7 +18,8 @@ pub fn words_between_calls_open_a_world()
     ensures { BetweenCallsLaw }
 {}
 
-/// A law: each lawful step of a lane keeps the world, whatever the other lanes hold. No code runs.
+/// A law: each lawful step of a lane keeps the world, whatever the other lanes hold; but for the draw of a call that allocates or frees blocks, which a lane
+/// that is alone makes, and with which it leaves the world. No code runs.
 pub fn lawful_steps_keep_the_world()
     ensures load { (w found : ℕ) → Keeps (Load w found) }
     ensures store { (w x : ℕ) → Keeps (Store w x) }
@@ -34,7 +35,7 @@ pub fn lawful_steps_keep_the_world()
     ensures occupied { (at : Occ) (found : ℕ) → Keeps (Occupied at found) }
     ensures occupy { (at : Occ) (bits : ℕ) (won : Bool) → Keeps (Occupy at bits won) }
     ensures vacate { (at : Occ) (bits : ℕ) → Keeps (Vacate at bits) }
-    ensures draw { (n : ℕ) → Keeps (Draw n) }
+    ensures draw { (n : ℕ) → KeepsFrom (DrawsPlainly n) (Draw n) }
     ensures number_seen { (n : ℕ) → Keeps (NumberSeen n) }
     ensures stop_seen { (stopped : Bool) → Keeps (StopSeen stopped) }
     ensures set_stop { Keeps SetStop }
