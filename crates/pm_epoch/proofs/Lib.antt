@@ -1,3 +1,4 @@
+pub mod StandingPools
 pub mod Targets
 pub mod PublishedPools
 pub mod PublishedImages

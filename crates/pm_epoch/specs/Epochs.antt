@@ -20,6 +20,13 @@ use Rattle.pm_crash.specs.Held.{HoldsImage, HoldsPool}
 use Rattle.pm_crash.specs.Publishing.{AreInOrder, CanPublish, Published, entry_published}
 use Rattle.pm_crash.specs.Taken.{AllocatesBit, FreesBit}
 use Rattle.pm_sealed.specs.Sealed.{MaySeal}
+use Rattle.pm_world.specs.Opening.{Opening}
+use Rattle.pm_model.specs.Names.{Replays}
+use Rattle.pm_model.specs.History.{opened}
+use Rattle.pm_model.specs.declared.stage.Stage.{Stage}
+use Rattle.pm_objects.specs.declared.history.TxErr.{TxErr}
+use Rattle.pm_crash.specs.OpenCall.{ComesTo}
+use Rattle.pm_crash.specs.Pending.{acts_alone, state_alone}
 
 -- The lane's log has an entry for each of these, in their order, and behind them the one that ends its generation. An image of its words holds the pool before
 -- the call, and as they stand they hold the pool that the call made so far, on which each of these may be published.
@@ -65,3 +72,18 @@ pub record IsAtWorkAlone (v : View) (shape : Shape) : Type 0 where
   pub zones : v.zones ≤ length v.zone_words
   pub runs : 1 + 2 * v.lanes + 65 * v.zones ≤ length v.run_words
   pub no_run : (page : ℕ) → is_made v page ≡ false
+
+-- ---- before its call draws
+
+-- As an image the lane's words hold the pool to which its calls lead from this pool, one whole call after another.
+pub record HoldsCalls (o : Opening) (w : View) (header : Header) (pool : PoolView) : Type 0 where
+  pub before : PoolView
+  pub holds : HoldsImage w.words o.lanes o.zones header before
+  pub replays : Replays (opened pool) (acts_alone w.entries) (state_alone before w.entries)
+
+-- So they do, and as they stand they hold the pool of the open call: that of the transaction to which it came from these words behind the calls before it
+pub record HoldsOpenCall (o : Opening) (w : View) (header : Header) (pool : PoolView) (level : ℕ) (at_stage : Stage) (error : TxErr) : Type 0 where
+  pub held : HoldsCalls o w header pool
+  pub words : ℕ → ℕ
+  pub comes : ComesTo w words header held.before level at_stage error
+  pub holds : HoldsPool (slice_index w.words) o.lanes o.zones header comes.tx.pool

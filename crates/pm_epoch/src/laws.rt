@@ -1,7 +1,8 @@
-ghost use Rattle.std.specs.Prelude.{◌≡◌, ◌≢◌, ◌↔◌, ℕ, ◌+◌, ◌*◌, ◌<◌, ◌≤◌, Bool, true, false, All, Contains, List, ◌++◌, map, slice_index, None, Some};
+ghost use Rattle.std.specs.Prelude.{◌≡◌, ◌≢◌, ◌↔◌, ℕ, ◌+◌, ◌*◌, ◌<◌, ◌≤◌, Bool, true, false, All, Contains, List, [], ◌++◌, map, slice_index, None, Some};
 ghost use Rattle.std.specs.Int.{bit_at};
 ghost use Rattle.pm_header.specs.declared.header.Header.{Header};
 ghost use Rattle.pm_objects.specs.Pool.{block_lines};
+ghost use Rattle.pm_objects.specs.declared.history.TxErr.{TxErr};
 ghost use Rattle.pm_objects.specs.declared.pool.PoolView.{PoolView};
 ghost use Rattle.pm_layout.specs.Sizes.{class_of, descriptor_of};
 ghost use Rattle.pm_layout.specs.declared.shape.Shape.{Shape};
@@ -11,10 +12,11 @@ ghost use Rattle.pm_image.specs.HeapFaults.{heap_fault};
 ghost use Rattle.pm_image.specs.Logs.{recovered_at};
 ghost use Rattle.pm_image.specs.Means.{IsMeaning};
 ghost use Rattle.pm_model.specs.Actions.{Action};
+ghost use Rattle.pm_model.specs.declared.stage.Stage.{Stage};
 ghost use Rattle.pm_view.specs.declared.occ.Occ.{Occ};
 ghost use Rattle.pm_view.specs.declared.occ.Occ.TheVariants.{Zone};
 ghost use Rattle.pm_view.specs.Founds.{IsAlone};
-ghost use Rattle.pm_view.specs.Log.Phase.{Idle};
+ghost use Rattle.pm_view.specs.Log.Phase.{Idle, Open};
 ghost use Rattle.pm_view.specs.Occupancy.{is_taken};
 ghost use Rattle.pm_view.specs.Steps.{Step};
 ghost use Rattle.pm_view.specs.Steps.Step.{Draw};
@@ -32,13 +34,15 @@ ghost use Rattle.pm_crash.specs.NewObjects.{AreFreeChunks, IsFreeInRun, IsFreshB
 ghost use Rattle.pm_crash.specs.Held.{HoldsImage, HoldsPool};
 ghost use Rattle.pm_crash.specs.Publishing.Published.{Changes, Performs};
 ghost use Rattle.pm_crash.specs.Publishing.{AreInOrder, Published, all_blocks_published, all_pool_published};
+ghost use Rattle.pm_crash.specs.Alone.{WorksAlone};
+ghost use Rattle.pm_crash.specs.OpenCall.{IsOpen};
 ghost use Rattle.pm_crash.specs.Taken.{TakenBehindAll};
 ghost use Rattle.pm_fresh.specs.Filled.{IsFilled};
 ghost use Rattle.pm_fresh.specs.Making.{page_in};
 ghost use Rattle.pm_blocks.specs.NewRuns.{IsUnused};
 ghost use Rattle.pm_alloc.specs.NewObjects.{CanMakeObject};
 ghost use Rattle.pm_sealed.specs.Sealed.{LeavesSealed, Publishes, has_nothing};
-ghost use Rattle.pm_epoch.specs.Epochs.{AreOfOwnBits, HasEntriesFor, IsAtWorkAlone, IsUnusedChunk, MayPublish};
+ghost use Rattle.pm_epoch.specs.Epochs.{AreOfOwnBits, HasEntriesFor, HoldsCalls, HoldsOpenCall, IsAtWorkAlone, IsUnusedChunk, MayPublish};
 
 /// A law: in a world where a lane has each word as it is, what it reserved may be allocated: a block of a run, by the class that the run's
 /// descriptor says, and chunks that are described by 0; and a block that it found under a lock may be freed, unless it is the root's, where
@@ -129,4 +133,15 @@ pub fn a_published_pool_stands()
     ensures taken { (b w : View) (header : Header) (before now : PoolView) (all : List Published) (steps : List Step) (at : Occ) (bit : ℕ)
         → MayPublish b header before now all → IsAlone b → Publishes b steps w → w.log.phase ≡ Idle → IsOcc b.lanes b.zones at → bit < 64
         → (is_taken (slice_index w.words) b.lanes at bit ≡ true) ↔ TakenBehindAll b.lanes all at bit (is_taken (slice_index b.words) b.lanes at bit ≡ true) }
+{}
+
+/// A law: where a lane works alone, with nothing undrained and no record or entry in the making, and its call has not drawn its number, its words as
+/// an image hold the pool to which its calls lead, one whole call after another; and as they stand they hold the pool of the plain model's
+/// transaction to which its open call came. No code runs.
+pub fn a_lane_alone_holds_its_pools()
+    ensures calls { (o : Opening) (header : Header) (pool : PoolView) (v w : View) (steps : List Step)
+        → WorksAlone o header pool v steps w → w.log.phase ≡ Open [] [] → w.changes ≡ [] → HoldsCalls o w header pool }
+    ensures open_call { (o : Opening) (header : Header) (pool : PoolView) (v w : View) (steps : List Step) (level : ℕ) (at_stage : Stage) (error : TxErr)
+        → WorksAlone o header pool v steps w → w.log.phase ≡ Open [] [] → w.changes ≡ [] → IsOpen w level at_stage error
+        → HoldsOpenCall o w header pool level at_stage error }
 {}

@@ -1,0 +1,230 @@
+-- A lane that works alone, with nothing undrained before its call draws: its words as an image hold the pool before the call, and as they stand that of the call.
+use Rattle.std.proofs.Common.{◌≡◌, ◌≢◌, ◌⊎◌, inl, inr, ⊎_elim, ℕ, zero, suc, ◌<◌, ◌≤◌, Bool, true, false, not, eqb, ◌&&◌, ◌||◌, IsTrue, All, Contains, List, [], ◌∷◌, length, slice_index, Option, Some, None, refl, sym, ap, ◌∙◌, subst, arith, ◌+◌, get_or}
+use Rattle.std.specs.List.{filter, list_any, range_with_len}
+use Rattle.std.proofs.lemmas.Bool.{and_parts, cases_Bool, cases_eq, cond-true, false_from_ne_true, false≢true, cond-false, or_from}
+use Rattle.std.proofs.lemmas.List.Elements.{All-nil}
+use Rattle.std.proofs.lemmas.List.Folds.{list_any_none}
+use Rattle.std.proofs.lemmas.Option.{none-some}
+use Rattle.pm_header.specs.declared.header.Header.{Header}
+use Rattle.pm_image.specs.HeapFaults.{heap_fault}
+use Rattle.pm_image.specs.LogFaults.{log_fault}
+use Rattle.pm_image.specs.Logs.{recovered_at}
+use Rattle.pm_image.specs.Steps.{valid_record}
+use Rattle.pm_model.specs.Names.{Replays}
+use Rattle.pm_model.specs.History.{opened}
+use Rattle.pm_model.specs.Step.{Act, State}
+use Rattle.pm_objects.specs.declared.history.TxErr.{TxErr}
+use Rattle.pm_objects.specs.declared.pool.PoolView.{PoolView}
+use Rattle.pm_view.specs.declared.change.Change.{Change}
+use Rattle.pm_view.specs.Area.{area_word}
+use Rattle.pm_view.specs.Log.{Phase, Recorded}
+use Rattle.pm_view.specs.Log.Phase.{Idle, Open}
+use Rattle.pm_view.specs.Steps.{Step}
+use Rattle.pm_view.specs.View.{Numbered, View}
+use Rattle.pm_world.specs.Course.{is_number, flight, flight_in}
+use Rattle.pm_world.specs.Crash.{IsBeingWritten, IsWhole, NoneTorn, Survives, is_kept, is_lost, loses, is_deciding_in, MeansKept}
+use Rattle.pm_world.specs.Fits.{LaneFits, PhaseFits}
+use Rattle.pm_world.specs.History.{Entry, Flies, entries_by, settled}
+use Rattle.pm_world.specs.Memory.Location.{PoolWord}
+use Rattle.pm_world.specs.Opening.{IsLivingWord, Opening, TellsOfBlocks, Guards}
+use Rattle.pm_world.specs.Opens.{IsClean}
+use Rattle.pm_world.specs.Records.{is_drained_slot, is_recorded, used_slots, records_generation, is_logged}
+use Rattle.pm_crash.proofs.TornSlots.{none_torn_by_lane}
+use Rattle.pm_model.specs.declared.stage.Stage.{Stage}
+use Rattle.pm_world.specs.Entries.{is_in_log, is_redoing, is_redone}
+use Rattle.pm_world.proofs.CrashLogs.{unrecorded_unlogged}
+use Rattle.pm_world.proofs.Pairs.{none_redone}
+use Rattle.pm_world.proofs.Replays.{replayed-same}
+use Rattle.pm_world.proofs.CrashRuns.{crash_law}
+use Rattle.pm_world.proofs.CrashLaw.{all_drained}
+use Rattle.pm_world.proofs.Exclusion.{writes_under}
+use Rattle.pm_world.proofs.Slots.{word_recorded}
+use Rattle.pm_crash.specs.Alone.{BeginsAlone, alone_views}
+use Rattle.pm_crash.specs.Held.{HoldsImage, HoldsPool}
+use Rattle.pm_crash.specs.OneLane.{HoldsReplay, Moment}
+use Rattle.pm_crash.specs.OpenCall.{ComesTo, IsOpen, call_words, IsBefore}
+use Rattle.pm_crash.specs.Pending.{acts_alone, acts_of, state_after, state_alone}
+use Rattle.pm_crash.proofs.AloneCourse.{StandsAlone}
+use Rattle.pm_crash.proofs.AloneImages.{same_views, none_torn}
+use Rattle.pm_crash.proofs.AloneMemory.{memory_of}
+use Rattle.pm_crash.proofs.CleanWords.{clean_words_hold}
+use Rattle.pm_crash.proofs.Continued.{two_same}
+use Rattle.pm_crash.proofs.DrawnWords.{drawn_before, heads_stay}
+use Rattle.pm_crash.proofs.EmptyRuns.{new_runs_alike}
+use Rattle.pm_crash.proofs.FrontWords.{header_survives}
+use Rattle.pm_crash.proofs.HeldAlike.{held_alike}
+use Rattle.pm_crash.proofs.HistoryActs.{acts_of_all, state_of_one}
+use Rattle.pm_crash.proofs.ImageLogs.{no_log_fault}
+use Rattle.pm_crash.proofs.LogCourse.{InRange}
+use Rattle.pm_crash.proofs.LongerReplays.{words_after, every}
+use Rattle.pm_crash.proofs.NewRuns.{may_have_runs, image_holds}
+use Rattle.pm_crash.proofs.OneCourse.{reached_all}
+use Rattle.pm_epoch.specs.Epochs.{HoldsCalls, HoldsOpenCall}
+
+module _ (o : Opening) (header : Header) (pool : PoolView) (w : View) (s : StandsAlone o header pool w) (is_open : w.log.phase ≡ Open [] []) (drained : w.changes ≡ []) where
+  abbrev now : Moment
+  now = record { memory = memory_of w; views = s.views; log = s.log; decided = s.decided }
+
+  own_fits : LaneFits o (memory_of w) (settled o s.log s.decided) (Flies s.log s.decided 0) 0 w
+  own_fits = subst (LaneFits o (memory_of w) (settled o s.log s.decided) (Flies s.log s.decided 0) 0) s.here (s.goes.world.each_lane 0 s.goes.in_lanes)
+
+  -- nothing is taken back of its words
+  survives : Survives o (memory_of w) s.views w.words
+  survives = record {
+    size = ap (λ (u : View). length u.words) (sym s.here) ∙ (s.goes.world.each_lane 0 s.goes.in_lanes).lane.size;
+    each = λ i inside. record { lost = []; undrained = All-nil _; left = refl };
+  }
+
+  -- no slot of it is being written
+  writes_none : (slot : ℕ) → IsBeingWritten w slot → ⊥
+  writes_none slot = ⊎_elim
+      (λ (undrained : is_drained_slot w slot ≡ false). false≢true (sym undrained ∙ all_drained w slot drained))
+      (λ (used : (length w.log.records ≤ slot) × (slot < used_slots w.log.phase w)). let all : used_slots w.log.phase w ≡ length w.log.records = ap (λ p. used_slots p w) is_open in let from = used.0 in let to = used.1 in omega (arith, all, from, to))
+
+  untorn : NoneTorn o s.views w.words
+  untorn = none_torn o header pool w s w.words (none_torn_by_lane o w w.words (λ slot u within being valid. absurd (writes_none slot being)))
+
+  -- no call of it is lost: none is in flight
+  undrawn : w.number ≡ None
+  undrawn = (subst (PhaseFits (Flies s.log s.decided 0) w) is_open own_fits.phase).undrawn
+
+  loses_none : (n : ℕ) → loses w.words w n ≡ false
+  loses_none n = ap (λ number. is_number number n && not (is_deciding_in w.words w w.log.phase)) undrawn
+
+  -- so none is, of any lane
+  kept_each : (n : ℕ) → is_kept o s.views w.words n ≡ true
+  kept_each n = ap not (list_any_none (λ k. loses w.words (s.views k) n) (range_with_len 0 o.lanes) (λ i d low. none (get_or (range_with_len 0 o.lanes) i d))) where
+    none : (k : ℕ) → loses w.words (s.views k) n ≡ false
+    none k = ⊎_elim
+        (λ (same : k ≡ 0). ap (λ j. loses w.words (s.views j) n) same ∙ (ap (λ (u : View). loses w.words u n) s.here ∙ loses_none n))
+        (λ (other : k ≢ 0). ap (λ (u : View). loses w.words u n) (s.others k other))
+        (cases_eq k 0)
+
+  -- each is decided
+  decided_each : (e : Entry) → Contains s.log e → s.decided e.number ≡ true
+  decided_each e there = ⊎_elim
+      (λ (yes : s.decided e.number ≡ true). yes)
+      (λ (no : s.decided e.number ≡ false).
+      let flies : flight (s.views e.lane) ≡ Some e.number = (s.goes.world.each_entry e there).in_flight no in
+      let own : flight w ≡ Some e.number = ap flight (sym s.here) ∙ (ap (λ j. flight (s.views j)) (sym (s.goes.alone e there)) ∙ flies) in
+      absurd (none-some e.number (sym (ap (λ p. flight_in p w.number) is_open) ∙ own)))
+      (cases_Bool (s.decided e.number))
+
+  -- the other lanes have no log
+  no_records : (j : ℕ) → j < o.lanes → j ≢ 0 → (s.views j).log.records ≡ []
+  no_records j low other = ap (λ (u : View). u.log.records) (s.others j other)
+
+  no_entries : (j : ℕ) → j < o.lanes → j ≢ 0 → (s.views j).log.entries ≡ []
+  no_entries j low other = ap (λ (u : View). u.log.entries) (s.others j other)
+
+  -- so a word that it did not record is in none
+  unlogged : (i : ℕ) → is_recorded w.log.records i ≡ false → (j : ℕ) → j < o.lanes → is_in_log (s.views j) i ≡ false
+  unlogged i none j low = ⊎_elim
+      (λ (same : j ≡ 0). ap (λ k. is_in_log (s.views k) i) same ∙ (ap (λ (u : View). is_in_log u i) s.here ∙ or_from (is_logged w i) (is_redone w i) (unrecorded_unlogged w i none) (none_redone w i (ap is_redoing is_open))))
+      (λ (other : j ≢ 0). ap (λ (u : View). is_in_log u i) (s.others j other))
+      (cases_eq j 0)
+
+  own_calls : entries_by 0 s.log ≡ w.entries
+  own_calls = s.goes.world.own_entries 0 s.goes.in_lanes ∙ ap (λ (u : View). u.entries) s.here
+
+  -- a history's calls are the lane's
+  calls_alone : (last : PoolView) → Replays (opened pool) (acts_of s.log) (state_after last s.log) → Replays (opened pool) (acts_alone w.entries) (state_alone last w.entries)
+  calls_alone last replays =
+      subst (λ (calls : List Numbered). Replays (opened pool) (acts_alone calls) (state_alone last calls)) own_calls
+      (subst (λ (t : State). Replays (opened pool) (acts_alone (entries_by 0 s.log)) t) (state_of_one last s.log s.goes.alone)
+      (subst (λ (acts : List Act). Replays (opened pool) acts (state_after last s.log)) (acts_of_all s.log s.goes.alone) replays))
+
+  -- the words behind its calls, and the pool that these lead to
+  abbrev words : ℕ → ℕ
+  words = words_after (slice_index o.words) s.log
+
+  reached : HoldsReplay words o.lanes o.zones header pool s.log
+  reached = reached_all o 0 header pool now s.goes
+
+  -- as an image its words hold that pool
+  image_pool : HoldsPool (recovered_at w.words o.lanes) o.lanes o.zones header reached.last
+  image_pool =
+      image_holds o words (λ i tells. heads_stay o 0 now s.goes.world s.goes.in_lanes i tells) s.goes.world.sound w.words survives.size
+      (λ i living. kept.words i living ∙ replayed-same (is_kept o s.views w.words) every s.log i (slice_index o.words i) (λ e there of. kept_each e.number)) kept.new_runs header reached.last reached.holds
+    where
+      kept : MeansKept o s.views s.log w.words
+      kept = crash_law o (memory_of w) s.views s.log s.decided w.words s.goes.world survives untorn
+
+  module _ (v : View) (begins : BeginsAlone o header pool v) where
+    ranges : (j : ℕ) → j < o.lanes → InRange (memory_of w (PoolWord (area_word j))) (s.views j) (s.views j).log.phase
+    ranges j low = ⊎_elim
+        (λ (same : j ≡ 0). subst (λ n. InRange (memory_of w (PoolWord (area_word n))) (s.views n) (s.views n).log.phase) (sym same) s.goes.range)
+        (λ (other : j ≢ 0). subst (InRange (memory_of w (PoolWord (area_word j))) (s.views j)) (sym (s.goes.others j low other)) tt)
+        (cases_eq j 0)
+
+    abbrev calls_here : HoldsCalls o w header pool
+    calls_here = record {
+      before = reached.last;
+      holds = record {
+        has_header = header_survives o (memory_of w) s.views s.log s.decided s.goes.world header w.words survives s.goes.front begins.holds.has_header;
+        fits = begins.holds.fits;
+        no_log_fault = no_log_fault o (memory_of w) s.views s.log s.decided s.goes.world w.words survives untorn ranges (clean_words_hold o header pool begins.holds begins.clean).no_fault;
+        holds = image_pool;
+      };
+      replays = calls_alone reached.last reached.replays;
+    }
+
+    pub holds_calls : HoldsCalls o w header pool
+    holds_calls = calls_here
+
+  -- ---- the open call
+
+  same_lanes : w.lanes ≡ o.lanes
+  same_lanes = own_fits.lane.lanes
+
+  same_zones : w.zones ≡ o.zones
+  same_zones = own_fits.lane.zones
+
+  before_holds : HoldsPool words w.lanes w.zones header reached.last
+  before_holds = two_same (λ (a b : ℕ). HoldsPool words a b header reached.last) o.lanes w.lanes o.zones w.zones (sym same_lanes) (sym same_zones) reached.holds
+
+  open_here : (s.views 0).log.phase ≡ Open [] []
+  open_here = ap (λ (u : View). u.log.phase) s.here ∙ is_open
+
+  is_before : IsBefore w words
+  is_before = subst (λ u. IsBefore u words) s.here
+      (drawn_before o 0 now s.goes.world s.goes.in_lanes s.goes.alone no_records no_entries open_here reached.holds.no_fault)
+
+  -- what it recorded is none of the words that tell of blocks
+  call_heads : (i : ℕ) → TellsOfBlocks o i → call_words w words i ≡ slice_index o.words i
+  call_heads i tells =
+      let unrecorded : is_recorded w.log.records i ≡ false = false_from_ne_true (is_recorded w.log.records i) (λ recorded.
+      let t = word_recorded (settled o s.log s.decided) w (records_generation w.log.phase w) i own_fits.log recorded in
+      let under = writes_under o (memory_of w) 0 w i own_fits.locks t.fits.own in
+      s.goes.world.sound.apart under.0 i under.1 tells) in
+      cond-false (is_recorded w.log.records i) (slice_index w.words i) (words i) unrecorded ∙ heads_stay o 0 now s.goes.world s.goes.in_lanes i tells
+
+  -- each living word is as the call made it
+  living_same : (i : ℕ) → IsLivingWord o i → slice_index w.words i ≡ call_words w words i
+  living_same i living = ⊎_elim
+      (λ (recorded : is_recorded w.log.records i ≡ true). sym (cond-true (is_recorded w.log.records i) (slice_index w.words i) (words i) recorded))
+      (λ (unrecorded : is_recorded w.log.records i ≡ false).
+      s.goes.world.each_word i living (unlogged i unrecorded)
+      ∙ (replayed-same s.decided every s.log i (slice_index o.words i) (λ e there of. decided_each e there)
+      ∙ sym (cond-false (is_recorded w.log.records i) (slice_index w.words i) (words i) unrecorded)))
+      (cases_Bool (is_recorded w.log.records i))
+
+  module _ (v : View) (begins : BeginsAlone o header pool v) (level : ℕ) (at_stage : Stage) (error : TxErr) (open_call : IsOpen w level at_stage error) where
+    of_pool : w.pool ≡ header.id
+    of_pool = ap (λ (u : View). u.pool) (sym s.here) ∙ s.goes.of_pool
+
+    comes : ComesTo w words header reached.last level at_stage error
+    comes = open_call.comes words header reached.last before_holds of_pool is_before
+
+    call_holds : HoldsPool (call_words w words) o.lanes o.zones header comes.tx.pool
+    call_holds = two_same (λ (a b : ℕ). HoldsPool (call_words w words) a b header comes.tx.pool) w.lanes o.lanes w.zones o.zones same_lanes same_zones comes.holds
+
+    pub holds_open_call : HoldsOpenCall o w header pool level at_stage error
+    holds_open_call = record {
+      held = calls_here v begins;
+      words = words;
+      comes = comes;
+      holds = held_alike (call_words w words) (slice_index w.words) o.lanes o.zones header comes.tx.pool call_holds
+          (new_runs_alike (call_words w words) (slice_index w.words) o.lanes o.zones
+          (may_have_runs o (call_words w words) call_heads s.goes.world.sound call_holds.no_fault (slice_index w.words) living_same s.goes.world.new_runs) call_holds.no_fault);
+    }
