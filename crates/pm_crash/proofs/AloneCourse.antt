@@ -11,7 +11,7 @@ use Rattle.pm_view.specs.declared.occ.Occ.TheVariants.{Run, Zone}
 use Rattle.pm_view.specs.Area.{area_word}
 use Rattle.pm_view.specs.Counts.{MayCount, is_counted}
 use Rattle.pm_view.specs.Founds.{FoundAlone, IsAlone}
-use Rattle.pm_view.specs.Log.{Phase}
+use Rattle.pm_view.specs.Log.{Phase, no_log}
 use Rattle.pm_view.specs.Log.Phase.{Idle, Open, Drawn, Sealing, Applying, Clearing, Retiring}
 use Rattle.pm_view.specs.Occupancy.{is_taken}
 use Rattle.pm_view.specs.Steps.{Step}
@@ -28,20 +28,22 @@ use Rattle.pm_world.specs.Memory.{occ_at}
 use Rattle.pm_world.specs.Memory.Location.{PoolWord}
 use Rattle.pm_world.specs.Moves.{Moves}
 use Rattle.pm_world.specs.Opening.{Opening}
-use Rattle.pm_world.specs.Opens.{IsFresh}
+use Rattle.pm_world.specs.Opens.{IsFresh, IsClean}
 use Rattle.pm_world.specs.World.{Views, is_low}
+use Rattle.pm_crash.specs.Held.{HoldsImage}
+use Rattle.pm_crash.proofs.BeginsAgain.{again, begins_between, over_decided, over_log}
 use Rattle.pm_world.proofs.Chunks.{chunk_is}
 use Rattle.pm_world.proofs.Frame.{view_else, view_here}
 use Rattle.pm_world.proofs.StepSeen.{not_low_more, told}
 use Rattle.pm_world.proofs.Worlds.{room_kept}
-use Rattle.pm_crash.specs.Alone.{BeginsAlone, alone_views, idle_view}
+use Rattle.pm_crash.specs.Alone.{BeginsAlone, alone_views, idle_view, Begins, BeginsAgain}
 use Rattle.pm_crash.specs.HeldHistory.{DrawsEnded, IsEndedCall}
 use Rattle.pm_crash.specs.Leading.{Leads}
 use Rattle.pm_crash.specs.OneLane.{IsModelStep, IsPaid, Makes, Moment, Move, moved}
 use Rattle.pm_crash.proofs.AloneMemory.{draw_moves, drain_moves, flush_moves, give_moves, in_picture, load_moves, memory_of, number_moves, occupied_moves, occupy_moves, one_if, same_memory, sizes_after, store_moves, take_read_moves, take_write_moves, tell_moves, vacate_moves, zone_give_moves, zone_try_moves, or_moves, and_moves}
 use Rattle.pm_crash.proofs.EndedCalls.{given_up_steps, whole_steps}
 use Rattle.pm_crash.proofs.LogCourse.{InRange, all_of, carried}
-use Rattle.pm_crash.proofs.OneCourse.{Goes, goes_first, goes_on}
+use Rattle.pm_crash.proofs.OneCourse.{Goes, goes_first, goes_on, goes_between}
 
 -- the calls and the entries of a lane grow
 pub record Grows (v w : View) : Type 0 where
@@ -118,6 +120,29 @@ numbered_at n (d ∷ before) e rest numbered =
 counts_less : (stop other : Option ℕ) (calls last : ℕ) → other ≡ stop → calls < last → ForSome other (λ s. last ≤ s) → ForSome stop (λ s. calls < s)
 counts_less stop other calls last same less within s is = let most = within s (same ∙ is) in omega arith
 
+-- ---- what either beginning says
+
+pub begins_alone : (o : Opening) (header : Header) (pool : PoolView) (v : View) → Begins o header pool v → IsAlone v
+begins_alone o header pool v = ⊎_elim (λ (first : BeginsAlone o header pool v). first.alone) (λ (again : BeginsAgain o header pool v). again.alone)
+
+pub begins_words : (o : Opening) (header : Header) (pool : PoolView) (v : View) → Begins o header pool v → v.words ≡ o.words
+begins_words o header pool v = ⊎_elim (λ (first : BeginsAlone o header pool v). first.fresh.words) (λ (again : BeginsAgain o header pool v). again.rested.words)
+
+pub begins_lane : (o : Opening) (header : Header) (pool : PoolView) (v : View) → Begins o header pool v → v.lane ≡ 0
+begins_lane o header pool v = ⊎_elim (λ (first : BeginsAlone o header pool v). first.fresh.lane.lane) (λ (again : BeginsAgain o header pool v). again.rested.lane.lane)
+
+pub begins_idle : (o : Opening) (header : Header) (pool : PoolView) (v : View) → Begins o header pool v → v.log ≡ no_log Idle
+begins_idle o header pool v = ⊎_elim (λ (first : BeginsAlone o header pool v). first.fresh.idle) (λ (again : BeginsAgain o header pool v). again.rested.idle)
+
+pub begins_drained : (o : Opening) (header : Header) (pool : PoolView) (v : View) → Begins o header pool v → v.changes ≡ []
+begins_drained o header pool v = ⊎_elim (λ (first : BeginsAlone o header pool v). first.fresh.nothing_changed) (λ (again : BeginsAgain o header pool v). again.rested.drained)
+
+pub begins_clean : (o : Opening) (header : Header) (pool : PoolView) (v : View) → Begins o header pool v → (j : ℕ) → j < o.lanes → IsClean o j
+begins_clean o header pool v = ⊎_elim (λ (first : BeginsAlone o header pool v). first.clean) (λ (again : BeginsAgain o header pool v). again.clean)
+
+pub begins_holds : (o : Opening) (header : Header) (pool : PoolView) (v : View) → Begins o header pool v → (now : PoolView) × HoldsImage o.words o.lanes o.zones header now
+begins_holds o header pool v = ⊎_elim (λ (first : BeginsAlone o header pool v). (pool, first.holds)) (λ (again : BeginsAgain o header pool v). (again.now, again.holds))
+
 -- the lane is at this view of a world that it alone made steps in
 pub record StandsAlone (o : Opening) (header : Header) (pool : PoolView) (v : View) : Type 0 where
   pub views : Views
@@ -192,6 +217,22 @@ module _ (o : Opening) (header : Header) (pool : PoolView) where
         (λ (same : j ≡ 0). subst (λ (n : ℕ). IsFresh o n (alone_views o v n)) (sym same) begins.fresh)
         (λ (other : j ≢ 0). subst (IsFresh o j) (sym (alone_else o v j other)) (idle_fresh o j))
         (cases_eq j 0)
+
+  -- and between two calls, where it begins again
+  stands_again : (v : View) → BeginsAgain o header pool v → StandsAlone o header pool v
+  stands_again v begins = record {
+    views = alone_views o v;
+    log = over_log v.entries;
+    decided = over_decided v.entries;
+    goes = goes_between o 0 header pool (again o header pool v begins) (begins_between o header pool v begins);
+    here = refl;
+    others = alone_else o v;
+    pages = let words : length v.words ≡ length o.words = ap (λ (words : List ℕ). length words) begins.rested.words in let size = begins.holds.has_header.has_shape.size in let all = begins.pages in omega arith;
+    zone_count = begins.zone_count;
+  }
+
+  pub stands_begun : (v : View) → Begins o header pool v → StandsAlone o header pool v
+  stands_begun v = ⊎_elim (λ (first : BeginsAlone o header pool v). stands_first v first) (λ (again : BeginsAgain o header pool v). stands_again v again)
 
   module _ (v : View) (stands : StandsAlone o header pool v) where
     abbrev now : Moment
@@ -341,5 +382,5 @@ module _ (o : Opening) (header : Header) (pool : PoolView) where
       (stands_after v stands s alone leads.0 leads.1 leads.2 (due_along v s w grows within) (number_along v s w grows numbered))
       ((same_lane-after v s).table ∙ alone) leads.3 numbered within
 
-  pub stands_at : (v : View) (steps : List Step) (w : View) → BeginsAlone o header pool v → Leads v steps w → AreNumbered 1 w.entries → ForSome w.stop (λ stop. w.calls ≤ stop) → StandsAlone o header pool w
-  stands_at v steps w begins = stands_along v steps w (stands_first v begins) begins.alone
+  pub stands_at : (v : View) (steps : List Step) (w : View) → Begins o header pool v → Leads v steps w → AreNumbered 1 w.entries → ForSome w.stop (λ stop. w.calls ≤ stop) → StandsAlone o header pool w
+  stands_at v steps w begins = stands_along v steps w (stands_begun v begins) (begins_alone o header pool v begins)

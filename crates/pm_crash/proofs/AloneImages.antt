@@ -35,10 +35,10 @@ use Rattle.pm_world.proofs.CrashEntries.{generation_is}
 use Rattle.pm_world.proofs.CrashLogs.{GenerationIs, SealIs}
 use Rattle.pm_world.proofs.CrashRecords.{generation_unsealed}
 use Rattle.pm_world.proofs.CrashWords.{seal_is}
-use Rattle.pm_crash.specs.Alone.{BeginsAlone, IsDrawnAt, IsUnsealed, MeansCalls, WorksAlone, alone_views, kept_numbered}
+use Rattle.pm_crash.specs.Alone.{Begins, IsDrawnAt, IsUnsealed, MeansCalls, WorksAlone, alone_views, kept_numbered}
 use Rattle.pm_crash.specs.OneLane.{HoldsReplay, Moment, kept_entries}
 use Rattle.pm_crash.specs.Pending.{acts_alone, state_after, state_alone}
-use Rattle.pm_crash.proofs.AloneCourse.{StandsAlone, alone_else, stands_at}
+use Rattle.pm_crash.proofs.AloneCourse.{StandsAlone, alone_else, stands_at, begins_clean, begins_holds}
 use Rattle.pm_crash.proofs.AloneMemory.{memory_of}
 use Rattle.pm_crash.proofs.HistoryActs.{acts_of_all, state_of_one}
 use Rattle.pm_crash.proofs.FrontWords.{front_survives}
@@ -181,7 +181,7 @@ module _ (o : Opening) (header : Header) (pool : PoolView) (w : View) (s : Stand
     kept_alone : (e : Entry) → Contains (kept_entries o now image) e → e.lane ≡ 0
     kept_alone e there = s.goes.alone e (member_kept (λ (d : Entry). is_kept o s.views image d.number) s.log e there)
 
-    pub image_calls : (v : View) → BeginsAlone o header pool v → Survives o (memory_of w) s.views image → NoneTorn o s.views image → MeansCalls image o.lanes o.zones pool (kept_numbered image w)
+    pub image_calls : (v : View) → Begins o header pool v → Survives o (memory_of w) s.views image → NoneTorn o s.views image → MeansCalls image o.lanes o.zones pool (kept_numbered image w)
     image_calls v begins survives whole =
         let held : HoldsReplay (recovered_at image o.lanes) o.lanes o.zones header pool (kept_entries o now image) = image_replays o 0 header pool now s.goes image survives whole in
         record {
@@ -190,7 +190,7 @@ module _ (o : Opening) (header : Header) (pool : PoolView) (w : View) (s : Stand
               subst (λ (calls : List Numbered). Replays (opened pool) (acts_alone calls) (state_alone held.last calls)) kept_calls
               (subst (λ (s : State). Replays (opened pool) (acts_alone (entries_by 0 (kept_entries o now image))) s) (state_of_one held.last (kept_entries o now image) kept_alone)
               (subst (λ (acts : List Act). Replays (opened pool) acts (state_after held.last (kept_entries o now image))) (acts_of_all (kept_entries o now image) kept_alone) held.replays));
-          means = image_means o 0 header pool now s.goes image pool begins.holds begins.clean survives whole held;
+          means = image_means o 0 header pool now s.goes image (begins_holds o header pool v begins).0 (begins_holds o header pool v begins).1 (begins_clean o header pool v begins) survives whole held;
           blocks_are = blocks_offsets (recovered_at image o.lanes) o.lanes o.zones header held.last held.holds.is_pool;
         }
 

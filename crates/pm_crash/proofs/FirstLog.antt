@@ -316,7 +316,7 @@ module _ (o : Opening) (header : Header) (pool : PoolView) (v : View) (stands : 
           (cases_lt (length (slot ++ y ∷ [])) 8)
         where
           can_more : (lg : Log) → lg.records ≡ v.log.records → (r : Recorded) → CanRecord v r → CanRecord (stored lg) r
-          can_more lg same = can_on v (stored lg) same (λ u own. own) (λ u own. known_more (is_in_area v.lane u) true w v.known u)
+          can_more lg same = can_on v (stored lg) same (λ u own. own) (λ u own. known_more (is_in_area v.lane u) (is_held v w) w v.known u)
               (λ u own new. other_word u (λ e. let far = behind u own in let at = may.at in let lane = fits.lane.lane in let free = may.free in omega (arith, e, far, at, lane, free, short)))
 
           grown : CanRecord (stored (in_phase (Open (slot ++ y ∷ []) pair) v.log)) may.next → FirstLog origin (stored (in_phase (Open (slot ++ y ∷ []) pair) v.log)) (Open (slot ++ y ∷ []) pair)
@@ -344,7 +344,7 @@ module _ (o : Opening) (header : Header) (pool : PoolView) (v : View) (stands : 
             olds = new_changes (λ (c : Change). InSlots 0 c.word → OldOf v.changes c) (λ c there slots. itself v.changes c there) (λ slots. absurd (let high = slots.high in omega (arith, far, high)));
             records = refl;
             entries = λ applied is. refl;
-            can = λ slot pair is. can_on v (stored v.log) refl (λ u own. own) (λ u own. known_more (is_in_area v.lane u) true w v.known u)
+            can = λ slot pair is. can_on v (stored v.log) refl (λ u own. own) (λ u own. known_more (is_in_area v.lane u) (is_held v w) w v.known u)
                 (λ u own new. other_word u (λ e. false≢true (sym new ∙ (ap (is_recorded v.log.records) e ∙ logged_recorded v w may.logged))));
           }
 
@@ -360,7 +360,7 @@ module _ (o : Opening) (header : Header) (pool : PoolView) (v : View) (stands : 
             olds = new_changes (λ (c : Change). InSlots 0 c.word → OldOf v.changes c) (λ c there slots. itself v.changes c there) (λ slots. absurd (let high = slots.high in omega (arith, far, high)));
             records = refl;
             entries = λ applied is. refl;
-            can = λ slot pair is. can_on v (stored v.log) refl (λ u own. own) (λ u own. known_more (is_in_area v.lane u) true w v.known u)
+            can = λ slot pair is. can_on v (stored v.log) refl (λ u own. own) (λ u own. known_more (is_in_area v.lane u) (is_held v w) w v.known u)
                 (λ u own new. other_word u (λ e. aside_written o stands.views 0 w stands.goes.world.sound aside (memory_of v) 0 v fits.locks (ap (is_written v) (sym e) ∙ own)));
           }
 
@@ -372,7 +372,7 @@ module _ (o : Opening) (header : Header) (pool : PoolView) (v : View) (stands : 
         olds = new_changes (λ (c : Change). InSlots 0 c.word → OldOf v.changes c) (λ c there slots. itself v.changes c there) (λ slots. absurd (let from = slots.low in omega (arith, from, high)));
         records = records;
         entries = entries;
-        can = λ slot pair is. can_on v (stored lg) records (λ u own. own) (λ u own. known_more (is_in_area v.lane u) true w v.known u)
+        can = λ slot pair is. can_on v (stored lg) records (λ u own. own) (λ u own. known_more (is_in_area v.lane u) (is_held v w) w v.known u)
             (λ u own new. other_word u (λ e. let far = behind u own in omega (arith, e, far, high)));
       }
 

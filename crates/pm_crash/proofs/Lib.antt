@@ -30,6 +30,7 @@ pub mod Differing
 pub mod NewRecords
 pub mod AddOn
 pub mod GivenUp
+pub mod BeginsAgain
 pub mod Begun
 pub mod Levels
 pub mod RefusedBegin

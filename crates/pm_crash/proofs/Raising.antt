@@ -28,7 +28,7 @@ use Rattle.pm_world.proofs.CrashWords.{reserved_word}
 use Rattle.pm_world.proofs.StoreEntry.{next_entry}
 use Rattle.pm_crash.specs.Alone.{WorksAlone, is_raise, raises}
 use Rattle.pm_crash.specs.Leading.{Leads}
-use Rattle.pm_crash.proofs.AloneCourse.{StandsAlone, due_along, grows_along, number_along, stands_after, stands_first}
+use Rattle.pm_crash.proofs.AloneCourse.{StandsAlone, due_along, grows_along, number_along, stands_after, stands_begun, begins_alone, begins_lane, begins_words}
 use Rattle.pm_crash.proofs.AloneImages.{own_fits}
 use Rattle.pm_crash.proofs.AloneMemory.{load_words, memory_of}
 use Rattle.pm_crash.proofs.FirstLog.{behind}
@@ -146,7 +146,7 @@ module _ (o : Opening) (header : Header) (pool : PoolView) where
 
   pub generation_raised : (v w : View) (steps : List Step) → WorksAlone o header pool v steps w → generation_of w ≡ generation_word o.words 0 + raises steps
   generation_raised v w steps works =
-      let fresh = works.begins.fresh in
-      let from : generation_of v ≡ generation_word o.words 0 = (λ i. slice_index (fresh.words i) (512 + 1024 * fresh.lane.lane i)) in
-      raised_along v steps w (stands_first o header pool v works.begins) works.begins.alone works.leads works.numbered works.within
+      let words = begins_words o header pool v works.begins in let lane = begins_lane o header pool v works.begins in
+      let from : generation_of v ≡ generation_word o.words 0 = (λ i. slice_index (words i) (512 + 1024 * lane i)) in
+      raised_along v steps w (stands_begun o header pool v works.begins) (begins_alone o header pool v works.begins) works.leads works.numbered works.within
       ∙ ap (λ (g : ℕ). g + raises steps) from

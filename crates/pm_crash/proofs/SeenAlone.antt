@@ -10,10 +10,10 @@ use Rattle.pm_view.specs.View.{View}
 use Rattle.pm_memory.specs.Keep.{IsKeptImage}
 use Rattle.pm_memory.specs.Solo.{Sees, Solo}
 use Rattle.pm_world.specs.Opening.{Opening}
-use Rattle.pm_crash.specs.Alone.{BeginsAlone, WorksAlone}
+use Rattle.pm_crash.specs.Alone.{Begins, WorksAlone}
 use Rattle.pm_crash.specs.Leading.{Leads}
 
-pub works_where_seen : (o : Opening) (header : Header) (pool : PoolView) (m : Solo) (v w : View) (steps : List Step) → BeginsAlone o header pool v → Leads v steps w → Sees m w → WorksAlone o header pool v steps w
+pub works_where_seen : (o : Opening) (header : Header) (pool : PoolView) (m : Solo) (v w : View) (steps : List Step) → Begins o header pool v → Leads v steps w → Sees m w → WorksAlone o header pool v steps w
 works_where_seen o header pool m v w steps begins leads sees = record {
   begins = begins;
   leads = leads;

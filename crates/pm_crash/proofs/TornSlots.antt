@@ -46,7 +46,7 @@ use Rattle.pm_world.proofs.Pairs.{none_redone}
 use Rattle.pm_world.proofs.StoreSlot.{length-spelled}
 use Rattle.pm_crash.specs.Alone.{GrowsFirst, HasNoTornMatch, MayRecord, Rests, WorksAlone, alone_views, idle_view, is_of_words, standing}
 use Rattle.pm_crash.specs.Leading.{Leads}
-use Rattle.pm_crash.proofs.AloneCourse.{StandsAlone, alone_else, due_along, grows_along, number_along, stands_after, stands_at}
+use Rattle.pm_crash.proofs.AloneCourse.{StandsAlone, alone_else, due_along, grows_along, number_along, stands_after, stands_at, begins_alone, begins_drained, begins_idle, begins_words}
 use Rattle.pm_crash.proofs.AloneImages.{kept_survives, own_fits}
 use Rattle.pm_crash.proofs.AloneMemory.{memory_of}
 use Rattle.pm_crash.proofs.FirstLog.{FirstLog, Making, Since, Unwritten, first_after}
@@ -93,7 +93,7 @@ module _ (o : Opening) (header : Header) (pool : PoolView) where
   first_at v b w before steps works leads rests =
       let up : WorksAlone o header pool v before b = works_up_to o header pool v b w before steps works leads in
       let stands : StandsAlone o header pool b = stands_at o header pool v before b up.begins up.leads up.numbered up.within in
-      first_along (standing o b) b steps w stands (alone_on_the_way v b before up.begins.alone leads) (first_at_rest o b (own_fits o header pool b stands).lane.lane rests)
+      first_along (standing o b) b steps w stands (alone_on_the_way v b before (begins_alone o header pool v up.begins) leads) (first_at_rest o b (own_fits o header pool b stands).lane.lane rests)
       (leads_on v b w before steps leads works.leads) works.numbered works.within
 
 -- eight words of a list
@@ -411,9 +411,8 @@ pub none_torn_alone : (o : Opening) (header : Header) (pool : PoolView) (v w : V
     → IsKeptImage keep w.words (w.changes ∷ []) image → GrowsFirst o w w.log.phase → HasNoTornMatch o test → ((r : Recorded) → MayRecord w r → test r ≡ true) → NoneTorn o (alone_views o w) image
 unfolding Leads
 none_torn_alone o header pool v w steps keep image test works is grows none passes =
-    let fresh = works.begins.fresh in
-    let same : standing o v ≡ o = ap (λ (words : List ℕ). let p : Opening = record o { words = words } in p) fresh.words in
-    none_torn_behind o header pool v v w [] steps keep image test works refl (record { empty = inl fresh.idle; drained = fresh.nothing_changed }) is
+    let same : standing o v ≡ o = ap (λ (words : List ℕ). let p : Opening = record o { words = words } in p) (begins_words o header pool v works.begins) in
+    none_torn_behind o header pool v v w [] steps keep image test works refl (record { empty = inl (begins_idle o header pool v works.begins); drained = begins_drained o header pool v works.begins }) is
     (subst (λ (p : Opening). GrowsFirst p w w.log.phase) (sym same) grows) (subst (λ (p : Opening). HasNoTornMatch p test) (sym same) none) passes
 
 -- a record that the lane may be writing has its words

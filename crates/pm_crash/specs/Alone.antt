@@ -1,5 +1,5 @@
 -- One lane that makes steps where no other lane makes any, over an image that holds a pool; and what a power failure leaves of its work.
-use Rattle.std.specs.Prelude.{◌≡◌, ◌≢◌, ◌⊎◌, ℕ, ◌+◌, ◌*◌, ◌<◌, ◌≤◌, ◌==◌, ◌&&◌, nat_le, not, Bool, true, false, if◌then◌else◌, IsTrue, List, [], ◌∷◌, length, map, slice_index}
+use Rattle.std.specs.Prelude.{◌≡◌, ◌≢◌, ◌⊎◌, ℕ, ◌+◌, ◌*◌, ◌<◌, ◌≤◌, ◌==◌, ◌&&◌, nat_le, not, Bool, true, false, if◌then◌else◌, IsTrue, List, [], ◌∷◌, length, map, slice_index, ◌↔◌, Some}
 use Rattle.std.specs.List.{filter, list_all, range_with_len}
 use Rattle.std.specs.Option.{ForSome}
 use Rattle.pm_header.specs.declared.header.Header.{Header}
@@ -15,7 +15,7 @@ use Rattle.pm_record.specs.Undo.{is_record}
 use Rattle.pm_view.specs.Founds.{IsAlone}
 use Rattle.pm_view.specs.Log.{Phase, Recorded, no_log}
 use Rattle.pm_view.specs.Log.Phase.{Applying, Clearing, Drawn, Idle, Open, Retiring, Sealing}
-use Rattle.pm_view.specs.Occupancy.{IsOccupancy}
+use Rattle.pm_view.specs.Occupancy.{IsOccupancy, is_taken}
 use Rattle.pm_view.specs.Rights.{is_written}
 use Rattle.pm_view.specs.Area.{area_word}
 use Rattle.pm_view.specs.Steps.{Step}
@@ -24,12 +24,17 @@ use Rattle.pm_view.specs.View.{Numbered, View, blank}
 use Rattle.pm_memory.specs.Solo.{AreNumbered}
 use Rattle.pm_world.specs.Crash.{loses}
 use Rattle.pm_world.specs.Opening.{Opening}
-use Rattle.pm_world.specs.Opens.{IsClean, IsFresh}
+use Rattle.pm_world.specs.Opens.{IsClean, IsFresh, IsRested}
 use Rattle.pm_world.specs.Records.{generation_of, spelled}
-use Rattle.pm_world.specs.World.{Views}
+use Rattle.pm_world.specs.World.{Views, may_draw}
 use Rattle.pm_crash.specs.Held.{HoldsImage}
 use Rattle.pm_crash.specs.Leading.{Leads}
 use Rattle.pm_crash.specs.Pending.{acts_alone, state_alone}
+use Rattle.std.specs.Int.{bit_at}
+use Rattle.pm_view.specs.declared.occ.Occ.{Occ}
+use Rattle.pm_view.specs.Views.{occ_in}
+use Rattle.pm_world.specs.Heap.{IsOcc, has_taken}
+use Rattle.pm_world.specs.Lawful.{generation_limit}
 
 -- the image holds a pool and each log is clean; the view is that of lane 0 before its first step, of this pool, and of no table
 pub record BeginsAlone (o : Opening) (header : Header) (pool : PoolView) (v : View) : Type 0 where
@@ -41,9 +46,33 @@ pub record BeginsAlone (o : Opening) (header : Header) (pool : PoolView) (v : Vi
   pub of_pool : v.pool ≡ header.id
   pub alone : IsAlone v
 
+-- The lane begins again between two of its calls, over the words as they stand then. An image of these holds a pool, to which its calls so far lead from this
+-- one; each log is clean, and it has nothing open, undrained or locked. Its picture of the occupancy words has what the words say is taken, and what it
+-- reserved. Its numbers are its own, and not spent.
+pub record BeginsAgain (o : Opening) (header : Header) (pool : PoolView) (v : View) : Type 0 where
+  pub now : PoolView
+  pub holds : HoldsImage o.words o.lanes o.zones header now
+  pub replays : Replays (opened pool) (acts_alone v.entries) (state_alone now v.entries)
+  pub clean : (j : ℕ) → j < o.lanes → IsClean o j
+  pub rested : IsRested o 0 v
+  pub unlocked : v.zone_locks ≡ []
+  pub pages : length v.run_words ≡ 1 + 2 * o.lanes + 65 * o.zones
+  pub zone_count : length v.zone_words ≡ 32
+  pub occupied : (at : Occ) (bit : ℕ) → IsOcc o.lanes o.zones at → bit < 64 → (bit_at (occ_in v at) bit ≡ 1) ↔ ((is_taken (slice_index o.words) o.lanes at bit ≡ true) ⊎ (has_taken v at bit ≡ true))
+  pub of_pool : v.pool ≡ header.id
+  pub alone : IsAlone v
+  pub numbered : AreNumbered 1 v.entries
+  pub newest : (n : ℕ) → v.number ≡ Some n → n ≡ length v.entries
+  pub closed : may_draw v ≡ false
+  pub few : length v.entries < generation_limit + 32
+
+-- it begins, or begins again
+abbrev pub Begins : Opening → Header → PoolView → View → Type 0
+Begins o header pool v = BeginsAlone o header pool v ⊎ BeginsAgain o header pool v
+
 -- from there the steps led to the view w: the numbers drawn are the lane's own, and it made no more counted calls than up to its stop number
 pub record WorksAlone (o : Opening) (header : Header) (pool : PoolView) (v : View) (steps : List Step) (w : View) : Type 0 where
-  pub begins : BeginsAlone o header pool v
+  pub begins : Begins o header pool v
   pub leads : Leads v steps w
   pub numbered : AreNumbered 1 w.entries
   pub within : ForSome w.stop (λ stop. w.calls ≤ stop)

@@ -7,4 +7,5 @@ pub mod OwnBits
 pub mod FilledBlocks
 pub mod ClearChunks
 pub mod ReadyLanes
+pub mod RestingLanes
 pub mod DrawnCalls

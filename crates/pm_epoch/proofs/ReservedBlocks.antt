@@ -1,6 +1,6 @@
 -- What a lane that is alone reserved is free by the pool's words as they stand.
-use Rattle.std.proofs.Common.{◌≡◌, ◌≢◌, ⊎_elim, ℕ, ◌+◌, ◌*◌, ◌<◌, ◌≤◌, true, false, Bool, Contains, List, None, Option, Some, length, slice_index, sym, ap, ◌∙◌, subst, arith}
-use Rattle.std.proofs.lemmas.Bool.{cases_lt, false_from_ne_true, false≢true}
+use Rattle.std.proofs.Common.{◌≡◌, ◌≢◌, ⊎_elim, ℕ, ◌+◌, ◌*◌, ◌<◌, ◌≤◌, true, false, Bool, Contains, List, None, Option, Some, length, slice_index, sym, ap, ◌∙◌, subst, arith, not, eq-eqb, ◌%◌, ◌-◌, refl}
+use Rattle.std.proofs.lemmas.Bool.{cases_lt, false_from_ne_true, false≢true, and_from}
 use Rattle.std.specs.Option.{IfSome}
 use Rattle.std.proofs.lemmas.List.{get_or_past}
 use Rattle.std.proofs.lemmas.List.Elements.{All-contains}
@@ -8,20 +8,24 @@ use Rattle.pm_layout.specs.Sizes.{descriptor_of}
 use Rattle.pm_layout.specs.declared.class.Class.TheVariants.{Lines}
 use Rattle.pm_image.specs.Blocks.{descriptor_word}
 use Rattle.pm_image.specs.HeapFaults.{heap_fault}
-use Rattle.pm_view.specs.declared.occ.Occ.TheVariants.{Zone}
-use Rattle.pm_view.specs.Blocks.{block_at, is_run, zone_page}
+use Rattle.pm_view.specs.declared.occ.Occ.TheVariants.{Zone, Run}
+use Rattle.pm_view.specs.Blocks.{block_at, is_run, zone_page, chunk_of, zone_of}
+use Rattle.pm_view.specs.Blocks.{descriptor_word as lane_descriptor}
 use Rattle.pm_view.specs.Occupancy.{is_taken}
 use Rattle.pm_view.specs.View.{Lock, View}
-use Rattle.pm_view.specs.Views.{reserves}
+use Rattle.pm_view.specs.Views.{reserves, has_bit, has_chunk, is_made}
 use Rattle.pm_world.specs.Fits.{LockFits}
-use Rattle.pm_world.specs.Heap.{AreNewRuns, heap_words}
+use Rattle.pm_world.specs.Heap.{AreNewRuns, heap_words, IsEmptyRun, IsOcc}
 use Rattle.pm_world.specs.History.{Entry}
 use Rattle.pm_world.specs.Memory.{Memory}
 use Rattle.pm_world.specs.Memory.Location.{PoolWord}
 use Rattle.pm_world.specs.Opening.{IsChunk, Opening, is_free_chunk}
 use Rattle.pm_world.specs.World.{Views, World}
+use Rattle.pm_view.specs.declared.occ.Occ.{Occ}
+use Rattle.std.specs.List.{list_any}
+use Rattle.pm_world.proofs.Reserved.{reserved_low, reserved_of_pool}
 use Rattle.pm_world.proofs.Chunks.{opening_word}
-use Rattle.pm_world.proofs.HeapWords.{taken_before}
+use Rattle.pm_world.proofs.HeapWords.{taken_before, free_in, page_in, page_in_chunk, page_in_number, page_in_word, page_in_zone}
 use Rattle.pm_world.proofs.Living.{TellsOf}
 use Rattle.pm_crash.specs.HeapChanges.{MayBeFreed, run_at}
 use Rattle.pm_crash.specs.NewObjects.{AreFreeChunks, IsFreeInRun}
@@ -72,6 +76,33 @@ module _ (o : Opening) (mem : Memory) (views : Views) (log : List Entry) (decide
   chunks_free zone first count in_pool low fits each =
       free_chunks w o.lanes o.zones zone first count in_pool low fits
       (λ j near. let t = each j near in chunk_free zone (first + j) in_pool (omega (arith, near, fits)) t.undescribed t.reserved)
+
+  -- a chunk that it reserved is described by 0, where it is no run
+  undescribed : ((page : ℕ) → is_made v page ≡ false) → (zone chunk : ℕ) → zone < o.zones → chunk < 64 → reserves v (Zone zone) chunk ≡ true → w (descriptor_word o.lanes (64 * zone + chunk)) ≡ 0
+  undescribed no_run zone chunk in_pool low reserved =
+      let page : ℕ = page_in o.lanes zone chunk in
+      let of_chunk : IsChunk o.lanes page = page_in_chunk o.lanes zone chunk low in
+      let lanes = (world.each_lane k inside).lane.lanes in
+      let was_free : is_free_chunk (slice_index o.words) o.lanes page ≡ true = free_in (slice_index o.words) o.lanes zone chunk low ∙ ap not ((world.each_lane k inside).blocks.free (Zone zone) chunk reserved) in
+      let has : has_chunk v page ≡ true = (λ i. list_any (has_bit (Zone ((ap (λ n. zone_of n page) lanes ∙ page_in_zone o.lanes zone chunk low) i)) ((ap (λ n. chunk_of n page - 1) lanes ∙ page_in_number o.lanes zone chunk low) i)) v.reserved) ∙ reserved in
+      let word : lane_descriptor o.lanes page ≡ descriptor_word o.lanes (64 * zone + chunk) = page_in_word o.lanes zone chunk low ∙ (let e : 512 * zone_page o.lanes zone + chunk ≡ descriptor_word o.lanes (64 * zone + chunk) = omega (arith, low) in e) in
+      ap w (sym word) ∙ ⊎_elim
+      (λ (zero : w (lane_descriptor o.lanes page) ≡ 0). zero)
+      (λ (run : IsEmptyRun w o.lanes page).
+      let described = run.described in
+      let is : is_run (w (lane_descriptor v.lanes page)) ≡ true = ap (λ n. is_run (w (lane_descriptor n page))) lanes ∙ eq-eqb (w (lane_descriptor o.lanes page) % 256) 1 (omega (arith, described)) in
+      absurd (false≢true (sym (no_run page) ∙ and_from (has_chunk v page) (is_run (w (lane_descriptor v.lanes page))) has is)))
+      (runs page (of_chunk, omega (arith, in_pool, low)) was_free)
+
+  -- so what it reserved is free by these words
+  pub free_still : ((page : ℕ) → is_made v page ≡ false) → (at : Occ) (bit : ℕ) → reserves v at bit ≡ true → is_taken w o.lanes at bit ≡ false
+  free_still no_run at bit reserved = by_occ at reserved (reserved_of_pool o (heap_words o mem) v at bit (world.each_lane k inside).blocks reserved) where
+    low : bit < 64
+    low = reserved_low o (heap_words o mem) v at bit (world.each_lane k inside).blocks reserved
+
+    by_occ : (at : Occ) → reserves v at bit ≡ true → IsOcc o.lanes o.zones at → is_taken w o.lanes at bit ≡ false
+    by_occ (Run place) has of = sym (taken_now o mem v.words sees runs telling (Run place) bit of low) ∙ (world.each_lane k inside).blocks.free (Run place) bit has
+    by_occ (Zone zone) has of = chunk_free zone bit of low (undescribed no_run zone bit of low has) has
 
   -- the same blocks begin at the same lines as at the opening
   pub found_stands : (line : ℕ) → block_at o.lanes v.words line ≡ block_at o.lanes o.words line

@@ -39,12 +39,12 @@ use Rattle.pm_world.proofs.CrashRuns.{crash_law}
 use Rattle.pm_world.proofs.CrashLaw.{all_drained}
 use Rattle.pm_world.proofs.Exclusion.{writes_under}
 use Rattle.pm_world.proofs.Slots.{word_recorded}
-use Rattle.pm_crash.specs.Alone.{BeginsAlone, alone_views}
+use Rattle.pm_crash.specs.Alone.{Begins, alone_views}
 use Rattle.pm_crash.specs.Held.{HoldsImage, HoldsPool}
 use Rattle.pm_crash.specs.OneLane.{HoldsReplay, Moment}
 use Rattle.pm_crash.specs.OpenCall.{ComesTo, IsOpen, call_words, IsBefore}
 use Rattle.pm_crash.specs.Pending.{acts_alone, acts_of, state_after, state_alone}
-use Rattle.pm_crash.proofs.AloneCourse.{StandsAlone}
+use Rattle.pm_crash.proofs.AloneCourse.{StandsAlone, begins_clean, begins_holds}
 use Rattle.pm_crash.proofs.AloneImages.{same_views, none_torn}
 use Rattle.pm_crash.proofs.AloneMemory.{memory_of}
 use Rattle.pm_crash.proofs.CleanWords.{clean_words_hold}
@@ -61,13 +61,24 @@ use Rattle.pm_crash.proofs.NewRuns.{may_have_runs, image_holds}
 use Rattle.pm_crash.proofs.OneCourse.{reached_all}
 use Rattle.pm_epoch.specs.Epochs.{HoldsCalls, HoldsOpenCall}
 
-module _ (o : Opening) (header : Header) (pool : PoolView) (w : View) (s : StandsAlone o header pool w) (is_open : w.log.phase ≡ Open [] []) (drained : w.changes ≡ []) where
-  abbrev now : Moment
-  now = record { memory = memory_of w; views = s.views; log = s.log; decided = s.decided }
+-- its own facts
+pub own_fits : (o : Opening) (header : Header) (pool : PoolView) (w : View) (s : StandsAlone o header pool w) → LaneFits o (memory_of w) (settled o s.log s.decided) (Flies s.log s.decided 0) 0 w
+own_fits o header pool w s = subst (LaneFits o (memory_of w) (settled o s.log s.decided) (Flies s.log s.decided 0) 0) s.here (s.goes.world.each_lane 0 s.goes.in_lanes)
 
-  own_fits : LaneFits o (memory_of w) (settled o s.log s.decided) (Flies s.log s.decided 0) 0 w
-  own_fits = subst (LaneFits o (memory_of w) (settled o s.log s.decided) (Flies s.log s.decided 0) 0) s.here (s.goes.world.each_lane 0 s.goes.in_lanes)
+-- the moment of its world
+abbrev now : (o : Opening) (header : Header) (pool : PoolView) (w : View) → StandsAlone o header pool w → Moment
+now o header pool w s = record { memory = memory_of w; views = s.views; log = s.log; decided = s.decided }
 
+-- the words behind its calls, and the pool that these lead to
+abbrev words_behind : (o : Opening) (header : Header) (pool : PoolView) (w : View) → StandsAlone o header pool w → ℕ → ℕ
+words_behind o header pool w s = words_after (slice_index o.words) s.log
+
+reached : (o : Opening) (header : Header) (pool : PoolView) (w : View) (s : StandsAlone o header pool w) → HoldsReplay (words_behind o header pool w s) o.lanes o.zones header pool s.log
+reached o header pool w s = reached_all o 0 header pool (now o header pool w s) s.goes
+
+-- ---- where no slot of the lane is being written, and no call of it is lost
+
+module _ (o : Opening) (header : Header) (pool : PoolView) (w : View) (s : StandsAlone o header pool w) (quiet : (slot : ℕ) → IsBeingWritten w slot → ⊥) (kept_own : (n : ℕ) → loses w.words w n ≡ false) where
   -- nothing is taken back of its words
   survives : Survives o (memory_of w) s.views w.words
   survives = record {
@@ -75,30 +86,80 @@ module _ (o : Opening) (header : Header) (pool : PoolView) (w : View) (s : Stand
     each = λ i inside. record { lost = []; undrained = All-nil _; left = refl };
   }
 
+  untorn : NoneTorn o s.views w.words
+  untorn = none_torn o header pool w s w.words (none_torn_by_lane o w w.words (λ slot u within being valid. absurd (quiet slot being)))
+
+  -- so none is lost of any lane
+  kept_each : (n : ℕ) → is_kept o s.views w.words n ≡ true
+  kept_each n = ap not (list_any_none (λ k. loses w.words (s.views k) n) (range_with_len 0 o.lanes) (λ i d low. none (get_or (range_with_len 0 o.lanes) i d))) where
+    none : (k : ℕ) → loses w.words (s.views k) n ≡ false
+    none k = ⊎_elim
+        (λ (same : k ≡ 0). ap (λ j. loses w.words (s.views j) n) same ∙ (ap (λ (u : View). loses w.words u n) s.here ∙ kept_own n))
+        (λ (other : k ≢ 0). ap (λ (u : View). loses w.words u n) (s.others k other))
+        (cases_eq k 0)
+
+  own_calls : entries_by 0 s.log ≡ w.entries
+  own_calls = s.goes.world.own_entries 0 s.goes.in_lanes ∙ ap (λ (u : View). u.entries) s.here
+
+  -- a history's calls are the lane's
+  calls_alone : (last : PoolView) → Replays (opened pool) (acts_of s.log) (state_after last s.log) → Replays (opened pool) (acts_alone w.entries) (state_alone last w.entries)
+  calls_alone last replays =
+      subst (λ (calls : List Numbered). Replays (opened pool) (acts_alone calls) (state_alone last calls)) own_calls
+      (subst (λ (t : State). Replays (opened pool) (acts_alone (entries_by 0 s.log)) t) (state_of_one last s.log s.goes.alone)
+      (subst (λ (acts : List Act). Replays (opened pool) acts (state_after last s.log)) (acts_of_all s.log s.goes.alone) replays))
+
+  -- as an image its words hold that pool
+  image_pool : HoldsPool (recovered_at w.words o.lanes) o.lanes o.zones header (reached o header pool w s).last
+  image_pool =
+      image_holds o (words_behind o header pool w s) (λ i tells. heads_stay o 0 (now o header pool w s) s.goes.world s.goes.in_lanes i tells) s.goes.world.sound w.words survives.size
+      (λ i living. kept.words i living ∙ replayed-same (is_kept o s.views w.words) every s.log i (slice_index o.words i) (λ e there of. kept_each e.number)) kept.new_runs header (reached o header pool w s).last (reached o header pool w s).holds
+    where
+      kept : MeansKept o s.views s.log w.words
+      kept = crash_law o (memory_of w) s.views s.log s.decided w.words s.goes.world survives untorn
+
+  module _ (v : View) (begins : Begins o header pool v) where
+    held : HoldsImage o.words o.lanes o.zones header (begins_holds o header pool v begins).0
+    held = (begins_holds o header pool v begins).1
+
+    ranges : (j : ℕ) → j < o.lanes → InRange (memory_of w (PoolWord (area_word j))) (s.views j) (s.views j).log.phase
+    ranges j low = ⊎_elim
+        (λ (same : j ≡ 0). subst (λ n. InRange (memory_of w (PoolWord (area_word n))) (s.views n) (s.views n).log.phase) (sym same) s.goes.range)
+        (λ (other : j ≢ 0). subst (InRange (memory_of w (PoolWord (area_word j))) (s.views j)) (sym (s.goes.others j low other)) tt)
+        (cases_eq j 0)
+
+    abbrev calls_here : HoldsCalls o w header pool
+    calls_here = record {
+      before = (reached o header pool w s).last;
+      holds = record {
+        has_header = header_survives o (memory_of w) s.views s.log s.decided s.goes.world header w.words survives s.goes.front held.has_header;
+        fits = held.fits;
+        no_log_fault = no_log_fault o (memory_of w) s.views s.log s.decided s.goes.world w.words survives untorn ranges (clean_words_hold o header (begins_holds o header pool v begins).0 held (begins_clean o header pool v begins)).no_fault;
+        holds = image_pool;
+      };
+      replays = calls_alone (reached o header pool w s).last (reached o header pool w s).replays;
+    }
+
+    pub holds_calls : HoldsCalls o w header pool
+    holds_calls = calls_here
+
+-- ---- an open call, with nothing undrained and nothing in the making
+
+module _ (o : Opening) (header : Header) (pool : PoolView) (w : View) (s : StandsAlone o header pool w) (is_open : w.log.phase ≡ Open [] []) (drained : w.changes ≡ []) where
+  fits : LaneFits o (memory_of w) (settled o s.log s.decided) (Flies s.log s.decided 0) 0 w
+  fits = own_fits o header pool w s
+
   -- no slot of it is being written
   writes_none : (slot : ℕ) → IsBeingWritten w slot → ⊥
   writes_none slot = ⊎_elim
       (λ (undrained : is_drained_slot w slot ≡ false). false≢true (sym undrained ∙ all_drained w slot drained))
       (λ (used : (length w.log.records ≤ slot) × (slot < used_slots w.log.phase w)). let all : used_slots w.log.phase w ≡ length w.log.records = ap (λ p. used_slots p w) is_open in let from = used.0 in let to = used.1 in omega (arith, all, from, to))
 
-  untorn : NoneTorn o s.views w.words
-  untorn = none_torn o header pool w s w.words (none_torn_by_lane o w w.words (λ slot u within being valid. absurd (writes_none slot being)))
-
   -- no call of it is lost: none is in flight
   undrawn : w.number ≡ None
-  undrawn = (subst (PhaseFits (Flies s.log s.decided 0) w) is_open own_fits.phase).undrawn
+  undrawn = (subst (PhaseFits (Flies s.log s.decided 0) w) is_open fits.phase).undrawn
 
   loses_none : (n : ℕ) → loses w.words w n ≡ false
   loses_none n = ap (λ number. is_number number n && not (is_deciding_in w.words w w.log.phase)) undrawn
-
-  -- so none is, of any lane
-  kept_each : (n : ℕ) → is_kept o s.views w.words n ≡ true
-  kept_each n = ap not (list_any_none (λ k. loses w.words (s.views k) n) (range_with_len 0 o.lanes) (λ i d low. none (get_or (range_with_len 0 o.lanes) i d))) where
-    none : (k : ℕ) → loses w.words (s.views k) n ≡ false
-    none k = ⊎_elim
-        (λ (same : k ≡ 0). ap (λ j. loses w.words (s.views j) n) same ∙ (ap (λ (u : View). loses w.words u n) s.here ∙ loses_none n))
-        (λ (other : k ≢ 0). ap (λ (u : View). loses w.words u n) (s.others k other))
-        (cases_eq k 0)
 
   -- each is decided
   decided_each : (e : Entry) → Contains s.log e → s.decided e.number ≡ true
@@ -124,107 +185,60 @@ module _ (o : Opening) (header : Header) (pool : PoolView) (w : View) (s : Stand
       (λ (other : j ≢ 0). ap (λ (u : View). is_in_log u i) (s.others j other))
       (cases_eq j 0)
 
-  own_calls : entries_by 0 s.log ≡ w.entries
-  own_calls = s.goes.world.own_entries 0 s.goes.in_lanes ∙ ap (λ (u : View). u.entries) s.here
-
-  -- a history's calls are the lane's
-  calls_alone : (last : PoolView) → Replays (opened pool) (acts_of s.log) (state_after last s.log) → Replays (opened pool) (acts_alone w.entries) (state_alone last w.entries)
-  calls_alone last replays =
-      subst (λ (calls : List Numbered). Replays (opened pool) (acts_alone calls) (state_alone last calls)) own_calls
-      (subst (λ (t : State). Replays (opened pool) (acts_alone (entries_by 0 s.log)) t) (state_of_one last s.log s.goes.alone)
-      (subst (λ (acts : List Act). Replays (opened pool) acts (state_after last s.log)) (acts_of_all s.log s.goes.alone) replays))
-
-  -- the words behind its calls, and the pool that these lead to
-  abbrev words : ℕ → ℕ
-  words = words_after (slice_index o.words) s.log
-
-  reached : HoldsReplay words o.lanes o.zones header pool s.log
-  reached = reached_all o 0 header pool now s.goes
-
-  -- as an image its words hold that pool
-  image_pool : HoldsPool (recovered_at w.words o.lanes) o.lanes o.zones header reached.last
-  image_pool =
-      image_holds o words (λ i tells. heads_stay o 0 now s.goes.world s.goes.in_lanes i tells) s.goes.world.sound w.words survives.size
-      (λ i living. kept.words i living ∙ replayed-same (is_kept o s.views w.words) every s.log i (slice_index o.words i) (λ e there of. kept_each e.number)) kept.new_runs header reached.last reached.holds
-    where
-      kept : MeansKept o s.views s.log w.words
-      kept = crash_law o (memory_of w) s.views s.log s.decided w.words s.goes.world survives untorn
-
-  module _ (v : View) (begins : BeginsAlone o header pool v) where
-    ranges : (j : ℕ) → j < o.lanes → InRange (memory_of w (PoolWord (area_word j))) (s.views j) (s.views j).log.phase
-    ranges j low = ⊎_elim
-        (λ (same : j ≡ 0). subst (λ n. InRange (memory_of w (PoolWord (area_word n))) (s.views n) (s.views n).log.phase) (sym same) s.goes.range)
-        (λ (other : j ≢ 0). subst (InRange (memory_of w (PoolWord (area_word j))) (s.views j)) (sym (s.goes.others j low other)) tt)
-        (cases_eq j 0)
-
-    abbrev calls_here : HoldsCalls o w header pool
-    calls_here = record {
-      before = reached.last;
-      holds = record {
-        has_header = header_survives o (memory_of w) s.views s.log s.decided s.goes.world header w.words survives s.goes.front begins.holds.has_header;
-        fits = begins.holds.fits;
-        no_log_fault = no_log_fault o (memory_of w) s.views s.log s.decided s.goes.world w.words survives untorn ranges (clean_words_hold o header pool begins.holds begins.clean).no_fault;
-        holds = image_pool;
-      };
-      replays = calls_alone reached.last reached.replays;
-    }
-
-    pub holds_calls : HoldsCalls o w header pool
-    holds_calls = calls_here
-
-  -- ---- the open call
-
   same_lanes : w.lanes ≡ o.lanes
-  same_lanes = own_fits.lane.lanes
+  same_lanes = fits.lane.lanes
 
   same_zones : w.zones ≡ o.zones
-  same_zones = own_fits.lane.zones
+  same_zones = fits.lane.zones
 
-  before_holds : HoldsPool words w.lanes w.zones header reached.last
-  before_holds = two_same (λ (a b : ℕ). HoldsPool words a b header reached.last) o.lanes w.lanes o.zones w.zones (sym same_lanes) (sym same_zones) reached.holds
+  before_holds : HoldsPool (words_behind o header pool w s) w.lanes w.zones header (reached o header pool w s).last
+  before_holds = two_same (λ (a b : ℕ). HoldsPool (words_behind o header pool w s) a b header (reached o header pool w s).last) o.lanes w.lanes o.zones w.zones (sym same_lanes) (sym same_zones) (reached o header pool w s).holds
 
   open_here : (s.views 0).log.phase ≡ Open [] []
   open_here = ap (λ (u : View). u.log.phase) s.here ∙ is_open
 
-  is_before : IsBefore w words
-  is_before = subst (λ u. IsBefore u words) s.here
-      (drawn_before o 0 now s.goes.world s.goes.in_lanes s.goes.alone no_records no_entries open_here reached.holds.no_fault)
+  is_before : IsBefore w (words_behind o header pool w s)
+  is_before = subst (λ u. IsBefore u (words_behind o header pool w s)) s.here
+      (drawn_before o 0 (now o header pool w s) s.goes.world s.goes.in_lanes s.goes.alone no_records no_entries open_here (reached o header pool w s).holds.no_fault)
 
   -- what it recorded is none of the words that tell of blocks
-  call_heads : (i : ℕ) → TellsOfBlocks o i → call_words w words i ≡ slice_index o.words i
+  call_heads : (i : ℕ) → TellsOfBlocks o i → call_words w (words_behind o header pool w s) i ≡ slice_index o.words i
   call_heads i tells =
       let unrecorded : is_recorded w.log.records i ≡ false = false_from_ne_true (is_recorded w.log.records i) (λ recorded.
-      let t = word_recorded (settled o s.log s.decided) w (records_generation w.log.phase w) i own_fits.log recorded in
-      let under = writes_under o (memory_of w) 0 w i own_fits.locks t.fits.own in
+      let t = word_recorded (settled o s.log s.decided) w (records_generation w.log.phase w) i fits.log recorded in
+      let under = writes_under o (memory_of w) 0 w i fits.locks t.fits.own in
       s.goes.world.sound.apart under.0 i under.1 tells) in
-      cond-false (is_recorded w.log.records i) (slice_index w.words i) (words i) unrecorded ∙ heads_stay o 0 now s.goes.world s.goes.in_lanes i tells
+      cond-false (is_recorded w.log.records i) (slice_index w.words i) (words_behind o header pool w s i) unrecorded ∙ heads_stay o 0 (now o header pool w s) s.goes.world s.goes.in_lanes i tells
 
   -- each living word is as the call made it
-  living_same : (i : ℕ) → IsLivingWord o i → slice_index w.words i ≡ call_words w words i
+  living_same : (i : ℕ) → IsLivingWord o i → slice_index w.words i ≡ call_words w (words_behind o header pool w s) i
   living_same i living = ⊎_elim
-      (λ (recorded : is_recorded w.log.records i ≡ true). sym (cond-true (is_recorded w.log.records i) (slice_index w.words i) (words i) recorded))
+      (λ (recorded : is_recorded w.log.records i ≡ true). sym (cond-true (is_recorded w.log.records i) (slice_index w.words i) (words_behind o header pool w s i) recorded))
       (λ (unrecorded : is_recorded w.log.records i ≡ false).
       s.goes.world.each_word i living (unlogged i unrecorded)
       ∙ (replayed-same s.decided every s.log i (slice_index o.words i) (λ e there of. decided_each e there)
-      ∙ sym (cond-false (is_recorded w.log.records i) (slice_index w.words i) (words i) unrecorded)))
+      ∙ sym (cond-false (is_recorded w.log.records i) (slice_index w.words i) (words_behind o header pool w s i) unrecorded)))
       (cases_Bool (is_recorded w.log.records i))
 
-  module _ (v : View) (begins : BeginsAlone o header pool v) (level : ℕ) (at_stage : Stage) (error : TxErr) (open_call : IsOpen w level at_stage error) where
+  module _ (v : View) (begins : Begins o header pool v) (level : ℕ) (at_stage : Stage) (error : TxErr) (open_call : IsOpen w level at_stage error) where
     of_pool : w.pool ≡ header.id
     of_pool = ap (λ (u : View). u.pool) (sym s.here) ∙ s.goes.of_pool
 
-    comes : ComesTo w words header reached.last level at_stage error
-    comes = open_call.comes words header reached.last before_holds of_pool is_before
+    comes : ComesTo w (words_behind o header pool w s) header (reached o header pool w s).last level at_stage error
+    comes = open_call.comes (words_behind o header pool w s) header (reached o header pool w s).last before_holds of_pool is_before
 
-    call_holds : HoldsPool (call_words w words) o.lanes o.zones header comes.tx.pool
-    call_holds = two_same (λ (a b : ℕ). HoldsPool (call_words w words) a b header comes.tx.pool) w.lanes o.lanes w.zones o.zones same_lanes same_zones comes.holds
+    call_holds : HoldsPool (call_words w (words_behind o header pool w s)) o.lanes o.zones header comes.tx.pool
+    call_holds = two_same (λ (a b : ℕ). HoldsPool (call_words w (words_behind o header pool w s)) a b header comes.tx.pool) w.lanes o.lanes w.zones o.zones same_lanes same_zones comes.holds
 
     pub holds_open_call : HoldsOpenCall o w header pool level at_stage error
     holds_open_call = record {
-      held = calls_here v begins;
-      words = words;
+      held = calls_here o header pool w s writes_none loses_none v begins;
+      words = words_behind o header pool w s;
       comes = comes;
-      holds = held_alike (call_words w words) (slice_index w.words) o.lanes o.zones header comes.tx.pool call_holds
-          (new_runs_alike (call_words w words) (slice_index w.words) o.lanes o.zones
-          (may_have_runs o (call_words w words) call_heads s.goes.world.sound call_holds.no_fault (slice_index w.words) living_same s.goes.world.new_runs) call_holds.no_fault);
+      holds = held_alike (call_words w (words_behind o header pool w s)) (slice_index w.words) o.lanes o.zones header comes.tx.pool call_holds
+          (new_runs_alike (call_words w (words_behind o header pool w s)) (slice_index w.words) o.lanes o.zones
+          (may_have_runs o (call_words w (words_behind o header pool w s)) call_heads s.goes.world.sound call_holds.no_fault (slice_index w.words) living_same s.goes.world.new_runs) call_holds.no_fault);
     }
+
+  pub open_calls_held : (v : View) → Begins o header pool v → HoldsCalls o w header pool
+  open_calls_held v begins = holds_calls o header pool w s writes_none loses_none v begins

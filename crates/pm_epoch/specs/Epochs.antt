@@ -1,6 +1,6 @@
 -- What a lane that is alone publishes over the pool that its words hold: blocks for new objects, blocks freed, words of objects set (docs/MODEL.md, "From call to
 -- call").
-use Rattle.std.specs.Prelude.{◌≡◌, ◌⊎◌, ℕ, ◌+◌, ◌*◌, ◌<◌, ◌≤◌, true, false, length, All, List, [], ◌∷◌, ◌++◌, map, slice_index}
+use Rattle.std.specs.Prelude.{◌≡◌, ◌⊎◌, ℕ, ◌+◌, ◌*◌, ◌<◌, ◌≤◌, true, false, length, All, List, [], ◌∷◌, ◌++◌, map, slice_index, Some}
 use Rattle.pm_layout.specs.declared.shape.Shape.{Shape}
 use Rattle.pm_header.specs.declared.header.Header.{Header}
 use Rattle.pm_objects.specs.declared.pool.PoolView.{PoolView}
@@ -27,6 +27,8 @@ use Rattle.pm_model.specs.declared.stage.Stage.{Stage}
 use Rattle.pm_objects.specs.declared.history.TxErr.{TxErr}
 use Rattle.pm_crash.specs.OpenCall.{ComesTo}
 use Rattle.pm_crash.specs.Pending.{acts_alone, state_alone}
+use Rattle.pm_view.specs.Log.{no_log}
+use Rattle.pm_view.specs.Log.Phase.{Idle}
 
 -- The lane's log has an entry for each of these, in their order, and behind them the one that ends its generation. An image of its words holds the pool before
 -- the call, and as they stand they hold the pool that the call made so far, on which each of these may be published.
@@ -87,3 +89,15 @@ pub record HoldsOpenCall (o : Opening) (w : View) (header : Header) (pool : Pool
   pub words : ℕ → ℕ
   pub comes : ComesTo w words header held.before level at_stage error
   pub holds : HoldsPool (slice_index w.words) o.lanes o.zones header comes.tx.pool
+
+-- ---- between its calls
+
+-- The lane rests behind a call: its log is empty, with nothing undrained and nothing locked, and no chunk that it reserved is a run.
+pub record RestsBehindCall (w : View) : Type 0 where
+  pub idle : w.log ≡ no_log Idle
+  pub drained : w.changes ≡ []
+  pub free : w.locks ≡ []
+  pub unlocked : w.zone_locks ≡ []
+  pub no_run : (page : ℕ) → is_made w page ≡ false
+  pub number : ℕ
+  pub numbered : w.number ≡ Some number

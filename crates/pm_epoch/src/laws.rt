@@ -34,7 +34,7 @@ ghost use Rattle.pm_crash.specs.NewObjects.{AreFreeChunks, IsFreeInRun, IsFreshB
 ghost use Rattle.pm_crash.specs.Held.{HoldsImage, HoldsPool};
 ghost use Rattle.pm_crash.specs.Publishing.Published.{Changes, Performs};
 ghost use Rattle.pm_crash.specs.Publishing.{AreInOrder, Published, all_blocks_published, all_pool_published};
-ghost use Rattle.pm_crash.specs.Alone.{WorksAlone};
+ghost use Rattle.pm_crash.specs.Alone.{BeginsAgain, WorksAlone, standing};
 ghost use Rattle.pm_crash.specs.OpenCall.{IsOpen};
 ghost use Rattle.pm_crash.specs.Taken.{TakenBehindAll};
 ghost use Rattle.pm_fresh.specs.Filled.{IsFilled};
@@ -42,7 +42,7 @@ ghost use Rattle.pm_fresh.specs.Making.{page_in};
 ghost use Rattle.pm_blocks.specs.NewRuns.{IsUnused};
 ghost use Rattle.pm_alloc.specs.NewObjects.{CanMakeObject};
 ghost use Rattle.pm_sealed.specs.Sealed.{LeavesSealed, Publishes, has_nothing};
-ghost use Rattle.pm_epoch.specs.Epochs.{AreOfOwnBits, HasEntriesFor, HoldsCalls, HoldsOpenCall, IsAtWorkAlone, IsUnusedChunk, MayPublish};
+ghost use Rattle.pm_epoch.specs.Epochs.{AreOfOwnBits, HasEntriesFor, HoldsCalls, HoldsOpenCall, IsAtWorkAlone, IsUnusedChunk, MayPublish, RestsBehindCall};
 
 /// A law: in a world where a lane has each word as it is, what it reserved may be allocated: a block of a run, by the class that the run's
 /// descriptor says, and chunks that are described by 0; and a block that it found under a lock may be freed, unless it is the root's, where
@@ -144,4 +144,12 @@ pub fn a_lane_alone_holds_its_pools()
     ensures open_call { (o : Opening) (header : Header) (pool : PoolView) (v w : View) (steps : List Step) (level : ℕ) (at_stage : Stage) (error : TxErr)
         → WorksAlone o header pool v steps w → w.log.phase ≡ Open [] [] → w.changes ≡ [] → IsOpen w level at_stage error
         → HoldsOpenCall o w header pool level at_stage error }
+{}
+
+/// A law: a lane that works alone and rests behind a call, with nothing locked and no chunk reserved that is a run, may begin again over its words as they
+/// stand: as an image they hold the pool to which its calls lead, each log is clean, what it reserved is free, and its picture of the occupancy words is
+/// what they say is taken and it has. No code runs.
+pub fn a_lane_at_rest_may_begin_again()
+    ensures { (o : Opening) (header : Header) (pool : PoolView) (v w : View) (steps : List Step)
+        → WorksAlone o header pool v steps w → RestsBehindCall w → BeginsAgain (standing o w) header pool w }
 {}

@@ -7,9 +7,9 @@ use Rattle.std.proofs.lemmas.List.{length-map, set-get_or}
 use Rattle.pm_header.specs.declared.header.Header.{Header}
 use Rattle.pm_objects.specs.declared.ids.Oid.{Oid}
 use Rattle.pm_objects.specs.declared.pool.PoolView.{PoolView}
-use Rattle.pm_crash.specs.Alone.{BeginsAlone}
+use Rattle.pm_crash.specs.Alone.{Begins}
 use Rattle.pm_crash.specs.Leading.{Leads}
-use Rattle.pm_crash.proofs.AloneCourse.{Grows, StandsAlone, due_along, grows_along, number_along, stands_after, stands_at}
+use Rattle.pm_crash.proofs.AloneCourse.{Grows, StandsAlone, due_along, grows_along, number_along, stands_after, stands_at, begins_alone}
 use Rattle.pm_crash.proofs.AloneImages.{own_fits}
 use Rattle.pm_crash.proofs.AloneMemory.{memory_of}
 use Rattle.pm_crash.proofs.OnTheWay.{numbered_front}
@@ -128,7 +128,7 @@ module _ (o : Opening) (header : Header) (pool : PoolView) where
       inside_along u steps w fills.0 m next (same.table ∙ alone) (same.lane ∙ lane) leads.3 numbered within here.1 here.2 fills.2 i outside ∙ here.0 i outside
 
   -- behind each of the steps of a record
-  pub added_outside_at : (first v : View) (before : List Step) (spans : List Span) (id : Oid) (off len k : ℕ) → BeginsAlone o header pool first → Leads first before v → IsWorking v → spans ≡ map span_of v.log.records
+  pub added_outside_at : (first v : View) (before : List Step) (spans : List Span) (id : Oid) (off len k : ℕ) → Begins o header pool first → Leads first before v → IsWorking v → spans ≡ map span_of v.log.records
       → Ready v (adds_range spans id off len v) → DrawEnded v (adds_range spans id off len v) → AreNumbered 1 (after_all v (take k (adds_range spans id off len v))).entries
       → ForSome (after_all v (take k (adds_range spans id off len v))).stop (λ stop. (after_all v (take k (adds_range spans id off len v))).calls ≤ stop)
       → AreSameOutside v (after_all v (take k (adds_range spans id off len v)))
@@ -144,4 +144,4 @@ module _ (o : Opening) (header : Header) (pool : PoolView) where
       let count : length spans ≡ length v.log.records = ap length are ∙ length-map v.log.records span_of in
       let most = working.records.most in
       let some = fills_first _ _ all k (adds_fill spans id off len v lane) in
-      inside_along v (take k all) w _ some.0 stands (alone_along first v before leads begins.alone) lane on numbered within (omega (arith)) (omega (arith, count, most)) some.1
+      inside_along v (take k all) w _ some.0 stands (alone_along first v before leads (begins_alone o header pool first begins)) lane on numbered within (omega (arith)) (omega (arith, count, most)) some.1

@@ -180,7 +180,7 @@ module _ (pool : PoolView) (words : List ℕ) (stop : Option ℕ) (script : List
         begins = begins_alone before pool means words recovered past stop
 
         works : WorksAlone o header pool first e.steps e.last
-        works = works_where_seen o header pool lane.memory first e.last e.steps begins e.leads e.seen
+        works = works_where_seen o header pool lane.memory first e.last e.steps (inl begins) e.leads e.seen
 
         torn : NoneTorn o (alone_views o e.last) left
         torn = ⊎_elim (λ (rests : Rests e.last). none_torn_at_rest o e.last left rests)

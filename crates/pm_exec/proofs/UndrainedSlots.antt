@@ -21,11 +21,12 @@ use Rattle.pm_view.specs.Steps.Step.{Load, Store, Or, And, Flush, Drain, TakeWri
 use Rattle.pm_view.specs.View.{View}
 use Rattle.pm_view.specs.Views.{after, begun, changed, log_after_drain}
 use Rattle.pm_world.specs.Lawful.{Allowed, EndsGeneration, StoreFits, MayChange}
+use Rattle.pm_crash.proofs.AloneCourse.{begins_drained, begins_lane}
 use Rattle.pm_world.proofs.CrashLogs.{InSlots}
 use Rattle.pm_world.specs.Opening.{Opening}
 use Rattle.pm_undo.specs.Working.{IsWorking}
 use Rattle.pm_undo.proofs.Areas.{slot_part}
-use Rattle.pm_crash.specs.Alone.{BeginsAlone}
+use Rattle.pm_crash.specs.Alone.{Begins}
 use Rattle.pm_crash.specs.Leading.{Leads}
 use Rattle.pm_crash.proofs.LogCourse.{Paired, Slotted, paired, slotted}
 use Rattle.pm_exec.proofs.Along.{lane_along}
@@ -204,12 +205,12 @@ drained_so : (b : Bool) → not b ≡ true → b ≡ true → ⊥
 drained_so true drained is = false≢true drained
 drained_so false drained is = false≢true is
 
-module _ (o : Opening) (header : Header) (pool : PoolView) (v : View) (steps : List Step) (w : View) (begins : BeginsAlone o header pool v) (leads : Leads v steps w) where
+module _ (o : Opening) (header : Header) (pool : PoolView) (v : View) (steps : List Step) (w : View) (begins : Begins o header pool v) (leads : Leads v steps w) where
   pub alone_lane : w.lane ≡ 0
-  alone_lane = lane_along v w steps leads begins.fresh.lane.lane
+  alone_lane = lane_along v w steps leads (begins_lane o header pool v begins)
 
   pub alone_first : HasFirst w
-  alone_first = first_along v steps w leads (empty_first v.lane (slot_words v.log.phase v.log) v.changes begins.fresh.nothing_changed)
+  alone_first = first_along v steps w leads (empty_first v.lane (slot_words v.log.phase v.log) v.changes (begins_drained o header pool v begins))
 
   -- at work it is quiet
   pub quiet_at_work : IsWorking w → IsQuiet w

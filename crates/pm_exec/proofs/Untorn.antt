@@ -46,7 +46,7 @@ module _ (pool : PoolView) (words : List ℕ) (stop : Option ℕ) (header : Head
 
   -- up to the stop the lane works alone
   works : WorksAlone o header held first (called.steps ++ cut.steps) w
-  works = works_where_seen o header held lane.memory first w (called.steps ++ cut.steps) begins (leads_then first before w called.steps cut.steps called.leads cut.leads) cut.seen
+  works = works_where_seen o header held lane.memory first w (called.steps ++ cut.steps) (inl begins) (leads_then first before w called.steps cut.steps called.leads cut.leads) cut.seen
 
   -- while a range is recorded, its record is of words that the lines in front make
   in_add : (keep : ℕ) (left : List ℕ) → IsKeptImage keep w.words (w.changes ∷ []) left → (a : IsInAdd (standing o before) before (names_of pool) lines w) → HasNoMatchAt pool a.front before
@@ -58,7 +58,7 @@ module _ (pool : PoolView) (words : List ℕ) (stop : Option ℕ) (header : Head
       let made : ℕ → ℕ = words_after (names_of pool) a.front (slice_index before.words) in
       none_torn_behind o header held first before w called.steps cut.steps keep left (is_record_of made pool.lanes (length before.words)) works called.leads
       (record { empty = inl idle; drained = drained }) kept cut.opening.grows
-      (no_match_at pool a.front o before (alone_lane o header held first called.steps before begins called.leads) none)
+      (no_match_at pool a.front o before (alone_lane o header held first called.steps before (inl begins) called.leads) none)
       (λ r. may_pass made pool.lanes (length before.words) w r (behind.lanes ∙ front.lanes) behind.size
       (λ i far. words_in_add o (standing o before) header held first before w called.steps (called.steps ++ cut.steps) (names_of pool) lines works called.leads a i (behind_is_outside 0 pool.lanes i (omega (arith, some)) far)))
 
@@ -66,7 +66,7 @@ module _ (pool : PoolView) (words : List ℕ) (stop : Option ℕ) (header : Head
   calm_behind : (left : List ℕ) → IsCalmBehind before w → NoneTorn o (alone_views o w) left
   calm_behind left c =
       none_torn_where_quiet o w left
-      (c.calm (quiet_at_work o header held first (called.steps ++ c.steps) c.view begins (leads_then first before c.view called.steps c.steps called.leads c.leads) c.working))
+      (c.calm (quiet_at_work o header held first (called.steps ++ c.steps) c.view (inl begins) (leads_then first before c.view called.steps c.steps called.leads c.leads) c.working))
 
   -- so wherever it stops: `none` is of the fronts of the call's lines
   pub none_torn_where_stopped : (none : (front rest : List ScriptLine) → lines ≡ front ++ rest → HasNoMatchAt pool front before)

@@ -1,7 +1,7 @@
 -- A lane at work may make a new object of what it reserved.
 use Rattle.std.proofs.Common.{◌≡◌, ◌≢◌, inl, inr, ℕ, ◌+◌, ◌*◌, ◌/◌, ◌%◌, ◌&&◌, ◌-◌, ◌<◌, ◌≤◌, ◌⊎◌, ⊎_elim, Bool, true, false, not, cond, eqb, leb, ltb, ◌||◌, All, List, [], ◌∷◌, is_some, length, length-append, set, slice_index, refl, sym, ap, ◌∙◌, subst, arith, eq-eqb, get_or-set_same, get_or-set_other}
 use Rattle.std.specs.List.{list_any}
-use Rattle.std.proofs.lemmas.Bool.{and_from, and_left, and_parts, and_right, cases_Bool, cases_eq, cases_lt, false_from_ne_true, false≢true, le-leb, leb-true, lt-ltb, ltb-true, or_from, or_left, or_parts, or_right}
+use Rattle.std.proofs.lemmas.Bool.{and_from, and_left, and_parts, and_right, cases_Bool, cases_eq, cases_lt, false_from_ne_true, false≢true, le-leb, leb-true, lt-ltb, ltb-true, or_from, or_left, or_parts, or_right, cond-true}
 use Rattle.std.proofs.lemmas.List.Folds.{list_any-append}
 use Rattle.pm_image.specs.Logs.{slot_line}
 use Rattle.pm_view.specs.declared.change.Change.{Change}
@@ -10,7 +10,7 @@ use Rattle.pm_view.specs.Area.Part.{OtherWord}
 use Rattle.pm_view.specs.Blocks.{descriptor_word, is_chunk, is_run, tells_nothing}
 use Rattle.pm_view.specs.Changes.{drained, flushed, is_in_line, mark, store_change}
 use Rattle.pm_view.specs.Counts.{DropsSome, HasRoom, is_unflushed}
-use Rattle.pm_view.specs.Held.{is_known, is_reserved}
+use Rattle.pm_view.specs.Held.{is_known, is_reserved, is_held, is_under}
 use Rattle.pm_view.specs.Log.{Log, log_drained, log_stored}
 use Rattle.pm_view.specs.Log.Phase.{Open}
 use Rattle.pm_view.specs.Steps.Step.{Store, Flush, Drain}
@@ -212,7 +212,9 @@ module _ (v : View) (line lines kind size : ℕ) (working : IsWorking v) (can : 
           (λ (other : place ≢ p). get_or-set_other m.words w (8 * line + place) x 0 (λ same. other (omega (arith, same))) ∙ q.there place (omega (arith, upto, other)))
           (cases_eq place p);
       knows = λ place upto. ⊎_elim
-          (λ (this : place ≡ p). or_right (is_in_area m.lane (8 * line + place)) _ (or_left (eqb w (8 * line + place)) _ (eq-eqb w (8 * line + place) (omega (arith, this)))))
+          (λ (this : place ≡ p). or_right (is_in_area m.lane (8 * line + place)) (list_any (λ other. eqb other (8 * line + place)) (cond (is_held m w) (w ∷ m.known) m.known))
+          (ap (list_any (λ other. eqb other (8 * line + place))) (cond-true (is_held m w) (w ∷ m.known) m.known held)
+          ∙ or_left (eqb w (8 * line + place)) (list_any (λ other. eqb other (8 * line + place)) m.known) (eq-eqb w (8 * line + place) (omega (arith, this)))))
           (λ (other : place ≢ p). changes.known (8 * line + place) (q.knows place (omega (arith, upto, other))))
           (cases_eq place p);
       others = λ u out. get_or-set_other m.words w u x 0 (λ same. ⊎_elim (λ (under : u < 8 * line). absurd (omega (arith, same, under))) (λ (high : 8 * line + (p + 1) ≤ u). absurd (omega (arith, same, high))) out)
@@ -225,6 +227,9 @@ module _ (v : View) (line lines kind size : ℕ) (working : IsWorking v) (can : 
     } where
       changes : IsSameCall m (after m (Store w x))
       changes = same_changed m w x _ _
+
+      held : is_held m w ≡ true
+      held = or_right (is_in_area m.lane w || list_any (is_under w) m.locks) (is_reserved m w) (still_reserved p m (omega (arith, low)) q w ∙ can_w.own)
 
   -- where all changes have room, there are so many more, and so many more calls were made
   abbrev Counts : ℕ → ℕ → View → Type 0

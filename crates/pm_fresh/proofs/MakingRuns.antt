@@ -277,7 +277,7 @@ module _ (v : View) (page lines : ℕ) (working : IsWorking v) (can : CanMakeRun
                     at = refl;
                     reserved = can.reserved;
                     undescribed = p.others d apart ∙ can.undescribed;
-                    known = p.knows;
+                    known = p.knows (or_right (is_in_area v.lane b || list_any (is_under b) v.locks) (is_reserved v b) (chunk_reserved v page b chunk can.reserved (told_here v.lanes page chunk b here_b)));
                     no_block = p.there;
                     drained = none;
                     lines = lines;

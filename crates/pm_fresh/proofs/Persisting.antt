@@ -8,7 +8,7 @@ use Rattle.pm_view.specs.Area.{is_in_area}
 use Rattle.pm_view.specs.Area.Part.{OtherWord}
 use Rattle.pm_view.specs.Changes.{drained, flushed, is_in_line, mark, store_change}
 use Rattle.pm_view.specs.Counts.{HasRoom, is_unflushed}
-use Rattle.pm_view.specs.Held.{is_known}
+use Rattle.pm_view.specs.Held.{is_known, is_held}
 use Rattle.pm_view.specs.Log.{Log, log_stored}
 use Rattle.pm_view.specs.Steps.Step.{Store, Flush, Drain}
 use Rattle.pm_view.specs.View.{View}
@@ -62,7 +62,7 @@ pub record IsPersisted (v : View) (w x : ℕ) (u : View) : Type 0 where
   pub working : IsWorking u
   pub there : slice_index u.words w ≡ x
   pub others : (z : ℕ) → z ≢ w → slice_index u.words z ≡ slice_index v.words z
-  pub knows : is_known u w ≡ true
+  pub knows : is_held v w ≡ true → is_known u w ≡ true
   pub clean : (k : ℕ) → (k ≡ w / 8) ⊎ (is_unflushed v.changes k ≡ false) → list_any (is_in_line k) u.changes ≡ false
   pub of_none : (p : ℕ → Bool) → touches p v.changes ≡ false → touches p u.changes ≡ false
   pub calls : HasRoom v.changes → (u.calls ≡ v.calls + 3) × HasRoom u.changes
@@ -101,7 +101,7 @@ module _ (v : View) (working : IsWorking v) where
       left = drained (flushed line (changes ++ c ∷ []))
 
       abbrev u : View
-      u = record v { words = set v.words w x; known = w ∷ v.known; changes = left; calls = calls + 1 + 1 + 1 }
+      u = record v { words = set v.words w x; known = cond (is_held v w) (w ∷ v.known) v.known; changes = left; calls = calls + 1 + 1 + 1 }
 
       abbrev stored : View
       stored = after m (Store w x)
@@ -130,9 +130,9 @@ module _ (v : View) (working : IsWorking v) where
         of_none p none = left_touched p line changes c here (of.of_none p none)
 
         call : IsSameCall v u
-        call = same_call-then v (record v { words = set v.words w x; known = w ∷ v.known; changes = changes ++ c ∷ []; calls = calls + 1 }) u
-            (same_call-then v m (record v { words = set v.words w x; known = w ∷ v.known; changes = changes ++ c ∷ []; calls = calls + 1 }) (same_coursed v changes calls v.log) (same_changed m w x c v.log))
-            (same_coursed (record v { words = set v.words w x; known = w ∷ v.known; changes = changes ++ c ∷ []; calls = calls + 1 }) left (calls + 1 + 1 + 1) v.log)
+        call = same_call-then v (record v { words = set v.words w x; known = cond (is_held v w) (w ∷ v.known) v.known; changes = changes ++ c ∷ []; calls = calls + 1 }) u
+            (same_call-then v m (record v { words = set v.words w x; known = cond (is_held v w) (w ∷ v.known) v.known; changes = changes ++ c ∷ []; calls = calls + 1 }) (same_coursed v changes calls v.log) (same_changed m w x c v.log))
+            (same_coursed (record v { words = set v.words w x; known = cond (is_held v w) (w ∷ v.known) v.known; changes = changes ++ c ∷ []; calls = calls + 1 }) left (calls + 1 + 1 + 1) v.log)
 
         others : (z : ℕ) → z ≢ w → slice_index u.words z ≡ slice_index v.words z
         others z other = get_or-set_other v.words w z x 0 other
@@ -145,7 +145,8 @@ module _ (v : View) (working : IsWorking v) where
               (λ slot low. ap not (of_none (λ z. eqb (z / 8) (slot_line v.lane slot)) (undrained (list_any (is_in_line (slot_line v.lane slot)) v.changes) (working.drained slot low))));
           there = get_or-set_same v.words w x 0 inside;
           others = others;
-          knows = or_right (is_in_area v.lane w) (list_any (λ other. eqb other w) (w ∷ v.known)) (or_left (eqb w w) (list_any (λ other. eqb other w) v.known) (eq-eqb w w refl));
+          knows = λ held. or_right (is_in_area v.lane w) (list_any (λ other. eqb other w) (cond (is_held v w) (w ∷ v.known) v.known))
+              (ap (list_any (λ other. eqb other w)) (cond-true (is_held v w) (w ∷ v.known) v.known held) ∙ or_left (eqb w w) (list_any (λ other. eqb other w) v.known) (eq-eqb w w refl));
           clean = clean;
           of_none = of_none;
           calls = λ room.

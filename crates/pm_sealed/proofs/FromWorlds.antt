@@ -22,6 +22,7 @@ use Rattle.pm_world.specs.Opening.{Opening}
 use Rattle.pm_world.specs.Opens.{IsClean}
 use Rattle.pm_world.specs.Records.{IsRecordAt, generation_of, records_generation, used_slots}
 use Rattle.pm_world.specs.World.{Views, World}
+use Rattle.pm_sealed.proofs.IdleLanes.{idle_clean}
 use Rattle.pm_world.proofs.CrashSpellings.{undo_from, undo_of-spelled}
 use Rattle.pm_world.proofs.CrashWords.{slot_same}
 use Rattle.pm_sealed.specs.Sealed.{HasWholeLog, IsOfPool, MaySeal, SealingLaw, pool_seen}
@@ -78,45 +79,10 @@ module _ (o : Opening) (mem : Memory) (views : Views) (log : List Entry) (decide
       (λ (free : length v.log.records ≤ slot). let older = mine.log.stale slot u (let n_used = used in omega (arith, free, n_used)) low there in let same = at_work in omega (arith, older, same))
       (cases_lt slot (length v.log.records))
 
-  module _ (j : ℕ) (in_lanes : j < o.lanes) (other : j ≢ k) where
-    its : LaneFits o mem (settled o log decided) (Flies log decided j) j (views j)
-    its = world.each_lane j in_lanes
-
-    idle : (views j).log.phase ≡ Idle
-    idle = rest j in_lanes other
-
-    -- a word of its area is as this lane sees it
-    area : (w : ℕ) → area_word j ≤ w → w < area_word j + 1024 → slice_index v.words w ≡ slice_index (views j).words w
-    area w low high =
-        let here : is_in_area (views j).lane w ≡ true = ap (λ lane. is_in_area lane w) its.lane.lane ∙ and_from _ _ (le-leb (area_word j) w low) (lt-ltb w (area_word j + 1024) high) in
-        sym (sees w) ∙ its.picture.area w here
-
-    its_lane : (lane : ℕ) → lane ≡ j → slice_index (views j).words (area_word lane) ≡ slice_index v.words (area_word j)
-    its_lane lane same = ap (λ l. slice_index (views j).words (area_word l)) same ∙ sym (area (area_word j) (omega arith) (omega arith))
-
-    generation : generation_of (views j) ≡ slice_index v.words (area_word j)
-    generation = its_lane (views j).lane its.lane.lane
-
-    slot_stays : (slot : ℕ) → slot < 64 → undo_slot v.words j slot ≡ undo_slot (views j).words (views j).lane slot
-    slot_stays slot low =
-        let all = world.sound.size in let long = mine.lane.size in let its_long = its.lane.size in
-        slot_same v.words (views j).words (8 * slot_line j slot) (omega (arith, all, long, in_lanes, low)) (omega (arith, all, its_long, in_lanes, low))
-        (λ i from to. area i (omega (arith, from)) (omega (arith, to, low)))
-        ∙ ap (λ lane. undo_slot (views j).words lane slot) (sym its.lane.lane)
-
-    clean : IsClean (pool_seen b) j
-    clean =
-        let same = generation in let first = its.first_generation in let last = its.last_generation in record {
-          unsealed = area (area_word j + 1) (omega arith) (omega arith) ∙ (ap (λ l. slice_index (views j).words (area_word l + 1)) (sym its.lane.lane) ∙ (its.entries.seal ∙ ap (λ p. seal_in p (views j)) idle));
-          first_generation = omega (arith, same, first);
-          last_generation = omega (arith, same, last);
-          stale = λ slot u low there.
-              let none = (subst (PhaseFits (Flies log decided j) (views j)) idle its.phase).no_records in
-              let no_records : used_slots (views j).log.phase (views j) ≡ 0 = ap (λ p. used_slots p (views j)) idle ∙ ap (λ (rs : List Recorded). length rs) none in
-              let older = its.log.stale slot u (omega (arith, no_records)) low (ap undo_of (sym (slot_stays slot low)) ∙ there) in
-              let is : records_generation (views j).log.phase (views j) ≡ generation_of (views j) = ap (λ p. records_generation p (views j)) idle in
-              omega (arith, older, is, same);
-        }
+  clean : (j : ℕ) → j < o.lanes → j ≢ k → IsClean (pool_seen b) j
+  clean j in_lanes other =
+      let c = idle_clean o mem views log decided world v.words mine.lane.size sees j in_lanes (rest j in_lanes other) in
+      record { unsealed = c.unsealed; first_generation = c.first_generation; last_generation = c.last_generation; stale = c.stale }
 
   may_seal : MaySeal b
   may_seal = record {

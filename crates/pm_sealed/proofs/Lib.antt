@@ -1,3 +1,4 @@
+pub mod IdleLanes
 pub mod Stages
 pub mod Steps
 pub mod Unentered

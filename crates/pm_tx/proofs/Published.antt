@@ -1,6 +1,6 @@
 -- A call that publishes: its log is written, it is told and draws its number, the log is performed, and then it is over.
 use Rattle.std.proofs.Common.{◌≡◌, ℕ, ◌*◌, ◌/◌, ◌≤◌, not, inl, inr, List, [], ◌∷◌, ◌++◌, All, Any, IsTrue, length, length-append, map, take, None, Some, refl, sym, ap, ◌∙◌, subst, arith, false}
-use Rattle.std.specs.List.{filter}
+use Rattle.std.specs.List.{filter, Contains}
 use Rattle.std.proofs.lemmas.Bool.{cond-false, cond-true}
 use Rattle.std.proofs.lemmas.List.{length-map}
 use Rattle.std.proofs.lemmas.List.Elements.{All-head, All-tail, All-weaker}
@@ -22,8 +22,9 @@ use Rattle.pm_view.specs.Rights.{is_written}
 use Rattle.pm_view.specs.Steps.{Step}
 use Rattle.pm_view.specs.Steps.Step.{Draw, NumberSeen, Tell}
 use Rattle.pm_view.specs.View.{Numbered, Told, View}
-use Rattle.pm_view.specs.Views.{after, after_all, changes_heap}
+use Rattle.pm_view.specs.Views.{after, after_all, changes_heap, unallocated}
 use Rattle.pm_redo.proofs.Whole.{own_plain_log}
+use Rattle.pm_view.specs.Held.{is_held}
 use Rattle.pm_world.proofs.Sequencing.{ready_both}
 use Rattle.pm_world.specs.Lanes.{last_number_of}
 use Rattle.pm_world.specs.Lawful.{MayDraw, MayTell}
@@ -160,11 +161,16 @@ module _ (v : View) (entries : List Redo) (may : MayPublish v entries) where
       lane_drawn : IsSameLane v drawn
       lane_drawn = let l = written.1.call.lane in record { lanes = l.lanes; zones = l.zones; pool = l.pool; lane = l.lane; stop = l.stop; table = l.table; size = l.size }
 
+      -- what it knew it knows behind the draw, which is of no block
+      remembers_drawn : (u : ℕ) → Contains v.known u → Contains drawn.known u
+      remembers_drawn u there = subst (λ known. Contains known u)
+          (sym (cond-false (changes_heap told) (filter (is_held (record told { reserved = unallocated told })) told.known) told.known told_plain)) (written.1.call.remembers u there)
+
       entered : AreEntered drawn (entries ++ ending drawn ∷ [])
       entered = record {
         front = entries;
         are = refl;
-        each = All-weaker (IsOfPool v) (MayEnter drawn) (λ e is. inl (of_pool_on v drawn lane_drawn written.1.call.locks e is (knows_on v drawn written.1.call.remembers written.1.outside e is))) entries may.each;
+        each = All-weaker (IsOfPool v) (MayEnter drawn) (λ e is. inl (of_pool_on v drawn lane_drawn written.1.call.locks e is (knows_on v drawn remembers_drawn written.1.outside e is))) entries may.each;
         logged = ap (λ (p : Phase). (log_drawn p m.log).entries) written.1.is_open ∙ (logged ∙ ap (λ (e : Redo). map final_of (entries ++ e ∷ [])) same_ending);
         most = (let number = length-append entries (ending drawn ∷ []) in let few = may.few in omega (arith, number, few));
       }

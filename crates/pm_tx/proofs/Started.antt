@@ -1,6 +1,6 @@
 -- A lane at rest may begin a call.
 use Rattle.std.proofs.Common.{◌≡◌, ℕ, ◌<◌, true, eqb, inl, inr, Contains, List, [], ◌∷◌, ◌++◌, map, length, None, Ok, refl, sym, ap, ◌∙◌, subst, arith}
-use Rattle.std.specs.List.{list_any, filter}
+use Rattle.std.specs.List.{list_any}
 use Rattle.std.proofs.lemmas.Bool.{or_left}
 use Rattle.std.proofs.lemmas.List.Elements.{Contains-append_right}
 use Rattle.std.proofs.lemmas.Option.{none-some}
@@ -11,7 +11,7 @@ use Rattle.pm_undo.proofs.Staying.{looked}
 use Rattle.pm_view.proofs.Sequences.{after_all-append}
 use Rattle.pm_view.specs.Area.{area_word, is_in_area}
 use Rattle.pm_view.specs.Founds.{FoundAlone}
-use Rattle.pm_view.specs.Held.{is_known, is_held}
+use Rattle.pm_view.specs.Held.{is_known}
 use Rattle.pm_view.specs.Log.{Log, no_log}
 use Rattle.pm_view.specs.Log.Phase.{Open}
 use Rattle.pm_view.specs.Steps.{Step}
@@ -33,18 +33,16 @@ use Rattle.pm_tx.specs.Beginning.{IsBegunBy, RestsBehind}
 use Rattle.pm_tx.specs.Sequences.{sees_generation, starts}
 
 -- the view of a call that has just begun
-abbrev pub fresh_call : View → List ℕ → List Step → View
-fresh_call u known seen = record u { log = no_log (Open [] []); known = known; seen = seen; call = []; number = None }
+abbrev pub fresh_call : View → List Step → View
+fresh_call u seen = record u { log = no_log (Open [] []); seen = seen; call = []; number = None }
 
-started : (u : View) (n : ℕ) → IsFresh u → (seen : List Step) × (known : List ℕ) × ((after u (NumberSeen n) ≡ fresh_call u known seen) × Contains seen (NumberSeen n))
+started : (u : View) (n : ℕ) → IsFresh u → (seen : List Step) × ((after u (NumberSeen n) ≡ fresh_call u seen) × Contains seen (NumberSeen n))
 started u n (inl idle) = (
   NumberSeen n ∷ [],
-  filter (is_held u) u.known,
   (ap (λ (log : Log). with_seen (NumberSeen n) (begun log.phase u)) idle, (0, omega arith, refl)),
 )
 started u n (inr (log, number, call)) = (
   u.seen ++ NumberSeen n ∷ [],
-  u.known,
   (
     ap (λ (log : Log). with_seen (NumberSeen n) (begun log.phase u)) log
         ∙ (ap (λ (log : Log). record u { log = log; seen = u.seen ++ NumberSeen n ∷ [] }) log
@@ -98,22 +96,22 @@ module _ {M : Type 0} (at : M → View → Type 0) (lane : Lane M) (v : View) (i
   }
 
   module _ (n : ℕ) (mid : View → Type 0) (memory : M) (made : IsMade (at lane.memory) mid sees_generation) (seen : Made mid (at memory) (NumberSeen n)) where
-    abbrev t : (steps : List Step) × (known : List ℕ) × ((after u (NumberSeen n) ≡ fresh_call u known steps) × Contains steps (NumberSeen n))
+    abbrev t : (steps : List Step) × ((after u (NumberSeen n) ≡ fresh_call u steps) × Contains steps (NumberSeen n))
     t = started u n is.fresh
 
     abbrev w : View
-    w = fresh_call u t.1 t.0
+    w = fresh_call u t.0
 
     ends : after_all v (starts n v) ≡ w
     unfolding starts in_turn one after_all
-    ends = after_all-append v (sees_generation v) (NumberSeen n ∷ []) ∙ (ap (λ (m : View). after m (NumberSeen n)) looks_at.1 ∙ t.2.0)
+    ends = after_all-append v (sees_generation v) (NumberSeen n ∷ []) ∙ (ap (λ (m : View). after m (NumberSeen n)) looks_at.1 ∙ t.1.0)
 
     ready : Ready v (starts n v)
     unfolding starts in_turn one Ready
     ready = ready_both v (sees_generation v) (NumberSeen n ∷ []) looks_at.0 (tt, subst (λ (m : View). FoundAlone m (NumberSeen n)) (sym looks_at.1) (seen u (saw mid made)).2, tt)
 
     there : at memory w
-    there = subst (at memory) t.2.0 (seen u (saw mid made)).0
+    there = subst (at memory) t.1.0 (seen u (saw mid made)).0
 
     no_draws : DrawEnded v (starts n v)
     no_draws = drawless v (starts n v) (let e = ap (λ (m : View). length m.entries) ends in omega (arith, e))
@@ -164,7 +162,7 @@ module _ {M : Type 0} (at : M → View → Type 0) (lane : Lane M) (v : View) (i
         drained = is.drained;
         untold = refl;
         area = record { lane = is.place.lane; few = is.place.few; inside = is.place.inside; below = generation };
-        may_come = record { found = n; seen = t.2.1; below = below };
+        may_come = record { found = n; seen = t.1.1; below = below };
         lines = no_lines w is.free;
       });
     }

@@ -76,6 +76,15 @@ still_known v known u more e =
     (λ (there : list_any (λ other. eqb other u) v.known ≡ true). or_right (is_in_area v.lane u) (list_any (λ other. eqb other u) known) (more there))
     (or_cases (is_in_area v.lane u) (list_any (λ other. eqb other u) v.known) e)
 
+-- of what a lane knew it knows all still, where it holds the word and where not
+listed_more : (v : View) (w u : ℕ) (b : Bool) → list_any (λ other. eqb other u) v.known ≡ true → list_any (λ other. eqb other u) (cond b (w ∷ v.known) v.known) ≡ true
+listed_more v w u true e = or_right (eqb w u) (list_any (λ other. eqb other u) v.known) e
+listed_more v w u false e = e
+
+contains_more : (v : View) (w u : ℕ) (b : Bool) → Contains v.known u → Contains (cond b (w ∷ v.known) v.known) u
+contains_more v w u true there = Contains-append_right (w ∷ []) v.known u there
+contains_more v w u false there = there
+
 -- the view after a load of a word that it has so: the word may be known by now, and what was told is seen
 abbrev pub looked : View → ℕ → View
 looked v w = record v { known = cond (is_held v w) (w ∷ v.known) v.known; seen = v.seen ++ Load w (slice_index v.words w) ∷ [] }
@@ -103,17 +112,10 @@ same_looked v w = record {
   chunks = refl;
   entries = refl;
   actions = refl;
-  known = λ u. still_known v (cond (is_held v w) (w ∷ v.known) v.known) u (at u (is_held v w));
-  remembers = λ u. more u (is_held v w);
+  known = λ u. still_known v (cond (is_held v w) (w ∷ v.known) v.known) u (listed_more v w u (is_held v w));
+  remembers = λ u. contains_more v w u (is_held v w);
   seen = λ s there. Contains-append_left v.seen (Load w (slice_index v.words w) ∷ []) s there;
-} where
-  at : (u : ℕ) (b : Bool) → list_any (λ other. eqb other u) v.known ≡ true → list_any (λ other. eqb other u) (cond b (w ∷ v.known) v.known) ≡ true
-  at u true e = or_right (eqb w u) (list_any (λ other. eqb other u) v.known) e
-  at u false e = e
-
-  more : (u : ℕ) (b : Bool) → Contains v.known u → Contains (cond b (w ∷ v.known) v.known) u
-  more u true there = Contains-append_right (w ∷ []) v.known u there
-  more u false there = there
+}
 
 pub same_changed : (v : View) (w x : ℕ) (c : Change) (log : Log) → IsSameCall v (changed v w x c log)
 same_changed v w x c log = record {
@@ -127,8 +129,8 @@ same_changed v w x c log = record {
   chunks = refl;
   entries = refl;
   actions = refl;
-  known = λ u. still_known v (w ∷ v.known) u (or_right (eqb w u) (list_any (λ other. eqb other u) v.known));
-  remembers = λ u there. Contains-append_right (w ∷ []) v.known u there;
+  known = λ u. still_known v (cond (is_held v w) (w ∷ v.known) v.known) u (listed_more v w u (is_held v w));
+  remembers = λ u. contains_more v w u (is_held v w);
   seen = λ s there. there;
 }
 

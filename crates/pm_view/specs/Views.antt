@@ -37,9 +37,15 @@ loaded v w x = record v {
   locks = map (with_block v.lanes (slice_set v.words w x) w) v.locks;
 }
 
--- the word became x by this change, and the log this
+-- the word became x by this change, and the log this: the lane knows it where it holds it
 abbrev pub changed : View → ℕ → ℕ → Change → Log → View
-changed v w x c log = record v { words = slice_set v.words w x; known = w ∷ v.known; changes = v.changes ++ c ∷ []; calls = v.calls + 1; log = log }
+changed v w x c log = record v {
+  words = slice_set v.words w x;
+  known = if is_held v w then w ∷ v.known else v.known;
+  changes = v.changes ++ c ∷ [];
+  calls = v.calls + 1;
+  log = log;
+}
 
 -- once nothing is undrained the log goes on
 abbrev pub log_after_drain : List Change → View → Log
@@ -170,9 +176,9 @@ freed_by v f =
     if not (describes v.lanes f.word) then record { at = Run (8 * f.word); bits = f.mask } ∷ [] else
     if f.bits == 0 then chunks_described v f.word ∷ [] else []
 
--- a call begins where none is open: of the words the lane knows those that stay as it knows them
+-- a call begins where none is open
 abbrev pub begun : Phase → View → View
-begun Idle v = record v { log = no_log (Open [] []); seen = []; call = []; number = None; known = filter (is_held v) v.known }
+begun Idle v = record v { log = no_log (Open [] []); seen = []; call = []; number = None }
 begun phase v = v
 
 -- the pending actions after an operation that was answered so: one more, or none where they were published or given up
@@ -199,6 +205,7 @@ after v (Draw n) = record v {
   log = log_drawn v.log.phase v.log;
   number = Some n;
   entries = v.entries ++ record { number = n; call = v.call } ∷ [];
+  known = if changes_heap v then filter (is_held (record v { reserved = unallocated v })) v.known else v.known;
   reserved = if changes_heap v then unallocated v else v.reserved;
   freed = if changes_heap v then v.freed ++ flat_map (freed_by v) v.log.entries else v.freed;
 }

@@ -1,7 +1,7 @@
 -- A draw keeps the world, and adds the lane's call to its history.
 use Rattle.std.proofs.Common.{◌≡◌, ◌≢◌, ℕ, zero, suc, ◌+◌, ◌-◌, ◌<◌, ◌≤◌, inl, inr, ⊎_elim, le_refl, Bool, true, false, cond, eqb, ◌&&◌, ◌||◌, IsTrue, All, Any, Contains, List, [], ◌∷◌, ◌++◌, length, map, flat_map, slice_get, slice_index, ◌^◌, Some, is_none, refl, sym, ap, ◌∙◌, subst, arith, eq-eqb, ne_eqb, append-nil, length-append}
 use Rattle.std.specs.Int.{bit_at}
-use Rattle.std.specs.List.{list_any, range_with_len}
+use Rattle.std.specs.List.{list_any, range_with_len, filter}
 use Rattle.std.proofs.lemmas.Option.{none-some}
 use Rattle.std.proofs.lemmas.Bool.{cases_Bool, cond-true, cond-false, and_from, lt-ltb, or_right, false≢true, false_from_ne_true}
 use Rattle.std.proofs.lemmas.List.Elements.{All-weaker, Contains-append_left, Contains-push, Contains-push_cases}
@@ -25,6 +25,7 @@ use Rattle.pm_world.specs.Opening.{Opening, Guards}
 use Rattle.pm_world.specs.Records.{generation_of, finals_of, is_recorded, pool_entries, records_generation, used_slots, difference_of}
 use Rattle.pm_world.specs.World.{Views, World, EntryFits, is_low, may_draw, may_draw_count}
 use Rattle.pm_view.specs.Views.{after, changes_heap, freed_by, unallocated}
+use Rattle.pm_view.specs.Held.{is_held}
 use Rattle.pm_world.proofs.Plain.{flying_still, plain_still}
 use Rattle.pm_world.proofs.Apart.{outside_behind}
 use Rattle.pm_world.proofs.Differences.{difference-words, difference-unentered, pool_entries-final}
@@ -227,6 +228,7 @@ module _ (o : Opening) (old : Memory) (views : Views) (log : List Entry) (decide
     log = log_drawn v.log.phase v.log;
     number = Some n;
     entries = v.entries ++ record { number = n; call = v.call } ∷ [];
+    known = cond (plain i) (filter (is_held (record v { reserved = unallocated v })) v.known) v.known;
     reserved = cond (plain i) (unallocated v) v.reserved;
     freed = cond (plain i) (v.freed ++ flat_map (freed_by v) v.log.entries) v.freed;
   }

@@ -1,6 +1,6 @@
 -- What tells the lane's view something, and no more, keeps the world: operations, the stop word as seen, and the numbers that were drawn.
 use Rattle.std.proofs.Common.{◌≡◌, ℕ, ◌+◌, ◌<◌, ◌≤◌, ◌⊎◌, inl, inr, ⊎_elim, le_refl, Bool, true, false, ltb, All, Option, None, is_none, List, [], ◌∷◌, ◌++◌, length, refl, sym, ap, ◌∙◌, subst, arith}
-use Rattle.std.specs.List.{list_any, filter}
+use Rattle.std.specs.List.{list_any}
 use Rattle.std.proofs.lemmas.Option.{none-some}
 use Rattle.std.proofs.lemmas.Bool.{cases_lt, le-ltb, and_parts, and_from, or_cases, or_from, ltb-true, false≢true}
 use Rattle.std.proofs.lemmas.List.Folds.{list_any-append}
@@ -24,9 +24,6 @@ use Rattle.pm_world.specs.Memory.Location.{CommitCounter, PoolWord}
 use Rattle.pm_world.specs.Opening.{Opening}
 use Rattle.pm_world.specs.Records.{generation_of, records_generation, used_slots, is_logged_from, is_logged}
 use Rattle.pm_world.specs.World.{Views, World, is_low, may_draw, may_draw_count}
-use Rattle.pm_view.specs.Held.{is_held}
-use Rattle.pm_world.proofs.StepGive.{contains-filter, filter-contains, filter-passed}
-use Rattle.pm_world.proofs.Reheld.{reheld, reheld_fits}
 use Rattle.pm_world.proofs.Draws.{draws_at_most}
 use Rattle.pm_world.proofs.Frame.{coursed_fits}
 use Rattle.pm_world.proofs.Numbers.{own_below}
@@ -76,28 +73,16 @@ module _ (o : Opening) (old : Memory) (views : Views) (log : List Entry) (decide
       (λ can. ⊎_elim (λ (low : n < generation_limit). absurd (omega arith)) (λ (could : may_draw v ≡ true). could) (may can)))
       (cases_lt n generation_limit)
 
-  -- as a call begins, the lane knows what it holds: that is all that it knew
-  abbrev knowing : View
-  knowing = reheld v (filter (is_held v) v.known) v.run_words v.zone_words v.reserved v.freed v.zone_locks v.seen
-
-  knowing_fits : LaneFits o old (settled o log decided) (Flies log decided k) k knowing
-  knowing_fits =
-      let mine : LaneFits o old (settled o log decided) (Flies log decided k) k v = own o old views log decided world k inside v is in
-      reheld_fits v (filter (is_held v) v.known) v.run_words v.zone_words v.reserved v.freed v.zone_locks v.seen o old old (settled o log decided) (Flies log decided k) k (λ w. refl) (λ line. refl)
-      (λ w there. filter-contains (is_held v) v.known w there) (λ w there. filter-passed (is_held v) v.known w there) (λ w own_word there. contains-filter (is_held v) v.known w there (mine.picture.held w there))
-      (λ c there own_word. own_word) (record { of_pool = mine.blocks.of_pool; small = mine.blocks.small; free = mine.blocks.free; described = mine.blocks.described; freed = mine.blocks.freed }) mine
-
   -- a call begins
   begins : (new : Memory) (n : ℕ) → IsSame old new → n ≡ old CommitCounter → v.log.phase ≡ Idle
       → World o new (with_view views k (with_seen (NumberSeen n) (begun Idle v))) log decided
   begins new n same seen idle =
       let v' : View = with_seen (NumberSeen n) (begun Idle v) in
       let mine : LaneFits o old (settled o log decided) (Flies log decided k) k v = own o old views log decided world k inside v is in
-      let v₁ : View = knowing in
       let idle_fits = subst (PhaseFits (Flies log decided k) v) idle mine.phase in
       let log_fits : LogFits (settled o log decided) v (generation_of v) = subst (λ p. LogFits (settled o log decided) v (records_generation p v)) idle mine.log in
       still o old views log decided world k inside v is v' new same
-      (coursed_fits o old (settled o log decided) (Flies log decided k) k v₁ v.changes v.calls (no_log (Open [] [])) (NumberSeen n ∷ []) [] None v.entries v.actions knowing_fits
+      (coursed_fits o old (settled o log decided) (Flies log decided k) k v v.changes v.calls (no_log (Open [] [])) (NumberSeen n ∷ []) [] None v.entries v.actions mine
       (record {
         most = omega arith;
         stored = λ slot r there. absurd (none-some r there);

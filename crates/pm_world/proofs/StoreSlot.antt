@@ -1,5 +1,5 @@
 -- A store of the next word of a record's slot.
-use Rattle.std.proofs.Common.{◌≡◌, ◌≢◌, ℕ, zero, suc, ◌+◌, ◌-◌, ◌*◌, ◌/◌, ◌<◌, ◌≤◌, ◌⊎◌, inl, inr, ⊎_elim, Bool, true, false, eqb, leb, ltb, ◌&&◌, All, Contains, List, [], ◌∷◌, ◌++◌, length, take, drop, replicate, slice_get, slice_index, slice_range, get_or, Some, refl, sym, ap, ◌∙◌, subst, arith, length-append}
+use Rattle.std.proofs.Common.{◌≡◌, ◌≢◌, ℕ, zero, suc, ◌+◌, ◌-◌, ◌*◌, ◌/◌, ◌<◌, ◌≤◌, ◌⊎◌, inl, inr, ⊎_elim, Bool, true, false, eqb, leb, ltb, ◌&&◌, All, Contains, List, [], ◌∷◌, ◌++◌, length, take, drop, replicate, slice_get, slice_index, slice_range, get_or, Some, refl, sym, ap, ◌∙◌, subst, arith, length-append, cond}
 use Rattle.std.specs.List.{list_any}
 use Rattle.std.proofs.lemmas.Bool.{cases_lt, and_parts, or_cases, or_from, or_left, or_right, eqb-true, leb-true, ltb-true, false≢true, false_from_ne_true}
 use Rattle.std.proofs.lemmas.List.{take_all, length-take-le, length-drop, length-replicate, length-set, get_or-take, get_or-drop, get_or_append_left, get_or_push, ext_get_or}
@@ -12,7 +12,7 @@ use Rattle.pm_view.specs.Area.{area_word, is_in_area, part_of}
 use Rattle.pm_view.specs.Area.Part.{SlotWord}
 use Rattle.pm_view.specs.Changes.{store_change}
 use Rattle.pm_view.specs.Counts.{MayCount, HasRoom}
-use Rattle.pm_view.specs.Held.{is_known}
+use Rattle.pm_view.specs.Held.{is_known, is_held}
 use Rattle.pm_view.specs.Log.{Log, Recorded, with_slot}
 use Rattle.pm_view.specs.Log.Phase.{Open}
 use Rattle.pm_view.specs.View.{View}
@@ -264,7 +264,7 @@ module _ (o : Opening) (old : Memory) (views : Views) (log : List Entry) (decide
         let logged : (u : ℕ) → is_logged v u ≡ true → is_logged (view' lg) u ≡ true = λ u there. logged-longer (view' lg) 0 v.log.records (adds.next ∷ []) u (logged_same lg u there) in
         let size = length-append slot (x ∷ []) in
         let longer : length (v.log.records ++ adds.next ∷ []) ≡ length v.log.records + 1 = length-append v.log.records (adds.next ∷ []) in
-        let more : (u : ℕ) → Contains v.known u → Contains (w ∷ v.known) u = known_more o old views log decided world k inside v is new w x moves in_pool may room in
+        let more : (u : ℕ) → Contains v.known u → Contains (cond (is_held v w) (w ∷ v.known) v.known) u = known_more o old views log decided world k inside v is new w x moves in_pool may room in
         let spelled_now : undo_slot (view' v.log).words v.lane (length v.log.records) ≡ spelled (generation_of v) adds.next =
         let pool = world.sound.size in let words = mine.lane.size in let lane = mine.lane.lane in let free = adds.free in let set_size = length-set v.words w x in
         eight (view' v.log).words (slot ++ x ∷ []) (8 * slot_line v.lane (length v.log.records)) (omega (arith, size, last)) (omega (arith, pool, words, lane, free, set_size, inside)) (λ i low. stands i (omega (arith, size, last, low)))

@@ -1,5 +1,5 @@
 -- What every store of a lane owes and keeps, at a word of its area, under a lock that it holds for writing, or in a block that it reserved.
-use Rattle.std.proofs.Common.{◌≡◌, ◌≢◌, ℕ, ◌+◌, ◌-◌, ◌*◌, ◌/◌, ◌<◌, ◌≤◌, ◌⊎◌, inl, inr, ⊎_elim, Bool, true, false, IsTrue, is_some, ◌&&◌, ◌||◌, Contains, List, [], ◌∷◌, length, take, drop, set, slice_get, slice_index, slice_range, Some, refl, sym, ap, ◌∙◌, subst, arith, length-set, length-append, get_or-set_same, get_or-set_other, zero, suc, eqb, not, eq-eqb, ◌%◌}
+use Rattle.std.proofs.Common.{◌≡◌, ◌≢◌, ℕ, ◌+◌, ◌-◌, ◌*◌, ◌/◌, ◌<◌, ◌≤◌, ◌⊎◌, inl, inr, ⊎_elim, Bool, true, false, IsTrue, is_some, ◌&&◌, ◌||◌, Contains, List, [], ◌∷◌, length, take, drop, set, slice_get, slice_index, slice_range, Some, refl, sym, ap, ◌∙◌, subst, arith, length-set, length-append, get_or-set_same, get_or-set_other, zero, suc, eqb, not, eq-eqb, ◌%◌, cond}
 use Rattle.std.proofs.lemmas.Bool.{cases_eq, and_parts, false≢true, or_cases, or_left, or_right, and_from, not-true}
 use Rattle.std.proofs.lemmas.List.{drop-set-lt, drop-set-add, take-set-le}
 use Rattle.std.proofs.lemmas.List.Elements.{All-weaker}
@@ -78,6 +78,16 @@ plain_own v w (inl area) = inl area
 plain_own v w (inr (inl written)) = inr (inl written)
 plain_own v w (inr (inr fills)) = inr (inr fills.reserved)
 
+-- of a list with one more in front, or not, the others are those of the list
+contains-before : (held : Bool) (w : ℕ) (known : List ℕ) (u : ℕ) → u ≢ w → Contains (cond held (w ∷ known) known) u → Contains known u
+contains-before true w known u differ (zero, low, at) = absurd (differ (sym at))
+contains-before true w known u differ (suc n, low, at) = (n, omega arith, at)
+contains-before false w known u differ there = there
+
+contains-with : (held : Bool) (w : ℕ) (known : List ℕ) (u : ℕ) → Contains known u → Contains (cond held (w ∷ known) known) u
+contains-with true w known u (n, low, at) = (suc n, omega arith, at)
+contains-with false w known u there = there
+
 module _ (o : Opening) (old : Memory) (views : Views) (log : List Entry) (decided : ℕ → Bool) (world : World o old views log decided) (k : ℕ) (inside : k < o.lanes) (v : View) (is : views k ≡ v)
     (new : Memory) (w x : ℕ) (moves : Becomes (PoolWord w) x old new) (in_pool : w < length v.words) (may : MayCount v) (room : HasRoom v.changes) where
   mine : LaneFits o old (settled o log decided) (Flies log decided k) k v
@@ -94,12 +104,15 @@ module _ (o : Opening) (old : Memory) (views : Views) (log : List Entry) (decide
   word_now u before = ⊎_elim (λ (this : u ≡ w). ap (λ z. new (PoolWord z)) this ∙ (moves.1 ∙ (sym this_word ∙ ap (slice_index (set v.words w x)) (sym this))))
       (λ (differ : u ≢ w). moves.0 (PoolWord u) (other_pool u w differ) ∙ (before differ ∙ sym (other_word u differ))) (cases_eq u w)
 
-  pub known_before : (u : ℕ) → u ≢ w → Contains (w ∷ v.known) u → Contains v.known u
-  known_before u differ (zero, low, at) = absurd (differ (sym at))
-  known_before u differ (suc n, low, at) = (n, omega arith, at)
+  -- what it knows then: the word too, where it holds it
+  abbrev pub known_then : List ℕ
+  known_then = cond (is_held v w) (w ∷ v.known) v.known
 
-  pub known_more : (u : ℕ) → Contains v.known u → Contains (w ∷ v.known) u
-  known_more u (n, low, at) = (suc n, omega arith, at)
+  pub known_before : (u : ℕ) → u ≢ w → Contains known_then u → Contains v.known u
+  known_before u differ there = contains-before (is_held v w) w v.known u differ there
+
+  pub known_more : (u : ℕ) → Contains v.known u → Contains known_then u
+  known_more u there = contains-with (is_held v w) w v.known u there
 
   -- the word is changed so: by a store of all of it, or of some bits
   module _ (c : Change) where

@@ -1,0 +1,107 @@
+-- A lane that is alone and rests behind a call begins again from the words as they stand.
+use Rattle.std.proofs.Common.{◌≡◌, ◌≢◌, ◌⊎◌, inl, inr, ⊎_elim, ℕ, ◌+◌, ◌*◌, ◌-◌, ◌/◌, ◌%◌, ◌^◌, ◌<◌, ◌≤◌, Bool, true, false, not, eqb, ◌||◌, ◌&&◌, IsTrue, All, Contains, List, [], ◌∷◌, length, slice_index, Option, Some, None, is_none, refl, sym, ap, ◌∙◌, subst, arith, cond, get_or}
+use Rattle.std.specs.Int.{bit_at}
+use Rattle.std.specs.List.{list_any}
+use Rattle.std.proofs.lemmas.Bool.{and_parts, cases_Bool, cases_eq, cond-true, false_from_ne_true, false≢true}
+use Rattle.pm_header.specs.declared.header.Header.{Header}
+use Rattle.pm_objects.specs.declared.pool.PoolView.{PoolView}
+use Rattle.pm_view.specs.declared.occ.Occ.{Occ}
+use Rattle.pm_view.specs.declared.occ.Occ.TheVariants.{Run, Zone}
+use Rattle.pm_view.specs.Log.{Log, Phase, no_log}
+use Rattle.pm_view.specs.Log.Phase.{Idle}
+use Rattle.pm_view.specs.Occupancy.{is_taken}
+use Rattle.pm_view.specs.Steps.{Step}
+use Rattle.pm_view.specs.View.{Taken, View}
+use Rattle.pm_view.specs.Views.{occ_in, reserves, is_made}
+use Rattle.pm_world.specs.Crash.{IsBeingWritten, loses}
+use Rattle.pm_world.specs.Fits.{LaneFits, PhaseFits}
+use Rattle.pm_world.specs.Heap.{IsOcc, has_taken}
+use Rattle.pm_world.specs.History.{Entry, Flies, settled}
+use Rattle.pm_world.specs.Lawful.{generation_limit}
+use Rattle.pm_world.specs.Memory.Location.{PoolWord}
+use Rattle.pm_world.specs.Opening.{Opening}
+use Rattle.pm_world.specs.Opens.{IsClean, IsRested}
+use Rattle.pm_world.specs.Records.{is_drained_slot, used_slots}
+use Rattle.pm_world.specs.World.{is_low}
+use Rattle.pm_world.proofs.CrashLaw.{all_drained}
+use Rattle.pm_sealed.proofs.IdleLanes.{idle_clean}
+use Rattle.pm_crash.specs.Alone.{Begins, BeginsAgain, WorksAlone, standing}
+use Rattle.pm_crash.specs.Held.{HoldsImage}
+use Rattle.pm_crash.proofs.AloneCourse.{StandsAlone, begins_alone, stands_at}
+use Rattle.pm_crash.proofs.AloneImages.{ended_stays}
+use Rattle.pm_crash.proofs.AloneMemory.{memory_of}
+use Rattle.pm_crash.proofs.KnownHeap.{known_alone}
+use Rattle.pm_crash.proofs.OnTheWay.{alone_on_the_way}
+use Rattle.pm_epoch.specs.Epochs.{RestsBehindCall}
+use Rattle.pm_epoch.proofs.StandingPools.{holds_calls, own_fits}
+use Rattle.pm_epoch.proofs.ReservedBlocks.{free_still}
+
+module _ (o : Opening) (header : Header) (pool : PoolView) (v w : View) (steps : List Step) (works : WorksAlone o header pool v steps w) (rests : RestsBehindCall w) where
+  stands : StandsAlone o header pool w
+  stands = stands_at o header pool v steps w works.begins works.leads works.numbered works.within
+
+  fits : LaneFits o (memory_of w) (settled o stands.log stands.decided) (Flies stands.log stands.decided 0) 0 w
+  fits = own_fits o header pool w stands
+
+  idle : w.log.phase ≡ Idle
+  idle = ap (λ (l : Log). l.phase) rests.idle
+
+  -- no slot of it is being written, and no call of it is lost
+  writes_none : (slot : ℕ) → IsBeingWritten w slot → ⊥
+  writes_none slot = ⊎_elim
+      (λ (undrained : is_drained_slot w slot ≡ false). false≢true (sym undrained ∙ all_drained w slot rests.drained))
+      (λ (used : (length w.log.records ≤ slot) × (slot < used_slots w.log.phase w)). let all : used_slots w.log.phase w ≡ length w.log.records = ap (λ p. used_slots p w) idle in let from = used.0 in let to = used.1 in omega (arith, all, from, to))
+
+  loses_none : (n : ℕ) → loses w.words w n ≡ false
+  loses_none n = ended_stays w w.words n (inl idle)
+
+  each_idle : (j : ℕ) → j < o.lanes → (stands.views j).log.phase ≡ Idle
+  each_idle j low = ⊎_elim
+      (λ (same : j ≡ 0). ap (λ k. (stands.views k).log.phase) same ∙ (ap (λ (u : View). u.log.phase) stands.here ∙ idle))
+      (λ (other : j ≢ 0). stands.goes.others j low other)
+      (cases_eq j 0)
+
+  lane_size : length w.words ≡ length o.words
+  lane_size = fits.lane.size
+
+  clean : (j : ℕ) → j < o.lanes → IsClean (standing o w) j
+  clean j low = idle_clean o (memory_of w) stands.views stands.log stands.decided stands.goes.world w.words lane_size (λ i. refl) j low (each_idle j low)
+
+  free_here : (at : Occ) (bit : ℕ) → reserves w at bit ≡ true → is_taken (slice_index w.words) o.lanes at bit ≡ false
+  free_here at bit = subst (λ (u : View). ((page : ℕ) → is_made u page ≡ false) → reserves u at bit ≡ true → is_taken (slice_index u.words) o.lanes at bit ≡ false) stands.here
+      (λ no_run. free_still o (memory_of w) stands.views stands.log stands.decided 0 stands.goes.world stands.goes.in_lanes (λ i. ap (λ (u : View). slice_index u.words i) (sym stands.here)) no_run at bit) rests.no_run
+
+  rested : IsRested (standing o w) 0 w
+  rested = record {
+    lane = record { lanes = fits.lane.lanes; zones = fits.lane.zones; lane = fits.lane.lane; size = refl };
+    words = refl;
+    held = fits.picture.held;
+    drained = rests.drained;
+    idle = rests.idle;
+    no_locks = rests.free;
+    of_pool = fits.blocks.of_pool;
+    small = fits.blocks.small;
+    free = free_here;
+    nothing_freed = fits.blocks.freed;
+    within = works.within;
+  }
+
+  pub begins_again : BeginsAgain (standing o w) header pool w
+  begins_again =
+      let calls = holds_calls o header pool w stands writes_none loses_none v works.begins in record {
+        now = calls.before;
+        holds = calls.holds;
+        replays = calls.replays;
+        clean = clean;
+        rested = rested;
+        unlocked = rests.unlocked;
+        pages = let pages = stands.pages in let size = stands.goes.world.sound.size in let long = lane_size in omega (arith, pages, size, long);
+        zone_count = stands.zone_count;
+        occupied = λ at bit of low. known_alone o header pool v w steps at bit works of low;
+        of_pool = ap (λ (u : View). u.pool) (sym stands.here) ∙ stands.goes.of_pool;
+        alone = alone_on_the_way v w steps (begins_alone o header pool v works.begins) works.leads;
+        numbered = works.numbered;
+        newest = λ n is. stands.goes.newest n (ap (λ (u : View). u.number) stands.here ∙ is) ∙ sym stands.goes.world.counter;
+        closed = ap (λ number. is_none number && list_any is_low w.seen) rests.numbered;
+        few = let room = stands.goes.world.counter_room in let counter = stands.goes.world.counter in omega (arith, room, counter);
+      }
