@@ -8,4 +8,5 @@ pub mod FilledBlocks
 pub mod ClearChunks
 pub mod ReadyLanes
 pub mod RestingLanes
+pub mod PublishingHeap
 pub mod DrawnCalls

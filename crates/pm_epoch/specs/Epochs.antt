@@ -101,3 +101,12 @@ pub record RestsBehindCall (w : View) : Type 0 where
   pub no_run : (page : ℕ) → is_made w page ≡ false
   pub number : ℕ
   pub numbered : w.number ≡ Some number
+
+-- The lane has of the heap what it had: its pictures of the occupancy words, what it reserved and what it freed; and its calls and its number are the same.
+pub record HasSameHeap (v w : View) : Type 0 where
+  pub runs : w.run_words ≡ v.run_words
+  pub zones : w.zone_words ≡ v.zone_words
+  pub reserved : w.reserved ≡ v.reserved
+  pub freed : w.freed ≡ v.freed
+  pub entries : w.entries ≡ v.entries
+  pub number : w.number ≡ v.number

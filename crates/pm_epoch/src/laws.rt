@@ -42,7 +42,7 @@ ghost use Rattle.pm_fresh.specs.Making.{page_in};
 ghost use Rattle.pm_blocks.specs.NewRuns.{IsUnused};
 ghost use Rattle.pm_alloc.specs.NewObjects.{CanMakeObject};
 ghost use Rattle.pm_sealed.specs.Sealed.{LeavesSealed, Publishes, has_nothing};
-ghost use Rattle.pm_epoch.specs.Epochs.{AreOfOwnBits, HasEntriesFor, HoldsCalls, HoldsOpenCall, IsAtWorkAlone, IsUnusedChunk, MayPublish, RestsBehindCall};
+ghost use Rattle.pm_epoch.specs.Epochs.{AreOfOwnBits, HasEntriesFor, HasSameHeap, HoldsCalls, HoldsOpenCall, IsAtWorkAlone, IsUnusedChunk, MayPublish, RestsBehindCall};
 
 /// A law: in a world where a lane has each word as it is, what it reserved may be allocated: a block of a run, by the class that the run's
 /// descriptor says, and chunks that are described by 0; and a block that it found under a lock may be freed, unless it is the root's, where
@@ -152,4 +152,10 @@ pub fn a_lane_alone_holds_its_pools()
 pub fn a_lane_at_rest_may_begin_again()
     ensures { (o : Opening) (header : Header) (pool : PoolView) (v w : View) (steps : List Step)
         → WorksAlone o header pool v steps w → RestsBehindCall w → BeginsAgain (standing o w) header pool w }
+{}
+
+/// A law: what a lane that is alone has of the heap stays while it publishes its log: its pictures of the occupancy words, what it reserved and what it freed;
+/// and it draws no other number. No code runs.
+pub fn publishing_keeps_what_a_lane_has()
+    ensures { (b w : View) (steps : List Step) → IsAlone b → Publishes b steps w → HasSameHeap b w }
 {}
