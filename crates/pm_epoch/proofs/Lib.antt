@@ -7,6 +7,12 @@ pub mod OwnBits
 pub mod FilledBlocks
 pub mod ClearChunks
 pub mod ReadyLanes
+pub mod KnowingLanes
 pub mod RestingLanes
 pub mod PublishingHeap
+pub mod GivingBack
+pub mod PromisedTaken
+pub mod TakenBehindLog
+pub mod EndedCalls
+pub mod PublishedCalls
 pub mod DrawnCalls

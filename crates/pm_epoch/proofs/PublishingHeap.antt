@@ -1,5 +1,5 @@
 -- What a lane that is alone has of the heap stays while it publishes its log.
-use Rattle.std.proofs.Common.{◌≡◌, ℕ, ◌/◌, true, false, Bool, IsTrue, List, [], ◌∷◌, Option, Some, refl, sym, ap, ◌∙◌}
+use Rattle.std.proofs.Common.{◌≡◌, ◌/◌, true, List, [], ◌∷◌, refl, sym, ap, ◌∙◌, subst}
 use Rattle.std.proofs.lemmas.Bool.{false≢true}
 use Rattle.std.proofs.lemmas.List.{set-get_or}
 use Rattle.pm_view.specs.declared.occ.Occ.{Occ}
@@ -11,7 +11,8 @@ use Rattle.pm_view.specs.Steps.{Step}
 use Rattle.pm_view.specs.Steps.Step.{Load, Store, Or, And, Flush, Drain, TakeWrite, TakeRead, Raise, Give, ZoneTry, ZoneGive, Occupied, Occupy, Vacate, Draw, NumberSeen, StopSeen, SetStop, Tell}
 use Rattle.pm_view.specs.View.{View}
 use Rattle.pm_view.specs.Views.{after, begun, occ_in, runs_with, zones_with}
-use Rattle.pm_view.proofs.SameLane.{same_lane-after}
+use Rattle.pm_view.specs.Constants.{IsSameLane}
+use Rattle.pm_view.proofs.SameLane.{same_lane, same_lane-after, same_lane-then}
 use Rattle.pm_world.specs.Lawful.{Allowed, IsEarly, MayTell}
 use Rattle.pm_sealed.specs.Sealed.{Publishes, is_publishing}
 use Rattle.pm_epoch.specs.Epochs.{HasSameHeap}
@@ -36,7 +37,7 @@ tell_none (Applying applied) may is = may
 tell_none Clearing may is = may
 tell_none Retiring may is = may
 
-begun_same : (phase : Phase) (v : View) → is_publishing phase ≡ true → begun phase v ≡ v
+pub begun_same : (phase : Phase) (v : View) → is_publishing phase ≡ true → begun phase v ≡ v
 begun_same Idle v is = absurd (false≢true is)
 begun_same (Open slot pair) v is = refl
 begun_same Drawn v is = refl
@@ -121,3 +122,9 @@ same_along v [] w alone leads = same_by leads
     }
 same_along v (s ∷ steps) w alone leads =
     same_then v (after v s) w (same_after v s leads.0 alone leads.1 leads.2) (same_along (after v s) steps w ((same_lane-after v s).table ∙ alone) leads.3)
+
+-- and it is the same lane of the same pool
+pub same_lane_along : (v : View) (steps : List Step) (w : View) → Publishes v steps w → IsSameLane v w
+unfolding Publishes
+same_lane_along v [] w leads = subst (IsSameLane v) (sym leads) (same_lane v)
+same_lane_along v (s ∷ steps) w leads = same_lane-then v (after v s) w (same_lane-after v s) (same_lane_along (after v s) steps w leads.3)

@@ -1,5 +1,5 @@
 -- What a lane that is alone reserved is free by the pool's words as they stand.
-use Rattle.std.proofs.Common.{◌≡◌, ◌≢◌, ⊎_elim, ℕ, ◌+◌, ◌*◌, ◌<◌, ◌≤◌, true, false, Bool, Contains, List, None, Option, Some, length, slice_index, sym, ap, ◌∙◌, subst, arith, not, eq-eqb, ◌%◌, ◌-◌, refl}
+use Rattle.std.proofs.Common.{◌≡◌, ◌≢◌, ⊎_elim, ℕ, ◌+◌, ◌*◌, ◌<◌, ◌≤◌, true, false, Bool, Contains, List, None, Option, Some, length, slice_index, sym, ap, ◌∙◌, subst, arith, not, eq-eqb, ◌%◌, ◌-◌}
 use Rattle.std.proofs.lemmas.Bool.{cases_lt, false_from_ne_true, false≢true, and_from}
 use Rattle.std.specs.Option.{IfSome}
 use Rattle.std.proofs.lemmas.List.{get_or_past}

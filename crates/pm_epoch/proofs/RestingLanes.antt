@@ -1,32 +1,23 @@
 -- A lane that is alone and rests behind a call begins again from the words as they stand.
-use Rattle.std.proofs.Common.{◌≡◌, ◌≢◌, ◌⊎◌, inl, inr, ⊎_elim, ℕ, ◌+◌, ◌*◌, ◌-◌, ◌/◌, ◌%◌, ◌^◌, ◌<◌, ◌≤◌, Bool, true, false, not, eqb, ◌||◌, ◌&&◌, IsTrue, All, Contains, List, [], ◌∷◌, length, slice_index, Option, Some, None, is_none, refl, sym, ap, ◌∙◌, subst, arith, cond, get_or}
-use Rattle.std.specs.Int.{bit_at}
+use Rattle.std.proofs.Common.{◌≡◌, ◌≢◌, inl, ⊎_elim, ℕ, ◌<◌, ◌≤◌, false, ◌&&◌, List, length, is_none, refl, sym, ap, ◌∙◌, arith}
 use Rattle.std.specs.List.{list_any}
-use Rattle.std.proofs.lemmas.Bool.{and_parts, cases_Bool, cases_eq, cond-true, false_from_ne_true, false≢true}
+use Rattle.std.proofs.lemmas.Bool.{cases_eq, false≢true}
 use Rattle.pm_header.specs.declared.header.Header.{Header}
 use Rattle.pm_objects.specs.declared.pool.PoolView.{PoolView}
-use Rattle.pm_view.specs.declared.occ.Occ.{Occ}
-use Rattle.pm_view.specs.declared.occ.Occ.TheVariants.{Run, Zone}
-use Rattle.pm_view.specs.Log.{Log, Phase, no_log}
+use Rattle.pm_view.specs.Log.{Log}
 use Rattle.pm_view.specs.Log.Phase.{Idle}
-use Rattle.pm_view.specs.Occupancy.{is_taken}
 use Rattle.pm_view.specs.Steps.{Step}
-use Rattle.pm_view.specs.View.{Taken, View}
-use Rattle.pm_view.specs.Views.{occ_in, reserves, is_made}
+use Rattle.pm_view.specs.View.{View}
 use Rattle.pm_world.specs.Crash.{IsBeingWritten, loses}
-use Rattle.pm_world.specs.Fits.{LaneFits, PhaseFits}
-use Rattle.pm_world.specs.Heap.{IsOcc, has_taken}
-use Rattle.pm_world.specs.History.{Entry, Flies, settled}
-use Rattle.pm_world.specs.Lawful.{generation_limit}
-use Rattle.pm_world.specs.Memory.Location.{PoolWord}
+use Rattle.pm_world.specs.Fits.{LaneFits}
+use Rattle.pm_world.specs.History.{Flies, settled}
 use Rattle.pm_world.specs.Opening.{Opening}
 use Rattle.pm_world.specs.Opens.{IsClean, IsRested}
 use Rattle.pm_world.specs.Records.{is_drained_slot, used_slots}
 use Rattle.pm_world.specs.World.{is_low}
 use Rattle.pm_world.proofs.CrashLaw.{all_drained}
 use Rattle.pm_sealed.proofs.IdleLanes.{idle_clean}
-use Rattle.pm_crash.specs.Alone.{Begins, BeginsAgain, WorksAlone, standing}
-use Rattle.pm_crash.specs.Held.{HoldsImage}
+use Rattle.pm_crash.specs.Alone.{BeginsAgain, WorksAlone, standing}
 use Rattle.pm_crash.proofs.AloneCourse.{StandsAlone, begins_alone, stands_at}
 use Rattle.pm_crash.proofs.AloneImages.{ended_stays}
 use Rattle.pm_crash.proofs.AloneMemory.{memory_of}
@@ -34,7 +25,7 @@ use Rattle.pm_crash.proofs.KnownHeap.{known_alone}
 use Rattle.pm_crash.proofs.OnTheWay.{alone_on_the_way}
 use Rattle.pm_epoch.specs.Epochs.{RestsBehindCall}
 use Rattle.pm_epoch.proofs.StandingPools.{holds_calls, own_fits}
-use Rattle.pm_epoch.proofs.ReservedBlocks.{free_still}
+use Rattle.pm_epoch.proofs.KnowingLanes.{free_here}
 
 module _ (o : Opening) (header : Header) (pool : PoolView) (v w : View) (steps : List Step) (works : WorksAlone o header pool v steps w) (rests : RestsBehindCall w) where
   stands : StandsAlone o header pool w
@@ -67,10 +58,6 @@ module _ (o : Opening) (header : Header) (pool : PoolView) (v w : View) (steps :
   clean : (j : ℕ) → j < o.lanes → IsClean (standing o w) j
   clean j low = idle_clean o (memory_of w) stands.views stands.log stands.decided stands.goes.world w.words lane_size (λ i. refl) j low (each_idle j low)
 
-  free_here : (at : Occ) (bit : ℕ) → reserves w at bit ≡ true → is_taken (slice_index w.words) o.lanes at bit ≡ false
-  free_here at bit = subst (λ (u : View). ((page : ℕ) → is_made u page ≡ false) → reserves u at bit ≡ true → is_taken (slice_index u.words) o.lanes at bit ≡ false) stands.here
-      (λ no_run. free_still o (memory_of w) stands.views stands.log stands.decided 0 stands.goes.world stands.goes.in_lanes (λ i. ap (λ (u : View). slice_index u.words i) (sym stands.here)) no_run at bit) rests.no_run
-
   rested : IsRested (standing o w) 0 w
   rested = record {
     lane = record { lanes = fits.lane.lanes; zones = fits.lane.zones; lane = fits.lane.lane; size = refl };
@@ -81,7 +68,7 @@ module _ (o : Opening) (header : Header) (pool : PoolView) (v w : View) (steps :
     no_locks = rests.free;
     of_pool = fits.blocks.of_pool;
     small = fits.blocks.small;
-    free = free_here;
+    free = free_here o header pool v w steps works rests.no_run;
     nothing_freed = fits.blocks.freed;
     within = works.within;
   }

@@ -1,33 +1,26 @@
 -- A lane that works alone, with nothing undrained before its call draws: its words as an image hold the pool before the call, and as they stand that of the call.
-use Rattle.std.proofs.Common.{◌≡◌, ◌≢◌, ◌⊎◌, inl, inr, ⊎_elim, ℕ, zero, suc, ◌<◌, ◌≤◌, Bool, true, false, not, eqb, ◌&&◌, ◌||◌, IsTrue, All, Contains, List, [], ◌∷◌, length, slice_index, Option, Some, None, refl, sym, ap, ◌∙◌, subst, arith, ◌+◌, get_or}
-use Rattle.std.specs.List.{filter, list_any, range_with_len}
-use Rattle.std.proofs.lemmas.Bool.{and_parts, cases_Bool, cases_eq, cond-true, false_from_ne_true, false≢true, cond-false, or_from}
+use Rattle.std.proofs.Common.{◌≡◌, ◌≢◌, ⊎_elim, ℕ, ◌<◌, ◌≤◌, true, false, not, ◌&&◌, Contains, List, [], length, slice_index, Some, None, refl, sym, ap, ◌∙◌, subst, arith, get_or}
+use Rattle.std.specs.List.{range_with_len}
+use Rattle.std.proofs.lemmas.Bool.{cases_Bool, cases_eq, cond-true, false_from_ne_true, false≢true, cond-false, or_from}
 use Rattle.std.proofs.lemmas.List.Elements.{All-nil}
 use Rattle.std.proofs.lemmas.List.Folds.{list_any_none}
 use Rattle.std.proofs.lemmas.Option.{none-some}
 use Rattle.pm_header.specs.declared.header.Header.{Header}
-use Rattle.pm_image.specs.HeapFaults.{heap_fault}
-use Rattle.pm_image.specs.LogFaults.{log_fault}
 use Rattle.pm_image.specs.Logs.{recovered_at}
-use Rattle.pm_image.specs.Steps.{valid_record}
 use Rattle.pm_model.specs.Names.{Replays}
 use Rattle.pm_model.specs.History.{opened}
 use Rattle.pm_model.specs.Step.{Act, State}
 use Rattle.pm_objects.specs.declared.history.TxErr.{TxErr}
 use Rattle.pm_objects.specs.declared.pool.PoolView.{PoolView}
-use Rattle.pm_view.specs.declared.change.Change.{Change}
 use Rattle.pm_view.specs.Area.{area_word}
-use Rattle.pm_view.specs.Log.{Phase, Recorded}
-use Rattle.pm_view.specs.Log.Phase.{Idle, Open}
-use Rattle.pm_view.specs.Steps.{Step}
+use Rattle.pm_view.specs.Log.Phase.{Open}
 use Rattle.pm_view.specs.View.{Numbered, View}
 use Rattle.pm_world.specs.Course.{is_number, flight, flight_in}
-use Rattle.pm_world.specs.Crash.{IsBeingWritten, IsWhole, NoneTorn, Survives, is_kept, is_lost, loses, is_deciding_in, MeansKept}
+use Rattle.pm_world.specs.Crash.{IsBeingWritten, NoneTorn, Survives, is_kept, loses, is_deciding_in, MeansKept}
 use Rattle.pm_world.specs.Fits.{LaneFits, PhaseFits}
 use Rattle.pm_world.specs.History.{Entry, Flies, entries_by, settled}
 use Rattle.pm_world.specs.Memory.Location.{PoolWord}
-use Rattle.pm_world.specs.Opening.{IsLivingWord, Opening, TellsOfBlocks, Guards}
-use Rattle.pm_world.specs.Opens.{IsClean}
+use Rattle.pm_world.specs.Opening.{IsLivingWord, Opening, TellsOfBlocks}
 use Rattle.pm_world.specs.Records.{is_drained_slot, is_recorded, used_slots, records_generation, is_logged}
 use Rattle.pm_crash.proofs.TornSlots.{none_torn_by_lane}
 use Rattle.pm_model.specs.declared.stage.Stage.{Stage}
@@ -39,13 +32,13 @@ use Rattle.pm_world.proofs.CrashRuns.{crash_law}
 use Rattle.pm_world.proofs.CrashLaw.{all_drained}
 use Rattle.pm_world.proofs.Exclusion.{writes_under}
 use Rattle.pm_world.proofs.Slots.{word_recorded}
-use Rattle.pm_crash.specs.Alone.{Begins, alone_views}
+use Rattle.pm_crash.specs.Alone.{Begins}
 use Rattle.pm_crash.specs.Held.{HoldsImage, HoldsPool}
 use Rattle.pm_crash.specs.OneLane.{HoldsReplay, Moment}
 use Rattle.pm_crash.specs.OpenCall.{ComesTo, IsOpen, call_words, IsBefore}
 use Rattle.pm_crash.specs.Pending.{acts_alone, acts_of, state_after, state_alone}
 use Rattle.pm_crash.proofs.AloneCourse.{StandsAlone, begins_clean, begins_holds}
-use Rattle.pm_crash.proofs.AloneImages.{same_views, none_torn}
+use Rattle.pm_crash.proofs.AloneImages.{none_torn}
 use Rattle.pm_crash.proofs.AloneMemory.{memory_of}
 use Rattle.pm_crash.proofs.CleanWords.{clean_words_hold}
 use Rattle.pm_crash.proofs.Continued.{two_same}

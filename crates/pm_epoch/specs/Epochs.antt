@@ -1,25 +1,38 @@
 -- What a lane that is alone publishes over the pool that its words hold: blocks for new objects, blocks freed, words of objects set (docs/MODEL.md, "From call to
 -- call").
-use Rattle.std.specs.Prelude.{◌≡◌, ◌⊎◌, ℕ, ◌+◌, ◌*◌, ◌<◌, ◌≤◌, true, false, length, All, List, [], ◌∷◌, ◌++◌, map, slice_index, Some}
+use Rattle.std.specs.Prelude.{◌≡◌, ◌⊎◌, ◌↔◌, ℕ, ◌+◌, ◌*◌, ◌<◌, ◌≤◌, ◌^◌, IsTrue, Contains, true, false, length, All, List, [], ◌∷◌, ◌++◌, map, slice_index, Some}
 use Rattle.pm_layout.specs.declared.shape.Shape.{Shape}
 use Rattle.pm_header.specs.declared.header.Header.{Header}
 use Rattle.pm_objects.specs.declared.pool.PoolView.{PoolView}
 use Rattle.pm_image.specs.Blocks.{descriptor_word}
 use Rattle.pm_view.specs.declared.occ.Occ.{Occ}
 use Rattle.pm_view.specs.declared.occ.Occ.TheVariants.{Zone}
-use Rattle.pm_view.specs.View.{View}
+use Rattle.pm_view.specs.Held.{is_held}
+use Rattle.pm_view.specs.View.{Taken, View}
 use Rattle.pm_view.specs.Founds.{IsAlone}
-use Rattle.pm_view.specs.Views.{is_made, reserves, changes_heap}
+use Rattle.pm_view.specs.Occupancy.{is_taken}
+use Rattle.pm_view.specs.Steps.{Step}
+use Rattle.pm_view.specs.Steps.Step.{Draw, Give, Vacate, ZoneGive}
+use Rattle.pm_view.specs.Views.{after, has_bit, is_made, occ_in, reserves, changes_heap}
+use Rattle.std.specs.Int.{bit_at}
+use Rattle.std.specs.List.{list_any}
 use Rattle.pm_world.specs.Entries.{ends_with}
-use Rattle.pm_world.specs.Lawful.{generation_limit}
+use Rattle.pm_world.specs.Heap.{IsOcc, has_taken}
+use Rattle.pm_world.specs.Lawful.{Allowed, generation_limit}
 use Rattle.pm_world.specs.Lanes.{IsOfShape}
 use Rattle.pm_world.specs.Records.{generation_of}
 use Rattle.pm_undo.specs.Working.{IsWorking}
+use Rattle.pm_memory.specs.Solo.{AreNumbered}
+use Rattle.pm_world.specs.Fits.{IsLane}
+use Rattle.pm_world.specs.Opens.{IsClean}
+use Rattle.std.specs.Option.{ForSome}
+use Rattle.pm_crash.specs.Alone.{WorksAlone, standing}
 use Rattle.pm_crash.specs.HeapChanges.{HeapChange}
 use Rattle.pm_crash.specs.Held.{HoldsImage, HoldsPool}
-use Rattle.pm_crash.specs.Publishing.{AreInOrder, CanPublish, Published, entry_published}
-use Rattle.pm_crash.specs.Taken.{AllocatesBit, FreesBit}
-use Rattle.pm_sealed.specs.Sealed.{MaySeal}
+use Rattle.pm_crash.specs.Publishing.Published.{Changes, Performs}
+use Rattle.pm_crash.specs.Publishing.{AreInOrder, CanPublish, Published, all_pool_published, entry_published}
+use Rattle.pm_crash.specs.Taken.{AllocatesBit, FreesBit, TakenBehindAll}
+use Rattle.pm_sealed.specs.Sealed.{MaySeal, Publishes}
 use Rattle.pm_world.specs.Opening.{Opening}
 use Rattle.pm_model.specs.Names.{Replays}
 use Rattle.pm_model.specs.History.{opened}
@@ -110,3 +123,92 @@ pub record HasSameHeap (v w : View) : Type 0 where
   pub freed : w.freed ≡ v.freed
   pub entries : w.entries ≡ v.entries
   pub number : w.number ≡ v.number
+
+-- ---- behind its log
+
+-- a step by which a lane gives back: a line's lock, a zone's, or what it reserved or freed
+abbrev pub IsGiving : Step → Type 0
+IsGiving (Give line) = Unit {0}
+IsGiving (ZoneGive zone) = Unit {0}
+IsGiving (Vacate at bits) = Unit {0}
+IsGiving s = ⊥
+
+-- the lane reserved what the bit is of, or freed it and has not given it back
+abbrev pub IsKept : View → Occ → ℕ → Type 0
+IsKept v at bit = (reserves v at bit ≡ true) ⊎ (list_any (has_bit at bit) v.freed ≡ true)
+
+-- Each bit of the lane's picture of an occupancy word is set exactly where what it is of is taken by its words, or the lane has it; and what it reserved, or
+-- freed, is not taken by its words.
+pub record KnowsTaken (v : View) : Type 0 where
+  pub pages : length v.run_words ≡ 1 + 2 * v.lanes + 65 * v.zones
+  pub zone_count : length v.zone_words ≡ 32
+  pub bits : (at : Occ) (bit : ℕ) → IsOcc v.lanes v.zones at → bit < 64 → (bit_at (occ_in v at) bit ≡ 1) ↔ ((is_taken (slice_index v.words) v.lanes at bit ≡ true) ⊎ (has_taken v at bit ≡ true))
+  pub apart : (at : Occ) (bit : ℕ) → IsOcc v.lanes v.zones at → bit < 64 → IsKept v at bit → is_taken (slice_index v.words) v.lanes at bit ≡ false
+
+-- As its call has drawn, it is so of what is taken once all of this is published.
+pub record PromisesTaken (v : View) (all : List Published) : Type 0 where
+  pub pages : length v.run_words ≡ 1 + 2 * v.lanes + 65 * v.zones
+  pub zone_count : length v.zone_words ≡ 32
+  pub bits : (at : Occ) (bit : ℕ) → IsOcc v.lanes v.zones at → bit < 64
+      → (bit_at (occ_in v at) bit ≡ 1) ↔ (TakenBehindAll v.lanes all at bit (is_taken (slice_index v.words) v.lanes at bit ≡ true) ⊎ (has_taken v at bit ≡ true))
+  pub apart : (at : Occ) (bit : ℕ) → IsOcc v.lanes v.zones at → bit < 64 → IsKept v at bit → ¬ TakenBehindAll v.lanes all at bit (is_taken (slice_index v.words) v.lanes at bit ≡ true)
+
+-- The lane's call has ended: it is alone, its log is empty with nothing undrained, and each log is clean. An image of its words holds a pool to which its calls
+-- lead from this one, and it knows what is taken. It may have locks to give back still, and blocks that it freed or reserved.
+pub record HasEnded (o : Opening) (header : Header) (pool : PoolView) (v : View) : Type 0 where
+  pub now : PoolView
+  pub holds : HoldsImage v.words o.lanes o.zones header now
+  pub replays : Replays (opened pool) (acts_alone v.entries) (state_alone now v.entries)
+  pub clean : (j : ℕ) → j < o.lanes → IsClean (standing o v) j
+  pub lane : IsLane (standing o v) 0 v
+  pub held : (w : ℕ) → Contains v.known w → IsTrue (is_held v w)
+  pub drained : v.changes ≡ []
+  pub idle : v.log ≡ no_log Idle
+  pub of_pool : All (λ (t : Taken). IsOcc o.lanes o.zones t.at) v.reserved
+  pub small : All (λ (t : Taken). t.bits < 2 ^ 64) v.reserved
+  pub taken : KnowsTaken v
+  pub within : ForSome v.stop (λ stop. v.calls ≤ stop)
+  pub of_header : v.pool ≡ header.id
+  pub alone : IsAlone v
+  pub numbered : AreNumbered 1 v.entries
+  pub newest : v.number ≡ Some (length v.entries)
+  pub few : length v.entries < generation_limit + 32
+
+-- one of these makes the bit taken, or one of these makes it free
+abbrev pub SomeAllocates : ℕ → List Published → Occ → ℕ → Type 0
+SomeAllocates lanes [] at bit = ⊥
+SomeAllocates lanes (Performs action ∷ all) at bit = SomeAllocates lanes all at bit
+SomeAllocates lanes (Changes change ∷ all) at bit = AllocatesBit lanes change at bit ⊎ SomeAllocates lanes all at bit
+
+abbrev pub SomeFrees : ℕ → List Published → Occ → ℕ → Type 0
+SomeFrees lanes [] at bit = ⊥
+SomeFrees lanes (Performs action ∷ all) at bit = SomeFrees lanes all at bit
+SomeFrees lanes (Changes change ∷ all) at bit = FreesBit lanes change at bit ⊎ SomeFrees lanes all at bit
+
+-- As its call draws, what the lane publishes leaves what it reserved, and what it frees it has from then on, until it gives it back. It allocates what it
+-- reserved, and frees what its words say is taken.
+pub record HandsOver (v w : View) (all : List Published) : Type 0 where
+  pub left : (at : Occ) (bit : ℕ) → IsOcc v.lanes v.zones at → bit < 64 → reserves v at bit ≡ true → (reserves w at bit ≡ true) ⊎ SomeAllocates v.lanes all at bit
+  pub reserved : (at : Occ) (bit : ℕ) → IsOcc v.lanes v.zones at → bit < 64 → reserves w at bit ≡ true → (reserves v at bit ≡ true) × ¬ SomeAllocates v.lanes all at bit
+  pub freed : (at : Occ) (bit : ℕ) → IsOcc v.lanes v.zones at → bit < 64 → (list_any (has_bit at bit) w.freed ≡ true) ↔ SomeFrees v.lanes all at bit
+  pub own : (at : Occ) (bit : ℕ) → IsOcc v.lanes v.zones at → bit < 64 → SomeAllocates v.lanes all at bit → reserves v at bit ≡ true
+  pub taken : (at : Occ) (bit : ℕ) → IsOcc v.lanes v.zones at → bit < 64 → SomeFrees v.lanes all at bit → is_taken (slice_index v.words) v.lanes at bit ≡ true
+
+-- A lane worked alone to where its call draws this number, which it may publish these with, knowing what will be taken; it published to its log's end, where it
+-- holds what it knows. To the pool with all that was published its calls lead, and the numbers drawn are its own.
+pub record PublishesAlone (o : Opening) (header : Header) (pool : PoolView) (u : View) (n : ℕ) (all : List Published) (w : View) : Type 0 where
+  pub start : View
+  pub steps : List Step
+  pub works : WorksAlone o header pool start steps u
+  pub draws : Allowed u (Draw n)
+  pub before : PoolView
+  pub made : PoolView
+  pub may : MayPublish (after u (Draw n)) header before made all
+  pub promises : PromisesTaken (after u (Draw n)) all
+  pub log_steps : List Step
+  pub publishes : Publishes (after u (Draw n)) log_steps w
+  pub over : w.log.phase ≡ Idle
+  pub held : (i : ℕ) → Contains w.known i → IsTrue (is_held w i)
+  pub replays : Replays (opened pool) (acts_alone w.entries) (state_alone (all_pool_published o.lanes all made) w.entries)
+  pub numbered : AreNumbered 1 w.entries
+  pub within : ForSome w.stop (λ stop. w.calls ≤ stop)

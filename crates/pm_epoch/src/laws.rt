@@ -21,7 +21,7 @@ ghost use Rattle.pm_view.specs.Occupancy.{is_taken};
 ghost use Rattle.pm_view.specs.Steps.{Step};
 ghost use Rattle.pm_view.specs.Steps.Step.{Draw};
 ghost use Rattle.pm_view.specs.View.{Lock, View};
-ghost use Rattle.pm_view.specs.Views.{changes_heap, after, occ_in, reserves};
+ghost use Rattle.pm_view.specs.Views.{is_made, changes_heap, after, occ_in, reserves};
 ghost use Rattle.pm_world.specs.Heap.{IsOcc};
 ghost use Rattle.pm_world.specs.History.{Entry};
 ghost use Rattle.pm_world.specs.Lawful.{Allowed};
@@ -42,7 +42,7 @@ ghost use Rattle.pm_fresh.specs.Making.{page_in};
 ghost use Rattle.pm_blocks.specs.NewRuns.{IsUnused};
 ghost use Rattle.pm_alloc.specs.NewObjects.{CanMakeObject};
 ghost use Rattle.pm_sealed.specs.Sealed.{LeavesSealed, Publishes, has_nothing};
-ghost use Rattle.pm_epoch.specs.Epochs.{AreOfOwnBits, HasEntriesFor, HasSameHeap, HoldsCalls, HoldsOpenCall, IsAtWorkAlone, IsUnusedChunk, MayPublish, RestsBehindCall};
+ghost use Rattle.pm_epoch.specs.Epochs.{AreOfOwnBits, HandsOver, HasEnded, HasEntriesFor, HasSameHeap, HoldsCalls, HoldsOpenCall, IsAtWorkAlone, IsGiving, IsUnusedChunk, KnowsTaken, MayPublish, PromisesTaken, PublishesAlone, RestsBehindCall};
 
 /// A law: in a world where a lane has each word as it is, what it reserved may be allocated: a block of a run, by the class that the run's
 /// descriptor says, and chunks that are described by 0; and a block that it found under a lock may be freed, unless it is the root's, where
@@ -158,4 +158,46 @@ pub fn a_lane_at_rest_may_begin_again()
 /// and it draws no other number. No code runs.
 pub fn publishing_keeps_what_a_lane_has()
     ensures { (b w : View) (steps : List Step) → IsAlone b → Publishes b steps w → HasSameHeap b w }
+{}
+
+/// A law: where each bit of a lane's picture of an occupancy word is set exactly where what it is of is taken by its words, or the lane has it, so it is
+/// when the lane has given back a lock, or what it reserved or freed. No code runs.
+pub fn giving_back_keeps_what_is_taken()
+    ensures { (v : View) (s : Step) → KnowsTaken v → Allowed v s → IsGiving s → KnowsTaken (after v s) }
+{}
+
+/// A law: where a lane's picture, as its call has drawn, has what is taken once all of this is published, and what the lane has, at the log's end it has what
+/// the words say is taken then, and what the lane has. No code runs.
+pub fn a_lane_knows_what_is_taken_behind_its_log()
+    ensures { (b w : View) (header : Header) (before now : PoolView) (all : List Published) (steps : List Step)
+        → MayPublish b header before now all → IsAlone b → Publishes b steps w → w.log.phase ≡ Idle → PromisesTaken b all → KnowsTaken w }
+{}
+
+/// A law: a lane whose call has ended may give back what it has, one thing after another, and its call has ended still; and once it has no lock left, and
+/// nothing that it freed, it may begin again over its words as they stand. No code runs.
+pub fn a_lane_whose_call_has_ended_begins_again()
+    ensures gives { (o : Opening) (header : Header) (pool : PoolView) (v : View) (s : Step) → HasEnded o header pool v → Allowed v s → IsGiving s
+        → HasEnded o header pool (after v s) }
+    ensures begins { (o : Opening) (header : Header) (pool : PoolView) (v : View) → HasEnded o header pool v → v.locks ≡ [] → v.zone_locks ≡ [] → v.freed ≡ []
+        → BeginsAgain (standing o v) header pool v }
+{}
+
+/// A law: a call that a lane alone published has ended at its log's end. No code runs.
+pub fn a_published_call_has_ended()
+    ensures { (o : Opening) (header : Header) (pool : PoolView) (u : View) (n : ℕ) (all : List Published) (w : View) → PublishesAlone o header pool u n all w
+        → HasEnded o header pool w }
+{}
+
+/// A law: where each bit of a lane's picture of an occupancy word is set exactly where what it is of is taken by its words, or the lane has it, and it freed
+/// nothing, its picture promises, as its call draws, what will be taken. No code runs.
+pub fn a_draw_promises_what_will_be_taken()
+    ensures { (v : View) (n : ℕ) (all : List Published) → KnowsTaken v → v.freed ≡ [] → HandsOver v (after v (Draw n)) all → PromisesTaken (after v (Draw n)) all }
+{}
+
+/// A law: a lane that works alone has freed nothing before its call draws, and, where no chunk that it reserved is a run, each bit of its picture of an
+/// occupancy word is set exactly where what it is of is taken by its words, or the lane has it. No code runs.
+pub fn a_lane_at_work_knows_what_is_taken()
+    ensures freed { (o : Opening) (header : Header) (pool : PoolView) (v w : View) (steps : List Step) → WorksAlone o header pool v steps w → w.freed ≡ [] }
+    ensures taken { (o : Opening) (header : Header) (pool : PoolView) (v w : View) (steps : List Step)
+        → WorksAlone o header pool v steps w → ((page : ℕ) → is_made w page ≡ false) → KnowsTaken w }
 {}
