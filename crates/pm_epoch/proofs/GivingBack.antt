@@ -60,6 +60,11 @@ chunk_no_run v knows page chunk low has = false_from_ne_true (is_run (slice_inde
     (ap (λ n. is_run (slice_index v.words n)) (sym same) ∙ run) in
     false≢true (sym (knows.apart (zone_at v.lanes page) (chunk_bit v.lanes page) (omega (arith, chunk, low)) (omega (arith, chunk)) (inl has)) ∙ taken))
 
+-- a word of a run whose chunk it reserved is taken, since the chunk is no run
+pub chunk_taken : (v : View) → KnowsTaken v → (at : Occ) (bit : ℕ) → IsOcc v.lanes v.zones at → has_run_chunk v at ≡ true → is_taken (slice_index v.words) v.lanes at bit ≡ true
+chunk_taken v knows (Run place) bit of has = no_run_taken (slice_index v.words) v.lanes place bit (chunk_no_run v knows (place / 4096) of.1 of.2 has)
+chunk_taken v knows (Zone zone) bit of has = absurd (false≢true has)
+
 module _ (v : View) (at : Occ) (bits : ℕ) (knows : KnowsTaken v) (may : MayVacate v at bits) where
   abbrev w : View
   w = after v (Vacate at bits)
@@ -86,11 +91,6 @@ module _ (v : View) (at : Occ) (bits : ℕ) (knows : KnowsTaken v) (may : MayVac
   reserved_before : (other : Occ) (bit : ℕ) → reserves w other bit ≡ true → reserves v other bit ≡ true
   reserved_before other bit has = vacated_before at bits may.small other bit v.reserved (sym (left_is other bit) ∙ has)
 
-  -- a word of a run whose chunk it reserved is taken, since the chunk is no run
-  chunk_taken : (other : Occ) (bit : ℕ) → IsOcc v.lanes v.zones other → has_run_chunk v other ≡ true → is_taken (slice_index v.words) v.lanes other bit ≡ true
-  chunk_taken (Run place) bit of has = no_run_taken (slice_index v.words) v.lanes place bit (chunk_no_run v knows (place / 4096) of.1 of.2 has)
-  chunk_taken (Zone zone) bit of has = absurd (false≢true has)
-
   chunk_before : (other : Occ) → has_run_chunk w other ≡ true → has_run_chunk v other ≡ true
   chunk_before (Run place) has = reserved_before (zone_at v.lanes (place / 4096)) (chunk_bit v.lanes (place / 4096)) has
   chunk_before (Zone zone) has = absurd (false≢true has)
@@ -109,7 +109,7 @@ module _ (v : View) (at : Occ) (bits : ℕ) (knows : KnowsTaken v) (may : MayVac
         ))
         (λ (chunk : has_run_chunk w other ≡ true). (
           or_left (reserves v other bit || has_run_chunk v other) (list_any (has_bit other bit) v.freed) (or_right (reserves v other bit) (has_run_chunk v other) (chunk_before other chunk)),
-          λ same set. false≢true (sym (own_free bit low set) ∙ (ap (λ p. is_taken (slice_index v.words) v.lanes p bit) (sym same) ∙ chunk_taken other bit of (chunk_before other chunk))),
+          λ same set. false≢true (sym (own_free bit low set) ∙ (ap (λ p. is_taken (slice_index v.words) v.lanes p bit) (sym same) ∙ chunk_taken v knows other bit of (chunk_before other chunk))),
         ))
         (or_cases (reserves w other bit) (has_run_chunk w other) some)
     by_kind (inr freed) = (
@@ -126,7 +126,7 @@ module _ (v : View) (at : Occ) (bits : ℕ) (knows : KnowsTaken v) (may : MayVac
     by_kind (inl some) = ⊎_elim
         (λ (reserved : reserves v other bit ≡ true). inr (or_left (reserves w other bit || has_run_chunk w other) (list_any (has_bit other bit) w.freed) (or_left (reserves w other bit) (has_run_chunk w other)
         (left_is other bit ∙ vacated_after at bits may.small other bit v.reserved low apart reserved))))
-        (λ (chunk : has_run_chunk v other ≡ true). inl (chunk_taken other bit of chunk))
+        (λ (chunk : has_run_chunk v other ≡ true). inl (chunk_taken v knows other bit of chunk))
         (or_cases (reserves v other bit) (has_run_chunk v other) some)
     by_kind (inr freed) = inr (or_right (reserves w other bit || has_run_chunk w other) (list_any (has_bit other bit) w.freed) (vacated_after at bits may.small other bit v.freed low apart freed))
 

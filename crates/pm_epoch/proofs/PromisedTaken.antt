@@ -15,7 +15,7 @@ use Rattle.pm_crash.specs.Publishing.{Published}
 use Rattle.pm_crash.specs.Publishing.Published.{Changes, Performs}
 use Rattle.pm_crash.specs.Taken.{AllocatesBit, FreesBit, TakenBehindAll}
 use Rattle.pm_epoch.specs.Epochs.{HandsOver, KnowsTaken, PromisesTaken, SomeAllocates, SomeFrees}
-use Rattle.pm_epoch.proofs.GivingBack.{chunk_no_run}
+use Rattle.pm_epoch.proofs.GivingBack.{chunk_taken}
 
 -- ---- what is taken behind all of these
 
@@ -77,11 +77,6 @@ module _ (v : View) (n : ℕ) (all : List Published) (knows : KnowsTaken v) (non
   makes_none_free : (at : Occ) (bit : ℕ) → IsOcc v.lanes v.zones at → bit < 64 → SomeAllocates v.lanes all at bit → SomeFrees v.lanes all at bit → ⊥
   makes_none_free at bit of low makes frees = false≢true (sym (knows.apart at bit of low (inl (hands.own at bit of low makes))) ∙ hands.taken at bit of low frees)
 
-  -- a word of a run whose chunk it reserved is taken
-  chunk_taken : (at : Occ) (bit : ℕ) → IsOcc v.lanes v.zones at → has_run_chunk v at ≡ true → IsTaken at bit
-  chunk_taken (Run place) bit of has = no_run_taken (slice_index v.words) v.lanes place bit (chunk_no_run v knows (place / 4096) of.1 of.2 has)
-  chunk_taken (Zone zone) bit of has = absurd (false≢true has)
-
   has_freed : (at : Occ) (bit : ℕ) → IsOcc v.lanes v.zones at → bit < 64 → SomeFrees v.lanes all at bit → has_taken w at bit ≡ true
   has_freed at bit of low frees = or_right (reserves w at bit || has_run_chunk w at) (list_any (has_bit at bit) w.freed) ((hands.freed at bit of low).1 frees)
 
@@ -100,7 +95,7 @@ module _ (v : View) (n : ℕ) (all : List Published) (knows : KnowsTaken v) (non
         (λ (left : reserves w at bit ≡ true). inr (or_left (reserves w at bit || has_run_chunk w at) (list_any (has_bit at bit) w.freed) (or_left (reserves w at bit) (has_run_chunk w at) left)))
         (λ (makes : SomeAllocates v.lanes all at bit). inl (made_taken v.lanes at bit all (IsTaken at bit) makes (makes_none_free at bit of low makes)))
         (hands.left at bit of low reserved))
-        (λ (chunk : has_run_chunk v at ≡ true). by_freed at bit of low (chunk_taken at bit of chunk))
+        (λ (chunk : has_run_chunk v at ≡ true). by_freed at bit of low (chunk_taken v knows at bit of chunk))
         (or_cases (reserves v at bit) (has_run_chunk v at) some)
     by_kind (inr freed) = absurd (false≢true (sym (ap (list_any (has_bit at bit)) none_freed) ∙ freed))
 
@@ -116,7 +111,7 @@ module _ (v : View) (n : ℕ) (all : List Published) (knows : KnowsTaken v) (non
     by_kind : ((reserves w at bit || has_run_chunk w at) ≡ true) ⊎ (list_any (has_bit at bit) w.freed ≡ true) → IsTaken at bit ⊎ (has_taken v at bit ≡ true)
     by_kind (inl some) = ⊎_elim
         (λ (reserved : reserves w at bit ≡ true). inr (or_left (reserves v at bit || has_run_chunk v at) (list_any (has_bit at bit) v.freed) (or_left (reserves v at bit) (has_run_chunk v at) (hands.reserved at bit of low reserved).0)))
-        (λ (chunk : has_run_chunk w at ≡ true). inl (chunk_taken at bit of (chunk_before at of chunk)))
+        (λ (chunk : has_run_chunk w at ≡ true). inl (chunk_taken v knows at bit of (chunk_before at of chunk)))
         (or_cases (reserves w at bit) (has_run_chunk w at) some)
     by_kind (inr freed) = inl (hands.taken at bit of low ((hands.freed at bit of low).0 freed))
 

@@ -35,7 +35,8 @@ use Rattle.pm_sealed.specs.Sealed.{Publishes, is_publishing}
 use Rattle.pm_sealed.proofs.EndedLog as ended_log
 use Rattle.pm_epoch.specs.Epochs.{HasEnded, HasSameHeap, PublishesAlone}
 use Rattle.pm_epoch.proofs.PublishedImages.{image_stands}
-use Rattle.pm_epoch.proofs.PublishingHeap.{begun_same, same_along, same_lane_along}
+use Rattle.pm_sealed.proofs.Steps.{begun_same}
+use Rattle.pm_epoch.proofs.PublishingHeap.{same_along, same_lane_along}
 use Rattle.pm_epoch.proofs.StandingPools.{own_fits}
 use Rattle.pm_epoch.proofs.TakenBehindLog.{knows_behind}
 

@@ -15,36 +15,8 @@ use Rattle.pm_view.specs.Constants.{IsSameLane}
 use Rattle.pm_view.proofs.SameLane.{same_lane, same_lane-after, same_lane-then}
 use Rattle.pm_world.specs.Lawful.{Allowed, IsEarly, MayTell}
 use Rattle.pm_sealed.specs.Sealed.{Publishes, is_publishing}
+use Rattle.pm_sealed.proofs.Steps.{begun_same, early_none, tell_none}
 use Rattle.pm_epoch.specs.Epochs.{HasSameHeap}
-
--- ---- what is not made while a log is published
-
-early_none : (phase : Phase) → IsEarly phase → is_publishing phase ≡ true → ⊥
-early_none Idle may is = false≢true is
-early_none (Open slot pair) may is = false≢true is
-early_none Drawn may is = may
-early_none Sealing may is = may
-early_none (Applying applied) may is = may
-early_none Clearing may is = may
-early_none Retiring may is = may
-
-tell_none : (phase : Phase) → MayTell phase → is_publishing phase ≡ true → ⊥
-tell_none (Open slot pair) may is = false≢true is
-tell_none Idle may is = may
-tell_none Drawn may is = may
-tell_none Sealing may is = may
-tell_none (Applying applied) may is = may
-tell_none Clearing may is = may
-tell_none Retiring may is = may
-
-pub begun_same : (phase : Phase) (v : View) → is_publishing phase ≡ true → begun phase v ≡ v
-begun_same Idle v is = absurd (false≢true is)
-begun_same (Open slot pair) v is = refl
-begun_same Drawn v is = refl
-begun_same Sealing v is = refl
-begun_same (Applying applied) v is = refl
-begun_same Clearing v is = refl
-begun_same Retiring v is = refl
 
 -- ---- one step, and all
 

@@ -42,7 +42,7 @@ use Rattle.pm_sealed.proofs.Stages.{AppliedOf, AtApplying, IsAtStage, Stage, app
 
 -- ---- what a phase forbids
 
-early_none : (phase : Phase) → IsEarly phase → is_publishing phase ≡ true → ⊥
+pub early_none : (phase : Phase) → IsEarly phase → is_publishing phase ≡ true → ⊥
 early_none Idle early is = false≢true is
 early_none (Open slot pair) early is = false≢true is
 early_none Drawn early is = early
@@ -51,7 +51,7 @@ early_none (Applying applied) early is = early
 early_none Clearing early is = early
 early_none Retiring early is = early
 
-tell_none : (phase : Phase) → MayTell phase → is_publishing phase ≡ true → ⊥
+pub tell_none : (phase : Phase) → MayTell phase → is_publishing phase ≡ true → ⊥
 tell_none Idle may is = may
 tell_none (Open slot pair) may is = false≢true is
 tell_none Drawn may is = may
@@ -72,7 +72,7 @@ give_none v l Retiring fits is = fits
 open_none : (phase : Phase) (slot pair : List ℕ) → phase ≡ Open slot pair → is_publishing phase ≡ true → ⊥
 open_none phase slot pair open_ is = false≢true (sym (ap is_publishing open_) ∙ is)
 
-begun_same : (phase : Phase) (v : View) → is_publishing phase ≡ true → begun phase v ≡ v
+pub begun_same : (phase : Phase) (v : View) → is_publishing phase ≡ true → begun phase v ≡ v
 begun_same Idle v is = absurd (false≢true is)
 begun_same (Open slot pair) v is = refl
 begun_same Drawn v is = refl

@@ -8,7 +8,7 @@ use Rattle.pm_layout.specs.Sizes.{blocks_of}
 use Rattle.pm_view.specs.declared.change.Change.{Change}
 use Rattle.pm_view.specs.declared.occ.Occ.{Occ}
 use Rattle.pm_view.specs.Area.{is_in_area, part_of}
-use Rattle.pm_view.specs.Blocks.{allocation_word, block_at, chunk_of, describes, descriptor_word, is_run, is_word, zone_of}
+use Rattle.pm_view.specs.Blocks.{allocation_word, block_at, chunk_of, describes, descriptor_word, is_chunk, is_huge, is_run, is_word, zone_of}
 use Rattle.pm_view.specs.Changes.{store_change, or_change, and_change, flushed, drained}
 use Rattle.pm_view.specs.Held.{is_held}
 use Rattle.pm_objects.specs.declared.calls.Operation.TheVariants.{Reserve, DeferFree, SetValue, Publish, Cancel}
@@ -16,7 +16,7 @@ use Rattle.pm_objects.specs.declared.history.Value.TheVariants.{Offset}
 use Rattle.pm_view.specs.declared.occ.Occ.TheVariants.{Run, Zone}
 use Rattle.pm_view.specs.Log.{Final, Log, Phase, no_log, log_stored, log_changed, log_drained, log_drawn}
 use Rattle.pm_view.specs.Log.Phase.{Idle, Open}
-use Rattle.pm_view.specs.Rights.{allocation_bits, is_written}
+use Rattle.pm_view.specs.Rights.{is_written}
 use Rattle.pm_view.specs.Steps.{Step}
 use Rattle.pm_view.specs.Steps.Step.{Load, Store, Or, And, Flush, Drain, TakeWrite, TakeRead, Raise, Give, ZoneTry, ZoneGive, Occupied, Occupy, Vacate, Draw, NumberSeen, StopSeen, SetStop, Tell}
 use Rattle.pm_view.specs.View.{View, Lock, Taken, Told}
@@ -157,24 +157,36 @@ is_of_heap v f = not (is_in_area v.lane f.word || is_written v f.word)
 abbrev pub changes_heap : View → Bool
 changes_heap v = list_any (is_of_heap v) v.log.entries
 
--- the entry is of a bit that says whether these blocks are allocated
-abbrev pub is_entered_of : View → Taken → Final → Bool
-is_entered_of v t f = is_of_heap v f && not (bit_and f.mask (allocation_bits v.lanes t.at t.bits f.word) == 0)
+-- the word is the bitmap of a run
+abbrev pub is_bitmap : View → ℕ → Bool
+is_bitmap v w = is_chunk v.lanes (w / 512) && w % 512 == 0 && is_run (slice_index v.words (descriptor_word v.lanes (w / 512)))
+
+-- the chunks of a huge block whose first chunk has this descriptor, as bits of its zone
+abbrev pub chunks_described : ℕ → ℕ → ℕ → Taken
+chunks_described lanes w descriptor = record { at = Zone (zone_of lanes (w / 512)); bits = 2 ^ (w % 512) * (2 ^ (descriptor / 256) - 1) }
+
+-- the blocks that an entry allocates: bits of a run's bitmap are set, or a chunk becomes the first of a huge block
+abbrev pub allocated_by : View → Final → List Taken
+allocated_by v f =
+    if not (is_of_heap v f) then [] else
+    if describes v.lanes f.word then (if is_huge f.bits then chunks_described v.lanes f.word f.bits ∷ [] else []) else
+    if is_bitmap v f.word && f.ors then record { at = Run (8 * f.word); bits = f.mask } ∷ [] else []
+
+-- and those that it frees: bits of a run's bitmap are cleared, or the descriptor of a huge block becomes 0
+abbrev pub freed_by : View → Final → List Taken
+freed_by v f =
+    if not (is_of_heap v f) then [] else
+    if describes v.lanes f.word then (if f.bits == 0 then chunks_described v.lanes f.word (slice_index v.words f.word) ∷ [] else []) else
+    if is_bitmap v f.word && not f.ors then record { at = Run (8 * f.word); bits = f.mask } ∷ [] else []
+
+-- blocks but for all of these
+unfoldable pub without_all : List Taken → List Taken → List Taken
+without_all [] blocks = blocks
+without_all (t ∷ these) blocks = without_all these (without_taken t.at t.bits blocks)
 
 -- what the lane reserved, without what its entries allocate
 abbrev pub unallocated : View → List Taken
-unallocated v = filter (λ (t : Taken). not (list_any (is_entered_of v t) v.log.entries)) v.reserved
-
--- the chunks of the huge block that a descriptor begins, as bits of its zone
-abbrev pub chunks_described : View → ℕ → Taken
-chunks_described v w = record { at = Zone (zone_of v.lanes (w / 512)); bits = 2 ^ (w % 512) * (2 ^ (slice_index v.words w / 256) - 1) }
-
--- the block that an entry frees, if any: a descriptor becomes 0, or a bit of a run's bitmap is cleared
-abbrev pub freed_by : View → Final → List Taken
-freed_by v f =
-    if not (is_of_heap v f) || f.ors then [] else
-    if not (describes v.lanes f.word) then record { at = Run (8 * f.word); bits = f.mask } ∷ [] else
-    if f.bits == 0 then chunks_described v f.word ∷ [] else []
+unallocated v = without_all (flat_map (allocated_by v) v.log.entries) v.reserved
 
 -- a call begins where none is open
 abbrev pub begun : Phase → View → View
