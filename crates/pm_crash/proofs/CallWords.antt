@@ -1,11 +1,11 @@
 -- What the lane knows of the words of its open call, and the object under a lock that it holds.
 use Rattle.std.proofs.Common.{◌≡◌, ⊎_elim, ℕ, ◌+◌, ◌*◌, ◌/◌, ◌<◌, ◌≤◌, ◌&&◌, ◌||◌, Bool, true, false, not, eqb, leb, ltb, List, [], ◌∷◌, length, map, slice_index, Option, Some, refl, sym, ◌∙◌, ap, subst, arith}
-use Rattle.std.specs.List.{Contains, filter}
+use Rattle.std.specs.List.{Contains, filter, list_any}
 use Rattle.std.specs.Option.{option_map_or}
-use Rattle.std.proofs.lemmas.Bool.{and_from, and_parts, and_right, cases_Bool, cond-false, cond-true, eq-eqb, le-ltb, leb-true, or_left, or_right}
+use Rattle.std.proofs.lemmas.Bool.{and_from, and_parts, and_right, cases_Bool, cond-false, cond-true, eq-eqb, le-ltb, leb-true, or_from, or_left, or_right}
 use Rattle.std.proofs.lemmas.List.{length-map}
 use Rattle.pm_header.specs.declared.header.Header.{Header}
-use Rattle.pm_objects.specs.Pool.{offsets}
+use Rattle.pm_objects.specs.Pool.{object_at}
 use Rattle.pm_objects.specs.declared.history.TxErr.TheVariants as error
 use Rattle.pm_objects.specs.declared.ids.Oid.{Oid}
 use Rattle.pm_objects.specs.declared.pool.Object.{Object}
@@ -15,22 +15,25 @@ use Rattle.pm_image.specs.Blocks.{blocks}
 use Rattle.pm_image.specs.Contents.{bytes_in, offset_in, size_in}
 use Rattle.pm_image.proofs.Members.{member_cases, no_member}
 use Rattle.pm_model.specs.declared.stage.Stage.TheVariants as stage
-use Rattle.pm_model.specs.Transaction.{Transaction, is_locked}
-use Rattle.pm_model.specs.Bytes.{bytes_of, covered_words, is_among}
+use Rattle.pm_model.specs.Transaction.{Transaction, holds_object, is_gone, is_locked, is_new}
+use Rattle.pm_model.specs.Bytes.{bytes_of, covered_words}
+use Rattle.pm_model.specs.Checks.{is_not_held}
 use Rattle.pm_view.specs.Area.{area_word, is_in_area}
 use Rattle.pm_view.specs.Blocks.{chunk_of, is_chunk, zone_page}
 use Rattle.pm_view.specs.Log.{Final}
 use Rattle.pm_view.specs.View.{View, Lock}
 use Rattle.pm_world.specs.History.{made_final}
 use Rattle.pm_world.specs.Records.{is_recorded}
+use Rattle.pm_crash.specs.CallBlocks.{IsOldIn, blocks_in}
 use Rattle.pm_crash.specs.Locks.{AreSameLocks}
 use Rattle.pm_crash.specs.Held.{HoldsPool}
-use Rattle.pm_crash.specs.OpenCall.{IsBefore, call_words, ComesTo, IsOpen, LiesInBlock, lock_of, locks_of, block_at_line, made_words}
+use Rattle.pm_crash.specs.OpenCall.{IsBefore, call_words, ComesTo, IsChanged, IsUnderWay, LiesInBlock, TracksBlocks, lock_of, locks_of, block_at_line, made_words}
 use Rattle.pm_crash.specs.Operations.{IsHeld}
 use Rattle.pm_crash.proofs.Covered.{covered_has_byte}
 use Rattle.pm_crash.proofs.Apart.{lines_of_block}
 use Rattle.pm_crash.proofs.ObjectsOfBlocks.{object_is_there}
-use Rattle.pm_crash.proofs.Passing.{Works}
+use Rattle.pm_crash.proofs.CallBlocks.{tracks_gone}
+use Rattle.pm_crash.proofs.Passing.{Works, none_named}
 
 pub recorded_call_word : (v : View) (w : ℕ → ℕ) (i : ℕ) → is_recorded v.log.records i ≡ true → call_words v w i ≡ slice_index v.words i
 recorded_call_word v w i is = cond-true (is_recorded v.log.records i) (slice_index v.words i) (w i) is
@@ -92,11 +95,11 @@ locked_member (k ∷ locks) l off write there place allows = ⊎_elim
     (member_cases k locks l there)
 
 pub held_is_locked : (v : View) (id : Oid) (write : Bool) (tx : Transaction) → IsHeld v id write → AreSameLocks tx.locks (locks_of v) → tx.pool.id ≡ v.pool
-    → not (eqb id.pool tx.pool.id && is_locked tx.locks id.off write) ≡ false
+    → is_not_held tx write id ≡ false
 held_is_locked v id write tx held locks same =
-    ap not (and_from (eqb id.pool tx.pool.id) (is_locked tx.locks id.off write)
+    ap not (and_from (eqb id.pool tx.pool.id) (holds_object tx id.off write)
     (eq-eqb id.pool tx.pool.id (held.of_pool ∙ sym same))
-    (locks.same id.off write ∙ locked_member v.locks held.lock id.off write held.held (sym held.place) held.allows))
+    (or_right (is_new tx id.off) (is_locked tx.locks id.off write) (locks.same id.off write ∙ locked_member v.locks held.lock id.off write held.held (sym held.place) held.allows)))
 
 -- locks that stay are still the transaction's
 pub locks_kept : (tx : Transaction) (v next : View) → next.locks ≡ v.locks → AreSameLocks tx.locks (locks_of v) → AreSameLocks tx.locks (locks_of next)
@@ -113,12 +116,12 @@ pub record IsObjectOf (v : View) (w : ℕ → ℕ) (tx : Transaction) (id : Oid)
   pub bytes : bytes_of tx.pool.objects id.off ≡ bytes_in (call_words v w) block
   pub long : length (bytes_of tx.pool.objects id.off) ≡ slice_index v.words (8 * line + 1)
 
--- it is there for each transaction whose pool those words hold, where blocks stayed
-pub object_found : (v : View) (w : ℕ → ℕ) (header : Header) (tx : Transaction) (id : Oid) (write : Bool) → v.lane < v.lanes
+-- it is there for each transaction whose pool has at its offset what the pool has that those words hold, where blocks stayed
+pub object_found : (v : View) (w : ℕ → ℕ) (header : Header) (base : PoolView) (tx : Transaction) (id : Oid) (write : Bool) → v.lane < v.lanes
     → ((l : Lock) (n : ℕ) → Contains v.locks l → l.block ≡ Some n → is_chunk v.lanes (l.line / 64) ≡ true) → IsBefore v w
-    → HoldsPool (call_words v w) v.lanes v.zones header tx.pool → blocks (call_words v w) v.lanes v.zones ≡ blocks w v.lanes v.zones
-    → (held : IsHeld v id write) → Contains v.known (8 * held.lock.line + 1) → IsObjectOf v w tx id held.lock.line
-object_found v w header tx id write in_lanes chunks before holds blocks_stay held size_known =
+    → HoldsPool (call_words v w) v.lanes v.zones header base → blocks (call_words v w) v.lanes v.zones ≡ blocks w v.lanes v.zones
+    → (held : IsHeld v id write) → Contains v.known (8 * held.lock.line + 1) → object_at tx.pool.objects id.off ≡ object_at base.objects id.off → IsObjectOf v w tx id held.lock.line
+object_found v w header base tx id write in_lanes chunks before holds blocks_stay held size_known alike =
     let line : ℕ = held.lock.line in
     let block : Block = block_at_line line held.lines in
     let words : ℕ → ℕ = call_words v w in
@@ -129,9 +132,9 @@ object_found v w header tx id write in_lanes chunks before holds blocks_stay hel
     let some : 1 ≤ held.lines = lines_of_block words v.lanes v.zones block holds.no_fault is_there in
     let lies : LiesInBlock w v.lanes v.zones (8 * line + 1) = record { block = block; is_there = was_there; from = omega arith; to = omega arith } in
     let size : size_in words block ≡ slice_index v.words (8 * line + 1) = ap words header_word ∙ known_call_word v w (8 * line + 1) before size_known outside lies in
-    let object = object_is_there words v.lanes v.zones header tx.pool block holds is_there in
+    let object = object_is_there words v.lanes v.zones header base block holds is_there in
     let bytes : bytes_of tx.pool.objects id.off ≡ bytes_in words block =
-    ap (bytes_of tx.pool.objects) held.place ∙ ap (λ (o : Option Object). option_map_or (λ (x : Object). x.bytes) o []) object.found in
+    ap (λ (o : Option Object). option_map_or (λ (x : Object). x.bytes) o []) (alike ∙ ap (object_at base.objects) held.place ∙ object.found) in
     record {
       block = block;
       is_there = is_there;
@@ -143,23 +146,34 @@ object_found v w header tx id write in_lanes chunks before holds blocks_stay hel
       long = ap length bytes ∙ object.size ∙ size;
     }
 
-pub object_under : (v : View) (w : ℕ → ℕ) (header : Header) (pool : PoolView) (level : ℕ) (id : Oid) (write : Bool) → IsOpen v level stage.Work error.None → IsBefore v w
-    → (c : ComesTo v w header pool level stage.Work error.None) → (held : IsHeld v id write) → Contains v.known (8 * held.lock.line + 1) → IsObjectOf v w c.tx id held.lock.line
-object_under v w header pool level id write is_open before c = object_found v w header c.tx id write is_open.in_lanes is_open.chunks before c.holds c.blocks_stay
+-- the object is one that the call found and did not free
+pub object_under : (v : View) (w : ℕ → ℕ) (header : Header) (pool : PoolView) (level : ℕ) (id : Oid) (write : Bool) → IsUnderWay v level stage.Work error.None → IsBefore v w
+    → (c : ComesTo v w header pool level stage.Work error.None) → (held : IsHeld v id write) → Contains v.known (8 * held.lock.line + 1) → IsOldIn v id.off → IsObjectOf v w c.tx id held.lock.line
+object_under v w header pool level id write under_way before c held size_known old =
+    object_found v w header c.base c.tx id write under_way.in_lanes under_way.chunks before c.holds c.blocks_stay held size_known (c.changed.others id.off old.found old.kept)
 
 -- the transaction works
-pub call_works : (v : View) (w : ℕ → ℕ) (header : Header) (pool : PoolView) (level : ℕ) → 1 ≤ level → IsOpen v level stage.Work error.None → (c : ComesTo v w header pool level stage.Work error.None) → Works c.tx
-call_works v w header pool level some is_open c =
+pub call_works : (v : View) (w : ℕ → ℕ) (header : Header) (pool : PoolView) (level : ℕ) → 1 ≤ level → IsUnderWay v level stage.Work error.None → (c : ComesTo v w header pool level stage.Work error.None) → Works c.tx
+call_works v w header pool level some under_way c =
     let levels : c.tx.level ≡ level = c.levels in
     let long : length c.tx.locks ≡ length v.locks = c.locks.count ∙ length-map v.locks lock_of in
-    let few : length v.locks ≤ 64 = is_open.few in
-    record {
-      level = omega arith;
-      working = c.stands;
-      few = omega arith;
-      none_gone = λ off. (λ j. is_among (c.no_freed j) off || is_among (offsets (c.no_dropped j)) off);
-    }
+    let few : length v.locks ≤ 64 = under_way.few in
+    record { level = omega arith; working = c.stands; few = omega arith }
+
+-- none of these objects is gone
+pub none_is_gone : (v : View) (tx : Transaction) → TracksBlocks tx (blocks_in v) → (offs : List ℕ) → ((off : ℕ) → Contains offs off → IsOldIn v off) → list_any (is_gone tx) offs ≡ false
+none_is_gone v tx tracks offs old = none_named tx offs (λ off there. tracks_gone v tx tracks off (old off there).found (old off there).kept)
+
+pub one_is_kept : (v : View) (tx : Transaction) → TracksBlocks tx (blocks_in v) → (off : ℕ) → IsOldIn v off → list_any (is_gone tx) (off ∷ []) ≡ false
+one_is_kept v tx tracks off old = or_from (is_gone tx off) false (tracks_gone v tx tracks off old.found old.kept) refl
 
 -- it is of the lane's pool
-pub same_pool : (v : View) (w : ℕ → ℕ) (header : Header) (tx : Transaction) → HoldsPool (call_words v w) v.lanes v.zones header tx.pool → v.pool ≡ header.id → tx.pool.id ≡ v.pool
-same_pool v w header tx holds id = ap (λ (p : PoolView). p.id) holds.is_pool ∙ sym id
+pub same_pool : (v : View) (w : ℕ → ℕ) (header : Header) (base : PoolView) (tx : Transaction) → HoldsPool (call_words v w) v.lanes v.zones header base → IsChanged v base tx.pool → v.pool ≡ header.id → tx.pool.id ≡ v.pool
+same_pool v w header base tx holds changed id = ap (λ (p : PoolView). p.id) changed.fixed ∙ ap (λ (p : PoolView). p.id) holds.is_pool ∙ sym id
+
+-- and of the words' shape
+pub same_lanes : (v : View) (w : ℕ → ℕ) (header : Header) (base : PoolView) (tx : Transaction) → HoldsPool (call_words v w) v.lanes v.zones header base → IsChanged v base tx.pool → tx.pool.lanes ≡ v.lanes
+same_lanes v w header base tx holds changed = ap (λ (p : PoolView). p.lanes) changed.fixed ∙ ap (λ (p : PoolView). p.lanes) holds.is_pool
+
+pub same_zones : (v : View) (w : ℕ → ℕ) (header : Header) (base : PoolView) (tx : Transaction) → HoldsPool (call_words v w) v.lanes v.zones header base → IsChanged v base tx.pool → tx.pool.zones ≡ v.zones
+same_zones v w header base tx holds changed = ap (λ (p : PoolView). p.zones) changed.fixed ∙ ap (λ (p : PoolView). p.zones) holds.is_pool

@@ -1,7 +1,7 @@
 -- A call goes on by an operation that is told, if the model's transaction goes on so and the words made so far are those of its pool.
-use Rattle.std.proofs.Common.{◌≡◌, ℕ, ◌<◌, ◌≤◌, ◌/◌, true, false, List, [], ◌∷◌, ◌++◌, length, map, Option, None, MatchOption, sym, ◌∙◌, ap, subst, arith}
+use Rattle.std.proofs.Common.{◌≡◌, ℕ, ◌<◌, ◌≤◌, ◌/◌, ◌||◌, true, false, List, [], ◌∷◌, ◌++◌, length, map, Option, None, MatchOption, sym, ◌∙◌, ap, subst, arith}
 use Rattle.std.specs.Prelude.{IsTrue, IsSome}
-use Rattle.std.specs.List.{All, Contains}
+use Rattle.std.specs.List.{All, Contains, list_any}
 use Rattle.std.proofs.lemmas.List.{map-append}
 use Rattle.std.proofs.lemmas.List.Elements.{All-append, All-nil}
 use Rattle.pm_header.specs.declared.header.Header.{Header}
@@ -18,33 +18,34 @@ use Rattle.pm_image.specs.Contents.{size_in}
 use Rattle.pm_model.specs.declared.stage.Stage.TheVariants as stage
 use Rattle.pm_model.specs.Actions.{Action}
 use Rattle.pm_model.specs.Transaction.{Transaction, holds_object, is_working}
-use Rattle.pm_model.specs.Checks.{first_refusal, wants_of}
+use Rattle.pm_model.specs.Checks.{first_refusal}
 use Rattle.pm_model.specs.Answers.{Told as Answered, Answers, IsDone, IsRefused, after_reply, is_known, value_of}
 use Rattle.pm_model.proofs.Alike.{value_known}
 use Rattle.pm_view.specs.Area.{is_in_area}
 use Rattle.pm_view.specs.Blocks.{is_chunk}
 use Rattle.pm_view.specs.View.{View, Lock}
 use Rattle.pm_world.specs.Records.{is_recorded}
+use Rattle.pm_crash.specs.CallBlocks.{CallBlocks, HasRoomFor, IsMadeIn, NewObject, allocated_in, blocks_behind, blocks_in, is_at, is_new_in}
 use Rattle.pm_crash.specs.Locks.{AreSameLocks}
 use Rattle.pm_crash.specs.Held.{HoldsPool}
-use Rattle.pm_crash.specs.OpenCall.{IsBefore, call_words, ComesTo, IsOpen, RecordsUnder, RunsTo, locks_of, words_recorded}
-use Rattle.pm_crash.specs.Operations.{KeepsLane, Tells}
-use Rattle.pm_crash.proofs.Passing.{unhindered, AsksNoLock}
+use Rattle.pm_crash.specs.OpenCall.{IsBefore, call_words, ComesTo, IsChanged, IsUnderWay, RecordsUnder, RunsTo, TracksBlocks, locks_of, words_recorded}
+use Rattle.pm_crash.specs.Operations.{KeepsKnown, KeepsLane, Tells}
+use Rattle.pm_crash.proofs.Passing.{unhindered, wants_none, AsksNoLock, WantsNone}
 use Rattle.pm_crash.specs.Pending.{pending_before, pending_behind, pending_in, published_by, published_in, told_in, told_of}
 use Rattle.pm_crash.specs.Performing.{CanPerform}
 use Rattle.pm_crash.proofs.PendingOn.{pending_once_more, published_once_more, same_before}
 use Rattle.pm_crash.proofs.Runs.{runs_once_more}
-use Rattle.pm_crash.proofs.Unmade.{told_unmade, unmade}
+use Rattle.pm_crash.proofs.CallBlocks.{SameNew, blocks_once_more, changed_stays, made_stays, room_before}
 
--- an operation that asks for no lock, and is not refused, answers its value
-pub answers_value : (tx : Transaction) (op : Operation) (reply : Option Value) → IsTrue (is_known op) → wants_of op ≡ [] → first_refusal unhindered tx op ≡ None → reply ≡ value_of tx op
+-- an operation that asks for no lock, makes no object, and is not refused, answers its value
+pub answers_value : (tx : Transaction) (op : Operation) (reply : Option Value) → IsTrue (is_known op) → WantsNone op → first_refusal unhindered tx op ≡ None → reply ≡ value_of tx op
     → Answers tx op reply
-answers_value tx op reply known no_wants none value =
+answers_value tx op reply known asks none value =
     let done : IsDone tx op reply = record {
       there =
-          subst (λ (wants : List Want). All (λ (want : Want). holds_object tx want.id.off false ≡ false → IsSome (object_at tx.pool.objects want.id.off)) wants) (sym no_wants)
+          subst (λ (wants : List Want). All (λ (want : Want). holds_object tx want.id.off false ≡ false → IsSome (object_at tx.pool.objects want.id.off)) wants) (sym asks.no_wants)
           (All-nil (λ (want : Want). holds_object tx want.id.off false ≡ false → IsSome (object_at tx.pool.objects want.id.off)));
-      value = value_known tx op reply known value;
+      value = value_known tx op reply asks.no_alloc value;
     } in
     record {
       known = known;
@@ -54,7 +55,7 @@ answers_value tx op reply known no_wants none value =
 
 pub answers_done : (tx : Transaction) (op : Operation) (reply : Option Value) → IsTrue (is_known op) → AsksNoLock op → first_refusal unhindered tx op ≡ None → reply ≡ value_of tx op
     → Answers tx op reply
-answers_done tx op reply known asks = answers_value tx op reply known asks.no_wants
+answers_done tx op reply known asks = answers_value tx op reply known (wants_none op asks)
 
 pub two_same : (P : ℕ → ℕ → Type 0) (a b c d : ℕ) → a ≡ b → c ≡ d → P a c → P b d
 two_same P a b c d e f holds = subst (λ (n : ℕ). P n d) e (subst (P a) f holds)
@@ -74,7 +75,11 @@ runs_told {told = before} v next pool tx entries told runs =
 -- the model's transaction goes on by the operation, with the words that the lane made
 pub record Continues (v next : View) (w : ℕ → ℕ) (header : Header) (op : Operation) (reply : Option Value) (to : ℕ) (tx : Transaction) : Type 0 where
   pub answers : Answers tx op reply
-  pub holds : HoldsPool (call_words next w) v.lanes v.zones header (after_reply op reply tx).pool
+  pub base : PoolView
+  pub holds : HoldsPool (call_words next w) v.lanes v.zones header base
+  pub changed : IsChanged next base (after_reply op reply tx).pool
+  pub unfound : (off : ℕ) → is_new_in next off ≡ true → object_at base.objects off ≡ None
+  pub tracks : TracksBlocks (after_reply op reply tx) (blocks_in next)
   pub before : (after_reply op reply tx).before ≡ tx.before
   pub locks : AreSameLocks (after_reply op reply tx).locks (locks_of next)
   pub recorded : (after_reply op reply tx).recorded ≡ words_recorded next.log.records
@@ -84,12 +89,36 @@ pub record Continues (v next : View) (w : ℕ → ℕ) (header : Header) (op : O
   pub fails : (after_reply op reply tx).error ≡ tx.error
   pub actions : (after_reply op reply tx).actions ≡ pending_behind op reply tx.actions
   pub moved : (after_reply op reply tx).moved ≡ tx.moved ++ published_by op reply tx.actions
-  pub no_made : (after_reply op reply tx).made ≡ []
-  pub no_dropped : (after_reply op reply tx).dropped ≡ []
-  pub no_freed : (after_reply op reply tx).freed ≡ []
   pub performable : All (CanPerform w v.lanes v.zones) (published_by op reply tx.actions)
   pub blocks_stay : blocks (call_words next w) v.lanes v.zones ≡ blocks (call_words v w) v.lanes v.zones
   pub sizes_stay : (block : Block) → Contains (blocks w v.lanes v.zones) block → size_in (call_words next w) block ≡ size_in (call_words v w) block
+
+-- the call's blocks stay, and the words of what it made
+pub record LeavesBlocks (v next : View) : Type 0 where
+  pub blocks : blocks_in next ≡ blocks_in v
+  pub same : (n : NewObject) → Contains (blocks_in v).made n → SameNew v next n
+
+pub left_changed : (v next : View) (base pool : PoolView) → LeavesBlocks v next → IsChanged v base pool → IsChanged next base pool
+left_changed v next base pool leaves = changed_stays v next base pool leaves.blocks leaves.same
+
+pub left_new : (v next : View) (off : ℕ) → LeavesBlocks v next → is_new_in next off ≡ is_new_in v off
+left_new v next off leaves = ap (λ (b : CallBlocks). list_any (is_at off) b.made || list_any (is_at off) b.dropped) leaves.blocks
+
+pub left_tracks : (v next : View) (tx : Transaction) → LeavesBlocks v next → TracksBlocks tx (blocks_in v) → TracksBlocks tx (blocks_in next)
+left_tracks v next tx leaves = subst (TracksBlocks tx) (sym leaves.blocks)
+
+pub left_made : (v next : View) → LeavesBlocks v next → KeepsLane v next → ((n : NewObject) → Contains (blocks_in v).made n → IsMadeIn v n) → (n : NewObject) → Contains (blocks_in next).made n → IsMadeIn next n
+left_made v next leaves lane makes n there =
+    let before : Contains (blocks_in v).made n = subst (λ (b : CallBlocks). Contains b.made n) leaves.blocks there in
+    made_stays v next n lane.lane lane.known (leaves.same n before) (makes n before)
+
+-- where no word changes but in the lane's area, or none that it knows, those of what it made stay
+pub known_new : (v next : View) → KeepsKnown v next → ((n : NewObject) → Contains (blocks_in v).made n → IsMadeIn v n) → (n : NewObject) → Contains (blocks_in v).made n → SameNew v next n
+known_new v next keeps makes n there i reads = let is : IsMadeIn v n = makes n there in keeps.known i (is.outside i reads) (is.known i reads)
+
+pub leaves_told : (v next : View) (op : Operation) (reply : Option Value) → next.call ≡ v.call ++ record { operation = op; reply = reply } ∷ [] → blocks_behind op reply (blocks_in v) ≡ blocks_in v
+    → ((n : NewObject) → Contains (blocks_in v).made n → SameNew v next n) → LeavesBlocks v next
+leaves_told v next op reply call none same = record { blocks = blocks_once_more v next op reply call ∙ none; same = same }
 
 -- what was published before the operation, and by it, lies in objects of the pool
 performed_on : {level : ℕ} {header : Header} {pool : PoolView} (v next : View) (op : Operation) (reply : Option Value) (w : ℕ → ℕ) → KeepsLane v next
@@ -110,7 +139,11 @@ next_comes v next level to op reply w header pool lane call c on =
       runs =
           runs_told v next pool tx lane.entries (told_once_more v next op reply call)
           (runs_once_more (told_in v) (record { operation = op; reply = reply }) pool (pending_before v) c.tx c.runs (ap is_working c.stands) on.answers);
-      holds = two_same (λ (lanes zones : ℕ). HoldsPool (call_words next w) lanes zones header tx.pool) v.lanes next.lanes v.zones next.zones (sym lane.lanes) (sym lane.zones) on.holds;
+      base = on.base;
+      holds = two_same (λ (lanes zones : ℕ). HoldsPool (call_words next w) lanes zones header on.base) v.lanes next.lanes v.zones next.zones (sym lane.lanes) (sym lane.zones) on.holds;
+      changed = on.changed;
+      unfound = on.unfound;
+      tracks = on.tracks;
       before = on.before ∙ c.before;
       locks = on.locks;
       recorded = on.recorded;
@@ -120,9 +153,6 @@ next_comes v next level to op reply w header pool lane call c on =
       fails = on.fails ∙ c.fails;
       actions = on.actions ∙ ap (pending_behind op reply) c.actions ∙ sym (pending_once_more v next op reply lane.entries call);
       moved = on.moved ∙ (λ j. c.moved j ++ published_by op reply (c.actions j)) ∙ sym (published_once_more v next op reply lane.entries call);
-      no_made = on.no_made;
-      no_dropped = on.no_dropped;
-      no_freed = on.no_freed;
       performable = performed_on v next op reply w lane call c on.performable;
       blocks_stay =
           two_same (λ (lanes zones : ℕ). blocks (call_words next w) lanes zones ≡ blocks w lanes zones) v.lanes next.lanes v.zones next.zones (sym lane.lanes) (sym lane.zones)
@@ -139,25 +169,28 @@ pub record GoesBack (v next : View) : Type 0 where
   pub before : (w : ℕ → ℕ) → IsBefore next w → IsBefore v w
   pub entries : next.log.entries ≡ v.log.entries
 
-pub still_open : (v next : View) (level to : ℕ) (op : Operation) (reply : Option Value) → IsOpen v level stage.Work error.None → Tells v next op reply → GoesBack v next
-    → ((w : ℕ → ℕ) (header : Header) (pool : PoolView) → v.pool ≡ header.id → IsBefore v w → IsBefore next w → (c : ComesTo v w header pool level stage.Work error.None)
-    → Continues v next w header op reply to (unmade c.tx))
-    → IsOpen next to stage.Work error.None
-still_open v next level to op reply is_open tells back continues =
+pub still_under_way : (v next : View) (level to : ℕ) (op : Operation) (reply : Option Value) → IsUnderWay v level stage.Work error.None → Tells v next op reply → GoesBack v next
+    → ((n : NewObject) → Contains (blocks_in next).made n → IsMadeIn next n)
+    → ((w : ℕ → ℕ) (header : Header) (pool : PoolView) → v.pool ≡ header.id → IsBefore v w → IsBefore next w → HasRoomFor pool (allocated_in next) → (c : ComesTo v w header pool level stage.Work error.None)
+    → Continues v next w header op reply to c.tx)
+    → IsUnderWay next to stage.Work error.None
+still_under_way v next level to op reply under_way tells back makes continues =
     let lane : next.lane ≡ v.lane = tells.keeps.lane in
     let lanes : next.lanes ≡ v.lanes = tells.keeps.lanes in
-    let inside : v.lane < v.lanes = is_open.in_lanes in
+    let inside : v.lane < v.lanes = under_way.in_lanes in
     record {
       in_lanes = omega arith;
-      few = subst (λ (locks : List Lock). length locks ≤ 64) (sym tells.locks) is_open.few;
-      chunks = λ l lines held found. ap (λ (n : ℕ). is_chunk n (l.line / 64)) lanes ∙ is_open.chunks l lines (subst (λ (locks : List Lock). Contains locks l) tells.locks held) found;
+      few = subst (λ (locks : List Lock). length locks ≤ 64) (sym tells.locks) under_way.few;
+      chunks = λ l lines held found. ap (λ (n : ℕ). is_chunk n (l.line / 64)) lanes ∙ under_way.chunks l lines (subst (λ (locks : List Lock). Contains locks l) tells.locks held) found;
       outside = λ i is. ap (λ (n : ℕ). is_in_area n i) lane ∙ back.outside i is;
       under = back.under;
-      unentered = back.entries ∙ is_open.unentered;
-      comes = λ w header pool holds id before.
+      unentered = back.entries ∙ under_way.unentered;
+      makes = makes;
+      comes = λ w header pool holds id before room.
           let old_id : v.pool ≡ header.id = sym tells.keeps.pool ∙ id in
           let old_before : IsBefore v w = back.before w before in
           let old_holds : HoldsPool w v.lanes v.zones header pool = two_same (λ (n m : ℕ). HoldsPool w n m header pool) next.lanes v.lanes next.zones v.zones tells.keeps.lanes tells.keeps.zones holds in
-          let c : ComesTo v w header pool level stage.Work error.None = is_open.comes w header pool old_holds old_id old_before in
-          next_comes v next level to op reply w header pool tells.keeps tells.call (told_unmade v w header pool level stage.Work error.None c) (continues w header pool old_id old_before before c);
+          let old_room : HasRoomFor pool (allocated_in v) = room_before v next op reply tells.call pool room in
+          let c : ComesTo v w header pool level stage.Work error.None = under_way.comes w header pool old_holds old_id old_before old_room in
+          next_comes v next level to op reply w header pool tells.keeps tells.call c (continues w header pool old_id old_before before room c);
     }

@@ -16,7 +16,7 @@ pub mod FoundBlocks
 pub mod HeapWordsAlone
 pub mod HeldAlike
 pub mod Passing
-pub mod Unmade
+pub mod CallBlocks
 pub mod Runs
 pub mod PendingOn
 pub mod CallWords

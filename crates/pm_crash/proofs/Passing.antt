@@ -1,6 +1,6 @@
 -- An operation inside a transaction that passes each check is not refused, and else is refused for the first that it fails.
-use Rattle.std.proofs.Common.{◌≡◌, ◌≤◌, ℕ, IsTrue, List, [], ◌∷◌, length, Option, Some, None, Bool, true, false, not, eqb, leb, ltb, ◌&&◌, refl, ◌∙◌, ap, arith}
-use Rattle.std.specs.List.{find, filter, list_any}
+use Rattle.std.proofs.Common.{◌≡◌, ◌≤◌, ℕ, List, [], ◌∷◌, length, Option, Some, None, Bool, true, false, not, eqb, leb, ltb, ◌&&◌, refl, sym, ◌∙◌, ap, arith}
+use Rattle.std.specs.List.{Contains, find, filter, list_any}
 use Rattle.std.specs.Option.{option_map}
 use Rattle.std.proofs.lemmas.Bool.{and_left, and_right, false≢true, ne_eqb, or_from, le-ltb}
 use Rattle.pm_objects.specs.declared.calls.Operation.{Operation}
@@ -11,33 +11,34 @@ use Rattle.pm_objects.specs.declared.refusal.Refusal.TheVariants as refusal
 use Rattle.pm_model.specs.declared.stage.Stage.{Stage}
 use Rattle.pm_model.specs.declared.stage.Stage.TheVariants as stage
 use Rattle.pm_model.specs.Places.{has_place}
-use Rattle.pm_model.specs.Answers.{is_known}
+use Rattle.pm_image.proofs.Members.{first_member, later_member}
 use Rattle.pm_model.specs.Transaction.{Transaction, is_gone, is_new, is_working, locked_all}
-use Rattle.pm_model.specs.Checks.{Seen, wants_of, is_alloc, is_begin, is_action, is_bad_size, is_unaligned, objects_named, finds_no_space, passes_actions, finds_no_work, finds_no_tx, is_spent, is_too_deep, passes_locks, is_not_locked, wants_no_place, takes_lock, is_busy, takes_first_lock, is_missing, passes_end, is_not_added, passes_log, first_refusal}
+use Rattle.pm_model.specs.Checks.{Seen, wants_of, is_alloc, is_free, is_begin, is_action, names_gone, frees_root, frees_listed, is_bad_size, is_unaligned, finds_no_space, passes_actions, finds_no_work, finds_no_tx, is_spent, is_too_deep, passes_locks, is_not_locked, wants_no_place, takes_lock, is_busy, takes_first_lock, is_missing, passes_end, is_not_added, passes_log, first_refusal}
 use Rattle.pm_model.proofs.Asked.{frees_no_root, frees_none_listed}
 
 -- what a lane saw that nothing hindered
 abbrev pub unhindered : Seen
 unhindered = record { spent = false; busy = false; missing = false; full = false }
 
--- the transaction works, with 64 locks at most, and freed no object
+-- the transaction works, with 64 locks at most
 pub record Works (tx : Transaction) : Type 0 where
   pub level : 1 ≤ tx.level
   pub working : tx.stage ≡ stage.Work
   pub few : length tx.locks ≤ 64
-  pub none_gone : (off : ℕ) → is_gone tx off ≡ false
 
--- the operation is known, and asks for no lock
+-- the operation asks for no lock, and makes and frees no object
 pub record WantsNone (op : Operation) : Type 0 where
-  pub known : IsTrue (is_known op)
   pub no_wants : wants_of op ≡ []
   pub no_begin : is_begin op ≡ false
+  pub no_alloc : is_alloc op ≡ false
+  pub no_free : is_free op ≡ false
 
 -- and is about no pending action
 pub record AsksNoLock (op : Operation) : Type 0 where
-  pub known : IsTrue (is_known op)
   pub no_wants : wants_of op ≡ []
   pub no_begin : is_begin op ≡ false
+  pub no_alloc : is_alloc op ≡ false
+  pub no_free : is_free op ≡ false
   pub aligned : is_unaligned op ≡ false
   pub no_more : (tx : Transaction) → passes_actions tx op ≡ false
   pub no_action : is_action op ≡ false
@@ -73,14 +74,14 @@ pub not_spent : (tx : Transaction) → is_spent unhindered tx ≡ false
 not_spent tx = and_right (eqb tx.level 0) false refl
 
 -- no object is named that is gone
-pub none_named : (tx : Transaction) → ((off : ℕ) → is_gone tx off ≡ false) → (offs : List ℕ) → list_any (is_gone tx) offs ≡ false
-none_named tx none [] = refl
-none_named tx none (off ∷ offs) = or_from (is_gone tx off) (list_any (is_gone tx) offs) (none off) (none_named tx none offs)
+pub none_named : (tx : Transaction) (offs : List ℕ) → ((off : ℕ) → Contains offs off → is_gone tx off ≡ false) → list_any (is_gone tx) offs ≡ false
+none_named tx [] none = refl
+none_named tx (off ∷ offs) none = or_from (is_gone tx off) (list_any (is_gone tx) offs) (none off (first_member off offs)) (none_named tx offs (λ other there. none other (later_member off offs other there)))
 
--- an operation that is known makes no object
-makes_none : (op : Operation) → IsTrue (is_known op) → is_bad_size op ≡ false
-makes_none (Alloc size kind) known = absurd (false≢true known)
-makes_none op known = refl
+-- an operation that makes no object has no bad size
+makes_none : (op : Operation) → is_alloc op ≡ false → is_bad_size op ≡ false
+makes_none (Alloc size kind) other = absurd (false≢true (sym other))
+makes_none op other = refl
 
 not_full : (op : Operation) → finds_no_space unhindered op ≡ false
 not_full op = and_right (is_alloc op) false refl
@@ -90,10 +91,10 @@ unfoldable pub first_of_six : Bool → Bool → Bool → Bool → Bool → Bool 
 first_of_six unaligned not_locked past_end not_added overfull actions_full = option_map (λ (check : Refusal × Bool). check.0) (find (λ (check : Refusal × Bool). check.1)
     ((refusal.Unaligned, unaligned) ∷ (refusal.NotLocked, not_locked) ∷ (refusal.OutOfRange, past_end) ∷ (refusal.NotAdded, not_added) ∷ (refusal.LogFull, overfull) ∷ (refusal.ActionsFull, actions_full) ∷ []))
 
-pub six_checks : (tx : Transaction) (op : Operation) → Works tx → WantsNone op
+pub six_checks : (tx : Transaction) (op : Operation) → Works tx → WantsNone op → names_gone tx op ≡ false
     → first_refusal unhindered tx op ≡ first_of_six (is_unaligned op) (is_not_locked tx op) (passes_end tx op) (is_not_added tx op) (passes_log tx op) (passes_actions tx op)
 unfolding first_refusal first_of_six
-six_checks tx op works wants =
+six_checks tx op works wants kept =
     (λ j. option_map (λ (check : Refusal × Bool). check.0) (find (λ (check : Refusal × Bool). check.1)
     ((refusal.NotWork, no_work tx works j)
     ∷ (refusal.NoTx, no_tx tx op works j)
@@ -101,14 +102,14 @@ six_checks tx op works wants =
     ∷ (refusal.Deep, not_deep tx op wants j)
     ∷ (refusal.LocksFull, few_locks tx op works wants j)
     ∷ (refusal.Unaligned, is_unaligned op)
-    ∷ (refusal.BadSize, makes_none op wants.known j)
+    ∷ (refusal.BadSize, makes_none op wants.no_alloc j)
     ∷ (refusal.NotLocked, is_not_locked tx op)
     ∷ (refusal.NoObject, has_places tx op wants j)
     ∷ (refusal.Busy, not_busy tx op j)
     ∷ (refusal.NoObject, not_missing tx op j)
-    ∷ (refusal.NoObject, none_named tx works.none_gone (objects_named tx op) j)
-    ∷ (refusal.RootKept, frees_no_root tx op wants.known j)
-    ∷ (refusal.Listed, frees_none_listed tx op wants.known j)
+    ∷ (refusal.NoObject, kept j)
+    ∷ (refusal.RootKept, frees_no_root tx op wants.no_free j)
+    ∷ (refusal.Listed, frees_none_listed tx op wants.no_free j)
     ∷ (refusal.OutOfRange, passes_end tx op)
     ∷ (refusal.NotAdded, is_not_added tx op)
     ∷ (refusal.LogFull, passes_log tx op)
@@ -116,36 +117,61 @@ six_checks tx op works wants =
     ∷ (refusal.NoSpace, not_full op j)
     ∷ [])))
 
+pub wants_none : (op : Operation) → AsksNoLock op → WantsNone op
+wants_none op asks = record { no_wants = asks.no_wants; no_begin = asks.no_begin; no_alloc = asks.no_alloc; no_free = asks.no_free }
+
 -- about no pending action, by four of them
 first_of_four : Bool → Bool → Bool → Bool → Option Refusal
 first_of_four not_locked past_end not_added overfull = first_of_six false not_locked past_end not_added overfull false
 
-four_checks : (tx : Transaction) (op : Operation) → Works tx → AsksNoLock op
+four_checks : (tx : Transaction) (op : Operation) → Works tx → AsksNoLock op → names_gone tx op ≡ false
     → first_refusal unhindered tx op ≡ first_of_four (is_not_locked tx op) (passes_end tx op) (is_not_added tx op) (passes_log tx op)
 unfolding first_of_four
-four_checks tx op works asks =
-    six_checks tx op works (record { known = asks.known; no_wants = asks.no_wants; no_begin = asks.no_begin })
+four_checks tx op works asks kept =
+    six_checks tx op works (wants_none op asks) kept
     ∙ (λ j. first_of_six (asks.aligned j) (is_not_locked tx op) (passes_end tx op) (is_not_added tx op) (passes_log tx op) (asks.no_more tx j))
 
-pub passes_all : (tx : Transaction) (op : Operation) → Works tx → AsksNoLock op → is_not_locked tx op ≡ false → passes_end tx op ≡ false → is_not_added tx op ≡ false → passes_log tx op ≡ false
+pub passes_all : (tx : Transaction) (op : Operation) → Works tx → AsksNoLock op → names_gone tx op ≡ false → is_not_locked tx op ≡ false → passes_end tx op ≡ false → is_not_added tx op ≡ false → passes_log tx op ≡ false
     → first_refusal unhindered tx op ≡ None
 unfolding first_of_six first_of_four
-passes_all tx op works asks locked ends added room = four_checks tx op works asks ∙ (λ j. first_of_four (locked j) (ends j) (added j) (room j))
+passes_all tx op works asks kept locked ends added room = four_checks tx op works asks kept ∙ (λ j. first_of_four (locked j) (ends j) (added j) (room j))
 
-pub fails_lock : (tx : Transaction) (op : Operation) → Works tx → AsksNoLock op → is_not_locked tx op ≡ true → first_refusal unhindered tx op ≡ Some refusal.NotLocked
+-- an object's lock is missed whether the object is gone or not
+pub fails_lock : (tx : Transaction) (op : Operation) → Works tx → WantsNone op → is_unaligned op ≡ false → is_not_locked tx op ≡ true → first_refusal unhindered tx op ≡ Some refusal.NotLocked
+unfolding first_refusal
+fails_lock tx op works wants aligned fails =
+    (λ j. option_map (λ (check : Refusal × Bool). check.0) (find (λ (check : Refusal × Bool). check.1)
+    ((refusal.NotWork, no_work tx works j)
+    ∷ (refusal.NoTx, no_tx tx op works j)
+    ∷ (refusal.Spent, not_spent tx j)
+    ∷ (refusal.Deep, not_deep tx op wants j)
+    ∷ (refusal.LocksFull, few_locks tx op works wants j)
+    ∷ (refusal.Unaligned, aligned j)
+    ∷ (refusal.BadSize, makes_none op wants.no_alloc j)
+    ∷ (refusal.NotLocked, fails j)
+    ∷ (refusal.NoObject, wants_no_place tx op)
+    ∷ (refusal.Busy, is_busy unhindered tx op)
+    ∷ (refusal.NoObject, is_missing unhindered tx op)
+    ∷ (refusal.NoObject, names_gone tx op)
+    ∷ (refusal.RootKept, frees_root tx op)
+    ∷ (refusal.Listed, frees_listed tx op)
+    ∷ (refusal.OutOfRange, passes_end tx op)
+    ∷ (refusal.NotAdded, is_not_added tx op)
+    ∷ (refusal.LogFull, passes_log tx op)
+    ∷ (refusal.ActionsFull, passes_actions tx op)
+    ∷ (refusal.NoSpace, finds_no_space unhindered op)
+    ∷ [])))
+
+pub fails_end : (tx : Transaction) (op : Operation) → Works tx → AsksNoLock op → names_gone tx op ≡ false → is_not_locked tx op ≡ false → passes_end tx op ≡ true → first_refusal unhindered tx op ≡ Some refusal.OutOfRange
 unfolding first_of_six first_of_four
-fails_lock tx op works asks fails = four_checks tx op works asks ∙ (λ j. first_of_four (fails j) (passes_end tx op) (is_not_added tx op) (passes_log tx op))
+fails_end tx op works asks kept locked fails = four_checks tx op works asks kept ∙ (λ j. first_of_four (locked j) (fails j) (is_not_added tx op) (passes_log tx op))
 
-pub fails_end : (tx : Transaction) (op : Operation) → Works tx → AsksNoLock op → is_not_locked tx op ≡ false → passes_end tx op ≡ true → first_refusal unhindered tx op ≡ Some refusal.OutOfRange
-unfolding first_of_six first_of_four
-fails_end tx op works asks locked fails = four_checks tx op works asks ∙ (λ j. first_of_four (locked j) (fails j) (is_not_added tx op) (passes_log tx op))
-
-pub fails_added : (tx : Transaction) (op : Operation) → Works tx → AsksNoLock op → is_not_locked tx op ≡ false → passes_end tx op ≡ false → is_not_added tx op ≡ true
+pub fails_added : (tx : Transaction) (op : Operation) → Works tx → AsksNoLock op → names_gone tx op ≡ false → is_not_locked tx op ≡ false → passes_end tx op ≡ false → is_not_added tx op ≡ true
     → first_refusal unhindered tx op ≡ Some refusal.NotAdded
 unfolding first_of_six first_of_four
-fails_added tx op works asks locked ends fails = four_checks tx op works asks ∙ (λ j. first_of_four (locked j) (ends j) (fails j) (passes_log tx op))
+fails_added tx op works asks kept locked ends fails = four_checks tx op works asks kept ∙ (λ j. first_of_four (locked j) (ends j) (fails j) (passes_log tx op))
 
-pub fails_room : (tx : Transaction) (op : Operation) → Works tx → AsksNoLock op → is_not_locked tx op ≡ false → passes_end tx op ≡ false → is_not_added tx op ≡ false → passes_log tx op ≡ true
+pub fails_room : (tx : Transaction) (op : Operation) → Works tx → AsksNoLock op → names_gone tx op ≡ false → is_not_locked tx op ≡ false → passes_end tx op ≡ false → is_not_added tx op ≡ false → passes_log tx op ≡ true
     → first_refusal unhindered tx op ≡ Some refusal.LogFull
 unfolding first_of_six first_of_four
-fails_room tx op works asks locked ends added fails = four_checks tx op works asks ∙ (λ j. first_of_four (locked j) (ends j) (added j) (fails j))
+fails_room tx op works asks kept locked ends added fails = four_checks tx op works asks kept ∙ (λ j. first_of_four (locked j) (ends j) (added j) (fails j))

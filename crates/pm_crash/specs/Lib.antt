@@ -12,6 +12,7 @@ pub mod Publishing
 pub mod Lines
 pub mod OneLane
 pub mod Locks
+pub mod CallBlocks
 pub mod OpenCall
 pub mod Operations
 pub mod OnActions

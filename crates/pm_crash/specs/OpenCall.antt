@@ -1,9 +1,12 @@
 -- A lane's open call, by its view alone: the words that it makes, and what the plain model's transaction has come to.
-use Rattle.std.specs.Prelude.{◌≡◌, ℕ, ◌+◌, ◌*◌, ◌/◌, ◌<◌, ◌≤◌, true, false, if◌then◌else◌, List, [], ◌∷◌, map, length, slice_index, flat_map, All, Contains, Some}
+use Rattle.std.specs.Prelude.{◌≡◌, ℕ, ◌+◌, ◌*◌, ◌/◌, ◌<◌, ◌≤◌, true, false, if◌then◌else◌, List, [], ◌∷◌, map, length, slice_index, flat_map, All, Contains, None, Some}
 use Rattle.std.specs.List.{range_with_len}
+use Rattle.std.specs.List.Sorted.{IsStrictlyIncreasing}
 use Rattle.pm_header.specs.declared.header.Header.{Header}
+use Rattle.pm_objects.specs.Pool.{object_at, offsets}
 use Rattle.pm_objects.specs.declared.calls.Want.{Want}
 use Rattle.pm_objects.specs.declared.history.TxErr.{TxErr}
+use Rattle.pm_objects.specs.declared.pool.Object.{Object}
 use Rattle.pm_objects.specs.declared.pool.PoolView.{PoolView}
 use Rattle.pm_image.specs.declared.block.Block.{Block}
 use Rattle.pm_image.specs.Blocks.{blocks}
@@ -20,6 +23,7 @@ use Rattle.pm_view.specs.Log.{Recorded}
 use Rattle.pm_view.specs.View.{View, Lock}
 use Rattle.pm_world.specs.History.{made_final}
 use Rattle.pm_world.specs.Records.{IsRecordAt, is_recorded, pool_entries}
+use Rattle.pm_crash.specs.CallBlocks.{CallBlocks, HasRoomFor, IsMadeIn, KeepsBlocks, NewObject, allocated_in, blocks_in, is_freed_in, is_new_in, object_made}
 use Rattle.pm_crash.specs.Locks.{AreSameLocks}
 use Rattle.pm_crash.specs.Held.{HoldsPool}
 use Rattle.pm_crash.specs.Pending.{act_of, pending_before, pending_in, published_in, told_in}
@@ -97,13 +101,36 @@ unfoldable pub RunsTo : PoolView → List Action → List Answered → Transacti
 RunsTo pool actions [] now = now ≡ resting pool actions
 RunsTo pool actions (t ∷ told) now = Answers (resting pool actions) t.operation t.reply × GoesOn (after t (resting pool actions)) told now
 
--- what the open call came to, from words that hold a pool: the model's transaction, whose copy of the pool is that of the words made so
--- far, with the locks and the records that the lane has, and its pending actions. The words have the blocks that they had, of their sizes, and
--- each action that the call published lies in one of them
+-- the one pool is the other with what the open call made, and without what it freed
+pub record IsChanged (v : View) (base pool : PoolView) : Type 0 where
+  pub fixed : pool ≡ record base { objects = pool.objects }
+  pub rising : IsStrictlyIncreasing (offsets pool.objects)
+  pub new : (n : NewObject) → Contains (blocks_in v).made n → object_at pool.objects n.off ≡ Some (object_made v n)
+  pub gone : (off : ℕ) → is_freed_in v off ≡ true → object_at pool.objects off ≡ None
+  pub others : (off : ℕ) → is_new_in v off ≡ false → is_freed_in v off ≡ false → object_at pool.objects off ≡ object_at base.objects off
+
+-- where an object of the pool stood, and of how many bytes
+abbrev pub place_and_size : ℕ × Object → ℕ × ℕ
+place_and_size entry = (entry.0, length entry.1.bytes)
+
+-- the transaction keeps these lists of what the call made and freed
+pub record TracksBlocks (tx : Transaction) (b : CallBlocks) : Type 0 where
+  pub made : tx.made ≡ map (λ (n : NewObject). n.off) b.made
+  pub dropped : map place_and_size tx.dropped ≡ map (λ (n : NewObject). (n.off, n.size)) b.dropped
+  pub freed : tx.freed ≡ b.freed
+
+-- what the open call came to, from words that hold a pool: the model's transaction, with the locks and the records that the lane has, and its pending
+-- actions. The words made so far hold a pool, and the transaction's copy is that one with what the call made and freed: a new object stands in no
+-- allocated block, and a freed one is there, until the call is published. The words have the blocks that they had, of their sizes, and each action
+-- that the call published lies in one of them
 pub record ComesTo (v : View) (w : ℕ → ℕ) (header : Header) (pool : PoolView) (level : ℕ) (at_stage : Stage) (error : TxErr) : Type 0 where
   pub tx : Transaction
   pub runs : RunsTo pool (pending_before v) (told_in v) tx
-  pub holds : HoldsPool (call_words v w) v.lanes v.zones header tx.pool
+  pub base : PoolView
+  pub holds : HoldsPool (call_words v w) v.lanes v.zones header base
+  pub changed : IsChanged v base tx.pool
+  pub unfound : (off : ℕ) → is_new_in v off ≡ true → object_at base.objects off ≡ None
+  pub tracks : TracksBlocks tx (blocks_in v)
   pub before : tx.before ≡ pool
   pub locks : AreSameLocks tx.locks (locks_of v)
   pub recorded : tx.recorded ≡ words_recorded v.log.records
@@ -113,25 +140,28 @@ pub record ComesTo (v : View) (w : ℕ → ℕ) (header : Header) (pool : PoolVi
   pub fails : tx.error ≡ error
   pub actions : tx.actions ≡ pending_in v
   pub moved : tx.moved ≡ published_in v
-  -- no call makes or frees an object yet
-  pub no_made : tx.made ≡ []
-  pub no_dropped : tx.dropped ≡ []
-  pub no_freed : tx.freed ≡ []
   pub performable : All (CanPerform w v.lanes v.zones) (published_in v)
   pub blocks_stay : blocks (call_words v w) v.lanes v.zones ≡ blocks w v.lanes v.zones
   pub sizes_stay : (block : Block) → Contains (blocks w v.lanes v.zones) block → size_in (call_words v w) block ≡ size_in w block
 
--- the lane has a call open at this level, in this stage and with this error, whatever pool the words before it hold. It holds 64 locks at
--- most, each of a line of a chunk where it found a block there, recorded words of those blocks alone, and has no redo entries: they come with the commit
-pub record IsOpen (v : View) (level : ℕ) (at_stage : Stage) (error : TxErr) : Type 0 where
+-- The lane has a call under way at this level, in this stage and with this error, whatever pool the words before it hold, if that has room for what the
+-- call allocated. It holds 64 locks at most, each of a line of a chunk where it found a block there, recorded words of those blocks alone, has no redo
+-- entries, which come with the commit, and has in its words what it made
+pub record IsUnderWay (v : View) (level : ℕ) (at_stage : Stage) (error : TxErr) : Type 0 where
   pub in_lanes : v.lane < v.lanes
   pub few : length v.locks ≤ 64
   pub chunks : (l : Lock) (lines : ℕ) → Contains v.locks l → l.block ≡ Some lines → is_chunk v.lanes (l.line / 64) ≡ true
   pub outside : (i : ℕ) → is_recorded v.log.records i ≡ true → is_in_area v.lane i ≡ false
   pub under : RecordsUnder v
   pub unentered : v.log.entries ≡ []
-  pub comes : (w : ℕ → ℕ) (header : Header) (pool : PoolView) → HoldsPool w v.lanes v.zones header pool → v.pool ≡ header.id → IsBefore v w
+  pub makes : (n : NewObject) → Contains (blocks_in v).made n → IsMadeIn v n
+  pub comes : (w : ℕ → ℕ) (header : Header) (pool : PoolView) → HoldsPool w v.lanes v.zones header pool → v.pool ≡ header.id → IsBefore v w → HasRoomFor pool (allocated_in v)
       → ComesTo v w header pool level at_stage error
+
+-- so it has, and allocated and freed nothing so far
+pub record IsOpen (v : View) (level : ℕ) (at_stage : Stage) (error : TxErr) : Type 0 where
+  pub under_way : IsUnderWay v level at_stage error
+  pub keeps : KeepsBlocks v
 
 -- what a call that was given up came to: the pool is as before it
 pub record ComesToNothing (v : View) (pool : PoolView) (error : TxErr) : Type 0 where
@@ -142,12 +172,18 @@ pub record ComesToNothing (v : View) (pool : PoolView) (error : TxErr) : Type 0 
   pub actions : tx.actions ≡ pending_in v
   pub unchanged : tx.pool ≡ pool
 
--- the lane's call was aborted with this error, whatever pool the words before it hold. It recorded words of the blocks that it found alone
-pub record IsGivenUp (v : View) (error : TxErr) : Type 0 where
+-- the lane's call was aborted with this error, whatever pool the words before it hold, if that has room for what the call allocated. It recorded words of
+-- the blocks that it found alone
+pub record WasAborted (v : View) (error : TxErr) : Type 0 where
   pub outside : (i : ℕ) → is_recorded v.log.records i ≡ true → is_in_area v.lane i ≡ false
   pub under : RecordsUnder v
-  pub comes : (w : ℕ → ℕ) (header : Header) (pool : PoolView) → HoldsPool w v.lanes v.zones header pool → v.pool ≡ header.id → IsBefore v w
+  pub comes : (w : ℕ → ℕ) (header : Header) (pool : PoolView) → HoldsPool w v.lanes v.zones header pool → v.pool ≡ header.id → IsBefore v w → HasRoomFor pool (allocated_in v)
       → ComesToNothing v pool error
+
+-- so it was, and allocated nothing
+pub record IsGivenUp (v : View) (error : TxErr) : Type 0 where
+  pub aborted : WasAborted v error
+  pub keeps : allocated_in v ≡ []
 
 -- the call makes a step of the plain model: from words that hold a pool it makes words that hold the next one
 pub record MakesStep (v : View) (w : ℕ → ℕ) (header : Header) (pool : PoolView) : Type 0 where

@@ -1,0 +1,153 @@
+-- What a call allocated and freed behind one operation more, and what stays of it.
+use Rattle.std.proofs.Common.{◌≡◌, ℕ, zero, suc, ◌≤◌, ◌||◌, Bool, true, false, eqb, List, [], ◌∷◌, ◌++◌, length, map, slice_index, Option, Some, refl, sym, ◌∙◌, ap, subst, arith}
+use Rattle.std.specs.List.{All, Contains, flat_map, list_any}
+use Rattle.std.proofs.lemmas.Bool.{or_from}
+use Rattle.std.proofs.lemmas.Grind.{flat_map-append}
+use Rattle.std.proofs.lemmas.List.{append-nil}
+use Rattle.pm_layout.specs.Sizes.{class_of}
+use Rattle.pm_objects.specs.Pool.{block_lines, offsets}
+use Rattle.pm_objects.specs.declared.calls.Operation.{Operation}
+use Rattle.pm_objects.specs.declared.history.Value.{Value}
+use Rattle.pm_objects.specs.declared.pool.Object.{Object}
+use Rattle.pm_objects.specs.declared.pool.PoolView.{PoolView}
+use Rattle.pm_image.specs.Contents.{bytes_in, header_word}
+use Rattle.pm_image.specs.Reads.{AgreeOn, ReadsBlock}
+use Rattle.pm_image.proofs.LocalContents.{contents_local, header_same}
+use Rattle.pm_model.specs.Answers.{IsBeside}
+use Rattle.pm_model.specs.Bytes.{is_among}
+use Rattle.pm_model.specs.Transaction.{Transaction, is_gone, is_new}
+use Rattle.pm_view.specs.Area.{is_in_area}
+use Rattle.pm_view.specs.View.{Told, View}
+use Rattle.pm_crash.specs.CallBlocks.{CallBlocks, HasRoomFor, IsMadeIn, KeepsBlocks, NewObject, allocated_by, allocated_in, block_of, blocks_behind, blocks_in, blocks_told, is_at, is_freed_in, is_new_in, no_blocks, object_made}
+use Rattle.pm_crash.specs.NewObjects.{fresh_word, unlinked}
+use Rattle.pm_crash.specs.OpenCall.{IsChanged, TracksBlocks, place_and_size}
+
+-- ---- one operation more
+
+told_further : (b : CallBlocks) (told : List Told) (t : Told) → blocks_told b (told ++ t ∷ []) ≡ blocks_behind t.operation t.reply (blocks_told b told)
+unfolding blocks_told
+told_further b [] t = refl
+told_further b (u ∷ told) t = told_further (blocks_behind u.operation u.reply b) told t
+
+pub blocks_once_more : (v next : View) (op : Operation) (reply : Option Value) → next.call ≡ v.call ++ record { operation = op; reply = reply } ∷ []
+    → blocks_in next ≡ blocks_behind op reply (blocks_in v)
+blocks_once_more v next op reply call = ap (blocks_told no_blocks) call ∙ told_further no_blocks v.call (record { operation = op; reply = reply })
+
+pub allocated_once_more : (v next : View) (op : Operation) (reply : Option Value) → next.call ≡ v.call ++ record { operation = op; reply = reply } ∷ []
+    → allocated_in next ≡ allocated_in v ++ allocated_by op reply
+allocated_once_more v next op reply call =
+    let by : Told → List NewObject = λ t. allocated_by t.operation t.reply in
+    ap (flat_map by) call
+    ∙ flat_map-append by v.call (record { operation = op; reply = reply } ∷ [])
+    ∙ ap (λ (more : List NewObject). allocated_in v ++ more) (append-nil (allocated_by op reply))
+
+front_of : {X : Type 0} (P : X → Type 0) (xs ys : List X) → All P (xs ++ ys) → All P xs
+front_of P [] ys all k d low = absurd (omega (arith, low))
+front_of P (x ∷ xs) ys all zero d low = all zero d (omega arith)
+front_of P (x ∷ xs) ys all (suc k) d low = front_of P xs ys (λ j e near. all (suc j) e (omega (arith, near))) k d (omega (arith, low))
+
+-- a pool that has room for what is allocated once it is told had it before
+pub room_before : (v next : View) (op : Operation) (reply : Option Value) → next.call ≡ v.call ++ record { operation = op; reply = reply } ∷ [] → (pool : PoolView)
+    → HasRoomFor pool (allocated_in next) → HasRoomFor pool (allocated_in v)
+room_before v next op reply call pool room =
+    front_of (λ (n : NewObject). All (IsBeside n.size n.off) pool.objects) (allocated_in v) (allocated_by op reply) (subst (HasRoomFor pool) (allocated_once_more v next op reply call) room)
+
+-- where nothing is told it is the same
+pub same_blocks : (v next : View) → next.call ≡ v.call → blocks_in next ≡ blocks_in v
+same_blocks v next call = ap (blocks_told no_blocks) call
+
+pub same_allocated : (v next : View) → next.call ≡ v.call → allocated_in next ≡ allocated_in v
+same_allocated v next call = ap (flat_map (λ (t : Told). allocated_by t.operation t.reply)) call
+
+-- a call that kept the blocks does behind an operation that keeps them
+pub keeps_on : (v next : View) (op : Operation) (reply : Option Value) → next.call ≡ v.call ++ record { operation = op; reply = reply } ∷ []
+    → blocks_behind op reply no_blocks ≡ no_blocks → allocated_by op reply ≡ [] → KeepsBlocks v → KeepsBlocks next
+keeps_on v next op reply call none none_more keeps = record {
+  blocks = blocks_once_more v next op reply call ∙ ap (blocks_behind op reply) keeps.blocks ∙ none;
+  allocated = allocated_once_more v next op reply call ∙ (λ j. keeps.allocated j ++ none_more j);
+}
+
+pub keeps_still : (v next : View) → next.call ≡ v.call → KeepsBlocks v → KeepsBlocks next
+keeps_still v next call keeps = record { blocks = same_blocks v next call ∙ keeps.blocks; allocated = same_allocated v next call ∙ keeps.allocated }
+
+-- every pool has room for nothing
+pub room_for_none : (v : View) (pool : PoolView) → allocated_in v ≡ [] → HasRoomFor pool (allocated_in v)
+room_for_none v pool none = subst (HasRoomFor pool) (sym none) (λ k d low. absurd (omega (arith, low)))
+
+-- ---- what the transaction tracks
+
+any_map : {X Y : Type 0} (p : Y → Bool) (f : X → Y) (xs : List X) → list_any p (map f xs) ≡ list_any (λ x. p (f x)) xs
+any_map p f [] = refl
+any_map p f (x ∷ xs) = ap (λ (b : Bool). p (f x) || b) (any_map p f xs)
+
+pub tracks_new : (v : View) (tx : Transaction) → TracksBlocks tx (blocks_in v) → (off : ℕ) → is_new tx off ≡ is_new_in v off
+tracks_new v tx tracks off = (λ j. made j || dropped j) where
+  made : is_among tx.made off ≡ list_any (is_at off) (blocks_in v).made
+  made = ap (λ (xs : List ℕ). is_among xs off) tracks.made ∙ any_map (λ other. eqb other off) (λ (n : NewObject). n.off) (blocks_in v).made
+
+  dropped : is_among (offsets tx.dropped) off ≡ list_any (is_at off) (blocks_in v).dropped
+  dropped = any_map (λ other. eqb other off) (λ (entry : ℕ × Object). entry.0) tx.dropped
+      ∙ sym (any_map (λ (p : ℕ × ℕ). eqb p.0 off) place_and_size tx.dropped)
+      ∙ ap (list_any (λ (p : ℕ × ℕ). eqb p.0 off)) tracks.dropped
+      ∙ any_map (λ (p : ℕ × ℕ). eqb p.0 off) (λ (n : NewObject). (n.off, n.size)) (blocks_in v).dropped
+
+-- an object that is neither new nor freed is there still
+pub tracks_gone : (v : View) (tx : Transaction) → TracksBlocks tx (blocks_in v) → (off : ℕ) → is_new_in v off ≡ false → is_freed_in v off ≡ false → is_gone tx off ≡ false
+tracks_gone v tx tracks off old kept =
+    or_from (is_among tx.freed off) (is_among (offsets tx.dropped) off) (ap (λ (xs : List ℕ). is_among xs off) tracks.freed ∙ kept)
+    (dropped_not (is_among tx.made off) (is_among (offsets tx.dropped) off) (tracks_new v tx tracks off ∙ old)) where
+  dropped_not : (a b : Bool) → (a || b) ≡ false → b ≡ false
+  dropped_not true b none = absurd (let clash : true ≡ false = none in cc)
+  dropped_not false b none = none
+
+-- ---- what was made stays where its words do
+
+-- the words of what it made are the same by both views
+abbrev pub SameNew : View → View → NewObject → Type 0
+SameNew v next n = (i : ℕ) → ReadsBlock (slice_index v.words) (block_of n) i → slice_index next.words i ≡ slice_index v.words i
+
+agree : (v next : View) (n : NewObject) → SameNew v next n → AgreeOn (ReadsBlock (slice_index v.words) (block_of n)) (slice_index v.words) (slice_index next.words)
+agree v next n same = record { same = λ i reads. sym (same i reads) }
+
+same_bytes : (v next : View) (n : NewObject) → SameNew v next n → bytes_in (slice_index next.words) (block_of n) ≡ bytes_in (slice_index v.words) (block_of n)
+same_bytes v next n same = (contents_local (slice_index v.words) (slice_index next.words) (block_of n) (agree v next n same)).same_bytes
+
+pub object_stays : (v next : View) (n : NewObject) → SameNew v next n → object_made next n ≡ object_made v n
+object_stays v next n same = ap (unlinked n.kind) (same_bytes v next n same)
+
+pub made_stays : (v next : View) (n : NewObject) → next.lane ≡ v.lane → ((i : ℕ) → Contains v.known i → Contains next.known i) → SameNew v next n → IsMadeIn v n → IsMadeIn next n
+made_stays v next n lane known same is =
+    let bytes = same_bytes v next n same in
+    let size : header_word (slice_index next.words) (block_of n) 1 ≡ header_word (slice_index v.words) (block_of n) 1 =
+    header_same (slice_index v.words) (slice_index next.words) (block_of n) 1 (omega arith) (agree v next n same) in
+    let back : (i : ℕ) → ReadsBlock (slice_index next.words) (block_of n) i → ReadsBlock (slice_index v.words) (block_of n) i =
+    λ i reads. record { from = reads.from; to = (let to = reads.to in omega (arith, to, size)) } in
+    record {
+      behind = is.behind;
+      object = record {
+        some = subst (λ (bs : List ℕ). 1 ≤ length bs) (sym bytes) is.object.some;
+        most = subst (λ (bs : List ℕ). length bs ≤ 262080) (sym bytes) is.object.most;
+        of_size = ap (λ (bs : List ℕ). block_lines (class_of (length bs))) bytes ∙ is.object.of_size;
+        header = λ place low. header_same (slice_index v.words) (slice_index next.words) (block_of n) place low (agree v next n same) ∙ is.object.header place low
+            ∙ ap (λ (bs : List ℕ). fresh_word n.kind (length bs) place) (sym bytes);
+        holds = refl;
+      };
+      long = ap (λ (bs : List ℕ). length bs) bytes ∙ is.long;
+      known = λ i reads. known i (is.known i (back i reads));
+      outside = λ i reads. ap (λ k. is_in_area k i) lane ∙ is.outside i (back i reads);
+    }
+
+-- the change of a pool is the same where the blocks are and the words of what was made
+pub changed_stays : (v next : View) (base pool : PoolView) → blocks_in next ≡ blocks_in v → ((n : NewObject) → Contains (blocks_in v).made n → SameNew v next n)
+    → IsChanged v base pool → IsChanged next base pool
+changed_stays v next base pool blocks same changed = record {
+  fixed = changed.fixed;
+  rising = changed.rising;
+  new = λ n there.
+      let before : Contains (blocks_in v).made n = subst (λ (b : CallBlocks). Contains b.made n) blocks there in
+      changed.new n before ∙ ap (λ (o : Object). Some o) (sym (object_stays v next n (same n before)));
+  gone = λ off freed. changed.gone off (ap (λ (b : CallBlocks). is_among b.freed off) (sym blocks) ∙ freed);
+  others = λ off old kept.
+      changed.others off (ap (λ (b : CallBlocks). list_any (is_at off) b.made || list_any (is_at off) b.dropped) (sym blocks) ∙ old)
+      (ap (λ (b : CallBlocks). is_among b.freed off) (sym blocks) ∙ kept);
+}

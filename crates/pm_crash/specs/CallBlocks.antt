@@ -1,0 +1,114 @@
+-- What a call allocated and freed so far, by the operations that it told: the lists that the plain model's transaction keeps (pmemobj_tx_alloc(3),
+-- pmemobj_tx_free(3)).
+use Rattle.std.specs.Prelude.{◌≡◌, ℕ, ◌-◌, ◌==◌, ◌||◌, ◌≤◌, not, Bool, All, List, [], ◌∷◌, ◌++◌, filter, flat_map, length, map, slice_index, Contains, Option, Some, false, if◌then◌else◌}
+use Rattle.std.specs.List.{list_any}
+use Rattle.pm_layout.specs.Sizes.{class_of}
+use Rattle.pm_objects.specs.Pool.{block_lines}
+use Rattle.pm_objects.specs.declared.calls.Operation.{Operation}
+use Rattle.pm_objects.specs.declared.calls.Operation.TheVariants.{Abort, Alloc, Free}
+use Rattle.pm_objects.specs.declared.history.Value.{Value}
+use Rattle.pm_objects.specs.declared.history.Value.TheVariants.{Offset, Refused}
+use Rattle.pm_objects.specs.declared.pool.Object.{Object}
+use Rattle.pm_objects.specs.declared.pool.PoolView.{PoolView}
+use Rattle.pm_image.specs.declared.block.Block.{Block}
+use Rattle.pm_image.specs.Contents.{bytes_in}
+use Rattle.pm_image.specs.Reads.{ReadsBlock}
+use Rattle.pm_model.specs.Answers.{IsBeside, changes_nothing}
+use Rattle.pm_model.specs.Bytes.{is_among}
+use Rattle.pm_model.specs.Checks.{is_action}
+use Rattle.pm_view.specs.Area.{is_in_area}
+use Rattle.pm_view.specs.View.{Told, View}
+use Rattle.pm_crash.specs.NewObjects.{HasNewObject, unlinked}
+
+-- an object that a call made: its offset, its type and its size in bytes
+pub record NewObject : Type 0 where
+  pub off : ℕ
+  pub kind : ℕ
+  pub size : ℕ
+
+pub record CallBlocks : Type 0 where
+  -- the objects that the call made and has
+  pub made : List NewObject
+  -- those that it made and freed again: their blocks stay reserved to its end
+  pub dropped : List NewObject
+  -- the offsets of those that it found and freed
+  pub freed : List ℕ
+
+abbrev pub no_blocks : CallBlocks
+no_blocks = record { made = []; dropped = []; freed = [] }
+
+abbrev pub is_at : ℕ → NewObject → Bool
+is_at off n = n.off == off
+
+abbrev pub with_made : NewObject → CallBlocks → CallBlocks
+with_made n b = record b { made = b.made ++ n ∷ [] }
+
+-- the object at the offset is freed: one that the call made is dropped
+abbrev pub with_freed : ℕ → CallBlocks → CallBlocks
+with_freed off b =
+    if list_any (is_at off) b.made
+    then record b { made = filter (λ n. not (is_at off n)) b.made; dropped = b.dropped ++ filter (is_at off) b.made }
+    else record b { freed = b.freed ++ off ∷ [] }
+
+-- what an operation with its reply leaves of them: where it aborts the call, none
+abbrev pub blocks_behind : Operation → Option Value → CallBlocks → CallBlocks
+blocks_behind op (Some (Refused r)) b = if is_action op || changes_nothing r then b else no_blocks
+blocks_behind (Alloc size kind) (Some (Offset off)) b = with_made (record { off = off; kind = kind; size = size }) b
+blocks_behind (Free id) reply b = with_freed id.off b
+blocks_behind (Abort errnum) reply b = no_blocks
+blocks_behind op reply b = b
+
+-- and operations one after another
+unfoldable pub blocks_told : CallBlocks → List Told → CallBlocks
+blocks_told b [] = b
+blocks_told b (t ∷ told) = blocks_told (blocks_behind t.operation t.reply b) told
+
+-- those of the lane's open call
+abbrev pub blocks_in : View → CallBlocks
+blocks_in v = blocks_told no_blocks v.call
+
+-- the object that an operation with its reply made, if any
+abbrev pub allocated_by : Operation → Option Value → List NewObject
+allocated_by (Alloc size kind) (Some (Offset off)) = record { off = off; kind = kind; size = size } ∷ []
+allocated_by op reply = []
+
+-- all that the open call ever made, whether it freed it again or gave all up
+abbrev pub allocated_in : View → List NewObject
+allocated_in v = flat_map (λ (t : Told). allocated_by t.operation t.reply) v.call
+
+-- the call allocated and freed nothing
+pub record KeepsBlocks (v : View) : Type 0 where
+  pub blocks : blocks_in v ≡ no_blocks
+  pub allocated : allocated_in v ≡ []
+
+-- the open call has made an object at the offset, whether it freed it again or not; it found and freed the one there
+abbrev pub is_new_in : View → ℕ → Bool
+is_new_in v off = list_any (is_at off) (blocks_in v).made || list_any (is_at off) (blocks_in v).dropped
+
+abbrev pub is_freed_in : View → ℕ → Bool
+is_freed_in v off = is_among (blocks_in v).freed off
+
+-- a pool has room for these: no object's block overlaps one of theirs
+abbrev pub HasRoomFor : PoolView → List NewObject → Type 0
+HasRoomFor pool news = All (λ (n : NewObject). All (IsBeside n.size n.off) pool.objects) news
+
+-- the block of such an object
+abbrev pub block_of : NewObject → Block
+block_of n = record { place = n.off - 64; lines = block_lines (class_of n.size) }
+
+-- what the lane's words have of it: it has no members
+abbrev pub object_made : View → NewObject → Object
+object_made v n = unlinked n.kind (bytes_in (slice_index v.words) (block_of n))
+
+-- it stands in its block by the lane's words: those of its header line and of its bytes the lane knows, and they lie outside of its area
+pub record IsMadeIn (v : View) (n : NewObject) : Type 0 where
+  pub behind : 64 ≤ n.off
+  pub object : HasNewObject (slice_index v.words) (block_of n) n.kind (bytes_in (slice_index v.words) (block_of n))
+  pub long : length (bytes_in (slice_index v.words) (block_of n)) ≡ n.size
+  pub known : (i : ℕ) → ReadsBlock (slice_index v.words) (block_of n) i → Contains v.known i
+  pub outside : (i : ℕ) → ReadsBlock (slice_index v.words) (block_of n) i → is_in_area v.lane i ≡ false
+
+-- the object at the offset is one that the call found, if there is any: it neither made nor freed it
+pub record IsOldIn (v : View) (off : ℕ) : Type 0 where
+  pub found : is_new_in v off ≡ false
+  pub kept : is_freed_in v off ≡ false
