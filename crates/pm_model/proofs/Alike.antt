@@ -1,9 +1,9 @@
 -- A transaction runs alike over other objects that are the same wherever it takes a lock.
-use Rattle.std.proofs.Common.{◌≡◌, ⊎_elim, ℕ, ◌+◌, IsTrue, length, List, [], ◌∷◌, ◌++◌, get_or, Option, Some, None, MatchOption, Bool, true, false, not, cond, eqb, leb, ◌&&◌, ◌||◌, refl, sym, ◌∙◌, ap, subst}
+use Rattle.std.proofs.Common.{◌≡◌, ⊎_elim, ℕ, ◌+◌, length, List, [], ◌∷◌, ◌++◌, get_or, Option, Some, None, MatchOption, Bool, true, false, not, cond, eqb, leb, ◌&&◌, ◌||◌, refl, sym, ◌∙◌, ap, subst}
 use Rattle.std.specs.Prelude.{IsSome}
-use Rattle.std.specs.List.{list_any}
+use Rattle.std.specs.List.{list_any, list_all}
 use Rattle.std.specs.Option.{option_map}
-use Rattle.std.proofs.lemmas.Bool.{false≢true, eq-eqb, and_from, or_left, or_right}
+use Rattle.std.proofs.lemmas.Bool.{false≢true, eq-eqb, and_cases, and_from, and_parts, not-false, not-true, or_left, or_parts, or_right}
 use Rattle.std.proofs.lemmas.List.Folds.{list_any-append, list_any_at}
 use Rattle.pm_objects.specs.Pool.{Objects, object_at}
 use Rattle.pm_objects.specs.declared.calls.Operation.{Operation}
@@ -19,10 +19,10 @@ use Rattle.pm_model.specs.Actions.{Action, all_performed, number_bytes, with_act
 use Rattle.pm_model.specs.Actions.Action.{SetWord}
 use Rattle.pm_model.specs.Transaction.{Transaction, resting, aborted, ended_inner, committed, is_working, is_locked, is_new, holds_object}
 use Rattle.pm_model.specs.Bytes.{bytes_at, put_object, with_bytes, new_words, records_of}
-use Rattle.pm_model.specs.Checks.{Range, wants_of, words_in, is_action, is_not_locked, first_refusal}
-use Rattle.pm_model.specs.Answers.{Told, changes_nothing, is_known, value_of, error_for, performed, after_reply, after, IsDone, IsRefused, IsValue, Answers}
+use Rattle.pm_model.specs.Checks.{Range, wants_of, words_in, is_action, is_alloc, is_free, is_not_locked, first_refusal}
+use Rattle.pm_model.specs.Answers.{Told, changes_nothing, value_of, error_for, allocated, performed, after_reply, after, IsDone, IsNewPlace, IsRefused, IsValue, Answers}
 use Rattle.pm_model.specs.Step.{RunsOn}
-use Rattle.pm_model.specs.Names.{is_refusal, wants_taken, is_wanted}
+use Rattle.pm_model.specs.Names.{changes_blocks, is_refusal, wants_taken, is_wanted}
 use Rattle.pm_model.proofs.Objects.{object_at-put}
 use Rattle.pm_model.proofs.Locking.{held_from}
 use Rattle.pm_model.proofs.Asked.{over, range_held, same_bytes, same_refusal, passed_lock}
@@ -32,28 +32,55 @@ no_refusal : (tx : Transaction) (op : Operation) → is_refusal (value_of tx op)
 no_refusal tx (Read id off len) = refl
 no_refusal tx op = refl
 
--- one that is known gives its value, and no place of an object
-pub known_value : (tx : Transaction) (op : Operation) (reply : Option Value) → IsTrue (is_known op) → IsValue tx op reply → reply ≡ value_of tx op
-known_value tx (Alloc size kind) reply known value = absurd (false≢true known)
-known_value tx op reply known value = value
+-- one that is no allocation gives its value, and no place of an object
+pub known_value : (tx : Transaction) (op : Operation) (reply : Option Value) → is_alloc op ≡ false → IsValue tx op reply → reply ≡ value_of tx op
+known_value tx (Alloc size kind) reply other value = absurd (false≢true (sym other))
+known_value tx op reply other value = value
 
-pub value_known : (tx : Transaction) (op : Operation) (reply : Option Value) → IsTrue (is_known op) → reply ≡ value_of tx op → IsValue tx op reply
-value_known tx (Alloc size kind) reply known value = absurd (false≢true known)
-value_known tx op reply known value = value
+pub value_known : (tx : Transaction) (op : Operation) (reply : Option Value) → is_alloc op ≡ false → reply ≡ value_of tx op → IsValue tx op reply
+value_known tx (Alloc size kind) reply other value = absurd (false≢true (sym other))
+value_known tx op reply other value = value
 
-after_place : (op : Operation) (off : ℕ) (tx : Transaction) → IsTrue (is_known op) → after_reply op (Some (Offset off)) tx ≡ performed op tx
-after_place (Alloc size kind) off tx known = absurd (false≢true known)
-after_place op off tx known = refl
+after_place : (op : Operation) (off : ℕ) (tx : Transaction) → is_alloc op ≡ false → after_reply op (Some (Offset off)) tx ≡ performed op tx
+after_place (Alloc size kind) off tx other = absurd (false≢true (sym other))
+after_place op off tx other = refl
 
 -- so it leaves what it performs
-pub after_value : (op : Operation) (reply : Option Value) (tx : Transaction) → IsTrue (is_known op) → is_refusal reply ≡ false → after_reply op reply tx ≡ performed op tx
-after_value op None tx known plain = refl
-after_value op (Some (Refused r)) tx known plain = absurd (false≢true (sym plain))
-after_value op (Some (Offset off)) tx known plain = after_place op off tx known
-after_value op (Some value) tx known plain = refl
+pub after_value : (op : Operation) (reply : Option Value) (tx : Transaction) → is_alloc op ≡ false → is_refusal reply ≡ false → after_reply op reply tx ≡ performed op tx
+after_value op None tx other plain = refl
+after_value op (Some (Refused r)) tx other plain = absurd (false≢true (sym plain))
+after_value op (Some (Offset off)) tx other plain = after_place op off tx other
+after_value op (Some value) tx other plain = refl
 
-pub done_is_plain : (tx : Transaction) (op : Operation) (reply : Option Value) → IsTrue (is_known op) → IsValue tx op reply → is_refusal reply ≡ false
-done_is_plain tx op reply known value = ap is_refusal (known_value tx op reply known value) ∙ no_refusal tx op
+pub done_is_plain : (tx : Transaction) (op : Operation) (reply : Option Value) → IsValue tx op reply → is_refusal reply ≡ false
+done_is_plain tx (Alloc size kind) reply value = ap is_refusal value.2
+done_is_plain tx op reply value = ap is_refusal value ∙ no_refusal tx op
+
+-- what an operation that is done leaves: what it performs, or a new object at a new place
+pub done_cases : (J : Transaction → Type 0) (op : Operation) (reply : Option Value) (tx : Transaction) → IsValue tx op reply
+    → (is_alloc op ≡ false → J (performed op tx)) → ((size kind off : ℕ) → op ≡ Alloc size kind → IsNewPlace tx size off → J (allocated off size kind tx)) → J (after_reply op reply tx)
+done_cases J (Alloc size kind) reply tx value performs allocates = subst (λ (o : Option Value). J (after_reply (Alloc size kind) o tx)) (sym value.2) (allocates size kind value.0 refl value.1)
+done_cases J op reply tx value performs allocates = subst J (sym (after_value op reply tx refl (done_is_plain tx op reply value))) (performs refl)
+
+-- none of these operations allocated or is a free
+abbrev pub KeepBlocks : List Told → Type 0
+KeepBlocks told = list_all (λ (t : Told). not (changes_blocks t.operation t.reply)) told ≡ true
+
+pub keep_first : (t : Told) (told : List Told) → KeepBlocks (t ∷ told) → changes_blocks t.operation t.reply ≡ false
+keep_first t told keep = not-true (changes_blocks t.operation t.reply) (and_parts (not (changes_blocks t.operation t.reply)) (list_all (λ (u : Told). not (changes_blocks u.operation u.reply)) told) keep).0
+
+pub keep_rest : (t : Told) (told : List Told) → KeepBlocks (t ∷ told) → KeepBlocks told
+keep_rest t told keep = (and_parts (not (changes_blocks t.operation t.reply)) (list_all (λ (u : Told). not (changes_blocks u.operation u.reply)) told) keep).1
+
+-- one that is not refused is no free, and no allocation
+pub no_free : (op : Operation) (reply : Option Value) → changes_blocks op reply ≡ false → is_free op ≡ false
+no_free op reply keeps = (or_parts (is_free op) (is_alloc op && not (is_refusal reply)) keeps).0
+
+pub no_alloc : (op : Operation) (reply : Option Value) → changes_blocks op reply ≡ false → is_refusal reply ≡ false → is_alloc op ≡ false
+no_alloc op reply keeps plain = ⊎_elim
+    (λ (none : is_alloc op ≡ false). none)
+    (λ (refused : not (is_refusal reply) ≡ false). absurd (false≢true (sym plain ∙ not-false (is_refusal reply) refused)))
+    (and_cases (is_alloc op) (not (is_refusal reply)) (or_parts (is_free op) (is_alloc op && not (is_refusal reply)) keeps).1)
 
 -- a refusal that leaves a trace aborts, but of an operation on the pending actions alone, which it leaves as it was
 pub after_refused : (op : Operation) (reply : Option Value) (tx : Transaction) (r : Refusal) → IsRefused r reply → after_reply op reply tx ≡ cond (is_action op) tx (aborted (error.Refused r) tx)
@@ -117,9 +144,9 @@ module _ (T : ℕ → Bool) (root : Option ℕ) (tx : Transaction) (objects befo
       (same_bytes objects tx.pool.objects id.off (now id.off (held id.off (range_held tx false range locked))))
   same_value op locked = refl
 
-  done_alike : (op : Operation) (reply : Option Value) → IsTrue (is_known op) → is_not_locked tx op ≡ false → ((off : ℕ) → is_wanted (wants_of op) off false ≡ true → T off ≡ true)
+  done_alike : (op : Operation) (reply : Option Value) → is_alloc op ≡ false → is_not_locked tx op ≡ false → ((off : ℕ) → is_wanted (wants_of op) off false ≡ true → T off ≡ true)
       → IsDone tx op reply → IsDone (over tx objects before root) op reply
-  done_alike op reply known locked within done = record {
+  done_alike op reply no_alloc locked within done = record {
     there = λ k d inside first.
         let want : Want = get_or (wants_of op) k d in
         let off : ℕ = want.id.off in
@@ -127,22 +154,25 @@ module _ (T : ℕ → Bool) (root : Option ℕ) (tx : Transaction) (objects befo
         list_any_at (λ (w : Want). eqb w.id.off off && (w.write || not false)) (wants_of op) k d inside
         (and_from (eqb off off) (want.write || true) (eq-eqb off off refl) (or_right want.write true refl)) in
         subst (λ (o : Option Object). IsSome o) (sym (now off (within off wanted))) (done.there k d inside first);
-    value = value_known (over tx objects before root) op reply known (known_value tx op reply known done.value ∙ sym (same_value op locked));
+    value = value_known (over tx objects before root) op reply no_alloc (known_value tx op reply no_alloc done.value ∙ sym (same_value op locked));
   }
 
   same_match : (fr fr' : Option Refusal) (A A' : Type 0) (B : Refusal → Type 0) → fr' ≡ fr → (fr ≡ None → A → A') → MatchOption fr A B → MatchOption fr' A' B
   same_match None fr' A A' B e both m = subst (λ (o : Option Refusal). MatchOption o A' B) (sym e) (both refl m)
   same_match (Some r) fr' A A' B e both m = subst (λ (o : Option Refusal). MatchOption o A' B) (sym e) m
 
-  answers_alike : (t : Told) (told : List Told) → TakesWithin T false (t ∷ told) → Answers tx t.operation t.reply → Answers (over tx objects before root) t.operation t.reply
-  answers_alike t told within a = record {
+  answers_alike : (t : Told) (told : List Told) → changes_blocks t.operation t.reply ≡ false → TakesWithin T false (t ∷ told) → Answers tx t.operation t.reply
+      → Answers (over tx objects before root) t.operation t.reply
+  answers_alike t told keeps within a = record {
     known = a.known;
     seen = a.seen;
     answer = same_match (first_refusal a.seen tx t.operation) (first_refusal a.seen (over tx objects before root) t.operation)
         (IsDone tx t.operation t.reply) (IsDone (over tx objects before root) t.operation t.reply) (λ r. IsRefused r t.reply)
-        (same_refusal a.seen tx t.operation objects before root a.known (λ off h. now off (held off h)))
-        (λ none done. done_alike t.operation t.reply a.known (passed_lock a.seen tx t.operation none)
-        (takes_first T false t told within (done_is_plain tx t.operation t.reply a.known done.value)) done)
+        (same_refusal a.seen tx t.operation objects before root (no_free t.operation t.reply keeps) (λ off h. now off (held off h)))
+        (λ none done.
+        let plain : is_refusal t.reply ≡ false = done_is_plain tx t.operation t.reply done.value in
+        done_alike t.operation t.reply (no_alloc t.operation t.reply keeps plain) (passed_lock a.seen tx t.operation none)
+        (takes_first T false t told within plain) done)
         a.answer;
   }
 
@@ -172,9 +202,9 @@ module _ (T : ℕ → Bool) (root : Option ℕ) (tx : Transaction) (objects befo
   recorded_alike range true = record { objects = objects; before = before; is = refl; now = now; at_start = at_start; held = held }
   recorded_alike range false = record { objects = objects; before = before; is = refl; now = now; at_start = at_start; held = held }
 
-  performed_alike : (op : Operation) → IsTrue (is_known op) → ((off : ℕ) → is_wanted (wants_of op) off false ≡ true → T off ≡ true)
+  performed_alike : (op : Operation) → is_free op ≡ false → ((off : ℕ) → is_wanted (wants_of op) off false ≡ true → T off ≡ true)
       → Alike T root (performed op tx) (performed op (over tx objects before root))
-  performed_alike (Begin wants) known within = record {
+  performed_alike (Begin wants) no_free within = record {
     objects = objects;
     before = before;
     is = refl;
@@ -182,8 +212,8 @@ module _ (T : ℕ → Bool) (root : Option ℕ) (tx : Transaction) (objects befo
     at_start = at_start;
     held = λ off h. ⊎_elim (λ (w : is_wanted wants off false ≡ true). within off w) (λ (old : holds_object tx off false ≡ true). held off old) (held_from wants tx off false h);
   }
-  performed_alike (AddRange id off len) known within = recorded_alike (record { id = id; off = off; len = len }) (is_new tx id.off)
-  performed_alike (Write id off bytes) known within = record {
+  performed_alike (AddRange id off len) no_free within = recorded_alike (record { id = id; off = off; len = len }) (is_new tx id.off)
+  performed_alike (Write id off bytes) no_free within = record {
     objects = put_object id.off off bytes objects;
     before = before;
     is = refl;
@@ -191,19 +221,20 @@ module _ (T : ℕ → Bool) (root : Option ℕ) (tx : Transaction) (objects befo
     at_start = at_start;
     held = held;
   }
-  performed_alike (Free id) known within = absurd (false≢true known)
-  performed_alike Commit known within = end_alike (leb tx.level 1)
-  performed_alike (Abort errnum) known within = abort_alike (error_for errnum)
-  performed_alike op known within = record { objects = objects; before = before; is = refl; now = now; at_start = at_start; held = held }
+  performed_alike (Free id) no_free within = absurd (false≢true (sym no_free))
+  performed_alike Commit no_free within = end_alike (leb tx.level 1)
+  performed_alike (Abort errnum) no_free within = abort_alike (error_for errnum)
+  performed_alike op no_free within = record { objects = objects; before = before; is = refl; now = now; at_start = at_start; held = held }
 
-  after_alike : (t : Told) (told : List Told) → IsTrue (is_known t.operation) → TakesWithin T false (t ∷ told) → (fr : Option Refusal) → MatchOption fr (IsDone tx t.operation t.reply) (λ r. IsRefused r t.reply)
+  after_alike : (t : Told) (told : List Told) → changes_blocks t.operation t.reply ≡ false → TakesWithin T false (t ∷ told) → (fr : Option Refusal) → MatchOption fr (IsDone tx t.operation t.reply) (λ r. IsRefused r t.reply)
       → Alike T root (after t tx) (after t (over tx objects before root))
-  after_alike t told known within None done =
-      let plain : is_refusal t.reply ≡ false = done_is_plain tx t.operation t.reply known done.value in
+  after_alike t told keeps within None done =
+      let plain : is_refusal t.reply ≡ false = done_is_plain tx t.operation t.reply done.value in
+      let made_none : is_alloc t.operation ≡ false = no_alloc t.operation t.reply keeps plain in
       alike_along T root (performed t.operation tx) (after t tx) (performed t.operation (over tx objects before root)) (after t (over tx objects before root))
-      (sym (after_value t.operation t.reply tx known plain)) (sym (after_value t.operation t.reply (over tx objects before root) known plain))
-      (performed_alike t.operation known (takes_first T false t told within plain))
-  after_alike t told known within (Some r) is =
+      (sym (after_value t.operation t.reply tx made_none plain)) (sym (after_value t.operation t.reply (over tx objects before root) made_none plain))
+      (performed_alike t.operation (no_free t.operation t.reply keeps) (takes_first T false t told within plain))
+  after_alike t told keeps within (Some r) is =
       alike_along T root (cond (is_action t.operation) tx (aborted (error.Refused r) tx)) (after t tx)
       (cond (is_action t.operation) (over tx objects before root) (aborted (error.Refused r) (over tx objects before root))) (after t (over tx objects before root))
       (sym (after_refused t.operation t.reply tx r is)) (sym (after_refused t.operation t.reply (over tx objects before root) r is))
@@ -213,24 +244,24 @@ module _ (T : ℕ → Bool) (root : Option ℕ) (tx : Transaction) (objects befo
         refused_alike false = abort_alike (error.Refused r)
 
 -- one operation answers alike, and leaves alike
-pub step_alike : (T : ℕ → Bool) (root : Option ℕ) (t : Told) (told : List Told) (tx other : Transaction) → TakesWithin T false (t ∷ told) → Alike T root tx other
+pub step_alike : (T : ℕ → Bool) (root : Option ℕ) (t : Told) (told : List Told) (tx other : Transaction) → changes_blocks t.operation t.reply ≡ false → TakesWithin T false (t ∷ told) → Alike T root tx other
     → Answers tx t.operation t.reply → Answers other t.operation t.reply × Alike T root (after t tx) (after t other)
-step_alike T root t told tx other within alike answers =
+step_alike T root t told tx other keeps within alike answers =
     let there : Transaction = over tx alike.objects alike.before root in (
       subst (λ (o : Transaction). Answers o t.operation t.reply) (sym alike.is)
-          (answers_alike T root tx alike.objects alike.before alike.now alike.at_start alike.held t told within answers),
+          (answers_alike T root tx alike.objects alike.before alike.now alike.at_start alike.held t told keeps within answers),
       alike_along T root (after t tx) (after t tx) (after t there) (after t other) refl (ap (after t) (sym alike.is))
-          (after_alike T root tx alike.objects alike.before alike.now alike.at_start alike.held t told answers.known within (first_refusal answers.seen tx t.operation) answers.answer),
+          (after_alike T root tx alike.objects alike.before alike.now alike.at_start alike.held t told keeps within (first_refusal answers.seen tx t.operation) answers.answer),
     )
 
 -- the same operations run with the same replies
-pub runs_alike : (T : ℕ → Bool) (root : Option ℕ) (told : List Told) (tx other last : Transaction) → TakesWithin T false told → Alike T root tx other → RunsOn tx told last
+pub runs_alike : (T : ℕ → Bool) (root : Option ℕ) (told : List Told) (tx other last : Transaction) → KeepBlocks told → TakesWithin T false told → Alike T root tx other → RunsOn tx told last
     → (end : Transaction) × RunsOn other told end × Alike T root last end
 unfolding RunsOn
-runs_alike T root [] tx other last within alike runs =
+runs_alike T root [] tx other last keep within alike runs =
     (other, (ap (λ (t : Transaction). is_working t.stage) alike.is ∙ runs.0, refl), alike_along T root tx last other other (sym runs.1) refl alike)
-runs_alike T root (t ∷ told) tx other last within alike runs =
-    let next : Answers other t.operation t.reply × Alike T root (after t tx) (after t other) = step_alike T root t told tx other within alike runs.1 in
+runs_alike T root (t ∷ told) tx other last keep within alike runs =
+    let next : Answers other t.operation t.reply × Alike T root (after t tx) (after t other) = step_alike T root t told tx other (keep_first t told keep) within alike runs.1 in
     let rest : (end : Transaction) × RunsOn (after t other) told end × Alike T root last end =
-    runs_alike T root told (after t tx) (after t other) last (takes_rest T false t told within) next.1 runs.2 in
+    runs_alike T root told (after t tx) (after t other) last (keep_rest t told keep) (takes_rest T false t told within) next.1 runs.2 in
     (rest.0, (ap (λ (t : Transaction). is_working t.stage) alike.is ∙ runs.0, next.0, rest.1), rest.2)

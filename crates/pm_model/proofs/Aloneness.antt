@@ -1,16 +1,19 @@
 -- What a lane answers that runs alone is an answer.
-use Rattle.std.proofs.Common.{◌≡◌, List, get_or, Option, Some, None, MatchOption, Bool, true, false, not, ◌&&◌, refl, sym, ◌∙◌, ap}
+use Rattle.std.proofs.Common.{◌≡◌, ℕ, List, get_or, Option, Some, None, MatchOption, Bool, true, false, not, ◌&&◌, refl, sym, ◌∙◌, ap, subst}
 use Rattle.std.specs.Prelude.{IsSome, IsTrue, All, is_none}
 use Rattle.std.specs.List.{list_any}
 use Rattle.std.proofs.lemmas.Bool.{false≢true, false_from_ne_true, and_from, and_parts}
 use Rattle.std.proofs.lemmas.List.Folds.{list_any_at}
 use Rattle.pm_objects.specs.Pool.{object_at}
 use Rattle.pm_objects.specs.declared.calls.Operation.{Operation}
+use Rattle.pm_objects.specs.declared.calls.Operation.TheVariants.{Alloc}
 use Rattle.pm_objects.specs.declared.calls.Want.{Want}
+use Rattle.pm_objects.specs.declared.history.Value.{Value}
+use Rattle.pm_objects.specs.declared.history.Value.TheVariants.{Offset, Refused}
 use Rattle.pm_objects.specs.declared.refusal.Refusal.{Refusal}
 use Rattle.pm_model.specs.Transaction.{Transaction, holds_object}
-use Rattle.pm_model.specs.Checks.{wants_of, is_missing}
-use Rattle.pm_model.specs.Answers.{value_of, changes_nothing, is_known, AreThere, IsDone, IsRefused, Answers}
+use Rattle.pm_model.specs.Checks.{is_alloc, is_missing, wants_of}
+use Rattle.pm_model.specs.Answers.{Answers, AreThere, IsDone, IsNewPlace, IsRefused, IsValue, changes_nothing, is_known, value_of}
 use Rattle.pm_model.specs.Alone.{seen_alone, refusal_alone, reply_by, answer_alone}
 use Rattle.pm_model.proofs.Locking.{list_any_weaker}
 use Rattle.pm_model.proofs.Alike.{value_known}
@@ -40,17 +43,44 @@ none_lacking : (first gone : Bool) → (gone ≡ true → first ≡ true) → (f
 none_lacking true gone implies none = none
 none_lacking false gone implies none = false_from_ne_true gone (λ g. false≢true (implies g))
 
-there_alone : (spent : Bool) (tx : Transaction) (op : Operation) → is_missing (seen_alone spent tx op) tx op ≡ false → AreThere tx op
-there_alone spent tx op none =
+there_alone : (spent full : Bool) (tx : Transaction) (op : Operation) → is_missing (seen_alone spent full tx op) tx op ≡ false → AreThere tx op
+there_alone spent full tx op none =
     all_there tx (wants_of op) (none_lacking (list_any (is_first tx) (wants_of op)) (list_any (is_lacking tx) (wants_of op))
     (list_any_weaker (is_lacking tx) (is_first tx) (wants_of op) (λ want gone. (and_parts (is_first tx want) (is_none (object_at tx.pool.objects want.id.off)) gone).0)) none)
 
-by_refusal : (spent : Bool) (tx : Transaction) (op : Operation) → IsTrue (is_known op) → (fr : Option Refusal) → fr ≡ refusal_alone spent tx op → MatchOption fr (Unit {0}) (λ r. changes_nothing r ≡ false)
-    → MatchOption fr (IsDone tx op (reply_by fr (value_of tx op))) (λ r. IsRefused r (reply_by fr (value_of tx op)))
-by_refusal spent tx op known None is traced =
-    record { there = there_alone spent tx op (passed_missing (seen_alone spent tx op) tx op (sym is)); value = value_known tx op (value_of tx op) known refl }
-by_refusal spent tx op known (Some r) is traced = record { traced = traced; told = refl }
+-- what a lane alone refuses so, or does with this reply
+by_refusal : (spent full : Bool) (tx : Transaction) (op : Operation) (reply : Option Value) (fr : Option Refusal) → fr ≡ refusal_alone spent full tx op
+    → MatchOption fr (IsValue tx op reply) (λ r. IsRefused r reply) → MatchOption fr (IsDone tx op reply) (λ r. IsRefused r reply)
+by_refusal spent full tx op reply None is value = record { there = there_alone spent full tx op (passed_missing (seen_alone spent full tx op) tx op (sym is)); value = value }
+by_refusal spent full tx op reply (Some r) is refused = refused
 
-pub answers_alone : (spent : Bool) (tx : Transaction) (op : Operation) → IsTrue (is_known op) → MatchOption (refusal_alone spent tx op) (Unit {0}) (λ r. changes_nothing r ≡ false)
-    → Answers tx op (answer_alone spent tx op)
-answers_alone spent tx op known traced = record { known = known; seen = seen_alone spent tx op; answer = by_refusal spent tx op known (refusal_alone spent tx op) refl traced }
+by_answer : (tx : Transaction) (op : Operation) (fr : Option Refusal) → is_alloc op ≡ false → MatchOption fr (Unit {0}) (λ r. changes_nothing r ≡ false)
+    → MatchOption fr (IsValue tx op (reply_by fr (value_of tx op))) (λ r. IsRefused r (reply_by fr (value_of tx op)))
+by_answer tx op None other traced = value_known tx op (value_of tx op) other refl
+by_answer tx op (Some r) other traced = record { traced = traced; told = refl }
+
+pub answers_alone : (spent full : Bool) (tx : Transaction) (op : Operation) → IsTrue (is_known op) → is_alloc op ≡ false
+    → MatchOption (refusal_alone spent full tx op) (Unit {0}) (λ r. changes_nothing r ≡ false) → Answers tx op (answer_alone spent full tx op)
+answers_alone spent full tx op known other traced = record {
+  known = known;
+  seen = seen_alone spent full tx op;
+  answer = by_refusal spent full tx op (answer_alone spent full tx op) (refusal_alone spent full tx op) refl (by_answer tx op (refusal_alone spent full tx op) other traced);
+}
+
+-- an allocation of a lane alone
+pub offset_alone : (spent full : Bool) (tx : Transaction) (size kind off : ℕ) → refusal_alone spent full tx (Alloc size kind) ≡ None → IsNewPlace tx size off
+    → Answers tx (Alloc size kind) (Some (Offset off))
+offset_alone spent full tx size kind off none place = record {
+  known = refl;
+  seen = seen_alone spent full tx (Alloc size kind);
+  answer = subst (λ (fr : Option Refusal). MatchOption fr (IsDone tx (Alloc size kind) (Some (Offset off))) (λ r. IsRefused r (Some (Offset off)))) (sym none)
+      (by_refusal spent full tx (Alloc size kind) (Some (Offset off)) None (sym none) (off, place, refl));
+}
+
+pub refused_alone : (spent full : Bool) (tx : Transaction) (size kind : ℕ) (r : Refusal) → refusal_alone spent full tx (Alloc size kind) ≡ Some r → changes_nothing r ≡ false
+    → Answers tx (Alloc size kind) (Some (Refused r))
+refused_alone spent full tx size kind r is traced = record {
+  known = refl;
+  seen = seen_alone spent full tx (Alloc size kind);
+  answer = subst (λ (fr : Option Refusal). MatchOption fr (IsDone tx (Alloc size kind) (Some (Refused r))) (λ q. IsRefused q (Some (Refused r)))) (sym is) (record { traced = traced; told = refl });
+}

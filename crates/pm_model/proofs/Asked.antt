@@ -1,5 +1,5 @@
 -- What an operation that is done has passed, and on what its answer depends.
-use Rattle.std.proofs.Common.{◌≡◌, ⊎_elim, ℕ, ◌+◌, IsTrue, List, [], ◌∷◌, length, Option, Some, None, Bool, true, false, cond, eqb, ltb, ◌&&◌, ◌||◌, refl, sym, ◌∙◌, ap}
+use Rattle.std.proofs.Common.{◌≡◌, ⊎_elim, ℕ, ◌+◌, List, [], ◌∷◌, length, Option, Some, None, Bool, true, false, cond, eqb, ltb, ◌&&◌, ◌||◌, refl, sym, ◌∙◌, ap}
 use Rattle.std.specs.List.{find, list_any}
 use Rattle.std.specs.Option.{option_map, option_map_or}
 use Rattle.std.proofs.lemmas.Bool.{cases_Bool, false≢true, not-false, and_parts, or_parts}
@@ -13,8 +13,7 @@ use Rattle.pm_objects.specs.declared.refusal.Refusal.TheVariants as refusal
 use Rattle.pm_model.specs.Transaction.{Transaction, holds_object}
 use Rattle.pm_model.specs.Actions.{Action, end_of, object_of, passes_object}
 use Rattle.pm_model.specs.Bytes.{bytes_of}
-use Rattle.pm_model.specs.Checks.{Seen, Range, range_of, needs_write, finds_no_work, finds_no_tx, is_spent, is_too_deep, passes_locks, is_lock_missing, is_publish, is_unaligned, is_bad_size, is_not_held, is_unlocked_action, publishes_unlocked, frees_unlocked, names_gone, frees_root, frees_listed, finds_no_space, publishes_past_end, passes_actions, is_not_locked, wants_no_place, is_busy, is_missing, passes_end_of, passes_end, is_not_added, passes_log, checks, first_refusal}
-use Rattle.pm_model.specs.Answers.{is_known}
+use Rattle.pm_model.specs.Checks.{Seen, Range, range_of, needs_write, finds_no_work, finds_no_tx, is_spent, is_too_deep, passes_locks, is_lock_missing, is_publish, is_unaligned, is_bad_size, is_not_held, is_unlocked_action, publishes_unlocked, frees_unlocked, names_gone, is_free, frees_root, frees_listed, finds_no_space, publishes_past_end, passes_actions, is_not_locked, wants_no_place, is_busy, is_missing, passes_end_of, passes_end, is_not_added, passes_log, checks, first_refusal}
 use Rattle.pm_model.proofs.Locking.{holds_to_read}
 
 -- the transaction over other objects, of a pool with another root
@@ -58,18 +57,18 @@ unfolding rows first_row
 end_under_lock seen tx op true of_root listed one other same = refl
 end_under_lock seen tx op false of_root listed one other same = ap (λ (b : Bool). first_row (rows seen tx op false of_root listed b)) (same refl)
 
--- an operation that is known frees nothing
-pub frees_no_root : (tx : Transaction) (op : Operation) → IsTrue (is_known op) → frees_root tx op ≡ false
-frees_no_root tx (Free id) known = absurd (false≢true known)
-frees_no_root tx op known = refl
+-- an operation that is no free frees nothing
+pub frees_no_root : (tx : Transaction) (op : Operation) → is_free op ≡ false → frees_root tx op ≡ false
+frees_no_root tx (Free id) other = absurd (false≢true (sym other))
+frees_no_root tx op other = refl
 
-pub frees_none_listed : (tx : Transaction) (op : Operation) → IsTrue (is_known op) → frees_listed tx op ≡ false
-frees_none_listed tx (Free id) known = absurd (false≢true known)
-frees_none_listed tx op known = refl
+pub frees_none_listed : (tx : Transaction) (op : Operation) → is_free op ≡ false → frees_listed tx op ≡ false
+frees_none_listed tx (Free id) other = absurd (false≢true (sym other))
+frees_none_listed tx op other = refl
 
-pub frees_none_unlocked : (tx : Transaction) (op : Operation) → IsTrue (is_known op) → frees_unlocked tx op ≡ false
-frees_none_unlocked tx (Free id) known = absurd (false≢true known)
-frees_none_unlocked tx op known = refl
+pub frees_none_unlocked : (tx : Transaction) (op : Operation) → is_free op ≡ false → frees_unlocked tx op ≡ false
+frees_none_unlocked tx (Free id) other = absurd (false≢true (sym other))
+frees_none_unlocked tx op other = refl
 
 -- an object that an access finds held is held
 pub held_object : (tx : Transaction) (write : Bool) (id : Oid) → is_not_held tx write id ≡ false → holds_object tx id.off write ≡ true
@@ -115,15 +114,15 @@ same_published tx objects before root true same held = same_ends tx objects tx.a
 same_published tx objects before root false same held = refl
 
 -- objects that are the same wherever one is held have the same first refusal
-pub same_refusal : (seen : Seen) (tx : Transaction) (op : Operation) (objects before : Objects) (root : Option ℕ) → IsTrue (is_known op)
+pub same_refusal : (seen : Seen) (tx : Transaction) (op : Operation) (objects before : Objects) (root : Option ℕ) → is_free op ≡ false
     → ((off : ℕ) → holds_object tx off false ≡ true → object_at objects off ≡ object_at tx.pool.objects off)
     → first_refusal seen (over tx objects before root) op ≡ first_refusal seen tx op
 unfolding first_refusal first_row rows
-same_refusal seen tx op objects before root known same =
+same_refusal seen tx op objects before root no_free same =
     let other_tx : Transaction = over tx objects before root in
     (λ i. first_row (rows seen tx op (is_not_locked tx op)
-    ((frees_no_root other_tx op known ∙ sym (frees_no_root tx op known)) i)
-    ((frees_none_listed other_tx op known ∙ sym (frees_none_listed tx op known)) i) (passes_end other_tx op)))
+    ((frees_no_root other_tx op no_free ∙ sym (frees_no_root tx op no_free)) i)
+    ((frees_none_listed other_tx op no_free ∙ sym (frees_none_listed tx op no_free)) i) (passes_end other_tx op)))
     ∙ end_under_lock seen tx op (is_not_locked tx op) (frees_root tx op) (frees_listed tx op) (passes_end other_tx op) (passes_end tx op)
     (λ held.
     let both = or_parts (publishes_unlocked tx op || frees_unlocked tx op) (option_map_or (is_lock_missing tx (needs_write op)) (range_of op) false) held in
@@ -174,3 +173,29 @@ passed_missing seen tx op none =
     let passed : NonePasses (λ (check : Refusal × Bool). check.1) (checks seen tx op) =
     none_passes (λ (check : Refusal × Bool). check.1) (checks seen tx op) (unmapped (λ (check : Refusal × Bool). check.0) found none) in
     passed.1.1.1.1.1.1.1.1.1.1.0
+
+-- an object that is made has a size
+pub passed_size : (seen : Seen) (tx : Transaction) (op : Operation) → first_refusal seen tx op ≡ None → is_bad_size op ≡ false
+unfolding first_refusal NonePasses
+passed_size seen tx op none =
+    let found : Option (Refusal × Bool) = find (λ (check : Refusal × Bool). check.1) (checks seen tx op) in
+    let passed : NonePasses (λ (check : Refusal × Bool). check.1) (checks seen tx op) =
+    none_passes (λ (check : Refusal × Bool). check.1) (checks seen tx op) (unmapped (λ (check : Refusal × Bool). check.0) found none) in
+    passed.1.1.1.1.1.1.0
+
+-- one that is freed is not the root, and neither in a list nor with members
+pub passed_root : (seen : Seen) (tx : Transaction) (op : Operation) → first_refusal seen tx op ≡ None → frees_root tx op ≡ false
+unfolding first_refusal NonePasses
+passed_root seen tx op none =
+    let found : Option (Refusal × Bool) = find (λ (check : Refusal × Bool). check.1) (checks seen tx op) in
+    let passed : NonePasses (λ (check : Refusal × Bool). check.1) (checks seen tx op) =
+    none_passes (λ (check : Refusal × Bool). check.1) (checks seen tx op) (unmapped (λ (check : Refusal × Bool). check.0) found none) in
+    passed.1.1.1.1.1.1.1.1.1.1.1.1.0
+
+pub passed_list : (seen : Seen) (tx : Transaction) (op : Operation) → first_refusal seen tx op ≡ None → frees_listed tx op ≡ false
+unfolding first_refusal NonePasses
+passed_list seen tx op none =
+    let found : Option (Refusal × Bool) = find (λ (check : Refusal × Bool). check.1) (checks seen tx op) in
+    let passed : NonePasses (λ (check : Refusal × Bool). check.1) (checks seen tx op) =
+    none_passes (λ (check : Refusal × Bool). check.1) (checks seen tx op) (unmapped (λ (check : Refusal × Bool). check.0) found none) in
+    passed.1.1.1.1.1.1.1.1.1.1.1.1.1.0

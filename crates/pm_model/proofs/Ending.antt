@@ -1,5 +1,6 @@
 -- How a transaction ends: its error is told by its operations, and with an error it changed nothing.
-use Rattle.std.proofs.Common.{◌≡◌, ◌≢◌, ⊎_elim, ◌⊎◌, inl, inr, ℕ, ◌+◌, List, [], ◌∷◌, ◌++◌, length, Option, Some, None, Bool, true, false, IsTrue, cond, leb, MatchOption, refl, sym, ◌∙◌, ap, subst}
+use Rattle.std.proofs.Common.{◌≡◌, ◌≢◌, ⊎_elim, ◌⊎◌, inl, inr, ℕ, ◌+◌, List, [], ◌∷◌, ◌++◌, length, Option, Some, None, Bool, true, false, IsTrue, cond, eqb, leb, not, MatchOption, refl, sym, ◌∙◌, ap, subst}
+use Rattle.std.specs.List.{filter}
 use Rattle.std.proofs.lemmas.Bool.{false≢true}
 use Rattle.pm_objects.specs.declared.calls.Operation.{Operation}
 use Rattle.pm_objects.specs.declared.calls.Operation.TheVariants.{Begin, AddRange, Write, Free, SetValue, Publish, Cancel, Commit, Abort}
@@ -12,13 +13,14 @@ use Rattle.pm_objects.specs.declared.refusal.Refusal.{Refusal}
 use Rattle.pm_model.specs.Actions.{Action, with_actions}
 use Rattle.pm_model.specs.Outside.{Outside, after_outside, stands_outside}
 use Rattle.pm_model.specs.Transaction.{Transaction, resting, aborted, ended_inner, committed, is_new}
-use Rattle.pm_model.specs.Bytes.{new_words, records_of}
+use Rattle.pm_model.specs.Bytes.{is_among, new_words, records_of}
+use Rattle.pm_model.specs.NewObjects.{pool_without}
 use Rattle.pm_model.specs.Checks.{Range, is_action, first_refusal, words_in}
-use Rattle.pm_model.specs.Answers.{Told, is_known, performed, error_for, after, IsDone, IsRefused}
+use Rattle.pm_model.specs.Answers.{IsDone, IsRefused, IsValue, Told, after, after_reply, allocated, error_for, performed}
 use Rattle.pm_model.specs.Step.{State, Act, RunsOn, RunsFrom, Step, TransactionStep}
 use Rattle.pm_model.specs.Names.{is_refusal}
 use Rattle.pm_model.specs.Shown.{error_by, error_of, is_abort}
-use Rattle.pm_model.proofs.Alike.{after_value, after_refused, done_is_plain}
+use Rattle.pm_model.proofs.Alike.{after_refused, done_cases, done_is_plain}
 
 -- it ended with the error of these operations, and either with none or with the pool as it began
 pub record EndsWith (pool : PoolView) (e : TxErr) (last : Transaction) : Type 0 where
@@ -73,42 +75,62 @@ module _ (pool : PoolView) where
   recorded_whole range tx true whole = whole
   recorded_whole range tx false whole = record { unharmed = whole.unharmed; before = whole.before }
 
-  goes_on : (op : Operation) (reply : Option Value) (told : List Told) (tx last : Transaction) → IsTrue (is_known op) → IsWhole pool tx → is_refusal reply ≡ false
+  -- an object is freed, whether it was made here or not
+  released_whole : (off : ℕ) (tx : Transaction) (made : Bool) → IsWhole pool tx
+      → IsWhole pool (cond made
+      (record tx { pool = pool_without off tx.pool; made = filter (λ other. not (eqb other off)) tx.made; dropped = tx.dropped ++ filter (λ entry. eqb entry.0 off) tx.pool.objects })
+      (record tx { pool = pool_without off tx.pool; freed = tx.freed ++ off ∷ [] }))
+  released_whole off tx true whole = record { unharmed = whole.unharmed; before = whole.before }
+  released_whole off tx false whole = record { unharmed = whole.unharmed; before = whole.before }
+
+  goes_on : (op : Operation) (reply : Option Value) (told : List Told) (tx last : Transaction) → IsWhole pool tx → is_refusal reply ≡ false
       → ((next : Transaction) → IsWhole pool next → RunsOn next told last → EndsWith pool (error_of told) last)
       → RunsOn (performed op tx) told last → EndsWith pool (error_by op reply (error_of told)) last
-  goes_on (Abort errnum) reply told tx last known whole plain rest runs =
+  goes_on (Abort errnum) reply told tx last whole plain rest runs =
       subst (λ (e : TxErr). EndsWith pool e last) (sym (abort_error errnum reply (error_of told) plain)) (ends_aborted (error_for errnum) told tx last whole runs)
-  goes_on Commit reply told tx last known whole plain rest runs =
+  goes_on Commit reply told tx last whole plain rest runs =
       subst (λ (e : TxErr). EndsWith pool e last) (sym (plain_error Commit reply (error_of told) plain refl)) (ends_committed told tx last whole rest (leb tx.level 1) runs)
-  goes_on (Begin wants) reply told tx last known whole plain rest runs =
+  goes_on (Begin wants) reply told tx last whole plain rest runs =
       subst (λ (e : TxErr). EndsWith pool e last) (sym (plain_error (Begin wants) reply (error_of told) plain refl))
       (rest (performed (Begin wants) tx) (record { unharmed = whole.unharmed; before = whole.before }) runs)
-  goes_on (AddRange id off len) reply told tx last known whole plain rest runs =
+  goes_on (AddRange id off len) reply told tx last whole plain rest runs =
       subst (λ (e : TxErr). EndsWith pool e last) (sym (plain_error (AddRange id off len) reply (error_of told) plain refl))
       (rest (performed (AddRange id off len) tx) (recorded_whole (record { id = id; off = off; len = len }) tx (is_new tx id.off) whole) runs)
-  goes_on (Write id off bytes) reply told tx last known whole plain rest runs =
+  goes_on (Write id off bytes) reply told tx last whole plain rest runs =
       subst (λ (e : TxErr). EndsWith pool e last) (sym (plain_error (Write id off bytes) reply (error_of told) plain refl))
       (rest (performed (Write id off bytes) tx) (record { unharmed = whole.unharmed; before = whole.before }) runs)
-  goes_on (Free id) reply told tx last known whole plain rest runs = absurd (false≢true known)
-  goes_on (SetValue id off value) reply told tx last known whole plain rest runs =
+  goes_on (Free id) reply told tx last whole plain rest runs =
+      subst (λ (e : TxErr). EndsWith pool e last) (sym (plain_error (Free id) reply (error_of told) plain refl))
+      (rest (performed (Free id) tx) (released_whole id.off tx (is_among tx.made id.off) whole) runs)
+  goes_on (SetValue id off value) reply told tx last whole plain rest runs =
       subst (λ (e : TxErr). EndsWith pool e last) (sym (plain_error (SetValue id off value) reply (error_of told) plain refl))
       (rest (performed (SetValue id off value) tx) (record { unharmed = whole.unharmed; before = whole.before }) runs)
-  goes_on Publish reply told tx last known whole plain rest runs =
+  goes_on Publish reply told tx last whole plain rest runs =
       subst (λ (e : TxErr). EndsWith pool e last) (sym (plain_error Publish reply (error_of told) plain refl))
       (rest (performed Publish tx) (record { unharmed = whole.unharmed; before = whole.before }) runs)
-  goes_on Cancel reply told tx last known whole plain rest runs =
+  goes_on Cancel reply told tx last whole plain rest runs =
       subst (λ (e : TxErr). EndsWith pool e last) (sym (plain_error Cancel reply (error_of told) plain refl))
       (rest (performed Cancel tx) (record { unharmed = whole.unharmed; before = whole.before }) runs)
-  goes_on op reply told tx last known whole plain rest runs =
+  goes_on op reply told tx last whole plain rest runs =
       subst (λ (e : TxErr). EndsWith pool e last) (sym (plain_error op reply (error_of told) plain refl)) (rest tx whole runs)
 
-  ends_by : (t : Told) (told : List Told) (tx last : Transaction) → IsTrue (is_known t.operation) → IsWhole pool tx → (fr : Option Refusal) → MatchOption fr (IsDone tx t.operation t.reply) (λ r. IsRefused r t.reply)
+  -- an operation that is done goes on
+  goes_on_done : (op : Operation) (reply : Option Value) (told : List Told) (tx last : Transaction) → IsWhole pool tx → IsValue tx op reply
+      → ((next : Transaction) → IsWhole pool next → RunsOn next told last → EndsWith pool (error_of told) last)
+      → RunsOn (after_reply op reply tx) told last → EndsWith pool (error_by op reply (error_of told)) last
+  goes_on_done op reply told tx last whole value rest =
+      let plain : is_refusal reply ≡ false = done_is_plain tx op reply value in
+      done_cases (λ (next : Transaction). RunsOn next told last → EndsWith pool (error_by op reply (error_of told)) last) op reply tx value
+      (λ other runs. goes_on op reply told tx last whole plain rest runs)
+      (λ size kind off is place runs.
+      subst (λ (e : TxErr). EndsWith pool e last) (sym (plain_error op reply (error_of told) plain (ap is_abort is)))
+      (rest (allocated off size kind tx) (record { unharmed = whole.unharmed; before = whole.before }) runs))
+
+  ends_by : (t : Told) (told : List Told) (tx last : Transaction) → IsWhole pool tx → (fr : Option Refusal) → MatchOption fr (IsDone tx t.operation t.reply) (λ r. IsRefused r t.reply)
       → ((next : Transaction) → IsWhole pool next → RunsOn next told last → EndsWith pool (error_of told) last) → RunsOn (after t tx) told last → EndsWith pool (error_of (t ∷ told)) last
   unfolding error_of
-  ends_by t told tx last known whole None done rest runs =
-      let plain : is_refusal t.reply ≡ false = done_is_plain tx t.operation t.reply known done.value in
-      goes_on t.operation t.reply told tx last known whole plain rest (subst (λ (o : Transaction). RunsOn o told last) (after_value t.operation t.reply tx known plain) runs)
-  ends_by t told tx last known whole (Some r) is rest runs =
+  ends_by t told tx last whole None done rest runs = goes_on_done t.operation t.reply told tx last whole done.value rest runs
+  ends_by t told tx last whole (Some r) is rest runs =
       subst (λ (e : TxErr). EndsWith pool e last) (sym (refused_error t.operation t.reply (error_of told) r is))
       (by_action (is_action t.operation) (subst (λ (o : Transaction). RunsOn o told last) (after_refused t.operation t.reply tx r is) runs)) where
         by_action : (b : Bool) → RunsOn (cond b tx (aborted (error.Refused r) tx)) told last → EndsWith pool (cond b (error_of told) (error.Refused r)) last
@@ -119,14 +141,14 @@ module _ (pool : PoolView) where
   unfolding RunsOn error_of
   runs_on_end [] tx last whole runs = let e : last.error ≡ error.None = ap (λ (t : Transaction). t.error) runs.1 ∙ whole.unharmed in record { is = e; change = inl e }
   runs_on_end (t ∷ told) tx last whole runs =
-      ends_by t told tx last runs.1.known whole (first_refusal runs.1.seen tx t.operation) runs.1.answer (λ next still rest. runs_on_end told next last still rest) runs.2
+      ends_by t told tx last whole (first_refusal runs.1.seen tx t.operation) runs.1.answer (λ next still rest. runs_on_end told next last still rest) runs.2
 
 -- the end of a transaction
 pub runs_end : (pool : PoolView) (actions : List Action) (told : List Told) (last : Transaction) → RunsFrom (resting pool actions) told last → EndsWith pool (error_of told) last
 unfolding RunsFrom
 runs_end pool actions [] last runs = absurd runs
 runs_end pool actions (t ∷ told) last runs =
-    ends_by pool t told (resting pool actions) last runs.0.known (record { unharmed = refl; before = refl }) (first_refusal runs.0.seen (resting pool actions) t.operation) runs.0.answer
+    ends_by pool t told (resting pool actions) last (record { unharmed = refl; before = refl }) (first_refusal runs.0.seen (resting pool actions) t.operation) runs.0.answer
     (λ next still rest. runs_on_end pool told next last still rest) runs.1
 
 -- an operation outside of a transaction that is told as an error left the pool

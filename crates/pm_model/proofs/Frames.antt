@@ -13,12 +13,12 @@ use Rattle.pm_model.specs.Outside.{AnswersOutside, Outside, after_outside, wants
 use Rattle.pm_model.specs.Transaction.{Transaction, resting}
 use Rattle.pm_model.specs.Answers.{Told, after, Answers}
 use Rattle.pm_model.specs.Step.{State, Act, RunsOn, RunsFrom, Step, TransactionStep, OutsideStep, with_pending}
-use Rattle.pm_model.specs.Names.{Name, content, IsMap, is_missed, is_wanted, named_by, wants_taken, locks, writes, touches, IsFramedCall}
+use Rattle.pm_model.specs.Names.{Name, content, IsMap, is_missed, is_wanted, keeps_blocks, named_by, wants_taken, locks, writes, touches, IsFramedCall}
 use Rattle.pm_model.specs.Names.Name.{Fixed, RootOffset, ObjectAt, ActionsOf}
 use Rattle.pm_model.specs.Names.Content.{FixedIs, RootIs, ObjectIs, ActionsAre}
 use Rattle.pm_model.proofs.Objects.{same_objects}
 use Rattle.pm_model.proofs.Locking.{is_wanted_to_read}
-use Rattle.pm_model.proofs.Alike.{TakesWithin, Alike, step_alike, runs_alike, takes_rest}
+use Rattle.pm_model.proofs.Alike.{Alike, KeepBlocks, TakesWithin, keep_first, keep_rest, runs_alike, step_alike, takes_rest}
 use Rattle.pm_model.proofs.Kept.{IsChangedIn, run_keeps}
 use Rattle.pm_model.proofs.OutsideCalls.{answers_there, left_actions, left_alike, outside_changed}
 
@@ -41,11 +41,11 @@ named_locked act off write w =
     list_any-append asks (named_by act.actions act.told) (wants_taken act.told) ∙ or_left (list_any asks (named_by act.actions act.told)) (list_any asks (wants_taken act.told)) w
 
 -- a call changes the objects alone that it locks for writing
-pub call_changed : (act : Act) (s t : State) → Step s act t → IsChangedIn (λ off. locks act off true) s.pool t.pool
-call_changed act s t (inl step) =
+pub call_changed : (act : Act) (s t : State) → keeps_blocks act ≡ true → Step s act t → IsChangedIn (λ off. locks act off true) s.pool t.pool
+call_changed act s t keep (inl step) =
     subst (IsChangedIn (λ off. locks act off true) s.pool) (sym (ap (λ (v : State). v.pool) step.leaves.leaves))
-    (run_keeps (λ off. locks act off true) s.pool act.actions act.told step.last (λ off w. taken_locked act off true w) step.runs)
-call_changed act s t (inr step) = outside_changed act s t step
+    (run_keeps (λ off. locks act off true) s.pool act.actions act.told step.last keep (λ off w. taken_locked act off true w) step.runs)
+call_changed act s t keep (inr step) = outside_changed act s t step
 
 other_lane : (actions : ℕ → List Action) (lane k : ℕ) (pending : List Action) → eqb k lane ≡ false → with_pending actions lane pending k ≡ actions k
 other_lane actions lane k pending other = ap (λ (b : Bool). cond b pending (actions k)) other
@@ -59,11 +59,11 @@ kept_actions act s t (inl step) k other = ap (λ (v : State). v.actions k) step.
 kept_actions act s t (inr step) k other =
     ap (λ (v : State). v.actions k) step.leaves.leaves ∙ other_lane s.actions act.lane k (after_outside step.operation step.reply (record { pool = s.pool; actions = act.actions })).actions other
 
-pub keeps : (act : Act) (s t : State) → Step s act t → (n : Name) → writes act n ≡ false → content t n ≡ content s n
-keeps act s t step Fixed none = ap (λ (p : PoolView). FixedIs p.id p.name p.lanes p.zones) (call_changed act s t step).else
-keeps act s t step RootOffset none = ap (λ (p : PoolView). RootIs p.root) (call_changed act s t step).else
-keeps act s t step (ObjectAt off) none = ap ObjectIs ((call_changed act s t step).outside off none)
-keeps act s t step (ActionsOf lane) none = ap ActionsAre (kept_actions act s t step lane none)
+pub keeps : (act : Act) (s t : State) → keeps_blocks act ≡ true → Step s act t → (n : Name) → writes act n ≡ false → content t n ≡ content s n
+keeps act s t keep step Fixed none = ap (λ (p : PoolView). FixedIs p.id p.name p.lanes p.zones) (call_changed act s t keep step).else
+keeps act s t keep step RootOffset none = ap (λ (p : PoolView). RootIs p.root) (call_changed act s t keep step).else
+keeps act s t keep step (ObjectAt off) none = ap ObjectIs ((call_changed act s t keep step).outside off none)
+keeps act s t keep step (ActionsOf lane) none = ap ActionsAre (kept_actions act s t step lane none)
 
 -- a pool that is the other but for its objects and its root
 same_fixed : (p q : PoolView) → FixedIs q.id q.name q.lanes q.zones ≡ FixedIs p.id p.name p.lanes p.zones → q ≡ record p { objects = q.objects; root = q.root }
@@ -80,12 +80,12 @@ same_object one other same = cc
 same_actions : (one other : List Action) → ActionsAre one ≡ ActionsAre other → one ≡ other
 same_actions one other same = cc
 
-runs_from : (T : ℕ → Bool) (actions : List Action) (told : List Told) (pool other : PoolView) (last : Transaction) → TakesWithin T false told → other ≡ record pool { objects = other.objects; root = other.root }
+runs_from : (T : ℕ → Bool) (actions : List Action) (told : List Told) (pool other : PoolView) (last : Transaction) → KeepBlocks told → TakesWithin T false told → other ≡ record pool { objects = other.objects; root = other.root }
     → ((off : ℕ) → T off ≡ true → object_at other.objects off ≡ object_at pool.objects off) → RunsFrom (resting pool actions) told last
     → (end : Transaction) × RunsFrom (resting other actions) told end × Alike T other.root last end
 unfolding RunsFrom
-runs_from T actions [] pool other last within fixed same runs = absurd runs
-runs_from T actions (t ∷ told) pool other last within fixed same runs =
+runs_from T actions [] pool other last keep within fixed same runs = absurd runs
+runs_from T actions (t ∷ told) pool other last keep within fixed same runs =
     let start : Alike T other.root (resting pool actions) (resting other actions) = record {
       objects = other.objects;
       before = other.objects;
@@ -95,9 +95,9 @@ runs_from T actions (t ∷ told) pool other last within fixed same runs =
       held = λ off h. absurd (false≢true h);
     } in
     let next : Answers (resting other actions) t.operation t.reply × Alike T other.root (after t (resting pool actions)) (after t (resting other actions)) =
-    step_alike T other.root t told (resting pool actions) (resting other actions) within start runs.0 in
+    step_alike T other.root t told (resting pool actions) (resting other actions) (keep_first t told keep) within start runs.0 in
     let rest : (end : Transaction) × RunsOn (after t (resting other actions)) told end × Alike T other.root last end =
-    runs_alike T other.root told (after t (resting pool actions)) (after t (resting other actions)) last (takes_rest T false t told within) next.1 runs.1 in
+    runs_alike T other.root told (after t (resting pool actions)) (after t (resting other actions)) last (keep_rest t told keep) (takes_rest T false t told within) next.1 runs.1 in
     (rest.0, (next.0, rest.1), rest.2)
 
 -- what the transaction writes is the same after both runs
@@ -129,16 +129,16 @@ same_left act s t other step left objects actions (ActionsOf lane) w =
 same_pending : (act : Act) (s other : State) → ((n : Name) → touches act n ≡ true → content other n ≡ content s n) → s.actions act.lane ≡ act.actions → other.actions act.lane ≡ act.actions
 same_pending act s other same pending = same_actions (other.actions act.lane) (s.actions act.lane) (same (ActionsOf act.lane) (eq-eqb act.lane act.lane refl)) ∙ pending
 
-pub local : (act : Act) (s t other : State) → Step s act t → ((n : Name) → touches act n ≡ true → content other n ≡ content s n)
+pub local : (act : Act) (s t other : State) → keeps_blocks act ≡ true → Step s act t → ((n : Name) → touches act n ≡ true → content other n ≡ content s n)
     → (next : State) × Step other act next × ((n : Name) → writes act n ≡ true → content next n ≡ content t n)
-local act s t other (inl step) same =
+local act s t other keep (inl step) same =
     let T : ℕ → Bool = λ off. locks act off false in
     let run : (end : Transaction) × RunsFrom (resting other.pool act.actions) act.told end × Alike T other.pool.root step.last end =
-    runs_from T act.actions act.told s.pool other.pool step.last (λ off w. taken_locked act off false w) (same_fixed s.pool other.pool (same Fixed refl))
+    runs_from T act.actions act.told s.pool other.pool step.last keep (λ off w. taken_locked act off false w) (same_fixed s.pool other.pool (same Fixed refl))
     (λ off touch. same_object (object_at other.pool.objects off) (object_at s.pool.objects off) (same (ObjectAt off) touch)) step.runs in
     let next : State = record { pool = run.0.pool; actions = with_pending other.actions act.lane run.0.actions } in
     (next, inl (record { last = run.0; runs = run.1; leaves = record { pending = same_pending act s other same step.leaves.pending; leaves = refl } }), same_written act s t other step other.pool.root run.0 run.2)
-local act s t other (inr step) same =
+local act s t other keep (inr step) same =
     let fixed : other.pool ≡ record s.pool { objects = other.pool.objects; root = other.pool.root } = same_fixed s.pool other.pool (same Fixed refl) in
     let there : Outside = record { pool = record s.pool { objects = other.pool.objects; root = other.pool.root }; actions = act.actions } in
     let named : is_missed step.reply ≡ false → (off : ℕ) → is_wanted (wants_outside step.operation act.actions) off false ≡ true → object_at other.pool.objects off ≡ object_at s.pool.objects off = λ found off w.
@@ -163,12 +163,12 @@ local act s t other (inr step) same =
           (ap (λ (o : Outside). o.actions) left_there ∙ left_actions step.operation step.reply s.pool other.pool.objects other.pool.root act.actions named step.reply),
     )
 
-pub framed : (act : Act) → IsFramedCall act
-framed act = record { keeps = keeps act; local = local act }
+pub framed : (act : Act) → keeps_blocks act ≡ true → IsFramedCall act
+framed act keep = record { keeps = λ s t. keeps act s t keep; local = λ s t other. local act s t other keep }
 
 -- a call leaves a map a map
-pub keeps_map : (s t : State) (act : Act) → Step s act t → IsMap s → IsMap t
-keeps_map s t act step is = subst (λ (keys : List ℕ). IsStrictlyIncreasing keys) (sym (call_changed act s t step).places) is
+pub keeps_map : (s t : State) (act : Act) → keeps_blocks act ≡ true → Step s act t → IsMap s → IsMap t
+keeps_map s t act keep step is = subst (λ (keys : List ℕ). IsStrictlyIncreasing keys) (sym (call_changed act s t keep step).places) is
 
 same_root : (one other : Option ℕ) → RootIs one ≡ RootIs other → one ≡ other
 same_root one other same = cc

@@ -1,5 +1,5 @@
 -- A transaction keeps all but the objects that it locks for writing.
-use Rattle.std.proofs.Common.{◌≡◌, ⊎_elim, IsTrue, ℕ, ◌+◌, ◌/◌, ◌%◌, ◌^◌, ◌≤◌, All, List, [], ◌∷◌, ◌++◌, length, map, Some, Bool, true, false, cond, eqb, leb, ltb, ◌||◌, refl, sym, ◌∙◌, ap, arith}
+use Rattle.std.proofs.Common.{◌≡◌, ⊎_elim, ℕ, ◌+◌, ◌/◌, ◌%◌, ◌^◌, ◌≤◌, All, List, [], ◌∷◌, ◌++◌, length, map, Some, Bool, true, false, cond, eqb, leb, ltb, ◌||◌, refl, sym, ◌∙◌, ap, subst, arith}
 use Rattle.std.specs.List.{list_any}
 use Rattle.std.specs.Option.{option_map, option_map_or}
 use Rattle.std.proofs.lemmas.Bool.{cases_Bool, false≢true, ne_eqb, or_parts, or_right, ltb-false}
@@ -16,14 +16,14 @@ use Rattle.pm_model.specs.Actions.{Action, all_performed, end_of, number_bytes, 
 use Rattle.pm_model.specs.Actions.Action.{SetWord}
 use Rattle.pm_model.specs.Transaction.{Transaction, resting, aborted, ended_inner, committed, is_locked, is_new, holds_object}
 use Rattle.pm_model.specs.Bytes.{put_object, with_bytes, bytes_of, new_words, records_of}
-use Rattle.pm_model.specs.Checks.{Range, wants_of, words_in, is_not_locked, is_unlocked_action, passes_end}
-use Rattle.pm_model.specs.Answers.{Told, is_known, error_for, performed, after, Answers}
+use Rattle.pm_model.specs.Checks.{Range, wants_of, words_in, is_free, is_not_locked, is_unlocked_action, passes_end}
+use Rattle.pm_model.specs.Answers.{Told, error_for, performed, after, Answers}
 use Rattle.pm_model.specs.Step.{RunsFrom}
-use Rattle.pm_model.specs.Names.{is_wanted}
+use Rattle.pm_model.specs.Names.{changes_blocks, is_refusal, is_wanted}
 use Rattle.pm_model.proofs.Objects.{object_at-put, offsets-put, size_of, sizes-put, members-put}
 use Rattle.pm_model.proofs.Locking.{held_from}
 use Rattle.pm_model.proofs.Asked.{action_held, held_object, passed_lock, passed_end}
-use Rattle.pm_model.proofs.Alike.{TakesWithin, takes_first, takes_rest, done_is_plain}
+use Rattle.pm_model.proofs.Alike.{KeepBlocks, TakesWithin, after_value, done_is_plain, keep_first, keep_rest, no_alloc, no_free, takes_first, takes_rest}
 use Rattle.pm_model.proofs.Running.{after_cases, runs_keep}
 
 -- a pool is the other but for its objects, which have the same offsets, sizes and lists and are the same outside W
@@ -81,7 +81,7 @@ put_changed W from pool changed off at bytes inside fits = record {
   members = members-put off at bytes pool.objects ∙ changed.members;
 }
 
-eight_bytes : (value : ℕ) → length (number_bytes value) ≡ 8
+pub eight_bytes : (value : ℕ) → length (number_bytes value) ≡ 8
 eight_bytes value = length-map-range_with_len (λ j. value / 256 ^ j % 256) 0 8
 
 -- what actions make of a pool
@@ -132,19 +132,19 @@ module _ (W : ℕ → Bool) (from : PoolView) (tx : Transaction) (keeps : Keeps 
   recorded_keeps range true = keeps
   recorded_keeps range false = record { now = keeps.now; at_start = keeps.at_start; held = keeps.held; moved = keeps.moved }
 
-  performed_keeps : (op : Operation) → IsTrue (is_known op) → is_not_locked tx op ≡ false → passes_end tx op ≡ false → ((off : ℕ) → is_wanted (wants_of op) off true ≡ true → W off ≡ true) → Keeps W from (performed op tx)
-  performed_keeps (Begin wants) known locked ends within = record {
+  performed_keeps : (op : Operation) → is_free op ≡ false → is_not_locked tx op ≡ false → passes_end tx op ≡ false → ((off : ℕ) → is_wanted (wants_of op) off true ≡ true → W off ≡ true) → Keeps W from (performed op tx)
+  performed_keeps (Begin wants) no_free locked ends within = record {
     now = keeps.now;
     at_start = keeps.at_start;
     held = λ off h. ⊎_elim (λ (w : is_wanted wants off true ≡ true). within off w) (λ (old : holds_object tx off true ≡ true). keeps.held off old) (held_from wants tx off true h);
     moved = keeps.moved;
   }
-  performed_keeps (AddRange id off len) known locked ends within = recorded_keeps (record { id = id; off = off; len = len }) (is_new tx id.off)
-  performed_keeps (Write id off bytes) known locked ends within =
+  performed_keeps (AddRange id off len) no_free locked ends within = recorded_keeps (record { id = id; off = off; len = len }) (is_new tx id.off)
+  performed_keeps (Write id off bytes) no_free locked ends within =
       let lock : holds_object tx id.off true ≡ true = held_object tx true id locked in
       record { now = put_keeps id.off off bytes (keeps.held id.off lock) (ltb-false (length (bytes_of tx.pool.objects id.off)) (off + length bytes) ends); at_start = keeps.at_start; held = keeps.held; moved = keeps.moved }
-  performed_keeps (SetValue id off value) known locked ends within = record { now = keeps.now; at_start = keeps.at_start; held = keeps.held; moved = keeps.moved }
-  performed_keeps Publish known locked ends within =
+  performed_keeps (SetValue id off value) no_free locked ends within = record { now = keeps.now; at_start = keeps.at_start; held = keeps.held; moved = keeps.moved }
+  performed_keeps Publish no_free locked ends within =
       let l : list_any (is_unlocked_action tx) tx.actions ≡ false =
       (or_parts (list_any (is_unlocked_action tx) tx.actions) false (or_parts (list_any (is_unlocked_action tx) tx.actions || false) false locked).0).0 in
       let e : list_any (passes_object tx.pool.objects) tx.actions ≡ false = (or_parts (list_any (passes_object tx.pool.objects) tx.actions) false ends).0 in
@@ -154,26 +154,32 @@ module _ (W : ℕ → Bool) (from : PoolView) (tx : Transaction) (keeps : Keeps 
         held = keeps.held;
         moved = All-append (MayPerform W from) tx.moved tx.actions keeps.moved (published_within W from tx keeps.now keeps.held tx.actions l e);
       }
-  performed_keeps Cancel known locked ends within = record { now = keeps.now; at_start = keeps.at_start; held = keeps.held; moved = keeps.moved }
-  performed_keeps (Free id) known locked ends within = absurd (false≢true known)
-  performed_keeps Commit known locked ends within = end_keeps (leb tx.level 1)
-  performed_keeps (Abort errnum) known locked ends within = abort_keeps (error_for errnum)
-  performed_keeps op known locked ends within = keeps
+  performed_keeps Cancel no_free locked ends within = record { now = keeps.now; at_start = keeps.at_start; held = keeps.held; moved = keeps.moved }
+  performed_keeps (Free id) no_free locked ends within = absurd (false≢true (sym no_free))
+  performed_keeps Commit no_free locked ends within = end_keeps (leb tx.level 1)
+  performed_keeps (Abort errnum) no_free locked ends within = abort_keeps (error_for errnum)
+  performed_keeps op no_free locked ends within = keeps
 
 abbrev StillKeeps : (W : ℕ → Bool) → PoolView → List Told → Transaction → Type 0
-StillKeeps W from told tx = TakesWithin W true told × Keeps W from tx
+StillKeeps W from told tx = KeepBlocks told × TakesWithin W true told × Keeps W from tx
 
 after_keeps : (W : ℕ → Bool) (from : PoolView) (t : Told) (told : List Told) (tx : Transaction) → Answers tx t.operation t.reply
     → StillKeeps W from (t ∷ told) tx → StillKeeps W from told (after t tx)
-after_keeps W from t told tx answers holds = (
-  takes_rest W true t told holds.0,
-  after_cases (Keeps W from) t tx answers holds.1
-      (λ seen none done. performed_keeps W from tx holds.1 t.operation answers.known (passed_lock seen tx t.operation none) (passed_end seen tx t.operation none)
-      (takes_first W true t told holds.0 (done_is_plain tx t.operation t.reply answers.known done.value)))
-      (λ r. abort_keeps W from tx holds.1 (error.Refused r)),
-)
+after_keeps W from t told tx answers holds =
+    let keeps : changes_blocks t.operation t.reply ≡ false = keep_first t told holds.0 in (
+      keep_rest t told holds.0,
+      takes_rest W true t told holds.1,
+      after_cases (Keeps W from) t tx answers holds.2
+          (λ seen none done.
+          let plain : is_refusal t.reply ≡ false = done_is_plain tx t.operation t.reply done.value in
+          subst (Keeps W from) (sym (after_value t.operation t.reply tx (no_alloc t.operation t.reply keeps plain) plain))
+          (performed_keeps W from tx holds.2 t.operation (no_free t.operation t.reply keeps) (passed_lock seen tx t.operation none) (passed_end seen tx t.operation none)
+          (takes_first W true t told holds.1 plain)))
+          (λ r. abort_keeps W from tx holds.2 (error.Refused r)),
+    )
 
 -- the pool at the end is the one at the start, but for objects in W
-pub run_keeps : (W : ℕ → Bool) (from : PoolView) (actions : List Action) (told : List Told) (last : Transaction) → TakesWithin W true told → RunsFrom (resting from actions) told last → IsChangedIn W from last.pool
-run_keeps W from actions told last within runs =
-    (runs_keep (StillKeeps W from) (after_keeps W from) told (resting from actions) last runs (within, keeps_at_rest W from actions)).1.now
+pub run_keeps : (W : ℕ → Bool) (from : PoolView) (actions : List Action) (told : List Told) (last : Transaction) → KeepBlocks told → TakesWithin W true told → RunsFrom (resting from actions) told last
+    → IsChangedIn W from last.pool
+run_keeps W from actions told last keep within runs =
+    (runs_keep (StillKeeps W from) (after_keeps W from) told (resting from actions) last runs (keep, within, keeps_at_rest W from actions)).2.now

@@ -10,6 +10,9 @@ pub mod Kept
 pub mod Frames
 pub mod Replaying
 pub mod Ending
+pub mod Made
+pub mod Blocks
+pub mod PoolsMade
 pub mod Pools
 pub mod Aloneness
 pub mod Beginning

@@ -2,6 +2,7 @@
 use Rattle.std.proofs.Common.{◌≡◌, inl, inr, List, [], ◌∷◌, Option, MatchOption, Bool, true, not, sym, ◌∙◌, ap, subst}
 use Rattle.std.specs.List.{filter}
 use Rattle.std.proofs.lemmas.Bool.{false≢true}
+use Rattle.std.proofs.lemmas.List.Elements.{All-head, All-tail}
 use Rattle.pm_objects.specs.declared.calls.Operation.{Operation}
 use Rattle.pm_objects.specs.declared.calls.Operation.TheVariants.{SetValue, Publish, Cancel}
 use Rattle.pm_objects.specs.declared.history.Value.{Value}
@@ -12,24 +13,60 @@ use Rattle.pm_model.specs.Checks.{Seen, first_refusal}
 use Rattle.pm_model.specs.Outside.{Outside, after_outside, stands_outside}
 use Rattle.pm_model.specs.Step.{State, Act, OutsideStep, RunsFrom, Step, TransactionStep, with_pending}
 use Rattle.pm_model.specs.Transaction.{Transaction, resting}
-use Rattle.pm_model.specs.Framed.{MayBeLeftOut, IsUnwritten}
-use Rattle.pm_model.specs.Names.{Name, content, IsMap, writes, touches, Apart, ApartFromAll, Replays}
+use Rattle.pm_model.specs.Framed.{Follows, IsFramed, IsUnwritten, MayBeLeftOut}
+use Rattle.pm_model.specs.Names.{AllKeepBlocks, Apart, ApartFromAll, IsMap, Name, Replays, content, keeps_blocks, touches, writes}
 use Rattle.pm_model.proofs.Changing as changing
 use Rattle.pm_model.proofs.Frames.{framed, touched, keeps_map, same_state}
 use Rattle.pm_model.proofs.Running.{one_end}
 
-pub change_places : (a b : Act) (s t u : State) → IsMap s → Apart a b → Step s a t → Step t b u → (m : State) × Step s b m × Step m a u
-change_places = changing.swapped content Step writes touches IsMap framed touched (λ s t a step is. keeps_map s t a step is) same_state
+-- the call keeps every block, and turns one state into the other
+abbrev KeepingStep : State → Act → State → Type 0
+KeepingStep s act t = (keeps_blocks act ≡ true) × Step s act t
 
-pub come_last : (a : Act) (calls : List Act) (s t u : State) → IsMap s → ApartFromAll a calls → Step s a t → Replays t calls u → (m : State) × Replays s calls m × Step m a u
-come_last = changing.comes_last content Step writes touches IsMap framed touched (λ s t a step is. keeps_map s t a step is) same_state
+keeping_framed : (act : Act) → IsFramed content KeepingStep writes touches act
+keeping_framed act = record {
+  keeps = λ s t step. (framed act step.0).keeps s t step.1;
+  local = λ s t other step same. let next = (framed act step.0).local s t other step.1 same in (next.0, (step.0, next.1), next.2);
+}
 
-pub stand_earlier : (a : Act) (calls : List Act) (s m u : State) → IsMap s → ApartFromAll a calls → Replays s calls m → Step m a u → (t : State) × Step s a t × Replays t calls u
-stand_earlier = changing.comes_first content Step writes touches IsMap framed touched (λ s t a step is. keeps_map s t a step is) same_state
+keeping_map : (s t : State) (act : Act) → KeepingStep s act t → IsMap s → IsMap t
+keeping_map s t act step is = keeps_map s t act step.0 step.1 is
 
-pub leave_out : (left_out : Act → Bool) (calls : List Act) (s u : State) → IsMap s → MayBeLeftOut writes touches left_out calls → Replays s calls u
+-- calls that keep every block replay so, and back
+all_keeping : (calls : List Act) (s t : State) → AllKeepBlocks calls → Replays s calls t → Follows KeepingStep s calls t
+all_keeping [] s t keep replays = replays
+all_keeping (a ∷ calls) s t keep replays = (
+  replays.0,
+  (All-head (λ (act : Act). keeps_blocks act ≡ true) a calls keep, replays.1),
+  all_keeping calls replays.0 t (All-tail (λ (act : Act). keeps_blocks act ≡ true) a calls keep) replays.2,
+)
+
+replays_so : (calls : List Act) (s t : State) → Follows KeepingStep s calls t → Replays s calls t
+replays_so [] s t follows = follows
+replays_so (a ∷ calls) s t follows = (follows.0, follows.1.1, replays_so calls follows.0 t follows.2)
+
+pub change_places : (a b : Act) (s t u : State) → keeps_blocks a ≡ true → keeps_blocks b ≡ true → IsMap s → Apart a b → Step s a t → Step t b u → (m : State) × Step s b m × Step m a u
+change_places a b s t u keep_a keep_b is apart one two =
+    let swap = changing.swapped content KeepingStep writes touches IsMap keeping_framed touched keeping_map same_state a b s t u is apart (keep_a, one) (keep_b, two) in
+    (swap.0, swap.1.1, swap.2.1)
+
+pub come_last : (a : Act) (calls : List Act) (s t u : State) → keeps_blocks a ≡ true → AllKeepBlocks calls → IsMap s → ApartFromAll a calls → Step s a t → Replays t calls u
+    → (m : State) × Replays s calls m × Step m a u
+come_last a calls s t u keep all is apart one rest =
+    let last = changing.comes_last content KeepingStep writes touches IsMap keeping_framed touched keeping_map same_state a calls s t u is apart (keep, one) (all_keeping calls t u all rest) in
+    (last.0, replays_so calls s last.0 last.1, last.2.1)
+
+pub stand_earlier : (a : Act) (calls : List Act) (s m u : State) → keeps_blocks a ≡ true → AllKeepBlocks calls → IsMap s → ApartFromAll a calls → Replays s calls m → Step m a u
+    → (t : State) × Step s a t × Replays t calls u
+stand_earlier a calls s m u keep all is apart before one =
+    let first = changing.comes_first content KeepingStep writes touches IsMap keeping_framed touched keeping_map same_state a calls s m u is apart (all_keeping calls s m all before) (keep, one) in
+    (first.0, first.1.1, replays_so calls first.0 u first.2)
+
+pub leave_out : (left_out : Act → Bool) (calls : List Act) (s u : State) → AllKeepBlocks calls → IsMap s → MayBeLeftOut writes touches left_out calls → Replays s calls u
     → (m : State) × Replays s (filter (λ a. not (left_out a)) calls) m × ((n : Name) → IsUnwritten writes left_out calls n → content m n ≡ content u n)
-leave_out = changing.leaves_out content Step writes touches IsMap framed touched (λ s t a step is. keeps_map s t a step is) same_state
+leave_out left_out calls s u all is may replays =
+    let rest = changing.leaves_out content KeepingStep writes touches IsMap keeping_framed touched keeping_map same_state left_out calls s u is may (all_keeping calls s u all replays) in
+    (rest.0, replays_so (filter (λ a. not (left_out a)) calls) s rest.0 rest.1, rest.2)
 
 -- what stands outside begins no transaction
 begins_none : (seen : Seen) (pool : PoolView) (actions : List Action) (op : Operation) (reply : Option Value) → stands_outside op ≡ true

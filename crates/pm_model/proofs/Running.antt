@@ -1,26 +1,26 @@
 -- What each answered operation keeps holds to the end of the transaction.
-use Rattle.std.proofs.Common.{◌≡◌, IsTrue, List, [], ◌∷◌, Option, Some, None, MatchOption, Bool, true, false, cond, refl, sym, subst}
+use Rattle.std.proofs.Common.{◌≡◌, List, [], ◌∷◌, Option, Some, None, MatchOption, Bool, true, false, cond, refl, sym, subst}
 use Rattle.pm_objects.specs.declared.history.TxErr.TheVariants as error
 use Rattle.pm_objects.specs.declared.refusal.Refusal.{Refusal}
 use Rattle.pm_model.specs.Transaction.{Transaction, aborted}
 use Rattle.pm_model.specs.Checks.{Seen, is_action, first_refusal}
-use Rattle.pm_model.specs.Answers.{Told, is_known, performed, after, IsDone, IsRefused, Answers}
+use Rattle.pm_model.specs.Answers.{Told, after, IsDone, IsRefused, Answers}
 use Rattle.pm_model.specs.Step.{RunsOn, RunsFrom}
-use Rattle.pm_model.proofs.Alike.{after_value, after_refused, done_is_plain}
+use Rattle.pm_model.proofs.Alike.{after_refused}
 
-cases_match : (J : Transaction → Type 0) (t : Told) (tx : Transaction) → IsTrue (is_known t.operation) → (fr : Option Refusal) → MatchOption fr (IsDone tx t.operation t.reply) (λ r. IsRefused r t.reply)
-    → J tx → (fr ≡ None → IsDone tx t.operation t.reply → J (performed t.operation tx)) → ((r : Refusal) → J (aborted (error.Refused r) tx)) → J (after t tx)
-cases_match J t tx known None done stays performs aborts = subst J (sym (after_value t.operation t.reply tx known (done_is_plain tx t.operation t.reply known done.value))) (performs refl done)
-cases_match J t tx known (Some r) is stays performs aborts = subst J (sym (after_refused t.operation t.reply tx r is)) (by_action (is_action t.operation)) where
+cases_match : (J : Transaction → Type 0) (t : Told) (tx : Transaction) → (fr : Option Refusal) → MatchOption fr (IsDone tx t.operation t.reply) (λ r. IsRefused r t.reply)
+    → J tx → (fr ≡ None → IsDone tx t.operation t.reply → J (after t tx)) → ((r : Refusal) → J (aborted (error.Refused r) tx)) → J (after t tx)
+cases_match J t tx None done stays leaves aborts = leaves refl done
+cases_match J t tx (Some r) is stays leaves aborts = subst J (sym (after_refused t.operation t.reply tx r is)) (by_action (is_action t.operation)) where
   by_action : (b : Bool) → J (cond b tx (aborted (error.Refused r) tx))
   by_action true = stays
   by_action false = aborts r
 
 -- an answered operation is done, changes nothing, or aborts
 pub after_cases : (J : Transaction → Type 0) (t : Told) (tx : Transaction) → Answers tx t.operation t.reply → J tx
-    → ((seen : Seen) → first_refusal seen tx t.operation ≡ None → IsDone tx t.operation t.reply → J (performed t.operation tx))
+    → ((seen : Seen) → first_refusal seen tx t.operation ≡ None → IsDone tx t.operation t.reply → J (after t tx))
     → ((r : Refusal) → J (aborted (error.Refused r) tx)) → J (after t tx)
-after_cases J t tx a stays performs aborts = cases_match J t tx a.known (first_refusal a.seen tx t.operation) a.answer stays (performs a.seen) aborts
+after_cases J t tx a stays leaves aborts = cases_match J t tx (first_refusal a.seen tx t.operation) a.answer stays (leaves a.seen) aborts
 
 -- a fact of what is still to run
 pub runs_on_keep : (I : List Told → Transaction → Type 0) → ((t : Told) (told : List Told) (tx : Transaction) → Answers tx t.operation t.reply → I (t ∷ told) tx → I told (after t tx))

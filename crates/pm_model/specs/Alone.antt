@@ -16,19 +16,19 @@ abbrev pub wants_missing : Transaction → Operation → Bool
 wants_missing tx op =
     list_any (λ (want : Want). not (holds_object tx want.id.off false) && is_none (object_at tx.pool.objects want.id.off)) (wants_of op)
 
--- what it sees; whether its numbers are spent the pool doesn't say. Whether a block is free for a new object a lane alone tells with its
--- calls: no operation that asks for it is known yet
-abbrev pub seen_alone : Bool → Transaction → Operation → Seen
-seen_alone spent tx op = record { spent = spent; busy = false; missing = wants_missing tx op; full = false }
+-- what it sees. Whether its numbers are spent the pool doesn't say, nor whether a block was found free: that depends on words of which the
+-- pool tells nothing
+abbrev pub seen_alone : Bool → Bool → Transaction → Operation → Seen
+seen_alone spent full tx op = record { spent = spent; busy = false; missing = wants_missing tx op; full = full }
 
 -- the refusal of an operation, if any
-abbrev pub refusal_alone : Bool → Transaction → Operation → Option Refusal
-refusal_alone spent tx op = first_refusal (seen_alone spent tx op) tx op
+abbrev pub refusal_alone : Bool → Bool → Transaction → Operation → Option Refusal
+refusal_alone spent full tx op = first_refusal (seen_alone spent full tx op) tx op
 
 abbrev pub reply_by : Option Refusal → Option Value → Option Value
 reply_by None value = value
 reply_by (Some r) value = Some (Refused r)
 
--- its answer: one for each operation
-abbrev pub answer_alone : Bool → Transaction → Operation → Option Value
-answer_alone spent tx op = reply_by (refusal_alone spent tx op) (value_of tx op)
+-- its answer: one for each operation, but for an allocation, whose place is the lane's choice
+abbrev pub answer_alone : Bool → Bool → Transaction → Operation → Option Value
+answer_alone spent full tx op = reply_by (refusal_alone spent full tx op) (value_of tx op)

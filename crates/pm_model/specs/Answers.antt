@@ -24,12 +24,14 @@ pub record Told : Type 0 where
   pub operation : Operation
   pub reply : Option Value
 
--- the operations of transactions that are here so far. Allocations and frees are described, and no call makes them yet
+-- the operations of transactions that are here so far
 abbrev pub is_known : Operation → Bool
 is_known (Begin wants) = true
 is_known (AddRange id off len) = true
 is_known (Write id off bytes) = true
 is_known (Read id off len) = true
+is_known (Alloc size kind) = true
+is_known (Free id) = true
 is_known (SetValue id off value) = true
 is_known Publish = true
 is_known Cancel = true

@@ -66,6 +66,10 @@ abbrev pub is_alloc : Operation → Bool
 is_alloc (Alloc size kind) = true
 is_alloc op = false
 
+abbrev pub is_free : Operation → Bool
+is_free (Free id) = true
+is_free op = false
+
 -- an operation on the pending actions alone: refused, it does not abort the transaction
 abbrev pub is_action : Operation → Bool
 is_action (SetValue id off value) = true

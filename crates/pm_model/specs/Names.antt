@@ -1,15 +1,16 @@
 -- A state read name by name, and which names a call reads and writes.
-use Rattle.std.specs.Prelude.{ℕ, ◌==◌, ◌&&◌, ◌||◌, not, Bool, true, false, if◌then◌else◌, List, [], ◌∷◌, ◌++◌, Option, Some}
-use Rattle.std.specs.List.{list_any}
+use Rattle.std.specs.Prelude.{◌≡◌, ℕ, ◌==◌, ◌&&◌, ◌||◌, not, Bool, true, false, All, if◌then◌else◌, List, [], ◌∷◌, ◌++◌, Option, Some}
+use Rattle.std.specs.List.{list_any, list_all}
 use Rattle.std.specs.List.Sorted.{IsStrictlyIncreasing}
 use Rattle.pm_objects.specs.Pool.{offsets, object_at}
+use Rattle.pm_objects.specs.declared.calls.Operation.{Operation}
 use Rattle.pm_objects.specs.declared.calls.Want.{Want}
 use Rattle.pm_objects.specs.declared.history.Value.{Value}
 use Rattle.pm_objects.specs.declared.history.Value.TheVariants.{Refused}
 use Rattle.pm_objects.specs.declared.pool.Object.{Object}
 use Rattle.pm_objects.specs.declared.refusal.Refusal.TheVariants as refusal
 use Rattle.pm_model.specs.Actions.{Action}
-use Rattle.pm_model.specs.Checks.{wants_of}
+use Rattle.pm_model.specs.Checks.{wants_of, is_alloc, is_free}
 use Rattle.pm_model.specs.Outside.{wants_outside}
 use Rattle.pm_model.specs.Answers.{Told}
 use Rattle.pm_model.specs.Step.{State, Act, Step}
@@ -45,6 +46,19 @@ IsMap s = IsStrictlyIncreasing (offsets s.pool.objects)
 abbrev pub is_refusal : Option Value → Bool
 is_refusal (Some (Refused r)) = true
 is_refusal reply = false
+
+-- the operation with this reply allocated, or is a free: it asks whether blocks overlap, or whether an object is the root or in a list, which
+-- no name tells
+abbrev pub changes_blocks : Operation → Option Value → Bool
+changes_blocks op reply = is_free op || (is_alloc op && not (is_refusal reply))
+
+-- no operation of the call allocated or is a free. One may be an allocation that was refused
+abbrev pub keeps_blocks : Act → Bool
+keeps_blocks act = list_all (λ (t : Told). not (changes_blocks t.operation t.reply)) act.told
+
+-- so each of these calls
+abbrev pub AllKeepBlocks : List Act → Type 0
+AllKeepBlocks calls = All (λ (act : Act). keeps_blocks act ≡ true) calls
 
 -- what the call locked: what its begins wanted. Of a begin that was refused nothing is kept to the call's end
 unfoldable pub wants_taken : List Told → List Want

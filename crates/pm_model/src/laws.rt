@@ -1,47 +1,56 @@
-ghost use Rattle.std.specs.Prelude.{◌≡◌, ◌≢◌, ◌↔◌, ℕ, Bool, true, false, not, IsTrue, List, filter, MatchOption, Some, None};
+ghost use Rattle.std.specs.Prelude.{◌≡◌, ◌≢◌, ◌↔◌, ℕ, Bool, true, false, not, IsTrue, IsSome, List, [], filter, replicate, MatchOption, Some, None};
 ghost use Rattle.std.specs.List.Sorted.{IsStrictlyIncreasing};
 ghost use Rattle.pm_objects.specs.Pool.{object_at, IsPool, Objects, offsets};
 ghost use Rattle.pm_objects.specs.declared.calls.Operation.{Operation};
+ghost use Rattle.pm_objects.specs.declared.calls.Operation.TheVariants as operation;
 ghost use Rattle.pm_objects.specs.declared.history.TxErr.TheVariants as error;
+ghost use Rattle.pm_objects.specs.declared.history.Value.TheVariants.{Offset, Refused};
 ghost use Rattle.pm_objects.specs.declared.pool.Object.{Object};
+ghost use Rattle.pm_objects.specs.declared.refusal.Refusal.{Refusal};
 ghost use Rattle.pm_model.specs.Places.{can_begin, CanBegin};
 ghost use Rattle.pm_model.specs.NewObjects.{with_object, without_object};
-ghost use Rattle.pm_model.specs.Transaction.{Transaction};
-ghost use Rattle.pm_model.specs.Answers.{changes_nothing, is_known, Answers};
+ghost use Rattle.pm_model.specs.Transaction.{Transaction, is_gone, is_new};
+ghost use Rattle.pm_model.specs.Checks.{is_alloc};
+ghost use Rattle.pm_model.specs.Answers.{allocated, changes_nothing, is_known, released, Answers, IsNewPlace};
 ghost use Rattle.pm_model.specs.Step.{State, Act, Step, TransactionStep};
 ghost use Rattle.pm_model.specs.Framed.{MayBeLeftOut, IsUnwritten};
-ghost use Rattle.pm_model.specs.Names.{Name, content, IsMap, writes, touches, IsFramedCall, Apart, ApartFromAll, Replays};
+ghost use Rattle.pm_model.specs.Names.{Name, content, IsMap, keeps_blocks, AllKeepBlocks, writes, touches, IsFramedCall, Apart, ApartFromAll, Replays};
 ghost use Rattle.pm_model.specs.Shown.{error_of};
 ghost use Rattle.pm_model.specs.Alone.{refusal_alone, answer_alone};
 
-/// A law: a call changes only what it writes, and goes alike from each state that has the same where it touches it. No code runs.
+/// A law: a call that keeps every block changes only what it writes, and goes alike from each state that has the same where it touches it. Of a
+/// call that allocates or frees no names say what it reads: a new block overlaps none of the pool, and what is freed is in no list. No code runs.
 pub fn calls_have_parts()
-    ensures { (act : Act) → IsFramedCall act }
+    ensures { (act : Act) → keeps_blocks act ≡ true → IsFramedCall act }
 {}
 
-/// A law: two neighbours that are apart may change places, with all replies kept. No code runs.
+/// A law: two neighbours that are apart may change places, with all replies kept. Both keep every block, since only of such calls names say what
+/// they read. No code runs.
 pub fn apart_calls_change_places()
-    ensures { (a b : Act) (s t u : State) → IsMap s → Apart a b
+    ensures { (a b : Act) (s t u : State) → keeps_blocks a ≡ true → keeps_blocks b ≡ true → IsMap s → Apart a b
         → Step s a t → Step t b u → (m : State) × Step s b m × Step m a u }
 {}
 
-/// A law: a call that is apart from all later ones may come last. No code runs.
+/// A law: a call that is apart from all later ones may come last. All keep every block, since only of such calls names say what they read. No
+/// code runs.
 pub fn apart_calls_come_last()
-    ensures { (a : Act) (calls : List Act) (s t u : State) → IsMap s → ApartFromAll a calls
+    ensures { (a : Act) (calls : List Act) (s t u : State) → keeps_blocks a ≡ true → AllKeepBlocks calls → IsMap s → ApartFromAll a calls
         → Step s a t → Replays t calls u
         → (m : State) × Replays s calls m × Step m a u }
 {}
 
-/// A law: a call that came last stands as well before all those from which it is apart. No code runs.
+/// A law: a call that came last stands as well before all those from which it is apart. All keep every block, since only of such calls names say
+/// what they read. No code runs.
 pub fn late_calls_stand_earlier()
-    ensures { (a : Act) (calls : List Act) (s m u : State) → IsMap s → ApartFromAll a calls
+    ensures { (a : Act) (calls : List Act) (s m u : State) → keeps_blocks a ≡ true → AllKeepBlocks calls → IsMap s → ApartFromAll a calls
         → Replays s calls m → Step m a u
         → (t : State) × Step s a t × Replays t calls u }
 {}
 
-/// A law: calls that are apart from all later ones may be left out; what they don't write ends as before. No code runs.
+/// A law: calls that are apart from all later ones may be left out; what they don't write ends as before. All keep every block, since only of
+/// such calls names say what they read. No code runs.
 pub fn apart_calls_may_be_left_out()
-    ensures { (left_out : Act → Bool) (calls : List Act) (s u : State) → IsMap s
+    ensures { (left_out : Act → Bool) (calls : List Act) (s u : State) → AllKeepBlocks calls → IsMap s
         → MayBeLeftOut writes touches left_out calls → Replays s calls u
         → (m : State) × Replays s (filter (λ a. not (left_out a)) calls) m
         × ((n : Name) → IsUnwritten writes left_out calls n → content m n ≡ content u n) }
@@ -69,11 +78,18 @@ pub fn aborted_calls_change_nothing()
     ensures unchanged { (act : Act) (s t : State) → Step s act t → error_of act.told ≢ error.None → t.pool ≡ s.pool }
 {}
 
-/// A law: what a lane answers that runs alone is an answer, where its refusal is one that leaves a trace. No code runs.
+/// A law: what a lane answers that runs alone is an answer, where its refusal is one that leaves a trace. An allocation answers with any place
+/// where its object may stand, or is so refused. No code runs.
 pub fn answers_alone_are_answers()
-    ensures { (spent : Bool) (tx : Transaction) (op : Operation) → IsTrue (is_known op)
-        → MatchOption (refusal_alone spent tx op) (Unit {0}) (λ r. changes_nothing r ≡ false)
-        → Answers tx op (answer_alone spent tx op) }
+    ensures answers { (spent full : Bool) (tx : Transaction) (op : Operation) → IsTrue (is_known op) → is_alloc op ≡ false
+        → MatchOption (refusal_alone spent full tx op) (Unit {0}) (λ r. changes_nothing r ≡ false)
+        → Answers tx op (answer_alone spent full tx op) }
+    ensures offset { (spent full : Bool) (tx : Transaction) (size kind off : ℕ)
+        → refusal_alone spent full tx (operation.Alloc size kind) ≡ None → IsNewPlace tx size off
+        → Answers tx (operation.Alloc size kind) (Some (Offset off)) }
+    ensures refused { (spent full : Bool) (tx : Transaction) (size kind : ℕ) (r : Refusal)
+        → refusal_alone spent full tx (operation.Alloc size kind) ≡ Some r → changes_nothing r ≡ false
+        → Answers tx (operation.Alloc size kind) (Some (Refused r)) }
 {}
 
 /// A law: a block can begin before an offset exactly where whole chunks or a block of a run can. No code runs.
@@ -96,4 +112,23 @@ pub fn objects_are_told_by_their_offsets()
         → object_at (without_object off objects) other ≡ object_at objects other }
     ensures rising_still { (objects : Objects) (off : ℕ) → IsStrictlyIncreasing (offsets objects)
         → IsStrictlyIncreasing (offsets (without_object off objects)) }
+{}
+
+/// A law: a transaction's objects are told by what it made and freed. After an allocation a new object stands at its offset, of zeros and with no
+/// members, and is new; after a free none stands there, and what stood there is gone. At each other offset all is as before. No code runs.
+pub fn made_and_freed_objects_are_told()
+    ensures made { (tx : Transaction) (off size kind : ℕ) → object_at tx.pool.objects off ≡ None
+        → object_at (allocated off size kind tx).pool.objects off ≡ Some (record { kind = kind; bytes = replicate size 0; members = [] }) }
+    ensures made_alone { (tx : Transaction) (off size kind other : ℕ) → other ≢ off
+        → object_at (allocated off size kind tx).pool.objects other ≡ object_at tx.pool.objects other }
+    ensures made_is_new { (tx : Transaction) (off size kind : ℕ) → is_new (allocated off size kind tx) off ≡ true }
+    ensures others_as_new { (tx : Transaction) (off size kind other : ℕ) → other ≢ off
+        → is_new (allocated off size kind tx) other ≡ is_new tx other }
+    ensures all_as_gone { (tx : Transaction) (off size kind other : ℕ) → is_gone (allocated off size kind tx) other ≡ is_gone tx other }
+    ensures freed { (tx : Transaction) (off : ℕ) → object_at (released off tx).pool.objects off ≡ None }
+    ensures freed_alone { (tx : Transaction) (off other : ℕ) → other ≢ off
+        → object_at (released off tx).pool.objects other ≡ object_at tx.pool.objects other }
+    ensures freed_is_gone { (tx : Transaction) (off : ℕ) → IsSome (object_at tx.pool.objects off) → is_gone (released off tx) off ≡ true }
+    ensures others_as_gone { (tx : Transaction) (off other : ℕ) → other ≢ off → is_gone (released off tx) other ≡ is_gone tx other }
+    ensures others_still_new { (tx : Transaction) (off other : ℕ) → other ≢ off → is_new (released off tx) other ≡ is_new tx other }
 {}

@@ -15,6 +15,7 @@ fn laws_and_stages(rt: HostRuntime) {
     answers_alone_are_answers();
     blocks_begin_at_chunks_and_in_runs();
     objects_are_told_by_their_offsets();
+    made_and_freed_objects_are_told();
     assert_eq!(rt; Stage::Work, Stage::Work);
     assert_ne!(rt; Stage::OnCommit, Stage::OnAbort);
 }

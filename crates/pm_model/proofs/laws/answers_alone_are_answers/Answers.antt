@@ -1,5 +1,11 @@
-use Rattle.pm_model.proofs.Aloneness.{answers_alone}
+use Rattle.pm_model.proofs.Aloneness.{answers_alone, offset_alone, refused_alone}
 use Rattle.pm_model.proofs.laws.answers_alone_are_answers.Goals as goal
 
-pub returns : goal.returns
-returns c = answers_alone
+pub returns-clause-answers : goal.returns-clause-answers
+returns-clause-answers c = answers_alone
+
+pub returns-clause-offset : goal.returns-clause-offset
+returns-clause-offset c = offset_alone
+
+pub returns-clause-refused : goal.returns-clause-refused
+returns-clause-refused c = refused_alone
