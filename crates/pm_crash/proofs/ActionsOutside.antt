@@ -165,13 +165,13 @@ change_is_step v op reply changes = absurd changes.answer
 
 module _ (v : View) (w : ℕ → ℕ) (header : Header) (pool : PoolView) (no_records : v.log.records ≡ []) (named : HoldsNamed v) (holds : HoldsPool w v.lanes v.zones header pool) (before : IsBefore v w) where
   -- the lane finds each object that it holds among the pool's
-  finds_named : FindsObjects v w (resting pool [])
+  finds_named : FindsObjects v w (resting pool []) (λ off. Unit {0})
   finds_named =
       let same : call_words v w ≡ w = no_call_words v no_records w in
       record {
-        under = λ id write.
-            object_found v w header (resting pool []) id write named.in_lanes named.takes.chunks before (subst (λ (f : ℕ → ℕ). HoldsPool f v.lanes v.zones header pool) (sym same) holds)
-            (ap (λ (f : ℕ → ℕ). blocks f v.lanes v.zones) same);
+        under = λ id write of held size_known.
+            object_found v w header pool (resting pool []) id write named.in_lanes named.takes.chunks before (subst (λ (f : ℕ → ℕ). HoldsPool f v.lanes v.zones header pool) (sym same) holds)
+            (ap (λ (f : ℕ → ℕ). blocks f v.lanes v.zones) same) held size_known refl;
         sizes = λ block there. ap (λ (f : ℕ → ℕ). size_in f block) same;
       }
 
@@ -197,11 +197,11 @@ publish_is_step v publishes =
     goes_whole v Publish None publishes.call publishes.no_records
     (λ w header pool holds id before.
     let actions : List Action = pending_before v in
-    let finds : FindsObjects v w (resting pool []) = finds_named v w header pool publishes.no_records publishes.holds holds before in
+    let finds : FindsObjects v w (resting pool []) (λ off. Unit {0}) = finds_named v w header pool publishes.no_records publishes.holds holds before in
     let passes : refusal_outside (found_missing false) (outside_of v pool) Publish ≡ None =
-    by_ends v w header pool publishes.no_records publishes.holds holds before false id (none_passes_end v w (resting pool []) finds actions publishes.each) in
+    by_ends v w header pool publishes.no_records publishes.holds holds before false id (none_passes_end v w (resting pool []) (λ off. Unit {0}) finds actions (λ k d inside. tt) publishes.each) in
     let same : made_words v w ≡ performed actions w = (λ j i. made_final (publishes.entries j) i (no_call_words v publishes.no_records w j i)) in
-    let performs_all : Performs w v.lanes v.zones header pool actions = performs w v.lanes v.zones header pool actions holds (all_perform v w (resting pool []) finds actions publishes.each) in
+    let performs_all : Performs w v.lanes v.zones header pool actions = performs w v.lanes v.zones header pool actions holds (all_perform v w (resting pool []) (λ off. Unit {0}) finds actions (λ k d inside. tt) publishes.each) in
     record {
       answers = answers_outside (outside_of v pool) Publish None false refl (named_are_there v w header pool publishes.no_records publishes.holds holds before) passes refl;
       holds = subst (λ (f : ℕ → ℕ). HoldsPool f v.lanes v.zones header (with_actions actions pool)) (sym same) performs_all.holds;
@@ -229,9 +229,9 @@ outside_refused : (v : View) (r : Refusal) (w : ℕ → ℕ) (header : Header) (
 unfolding first_outside
 outside_refused v refusal.NoObject w header pool no_records reason holds id before = missing_answers (outside_of v pool) reason
 outside_refused v refusal.OutOfRange w header pool no_records reason holds id before =
-    let finds : FindsObjects v w (resting pool []) = finds_named v w header pool no_records reason.0 holds before in
+    let finds : FindsObjects v w (resting pool []) (λ off. Unit {0}) = finds_named v w header pool no_records reason.0 holds before in
     refused_outside (outside_of v pool) Publish false refusal.OutOfRange refl
-    (by_ends v w header pool no_records reason.0 holds before true id (one_passes_end v w (resting pool []) finds (pending_before v) reason.1)) refl
+    (by_ends v w header pool no_records reason.0 holds before true id (one_passes_end v w (resting pool []) (λ off. Unit {0}) finds (pending_before v) (λ k d inside. tt) reason.1)) refl
 outside_refused v r w header pool no_records reason holds id before = absurd reason
 
 pub refused_publish_is_step : (v : View) (r : Refusal) → RefusesOutside v r → IsWholeCall v

@@ -1,13 +1,14 @@
 -- A call that has begun with the locks that it wanted is the model's transaction at its first level.
-use Rattle.std.proofs.Common.{◌≡◌, ℕ, ◌≤◌, Bool, true, false, not, eqb, ltb, cond, List, [], ◌∷◌, length, map, get_or, slice_index, Option, None, MatchOption, refl, sym, ◌∙◌, ap, subst, arith}
+use Rattle.std.proofs.Common.{◌≡◌, ℕ, ◌≤◌, ◌||◌, Bool, true, false, not, eqb, ltb, cond, List, [], ◌∷◌, length, map, get_or, slice_index, Option, None, MatchOption, refl, sym, ◌∙◌, ap, subst, arith}
 use Rattle.std.specs.Prelude.{IsSome}
-use Rattle.std.specs.List.{All, Contains, filter, find, list_any}
+use Rattle.std.specs.List.{All, Contains, filter, find, flat_map, list_any}
+use Rattle.std.specs.List.Sorted.{IsStrictlyIncreasing}
 use Rattle.std.specs.Option.{option_map}
-use Rattle.std.proofs.lemmas.Bool.{and_from, and_right, cond-true, eq-eqb, le-ltb, or_from}
+use Rattle.std.proofs.lemmas.Bool.{and_from, and_right, cond-true, eq-eqb, false≢true, le-ltb, or_from}
 use Rattle.std.proofs.lemmas.List.{length-map}
 use Rattle.std.proofs.lemmas.List.Elements.{All-nil, Contains-get_or}
 use Rattle.pm_header.specs.declared.header.Header.{Header}
-use Rattle.pm_objects.specs.Pool.{object_at}
+use Rattle.pm_objects.specs.Pool.{Objects, object_at, offsets}
 use Rattle.pm_objects.specs.declared.calls.Operation.{Operation}
 use Rattle.pm_objects.specs.declared.calls.Operation.TheVariants.{Begin}
 use Rattle.pm_objects.specs.declared.calls.Want.{Want}
@@ -21,21 +22,24 @@ use Rattle.pm_image.specs.Contents.{size_in}
 use Rattle.pm_image.proofs.Members.{first_member, later_member}
 use Rattle.pm_model.specs.declared.stage.Stage.TheVariants as stage
 use Rattle.pm_model.specs.Actions.{Action}
+use Rattle.pm_model.specs.Bytes.{is_among}
 use Rattle.pm_model.specs.Places.{can_begin, has_place}
 use Rattle.pm_model.specs.Transaction.{Transaction, locked_all, resting}
 use Rattle.pm_model.specs.Checks.{objects_named, passes_locks, wants_no_place, takes_first_lock, is_missing, first_refusal}
 use Rattle.pm_model.specs.Answers.{Told as Answered, Answers, IsDone, IsRefused, after}
 use Rattle.pm_view.specs.Log.{Recorded}
-use Rattle.pm_view.specs.View.{View}
+use Rattle.pm_view.specs.View.{Told, View}
 use Rattle.pm_world.specs.Records.{is_recorded}
 use Rattle.pm_crash.proofs.SameLocks.{turned_locks}
+use Rattle.pm_crash.specs.CallBlocks.{CallBlocks, KeepsBlocks, NewObject, allocated_by, blocks_in, blocks_told, is_at, is_new_in, no_blocks}
 use Rattle.pm_crash.specs.Held.{HoldsPool}
 use Rattle.pm_crash.specs.Locks.{AreSameLocks}
-use Rattle.pm_crash.specs.OpenCall.{IsBefore, IsOpen, RunsTo, block_at_line, call_words, words_recorded, lock_of, locks_of}
+use Rattle.pm_crash.specs.OpenCall.{IsBefore, IsChanged, IsOpen, IsUnderWay, RunsTo, TracksBlocks, block_at_line, call_words, words_recorded, lock_of, locks_of}
 use Rattle.pm_crash.specs.Pending.{pending_before, told_of}
 use Rattle.pm_crash.specs.Performing.{CanPerform}
 use Rattle.pm_crash.specs.Operations.{BeginsCall, IsHeld, IsWantHeld}
-use Rattle.pm_crash.proofs.ObjectsOfBlocks.{object_is_there}
+use Rattle.pm_crash.proofs.ObjectsOfBlocks.{object_is_there, objects_rise}
+use Rattle.pm_crash.proofs.CallBlocks.{none_made}
 use Rattle.pm_crash.proofs.Passing.{none_named, unhindered}
 use Rattle.pm_crash.proofs.PendingOn.{pending_first, published_first}
 use Rattle.pm_crash.proofs.Runs.{runs_first}
@@ -73,7 +77,7 @@ begin_passes pool actions wants places few =
     ∷ (refusal.NoObject, place j)
     ∷ (refusal.Busy, false)
     ∷ (refusal.NoObject, missing j)
-    ∷ (refusal.NoObject, none_named tx (λ off. refl) (objects_named tx op) j)
+    ∷ (refusal.NoObject, none_named tx (objects_named tx op) (λ off there. refl) j)
     ∷ (refusal.OutOfRange, false)
     ∷ (refusal.NotAdded, false)
     ∷ (refusal.LogFull, false)
@@ -118,22 +122,50 @@ no_call_words v none w = (λ j i. at i j) where
   at : (i : ℕ) → call_words v w i ≡ w i
   at i = ap (λ (records : List Recorded). cond (is_recorded records i) (slice_index v.words i) (w i)) none
 
-pub begin_opens : (v : View) (wants : List Want) → BeginsCall v wants → IsOpen v 1 stage.Work error.None
-begin_opens v wants begins = record {
+-- the call made and freed nothing
+begin_keeps : (v : View) (wants : List Want) → BeginsCall v wants → KeepsBlocks v
+unfolding blocks_told
+begin_keeps v wants begins = record {
+  blocks = ap (blocks_told no_blocks) begins.call;
+  allocated = ap (flat_map (λ (t : Told). allocated_by t.operation t.reply)) begins.call;
+}
+
+-- a pool is changed by nothing
+pub changed_none : (v : View) (pool : PoolView) → IsStrictlyIncreasing (offsets pool.objects) → KeepsBlocks v → IsChanged v pool pool
+changed_none v pool rising keeps = record {
+  fixed = refl;
+  rising = rising;
+  new = λ n there. none_made v keeps n there;
+  gone = λ off freed. absurd (false≢true (sym (ap (λ (b : CallBlocks). is_among b.freed off) keeps.blocks) ∙ freed));
+  others = λ off found kept. refl;
+}
+
+pub unfound_none : (v : View) (objects : Objects) → KeepsBlocks v → (off : ℕ) → is_new_in v off ≡ true → object_at objects off ≡ None
+unfound_none v objects keeps off new = absurd (false≢true (sym (ap (λ (b : CallBlocks). list_any (is_at off) b.made || list_any (is_at off) b.dropped) keeps.blocks) ∙ new))
+
+begin_under_way : (v : View) (wants : List Want) → BeginsCall v wants → IsUnderWay v 1 stage.Work error.None
+begin_under_way v wants begins = record {
   in_lanes = begins.in_lanes;
   few = begins.takes.few;
   chunks = begins.takes.chunks;
   unentered = begins.no_entries;
   outside = λ i is. absurd (let clash : false ≡ true = sym (ap (λ (records : List Recorded). is_recorded records i) begins.no_records) ∙ is in cc);
   under = λ i is. absurd (let clash : false ≡ true = sym (ap (λ (records : List Recorded). is_recorded records i) begins.no_records) ∙ is in cc);
-  comes = λ w header pool holds id before.
+  makes = λ n there. none_made v (begin_keeps v wants begins) n there;
+  apart = λ n l lines there held found. none_made v (begin_keeps v wants begins) n there;
+  comes = λ w header pool holds id before room.
       let told : Answered = record { operation = Begin wants; reply = None } in
       let tx : Transaction = after told (resting pool (pending_before v)) in
       let same : call_words v w ≡ w = no_call_words v begins.no_records w in
+      let keeps : KeepsBlocks v = begin_keeps v wants begins in
       record {
         tx = tx;
         runs = subst (λ (ts : List Answered). RunsTo pool (pending_before v) ts tx) (sym (ap (map told_of) begins.call)) (runs_first told pool (pending_before v) (begin_answers v wants w header pool (pending_before v) begins holds id before));
+        base = pool;
         holds = subst (λ (f : ℕ → ℕ). HoldsPool f v.lanes v.zones header pool) (sym same) holds;
+        changed = changed_none v pool (objects_rise w v.lanes v.zones header pool holds) keeps;
+        unfound = unfound_none v pool.objects keeps;
+        tracks = subst (TracksBlocks tx) (sym keeps.blocks) (record { made = refl; dropped = refl; freed = refl });
         before = refl;
         locks =
             subst (λ (ws : List Want). AreSameLocks (locked_all ws []) (locks_of v)) (sym (all_pass (λ (want : Want). true) wants (λ want there. refl)))
@@ -145,11 +177,11 @@ begin_opens v wants begins = record {
         fails = refl;
         actions = sym (pending_first v (record { operation = Begin wants; reply = None }) begins.call);
         moved = sym (published_first v (record { operation = Begin wants; reply = None }) begins.call);
-        no_made = refl;
-        no_dropped = refl;
-        no_freed = refl;
         performable = subst (All (CanPerform w v.lanes v.zones)) (sym (published_first v (record { operation = Begin wants; reply = None }) begins.call)) (All-nil (CanPerform w v.lanes v.zones));
         blocks_stay = ap (λ (f : ℕ → ℕ). blocks f v.lanes v.zones) same;
         sizes_stay = λ block there. ap (λ (f : ℕ → ℕ). size_in f block) same;
       };
 }
+
+pub begin_opens : (v : View) (wants : List Want) → BeginsCall v wants → IsOpen v 1 stage.Work error.None
+begin_opens v wants begins = record { under_way = begin_under_way v wants begins; keeps = begin_keeps v wants begins }

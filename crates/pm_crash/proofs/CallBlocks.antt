@@ -1,24 +1,28 @@
 -- What a call allocated and freed behind one operation more, and what stays of it.
-use Rattle.std.proofs.Common.{◌≡◌, ℕ, zero, suc, ◌≤◌, ◌||◌, Bool, true, false, eqb, List, [], ◌∷◌, ◌++◌, length, map, slice_index, Option, Some, refl, sym, ◌∙◌, ap, subst, arith}
-use Rattle.std.specs.List.{All, Contains, flat_map, list_any}
+use Rattle.std.proofs.Common.{◌≡◌, ℕ, zero, suc, ◌+◌, ◌*◌, ◌≤◌, ◌||◌, Bool, true, false, cond, eqb, List, [], ◌∷◌, ◌++◌, length, map, slice_index, Option, Some, refl, sym, ◌∙◌, ap, subst, arith}
+use Rattle.std.specs.List.{All, Contains, filter, flat_map, list_any}
 use Rattle.std.proofs.lemmas.Bool.{or_from}
-use Rattle.std.proofs.lemmas.Grind.{flat_map-append}
+use Rattle.std.proofs.lemmas.Grind.{div_ceil_times, flat_map-append}
 use Rattle.std.proofs.lemmas.List.{append-nil}
-use Rattle.pm_layout.specs.Sizes.{class_of}
+use Rattle.pm_layout.specs.Sizes.{class_of, lines_for}
 use Rattle.pm_objects.specs.Pool.{block_lines, offsets}
 use Rattle.pm_objects.specs.declared.calls.Operation.{Operation}
+use Rattle.pm_objects.specs.declared.calls.Want.{Want}
 use Rattle.pm_objects.specs.declared.history.Value.{Value}
 use Rattle.pm_objects.specs.declared.pool.Object.{Object}
 use Rattle.pm_objects.specs.declared.pool.PoolView.{PoolView}
-use Rattle.pm_image.specs.Contents.{bytes_in, header_word}
+use Rattle.pm_image.specs.Contents.{bytes_in, data_words, header_word, size_in}
 use Rattle.pm_image.specs.Reads.{AgreeOn, ReadsBlock}
+use Rattle.pm_image.proofs.Members.{first_member, later_member, no_member}
+use Rattle.pm_image.proofs.Pools.{length-bytes_in}
+use Rattle.pm_image.proofs.Rooms.{lines_needed}
 use Rattle.pm_image.proofs.LocalContents.{contents_local, header_same}
 use Rattle.pm_model.specs.Answers.{IsBeside}
 use Rattle.pm_model.specs.Bytes.{is_among}
 use Rattle.pm_model.specs.Transaction.{Transaction, is_gone, is_new}
 use Rattle.pm_view.specs.Area.{is_in_area}
 use Rattle.pm_view.specs.View.{Told, View}
-use Rattle.pm_crash.specs.CallBlocks.{CallBlocks, HasRoomFor, IsMadeIn, KeepsBlocks, NewObject, allocated_by, allocated_in, block_of, blocks_behind, blocks_in, blocks_told, is_at, is_freed_in, is_new_in, no_blocks, object_made}
+use Rattle.pm_crash.specs.CallBlocks.{CallBlocks, HasRoomFor, IsMadeIn, IsOldIn, KeepsBlocks, NewObject, allocated_by, allocated_in, block_of, blocks_behind, blocks_in, blocks_told, is_at, is_freed_in, is_new_in, no_blocks, object_made}
 use Rattle.pm_crash.specs.NewObjects.{fresh_word, unlinked}
 use Rattle.pm_crash.specs.OpenCall.{IsChanged, TracksBlocks, place_and_size}
 
@@ -76,9 +80,19 @@ room_for_none v pool none = subst (HasRoomFor pool) (sym none) (λ k d low. absu
 
 -- ---- what the transaction tracks
 
-any_map : {X Y : Type 0} (p : Y → Bool) (f : X → Y) (xs : List X) → list_any p (map f xs) ≡ list_any (λ x. p (f x)) xs
+pub any_map : {X Y : Type 0} (p : Y → Bool) (f : X → Y) (xs : List X) → list_any p (map f xs) ≡ list_any (λ x. p (f x)) xs
 any_map p f [] = refl
 any_map p f (x ∷ xs) = ap (λ (b : Bool). p (f x) || b) (any_map p f xs)
+
+-- two tests that agree on a list's elements
+pub any_alike : {X : Type 0} (p q : X → Bool) (xs : List X) → ((x : X) → Contains xs x → p x ≡ q x) → list_any p xs ≡ list_any q xs
+any_alike p q [] same = refl
+any_alike p q (x ∷ xs) same = (λ j. same x (first_member x xs) j || any_alike p q xs (λ y there. same y (later_member x xs y there)) j)
+
+pub filter_alike : {X : Type 0} (p q : X → Bool) (xs : List X) → ((x : X) → Contains xs x → p x ≡ q x) → filter p xs ≡ filter q xs
+filter_alike p q [] same = refl
+filter_alike p q (x ∷ xs) same =
+    (λ j. cond (same x (first_member x xs) j) (x ∷ filter_alike p q xs (λ y there. same y (later_member x xs y there)) j) (filter_alike p q xs (λ y there. same y (later_member x xs y there)) j))
 
 pub tracks_new : (v : View) (tx : Transaction) → TracksBlocks tx (blocks_in v) → (off : ℕ) → is_new tx off ≡ is_new_in v off
 tracks_new v tx tracks off = (λ j. made j || dropped j) where
@@ -151,3 +165,36 @@ changed_stays v next base pool blocks same changed = record {
       changed.others off (ap (λ (b : CallBlocks). list_any (is_at off) b.made || list_any (is_at off) b.dropped) (sym blocks) ∙ old)
       (ap (λ (b : CallBlocks). is_among b.freed off) (sym blocks) ∙ kept);
 }
+
+-- its words lie in its block
+pub fills_block : (v : View) (n : NewObject) → IsMadeIn v n → 8 + data_words (size_in (slice_index v.words) (block_of n)) ≤ 8 * (block_of n).lines
+fills_block v n is =
+    let size : ℕ = size_in (slice_index v.words) (block_of n) in
+    let long : length (bytes_in (slice_index v.words) (block_of n)) ≡ size = length-bytes_in (slice_index v.words) (block_of n) in
+    let need : lines_for size ≤ block_lines (class_of size) = lines_needed size in
+    let same : block_lines (class_of size) ≡ (block_of n).lines = ap (λ k. block_lines (class_of k)) (sym long) ∙ is.object.of_size in
+    let eights = div_ceil_times size 8 (omega arith) in
+    let lines = div_ceil_times size 64 (omega arith) in
+    omega (arith, need, same, eights, lines)
+
+-- of what is wanted, none that the call found and did not free is new or gone
+pub old_want : (v : View) (tx : Transaction) (want : Want) → TracksBlocks tx (blocks_in v) → IsOldIn v want.id.off → is_new tx want.id.off ≡ false
+old_want v tx want tracks old = tracks_new v tx tracks want.id.off ∙ old.found
+
+pub no_want_gone : (v : View) (tx : Transaction) (wants : List Want) → TracksBlocks tx (blocks_in v) → ((want : Want) → Contains wants want → IsOldIn v want.id.off)
+    → list_any (is_gone tx) (map (λ (want : Want). want.id.off) wants) ≡ false
+no_want_gone v tx [] tracks old = refl
+no_want_gone v tx (want ∷ wants) tracks old =
+    let here : IsOldIn v want.id.off = old want (first_member want wants) in
+    or_from (is_gone tx want.id.off) (list_any (is_gone tx) (map (λ (w : Want). w.id.off) wants)) (tracks_gone v tx tracks want.id.off here.found here.kept)
+    (no_want_gone v tx wants tracks (λ w there. old w (later_member want wants w there)))
+
+-- a call that kept the blocks made and freed none of the objects that it names
+pub old_of_none : (v : View) → KeepsBlocks v → (off : ℕ) → IsOldIn v off
+old_of_none v keeps off = record {
+  found = ap (λ (b : CallBlocks). list_any (is_at off) b.made || list_any (is_at off) b.dropped) keeps.blocks;
+  kept = ap (λ (b : CallBlocks). is_among b.freed off) keeps.blocks;
+}
+
+pub none_made : {X : Type 0} (v : View) → KeepsBlocks v → (n : NewObject) → Contains (blocks_in v).made n → X
+none_made v keeps n there = absurd (no_member n (subst (λ (b : CallBlocks). Contains b.made n) keeps.blocks there))

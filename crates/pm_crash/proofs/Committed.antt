@@ -1,10 +1,12 @@
 -- A call that commits at the outermost level is a step of the model, and so is one that was given up.
-use Rattle.std.proofs.Common.{◌≡◌, inl, ℕ, leb, List, [], ◌∷◌, ◌++◌, length, None, refl, sym, ◌∙◌, ap, subst, arith}
-use Rattle.std.specs.List.{Contains}
+use Rattle.std.proofs.Common.{◌≡◌, ◌||◌, inl, ℕ, leb, List, [], ◌∷◌, ◌++◌, length, None, refl, sym, ◌∙◌, ap, subst, arith}
+use Rattle.std.specs.List.{All, Contains, list_any}
+use Rattle.std.specs.List.Sorted.{IsStrictlyIncreasing}
 use Rattle.std.proofs.lemmas.List.Elements.{All-weaker}
 use Rattle.std.proofs.lemmas.Bool.{cond-true, le-leb}
 use Rattle.std.proofs.lemmas.List.{length-append}
 use Rattle.pm_header.specs.declared.header.Header.{Header}
+use Rattle.pm_objects.specs.Pool.{object_at, offsets}
 use Rattle.pm_objects.specs.declared.history.TxErr.{TxErr}
 use Rattle.pm_objects.specs.declared.pool.PoolView.{PoolView}
 use Rattle.pm_image.specs.declared.block.Block.{Block}
@@ -15,17 +17,22 @@ use Rattle.pm_model.specs.declared.stage.Stage.{Stage}
 use Rattle.pm_model.specs.Actions.{Action, with_actions}
 use Rattle.pm_model.specs.Transaction.{Transaction, resting, committed, ended_inner, is_working}
 use Rattle.pm_model.specs.Answers.{Told as Answered, Answers, after_reply}
+use Rattle.pm_model.specs.Bytes.{is_among}
+use Rattle.pm_model.proofs.Objects.{same_objects}
 use Rattle.pm_model.specs.Step.{RunsFrom, State, with_pending}
 use Rattle.pm_view.specs.View.{View}
 use Rattle.pm_world.specs.History.{made_final}
+use Rattle.pm_crash.specs.CallBlocks.{CallBlocks, HasRoomFor, KeepsBlocks, allocated_in, is_at}
 use Rattle.pm_crash.specs.Held.{HoldsPool}
-use Rattle.pm_crash.specs.OpenCall.{IsBefore, ComesTo, IsOpen, IsWholeCall, RunsTo, call_words, made_words}
-use Rattle.pm_crash.specs.Operations.{CommitsCall, Tells}
+use Rattle.pm_crash.specs.OpenCall.{CommitsTo, ComesTo, IsBefore, IsChanged, IsOpen, IsUnderWay, IsWholeCall, RunsTo, call_words, made_words}
+use Rattle.pm_crash.specs.Operations.{CommitsCall, KeepsWords, Tells}
 use Rattle.pm_crash.specs.Pending.{pending_before, pending_in, published_in, told_in}
 use Rattle.pm_crash.specs.Performing.{CanPerform, performed}
+use Rattle.pm_crash.proofs.CallBlocks.{keeps_on, room_before, room_for_none}
 use Rattle.pm_crash.proofs.CallWords.{call_works}
 use Rattle.pm_crash.proofs.Continued.{answers_done, told_once_more, two_same}
 use Rattle.pm_crash.proofs.KeptWords.{before_back, outside_kept, same_call_words, same_found}
+use Rattle.pm_crash.proofs.ObjectsOfBlocks.{objects_rise}
 use Rattle.pm_crash.proofs.Passing.{AsksNoLock, Works, passes_all}
 use Rattle.pm_crash.proofs.PendingOn.{pending_once_more, same_before}
 use Rattle.pm_crash.proofs.Performed.{Performs, performs}
@@ -50,51 +57,87 @@ performable_still v w header pool level at_stage e c a can = record {
 }
 
 -- the words that the committed call makes: those that it stored, with what it published
-committed_words : (v next : View) → IsOpen v 1 stage.Work error.None → CommitsCall v next → (w : ℕ → ℕ) → made_words next w ≡ performed (published_in v) (call_words v w)
-committed_words v next is_open commits w =
-    (λ j i. made_final (commits.entries j) i (same_call_words v next commits.records commits.words is_open.outside w j i))
+committed_words : (v next : View) → IsUnderWay v 1 stage.Work error.None → CommitsCall v next → (w : ℕ → ℕ) → made_words next w ≡ performed (published_in v) (call_words v w)
+committed_words v next under_way commits w =
+    (λ j i. made_final (commits.entries j) i (same_call_words v next commits.records commits.words under_way.outside w j i))
 
+-- a call that commits, and did nothing else, turns the pool so
+module _ (v next : View) (under_way : IsUnderWay v 1 stage.Work error.None) (tells : Tells v next Commit None) (records : next.log.records ≡ v.log.records) (keeps : KeepsWords v next)
+    (w : ℕ → ℕ) (header : Header) (pool : PoolView) (holds : HoldsPool w next.lanes next.zones header pool) (id : next.pool ≡ header.id) (before : IsBefore next w) (room : HasRoomFor pool (allocated_in next)) where
+  old_before : IsBefore v w
+  old_before = before_back v next tells.keeps (same_found v next tells.locks) records (λ i outside none. keeps.words i outside) w before
+
+  old_holds : HoldsPool w v.lanes v.zones header pool
+  old_holds = two_same (λ (n m : ℕ). HoldsPool w n m header pool) next.lanes v.lanes next.zones v.zones tells.keeps.lanes tells.keeps.zones holds
+
+  abbrev c : ComesTo v w header pool 1 stage.Work error.None
+  c = under_way.comes w header pool old_holds (sym tells.keeps.pool ∙ id) old_before (room_before v next Commit None tells.call pool room)
+
+  abbrev last : Transaction
+  last = after_reply Commit None c.tx
+
+  abbrev last_pool : PoolView
+  last_pool = with_actions (published_in v) c.tx.pool
+
+  rests : last ≡ resting last_pool (pending_in v)
+  rests = commits c.tx c.levels ∙ (λ j. resting (with_actions (c.moved j) c.tx.pool) (c.actions j))
+
+  ran : RunsFrom (resting pool (pending_before next)) (told_in next) last
+  ran =
+      let works : Works c.tx = call_works v w header pool 1 (omega arith) under_way c in
+      let asks : AsksNoLock Commit = record { no_wants = refl; no_begin = refl; no_alloc = refl; no_free = refl; aligned = refl; no_more = λ tx. refl; no_action = refl } in
+      let answers : Answers c.tx Commit None = answers_done c.tx Commit None refl asks (passes_all c.tx Commit works asks refl refl refl refl refl) refl in
+      let told : List Answered = told_in v ++ record { operation = Commit; reply = None } ∷ [] in
+      let goes : RunsTo pool (pending_before v) told last = runs_once_more (told_in v) (record { operation = Commit; reply = None }) pool (pending_before v) c.tx c.runs (ap is_working c.stands) answers in
+      let runs : RunsFrom (resting pool (pending_before v)) told last = runs_some told pool (pending_before v) last goes (ap (λ (x : Transaction). is_working x.stage) rests) (some_told (told_in v) (record { operation = Commit; reply = None })) in
+      subst (λ (ts : List Answered). RunsFrom (resting pool (pending_before next)) ts last) (sym (told_once_more v next Commit None tells.call))
+      (subst (λ (actions : List Action). RunsFrom (resting pool actions) told last) (sym (same_before v next tells.keeps.entries)) runs)
+
+  pub commits_to : CommitsTo v next w header pool
+  commits_to = record {
+    base = c.base;
+    copy = c.tx.pool;
+    holds = c.holds;
+    changed = c.changed;
+    unfound = c.unfound;
+    performable = All-weaker (CanPerform w v.lanes v.zones) (CanPerform (call_words v w) v.lanes v.zones) (performable_still v w header pool 1 stage.Work error.None c) (published_in v) c.performable;
+    turns = λ actions own. inl (record {
+      last = last;
+      runs = ran;
+      leaves = record {
+        pending = own;
+        leaves = (λ j. let s : State = record { pool = sym (ap (λ (x : Transaction). x.pool) rests) j; actions = with_pending actions next.lane ((pending_once_more v next Commit None tells.keeps.entries tells.call ∙ sym (ap (λ (x : Transaction). x.actions) rests)) j) } in s);
+      };
+    });
+  }
+
+-- a call that changed no block left no change of the pool but what its words hold
+pub unchanged_pool : (v : View) (base pool : PoolView) → IsStrictlyIncreasing (offsets base.objects) → KeepsBlocks v → IsChanged v base pool → pool ≡ base
+unchanged_pool v base pool rising keeps changed =
+    let same : pool.objects ≡ base.objects = same_objects pool.objects base.objects changed.rising rising (λ off.
+    changed.others off
+    (ap (λ (b : CallBlocks). list_any (is_at off) b.made || list_any (is_at off) b.dropped) keeps.blocks)
+    (ap (λ (b : CallBlocks). is_among b.freed off) keeps.blocks)) in
+    changed.fixed ∙ (λ j. let p : PoolView = record base { objects = same j } in p)
+
+-- so such a call is whole once it is committed
 pub commit_is_whole : (v next : View) → IsOpen v 1 stage.Work error.None → CommitsCall v next → IsWholeCall next
 commit_is_whole v next is_open commits_call = record {
-  outside = outside_kept v next tells.keeps commits_call.records is_open.outside;
+  outside = outside_kept v next tells.keeps commits_call.records is_open.under_way.outside;
   makes = λ w header pool holds id before.
-      let old_before : IsBefore v w = before_back v next tells.keeps (same_found v next tells.locks) commits_call.records (λ i outside none. commits_call.words.words i outside) w before in
-      let old_holds : HoldsPool w v.lanes v.zones header pool = two_same (λ (n m : ℕ). HoldsPool w n m header pool) next.lanes v.lanes next.zones v.zones tells.keeps.lanes tells.keeps.zones holds in
-      let c : ComesTo v w header pool 1 stage.Work error.None = is_open.comes w header pool old_holds (sym tells.keeps.pool ∙ id) old_before in
-      let performs_all : Performs (call_words v w) v.lanes v.zones header c.tx.pool (published_in v) =
-      performs (call_words v w) v.lanes v.zones header c.tx.pool (published_in v) c.holds
-      (All-weaker (CanPerform w v.lanes v.zones) (CanPerform (call_words v w) v.lanes v.zones) (performable_still v w header pool 1 stage.Work error.None c) (published_in v) c.performable) in
-      let last_pool : PoolView = with_actions (published_in v) c.tx.pool in
-      let rests : last c ≡ resting last_pool (pending_in v) = commits c.tx c.levels ∙ (λ j. resting (with_actions (c.moved j) c.tx.pool) (c.actions j)) in
+      let to : CommitsTo v next w header pool =
+      commits_to v next is_open.under_way tells commits_call.records commits_call.words w header pool holds id before (room_for_none next pool (keeps_on v next Commit None tells.call refl refl is_open.keeps).allocated) in
+      let performs_all : Performs (call_words v w) v.lanes v.zones header to.base (published_in v) = performs (call_words v w) v.lanes v.zones header to.base (published_in v) to.holds to.performable in
+      let same : to.copy ≡ to.base = unchanged_pool v to.base to.copy (objects_rise (call_words v w) v.lanes v.zones header to.base to.holds) is_open.keeps to.changed in
+      let last_pool : PoolView = with_actions (published_in v) to.copy in
       record {
         next = last_pool;
         holds =
             two_same (λ (n m : ℕ). HoldsPool (made_words next w) n m header last_pool) v.lanes next.lanes v.zones next.zones (sym tells.keeps.lanes) (sym tells.keeps.zones)
-            (subst (λ (f : ℕ → ℕ). HoldsPool f v.lanes v.zones header last_pool) (sym (committed_words v next is_open commits_call w)) performs_all.holds);
-        steps = λ actions own. inl (record {
-          last = last c;
-          runs = ran w header pool id c rests;
-          leaves = record {
-            pending = own;
-            leaves = (λ j. let s : State = record { pool = sym (ap (λ (x : Transaction). x.pool) rests) j; actions = with_pending actions next.lane ((pending_once_more v next Commit None tells.keeps.entries tells.call ∙ sym (ap (λ (x : Transaction). x.actions) rests)) j) } in s);
-          };
-        });
+            (subst (λ (f : ℕ → ℕ). HoldsPool f v.lanes v.zones header last_pool) (sym (committed_words v next is_open.under_way commits_call w))
+            (subst (λ (p : PoolView). HoldsPool (performed (published_in v) (call_words v w)) v.lanes v.zones header (with_actions (published_in v) p)) (sym same) performs_all.holds));
+        steps = to.turns;
       };
 } where
   tells : Tells v next Commit None
   tells = commits_call.tells
-
-  last : {w : ℕ → ℕ} {header : Header} {pool : PoolView} → ComesTo v w header pool 1 stage.Work error.None → Transaction
-  last c = after_reply Commit None c.tx
-
-  ran : (w : ℕ → ℕ) (header : Header) (pool : PoolView) → next.pool ≡ header.id → (c : ComesTo v w header pool 1 stage.Work error.None) → last c ≡ resting (with_actions (published_in v) c.tx.pool) (pending_in v)
-      → RunsFrom (resting pool (pending_before next)) (told_in next) (last c)
-  ran w header pool id c rests =
-      let works : Works c.tx = call_works v w header pool 1 (omega arith) is_open c in
-      let asks : AsksNoLock Commit = record { known = refl; no_wants = refl; no_begin = refl; aligned = refl; no_more = λ tx. refl; no_action = refl } in
-      let answers : Answers c.tx Commit None = answers_done c.tx Commit None refl asks (passes_all c.tx Commit works asks refl refl refl refl) refl in
-      let told : List Answered = told_in v ++ record { operation = Commit; reply = None } ∷ [] in
-      let goes : RunsTo pool (pending_before v) told (last c) = runs_once_more (told_in v) (record { operation = Commit; reply = None }) pool (pending_before v) c.tx c.runs (ap is_working c.stands) answers in
-      let runs : RunsFrom (resting pool (pending_before v)) told (last c) = runs_some told pool (pending_before v) (last c) goes (ap (λ (x : Transaction). is_working x.stage) rests) (some_told (told_in v) (record { operation = Commit; reply = None })) in
-      subst (λ (ts : List Answered). RunsFrom (resting pool (pending_before next)) ts (last c)) (sym (told_once_more v next Commit None tells.call))
-      (subst (λ (actions : List Action). RunsFrom (resting pool actions) told (last c)) (sym (same_before v next tells.keeps.entries)) runs)

@@ -28,7 +28,7 @@ use Rattle.pm_world.specs.Records.{is_recorded}
 use Rattle.pm_crash.specs.CallBlocks.{CallBlocks, HasRoomFor, IsMadeIn, NewObject, allocated_in, blocks_behind, blocks_in, is_at, is_new_in}
 use Rattle.pm_crash.specs.Locks.{AreSameLocks}
 use Rattle.pm_crash.specs.Held.{HoldsPool}
-use Rattle.pm_crash.specs.OpenCall.{IsBefore, call_words, ComesTo, IsChanged, IsUnderWay, RecordsUnder, RunsTo, TracksBlocks, locks_of, words_recorded}
+use Rattle.pm_crash.specs.OpenCall.{IsBefore, call_words, ComesTo, IsChanged, IsUnderWay, LieApart, RecordsUnder, RunsTo, TracksBlocks, locks_of, place_and_size, words_recorded}
 use Rattle.pm_crash.specs.Operations.{KeepsKnown, KeepsLane, Tells}
 use Rattle.pm_crash.proofs.Passing.{unhindered, wants_none, AsksNoLock, WantsNone}
 use Rattle.pm_crash.specs.Pending.{pending_before, pending_behind, pending_in, published_by, published_in, told_in, told_of}
@@ -107,10 +107,18 @@ left_new v next off leaves = ap (λ (b : CallBlocks). list_any (is_at off) b.mad
 pub left_tracks : (v next : View) (tx : Transaction) → LeavesBlocks v next → TracksBlocks tx (blocks_in v) → TracksBlocks tx (blocks_in next)
 left_tracks v next tx leaves = subst (TracksBlocks tx) (sym leaves.blocks)
 
+-- another transaction with the same lists tracks the same
+pub tracks_more : (tx other : Transaction) {b : CallBlocks} → other.made ≡ tx.made → other.dropped ≡ tx.dropped → other.freed ≡ tx.freed → TracksBlocks tx b → TracksBlocks other b
+tracks_more tx other made dropped freed tracks = record { made = made ∙ tracks.made; dropped = ap (map place_and_size) dropped ∙ tracks.dropped; freed = freed ∙ tracks.freed }
+
 pub left_made : (v next : View) → LeavesBlocks v next → KeepsLane v next → ((n : NewObject) → Contains (blocks_in v).made n → IsMadeIn v n) → (n : NewObject) → Contains (blocks_in next).made n → IsMadeIn next n
 left_made v next leaves lane makes n there =
     let before : Contains (blocks_in v).made n = subst (λ (b : CallBlocks). Contains b.made n) leaves.blocks there in
     made_stays v next n lane.lane lane.known (leaves.same n before) (makes n before)
+
+pub left_apart : (v next : View) → LeavesBlocks v next → next.locks ≡ v.locks → LieApart v → LieApart next
+left_apart v next leaves locks apart n l lines there held found =
+    apart n l lines (subst (λ (b : CallBlocks). Contains b.made n) leaves.blocks there) (subst (λ (ls : List Lock). Contains ls l) locks held) found
 
 -- where no word changes but in the lane's area, or none that it knows, those of what it made stay
 pub known_new : (v next : View) → KeepsKnown v next → ((n : NewObject) → Contains (blocks_in v).made n → IsMadeIn v n) → (n : NewObject) → Contains (blocks_in v).made n → SameNew v next n
@@ -170,11 +178,11 @@ pub record GoesBack (v next : View) : Type 0 where
   pub entries : next.log.entries ≡ v.log.entries
 
 pub still_under_way : (v next : View) (level to : ℕ) (op : Operation) (reply : Option Value) → IsUnderWay v level stage.Work error.None → Tells v next op reply → GoesBack v next
-    → ((n : NewObject) → Contains (blocks_in next).made n → IsMadeIn next n)
+    → ((n : NewObject) → Contains (blocks_in next).made n → IsMadeIn next n) → LieApart next
     → ((w : ℕ → ℕ) (header : Header) (pool : PoolView) → v.pool ≡ header.id → IsBefore v w → IsBefore next w → HasRoomFor pool (allocated_in next) → (c : ComesTo v w header pool level stage.Work error.None)
     → Continues v next w header op reply to c.tx)
     → IsUnderWay next to stage.Work error.None
-still_under_way v next level to op reply under_way tells back makes continues =
+still_under_way v next level to op reply under_way tells back makes apart continues =
     let lane : next.lane ≡ v.lane = tells.keeps.lane in
     let lanes : next.lanes ≡ v.lanes = tells.keeps.lanes in
     let inside : v.lane < v.lanes = under_way.in_lanes in
@@ -186,6 +194,7 @@ still_under_way v next level to op reply under_way tells back makes continues =
       under = back.under;
       unentered = back.entries ∙ under_way.unentered;
       makes = makes;
+      apart = apart;
       comes = λ w header pool holds id before room.
           let old_id : v.pool ≡ header.id = sym tells.keeps.pool ∙ id in
           let old_before : IsBefore v w = back.before w before in

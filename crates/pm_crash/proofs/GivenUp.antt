@@ -2,7 +2,7 @@
 use Rattle.std.proofs.Common.{◌++◌, ◌≡◌, ◌≢◌, ⊎_elim, ℕ, ◌+◌, ◌*◌, ◌<◌, ◌≤◌, ◌&&◌, ◌||◌, Bool, cond, inl, true, false, not, eqb, leb, ltb, List, [], ◌∷◌, length, slice_get, slice_index, Option, Some, None, MatchOption, refl, sym, ◌∙◌, ap, subst, arith}
 use Rattle.std.specs.List.{Contains, list_all, list_any}
 use Rattle.std.specs.Option.{option_map_or}
-use Rattle.std.proofs.lemmas.Bool.{and_from, and_left, and_right, cases_eq, false≢true, le-leb, le-ltb, lt-ltb, ne_eqb}
+use Rattle.std.proofs.lemmas.Bool.{and_from, and_left, and_right, cases_eq, false≢true, le-leb, le-ltb, lt-ltb, ne_eqb, or_from}
 use Rattle.pm_header.specs.declared.header.Header.{Header}
 use Rattle.pm_objects.specs.declared.calls.Operation.{Operation}
 use Rattle.pm_objects.specs.declared.calls.Operation.TheVariants.{Abort, AddRange, Read, Write}
@@ -16,10 +16,10 @@ use Rattle.pm_objects.specs.declared.refusal.Refusal.{Refusal}
 use Rattle.pm_objects.specs.declared.refusal.Refusal.TheVariants as refusal
 use Rattle.pm_image.proofs.Members.{member_cases, no_member}
 use Rattle.pm_model.specs.declared.stage.Stage.TheVariants as stage
-use Rattle.pm_model.specs.Transaction.{Transaction, aborted, is_locked, is_working, resting}
+use Rattle.pm_model.specs.Transaction.{Transaction, aborted, holds_object, is_gone, is_locked, is_new, is_working, resting}
 use Rattle.pm_model.specs.Bytes.{bytes_of, is_among, new_words, records_of}
 use Rattle.pm_model.specs.Actions.{Action, passes_object}
-use Rattle.pm_model.specs.Checks.{Range, range_of, is_publish, is_unlocked_action, frees_unlocked, is_record, is_write, needs_write, is_lock_missing, is_not_locked, passes_end_of, passes_end, has_unrecorded, is_not_added, overfills, passes_log, first_refusal, words_in}
+use Rattle.pm_model.specs.Checks.{Range, range_of, is_publish, is_unlocked_action, frees_unlocked, is_record, is_write, needs_write, is_lock_missing, is_not_held, is_not_locked, names_gone, objects_named, passes_end_of, passes_end, has_unrecorded, is_not_added, overfills, passes_log, first_refusal, words_in}
 use Rattle.pm_model.specs.Answers.{Told as Answered, Answers, IsDone, IsRefused, after_reply, changes_nothing, error_for, is_known}
 use Rattle.pm_model.specs.Step.{RunsFrom, State, with_pending}
 use Rattle.pm_model.proofs.Alike.{after_refused}
@@ -29,19 +29,20 @@ use Rattle.pm_view.specs.Log.{Recorded}
 use Rattle.pm_view.specs.View.{View}
 use Rattle.pm_world.specs.Records.{covers, is_recorded}
 use Rattle.pm_world.proofs.CrashLogs.{recorded_from}
+use Rattle.pm_crash.specs.CallBlocks.{HasRoomFor, IsOldIn, KeepsBlocks, allocated_by, allocated_in, blocks_in, is_freed_in, is_new_in}
 use Rattle.pm_crash.specs.Locks.{AreSameLocks}
 use Rattle.pm_crash.specs.Held.{HoldsPool}
-use Rattle.pm_crash.specs.OpenCall.{IsBefore, ComesTo, ComesToNothing, IsGivenUp, IsOpen, RecordsUnder, RunsTo, Turns, locks_of, words_recorded}
+use Rattle.pm_crash.specs.OpenCall.{IsBefore, ComesTo, ComesToNothing, IsGivenUp, IsOpen, IsUnderWay, RecordsUnder, RunsTo, TracksBlocks, Turns, WasAborted, locks_of, words_recorded}
 use Rattle.pm_crash.specs.Pending.{pending_before, pending_behind, pending_in, told_in}
 use Rattle.pm_crash.specs.Operations.{HasRange, KeepsFound, IsHeld, IsNotAdded, IsNotHeld, IsReason, Overfills, Refuses, KeepsLane, TakesBack, Tells}
-use Rattle.pm_crash.proofs.CallWords.{call_works, held_is_locked, object_under, same_pool}
+use Rattle.pm_crash.proofs.CallWords.{call_works, held_is_locked, object_under, one_is_kept, same_pool}
+use Rattle.pm_crash.proofs.CallBlocks.{allocated_once_more, old_of_none, room_before, room_for_none, tracks_new}
 use Rattle.pm_crash.proofs.Continued.{answers_done, runs_told, told_once_more, two_same}
 use Rattle.pm_crash.proofs.KeptWords.{found_back, lies_further, lies_under, same_found, under_kept}
-use Rattle.pm_crash.proofs.Passing.{fails_added, fails_end, fails_lock, fails_room, passes_all, unhindered, AsksNoLock, Works}
+use Rattle.pm_crash.proofs.Passing.{fails_added, fails_end, fails_lock, fails_room, passes_all, unhindered, wants_none, AsksNoLock, Works}
 use Rattle.pm_crash.proofs.RecordedWords.{among_recorded}
 use Rattle.pm_crash.proofs.Runs.{runs_once_more, runs_to_end}
 use Rattle.pm_crash.proofs.PendingOn.{pending_once_more}
-use Rattle.pm_crash.proofs.Unmade.{told_unmade, unmade}
 
 -- what was before the call, for the view before it was taken back
 pub taken_back : (v next : View) → KeepsLane v next → KeepsFound v next → TakesBack v next → ((i : ℕ) → is_recorded v.log.records i ≡ true → is_in_area v.lane i ≡ false)
@@ -86,9 +87,9 @@ outside_taken_back v next lane back outside i is = ⊎_elim
 
 -- the operations on ranges ask for no lock, and are known
 ranged_asks : (op : Operation) (range : Range) → range_of op ≡ Some range → AsksNoLock op
-ranged_asks (AddRange id off len) range is = record { known = refl; no_wants = refl; no_begin = refl; aligned = refl; no_more = λ tx. refl; no_action = refl }
-ranged_asks (Write id off bytes) range is = record { known = refl; no_wants = refl; no_begin = refl; aligned = refl; no_more = λ tx. refl; no_action = refl }
-ranged_asks (Read id off len) range is = record { known = refl; no_wants = refl; no_begin = refl; aligned = refl; no_more = λ tx. refl; no_action = refl }
+ranged_asks (AddRange id off len) range is = record { no_wants = refl; no_begin = refl; no_alloc = refl; no_free = refl; aligned = refl; no_more = λ tx. refl; no_action = refl }
+ranged_asks (Write id off bytes) range is = record { no_wants = refl; no_begin = refl; no_alloc = refl; no_free = refl; aligned = refl; no_more = λ tx. refl; no_action = refl }
+ranged_asks (Read id off len) range is = record { no_wants = refl; no_begin = refl; no_alloc = refl; no_free = refl; aligned = refl; no_more = λ tx. refl; no_action = refl }
 ranged_asks op range is = absurd cc
 
 ranged_known : (op : Operation) (range : Range) → range_of op ≡ Some range → is_known op ≡ true
@@ -110,7 +111,7 @@ record_is_no_write op is = refl
 -- the checks of an operation on a range
 lock_check : (tx : Transaction) (op : Operation) (range : Range) → range_of op ≡ Some range → is_not_locked tx op ≡ is_lock_missing tx (needs_write op) range
 lock_check tx op range is = ap (λ (b : Bool). (b && list_any (is_unlocked_action tx) tx.actions) || frees_unlocked tx op || option_map_or (is_lock_missing tx (needs_write op)) (range_of op) false) (ranged_publishes_none op range is)
-    ∙ ap (λ (b : Bool). b || option_map_or (is_lock_missing tx (needs_write op)) (range_of op) false) (frees_none_unlocked tx op (ranged_known op range is))
+    ∙ ap (λ (b : Bool). b || option_map_or (is_lock_missing tx (needs_write op)) (range_of op) false) (frees_none_unlocked tx op (ranged_asks op range is).no_free)
     ∙ ap (λ (r : Option Range). option_map_or (is_lock_missing tx (needs_write op)) r false) is
 
 end_check : (tx : Transaction) (op : Operation) (range : Range) → range_of op ≡ Some range → passes_end tx op ≡ passes_end_of tx range
@@ -131,77 +132,99 @@ not_all words (y ∷ xs) x there none = ⊎_elim
     (λ (later : Contains xs x). and_right (is_among words y) (list_all (is_among words) xs) (not_all words xs x later none))
     (member_cases y xs x there)
 
--- the transaction of the open call, and what it finds of a range
+-- the object that is named is the range's
+ranged_named : (tx : Transaction) (op : Operation) (range : Range) → range_of op ≡ Some range → objects_named tx op ≡ range.id.off ∷ []
+ranged_named tx (AddRange id off len) range is = ap (λ (r : Option Range). option_map_or (λ (x : Range). x.id.off ∷ []) r []) is
+ranged_named tx (Write id off bytes) range is = ap (λ (r : Option Range). option_map_or (λ (x : Range). x.id.off ∷ []) r []) is
+ranged_named tx (Read id off len) range is = ap (λ (r : Option Range). option_map_or (λ (x : Range). x.id.off ∷ []) r []) is
+ranged_named tx op range is = absurd cc
+
+-- the transaction of the open call, and what it finds of a range of an object that the call did not make
 record Asked (v : View) (w : ℕ → ℕ) (header : Header) (op : Operation) (range : Range) (tx : Transaction) : Type 0 where
-  works : Works (unmade tx)
+  works : Works tx
   is_range : range_of op ≡ Some range
   of_pool : tx.pool.id ≡ v.pool
   locks : AreSameLocks tx.locks (locks_of v)
   recorded : tx.recorded ≡ words_recorded v.log.records
   records : tx.records ≡ length v.log.records
-  long : (write : Bool) → (held : IsHeld v range.id write) → Contains v.known (8 * held.lock.line + 1) → length (bytes_of tx.pool.objects range.id.off) ≡ slice_index v.words (8 * held.lock.line + 1)
+  tracks : TracksBlocks tx (blocks_in v)
+  found : is_new_in v range.id.off ≡ false
+  long : (write : Bool) → (held : IsHeld v range.id write) → Contains v.known (8 * held.lock.line + 1) → is_freed_in v range.id.off ≡ false → length (bytes_of tx.pool.objects range.id.off) ≡ slice_index v.words (8 * held.lock.line + 1)
 
-asked_lock : (v : View) (w : ℕ → ℕ) (header : Header) (op : Operation) (range : Range) (tx : Transaction) → Asked v w header op range tx → IsHeld v range.id (needs_write op) → is_not_locked (unmade tx) op ≡ false
-asked_lock v w header op range tx asked held = lock_check (unmade tx) op range asked.is_range ∙ held_is_locked v range.id (needs_write op) tx held asked.locks asked.of_pool
+asked_lock : (v : View) (w : ℕ → ℕ) (header : Header) (op : Operation) (range : Range) (tx : Transaction) → Asked v w header op range tx → IsHeld v range.id (needs_write op) → is_not_locked tx op ≡ false
+asked_lock v w header op range tx asked held = lock_check tx op range asked.is_range ∙ held_is_locked v range.id (needs_write op) tx held asked.locks asked.of_pool
 
-asked_end : (v : View) (w : ℕ → ℕ) (header : Header) (op : Operation) (range : Range) (tx : Transaction) → Asked v w header op range tx → HasRange v range.id range.off range.len (needs_write op) → passes_end (unmade tx) op ≡ false
-asked_end v w header op range tx asked has =
-    let long = asked.long (needs_write op) has.object has.size_known in
+asked_kept : (v : View) (w : ℕ → ℕ) (header : Header) (op : Operation) (range : Range) (tx : Transaction) → Asked v w header op range tx → is_freed_in v range.id.off ≡ false → names_gone tx op ≡ false
+asked_kept v w header op range tx asked kept = ap (list_any (is_gone tx)) (ranged_named tx op range asked.is_range) ∙ one_is_kept v tx asked.tracks range.id.off (record { found = asked.found; kept = kept })
+
+asked_end : (v : View) (w : ℕ → ℕ) (header : Header) (op : Operation) (range : Range) (tx : Transaction) → Asked v w header op range tx → HasRange v range.id range.off range.len (needs_write op)
+    → is_freed_in v range.id.off ≡ false → passes_end tx op ≡ false
+asked_end v w header op range tx asked has kept =
+    let long = asked.long (needs_write op) has.object has.size_known kept in
     let inside : range.off + range.len ≤ slice_index v.words (8 * has.object.lock.line + 1) = has.inside in
-    end_check (unmade tx) op range asked.is_range ∙ le-ltb (length (bytes_of tx.pool.objects range.id.off)) (range.off + range.len) (omega arith)
+    end_check tx op range asked.is_range ∙ le-ltb (length (bytes_of tx.pool.objects range.id.off)) (range.off + range.len) (omega arith)
 
 -- the operation is refused for the reason, which leaves a trace
 pub record IsRefusedFor (tx : Transaction) (op : Operation) (r : Refusal) : Type 0 where
   pub refused_first : first_refusal unhindered tx op ≡ Some r
   pub traced : changes_nothing r ≡ false
 
-pub lock_is_missing : (v : View) (tx : Transaction) (id : Oid) (write : Bool) → tx.pool.id ≡ v.pool → AreSameLocks tx.locks (locks_of v) → IsNotHeld v id write → not (eqb id.pool tx.pool.id && is_locked tx.locks id.off write) ≡ true
-lock_is_missing v tx id write of_pool locks unheld =
+pub lock_is_missing : (v : View) (tx : Transaction) (id : Oid) (write : Bool) → tx.pool.id ≡ v.pool → AreSameLocks tx.locks (locks_of v) → is_new tx id.off ≡ false → IsNotHeld v id write → is_not_held tx write id ≡ true
+lock_is_missing v tx id write of_pool locks found unheld =
     ap not (⊎_elim
-    (λ (same : id.pool ≡ tx.pool.id). and_right (eqb id.pool tx.pool.id) (is_locked tx.locks id.off write) (locks.same id.off write ∙ unheld (same ∙ of_pool)))
-    (λ (other : id.pool ≢ tx.pool.id). and_left (eqb id.pool tx.pool.id) (is_locked tx.locks id.off write) (ne_eqb id.pool tx.pool.id other))
+    (λ (same : id.pool ≡ tx.pool.id). and_right (eqb id.pool tx.pool.id) (holds_object tx id.off write) (or_from (is_new tx id.off) (is_locked tx.locks id.off write) found (locks.same id.off write ∙ unheld (same ∙ of_pool))))
+    (λ (other : id.pool ≢ tx.pool.id). and_left (eqb id.pool tx.pool.id) (holds_object tx id.off write) (ne_eqb id.pool tx.pool.id other))
     (cases_eq id.pool tx.pool.id))
 
-by_reason : (v : View) (w : ℕ → ℕ) (header : Header) (op : Operation) (range : Range) (tx : Transaction) (r : Refusal) → Asked v w header op range tx → IsReason v op range r → IsRefusedFor (unmade tx) op r
-by_reason v w header op range tx refusal.NotLocked asked reason = record {
+-- it is refused for the reason that the lane has: unless that is its lock, the call did not free the object
+by_reason : (v : View) (w : ℕ → ℕ) (header : Header) (op : Operation) (range : Range) (tx : Transaction) (r : Refusal) → Asked v w header op range tx → (r ≢ refusal.NotLocked → is_freed_in v range.id.off ≡ false)
+    → IsReason v op range r → IsRefusedFor tx op r
+by_reason v w header op range tx refusal.NotLocked asked unless reason = record {
   refused_first =
-      fails_lock (unmade tx) op asked.works (ranged_asks op range asked.is_range)
-      (lock_check (unmade tx) op range asked.is_range ∙ lock_is_missing v tx range.id (needs_write op) asked.of_pool asked.locks reason);
+      fails_lock tx op asked.works (wants_none op (ranged_asks op range asked.is_range)) (ranged_asks op range asked.is_range).aligned
+      (lock_check tx op range asked.is_range ∙ lock_is_missing v tx range.id (needs_write op) asked.of_pool asked.locks (tracks_new v tx asked.tracks range.id.off ∙ asked.found) reason);
   traced = refl;
 }
-by_reason v w header op range tx refusal.OutOfRange asked reason =
-    let long = asked.long (needs_write op) reason.object reason.size_known in
+by_reason v w header op range tx refusal.OutOfRange asked unless reason =
+    let kept : is_freed_in v range.id.off ≡ false = unless (λ same. absurd cc) in
+    let long = asked.long (needs_write op) reason.object reason.size_known kept in
     let outside : slice_index v.words (8 * reason.object.lock.line + 1) < range.off + range.len = reason.outside in
     record {
       refused_first =
-          fails_end (unmade tx) op asked.works (ranged_asks op range asked.is_range) (asked_lock v w header op range tx asked reason.object)
-          (end_check (unmade tx) op range asked.is_range ∙ lt-ltb (length (bytes_of tx.pool.objects range.id.off)) (range.off + range.len) (omega arith));
+          fails_end tx op asked.works (ranged_asks op range asked.is_range) (asked_kept v w header op range tx asked kept) (asked_lock v w header op range tx asked reason.object)
+          (end_check tx op range asked.is_range ∙ lt-ltb (length (bytes_of tx.pool.objects range.id.off)) (range.off + range.len) (omega arith));
       traced = refl;
     }
-by_reason v w header op range tx refusal.NotAdded asked reason =
+by_reason v w header op range tx refusal.NotAdded asked unless reason =
+    let kept : is_freed_in v range.id.off ≡ false = unless (λ same. absurd cc) in
     let missing : IsNotAdded v range.id range.off range.len (needs_write op) = reason.1 in
     let none : is_among tx.recorded missing.word ≡ false = ap (λ (ws : List ℕ). is_among ws missing.word) asked.recorded ∙ among_recorded v.log.records missing.word ∙ missing.unrecorded in
+    let old : not (is_new tx range.id.off) ≡ true = ap not (tracks_new v tx asked.tracks range.id.off ∙ asked.found) in
     record {
       refused_first =
-          fails_added (unmade tx) op asked.works (ranged_asks op range asked.is_range) (asked_lock v w header op range tx asked missing.range.object) (asked_end v w header op range tx asked missing.range)
-          (added_check (unmade tx) op range asked.is_range ∙ and_from (is_write op) (has_unrecorded (unmade tx) range) reason.0 (ap not (not_all tx.recorded (words_in range) missing.word missing.written none)));
+          fails_added tx op asked.works (ranged_asks op range asked.is_range) (asked_kept v w header op range tx asked kept) (asked_lock v w header op range tx asked missing.range.object) (asked_end v w header op range tx asked missing.range kept)
+          (added_check tx op range asked.is_range ∙ and_from (is_write op) (has_unrecorded tx range) reason.0
+          (and_from (not (is_new tx range.id.off)) (not (list_all (is_among tx.recorded) (words_in range))) old (ap not (not_all tx.recorded (words_in range) missing.word missing.written none))));
       traced = refl;
     }
-by_reason v w header op range tx refusal.LogFull asked reason =
+by_reason v w header op range tx refusal.LogFull asked unless reason =
+    let kept : is_freed_in v range.id.off ≡ false = unless (λ same. absurd cc) in
     let full : Overfills v range.id range.off range.len (needs_write op) = reason.1 in
     let records : tx.records ≡ length v.log.records = asked.records in
     let number : length (records_of (new_words tx.recorded (words_in range))) ≡ length (records_of (new_words (words_recorded v.log.records) (words_in range))) =
     ap (λ (ws : List ℕ). length (records_of (new_words ws (words_in range)))) asked.recorded in
     let over : 64 < length v.log.records + length (records_of (new_words (words_recorded v.log.records) (words_in range))) = full.overfull in
+    let old : not (is_new tx range.id.off) ≡ true = ap not (tracks_new v tx asked.tracks range.id.off ∙ asked.found) in
     record {
       refused_first =
-          fails_room (unmade tx) op asked.works (ranged_asks op range asked.is_range) (asked_lock v w header op range tx asked full.range.object) (asked_end v w header op range tx asked full.range)
-          (added_check (unmade tx) op range asked.is_range ∙ and_left (is_write op) (has_unrecorded (unmade tx) range) (record_is_no_write op reason.0))
-          (room_check (unmade tx) op range asked.is_range
-          ∙ and_from (is_record op) (overfills (unmade tx) range) reason.0 (lt-ltb 64 (tx.records + length (records_of (new_words tx.recorded (words_in range)))) (omega arith)));
+          fails_room tx op asked.works (ranged_asks op range asked.is_range) (asked_kept v w header op range tx asked kept) (asked_lock v w header op range tx asked full.range.object) (asked_end v w header op range tx asked full.range kept)
+          (added_check tx op range asked.is_range ∙ and_left (is_write op) (has_unrecorded tx range) (record_is_no_write op reason.0))
+          (room_check tx op range asked.is_range
+          ∙ and_from (is_record op) (overfills tx range) reason.0
+          (and_from (not (is_new tx range.id.off)) (ltb 64 (tx.records + length (records_of (new_words tx.recorded (words_in range))))) old (lt-ltb 64 (tx.records + length (records_of (new_words tx.recorded (words_in range)))) (omega arith))));
       traced = refl;
     }
-by_reason v w header op range tx r asked reason = absurd reason
+by_reason v w header op range tx r asked unless reason = absurd reason
 
 pub refused_answers : (tx : Transaction) (op : Operation) (r : Refusal) → is_known op ≡ true → IsRefusedFor tx op r → Answers tx op (Some (Refused r))
 refused_answers tx op r known is = record {
@@ -228,52 +251,53 @@ comes_to_nothing v next op reply level e w header pool entries kept call c answe
       unchanged = ap (λ (x : Transaction). x.pool) aborts ∙ c.before;
     }
 
--- so a call is given up by an operation that aborts it
-pub gives_up : (v next : View) (op : Operation) (reply : Option Value) (level : ℕ) (e : TxErr) → IsOpen v level stage.Work error.None → KeepsLane v next → KeepsFound v next
+-- so a call is aborted by such an operation
+pub aborts_call : (v next : View) (op : Operation) (reply : Option Value) (level : ℕ) (e : TxErr) → IsUnderWay v level stage.Work error.None → KeepsLane v next → KeepsFound v next
     → ((actions : List Action) → pending_behind op reply actions ≡ actions) → next.call ≡ v.call ++ record { operation = op; reply = reply } ∷ [] → TakesBack v next
     → ((w : ℕ → ℕ) (header : Header) (pool : PoolView) → v.pool ≡ header.id → IsBefore v w → (c : ComesTo v w header pool level stage.Work error.None)
-    → Answers (unmade c.tx) op reply × (after_reply op reply (unmade c.tx) ≡ aborted e (unmade c.tx)))
-    → IsGivenUp next e
-gives_up v next op reply level e is_open lane finds kept call back aborts = record {
-  outside = outside_taken_back v next lane back is_open.outside;
-  under = under_taken_back v next finds back is_open.under;
-  comes = λ w header pool holds id before.
+    → Answers c.tx op reply × (after_reply op reply c.tx ≡ aborted e c.tx))
+    → WasAborted next e
+aborts_call v next op reply level e under_way lane finds kept call back aborts = record {
+  outside = outside_taken_back v next lane back under_way.outside;
+  under = under_taken_back v next finds back under_way.under;
+  comes = λ w header pool holds id before room.
       let old_id : v.pool ≡ header.id = sym lane.pool ∙ id in
-      let old_before : IsBefore v w = taken_back v next lane finds back is_open.outside is_open.under w before in
+      let old_before : IsBefore v w = taken_back v next lane finds back under_way.outside under_way.under w before in
       let old_holds : HoldsPool w v.lanes v.zones header pool = two_same (λ (n m : ℕ). HoldsPool w n m header pool) next.lanes v.lanes next.zones v.zones lane.lanes lane.zones holds in
-      let c : ComesTo v w header pool level stage.Work error.None = told_unmade v w header pool level stage.Work error.None (is_open.comes w header pool old_holds old_id old_before) in
+      let c : ComesTo v w header pool level stage.Work error.None = under_way.comes w header pool old_holds old_id old_before (room_before v next op reply call pool room) in
       let how = aborts w header pool old_id old_before c in
       comes_to_nothing v next op reply level e w header pool lane.entries kept call c how.0 how.1;
 }
 
-pub refusal_gives_up : (v next : View) (op : Operation) (range : Range) (r : Refusal) (level : ℕ) → 1 ≤ level → IsOpen v level stage.Work error.None → Refuses v next op range r
-    → IsGivenUp next (error.Refused r)
-refusal_gives_up v next op range r level some is_open refuses =
-    gives_up v next op (Some (Refused r)) level (error.Refused r) is_open refuses.tells.keeps (same_found v next refuses.tells.locks) (λ actions. refl) refuses.tells.call refuses.takes_back
-    (λ w header pool same_id before given.
-    let c : ComesTo v w header pool level stage.Work error.None = told_unmade v w header pool level stage.Work error.None given in
+-- the range is of an object that the call did not make; and did not free, unless its lock is missing
+pub refusal_aborts : (v next : View) (op : Operation) (range : Range) (r : Refusal) (level : ℕ) → 1 ≤ level → IsUnderWay v level stage.Work error.None → Refuses v next op range r
+    → is_new_in v range.id.off ≡ false → (r ≢ refusal.NotLocked → is_freed_in v range.id.off ≡ false) → WasAborted next (error.Refused r)
+refusal_aborts v next op range r level some under_way refuses found unless =
+    aborts_call v next op (Some (Refused r)) level (error.Refused r) under_way refuses.tells.keeps (same_found v next refuses.tells.locks) (λ actions. refl) refuses.tells.call refuses.takes_back
+    (λ w header pool same_id before c.
     let asked : Asked v w header op range c.tx = record {
-      works = call_works v w header pool level some is_open c;
+      works = call_works v w header pool level some under_way c;
       is_range = refuses.is_range;
-      of_pool = same_pool v w header c.tx c.holds same_id;
+      of_pool = same_pool v w header c.base c.tx c.holds c.changed same_id;
       locks = c.locks;
       recorded = c.recorded;
       records = c.records;
-      long = λ write held size_known. (object_under v w header pool level range.id write is_open before c held size_known).long;
+      tracks = c.tracks;
+      found = found;
+      long = λ write held size_known kept. (object_under v w header pool level range.id write under_way before c held size_known (record { found = found; kept = kept })).long;
     } in
-    let is : IsRefusedFor c.tx op r = by_reason v w header op range c.tx r asked refuses.reason in (
+    let is : IsRefusedFor c.tx op r = by_reason v w header op range c.tx r asked unless refuses.reason in (
       refused_answers c.tx op r (ranged_known op range refuses.is_range) is,
       after_refused op (Some (Refused r)) c.tx r (record { traced = is.traced; told = refl }) ∙ ap (λ (b : Bool). cond b c.tx (aborted (error.Refused r) c.tx)) (ranged_asks op range refuses.is_range).no_action,
     ))
 
 -- an abort that is asked for
-pub abort_gives_up : (v next : View) (errnum level : ℕ) → 1 ≤ level → IsOpen v level stage.Work error.None → Tells v next (Abort errnum) None → TakesBack v next → IsGivenUp next (error_for errnum)
-abort_gives_up v next errnum level some is_open tells back =
-    gives_up v next (Abort errnum) None level (error_for errnum) is_open tells.keeps (same_found v next tells.locks) (λ actions. refl) tells.call back
-    (λ w header pool same_id before given.
-    let c : ComesTo v w header pool level stage.Work error.None = told_unmade v w header pool level stage.Work error.None given in (
-      answers_done c.tx (Abort errnum) None refl (record { known = refl; no_wants = refl; no_begin = refl; aligned = refl; no_more = λ tx. refl; no_action = refl })
-          (passes_all c.tx (Abort errnum) (call_works v w header pool level some is_open c) (record { known = refl; no_wants = refl; no_begin = refl; aligned = refl; no_more = λ tx. refl; no_action = refl }) refl refl refl refl) refl,
+pub abort_aborts : (v next : View) (errnum level : ℕ) → 1 ≤ level → IsUnderWay v level stage.Work error.None → Tells v next (Abort errnum) None → TakesBack v next → WasAborted next (error_for errnum)
+abort_aborts v next errnum level some under_way tells back =
+    aborts_call v next (Abort errnum) None level (error_for errnum) under_way tells.keeps (same_found v next tells.locks) (λ actions. refl) tells.call back
+    (λ w header pool same_id before c.
+    let asks : AsksNoLock (Abort errnum) = record { no_wants = refl; no_begin = refl; no_alloc = refl; no_free = refl; aligned = refl; no_more = λ tx. refl; no_action = refl } in (
+      answers_done c.tx (Abort errnum) None refl asks (passes_all c.tx (Abort errnum) (call_works v w header pool level some under_way c) asks refl refl refl refl refl) refl,
       refl,
     ))
 
@@ -286,12 +310,39 @@ aborted_runs [] pool actions last runs stands =
     absurd cc
 aborted_runs (t ∷ told) pool actions last runs stands = runs_to_end t told pool actions last runs (ap is_working stands)
 
-pub given_up_changes_nothing : (v : View) (e : TxErr) → IsGivenUp v e → (w : ℕ → ℕ) (header : Header) (pool : PoolView) → HoldsPool w v.lanes v.zones header pool → v.pool ≡ header.id → IsBefore v w
-    → Turns v pool pool
-given_up_changes_nothing v e given_up w header pool holds id before = λ actions own.
-    let c : ComesToNothing v pool e = given_up.comes w header pool holds id before in
+pub aborted_changes_nothing : (v : View) (e : TxErr) → WasAborted v e → (w : ℕ → ℕ) (header : Header) (pool : PoolView) → HoldsPool w v.lanes v.zones header pool → v.pool ≡ header.id → IsBefore v w
+    → HasRoomFor pool (allocated_in v) → Turns v pool pool
+aborted_changes_nothing v e was_aborted w header pool holds id before room = λ actions own.
+    let c : ComesToNothing v pool e = was_aborted.comes w header pool holds id before room in
     inl (record {
       last = c.tx;
       runs = aborted_runs (told_in v) pool (pending_before v) c.tx c.runs c.stands;
       leaves = record { pending = own; leaves = (λ i. let s : State = record { pool = sym c.unchanged i; actions = with_pending actions v.lane (sym c.actions i) } in s) };
     })
+
+pub given_up_changes_nothing : (v : View) (e : TxErr) → IsGivenUp v e → (w : ℕ → ℕ) (header : Header) (pool : PoolView) → HoldsPool w v.lanes v.zones header pool → v.pool ≡ header.id → IsBefore v w
+    → Turns v pool pool
+given_up_changes_nothing v e given_up w header pool holds id before = aborted_changes_nothing v e given_up.aborted w header pool holds id before (room_for_none v pool given_up.keeps)
+
+-- ---- calls that allocated and freed nothing
+
+pub gives_up : (v next : View) (op : Operation) (reply : Option Value) → allocated_by op reply ≡ [] → next.call ≡ v.call ++ record { operation = op; reply = reply } ∷ [] → KeepsBlocks v → (e : TxErr) → WasAborted next e → IsGivenUp next e
+gives_up v next op reply none call keeps e was_aborted = record { aborted = was_aborted; keeps = allocated_once_more v next op reply call ∙ (λ j. keeps.allocated j ++ none j) }
+
+-- no refusal of a range allocates
+ranged_allocates_none : (op : Operation) (range : Range) (reply : Option Value) → range_of op ≡ Some range → allocated_by op reply ≡ []
+ranged_allocates_none (AddRange id off len) range reply is = refl
+ranged_allocates_none (Write id off bytes) range reply is = refl
+ranged_allocates_none (Read id off len) range reply is = refl
+ranged_allocates_none op range reply is = absurd cc
+
+pub refusal_gives_up : (v next : View) (op : Operation) (range : Range) (r : Refusal) (level : ℕ) → 1 ≤ level → IsOpen v level stage.Work error.None → Refuses v next op range r
+    → IsGivenUp next (error.Refused r)
+refusal_gives_up v next op range r level some is_open refuses =
+    let old : IsOldIn v range.id.off = old_of_none v is_open.keeps range.id.off in
+    gives_up v next op (Some (Refused r)) (ranged_allocates_none op range (Some (Refused r)) refuses.is_range) refuses.tells.call is_open.keeps (error.Refused r)
+    (refusal_aborts v next op range r level some is_open.under_way refuses old.found (λ other. old.kept))
+
+pub abort_gives_up : (v next : View) (errnum level : ℕ) → 1 ≤ level → IsOpen v level stage.Work error.None → Tells v next (Abort errnum) None → TakesBack v next → IsGivenUp next (error_for errnum)
+abort_gives_up v next errnum level some is_open tells back =
+    gives_up v next (Abort errnum) None refl tells.call is_open.keeps (error_for errnum) (abort_aborts v next errnum level some is_open.under_way tells back)

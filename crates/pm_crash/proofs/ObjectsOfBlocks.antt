@@ -1,9 +1,10 @@
 -- The objects of a pool are those of its blocks, each at its block's offset.
-use Rattle.std.proofs.Common.{◌≡◌, ◌≢◌, ⊎_elim, ℕ, ◌+◌, ◌*◌, ◌≤◌, Bool, true, false, cond, eqb, List, [], ◌∷◌, length, map, Some, None, IsSome, IfSome, refl, sym, ◌∙◌, ap, subst, arith}
+use Rattle.std.proofs.Common.{◌≡◌, ◌≢◌, ⊎_elim, ℕ, zero, suc, ◌+◌, ◌*◌, ◌<◌, ◌≤◌, Bool, true, false, cond, eqb, List, [], ◌∷◌, get_or, length, map, Some, None, IsSome, IfSome, refl, sym, ◌∙◌, ap, subst, arith}
 use Rattle.std.specs.List.{Contains}
+use Rattle.std.specs.List.Sorted.{IsStrictlyIncreasing}
 use Rattle.std.proofs.lemmas.Bool.{eq-eqb, eqb-true, ne_eqb}
 use Rattle.pm_header.specs.declared.header.Header.{Header}
-use Rattle.pm_objects.specs.Pool.{Objects, object_at}
+use Rattle.pm_objects.specs.Pool.{Objects, object_at, offsets}
 use Rattle.pm_objects.specs.declared.pool.Object.{Object}
 use Rattle.pm_objects.specs.declared.pool.PoolView.{PoolView}
 use Rattle.pm_image.specs.declared.block.Block.{Block}
@@ -85,3 +86,20 @@ root_is_there w lanes zones header pool holds some =
     let named : IsSome (object_at (objects_in w bs) (w 64)) =
     subst (λ (t : Bool). IfSome (cond t None (Some (w 64))) (λ off. IsSome (object_at (objects_in w bs) off))) (ne_eqb (w 64) 0 some) (root_there w bs good) in
     subst (λ (p : PoolView). IsSome (object_at p.objects (w 64))) (sym holds.is_pool) named
+
+-- the objects of rising blocks are in rising offsets
+offsets_rise : (w : ℕ → ℕ) (count from : ℕ) (bs : List Block) → Rise from bs → ((b : Block) → Contains bs b → 1 ≤ b.lines) → IsStrictlyIncreasing (offsets (map (λ (b : Block). (offset_in b, object_in w count b)) bs))
+offsets_rise w count from [] rise lines k inside = absurd (omega (arith, inside))
+offsets_rise w count from (b ∷ []) rise lines k inside = absurd (omega (arith, inside))
+offsets_rise w count from (b ∷ c ∷ bs) rise lines zero inside = let some = lines b (first_member b (c ∷ bs)) in let next = rise.1.0 in omega (arith, some, next)
+offsets_rise w count from (b ∷ c ∷ bs) rise lines (suc k) inside =
+    let rest : List ℕ = offsets (map (λ (x : Block). (offset_in x, object_in w count x)) (c ∷ bs)) in
+    let further : suc k + 1 ≡ suc (k + 1) = omega arith in
+    subst (λ (n : ℕ). get_or rest k 0 < get_or (offset_in b ∷ rest) n 0) (sym further) (offsets_rise w count (b.place + 64 * b.lines) (c ∷ bs) rise.1 (λ x there. lines x (later_member b (c ∷ bs) x there)) k (omega (arith, inside)))
+
+pub objects_rise : (w : ℕ → ℕ) (lanes zones : ℕ) (header : Header) (pool : PoolView) → HoldsPool w lanes zones header pool → IsStrictlyIncreasing (offsets pool.objects)
+unfolding objects_in
+objects_rise w lanes zones header pool holds =
+    let bs : List Block = blocks w lanes zones in
+    subst (λ (p : PoolView). IsStrictlyIncreasing (offsets p.objects)) (sym holds.is_pool)
+    (offsets_rise w (length bs) 0 bs (rising w lanes zones holds.no_fault) (λ b inside. lines_of_block w lanes zones b holds.no_fault inside))

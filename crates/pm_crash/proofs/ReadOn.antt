@@ -21,30 +21,31 @@ use Rattle.pm_model.specs.Answers.{Answers}
 use Rattle.pm_view.specs.View.{View}
 use Rattle.pm_view.specs.Log.{Recorded}
 use Rattle.pm_crash.proofs.CallWords.{locks_kept}
+use Rattle.pm_crash.specs.CallBlocks.{IsOldIn}
 use Rattle.pm_crash.specs.Held.{HoldsPool}
-use Rattle.pm_crash.specs.OpenCall.{IsBefore, call_words, ComesTo, IsOpen, LiesInBlock, words_recorded}
+use Rattle.pm_crash.specs.OpenCall.{IsBefore, call_words, ComesTo, IsOpen, IsUnderWay, LiesInBlock, words_recorded}
 use Rattle.pm_crash.specs.Operations.{ReadsBytes, bytes_seen}
-use Rattle.pm_crash.proofs.CallWords.{call_works, covered_is_outside, held_is_locked, known_call_word, object_under, same_pool, IsObjectOf}
+use Rattle.pm_crash.proofs.CallWords.{call_works, covered_is_outside, held_is_locked, known_call_word, object_under, one_is_kept, same_pool, IsObjectOf}
+use Rattle.pm_crash.proofs.CallBlocks.{keeps_on, old_of_none}
 use Rattle.pm_crash.proofs.Covered.{covered_has_byte}
-use Rattle.pm_crash.proofs.Continued.{answers_done, still_open}
-use Rattle.pm_crash.proofs.KeptWords.{goes_back, same_call_words, same_found}
+use Rattle.pm_crash.proofs.Continued.{answers_done, known_new, leaves_told, left_apart, left_changed, left_made, left_new, left_tracks, still_under_way, LeavesBlocks}
+use Rattle.pm_crash.proofs.KeptWords.{goes_back, keeps_known, same_call_words, same_found}
 use Rattle.pm_crash.proofs.ObjectBytes.{range_is_read}
-use Rattle.pm_crash.proofs.Passing.{passes_all, Works}
+use Rattle.pm_crash.proofs.Passing.{passes_all, AsksNoLock, Works}
 use Rattle.std.proofs.lemmas.List.Elements.{All-nil}
 use Rattle.std.proofs.lemmas.List.{append-nil}
 use Rattle.pm_crash.specs.Performing.{CanPerform}
-use Rattle.pm_crash.proofs.Unmade.{told_unmade}
 
 -- so many bytes are in their words
 in_words : (size : ℕ) → size ≤ 8 * data_words size
 in_words size = let enough = (div_ceil_times size 8 (omega arith)).0 in omega arith
 
 -- the bytes seen are the model's
-seen_is_read : (v next : View) (id : Oid) (off len level : ℕ) (w : ℕ → ℕ) (header : Header) (pool : PoolView) → IsOpen v level stage.Work error.None → (reads : ReadsBytes v next id off len) → IsBefore v w
+seen_is_read : (v next : View) (id : Oid) (off len level : ℕ) (w : ℕ → ℕ) (header : Header) (pool : PoolView) → IsUnderWay v level stage.Work error.None → (reads : ReadsBytes v next id off len) → IsOldIn v id.off → IsBefore v w
     → (c : ComesTo v w header pool level stage.Work error.None) → bytes_seen v id off len ≡ bytes_at off len (bytes_of c.tx.pool.objects id.off)
-seen_is_read v next id off len level w header pool is_open reads before c =
+seen_is_read v next id off len level w header pool under_way reads old before c =
     let held = reads.range.object in
-    let object : IsObjectOf v w c.tx id held.lock.line = object_under v w header pool level id false is_open before c held reads.range.size_known in
+    let object : IsObjectOf v w c.tx id held.lock.line = object_under v w header pool level id false under_way before c held reads.range.size_known old in
     let words : ℕ → ℕ = call_words v w in
     let inside : off + len ≤ slice_index v.words (8 * held.lock.line + 1) = reads.range.inside in
     let size : size_in words object.block ≡ slice_index v.words (8 * held.lock.line + 1) = object.size in
@@ -60,34 +61,41 @@ seen_is_read v next id off len level w header pool is_open reads before c =
     record { block = object.block; is_there = object.was_there; from = omega arith; to = omega arith } in
     let known : map (slice_index v.words) (covered_words (id.off + off) len) ≡ map words (covered_words (id.off + off) len) =
     map_same (slice_index v.words) words (covered_words (id.off + off) len) (λ i there.
-    sym (known_call_word v w i before (reads.known i there) (covered_is_outside v id false off len i is_open.in_lanes is_open.chunks held there) (lies i there))) in
+    sym (known_call_word v w i before (reads.known i there) (covered_is_outside v id false off len i under_way.in_lanes under_way.chunks held there) (lies i there))) in
     let moved : map words (covered_words (id.off + off) len) ≡ map words (covered_words (offset_in object.block + off) len) = ap (λ (o : ℕ). map words (covered_words (o + off) len)) (sym object.offset) in
     ap (λ (ws : List ℕ). take len (drop (off % 8) (bytes_of_words ws))) (known ∙ moved)
     ∙ sym (range_is_read words v.lanes v.zones off len object.block object.is_there fits)
     ∙ sym (ap (bytes_at off len) object.bytes)
 
-pub read_keeps_open : (v next : View) (id : Oid) (off len level : ℕ) → 1 ≤ level → IsOpen v level stage.Work error.None → ReadsBytes v next id off len → IsOpen next level stage.Work error.None
-read_keeps_open v next id off len level some is_open reads =
+-- what it read the call found, and did not free
+pub read_goes_on : (v next : View) (id : Oid) (off len level : ℕ) → 1 ≤ level → IsUnderWay v level stage.Work error.None → ReadsBytes v next id off len → IsOldIn v id.off → IsUnderWay next level stage.Work error.None
+read_goes_on v next id off len level some under_way reads old =
     let held = reads.range.object in
     let bytes : List ℕ = bytes_seen v id off len in
-    still_open v next level level (Read id off len) (Some (Bytes bytes)) is_open reads.tells
-    (goes_back v next reads.tells.keeps (same_found v next reads.tells.locks) reads.logs (λ i outside none. reads.keeps.words i outside) is_open.outside is_open.under)
-    (λ w header pool same_id before next_before given.
-    let c : ComesTo v w header pool level stage.Work error.None = told_unmade v w header pool level stage.Work error.None given in
-    let object : IsObjectOf v w c.tx id held.lock.line = object_under v w header pool level id false is_open before c held reads.range.size_known in
-    let works : Works c.tx = call_works v w header pool level some is_open c in
+    let leaves : LeavesBlocks v next = leaves_told v next (Read id off len) (Some (Bytes bytes)) reads.tells.call refl (known_new v next (keeps_known v next reads.keeps) under_way.makes) in
+    still_under_way v next level level (Read id off len) (Some (Bytes bytes)) under_way reads.tells
+    (goes_back v next reads.tells.keeps (same_found v next reads.tells.locks) reads.logs (λ i outside none. reads.keeps.words i outside) under_way.outside under_way.under)
+    (left_made v next leaves reads.tells.keeps under_way.makes) (left_apart v next leaves reads.tells.locks under_way.apart)
+    (λ w header pool same_id before next_before room c.
+    let object : IsObjectOf v w c.tx id held.lock.line = object_under v w header pool level id false under_way before c held reads.range.size_known old in
+    let works : Works c.tx = call_works v w header pool level some under_way c in
     let inside : off + len ≤ slice_index v.words (8 * held.lock.line + 1) = reads.range.inside in
     let long : length (bytes_of c.tx.pool.objects id.off) ≡ slice_index v.words (8 * held.lock.line + 1) = object.long in
-    let same : call_words next w ≡ call_words v w = same_call_words v next reads.logs.records reads.keeps is_open.outside w in
+    let same : call_words next w ≡ call_words v w = same_call_words v next reads.logs.records reads.keeps under_way.outside w in
+    let asks : AsksNoLock (Read id off len) = record { no_wants = refl; no_begin = refl; no_alloc = refl; no_free = refl; aligned = refl; no_more = λ tx. refl; no_action = refl } in
     let answers : Answers c.tx (Read id off len) (Some (Bytes bytes)) =
-    answers_done c.tx (Read id off len) (Some (Bytes bytes)) refl (record { known = refl; no_wants = refl; no_begin = refl; aligned = refl; no_more = λ tx. refl; no_action = refl })
-    (passes_all c.tx (Read id off len) works (record { known = refl; no_wants = refl; no_begin = refl; aligned = refl; no_more = λ tx. refl; no_action = refl })
-    (held_is_locked v id false c.tx held c.locks (same_pool v w header c.tx c.holds same_id))
+    answers_done c.tx (Read id off len) (Some (Bytes bytes)) refl asks
+    (passes_all c.tx (Read id off len) works asks (one_is_kept v c.tx c.tracks id.off old)
+    (held_is_locked v id false c.tx held c.locks (same_pool v w header c.base c.tx c.holds c.changed same_id))
     (le-ltb (length (bytes_of c.tx.pool.objects id.off)) (off + len) (omega arith)) refl refl)
-    (ap (λ (bs : List ℕ). Some (Bytes bs)) (seen_is_read v next id off len level w header pool is_open reads before c)) in
+    (ap (λ (bs : List ℕ). Some (Bytes bs)) (seen_is_read v next id off len level w header pool under_way reads old before c)) in
     record {
       answers = answers;
-      holds = subst (λ (f : ℕ → ℕ). HoldsPool f v.lanes v.zones header c.tx.pool) (sym same) c.holds;
+      base = c.base;
+      holds = subst (λ (f : ℕ → ℕ). HoldsPool f v.lanes v.zones header c.base) (sym same) c.holds;
+      changed = left_changed v next c.base c.tx.pool leaves c.changed;
+      unfound = λ o new. c.unfound o (sym (left_new v next o leaves) ∙ new);
+      tracks = left_tracks v next c.tx leaves c.tracks;
       before = refl;
       locks = locks_kept c.tx v next reads.tells.locks c.locks;
       recorded = c.recorded ∙ ap words_recorded (sym reads.logs.records);
@@ -97,10 +105,14 @@ read_keeps_open v next id off len level some is_open reads =
       fails = refl;
       actions = refl;
       moved = sym (append-nil c.tx.moved);
-      no_made = refl;
-      no_dropped = refl;
-      no_freed = refl;
       performable = All-nil (CanPerform w v.lanes v.zones);
       blocks_stay = ap (λ (f : ℕ → ℕ). blocks f v.lanes v.zones) same;
       sizes_stay = λ block there. ap (λ (f : ℕ → ℕ). size_in f block) same;
     })
+
+-- so is a read of a call that allocated and freed nothing
+pub read_keeps_open : (v next : View) (id : Oid) (off len level : ℕ) → 1 ≤ level → IsOpen v level stage.Work error.None → ReadsBytes v next id off len → IsOpen next level stage.Work error.None
+read_keeps_open v next id off len level some is_open reads = record {
+  under_way = read_goes_on v next id off len level some is_open.under_way reads (old_of_none v is_open.keeps id.off);
+  keeps = keeps_on v next (Read id off len) (Some (Bytes (bytes_seen v id off len))) reads.tells.call refl refl is_open.keeps;
+}

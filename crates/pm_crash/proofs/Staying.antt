@@ -16,12 +16,14 @@ use Rattle.pm_view.specs.Log.{Recorded}
 use Rattle.pm_view.specs.View.{View, Lock}
 use Rattle.pm_world.specs.Records.{is_recorded}
 use Rattle.pm_crash.proofs.CallWords.{locks_kept, same_made_words}
+use Rattle.pm_crash.specs.CallBlocks.{HasRoomFor, IsMadeIn, NewObject, allocated_in, blocks_in}
 use Rattle.pm_crash.specs.Held.{HoldsPool}
-use Rattle.pm_crash.specs.OpenCall.{IsBefore, ComesTo, ComesToNothing, IsGivenUp, IsOpen, IsWholeCall, RecordsUnder, MakesStep, call_words, made_words, words_recorded}
+use Rattle.pm_crash.specs.OpenCall.{IsBefore, ComesTo, ComesToNothing, IsGivenUp, IsOpen, IsUnderWay, IsWholeCall, RecordsUnder, MakesStep, WasAborted, call_words, made_words, words_recorded}
 use Rattle.pm_crash.specs.Pending.{act_of, pending_in, published_in, told_in, told_of}
 use Rattle.pm_crash.specs.Performing.{CanPerform}
 use Rattle.pm_crash.specs.Operations.{KeepsKnown, KeepsLog, KeepsWords, TakesBack, TellsNothing}
-use Rattle.pm_crash.proofs.Continued.{runs_told, two_same}
+use Rattle.pm_crash.proofs.CallBlocks.{keeps_still, same_allocated, same_blocks}
+use Rattle.pm_crash.proofs.Continued.{known_new, left_apart, left_changed, left_made, left_new, left_tracks, runs_told, two_same, LeavesBlocks}
 use Rattle.pm_crash.proofs.PendingOn.{pending_same, published_same, same_before}
 use Rattle.pm_crash.proofs.GivenUp.{outside_taken_back, taken_back, under_taken_back}
 use Rattle.pm_crash.proofs.KeptWords.{keeps_known, known_back, outside_kept, same_known_words, same_found, under_kept}
@@ -53,13 +55,21 @@ quiet_made v next made made' header pool quiet same holds =
     two_same (λ (n m : ℕ). HoldsPool made' n m header pool) v.lanes next.lanes v.zones next.zones (sym quiet.keeps.lanes) (sym quiet.keeps.zones)
     (subst (λ (f : ℕ → ℕ). HoldsPool f v.lanes v.zones header pool) (sym same) holds)
 
-open_stays_so : (v next : View) (level : ℕ) (at_stage : Stage) (e : TxErr) (w : ℕ → ℕ) (header : Header) (pool : PoolView) → TellsNothing v next → KeepsLog v next → call_words next w ≡ call_words v w
+-- nothing is told, so the blocks that it changed are the same
+quiet_leaves : (v next : View) → TellsNothing v next → KeepsKnown v next → ((n : NewObject) → Contains (blocks_in v).made n → IsMadeIn v n) → LeavesBlocks v next
+quiet_leaves v next quiet words makes = record { blocks = same_blocks v next quiet.call; same = known_new v next words makes }
+
+comes_still : (v next : View) (level : ℕ) (at_stage : Stage) (e : TxErr) (w : ℕ → ℕ) (header : Header) (pool : PoolView) → TellsNothing v next → KeepsLog v next → LeavesBlocks v next → call_words next w ≡ call_words v w
     → ComesTo v w header pool level at_stage e → ComesTo next w header pool level at_stage e
-open_stays_so v next level at_stage e w header pool quiet logs same c =
+comes_still v next level at_stage e w header pool quiet logs leaves same c =
     record {
       tx = c.tx;
       runs = runs_told v next pool c.tx quiet.keeps.entries (same_told v next quiet) c.runs;
-      holds = quiet_made v next (call_words v w) (call_words next w) header c.tx.pool quiet same c.holds;
+      base = c.base;
+      holds = quiet_made v next (call_words v w) (call_words next w) header c.base quiet same c.holds;
+      changed = left_changed v next c.base c.tx.pool leaves c.changed;
+      unfound = λ o new. c.unfound o (sym (left_new v next o leaves) ∙ new);
+      tracks = left_tracks v next c.tx leaves c.tracks;
       before = c.before;
       locks = locks_kept c.tx v next quiet.locks c.locks;
       recorded = c.recorded ∙ ap words_recorded (sym logs.records);
@@ -69,9 +79,6 @@ open_stays_so v next level at_stage e w header pool quiet logs same c =
       fails = c.fails;
       actions = c.actions ∙ sym (pending_same v next quiet.keeps.entries quiet.call);
       moved = c.moved ∙ sym (published_same v next quiet.keeps.entries quiet.call);
-      no_made = c.no_made;
-      no_dropped = c.no_dropped;
-      no_freed = c.no_freed;
       performable =
           two_same (λ (n m : ℕ). All (CanPerform w n m) (published_in next)) v.lanes next.lanes v.zones next.zones (sym quiet.keeps.lanes) (sym quiet.keeps.zones)
           (subst (All (CanPerform w v.lanes v.zones)) (sym (published_same v next quiet.keeps.entries quiet.call)) c.performable);
@@ -83,22 +90,36 @@ open_stays_so v next level at_stage e w header pool quiet logs same c =
           (sym quiet.keeps.lanes) (sym quiet.keeps.zones) (λ block there. ap (λ (f : ℕ → ℕ). size_in f block) same ∙ c.sizes_stay block there);
     }
 
-pub open_learns : (v next : View) (level : ℕ) (at_stage : Stage) (e : TxErr) → IsOpen v level at_stage e → TellsNothing v next → KeepsLog v next → KeepsKnown v next → IsOpen next level at_stage e
-open_learns v next level at_stage e is_open quiet logs words =
+-- a pool has room for what was allocated as before
+quiet_room : (v next : View) → TellsNothing v next → (pool : PoolView) → HasRoomFor pool (allocated_in next) → HasRoomFor pool (allocated_in v)
+quiet_room v next quiet pool = subst (HasRoomFor pool) (same_allocated v next quiet.call)
+
+pub goes_on_learning : (v next : View) (level : ℕ) (at_stage : Stage) (e : TxErr) → IsUnderWay v level at_stage e → TellsNothing v next → KeepsLog v next → KeepsKnown v next → IsUnderWay next level at_stage e
+goes_on_learning v next level at_stage e under_way quiet logs words =
     let lane : next.lane ≡ v.lane = quiet.keeps.lane in
     let lanes : next.lanes ≡ v.lanes = quiet.keeps.lanes in
-    let inside : v.lane < v.lanes = is_open.in_lanes in
+    let inside : v.lane < v.lanes = under_way.in_lanes in
+    let leaves : LeavesBlocks v next = quiet_leaves v next quiet words under_way.makes in
     record {
       in_lanes = omega arith;
-      few = subst (λ (locks : List Lock). length locks ≤ 64) (sym quiet.locks) is_open.few;
-      chunks = λ l lines held found. ap (λ (n : ℕ). is_chunk n (l.line / 64)) lanes ∙ is_open.chunks l lines (subst (λ (locks : List Lock). Contains locks l) quiet.locks held) found;
-      outside = outside_kept v next quiet.keeps logs.records is_open.outside;
-      under = under_kept v next (same_found v next quiet.locks) logs.records is_open.under;
-      unentered = logs.entries ∙ is_open.unentered;
-      comes = λ w header pool holds id before.
-          open_stays_so v next level at_stage e w header pool quiet logs (same_known_words v next logs.records words is_open.outside w)
-          (is_open.comes w header pool (quiet_holds v next quiet w header pool holds) (sym quiet.keeps.pool ∙ id) (quiet_back v next quiet logs words w before));
+      few = subst (λ (locks : List Lock). length locks ≤ 64) (sym quiet.locks) under_way.few;
+      chunks = λ l lines held found. ap (λ (n : ℕ). is_chunk n (l.line / 64)) lanes ∙ under_way.chunks l lines (subst (λ (locks : List Lock). Contains locks l) quiet.locks held) found;
+      outside = outside_kept v next quiet.keeps logs.records under_way.outside;
+      under = under_kept v next (same_found v next quiet.locks) logs.records under_way.under;
+      unentered = logs.entries ∙ under_way.unentered;
+      makes = left_made v next leaves quiet.keeps under_way.makes;
+      apart = left_apart v next leaves quiet.locks under_way.apart;
+      comes = λ w header pool holds id before room.
+          comes_still v next level at_stage e w header pool quiet logs leaves (same_known_words v next logs.records words under_way.outside w)
+          (under_way.comes w header pool (quiet_holds v next quiet w header pool holds) (sym quiet.keeps.pool ∙ id) (quiet_back v next quiet logs words w before) (quiet_room v next quiet pool room));
     }
+
+pub goes_on_quietly : (v next : View) (level : ℕ) (at_stage : Stage) (e : TxErr) → IsUnderWay v level at_stage e → TellsNothing v next → KeepsLog v next → KeepsWords v next → IsUnderWay next level at_stage e
+goes_on_quietly v next level at_stage e under_way quiet logs words = goes_on_learning v next level at_stage e under_way quiet logs (keeps_known v next words)
+
+-- so it is of a call that allocated and freed nothing
+pub open_learns : (v next : View) (level : ℕ) (at_stage : Stage) (e : TxErr) → IsOpen v level at_stage e → TellsNothing v next → KeepsLog v next → KeepsKnown v next → IsOpen next level at_stage e
+open_learns v next level at_stage e is_open quiet logs words = record { under_way = goes_on_learning v next level at_stage e is_open.under_way quiet logs words; keeps = keeps_still v next quiet.call is_open.keeps }
 
 pub whole_learns : (v next : View) → IsWholeCall v → TellsNothing v next → KeepsLog v next → KeepsKnown v next → IsWholeCall next
 whole_learns v next whole quiet logs words = record {
@@ -121,13 +142,14 @@ pub whole_stays : (v next : View) → IsWholeCall v → TellsNothing v next → 
 whole_stays v next whole quiet logs words = whole_learns v next whole quiet logs (keeps_known v next words)
 
 -- a call that was given up stays so, where it goes back to what was before it
-still_given_up : (v next : View) (e : TxErr) → IsGivenUp v e → TellsNothing v next → ((i : ℕ) → is_recorded next.log.records i ≡ true → is_in_area next.lane i ≡ false)
-    → RecordsUnder next → ((w : ℕ → ℕ) → IsBefore next w → IsBefore v w) → IsGivenUp next e
-still_given_up v next e given_up quiet outside under back = record {
+still_aborted : (v next : View) (e : TxErr) → WasAborted v e → TellsNothing v next → ((i : ℕ) → is_recorded next.log.records i ≡ true → is_in_area next.lane i ≡ false)
+    → RecordsUnder next → ((w : ℕ → ℕ) → IsBefore next w → IsBefore v w) → WasAborted next e
+still_aborted v next e was_aborted quiet outside under back = record {
   outside = outside;
   under = under;
-  comes = λ w header pool holds id before.
-      let c : ComesToNothing v pool e = given_up.comes w header pool (quiet_holds v next quiet w header pool holds) (sym quiet.keeps.pool ∙ id) (back w before) in
+  comes = λ w header pool holds id before room.
+      let c : ComesToNothing v pool e =
+      was_aborted.comes w header pool (quiet_holds v next quiet w header pool holds) (sym quiet.keeps.pool ∙ id) (back w before) (quiet_room v next quiet pool room) in
       record {
         tx = c.tx;
         runs = runs_told v next pool c.tx quiet.keeps.entries (same_told v next quiet) c.runs;
@@ -138,11 +160,18 @@ still_given_up v next e given_up quiet outside under back = record {
       };
 }
 
+pub aborted_stays : (v next : View) (e : TxErr) → WasAborted v e → TellsNothing v next → TakesBack v next → WasAborted next e
+aborted_stays v next e was_aborted quiet back =
+    still_aborted v next e was_aborted quiet (outside_taken_back v next quiet.keeps back was_aborted.outside)
+    (under_taken_back v next (same_found v next quiet.locks) back was_aborted.under) (taken_back v next quiet.keeps (same_found v next quiet.locks) back was_aborted.outside was_aborted.under)
+
+pub aborted_learns : (v next : View) (e : TxErr) → WasAborted v e → TellsNothing v next → KeepsLog v next → KeepsKnown v next → WasAborted next e
+aborted_learns v next e was_aborted quiet logs words = still_aborted v next e was_aborted quiet (outside_kept v next quiet.keeps logs.records was_aborted.outside)
+    (under_kept v next (same_found v next quiet.locks) logs.records was_aborted.under) (quiet_back v next quiet logs words)
+
+-- so does one that allocated nothing
 pub given_up_stays : (v next : View) (e : TxErr) → IsGivenUp v e → TellsNothing v next → TakesBack v next → IsGivenUp next e
-given_up_stays v next e given_up quiet back =
-    still_given_up v next e given_up quiet (outside_taken_back v next quiet.keeps back given_up.outside)
-    (under_taken_back v next (same_found v next quiet.locks) back given_up.under) (taken_back v next quiet.keeps (same_found v next quiet.locks) back given_up.outside given_up.under)
+given_up_stays v next e given_up quiet back = record { aborted = aborted_stays v next e given_up.aborted quiet back; keeps = same_allocated v next quiet.call ∙ given_up.keeps }
 
 pub given_up_learns : (v next : View) (e : TxErr) → IsGivenUp v e → TellsNothing v next → KeepsLog v next → KeepsKnown v next → IsGivenUp next e
-given_up_learns v next e given_up quiet logs words = still_given_up v next e given_up quiet (outside_kept v next quiet.keeps logs.records given_up.outside)
-    (under_kept v next (same_found v next quiet.locks) logs.records given_up.under) (quiet_back v next quiet logs words)
+given_up_learns v next e given_up quiet logs words = record { aborted = aborted_learns v next e given_up.aborted quiet logs words; keeps = same_allocated v next quiet.call ∙ given_up.keeps }

@@ -11,6 +11,7 @@ use Rattle.pm_model.specs.Actions.{Action, max_actions, max_entries, object_of, 
 use Rattle.pm_model.specs.Actions.Action.{SetWord}
 use Rattle.pm_view.specs.View.{View}
 use Rattle.pm_world.specs.Records.{pool_entries}
+use Rattle.pm_crash.specs.CallBlocks.{blocks_in}
 use Rattle.pm_crash.specs.Operations.{HasRange, IsHeld, IsNotHeld, KeepsLog, KeepsWords, PassesEnd, TakesBack, TakesWanted, Tells}
 use Rattle.pm_crash.specs.Pending.{pending_before, pending_in, published_in}
 use Rattle.pm_crash.specs.Performing.{IsWord, entry_for}
@@ -48,6 +49,25 @@ PassesObject v (SetWord id off value) = PassesEnd v id off 8 true
 -- so many entries the transaction would have with all that is pending, that of its lane's generation among them
 abbrev pub entries_wanted : View → ℕ
 entries_wanted v = length (published_in v) + length (pending_in v) + 1
+
+-- and so many with those for what it made and freed
+abbrev pub entries_in : View → ℕ
+entries_in v = entries_wanted v + (length (blocks_in v).made + length (blocks_in v).freed)
+
+-- what is pending can be published in a call that may have made and freed objects, the lane told so, and did nothing else
+pub record PublishesIn (v next : View) : Type 0 where
+  pub tells : Tells v next Publish None
+  pub logs : KeepsLog v next
+  pub words : KeepsWords v next
+  pub each : All (CanSet v) (pending_in v)
+  pub room : entries_in v ≤ max_entries
+
+-- why such a publish is refused: the first of these that holds of all that is pending
+abbrev pub IsPublishReasonIn : View → Refusal → Type 0
+IsPublishReasonIn v refusal.NotLocked = Any (λ (a : Action). IsNotHeld v (object_of a) true) (pending_in v)
+IsPublishReasonIn v refusal.OutOfRange = All (λ (a : Action). IsHeld v (object_of a) true) (pending_in v) × Any (PassesObject v) (pending_in v)
+IsPublishReasonIn v refusal.ActionsFull = All (CanSet v) (pending_in v) × (max_entries < entries_in v)
+IsPublishReasonIn v r = ⊥
 
 -- what is pending can be published, the lane told so, and did nothing else
 pub record MovesActions (v next : View) : Type 0 where

@@ -15,7 +15,7 @@ use Rattle.pm_model.specs.declared.stage.Stage.{Stage}
 use Rattle.pm_model.specs.declared.stage.Stage.TheVariants as stage
 use Rattle.pm_model.specs.Transaction.{Transaction, Lock as Locked, resting, is_working}
 use Rattle.pm_model.specs.Answers.{Told as Answered, Answers, after}
-use Rattle.pm_model.specs.Actions.{Action}
+use Rattle.pm_model.specs.Actions.{Action, with_actions}
 use Rattle.pm_model.specs.Step.{Step, with_pending}
 use Rattle.pm_view.specs.Area.{is_in_area}
 use Rattle.pm_view.specs.Blocks.{is_chunk}
@@ -23,7 +23,8 @@ use Rattle.pm_view.specs.Log.{Recorded}
 use Rattle.pm_view.specs.View.{View, Lock}
 use Rattle.pm_world.specs.History.{made_final}
 use Rattle.pm_world.specs.Records.{IsRecordAt, is_recorded, pool_entries}
-use Rattle.pm_crash.specs.CallBlocks.{CallBlocks, HasRoomFor, IsMadeIn, KeepsBlocks, NewObject, allocated_in, blocks_in, is_freed_in, is_new_in, object_made}
+use Rattle.pm_crash.specs.CallBlocks.{CallBlocks, HasRoomFor, IsMadeIn, KeepsBlocks, NewObject, allocated_in, block_of, blocks_in, is_freed_in, is_new_in, object_made}
+use Rattle.pm_crash.specs.HeapChanges.{AreDisjoint}
 use Rattle.pm_crash.specs.Locks.{AreSameLocks}
 use Rattle.pm_crash.specs.Held.{HoldsPool}
 use Rattle.pm_crash.specs.Pending.{act_of, pending_before, pending_in, published_in, told_in}
@@ -144,9 +145,13 @@ pub record ComesTo (v : View) (w : ℕ → ℕ) (header : Header) (pool : PoolVi
   pub blocks_stay : blocks (call_words v w) v.lanes v.zones ≡ blocks w v.lanes v.zones
   pub sizes_stay : (block : Block) → Contains (blocks w v.lanes v.zones) block → size_in (call_words v w) block ≡ size_in w block
 
+-- no block that the call made overlaps one that it found under a lock
+abbrev pub LieApart : View → Type 0
+LieApart v = (n : NewObject) (l : Lock) (lines : ℕ) → Contains (blocks_in v).made n → Contains v.locks l → l.block ≡ Some lines → AreDisjoint (block_of n) (block_at_line l.line lines)
+
 -- The lane has a call under way at this level, in this stage and with this error, whatever pool the words before it hold, if that has room for what the
 -- call allocated. It holds 64 locks at most, each of a line of a chunk where it found a block there, recorded words of those blocks alone, has no redo
--- entries, which come with the commit, and has in its words what it made
+-- entries, which come with the commit, and has in its words what it made, apart from what it found
 pub record IsUnderWay (v : View) (level : ℕ) (at_stage : Stage) (error : TxErr) : Type 0 where
   pub in_lanes : v.lane < v.lanes
   pub few : length v.locks ≤ 64
@@ -155,6 +160,7 @@ pub record IsUnderWay (v : View) (level : ℕ) (at_stage : Stage) (error : TxErr
   pub under : RecordsUnder v
   pub unentered : v.log.entries ≡ []
   pub makes : (n : NewObject) → Contains (blocks_in v).made n → IsMadeIn v n
+  pub apart : LieApart v
   pub comes : (w : ℕ → ℕ) (header : Header) (pool : PoolView) → HoldsPool w v.lanes v.zones header pool → v.pool ≡ header.id → IsBefore v w → HasRoomFor pool (allocated_in v)
       → ComesTo v w header pool level at_stage error
 
@@ -184,6 +190,17 @@ pub record WasAborted (v : View) (error : TxErr) : Type 0 where
 pub record IsGivenUp (v : View) (error : TxErr) : Type 0 where
   pub aborted : WasAborted v error
   pub keeps : allocated_in v ≡ []
+
+-- Committed as `next`, the call turns the pool before it into the transaction's copy with what it published performed. The words that it stored hold a
+-- pool, and the copy is that one with what the call made and freed
+pub record CommitsTo (v next : View) (w : ℕ → ℕ) (header : Header) (pool : PoolView) : Type 0 where
+  pub base : PoolView
+  pub copy : PoolView
+  pub holds : HoldsPool (call_words v w) v.lanes v.zones header base
+  pub changed : IsChanged v base copy
+  pub unfound : (off : ℕ) → is_new_in v off ≡ true → object_at base.objects off ≡ None
+  pub performable : All (CanPerform (call_words v w) v.lanes v.zones) (published_in v)
+  pub turns : Turns next pool (with_actions (published_in v) copy)
 
 -- the call makes a step of the plain model: from words that hold a pool it makes words that hold the next one
 pub record MakesStep (v : View) (w : ℕ → ℕ) (header : Header) (pool : PoolView) : Type 0 where
