@@ -14,5 +14,10 @@ pub mod GivingBack
 pub mod PromisedTaken
 pub mod TakenBehindLog
 pub mod EndedCalls
+pub mod LeftBlocks
+pub mod EntryBits
+pub mod EntryWords
+pub mod HandedEntries
+pub mod HandedOver
 pub mod PublishedCalls
 pub mod DrawnCalls

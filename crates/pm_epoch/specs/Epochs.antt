@@ -185,6 +185,10 @@ SomeFrees lanes [] at bit = ⊥
 SomeFrees lanes (Performs action ∷ all) at bit = SomeFrees lanes all at bit
 SomeFrees lanes (Changes change ∷ all) at bit = FreesBit lanes change at bit ⊎ SomeFrees lanes all at bit
 
+-- what these allocate the lane reserved
+abbrev pub AllocatesOwn : View → List Published → Type 0
+AllocatesOwn v all = (at : Occ) (bit : ℕ) → SomeAllocates v.lanes all at bit → reserves v at bit ≡ true
+
 -- As its call draws, what the lane publishes leaves what it reserved, and what it frees it has from then on, until it gives it back. It allocates what it
 -- reserved, and frees what its words say is taken.
 pub record HandsOver (v w : View) (all : List Published) : Type 0 where

@@ -42,7 +42,7 @@ ghost use Rattle.pm_fresh.specs.Making.{page_in};
 ghost use Rattle.pm_blocks.specs.NewRuns.{IsUnused};
 ghost use Rattle.pm_alloc.specs.NewObjects.{CanMakeObject};
 ghost use Rattle.pm_sealed.specs.Sealed.{LeavesSealed, Publishes, has_nothing};
-ghost use Rattle.pm_epoch.specs.Epochs.{AreOfOwnBits, HandsOver, HasEnded, HasEntriesFor, HasSameHeap, HoldsCalls, HoldsOpenCall, IsAtWorkAlone, IsGiving, IsUnusedChunk, KnowsTaken, MayPublish, PromisesTaken, PublishesAlone, RestsBehindCall};
+ghost use Rattle.pm_epoch.specs.Epochs.{AllocatesOwn, AreOfOwnBits, HandsOver, HasEnded, HasEntriesFor, HasSameHeap, HoldsCalls, HoldsOpenCall, IsAtWorkAlone, IsGiving, IsUnusedChunk, KnowsTaken, MayPublish, PromisesTaken, PublishesAlone, RestsBehindCall};
 
 /// A law: in a world where a lane has each word as it is, what it reserved may be allocated: a block of a run, by the class that the run's
 /// descriptor says, and chunks that are described by 0; and a block that it found under a lock may be freed, unless it is the root's, where
@@ -200,4 +200,11 @@ pub fn a_lane_at_work_knows_what_is_taken()
     ensures freed { (o : Opening) (header : Header) (pool : PoolView) (v w : View) (steps : List Step) → WorksAlone o header pool v steps w → w.freed ≡ [] }
     ensures taken { (o : Opening) (header : Header) (pool : PoolView) (v w : View) (steps : List Step)
         → WorksAlone o header pool v steps w → ((page : ℕ) → is_made w page ≡ false) → KnowsTaken w }
+{}
+
+/// A law: where a lane works alone, with an entry for each thing that it publishes, and allocates only what it reserved, the draw hands over: it has no
+/// longer reserved what is allocated, and has from then on what is freed, which its words say is taken. No code runs.
+pub fn a_draw_hands_over()
+    ensures { (o : Opening) (header : Header) (pool before now : PoolView) (start v : View) (steps : List Step) (n : ℕ) (all : List Published)
+        → WorksAlone o header pool start steps v → HasEntriesFor v header before now all → AllocatesOwn v all → HandsOver v (after v (Draw n)) all }
 {}

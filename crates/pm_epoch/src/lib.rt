@@ -9,7 +9,7 @@
 mod laws;
 
 pub use laws::{
-    a_clear_chunk_is_unused, a_draw_promises_what_will_be_taken, a_filled_block_is_fresh,
+    a_clear_chunk_is_unused, a_draw_hands_over, a_draw_promises_what_will_be_taken, a_filled_block_is_fresh,
     a_lane_alone_holds_its_pools, a_lane_alone_may_change_its_blocks,
     a_lane_alone_may_make_objects, a_lane_alone_publishes_a_pool, a_lane_at_rest_may_begin_again,
     a_lane_at_work_knows_what_is_taken, a_lane_knows_what_is_taken_behind_its_log,

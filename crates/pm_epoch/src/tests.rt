@@ -4,6 +4,7 @@ use super::*;
 #[test]
 fn laws(_rt: HostRuntime) {
     a_clear_chunk_is_unused();
+    a_draw_hands_over();
     a_draw_promises_what_will_be_taken();
     a_filled_block_is_fresh();
     a_lane_alone_holds_its_pools();
