@@ -1,5 +1,5 @@
 -- Which words the entries are of that publish something: an action's word tells of no block, and no entry is of the descriptor of a run.
-use Rattle.std.proofs.Common.{◌≡◌, ◌≢◌, ◌⊎◌, ⊎_elim, inl, inr, ℕ, ◌+◌, ◌-◌, ◌*◌, ◌/◌, ◌%◌, ◌^◌, ◌<◌, ◌≤◌, ◌&&◌, ◌||◌, Bool, true, false, eqb, leb, ltb, List, None, sym, ap, ◌∙◌, subst, arith, eq-eqb}
+use Rattle.std.proofs.Common.{◌≡◌, ◌≢◌, ◌⊎◌, ⊎_elim, inl, inr, ℕ, ◌+◌, ◌-◌, ◌*◌, ◌/◌, ◌%◌, ◌^◌, ◌<◌, ◌≤◌, ◌&&◌, ◌||◌, Bool, true, false, eqb, leb, ltb, List, None, sym, ap, ◌∙◌, subst, arith, eq-eqb, ne_eqb}
 use Rattle.std.specs.List.{list_any, range_with_len}
 use Rattle.std.proofs.lemmas.Bool.{and_parts, eqb-true, false_from_ne_true, false≢true, leb-true, or_parts}
 use Rattle.pm_layout.specs.Sizes.{descriptor_of}
@@ -11,10 +11,12 @@ use Rattle.pm_image.proofs.FaultFree.{block_good}
 use Rattle.pm_image.proofs.HeapWords.{object_fits}
 use Rattle.pm_view.specs.Blocks.{chunk_of, describes, is_chunk, is_run, zone_of, zone_page}
 use Rattle.pm_view.specs.Blocks.{descriptor_word as lane_descriptor}
+use Rattle.pm_view.specs.Bits.{with_bits}
 use Rattle.pm_view.specs.Occupancy.{reaches}
 use Rattle.pm_model.specs.Actions.Action.{SetWord}
 use Rattle.pm_model.specs.Actions.{Action}
 use Rattle.pm_world.specs.Opening.{IsChunk}
+use Rattle.pm_world.proofs.Differences.{with_all_bits}
 use Rattle.pm_world.proofs.HeapWords.{Described, described}
 use Rattle.pm_crash.specs.HeapChanges.HeapChange.{AllocatesChunks, AllocatesInRun, FreesChunks, FreesInRun}
 use Rattle.pm_crash.specs.Performing.{CanPerform, entry_for}
@@ -90,3 +92,15 @@ module _ (w : ℕ → ℕ) (lanes zones : ℕ) (none : heap_fault w lanes zones 
       let is : w (descriptor_word lanes c) ≡ 2 + 256 * chunks = can.is_first in
       let one = eqb-true (w (lane_descriptor lanes page) % 256) 1 run in
       let here = ap w same in omega (arith, is, one, here)
+
+  -- and none makes a descriptor that of a run
+  pub no_run_made : (s : Published) (page x : ℕ) → CanPublish w lanes zones s → IsChunk lanes page → (entry_published lanes s).word ≡ lane_descriptor lanes page
+      → is_run (with_bits (entry_published lanes s).mask (entry_published lanes s).bits x) ≡ false
+  no_run_made (Performs a) page x can chunk same =
+      let low = chunk.0 in let some = chunk.1 in
+      let in_it = in_chunk a can in let from = in_it.0 in let to = in_it.1 in
+      absurd (omega (arith, low, some, from, to, same))
+  no_run_made (Changes (AllocatesInRun c lines index kind bytes)) page x can chunk same = let low = chunk.0 in let some = chunk.1 in absurd (omega (arith, low, some, same))
+  no_run_made (Changes (FreesInRun c lines index)) page x can chunk same = let low = chunk.0 in let some = chunk.1 in absurd (omega (arith, low, some, same))
+  no_run_made (Changes (AllocatesChunks c chunks kind bytes)) page x can chunk same = ap is_run (with_all_bits x (2 + 256 * chunks)) ∙ ne_eqb ((2 + 256 * chunks) % 256) 1 (λ one. omega (arith, one))
+  no_run_made (Changes (FreesChunks c chunks)) page x can chunk same = ap is_run (with_all_bits x 0)

@@ -19,5 +19,7 @@ pub mod EntryBits
 pub mod EntryWords
 pub mod HandedEntries
 pub mod HandedOver
+pub mod StayingWords
+pub mod HeldBehindLog
 pub mod PublishedCalls
 pub mod DrawnCalls

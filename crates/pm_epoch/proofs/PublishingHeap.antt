@@ -42,7 +42,7 @@ zones_again : (v : View) (at : Occ) → zones_with at (occ_in v at) v.zone_words
 zones_again v (Run place) = refl
 zones_again v (Zone zone) = set-get_or v.zone_words zone 0
 
-same_after : (v : View) (s : Step) → is_publishing v.log.phase ≡ true → IsAlone v → Allowed v s → FoundAlone v s → HasSameHeap v (after v s)
+pub same_after : (v : View) (s : Step) → is_publishing v.log.phase ≡ true → IsAlone v → Allowed v s → FoundAlone v s → HasSameHeap v (after v s)
 same_after v (Load w x) publishing alone may found = record { runs = refl; zones = refl; reserved = refl; freed = refl; entries = refl; number = refl }
 same_after v (Store w x) publishing alone may found = record { runs = refl; zones = refl; reserved = refl; freed = refl; entries = refl; number = refl }
 same_after v (Or w bits x) publishing alone may found = record { runs = refl; zones = refl; reserved = refl; freed = refl; entries = refl; number = refl }

@@ -12,11 +12,11 @@ use Rattle.pm_view.specs.View.{Taken, View}
 use Rattle.pm_view.specs.Founds.{IsAlone}
 use Rattle.pm_view.specs.Occupancy.{is_taken}
 use Rattle.pm_view.specs.Steps.{Step}
-use Rattle.pm_view.specs.Steps.Step.{Draw, Give, Vacate, ZoneGive}
+use Rattle.pm_view.specs.Steps.Step.{Draw, Give, Load, Vacate, ZoneGive}
 use Rattle.pm_view.specs.Views.{after, has_bit, is_made, occ_in, reserves, changes_heap}
 use Rattle.std.specs.Int.{bit_at}
 use Rattle.std.specs.List.{list_any}
-use Rattle.pm_world.specs.Entries.{ends_with}
+use Rattle.pm_world.specs.Entries.{ends_with, is_entered}
 use Rattle.pm_world.specs.Heap.{IsOcc, has_taken}
 use Rattle.pm_world.specs.Lawful.{Allowed, generation_limit}
 use Rattle.pm_world.specs.Lanes.{IsOfShape}
@@ -40,7 +40,7 @@ use Rattle.pm_model.specs.declared.stage.Stage.{Stage}
 use Rattle.pm_objects.specs.declared.history.TxErr.{TxErr}
 use Rattle.pm_crash.specs.OpenCall.{ComesTo}
 use Rattle.pm_crash.specs.Pending.{acts_alone, state_alone}
-use Rattle.pm_view.specs.Log.{no_log}
+use Rattle.pm_view.specs.Log.{Final, no_log}
 use Rattle.pm_view.specs.Log.Phase.{Idle}
 
 -- The lane's log has an entry for each of these, in their order, and behind them the one that ends its generation. An image of its words holds the pool before
@@ -197,6 +197,11 @@ pub record HandsOver (v w : View) (all : List Published) : Type 0 where
   pub freed : (at : Occ) (bit : ℕ) → IsOcc v.lanes v.zones at → bit < 64 → (list_any (has_bit at bit) w.freed ≡ true) ↔ SomeFrees v.lanes all at bit
   pub own : (at : Occ) (bit : ℕ) → IsOcc v.lanes v.zones at → bit < 64 → SomeAllocates v.lanes all at bit → reserves v at bit ≡ true
   pub taken : (at : Occ) (bit : ℕ) → IsOcc v.lanes v.zones at → bit < 64 → SomeFrees v.lanes all at bit → is_taken (slice_index v.words) v.lanes at bit ≡ true
+
+-- the step loads no word that one of these entries is of
+abbrev pub LoadsNoneOf : List Final → Step → Type 0
+LoadsNoneOf entries (Load i found) = is_entered entries i ≡ false
+LoadsNoneOf entries s = Unit {0}
 
 -- A lane worked alone to where its call draws this number, which it may publish these with, knowing what will be taken; it published to its log's end, where it
 -- holds what it knows. To the pool with all that was published its calls lead, and the numbers drawn are its own.
