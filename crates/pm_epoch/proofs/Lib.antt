@@ -21,5 +21,5 @@ pub mod HandedEntries
 pub mod HandedOver
 pub mod StayingWords
 pub mod HeldBehindLog
-pub mod PublishedCalls
 pub mod DrawnCalls
+pub mod PublishedCalls

@@ -203,8 +203,9 @@ abbrev pub LoadsNoneOf : List Final → Step → Type 0
 LoadsNoneOf entries (Load i found) = is_entered entries i ≡ false
 LoadsNoneOf entries s = Unit {0}
 
--- A lane worked alone to where its call draws this number, which it may publish these with, knowing what will be taken; it published to its log's end, where it
--- holds what it knows. To the pool with all that was published its calls lead, and the numbers drawn are its own.
+-- A lane worked alone to where its call draws this number, with an entry of its log for each of these. It allocates what it reserved, and no chunk that it
+-- reserved is a run. It published to its log's end, and loaded no word that an entry is of. To the pool with all that was published its calls lead, and the
+-- numbers drawn are its own.
 pub record PublishesAlone (o : Opening) (header : Header) (pool : PoolView) (u : View) (n : ℕ) (all : List Published) (w : View) : Type 0 where
   pub start : View
   pub steps : List Step
@@ -212,12 +213,13 @@ pub record PublishesAlone (o : Opening) (header : Header) (pool : PoolView) (u :
   pub draws : Allowed u (Draw n)
   pub before : PoolView
   pub made : PoolView
-  pub may : MayPublish (after u (Draw n)) header before made all
-  pub promises : PromisesTaken (after u (Draw n)) all
+  pub has : HasEntriesFor u header before made all
+  pub own : AllocatesOwn u all
+  pub no_run : (page : ℕ) → is_made u page ≡ false
   pub log_steps : List Step
   pub publishes : Publishes (after u (Draw n)) log_steps w
+  pub loads : All (LoadsNoneOf u.log.entries) log_steps
   pub over : w.log.phase ≡ Idle
-  pub held : (i : ℕ) → Contains w.known i → IsTrue (is_held w i)
   pub replays : Replays (opened pool) (acts_alone w.entries) (state_alone (all_pool_published o.lanes all made) w.entries)
   pub numbered : AreNumbered 1 w.entries
   pub within : ForSome w.stop (λ stop. w.calls ≤ stop)
