@@ -1,21 +1,21 @@
 -- What an entry of a lane's log allocates and what it frees, bit by bit: that of a change of the heap just the bits of the change, any other none.
-use Rattle.std.proofs.Common.{◌≡◌, ◌≢◌, ◌⊎◌, ◌↔◌, ⊎_elim, ℕ, ◌+◌, ◌-◌, ◌*◌, ◌/◌, ◌%◌, ◌^◌, ◌<◌, ◌≤◌, ◌&&◌, ◌||◌, Bool, true, false, not, cond, eqb, leb, ltb, All, List, [], ◌∷◌, None, slice_index, refl, sym, ap, ◌∙◌, subst, arith, add-zero, eq-eqb, ne_eqb}
-use Rattle.std.specs.Int.{bit_at, bit_not, w64}
+use Rattle.std.proofs.Common.{◌≡◌, ◌≢◌, ◌↔◌, ⊎_elim, ℕ, ◌+◌, ◌-◌, ◌*◌, ◌/◌, ◌%◌, ◌^◌, ◌<◌, ◌≤◌, ◌&&◌, true, false, not, eqb, All, List, [], ◌∷◌, slice_index, sym, ap, ◌∙◌, subst, arith}
+use Rattle.std.specs.Int.{bit_at}
 use Rattle.std.specs.List.{list_any}
-use Rattle.std.proofs.Math.Nat.{mul_comm, mul-sub, pow-le-pow_right}
 use Rattle.std.proofs.Math.Pow.{pow-lt}
-use Rattle.std.proofs.lemmas.Bool.{cases_Bool, and_from, and_left, and_parts, and_right, cases_eq, cases_lt, cond-false, cond-true, false_from_ne_true, false≢true, le-leb, leb-true, lt-ltb, or_cases, or_from, or_left, or_parts}
+use Rattle.std.proofs.lemmas.Bool.{cases_Bool, and_from, and_left, and_right, cases_eq, cond-false, cond-true, false≢true, or_cases, or_left}
 use Rattle.std.proofs.lemmas.List.Elements.{All-cons, All-nil}
-use Rattle.std.proofs.lemmas.Nat.{pow-add, pow_pos}
-use Rattle.std.proofs.lemmas.Nat.Bits.{bit_at-lt, bit_at-pow_other, bit_at-pow_same, bit_at-zero, bit_at_cat_high, bit_at_cat_low, bit_at_ones, bit_at_ones_above}
+use Rattle.std.proofs.lemmas.Nat.Bits.{bit_at-pow_other, bit_at-pow_same}
 use Rattle.pm_image.specs.Blocks.{chunk_word, descriptor_word}
 use Rattle.pm_view.specs.declared.occ.Occ.{Occ}
 use Rattle.pm_view.specs.declared.occ.Occ.TheVariants.{Run, Zone}
-use Rattle.pm_view.specs.Blocks.{chunk_of, describes, is_chunk, is_huge, is_run, zone_of, zone_page}
-use Rattle.pm_view.specs.Blocks.{descriptor_word as lane_descriptor}
-use Rattle.pm_view.specs.Log.{Final, final_of}
+use Rattle.pm_view.specs.Blocks.{describes, is_huge, zone_of}
+use Rattle.pm_view.specs.Log.{Final}
 use Rattle.pm_view.specs.View.{Taken, View}
 use Rattle.pm_view.specs.Views.{allocated_by, chunks_described, freed_by, has_bit, is_bitmap, is_of_heap}
+use Rattle.pm_chunks.specs.Chunks.{chunk_bits}
+use Rattle.pm_chunks.proofs.ChunkBits.{bit_inside, bits_small}
+use Rattle.pm_alloc.proofs.Remaining.{set_inside}
 use Rattle.pm_crash.specs.Taken.{IsBlockBit, IsChunkBit}
 use Rattle.pm_epoch.proofs.LeftBlocks.{IsWordOfBits, has_from, has_parts}
 
@@ -35,30 +35,8 @@ pow_bit index bit = (
 )
 
 -- those of so many chunks from one on
-module _ (first count : ℕ) where
-  as_sum : 2 ^ first * (2 ^ count - 1) ≡ (2 ^ count - 1) * 2 ^ first + 0
-  as_sum = mul_comm (2 ^ first) (2 ^ count - 1) ∙ sym (add-zero ((2 ^ count - 1) * 2 ^ first))
-
-  row_bit : (bit : ℕ) → (bit_at (2 ^ first * (2 ^ count - 1)) bit ≡ 1) ↔ ((first ≤ bit) × (bit < first + count))
-  row_bit bit = (
-    (λ set. ⊎_elim
-    (λ (before : bit < first). let none = bit_at_cat_low (2 ^ count - 1) first 0 bit before in let zero = bit_at-zero bit in let is = ap (λ n. bit_at n bit) as_sum in absurd (omega (arith, set, none, zero, is)))
-    (λ (from : first ≤ bit). ⊎_elim
-    (λ (inside : bit < first + count). (from, inside))
-    (λ (behind : first + count ≤ bit).
-    let there = bit_at_cat_high (2 ^ count - 1) first 0 bit (pow_pos first) from in let none = bit_at_ones_above count (bit - first) (omega (arith, behind)) in let is = ap (λ n. bit_at n bit) as_sum in absurd (omega (arith, set, there, none, is)))
-    (cases_lt bit (first + count)))
-    (cases_lt bit first)),
-    (λ of. ap (λ n. bit_at n bit) as_sum ∙ (bit_at_cat_high (2 ^ count - 1) first 0 bit (pow_pos first) of.0 ∙ bit_at_ones count (bit - first) (let from = of.0 in let to = of.1 in omega (arith, from, to)))),
-  )
-
-  row_small : first + count ≤ 64 → 2 ^ first * (2 ^ count - 1) < 2 ^ 64
-  row_small fits =
-      let whole : 2 ^ first * (2 ^ count - 1) ≡ 2 ^ first * 2 ^ count - 2 ^ first * 1 = mul-sub (2 ^ first) (2 ^ count) 1 in
-      let together : 2 ^ (first + count) ≡ 2 ^ first * 2 ^ count = pow-add 2 first count in
-      let two : 0 < 2 = omega arith in
-      let most : 2 ^ (first + count) ≤ 2 ^ 64 = pow-le-pow_right two fits in
-      let some = pow_pos first in omega (arith, whole, together, most, some)
+row_bit : (first count bit : ℕ) → (bit_at (chunk_bits first count) bit ≡ 1) ↔ ((first ≤ bit) × (bit < first + count))
+row_bit first count bit = ((λ set. set_inside first count bit set), (λ of. bit_inside first count bit of.0 of.1))
 
 -- ---- an entry by its word
 
@@ -70,9 +48,9 @@ module _ (v : View) (f : Final) where
   pub none_telling : describes v.lanes f.word ≡ false → is_bitmap v f.word ≡ false → (allocated_by v f ≡ []) × (freed_by v f ≡ [])
   none_telling plain no_bitmap = ⊎_elim
       (λ (of : is_of_heap v f ≡ true). (
-      cond-false (not (is_of_heap v f)) [] _ (ap not of) ∙ (cond-false (describes v.lanes f.word) _ _ plain ∙ cond-false (is_bitmap v f.word && f.ors) _ [] (and_left (is_bitmap v f.word) f.ors no_bitmap)),
-      cond-false (not (is_of_heap v f)) [] _ (ap not of) ∙ (cond-false (describes v.lanes f.word) _ _ plain ∙ cond-false (is_bitmap v f.word && not f.ors) _ [] (and_left (is_bitmap v f.word) (not f.ors) no_bitmap)),
-    ))
+        cond-false (not (is_of_heap v f)) [] _ (ap not of) ∙ (cond-false (describes v.lanes f.word) _ _ plain ∙ cond-false (is_bitmap v f.word && f.ors) _ [] (and_left (is_bitmap v f.word) f.ors no_bitmap)),
+        cond-false (not (is_of_heap v f)) [] _ (ap not of) ∙ (cond-false (describes v.lanes f.word) _ _ plain ∙ cond-false (is_bitmap v f.word && not f.ors) _ [] (and_left (is_bitmap v f.word) (not f.ors) no_bitmap)),
+      ))
       none_aside
       (cases_Bool (is_of_heap v f))
 
@@ -128,10 +106,10 @@ row_bits lanes c chunks descriptor blocks fits is these =
     let w : ℕ = descriptor_word lanes c in
     let zone : zone_of lanes (w / 512) ≡ c / 64 = omega arith in
     let first : w % 512 ≡ c % 64 = omega arith in
-    let t : Taken = record { at = Zone (c / 64); bits = 2 ^ (c % 64) * (2 ^ chunks - 1) } in
+    let t : Taken = record { at = Zone (c / 64); bits = chunk_bits (c % 64) chunks } in
     let same : chunks_described lanes w descriptor ≡ t = λ i. record { at = Zone (zone i); bits = 2 ^ (first i) * (2 ^ (is i) - 1) } in
     subst (λ xs. HaveBits xs (IsChunkBit c chunks)) (sym (these ∙ ap (λ x. x ∷ []) same))
     (record {
       bits = λ at bit. let one = one_of t at bit in let row = row_bit (c % 64) chunks bit in ((λ has. ((one.0 has).0, row.0 (one.0 has).1)), (λ of. one.1 (of.0, row.1 of.1)));
-      small = All-cons IsWordOfBits t [] (row_small (c % 64) chunks fits) (All-nil IsWordOfBits);
+      small = All-cons IsWordOfBits t [] (bits_small (c % 64) chunks fits) (All-nil IsWordOfBits);
     })

@@ -1,15 +1,13 @@
 -- Which words the entries are of that publish something: an action's word tells of no block, and no entry is of the descriptor of a run.
-use Rattle.std.proofs.Common.{◌≡◌, ◌≢◌, ◌⊎◌, ⊎_elim, inl, inr, ℕ, ◌+◌, ◌-◌, ◌*◌, ◌/◌, ◌%◌, ◌^◌, ◌<◌, ◌≤◌, ◌&&◌, ◌||◌, Bool, true, false, eqb, leb, ltb, List, None, sym, ap, ◌∙◌, subst, arith, eq-eqb, ne_eqb}
+use Rattle.std.proofs.Common.{◌≡◌, ◌≢◌, ℕ, ◌+◌, ◌*◌, ◌/◌, ◌%◌, ◌<◌, ◌≤◌, ◌&&◌, true, false, eqb, leb, None, sym, ap, ◌∙◌, subst, arith, ne_eqb}
 use Rattle.std.specs.List.{list_any, range_with_len}
 use Rattle.std.proofs.lemmas.Bool.{and_parts, eqb-true, false_from_ne_true, false≢true, leb-true, or_parts}
-use Rattle.pm_layout.specs.Sizes.{descriptor_of}
-use Rattle.pm_layout.specs.declared.class.Class.TheVariants.{Chunks}
 use Rattle.pm_image.specs.Blocks.{chunk_word, descriptor_word}
 use Rattle.pm_image.specs.Contents.{data_words, size_in}
 use Rattle.pm_image.specs.HeapFaults.{bad_chunk, heap_fault}
 use Rattle.pm_image.proofs.FaultFree.{block_good}
 use Rattle.pm_image.proofs.HeapWords.{object_fits}
-use Rattle.pm_view.specs.Blocks.{chunk_of, describes, is_chunk, is_run, zone_of, zone_page}
+use Rattle.pm_view.specs.Blocks.{chunk_of, describes, is_chunk, is_run, zone_page}
 use Rattle.pm_view.specs.Blocks.{descriptor_word as lane_descriptor}
 use Rattle.pm_view.specs.Bits.{with_bits}
 use Rattle.pm_view.specs.Occupancy.{reaches}
@@ -64,16 +62,16 @@ module _ (w : ℕ → ℕ) (lanes zones : ℕ) (none : heap_fault w lanes zones 
         record {
           plain = false_from_ne_true (describes lanes i) (λ e. let d : Described lanes i = described lanes i e in let first = d.first in omega (arith, first, from, to));
           no_bitmap = false_from_ne_true (is_chunk lanes (i / 512) && eqb (i % 512) 0 && is_run (w (lane_descriptor lanes (i / 512)))) (λ e.
-          let run = and_parts (is_chunk lanes (i / 512) && eqb (i % 512) 0) (is_run (w (lane_descriptor lanes (i / 512)))) e in
-          let whole = and_parts (is_chunk lanes (i / 512)) (eqb (i % 512) 0) run.0 in
-          let chunk = and_parts (leb (zone_page lanes 0) (i / 512)) (leb 1 (chunk_of lanes (i / 512))) whole.0 in
-          let first = eqb-true (i % 512) 0 whole.1 in
-          let at : PageChunk lanes zones (i / 512) (chunk_in lanes (i / 512)) = page_chunk lanes zones (i / 512) (leb-true (zone_page lanes 0) (i / 512) chunk.0, leb-true 1 (chunk_of lanes (i / 512)) chunk.1) (omega (arith, to, inside)) in
-          let k : ℕ = chunk_in lanes (i / 512) in
-          let bitmap = at.of.bitmap in
-          let here : i ≡ chunk_word lanes k = omega (arith, bitmap, first) in
-          no_bitmap w lanes stands.chunk k (w (descriptor_word lanes k) / 256) can.block good stands.is (run_class w w lanes zones none k at.in_zones (ap (λ u. is_run (w u)) (sym at.of.descriptor) ∙ run.1))
-          (subst (IsBehindHeader can.block) here behind));
+              let run = and_parts (is_chunk lanes (i / 512) && eqb (i % 512) 0) (is_run (w (lane_descriptor lanes (i / 512)))) e in
+              let whole = and_parts (is_chunk lanes (i / 512)) (eqb (i % 512) 0) run.0 in
+              let chunk = and_parts (leb (zone_page lanes 0) (i / 512)) (leb 1 (chunk_of lanes (i / 512))) whole.0 in
+              let first = eqb-true (i % 512) 0 whole.1 in
+              let at : PageChunk lanes zones (i / 512) (chunk_in lanes (i / 512)) = page_chunk lanes zones (i / 512) (leb-true (zone_page lanes 0) (i / 512) chunk.0, leb-true 1 (chunk_of lanes (i / 512)) chunk.1) (omega (arith, to, inside)) in
+              let k : ℕ = chunk_in lanes (i / 512) in
+              let bitmap = at.of.bitmap in
+              let here : i ≡ chunk_word lanes k = omega (arith, bitmap, first) in
+              no_bitmap w lanes stands.chunk k (w (descriptor_word lanes k) / 256) can.block good stands.is (run_class w w lanes zones none k at.in_zones (ap (λ u. is_run (w u)) (sym at.of.descriptor) ∙ run.1))
+              (subst (IsBehindHeader can.block) here behind));
         }
 
   -- an entry of a descriptor is of that of a free chunk, or of a block of whole chunks

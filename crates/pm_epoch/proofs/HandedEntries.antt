@@ -1,16 +1,14 @@
 -- What the entry of each thing that a lane alone publishes allocates and frees in the lane's view: a change of the heap its bits, an action none.
-use Rattle.std.proofs.Common.{◌≡◌, ◌≢◌, ◌⊎◌, ⊎_elim, inl, inr, ℕ, ◌+◌, ◌-◌, ◌*◌, ◌/◌, ◌%◌, ◌^◌, ◌<◌, ◌≤◌, ◌&&◌, ◌||◌, Bool, true, false, not, eqb, leb, ltb, List, None, slice_index, refl, sym, ap, ◌∙◌, subst, arith, eq-eqb, ne_eqb}
-use Rattle.std.specs.Int.{bit_at, bit_not, w64}
+use Rattle.std.proofs.Common.{◌≡◌, ⊎_elim, inl, inr, ℕ, ◌+◌, ◌-◌, ◌*◌, ◌/◌, ◌%◌, ◌^◌, ◌<◌, ◌≤◌, ◌&&◌, true, false, not, eqb, leb, ltb, List, None, slice_index, refl, sym, ap, ◌∙◌, subst, arith, eq-eqb, ne_eqb}
+use Rattle.std.specs.Int.{bit_not, w64}
 use Rattle.std.proofs.Math.Pow.{pow-lt}
-use Rattle.std.proofs.lemmas.Bool.{and_from, and_parts, cases_Bool, eqb-true, false_from_ne_true, false≢true, le-leb, lt-ltb, ltb-true, or_from}
-use Rattle.pm_header.specs.declared.header.Header.{Header}
-use Rattle.pm_objects.specs.declared.pool.PoolView.{PoolView}
+use Rattle.std.proofs.lemmas.Bool.{and_from, and_parts, cases_Bool, false_from_ne_true, false≢true, ltb-true, or_from}
 use Rattle.pm_image.specs.Blocks.{chunk_word, descriptor_word}
 use Rattle.pm_image.specs.HeapFaults.{heap_fault}
 use Rattle.pm_image.proofs.HeapWords.{chunks_fit}
 use Rattle.pm_view.specs.declared.occ.Occ.{Occ}
 use Rattle.pm_view.specs.Area.{area_word, is_in_area}
-use Rattle.pm_view.specs.Blocks.{chunk_of, describes, is_chunk, is_run, zone_of, zone_page}
+use Rattle.pm_view.specs.Blocks.{chunk_of, describes, is_chunk, is_run, zone_of}
 use Rattle.pm_view.specs.Blocks.{descriptor_word as lane_descriptor}
 use Rattle.pm_view.specs.Log.{Final}
 use Rattle.pm_view.specs.Occupancy.{is_chunk_taken}
@@ -22,8 +20,8 @@ use Rattle.pm_world.specs.Heap.{heap_words}
 use Rattle.pm_world.specs.Memory.{Memory}
 use Rattle.pm_world.specs.Opening.{Guards, IsChunk, IsSound, Opening, is_free_chunk}
 use Rattle.pm_world.proofs.Exclusion.{writes_under}
-use Rattle.pm_world.proofs.HeapWords.{described, taken_descriptor}
-use Rattle.pm_crash.specs.HeapChanges.{CanChange, HeapChange, entry_of}
+use Rattle.pm_world.proofs.HeapWords.{described, describes_it, taken_descriptor}
+use Rattle.pm_crash.specs.HeapChanges.{entry_of}
 use Rattle.pm_crash.specs.HeapChanges.HeapChange.{AllocatesChunks, AllocatesInRun, FreesChunks, FreesInRun}
 use Rattle.pm_crash.specs.Publishing.{CanPublish, Published, entry_published}
 use Rattle.pm_crash.specs.Publishing.Published.{Changes, Performs}
@@ -31,6 +29,7 @@ use Rattle.pm_crash.specs.Taken.{AllocatesBit, FreesBit}
 use Rattle.pm_crash.proofs.Apart.{good_chunk}
 use Rattle.pm_crash.proofs.BitMore.{index_small}
 use Rattle.pm_crash.proofs.Classes.{whole_by_byte}
+use Rattle.pm_crash.proofs.FoundBlocks.{IsPageOf, page_of_chunk}
 use Rattle.pm_epoch.proofs.EntryBits.{HaveBits, block_bits, chunks_allocate, chunks_free, no_bits, none_telling, row_bits, run_allocates, run_frees}
 use Rattle.pm_epoch.proofs.EntryWords.{action_tells_none}
 
@@ -103,12 +102,14 @@ module _ (o : Opening) (mem : Memory) (before : ℕ → ℕ) (flies : ℕ → Li
 
   -- ---- what the words are to the view
 
+  abbrev own_page : ℕ → ℕ
+  own_page c = 2 + 2 * v.lanes + 65 * (c / 64) + c % 64
+
+  is_of : (c : ℕ) → IsPageOf v.lanes (own_page c) c
+  is_of c = page_of_chunk v.lanes (own_page c) c refl
+
   descriptor_describes : (c : ℕ) → describes v.lanes (descriptor_word v.lanes c) ≡ true
-  descriptor_describes c =
-      let i : ℕ = descriptor_word v.lanes c in
-      and_from (leb (zone_page v.lanes 0) (i / 512) && eqb (chunk_of v.lanes (i / 512)) 0) (ltb (i % 512) 64)
-      (and_from (leb (zone_page v.lanes 0) (i / 512)) (eqb (chunk_of v.lanes (i / 512)) 0) (le-leb (zone_page v.lanes 0) (i / 512) (omega arith)) (eq-eqb (chunk_of v.lanes (i / 512)) 0 (omega arith)))
-      (lt-ltb (i % 512) 64 (omega arith))
+  descriptor_describes c = subst (λ i. describes v.lanes i ≡ true) (is_of c).descriptor (describes_it v.lanes (own_page c) (omega arith, omega arith))
 
   bitmap_plain : (c : ℕ) → describes v.lanes (chunk_word v.lanes c) ≡ false
   bitmap_plain c = false_from_ne_true (describes v.lanes (chunk_word v.lanes c)) (λ e. let first = (described v.lanes (chunk_word v.lanes c) e).first in omega (arith, first))
@@ -116,12 +117,10 @@ module _ (o : Opening) (mem : Memory) (before : ℕ → ℕ) (flies : ℕ → Li
   bitmap_is : (c : ℕ) → is_run (w (descriptor_word v.lanes c)) ≡ true → is_bitmap v (chunk_word v.lanes c) ≡ true
   bitmap_is c run =
       let i : ℕ = chunk_word v.lanes c in
-      let at : lane_descriptor v.lanes (i / 512) ≡ descriptor_word v.lanes c = omega arith in
+      let here : i / 512 ≡ own_page c = omega arith in
       and_from (is_chunk v.lanes (i / 512) && eqb (i % 512) 0) (is_run (w (lane_descriptor v.lanes (i / 512))))
-      (and_from (is_chunk v.lanes (i / 512)) (eqb (i % 512) 0)
-      (and_from (leb (zone_page v.lanes 0) (i / 512)) (leb 1 (chunk_of v.lanes (i / 512))) (le-leb (zone_page v.lanes 0) (i / 512) (omega arith)) (le-leb 1 (chunk_of v.lanes (i / 512)) (omega arith)))
-      (eq-eqb (i % 512) 0 (omega arith)))
-      (ap (λ u. is_run (w u)) at ∙ run)
+      (and_from (is_chunk v.lanes (i / 512)) (eqb (i % 512) 0) (ap (is_chunk v.lanes) here ∙ (is_of c).in_chunk) (eq-eqb (i % 512) 0 (omega arith)))
+      (ap (λ p. is_run (w (lane_descriptor v.lanes p))) here ∙ (ap (λ i. is_run (w i)) (is_of c).descriptor ∙ run))
 
   run_described : (c lines : ℕ) → w (descriptor_word v.lanes c) ≡ 1 + 256 * lines → is_run (w (descriptor_word v.lanes c)) ≡ true
   run_described c lines is = eq-eqb (w (descriptor_word v.lanes c) % 256) 1 (omega (arith, is))

@@ -1,14 +1,14 @@
 -- As its call draws, a lane hands over what it publishes: what it allocates it no longer has reserved, and what it frees it has from then on.
-use Rattle.std.proofs.Common.{◌≡◌, ◌⊎◌, ◌↔◌, inl, inr, ⊎_elim, ℕ, ◌+◌, ◌*◌, ◌^◌, ◌<◌, ◌||◌, Bool, true, false, not, leb, ltb, None, All, List, [], ◌∷◌, ◌++◌, flat_map, map, slice_index, refl, sym, ap, ◌∙◌, subst, arith}
+use Rattle.std.proofs.Common.{◌≡◌, ◌⊎◌, ◌↔◌, inl, inr, ⊎_elim, ℕ, ◌+◌, ◌<◌, ◌||◌, true, false, not, leb, ltb, None, All, List, [], ◌∷◌, ◌++◌, flat_map, map, slice_index, refl, sym, ap, ◌∙◌, subst, arith}
 use Rattle.std.specs.List.{list_any}
-use Rattle.std.proofs.lemmas.Bool.{and_from, and_left, cases_Bool, cond-false, cond-true, false≢true, le-leb, lt-ltb, or_cases, or_left, or_parts, or_right}
+use Rattle.std.proofs.lemmas.Bool.{and_from, cases_Bool, cond-false, cond-true, false≢true, le-leb, lt-ltb, or_cases, or_left, or_parts, or_right}
 use Rattle.std.proofs.lemmas.List.Elements.{All-append, All-head, All-nil, All-tail, All-weaker}
 use Rattle.std.proofs.lemmas.List.Folds.{list_any-append}
 use Rattle.pm_header.specs.declared.header.Header.{Header}
 use Rattle.pm_objects.specs.declared.pool.PoolView.{PoolView}
 use Rattle.pm_image.specs.HeapFaults.{heap_fault}
 use Rattle.pm_view.specs.declared.occ.Occ.{Occ}
-use Rattle.pm_view.specs.Area.{area_word, is_in_area}
+use Rattle.pm_view.specs.Area.{area_word}
 use Rattle.pm_view.specs.Log.{Final}
 use Rattle.pm_view.specs.Occupancy.{is_taken}
 use Rattle.pm_view.specs.Rights.{is_written}
@@ -68,9 +68,9 @@ joined : (blocks others : List Taken) (these those : Occ → ℕ → Type 0) →
 joined blocks others these those first rest = record {
   bits = λ at bit. let both = list_any-append (has_bit at bit) blocks others in (
     (λ has. ⊎_elim (λ (here : list_any (has_bit at bit) blocks ≡ true). inl ((first.bits at bit).0 here)) (λ (later : list_any (has_bit at bit) others ≡ true). inr ((rest.bits at bit).0 later))
-    (or_cases (list_any (has_bit at bit) blocks) (list_any (has_bit at bit) others) (sym both ∙ has))),
+        (or_cases (list_any (has_bit at bit) blocks) (list_any (has_bit at bit) others) (sym both ∙ has))),
     (λ is. both ∙ ⊎_elim (λ (here : these at bit). or_left (list_any (has_bit at bit) blocks) (list_any (has_bit at bit) others) ((first.bits at bit).1 here))
-    (λ (later : those at bit). or_right (list_any (has_bit at bit) blocks) (list_any (has_bit at bit) others) ((rest.bits at bit).1 later)) is),
+        (λ (later : those at bit). or_right (list_any (has_bit at bit) blocks) (list_any (has_bit at bit) others) ((rest.bits at bit).1 later)) is),
   );
   small = All-append IsWordOfBits blocks others first.small rest.small;
 }

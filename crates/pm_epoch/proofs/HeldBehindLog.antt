@@ -1,5 +1,5 @@
 -- What a lane that is alone knows, it holds, from its call's draw to its log's end.
-use Rattle.std.proofs.Common.{◌≡◌, ◌≢◌, ◌⊎◌, ⊎_elim, ℕ, ◌+◌, ◌-◌, ◌*◌, ◌/◌, ◌%◌, ◌^◌, ◌<◌, ◌&&◌, ◌||◌, Bool, true, false, not, cond, eqb, leb, IsTrue, IfSome, All, Contains, List, [], ◌∷◌, flat_map, map, Option, Some, slice_index, slice_set, refl, sym, ap, ◌∙◌, subst, arith, get_or}
+use Rattle.std.proofs.Common.{◌≡◌, ⊎_elim, ℕ, ◌-◌, ◌/◌, ◌%◌, ◌&&◌, ◌||◌, Bool, true, false, not, cond, eqb, leb, IsTrue, IfSome, All, Contains, List, [], ◌∷◌, flat_map, map, Option, Some, slice_index, slice_set, refl, sym, ap, ◌∙◌, subst}
 use Rattle.std.specs.Int.{bit_at}
 use Rattle.std.specs.List.{filter, list_any}
 use Rattle.std.proofs.lemmas.Bool.{and_parts, cases_Bool, cond-false, cond-true, eqb-true, false≢true, or_cases, or_left, or_right, true_from_ne_false}
@@ -19,14 +19,13 @@ use Rattle.pm_view.specs.Occupancy.{is_taken}
 use Rattle.pm_view.specs.Steps.{Step}
 use Rattle.pm_view.specs.Steps.Step.{Load, Store, Or, And, Flush, Drain, TakeWrite, TakeRead, Raise, Give, ZoneTry, ZoneGive, Occupied, Occupy, Vacate, Draw, NumberSeen, StopSeen, SetStop, Tell}
 use Rattle.pm_view.specs.View.{Lock, Taken, View}
-use Rattle.pm_view.specs.Views.{after, allocated_by, begun, changes_heap, has_bit, reserves, unallocated, with_block, without_all}
+use Rattle.pm_view.specs.Views.{after, allocated_by, changes_heap, has_bit, reserves, unallocated, with_block}
 use Rattle.pm_view.proofs.SameLane.{same_lane-after}
 use Rattle.pm_world.specs.Entries.{is_entered}
 use Rattle.pm_world.specs.Fits.{LaneFits, LockFits}
-use Rattle.pm_world.specs.Heap.{IsOcc, heap_words}
+use Rattle.pm_world.specs.Heap.{heap_words}
 use Rattle.pm_world.specs.History.{Flies, settled}
 use Rattle.pm_world.specs.Lawful.{Allowed}
-use Rattle.pm_world.specs.Memory.Location.{PoolWord}
 use Rattle.pm_world.specs.Opening.{IsChunk, Opening}
 use Rattle.pm_world.proofs.Chunks.{found_block, under_found}
 use Rattle.pm_world.proofs.HeapWords.{no_run_taken}
@@ -41,7 +40,7 @@ use Rattle.pm_sealed.proofs.Stages.{IsAtStage}
 use Rattle.pm_sealed.proofs.Steps.{at_after, at_first, begun_same, early_none, tell_none}
 use Rattle.pm_epoch.specs.Epochs.{HasEntriesFor, LoadsNoneOf, MayPublish}
 use Rattle.pm_epoch.proofs.HandedOver.{allocated, reserved_drawn}
-use Rattle.pm_epoch.proofs.LeftBlocks.{IsWordOfBits, left_before}
+use Rattle.pm_epoch.proofs.LeftBlocks.{left_before}
 use Rattle.pm_epoch.proofs.PublishingHeap.{same_after}
 use Rattle.pm_epoch.proofs.ReservedBlocks.{found_stands}
 use Rattle.pm_epoch.proofs.StandingPools.{own_fits}

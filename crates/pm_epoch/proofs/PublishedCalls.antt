@@ -1,7 +1,7 @@
 -- A call that a lane alone published has ended at its log's end.
-use Rattle.std.proofs.Common.{◌≡◌, ⊎_elim, ℕ, suc, zero, ◌+◌, ◌^◌, ◌<◌, ◌≤◌, Bool, true, false, All, List, [], ◌∷◌, ◌++◌, flat_map, length, length-append, slice_index, cond, not, is_none, is_some, Some, refl, sym, ap, ◌∙◌, subst, arith}
+use Rattle.std.proofs.Common.{◌≡◌, ⊎_elim, ℕ, suc, zero, ◌+◌, ◌^◌, ◌<◌, ◌≤◌, Bool, true, false, All, List, [], ◌∷◌, ◌++◌, flat_map, length, length-append, slice_index, cond, is_none, is_some, Some, refl, sym, ap, ◌∙◌, subst, arith}
 use Rattle.std.specs.List.{list_any}
-use Rattle.std.proofs.lemmas.Bool.{and_from, cases_Bool, cases_lt, cond-false, cond-true, false≢true, lt-ltb}
+use Rattle.std.proofs.lemmas.Bool.{and_from, cases_lt, cond-true, false≢true, lt-ltb}
 use Rattle.pm_header.specs.declared.header.Header.{Header}
 use Rattle.pm_objects.specs.declared.pool.PoolView.{PoolView}
 use Rattle.pm_memory.specs.Solo.{AreNumbered}
@@ -190,7 +190,7 @@ module _ (o : Opening) (header : Header) (pool : PoolView) (u : View) (n : ℕ) 
   promised = promises u n all (knows_at_work o header pool call.start u call.steps call.works call.no_run) (none_freed o header pool call.start u call.steps call.works)
       (hands_over o header pool call.before call.made call.start u call.steps all call.works call.has n call.own)
 
-  -- what it reserved then it reserved before
+  -- what it has reserved still is of the pool, and of bits of a word
   these_small : All IsWordOfBits (flat_map (allocated_by u) u.log.entries)
   these_small = (allocated o header pool call.before call.made call.start u call.steps all call.works call.has).small
 

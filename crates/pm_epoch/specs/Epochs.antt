@@ -204,8 +204,8 @@ LoadsNoneOf entries (Load i found) = is_entered entries i ≡ false
 LoadsNoneOf entries s = Unit {0}
 
 -- A lane worked alone to where its call draws this number, with an entry of its log for each of these. It allocates what it reserved, and no chunk that it
--- reserved is a run. It published to its log's end, and loaded no word that an entry is of. To the pool with all that was published its calls lead, and the
--- numbers drawn are its own.
+-- reserved is a run. It published to its log's end, and since the draw loaded no word that an entry is of. To the pool with all that was published its calls
+-- lead, and the numbers drawn are its own.
 pub record PublishesAlone (o : Opening) (header : Header) (pool : PoolView) (u : View) (n : ℕ) (all : List Published) (w : View) : Type 0 where
   pub start : View
   pub steps : List Step

@@ -210,7 +210,8 @@ pub fn a_draw_hands_over()
         → WorksAlone o header pool start steps v → HasEntriesFor v header before now all → AllocatesOwn v all → HandsOver v (after v (Draw n)) all }
 {}
 
-/// A law: at its log's end a lane that is alone holds what it knows, where it loaded no word that an entry of its log is of. No code runs.
+/// A law: from its call's draw to its log's end a lane that is alone holds what it knows, where since then it loaded no word that an entry of its log is of.
+/// No code runs.
 pub fn a_lane_holds_what_it_knows_behind_its_log()
     ensures { (o : Opening) (header : Header) (pool before made : PoolView) (start u w : View) (steps log_steps : List Step) (n i : ℕ) (all : List Published)
         → WorksAlone o header pool start steps u → Allowed u (Draw n) → MayPublish (after u (Draw n)) header before made all → Publishes (after u (Draw n)) log_steps w
