@@ -14,5 +14,12 @@ pub mod GivingBack
 pub mod PromisedTaken
 pub mod TakenBehindLog
 pub mod EndedCalls
-pub mod PublishedCalls
+pub mod LeftBlocks
+pub mod EntryBits
+pub mod EntryWords
+pub mod HandedEntries
+pub mod HandedOver
+pub mod StayingWords
+pub mod HeldBehindLog
 pub mod DrawnCalls
+pub mod PublishedCalls

@@ -10,7 +10,6 @@ use Rattle.pm_view.specs.Steps.Step.{Draw}
 use Rattle.pm_view.specs.View.{View}
 use Rattle.pm_view.specs.Views.{after, chunk_bit, has_bit, occ_in, reserves, zone_at}
 use Rattle.pm_world.specs.Heap.{IsOcc, has_run_chunk, has_taken}
-use Rattle.pm_world.proofs.HeapWords.{no_run_taken}
 use Rattle.pm_crash.specs.Publishing.{Published}
 use Rattle.pm_crash.specs.Publishing.Published.{Changes, Performs}
 use Rattle.pm_crash.specs.Taken.{AllocatesBit, FreesBit, TakenBehindAll}

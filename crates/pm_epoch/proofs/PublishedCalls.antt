@@ -1,11 +1,10 @@
 -- A call that a lane alone published has ended at its log's end.
-use Rattle.std.proofs.Common.{◌≡◌, ⊎_elim, ℕ, suc, zero, ◌+◌, ◌^◌, ◌<◌, ◌≤◌, Bool, true, false, All, List, [], ◌∷◌, ◌++◌, length, length-append, cond, not, is_none, is_some, Some, refl, sym, ap, ◌∙◌, subst, arith}
+use Rattle.std.proofs.Common.{◌≡◌, ⊎_elim, ℕ, suc, zero, ◌+◌, ◌^◌, ◌<◌, ◌≤◌, Bool, true, false, All, List, [], ◌∷◌, ◌++◌, flat_map, length, length-append, slice_index, cond, is_none, is_some, Some, refl, sym, ap, ◌∙◌, subst, arith}
 use Rattle.std.specs.List.{list_any}
-use Rattle.std.proofs.lemmas.Bool.{and_from, cases_Bool, cases_lt, cond-false, cond-true, false≢true, lt-ltb}
+use Rattle.std.proofs.lemmas.Bool.{and_from, cases_lt, cond-true, false≢true, lt-ltb}
 use Rattle.pm_header.specs.declared.header.Header.{Header}
 use Rattle.pm_objects.specs.declared.pool.PoolView.{PoolView}
 use Rattle.pm_memory.specs.Solo.{AreNumbered}
-use Rattle.std.proofs.lemmas.List.Elements.{All-filter}
 use Rattle.std.proofs.lemmas.List.Folds.{list_any-from_Any}
 use Rattle.pm_view.specs.Changes.{drained}
 use Rattle.pm_view.specs.declared.change.Change.{Change}
@@ -18,7 +17,7 @@ use Rattle.pm_view.specs.Steps.{Step}
 use Rattle.pm_view.specs.Steps.Step.{Load, Store, Or, And, Flush, Drain, TakeWrite, TakeRead, Raise, Give, ZoneTry, ZoneGive, Occupied, Occupy, Vacate, Draw, NumberSeen, StopSeen, SetStop, Tell}
 use Rattle.pm_view.specs.Constants.{IsSameLane}
 use Rattle.pm_view.specs.View.{Numbered, Taken, View}
-use Rattle.pm_view.specs.Views.{after, changes_heap, is_entered_of, log_after_drain, unallocated}
+use Rattle.pm_view.specs.Views.{after, allocated_by, log_after_drain}
 use Rattle.pm_world.specs.Fits.{LaneFits}
 use Rattle.pm_world.specs.Heap.{IsOcc}
 use Rattle.pm_world.specs.History.{Flies, settled}
@@ -33,7 +32,13 @@ use Rattle.pm_crash.proofs.Continued.{two_same}
 use Rattle.pm_crash.proofs.OnTheWay.{alone_on_the_way}
 use Rattle.pm_sealed.specs.Sealed.{Publishes, is_publishing}
 use Rattle.pm_sealed.proofs.EndedLog as ended_log
-use Rattle.pm_epoch.specs.Epochs.{HasEnded, HasSameHeap, PublishesAlone}
+use Rattle.pm_epoch.specs.Epochs.{HasEnded, HasEntriesFor, HasSameHeap, MayPublish, PromisesTaken, PublishesAlone}
+use Rattle.pm_epoch.proofs.DrawnCalls.{may_publish}
+use Rattle.pm_epoch.proofs.HandedOver.{allocated, hands_over, reserved_drawn}
+use Rattle.pm_epoch.proofs.HeldBehindLog.{holds_behind}
+use Rattle.pm_epoch.proofs.KnowingLanes.{knows_at_work, none_freed}
+use Rattle.pm_epoch.proofs.LeftBlocks.{IsWordOfBits, left_all, left_small}
+use Rattle.pm_epoch.proofs.PromisedTaken.{promises}
 use Rattle.pm_epoch.proofs.PublishedImages.{image_stands}
 use Rattle.pm_sealed.proofs.Steps.{begun_same}
 use Rattle.pm_epoch.proofs.PublishingHeap.{same_along, same_lane_along}
@@ -173,28 +178,43 @@ module _ (o : Opening) (header : Header) (pool : PoolView) (u : View) (n : ℕ) 
       let some = some_draws stands.views o.lanes 0 stands.goes.in_lanes (ap may_draw stands.here ∙ may_still u n call.draws) in
       let room = stands.goes.world.counter_room in omega (arith, long, some, room)
 
-  -- what it reserved then it reserved before
-  reserved_before : (P : Taken → Type 0) → All P u.reserved → All P b.reserved
-  reserved_before P all_of = ⊎_elim
-      (λ (changes : changes_heap u ≡ true). subst (All P) (sym (cond-true (changes_heap u) (unallocated u) u.reserved changes)) (All-filter (λ (t : Taken). not (list_any (is_entered_of u t) u.log.entries)) P u.reserved all_of))
-      (λ (plain : changes_heap u ≡ false). subst (All P) (sym (cond-false (changes_heap u) (unallocated u) u.reserved plain)) all_of)
-      (cases_Bool (changes_heap u))
+  -- no other lane is at work, so it may publish what it has entries for
+  may : MayPublish b header call.before call.made all
+  may = subst (λ (x : View). MayPublish (after x (Draw n)) header call.before call.made all) stands.here
+      (may_publish o (memory_of u) stands.views stands.log stands.decided 0 n header call.before call.made all stands.goes.world stands.goes.in_lanes
+      (λ j low other. ap (λ (x : View). x.log.phase) (stands.others j other)) (λ i. ap (λ (x : View). slice_index x.words i) (sym stands.here))
+      (subst (λ (x : View). Allowed x (Draw n)) (sym stands.here) call.draws) (subst (λ (x : View). HasEntriesFor x header call.before call.made all) (sym stands.here) call.has))
+
+  -- its picture promises what will be taken
+  promised : PromisesTaken b all
+  promised = promises u n all (knows_at_work o header pool call.start u call.steps call.works call.no_run) (none_freed o header pool call.start u call.steps call.works)
+      (hands_over o header pool call.before call.made call.start u call.steps all call.works call.has n call.own)
+
+  -- what it has reserved still is of the pool, and of bits of a word
+  these_small : All IsWordOfBits (flat_map (allocated_by u) u.log.entries)
+  these_small = (allocated o header pool call.before call.made call.start u call.steps all call.works call.has).small
+
+  of_pool_still : All (λ (t : Taken). IsOcc o.lanes o.zones t.at) b.reserved
+  of_pool_still = subst (All (λ (t : Taken). IsOcc o.lanes o.zones t.at)) (sym (reserved_drawn u n)) (left_all (IsOcc o.lanes o.zones) (flat_map (allocated_by u) u.log.entries) u.reserved these_small fits.blocks.of_pool)
+
+  small_still : All IsWordOfBits b.reserved
+  small_still = subst (All IsWordOfBits) (sym (reserved_drawn u n)) (left_small (flat_map (allocated_by u) u.log.entries) u.reserved these_small fits.blocks.small)
 
   pub has_ended : HasEnded o header pool w
   has_ended = record {
     now = all_pool_published o.lanes all call.made;
     holds = two_same (λ (a c : ℕ). HoldsImage w.words a c header (all_pool_published a all call.made)) u.lanes o.lanes u.zones o.zones fits.lane.lanes fits.lane.zones
-        (image_stands b w header call.before call.made all call.log_steps call.may alone call.publishes call.over);
+        (image_stands b w header call.before call.made all call.log_steps may alone call.publishes call.over);
     replays = call.replays;
-    clean = λ j low. let lanes = fits.lane.lanes in let c = ended_log.clean b w call.log_steps call.may.seal alone call.publishes call.over j (omega (arith, lanes, low)) in
+    clean = λ j low. let lanes = fits.lane.lanes in let c = ended_log.clean b w call.log_steps may.seal alone call.publishes call.over j (omega (arith, lanes, low)) in
         record { unsealed = c.unsealed; first_generation = c.first_generation; last_generation = c.last_generation; stale = c.stale };
     lane = record { lanes = lane.lanes ∙ fits.lane.lanes; zones = lane.zones ∙ fits.lane.zones; lane = lane.lane ∙ fits.lane.lane; size = refl };
-    held = call.held;
-    drained = ended_log.drained b w call.log_steps call.may.seal alone call.publishes call.over;
-    idle = empty_along b call.log_steps w (λ idle. absurd (false≢true (ap is_publishing (sym idle) ∙ ap is_publishing call.may.seal.drawn))) call.publishes call.over;
-    of_pool = subst (All (λ (t : Taken). IsOcc o.lanes o.zones t.at)) (sym heap.reserved) (reserved_before (λ (t : Taken). IsOcc o.lanes o.zones t.at) fits.blocks.of_pool);
-    small = subst (All (λ (t : Taken). t.bits < 2 ^ 64)) (sym heap.reserved) (reserved_before (λ (t : Taken). t.bits < 2 ^ 64) fits.blocks.small);
-    taken = knows_behind b w header call.before call.made all call.log_steps call.may alone call.publishes call.over call.promises;
+    held = λ i there. holds_behind o header pool call.before call.made call.start u call.steps n all call.works call.draws may w call.log_steps i call.publishes call.loads there;
+    drained = ended_log.drained b w call.log_steps may.seal alone call.publishes call.over;
+    idle = empty_along b call.log_steps w (λ idle. absurd (false≢true (ap is_publishing (sym idle) ∙ ap is_publishing may.seal.drawn))) call.publishes call.over;
+    of_pool = subst (All (λ (t : Taken). IsOcc o.lanes o.zones t.at)) (sym heap.reserved) of_pool_still;
+    small = subst (All (λ (t : Taken). t.bits < 2 ^ 64)) (sym heap.reserved) small_still;
+    taken = knows_behind b w header call.before call.made all call.log_steps may alone call.publishes call.over promised;
     within = call.within;
     of_header = lane.pool ∙ (ap (λ (x : View). x.pool) (sym stands.here) ∙ stands.goes.of_pool);
     alone = lane.table ∙ alone;

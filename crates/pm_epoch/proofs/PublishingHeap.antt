@@ -5,15 +5,13 @@ use Rattle.std.proofs.lemmas.List.{set-get_or}
 use Rattle.pm_view.specs.declared.occ.Occ.{Occ}
 use Rattle.pm_view.specs.declared.occ.Occ.TheVariants.{Run, Zone}
 use Rattle.pm_view.specs.Founds.{FoundAlone, IsAlone}
-use Rattle.pm_view.specs.Log.{Phase}
-use Rattle.pm_view.specs.Log.Phase.{Idle, Open, Drawn, Sealing, Applying, Clearing, Retiring}
 use Rattle.pm_view.specs.Steps.{Step}
 use Rattle.pm_view.specs.Steps.Step.{Load, Store, Or, And, Flush, Drain, TakeWrite, TakeRead, Raise, Give, ZoneTry, ZoneGive, Occupied, Occupy, Vacate, Draw, NumberSeen, StopSeen, SetStop, Tell}
 use Rattle.pm_view.specs.View.{View}
-use Rattle.pm_view.specs.Views.{after, begun, occ_in, runs_with, zones_with}
+use Rattle.pm_view.specs.Views.{after, occ_in, runs_with, zones_with}
 use Rattle.pm_view.specs.Constants.{IsSameLane}
 use Rattle.pm_view.proofs.SameLane.{same_lane, same_lane-after, same_lane-then}
-use Rattle.pm_world.specs.Lawful.{Allowed, IsEarly, MayTell}
+use Rattle.pm_world.specs.Lawful.{Allowed}
 use Rattle.pm_sealed.specs.Sealed.{Publishes, is_publishing}
 use Rattle.pm_sealed.proofs.Steps.{begun_same, early_none, tell_none}
 use Rattle.pm_epoch.specs.Epochs.{HasSameHeap}
@@ -42,7 +40,7 @@ zones_again : (v : View) (at : Occ) → zones_with at (occ_in v at) v.zone_words
 zones_again v (Run place) = refl
 zones_again v (Zone zone) = set-get_or v.zone_words zone 0
 
-same_after : (v : View) (s : Step) → is_publishing v.log.phase ≡ true → IsAlone v → Allowed v s → FoundAlone v s → HasSameHeap v (after v s)
+pub same_after : (v : View) (s : Step) → is_publishing v.log.phase ≡ true → IsAlone v → Allowed v s → FoundAlone v s → HasSameHeap v (after v s)
 same_after v (Load w x) publishing alone may found = record { runs = refl; zones = refl; reserved = refl; freed = refl; entries = refl; number = refl }
 same_after v (Store w x) publishing alone may found = record { runs = refl; zones = refl; reserved = refl; freed = refl; entries = refl; number = refl }
 same_after v (Or w bits x) publishing alone may found = record { runs = refl; zones = refl; reserved = refl; freed = refl; entries = refl; number = refl }

@@ -12,11 +12,11 @@ use Rattle.pm_view.specs.View.{Taken, View}
 use Rattle.pm_view.specs.Founds.{IsAlone}
 use Rattle.pm_view.specs.Occupancy.{is_taken}
 use Rattle.pm_view.specs.Steps.{Step}
-use Rattle.pm_view.specs.Steps.Step.{Draw, Give, Vacate, ZoneGive}
+use Rattle.pm_view.specs.Steps.Step.{Draw, Give, Load, Vacate, ZoneGive}
 use Rattle.pm_view.specs.Views.{after, has_bit, is_made, occ_in, reserves, changes_heap}
 use Rattle.std.specs.Int.{bit_at}
 use Rattle.std.specs.List.{list_any}
-use Rattle.pm_world.specs.Entries.{ends_with}
+use Rattle.pm_world.specs.Entries.{ends_with, is_entered}
 use Rattle.pm_world.specs.Heap.{IsOcc, has_taken}
 use Rattle.pm_world.specs.Lawful.{Allowed, generation_limit}
 use Rattle.pm_world.specs.Lanes.{IsOfShape}
@@ -40,7 +40,7 @@ use Rattle.pm_model.specs.declared.stage.Stage.{Stage}
 use Rattle.pm_objects.specs.declared.history.TxErr.{TxErr}
 use Rattle.pm_crash.specs.OpenCall.{ComesTo}
 use Rattle.pm_crash.specs.Pending.{acts_alone, state_alone}
-use Rattle.pm_view.specs.Log.{no_log}
+use Rattle.pm_view.specs.Log.{Final, no_log}
 use Rattle.pm_view.specs.Log.Phase.{Idle}
 
 -- The lane's log has an entry for each of these, in their order, and behind them the one that ends its generation. An image of its words holds the pool before
@@ -185,6 +185,10 @@ SomeFrees lanes [] at bit = ⊥
 SomeFrees lanes (Performs action ∷ all) at bit = SomeFrees lanes all at bit
 SomeFrees lanes (Changes change ∷ all) at bit = FreesBit lanes change at bit ⊎ SomeFrees lanes all at bit
 
+-- what these allocate the lane reserved
+abbrev pub AllocatesOwn : View → List Published → Type 0
+AllocatesOwn v all = (at : Occ) (bit : ℕ) → SomeAllocates v.lanes all at bit → reserves v at bit ≡ true
+
 -- As its call draws, what the lane publishes leaves what it reserved, and what it frees it has from then on, until it gives it back. It allocates what it
 -- reserved, and frees what its words say is taken.
 pub record HandsOver (v w : View) (all : List Published) : Type 0 where
@@ -194,8 +198,14 @@ pub record HandsOver (v w : View) (all : List Published) : Type 0 where
   pub own : (at : Occ) (bit : ℕ) → IsOcc v.lanes v.zones at → bit < 64 → SomeAllocates v.lanes all at bit → reserves v at bit ≡ true
   pub taken : (at : Occ) (bit : ℕ) → IsOcc v.lanes v.zones at → bit < 64 → SomeFrees v.lanes all at bit → is_taken (slice_index v.words) v.lanes at bit ≡ true
 
--- A lane worked alone to where its call draws this number, which it may publish these with, knowing what will be taken; it published to its log's end, where it
--- holds what it knows. To the pool with all that was published its calls lead, and the numbers drawn are its own.
+-- the step loads no word that one of these entries is of
+abbrev pub LoadsNoneOf : List Final → Step → Type 0
+LoadsNoneOf entries (Load i found) = is_entered entries i ≡ false
+LoadsNoneOf entries s = Unit {0}
+
+-- A lane worked alone to where its call draws this number, with an entry of its log for each of these. It allocates what it reserved, and no chunk that it
+-- reserved is a run. It published to its log's end, and since the draw loaded no word that an entry is of. To the pool with all that was published its calls
+-- lead, and the numbers drawn are its own.
 pub record PublishesAlone (o : Opening) (header : Header) (pool : PoolView) (u : View) (n : ℕ) (all : List Published) (w : View) : Type 0 where
   pub start : View
   pub steps : List Step
@@ -203,12 +213,13 @@ pub record PublishesAlone (o : Opening) (header : Header) (pool : PoolView) (u :
   pub draws : Allowed u (Draw n)
   pub before : PoolView
   pub made : PoolView
-  pub may : MayPublish (after u (Draw n)) header before made all
-  pub promises : PromisesTaken (after u (Draw n)) all
+  pub has : HasEntriesFor u header before made all
+  pub own : AllocatesOwn u all
+  pub no_run : (page : ℕ) → is_made u page ≡ false
   pub log_steps : List Step
   pub publishes : Publishes (after u (Draw n)) log_steps w
+  pub loads : All (LoadsNoneOf u.log.entries) log_steps
   pub over : w.log.phase ≡ Idle
-  pub held : (i : ℕ) → Contains w.known i → IsTrue (is_held w i)
   pub replays : Replays (opened pool) (acts_alone w.entries) (state_alone (all_pool_published o.lanes all made) w.entries)
   pub numbered : AreNumbered 1 w.entries
   pub within : ForSome w.stop (λ stop. w.calls ≤ stop)

@@ -1,4 +1,4 @@
-ghost use Rattle.std.specs.Prelude.{◌≡◌, ◌≢◌, ◌↔◌, ℕ, ◌+◌, ◌*◌, ◌<◌, ◌≤◌, Bool, true, false, All, Contains, List, [], ◌++◌, map, slice_index, None, Some};
+ghost use Rattle.std.specs.Prelude.{◌≡◌, ◌≢◌, ◌↔◌, ℕ, ◌+◌, ◌*◌, ◌<◌, ◌≤◌, Bool, IsTrue, true, false, All, Contains, List, [], ◌++◌, map, slice_index, None, Some};
 ghost use Rattle.std.specs.Int.{bit_at};
 ghost use Rattle.pm_header.specs.declared.header.Header.{Header};
 ghost use Rattle.pm_objects.specs.Pool.{block_lines};
@@ -16,6 +16,7 @@ ghost use Rattle.pm_model.specs.declared.stage.Stage.{Stage};
 ghost use Rattle.pm_view.specs.declared.occ.Occ.{Occ};
 ghost use Rattle.pm_view.specs.declared.occ.Occ.TheVariants.{Zone};
 ghost use Rattle.pm_view.specs.Founds.{IsAlone};
+ghost use Rattle.pm_view.specs.Held.{is_held};
 ghost use Rattle.pm_view.specs.Log.Phase.{Idle, Open};
 ghost use Rattle.pm_view.specs.Occupancy.{is_taken};
 ghost use Rattle.pm_view.specs.Steps.{Step};
@@ -42,7 +43,7 @@ ghost use Rattle.pm_fresh.specs.Making.{page_in};
 ghost use Rattle.pm_blocks.specs.NewRuns.{IsUnused};
 ghost use Rattle.pm_alloc.specs.NewObjects.{CanMakeObject};
 ghost use Rattle.pm_sealed.specs.Sealed.{LeavesSealed, Publishes, has_nothing};
-ghost use Rattle.pm_epoch.specs.Epochs.{AreOfOwnBits, HandsOver, HasEnded, HasEntriesFor, HasSameHeap, HoldsCalls, HoldsOpenCall, IsAtWorkAlone, IsGiving, IsUnusedChunk, KnowsTaken, MayPublish, PromisesTaken, PublishesAlone, RestsBehindCall};
+ghost use Rattle.pm_epoch.specs.Epochs.{AllocatesOwn, AreOfOwnBits, HandsOver, HasEnded, HasEntriesFor, HasSameHeap, HoldsCalls, HoldsOpenCall, IsAtWorkAlone, IsGiving, IsUnusedChunk, KnowsTaken, LoadsNoneOf, MayPublish, PromisesTaken, PublishesAlone, RestsBehindCall};
 
 /// A law: in a world where a lane has each word as it is, what it reserved may be allocated: a block of a run, by the class that the run's
 /// descriptor says, and chunks that are described by 0; and a block that it found under a lock may be freed, unless it is the root's, where
@@ -200,4 +201,19 @@ pub fn a_lane_at_work_knows_what_is_taken()
     ensures freed { (o : Opening) (header : Header) (pool : PoolView) (v w : View) (steps : List Step) → WorksAlone o header pool v steps w → w.freed ≡ [] }
     ensures taken { (o : Opening) (header : Header) (pool : PoolView) (v w : View) (steps : List Step)
         → WorksAlone o header pool v steps w → ((page : ℕ) → is_made w page ≡ false) → KnowsTaken w }
+{}
+
+/// A law: where a lane works alone, with an entry for each thing that it publishes, and allocates only what it reserved, the draw hands over: it has no
+/// longer reserved what is allocated, and has from then on what is freed, which its words say is taken. No code runs.
+pub fn a_draw_hands_over()
+    ensures { (o : Opening) (header : Header) (pool before now : PoolView) (start v : View) (steps : List Step) (n : ℕ) (all : List Published)
+        → WorksAlone o header pool start steps v → HasEntriesFor v header before now all → AllocatesOwn v all → HandsOver v (after v (Draw n)) all }
+{}
+
+/// A law: from its call's draw to its log's end a lane that is alone holds what it knows, where since then it loaded no word that an entry of its log is of.
+/// No code runs.
+pub fn a_lane_holds_what_it_knows_behind_its_log()
+    ensures { (o : Opening) (header : Header) (pool before made : PoolView) (start u w : View) (steps log_steps : List Step) (n i : ℕ) (all : List Published)
+        → WorksAlone o header pool start steps u → Allowed u (Draw n) → MayPublish (after u (Draw n)) header before made all → Publishes (after u (Draw n)) log_steps w
+        → All (LoadsNoneOf u.log.entries) log_steps → Contains w.known i → IsTrue (is_held w i) }
 {}

@@ -4,6 +4,7 @@ use super::*;
 #[test]
 fn laws(_rt: HostRuntime) {
     a_clear_chunk_is_unused();
+    a_draw_hands_over();
     a_draw_promises_what_will_be_taken();
     a_filled_block_is_fresh();
     a_lane_alone_holds_its_pools();
@@ -12,6 +13,7 @@ fn laws(_rt: HostRuntime) {
     a_lane_alone_publishes_a_pool();
     a_lane_at_rest_may_begin_again();
     a_lane_at_work_knows_what_is_taken();
+    a_lane_holds_what_it_knows_behind_its_log();
     a_lane_knows_what_is_taken_behind_its_log();
     a_lane_whose_call_has_ended_begins_again();
     a_published_call_has_ended();
