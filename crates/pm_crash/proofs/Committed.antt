@@ -1,10 +1,10 @@
 -- A call that commits at the outermost level is a step of the model, and so is one that was given up.
-use Rattle.std.proofs.Common.{◌≡◌, ◌||◌, inl, ℕ, leb, List, [], ◌∷◌, ◌++◌, length, None, refl, sym, ◌∙◌, ap, subst, arith}
+use Rattle.std.proofs.Common.{◌≡◌, ◌||◌, inl, ℕ, leb, List, [], ◌∷◌, ◌++◌, length, map, None, refl, sym, ◌∙◌, ap, subst, arith}
 use Rattle.std.specs.List.{All, Contains, list_any}
 use Rattle.std.specs.List.Sorted.{IsStrictlyIncreasing}
 use Rattle.std.proofs.lemmas.List.Elements.{All-weaker}
 use Rattle.std.proofs.lemmas.Bool.{cond-true, le-leb}
-use Rattle.std.proofs.lemmas.List.{length-append}
+use Rattle.std.proofs.lemmas.List.{append-nil, length-append}
 use Rattle.pm_header.specs.declared.header.Header.{Header}
 use Rattle.pm_objects.specs.Pool.{object_at, offsets}
 use Rattle.pm_objects.specs.declared.history.TxErr.{TxErr}
@@ -22,19 +22,20 @@ use Rattle.pm_model.proofs.Objects.{same_objects}
 use Rattle.pm_model.specs.Step.{RunsFrom, State, with_pending}
 use Rattle.pm_view.specs.View.{View}
 use Rattle.pm_world.specs.History.{made_final}
+use Rattle.pm_world.specs.Records.{pool_entries}
 use Rattle.pm_crash.specs.CallBlocks.{CallBlocks, HasRoomFor, KeepsBlocks, allocated_in, is_at}
 use Rattle.pm_crash.specs.Held.{HoldsPool}
-use Rattle.pm_crash.specs.OpenCall.{CommitsTo, ComesTo, IsBefore, IsChanged, IsOpen, IsUnderWay, IsWholeCall, RunsTo, call_words, made_words}
+use Rattle.pm_crash.specs.OpenCall.{CommitsTo, ComesTo, IsBefore, IsChanged, IsCommitted, IsOpen, IsUnderWay, IsWholeCall, RunsTo, Turns, call_words}
 use Rattle.pm_crash.specs.Operations.{CommitsCall, KeepsWords, Tells}
 use Rattle.pm_crash.specs.Pending.{pending_before, pending_in, published_in, told_in}
-use Rattle.pm_crash.specs.Performing.{CanPerform, performed}
+use Rattle.pm_crash.specs.Performing.{CanPerform, entry_for, performed}
 use Rattle.pm_crash.proofs.CallBlocks.{keeps_on, room_before, room_for_none}
 use Rattle.pm_crash.proofs.CallWords.{call_works}
-use Rattle.pm_crash.proofs.Continued.{answers_done, told_once_more, two_same}
-use Rattle.pm_crash.proofs.KeptWords.{before_back, outside_kept, same_call_words, same_found}
+use Rattle.pm_crash.proofs.Continued.{answers_done, known_new, leaves_told, left_changed, left_made, left_new, told_once_more, two_same, LeavesBlocks}
+use Rattle.pm_crash.proofs.KeptWords.{before_back, keeps_known, outside_kept, same_call_words, same_found}
 use Rattle.pm_crash.proofs.ObjectsOfBlocks.{objects_rise}
 use Rattle.pm_crash.proofs.Passing.{AsksNoLock, Works, passes_all}
-use Rattle.pm_crash.proofs.PendingOn.{pending_once_more, same_before}
+use Rattle.pm_crash.proofs.PendingOn.{pending_once_more, published_once_more, same_before}
 use Rattle.pm_crash.proofs.Performed.{Performs, performs}
 use Rattle.pm_crash.proofs.Runs.{runs_once_more, runs_some}
 
@@ -55,11 +56,6 @@ performable_still v w header pool level at_stage e c a can = record {
   inside = (let size = c.sizes_stay can.block can.is_there in let inside = can.inside in omega (arith, size, inside));
   whole = can.whole;
 }
-
--- the words that the committed call makes: those that it stored, with what it published
-committed_words : (v next : View) → IsUnderWay v 1 stage.Work error.None → CommitsCall v next → (w : ℕ → ℕ) → made_words next w ≡ performed (published_in v) (call_words v w)
-committed_words v next under_way commits w =
-    (λ j i. made_final (commits.entries j) i (same_call_words v next commits.records commits.words under_way.outside w j i))
 
 -- a call that commits, and did nothing else, turns the pool so
 module _ (v next : View) (under_way : IsUnderWay v 1 stage.Work error.None) (tells : Tells v next Commit None) (records : next.log.records ≡ v.log.records) (keeps : KeepsWords v next)
@@ -93,23 +89,52 @@ module _ (v next : View) (under_way : IsUnderWay v 1 stage.Work error.None) (tel
       subst (λ (ts : List Answered). RunsFrom (resting pool (pending_before next)) ts last) (sym (told_once_more v next Commit None tells.call))
       (subst (λ (actions : List Action). RunsFrom (resting pool actions) told last) (sym (same_before v next tells.keeps.entries)) runs)
 
-  pub commits_to : CommitsTo v next w header pool
+  leaves : LeavesBlocks v next
+  leaves = leaves_told v next Commit None tells.call refl (known_new v next (keeps_known v next keeps) under_way.makes)
+
+  same_words : call_words next w ≡ call_words v w
+  same_words = same_call_words v next records keeps under_way.outside w
+
+  same_published : published_in next ≡ published_in v
+  same_published = published_once_more v next Commit None tells.keeps.entries tells.call ∙ append-nil (published_in v)
+
+  can_still : (a : Action) → CanPerform w v.lanes v.zones a → CanPerform (call_words next w) next.lanes next.zones a
+  can_still a can =
+      two_same (λ (n m : ℕ). CanPerform (call_words next w) n m a) v.lanes next.lanes v.zones next.zones (sym tells.keeps.lanes) (sym tells.keeps.zones)
+      (subst (λ (f : ℕ → ℕ). CanPerform f v.lanes v.zones a) (sym same_words) (performable_still v w header pool 1 stage.Work error.None c a can))
+
+  turns : Turns next pool last_pool
+  turns actions own = inl (record {
+    last = last;
+    runs = ran;
+    leaves = record {
+      pending = own;
+      leaves = (λ j. let s : State = record { pool = sym (ap (λ (x : Transaction). x.pool) rests) j; actions = with_pending actions next.lane ((pending_once_more v next Commit None tells.keeps.entries tells.call ∙ sym (ap (λ (x : Transaction). x.actions) rests)) j) } in s);
+    };
+  })
+
+  pub commits_to : CommitsTo next w header pool
   commits_to = record {
     base = c.base;
     copy = c.tx.pool;
-    holds = c.holds;
-    changed = c.changed;
-    unfound = c.unfound;
-    performable = All-weaker (CanPerform w v.lanes v.zones) (CanPerform (call_words v w) v.lanes v.zones) (performable_still v w header pool 1 stage.Work error.None c) (published_in v) c.performable;
-    turns = λ actions own. inl (record {
-      last = last;
-      runs = ran;
-      leaves = record {
-        pending = own;
-        leaves = (λ j. let s : State = record { pool = sym (ap (λ (x : Transaction). x.pool) rests) j; actions = with_pending actions next.lane ((pending_once_more v next Commit None tells.keeps.entries tells.call ∙ sym (ap (λ (x : Transaction). x.actions) rests)) j) } in s);
-      };
-    });
+    holds =
+        two_same (λ (n m : ℕ). HoldsPool (call_words next w) n m header c.base) v.lanes next.lanes v.zones next.zones (sym tells.keeps.lanes) (sym tells.keeps.zones)
+        (subst (λ (f : ℕ → ℕ). HoldsPool f v.lanes v.zones header c.base) (sym same_words) c.holds);
+    changed = left_changed v next c.base c.tx.pool leaves c.changed;
+    unfound = λ o new. c.unfound o (sym (left_new v next o leaves) ∙ new);
+    performable = subst (All (CanPerform (call_words next w) next.lanes next.zones)) (sym same_published) (All-weaker (CanPerform w v.lanes v.zones) (CanPerform (call_words next w) next.lanes next.zones) can_still (published_in v) c.performable);
+    turns = subst (λ (actions : List Action). Turns next pool (with_actions actions c.tx.pool)) (sym same_published) turns;
   }
+
+-- so it is committed
+pub commit_is_told : (v next : View) → IsUnderWay v 1 stage.Work error.None → Tells v next Commit None → next.log.records ≡ v.log.records → KeepsWords v next → IsCommitted next
+commit_is_told v next under_way tells records keeps =
+    let leaves : LeavesBlocks v next = leaves_told v next Commit None tells.call refl (known_new v next (keeps_known v next keeps) under_way.makes) in
+    record {
+      outside = outside_kept v next tells.keeps records under_way.outside;
+      makes = left_made v next leaves tells.keeps under_way.makes;
+      comes = commits_to v next under_way tells records keeps;
+    }
 
 -- a call that changed no block left no change of the pool but what its words hold
 pub unchanged_pool : (v : View) (base pool : PoolView) → IsStrictlyIncreasing (offsets base.objects) → KeepsBlocks v → IsChanged v base pool → pool ≡ base
@@ -120,24 +145,31 @@ unchanged_pool v base pool rising keeps changed =
     (ap (λ (b : CallBlocks). is_among b.freed off) keeps.blocks)) in
     changed.fixed ∙ (λ j. let p : PoolView = record base { objects = same j } in p)
 
--- so such a call is whole once it is committed
+-- so such a call is whole once it is committed, with an entry for each action that it published
 pub commit_is_whole : (v next : View) → IsOpen v 1 stage.Work error.None → CommitsCall v next → IsWholeCall next
 commit_is_whole v next is_open commits_call = record {
-  outside = outside_kept v next tells.keeps commits_call.records is_open.under_way.outside;
+  outside = committed.outside;
   makes = λ w header pool holds id before.
-      let to : CommitsTo v next w header pool =
-      commits_to v next is_open.under_way tells commits_call.records commits_call.words w header pool holds id before (room_for_none next pool (keeps_on v next Commit None tells.call refl refl is_open.keeps).allocated) in
-      let performs_all : Performs (call_words v w) v.lanes v.zones header to.base (published_in v) = performs (call_words v w) v.lanes v.zones header to.base (published_in v) to.holds to.performable in
-      let same : to.copy ≡ to.base = unchanged_pool v to.base to.copy (objects_rise (call_words v w) v.lanes v.zones header to.base to.holds) is_open.keeps to.changed in
-      let last_pool : PoolView = with_actions (published_in v) to.copy in
+      let to : CommitsTo next w header pool = committed.comes w header pool holds id before (room_for_none next pool keeps.allocated) in
+      let performs_all : Performs (call_words next w) next.lanes next.zones header to.base (published_in next) = performs (call_words next w) next.lanes next.zones header to.base (published_in next) to.holds to.performable in
+      let same : to.copy ≡ to.base = unchanged_pool next to.base to.copy (objects_rise (call_words next w) next.lanes next.zones header to.base to.holds) keeps to.changed in
+      let last_pool : PoolView = with_actions (published_in next) to.copy in
       record {
         next = last_pool;
         holds =
-            two_same (λ (n m : ℕ). HoldsPool (made_words next w) n m header last_pool) v.lanes next.lanes v.zones next.zones (sym tells.keeps.lanes) (sym tells.keeps.zones)
-            (subst (λ (f : ℕ → ℕ). HoldsPool f v.lanes v.zones header last_pool) (sym (committed_words v next is_open.under_way commits_call w))
-            (subst (λ (p : PoolView). HoldsPool (performed (published_in v) (call_words v w)) v.lanes v.zones header (with_actions (published_in v) p)) (sym same) performs_all.holds));
+            subst (λ (f : ℕ → ℕ). HoldsPool f next.lanes next.zones header last_pool) (λ j i. made_final (sym entries j) i (call_words next w i))
+            (subst (λ (p : PoolView). HoldsPool (performed (published_in next) (call_words next w)) next.lanes next.zones header (with_actions (published_in next) p)) (sym same) performs_all.holds);
         steps = to.turns;
       };
 } where
   tells : Tells v next Commit None
   tells = commits_call.tells
+
+  keeps : KeepsBlocks next
+  keeps = keeps_on v next Commit None tells.call refl refl is_open.keeps
+
+  committed : IsCommitted next
+  committed = commit_is_told v next is_open.under_way tells commits_call.records commits_call.words
+
+  entries : pool_entries next ≡ map entry_for (published_in next)
+  entries = commits_call.entries ∙ ap (map entry_for) (sym (published_once_more v next Commit None tells.keeps.entries tells.call ∙ append-nil (published_in v)))

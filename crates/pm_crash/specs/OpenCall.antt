@@ -191,16 +191,23 @@ pub record IsGivenUp (v : View) (error : TxErr) : Type 0 where
   pub aborted : WasAborted v error
   pub keeps : allocated_in v ≡ []
 
--- Committed as `next`, the call turns the pool before it into the transaction's copy with what it published performed. The words that it stored hold a
--- pool, and the copy is that one with what the call made and freed
-pub record CommitsTo (v next : View) (w : ℕ → ℕ) (header : Header) (pool : PoolView) : Type 0 where
+-- The committed call turns the pool before it into its transaction's copy with what it published performed. The words that it stored hold a pool, and the
+-- copy is that one with what the call made and freed
+pub record CommitsTo (v : View) (w : ℕ → ℕ) (header : Header) (pool : PoolView) : Type 0 where
   pub base : PoolView
   pub copy : PoolView
   pub holds : HoldsPool (call_words v w) v.lanes v.zones header base
   pub changed : IsChanged v base copy
   pub unfound : (off : ℕ) → is_new_in v off ≡ true → object_at base.objects off ≡ None
   pub performable : All (CanPerform (call_words v w) v.lanes v.zones) (published_in v)
-  pub turns : Turns next pool (with_actions (published_in v) copy)
+  pub turns : Turns v pool (with_actions (published_in v) copy)
+
+-- the lane's call is committed, whatever pool the words before it hold, if that has room for what the call allocated; it has in its words what it made
+pub record IsCommitted (v : View) : Type 0 where
+  pub outside : (i : ℕ) → is_recorded v.log.records i ≡ true → is_in_area v.lane i ≡ false
+  pub makes : (n : NewObject) → Contains (blocks_in v).made n → IsMadeIn v n
+  pub comes : (w : ℕ → ℕ) (header : Header) (pool : PoolView) → HoldsPool w v.lanes v.zones header pool → v.pool ≡ header.id → IsBefore v w → HasRoomFor pool (allocated_in v)
+      → CommitsTo v w header pool
 
 -- the call makes a step of the plain model: from words that hold a pool it makes words that hold the next one
 pub record MakesStep (v : View) (w : ℕ → ℕ) (header : Header) (pool : PoolView) : Type 0 where
