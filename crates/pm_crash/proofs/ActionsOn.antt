@@ -63,7 +63,7 @@ moves_on v next op reply level under_way tells logs keeps none moves =
     still_under_way v next level level op reply under_way tells
     (goes_back v next tells.keeps (same_found v next tells.locks) logs (λ i outside none. keeps.words i outside) under_way.outside under_way.under)
     (left_made v next leaves tells.keeps under_way.makes) (left_apart v next leaves tells.locks under_way.apart)
-    (λ w header pool same_id before next_before room c.
+    (λ w header pool holds same_id before next_before room c.
     let how = moves w header pool same_id before c in
     let moved : after_reply op reply c.tx ≡ moved_on op reply c.tx = how.0.leaves in
     let same : call_words next w ≡ call_words v w = same_call_words v next logs.records keeps under_way.outside w in

@@ -113,7 +113,7 @@ add_goes_on v next id off len level some under_way adds old =
       entries = adds.entries;
     })
     (left_made v next leaves adds.tells.keeps under_way.makes) (left_apart v next leaves adds.tells.locks under_way.apart)
-    (λ w header pool same_id before next_before allowed c.
+    (λ w header pool holds same_id before next_before allowed c.
     let object : IsObjectOf v w c.tx id held.lock.line = object_under v w header pool level id true under_way before c held adds.range.size_known old in
     let works : Works c.tx = call_works v w header pool level some under_way c in
     let inside : off + len ≤ slice_index v.words (8 * held.lock.line + 1) = adds.range.inside in

@@ -1,7 +1,7 @@
 -- What a call allocated and freed behind one operation more, and what stays of it.
-use Rattle.std.proofs.Common.{◌≡◌, ℕ, zero, suc, ◌+◌, ◌*◌, ◌≤◌, ◌||◌, Bool, true, false, cond, eqb, List, [], ◌∷◌, ◌++◌, length, map, slice_index, Option, Some, refl, sym, ◌∙◌, ap, subst, arith}
+use Rattle.std.proofs.Common.{◌≡◌, ℕ, ◌+◌, ◌*◌, ◌≤◌, ◌||◌, Bool, true, false, cond, eqb, List, [], ◌∷◌, ◌++◌, length, map, slice_index, Option, Some, refl, sym, ◌∙◌, ap, subst, arith}
 use Rattle.std.specs.List.{All, Contains, filter, flat_map, list_any}
-use Rattle.std.proofs.lemmas.Bool.{or_from}
+use Rattle.std.proofs.lemmas.Bool.{or_from, or_parts}
 use Rattle.std.proofs.lemmas.Grind.{div_ceil_times, flat_map-append}
 use Rattle.std.proofs.lemmas.List.{append-nil}
 use Rattle.pm_layout.specs.Sizes.{class_of, lines_for}
@@ -17,12 +17,13 @@ use Rattle.pm_image.proofs.Members.{first_member, later_member, no_member}
 use Rattle.pm_image.proofs.Pools.{length-bytes_in}
 use Rattle.pm_image.proofs.Rooms.{lines_needed}
 use Rattle.pm_image.proofs.LocalContents.{contents_local, header_same}
+use Rattle.pm_model.proofs.Blocks.{All-parts}
 use Rattle.pm_model.specs.Answers.{IsBeside}
 use Rattle.pm_model.specs.Bytes.{is_among}
 use Rattle.pm_model.specs.Transaction.{Transaction, is_gone, is_new}
 use Rattle.pm_view.specs.Area.{is_in_area}
 use Rattle.pm_view.specs.View.{Told, View}
-use Rattle.pm_crash.specs.CallBlocks.{CallBlocks, HasRoomFor, IsMadeIn, IsOldIn, KeepsBlocks, NewObject, allocated_by, allocated_in, block_of, blocks_behind, blocks_in, blocks_told, is_at, is_freed_in, is_new_in, no_blocks, object_made}
+use Rattle.pm_crash.specs.CallBlocks.{CallBlocks, HasRoomFor, IsMadeIn, IsOldIn, KeepsBlocks, NewObject, allocated_by, allocated_in, block_of, blocks_behind, blocks_in, blocks_told, is_at, is_freed_in, is_made_in, is_new_in, no_blocks, object_made}
 use Rattle.pm_crash.specs.NewObjects.{fresh_word, unlinked}
 use Rattle.pm_crash.specs.OpenCall.{IsChanged, TracksBlocks, place_and_size}
 
@@ -45,16 +46,11 @@ allocated_once_more v next op reply call =
     ∙ flat_map-append by v.call (record { operation = op; reply = reply } ∷ [])
     ∙ ap (λ (more : List NewObject). allocated_in v ++ more) (append-nil (allocated_by op reply))
 
-front_of : {X : Type 0} (P : X → Type 0) (xs ys : List X) → All P (xs ++ ys) → All P xs
-front_of P [] ys all k d low = absurd (omega (arith, low))
-front_of P (x ∷ xs) ys all zero d low = all zero d (omega arith)
-front_of P (x ∷ xs) ys all (suc k) d low = front_of P xs ys (λ j e near. all (suc j) e (omega (arith, near))) k d (omega (arith, low))
-
 -- a pool that has room for what is allocated once it is told had it before
 pub room_before : (v next : View) (op : Operation) (reply : Option Value) → next.call ≡ v.call ++ record { operation = op; reply = reply } ∷ [] → (pool : PoolView)
     → HasRoomFor pool (allocated_in next) → HasRoomFor pool (allocated_in v)
 room_before v next op reply call pool room =
-    front_of (λ (n : NewObject). All (IsBeside n.size n.off) pool.objects) (allocated_in v) (allocated_by op reply) (subst (HasRoomFor pool) (allocated_once_more v next op reply call) room)
+    (All-parts (λ (n : NewObject). All (IsBeside n.size n.off) pool.objects) (allocated_in v) (allocated_by op reply) (subst (HasRoomFor pool) (allocated_once_more v next op reply call) room)).0
 
 -- where nothing is told it is the same
 pub same_blocks : (v next : View) → next.call ≡ v.call → blocks_in next ≡ blocks_in v
@@ -162,7 +158,7 @@ changed_stays v next base pool blocks same changed = record {
       changed.new n before ∙ ap (λ (o : Object). Some o) (sym (object_stays v next n (same n before)));
   gone = λ off freed. changed.gone off (ap (λ (b : CallBlocks). is_among b.freed off) (sym blocks) ∙ freed);
   others = λ off old kept.
-      changed.others off (ap (λ (b : CallBlocks). list_any (is_at off) b.made || list_any (is_at off) b.dropped) (sym blocks) ∙ old)
+      changed.others off (ap (λ (b : CallBlocks). list_any (is_at off) b.made) (sym blocks) ∙ old)
       (ap (λ (b : CallBlocks). is_among b.freed off) (sym blocks) ∙ kept);
 }
 
@@ -195,6 +191,10 @@ old_of_none v keeps off = record {
   found = ap (λ (b : CallBlocks). list_any (is_at off) b.made || list_any (is_at off) b.dropped) keeps.blocks;
   kept = ap (λ (b : CallBlocks). is_among b.freed off) keeps.blocks;
 }
+
+-- nothing that it made and has is there
+pub not_made : (v : View) (off : ℕ) → is_new_in v off ≡ false → is_made_in v off ≡ false
+not_made v off old = (or_parts (list_any (is_at off) (blocks_in v).made) (list_any (is_at off) (blocks_in v).dropped) old).0
 
 pub none_made : {X : Type 0} (v : View) → KeepsBlocks v → (n : NewObject) → Contains (blocks_in v).made n → X
 none_made v keeps n there = absurd (no_member n (subst (λ (b : CallBlocks). Contains b.made n) keeps.blocks there))

@@ -32,7 +32,7 @@ use Rattle.pm_crash.specs.Operations.{IsHeld}
 use Rattle.pm_crash.proofs.Covered.{covered_has_byte}
 use Rattle.pm_crash.proofs.Apart.{lines_of_block}
 use Rattle.pm_crash.proofs.ObjectsOfBlocks.{object_is_there}
-use Rattle.pm_crash.proofs.CallBlocks.{tracks_gone}
+use Rattle.pm_crash.proofs.CallBlocks.{not_made, tracks_gone}
 use Rattle.pm_crash.proofs.Passing.{Works, none_named}
 
 pub recorded_call_word : (v : View) (w : ℕ → ℕ) (i : ℕ) → is_recorded v.log.records i ≡ true → call_words v w i ≡ slice_index v.words i
@@ -150,7 +150,7 @@ object_found v w header base tx id write in_lanes chunks before holds blocks_sta
 pub object_under : (v : View) (w : ℕ → ℕ) (header : Header) (pool : PoolView) (level : ℕ) (id : Oid) (write : Bool) → IsUnderWay v level stage.Work error.None → IsBefore v w
     → (c : ComesTo v w header pool level stage.Work error.None) → (held : IsHeld v id write) → Contains v.known (8 * held.lock.line + 1) → IsOldIn v id.off → IsObjectOf v w c.tx id held.lock.line
 object_under v w header pool level id write under_way before c held size_known old =
-    object_found v w header c.base c.tx id write under_way.in_lanes under_way.chunks before c.holds c.blocks_stay held size_known (c.changed.others id.off old.found old.kept)
+    object_found v w header c.base c.tx id write under_way.in_lanes under_way.chunks before c.holds c.blocks_stay held size_known (c.changed.others id.off (not_made v id.off old.found) old.kept)
 
 -- the transaction works
 pub call_works : (v : View) (w : ℕ → ℕ) (header : Header) (pool : PoolView) (level : ℕ) → 1 ≤ level → IsUnderWay v level stage.Work error.None → (c : ComesTo v w header pool level stage.Work error.None) → Works c.tx

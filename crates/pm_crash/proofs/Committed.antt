@@ -1,5 +1,5 @@
 -- A call that commits at the outermost level is a step of the model, and so is one that was given up.
-use Rattle.std.proofs.Common.{◌≡◌, ◌||◌, inl, ℕ, leb, List, [], ◌∷◌, ◌++◌, length, map, None, refl, sym, ◌∙◌, ap, subst, arith}
+use Rattle.std.proofs.Common.{◌≡◌, inl, ℕ, leb, List, [], ◌∷◌, ◌++◌, length, map, None, refl, sym, ◌∙◌, ap, subst, arith}
 use Rattle.std.specs.List.{All, Contains, list_any}
 use Rattle.std.specs.List.Sorted.{IsStrictlyIncreasing}
 use Rattle.std.proofs.lemmas.List.Elements.{All-weaker}
@@ -141,7 +141,7 @@ pub unchanged_pool : (v : View) (base pool : PoolView) → IsStrictlyIncreasing 
 unchanged_pool v base pool rising keeps changed =
     let same : pool.objects ≡ base.objects = same_objects pool.objects base.objects changed.rising rising (λ off.
     changed.others off
-    (ap (λ (b : CallBlocks). list_any (is_at off) b.made || list_any (is_at off) b.dropped) keeps.blocks)
+    (ap (λ (b : CallBlocks). list_any (is_at off) b.made) keeps.blocks)
     (ap (λ (b : CallBlocks). is_among b.freed off) keeps.blocks)) in
     changed.fixed ∙ (λ j. let p : PoolView = record base { objects = same j } in p)
 

@@ -179,7 +179,7 @@ pub record GoesBack (v next : View) : Type 0 where
 
 pub still_under_way : (v next : View) (level to : ℕ) (op : Operation) (reply : Option Value) → IsUnderWay v level stage.Work error.None → Tells v next op reply → GoesBack v next
     → ((n : NewObject) → Contains (blocks_in next).made n → IsMadeIn next n) → LieApart next
-    → ((w : ℕ → ℕ) (header : Header) (pool : PoolView) → v.pool ≡ header.id → IsBefore v w → IsBefore next w → HasRoomFor pool (allocated_in next) → (c : ComesTo v w header pool level stage.Work error.None)
+    → ((w : ℕ → ℕ) (header : Header) (pool : PoolView) → HoldsPool w v.lanes v.zones header pool → v.pool ≡ header.id → IsBefore v w → IsBefore next w → HasRoomFor pool (allocated_in next) → (c : ComesTo v w header pool level stage.Work error.None)
     → Continues v next w header op reply to c.tx)
     → IsUnderWay next to stage.Work error.None
 still_under_way v next level to op reply under_way tells back makes apart continues =
@@ -201,5 +201,5 @@ still_under_way v next level to op reply under_way tells back makes apart contin
           let old_holds : HoldsPool w v.lanes v.zones header pool = two_same (λ (n m : ℕ). HoldsPool w n m header pool) next.lanes v.lanes next.zones v.zones tells.keeps.lanes tells.keeps.zones holds in
           let old_room : HasRoomFor pool (allocated_in v) = room_before v next op reply tells.call pool room in
           let c : ComesTo v w header pool level stage.Work error.None = under_way.comes w header pool old_holds old_id old_before old_room in
-          next_comes v next level to op reply w header pool tells.keeps tells.call c (continues w header pool old_id old_before before room c);
+          next_comes v next level to op reply w header pool tells.keeps tells.call c (continues w header pool old_holds old_id old_before before room c);
     }

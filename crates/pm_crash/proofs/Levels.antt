@@ -36,7 +36,7 @@ use Rattle.pm_crash.specs.OpenCall.{IsBefore, ComesTo, IsChanged, IsOpen, IsUnde
 use Rattle.pm_crash.specs.Operations.{BeginsLevel, IsHeld, IsWantHeld, KeepsLog, KeepsWords, Tells}
 use Rattle.pm_crash.proofs.Begun.{all_pass, none_fails}
 use Rattle.pm_crash.proofs.CallWords.{call_works, locks_kept, same_lanes, same_pool, same_zones}
-use Rattle.pm_crash.proofs.CallBlocks.{keeps_on, no_want_gone, none_made, old_of_none, old_want, room_before}
+use Rattle.pm_crash.proofs.CallBlocks.{keeps_on, no_want_gone, none_made, not_made, old_of_none, old_want, room_before}
 use Rattle.pm_crash.proofs.Continued.{answers_done, known_new, leaves_told, left_apart, left_changed, left_made, left_new, left_tracks, next_comes, still_under_way, tracks_more, two_same, Continues, LeavesBlocks}
 use Rattle.pm_crash.proofs.KeptWords.{before_back, goes_back, keeps_known, outside_kept, same_call_words, same_found, under_kept}
 use Rattle.pm_crash.proofs.ObjectsOfBlocks.{object_is_there}
@@ -54,7 +54,7 @@ inner_commit_goes_on v next level some under_way tells logs keeps =
     still_under_way v next (level + 1) level Commit None under_way tells
     (goes_back v next tells.keeps (same_found v next tells.locks) logs (λ i outside none. keeps.words i outside) under_way.outside under_way.under)
     (left_made v next leaves tells.keeps under_way.makes) (left_apart v next leaves tells.locks under_way.apart)
-    (λ w header pool same_id before next_before room c.
+    (λ w header pool holds same_id before next_before room c.
     let same : call_words next w ≡ call_words v w = same_call_words v next logs.records keeps under_way.outside w in
     let levels : c.tx.level ≡ level + 1 = c.levels in
     let ends : after_reply Commit None c.tx ≡ ended_inner (committed c.tx) = commits_inner c.tx level some levels in
@@ -130,7 +130,7 @@ want_is_there v next wants level w header pool want begins id before c old wante
           (eq-eqb want.id.pool c.tx.pool.id (held.of_pool ∙ begins.keeps.pool ∙ sym (same_pool v w header c.base c.tx c.holds c.changed id)))
           ((λ j. can_begin (same_lanes v w header c.base c.tx c.holds c.changed j) (same_zones v w header c.base c.tx c.holds c.changed j) want.id.off)
           ∙ two_same (λ (n m : ℕ). can_begin n m want.id.off ≡ true) next.lanes v.lanes next.zones v.zones begins.keeps.lanes begins.keeps.zones wanted.place);
-      there = subst (λ (o : Option Object). IsSome o) (sym (c.changed.others want.id.off old.found old.kept ∙ ap (object_at c.base.objects) held.place ∙ object.found)) refl;
+      there = subst (λ (o : Option Object). IsSome o) (sym (c.changed.others want.id.off (not_made v want.id.off old.found) old.kept ∙ ap (object_at c.base.objects) held.place ∙ object.found)) refl;
     }
 
 -- a begin leaves the call's blocks

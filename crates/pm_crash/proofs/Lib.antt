@@ -34,6 +34,7 @@ pub mod BeginsAgain
 pub mod Begun
 pub mod Levels
 pub mod RefusedBegin
+pub mod AllocOn
 pub mod NamedObjects
 pub mod ActionsOn
 pub mod ActionsOutside

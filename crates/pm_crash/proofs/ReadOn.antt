@@ -76,7 +76,7 @@ read_goes_on v next id off len level some under_way reads old =
     still_under_way v next level level (Read id off len) (Some (Bytes bytes)) under_way reads.tells
     (goes_back v next reads.tells.keeps (same_found v next reads.tells.locks) reads.logs (λ i outside none. reads.keeps.words i outside) under_way.outside under_way.under)
     (left_made v next leaves reads.tells.keeps under_way.makes) (left_apart v next leaves reads.tells.locks under_way.apart)
-    (λ w header pool same_id before next_before room c.
+    (λ w header pool holds same_id before next_before room c.
     let object : IsObjectOf v w c.tx id held.lock.line = object_under v w header pool level id false under_way before c held reads.range.size_known old in
     let works : Works c.tx = call_works v w header pool level some under_way c in
     let inside : off + len ≤ slice_index v.words (8 * held.lock.line + 1) = reads.range.inside in

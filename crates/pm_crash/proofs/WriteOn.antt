@@ -132,7 +132,7 @@ write_goes_on v next id off level bytes some under_way writes old =
     still_under_way v next level level (Write id off bytes) None under_way writes.tells
     (goes_back v next writes.tells.keeps (same_found v next writes.tells.locks) writes.logs (unwritten_stays v next id off bytes writes) under_way.outside under_way.under)
     (left_made v next leaves writes.tells.keeps under_way.makes) (left_apart v next leaves writes.tells.locks under_way.apart)
-    (λ w header pool same_id before next_before room c.
+    (λ w header pool holds same_id before next_before room c.
     let object : IsObjectOf v w c.tx id held.lock.line = object_under v w header pool level id true under_way before c held writes.range.size_known old in
     let works : Works c.tx = call_works v w header pool level some under_way c in
     let words : ℕ → ℕ = call_words v w in

@@ -81,7 +81,10 @@ pub record KeepsBlocks (v : View) : Type 0 where
   pub blocks : blocks_in v ≡ no_blocks
   pub allocated : allocated_in v ≡ []
 
--- the open call has made an object at the offset, whether it freed it again or not; it found and freed the one there
+-- the open call made an object at the offset and has it; it made one, whether it freed it again or not; it found and freed the one there
+abbrev pub is_made_in : View → ℕ → Bool
+is_made_in v off = list_any (is_at off) (blocks_in v).made
+
 abbrev pub is_new_in : View → ℕ → Bool
 is_new_in v off = list_any (is_at off) (blocks_in v).made || list_any (is_at off) (blocks_in v).dropped
 

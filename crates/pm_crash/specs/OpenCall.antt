@@ -23,7 +23,7 @@ use Rattle.pm_view.specs.Log.{Recorded}
 use Rattle.pm_view.specs.View.{View, Lock}
 use Rattle.pm_world.specs.History.{made_final}
 use Rattle.pm_world.specs.Records.{IsRecordAt, is_recorded, pool_entries}
-use Rattle.pm_crash.specs.CallBlocks.{CallBlocks, HasRoomFor, IsMadeIn, KeepsBlocks, NewObject, allocated_in, block_of, blocks_in, is_freed_in, is_new_in, object_made}
+use Rattle.pm_crash.specs.CallBlocks.{CallBlocks, HasRoomFor, IsMadeIn, KeepsBlocks, NewObject, allocated_in, block_of, blocks_in, is_freed_in, is_made_in, is_new_in, object_made}
 use Rattle.pm_crash.specs.HeapChanges.{AreDisjoint}
 use Rattle.pm_crash.specs.Locks.{AreSameLocks}
 use Rattle.pm_crash.specs.Held.{HoldsPool}
@@ -108,7 +108,7 @@ pub record IsChanged (v : View) (base pool : PoolView) : Type 0 where
   pub rising : IsStrictlyIncreasing (offsets pool.objects)
   pub new : (n : NewObject) → Contains (blocks_in v).made n → object_at pool.objects n.off ≡ Some (object_made v n)
   pub gone : (off : ℕ) → is_freed_in v off ≡ true → object_at pool.objects off ≡ None
-  pub others : (off : ℕ) → is_new_in v off ≡ false → is_freed_in v off ≡ false → object_at pool.objects off ≡ object_at base.objects off
+  pub others : (off : ℕ) → is_made_in v off ≡ false → is_freed_in v off ≡ false → object_at pool.objects off ≡ object_at base.objects off
 
 -- where an object of the pool stood, and of how many bytes
 abbrev pub place_and_size : ℕ × Object → ℕ × ℕ

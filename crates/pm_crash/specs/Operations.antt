@@ -1,26 +1,31 @@
 -- What a lane's view shows of an operation of the open call: the view before, and the one after the operation is told with its reply.
 use Rattle.std.specs.Prelude.{◌≡◌, ◌⊎◌, ℕ, ◌+◌, ◌*◌, ◌/◌, ◌%◌, ◌<◌, ◌≤◌, ◌==◌, ◌&&◌, ◌||◌, Bool, true, false, not, IsTrue, List, [], ◌∷◌, ◌++◌, map, filter, length, slice_index, take, drop, Contains, Option, Some, None}
 use Rattle.std.specs.List.{list_any}
+use Rattle.pm_layout.specs.Sizes.{class_of}
 use Rattle.pm_words.specs.Words.{bytes_of, AreBytes}
 use Rattle.pm_objects.specs.declared.calls.Operation.{Operation}
-use Rattle.pm_objects.specs.declared.calls.Operation.TheVariants.{AddRange, Begin, Commit, Read, Write}
+use Rattle.pm_objects.specs.declared.calls.Operation.TheVariants.{AddRange, Alloc, Begin, Commit, Read, Write}
 use Rattle.pm_objects.specs.declared.calls.Want.{Want}
 use Rattle.pm_objects.specs.declared.history.Value.{Value}
-use Rattle.pm_objects.specs.declared.history.Value.TheVariants.{Bytes, Refused}
+use Rattle.pm_objects.specs.declared.history.Value.TheVariants.{Bytes, Offset, Refused}
 use Rattle.pm_objects.specs.declared.ids.Oid.{Oid}
 use Rattle.pm_objects.specs.declared.refusal.Refusal.{Refusal}
 use Rattle.pm_objects.specs.declared.refusal.Refusal.TheVariants as refusal
 use Rattle.pm_model.specs.Bytes.{covered_words, new_words, records_of}
 use Rattle.pm_model.specs.Checks.{Range, range_of, is_record, is_write, needs_write}
-use Rattle.pm_model.specs.Places.{can_begin}
+use Rattle.pm_model.specs.Actions.{max_entries}
+use Rattle.pm_model.specs.NewObjects.{new_object}
+use Rattle.pm_model.specs.Places.{CanHold, can_begin}
 use Rattle.pm_model.specs.Transaction.{Lock as Locked, is_locked, locked_all}
 use Rattle.pm_view.specs.Area.{is_in_area}
 use Rattle.pm_view.specs.Blocks.{is_chunk}
 use Rattle.pm_view.specs.Log.{Recorded}
 use Rattle.pm_view.specs.View.{View, Lock}
 use Rattle.pm_world.specs.Records.{IsRecordAt, is_recorded, pool_entries}
+use Rattle.pm_crash.specs.CallBlocks.{IsMadeIn, NewObject, block_of, blocks_in, is_freed_in, object_made}
+use Rattle.pm_crash.specs.HeapChanges.{AreDisjoint}
 use Rattle.pm_crash.specs.Locks.{AreSameLocks}
-use Rattle.pm_crash.specs.OpenCall.{IsUnderBlock, locks_of, words_recorded}
+use Rattle.pm_crash.specs.OpenCall.{IsUnderBlock, block_at_line, locks_of, words_recorded}
 use Rattle.pm_crash.specs.Pending.{published_in}
 use Rattle.pm_crash.specs.Performing.{entry_for}
 use Rattle.pm_crash.specs.Writes.{words_written}
@@ -255,3 +260,51 @@ pub record RefusesLevel (v next : View) (level : ℕ) (wants : List Want) (r : R
   pub call : next.call ≡ v.call ++ record { operation = Begin wants; reply = Some (Refused r) } ∷ []
   pub reason : IsBeginReason v level (locks_of v) wants r
   pub takes_back : TakesBack v next
+
+-- ---- objects that the call makes
+
+-- so many entries the call's log would have: for what it published, made and freed
+abbrev pub entries_so_far : View → ℕ
+entries_so_far v = length (published_in v) + (length (blocks_in v).made + length (blocks_in v).freed)
+
+-- The lane made a new object of zeros in a block that was nobody's, and told its offset. No word that it knew changed. The block lies apart from those of what
+-- it found under its locks, and of what its call made before; and the log has room for the object's entry, and for the one that ends its generation
+pub record AllocatesObject (v next : View) (n : NewObject) : Type 0 where
+  pub tells : Tells v next (Alloc n.size n.kind) (Some (Offset n.off))
+  pub logs : KeepsLog v next
+  pub keeps : KeepsKnown v next
+  pub some : 1 ≤ n.size
+  pub most : n.size ≤ 262080
+  pub place : CanHold v.lanes v.zones (class_of n.size) n.off
+  pub made : IsMadeIn next n
+  pub zeros : object_made next n ≡ new_object n.kind n.size
+  pub apart_found : (l : Lock) (lines : ℕ) → Contains v.locks l → l.block ≡ Some lines → AreDisjoint (block_of n) (block_at_line l.line lines)
+  pub apart_made : (m : NewObject) → Contains ((blocks_in v).made ++ (blocks_in v).dropped) m → AreDisjoint (block_of n) (block_of m)
+  pub unfreed : is_freed_in v n.off ≡ false
+  pub room : entries_so_far v + 2 ≤ max_entries
+
+-- the object is one that the call made and has
+pub record IsMade (v : View) (id : Oid) : Type 0 where
+  pub new : NewObject
+  pub has : Contains (blocks_in v).made new
+  pub of_pool : id.pool ≡ v.pool
+  pub place : id.off ≡ new.off
+
+-- the range ends where such an object ends, or before
+pub record HasNewRange (v : View) (id : Oid) (off len : ℕ) : Type 0 where
+  pub made : IsMade v id
+  pub inside : off + len ≤ made.new.size
+
+-- the lane read a range of it, and told the bytes
+pub record ReadsNewBytes (v next : View) (id : Oid) (off len : ℕ) : Type 0 where
+  pub tells : Tells v next (Read id off len) (Some (Bytes (bytes_seen v id off len)))
+  pub logs : KeepsLog v next
+  pub keeps : KeepsWords v next
+  pub range : HasNewRange v id off len
+
+-- the lane was asked to record a range of it, which needs no record, and told so
+pub record AddsNewRange (v next : View) (id : Oid) (off len : ℕ) : Type 0 where
+  pub tells : Tells v next (AddRange id off len) None
+  pub logs : KeepsLog v next
+  pub keeps : KeepsWords v next
+  pub range : HasNewRange v id off len

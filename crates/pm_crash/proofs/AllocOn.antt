@@ -1,0 +1,330 @@
+-- A new object that a call makes is the plain model's allocation: no object of the pool, nor one that the call dropped, stands in its way.
+use Rattle.std.proofs.Common.{◌≡◌, ◌≢◌, ◌⊎◌, ⊎_elim, inl, inr, ℕ, zero, suc, ◌+◌, ◌-◌, ◌*◌, ◌<◌, ◌≤◌, ◌||◌, Bool, true, false, cond, eqb, ltb, List, [], ◌∷◌, ◌++◌, drop, get_or, length, map, Option, Some, None, MatchOption, refl, sym, ◌∙◌, ap, subst, arith}
+use Rattle.std.specs.List.{All, Contains, find, list_any}
+use Rattle.std.specs.List.Sorted.{IsStrictlyIncreasing}
+use Rattle.std.specs.Option.{option_map}
+use Rattle.std.proofs.lemmas.Bool.{cases_Bool, eq-eqb, eqb-true, false_from_ne_true, false≢true, le-ltb, ne_eqb, or_cases, or_from, or_left, or_parts, or_right}
+use Rattle.std.proofs.lemmas.List.{append-nil, length-append, length-map, map-append}
+use Rattle.std.proofs.lemmas.List.Elements.{All-append, All-cons, All-contains, All-head, All-nil, All-tail, Contains-append_left, Contains-append_right, Contains-push, Contains-push_cases}
+use Rattle.std.proofs.lemmas.Option.{same_Some}
+use Rattle.std.proofs.lemmas.List.Folds.{Any-from_list_any, list_any-append}
+use Rattle.pm_header.specs.declared.header.Header.{Header}
+use Rattle.pm_layout.specs.Sizes.{class_of}
+use Rattle.pm_objects.specs.Pool.{Objects, block_end, block_lines, object_at, offsets}
+use Rattle.pm_objects.specs.declared.calls.Operation.TheVariants.{Alloc}
+use Rattle.pm_objects.specs.declared.history.TxErr.TheVariants as error
+use Rattle.pm_objects.specs.declared.history.Value.TheVariants.{Offset}
+use Rattle.pm_objects.specs.declared.pool.Object.{Object}
+use Rattle.pm_objects.specs.declared.pool.PoolView.{PoolView}
+use Rattle.pm_objects.specs.declared.refusal.Refusal.{Refusal}
+use Rattle.pm_objects.specs.declared.refusal.Refusal.TheVariants as refusal
+use Rattle.pm_image.specs.Blocks.{blocks}
+use Rattle.pm_image.specs.Contents.{bytes_in, offset_in, size_in}
+use Rattle.pm_image.specs.declared.block.Block.{Block}
+use Rattle.pm_image.proofs.Members.{first_member, later_member}
+use Rattle.pm_model.specs.declared.stage.Stage.TheVariants as stage
+use Rattle.pm_model.specs.Actions.{Action, max_entries}
+use Rattle.pm_model.specs.Answers.{Answers, IsBeside, IsDone, IsNewPlace, IsRefused, after_reply}
+use Rattle.pm_model.specs.Bytes.{is_among}
+use Rattle.pm_model.specs.Checks.{first_refusal}
+use Rattle.pm_model.specs.NewObjects.{new_object, with_object}
+use Rattle.pm_model.specs.Places.{CanHold}
+use Rattle.pm_model.specs.Transaction.{entries_of, locked_all}
+use Rattle.pm_model.proofs.Blocks.{has_lines, none_beside}
+use Rattle.pm_model.proofs.Objects.{rising_tail}
+use Rattle.pm_model.proofs.ObjectsByOffset.{more_elsewhere, more_rise, more_there}
+use Rattle.pm_view.specs.Log.{Recorded}
+use Rattle.pm_view.specs.View.{View, Lock}
+use Rattle.pm_world.specs.Records.{is_recorded}
+use Rattle.pm_crash.specs.CallBlocks.{CallBlocks, HasRoomFor, IsMadeIn, NewObject, allocated_in, block_of, blocks_in, is_at, is_freed_in, is_made_in, is_new_in, object_made, with_made}
+use Rattle.pm_crash.specs.Held.{HoldsPool, object_of}
+use Rattle.pm_crash.specs.HeapChanges.{AreDisjoint}
+use Rattle.pm_crash.specs.OpenCall.{ComesTo, IsChanged, IsUnderWay, LieApart, TracksBlocks, block_at_line, call_words, place_and_size, words_recorded}
+use Rattle.pm_crash.specs.Operations.{AllocatesObject}
+use Rattle.pm_crash.specs.Pending.{published_in}
+use Rattle.pm_crash.specs.Performing.{CanPerform}
+use Rattle.pm_crash.proofs.CallBlocks.{SameNew, allocated_once_more, blocks_once_more, made_stays, object_stays}
+use Rattle.pm_crash.proofs.CallWords.{call_works, locks_kept, same_lanes, same_zones}
+use Rattle.pm_crash.proofs.Continued.{known_new, still_under_way, two_same, Continues, GoesBack}
+use Rattle.pm_crash.proofs.KeptWords.{known_back, same_found, same_known_words, under_kept}
+use Rattle.pm_crash.proofs.ObjectsOfBlocks.{block_is_there, object_is_there}
+use Rattle.pm_crash.proofs.Passing.{no_tx, no_work, not_busy, not_missing, not_spent, unhindered, Works}
+
+-- ---- objects of a list in rising offsets
+
+-- each is behind the first
+first_is_least : (a : ℕ) (xs : List ℕ) (k : ℕ) → IsStrictlyIncreasing (a ∷ xs) → k < length xs → a < get_or xs k 0
+first_is_least a [] k rising inside = absurd (omega (arith, inside))
+first_is_least a (x ∷ xs) zero rising inside = rising 0 (omega arith)
+first_is_least a (x ∷ xs) (suc k) rising inside =
+    let first : a < x = rising 0 (omega arith) in
+    let later = first_is_least x xs k (rising_tail a (x ∷ xs) rising) (omega (arith, inside)) in
+    omega (arith, first, later)
+
+-- so at its offset each stands
+stands_there : (objects : Objects) (k : ℕ) (d : ℕ × Object) → IsStrictlyIncreasing (offsets objects) → k < length objects → object_at objects (get_or objects k d).0 ≡ Some (get_or objects k d).1
+stands_there [] k d rising inside = absurd (omega (arith, inside))
+stands_there (e ∷ es) zero d rising inside = ap (λ (b : Bool). cond b (Some e.1) (object_at es e.0)) (eq-eqb e.0 e.0 refl)
+stands_there (e ∷ es) (suc k) d rising inside =
+    let near : k < length es = omega (arith, inside) in
+    let less = first_is_least e.0 (offsets es) k rising (let long = length-map es (λ (x : ℕ × Object). x.0) in omega (arith, near, long)) in
+    let at : get_or (offsets es) k 0 ≡ (get_or es k d).0 = offset_at es k d near in
+    ap (λ (b : Bool). cond b (Some e.1) (object_at es (get_or es k d).0)) (ne_eqb e.0 (get_or es k d).0 (λ same. omega (arith, same, less, at)))
+    ∙ stands_there es k d (rising_tail e.0 (offsets es) rising) near where
+  offset_at : (xs : Objects) (j : ℕ) (c : ℕ × Object) → j < length xs → get_or (offsets xs) j 0 ≡ (get_or xs j c).0
+  offset_at [] j c low = absurd (omega (arith, low))
+  offset_at (x ∷ xs) zero c low = refl
+  offset_at (x ∷ xs) (suc j) c low = offset_at xs j c (omega (arith, low))
+
+-- what all have, the one at an offset has
+found_has : (P : ℕ × Object → Type 0) (objects : Objects) (off : ℕ) (object : Object) → All P objects → object_at objects off ≡ Some object → P (off, object)
+found_has P [] off object all is = absurd (let clash : None ≡ Some object = is in cc)
+found_has P (e ∷ es) off object all is = go (eqb e.0 off) refl is (found_has P es off object (All-tail P e es all)) where
+  go : (t : Bool) → eqb e.0 off ≡ t → cond t (Some e.1) (object_at es off) ≡ Some object → (object_at es off ≡ Some object → P (off, object)) → P (off, object)
+  go true here found rest =
+      let same : e.1 ≡ object = cc in
+      subst (λ (o : ℕ). P (o, object)) (eqb-true e.0 off here) (subst (λ (x : Object). P (e.0, x)) same (All-head P e es all))
+  go false other found rest = rest found
+
+-- ---- blocks that lie apart
+
+apart_offsets : (n m : NewObject) → 64 ≤ n.off → 64 ≤ m.off → AreDisjoint (block_of n) (block_of m) → m.off ≢ n.off
+apart_offsets n m behind too apart same =
+    let lines = has_lines n.size in let lines_too = has_lines m.size in
+    ⊎_elim
+    (λ (before : n.off - 64 + 64 * block_lines (class_of n.size) ≤ m.off - 64). omega (arith, before, lines, same, behind))
+    (λ (after : m.off - 64 + 64 * block_lines (class_of m.size) ≤ n.off - 64). omega (arith, after, lines_too, same, too))
+    apart
+
+-- an object of so many bytes at the offset lies beside
+beside_place : (n m : NewObject) (entry : ℕ × Object) → AreDisjoint (block_of n) (block_of m) → place_and_size entry ≡ (m.off, m.size) → IsBeside n.size n.off entry
+beside_place n m entry apart same =
+    subst (λ (p : ℕ × ℕ). (n.off - 64 + 64 * block_lines (class_of n.size) ≤ p.0 - 64) ⊎ (p.0 - 64 + 64 * block_lines (class_of p.1) ≤ n.off - 64)) (sym same) apart
+
+-- those that the call dropped lie beside where each of these does
+all_beside : (n : NewObject) (dropped : Objects) (news : List NewObject) → map place_and_size dropped ≡ map (λ (m : NewObject). (m.off, m.size)) news
+    → ((m : NewObject) → Contains news m → AreDisjoint (block_of n) (block_of m)) → All (IsBeside n.size n.off) dropped
+all_beside n [] news same apart = All-nil (IsBeside n.size n.off)
+all_beside n (e ∷ es) [] same apart = let long : length (map place_and_size (e ∷ es)) ≡ 0 = ap (λ (xs : List (ℕ × ℕ)). length xs) same in absurd (omega (arith, long))
+all_beside n (e ∷ es) (m ∷ news) same apart =
+    let here : place_and_size e ≡ (m.off, m.size) = ap (λ (xs : List (ℕ × ℕ)). get_or xs 0 (0, 0)) same in
+    let rest : map place_and_size es ≡ map (λ (x : NewObject). (x.off, x.size)) news = ap (drop 1) same in
+    All-cons (IsBeside n.size n.off) e es (beside_place n m e (apart m (first_member m news)) here) (all_beside n es news rest (λ x there. apart x (later_member m news x there)))
+
+-- ---- the allocation
+
+module _ (v next : View) (n : NewObject) (level : ℕ) (some_level : 1 ≤ level) (under_way : IsUnderWay v level stage.Work error.None) (alloc : AllocatesObject v next n) where
+  abbrev now : CallBlocks
+  now = with_made n (blocks_in v)
+
+  blocks_now : blocks_in next ≡ now
+  blocks_now = blocks_once_more v next (Alloc n.size n.kind) (Some (Offset n.off)) alloc.tells.call
+
+  allocated_now : allocated_in next ≡ allocated_in v ++ n ∷ []
+  allocated_now = allocated_once_more v next (Alloc n.size n.kind) (Some (Offset n.off)) alloc.tells.call
+
+  same_new : (m : NewObject) → Contains (blocks_in v).made m → SameNew v next m
+  same_new = known_new v next alloc.keeps under_way.makes
+
+  made_cases : (m : NewObject) → Contains (blocks_in next).made m → Contains (blocks_in v).made m ⊎ (m ≡ n)
+  made_cases m there = ⊎_elim (λ (before : Contains (blocks_in v).made m). inl before) (λ (same : n ≡ m). inr (sym same)) (Contains-push_cases (blocks_in v).made n m (subst (λ (b : CallBlocks). Contains b.made m) blocks_now there))
+
+  makes : (m : NewObject) → Contains (blocks_in next).made m → IsMadeIn next m
+  makes m there = ⊎_elim
+      (λ (before : Contains (blocks_in v).made m). made_stays v next m alloc.tells.keeps.lane alloc.tells.keeps.known (same_new m before) (under_way.makes m before))
+      (λ (same : m ≡ n). subst (IsMadeIn next) (sym same) alloc.made)
+      (made_cases m there)
+
+  apart : LieApart next
+  apart m l lines there held found =
+      let held_before : Contains v.locks l = subst (λ (ls : List Lock). Contains ls l) alloc.tells.locks held in
+      ⊎_elim
+      (λ (before : Contains (blocks_in v).made m). under_way.apart m l lines before held_before found)
+      (λ (same : m ≡ n). subst (λ (x : NewObject). AreDisjoint (block_of x) (block_at_line l.line lines)) (sym same) (alloc.apart_found l lines held_before found))
+      (made_cases m there)
+
+  back : GoesBack v next
+  back = record {
+    outside = λ i is. under_way.outside i (sym (ap (λ (records : List Recorded). is_recorded records i) alloc.logs.records) ∙ is);
+    under = under_kept v next (same_found v next alloc.tells.locks) alloc.logs.records under_way.under;
+    before = known_back v next alloc.tells.keeps (same_found v next alloc.tells.locks) alloc.logs.records (λ i known outside none. alloc.keeps.known i outside known);
+    entries = alloc.logs.entries;
+  }
+
+  -- where it stands no object was made before
+  not_made_there : is_made_in v n.off ≡ false
+  not_made_there = false_from_ne_true (is_made_in v n.off) (λ made.
+      let t = Any-from_list_any (is_at n.off) (blocks_in v).made made in
+      let there : Contains (blocks_in v).made t.1 = (t.0, t.2, t.3) in
+      apart_offsets n t.1 alloc.made.behind (under_way.makes t.1 there).behind (alloc.apart_made t.1 (Contains-append_left (blocks_in v).made (blocks_in v).dropped t.1 there)) (eqb-true t.1.off n.off t.4))
+
+  module _ (w : ℕ → ℕ) (header : Header) (pool : PoolView) (holds : HoldsPool w v.lanes v.zones header pool) (room : HasRoomFor pool (allocated_in next)) (c : ComesTo v w header pool level stage.Work error.None) where
+    -- no object of the pool before the call stands in its way
+    beside_before : All (IsBeside n.size n.off) pool.objects
+    beside_before = All-contains (λ (m : NewObject). All (IsBeside m.size m.off) pool.objects) (allocated_in next) n room (subst (λ (ns : List NewObject). Contains ns n) (sym allocated_now) (Contains-push (allocated_in v) n))
+
+    -- nor of what the words hold now
+    beside_base : (off : ℕ) (object : Object) → object_at c.base.objects off ≡ Some object → IsBeside n.size n.off (off, object)
+    beside_base off object is =
+        let found = block_is_there (call_words v w) v.lanes v.zones off header c.base object c.holds is in
+        let was : Contains (blocks w v.lanes v.zones) found.block = subst (λ (bs : List Block). Contains bs found.block) c.blocks_stay found.is_there in
+        let there = object_is_there (call_words v w) v.lanes v.zones header c.base found.block c.holds found.is_there in
+        let before = object_is_there w v.lanes v.zones header pool found.block holds was in
+        let size = c.sizes_stay found.block was in
+        let long : length (bytes_in (call_words v w) found.block) ≡ length (bytes_in w found.block) = let a = there.size in let b = before.size in omega (arith, a, b, size) in
+        let beside : IsBeside n.size n.off (offset_in found.block, object_of w v.lanes v.zones found.block) = found_has (IsBeside n.size n.off) pool.objects (offset_in found.block) (object_of w v.lanes v.zones found.block) beside_before before.found in
+        subst (λ (p : ℕ × ℕ). (n.off - 64 + 64 * block_lines (class_of n.size) ≤ p.0 - 64) ⊎ (p.0 - 64 + 64 * block_lines (class_of p.1) ≤ n.off - 64))
+        (λ j. (sym found.is_offset j, (sym long ∙ ap (λ (x : Object). length x.bytes) (sym found.is_object)) j)) beside
+
+    beside_now : (off : ℕ) (object : Object) → object_at c.tx.pool.objects off ≡ Some object → IsBeside n.size n.off (off, object)
+    beside_now off object is = ⊎_elim
+        (λ (made : is_made_in v off ≡ true).
+        let t = Any-from_list_any (is_at off) (blocks_in v).made made in
+        let there : Contains (blocks_in v).made t.1 = (t.0, t.2, t.3) in
+        let at : t.1.off ≡ off = eqb-true t.1.off off t.4 in
+        let same : Some (object_made v t.1) ≡ Some object = sym (c.changed.new t.1 there) ∙ ap (object_at c.tx.pool.objects) at ∙ is in
+        let is_object : object_made v t.1 ≡ object = same_Some (object_made v t.1) object same in
+        beside_place n t.1 (off, object) (alloc.apart_made t.1 (Contains-append_left (blocks_in v).made (blocks_in v).dropped t.1 there))
+        (λ j. (sym at j, (ap (λ (x : Object). length x.bytes) (sym is_object) ∙ (under_way.makes t.1 there).long) j)))
+        (λ (not_made : is_made_in v off ≡ false). ⊎_elim
+        (λ (freed : is_freed_in v off ≡ true). absurd (let clash : None ≡ Some object = sym (c.changed.gone off freed) ∙ is in cc))
+        (λ (kept : is_freed_in v off ≡ false). beside_base off object (sym (c.changed.others off not_made kept) ∙ is))
+        (cases_Bool (is_freed_in v off)))
+        (cases_Bool (is_made_in v off))
+
+    beside_all : All (IsBeside n.size n.off) c.tx.pool.objects
+    beside_all k d inside =
+        let e : ℕ × Object = get_or c.tx.pool.objects k d in
+        beside_now e.0 e.1 (stands_there c.tx.pool.objects k d c.changed.rising inside)
+
+    beside_dropped : All (IsBeside n.size n.off) c.tx.dropped
+    beside_dropped = all_beside n c.tx.dropped (blocks_in v).dropped c.tracks.dropped
+        (λ m there. alloc.apart_made m (Contains-append_right (blocks_in v).made (blocks_in v).dropped m there))
+
+    new_place : IsNewPlace c.tx n.size n.off
+    new_place = record {
+      begins = two_same (λ (lanes zones : ℕ). CanHold lanes zones (class_of n.size) n.off) v.lanes c.tx.pool.lanes v.zones c.tx.pool.zones
+          (sym (same_lanes v w header c.base c.tx c.holds c.changed)) (sym (same_zones v w header c.base c.tx c.holds c.changed)) alloc.place;
+      apart = All-append (IsBeside n.size n.off) (c.tx.before.objects ++ c.tx.pool.objects) c.tx.dropped
+          (All-append (IsBeside n.size n.off) c.tx.before.objects c.tx.pool.objects (subst (λ (p : PoolView). All (IsBeside n.size n.off) p.objects) (sym c.before) beside_before) beside_all)
+          beside_dropped;
+    }
+
+    none_there : object_at c.tx.pool.objects n.off ≡ None
+    none_there = none_beside n.size n.off c.tx.pool.objects beside_all
+
+    none_in_base : object_at c.base.objects n.off ≡ None
+    none_in_base = sym (c.changed.others n.off not_made_there alloc.unfreed) ∙ none_there
+
+    -- it is not refused
+    passes : first_refusal unhindered c.tx (Alloc n.size n.kind) ≡ None
+    unfolding first_refusal locked_all
+    passes =
+        let works : Works c.tx = call_works v w header pool level some_level under_way c in
+        let some = alloc.some in let most = alloc.most in
+        let sized : (eqb n.size 0 || ltb 262080 n.size) ≡ false = or_from (eqb n.size 0) (ltb 262080 n.size) (ne_eqb n.size 0 (λ none. omega (arith, some, none))) (le-ltb 262080 n.size (omega (arith, most))) in
+        let moved : length c.tx.moved ≡ length (published_in v) = ap (λ (actions : List Action). length actions) c.moved in
+        let made : length c.tx.made ≡ length (blocks_in v).made = ap (λ (offs : List ℕ). length offs) c.tracks.made ∙ length-map (blocks_in v).made (λ (m : NewObject). m.off) in
+        let freed : length c.tx.freed ≡ length (blocks_in v).freed = ap (λ (offs : List ℕ). length offs) c.tracks.freed in
+        let enough = alloc.room in
+        let roomy : ltb max_entries (entries_of c.tx + 2) ≡ false = le-ltb max_entries (entries_of c.tx + 2) (omega (arith, moved, made, freed, enough)) in
+        (λ j. option_map (λ (check : Refusal × Bool). check.0) (find (λ (check : Refusal × Bool). check.1)
+        ((refusal.NotWork, no_work c.tx works j)
+        ∷ (refusal.NoTx, no_tx c.tx (Alloc n.size n.kind) works j)
+        ∷ (refusal.Spent, not_spent c.tx j)
+        ∷ (refusal.Deep, false)
+        ∷ (refusal.LocksFull, (le-ltb 64 (length c.tx.locks) works.few) j)
+        ∷ (refusal.Unaligned, false)
+        ∷ (refusal.BadSize, sized j)
+        ∷ (refusal.NotLocked, false)
+        ∷ (refusal.NoObject, false)
+        ∷ (refusal.Busy, not_busy c.tx (Alloc n.size n.kind) j)
+        ∷ (refusal.NoObject, not_missing c.tx (Alloc n.size n.kind) j)
+        ∷ (refusal.NoObject, false)
+        ∷ (refusal.RootKept, false)
+        ∷ (refusal.Listed, false)
+        ∷ (refusal.OutOfRange, false)
+        ∷ (refusal.NotAdded, false)
+        ∷ (refusal.LogFull, false)
+        ∷ (refusal.ActionsFull, roomy j)
+        ∷ (refusal.NoSpace, false)
+        ∷ [])))
+
+    answers : Answers c.tx (Alloc n.size n.kind) (Some (Offset n.off))
+    answers =
+        let op = Alloc n.size n.kind in
+        let done : IsDone c.tx (Alloc n.size n.kind) (Some (Offset n.off)) = record { there = λ k d inside. absurd (omega (arith, inside)); value = (n.off, new_place, refl) } in
+        record {
+          known = refl;
+          seen = unhindered;
+          answer = subst (λ (fr : Option Refusal). MatchOption fr (IsDone c.tx (Alloc n.size n.kind) (Some (Offset n.off))) (λ r. IsRefused r (Some (Offset n.off)))) (sym passes) done;
+        }
+
+    -- the pool has it
+    changed : IsChanged next c.base (record c.tx.pool { objects = with_object n.off (new_object n.kind n.size) c.tx.pool.objects })
+    changed = record {
+      fixed = (λ j. let p : PoolView = record (c.changed.fixed j) { objects = with_object n.off (new_object n.kind n.size) c.tx.pool.objects } in p);
+      rising = more_rise c.tx.pool.objects n.off (new_object n.kind n.size) c.changed.rising none_there;
+      new = λ m there. ⊎_elim
+          (λ (before : Contains (blocks_in v).made m).
+          more_elsewhere c.tx.pool.objects n.off m.off (new_object n.kind n.size)
+          (apart_offsets n m alloc.made.behind (under_way.makes m before).behind (alloc.apart_made m (Contains-append_left (blocks_in v).made (blocks_in v).dropped m before)))
+          ∙ c.changed.new m before ∙ ap (λ (o : Object). Some o) (sym (object_stays v next m (same_new m before))))
+          (λ (same : m ≡ n).
+          ap (λ (x : NewObject). object_at (with_object n.off (new_object n.kind n.size) c.tx.pool.objects) x.off) same
+          ∙ more_there c.tx.pool.objects n.off (new_object n.kind n.size) none_there ∙ ap (λ (o : Object). Some o) (sym alloc.zeros) ∙ ap (λ (x : NewObject). Some (object_made next x)) (sym same))
+          (made_cases m there);
+      gone = λ off freed.
+          let before : is_freed_in v off ≡ true = ap (λ (b : CallBlocks). is_among b.freed off) (sym blocks_now) ∙ freed in
+          more_elsewhere c.tx.pool.objects n.off off (new_object n.kind n.size) (λ same. false≢true (sym alloc.unfreed ∙ (ap (is_freed_in v) (sym same) ∙ before))) ∙ c.changed.gone off before;
+      others = λ off not_made kept.
+          let parts = or_parts (is_made_in v off) (eqb n.off off || false) (sym (list_any-append (is_at off) (blocks_in v).made (n ∷ [])) ∙ (ap (λ (b : CallBlocks). list_any (is_at off) b.made) (sym blocks_now) ∙ not_made)) in
+          more_elsewhere c.tx.pool.objects n.off off (new_object n.kind n.size) (λ same. false≢true (sym (or_parts (eqb n.off off) false parts.1).0 ∙ eq-eqb n.off off (sym same)))
+          ∙ c.changed.others off parts.0 (ap (λ (b : CallBlocks). is_among b.freed off) (sym blocks_now) ∙ kept);
+    }
+
+    unfound : (off : ℕ) → is_new_in next off ≡ true → object_at c.base.objects off ≡ None
+    unfound off new = ⊎_elim
+        (λ (made : list_any (is_at off) now.made ≡ true). ⊎_elim
+        (λ (before : is_made_in v off ≡ true). c.unfound off (or_left (is_made_in v off) (list_any (is_at off) (blocks_in v).dropped) before))
+        (λ (here : (eqb n.off off || false) ≡ true). ap (object_at c.base.objects) (sym (eqb-true n.off off (one_of (eqb n.off off) here))) ∙ none_in_base)
+        (or_cases (is_made_in v off) (eqb n.off off || false) (sym (list_any-append (is_at off) (blocks_in v).made (n ∷ [])) ∙ made)))
+        (λ (dropped : list_any (is_at off) now.dropped ≡ true). c.unfound off (or_right (is_made_in v off) (list_any (is_at off) (blocks_in v).dropped) dropped))
+        (or_cases (list_any (is_at off) now.made) (list_any (is_at off) now.dropped) (ap (λ (b : CallBlocks). list_any (is_at off) b.made || list_any (is_at off) b.dropped) (sym blocks_now) ∙ new)) where
+      one_of : (b : Bool) → (b || false) ≡ true → b ≡ true
+      one_of true is = refl
+      one_of false is = is
+
+    continues : Continues v next w header (Alloc n.size n.kind) (Some (Offset n.off)) level c.tx
+    continues =
+        let same : call_words next w ≡ call_words v w = same_known_words v next alloc.logs.records alloc.keeps under_way.outside w in
+        record {
+          answers = answers;
+          base = c.base;
+          holds = subst (λ (f : ℕ → ℕ). HoldsPool f v.lanes v.zones header c.base) (sym same) c.holds;
+          changed = changed;
+          unfound = unfound;
+          tracks = subst (TracksBlocks (after_reply (Alloc n.size n.kind) (Some (Offset n.off)) c.tx)) (sym blocks_now) (record {
+            made = ap (λ (offs : List ℕ). offs ++ n.off ∷ []) c.tracks.made ∙ sym (map-append (λ (m : NewObject). m.off) (blocks_in v).made (n ∷ []));
+            dropped = c.tracks.dropped;
+            freed = c.tracks.freed;
+          });
+          before = refl;
+          locks = locks_kept c.tx v next alloc.tells.locks c.locks;
+          recorded = c.recorded ∙ ap words_recorded (sym alloc.logs.records);
+          records = c.records ∙ ap (λ (rs : List Recorded). length rs) (sym alloc.logs.records);
+          levels = c.levels;
+          stands = refl;
+          fails = refl;
+          actions = refl;
+          moved = sym (append-nil c.tx.moved);
+          performable = All-nil (CanPerform w v.lanes v.zones);
+          blocks_stay = ap (λ (f : ℕ → ℕ). blocks f v.lanes v.zones) same;
+          sizes_stay = λ block there. ap (λ (f : ℕ → ℕ). size_in f block) same;
+        }
+
+-- so a call goes on with a new object
+pub alloc_goes_on : (v next : View) (n : NewObject) (level : ℕ) → 1 ≤ level → IsUnderWay v level stage.Work error.None → AllocatesObject v next n → IsUnderWay next level stage.Work error.None
+alloc_goes_on v next n level some under_way alloc =
+    still_under_way v next level level (Alloc n.size n.kind) (Some (Offset n.off)) under_way alloc.tells (back v next n level some under_way alloc) (makes v next n level some under_way alloc) (apart v next n level some under_way alloc)
+    (λ w header pool holds same_id before next_before room c. continues v next n level some under_way alloc w header pool holds room c)
