@@ -36,7 +36,7 @@ use Rattle.pm_crash.specs.Pending.{pending_behind, pending_in, published_by, pub
 use Rattle.pm_crash.specs.Performing.{CanPerform}
 use Rattle.pm_crash.proofs.CallWords.{call_works, held_is_locked, locks_kept, object_under, same_pool}
 use Rattle.pm_crash.proofs.CallBlocks.{keeps_on, old_of_none, tracks_gone, tracks_new}
-use Rattle.pm_crash.proofs.Continued.{answers_value, known_new, leaves_told, left_apart, left_changed, left_made, left_new, left_tracks, still_under_way, tracks_more, LeavesBlocks}
+use Rattle.pm_crash.proofs.Continued.{answers_value, known_new, leaves_told, left_changed, left_new, left_tracks, still_under_way, told_has, tracks_more, LeavesBlocks}
 use Rattle.pm_crash.proofs.GivenUp.{aborts_call, gives_up, lock_is_missing, refused_answers, IsRefusedFor}
 use Rattle.pm_crash.proofs.KeptWords.{goes_back, keeps_known, same_call_words, same_found}
 use Rattle.pm_crash.proofs.NamedObjects.{all_perform, none_passes_end, one_passes_end, set_is_held, FindsObjects}
@@ -59,10 +59,10 @@ moves_on : (v next : View) (op : Operation) (reply : Option Value) (level : ℕ)
     → Moves op reply c.tx × All (CanPerform w v.lanes v.zones) (published_by op reply c.tx.actions))
     → IsUnderWay next level stage.Work error.None
 moves_on v next op reply level under_way tells logs keeps none moves =
-    let leaves : LeavesBlocks v next = leaves_told v next op reply tells.call (none (blocks_in v)) (known_new v next (keeps_known v next keeps) under_way.makes) in
+    let leaves : LeavesBlocks v next = leaves_told v next op reply tells.call (none (blocks_in v)) (known_new v next (keeps_known v next keeps) under_way.has.each) in
     still_under_way v next level level op reply under_way tells
     (goes_back v next tells.keeps (same_found v next tells.locks) logs (λ i outside none. keeps.words i outside) under_way.outside under_way.under)
-    (left_made v next leaves tells.keeps under_way.makes) (left_apart v next leaves tells.locks under_way.apart)
+    (told_has v next leaves tells under_way.has)
     (λ w header pool holds same_id before next_before room c.
     let how = moves w header pool same_id before c in
     let moved : after_reply op reply c.tx ≡ moved_on op reply c.tx = how.0.leaves in

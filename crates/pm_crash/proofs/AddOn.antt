@@ -23,7 +23,7 @@ use Rattle.pm_crash.specs.OpenCall.{IsBefore, IsChanged, IsOpen, IsUnderWay, Tra
 use Rattle.pm_crash.specs.Operations.{AddsRange, IsPresent}
 use Rattle.pm_crash.proofs.CallBlocks.{keeps_on, old_of_none, tracks_new}
 use Rattle.pm_crash.proofs.CallWords.{call_works, covered_is_outside, held_is_locked, locks_kept, object_under, one_is_kept, other_call_word, recorded_call_word, same_pool, IsObjectOf}
-use Rattle.pm_crash.proofs.Continued.{answers_done, known_new, leaves_told, left_apart, left_changed, left_made, left_new, left_tracks, still_under_way, tracks_more, LeavesBlocks}
+use Rattle.pm_crash.proofs.Continued.{answers_done, known_new, leaves_told, left_changed, left_new, left_tracks, still_under_way, told_has, tracks_more, LeavesBlocks}
 use Rattle.pm_crash.proofs.KeptWords.{found_back, keeps_known, lies_further, same_found, under_further}
 use Rattle.pm_crash.proofs.NewRecords.{new_is_covered, number_of_new, recorded_member, slot_added, slot_kept, words_of_all, words_of_new}
 use Rattle.pm_crash.proofs.Passing.{passes_all, AsksNoLock, Works}
@@ -98,7 +98,7 @@ add_goes_on v next id off len level some under_way adds old =
     let words : List ℕ = covered_words (id.off + off) len in
     let old_words : List ℕ = words_recorded v.log.records in
     let added : List Recorded = adds.added in
-    let leaves : LeavesBlocks v next = leaves_told v next (AddRange id off len) None adds.tells.call refl (known_new v next (keeps_known v next adds.keeps) under_way.makes) in
+    let leaves : LeavesBlocks v next = leaves_told v next (AddRange id off len) None adds.tells.call refl (known_new v next (keeps_known v next adds.keeps) under_way.has.each) in
     still_under_way v next level level (AddRange id off len) None under_way adds.tells
     (record {
       outside = λ i is. ⊎_elim
@@ -112,7 +112,7 @@ add_goes_on v next id off len level some under_way adds old =
       before = add_back v next id off len adds;
       entries = adds.entries;
     })
-    (left_made v next leaves adds.tells.keeps under_way.makes) (left_apart v next leaves adds.tells.locks under_way.apart)
+    (told_has v next leaves adds.tells under_way.has)
     (λ w header pool holds same_id before next_before allowed c.
     let object : IsObjectOf v w c.tx id held.lock.line = object_under v w header pool level id true under_way before c held adds.range.size_known old in
     let works : Works c.tx = call_works v w header pool level some under_way c in

@@ -36,10 +36,10 @@ use Rattle.pm_model.proofs.ObjectsByOffset.{more_elsewhere, more_rise, more_ther
 use Rattle.pm_view.specs.Log.{Recorded}
 use Rattle.pm_view.specs.View.{View, Lock}
 use Rattle.pm_world.specs.Records.{is_recorded}
-use Rattle.pm_crash.specs.CallBlocks.{CallBlocks, HasRoomFor, IsMadeIn, NewObject, allocated_in, block_of, blocks_in, is_at, is_freed_in, is_made_in, is_new_in, object_made, with_made}
+use Rattle.pm_crash.specs.CallBlocks.{CallBlocks, HasRoomFor, IsMadeIn, NewObject, allocated_in, block_of, blocks_in, is_at, is_freed_in, is_gone_in, is_made_in, is_new_in, object_made, with_made}
 use Rattle.pm_crash.specs.Held.{HoldsPool, object_of}
 use Rattle.pm_crash.specs.HeapChanges.{AreDisjoint}
-use Rattle.pm_crash.specs.OpenCall.{ComesTo, IsChanged, IsUnderWay, LieApart, TracksBlocks, block_at_line, call_words, place_and_size, words_recorded}
+use Rattle.pm_crash.specs.OpenCall.{ComesTo, HasMade, IsChanged, IsUnderWay, LieApart, TracksBlocks, block_at_line, call_words, place_and_size, words_recorded}
 use Rattle.pm_crash.specs.Operations.{AllocatesObject}
 use Rattle.pm_crash.specs.Pending.{published_in}
 use Rattle.pm_crash.specs.Performing.{CanPerform}
@@ -88,12 +88,12 @@ found_has P (e ∷ es) off object all is = go (eqb e.0 off) refl is (found_has P
 
 -- ---- blocks that lie apart
 
-apart_offsets : (n m : NewObject) → 64 ≤ n.off → 64 ≤ m.off → AreDisjoint (block_of n) (block_of m) → m.off ≢ n.off
-apart_offsets n m behind too apart same =
+apart_offsets : (n m : NewObject) → 64 ≤ n.off → AreDisjoint (block_of n) (block_of m) → m.off ≢ n.off
+apart_offsets n m behind apart same =
     let lines = has_lines n.size in let lines_too = has_lines m.size in
     ⊎_elim
     (λ (before : n.off - 64 + 64 * block_lines (class_of n.size) ≤ m.off - 64). omega (arith, before, lines, same, behind))
-    (λ (after : m.off - 64 + 64 * block_lines (class_of m.size) ≤ n.off - 64). omega (arith, after, lines_too, same, too))
+    (λ (after : m.off - 64 + 64 * block_lines (class_of m.size) ≤ n.off - 64). omega (arith, after, lines_too, same, behind))
     apart
 
 -- an object of so many bytes at the offset lies beside
@@ -124,14 +124,14 @@ module _ (v next : View) (n : NewObject) (level : ℕ) (some_level : 1 ≤ level
   allocated_now = allocated_once_more v next (Alloc n.size n.kind) (Some (Offset n.off)) alloc.tells.call
 
   same_new : (m : NewObject) → Contains (blocks_in v).made m → SameNew v next m
-  same_new = known_new v next alloc.keeps under_way.makes
+  same_new = known_new v next alloc.keeps under_way.has.each
 
   made_cases : (m : NewObject) → Contains (blocks_in next).made m → Contains (blocks_in v).made m ⊎ (m ≡ n)
   made_cases m there = ⊎_elim (λ (before : Contains (blocks_in v).made m). inl before) (λ (same : n ≡ m). inr (sym same)) (Contains-push_cases (blocks_in v).made n m (subst (λ (b : CallBlocks). Contains b.made m) blocks_now there))
 
   makes : (m : NewObject) → Contains (blocks_in next).made m → IsMadeIn next m
   makes m there = ⊎_elim
-      (λ (before : Contains (blocks_in v).made m). made_stays v next m alloc.tells.keeps.lane alloc.tells.keeps.known (same_new m before) (under_way.makes m before))
+      (λ (before : Contains (blocks_in v).made m). made_stays v next m alloc.tells.keeps.lane alloc.tells.keeps.known (same_new m before) (under_way.has.each m before))
       (λ (same : m ≡ n). subst (IsMadeIn next) (sym same) alloc.made)
       (made_cases m there)
 
@@ -139,9 +139,46 @@ module _ (v next : View) (n : NewObject) (level : ℕ) (some_level : 1 ≤ level
   apart m l lines there held found =
       let held_before : Contains v.locks l = subst (λ (ls : List Lock). Contains ls l) alloc.tells.locks held in
       ⊎_elim
-      (λ (before : Contains (blocks_in v).made m). under_way.apart m l lines before held_before found)
+      (λ (before : Contains (blocks_in v).made m). under_way.has.apart_found m l lines before held_before found)
       (λ (same : m ≡ n). subst (λ (x : NewObject). AreDisjoint (block_of x) (block_at_line l.line lines)) (sym same) (alloc.apart_found l lines held_before found))
       (made_cases m there)
+
+  turned : (m : NewObject) → Contains (blocks_in v).made m → AreDisjoint (block_of m) (block_of n)
+  turned m there = ⊎_elim (λ (before : (block_of n).place + 64 * (block_of n).lines ≤ (block_of m).place). inr before) (λ (behind : (block_of m).place + 64 * (block_of m).lines ≤ (block_of n).place). inl behind)
+      (alloc.apart_made m (Contains-append_left (blocks_in v).made (blocks_in v).dropped m there))
+
+  apart_new : (m k : NewObject) → Contains (blocks_in next).made m → Contains (blocks_in next).made k → m.off ≢ k.off → AreDisjoint (block_of m) (block_of k)
+  apart_new m k there too differ = ⊎_elim
+      (λ (before : Contains (blocks_in v).made m). ⊎_elim
+      (λ (also : Contains (blocks_in v).made k). under_way.has.apart_new m k before also differ)
+      (λ (same : k ≡ n). subst (λ (x : NewObject). AreDisjoint (block_of m) (block_of x)) (sym same) (turned m before))
+      (made_cases k too))
+      (λ (same : m ≡ n). ⊎_elim
+      (λ (before : Contains (blocks_in v).made k). subst (λ (x : NewObject). AreDisjoint (block_of x) (block_of k)) (sym same) (alloc.apart_made k (Contains-append_left (blocks_in v).made (blocks_in v).dropped k before)))
+      (λ (also : k ≡ n). absurd (differ (ap (λ (x : NewObject). x.off) (same ∙ sym also))))
+      (made_cases k too))
+      (made_cases m there)
+
+  -- nothing that is gone was where it stands
+  gone_not : is_gone_in v n.off ≡ false
+  gone_not = or_from (is_freed_in v n.off) (list_any (is_at n.off) (blocks_in v).dropped) alloc.unfreed (false_from_ne_true (list_any (is_at n.off) (blocks_in v).dropped) (λ dropped.
+      let t = Any-from_list_any (is_at n.off) (blocks_in v).dropped dropped in
+      apart_offsets n t.1 alloc.made.behind (alloc.apart_made t.1 (Contains-append_right (blocks_in v).made (blocks_in v).dropped t.1 (t.0, t.2, t.3))) (eqb-true t.1.off n.off t.4)))
+
+  has : HasMade next
+  has = record {
+    each = makes;
+    listed = λ m there. subst (λ (ns : List NewObject). Contains ns m) (sym allocated_now) (⊎_elim
+        (λ (before : Contains (blocks_in v).made m). Contains-append_left (allocated_in v) (n ∷ []) m (under_way.has.listed m before))
+        (λ (same : m ≡ n). subst (Contains (allocated_in v ++ n ∷ [])) (sym same) (Contains-push (allocated_in v) n))
+        (made_cases m there));
+    kept = λ m there. ap (λ (b : CallBlocks). is_among b.freed m.off || list_any (is_at m.off) b.dropped) blocks_now ∙ ⊎_elim
+        (λ (before : Contains (blocks_in v).made m). under_way.has.kept m before)
+        (λ (same : m ≡ n). ap (λ (x : NewObject). is_gone_in v x.off) same ∙ gone_not)
+        (made_cases m there);
+    apart_new = apart_new;
+    apart_found = apart;
+  }
 
   back : GoesBack v next
   back = record {
@@ -156,7 +193,7 @@ module _ (v next : View) (n : NewObject) (level : ℕ) (some_level : 1 ≤ level
   not_made_there = false_from_ne_true (is_made_in v n.off) (λ made.
       let t = Any-from_list_any (is_at n.off) (blocks_in v).made made in
       let there : Contains (blocks_in v).made t.1 = (t.0, t.2, t.3) in
-      apart_offsets n t.1 alloc.made.behind (under_way.makes t.1 there).behind (alloc.apart_made t.1 (Contains-append_left (blocks_in v).made (blocks_in v).dropped t.1 there)) (eqb-true t.1.off n.off t.4))
+      apart_offsets n t.1 alloc.made.behind (alloc.apart_made t.1 (Contains-append_left (blocks_in v).made (blocks_in v).dropped t.1 there)) (eqb-true t.1.off n.off t.4))
 
   module _ (w : ℕ → ℕ) (header : Header) (pool : PoolView) (holds : HoldsPool w v.lanes v.zones header pool) (room : HasRoomFor pool (allocated_in next)) (c : ComesTo v w header pool level stage.Work error.None) where
     -- no object of the pool before the call stands in its way
@@ -185,7 +222,7 @@ module _ (v next : View) (n : NewObject) (level : ℕ) (some_level : 1 ≤ level
         let same : Some (object_made v t.1) ≡ Some object = sym (c.changed.new t.1 there) ∙ ap (object_at c.tx.pool.objects) at ∙ is in
         let is_object : object_made v t.1 ≡ object = same_Some (object_made v t.1) object same in
         beside_place n t.1 (off, object) (alloc.apart_made t.1 (Contains-append_left (blocks_in v).made (blocks_in v).dropped t.1 there))
-        (λ j. (sym at j, (ap (λ (x : Object). length x.bytes) (sym is_object) ∙ (under_way.makes t.1 there).long) j)))
+        (λ j. (sym at j, (ap (λ (x : Object). length x.bytes) (sym is_object) ∙ (under_way.has.each t.1 there).long) j)))
         (λ (not_made : is_made_in v off ≡ false). ⊎_elim
         (λ (freed : is_freed_in v off ≡ true). absurd (let clash : None ≡ Some object = sym (c.changed.gone off freed) ∙ is in cc))
         (λ (kept : is_freed_in v off ≡ false). beside_base off object (sym (c.changed.others off not_made kept) ∙ is))
@@ -268,7 +305,7 @@ module _ (v next : View) (n : NewObject) (level : ℕ) (some_level : 1 ≤ level
       new = λ m there. ⊎_elim
           (λ (before : Contains (blocks_in v).made m).
           more_elsewhere c.tx.pool.objects n.off m.off (new_object n.kind n.size)
-          (apart_offsets n m alloc.made.behind (under_way.makes m before).behind (alloc.apart_made m (Contains-append_left (blocks_in v).made (blocks_in v).dropped m before)))
+          (apart_offsets n m alloc.made.behind (alloc.apart_made m (Contains-append_left (blocks_in v).made (blocks_in v).dropped m before)))
           ∙ c.changed.new m before ∙ ap (λ (o : Object). Some o) (sym (object_stays v next m (same_new m before))))
           (λ (same : m ≡ n).
           ap (λ (x : NewObject). object_at (with_object n.off (new_object n.kind n.size) c.tx.pool.objects) x.off) same
@@ -326,5 +363,5 @@ module _ (v next : View) (n : NewObject) (level : ℕ) (some_level : 1 ≤ level
 -- so a call goes on with a new object
 pub alloc_goes_on : (v next : View) (n : NewObject) (level : ℕ) → 1 ≤ level → IsUnderWay v level stage.Work error.None → AllocatesObject v next n → IsUnderWay next level stage.Work error.None
 alloc_goes_on v next n level some under_way alloc =
-    still_under_way v next level level (Alloc n.size n.kind) (Some (Offset n.off)) under_way alloc.tells (back v next n level some under_way alloc) (makes v next n level some under_way alloc) (apart v next n level some under_way alloc)
+    still_under_way v next level level (Alloc n.size n.kind) (Some (Offset n.off)) under_way alloc.tells (back v next n level some under_way alloc) (has v next n level some under_way alloc)
     (λ w header pool holds same_id before next_before room c. continues v next n level some under_way alloc w header pool holds room c)

@@ -34,7 +34,7 @@ use Rattle.pm_crash.proofs.SameLocks.{turned_locks}
 use Rattle.pm_crash.specs.CallBlocks.{CallBlocks, KeepsBlocks, NewObject, allocated_by, blocks_in, blocks_told, is_at, is_new_in, no_blocks}
 use Rattle.pm_crash.specs.Held.{HoldsPool}
 use Rattle.pm_crash.specs.Locks.{AreSameLocks}
-use Rattle.pm_crash.specs.OpenCall.{IsBefore, IsChanged, IsOpen, IsUnderWay, RunsTo, TracksBlocks, block_at_line, call_words, words_recorded, lock_of, locks_of}
+use Rattle.pm_crash.specs.OpenCall.{HasMade, IsBefore, IsChanged, IsOpen, IsUnderWay, RunsTo, TracksBlocks, block_at_line, call_words, words_recorded, lock_of, locks_of}
 use Rattle.pm_crash.specs.Pending.{pending_before, told_of}
 use Rattle.pm_crash.specs.Performing.{CanPerform}
 use Rattle.pm_crash.specs.Operations.{BeginsCall, IsHeld, IsWantHeld}
@@ -143,6 +143,16 @@ changed_none v pool rising keeps = record {
 pub unfound_none : (v : View) (objects : Objects) → KeepsBlocks v → (off : ℕ) → is_new_in v off ≡ true → object_at objects off ≡ None
 unfound_none v objects keeps off new = absurd (false≢true (sym (ap (λ (b : CallBlocks). list_any (is_at off) b.made || list_any (is_at off) b.dropped) keeps.blocks) ∙ new))
 
+-- nothing that it made is wanting
+pub has_none : (v : View) → KeepsBlocks v → HasMade v
+has_none v keeps = record {
+  each = λ n there. none_made v keeps n there;
+  listed = λ n there. none_made v keeps n there;
+  kept = λ n there. none_made v keeps n there;
+  apart_new = λ n m there too differ. none_made v keeps n there;
+  apart_found = λ n l lines there held found. none_made v keeps n there;
+}
+
 begin_under_way : (v : View) (wants : List Want) → BeginsCall v wants → IsUnderWay v 1 stage.Work error.None
 begin_under_way v wants begins = record {
   in_lanes = begins.in_lanes;
@@ -151,8 +161,7 @@ begin_under_way v wants begins = record {
   unentered = begins.no_entries;
   outside = λ i is. absurd (let clash : false ≡ true = sym (ap (λ (records : List Recorded). is_recorded records i) begins.no_records) ∙ is in cc);
   under = λ i is. absurd (let clash : false ≡ true = sym (ap (λ (records : List Recorded). is_recorded records i) begins.no_records) ∙ is in cc);
-  makes = λ n there. none_made v (begin_keeps v wants begins) n there;
-  apart = λ n l lines there held found. none_made v (begin_keeps v wants begins) n there;
+  has = has_none v (begin_keeps v wants begins);
   comes = λ w header pool holds id before room.
       let told : Answered = record { operation = Begin wants; reply = None } in
       let tx : Transaction = after told (resting pool (pending_before v)) in

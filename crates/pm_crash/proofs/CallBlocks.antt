@@ -134,6 +134,7 @@ made_stays v next n lane known same is =
     λ i reads. record { from = reads.from; to = (let to = reads.to in omega (arith, to, size)) } in
     record {
       behind = is.behind;
+      aligned = is.aligned;
       object = record {
         some = subst (λ (bs : List ℕ). 1 ≤ length bs) (sym bytes) is.object.some;
         most = subst (λ (bs : List ℕ). length bs ≤ 262080) (sym bytes) is.object.most;

@@ -31,7 +31,7 @@ use Rattle.pm_crash.specs.Pending.{pending_before, pending_in, published_in, tol
 use Rattle.pm_crash.specs.Performing.{CanPerform, entry_for, performed}
 use Rattle.pm_crash.proofs.CallBlocks.{keeps_on, room_before, room_for_none}
 use Rattle.pm_crash.proofs.CallWords.{call_works}
-use Rattle.pm_crash.proofs.Continued.{answers_done, known_new, leaves_told, left_changed, left_made, left_new, told_once_more, two_same, LeavesBlocks}
+use Rattle.pm_crash.proofs.Continued.{answers_done, known_new, leaves_told, left_changed, left_new, told_has, told_once_more, two_same, LeavesBlocks}
 use Rattle.pm_crash.proofs.KeptWords.{before_back, keeps_known, outside_kept, same_call_words, same_found}
 use Rattle.pm_crash.proofs.ObjectsOfBlocks.{objects_rise}
 use Rattle.pm_crash.proofs.Passing.{AsksNoLock, Works, passes_all}
@@ -90,7 +90,7 @@ module _ (v next : View) (under_way : IsUnderWay v 1 stage.Work error.None) (tel
       (subst (λ (actions : List Action). RunsFrom (resting pool actions) told last) (sym (same_before v next tells.keeps.entries)) runs)
 
   leaves : LeavesBlocks v next
-  leaves = leaves_told v next Commit None tells.call refl (known_new v next (keeps_known v next keeps) under_way.makes)
+  leaves = leaves_told v next Commit None tells.call refl (known_new v next (keeps_known v next keeps) under_way.has.each)
 
   same_words : call_words next w ≡ call_words v w
   same_words = same_call_words v next records keeps under_way.outside w
@@ -129,10 +129,10 @@ module _ (v next : View) (under_way : IsUnderWay v 1 stage.Work error.None) (tel
 -- so it is committed
 pub commit_is_told : (v next : View) → IsUnderWay v 1 stage.Work error.None → Tells v next Commit None → next.log.records ≡ v.log.records → KeepsWords v next → IsCommitted next
 commit_is_told v next under_way tells records keeps =
-    let leaves : LeavesBlocks v next = leaves_told v next Commit None tells.call refl (known_new v next (keeps_known v next keeps) under_way.makes) in
+    let leaves : LeavesBlocks v next = leaves_told v next Commit None tells.call refl (known_new v next (keeps_known v next keeps) under_way.has.each) in
     record {
       outside = outside_kept v next tells.keeps records under_way.outside;
-      makes = left_made v next leaves tells.keeps under_way.makes;
+      has = told_has v next leaves tells under_way.has;
       comes = commits_to v next under_way tells records keeps;
     }
 

@@ -3,7 +3,7 @@ use Rattle.std.proofs.Common.{◌≡◌, ℕ, ◌<◌, ◌≤◌, ◌/◌, ◌||
 use Rattle.std.specs.Prelude.{IsTrue, IsSome}
 use Rattle.std.specs.List.{All, Contains, list_any}
 use Rattle.std.proofs.lemmas.List.{map-append}
-use Rattle.std.proofs.lemmas.List.Elements.{All-append, All-nil}
+use Rattle.std.proofs.lemmas.List.Elements.{All-append, All-nil, Contains-append_left}
 use Rattle.pm_header.specs.declared.header.Header.{Header}
 use Rattle.pm_objects.specs.Pool.{object_at}
 use Rattle.pm_objects.specs.declared.calls.Operation.{Operation}
@@ -17,6 +17,7 @@ use Rattle.pm_image.specs.Blocks.{blocks}
 use Rattle.pm_image.specs.Contents.{size_in}
 use Rattle.pm_model.specs.declared.stage.Stage.TheVariants as stage
 use Rattle.pm_model.specs.Actions.{Action}
+use Rattle.pm_model.specs.Bytes.{is_among}
 use Rattle.pm_model.specs.Transaction.{Transaction, holds_object, is_working}
 use Rattle.pm_model.specs.Checks.{first_refusal}
 use Rattle.pm_model.specs.Answers.{Told as Answered, Answers, IsDone, IsRefused, after_reply, is_known, value_of}
@@ -25,17 +26,17 @@ use Rattle.pm_view.specs.Area.{is_in_area}
 use Rattle.pm_view.specs.Blocks.{is_chunk}
 use Rattle.pm_view.specs.View.{View, Lock}
 use Rattle.pm_world.specs.Records.{is_recorded}
-use Rattle.pm_crash.specs.CallBlocks.{CallBlocks, HasRoomFor, IsMadeIn, NewObject, allocated_in, blocks_behind, blocks_in, is_at, is_new_in}
+use Rattle.pm_crash.specs.CallBlocks.{CallBlocks, HasRoomFor, IsMadeIn, NewObject, allocated_by, allocated_in, blocks_behind, blocks_in, is_at, is_new_in}
 use Rattle.pm_crash.specs.Locks.{AreSameLocks}
 use Rattle.pm_crash.specs.Held.{HoldsPool}
-use Rattle.pm_crash.specs.OpenCall.{IsBefore, call_words, ComesTo, IsChanged, IsUnderWay, LieApart, RecordsUnder, RunsTo, TracksBlocks, locks_of, place_and_size, words_recorded}
+use Rattle.pm_crash.specs.OpenCall.{IsBefore, call_words, ComesTo, IsChanged, HasMade, IsUnderWay, LieApart, RecordsUnder, RunsTo, TracksBlocks, locks_of, place_and_size, words_recorded}
 use Rattle.pm_crash.specs.Operations.{KeepsKnown, KeepsLane, Tells}
 use Rattle.pm_crash.proofs.Passing.{unhindered, wants_none, AsksNoLock, WantsNone}
 use Rattle.pm_crash.specs.Pending.{pending_before, pending_behind, pending_in, published_by, published_in, told_in, told_of}
 use Rattle.pm_crash.specs.Performing.{CanPerform}
 use Rattle.pm_crash.proofs.PendingOn.{pending_once_more, published_once_more, same_before}
 use Rattle.pm_crash.proofs.Runs.{runs_once_more}
-use Rattle.pm_crash.proofs.CallBlocks.{SameNew, blocks_once_more, changed_stays, made_stays, room_before}
+use Rattle.pm_crash.proofs.CallBlocks.{SameNew, allocated_once_more, blocks_once_more, changed_stays, made_stays, room_before}
 
 -- an operation that asks for no lock, makes no object, and is not refused, answers its value
 pub answers_value : (tx : Transaction) (op : Operation) (reply : Option Value) → IsTrue (is_known op) → WantsNone op → first_refusal unhindered tx op ≡ None → reply ≡ value_of tx op
@@ -111,14 +112,28 @@ left_tracks v next tx leaves = subst (TracksBlocks tx) (sym leaves.blocks)
 pub tracks_more : (tx other : Transaction) {b : CallBlocks} → other.made ≡ tx.made → other.dropped ≡ tx.dropped → other.freed ≡ tx.freed → TracksBlocks tx b → TracksBlocks other b
 tracks_more tx other made dropped freed tracks = record { made = made ∙ tracks.made; dropped = ap (map place_and_size) dropped ∙ tracks.dropped; freed = freed ∙ tracks.freed }
 
-pub left_made : (v next : View) → LeavesBlocks v next → KeepsLane v next → ((n : NewObject) → Contains (blocks_in v).made n → IsMadeIn v n) → (n : NewObject) → Contains (blocks_in next).made n → IsMadeIn next n
-left_made v next leaves lane makes n there =
-    let before : Contains (blocks_in v).made n = subst (λ (b : CallBlocks). Contains b.made n) leaves.blocks there in
-    made_stays v next n lane.lane lane.known (leaves.same n before) (makes n before)
-
 pub left_apart : (v next : View) → LeavesBlocks v next → next.locks ≡ v.locks → LieApart v → LieApart next
 left_apart v next leaves locks apart n l lines there held found =
     apart n l lines (subst (λ (b : CallBlocks). Contains b.made n) leaves.blocks there) (subst (λ (ls : List Lock). Contains ls l) locks held) found
+
+pub left_has : (v next : View) → LeavesBlocks v next → KeepsLane v next → ((n : NewObject) → Contains (allocated_in v) n → Contains (allocated_in next) n) → LieApart next → HasMade v → HasMade next
+left_has v next leaves lane listed apart has = record {
+  each = λ n there. made_stays v next n lane.lane lane.known (leaves.same n (before n there)) (has.each n (before n there));
+  listed = λ n there. listed n (has.listed n (before n there));
+  kept = λ n there. ap (λ (b : CallBlocks). is_among b.freed n.off || list_any (is_at n.off) b.dropped) leaves.blocks ∙ has.kept n (before n there);
+  apart_new = λ n m there too differ. has.apart_new n m (before n there) (before m too) differ;
+  apart_found = apart;
+} where
+  before : (n : NewObject) → Contains (blocks_in next).made n → Contains (blocks_in v).made n
+  before n there = subst (λ (b : CallBlocks). Contains b.made n) leaves.blocks there
+
+-- what was allocated is, whatever is told
+pub told_listed : (v next : View) (op : Operation) (reply : Option Value) → next.call ≡ v.call ++ record { operation = op; reply = reply } ∷ [] → (n : NewObject) → Contains (allocated_in v) n → Contains (allocated_in next) n
+told_listed v next op reply call n there =
+    subst (λ (ns : List NewObject). Contains ns n) (sym (allocated_once_more v next op reply call)) (Contains-append_left (allocated_in v) (allocated_by op reply) n there)
+
+pub told_has : {op : Operation} {reply : Option Value} (v next : View) → LeavesBlocks v next → Tells v next op reply → HasMade v → HasMade next
+told_has {op = op} {reply = reply} v next leaves tells has = left_has v next leaves tells.keeps (told_listed v next op reply tells.call) (left_apart v next leaves tells.locks has.apart_found) has
 
 -- where no word changes but in the lane's area, or none that it knows, those of what it made stay
 pub known_new : (v next : View) → KeepsKnown v next → ((n : NewObject) → Contains (blocks_in v).made n → IsMadeIn v n) → (n : NewObject) → Contains (blocks_in v).made n → SameNew v next n
@@ -178,11 +193,11 @@ pub record GoesBack (v next : View) : Type 0 where
   pub entries : next.log.entries ≡ v.log.entries
 
 pub still_under_way : (v next : View) (level to : ℕ) (op : Operation) (reply : Option Value) → IsUnderWay v level stage.Work error.None → Tells v next op reply → GoesBack v next
-    → ((n : NewObject) → Contains (blocks_in next).made n → IsMadeIn next n) → LieApart next
+    → HasMade next
     → ((w : ℕ → ℕ) (header : Header) (pool : PoolView) → HoldsPool w v.lanes v.zones header pool → v.pool ≡ header.id → IsBefore v w → IsBefore next w → HasRoomFor pool (allocated_in next) → (c : ComesTo v w header pool level stage.Work error.None)
     → Continues v next w header op reply to c.tx)
     → IsUnderWay next to stage.Work error.None
-still_under_way v next level to op reply under_way tells back makes apart continues =
+still_under_way v next level to op reply under_way tells back has continues =
     let lane : next.lane ≡ v.lane = tells.keeps.lane in
     let lanes : next.lanes ≡ v.lanes = tells.keeps.lanes in
     let inside : v.lane < v.lanes = under_way.in_lanes in
@@ -193,8 +208,7 @@ still_under_way v next level to op reply under_way tells back makes apart contin
       outside = λ i is. ap (λ (n : ℕ). is_in_area n i) lane ∙ back.outside i is;
       under = back.under;
       unentered = back.entries ∙ under_way.unentered;
-      makes = makes;
-      apart = apart;
+      has = has;
       comes = λ w header pool holds id before room.
           let old_id : v.pool ≡ header.id = sym tells.keeps.pool ∙ id in
           let old_before : IsBefore v w = back.before w before in

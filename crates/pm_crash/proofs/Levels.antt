@@ -37,7 +37,7 @@ use Rattle.pm_crash.specs.Operations.{BeginsLevel, IsHeld, IsWantHeld, KeepsLog,
 use Rattle.pm_crash.proofs.Begun.{all_pass, none_fails}
 use Rattle.pm_crash.proofs.CallWords.{call_works, locks_kept, same_lanes, same_pool, same_zones}
 use Rattle.pm_crash.proofs.CallBlocks.{keeps_on, no_want_gone, none_made, not_made, old_of_none, old_want, room_before}
-use Rattle.pm_crash.proofs.Continued.{answers_done, known_new, leaves_told, left_apart, left_changed, left_made, left_new, left_tracks, next_comes, still_under_way, tracks_more, two_same, Continues, LeavesBlocks}
+use Rattle.pm_crash.proofs.Continued.{answers_done, known_new, leaves_told, left_changed, left_has, left_new, left_tracks, next_comes, still_under_way, told_has, told_listed, tracks_more, two_same, Continues, LeavesBlocks}
 use Rattle.pm_crash.proofs.KeptWords.{before_back, goes_back, keeps_known, outside_kept, same_call_words, same_found, under_kept}
 use Rattle.pm_crash.proofs.ObjectsOfBlocks.{object_is_there}
 use Rattle.pm_crash.proofs.Passing.{no_tx, no_work, not_busy, not_missing, not_spent, passes_all, unhindered, AsksNoLock, Works}
@@ -50,10 +50,10 @@ commits_inner tx level some levels = cond-false (leb tx.level 1) (resting (with_
 pub inner_commit_goes_on : (v next : View) (level : ℕ) → 1 ≤ level → IsUnderWay v (level + 1) stage.Work error.None → Tells v next Commit None → KeepsLog v next → KeepsWords v next
     → IsUnderWay next level stage.Work error.None
 inner_commit_goes_on v next level some under_way tells logs keeps =
-    let leaves : LeavesBlocks v next = leaves_told v next Commit None tells.call refl (known_new v next (keeps_known v next keeps) under_way.makes) in
+    let leaves : LeavesBlocks v next = leaves_told v next Commit None tells.call refl (known_new v next (keeps_known v next keeps) under_way.has.each) in
     still_under_way v next (level + 1) level Commit None under_way tells
     (goes_back v next tells.keeps (same_found v next tells.locks) logs (λ i outside none. keeps.words i outside) under_way.outside under_way.under)
-    (left_made v next leaves tells.keeps under_way.makes) (left_apart v next leaves tells.locks under_way.apart)
+    (told_has v next leaves tells under_way.has)
     (λ w header pool holds same_id before next_before room c.
     let same : call_words next w ≡ call_words v w = same_call_words v next logs.records keeps under_way.outside w in
     let levels : c.tx.level ≡ level + 1 = c.levels in
@@ -160,7 +160,7 @@ further_continues v next wants level some shallow under_way begins old w header 
       value = refl;
     } in
     let same : call_words next w ≡ call_words v w = same_call_words v next begins.logs.records begins.words under_way.outside w in
-    let leaves : LeavesBlocks v next = begin_leaves v next wants begins under_way.makes in
+    let leaves : LeavesBlocks v next = begin_leaves v next wants begins under_way.has.each in
     record {
       answers = record {
         known = refl;
@@ -201,8 +201,7 @@ further_begin_goes_on v next wants level some shallow under_way begins old apart
       outside = outside_kept v next begins.keeps begins.logs.records under_way.outside;
       under = under_kept v next begins.finds begins.logs.records under_way.under;
       unentered = begins.logs.entries ∙ under_way.unentered;
-      makes = left_made v next (begin_leaves v next wants begins under_way.makes) begins.keeps under_way.makes;
-      apart = apart;
+      has = left_has v next (begin_leaves v next wants begins under_way.has.each) begins.keeps (told_listed v next (Begin wants) None begins.call) apart under_way.has;
       comes = λ w header pool holds id before room.
           let old_id : v.pool ≡ header.id = sym begins.keeps.pool ∙ id in
           let old_before : IsBefore v w = before_back v next begins.keeps begins.finds begins.logs.records (λ i outside none. begins.words.words i outside) w before in

@@ -28,7 +28,7 @@ use Rattle.pm_crash.specs.Operations.{ReadsBytes, bytes_seen}
 use Rattle.pm_crash.proofs.CallWords.{call_works, covered_is_outside, held_is_locked, known_call_word, object_under, one_is_kept, same_pool, IsObjectOf}
 use Rattle.pm_crash.proofs.CallBlocks.{keeps_on, old_of_none}
 use Rattle.pm_crash.proofs.Covered.{covered_has_byte}
-use Rattle.pm_crash.proofs.Continued.{answers_done, known_new, leaves_told, left_apart, left_changed, left_made, left_new, left_tracks, still_under_way, LeavesBlocks}
+use Rattle.pm_crash.proofs.Continued.{answers_done, known_new, leaves_told, left_changed, left_new, left_tracks, still_under_way, told_has, LeavesBlocks}
 use Rattle.pm_crash.proofs.KeptWords.{goes_back, keeps_known, same_call_words, same_found}
 use Rattle.pm_crash.proofs.ObjectBytes.{range_is_read}
 use Rattle.pm_crash.proofs.Passing.{passes_all, AsksNoLock, Works}
@@ -72,10 +72,10 @@ pub read_goes_on : (v next : View) (id : Oid) (off len level : ℕ) → 1 ≤ le
 read_goes_on v next id off len level some under_way reads old =
     let held = reads.range.object in
     let bytes : List ℕ = bytes_seen v id off len in
-    let leaves : LeavesBlocks v next = leaves_told v next (Read id off len) (Some (Bytes bytes)) reads.tells.call refl (known_new v next (keeps_known v next reads.keeps) under_way.makes) in
+    let leaves : LeavesBlocks v next = leaves_told v next (Read id off len) (Some (Bytes bytes)) reads.tells.call refl (known_new v next (keeps_known v next reads.keeps) under_way.has.each) in
     still_under_way v next level level (Read id off len) (Some (Bytes bytes)) under_way reads.tells
     (goes_back v next reads.tells.keeps (same_found v next reads.tells.locks) reads.logs (λ i outside none. reads.keeps.words i outside) under_way.outside under_way.under)
-    (left_made v next leaves reads.tells.keeps under_way.makes) (left_apart v next leaves reads.tells.locks under_way.apart)
+    (told_has v next leaves reads.tells under_way.has)
     (λ w header pool holds same_id before next_before room c.
     let object : IsObjectOf v w c.tx id held.lock.line = object_under v w header pool level id false under_way before c held reads.range.size_known old in
     let works : Works c.tx = call_works v w header pool level some under_way c in

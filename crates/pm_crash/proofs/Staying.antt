@@ -23,7 +23,7 @@ use Rattle.pm_crash.specs.Pending.{act_of, pending_in, published_in, told_in, to
 use Rattle.pm_crash.specs.Performing.{CanPerform}
 use Rattle.pm_crash.specs.Operations.{KeepsKnown, KeepsLog, KeepsWords, TakesBack, TellsNothing}
 use Rattle.pm_crash.proofs.CallBlocks.{keeps_still, same_allocated, same_blocks}
-use Rattle.pm_crash.proofs.Continued.{known_new, left_apart, left_changed, left_made, left_new, left_tracks, runs_told, two_same, LeavesBlocks}
+use Rattle.pm_crash.proofs.Continued.{known_new, left_apart, left_changed, left_has, left_new, left_tracks, runs_told, two_same, LeavesBlocks}
 use Rattle.pm_crash.proofs.PendingOn.{pending_same, published_same, same_before}
 use Rattle.pm_crash.proofs.GivenUp.{outside_taken_back, taken_back, under_taken_back}
 use Rattle.pm_crash.proofs.KeptWords.{keeps_known, known_back, outside_kept, same_known_words, same_found, under_kept}
@@ -99,7 +99,7 @@ goes_on_learning v next level at_stage e under_way quiet logs words =
     let lane : next.lane ≡ v.lane = quiet.keeps.lane in
     let lanes : next.lanes ≡ v.lanes = quiet.keeps.lanes in
     let inside : v.lane < v.lanes = under_way.in_lanes in
-    let leaves : LeavesBlocks v next = quiet_leaves v next quiet words under_way.makes in
+    let leaves : LeavesBlocks v next = quiet_leaves v next quiet words under_way.has.each in
     record {
       in_lanes = omega arith;
       few = subst (λ (locks : List Lock). length locks ≤ 64) (sym quiet.locks) under_way.few;
@@ -107,8 +107,7 @@ goes_on_learning v next level at_stage e under_way quiet logs words =
       outside = outside_kept v next quiet.keeps logs.records under_way.outside;
       under = under_kept v next (same_found v next quiet.locks) logs.records under_way.under;
       unentered = logs.entries ∙ under_way.unentered;
-      makes = left_made v next leaves quiet.keeps under_way.makes;
-      apart = left_apart v next leaves quiet.locks under_way.apart;
+      has = left_has v next leaves quiet.keeps (λ n there. subst (λ (ns : List NewObject). Contains ns n) (sym (same_allocated v next quiet.call)) there) (left_apart v next leaves quiet.locks under_way.has.apart_found) under_way.has;
       comes = λ w header pool holds id before room.
           comes_still v next level at_stage e w header pool quiet logs leaves (same_known_words v next logs.records words under_way.outside w)
           (under_way.comes w header pool (quiet_holds v next quiet w header pool holds) (sym quiet.keeps.pool ∙ id) (quiet_back v next quiet logs words w before) (quiet_room v next quiet pool room));

@@ -32,7 +32,7 @@ use Rattle.pm_crash.specs.Writes.{IsWritten, KeepsOthers, WritesObject, words_wr
 use Rattle.pm_crash.proofs.Apart.{heads_kept}
 use Rattle.pm_crash.proofs.CallWords.{call_works, held_is_locked, locks_kept, object_under, one_is_kept, other_call_word, recorded_call_word, same_pool, IsObjectOf}
 use Rattle.pm_crash.proofs.CallBlocks.{SameNew, fills_block, keeps_on, old_of_none}
-use Rattle.pm_crash.proofs.Continued.{answers_done, leaves_told, left_apart, left_changed, left_made, left_new, left_tracks, still_under_way, tracks_more, LeavesBlocks}
+use Rattle.pm_crash.proofs.Continued.{answers_done, leaves_told, left_changed, left_new, left_tracks, still_under_way, told_has, tracks_more, LeavesBlocks}
 use Rattle.pm_crash.proofs.Covered.{written_words}
 use Rattle.pm_crash.proofs.KeptWords.{goes_back, same_found, same_records}
 use Rattle.pm_crash.proofs.OneObject.{sizes_kept}
@@ -113,7 +113,7 @@ put_unfound v next base off at bytes leaves old none o new =
 new_is_unwritten : (v next : View) (id : Oid) (off level : ℕ) (bytes : List ℕ) → IsUnderWay v level stage.Work error.None → WritesBytes v next id off bytes
     → (n : NewObject) → Contains (blocks_in v).made n → SameNew v next n
 new_is_unwritten v next id off level bytes under_way writes n there i reads =
-    let is : IsMadeIn v n = under_way.makes n there in
+    let is : IsMadeIn v n = under_way.has.each n there in
     writes.written i (is.outside i reads) ∙ (written_words (slice_index v.words) (id.off + off) bytes).others i (λ covered.
     let under : IsUnderBlock v i = under_way.under i (writes.added i covered) in
     let from = under.from in let to = under.to in let first = reads.from in let last = reads.to in
@@ -121,7 +121,7 @@ new_is_unwritten v next id off level bytes under_way writes n there i reads =
     ⊎_elim
     (λ (before : (block_of n).place + 64 * (block_of n).lines ≤ 64 * under.lock.line). omega (arith, before, from, last, room))
     (λ (behind : 64 * under.lock.line + 64 * under.lines ≤ (block_of n).place). omega (arith, behind, to, first))
-    (under_way.apart n under.lock under.lines there under.held under.found))
+    (under_way.has.apart_found n under.lock under.lines there under.held under.found))
 
 -- what it wrote the call found, and did not free
 pub write_goes_on : (v next : View) (id : Oid) (off level : ℕ) (bytes : List ℕ) → 1 ≤ level → IsUnderWay v level stage.Work error.None → WritesBytes v next id off bytes → IsOldIn v id.off
@@ -131,7 +131,7 @@ write_goes_on v next id off level bytes some under_way writes old =
     let leaves : LeavesBlocks v next = leaves_told v next (Write id off bytes) None writes.tells.call refl (new_is_unwritten v next id off level bytes under_way writes) in
     still_under_way v next level level (Write id off bytes) None under_way writes.tells
     (goes_back v next writes.tells.keeps (same_found v next writes.tells.locks) writes.logs (unwritten_stays v next id off bytes writes) under_way.outside under_way.under)
-    (left_made v next leaves writes.tells.keeps under_way.makes) (left_apart v next leaves writes.tells.locks under_way.apart)
+    (told_has v next leaves writes.tells under_way.has)
     (λ w header pool holds same_id before next_before room c.
     let object : IsObjectOf v w c.tx id held.lock.line = object_under v w header pool level id true under_way before c held writes.range.size_known old in
     let works : Works c.tx = call_works v w header pool level some under_way c in

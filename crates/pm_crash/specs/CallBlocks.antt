@@ -1,6 +1,6 @@
 -- What a call allocated and freed so far, by the operations that it told: the lists that the plain model's transaction keeps (pmemobj_tx_alloc(3),
 -- pmemobj_tx_free(3)).
-use Rattle.std.specs.Prelude.{◌≡◌, ℕ, ◌-◌, ◌==◌, ◌||◌, ◌≤◌, not, Bool, All, List, [], ◌∷◌, ◌++◌, filter, flat_map, length, map, slice_index, Contains, Option, Some, false, if◌then◌else◌}
+use Rattle.std.specs.Prelude.{◌≡◌, ℕ, ◌-◌, ◌%◌, ◌==◌, ◌||◌, ◌≤◌, not, Bool, All, List, [], ◌∷◌, ◌++◌, filter, flat_map, length, map, slice_index, Contains, Option, Some, false, if◌then◌else◌}
 use Rattle.std.specs.List.{list_any}
 use Rattle.pm_layout.specs.Sizes.{class_of}
 use Rattle.pm_objects.specs.Pool.{block_lines}
@@ -91,6 +91,10 @@ is_new_in v off = list_any (is_at off) (blocks_in v).made || list_any (is_at off
 abbrev pub is_freed_in : View → ℕ → Bool
 is_freed_in v off = is_among (blocks_in v).freed off
 
+-- the object at the offset is gone: the call freed it, or made it and freed it again
+abbrev pub is_gone_in : View → ℕ → Bool
+is_gone_in v off = is_freed_in v off || list_any (is_at off) (blocks_in v).dropped
+
 -- a pool has room for these: no object's block overlaps one of theirs
 abbrev pub HasRoomFor : PoolView → List NewObject → Type 0
 HasRoomFor pool news = All (λ (n : NewObject). All (IsBeside n.size n.off) pool.objects) news
@@ -106,6 +110,7 @@ object_made v n = unlinked n.kind (bytes_in (slice_index v.words) (block_of n))
 -- it stands in its block by the lane's words: those of its header line and of its bytes the lane knows, and they lie outside of its area
 pub record IsMadeIn (v : View) (n : NewObject) : Type 0 where
   pub behind : 64 ≤ n.off
+  pub aligned : n.off % 8 ≡ 0
   pub object : HasNewObject (slice_index v.words) (block_of n) n.kind (bytes_in (slice_index v.words) (block_of n))
   pub long : length (bytes_in (slice_index v.words) (block_of n)) ≡ n.size
   pub known : (i : ℕ) → ReadsBlock (slice_index v.words) (block_of n) i → Contains v.known i

@@ -1,5 +1,5 @@
 -- A lane's open call, by its view alone: the words that it makes, and what the plain model's transaction has come to.
-use Rattle.std.specs.Prelude.{◌≡◌, ℕ, ◌+◌, ◌*◌, ◌/◌, ◌<◌, ◌≤◌, true, false, if◌then◌else◌, List, [], ◌∷◌, map, length, slice_index, flat_map, All, Contains, None, Some}
+use Rattle.std.specs.Prelude.{◌≡◌, ◌≢◌, ℕ, ◌+◌, ◌*◌, ◌/◌, ◌<◌, ◌≤◌, true, false, if◌then◌else◌, List, [], ◌∷◌, map, length, slice_index, flat_map, All, Contains, None, Some}
 use Rattle.std.specs.List.{range_with_len}
 use Rattle.std.specs.List.Sorted.{IsStrictlyIncreasing}
 use Rattle.pm_header.specs.declared.header.Header.{Header}
@@ -23,7 +23,7 @@ use Rattle.pm_view.specs.Log.{Recorded}
 use Rattle.pm_view.specs.View.{View, Lock}
 use Rattle.pm_world.specs.History.{made_final}
 use Rattle.pm_world.specs.Records.{IsRecordAt, is_recorded, pool_entries}
-use Rattle.pm_crash.specs.CallBlocks.{CallBlocks, HasRoomFor, IsMadeIn, KeepsBlocks, NewObject, allocated_in, block_of, blocks_in, is_freed_in, is_made_in, is_new_in, object_made}
+use Rattle.pm_crash.specs.CallBlocks.{CallBlocks, HasRoomFor, IsMadeIn, KeepsBlocks, NewObject, allocated_in, block_of, blocks_in, is_freed_in, is_gone_in, is_made_in, is_new_in, object_made}
 use Rattle.pm_crash.specs.HeapChanges.{AreDisjoint}
 use Rattle.pm_crash.specs.Locks.{AreSameLocks}
 use Rattle.pm_crash.specs.Held.{HoldsPool}
@@ -149,6 +149,15 @@ pub record ComesTo (v : View) (w : ℕ → ℕ) (header : Header) (pool : PoolVi
 abbrev pub LieApart : View → Type 0
 LieApart v = (n : NewObject) (l : Lock) (lines : ℕ) → Contains (blocks_in v).made n → Contains v.locks l → l.block ≡ Some lines → AreDisjoint (block_of n) (block_at_line l.line lines)
 
+-- What the call made and has stands in the lane's words. It is listed with all that it allocated, and not gone; and its block lies apart from those of what
+-- else it made, and of what it found.
+pub record HasMade (v : View) : Type 0 where
+  pub each : (n : NewObject) → Contains (blocks_in v).made n → IsMadeIn v n
+  pub listed : (n : NewObject) → Contains (blocks_in v).made n → Contains (allocated_in v) n
+  pub kept : (n : NewObject) → Contains (blocks_in v).made n → is_gone_in v n.off ≡ false
+  pub apart_new : (n m : NewObject) → Contains (blocks_in v).made n → Contains (blocks_in v).made m → n.off ≢ m.off → AreDisjoint (block_of n) (block_of m)
+  pub apart_found : LieApart v
+
 -- The lane has a call under way at this level, in this stage and with this error, whatever pool the words before it hold, if that has room for what the
 -- call allocated. It holds 64 locks at most, each of a line of a chunk where it found a block there, recorded words of those blocks alone, has no redo
 -- entries, which come with the commit, and has in its words what it made, apart from what it found
@@ -159,8 +168,7 @@ pub record IsUnderWay (v : View) (level : ℕ) (at_stage : Stage) (error : TxErr
   pub outside : (i : ℕ) → is_recorded v.log.records i ≡ true → is_in_area v.lane i ≡ false
   pub under : RecordsUnder v
   pub unentered : v.log.entries ≡ []
-  pub makes : (n : NewObject) → Contains (blocks_in v).made n → IsMadeIn v n
-  pub apart : LieApart v
+  pub has : HasMade v
   pub comes : (w : ℕ → ℕ) (header : Header) (pool : PoolView) → HoldsPool w v.lanes v.zones header pool → v.pool ≡ header.id → IsBefore v w → HasRoomFor pool (allocated_in v)
       → ComesTo v w header pool level at_stage error
 
@@ -205,7 +213,7 @@ pub record CommitsTo (v : View) (w : ℕ → ℕ) (header : Header) (pool : Pool
 -- the lane's call is committed, whatever pool the words before it hold, if that has room for what the call allocated; it has in its words what it made
 pub record IsCommitted (v : View) : Type 0 where
   pub outside : (i : ℕ) → is_recorded v.log.records i ≡ true → is_in_area v.lane i ≡ false
-  pub makes : (n : NewObject) → Contains (blocks_in v).made n → IsMadeIn v n
+  pub has : HasMade v
   pub comes : (w : ℕ → ℕ) (header : Header) (pool : PoolView) → HoldsPool w v.lanes v.zones header pool → v.pool ≡ header.id → IsBefore v w → HasRoomFor pool (allocated_in v)
       → CommitsTo v w header pool
 
