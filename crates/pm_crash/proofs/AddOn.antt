@@ -109,7 +109,7 @@ add_goes_on v next id off len level some under_way adds old =
           (λ (old : is_recorded v.log.records i ≡ true). under_way.under i old)
           (λ (new : is_recorded added i ≡ true). adds.under i new)
           (or_cases (is_recorded v.log.records i) (is_recorded added i) (sym (recorded_after v next id off len i adds) ∙ is)));
-      before = add_back v next id off len adds;
+      before = λ w header pool holds room. add_back v next id off len adds w;
       entries = adds.entries;
     })
     (told_has v next leaves adds.tells under_way.has)

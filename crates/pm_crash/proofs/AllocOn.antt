@@ -184,7 +184,7 @@ module _ (v next : View) (n : NewObject) (level : ℕ) (some_level : 1 ≤ level
   back = record {
     outside = λ i is. under_way.outside i (sym (ap (λ (records : List Recorded). is_recorded records i) alloc.logs.records) ∙ is);
     under = under_kept v next (same_found v next alloc.tells.locks) alloc.logs.records under_way.under;
-    before = known_back v next alloc.tells.keeps (same_found v next alloc.tells.locks) alloc.logs.records (λ i known outside none. alloc.keeps.known i outside known);
+    before = λ w header pool holds room. known_back v next alloc.tells.keeps (same_found v next alloc.tells.locks) alloc.logs.records (λ i known outside none. alloc.keeps.known i outside known) w;
     entries = alloc.logs.entries;
   }
 

@@ -23,7 +23,7 @@ use Rattle.pm_model.specs.Bytes.{is_among}
 use Rattle.pm_model.specs.Transaction.{Transaction, is_gone, is_new}
 use Rattle.pm_view.specs.Area.{is_in_area}
 use Rattle.pm_view.specs.View.{Told, View}
-use Rattle.pm_crash.specs.CallBlocks.{CallBlocks, HasRoomFor, IsMadeIn, IsOldIn, KeepsBlocks, NewObject, allocated_by, allocated_in, block_of, blocks_behind, blocks_in, blocks_told, is_at, is_freed_in, is_made_in, is_new_in, no_blocks, object_made}
+use Rattle.pm_crash.specs.CallBlocks.{CallBlocks, HasRoomFor, IsMadeIn, IsOldIn, KeepsBlocks, NewObject, allocated_by, allocated_in, block_of, blocks_behind, blocks_in, blocks_told, is_at, is_freed_in, is_gone_in, is_made_in, is_new_in, no_blocks, object_made}
 use Rattle.pm_crash.specs.NewObjects.{fresh_word, unlinked}
 use Rattle.pm_crash.specs.OpenCall.{IsChanged, TracksBlocks, place_and_size}
 
@@ -90,25 +90,26 @@ filter_alike p q [] same = refl
 filter_alike p q (x ∷ xs) same =
     (λ j. cond (same x (first_member x xs) j) (x ∷ filter_alike p q xs (λ y there. same y (later_member x xs y there)) j) (filter_alike p q xs (λ y there. same y (later_member x xs y there)) j))
 
+dropped_alike : (v : View) (tx : Transaction) → TracksBlocks tx (blocks_in v) → (off : ℕ) → is_among (offsets tx.dropped) off ≡ list_any (is_at off) (blocks_in v).dropped
+dropped_alike v tx tracks off =
+    any_map (λ other. eqb other off) (λ (entry : ℕ × Object). entry.0) tx.dropped
+    ∙ sym (any_map (λ (p : ℕ × ℕ). eqb p.0 off) place_and_size tx.dropped)
+    ∙ ap (list_any (λ (p : ℕ × ℕ). eqb p.0 off)) tracks.dropped
+    ∙ any_map (λ (p : ℕ × ℕ). eqb p.0 off) (λ (n : NewObject). (n.off, n.size)) (blocks_in v).dropped
+
 pub tracks_new : (v : View) (tx : Transaction) → TracksBlocks tx (blocks_in v) → (off : ℕ) → is_new tx off ≡ is_new_in v off
-tracks_new v tx tracks off = (λ j. made j || dropped j) where
+tracks_new v tx tracks off = (λ j. made j || dropped_alike v tx tracks off j) where
   made : is_among tx.made off ≡ list_any (is_at off) (blocks_in v).made
   made = ap (λ (xs : List ℕ). is_among xs off) tracks.made ∙ any_map (λ other. eqb other off) (λ (n : NewObject). n.off) (blocks_in v).made
 
-  dropped : is_among (offsets tx.dropped) off ≡ list_any (is_at off) (blocks_in v).dropped
-  dropped = any_map (λ other. eqb other off) (λ (entry : ℕ × Object). entry.0) tx.dropped
-      ∙ sym (any_map (λ (p : ℕ × ℕ). eqb p.0 off) place_and_size tx.dropped)
-      ∙ ap (list_any (λ (p : ℕ × ℕ). eqb p.0 off)) tracks.dropped
-      ∙ any_map (λ (p : ℕ × ℕ). eqb p.0 off) (λ (n : NewObject). (n.off, n.size)) (blocks_in v).dropped
+pub all_tracks_gone : (v : View) (tx : Transaction) → TracksBlocks tx (blocks_in v) → (off : ℕ) → is_gone tx off ≡ is_gone_in v off
+all_tracks_gone v tx tracks off = (λ j. is_among (tracks.freed j) off || dropped_alike v tx tracks off j)
 
 -- an object that is neither new nor freed is there still
 pub tracks_gone : (v : View) (tx : Transaction) → TracksBlocks tx (blocks_in v) → (off : ℕ) → is_new_in v off ≡ false → is_freed_in v off ≡ false → is_gone tx off ≡ false
 tracks_gone v tx tracks off old kept =
-    or_from (is_among tx.freed off) (is_among (offsets tx.dropped) off) (ap (λ (xs : List ℕ). is_among xs off) tracks.freed ∙ kept)
-    (dropped_not (is_among tx.made off) (is_among (offsets tx.dropped) off) (tracks_new v tx tracks off ∙ old)) where
-  dropped_not : (a b : Bool) → (a || b) ≡ false → b ≡ false
-  dropped_not true b none = absurd (let clash : true ≡ false = none in cc)
-  dropped_not false b none = none
+    all_tracks_gone v tx tracks off
+    ∙ or_from (is_freed_in v off) (list_any (is_at off) (blocks_in v).dropped) kept (or_parts (list_any (is_at off) (blocks_in v).made) (list_any (is_at off) (blocks_in v).dropped) old).1
 
 -- ---- what was made stays where its words do
 

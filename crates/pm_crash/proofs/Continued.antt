@@ -189,7 +189,7 @@ next_comes v next level to op reply w header pool lane call c on =
 pub record GoesBack (v next : View) : Type 0 where
   pub outside : (i : ℕ) → is_recorded next.log.records i ≡ true → is_in_area v.lane i ≡ false
   pub under : RecordsUnder next
-  pub before : (w : ℕ → ℕ) → IsBefore next w → IsBefore v w
+  pub before : (w : ℕ → ℕ) (header : Header) (pool : PoolView) → HoldsPool w v.lanes v.zones header pool → HasRoomFor pool (allocated_in next) → IsBefore next w → IsBefore v w
   pub entries : next.log.entries ≡ v.log.entries
 
 pub still_under_way : (v next : View) (level to : ℕ) (op : Operation) (reply : Option Value) → IsUnderWay v level stage.Work error.None → Tells v next op reply → GoesBack v next
@@ -211,8 +211,8 @@ still_under_way v next level to op reply under_way tells back has continues =
       has = has;
       comes = λ w header pool holds id before room.
           let old_id : v.pool ≡ header.id = sym tells.keeps.pool ∙ id in
-          let old_before : IsBefore v w = back.before w before in
           let old_holds : HoldsPool w v.lanes v.zones header pool = two_same (λ (n m : ℕ). HoldsPool w n m header pool) next.lanes v.lanes next.zones v.zones tells.keeps.lanes tells.keeps.zones holds in
+          let old_before : IsBefore v w = back.before w header pool old_holds room before in
           let old_room : HasRoomFor pool (allocated_in v) = room_before v next op reply tells.call pool room in
           let c : ComesTo v w header pool level stage.Work error.None = under_way.comes w header pool old_holds old_id old_before old_room in
           next_comes v next level to op reply w header pool tells.keeps tells.call c (continues w header pool old_holds old_id old_before before room c);

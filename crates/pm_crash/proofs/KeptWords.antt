@@ -78,7 +78,7 @@ pub goes_back : (v next : View) → KeepsLane v next → KeepsFound v next → K
 goes_back v next lane finds logs stay outside under = record {
   under = under_kept v next finds logs.records under;
   outside = λ i is. outside i (sym (ap (λ (records : List Recorded). is_recorded records i) logs.records) ∙ is);
-  before = before_back v next lane finds logs.records stay;
+  before = λ w header pool holds room. before_back v next lane finds logs.records stay w;
   entries = logs.entries;
 }
 

@@ -35,6 +35,7 @@ pub mod Begun
 pub mod Levels
 pub mod RefusedBegin
 pub mod AllocOn
+pub mod NewRanges
 pub mod NamedObjects
 pub mod ActionsOn
 pub mod ActionsOutside

@@ -65,9 +65,13 @@ some_read w at len block begins inside some =
     ∙ byte_of_words w (place / 8) count (at % 8 + k) (offset_in block + (at + k)) (omega arith) (omega arith)))
     ∙ ap (λ (is : List ℕ). take len (drop (at % 8) (bytes_of (map w is)))) (sym (covers_some place len some))
 
-pub range_is_read : (w : ℕ → ℕ) (lanes zones at len : ℕ) (block : Block) → Contains (blocks w lanes zones) block → at + len ≤ size_in w block
+pub aligned_range : (w : ℕ → ℕ) (at len : ℕ) (block : Block) → block.place % 8 ≡ 0 → at + len ≤ size_in w block
     → bytes_at at len (bytes_in w block) ≡ take len (drop (at % 8) (bytes_of (map w (covered_words (offset_in block + at) len))))
-range_is_read w lanes zones at len block there inside = ⊎_elim
-    (λ (some : 0 < len). some_read w at len block (begins_word w lanes zones block there) inside some)
+aligned_range w at len block begins inside = ⊎_elim
+    (λ (some : 0 < len). some_read w at len block begins inside some)
     (λ (none : len ≤ 0). none_read w at len (bytes_in w block) (drop (at % 8) (bytes_of (map w (covered_words (offset_in block + at) len)))) (omega arith))
     (cases_lt 0 len)
+
+pub range_is_read : (w : ℕ → ℕ) (lanes zones at len : ℕ) (block : Block) → Contains (blocks w lanes zones) block → at + len ≤ size_in w block
+    → bytes_at at len (bytes_in w block) ≡ take len (drop (at % 8) (bytes_of (map w (covered_words (offset_in block + at) len))))
+range_is_read w lanes zones at len block there = aligned_range w at len block (begins_word w lanes zones block there)

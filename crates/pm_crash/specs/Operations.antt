@@ -308,3 +308,16 @@ pub record AddsNewRange (v next : View) (id : Oid) (off len : ℕ) : Type 0 wher
   pub logs : KeepsLog v next
   pub keeps : KeepsWords v next
   pub range : HasNewRange v id off len
+
+-- the lane wrote the bytes into it, changed no other word but in its own area, and told so
+pub record WritesNewBytes (v next : View) (id : Oid) (off : ℕ) (bytes : List ℕ) : Type 0 where
+  pub tells : Tells v next (Write id off bytes) None
+  pub logs : KeepsLog v next
+  pub range : HasNewRange v id off (length bytes)
+  pub are_bytes : AreBytes bytes
+  pub written : (i : ℕ) → is_in_area v.lane i ≡ false → slice_index next.words i ≡ words_written (id.off + off) bytes (slice_index v.words) i
+
+-- the range passes the end of such an object
+pub record PassesNewEnd (v : View) (id : Oid) (off len : ℕ) : Type 0 where
+  pub made : IsMade v id
+  pub outside : made.new.size < off + len
