@@ -77,7 +77,7 @@ stands_there (e ∷ es) (suc k) d rising inside =
   offset_at (x ∷ xs) (suc j) c low = offset_at xs j c (omega (arith, low))
 
 -- what all have, the one at an offset has
-found_has : (P : ℕ × Object → Type 0) (objects : Objects) (off : ℕ) (object : Object) → All P objects → object_at objects off ≡ Some object → P (off, object)
+pub found_has : (P : ℕ × Object → Type 0) (objects : Objects) (off : ℕ) (object : Object) → All P objects → object_at objects off ≡ Some object → P (off, object)
 found_has P [] off object all is = absurd (let clash : None ≡ Some object = is in cc)
 found_has P (e ∷ es) off object all is = go (eqb e.0 off) refl is (found_has P es off object (All-tail P e es all)) where
   go : (t : Bool) → eqb e.0 off ≡ t → cond t (Some e.1) (object_at es off) ≡ Some object → (object_at es off ≡ Some object → P (off, object)) → P (off, object)
@@ -147,6 +147,9 @@ module _ (v next : View) (n : NewObject) (level : ℕ) (some_level : 1 ≤ level
   turned m there = ⊎_elim (λ (before : (block_of n).place + 64 * (block_of n).lines ≤ (block_of m).place). inr before) (λ (behind : (block_of m).place + 64 * (block_of m).lines ≤ (block_of n).place). inl behind)
       (alloc.apart_made m (Contains-append_left (blocks_in v).made (blocks_in v).dropped m there))
 
+  elsewhere : (m : NewObject) → Contains (blocks_in v).made m → m.off ≢ n.off
+  elsewhere m there = apart_offsets n m alloc.made.behind (alloc.apart_made m (Contains-append_left (blocks_in v).made (blocks_in v).dropped m there))
+
   apart_new : (m k : NewObject) → Contains (blocks_in next).made m → Contains (blocks_in next).made k → m.off ≢ k.off → AreDisjoint (block_of m) (block_of k)
   apart_new m k there too differ = ⊎_elim
       (λ (before : Contains (blocks_in v).made m). ⊎_elim
@@ -156,6 +159,18 @@ module _ (v next : View) (n : NewObject) (level : ℕ) (some_level : 1 ≤ level
       (λ (same : m ≡ n). ⊎_elim
       (λ (before : Contains (blocks_in v).made k). subst (λ (x : NewObject). AreDisjoint (block_of x) (block_of k)) (sym same) (alloc.apart_made k (Contains-append_left (blocks_in v).made (blocks_in v).dropped k before)))
       (λ (also : k ≡ n). absurd (differ (ap (λ (x : NewObject). x.off) (same ∙ sym also))))
+      (made_cases k too))
+      (made_cases m there)
+
+  once : (m k : NewObject) → Contains (blocks_in next).made m → Contains (blocks_in next).made k → m.off ≡ k.off → m ≡ k
+  once m k there too same_off = ⊎_elim
+      (λ (before : Contains (blocks_in v).made m). ⊎_elim
+      (λ (also : Contains (blocks_in v).made k). under_way.has.once m k before also same_off)
+      (λ (same : k ≡ n). absurd (elsewhere m before (same_off ∙ ap (λ (x : NewObject). x.off) same)))
+      (made_cases k too))
+      (λ (same : m ≡ n). ⊎_elim
+      (λ (before : Contains (blocks_in v).made k). absurd (elsewhere k before (sym same_off ∙ ap (λ (x : NewObject). x.off) same)))
+      (λ (also : k ≡ n). same ∙ sym also)
       (made_cases k too))
       (made_cases m there)
 
@@ -176,6 +191,7 @@ module _ (v next : View) (n : NewObject) (level : ℕ) (some_level : 1 ≤ level
         (λ (before : Contains (blocks_in v).made m). under_way.has.kept m before)
         (λ (same : m ≡ n). ap (λ (x : NewObject). is_gone_in v x.off) same ∙ gone_not)
         (made_cases m there);
+    once = once;
     apart_new = apart_new;
     apart_found = apart;
   }
@@ -305,7 +321,7 @@ module _ (v next : View) (n : NewObject) (level : ℕ) (some_level : 1 ≤ level
       new = λ m there. ⊎_elim
           (λ (before : Contains (blocks_in v).made m).
           more_elsewhere c.tx.pool.objects n.off m.off (new_object n.kind n.size)
-          (apart_offsets n m alloc.made.behind (alloc.apart_made m (Contains-append_left (blocks_in v).made (blocks_in v).dropped m before)))
+          (elsewhere m before)
           ∙ c.changed.new m before ∙ ap (λ (o : Object). Some o) (sym (object_stays v next m (same_new m before))))
           (λ (same : m ≡ n).
           ap (λ (x : NewObject). object_at (with_object n.off (new_object n.kind n.size) c.tx.pool.objects) x.off) same

@@ -149,6 +149,7 @@ has_none v keeps = record {
   each = λ n there. none_made v keeps n there;
   listed = λ n there. none_made v keeps n there;
   kept = λ n there. none_made v keeps n there;
+  once = λ n m there too same. none_made v keeps n there;
   apart_new = λ n m there too differ. none_made v keeps n there;
   apart_found = λ n l lines there held found. none_made v keeps n there;
 }

@@ -121,6 +121,7 @@ left_has v next leaves lane listed apart has = record {
   each = λ n there. made_stays v next n lane.lane lane.known (leaves.same n (before n there)) (has.each n (before n there));
   listed = λ n there. listed n (has.listed n (before n there));
   kept = λ n there. ap (λ (b : CallBlocks). is_among b.freed n.off || list_any (is_at n.off) b.dropped) leaves.blocks ∙ has.kept n (before n there);
+  once = λ n m there too same. has.once n m (before n there) (before m too) same;
   apart_new = λ n m there too differ. has.apart_new n m (before n there) (before m too) differ;
   apart_found = apart;
 } where

@@ -36,6 +36,7 @@ pub mod Levels
 pub mod RefusedBegin
 pub mod AllocOn
 pub mod NewRanges
+pub mod NewWrites
 pub mod NamedObjects
 pub mod ActionsOn
 pub mod ActionsOutside

@@ -75,7 +75,7 @@ all_among words [] among = refl
 all_among words (x ∷ xs) among = and_from (is_among words x) (list_all (is_among words) xs) (among x (first_member x xs)) (all_among words xs (λ i there. among i (later_member x xs i there)))
 
 -- new bytes in an object that the call found leave what stands elsewhere
-put_elsewhere : (objects : Objects) (off at other : ℕ) (bytes : List ℕ) → other ≢ off → object_at (put_object off at bytes objects) other ≡ object_at objects other
+pub put_elsewhere : (objects : Objects) (off at other : ℕ) (bytes : List ℕ) → other ≢ off → object_at (put_object off at bytes objects) other ≡ object_at objects other
 put_elsewhere objects off at other bytes differ =
     object_at-put off at bytes objects other ∙ cond-false (eqb other off) (option_map (with_bytes at bytes) (object_at objects other)) (object_at objects other) (ne_eqb other off differ)
 

@@ -149,12 +149,13 @@ pub record ComesTo (v : View) (w : ℕ → ℕ) (header : Header) (pool : PoolVi
 abbrev pub LieApart : View → Type 0
 LieApart v = (n : NewObject) (l : Lock) (lines : ℕ) → Contains (blocks_in v).made n → Contains v.locks l → l.block ≡ Some lines → AreDisjoint (block_of n) (block_at_line l.line lines)
 
--- What the call made and has stands in the lane's words. It is listed with all that it allocated, and not gone; and its block lies apart from those of what
--- else it made, and of what it found.
+-- What the call made and has stands in the lane's words, once at an offset. It is listed with all that it allocated, and not gone; and its block lies apart from
+-- those of what else it made, and of what it found.
 pub record HasMade (v : View) : Type 0 where
   pub each : (n : NewObject) → Contains (blocks_in v).made n → IsMadeIn v n
   pub listed : (n : NewObject) → Contains (blocks_in v).made n → Contains (allocated_in v) n
   pub kept : (n : NewObject) → Contains (blocks_in v).made n → is_gone_in v n.off ≡ false
+  pub once : (n m : NewObject) → Contains (blocks_in v).made n → Contains (blocks_in v).made m → n.off ≡ m.off → n ≡ m
   pub apart_new : (n m : NewObject) → Contains (blocks_in v).made n → Contains (blocks_in v).made m → n.off ≢ m.off → AreDisjoint (block_of n) (block_of m)
   pub apart_found : LieApart v
 
