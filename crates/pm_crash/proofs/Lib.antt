@@ -98,3 +98,5 @@ pub mod ChangesBehind
 pub mod MayChange
 pub mod ChangesKept
 pub mod PublishedInTurn
+pub mod ManyObjects
+pub mod PublishedCopy

@@ -18,3 +18,4 @@ pub mod Operations
 pub mod OnActions
 pub mod Writes
 pub mod Taken
+pub mod CallChanges

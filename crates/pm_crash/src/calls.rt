@@ -1,4 +1,4 @@
-ghost use Rattle.std.specs.Prelude.{◌≡◌, ◌≢◌, ℕ, ◌+◌, ◌*◌, ◌<◌, ◌≤◌, true, false, Bool, List, [], ◌∷◌, map, None};
+ghost use Rattle.std.specs.Prelude.{◌≡◌, ◌≢◌, ℕ, ◌+◌, ◌*◌, ◌<◌, ◌≤◌, true, false, Bool, List, [], ◌∷◌, ◌++◌, map, None};
 ghost use Rattle.std.specs.List.Sorted.{IsStrictlyIncreasing};
 ghost use Rattle.pm_header.specs.declared.header.Header.{Header};
 ghost use Rattle.pm_objects.specs.declared.calls.Operation.{Operation};
@@ -14,14 +14,19 @@ ghost use Rattle.pm_model.specs.declared.stage.Stage.TheVariants as stage;
 ghost use Rattle.pm_model.specs.Transaction.{Lock, Transaction, is_working, locked_all, resting};
 ghost use Rattle.pm_model.specs.Checks.{Range};
 ghost use Rattle.pm_model.specs.Answers.{Told as Answered, error_for};
-ghost use Rattle.pm_model.specs.Actions.{Action};
+ghost use Rattle.pm_model.specs.Actions.{Action, with_actions};
 ghost use Rattle.pm_model.specs.Step.{RunsFrom};
 ghost use Rattle.pm_view.specs.View.{View};
 ghost use Rattle.pm_world.specs.History.{made_final};
 ghost use Rattle.pm_world.specs.Records.{difference_of};
+ghost use Rattle.pm_crash.specs.CallChanges.{ChangesOf, LacksDropped};
+ghost use Rattle.pm_crash.specs.HeapChanges.{HeapChange};
 ghost use Rattle.pm_crash.specs.Held.{HoldsPool};
 ghost use Rattle.pm_crash.specs.Locks.{AreSameLocks};
-ghost use Rattle.pm_crash.specs.OpenCall.{IsBefore, IsGivenUp, IsOpen, IsWholeCall, RunsTo, Turns, lock_wanted, made_words};
+ghost use Rattle.pm_crash.specs.OpenCall.{CommitsTo, IsBefore, IsGivenUp, IsOpen, IsWholeCall, RunsTo, Turns, lock_wanted, made_words};
+ghost use Rattle.pm_crash.specs.Pending.{published_in};
+ghost use Rattle.pm_crash.specs.Publishing.{all_pool_published, Published};
+ghost use Rattle.pm_crash.specs.Publishing.Published.{Changes, Performs};
 ghost use Rattle.pm_crash.specs.Operations.{AddsRange, BeginsCall, BeginsLevel, CommitsCall, KeepsKnown, KeepsLog, KeepsWords, ReadsBytes, Refuses, RefusesCall, RefusesLevel, TakesBack, Tells, TellsNothing, WritesBytes};
 
 /// A law: the words that a call makes of those before it are what its difference makes of them. No code runs.
@@ -141,4 +146,12 @@ pub fn wants_may_change_places()
         → AreSameLocks (locked_all wants locks) (locked_all wants others) }
     ensures joined { (locks others more : List Lock) → AreSameLocks locks others → AreSameLocks others more
         → AreSameLocks locks more }
+{}
+
+/// A law: what a committed call publishes at once, its actions and then the changes of the heap that are its own, makes of the pool that its
+/// words hold its transaction's copy with those actions performed, where that copy has nothing at what it made and freed again. No code runs.
+pub fn a_committed_pool_is_published()
+    ensures { (v : View) (w : ℕ → ℕ) (header : Header) (pool : PoolView) (changes : List HeapChange) (to : CommitsTo v w header pool)
+        → LacksDropped v to.copy → ChangesOf v v.lanes changes
+        → all_pool_published v.lanes (map Performs (published_in v) ++ map Changes changes) to.base ≡ with_actions (published_in v) to.copy }
 {}

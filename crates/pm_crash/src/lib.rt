@@ -38,10 +38,10 @@ pub use bounds::no_counted_call_is_idle;
 pub use calls::{
     a_begin_opens, a_call_given_up_changes_nothing, a_call_makes_its_difference,
     a_call_stays_while_its_lane_learns, a_call_stays_while_nothing_is_told, a_commit_is_a_step,
-    a_further_begin_opens, a_read_tells_the_bytes, a_record_keeps_the_call, a_refusal_gives_up,
-    a_refused_begin_gives_up, a_transaction_that_rests_has_run, a_write_changes_the_call,
-    an_abort_gives_up, an_inner_commit_keeps_the_call, rising_wants_are_locks,
-    wants_may_change_places,
+    a_committed_pool_is_published, a_further_begin_opens, a_read_tells_the_bytes,
+    a_record_keeps_the_call, a_refusal_gives_up, a_refused_begin_gives_up,
+    a_transaction_that_rests_has_run, a_write_changes_the_call, an_abort_gives_up,
+    an_inner_commit_keeps_the_call, rising_wants_are_locks, wants_may_change_places,
 };
 pub use course::{
     a_recovered_pool_opens_a_world, an_ended_call_is_a_model_step, one_lanes_images_mean_the_replay,

@@ -15,6 +15,7 @@ fn laws(_rt: HostRuntime) {
     a_lane_finds_the_blocks();
     a_call_makes_its_difference();
     a_commit_is_a_step();
+    a_committed_pool_is_published();
     a_write_changes_the_call();
     a_read_tells_the_bytes();
     wants_may_change_places();
