@@ -29,7 +29,7 @@ use Rattle.pm_view.specs.View.{View}
 use Rattle.pm_crash.specs.CallBlocks.{CallBlocks, IsOldIn, KeepsBlocks, NewObject, allocated_by, blocks_behind, blocks_in, is_new_in, no_blocks}
 use Rattle.pm_crash.specs.Held.{HoldsPool}
 use Rattle.pm_crash.specs.Locks.{AreSameLocks}
-use Rattle.pm_crash.specs.OnActions.{CanSet, ChangesPending, IsPendingAnswer, IsPublishReason, IsPublishReasonIn, MovesActions, PublishesIn, RefusesPublish, entries_in, entries_wanted, set_refusal}
+use Rattle.pm_crash.specs.OnActions.{AreOld, CanSet, ChangesPending, IsPendingAnswer, IsPublishReason, IsPublishReasonIn, MovesActions, PublishesIn, RefusesPublish, entries_in, entries_wanted, set_refusal}
 use Rattle.pm_crash.specs.OpenCall.{IsBefore, call_words, ComesTo, IsChanged, IsGivenUp, IsOpen, IsUnderWay, TracksBlocks, WasAborted, locks_of, words_recorded}
 use Rattle.pm_crash.specs.Operations.{IsHeld, KeepsLog, KeepsWords, TakesBack, Tells}
 use Rattle.pm_crash.specs.Pending.{pending_behind, pending_in, published_by, published_in}
@@ -157,10 +157,6 @@ record Publishes (v : View) (w : ℕ → ℕ) (tx : Transaction) : Type 0 where
   moved : tx.moved ≡ published_in v
   tracks : TracksBlocks tx (blocks_in v)
   found : All (λ (a : Action). is_new_in v (object_of a).off ≡ false) (pending_in v)
-
--- each object that is pending the call found, and did not free
-abbrev pub AreOld : View → List Action → Type 0
-AreOld v actions = All (λ (a : Action). IsOldIn v (object_of a).off) actions
 
 publishes_open : (v : View) (w : ℕ → ℕ) (header : Header) (pool : PoolView) (level : ℕ) → 1 ≤ level → IsUnderWay v level stage.Work error.None → v.pool ≡ header.id
     → (c : ComesTo v w header pool level stage.Work error.None) → All (λ (a : Action). is_new_in v (object_of a).off ≡ false) (pending_in v) → Publishes v w c.tx

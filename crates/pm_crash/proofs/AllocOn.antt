@@ -4,13 +4,13 @@ use Rattle.std.specs.List.{All, Contains, find, list_any}
 use Rattle.std.specs.List.Sorted.{IsStrictlyIncreasing}
 use Rattle.std.specs.Option.{option_map}
 use Rattle.std.proofs.lemmas.Bool.{cases_Bool, eq-eqb, eqb-true, false_from_ne_true, false≢true, le-ltb, ne_eqb, or_cases, or_from, or_left, or_parts, or_right}
-use Rattle.std.proofs.lemmas.List.{append-nil, length-append, length-map, map-append}
+use Rattle.std.proofs.lemmas.List.{append-nil, length-map, map-append}
 use Rattle.std.proofs.lemmas.List.Elements.{All-append, All-cons, All-contains, All-head, All-nil, All-tail, Contains-append_left, Contains-append_right, Contains-push, Contains-push_cases}
 use Rattle.std.proofs.lemmas.Option.{same_Some}
 use Rattle.std.proofs.lemmas.List.Folds.{Any-from_list_any, list_any-append}
 use Rattle.pm_header.specs.declared.header.Header.{Header}
 use Rattle.pm_layout.specs.Sizes.{class_of}
-use Rattle.pm_objects.specs.Pool.{Objects, block_end, block_lines, object_at, offsets}
+use Rattle.pm_objects.specs.Pool.{Objects, block_lines, object_at, offsets}
 use Rattle.pm_objects.specs.declared.calls.Operation.TheVariants.{Alloc}
 use Rattle.pm_objects.specs.declared.history.TxErr.TheVariants as error
 use Rattle.pm_objects.specs.declared.history.Value.TheVariants.{Offset}
@@ -71,10 +71,10 @@ stands_there (e ∷ es) (suc k) d rising inside =
     let at : get_or (offsets es) k 0 ≡ (get_or es k d).0 = offset_at es k d near in
     ap (λ (b : Bool). cond b (Some e.1) (object_at es (get_or es k d).0)) (ne_eqb e.0 (get_or es k d).0 (λ same. omega (arith, same, less, at)))
     ∙ stands_there es k d (rising_tail e.0 (offsets es) rising) near where
-  offset_at : (xs : Objects) (j : ℕ) (c : ℕ × Object) → j < length xs → get_or (offsets xs) j 0 ≡ (get_or xs j c).0
-  offset_at [] j c low = absurd (omega (arith, low))
-  offset_at (x ∷ xs) zero c low = refl
-  offset_at (x ∷ xs) (suc j) c low = offset_at xs j c (omega (arith, low))
+      offset_at : (xs : Objects) (j : ℕ) (c : ℕ × Object) → j < length xs → get_or (offsets xs) j 0 ≡ (get_or xs j c).0
+      offset_at [] j c low = absurd (omega (arith, low))
+      offset_at (x ∷ xs) zero c low = refl
+      offset_at (x ∷ xs) (suc j) c low = offset_at xs j c (omega (arith, low))
 
 -- what all have, the one at an offset has
 pub found_has : (P : ℕ × Object → Type 0) (objects : Objects) (off : ℕ) (object : Object) → All P objects → object_at objects off ≡ Some object → P (off, object)
@@ -344,9 +344,9 @@ module _ (v next : View) (n : NewObject) (level : ℕ) (some_level : 1 ≤ level
         (or_cases (is_made_in v off) (eqb n.off off || false) (sym (list_any-append (is_at off) (blocks_in v).made (n ∷ [])) ∙ made)))
         (λ (dropped : list_any (is_at off) now.dropped ≡ true). c.unfound off (or_right (is_made_in v off) (list_any (is_at off) (blocks_in v).dropped) dropped))
         (or_cases (list_any (is_at off) now.made) (list_any (is_at off) now.dropped) (ap (λ (b : CallBlocks). list_any (is_at off) b.made || list_any (is_at off) b.dropped) (sym blocks_now) ∙ new)) where
-      one_of : (b : Bool) → (b || false) ≡ true → b ≡ true
-      one_of true is = refl
-      one_of false is = is
+          one_of : (b : Bool) → (b || false) ≡ true → b ≡ true
+          one_of true is = refl
+          one_of false is = is
 
     continues : Continues v next w header (Alloc n.size n.kind) (Some (Offset n.off)) level c.tx
     continues =

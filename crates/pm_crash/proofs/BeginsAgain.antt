@@ -1,5 +1,5 @@
 -- Where a lane that is alone begins again a world begins, between calls.
-use Rattle.std.proofs.Common.{◌≡◌, ◌≢◌, ◌⊎◌, inl, inr, ⊎_elim, ℕ, zero, suc, ◌+◌, ◌<◌, ◌≤◌, Bool, true, false, eqb, leb, All, Contains, List, [], ◌∷◌, length, map, slice_index, None, refl, sym, ap, ◌∙◌, subst, arith, ◌^◌, cond}
+use Rattle.std.proofs.Common.{◌≡◌, ◌≢◌, inl, inr, ⊎_elim, ℕ, zero, suc, ◌+◌, ◌<◌, Bool, true, false, eqb, leb, All, Contains, List, [], ◌∷◌, length, map, slice_index, refl, sym, ap, ◌∙◌, subst, arith, ◌^◌, cond}
 use Rattle.std.specs.Int.{bit_at}
 use Rattle.std.specs.List.{list_any}
 use Rattle.std.proofs.lemmas.Bool.{cases_eq, cond-false, cond-true, false≢true, le-leb, false_from_ne_true, leb-true, ne_eqb, eq-eqb}
@@ -23,11 +23,11 @@ use Rattle.pm_world.specs.History.{AreNumbered, Entry, entries_by}
 use Rattle.pm_world.specs.Memory.{occ_at}
 use Rattle.pm_world.specs.Opening.{Opening}
 use Rattle.pm_world.specs.Opens.{IsRested}
-use Rattle.pm_world.specs.World.{Views, may_draw, may_draw_count}
+use Rattle.pm_world.specs.World.{may_draw, may_draw_count}
 use Rattle.pm_world.proofs.Numbers.{number_upto}
 use Rattle.pm_crash.specs.Alone.{BeginsAgain, alone_views, idle_view}
 use Rattle.pm_crash.specs.OneLane.{BeginsBetween, Moment}
-use Rattle.pm_crash.specs.Pending.{acts_alone, acts_of, state_after, state_alone}
+use Rattle.pm_crash.specs.Pending.{acts_alone, acts_of, state_alone}
 use Rattle.pm_crash.proofs.AloneMemory.{memory_of, one_if}
 use Rattle.pm_crash.proofs.HistoryActs.{acts_of_all, state_of_one}
 

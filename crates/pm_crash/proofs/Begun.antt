@@ -31,7 +31,7 @@ use Rattle.pm_view.specs.Log.{Recorded}
 use Rattle.pm_view.specs.View.{Told, View}
 use Rattle.pm_world.specs.Records.{is_recorded}
 use Rattle.pm_crash.proofs.SameLocks.{turned_locks}
-use Rattle.pm_crash.specs.CallBlocks.{CallBlocks, KeepsBlocks, NewObject, allocated_by, blocks_in, blocks_told, is_at, is_new_in, no_blocks}
+use Rattle.pm_crash.specs.CallBlocks.{CallBlocks, KeepsBlocks, allocated_by, blocks_told, is_at, is_new_in, no_blocks}
 use Rattle.pm_crash.specs.Held.{HoldsPool}
 use Rattle.pm_crash.specs.Locks.{AreSameLocks}
 use Rattle.pm_crash.specs.OpenCall.{HasMade, IsBefore, IsChanged, IsOpen, IsUnderWay, RunsTo, TracksBlocks, block_at_line, call_words, words_recorded, lock_of, locks_of}
@@ -154,7 +154,7 @@ has_none v keeps = record {
   apart_found = λ n l lines there held found. none_made v keeps n there;
 }
 
-begin_under_way : (v : View) (wants : List Want) → BeginsCall v wants → IsUnderWay v 1 stage.Work error.None
+pub begin_under_way : (v : View) (wants : List Want) → BeginsCall v wants → IsUnderWay v 1 stage.Work error.None
 begin_under_way v wants begins = record {
   in_lanes = begins.in_lanes;
   few = begins.takes.few;

@@ -1,14 +1,13 @@
 -- A write into an object that the call made is the plain model's: it changes the object's block alone, which is no other's.
-use Rattle.std.proofs.Common.{◌≡◌, ◌≢◌, ⊎_elim, inl, inr, ℕ, ◌+◌, ◌-◌, ◌*◌, ◌/◌, ◌%◌, ◌<◌, ◌≤◌, ◌||◌, Bool, true, false, not, cond, eqb, List, [], ◌∷◌, length, slice_get, slice_index, Option, Some, None, refl, sym, ◌∙◌, ap, subst, arith}
+use Rattle.std.proofs.Common.{◌≡◌, ◌≢◌, ⊎_elim, inl, inr, ℕ, ◌+◌, ◌-◌, ◌*◌, ◌%◌, ◌<◌, ◌≤◌, ◌||◌, true, false, not, cond, eqb, List, [], length, slice_get, slice_index, Some, None, refl, sym, ◌∙◌, ap, subst, arith}
 use Rattle.std.specs.List.{All, Contains, list_all, list_any}
 use Rattle.std.specs.List.Sorted.{IsStrictlyIncreasing}
 use Rattle.std.specs.Option.{option_map}
-use Rattle.std.proofs.lemmas.Bool.{and_left, cases_Bool, cases_eq, cond-false, cond-true, eq-eqb, false≢true, le-ltb, ne_eqb, or_left, or_parts}
+use Rattle.std.proofs.lemmas.Bool.{and_left, cases_Bool, cases_eq, cond-false, cond-true, eq-eqb, false≢true, le-ltb, or_parts}
 use Rattle.std.proofs.lemmas.Grind.{div_ceil_times}
-use Rattle.std.proofs.lemmas.List.{append-nil, length-append, length-drop, length-take-le}
+use Rattle.std.proofs.lemmas.List.{append-nil}
 use Rattle.std.proofs.lemmas.List.Elements.{All-contains, All-nil}
 use Rattle.std.proofs.lemmas.List.Folds.{list_any-from_Any}
-use Rattle.std.proofs.lemmas.Option.{same_Some}
 use Rattle.pm_header.specs.declared.header.Header.{Header}
 use Rattle.pm_layout.specs.Sizes.{class_of}
 use Rattle.pm_objects.specs.Pool.{block_lines, object_at}
@@ -32,11 +31,11 @@ use Rattle.pm_view.specs.Area.{is_in_area}
 use Rattle.pm_view.specs.Log.{Recorded}
 use Rattle.pm_view.specs.View.{Lock, View}
 use Rattle.pm_world.specs.Records.{is_recorded}
-use Rattle.pm_crash.specs.CallBlocks.{CallBlocks, HasRoomFor, IsMadeIn, NewObject, allocated_in, block_of, blocks_in, is_at, is_freed_in, is_gone_in, is_made_in, is_new_in, object_made}
+use Rattle.pm_crash.specs.CallBlocks.{CallBlocks, IsMadeIn, NewObject, allocated_in, block_of, blocks_in, is_at, is_freed_in, is_made_in, object_made}
 use Rattle.pm_crash.specs.Held.{HoldsPool, object_of}
 use Rattle.pm_crash.specs.HeapChanges.{AreDisjoint}
 use Rattle.pm_crash.specs.NewObjects.{HasNewObject, fresh_word}
-use Rattle.pm_crash.specs.OpenCall.{ComesTo, HasMade, IsBefore, IsChanged, IsUnderBlock, IsUnderWay, TracksBlocks, block_at_line, call_words, words_recorded}
+use Rattle.pm_crash.specs.OpenCall.{HasMade, IsChanged, IsUnderBlock, IsUnderWay, TracksBlocks, block_at_line, call_words, words_recorded}
 use Rattle.pm_crash.specs.Operations.{IsMade, WritesNewBytes}
 use Rattle.pm_crash.specs.Performing.{CanPerform}
 use Rattle.pm_crash.specs.Writes.{IsWritten, words_written}

@@ -12,7 +12,7 @@ use Rattle.pm_model.specs.NewObjects.{with_object, without_object}
 use Rattle.pm_model.proofs.Objects.{same_objects}
 use Rattle.pm_view.specs.View.{View}
 use Rattle.pm_crash.specs.CallBlocks.{NewObject, blocks_in, is_at, is_freed_in, is_new_in, object_made}
-use Rattle.pm_crash.specs.CallChanges.{AllocatesNew, ChangesOf, FreesAt, LacksDropped}
+use Rattle.pm_crash.specs.CallChanges.{AllocatesNew, ChangesOf, FreesAt}
 use Rattle.pm_crash.specs.Held.{IsObjectAt}
 use Rattle.pm_crash.specs.HeapChanges.{HeapChange}
 use Rattle.pm_crash.specs.HeapChanges.HeapChange.{AllocatesChunks, AllocatesInRun, FreesChunks, FreesInRun}
@@ -86,7 +86,7 @@ changes_apart (change ∷ freed) made = ap (λ (steps : List Published). Changes
 
 module _ (v : View) (base copy : PoolView) (changes : List HeapChange) (rising : IsStrictlyIncreasing (offsets base.objects)) (changed : IsChanged v base copy)
     (unfound : (off : ℕ) → is_new_in v off ≡ true → object_at base.objects off ≡ None) (on_found : (a : Action) → Contains (published_in v) a → IsSome (object_at base.objects (object_of a).off))
-    (lacks : LacksDropped v copy) (of : ChangesOf v v.lanes changes) where
+    (of : ChangesOf v v.lanes changes) where
   abbrev actions : List Action
   actions = published_in v
 
@@ -144,19 +144,16 @@ module _ (v : View) (base copy : PoolView) (changes : List HeapChange) (rising :
       (with_there v news left n of.once none_for_new found.1.0
       ∙ sym (untouched actions copy.objects n.off (no_action_on n.off none) ∙ changed.new n found.1.0))
 
-  -- at any other offset, by whether the call freed the object there, and else whether one was made there and freed again
-  at_old : (off : ℕ) (freed dropped : Bool) → list_any (is_at off) news ≡ false → is_freed_in v off ≡ freed → is_new_in v off ≡ dropped → object_at left off ≡ object_at copied off
-  at_old off true dropped other gone new = without_there (blocks_in v).freed acted off gone ∙ sym (none_performed actions copy.objects off (changed.gone off gone))
-  at_old off false true other kept new = none_left off (unfound off new) ∙ sym (none_performed actions copy.objects off (lacks off new other))
-  at_old off false false other kept old =
-      without_elsewhere (blocks_in v).freed acted off kept
-      ∙ same_performed actions base.objects copy.objects off (sym (changed.others off old kept))
+  -- at any other offset, by whether the call freed the object there
+  at_old : (off : ℕ) (freed : Bool) → list_any (is_at off) news ≡ false → is_freed_in v off ≡ freed → object_at left off ≡ object_at copied off
+  at_old off true other gone = without_there (blocks_in v).freed acted off gone ∙ sym (none_performed actions copy.objects off (changed.gone off gone))
+  at_old off false other kept = without_elsewhere (blocks_in v).freed acted off kept ∙ same_performed actions base.objects copy.objects off (sym (changed.others off other kept))
 
   same_at : (off : ℕ) → object_at all off ≡ object_at copied off
   same_at off = go (list_any (is_at off) news) refl where
     go : (t : Bool) → list_any (is_at off) news ≡ t → object_at all off ≡ object_at copied off
     go true made = at_new off made
-    go false other = with_elsewhere v news left off other ∙ at_old off (is_freed_in v off) (is_new_in v off) other refl refl
+    go false other = with_elsewhere v news left off other ∙ at_old off (is_freed_in v off) other refl
 
   same_all : all ≡ copied
   same_all = same_objects all copied
@@ -170,10 +167,10 @@ module _ (v : View) (base copy : PoolView) (changes : List HeapChange) (rising :
       ∙ sym (ap (holding copied) changed.fixed)
 
 -- so it is with what a committed call came to: an action that may be performed is on an object of a block that its words have
-pub committed_is_published : (v : View) (w : ℕ → ℕ) (header : Header) (pool : PoolView) (to : CommitsTo v w header pool) (changes : List HeapChange) → LacksDropped v to.copy → ChangesOf v v.lanes changes
+pub committed_is_published : (v : View) (w : ℕ → ℕ) (header : Header) (pool : PoolView) (to : CommitsTo v w header pool) (changes : List HeapChange) → ChangesOf v v.lanes changes
     → all_pool_published v.lanes (map Performs (published_in v) ++ map Changes changes) to.base ≡ with_actions (published_in v) to.copy
-committed_is_published v w header pool to changes lacks of =
-    publishes_copy v to.base to.copy changes (objects_rise (call_words v w) v.lanes v.zones header to.base to.holds) to.changed to.unfound on_found lacks of where
+committed_is_published v w header pool to changes of =
+    publishes_copy v to.base to.copy changes (objects_rise (call_words v w) v.lanes v.zones header to.base to.holds) to.changed to.unfound on_found of where
       on_found : (a : Action) → Contains (published_in v) a → IsSome (object_at to.base.objects (object_of a).off)
       on_found a there =
           let can : CanPerform (call_words v w) v.lanes v.zones a = All-contains (CanPerform (call_words v w) v.lanes v.zones) (published_in v) a to.performable there in

@@ -1,6 +1,6 @@
 -- What a call allocated and freed so far, by the operations that it told: the lists that the plain model's transaction keeps (pmemobj_tx_alloc(3),
 -- pmemobj_tx_free(3)).
-use Rattle.std.specs.Prelude.{◌≡◌, ℕ, ◌-◌, ◌%◌, ◌==◌, ◌||◌, ◌≤◌, not, Bool, All, List, [], ◌∷◌, ◌++◌, filter, flat_map, length, map, slice_index, Contains, Option, Some, false, if◌then◌else◌}
+use Rattle.std.specs.Prelude.{◌≡◌, ℕ, ◌-◌, ◌%◌, ◌==◌, ◌||◌, ◌≤◌, not, Bool, All, List, [], ◌∷◌, ◌++◌, filter, flat_map, length, slice_index, Contains, Option, Some, false, if◌then◌else◌}
 use Rattle.std.specs.List.{list_any}
 use Rattle.pm_layout.specs.Sizes.{class_of}
 use Rattle.pm_objects.specs.Pool.{block_lines}

@@ -1,12 +1,10 @@
 -- The changes of a pool's heap that a call publishes with its commit: each object that it found and freed loses its block, and each that it made gets one.
-use Rattle.std.specs.Prelude.{◌≡◌, ℕ, true, false, List, ◌++◌, None, map, nat_eq, slice_index}
-use Rattle.std.specs.List.{list_any, AllZip, IsDistinct}
-use Rattle.pm_objects.specs.Pool.{object_at}
-use Rattle.pm_objects.specs.declared.pool.PoolView.{PoolView}
+use Rattle.std.specs.Prelude.{◌≡◌, ℕ, List, ◌++◌, map, nat_eq, slice_index}
+use Rattle.std.specs.List.{AllZip, IsDistinct}
 use Rattle.pm_image.specs.declared.block.Block.{Block}
 use Rattle.pm_image.specs.Contents.{bytes_in, offset_in}
 use Rattle.pm_view.specs.View.{View}
-use Rattle.pm_crash.specs.CallBlocks.{NewObject, block_of, blocks_in, is_at, is_new_in}
+use Rattle.pm_crash.specs.CallBlocks.{NewObject, block_of, blocks_in}
 use Rattle.pm_crash.specs.HeapChanges.{HeapChange}
 use Rattle.pm_crash.specs.HeapChanges.HeapChange.{AllocatesChunks, AllocatesInRun, FreesChunks, FreesInRun}
 use Rattle.pm_crash.specs.NewObjects.{block_of_chunks, block_of_run}
@@ -39,7 +37,3 @@ pub record ChangesOf (v : View) (lanes : ℕ) (changes : List HeapChange) : Type
   pub allocates : AllZip (AllocatesNew v lanes) made (blocks_in v).made
   -- a pool has one object at an offset
   pub once : IsDistinct nat_eq (map (λ (n : NewObject). n.off) (blocks_in v).made)
-
--- the pool has nothing where the call made an object and freed it again
-abbrev pub LacksDropped : View → PoolView → Type 0
-LacksDropped v pool = (off : ℕ) → is_new_in v off ≡ true → list_any (is_at off) (blocks_in v).made ≡ false → object_at pool.objects off ≡ None

@@ -11,7 +11,7 @@ use Rattle.pm_model.specs.Actions.{Action, max_actions, max_entries, object_of, 
 use Rattle.pm_model.specs.Actions.Action.{SetWord}
 use Rattle.pm_view.specs.View.{View}
 use Rattle.pm_world.specs.Records.{pool_entries}
-use Rattle.pm_crash.specs.CallBlocks.{blocks_in}
+use Rattle.pm_crash.specs.CallBlocks.{IsOldIn, blocks_in}
 use Rattle.pm_crash.specs.Operations.{HasRange, IsHeld, IsNotHeld, KeepsLog, KeepsWords, PassesEnd, TakesBack, TakesWanted, Tells}
 use Rattle.pm_crash.specs.Pending.{pending_before, pending_in, published_in}
 use Rattle.pm_crash.specs.Performing.{IsWord, entry_for}
@@ -61,6 +61,10 @@ pub record PublishesIn (v next : View) : Type 0 where
   pub words : KeepsWords v next
   pub each : All (CanSet v) (pending_in v)
   pub room : entries_in v ≤ max_entries
+
+-- each object that such actions are on the call found, and did not free
+abbrev pub AreOld : View → List Action → Type 0
+AreOld v actions = All (λ (a : Action). IsOldIn v (object_of a).off) actions
 
 -- why such a publish is refused: the first of these that holds of all that is pending
 abbrev pub IsPublishReasonIn : View → Refusal → Type 0

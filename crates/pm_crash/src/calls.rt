@@ -19,7 +19,7 @@ ghost use Rattle.pm_model.specs.Step.{RunsFrom};
 ghost use Rattle.pm_view.specs.View.{View};
 ghost use Rattle.pm_world.specs.History.{made_final};
 ghost use Rattle.pm_world.specs.Records.{difference_of};
-ghost use Rattle.pm_crash.specs.CallChanges.{ChangesOf, LacksDropped};
+ghost use Rattle.pm_crash.specs.CallChanges.{ChangesOf};
 ghost use Rattle.pm_crash.specs.HeapChanges.{HeapChange};
 ghost use Rattle.pm_crash.specs.Held.{HoldsPool};
 ghost use Rattle.pm_crash.specs.Locks.{AreSameLocks};
@@ -149,9 +149,9 @@ pub fn wants_may_change_places()
 {}
 
 /// A law: what a committed call publishes at once, its actions and then the changes of the heap that are its own, makes of the pool that its
-/// words hold its transaction's copy with those actions performed, where that copy has nothing at what it made and freed again. No code runs.
+/// words hold its transaction's copy with those actions performed. No code runs.
 pub fn a_committed_pool_is_published()
     ensures { (v : View) (w : ℕ → ℕ) (header : Header) (pool : PoolView) (changes : List HeapChange) (to : CommitsTo v w header pool)
-        → LacksDropped v to.copy → ChangesOf v v.lanes changes
+        → ChangesOf v v.lanes changes
         → all_pool_published v.lanes (map Performs (published_in v) ++ map Changes changes) to.base ≡ with_actions (published_in v) to.copy }
 {}

@@ -18,6 +18,7 @@ mod heap;
 mod histories;
 mod laws;
 mod taken;
+mod under_way;
 
 pub use actions::{
     a_call_on_actions_is_a_step, a_call_on_actions_keeps_the_call, a_publish_is_a_step,
@@ -61,6 +62,10 @@ pub use laws::{
     the_root_is_its_word,
 };
 pub use taken::what_is_taken_follows_the_blocks;
+pub use under_way::{
+    a_call_under_way_ends, a_call_under_way_goes_on, a_call_under_way_is_aborted,
+    a_call_under_way_makes_objects,
+};
 
 #[cfg(test)]
 mod tests;

@@ -65,4 +65,8 @@ fn laws(_rt: HostRuntime) {
     a_call_on_actions_is_a_step();
     a_publish_is_a_step();
     a_refused_publish_is_a_step();
+    a_call_under_way_goes_on();
+    a_call_under_way_makes_objects();
+    a_call_under_way_is_aborted();
+    a_call_under_way_ends();
 }

@@ -1,0 +1,9 @@
+use Rattle.pm_crash.proofs.Committed.{commit_is_told}
+use Rattle.pm_crash.proofs.GivenUp.{aborted_changes_nothing}
+use Rattle.pm_crash.proofs.under_way.a_call_under_way_ends.Goals as goal
+
+pub returns-clause-committed : goal.returns-clause-committed
+returns-clause-committed c = commit_is_told
+
+pub returns-clause-aborted : goal.returns-clause-aborted
+returns-clause-aborted c = aborted_changes_nothing

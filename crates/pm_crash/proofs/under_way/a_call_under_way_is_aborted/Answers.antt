@@ -1,0 +1,23 @@
+use Rattle.pm_crash.proofs.ActionsOn.{refused_publish_aborts}
+use Rattle.pm_crash.proofs.GivenUp.{abort_aborts, refusal_aborts}
+use Rattle.pm_crash.proofs.RefusedBegin.{level_aborted}
+use Rattle.pm_crash.proofs.Staying.{aborted_learns, aborted_stays}
+use Rattle.pm_crash.proofs.under_way.a_call_under_way_is_aborted.Goals as goal
+
+pub returns-clause-by_range : goal.returns-clause-by_range
+returns-clause-by_range c = refusal_aborts
+
+pub returns-clause-by_begin : goal.returns-clause-by_begin
+returns-clause-by_begin c = level_aborted
+
+pub returns-clause-by_publish : goal.returns-clause-by_publish
+returns-clause-by_publish c = refused_publish_aborts
+
+pub returns-clause-asked : goal.returns-clause-asked
+returns-clause-asked c = abort_aborts
+
+pub returns-clause-taken_back : goal.returns-clause-taken_back
+returns-clause-taken_back c = aborted_stays
+
+pub returns-clause-quietly : goal.returns-clause-quietly
+returns-clause-quietly c = aborted_learns
