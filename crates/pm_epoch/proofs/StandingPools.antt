@@ -40,6 +40,7 @@ use Rattle.pm_crash.specs.Pending.{acts_alone, acts_of, state_after, state_alone
 use Rattle.pm_crash.proofs.AloneCourse.{StandsAlone, begins_clean, begins_holds}
 use Rattle.pm_crash.proofs.AloneImages.{none_torn}
 use Rattle.pm_crash.proofs.AloneMemory.{memory_of}
+use Rattle.pm_crash.proofs.CallBlocks.{room_for_none}
 use Rattle.pm_crash.proofs.CleanWords.{clean_words_hold}
 use Rattle.pm_crash.proofs.Continued.{two_same}
 use Rattle.pm_crash.proofs.DrawnWords.{drawn_before, heads_stay}
@@ -218,17 +219,17 @@ module _ (o : Opening) (header : Header) (pool : PoolView) (w : View) (s : Stand
     of_pool = ap (λ (u : View). u.pool) (sym s.here) ∙ s.goes.of_pool
 
     comes : ComesTo w (words_behind o header pool w s) header (reached o header pool w s).last level at_stage error
-    comes = open_call.comes (words_behind o header pool w s) header (reached o header pool w s).last before_holds of_pool is_before
+    comes = open_call.under_way.comes (words_behind o header pool w s) header (reached o header pool w s).last before_holds of_pool is_before (room_for_none w (reached o header pool w s).last open_call.keeps.allocated)
 
-    call_holds : HoldsPool (call_words w (words_behind o header pool w s)) o.lanes o.zones header comes.tx.pool
-    call_holds = two_same (λ (a b : ℕ). HoldsPool (call_words w (words_behind o header pool w s)) a b header comes.tx.pool) w.lanes o.lanes w.zones o.zones same_lanes same_zones comes.holds
+    call_holds : HoldsPool (call_words w (words_behind o header pool w s)) o.lanes o.zones header comes.base
+    call_holds = two_same (λ (a b : ℕ). HoldsPool (call_words w (words_behind o header pool w s)) a b header comes.base) w.lanes o.lanes w.zones o.zones same_lanes same_zones comes.holds
 
     pub holds_open_call : HoldsOpenCall o w header pool level at_stage error
     holds_open_call = record {
       held = calls_here o header pool w s writes_none loses_none v begins;
       words = words_behind o header pool w s;
       comes = comes;
-      holds = held_alike (call_words w (words_behind o header pool w s)) (slice_index w.words) o.lanes o.zones header comes.tx.pool call_holds
+      holds = held_alike (call_words w (words_behind o header pool w s)) (slice_index w.words) o.lanes o.zones header comes.base call_holds
           (new_runs_alike (call_words w (words_behind o header pool w s)) (slice_index w.words) o.lanes o.zones
           (may_have_runs o (call_words w (words_behind o header pool w s)) call_heads s.goes.world.sound call_holds.no_fault (slice_index w.words) living_same s.goes.world.new_runs) call_holds.no_fault);
     }

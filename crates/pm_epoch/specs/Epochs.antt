@@ -96,12 +96,13 @@ pub record HoldsCalls (o : Opening) (w : View) (header : Header) (pool : PoolVie
   pub holds : HoldsImage w.words o.lanes o.zones header before
   pub replays : Replays (opened pool) (acts_alone w.entries) (state_alone before w.entries)
 
--- So they do, and as they stand they hold the pool of the open call: that of the transaction to which it came from these words behind the calls before it
+-- So they do. The open call came to a transaction from these words behind the calls before it; and as they stand the words hold the pool of the words that
+-- the call stored, of which the transaction's copy is that with what the call made and without what it freed.
 pub record HoldsOpenCall (o : Opening) (w : View) (header : Header) (pool : PoolView) (level : ℕ) (at_stage : Stage) (error : TxErr) : Type 0 where
   pub held : HoldsCalls o w header pool
   pub words : ℕ → ℕ
   pub comes : ComesTo w words header held.before level at_stage error
-  pub holds : HoldsPool (slice_index w.words) o.lanes o.zones header comes.tx.pool
+  pub holds : HoldsPool (slice_index w.words) o.lanes o.zones header comes.base
 
 -- ---- between its calls
 
