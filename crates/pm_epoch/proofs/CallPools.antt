@@ -1,5 +1,5 @@
--- A lane that works alone, with nothing undrained before its call draws: as its words stand they hold the pool that the call stored, for what the call allocates
--- in blocks that the lane reserved has room in the pool before it.
+-- A lane that works alone, with nothing undrained before its call draws: the pool before the call has room for what the call allocated, where that lies in
+-- blocks that the lane reserved; and as its words stand they hold the pool that the call stored.
 use Rattle.std.proofs.Common.{◌≡◌, ◌≢◌, ⊎_elim, ℕ, ◌<◌, ◌≤◌, true, false, not, ◌&&◌, Contains, List, [], length, slice_index, Some, None, refl, sym, ap, ◌∙◌, subst, arith, get_or}
 use Rattle.std.specs.List.{All, range_with_len}
 use Rattle.std.proofs.lemmas.Bool.{cases_Bool, cases_eq, cond-true, false_from_ne_true, false≢true, cond-false, or_from}
@@ -36,7 +36,7 @@ use Rattle.pm_world.proofs.Slots.{word_recorded}
 use Rattle.pm_crash.specs.Alone.{Begins}
 use Rattle.pm_crash.specs.Held.{HoldsImage, HoldsPool}
 use Rattle.pm_crash.specs.OneLane.{HoldsReplay, Moment}
-use Rattle.pm_crash.specs.OpenCall.{ComesTo, IsUnderWay, call_words, IsBefore}
+use Rattle.pm_crash.specs.OpenCall.{ComesTo, CommitsTo, IsCommitted, IsUnderWay, call_words, IsBefore}
 use Rattle.pm_crash.specs.Pending.{acts_alone, acts_of, state_after, state_alone}
 use Rattle.pm_crash.proofs.AloneCourse.{StandsAlone, begins_clean, begins_holds}
 use Rattle.pm_crash.proofs.AloneImages.{none_torn}
@@ -55,7 +55,7 @@ use Rattle.pm_crash.proofs.LongerReplays.{words_after, every}
 use Rattle.pm_crash.proofs.NewRuns.{may_have_runs, image_holds}
 use Rattle.pm_crash.proofs.OneCourse.{reached_all}
 use Rattle.pm_crash.specs.CallBlocks.{HasRoomFor, allocated_in}
-use Rattle.pm_epoch.specs.Epochs.{HoldsCalls, HoldsOpenCall, IsReservedFor}
+use Rattle.pm_epoch.specs.Epochs.{HoldsCalls, HoldsCommitted, HoldsOpenCall, IsReservedFor}
 use Rattle.pm_epoch.proofs.RoomForReserved.{room_behind}
 use Rattle.pm_epoch.proofs.StandingPools.{holds_calls, image_pool, now, own_fits, reached, words_behind}
 
@@ -170,3 +170,8 @@ module _ (o : Opening) (header : Header) (pool : PoolView) (w : View) (s : Stand
           let comes : ComesTo w (words_behind o header pool w s) header (reached o header pool w s).last level at_stage error =
           under_way.comes (words_behind o header pool w s) header (reached o header pool w s).last before_holds of_pool is_before room in
           record { held = calls_here; words = words_behind o header pool w s; comes = comes; holds = stored_holds comes.base comes.holds }
+
+      pub holds_committed : IsCommitted w → HoldsCommitted o w header pool
+      holds_committed committed =
+          let to : CommitsTo w (words_behind o header pool w s) header (reached o header pool w s).last = committed.comes (words_behind o header pool w s) header (reached o header pool w s).last before_holds of_pool is_before room in
+          record { held = calls_here; words = words_behind o header pool w s; to = to; holds = stored_holds to.base to.holds }

@@ -26,3 +26,4 @@ pub mod PublishedCalls
 pub mod BlockPlaces
 pub mod RoomForReserved
 pub mod CallPools
+pub mod ReplayedCalls

@@ -42,7 +42,7 @@ use Rattle.pm_model.specs.Names.{Replays}
 use Rattle.pm_model.specs.History.{opened}
 use Rattle.pm_model.specs.declared.stage.Stage.{Stage}
 use Rattle.pm_objects.specs.declared.history.TxErr.{TxErr}
-use Rattle.pm_crash.specs.OpenCall.{ComesTo}
+use Rattle.pm_crash.specs.OpenCall.{ComesTo, CommitsTo}
 use Rattle.pm_crash.specs.Pending.{acts_alone, state_alone}
 use Rattle.pm_view.specs.Log.{Final, no_log}
 use Rattle.pm_view.specs.Log.Phase.{Idle}
@@ -133,6 +133,14 @@ pub record HoldsOpenCall (o : Opening) (w : View) (header : Header) (pool : Pool
   pub words : ℕ → ℕ
   pub comes : ComesTo w words header held.before level at_stage error
   pub holds : HoldsPool (slice_index w.words) o.lanes o.zones header comes.base
+
+-- So they do, and the committed call turns their pool into its transaction's copy with what it published performed. As they stand the words hold the pool of
+-- the words that the call stored, of which the copy is that with what the call made and without what it freed.
+pub record HoldsCommitted (o : Opening) (u : View) (header : Header) (pool : PoolView) : Type 0 where
+  pub held : HoldsCalls o u header pool
+  pub words : ℕ → ℕ
+  pub to : CommitsTo u words header held.before
+  pub holds : HoldsPool (slice_index u.words) o.lanes o.zones header to.base
 
 -- ---- between its calls
 

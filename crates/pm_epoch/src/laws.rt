@@ -1,4 +1,4 @@
-ghost use Rattle.std.specs.Prelude.{◌≡◌, ◌≢◌, ◌↔◌, ℕ, ◌+◌, ◌*◌, ◌<◌, ◌≤◌, Bool, IsTrue, true, false, All, Contains, List, [], ◌++◌, map, slice_index, None, Some};
+ghost use Rattle.std.specs.Prelude.{◌≡◌, ◌≢◌, ◌↔◌, ℕ, ◌+◌, ◌*◌, ◌<◌, ◌≤◌, Bool, IsTrue, true, false, All, Contains, List, [], ◌∷◌, ◌++◌, map, slice_index, None, Some};
 ghost use Rattle.std.specs.Int.{bit_at};
 ghost use Rattle.pm_header.specs.declared.header.Header.{Header};
 ghost use Rattle.pm_objects.specs.Pool.{block_lines};
@@ -13,6 +13,8 @@ ghost use Rattle.pm_image.specs.HeapFaults.{heap_fault};
 ghost use Rattle.pm_image.specs.Logs.{recovered_at};
 ghost use Rattle.pm_image.specs.Means.{IsMeaning};
 ghost use Rattle.pm_model.specs.Actions.{Action};
+ghost use Rattle.pm_model.specs.History.{opened};
+ghost use Rattle.pm_model.specs.Names.{Replays};
 ghost use Rattle.pm_model.specs.declared.stage.Stage.{Stage};
 ghost use Rattle.pm_view.specs.declared.occ.Occ.{Occ};
 ghost use Rattle.pm_view.specs.declared.occ.Occ.TheVariants.{Zone};
@@ -38,14 +40,15 @@ ghost use Rattle.pm_crash.specs.Publishing.Published.{Changes, Performs};
 ghost use Rattle.pm_crash.specs.Publishing.{AreInOrder, Published, all_blocks_published, all_pool_published};
 ghost use Rattle.pm_crash.specs.Alone.{BeginsAgain, WorksAlone, standing};
 ghost use Rattle.pm_crash.specs.CallBlocks.{HasRoomFor, NewObject, allocated_in, block_of};
-ghost use Rattle.pm_crash.specs.OpenCall.{IsUnderWay};
+ghost use Rattle.pm_crash.specs.OpenCall.{IsCommitted, IsUnderWay, Turns};
+ghost use Rattle.pm_crash.specs.Pending.{acts_alone, state_alone};
 ghost use Rattle.pm_crash.specs.Taken.{TakenBehindAll};
 ghost use Rattle.pm_fresh.specs.Filled.{IsFilled};
 ghost use Rattle.pm_fresh.specs.Making.{page_in};
 ghost use Rattle.pm_blocks.specs.NewRuns.{IsUnused};
 ghost use Rattle.pm_alloc.specs.NewObjects.{CanMakeObject};
 ghost use Rattle.pm_sealed.specs.Sealed.{LeavesSealed, Publishes, has_nothing};
-ghost use Rattle.pm_epoch.specs.Epochs.{AllocatesOwn, AreOfOwnBits, HandsOver, HasEnded, HasEntriesFor, HasSameHeap, HoldsCalls, HoldsOpenCall, IsAtWorkAlone, IsGiving, IsReservedFor, IsUnusedChunk, KnowsTaken, LoadsNoneOf, MayPublish, PromisesTaken, PublishesAlone, RestsBehindCall};
+ghost use Rattle.pm_epoch.specs.Epochs.{AllocatesOwn, AreOfOwnBits, HandsOver, HasEnded, HasEntriesFor, HasSameHeap, HoldsCalls, HoldsCommitted, HoldsOpenCall, IsAtWorkAlone, IsGiving, IsReservedFor, IsUnusedChunk, KnowsTaken, LoadsNoneOf, MayPublish, PromisesTaken, PublishesAlone, RestsBehindCall};
 
 /// A law: in a world where a lane has each word as it is, what it reserved may be allocated: a block of a run, by the class that the run's
 /// descriptor says, and chunks that are described by 0; and a block that it found under a lock may be freed, unless it is the root's, where
@@ -163,6 +166,22 @@ pub fn a_pool_has_room_for_what_is_reserved()
     ensures { (o : Opening) (header : Header) (pool : PoolView) (start v : View) (steps : List Step)
         → WorksAlone o header pool start steps v → v.log.phase ≡ Open [] [] → v.changes ≡ [] → (held : HoldsCalls o v header pool) → All (IsReservedFor v) (allocated_in v)
         → HasRoomFor held.before (allocated_in v) }
+{}
+
+/// A law: where a lane works alone, as above, and its call is committed, the call turns the pool before it into its transaction's copy with what it
+/// published performed, where what it allocated lies in blocks that the lane reserved; and as they stand the words hold the pool that the call stored, of
+/// which the copy is that with what it made and freed. No code runs.
+pub fn a_committed_call_turns_its_pool()
+    ensures { (o : Opening) (header : Header) (pool : PoolView) (start u : View) (steps : List Step)
+        → WorksAlone o header pool start steps u → u.log.phase ≡ Open [] [] → u.changes ≡ [] → IsCommitted u → All (IsReservedFor u) (allocated_in u) → HoldsCommitted o u header pool }
+{}
+
+/// A law: where a lane works alone, and its call turns the pool to which its calls lead into another, they lead to that one with the call, whatever number
+/// it draws. No code runs.
+pub fn a_published_call_is_replayed()
+    ensures { (o : Opening) (header : Header) (pool : PoolView) (start u : View) (steps : List Step) (n : ℕ) (last : PoolView)
+        → WorksAlone o header pool start steps u → (held : HoldsCalls o u header pool) → Turns u held.before last
+        → Replays (opened pool) (acts_alone (u.entries ++ record { number = n; call = u.call } ∷ [])) (state_alone last (u.entries ++ record { number = n; call = u.call } ∷ [])) }
 {}
 
 /// A law: a lane that works alone and rests behind a call, with nothing locked and no chunk reserved that is a run, may begin again over its words as they

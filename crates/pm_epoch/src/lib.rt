@@ -15,7 +15,7 @@ pub use laws::{
     a_lane_at_work_knows_what_is_taken, a_lane_holds_what_it_knows_behind_its_log,
     a_lane_knows_what_is_taken_behind_its_log, a_lane_whose_call_has_ended_begins_again,
     a_published_call_has_ended, a_published_pool_stands, a_world_leads_to_what_is_published,
-    a_pool_has_room_for_what_is_reserved, a_reserved_block_overlaps_none, changes_of_own_bits_are_in_order, giving_back_keeps_what_is_taken,
+    a_committed_call_turns_its_pool, a_published_call_is_replayed, a_pool_has_room_for_what_is_reserved, a_reserved_block_overlaps_none, changes_of_own_bits_are_in_order, giving_back_keeps_what_is_taken,
     publishing_keeps_what_a_lane_has,
 };
 
