@@ -1,5 +1,5 @@
 -- Where an allocated block lies by what describes chunks: among a run's, with its bit set, or as whole chunks. What is free lies apart from it.
-use Rattle.std.proofs.Common.{◌≡◌, ◌≢◌, ⊎_elim, inl, inr, ℕ, ◌+◌, ◌-◌, ◌*◌, ◌/◌, ◌%◌, ◌<◌, ◌≤◌, Contains, None, true, false, sym, ap, ◌∙◌, subst, arith, eq-eqb, ltb}
+use Rattle.std.proofs.Common.{◌≡◌, ⊎_elim, inl, inr, ℕ, ◌+◌, ◌-◌, ◌*◌, ◌/◌, ◌%◌, ◌<◌, ◌≤◌, Contains, None, true, sym, ap, ◌∙◌, subst, arith, eq-eqb, ltb}
 use Rattle.std.specs.Int.{bit_at}
 use Rattle.std.specs.List.{list_any, range_with_len}
 use Rattle.std.proofs.lemmas.Bool.{and_from, false≢true, lt-ltb, or_left, or_right}

@@ -1,59 +1,39 @@
 -- A lane that works alone, with nothing undrained before its call draws: the pool before the call has room for what the call allocated, where that lies in
 -- blocks that the lane reserved; and as its words stand they hold the pool that the call stored.
-use Rattle.std.proofs.Common.{◌≡◌, ◌≢◌, ⊎_elim, ℕ, ◌<◌, ◌≤◌, true, false, not, ◌&&◌, Contains, List, [], length, slice_index, Some, None, refl, sym, ap, ◌∙◌, subst, arith, get_or}
-use Rattle.std.specs.List.{All, range_with_len}
+use Rattle.std.proofs.Common.{◌≡◌, ◌≢◌, ⊎_elim, ℕ, ◌<◌, ◌≤◌, true, false, not, ◌&&◌, Contains, [], length, slice_index, Some, None, sym, ap, ◌∙◌, subst, arith}
+use Rattle.std.specs.List.{All}
 use Rattle.std.proofs.lemmas.Bool.{cases_Bool, cases_eq, cond-true, false_from_ne_true, false≢true, cond-false, or_from}
-use Rattle.std.proofs.lemmas.List.Elements.{All-nil}
-use Rattle.std.proofs.lemmas.List.Folds.{list_any_none}
 use Rattle.std.proofs.lemmas.Option.{none-some}
 use Rattle.pm_header.specs.declared.header.Header.{Header}
-use Rattle.pm_image.specs.Logs.{recovered_at}
-use Rattle.pm_model.specs.Names.{Replays}
-use Rattle.pm_model.specs.History.{opened}
-use Rattle.pm_model.specs.Step.{Act, State}
 use Rattle.pm_objects.specs.declared.history.TxErr.{TxErr}
 use Rattle.pm_objects.specs.declared.pool.PoolView.{PoolView}
-use Rattle.pm_view.specs.Area.{area_word}
 use Rattle.pm_view.specs.Log.Phase.{Open}
-use Rattle.pm_view.specs.View.{Numbered, View}
+use Rattle.pm_view.specs.View.{View}
 use Rattle.pm_world.specs.Course.{is_number, flight, flight_in}
-use Rattle.pm_world.specs.Crash.{IsBeingWritten, NoneTorn, Survives, is_kept, loses, is_deciding_in, MeansKept}
+use Rattle.pm_world.specs.Crash.{IsBeingWritten, loses, is_deciding_in}
 use Rattle.pm_world.specs.Fits.{LaneFits, PhaseFits}
-use Rattle.pm_world.specs.History.{Entry, Flies, entries_by, settled}
-use Rattle.pm_world.specs.Memory.Location.{PoolWord}
+use Rattle.pm_world.specs.History.{Entry, Flies, settled}
 use Rattle.pm_world.specs.Opening.{IsLivingWord, Opening, TellsOfBlocks}
 use Rattle.pm_world.specs.Records.{is_drained_slot, is_recorded, used_slots, records_generation, is_logged}
-use Rattle.pm_crash.proofs.TornSlots.{none_torn_by_lane}
 use Rattle.pm_model.specs.declared.stage.Stage.{Stage}
 use Rattle.pm_world.specs.Entries.{is_in_log, is_redoing, is_redone}
 use Rattle.pm_world.proofs.CrashLogs.{unrecorded_unlogged}
 use Rattle.pm_world.proofs.Pairs.{none_redone}
 use Rattle.pm_world.proofs.Replays.{replayed-same}
-use Rattle.pm_world.proofs.CrashRuns.{crash_law}
 use Rattle.pm_world.proofs.CrashLaw.{all_drained}
 use Rattle.pm_world.proofs.Exclusion.{writes_under}
 use Rattle.pm_world.proofs.Slots.{word_recorded}
 use Rattle.pm_crash.specs.Alone.{Begins}
-use Rattle.pm_crash.specs.Held.{HoldsImage, HoldsPool}
-use Rattle.pm_crash.specs.OneLane.{HoldsReplay, Moment}
+use Rattle.pm_crash.specs.Held.{HoldsPool}
 use Rattle.pm_crash.specs.OpenCall.{ComesTo, CommitsTo, IsCommitted, IsUnderWay, call_words, IsBefore}
-use Rattle.pm_crash.specs.Pending.{acts_alone, acts_of, state_after, state_alone}
-use Rattle.pm_crash.proofs.AloneCourse.{StandsAlone, begins_clean, begins_holds}
-use Rattle.pm_crash.proofs.AloneImages.{none_torn}
+use Rattle.pm_crash.proofs.AloneCourse.{StandsAlone}
 use Rattle.pm_crash.proofs.AloneMemory.{memory_of}
-use Rattle.pm_crash.proofs.CallBlocks.{room_for_none}
-use Rattle.pm_crash.proofs.CleanWords.{clean_words_hold}
 use Rattle.pm_crash.proofs.Continued.{two_same}
 use Rattle.pm_crash.proofs.DrawnWords.{drawn_before, heads_stay}
 use Rattle.pm_crash.proofs.EmptyRuns.{new_runs_alike}
-use Rattle.pm_crash.proofs.FrontWords.{header_survives}
 use Rattle.pm_crash.proofs.HeldAlike.{held_alike}
-use Rattle.pm_crash.proofs.HistoryActs.{acts_of_all, state_of_one}
-use Rattle.pm_crash.proofs.ImageLogs.{no_log_fault}
-use Rattle.pm_crash.proofs.LogCourse.{InRange}
-use Rattle.pm_crash.proofs.LongerReplays.{words_after, every}
-use Rattle.pm_crash.proofs.NewRuns.{may_have_runs, image_holds}
-use Rattle.pm_crash.proofs.OneCourse.{reached_all}
+use Rattle.pm_crash.proofs.LongerReplays.{every}
+use Rattle.pm_crash.proofs.NewRuns.{may_have_runs}
 use Rattle.pm_crash.specs.CallBlocks.{HasRoomFor, allocated_in}
 use Rattle.pm_epoch.specs.Epochs.{HoldsCalls, HoldsCommitted, HoldsOpenCall, IsReservedFor}
 use Rattle.pm_epoch.proofs.RoomForReserved.{room_behind}

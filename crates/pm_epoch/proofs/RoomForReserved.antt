@@ -1,11 +1,10 @@
 -- What a lane that works alone reserved overlaps no block of its words, and none of the pool behind its calls.
-use Rattle.std.proofs.Common.{◌≡◌, ⊎_elim, inl, inr, ℕ, ◌+◌, ◌-◌, ◌*◌, ◌/◌, ◌%◌, ◌<◌, ◌≤◌, true, false, not, All, Contains, List, length, slice_index, None, refl, sym, ap, ◌∙◌, subst, arith}
+use Rattle.std.proofs.Common.{◌≡◌, inl, inr, ℕ, ◌+◌, ◌*◌, ◌/◌, ◌%◌, ◌<◌, ◌≤◌, true, false, not, All, Contains, List, length, slice_index, None, refl, sym, ap, ◌∙◌, subst, arith}
 use Rattle.std.proofs.lemmas.List.Elements.{All-contains_itself, All-map, All-weaker}
 use Rattle.pm_header.specs.declared.header.Header.{Header}
 use Rattle.pm_layout.specs.Sizes.{class_of, descriptor_of, lines_for}
 use Rattle.pm_layout.specs.declared.class.Class.TheVariants.{Lines}
 use Rattle.pm_objects.specs.Pool.{block_end, block_lines}
-use Rattle.pm_objects.specs.declared.pool.Object.{Object}
 use Rattle.pm_objects.specs.declared.pool.PoolView.{PoolView}
 use Rattle.pm_image.specs.declared.block.Block.{Block}
 use Rattle.pm_image.specs.Blocks.{blocks, chunk_word, descriptor_word}

@@ -160,17 +160,17 @@ pub fn a_reserved_block_overlaps_none()
         → AreDisjoint (block_of n) b }
 {}
 
-/// A law: where a lane works alone, as above, and what its call allocated lies in blocks that it reserved, the pool before the call has room for that.
-/// No code runs.
+/// A law: where a lane works alone, with nothing undrained and no record or entry in the making, and what its call allocated so far lies in blocks that it
+/// reserved, the pool before the call has room for that. No code runs.
 pub fn a_pool_has_room_for_what_is_reserved()
     ensures { (o : Opening) (header : Header) (pool : PoolView) (start v : View) (steps : List Step)
         → WorksAlone o header pool start steps v → v.log.phase ≡ Open [] [] → v.changes ≡ [] → (held : HoldsCalls o v header pool) → All (IsReservedFor v) (allocated_in v)
         → HasRoomFor held.before (allocated_in v) }
 {}
 
-/// A law: where a lane works alone, as above, and its call is committed, the call turns the pool before it into its transaction's copy with what it
-/// published performed, where what it allocated lies in blocks that the lane reserved; and as they stand the words hold the pool that the call stored, of
-/// which the copy is that with what it made and freed. No code runs.
+/// A law: where a lane works alone, with nothing undrained and no record or entry in the making, its call is committed and what that allocated lies in
+/// blocks that the lane reserved, the call turns the pool before it into its transaction's copy with what it published performed; and as they stand the
+/// words hold the pool that the call stored, of which the copy is that with what it made and freed. No code runs.
 pub fn a_committed_call_turns_its_pool()
     ensures { (o : Opening) (header : Header) (pool : PoolView) (start u : View) (steps : List Step)
         → WorksAlone o header pool start steps u → u.log.phase ≡ Open [] [] → u.changes ≡ [] → IsCommitted u → All (IsReservedFor u) (allocated_in u) → HoldsCommitted o u header pool }

@@ -1,4 +1,3 @@
-use Rattle.std.proofs.Common.{◌≡◌, sym, ap, ◌∙◌}
 use Rattle.pm_crash.proofs.AloneCourse.{stands_at}
 use Rattle.pm_epoch.proofs.ReplayedCalls.{replays_with_call}
 use Rattle.pm_epoch.proofs.StandingPools.{own_fits}
