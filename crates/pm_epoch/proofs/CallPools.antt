@@ -115,10 +115,10 @@ module _ (o : Opening) (header : Header) (pool : PoolView) (w : View) (s : Stand
       ∙ sym (cond-false (is_recorded w.log.records i) (slice_index w.words i) (words_behind o header pool w s i) unrecorded)))
       (cases_Bool (is_recorded w.log.records i))
 
-  -- what the call stored holds, so the words do
   of_pool : w.pool ≡ header.id
   of_pool = ap (λ (u : View). u.pool) (sym s.here) ∙ s.goes.of_pool
 
+  -- the pool that the call stored the words hold as they stand
   stored_holds : (base : PoolView) → HoldsPool (call_words w (words_behind o header pool w s)) w.lanes w.zones header base → HoldsPool (slice_index w.words) o.lanes o.zones header base
   stored_holds base holds =
       let here : HoldsPool (call_words w (words_behind o header pool w s)) o.lanes o.zones header base =

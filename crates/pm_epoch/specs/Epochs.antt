@@ -78,7 +78,7 @@ pub record IsReservedInRun (v : View) (n : NewObject) : Type 0 where
   pub reserved : reserves v (run_at v.lanes chunk) index ≡ true
   pub is_block : block_of n ≡ block_of_run v.lanes chunk lines index
 
--- it is whole chunks of a zone, which the lane reserved and no block uses
+-- it is whole chunks of a zone, which the lane reserved, and each of which its words describe by 0
 pub record IsReservedInChunks (v : View) (n : NewObject) : Type 0 where
   pub zone : ℕ
   pub first : ℕ
