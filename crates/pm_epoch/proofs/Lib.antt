@@ -23,3 +23,7 @@ pub mod StayingWords
 pub mod HeldBehindLog
 pub mod DrawnCalls
 pub mod PublishedCalls
+pub mod BlockPlaces
+pub mod RoomForReserved
+pub mod CallPools
+pub mod ReplayedCalls

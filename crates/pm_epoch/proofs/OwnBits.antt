@@ -17,27 +17,28 @@ use Rattle.pm_view.specs.Blocks.{is_run, zone_page}
 use Rattle.pm_view.specs.Occupancy.{reaches}
 use Rattle.pm_crash.specs.HeapChanges.{AreDisjoint, CanChange, HeapChange, block_changed}
 use Rattle.pm_crash.specs.HeapChanges.HeapChange.{AllocatesChunks, AllocatesInRun, FreesChunks, FreesInRun}
-use Rattle.pm_crash.specs.NewObjects.{AreFreeChunks, MayFreeChunks, block_of_chunks, block_of_run}
+use Rattle.pm_crash.specs.NewObjects.{AreFreeChunks, block_of_chunks, block_of_run}
 use Rattle.pm_crash.specs.Publishing.{AreInOrder, MayFollow}
 use Rattle.pm_crash.specs.Publishing.Published.{Changes, Performs}
 use Rattle.pm_crash.proofs.Apart.{good_chunk}
-use Rattle.pm_crash.proofs.ChangesApart.{some_of_first, some_of_object}
+use Rattle.pm_crash.proofs.ChangesApart.{some_of_object}
 use Rattle.pm_crash.proofs.Classes.{whole_by_byte}
+use Rattle.pm_crash.proofs.EmptyRuns.{some_chunks}
 use Rattle.pm_epoch.specs.Epochs.{AreOfOwnBits, ChangesBit, HasNoBitOf}
 
-module _ (w : ℕ → ℕ) (lanes zones : ℕ) (none : heap_fault w lanes zones ≡ None) where
+module _ (w : ℕ → ℕ) (lanes zones : ℕ) where
   -- the block is one of a run
-  record InRun (c lines index : ℕ) : Type 0 where
-    inside : index < blocks_of lines
-    described : w (descriptor_word lanes c) ≡ 1 + 256 * lines
+  pub record InRun (c lines index : ℕ) : Type 0 where
+    pub inside : index < blocks_of lines
+    pub described : w (descriptor_word lanes c) ≡ 1 + 256 * lines
 
   -- the block is of whole chunks of a zone, of which none is a run
-  record InChunks (c chunks : ℕ) : Type 0 where
-    some : 1 ≤ chunks
-    fits : c % 64 + chunks ≤ 64
-    no_run : (k : ℕ) → k < chunks → w (descriptor_word lanes (c + k)) % 256 ≢ 1
+  pub record InChunks (c chunks : ℕ) : Type 0 where
+    pub some : 1 ≤ chunks
+    pub fits : c % 64 + chunks ≤ 64
+    pub no_run : (k : ℕ) → k < chunks → w (descriptor_word lanes (c + k)) % 256 ≢ 1
 
-  free_in : (c chunks : ℕ) → 1 ≤ chunks → AreFreeChunks w lanes zones c chunks → InChunks c chunks
+  pub free_in : (c chunks : ℕ) → 1 ≤ chunks → AreFreeChunks w lanes zones c chunks → InChunks c chunks
   free_in c chunks some free = record {
     some = some;
     fits = free.in_zone;
@@ -48,21 +49,8 @@ module _ (w : ℕ → ℕ) (lanes zones : ℕ) (none : heap_fault w lanes zones 
         false≢true (sym (or_parts (is_run (w (512 * zone_page lanes (c / 64) + (c % 64 + k)))) reached (free.are_free k near)).0 ∙ (ap (λ i. is_run (w i)) at ∙ eq-eqb (w (descriptor_word lanes (c + k)) % 256) 1 run));
   }
 
-  freed_in : (c chunks : ℕ) → MayFreeChunks w lanes zones c chunks → InChunks c chunks
-  freed_in c chunks may =
-      let d : ℕ = w (descriptor_word lanes c) in
-      let is : d ≡ 2 + 256 * chunks = may.is_first in
-      let good = good_chunk w lanes zones c none may.in_zones in
-      let high : d / 256 ≡ chunks = omega (arith, is) in
-      let whole : class_in d ≡ Some (Chunks chunks) = whole_by_byte w lanes c good (omega (arith, is)) ∙ ap (λ n. Some (Chunks n)) high in
-      record { some = some_of_first w lanes zones c chunks none may; fits = chunks_fit w lanes c chunks good whole; no_run = apart is good whole } where
-        apart : w (descriptor_word lanes c) ≡ 2 + 256 * chunks → bad_chunk w lanes c ≡ false → class_in (w (descriptor_word lanes c)) ≡ Some (Chunks chunks) → (k : ℕ) → k < chunks → w (descriptor_word lanes (c + k)) % 256 ≢ 1
-        apart is good whole zero near run = let here : w (descriptor_word lanes (c + 0)) ≡ 2 + 256 * chunks = ap (λ n. w (descriptor_word lanes n)) (let same : c + 0 ≡ c = omega arith in same) ∙ is in omega (arith, here, run)
-        apart is good whole (suc k) near run =
-            let here : w (descriptor_word lanes (c + suc k)) ≡ 0 = ap (λ n. w (descriptor_word lanes n)) (let same : c + suc k ≡ c + 1 + k = omega arith in same) ∙ further_zeros w lanes c chunks good whole k (omega (arith, near)) in omega (arith, here, run)
-
   -- two blocks of runs
-  runs_apart : (c lines index d many i : ℕ) → InRun c lines index → InRun d many i → ((c ≡ d) → index ≢ i) → AreDisjoint (block_of_run lanes c lines index) (block_of_run lanes d many i)
+  pub runs_apart : (c lines index d many i : ℕ) → InRun c lines index → InRun d many i → ((c ≡ d) → index ≢ i) → AreDisjoint (block_of_run lanes c lines index) (block_of_run lanes d many i)
   runs_apart c lines index d many i one other differ =
       let fits : 1 + lines * index + lines ≤ 64 = run_fits lines index one.inside in
       let fits_too : 1 + many * i + many ≤ 64 = run_fits many i other.inside in
@@ -87,7 +75,7 @@ module _ (w : ℕ → ℕ) (lanes zones : ℕ) (none : heap_fault w lanes zones 
       (cases_eq c d)
 
   -- one of a run and whole chunks
-  run_chunks : (c lines index d chunks : ℕ) → InRun c lines index → InChunks d chunks → AreDisjoint (block_of_run lanes c lines index) (block_of_chunks lanes d chunks)
+  pub run_chunks : (c lines index d chunks : ℕ) → InRun c lines index → InChunks d chunks → AreDisjoint (block_of_run lanes c lines index) (block_of_chunks lanes d chunks)
   run_chunks c lines index d chunks one other =
       let fits : 1 + lines * index + lines ≤ 64 = run_fits lines index one.inside in
       let room = other.fits in
@@ -102,7 +90,7 @@ module _ (w : ℕ → ℕ) (lanes zones : ℕ) (none : heap_fault w lanes zones 
       (cases_lt c d)
 
   -- whole chunks and others, which have none in common
-  chunks_apart : (c chunks d count : ℕ) → InChunks c chunks → InChunks d count → ((bit : ℕ) → c / 64 ≡ d / 64 → c % 64 ≤ bit → bit < c % 64 + chunks → d % 64 ≤ bit → bit < d % 64 + count → ⊥)
+  pub chunks_apart : (c chunks d count : ℕ) → InChunks c chunks → InChunks d count → ((bit : ℕ) → c / 64 ≡ d / 64 → c % 64 ≤ bit → bit < c % 64 + chunks → d % 64 ≤ bit → bit < d % 64 + count → ⊥)
       → AreDisjoint (block_of_chunks lanes c chunks) (block_of_chunks lanes d count)
   chunks_apart c chunks d count one other differ =
       let room = one.fits in let room_too = other.fits in let some = one.some in let some_too = other.some in
@@ -119,48 +107,64 @@ module _ (w : ℕ → ℕ) (lanes zones : ℕ) (none : heap_fault w lanes zones 
         le_or : (a n b : ℕ) → (a + n ≤ b) ⊎ (b < a + n)
         le_or a n b = ⊎_elim (λ (below : b < a + n). inr below) (λ (reached : a + n ≤ b). inl reached) (cases_lt b (a + n))
 
-  -- what a change is of
-  data Place (a : HeapChange) : Type 0 where
-    AtRun : (c lines index : ℕ) → InRun c lines index → block_changed lanes a ≡ block_of_run lanes c lines index → ChangesBit lanes a (Run (8 * chunk_word lanes c)) index → Place a
-    AtChunks : (c chunks : ℕ) → InChunks c chunks → block_changed lanes a ≡ block_of_chunks lanes c chunks → ((bit : ℕ) → c % 64 ≤ bit → bit < c % 64 + chunks → ChangesBit lanes a (Zone (c / 64)) bit) → Place a
+  -- ---- where the words have no fault
 
-  place_of : (a : HeapChange) → CanChange w lanes zones a → Place a
-  place_of (AllocatesInRun c lines index kind bytes) can = AtRun c lines index (record { inside = can.0.inside; described = can.0.is_run }) refl (inl (refl, refl))
-  place_of (AllocatesChunks c chunks kind bytes) can = AtChunks c chunks (free_in c chunks (some_of_object w lanes c chunks kind bytes can.1) can.0) refl (λ bit from to. inl (refl, (from, to)))
-  place_of (FreesInRun c lines index) can = AtRun c lines index (record { inside = can.inside; described = can.is_run }) refl (inr (refl, refl))
-  place_of (FreesChunks c chunks) can = AtChunks c chunks (freed_in c chunks can) refl (λ bit from to. inr (refl, (from, to)))
+  module _ (none : heap_fault w lanes zones ≡ None) where
+    -- whole chunks that are a block
+    pub whole_in : (c chunks : ℕ) → c < 64 * zones → w (descriptor_word lanes c) ≡ 2 + 256 * chunks → InChunks c chunks
+    whole_in c chunks in_zones is =
+        let d : ℕ = w (descriptor_word lanes c) in
+        let good = good_chunk w lanes zones c none in_zones in
+        let high : d / 256 ≡ chunks = omega (arith, is) in
+        let whole : class_in d ≡ Some (Chunks chunks) = whole_by_byte w lanes c good (omega (arith, is)) ∙ ap (λ n. Some (Chunks n)) high in
+        record { some = some_chunks d chunks whole; fits = chunks_fit w lanes c chunks good whole; no_run = apart good whole } where
+          apart : bad_chunk w lanes c ≡ false → class_in (w (descriptor_word lanes c)) ≡ Some (Chunks chunks) → (k : ℕ) → k < chunks → w (descriptor_word lanes (c + k)) % 256 ≢ 1
+          apart good whole zero near run = let here : w (descriptor_word lanes (c + 0)) ≡ 2 + 256 * chunks = ap (λ n. w (descriptor_word lanes n)) (let same : c + 0 ≡ c = omega arith in same) ∙ is in omega (arith, here, run)
+          apart good whole (suc k) near run =
+              let here : w (descriptor_word lanes (c + suc k)) ≡ 0 = ap (λ n. w (descriptor_word lanes n)) (let same : c + suc k ≡ c + 1 + k = omega arith in same) ∙ further_zeros w lanes c chunks good whole k (omega (arith, near)) in omega (arith, here, run)
 
-  turned : (a b : HeapChange) → AreDisjoint (block_changed lanes a) (block_changed lanes b) → AreDisjoint (block_changed lanes b) (block_changed lanes a)
-  turned a b (inl before) = inr before
-  turned a b (inr behind) = inl behind
+    -- what a change is of
+    data Place (a : HeapChange) : Type 0 where
+      AtRun : (c lines index : ℕ) → InRun c lines index → block_changed lanes a ≡ block_of_run lanes c lines index → ChangesBit lanes a (Run (8 * chunk_word lanes c)) index → Place a
+      AtChunks : (c chunks : ℕ) → InChunks c chunks → block_changed lanes a ≡ block_of_chunks lanes c chunks → ((bit : ℕ) → c % 64 ≤ bit → bit < c % 64 + chunks → ChangesBit lanes a (Zone (c / 64)) bit) → Place a
 
-  places_apart : (a b : HeapChange) → HasNoBitOf lanes a b → Place a → Place b → AreDisjoint (block_changed lanes a) (block_changed lanes b)
-  places_apart a b own (AtRun c lines index one is bit) (AtRun d many i other too bit_too) =
-      subst (λ x. AreDisjoint x (block_changed lanes b)) (sym is) (subst (AreDisjoint (block_of_run lanes c lines index)) (sym too)
-      (runs_apart c lines index d many i one other (λ same equal. own (Run (8 * chunk_word lanes d)) i (subst (λ n. ChangesBit lanes a (Run (8 * chunk_word lanes n)) i) same (subst (ChangesBit lanes a (Run (8 * chunk_word lanes c))) equal bit)) bit_too)))
-  places_apart a b own (AtRun c lines index one is bit) (AtChunks d chunks other too bits) =
-      subst (λ x. AreDisjoint x (block_changed lanes b)) (sym is) (subst (AreDisjoint (block_of_run lanes c lines index)) (sym too) (run_chunks c lines index d chunks one other))
-  places_apart a b own (AtChunks c chunks one is bits) (AtRun d many i other too bit) =
-      turned b a (subst (λ x. AreDisjoint x (block_changed lanes a)) (sym too) (subst (AreDisjoint (block_of_run lanes d many i)) (sym is) (run_chunks d many i c chunks other one)))
-  places_apart a b own (AtChunks c chunks one is bits) (AtChunks d count other too bits_too) =
-      subst (λ x. AreDisjoint x (block_changed lanes b)) (sym is) (subst (AreDisjoint (block_of_chunks lanes c chunks)) (sym too)
-      (chunks_apart c chunks d count one other (λ bit same from to from_too to_too. own (Zone (d / 64)) bit (subst (λ n. ChangesBit lanes a (Zone n) bit) same (bits bit from to)) (bits_too bit from_too to_too))))
+    place_of : (a : HeapChange) → CanChange w lanes zones a → Place a
+    place_of (AllocatesInRun c lines index kind bytes) can = AtRun c lines index (record { inside = can.0.inside; described = can.0.is_run }) refl (inl (refl, refl))
+    place_of (AllocatesChunks c chunks kind bytes) can = AtChunks c chunks (free_in c chunks (some_of_object w lanes c chunks kind bytes can.1) can.0) refl (λ bit from to. inl (refl, (from, to)))
+    place_of (FreesInRun c lines index) can = AtRun c lines index (record { inside = can.inside; described = can.is_run }) refl (inr (refl, refl))
+    place_of (FreesChunks c chunks) can = AtChunks c chunks (whole_in c chunks can.in_zones can.is_first) refl (λ bit from to. inr (refl, (from, to)))
 
-  -- ---- lists
+    turned : (a b : HeapChange) → AreDisjoint (block_changed lanes a) (block_changed lanes b) → AreDisjoint (block_changed lanes b) (block_changed lanes a)
+    turned a b (inl before) = inr before
+    turned a b (inr behind) = inl behind
 
-  all_follow : (a : HeapChange) (others : List HeapChange) → CanChange w lanes zones a → All (CanChange w lanes zones) others → All (HasNoBitOf lanes a) others → All (λ b. MayFollow lanes (Changes a) (Changes b)) others
-  all_follow a [] can all own n d low = absurd (omega (arith, low))
-  all_follow a (b ∷ others) can all own zero d low = places_apart a b (own 0 d low) (place_of a can) (place_of b (all 0 d low))
-  all_follow a (b ∷ others) can all own (suc n) d low = all_follow a others can (λ k e near. all (suc k) e (omega (arith, near))) (λ k e near. own (suc k) e (omega (arith, near))) n d (omega (arith, low))
+    places_apart : (a b : HeapChange) → HasNoBitOf lanes a b → Place a → Place b → AreDisjoint (block_changed lanes a) (block_changed lanes b)
+    places_apart a b own (AtRun c lines index one is bit) (AtRun d many i other too bit_too) =
+        subst (λ x. AreDisjoint x (block_changed lanes b)) (sym is) (subst (AreDisjoint (block_of_run lanes c lines index)) (sym too)
+        (runs_apart c lines index d many i one other (λ same equal. own (Run (8 * chunk_word lanes d)) i (subst (λ n. ChangesBit lanes a (Run (8 * chunk_word lanes n)) i) same (subst (ChangesBit lanes a (Run (8 * chunk_word lanes c))) equal bit)) bit_too)))
+    places_apart a b own (AtRun c lines index one is bit) (AtChunks d chunks other too bits) =
+        subst (λ x. AreDisjoint x (block_changed lanes b)) (sym is) (subst (AreDisjoint (block_of_run lanes c lines index)) (sym too) (run_chunks c lines index d chunks one other))
+    places_apart a b own (AtChunks c chunks one is bits) (AtRun d many i other too bit) =
+        turned b a (subst (λ x. AreDisjoint x (block_changed lanes a)) (sym too) (subst (AreDisjoint (block_of_run lanes d many i)) (sym is) (run_chunks d many i c chunks other one)))
+    places_apart a b own (AtChunks c chunks one is bits) (AtChunks d count other too bits_too) =
+        subst (λ x. AreDisjoint x (block_changed lanes b)) (sym is) (subst (AreDisjoint (block_of_chunks lanes c chunks)) (sym too)
+        (chunks_apart c chunks d count one other (λ bit same from to from_too to_too. own (Zone (d / 64)) bit (subst (λ n. ChangesBit lanes a (Zone n) bit) same (bits bit from to)) (bits_too bit from_too to_too))))
 
-  changes_in_order : (changes : List HeapChange) → All (CanChange w lanes zones) changes → AreOfOwnBits lanes changes → AreInOrder lanes (map Changes changes)
-  changes_in_order [] can own = tt
-  changes_in_order (a ∷ changes) can own = (
-    All-map (MayFollow lanes (Changes a)) Changes changes (all_follow a changes (can 0 a (omega arith)) (λ k e near. can (suc k) e (omega (arith, near))) own.0),
-    changes_in_order changes (λ k e near. can (suc k) e (omega (arith, near))) own.1,
-  )
+    -- ---- lists
 
-  -- actions come first
-  pub in_order : (actions : List Action) (changes : List HeapChange) → All (CanChange w lanes zones) changes → AreOfOwnBits lanes changes → AreInOrder lanes (map Performs actions ++ map Changes changes)
-  in_order [] changes can own = changes_in_order changes can own
-  in_order (x ∷ actions) changes can own = ((λ k e near. tt), in_order actions changes can own)
+    all_follow : (a : HeapChange) (others : List HeapChange) → CanChange w lanes zones a → All (CanChange w lanes zones) others → All (HasNoBitOf lanes a) others → All (λ b. MayFollow lanes (Changes a) (Changes b)) others
+    all_follow a [] can all own n d low = absurd (omega (arith, low))
+    all_follow a (b ∷ others) can all own zero d low = places_apart a b (own 0 d low) (place_of a can) (place_of b (all 0 d low))
+    all_follow a (b ∷ others) can all own (suc n) d low = all_follow a others can (λ k e near. all (suc k) e (omega (arith, near))) (λ k e near. own (suc k) e (omega (arith, near))) n d (omega (arith, low))
+
+    changes_in_order : (changes : List HeapChange) → All (CanChange w lanes zones) changes → AreOfOwnBits lanes changes → AreInOrder lanes (map Changes changes)
+    changes_in_order [] can own = tt
+    changes_in_order (a ∷ changes) can own = (
+      All-map (MayFollow lanes (Changes a)) Changes changes (all_follow a changes (can 0 a (omega arith)) (λ k e near. can (suc k) e (omega (arith, near))) own.0),
+      changes_in_order changes (λ k e near. can (suc k) e (omega (arith, near))) own.1,
+    )
+
+    -- actions come first
+    pub in_order : (actions : List Action) (changes : List HeapChange) → All (CanChange w lanes zones) changes → AreOfOwnBits lanes changes → AreInOrder lanes (map Performs actions ++ map Changes changes)
+    in_order [] changes can own = changes_in_order changes can own
+    in_order (x ∷ actions) changes can own = ((λ k e near. tt), in_order actions changes can own)

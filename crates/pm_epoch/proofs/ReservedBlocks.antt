@@ -46,7 +46,7 @@ module _ (o : Opening) (mem : Memory) (views : Views) (log : List Entry) (decide
   as_long = (world.each_lane k inside).lane.size
 
   -- what tells of a chunk that was taken is as at the opening
-  telling : (page i : ℕ) → IsChunk o.lanes page → is_free_chunk (slice_index o.words) o.lanes page ≡ false → TellsOf o page i → w i ≡ slice_index o.words i
+  pub telling : (page i : ℕ) → IsChunk o.lanes page → is_free_chunk (slice_index o.words) o.lanes page ≡ false → TellsOf o page i → w i ≡ slice_index o.words i
   telling page i chunk taken tells = ⊎_elim
       (λ (low : i < length o.words). sym (sees i) ∙ opening_word o mem views log decided world page i chunk taken tells low)
       (λ (past : length o.words ≤ i). let long = as_long in get_or_past v.words i 0 (omega (arith, long, past)) ∙ sym (get_or_past o.words i 0 past))

@@ -1,72 +1,56 @@
--- A lane that works alone, with nothing undrained before its call draws: its words as an image hold the pool before the call, and as they stand that of the call.
-use Rattle.std.proofs.Common.{◌≡◌, ◌≢◌, ⊎_elim, ℕ, ◌<◌, ◌≤◌, true, false, not, ◌&&◌, Contains, List, [], length, slice_index, Some, None, refl, sym, ap, ◌∙◌, subst, arith, get_or}
+-- A lane that works alone, with no record in the making and no call that its words lose: as an image they hold the pool to which its calls lead.
+use Rattle.std.proofs.Common.{◌≡◌, ◌≢◌, ⊎_elim, ℕ, ◌<◌, true, false, not, List, [], length, slice_index, refl, sym, ap, ◌∙◌, subst, get_or}
 use Rattle.std.specs.List.{range_with_len}
-use Rattle.std.proofs.lemmas.Bool.{cases_Bool, cases_eq, cond-true, false_from_ne_true, false≢true, cond-false, or_from}
+use Rattle.std.proofs.lemmas.Bool.{cases_eq}
 use Rattle.std.proofs.lemmas.List.Elements.{All-nil}
 use Rattle.std.proofs.lemmas.List.Folds.{list_any_none}
-use Rattle.std.proofs.lemmas.Option.{none-some}
 use Rattle.pm_header.specs.declared.header.Header.{Header}
 use Rattle.pm_image.specs.Logs.{recovered_at}
 use Rattle.pm_model.specs.Names.{Replays}
 use Rattle.pm_model.specs.History.{opened}
 use Rattle.pm_model.specs.Step.{Act, State}
-use Rattle.pm_objects.specs.declared.history.TxErr.{TxErr}
 use Rattle.pm_objects.specs.declared.pool.PoolView.{PoolView}
 use Rattle.pm_view.specs.Area.{area_word}
-use Rattle.pm_view.specs.Log.Phase.{Open}
 use Rattle.pm_view.specs.View.{Numbered, View}
-use Rattle.pm_world.specs.Course.{is_number, flight, flight_in}
-use Rattle.pm_world.specs.Crash.{IsBeingWritten, NoneTorn, Survives, is_kept, loses, is_deciding_in, MeansKept}
-use Rattle.pm_world.specs.Fits.{LaneFits, PhaseFits}
-use Rattle.pm_world.specs.History.{Entry, Flies, entries_by, settled}
+use Rattle.pm_world.specs.Crash.{IsBeingWritten, NoneTorn, Survives, is_kept, loses, MeansKept}
+use Rattle.pm_world.specs.Fits.{LaneFits}
+use Rattle.pm_world.specs.History.{Flies, entries_by, settled}
 use Rattle.pm_world.specs.Memory.Location.{PoolWord}
-use Rattle.pm_world.specs.Opening.{IsLivingWord, Opening, TellsOfBlocks}
-use Rattle.pm_world.specs.Records.{is_drained_slot, is_recorded, used_slots, records_generation, is_logged}
+use Rattle.pm_world.specs.Opening.{Opening}
 use Rattle.pm_crash.proofs.TornSlots.{none_torn_by_lane}
-use Rattle.pm_model.specs.declared.stage.Stage.{Stage}
-use Rattle.pm_world.specs.Entries.{is_in_log, is_redoing, is_redone}
-use Rattle.pm_world.proofs.CrashLogs.{unrecorded_unlogged}
-use Rattle.pm_world.proofs.Pairs.{none_redone}
 use Rattle.pm_world.proofs.Replays.{replayed-same}
 use Rattle.pm_world.proofs.CrashRuns.{crash_law}
-use Rattle.pm_world.proofs.CrashLaw.{all_drained}
-use Rattle.pm_world.proofs.Exclusion.{writes_under}
-use Rattle.pm_world.proofs.Slots.{word_recorded}
 use Rattle.pm_crash.specs.Alone.{Begins}
 use Rattle.pm_crash.specs.Held.{HoldsImage, HoldsPool}
 use Rattle.pm_crash.specs.OneLane.{HoldsReplay, Moment}
-use Rattle.pm_crash.specs.OpenCall.{ComesTo, IsOpen, call_words, IsBefore}
 use Rattle.pm_crash.specs.Pending.{acts_alone, acts_of, state_after, state_alone}
 use Rattle.pm_crash.proofs.AloneCourse.{StandsAlone, begins_clean, begins_holds}
 use Rattle.pm_crash.proofs.AloneImages.{none_torn}
 use Rattle.pm_crash.proofs.AloneMemory.{memory_of}
 use Rattle.pm_crash.proofs.CleanWords.{clean_words_hold}
-use Rattle.pm_crash.proofs.Continued.{two_same}
-use Rattle.pm_crash.proofs.DrawnWords.{drawn_before, heads_stay}
-use Rattle.pm_crash.proofs.EmptyRuns.{new_runs_alike}
+use Rattle.pm_crash.proofs.DrawnWords.{heads_stay}
 use Rattle.pm_crash.proofs.FrontWords.{header_survives}
-use Rattle.pm_crash.proofs.HeldAlike.{held_alike}
 use Rattle.pm_crash.proofs.HistoryActs.{acts_of_all, state_of_one}
 use Rattle.pm_crash.proofs.ImageLogs.{no_log_fault}
 use Rattle.pm_crash.proofs.LogCourse.{InRange}
 use Rattle.pm_crash.proofs.LongerReplays.{words_after, every}
-use Rattle.pm_crash.proofs.NewRuns.{may_have_runs, image_holds}
+use Rattle.pm_crash.proofs.NewRuns.{image_holds}
 use Rattle.pm_crash.proofs.OneCourse.{reached_all}
-use Rattle.pm_epoch.specs.Epochs.{HoldsCalls, HoldsOpenCall}
+use Rattle.pm_epoch.specs.Epochs.{HoldsCalls}
 
 -- its own facts
 pub own_fits : (o : Opening) (header : Header) (pool : PoolView) (w : View) (s : StandsAlone o header pool w) → LaneFits o (memory_of w) (settled o s.log s.decided) (Flies s.log s.decided 0) 0 w
 own_fits o header pool w s = subst (LaneFits o (memory_of w) (settled o s.log s.decided) (Flies s.log s.decided 0) 0) s.here (s.goes.world.each_lane 0 s.goes.in_lanes)
 
 -- the moment of its world
-abbrev now : (o : Opening) (header : Header) (pool : PoolView) (w : View) → StandsAlone o header pool w → Moment
+abbrev pub now : (o : Opening) (header : Header) (pool : PoolView) (w : View) → StandsAlone o header pool w → Moment
 now o header pool w s = record { memory = memory_of w; views = s.views; log = s.log; decided = s.decided }
 
 -- the words behind its calls, and the pool that these lead to
-abbrev words_behind : (o : Opening) (header : Header) (pool : PoolView) (w : View) → StandsAlone o header pool w → ℕ → ℕ
+abbrev pub words_behind : (o : Opening) (header : Header) (pool : PoolView) (w : View) → StandsAlone o header pool w → ℕ → ℕ
 words_behind o header pool w s = words_after (slice_index o.words) s.log
 
-reached : (o : Opening) (header : Header) (pool : PoolView) (w : View) (s : StandsAlone o header pool w) → HoldsReplay (words_behind o header pool w s) o.lanes o.zones header pool s.log
+pub reached : (o : Opening) (header : Header) (pool : PoolView) (w : View) (s : StandsAlone o header pool w) → HoldsReplay (words_behind o header pool w s) o.lanes o.zones header pool s.log
 reached o header pool w s = reached_all o 0 header pool (now o header pool w s) s.goes
 
 -- ---- where no slot of the lane is being written, and no call of it is lost
@@ -101,8 +85,11 @@ module _ (o : Opening) (header : Header) (pool : PoolView) (w : View) (s : Stand
       (subst (λ (t : State). Replays (opened pool) (acts_alone (entries_by 0 s.log)) t) (state_of_one last s.log s.goes.alone)
       (subst (λ (acts : List Act). Replays (opened pool) acts (state_after last s.log)) (acts_of_all s.log s.goes.alone) replays))
 
+  pub calls_replay : Replays (opened pool) (acts_alone w.entries) (state_alone (reached o header pool w s).last w.entries)
+  calls_replay = calls_alone (reached o header pool w s).last (reached o header pool w s).replays
+
   -- as an image its words hold that pool
-  image_pool : HoldsPool (recovered_at w.words o.lanes) o.lanes o.zones header (reached o header pool w s).last
+  pub image_pool : HoldsPool (recovered_at w.words o.lanes) o.lanes o.zones header (reached o header pool w s).last
   image_pool =
       image_holds o (words_behind o header pool w s) (λ i tells. heads_stay o 0 (now o header pool w s) s.goes.world s.goes.in_lanes i tells) s.goes.world.sound w.words survives.size
       (λ i living. kept.words i living ∙ replayed-same (is_kept o s.views w.words) every s.log i (slice_index o.words i) (λ e there of. kept_each e.number)) kept.new_runs header (reached o header pool w s).last (reached o header pool w s).holds
@@ -120,118 +107,13 @@ module _ (o : Opening) (header : Header) (pool : PoolView) (w : View) (s : Stand
         (λ (other : j ≢ 0). subst (InRange (memory_of w (PoolWord (area_word j))) (s.views j)) (sym (s.goes.others j low other)) tt)
         (cases_eq j 0)
 
-    abbrev calls_here : HoldsCalls o w header pool
-    calls_here = record {
-      before = (reached o header pool w s).last;
-      holds = record {
-        has_header = header_survives o (memory_of w) s.views s.log s.decided s.goes.world header w.words survives s.goes.front held.has_header;
-        fits = held.fits;
-        no_log_fault = no_log_fault o (memory_of w) s.views s.log s.decided s.goes.world w.words survives untorn ranges (clean_words_hold o header (begins_holds o header pool v begins).0 held (begins_clean o header pool v begins)).no_fault;
-        holds = image_pool;
-      };
-      replays = calls_alone (reached o header pool w s).last (reached o header pool w s).replays;
+    pub image_held : HoldsImage w.words o.lanes o.zones header (reached o header pool w s).last
+    image_held = record {
+      has_header = header_survives o (memory_of w) s.views s.log s.decided s.goes.world header w.words survives s.goes.front held.has_header;
+      fits = held.fits;
+      no_log_fault = no_log_fault o (memory_of w) s.views s.log s.decided s.goes.world w.words survives untorn ranges (clean_words_hold o header (begins_holds o header pool v begins).0 held (begins_clean o header pool v begins)).no_fault;
+      holds = image_pool;
     }
 
-    pub holds_calls : HoldsCalls o w header pool
-    holds_calls = calls_here
-
--- ---- an open call, with nothing undrained and nothing in the making
-
-module _ (o : Opening) (header : Header) (pool : PoolView) (w : View) (s : StandsAlone o header pool w) (is_open : w.log.phase ≡ Open [] []) (drained : w.changes ≡ []) where
-  fits : LaneFits o (memory_of w) (settled o s.log s.decided) (Flies s.log s.decided 0) 0 w
-  fits = own_fits o header pool w s
-
-  -- no slot of it is being written
-  writes_none : (slot : ℕ) → IsBeingWritten w slot → ⊥
-  writes_none slot = ⊎_elim
-      (λ (undrained : is_drained_slot w slot ≡ false). false≢true (sym undrained ∙ all_drained w slot drained))
-      (λ (used : (length w.log.records ≤ slot) × (slot < used_slots w.log.phase w)). let all : used_slots w.log.phase w ≡ length w.log.records = ap (λ p. used_slots p w) is_open in let from = used.0 in let to = used.1 in omega (arith, all, from, to))
-
-  -- no call of it is lost: none is in flight
-  undrawn : w.number ≡ None
-  undrawn = (subst (PhaseFits (Flies s.log s.decided 0) w) is_open fits.phase).undrawn
-
-  loses_none : (n : ℕ) → loses w.words w n ≡ false
-  loses_none n = ap (λ number. is_number number n && not (is_deciding_in w.words w w.log.phase)) undrawn
-
-  -- each is decided
-  decided_each : (e : Entry) → Contains s.log e → s.decided e.number ≡ true
-  decided_each e there = ⊎_elim
-      (λ (yes : s.decided e.number ≡ true). yes)
-      (λ (no : s.decided e.number ≡ false).
-      let flies : flight (s.views e.lane) ≡ Some e.number = (s.goes.world.each_entry e there).in_flight no in
-      let own : flight w ≡ Some e.number = ap flight (sym s.here) ∙ (ap (λ j. flight (s.views j)) (sym (s.goes.alone e there)) ∙ flies) in
-      absurd (none-some e.number (sym (ap (λ p. flight_in p w.number) is_open) ∙ own)))
-      (cases_Bool (s.decided e.number))
-
-  -- the other lanes have no log
-  no_records : (j : ℕ) → j < o.lanes → j ≢ 0 → (s.views j).log.records ≡ []
-  no_records j low other = ap (λ (u : View). u.log.records) (s.others j other)
-
-  no_entries : (j : ℕ) → j < o.lanes → j ≢ 0 → (s.views j).log.entries ≡ []
-  no_entries j low other = ap (λ (u : View). u.log.entries) (s.others j other)
-
-  -- so a word that it did not record is in none
-  unlogged : (i : ℕ) → is_recorded w.log.records i ≡ false → (j : ℕ) → j < o.lanes → is_in_log (s.views j) i ≡ false
-  unlogged i none j low = ⊎_elim
-      (λ (same : j ≡ 0). ap (λ k. is_in_log (s.views k) i) same ∙ (ap (λ (u : View). is_in_log u i) s.here ∙ or_from (is_logged w i) (is_redone w i) (unrecorded_unlogged w i none) (none_redone w i (ap is_redoing is_open))))
-      (λ (other : j ≢ 0). ap (λ (u : View). is_in_log u i) (s.others j other))
-      (cases_eq j 0)
-
-  same_lanes : w.lanes ≡ o.lanes
-  same_lanes = fits.lane.lanes
-
-  same_zones : w.zones ≡ o.zones
-  same_zones = fits.lane.zones
-
-  before_holds : HoldsPool (words_behind o header pool w s) w.lanes w.zones header (reached o header pool w s).last
-  before_holds = two_same (λ (a b : ℕ). HoldsPool (words_behind o header pool w s) a b header (reached o header pool w s).last) o.lanes w.lanes o.zones w.zones (sym same_lanes) (sym same_zones) (reached o header pool w s).holds
-
-  open_here : (s.views 0).log.phase ≡ Open [] []
-  open_here = ap (λ (u : View). u.log.phase) s.here ∙ is_open
-
-  is_before : IsBefore w (words_behind o header pool w s)
-  is_before = subst (λ u. IsBefore u (words_behind o header pool w s)) s.here
-      (drawn_before o 0 (now o header pool w s) s.goes.world s.goes.in_lanes s.goes.alone no_records no_entries open_here (reached o header pool w s).holds.no_fault)
-
-  -- what it recorded is none of the words that tell of blocks
-  call_heads : (i : ℕ) → TellsOfBlocks o i → call_words w (words_behind o header pool w s) i ≡ slice_index o.words i
-  call_heads i tells =
-      let unrecorded : is_recorded w.log.records i ≡ false = false_from_ne_true (is_recorded w.log.records i) (λ recorded.
-      let t = word_recorded (settled o s.log s.decided) w (records_generation w.log.phase w) i fits.log recorded in
-      let under = writes_under o (memory_of w) 0 w i fits.locks t.fits.own in
-      s.goes.world.sound.apart under.0 i under.1 tells) in
-      cond-false (is_recorded w.log.records i) (slice_index w.words i) (words_behind o header pool w s i) unrecorded ∙ heads_stay o 0 (now o header pool w s) s.goes.world s.goes.in_lanes i tells
-
-  -- each living word is as the call made it
-  living_same : (i : ℕ) → IsLivingWord o i → slice_index w.words i ≡ call_words w (words_behind o header pool w s) i
-  living_same i living = ⊎_elim
-      (λ (recorded : is_recorded w.log.records i ≡ true). sym (cond-true (is_recorded w.log.records i) (slice_index w.words i) (words_behind o header pool w s i) recorded))
-      (λ (unrecorded : is_recorded w.log.records i ≡ false).
-      s.goes.world.each_word i living (unlogged i unrecorded)
-      ∙ (replayed-same s.decided every s.log i (slice_index o.words i) (λ e there of. decided_each e there)
-      ∙ sym (cond-false (is_recorded w.log.records i) (slice_index w.words i) (words_behind o header pool w s i) unrecorded)))
-      (cases_Bool (is_recorded w.log.records i))
-
-  module _ (v : View) (begins : Begins o header pool v) (level : ℕ) (at_stage : Stage) (error : TxErr) (open_call : IsOpen w level at_stage error) where
-    of_pool : w.pool ≡ header.id
-    of_pool = ap (λ (u : View). u.pool) (sym s.here) ∙ s.goes.of_pool
-
-    comes : ComesTo w (words_behind o header pool w s) header (reached o header pool w s).last level at_stage error
-    comes = open_call.comes (words_behind o header pool w s) header (reached o header pool w s).last before_holds of_pool is_before
-
-    call_holds : HoldsPool (call_words w (words_behind o header pool w s)) o.lanes o.zones header comes.tx.pool
-    call_holds = two_same (λ (a b : ℕ). HoldsPool (call_words w (words_behind o header pool w s)) a b header comes.tx.pool) w.lanes o.lanes w.zones o.zones same_lanes same_zones comes.holds
-
-    pub holds_open_call : HoldsOpenCall o w header pool level at_stage error
-    holds_open_call = record {
-      held = calls_here o header pool w s writes_none loses_none v begins;
-      words = words_behind o header pool w s;
-      comes = comes;
-      holds = held_alike (call_words w (words_behind o header pool w s)) (slice_index w.words) o.lanes o.zones header comes.tx.pool call_holds
-          (new_runs_alike (call_words w (words_behind o header pool w s)) (slice_index w.words) o.lanes o.zones
-          (may_have_runs o (call_words w (words_behind o header pool w s)) call_heads s.goes.world.sound call_holds.no_fault (slice_index w.words) living_same s.goes.world.new_runs) call_holds.no_fault);
-    }
-
-  pub open_calls_held : (v : View) → Begins o header pool v → HoldsCalls o w header pool
-  open_calls_held v begins = holds_calls o header pool w s writes_none loses_none v begins
+    abbrev pub holds_calls : HoldsCalls o w header pool
+    holds_calls = record { before = (reached o header pool w s).last; holds = image_held; replays = calls_replay }

@@ -1,6 +1,8 @@
 -- What a lane that is alone publishes over the pool that its words hold: blocks for new objects, blocks freed, words of objects set (docs/MODEL.md, "From call to
 -- call").
 use Rattle.std.specs.Prelude.{◌≡◌, ◌⊎◌, ◌↔◌, ℕ, ◌+◌, ◌*◌, ◌<◌, ◌≤◌, ◌^◌, IsTrue, Contains, true, false, length, All, List, [], ◌∷◌, ◌++◌, map, slice_index, Some}
+use Rattle.pm_layout.specs.Sizes.{descriptor_of}
+use Rattle.pm_layout.specs.declared.class.Class.TheVariants.{Lines}
 use Rattle.pm_layout.specs.declared.shape.Shape.{Shape}
 use Rattle.pm_header.specs.declared.header.Header.{Header}
 use Rattle.pm_objects.specs.declared.pool.PoolView.{PoolView}
@@ -27,7 +29,9 @@ use Rattle.pm_world.specs.Fits.{IsLane}
 use Rattle.pm_world.specs.Opens.{IsClean}
 use Rattle.std.specs.Option.{ForSome}
 use Rattle.pm_crash.specs.Alone.{WorksAlone, standing}
-use Rattle.pm_crash.specs.HeapChanges.{HeapChange}
+use Rattle.pm_crash.specs.CallBlocks.{NewObject, block_of}
+use Rattle.pm_crash.specs.HeapChanges.{HeapChange, run_at}
+use Rattle.pm_crash.specs.NewObjects.{block_of_chunks, block_of_run}
 use Rattle.pm_crash.specs.Held.{HoldsImage, HoldsPool}
 use Rattle.pm_crash.specs.Publishing.Published.{Changes, Performs}
 use Rattle.pm_crash.specs.Publishing.{AreInOrder, CanPublish, Published, all_pool_published, entry_published}
@@ -38,7 +42,7 @@ use Rattle.pm_model.specs.Names.{Replays}
 use Rattle.pm_model.specs.History.{opened}
 use Rattle.pm_model.specs.declared.stage.Stage.{Stage}
 use Rattle.pm_objects.specs.declared.history.TxErr.{TxErr}
-use Rattle.pm_crash.specs.OpenCall.{ComesTo}
+use Rattle.pm_crash.specs.OpenCall.{ComesTo, CommitsTo}
 use Rattle.pm_crash.specs.Pending.{acts_alone, state_alone}
 use Rattle.pm_view.specs.Log.{Final, no_log}
 use Rattle.pm_view.specs.Log.Phase.{Idle}
@@ -62,6 +66,32 @@ pub record MayPublish (b : View) (header : Header) (before now : PoolView) (all 
 pub record IsUnusedChunk (lanes : ℕ) (v : View) (zone chunk : ℕ) : Type 0 where
   pub reserved : reserves v (Zone zone) chunk ≡ true
   pub undescribed : slice_index v.words (descriptor_word lanes (64 * zone + chunk)) ≡ 0
+
+-- the object's block is one of a run, and the lane reserved it there
+pub record IsReservedInRun (v : View) (n : NewObject) : Type 0 where
+  pub chunk : ℕ
+  pub lines : ℕ
+  pub index : ℕ
+  pub in_pool : chunk < 64 * v.zones
+  pub low : index < 64
+  pub described : slice_index v.words (descriptor_word v.lanes chunk) ≡ descriptor_of (Lines lines)
+  pub reserved : reserves v (run_at v.lanes chunk) index ≡ true
+  pub is_block : block_of n ≡ block_of_run v.lanes chunk lines index
+
+-- it is whole chunks of a zone, which the lane reserved, and each of which its words describe by 0
+pub record IsReservedInChunks (v : View) (n : NewObject) : Type 0 where
+  pub zone : ℕ
+  pub first : ℕ
+  pub count : ℕ
+  pub in_pool : zone < v.zones
+  pub low : first < 64
+  pub fits : first + count ≤ 64
+  pub unused : (j : ℕ) → j < count → IsUnusedChunk v.lanes v zone (first + j)
+  pub is_block : block_of n ≡ block_of_chunks v.lanes (64 * zone + first) count
+
+-- the object's block lies in what the lane reserved
+abbrev pub IsReservedFor : View → NewObject → Type 0
+IsReservedFor v n = IsReservedInRun v n ⊎ IsReservedInChunks v n
 
 -- a bit of an occupancy word that the change makes taken, or free
 abbrev pub ChangesBit : ℕ → HeapChange → Occ → ℕ → Type 0
@@ -96,12 +126,21 @@ pub record HoldsCalls (o : Opening) (w : View) (header : Header) (pool : PoolVie
   pub holds : HoldsImage w.words o.lanes o.zones header before
   pub replays : Replays (opened pool) (acts_alone w.entries) (state_alone before w.entries)
 
--- So they do, and as they stand they hold the pool of the open call: that of the transaction to which it came from these words behind the calls before it
+-- So they do. The open call came to a transaction from these words behind the calls before it; and as they stand the words hold the pool of the words that
+-- the call stored, of which the transaction's copy is that with what the call made and without what it freed.
 pub record HoldsOpenCall (o : Opening) (w : View) (header : Header) (pool : PoolView) (level : ℕ) (at_stage : Stage) (error : TxErr) : Type 0 where
   pub held : HoldsCalls o w header pool
   pub words : ℕ → ℕ
   pub comes : ComesTo w words header held.before level at_stage error
-  pub holds : HoldsPool (slice_index w.words) o.lanes o.zones header comes.tx.pool
+  pub holds : HoldsPool (slice_index w.words) o.lanes o.zones header comes.base
+
+-- So they do, and the committed call turns their pool into its transaction's copy with what it published performed. As they stand the words hold the pool of
+-- the words that the call stored, of which the copy is that with what the call made and without what it freed.
+pub record HoldsCommitted (o : Opening) (u : View) (header : Header) (pool : PoolView) : Type 0 where
+  pub held : HoldsCalls o u header pool
+  pub words : ℕ → ℕ
+  pub to : CommitsTo u words header held.before
+  pub holds : HoldsPool (slice_index u.words) o.lanes o.zones header to.base
 
 -- ---- between its calls
 

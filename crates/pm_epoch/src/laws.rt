@@ -1,4 +1,4 @@
-ghost use Rattle.std.specs.Prelude.{◌≡◌, ◌≢◌, ◌↔◌, ℕ, ◌+◌, ◌*◌, ◌<◌, ◌≤◌, Bool, IsTrue, true, false, All, Contains, List, [], ◌++◌, map, slice_index, None, Some};
+ghost use Rattle.std.specs.Prelude.{◌≡◌, ◌≢◌, ◌↔◌, ℕ, ◌+◌, ◌*◌, ◌<◌, ◌≤◌, Bool, IsTrue, true, false, All, Contains, List, [], ◌∷◌, ◌++◌, map, slice_index, None, Some};
 ghost use Rattle.std.specs.Int.{bit_at};
 ghost use Rattle.pm_header.specs.declared.header.Header.{Header};
 ghost use Rattle.pm_objects.specs.Pool.{block_lines};
@@ -7,11 +7,14 @@ ghost use Rattle.pm_objects.specs.declared.pool.PoolView.{PoolView};
 ghost use Rattle.pm_layout.specs.Sizes.{class_of, descriptor_of};
 ghost use Rattle.pm_layout.specs.declared.shape.Shape.{Shape};
 ghost use Rattle.pm_layout.specs.declared.class.Class.TheVariants.{Lines};
+ghost use Rattle.pm_image.specs.declared.block.Block.{Block};
 ghost use Rattle.pm_image.specs.Blocks.{blocks, descriptor_word};
 ghost use Rattle.pm_image.specs.HeapFaults.{heap_fault};
 ghost use Rattle.pm_image.specs.Logs.{recovered_at};
 ghost use Rattle.pm_image.specs.Means.{IsMeaning};
 ghost use Rattle.pm_model.specs.Actions.{Action};
+ghost use Rattle.pm_model.specs.History.{opened};
+ghost use Rattle.pm_model.specs.Names.{Replays};
 ghost use Rattle.pm_model.specs.declared.stage.Stage.{Stage};
 ghost use Rattle.pm_view.specs.declared.occ.Occ.{Occ};
 ghost use Rattle.pm_view.specs.declared.occ.Occ.TheVariants.{Zone};
@@ -30,20 +33,22 @@ ghost use Rattle.pm_world.specs.Memory.{Memory, occ_at};
 ghost use Rattle.pm_world.specs.Memory.Location.{PoolWord};
 ghost use Rattle.pm_world.specs.Opening.{Opening};
 ghost use Rattle.pm_world.specs.World.{Views, World};
-ghost use Rattle.pm_crash.specs.HeapChanges.{CanChange, HeapChange, MayBeFreed, run_at};
+ghost use Rattle.pm_crash.specs.HeapChanges.{AreDisjoint, CanChange, HeapChange, MayBeFreed, run_at};
 ghost use Rattle.pm_crash.specs.NewObjects.{AreFreeChunks, IsFreeInRun, IsFreshBlock};
 ghost use Rattle.pm_crash.specs.Held.{HoldsImage, HoldsPool};
 ghost use Rattle.pm_crash.specs.Publishing.Published.{Changes, Performs};
 ghost use Rattle.pm_crash.specs.Publishing.{AreInOrder, Published, all_blocks_published, all_pool_published};
 ghost use Rattle.pm_crash.specs.Alone.{BeginsAgain, WorksAlone, standing};
-ghost use Rattle.pm_crash.specs.OpenCall.{IsOpen};
+ghost use Rattle.pm_crash.specs.CallBlocks.{HasRoomFor, NewObject, allocated_in, block_of};
+ghost use Rattle.pm_crash.specs.OpenCall.{IsCommitted, IsUnderWay, Turns};
+ghost use Rattle.pm_crash.specs.Pending.{acts_alone, state_alone};
 ghost use Rattle.pm_crash.specs.Taken.{TakenBehindAll};
 ghost use Rattle.pm_fresh.specs.Filled.{IsFilled};
 ghost use Rattle.pm_fresh.specs.Making.{page_in};
 ghost use Rattle.pm_blocks.specs.NewRuns.{IsUnused};
 ghost use Rattle.pm_alloc.specs.NewObjects.{CanMakeObject};
 ghost use Rattle.pm_sealed.specs.Sealed.{LeavesSealed, Publishes, has_nothing};
-ghost use Rattle.pm_epoch.specs.Epochs.{AllocatesOwn, AreOfOwnBits, HandsOver, HasEnded, HasEntriesFor, HasSameHeap, HoldsCalls, HoldsOpenCall, IsAtWorkAlone, IsGiving, IsUnusedChunk, KnowsTaken, LoadsNoneOf, MayPublish, PromisesTaken, PublishesAlone, RestsBehindCall};
+ghost use Rattle.pm_epoch.specs.Epochs.{AllocatesOwn, AreOfOwnBits, HandsOver, HasEnded, HasEntriesFor, HasSameHeap, HoldsCalls, HoldsCommitted, HoldsOpenCall, IsAtWorkAlone, IsGiving, IsReservedFor, IsUnusedChunk, KnowsTaken, LoadsNoneOf, MayPublish, PromisesTaken, PublishesAlone, RestsBehindCall};
 
 /// A law: in a world where a lane has each word as it is, what it reserved may be allocated: a block of a run, by the class that the run's
 /// descriptor says, and chunks that are described by 0; and a block that it found under a lock may be freed, unless it is the root's, where
@@ -137,14 +142,46 @@ pub fn a_published_pool_stands()
 {}
 
 /// A law: where a lane works alone, with nothing undrained and no record or entry in the making, and its call has not drawn its number, its words as
-/// an image hold the pool to which its calls lead, one whole call after another; and as they stand they hold the pool of the plain model's
-/// transaction to which its open call came. No code runs.
+/// an image hold the pool to which its calls lead, one whole call after another; and as they stand they hold the pool that its open call stored, of which
+/// the copy of the plain model's transaction is that with what the call made and freed, where what it allocated lies in blocks that the lane reserved.
+/// No code runs.
 pub fn a_lane_alone_holds_its_pools()
     ensures calls { (o : Opening) (header : Header) (pool : PoolView) (v w : View) (steps : List Step)
         → WorksAlone o header pool v steps w → w.log.phase ≡ Open [] [] → w.changes ≡ [] → HoldsCalls o w header pool }
     ensures open_call { (o : Opening) (header : Header) (pool : PoolView) (v w : View) (steps : List Step) (level : ℕ) (at_stage : Stage) (error : TxErr)
-        → WorksAlone o header pool v steps w → w.log.phase ≡ Open [] [] → w.changes ≡ [] → IsOpen w level at_stage error
+        → WorksAlone o header pool v steps w → w.log.phase ≡ Open [] [] → w.changes ≡ [] → IsUnderWay w level at_stage error → All (IsReservedFor w) (allocated_in w)
         → HoldsOpenCall o w header pool level at_stage error }
+{}
+
+/// A law: the block of an object that lies in what a lane alone reserved overlaps no block of its words, where they have no fault. No code runs.
+pub fn a_reserved_block_overlaps_none()
+    ensures { (o : Opening) (header : Header) (pool : PoolView) (start v : View) (steps : List Step) (n : NewObject) (b : Block)
+        → WorksAlone o header pool start steps v → heap_fault (slice_index v.words) o.lanes o.zones ≡ None → IsReservedFor v n → Contains (blocks (slice_index v.words) o.lanes o.zones) b
+        → AreDisjoint (block_of n) b }
+{}
+
+/// A law: where a lane works alone, with nothing undrained and no record or entry in the making, and what its call allocated so far lies in blocks that it
+/// reserved, the pool before the call has room for that. No code runs.
+pub fn a_pool_has_room_for_what_is_reserved()
+    ensures { (o : Opening) (header : Header) (pool : PoolView) (start v : View) (steps : List Step)
+        → WorksAlone o header pool start steps v → v.log.phase ≡ Open [] [] → v.changes ≡ [] → (held : HoldsCalls o v header pool) → All (IsReservedFor v) (allocated_in v)
+        → HasRoomFor held.before (allocated_in v) }
+{}
+
+/// A law: where a lane works alone, with nothing undrained and no record or entry in the making, its call is committed and what that allocated lies in
+/// blocks that the lane reserved, the call turns the pool before it into its transaction's copy with what it published performed; and as they stand the
+/// words hold the pool that the call stored, of which the copy is that with what it made and freed. No code runs.
+pub fn a_committed_call_turns_its_pool()
+    ensures { (o : Opening) (header : Header) (pool : PoolView) (start u : View) (steps : List Step)
+        → WorksAlone o header pool start steps u → u.log.phase ≡ Open [] [] → u.changes ≡ [] → IsCommitted u → All (IsReservedFor u) (allocated_in u) → HoldsCommitted o u header pool }
+{}
+
+/// A law: where a lane works alone, and its call turns the pool to which its calls lead into another, they lead to that one with the call, whatever number
+/// it draws. No code runs.
+pub fn a_published_call_is_replayed()
+    ensures { (o : Opening) (header : Header) (pool : PoolView) (start u : View) (steps : List Step) (n : ℕ) (last : PoolView)
+        → WorksAlone o header pool start steps u → (held : HoldsCalls o u header pool) → Turns u held.before last
+        → Replays (opened pool) (acts_alone (u.entries ++ record { number = n; call = u.call } ∷ [])) (state_alone last (u.entries ++ record { number = n; call = u.call } ∷ [])) }
 {}
 
 /// A law: a lane that works alone and rests behind a call, with nothing locked and no chunk reserved that is a run, may begin again over its words as they

@@ -4,6 +4,7 @@ use super::*;
 #[test]
 fn laws(_rt: HostRuntime) {
     a_clear_chunk_is_unused();
+    a_committed_call_turns_its_pool();
     a_draw_hands_over();
     a_draw_promises_what_will_be_taken();
     a_filled_block_is_fresh();
@@ -16,8 +17,11 @@ fn laws(_rt: HostRuntime) {
     a_lane_holds_what_it_knows_behind_its_log();
     a_lane_knows_what_is_taken_behind_its_log();
     a_lane_whose_call_has_ended_begins_again();
+    a_pool_has_room_for_what_is_reserved();
     a_published_call_has_ended();
+    a_published_call_is_replayed();
     a_published_pool_stands();
+    a_reserved_block_overlaps_none();
     a_world_leads_to_what_is_published();
     changes_of_own_bits_are_in_order();
     giving_back_keeps_what_is_taken();
