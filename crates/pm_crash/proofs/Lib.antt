@@ -37,6 +37,7 @@ pub mod RefusedBegin
 pub mod AllocOn
 pub mod NewRanges
 pub mod NewWrites
+pub mod RefusedAlloc
 pub mod NamedObjects
 pub mod ActionsOn
 pub mod ActionsOutside

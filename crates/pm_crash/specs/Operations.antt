@@ -321,3 +321,17 @@ pub record WritesNewBytes (v next : View) (id : Oid) (off : ℕ) (bytes : List �
 pub record PassesNewEnd (v : View) (id : Oid) (off len : ℕ) : Type 0 where
   pub made : IsMade v id
   pub outside : made.new.size < off + len
+
+-- why an allocation is refused: for its size, since the log has no room for the entry, or since no free block was found. What the lane saw of free blocks is
+-- not asked for here: the model allows the last wherever the others don't apply
+abbrev pub IsAllocReason : View → ℕ → Refusal → Type 0
+IsAllocReason v size refusal.BadSize = (size ≡ 0) ⊎ (262080 < size)
+IsAllocReason v size refusal.ActionsFull = (1 ≤ size) × (size ≤ 262080) × (max_entries < entries_so_far v + 2)
+IsAllocReason v size refusal.NoSpace = (1 ≤ size) × (size ≤ 262080) × (entries_so_far v + 2 ≤ max_entries)
+IsAllocReason v size r = ⊥
+
+-- the lane refused to make an object, took back what the call did, and told so
+pub record RefusesAlloc (v next : View) (size kind : ℕ) (r : Refusal) : Type 0 where
+  pub reason : IsAllocReason v size r
+  pub tells : Tells v next (Alloc size kind) (Some (Refused r))
+  pub takes_back : TakesBack v next

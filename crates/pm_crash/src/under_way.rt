@@ -21,7 +21,7 @@ ghost use Rattle.pm_crash.specs.CallBlocks.{HasRoomFor, IsOldIn, NewObject, allo
 ghost use Rattle.pm_crash.specs.Held.{HoldsPool};
 ghost use Rattle.pm_crash.specs.OnActions.{AreOld, ChangesPending, IsPublishReasonIn, PublishesIn};
 ghost use Rattle.pm_crash.specs.OpenCall.{IsBefore, IsCommitted, IsUnderWay, LieApart, Turns, WasAborted};
-ghost use Rattle.pm_crash.specs.Operations.{AddsNewRange, AddsRange, AllocatesObject, BeginsCall, BeginsLevel, KeepsKnown, KeepsLog, KeepsWords, ReadsBytes, ReadsNewBytes, Refuses, RefusesLevel, TakesBack, Tells, TellsNothing, WritesBytes, WritesNewBytes};
+ghost use Rattle.pm_crash.specs.Operations.{AddsNewRange, AddsRange, AllocatesObject, BeginsCall, BeginsLevel, KeepsKnown, KeepsLog, KeepsWords, ReadsBytes, ReadsNewBytes, Refuses, RefusesAlloc, RefusesLevel, TakesBack, Tells, TellsNothing, WritesBytes, WritesNewBytes};
 ghost use Rattle.pm_crash.specs.Pending.{pending_in};
 
 /// A law: a call under way, which may have made and freed objects, goes on with each operation on what it found and did not free, as the plain
@@ -75,6 +75,8 @@ pub fn a_call_under_way_is_aborted()
         → IsUnderWay v level stage.Work error.None → IsPublishReasonIn v r → Tells v next Publish (Some (Refused r)) → TakesBack v next
         → All (λ (a : Action). is_new_in v (object_of a).off ≡ false) (pending_in v) → (r ≢ refusal.NotLocked → AreOld v (pending_in v))
         → WasAborted next (error.Refused r) }
+    ensures by_alloc { (v next : View) (size kind : ℕ) (r : Refusal) (level : ℕ) → 1 ≤ level
+        → IsUnderWay v level stage.Work error.None → RefusesAlloc v next size kind r → WasAborted next (error.Refused r) }
     ensures asked { (v next : View) (errnum level : ℕ) → 1 ≤ level
         → IsUnderWay v level stage.Work error.None → Tells v next (Abort errnum) None → TakesBack v next → WasAborted next (error_for errnum) }
     ensures taken_back { (v next : View) (e : TxErr) → WasAborted v e → TellsNothing v next → TakesBack v next → WasAborted next e }

@@ -1,5 +1,6 @@
 use Rattle.pm_crash.proofs.ActionsOn.{refused_publish_aborts}
 use Rattle.pm_crash.proofs.GivenUp.{abort_aborts, refusal_aborts}
+use Rattle.pm_crash.proofs.RefusedAlloc.{refused_alloc_aborts}
 use Rattle.pm_crash.proofs.RefusedBegin.{level_aborted}
 use Rattle.pm_crash.proofs.Staying.{aborted_learns, aborted_stays}
 use Rattle.pm_crash.proofs.under_way.a_call_under_way_is_aborted.Goals as goal
@@ -12,6 +13,9 @@ returns-clause-by_begin c = level_aborted
 
 pub returns-clause-by_publish : goal.returns-clause-by_publish
 returns-clause-by_publish c = refused_publish_aborts
+
+pub returns-clause-by_alloc : goal.returns-clause-by_alloc
+returns-clause-by_alloc c = refused_alloc_aborts
 
 pub returns-clause-asked : goal.returns-clause-asked
 returns-clause-asked c = abort_aborts
