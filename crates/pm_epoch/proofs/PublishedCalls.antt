@@ -1,5 +1,5 @@
 -- A call that a lane alone published has ended at its log's end.
-use Rattle.std.proofs.Common.{◌≡◌, ⊎_elim, ℕ, suc, zero, ◌+◌, ◌^◌, ◌<◌, ◌≤◌, Bool, true, false, All, List, [], ◌∷◌, ◌++◌, flat_map, length, length-append, slice_index, cond, is_none, is_some, Some, refl, sym, ap, ◌∙◌, subst, arith}
+use Rattle.std.proofs.Common.{◌≡◌, ⊎_elim, ℕ, suc, zero, ◌+◌, ◌^◌, ◌<◌, ◌≤◌, Bool, true, false, All, List, [], ◌∷◌, ◌++◌, flat_map, map, length, length-append, slice_index, cond, is_none, is_some, Some, refl, sym, ap, ◌∙◌, subst, arith}
 use Rattle.std.specs.List.{list_any}
 use Rattle.std.proofs.lemmas.Bool.{and_from, cases_lt, cond-true, false≢true, lt-ltb}
 use Rattle.pm_header.specs.declared.header.Header.{Header}
@@ -24,15 +24,22 @@ use Rattle.pm_world.specs.History.{Flies, settled}
 use Rattle.pm_world.specs.Lawful.{Allowed, generation_limit}
 use Rattle.pm_world.specs.Opening.{Opening}
 use Rattle.pm_world.specs.World.{Views, is_low, may_draw, may_draw_count}
-use Rattle.pm_crash.specs.Held.{HoldsImage}
+use Rattle.pm_model.specs.Actions.{with_actions}
+use Rattle.pm_model.specs.History.{opened}
+use Rattle.pm_model.specs.Names.{Replays}
+use Rattle.pm_crash.specs.Held.{HoldsImage, HoldsPool}
+use Rattle.pm_crash.specs.Pending.{acts_alone, published_in, state_alone}
+use Rattle.pm_crash.specs.Publishing.Published.{Changes, Performs}
 use Rattle.pm_crash.specs.Publishing.{Published, all_pool_published}
 use Rattle.pm_crash.proofs.AloneCourse.{StandsAlone, begins_alone, stands_at}
 use Rattle.pm_crash.proofs.AloneMemory.{memory_of}
 use Rattle.pm_crash.proofs.Continued.{two_same}
 use Rattle.pm_crash.proofs.OnTheWay.{alone_on_the_way}
+use Rattle.pm_crash.proofs.PublishedCopy.{committed_is_published}
 use Rattle.pm_sealed.specs.Sealed.{Publishes, is_publishing}
 use Rattle.pm_sealed.proofs.EndedLog as ended_log
-use Rattle.pm_epoch.specs.Epochs.{HasEnded, HasEntriesFor, HasSameHeap, MayPublish, PromisesTaken, PublishesAlone}
+use Rattle.pm_epoch.specs.Epochs.{HasEnded, HasEntriesFor, HasSameHeap, HoldsCommitted, MayPublish, PromisesTaken, PublishesAlone}
+use Rattle.pm_epoch.proofs.CallPools.{holds_committed}
 use Rattle.pm_epoch.proofs.DrawnCalls.{may_publish}
 use Rattle.pm_epoch.proofs.HandedOver.{allocated, hands_over, reserved_drawn}
 use Rattle.pm_epoch.proofs.HeldBehindLog.{holds_behind}
@@ -42,6 +49,7 @@ use Rattle.pm_epoch.proofs.PromisedTaken.{promises}
 use Rattle.pm_epoch.proofs.PublishedImages.{image_stands}
 use Rattle.pm_sealed.proofs.Steps.{begun_same}
 use Rattle.pm_epoch.proofs.PublishingHeap.{same_along, same_lane_along}
+use Rattle.pm_epoch.proofs.ReplayedCalls.{replays_with_call}
 use Rattle.pm_epoch.proofs.StandingPools.{own_fits}
 use Rattle.pm_epoch.proofs.TakenBehindLog.{knows_behind}
 
@@ -178,6 +186,30 @@ module _ (o : Opening) (header : Header) (pool : PoolView) (u : View) (n : ℕ) 
       let some = some_draws stands.views o.lanes 0 stands.goes.in_lanes (ap may_draw stands.here ∙ may_still u n call.draws) in
       let room = stands.goes.world.counter_room in omega (arith, long, some, room)
 
+  -- ---- to what its calls lead
+
+  held : HoldsCommitted o u header pool
+  held = holds_committed o header pool u stands call.draws.is_open call.draws.drained call.start call.works.begins call.in_reserved call.committed
+
+  -- the pool that it publishes all on is the one that the call stored
+  stored : call.made ≡ held.to.base
+  stored = (two_same (λ (a c : ℕ). HoldsPool (slice_index u.words) a c header call.made) u.lanes o.lanes u.zones o.zones fits.lane.lanes fits.lane.zones call.has.holds).is_pool ∙ sym held.holds.is_pool
+
+  abbrev last : PoolView
+  last = with_actions (published_in u) held.to.copy
+
+  published_last : all_pool_published o.lanes all call.made ≡ last
+  published_last =
+      ap (λ (lanes : ℕ). all_pool_published lanes all call.made) (sym fits.lane.lanes)
+      ∙ (ap (λ (steps : List Published). all_pool_published u.lanes steps call.made) call.are
+      ∙ (ap (λ (p : PoolView). all_pool_published u.lanes (map Performs (published_in u) ++ map Changes call.changes) p) stored
+      ∙ committed_is_published u held.words header held.held.before held.to call.changes call.of_call))
+
+  led : Replays (opened pool) (acts_alone w.entries) (state_alone (all_pool_published o.lanes all call.made) w.entries)
+  led = subst (λ (es : List Numbered). Replays (opened pool) (acts_alone es) (state_alone (all_pool_published o.lanes all call.made) es)) (sym entries)
+      (subst (λ (p : PoolView). Replays (opened pool) (acts_alone (u.entries ++ record { number = n; call = u.call } ∷ [])) (state_alone p (u.entries ++ record { number = n; call = u.call } ∷ []))) (sym published_last)
+      (replays_with_call u n fits.lane.lane pool held.held.before last held.held.replays held.to.turns))
+
   -- no other lane is at work, so it may publish what it has entries for
   may : MayPublish b header call.before call.made all
   may = subst (λ (x : View). MayPublish (after x (Draw n)) header call.before call.made all) stands.here
@@ -205,7 +237,7 @@ module _ (o : Opening) (header : Header) (pool : PoolView) (u : View) (n : ℕ) 
     now = all_pool_published o.lanes all call.made;
     holds = two_same (λ (a c : ℕ). HoldsImage w.words a c header (all_pool_published a all call.made)) u.lanes o.lanes u.zones o.zones fits.lane.lanes fits.lane.zones
         (image_stands b w header call.before call.made all call.log_steps may alone call.publishes call.over);
-    replays = call.replays;
+    replays = led;
     clean = λ j low. let lanes = fits.lane.lanes in let c = ended_log.clean b w call.log_steps may.seal alone call.publishes call.over j (omega (arith, lanes, low)) in
         record { unsealed = c.unsealed; first_generation = c.first_generation; last_generation = c.last_generation; stale = c.stale };
     lane = record { lanes = lane.lanes ∙ fits.lane.lanes; zones = lane.zones ∙ fits.lane.zones; lane = lane.lane ∙ fits.lane.lane; size = refl };

@@ -29,7 +29,8 @@ use Rattle.pm_world.specs.Fits.{IsLane}
 use Rattle.pm_world.specs.Opens.{IsClean}
 use Rattle.std.specs.Option.{ForSome}
 use Rattle.pm_crash.specs.Alone.{WorksAlone, standing}
-use Rattle.pm_crash.specs.CallBlocks.{NewObject, block_of}
+use Rattle.pm_crash.specs.CallBlocks.{NewObject, allocated_in, block_of}
+use Rattle.pm_crash.specs.CallChanges.{ChangesOf}
 use Rattle.pm_crash.specs.HeapChanges.{HeapChange, run_at}
 use Rattle.pm_crash.specs.NewObjects.{block_of_chunks, block_of_run}
 use Rattle.pm_crash.specs.Held.{HoldsImage, HoldsPool}
@@ -42,8 +43,8 @@ use Rattle.pm_model.specs.Names.{Replays}
 use Rattle.pm_model.specs.History.{opened}
 use Rattle.pm_model.specs.declared.stage.Stage.{Stage}
 use Rattle.pm_objects.specs.declared.history.TxErr.{TxErr}
-use Rattle.pm_crash.specs.OpenCall.{ComesTo, CommitsTo}
-use Rattle.pm_crash.specs.Pending.{acts_alone, state_alone}
+use Rattle.pm_crash.specs.OpenCall.{ComesTo, CommitsTo, IsCommitted}
+use Rattle.pm_crash.specs.Pending.{acts_alone, published_in, state_alone}
 use Rattle.pm_view.specs.Log.{Final, no_log}
 use Rattle.pm_view.specs.Log.Phase.{Idle}
 
@@ -242,14 +243,19 @@ abbrev pub LoadsNoneOf : List Final → Step → Type 0
 LoadsNoneOf entries (Load i found) = is_entered entries i ≡ false
 LoadsNoneOf entries s = Unit {0}
 
--- A lane worked alone to where its call draws this number, with an entry of its log for each of these. It allocates what it reserved, and no chunk that it
--- reserved is a run. It published to its log's end, and since the draw loaded no word that an entry is of. To the pool with all that was published its calls
--- lead, and the numbers drawn are its own.
+-- A lane worked alone to where its committed call draws this number, and what the call allocated lies in blocks that the lane reserved. Its log has an entry for
+-- each of these: the actions that the call published, and the changes of the heap that are its own, which allocate what the lane reserved; and no chunk that
+-- it reserved is a run. It published to its log's end, and since the draw loaded no word that an entry is of. The numbers drawn are its own.
 pub record PublishesAlone (o : Opening) (header : Header) (pool : PoolView) (u : View) (n : ℕ) (all : List Published) (w : View) : Type 0 where
   pub start : View
   pub steps : List Step
   pub works : WorksAlone o header pool start steps u
   pub draws : Allowed u (Draw n)
+  pub committed : IsCommitted u
+  pub in_reserved : All (IsReservedFor u) (allocated_in u)
+  pub changes : List HeapChange
+  pub of_call : ChangesOf u u.lanes changes
+  pub are : all ≡ map Performs (published_in u) ++ map Changes changes
   pub before : PoolView
   pub made : PoolView
   pub has : HasEntriesFor u header before made all
@@ -259,6 +265,5 @@ pub record PublishesAlone (o : Opening) (header : Header) (pool : PoolView) (u :
   pub publishes : Publishes (after u (Draw n)) log_steps w
   pub loads : All (LoadsNoneOf u.log.entries) log_steps
   pub over : w.log.phase ≡ Idle
-  pub replays : Replays (opened pool) (acts_alone w.entries) (state_alone (all_pool_published o.lanes all made) w.entries)
   pub numbered : AreNumbered 1 w.entries
   pub within : ForSome w.stop (λ stop. w.calls ≤ stop)
