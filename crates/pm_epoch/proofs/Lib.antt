@@ -4,6 +4,7 @@ pub mod PublishedPools
 pub mod PublishedImages
 pub mod ReservedBlocks
 pub mod OwnBits
+pub mod OwnAllocations
 pub mod FilledBlocks
 pub mod ClearChunks
 pub mod ReadyLanes

@@ -38,13 +38,14 @@ use Rattle.pm_crash.proofs.OnTheWay.{alone_on_the_way}
 use Rattle.pm_crash.proofs.PublishedCopy.{committed_is_published}
 use Rattle.pm_sealed.specs.Sealed.{Publishes, is_publishing}
 use Rattle.pm_sealed.proofs.EndedLog as ended_log
-use Rattle.pm_epoch.specs.Epochs.{HasEnded, HasEntriesFor, HasSameHeap, HoldsCommitted, MayPublish, PromisesTaken, PublishesAlone}
+use Rattle.pm_epoch.specs.Epochs.{AllocatesOwn, HasEnded, HasEntriesFor, HasSameHeap, HoldsCommitted, MayPublish, PromisesTaken, PublishesAlone}
 use Rattle.pm_epoch.proofs.CallPools.{holds_committed}
 use Rattle.pm_epoch.proofs.DrawnCalls.{may_publish}
 use Rattle.pm_epoch.proofs.HandedOver.{allocated, hands_over, reserved_drawn}
 use Rattle.pm_epoch.proofs.HeldBehindLog.{holds_behind}
 use Rattle.pm_epoch.proofs.KnowingLanes.{knows_at_work, none_freed}
 use Rattle.pm_epoch.proofs.LeftBlocks.{IsWordOfBits, left_all, left_small}
+use Rattle.pm_epoch.proofs.OwnAllocations.{allocates_own}
 use Rattle.pm_epoch.proofs.PromisedTaken.{promises}
 use Rattle.pm_epoch.proofs.PublishedImages.{image_stands}
 use Rattle.pm_sealed.proofs.Steps.{begun_same}
@@ -217,10 +218,13 @@ module _ (o : Opening) (header : Header) (pool : PoolView) (u : View) (n : ℕ) 
       (λ j low other. ap (λ (x : View). x.log.phase) (stands.others j other)) (λ i. ap (λ (x : View). slice_index x.words i) (sym stands.here))
       (subst (λ (x : View). Allowed x (Draw n)) (sym stands.here) call.draws) (subst (λ (x : View). HasEntriesFor x header call.before call.made all) (sym stands.here) call.has))
 
-  -- its picture promises what will be taken
+  -- what it allocates it reserved, so its picture promises what will be taken
+  own : AllocatesOwn u all
+  own = allocates_own o header pool u stands (published_in u) call.changes all call.are call.has.can call.of_call call.committed.has call.in_reserved
+
   promised : PromisesTaken b all
   promised = promises u n all (knows_at_work o header pool call.start u call.steps call.works call.no_run) (none_freed o header pool call.start u call.steps call.works)
-      (hands_over o header pool call.before call.made call.start u call.steps all call.works call.has n call.own)
+      (hands_over o header pool call.before call.made call.start u call.steps all call.works call.has n own)
 
   -- what it has reserved still is of the pool, and of bits of a word
   these_small : All IsWordOfBits (flat_map (allocated_by u) u.log.entries)

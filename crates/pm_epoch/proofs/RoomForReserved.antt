@@ -39,7 +39,7 @@ use Rattle.pm_epoch.proofs.ReservedBlocks.{block_free, chunks_free, telling}
 use Rattle.pm_epoch.proofs.StandingPools.{now, own_fits, reached, words_behind}
 
 -- an object's block has a line at least
-some_lines : (n : NewObject) → 1 ≤ (block_of n).lines
+pub some_lines : (n : NewObject) → 1 ≤ (block_of n).lines
 some_lines n = let needed : lines_for n.size ≤ block_lines (class_of n.size) = lines_needed n.size in omega (arith, needed)
 
 -- the object of a block ends with it
@@ -60,14 +60,14 @@ module _ (o : Opening) (header : Header) (pool : PoolView) (v : View) (s : Stand
   sees : (i : ℕ) → slice_index v.words i ≡ slice_index (s.views 0).words i
   sees i = ap (λ (u : View). slice_index u.words i) (sym s.here)
 
-  free_run : (c lines index : ℕ) → c < 64 * o.zones → index < 64 → slice_index v.words (descriptor_word o.lanes c) ≡ descriptor_of (Lines lines) → reserves v (run_at o.lanes c) index ≡ true
+  pub free_run : (c lines index : ℕ) → c < 64 * o.zones → index < 64 → slice_index v.words (descriptor_word o.lanes c) ≡ descriptor_of (Lines lines) → reserves v (run_at o.lanes c) index ≡ true
       → IsFreeInRun (slice_index v.words) o.lanes o.zones c lines index
   free_run c lines index =
       subst (λ (u : View). c < 64 * o.zones → index < 64 → slice_index u.words (descriptor_word o.lanes c) ≡ descriptor_of (Lines lines) → reserves u (run_at o.lanes c) index ≡ true
       → IsFreeInRun (slice_index u.words) o.lanes o.zones c lines index) s.here
       (block_free o (memory_of v) s.views s.log s.decided 0 s.goes.world s.goes.in_lanes sees c lines index)
 
-  free_chunks : (zone first count : ℕ) → zone < o.zones → first < 64 → first + count ≤ 64 → ((j : ℕ) → j < count → IsUnusedChunk o.lanes v zone (first + j))
+  pub free_chunks : (zone first count : ℕ) → zone < o.zones → first < 64 → first + count ≤ 64 → ((j : ℕ) → j < count → IsUnusedChunk o.lanes v zone (first + j))
       → AreFreeChunks (slice_index v.words) o.lanes o.zones (64 * zone + first) count
   free_chunks zone first count =
       subst (λ (u : View). zone < o.zones → first < 64 → first + count ≤ 64 → ((j : ℕ) → j < count → IsUnusedChunk o.lanes u zone (first + j))

@@ -35,7 +35,7 @@ use Rattle.pm_crash.specs.HeapChanges.{HeapChange, run_at}
 use Rattle.pm_crash.specs.NewObjects.{block_of_chunks, block_of_run}
 use Rattle.pm_crash.specs.Held.{HoldsImage, HoldsPool}
 use Rattle.pm_crash.specs.Publishing.Published.{Changes, Performs}
-use Rattle.pm_crash.specs.Publishing.{AreInOrder, CanPublish, Published, all_pool_published, entry_published}
+use Rattle.pm_crash.specs.Publishing.{AreInOrder, CanPublish, Published, entry_published}
 use Rattle.pm_crash.specs.Taken.{AllocatesBit, FreesBit, TakenBehindAll}
 use Rattle.pm_sealed.specs.Sealed.{MaySeal, Publishes}
 use Rattle.pm_world.specs.Opening.{Opening}
@@ -244,8 +244,8 @@ LoadsNoneOf entries (Load i found) = is_entered entries i ≡ false
 LoadsNoneOf entries s = Unit {0}
 
 -- A lane worked alone to where its committed call draws this number, and what the call allocated lies in blocks that the lane reserved. Its log has an entry for
--- each of these: the actions that the call published, and the changes of the heap that are its own, which allocate what the lane reserved; and no chunk that
--- it reserved is a run. It published to its log's end, and since the draw loaded no word that an entry is of. The numbers drawn are its own.
+-- each of these: the actions that the call published, and the changes of the heap that are its own; and no chunk that the lane reserved is a run. It published
+-- to its log's end, and since the draw loaded no word that an entry is of. The numbers drawn are its own.
 pub record PublishesAlone (o : Opening) (header : Header) (pool : PoolView) (u : View) (n : ℕ) (all : List Published) (w : View) : Type 0 where
   pub start : View
   pub steps : List Step
@@ -259,7 +259,6 @@ pub record PublishesAlone (o : Opening) (header : Header) (pool : PoolView) (u :
   pub before : PoolView
   pub made : PoolView
   pub has : HasEntriesFor u header before made all
-  pub own : AllocatesOwn u all
   pub no_run : (page : ℕ) → is_made u page ≡ false
   pub log_steps : List Step
   pub publishes : Publishes (after u (Draw n)) log_steps w
