@@ -23,8 +23,10 @@ pub mod HandedOver
 pub mod StayingWords
 pub mod HeldBehindLog
 pub mod DrawnCalls
+pub mod PublishingCalls
 pub mod PublishedCalls
 pub mod BlockPlaces
 pub mod RoomForReserved
 pub mod CallPools
 pub mod ReplayedCalls
+pub mod LeftCalls

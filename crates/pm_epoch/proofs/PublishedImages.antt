@@ -34,7 +34,7 @@ use Rattle.pm_epoch.proofs.PublishedPools.{holds_left, size, was_left}
 use Rattle.pm_epoch.proofs.Targets.{IsTarget, published_target}
 
 -- what holds a pool means it
-means : (image : List ℕ) (lanes zones : ℕ) (header : Header) (pool : PoolView) → HoldsImage image lanes zones header pool → IsMeaning image pool
+pub means : (image : List ℕ) (lanes zones : ℕ) (header : Header) (pool : PoolView) → HoldsImage image lanes zones header pool → IsMeaning image pool
 means image lanes zones header pool holds = record {
   lanes = lanes;
   zones = zones;
@@ -67,7 +67,7 @@ module _ (b : View) (header : Header) (before now : PoolView) (all : List Publis
       (get-push_cases front last i f (ap (λ fs. slice_get fs i) (sym may.has.entries) ∙ at))
 
   -- the header page has no entry
-  unentered_front : (i : ℕ) → i < 512 → is_entered b.log.entries i ≡ false
+  pub unentered_front : (i : ℕ) → i < 512 → is_entered b.log.entries i ≡ false
   unentered_front i low = false_from_ne_true (is_entered b.log.entries i) (λ e.
       let t = entry_of_word b.log.entries i e in
       let is = t.of in

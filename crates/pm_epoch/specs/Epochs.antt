@@ -244,9 +244,9 @@ LoadsNoneOf entries (Load i found) = is_entered entries i ≡ false
 LoadsNoneOf entries s = Unit {0}
 
 -- A lane worked alone to where its committed call draws this number, and what the call allocated lies in blocks that the lane reserved. Its log has an entry for
--- each of these: the actions that the call published, and the changes of the heap that are its own; and no chunk that the lane reserved is a run. It published
--- to its log's end, and since the draw loaded no word that an entry is of. The numbers drawn are its own.
-pub record PublishesAlone (o : Opening) (header : Header) (pool : PoolView) (u : View) (n : ℕ) (all : List Published) (w : View) : Type 0 where
+-- each of these: the actions that the call published, and the changes of the heap that are its own. Since the draw it made steps that publish the log. The
+-- numbers drawn are its own.
+pub record IsPublishing (o : Opening) (header : Header) (pool : PoolView) (u : View) (n : ℕ) (all : List Published) (w : View) : Type 0 where
   pub start : View
   pub steps : List Step
   pub works : WorksAlone o header pool start steps u
@@ -259,10 +259,14 @@ pub record PublishesAlone (o : Opening) (header : Header) (pool : PoolView) (u :
   pub before : PoolView
   pub made : PoolView
   pub has : HasEntriesFor u header before made all
-  pub no_run : (page : ℕ) → is_made u page ≡ false
   pub log_steps : List Step
   pub publishes : Publishes (after u (Draw n)) log_steps w
-  pub loads : All (LoadsNoneOf u.log.entries) log_steps
-  pub over : w.log.phase ≡ Idle
   pub numbered : AreNumbered 1 w.entries
+
+-- It published to its log's end, and since the draw loaded no word that an entry is of; and no chunk that it had reserved is a run.
+pub record PublishesAlone (o : Opening) (header : Header) (pool : PoolView) (u : View) (n : ℕ) (all : List Published) (w : View) : Type 0 where
+  pub publishing : IsPublishing o header pool u n all w
+  pub no_run : (page : ℕ) → is_made u page ≡ false
+  pub loads : All (LoadsNoneOf u.log.entries) publishing.log_steps
+  pub over : w.log.phase ≡ Idle
   pub within : ForSome w.stop (λ stop. w.calls ≤ stop)

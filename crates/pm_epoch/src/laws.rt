@@ -1,4 +1,4 @@
-ghost use Rattle.std.specs.Prelude.{◌≡◌, ◌≢◌, ◌↔◌, ℕ, ◌+◌, ◌*◌, ◌<◌, ◌≤◌, Bool, IsTrue, true, false, All, Contains, List, [], ◌∷◌, ◌++◌, map, slice_index, None, Some};
+ghost use Rattle.std.specs.Prelude.{◌≡◌, ◌≢◌, ◌↔◌, ℕ, ◌+◌, ◌*◌, ◌<◌, ◌≤◌, Bool, IsTrue, true, false, All, Contains, List, [], ◌∷◌, ◌++◌, length, map, slice_index, None, Some};
 ghost use Rattle.std.specs.Int.{bit_at};
 ghost use Rattle.pm_header.specs.declared.header.Header.{Header};
 ghost use Rattle.pm_objects.specs.Pool.{block_lines};
@@ -12,6 +12,7 @@ ghost use Rattle.pm_image.specs.Blocks.{blocks, descriptor_word};
 ghost use Rattle.pm_image.specs.HeapFaults.{heap_fault};
 ghost use Rattle.pm_image.specs.Logs.{recovered_at};
 ghost use Rattle.pm_image.specs.Means.{IsMeaning};
+ghost use Rattle.pm_memory.specs.Keep.{IsKeptImage};
 ghost use Rattle.pm_model.specs.Actions.{Action};
 ghost use Rattle.pm_model.specs.History.{opened};
 ghost use Rattle.pm_model.specs.Names.{Replays};
@@ -38,7 +39,7 @@ ghost use Rattle.pm_crash.specs.NewObjects.{AreFreeChunks, IsFreeInRun, IsFreshB
 ghost use Rattle.pm_crash.specs.Held.{HoldsImage, HoldsPool};
 ghost use Rattle.pm_crash.specs.Publishing.Published.{Changes, Performs};
 ghost use Rattle.pm_crash.specs.Publishing.{AreInOrder, Published, all_blocks_published, all_pool_published};
-ghost use Rattle.pm_crash.specs.Alone.{BeginsAgain, WorksAlone, standing};
+ghost use Rattle.pm_crash.specs.Alone.{BeginsAgain, MeansCalls, WorksAlone, kept_numbered, standing};
 ghost use Rattle.pm_crash.specs.CallBlocks.{HasRoomFor, NewObject, allocated_in, block_of};
 ghost use Rattle.pm_crash.specs.OpenCall.{IsCommitted, IsUnderWay, Turns};
 ghost use Rattle.pm_crash.specs.Pending.{acts_alone, state_alone};
@@ -48,7 +49,7 @@ ghost use Rattle.pm_fresh.specs.Making.{page_in};
 ghost use Rattle.pm_blocks.specs.NewRuns.{IsUnused};
 ghost use Rattle.pm_alloc.specs.NewObjects.{CanMakeObject};
 ghost use Rattle.pm_sealed.specs.Sealed.{LeavesSealed, Publishes, has_nothing};
-ghost use Rattle.pm_epoch.specs.Epochs.{AllocatesOwn, AreOfOwnBits, HandsOver, HasEnded, HasEntriesFor, HasSameHeap, HoldsCalls, HoldsCommitted, HoldsOpenCall, IsAtWorkAlone, IsGiving, IsReservedFor, IsUnusedChunk, KnowsTaken, LoadsNoneOf, MayPublish, PromisesTaken, PublishesAlone, RestsBehindCall};
+ghost use Rattle.pm_epoch.specs.Epochs.{AllocatesOwn, AreOfOwnBits, HandsOver, HasEnded, HasEntriesFor, HasSameHeap, HoldsCalls, HoldsCommitted, HoldsOpenCall, IsAtWorkAlone, IsGiving, IsPublishing, IsReservedFor, IsUnusedChunk, KnowsTaken, LoadsNoneOf, MayPublish, PromisesTaken, PublishesAlone, RestsBehindCall};
 
 /// A law: in a world where a lane has each word as it is, what it reserved may be allocated: a block of a run, by the class that the run's
 /// descriptor says, and chunks that are described by 0; and a block that it found under a lock may be freed, unless it is the root's, where
@@ -224,6 +225,20 @@ pub fn a_lane_whose_call_has_ended_begins_again()
 pub fn a_published_call_has_ended()
     ensures { (o : Opening) (header : Header) (pool : PoolView) (u : View) (n : ℕ) (all : List Published) (w : View) → PublishesAlone o header pool u n all w
         → HasEnded o header pool w }
+{}
+
+/// A law: while a lane that is alone publishes its committed call, each image that a power failure leaves of its words means the pool to which the calls
+/// that it does not lose lead, in order, from the pool at the opening; and it has the opening's length and header page. Once the call has ended the image
+/// means the pool to which all of them lead. No code runs.
+pub fn a_publishing_lane_leaves_its_whole_calls()
+    ensures meaning { (o : Opening) (header : Header) (pool : PoolView) (u : View) (n : ℕ) (all : List Published) (w : View) (keep : ℕ) (image : List ℕ)
+        → IsPublishing o header pool u n all w → IsKeptImage keep w.words (w.changes ∷ []) image → MeansCalls image o.lanes o.zones pool (kept_numbered image w) }
+    ensures header_page { (o : Opening) (header : Header) (pool : PoolView) (u : View) (n : ℕ) (all : List Published) (w : View) (keep : ℕ) (image : List ℕ)
+        → IsPublishing o header pool u n all w → IsKeptImage keep w.words (w.changes ∷ []) image → (i : ℕ) → i < 512 → slice_index image i ≡ slice_index o.words i }
+    ensures size { (o : Opening) (header : Header) (pool : PoolView) (u : View) (n : ℕ) (all : List Published) (w : View) (keep : ℕ) (image : List ℕ)
+        → IsPublishing o header pool u n all w → IsKeptImage keep w.words (w.changes ∷ []) image → length image ≡ length o.words }
+    ensures ended { (o : Opening) (header : Header) (pool : PoolView) (v : View) (keep : ℕ) (image : List ℕ)
+        → HasEnded o header pool v → IsKeptImage keep v.words (v.changes ∷ []) image → MeansCalls image o.lanes o.zones pool v.entries }
 {}
 
 /// A law: where each bit of a lane's picture of an occupancy word is set exactly where what it is of is taken by its words, or the lane has it, and it freed

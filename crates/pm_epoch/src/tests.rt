@@ -21,6 +21,7 @@ fn laws(_rt: HostRuntime) {
     a_published_call_has_ended();
     a_published_call_is_replayed();
     a_published_pool_stands();
+    a_publishing_lane_leaves_its_whole_calls();
     a_reserved_block_overlaps_none();
     a_world_leads_to_what_is_published();
     changes_of_own_bits_are_in_order();

@@ -1,19 +1,18 @@
 -- What a world says of the logs is what a lane needs to seal its own.
 use Rattle.std.proofs.Common.{◌≡◌, ◌≢◌, ℕ, ◌+◌, ◌*◌, ◌<◌, ◌≤◌, ⊎_elim, Bool, true, List, [], ◌∷◌, length, slice_get, slice_index, Some, refl, sym, ap, ◌∙◌, subst, arith, get_or, length-append, ◌^◌}
-use Rattle.std.proofs.lemmas.Bool.{and_from, cases_lt, le-leb, lt-ltb}
+use Rattle.std.proofs.lemmas.Bool.{cases_lt}
 use Rattle.std.proofs.lemmas.List.Elements.{All-weaker}
 use Rattle.std.proofs.lemmas.Option.{same_Some, slice_get-get_or}
 use Rattle.pm_record.specs.Undo.{undo_of}
 use Rattle.pm_record.specs.declared.undo.Undo.{Undo}
-use Rattle.pm_view.specs.Area.{area_word, is_in_area}
 use Rattle.pm_view.specs.Log.{Final, Log, Recorded, log_drawn, phase_drawn}
 use Rattle.pm_view.specs.Log.Phase.{Drawn, Idle}
 use Rattle.pm_view.specs.Steps.Step.{Draw}
 use Rattle.pm_view.specs.View.{View}
 use Rattle.pm_view.specs.Views.{after}
-use Rattle.pm_image.specs.Logs.{slot_line, undo_slot}
+use Rattle.pm_image.specs.Logs.{undo_slot}
 use Rattle.pm_world.specs.Entries.{LeaveWord, ends_with, is_or_entered, seal_in}
-use Rattle.pm_world.specs.Fits.{LaneFits, PhaseFits}
+use Rattle.pm_world.specs.Fits.{LaneFits}
 use Rattle.pm_world.specs.History.{Entry, Flies, settled}
 use Rattle.pm_world.specs.Lawful.{Allowed}
 use Rattle.pm_world.specs.Memory.{Memory}
@@ -24,7 +23,6 @@ use Rattle.pm_world.specs.Records.{IsRecordAt, generation_of, records_generation
 use Rattle.pm_world.specs.World.{Views, World}
 use Rattle.pm_sealed.proofs.IdleLanes.{idle_clean}
 use Rattle.pm_world.proofs.CrashSpellings.{undo_from, undo_of-spelled}
-use Rattle.pm_world.proofs.CrashWords.{slot_same}
 use Rattle.pm_sealed.specs.Sealed.{HasWholeLog, IsOfPool, MaySeal, SealingLaw, pool_seen}
 
 module _ (o : Opening) (mem : Memory) (views : Views) (log : List Entry) (decided : ℕ → Bool) (k n : ℕ) (world : World o mem views log decided) (inside : k < o.lanes)

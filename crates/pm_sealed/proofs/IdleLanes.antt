@@ -1,30 +1,21 @@
 -- In a world each lane of which no call is open has a clean log, by words that the memory has.
-use Rattle.std.proofs.Common.{◌≡◌, ◌≢◌, ℕ, ◌+◌, ◌*◌, ◌<◌, ◌≤◌, ⊎_elim, Bool, true, List, [], ◌∷◌, length, slice_get, slice_index, Some, refl, sym, ap, ◌∙◌, subst, arith, get_or, length-append, ◌^◌}
-use Rattle.std.proofs.lemmas.Bool.{and_from, cases_lt, le-leb, lt-ltb}
-use Rattle.std.proofs.lemmas.List.Elements.{All-weaker}
-use Rattle.std.proofs.lemmas.Option.{same_Some, slice_get-get_or}
+use Rattle.std.proofs.Common.{◌≡◌, ℕ, ◌+◌, ◌*◌, ◌<◌, ◌≤◌, Bool, true, List, length, slice_index, sym, ap, ◌∙◌, subst, arith}
+use Rattle.std.proofs.lemmas.Bool.{and_from, le-leb, lt-ltb}
 use Rattle.pm_record.specs.Undo.{undo_of}
-use Rattle.pm_record.specs.declared.undo.Undo.{Undo}
 use Rattle.pm_view.specs.Area.{area_word, is_in_area}
-use Rattle.pm_view.specs.Log.{Final, Log, Recorded, log_drawn, phase_drawn}
-use Rattle.pm_view.specs.Log.Phase.{Drawn, Idle}
-use Rattle.pm_view.specs.Steps.Step.{Draw}
-use Rattle.pm_view.specs.View.{View}
-use Rattle.pm_view.specs.Views.{after}
+use Rattle.pm_view.specs.Log.{Recorded}
+use Rattle.pm_view.specs.Log.Phase.{Idle}
 use Rattle.pm_image.specs.Logs.{slot_line, undo_slot}
-use Rattle.pm_world.specs.Entries.{LeaveWord, ends_with, is_or_entered, seal_in}
+use Rattle.pm_world.specs.Entries.{seal_in}
 use Rattle.pm_world.specs.Fits.{LaneFits, PhaseFits}
 use Rattle.pm_world.specs.History.{Entry, Flies, settled}
-use Rattle.pm_world.specs.Lawful.{Allowed}
 use Rattle.pm_world.specs.Memory.{Memory}
 use Rattle.pm_world.specs.Memory.Location.{PoolWord}
 use Rattle.pm_world.specs.Opening.{Opening}
 use Rattle.pm_world.specs.Opens.{IsClean}
-use Rattle.pm_world.specs.Records.{IsRecordAt, generation_of, records_generation, used_slots}
+use Rattle.pm_world.specs.Records.{generation_of, records_generation, used_slots}
 use Rattle.pm_world.specs.World.{Views, World}
-use Rattle.pm_world.proofs.CrashSpellings.{undo_from, undo_of-spelled}
 use Rattle.pm_world.proofs.CrashWords.{slot_same}
-use Rattle.pm_sealed.specs.Sealed.{HasWholeLog, IsOfPool, MaySeal, SealingLaw, pool_seen}
 
 module _ (o : Opening) (mem : Memory) (views : Views) (log : List Entry) (decided : ℕ → Bool) (world : World o mem views log decided) (words : List ℕ) (long : length words ≡ length o.words) (sees : (w : ℕ) → mem (PoolWord w) ≡ slice_index words w)
     (j : ℕ) (in_lanes : j < o.lanes) (idle : (views j).log.phase ≡ Idle) where

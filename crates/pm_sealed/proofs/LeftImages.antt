@@ -1,5 +1,5 @@
 -- What a power failure leaves at each stage of a log that is published.
-use Rattle.std.proofs.Common.{◌≡◌, ◌≢◌, ℕ, zero, suc, ◌+◌, ◌^◌, ◌<◌, ◌⊎◌, inl, inr, ⊎_elim, true, false, eqb, ◌&&◌, All, Contains, List, [], ◌∷◌, length, take, drop, slice_index, refl, sym, ap, ◌∙◌, subst, arith, eq-eqb, ne_eqb, ◌≤◌, length-append}
+use Rattle.std.proofs.Common.{◌≡◌, ◌≢◌, ℕ, zero, suc, ◌+◌, ◌^◌, ◌<◌, ◌⊎◌, inl, inr, ⊎_elim, Bool, true, false, not, eqb, ◌&&◌, Option, Some, All, Contains, List, [], ◌∷◌, length, take, drop, slice_index, refl, sym, ap, ◌∙◌, subst, arith, eq-eqb, ne_eqb, ◌≤◌, length-append}
 use Rattle.std.specs.Int.{bit_at}
 use Rattle.std.proofs.lemmas.Bool.{and_from, and_left, and_right, cases_eq, cases_lt, eqb-true, false≢true, false_from_ne_true, or_from, or_parts}
 use Rattle.std.proofs.lemmas.List.{take_all}
@@ -16,6 +16,8 @@ use Rattle.pm_view.specs.View.{View}
 use Rattle.pm_view.proofs.Finding.{whole-taken_back}
 use Rattle.pm_image.specs.Logs.{generation_word, recovered, seal_word}
 use Rattle.pm_memory.specs.Keep.{IsKeptImage, kept}
+use Rattle.pm_world.specs.Course.{is_number}
+use Rattle.pm_world.specs.Crash.{is_deciding_in, loses}
 use Rattle.pm_world.specs.Entries.{ends_with, is_bit_entered, is_entered}
 use Rattle.pm_world.specs.Fits.{SealChange}
 use Rattle.pm_world.specs.History.{made_final}
@@ -42,6 +44,14 @@ dropped_all P n w cs each = All-drop P n (changes_of w cs) (All-weaker (Contains
 left_none : (lost : List Change) (x : ℕ) → All (λ c. ⊥) lost → all_taken_back lost x ≡ x
 left_none [] x none = refl
 left_none (c ∷ lost) x none = absurd (All-head (λ d. ⊥) c lost none)
+
+with_true : (t u : Bool) → u ≡ true → t ≡ t && u
+with_true true u is = sym is
+with_true false u is = refl
+
+twice : (t : Bool) → not (not t) ≡ t
+twice true = refl
+twice false = refl
 
 -- where each change is of the whole word, and found this there
 left_whole : (lost : List Change) (x old : ℕ) → All (λ c. (c.mask ≡ all_bits) × (c.old ≡ old)) lost → (all_taken_back lost x ≡ x) ⊎ (all_taken_back lost x ≡ old)
@@ -253,6 +263,26 @@ module _ (b : View) (may_seal : MaySeal b) (w : View) (at : IsAtStage b w) (keep
     by_kind (Sealed s) = sealed_makes b may_seal image s
     by_kind (Cleared s) = cleared_makes b may_seal image s
 
+  -- it loses the call where it has nothing of it
+  deciding_left : (phase : Phase) → Stage b w phase → is_deciding_in image w phase ≡ not (has_nothing image b)
+  deciding_left Idle s = ap not (sym (cleared_some (idle_kind s)))
+  deciding_left (Open slot pair) s = absurd s
+  deciding_left Drawn s = ap not (sym (has_none (λ i inside. undrained_none s.drained i inside ∙ s.words i)))
+  deciding_left Sealing s =
+      let low = lane_words.1 in
+      let generation : eqb (generation_word image b.lane) (generation_of b) ≡ true =
+      eq-eqb (generation_word image b.lane) (generation_of b) (beside_seal 0 s.changes (area_word b.lane) low (λ same. absurd (omega (arith, same))) ∙ s.words (area_word b.lane) (λ same. absurd (omega (arith, same)))) in
+      ap (λ (lane : ℕ). not (eqb (seal_word image lane) 0)) at.lane
+      ∙ ap not (with_true (eqb (seal_word image b.lane) 0) (eqb (generation_word image b.lane) (generation_of b)) generation)
+  deciding_left (Applying applied) s = ap not (sym (sealed_some (applying_kind applied s)))
+  deciding_left Clearing s = ap not (sym (⊎_elim (λ sealed. sealed_some sealed) (λ cleared. cleared_some cleared) (clearing_kind s)))
+  deciding_left Retiring s = absurd s
+
+  pub lost_left : (n : ℕ) → w.number ≡ Some n → loses image w n ≡ has_nothing image b
+  lost_left n number =
+      ap (λ (t : Bool). t && not (is_deciding_in image w w.log.phase)) (ap (λ (m : Option ℕ). is_number m n) number ∙ eq-eqb n n refl)
+      ∙ (ap not (deciding_left w.log.phase at.stage) ∙ twice (has_nothing image b))
+
   decided_left : (phase : Phase) → is_decided phase ≡ true → Stage b w phase → has_nothing image b ≡ false
   decided_left Idle decided s = cleared_some (idle_kind s)
   decided_left (Open slot pair) decided s = absurd s
@@ -277,3 +307,6 @@ module _ (b w : View) (steps : List Step) (keep : ℕ) (image : List ℕ) (leave
 
   pub same_size : length image ≡ length b.words
   same_size = leaves.left.size ∙ at_end.size
+
+  pub loses_nothing_of : (n : ℕ) → w.number ≡ Some n → loses image w n ≡ has_nothing image b
+  loses_nothing_of = lost_left b leaves.may w at_end keep image leaves.left

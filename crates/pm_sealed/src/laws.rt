@@ -1,10 +1,11 @@
-ghost use Rattle.std.specs.Prelude.{◌≡◌, ℕ, ◌<◌, true, false, List, [], length, slice_index, None};
+ghost use Rattle.std.specs.Prelude.{◌≡◌, ℕ, ◌<◌, true, false, List, [], length, slice_index, None, Some};
 ghost use Rattle.pm_image.specs.LogFaults.{log_fault};
 ghost use Rattle.pm_image.specs.Logs.{recovered};
 ghost use Rattle.pm_view.specs.Founds.{IsAlone};
 ghost use Rattle.pm_view.specs.Log.Phase.{Idle};
 ghost use Rattle.pm_view.specs.Steps.{Step};
 ghost use Rattle.pm_view.specs.View.{View};
+ghost use Rattle.pm_world.specs.Crash.{loses};
 ghost use Rattle.pm_world.specs.Entries.{is_entered};
 ghost use Rattle.pm_world.specs.History.{made_final};
 ghost use Rattle.pm_world.specs.Opens.{IsClean};
@@ -18,8 +19,8 @@ pub fn a_world_leads_to_the_seal()
 
 /// A law: a lane that is alone publishes all of its entries or nothing, whatever words they are of. What a power failure leaves either has
 /// nothing of the call, and then each word is as before the seal was stored; or its recovered words, but for the lanes' areas, are what the
-/// entries make of those words. Once the seal is drained the image has something of the call. A word that no entry is of is as it was. No
-/// code runs.
+/// entries make of those words. Once the seal is drained the image has something of the call, and it loses the call exactly where it has
+/// nothing of it. A word that no entry is of is as it was. No code runs.
 pub fn a_lane_alone_publishes_all_or_nothing()
     ensures nothing { (b w : View) (steps : List Step) (keep : ℕ) (image : List ℕ) → LeavesSealed b steps w keep image → has_nothing image b ≡ true
         → (i : ℕ) → i < length b.words → slice_index image i ≡ slice_index b.words i }
@@ -28,6 +29,8 @@ pub fn a_lane_alone_publishes_all_or_nothing()
         → recovered image b.lanes i ≡ made_final b.log.entries i (slice_index b.words i) }
     ensures decided { (b w : View) (steps : List Step) (keep : ℕ) (image : List ℕ) → LeavesSealed b steps w keep image → is_decided w.log.phase ≡ true
         → has_nothing image b ≡ false }
+    ensures lost { (b w : View) (steps : List Step) (keep : ℕ) (image : List ℕ) (n : ℕ) → LeavesSealed b steps w keep image → w.number ≡ Some n
+        → loses image w n ≡ has_nothing image b }
     ensures beside { (b w : View) (steps : List Step) (keep : ℕ) (image : List ℕ) → LeavesSealed b steps w keep image
         → (i : ℕ) → i < length b.words → IsOutside b.lanes i → is_entered b.log.entries i ≡ false → slice_index image i ≡ slice_index b.words i }
     ensures size { (b w : View) (steps : List Step) (keep : ℕ) (image : List ℕ) → LeavesSealed b steps w keep image → length image ≡ length b.words }

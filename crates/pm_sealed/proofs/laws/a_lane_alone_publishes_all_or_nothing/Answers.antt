@@ -1,4 +1,4 @@
-use Rattle.pm_sealed.proofs.LeftImages.{all_of_it, decides, nothing, same_size}
+use Rattle.pm_sealed.proofs.LeftImages.{all_of_it, decides, loses_nothing_of, nothing, same_size}
 use Rattle.pm_sealed.proofs.NoFaults.{beside}
 use Rattle.pm_sealed.proofs.laws.a_lane_alone_publishes_all_or_nothing.Goals as goal
 
@@ -7,6 +7,7 @@ returns c = record {
   nothing = nothing;
   all = all_of_it;
   decided = decides;
+  lost = λ b w steps keep image n leaves number. loses_nothing_of b w steps keep image leaves n number;
   beside = beside;
   size = same_size;
 }
