@@ -34,7 +34,7 @@ use Rattle.pm_sealed.proofs.LeftImages.{loses_nothing_of, same_size}
 use Rattle.pm_sealed.proofs.NoFaults.{beside}
 use Rattle.pm_epoch.specs.Epochs.{HasEnded, IsPublishing, MayPublish}
 use Rattle.pm_epoch.proofs.PublishedImages.{all_left, means, nothing_left, unentered_front}
-use Rattle.pm_epoch.proofs.PublishingCalls.{alone, entries, fits, heap, held, led, may, newest}
+use Rattle.pm_epoch.proofs.PublishingCalls.{alone, base, before, entries, fits, heap, held, led, may, newest}
 
 -- an image that holds a pool to which some calls lead means them
 means_calls : (image : List ℕ) (lanes zones : ℕ) (header : Header) (pool last : PoolView) (calls : List Numbered) → HoldsImage image lanes zones header last
@@ -54,7 +54,13 @@ module _ (o : Opening) (header : Header) (pool : PoolView) (u : View) (n : ℕ) 
   abbrev b : View
   b = after u (Draw n)
 
-  may_now : MayPublish b header call.before call.made all
+  abbrev before_it : PoolView
+  before_it = before o header pool u n all w call
+
+  abbrev its_base : PoolView
+  its_base = base o header pool u n all w call
+
+  may_now : MayPublish b header before_it its_base all
   may_now = may o header pool u n all w call
 
   leaves : LeavesSealed b call.log_steps w keep image
@@ -91,27 +97,21 @@ module _ (o : Opening) (header : Header) (pool : PoolView) (u : View) (n : ℕ) 
   lost : loses image w n ≡ has_nothing image b
   lost = loses_nothing_of b w call.log_steps keep image leaves n number
 
-  -- the pool before the call is one, however it is told
-  same_before : (held o header pool u n all w call).held.before ≡ call.before
-  same_before =
-      (held o header pool u n all w call).held.holds.holds.is_pool
-      ∙ sym (two_same (λ (a c : ℕ). HoldsImage u.words a c header call.before) u.lanes o.lanes u.zones o.zones (fits o header pool u n all w call).lane.lanes (fits o header pool u n all w call).lane.zones call.has.was).holds.is_pool
-
   without : has_nothing image b ≡ true → MeansCalls image o.lanes o.zones pool (kept_numbered image w)
   without none =
       let no_more : cond (is_left drawn) (drawn ∷ []) [] ≡ [] = cond-false (is_left drawn) (drawn ∷ []) [] (ap not (lost ∙ none)) in
       subst (MeansCalls image o.lanes o.zones pool) (sym (calls_left ∙ (ap (λ (l : List Numbered). u.entries ++ l) no_more ∙ append-nil u.entries)))
-      (means_calls image o.lanes o.zones header pool call.before u.entries (here call.before (nothing_left b w header call.before call.made all call.log_steps keep image may_now leaves none).0)
-      (subst (λ (p : PoolView). Replays (opened pool) (acts_alone u.entries) (state_alone p u.entries)) same_before (held o header pool u n all w call).held.replays))
+      (means_calls image o.lanes o.zones header pool before_it u.entries (here before_it (nothing_left b w header before_it its_base all call.log_steps keep image may_now leaves none).0)
+      (held o header pool u n all w call).held.replays)
 
   with_it : has_nothing image b ≡ false → MeansCalls image o.lanes o.zones pool (kept_numbered image w)
   with_it some =
       let one_more : cond (is_left drawn) (drawn ∷ []) [] ≡ drawn ∷ [] = cond-true (is_left drawn) (drawn ∷ []) [] (ap not (lost ∙ some)) in
       let lanes : b.lanes ≡ o.lanes = (fits o header pool u n all w call).lane.lanes in
       subst (MeansCalls image o.lanes o.zones pool) (sym (calls_left ∙ (ap (λ (l : List Numbered). u.entries ++ l) one_more ∙ sym (entries o header pool u n all w call))))
-      (means_calls image o.lanes o.zones header pool (all_pool_published o.lanes all call.made) w.entries
-      (subst (λ (k : ℕ). HoldsImage image o.lanes o.zones header (all_pool_published k all call.made)) lanes
-      (here (all_pool_published b.lanes all call.made) (all_left b w header call.before call.made all call.log_steps keep image may_now leaves some).0))
+      (means_calls image o.lanes o.zones header pool (all_pool_published o.lanes all its_base) w.entries
+      (subst (λ (k : ℕ). HoldsImage image o.lanes o.zones header (all_pool_published k all its_base)) lanes
+      (here (all_pool_published b.lanes all its_base) (all_left b w header before_it its_base all call.log_steps keep image may_now leaves some).0))
       (led o header pool u n all w call))
 
   pub calls_meant : MeansCalls image o.lanes o.zones pool (kept_numbered image w)
@@ -128,7 +128,7 @@ module _ (o : Opening) (header : Header) (pool : PoolView) (u : View) (n : ℕ) 
   pub same_page : (i : ℕ) → i < 512 → slice_index image i ≡ slice_index o.words i
   same_page i low =
       let words = may_now.seal.size in
-      beside b w call.log_steps keep image leaves i (omega (arith, words, low)) (inl low) (unentered_front b header call.before call.made all may_now i low)
+      beside b w call.log_steps keep image leaves i (omega (arith, words, low)) (inl low) (unentered_front b header before_it its_base all may_now i low)
       ∙ header_stays o header pool call.start u call.steps call.works 1 u.words at_draw i low
 
 -- ---- behind the log's end

@@ -5,6 +5,7 @@ pub mod PublishedImages
 pub mod ReservedBlocks
 pub mod OwnBits
 pub mod OwnAllocations
+pub mod EnteredCalls
 pub mod FilledBlocks
 pub mod ClearChunks
 pub mod ReadyLanes

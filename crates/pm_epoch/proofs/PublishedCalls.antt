@@ -26,8 +26,8 @@ use Rattle.pm_crash.proofs.AloneMemory.{memory_of}
 use Rattle.pm_crash.proofs.Continued.{two_same}
 use Rattle.pm_sealed.specs.Sealed.{Publishes, is_publishing}
 use Rattle.pm_sealed.proofs.EndedLog as ended_log
-use Rattle.pm_epoch.specs.Epochs.{HasEnded, HasSameHeap, IsPublishing, MayPublish, PromisesTaken, PublishesAlone}
-use Rattle.pm_epoch.proofs.PublishingCalls.{alone, few, fits, heap, lane, led, may, newest, own, stands}
+use Rattle.pm_epoch.specs.Epochs.{HasEnded, HasEntriesFor, HasSameHeap, IsPublishing, MayPublish, PromisesTaken, PublishesAlone}
+use Rattle.pm_epoch.proofs.PublishingCalls.{alone, base, before, few, fits, has, heap, lane, led, may, newest, own, stands}
 use Rattle.pm_epoch.proofs.HandedOver.{allocated, hands_over, reserved_drawn}
 use Rattle.pm_epoch.proofs.HeldBehindLog.{holds_behind}
 use Rattle.pm_epoch.proofs.KnowingLanes.{knows_at_work, none_freed}
@@ -124,10 +124,19 @@ module _ (o : Opening) (header : Header) (pool : PoolView) (u : View) (n : ℕ) 
   abbrev b : View
   b = after u (Draw n)
 
+  abbrev before_it : PoolView
+  before_it = before o header pool u n all w call
+
+  abbrev its_base : PoolView
+  its_base = base o header pool u n all w call
+
+  its_entries : HasEntriesFor u header before_it its_base all
+  its_entries = has o header pool u n all w call
+
   is_alone : IsAlone u
   is_alone = alone o header pool u n all w call
 
-  may_now : MayPublish b header call.before call.made all
+  may_now : MayPublish b header before_it its_base all
   may_now = may o header pool u n all w call
 
   own_lane : IsSameLane b w
@@ -142,11 +151,11 @@ module _ (o : Opening) (header : Header) (pool : PoolView) (u : View) (n : ℕ) 
   -- its picture promises what will be taken
   promised : PromisesTaken b all
   promised = promises u n all (knows_at_work o header pool call.start u call.steps call.works published.no_run) (none_freed o header pool call.start u call.steps call.works)
-      (hands_over o header pool call.before call.made call.start u call.steps all call.works call.has n (own o header pool u n all w call))
+      (hands_over o header pool before_it its_base call.start u call.steps all call.works its_entries n (own o header pool u n all w call))
 
   -- what it has reserved still is of the pool, and of bits of a word
   these_small : All IsWordOfBits (flat_map (allocated_by u) u.log.entries)
-  these_small = (allocated o header pool call.before call.made call.start u call.steps all call.works call.has).small
+  these_small = (allocated o header pool before_it its_base call.start u call.steps all call.works its_entries).small
 
   of_pool_still : All (λ (t : Taken). IsOcc o.lanes o.zones t.at) b.reserved
   of_pool_still = subst (All (λ (t : Taken). IsOcc o.lanes o.zones t.at)) (sym (reserved_drawn u n)) (left_all (IsOcc o.lanes o.zones) (flat_map (allocated_by u) u.log.entries) u.reserved these_small own_fits_now.blocks.of_pool)
@@ -156,19 +165,19 @@ module _ (o : Opening) (header : Header) (pool : PoolView) (u : View) (n : ℕ) 
 
   pub has_ended : HasEnded o header pool w
   has_ended = record {
-    now = all_pool_published o.lanes all call.made;
-    holds = two_same (λ (a c : ℕ). HoldsImage w.words a c header (all_pool_published a all call.made)) u.lanes o.lanes u.zones o.zones own_fits_now.lane.lanes own_fits_now.lane.zones
-        (image_stands b w header call.before call.made all call.log_steps may_now is_alone call.publishes published.over);
+    now = all_pool_published o.lanes all its_base;
+    holds = two_same (λ (a c : ℕ). HoldsImage w.words a c header (all_pool_published a all its_base)) u.lanes o.lanes u.zones o.zones own_fits_now.lane.lanes own_fits_now.lane.zones
+        (image_stands b w header before_it its_base all call.log_steps may_now is_alone call.publishes published.over);
     replays = led o header pool u n all w call;
     clean = λ j low. let lanes = own_fits_now.lane.lanes in let c = ended_log.clean b w call.log_steps may_now.seal is_alone call.publishes published.over j (omega (arith, lanes, low)) in
         record { unsealed = c.unsealed; first_generation = c.first_generation; last_generation = c.last_generation; stale = c.stale };
     lane = record { lanes = own_lane.lanes ∙ own_fits_now.lane.lanes; zones = own_lane.zones ∙ own_fits_now.lane.zones; lane = own_lane.lane ∙ own_fits_now.lane.lane; size = refl };
-    held = λ i there. holds_behind o header pool call.before call.made call.start u call.steps n all call.works call.draws may_now w call.log_steps i call.publishes published.loads there;
+    held = λ i there. holds_behind o header pool before_it its_base call.start u call.steps n all call.works call.draws may_now w call.log_steps i call.publishes published.loads there;
     drained = ended_log.drained b w call.log_steps may_now.seal is_alone call.publishes published.over;
     idle = empty_along b call.log_steps w (λ idle. absurd (false≢true (ap is_publishing (sym idle) ∙ ap is_publishing may_now.seal.drawn))) call.publishes published.over;
     of_pool = subst (All (λ (t : Taken). IsOcc o.lanes o.zones t.at)) (sym same_heap.reserved) of_pool_still;
     small = subst (All (λ (t : Taken). t.bits < 2 ^ 64)) (sym same_heap.reserved) small_still;
-    taken = knows_behind b w header call.before call.made all call.log_steps may_now is_alone call.publishes published.over promised;
+    taken = knows_behind b w header before_it its_base all call.log_steps may_now is_alone call.publishes published.over promised;
     within = published.within;
     of_header = own_lane.pool ∙ (ap (λ (x : View). x.pool) (sym (stands o header pool u n all w call).here) ∙ (stands o header pool u n all w call).goes.of_pool);
     alone = own_lane.table ∙ is_alone;

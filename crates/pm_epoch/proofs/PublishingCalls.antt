@@ -1,6 +1,6 @@
 -- What a lane alone has and may do as it publishes its committed call: its number is the newest, its calls lead to the pool with all that is published, and it may
 -- publish that.
-use Rattle.std.proofs.Common.{◌≡◌, ⊎_elim, ℕ, suc, zero, ◌+◌, ◌<◌, ◌≤◌, true, List, [], ◌∷◌, ◌++◌, map, length, length-append, slice_index, cond, is_none, sym, ap, ◌∙◌, subst, arith}
+use Rattle.std.proofs.Common.{◌≡◌, ⊎_elim, ℕ, suc, zero, ◌+◌, ◌<◌, ◌≤◌, true, List, [], ◌∷◌, ◌++◌, length, length-append, slice_index, cond, is_none, sym, ap, ◌∙◌, subst, arith}
 use Rattle.std.specs.List.{list_any}
 use Rattle.std.proofs.lemmas.Bool.{and_from, cases_lt, cond-true, lt-ltb}
 use Rattle.pm_header.specs.declared.header.Header.{Header}
@@ -20,18 +20,17 @@ use Rattle.pm_world.specs.World.{Views, is_low, may_draw, may_draw_count}
 use Rattle.pm_model.specs.Actions.{with_actions}
 use Rattle.pm_model.specs.History.{opened}
 use Rattle.pm_model.specs.Names.{Replays}
-use Rattle.pm_crash.specs.Held.{HoldsPool}
 use Rattle.pm_crash.specs.Pending.{acts_alone, published_in, state_alone}
-use Rattle.pm_crash.specs.Publishing.Published.{Changes, Performs}
+use Rattle.pm_crash.specs.HeapChanges.{HeapChange}
 use Rattle.pm_crash.specs.Publishing.{Published, all_pool_published}
 use Rattle.pm_crash.proofs.AloneCourse.{StandsAlone, begins_alone, stands_at}
 use Rattle.pm_crash.proofs.AloneMemory.{memory_of}
-use Rattle.pm_crash.proofs.Continued.{two_same}
 use Rattle.pm_crash.proofs.OnTheWay.{alone_on_the_way}
 use Rattle.pm_crash.proofs.PublishedCopy.{committed_is_published}
 use Rattle.pm_epoch.specs.Epochs.{AllocatesOwn, HasEntriesFor, HasSameHeap, HoldsCommitted, IsPublishing, MayPublish}
 use Rattle.pm_epoch.proofs.CallPools.{holds_committed}
 use Rattle.pm_epoch.proofs.DrawnCalls.{may_publish}
+use Rattle.pm_epoch.proofs.EnteredCalls.{has_entries, of_call}
 use Rattle.pm_epoch.proofs.OwnAllocations.{allocates_own}
 use Rattle.pm_epoch.proofs.PublishingHeap.{same_along, same_lane_along}
 use Rattle.pm_epoch.proofs.ReplayedCalls.{replays_with_call}
@@ -95,32 +94,40 @@ module _ (o : Opening) (header : Header) (pool : PoolView) (u : View) (n : ℕ) 
   pub held : HoldsCommitted o u header pool
   held = holds_committed o header pool u stands call.draws.is_open call.draws.drained call.start call.works.begins call.in_reserved call.committed
 
-  -- the pool that it publishes all on is the one that the call stored
-  stored : call.made ≡ held.to.base
-  stored = (two_same (λ (a c : ℕ). HoldsPool (slice_index u.words) a c header call.made) u.lanes o.lanes u.zones o.zones fits.lane.lanes fits.lane.zones call.has.holds).is_pool ∙ sym held.holds.is_pool
+  -- the pool before it, and the one that it publishes all on, which the call stored
+  abbrev pub before : PoolView
+  before = held.held.before
+
+  abbrev pub base : PoolView
+  base = held.to.base
+
+  pub has : HasEntriesFor u header before base all
+  has = has_entries o header pool u stands held call.committed.has all call.entered
 
   abbrev last : PoolView
   last = with_actions (published_in u) held.to.copy
 
-  published_last : all_pool_published o.lanes all call.made ≡ last
-  published_last =
-      ap (λ (lanes : ℕ). all_pool_published lanes all call.made) (sym fits.lane.lanes)
-      ∙ (ap (λ (steps : List Published). all_pool_published u.lanes steps call.made) call.are
-      ∙ (ap (λ (p : PoolView). all_pool_published u.lanes (map Performs (published_in u) ++ map Changes call.changes) p) stored
-      ∙ committed_is_published u held.words header held.held.before held.to call.changes call.of_call))
+  abbrev changes : List HeapChange
+  changes = call.entered.freed ++ call.entered.made
 
-  pub led : Replays (opened pool) (acts_alone w.entries) (state_alone (all_pool_published o.lanes all call.made) w.entries)
-  led = subst (λ (es : List Numbered). Replays (opened pool) (acts_alone es) (state_alone (all_pool_published o.lanes all call.made) es)) (sym entries)
+  published_last : all_pool_published o.lanes all base ≡ last
+  published_last =
+      ap (λ (lanes : ℕ). all_pool_published lanes all base) (sym fits.lane.lanes)
+      ∙ (ap (λ (steps : List Published). all_pool_published u.lanes steps base) call.entered.are
+      ∙ committed_is_published u held.words header before held.to changes (of_call o header pool u stands held call.committed.has all call.entered))
+
+  pub led : Replays (opened pool) (acts_alone w.entries) (state_alone (all_pool_published o.lanes all base) w.entries)
+  led = subst (λ (es : List Numbered). Replays (opened pool) (acts_alone es) (state_alone (all_pool_published o.lanes all base) es)) (sym entries)
       (subst (λ (p : PoolView). Replays (opened pool) (acts_alone (u.entries ++ record { number = n; call = u.call } ∷ [])) (state_alone p (u.entries ++ record { number = n; call = u.call } ∷ []))) (sym published_last)
-      (replays_with_call u n fits.lane.lane pool held.held.before last held.held.replays held.to.turns))
+      (replays_with_call u n fits.lane.lane pool before last held.held.replays held.to.turns))
 
   -- no other lane is at work, so it may publish what it has entries for
-  pub may : MayPublish b header call.before call.made all
-  may = subst (λ (x : View). MayPublish (after x (Draw n)) header call.before call.made all) stands.here
-      (may_publish o (memory_of u) stands.views stands.log stands.decided 0 n header call.before call.made all stands.goes.world stands.goes.in_lanes
+  pub may : MayPublish b header before base all
+  may = subst (λ (x : View). MayPublish (after x (Draw n)) header before base all) stands.here
+      (may_publish o (memory_of u) stands.views stands.log stands.decided 0 n header before base all stands.goes.world stands.goes.in_lanes
       (λ j low other. ap (λ (x : View). x.log.phase) (stands.others j other)) (λ i. ap (λ (x : View). slice_index x.words i) (sym stands.here))
-      (subst (λ (x : View). Allowed x (Draw n)) (sym stands.here) call.draws) (subst (λ (x : View). HasEntriesFor x header call.before call.made all) (sym stands.here) call.has))
+      (subst (λ (x : View). Allowed x (Draw n)) (sym stands.here) call.draws) (subst (λ (x : View). HasEntriesFor x header before base all) (sym stands.here) has))
 
   -- what it allocates it reserved
   pub own : AllocatesOwn u all
-  own = allocates_own o header pool u stands (published_in u) call.changes all call.are call.has.can call.of_call call.committed.has call.in_reserved
+  own = allocates_own u all call.entered

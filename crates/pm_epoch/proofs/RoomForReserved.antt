@@ -39,7 +39,7 @@ use Rattle.pm_epoch.proofs.ReservedBlocks.{block_free, chunks_free, telling}
 use Rattle.pm_epoch.proofs.StandingPools.{now, own_fits, reached, words_behind}
 
 -- an object's block has a line at least
-pub some_lines : (n : NewObject) → 1 ≤ (block_of n).lines
+some_lines : (n : NewObject) → 1 ≤ (block_of n).lines
 some_lines n = let needed : lines_for n.size ≤ block_lines (class_of n.size) = lines_needed n.size in omega (arith, needed)
 
 -- the object of a block ends with it

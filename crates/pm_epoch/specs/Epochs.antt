@@ -1,12 +1,13 @@
 -- What a lane that is alone publishes over the pool that its words hold: blocks for new objects, blocks freed, words of objects set (docs/MODEL.md, "From call to
 -- call").
-use Rattle.std.specs.Prelude.{◌≡◌, ◌⊎◌, ◌↔◌, ℕ, ◌+◌, ◌*◌, ◌<◌, ◌≤◌, ◌^◌, IsTrue, Contains, true, false, length, All, List, [], ◌∷◌, ◌++◌, map, slice_index, Some}
+use Rattle.std.specs.Prelude.{◌≡◌, ◌⊎◌, ◌↔◌, ℕ, ◌+◌, ◌*◌, ◌<◌, ◌≤◌, ◌^◌, IsTrue, Contains, true, false, length, All, List, [], ◌∷◌, ◌++◌, map, nat_eq, slice_index, Some}
 use Rattle.pm_layout.specs.Sizes.{descriptor_of}
 use Rattle.pm_layout.specs.declared.class.Class.TheVariants.{Lines}
 use Rattle.pm_layout.specs.declared.shape.Shape.{Shape}
 use Rattle.pm_header.specs.declared.header.Header.{Header}
 use Rattle.pm_objects.specs.declared.pool.PoolView.{PoolView}
 use Rattle.pm_image.specs.Blocks.{descriptor_word}
+use Rattle.pm_image.specs.Contents.{bytes_in}
 use Rattle.pm_view.specs.declared.occ.Occ.{Occ}
 use Rattle.pm_view.specs.declared.occ.Occ.TheVariants.{Zone}
 use Rattle.pm_view.specs.Held.{is_held}
@@ -17,7 +18,7 @@ use Rattle.pm_view.specs.Steps.{Step}
 use Rattle.pm_view.specs.Steps.Step.{Draw, Give, Load, Vacate, ZoneGive}
 use Rattle.pm_view.specs.Views.{after, has_bit, is_made, occ_in, reserves, changes_heap}
 use Rattle.std.specs.Int.{bit_at}
-use Rattle.std.specs.List.{list_any}
+use Rattle.std.specs.List.{AllZip, IsDistinct, list_any}
 use Rattle.pm_world.specs.Entries.{ends_with, is_entered}
 use Rattle.pm_world.specs.Heap.{IsOcc, has_taken}
 use Rattle.pm_world.specs.Lawful.{Allowed, generation_limit}
@@ -29,9 +30,10 @@ use Rattle.pm_world.specs.Fits.{IsLane}
 use Rattle.pm_world.specs.Opens.{IsClean}
 use Rattle.std.specs.Option.{ForSome}
 use Rattle.pm_crash.specs.Alone.{WorksAlone, standing}
-use Rattle.pm_crash.specs.CallBlocks.{NewObject, allocated_in, block_of}
-use Rattle.pm_crash.specs.CallChanges.{ChangesOf}
-use Rattle.pm_crash.specs.HeapChanges.{HeapChange, run_at}
+use Rattle.pm_crash.specs.CallBlocks.{NewObject, allocated_in, block_of, blocks_in}
+use Rattle.pm_crash.specs.CallChanges.{FreesAt}
+use Rattle.pm_crash.specs.HeapChanges.{CanChange, HeapChange, run_at}
+use Rattle.pm_crash.specs.HeapChanges.HeapChange.{AllocatesChunks, AllocatesInRun}
 use Rattle.pm_crash.specs.NewObjects.{block_of_chunks, block_of_run}
 use Rattle.pm_crash.specs.Held.{HoldsImage, HoldsPool}
 use Rattle.pm_crash.specs.Publishing.Published.{Changes, Performs}
@@ -93,6 +95,34 @@ pub record IsReservedInChunks (v : View) (n : NewObject) : Type 0 where
 -- the object's block lies in what the lane reserved
 abbrev pub IsReservedFor : View → NewObject → Type 0
 IsReservedFor v n = IsReservedInRun v n ⊎ IsReservedInChunks v n
+
+-- The change allocates the object's block in the run where the lane reserved it, for its type and the bytes that it has by the lane's words.
+pub record AllocatesInItsRun (v : View) (change : HeapChange) (n : NewObject) : Type 0 where
+  pub reserved : IsReservedInRun v n
+  pub is : change ≡ AllocatesInRun reserved.chunk reserved.lines reserved.index n.kind (bytes_in (slice_index v.words) (block_of n))
+
+-- so it does with the chunks that the lane reserved for it
+pub record AllocatesItsChunks (v : View) (change : HeapChange) (n : NewObject) : Type 0 where
+  pub reserved : IsReservedInChunks v n
+  pub is : change ≡ AllocatesChunks (64 * reserved.zone + reserved.first) reserved.count n.kind (bytes_in (slice_index v.words) (block_of n))
+
+abbrev pub AllocatesIts : View → HeapChange → NewObject → Type 0
+AllocatesIts v change n = AllocatesInItsRun v change n ⊎ AllocatesItsChunks v change n
+
+-- The lane's log has what its call publishes, each thing by one entry: first the call's actions, in their order; then it frees each object that the call found
+-- and freed, none of them twice, whose block the words have and which is not the root; then it allocates each that the call made. Behind these stands the entry
+-- that ends the generation.
+pub record HasEnteredCall (v : View) (all : List Published) : Type 0 where
+  pub freed : List HeapChange
+  pub made : List HeapChange
+  pub are : all ≡ map Performs (published_in v) ++ map Changes (freed ++ made)
+  pub entries : v.log.entries ≡ map (entry_published v.lanes) all ++ ends_with v (generation_of v + 1) ∷ []
+  pub not_last : generation_of v < generation_limit
+  pub frees : AllZip (FreesAt v.lanes) freed (blocks_in v).freed
+  pub may_free : All (CanChange (slice_index v.words) v.lanes v.zones) freed
+  pub once_freed : IsDistinct nat_eq (blocks_in v).freed
+  pub allocates : AllZip (AllocatesIts v) made (blocks_in v).made
+  pub once_made : IsDistinct nat_eq (map (λ (n : NewObject). n.off) (blocks_in v).made)
 
 -- a bit of an occupancy word that the change makes taken, or free
 abbrev pub ChangesBit : ℕ → HeapChange → Occ → ℕ → Type 0
@@ -243,9 +273,8 @@ abbrev pub LoadsNoneOf : List Final → Step → Type 0
 LoadsNoneOf entries (Load i found) = is_entered entries i ≡ false
 LoadsNoneOf entries s = Unit {0}
 
--- A lane worked alone to where its committed call draws this number, and what the call allocated lies in blocks that the lane reserved. Its log has an entry for
--- each of these: the actions that the call published, and the changes of the heap that are its own. Since the draw it made steps that publish the log. The
--- numbers drawn are its own.
+-- A lane worked alone to where its committed call draws this number, with a log that has what the call publishes; and what the call allocated lies in blocks that
+-- the lane reserved. Since the draw it made steps that publish the log. The numbers drawn are its own.
 pub record IsPublishing (o : Opening) (header : Header) (pool : PoolView) (u : View) (n : ℕ) (all : List Published) (w : View) : Type 0 where
   pub start : View
   pub steps : List Step
@@ -253,12 +282,7 @@ pub record IsPublishing (o : Opening) (header : Header) (pool : PoolView) (u : V
   pub draws : Allowed u (Draw n)
   pub committed : IsCommitted u
   pub in_reserved : All (IsReservedFor u) (allocated_in u)
-  pub changes : List HeapChange
-  pub of_call : ChangesOf u u.lanes changes
-  pub are : all ≡ map Performs (published_in u) ++ map Changes changes
-  pub before : PoolView
-  pub made : PoolView
-  pub has : HasEntriesFor u header before made all
+  pub entered : HasEnteredCall u all
   pub log_steps : List Step
   pub publishes : Publishes (after u (Draw n)) log_steps w
   pub numbered : AreNumbered 1 w.entries

@@ -49,7 +49,7 @@ ghost use Rattle.pm_fresh.specs.Making.{page_in};
 ghost use Rattle.pm_blocks.specs.NewRuns.{IsUnused};
 ghost use Rattle.pm_alloc.specs.NewObjects.{CanMakeObject};
 ghost use Rattle.pm_sealed.specs.Sealed.{LeavesSealed, Publishes, has_nothing};
-ghost use Rattle.pm_epoch.specs.Epochs.{AllocatesOwn, AreOfOwnBits, HandsOver, HasEnded, HasEntriesFor, HasSameHeap, HoldsCalls, HoldsCommitted, HoldsOpenCall, IsAtWorkAlone, IsGiving, IsPublishing, IsReservedFor, IsUnusedChunk, KnowsTaken, LoadsNoneOf, MayPublish, PromisesTaken, PublishesAlone, RestsBehindCall};
+ghost use Rattle.pm_epoch.specs.Epochs.{AllocatesOwn, AreOfOwnBits, HandsOver, HasEnded, HasEnteredCall, HasEntriesFor, HasSameHeap, HoldsCalls, HoldsCommitted, HoldsOpenCall, IsAtWorkAlone, IsGiving, IsPublishing, IsReservedFor, IsUnusedChunk, KnowsTaken, LoadsNoneOf, MayPublish, PromisesTaken, PublishesAlone, RestsBehindCall};
 
 /// A law: in a world where a lane has each word as it is, what it reserved may be allocated: a block of a run, by the class that the run's
 /// descriptor says, and chunks that are described by 0; and a block that it found under a lock may be freed, unless it is the root's, where
@@ -225,6 +225,14 @@ pub fn a_lane_whose_call_has_ended_begins_again()
 pub fn a_published_call_has_ended()
     ensures { (o : Opening) (header : Header) (pool : PoolView) (u : View) (n : ℕ) (all : List Published) (w : View) → PublishesAlone o header pool u n all w
         → HasEnded o header pool w }
+{}
+
+/// A law: where a lane works alone, its call is committed, and its log has what the call publishes, it has an entry for each thing that may be published, in
+/// this order, on the pool that its words hold, which the call stored. No code runs.
+pub fn a_committed_call_may_publish_what_it_entered()
+    ensures { (o : Opening) (header : Header) (pool : PoolView) (start u : View) (steps : List Step) (all : List Published)
+        → WorksAlone o header pool start steps u → IsCommitted u → (held : HoldsCommitted o u header pool) → HasEnteredCall u all
+        → HasEntriesFor u header held.held.before held.to.base all }
 {}
 
 /// A law: while a lane that is alone publishes its committed call, each image that a power failure leaves of its words means the pool to which the calls

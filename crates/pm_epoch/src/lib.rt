@@ -9,10 +9,10 @@
 mod laws;
 
 pub use laws::{
-    a_clear_chunk_is_unused, a_committed_call_turns_its_pool, a_draw_hands_over,
-    a_draw_promises_what_will_be_taken, a_filled_block_is_fresh, a_lane_alone_holds_its_pools,
-    a_lane_alone_may_change_its_blocks, a_lane_alone_may_make_objects,
-    a_lane_alone_publishes_a_pool, a_lane_at_rest_may_begin_again,
+    a_clear_chunk_is_unused, a_committed_call_may_publish_what_it_entered,
+    a_committed_call_turns_its_pool, a_draw_hands_over, a_draw_promises_what_will_be_taken,
+    a_filled_block_is_fresh, a_lane_alone_holds_its_pools, a_lane_alone_may_change_its_blocks,
+    a_lane_alone_may_make_objects, a_lane_alone_publishes_a_pool, a_lane_at_rest_may_begin_again,
     a_lane_at_work_knows_what_is_taken, a_lane_holds_what_it_knows_behind_its_log,
     a_lane_knows_what_is_taken_behind_its_log, a_lane_whose_call_has_ended_begins_again,
     a_pool_has_room_for_what_is_reserved, a_published_call_has_ended, a_published_call_is_replayed,

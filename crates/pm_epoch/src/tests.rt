@@ -4,6 +4,7 @@ use super::*;
 #[test]
 fn laws(_rt: HostRuntime) {
     a_clear_chunk_is_unused();
+    a_committed_call_may_publish_what_it_entered();
     a_committed_call_turns_its_pool();
     a_draw_hands_over();
     a_draw_promises_what_will_be_taken();

@@ -1,0 +1,261 @@
+-- A committed call whose log has what it publishes may publish that: each thing may be published on the pool that its words hold, behind those before it.
+use Rattle.std.proofs.Common.{◌≡◌, ⊎_elim, inl, inr, ℕ, ◌+◌, ◌*◌, ◌/◌, ◌≤◌, false, All, List, [], ◌∷◌, ◌++◌, length, map, slice_index, None, Some, refl, sym, ap, ◌∙◌, subst, arith, eq-eqb}
+use Rattle.std.specs.Prelude.{nat_eq}
+use Rattle.std.specs.List.{AllByRecursion, AllZip, Contains, IsDistinct}
+use Rattle.std.proofs.lemmas.Bool.{false≢true}
+use Rattle.std.proofs.lemmas.List.Elements.{All-append, All-cons, All-contains_itself, All-head, All-map, All-nil, All-tail, All-weaker}
+use Rattle.pm_header.specs.declared.header.Header.{Header}
+use Rattle.pm_layout.specs.Sizes.{descriptor_of}
+use Rattle.pm_layout.specs.declared.class.Class.TheVariants.{Chunks, Lines}
+use Rattle.pm_objects.specs.declared.pool.Object.{Object}
+use Rattle.pm_objects.specs.declared.pool.PoolView.{PoolView}
+use Rattle.pm_image.specs.declared.block.Block.{Block}
+use Rattle.pm_image.specs.Blocks.{blocks, class_in, descriptor_word}
+use Rattle.pm_image.specs.Contents.{bytes_in, offset_in, size_in}
+use Rattle.pm_image.specs.HeapFaults.{heap_fault}
+use Rattle.pm_model.specs.Actions.{Action, end_of}
+use Rattle.pm_view.specs.View.{View}
+use Rattle.pm_view.specs.Views.{reserves}
+use Rattle.pm_world.specs.Fits.{LaneFits}
+use Rattle.pm_world.specs.History.{Flies, settled}
+use Rattle.pm_world.specs.Opening.{Opening}
+use Rattle.pm_crash.specs.CallBlocks.{IsMadeIn, NewObject, block_of, blocks_in}
+use Rattle.pm_crash.specs.CallChanges.{AllocatesNew, ChangesOf, FreesAt}
+use Rattle.pm_crash.specs.Held.{HoldsImage, HoldsPool, IsBlockOf, IsObjectAt, object_of}
+use Rattle.pm_crash.specs.HeapChanges.{AreDisjoint, CanChange, HeapChange, block_changed, run_at}
+use Rattle.pm_crash.specs.HeapChanges.HeapChange.{AllocatesChunks, AllocatesInRun, FreesChunks, FreesInRun}
+use Rattle.pm_crash.specs.NewObjects.{AreFreeChunks, HasNewObject, IsFreeInRun, block_of_chunks, block_of_run}
+use Rattle.pm_crash.specs.OpenCall.{HasMade, call_words}
+use Rattle.pm_crash.specs.Pending.{published_in}
+use Rattle.pm_crash.specs.Performing.{CanPerform}
+use Rattle.pm_crash.specs.Publishing.{AreInOrder, CanPublish, MayFollow, Published}
+use Rattle.pm_crash.specs.Publishing.Published.{Changes, Performs}
+use Rattle.pm_crash.proofs.AloneCourse.{StandsAlone}
+use Rattle.pm_crash.proofs.AloneMemory.{memory_of}
+use Rattle.pm_crash.proofs.Apart.{apart, good_chunk, rising}
+use Rattle.pm_crash.proofs.Classes.{whole_by_byte}
+use Rattle.pm_crash.proofs.Continued.{two_same}
+use Rattle.pm_crash.proofs.EmptyRuns.{class_of_run}
+use Rattle.pm_crash.proofs.ObjectsOfBlocks.{block_is_there, object_is_there}
+use Rattle.pm_crash.proofs.Standing.{standing_is_block}
+use Rattle.pm_epoch.specs.Epochs.{AllocatesInItsRun, AllocatesIts, AllocatesItsChunks, HasEnteredCall, HasEntriesFor, HoldsCommitted, IsReservedFor, IsUnusedChunk}
+use Rattle.pm_epoch.proofs.OwnAllocations.{parts}
+use Rattle.pm_epoch.proofs.RoomForReserved.{free_chunks, free_run, overlaps_none}
+use Rattle.pm_epoch.proofs.StandingPools.{own_fits}
+
+-- ---- an action that may be performed on a pool may be by other words that hold it
+
+can_alike : (w v : ℕ → ℕ) (lanes zones : ℕ) (header : Header) (pool : PoolView) (a : Action) → HoldsPool w lanes zones header pool → HoldsPool v lanes zones header pool → CanPerform w lanes zones a → CanPerform v lanes zones a
+can_alike w v lanes zones header pool a holds holds_too can =
+    let was : IsObjectAt w lanes zones pool.objects can.block = object_is_there w lanes zones header pool can.block holds can.is_there in
+    let now : IsBlockOf v lanes zones (offset_in can.block) (object_of w lanes zones can.block) = block_is_there v lanes zones (offset_in can.block) header pool (object_of w lanes zones can.block) holds_too was.found in
+    let there : IsObjectAt v lanes zones pool.objects now.block = object_is_there v lanes zones header pool now.block holds_too now.is_there in
+    let bytes : bytes_in w can.block ≡ bytes_in v now.block = ap (λ (object : Object). object.bytes) now.is_object in
+    let size : size_in w can.block ≡ size_in v now.block = sym was.size ∙ (ap (λ (xs : List ℕ). length xs) bytes ∙ there.size) in
+    record { block = now.block; is_there = now.is_there; begins = sym now.is_offset ∙ can.begins; inside = subst (λ n. end_of a ≤ n) size can.inside; whole = can.whole }
+
+-- ---- a block that may be freed is there
+
+module _ (w : ℕ → ℕ) (lanes zones : ℕ) (none : heap_fault w lanes zones ≡ None) where
+  -- the change frees a block of these words, which begins so
+  record IsFreed (change : HeapChange) (off : ℕ) : Type 0 where
+    is_there : Contains (blocks w lanes zones) (block_changed lanes change)
+    begins : offset_in (block_changed lanes change) ≡ off
+
+  freed_there : (change : HeapChange) (off : ℕ) → CanChange w lanes zones change → FreesAt lanes change off → IsFreed change off
+  freed_there (FreesInRun c lines index) off can at =
+      let within = can.inside in let described = can.is_run in
+      let run : class_in (w (descriptor_word lanes c)) ≡ Some (Lines lines) = class_of_run (w (descriptor_word lanes c)) lines (omega (arith, described)) (omega (arith, within)) in
+      record {
+        is_there = standing_is_block w lanes zones (block_of_run lanes c lines index) (record {
+          chunk = c;
+          in_zones = can.in_zones;
+          is = inl (record { lines = lines; index = index; is_run = run; inside = can.inside; is_set = can.is_set; is_block = refl });
+        });
+        begins = at;
+      }
+  freed_there (FreesChunks c chunks) off can at =
+      let d : ℕ = w (descriptor_word lanes c) in
+      let first : d ≡ descriptor_of (Chunks chunks) = can.is_first in
+      let number : d / 256 ≡ chunks = omega (arith, first) in
+      let whole : class_in d ≡ Some (Chunks chunks) = whole_by_byte w lanes c (good_chunk w lanes zones c none can.in_zones) (omega (arith, first)) ∙ ap (λ n. Some (Chunks n)) number in
+      record {
+        is_there = standing_is_block w lanes zones (block_of_chunks lanes c chunks) (record { chunk = c; in_zones = can.in_zones; is = inr (record { chunks = chunks; is_first = whole; is_block = refl }) });
+        begins = at;
+      }
+  freed_there (AllocatesInRun c lines index kind bytes) off can at = absurd at
+  freed_there (AllocatesChunks c chunks kind bytes) off can at = absurd at
+
+  -- two of them lie apart
+  two_freed : (a b : HeapChange) (off at : ℕ) → nat_eq off at ≡ false → IsFreed a off → IsFreed b at → AreDisjoint (block_changed lanes a) (block_changed lanes b)
+  two_freed a b off at differ one other = ⊎_elim
+      (λ (same : block_changed lanes a ≡ block_changed lanes b).
+      let here : off ≡ at = sym one.begins ∙ (ap (λ (x : Block). offset_in x) same ∙ other.begins) in absurd (false≢true (sym differ ∙ eq-eqb off at here)))
+      (λ (either : AreDisjoint (block_changed lanes a) (block_changed lanes b)). either)
+      (apart 0 (blocks w lanes zones) (block_changed lanes a) (block_changed lanes b) (rising w lanes zones none) one.is_there other.is_there)
+
+module _ (o : Opening) (header : Header) (pool : PoolView) (u : View) (s : StandsAlone o header pool u) (held : HoldsCommitted o u header pool) (has : HasMade u) (all : List Published) (entered : HasEnteredCall u all) where
+  abbrev w : ℕ → ℕ
+  w = slice_index u.words
+
+  abbrev base : PoolView
+  base = held.to.base
+
+  abbrev news : List NewObject
+  news = (blocks_in u).made
+
+  fits : LaneFits o (memory_of u) (settled o s.log s.decided) (Flies s.log s.decided 0) 0 u
+  fits = own_fits o header pool u s
+
+  holds : HoldsPool w u.lanes u.zones header base
+  holds = two_same (λ (a c : ℕ). HoldsPool w a c header base) o.lanes u.lanes o.zones u.zones (sym fits.lane.lanes) (sym fits.lane.zones) held.holds
+
+  abbrev Can : HeapChange → Type 0
+  Can change = CanChange w u.lanes u.zones change
+
+  -- ---- what the call made may be allocated
+
+  can_in_run : (change : HeapChange) (n : NewObject) → IsMadeIn u n → (t : AllocatesInItsRun u change n) → Can change
+  can_in_run change n made t =
+      let r = t.reserved in let lanes = fits.lane.lanes in let zones = fits.lane.zones in let in_pool = r.in_pool in
+      let free : IsFreeInRun w u.lanes u.zones r.chunk r.lines r.index = two_same (λ (a c : ℕ). IsFreeInRun w a c r.chunk r.lines r.index) o.lanes u.lanes o.zones u.zones (sym lanes) (sym zones)
+      (free_run o header pool u s r.chunk r.lines r.index (omega (arith, in_pool, zones)) r.low
+      (ap (λ m. w (descriptor_word m r.chunk)) (sym lanes) ∙ r.described) (ap (λ m. reserves u (run_at m r.chunk) r.index) (sym lanes) ∙ r.reserved)) in
+      subst Can (sym t.is) (free, subst (λ (b : Block). HasNewObject w b n.kind (bytes_in w (block_of n))) r.is_block made.object)
+
+  can_chunks : (change : HeapChange) (n : NewObject) → IsMadeIn u n → (t : AllocatesItsChunks u change n) → Can change
+  can_chunks change n made t =
+      let r = t.reserved in let lanes = fits.lane.lanes in let zones = fits.lane.zones in let in_pool = r.in_pool in
+      let free : AreFreeChunks w u.lanes u.zones (64 * r.zone + r.first) r.count = two_same (λ (a c : ℕ). AreFreeChunks w a c (64 * r.zone + r.first) r.count) o.lanes u.lanes o.zones u.zones (sym lanes) (sym zones)
+      (free_chunks o header pool u s r.zone r.first r.count (omega (arith, in_pool, zones)) r.low r.fits (λ j near. subst (λ m. IsUnusedChunk m u r.zone (r.first + j)) lanes (r.unused j near))) in
+      subst Can (sym t.is) (free, subst (λ (b : Block). HasNewObject w b n.kind (bytes_in w (block_of n))) r.is_block made.object)
+
+  can_make : (change : HeapChange) (n : NewObject) → IsMadeIn u n → AllocatesIts u change n → Can change
+  can_make change n made (inl t) = can_in_run change n made t
+  can_make change n made (inr t) = can_chunks change n made t
+
+  -- each is of its object
+  is_of : (change : HeapChange) (n : NewObject) → IsMadeIn u n → AllocatesIts u change n → AllocatesNew u u.lanes change n
+  is_of change n made (inl t) =
+      let behind = made.behind in let place : (block_of n).place ≡ (block_of_run u.lanes t.reserved.chunk t.reserved.lines t.reserved.index).place = ap (λ (b : Block). b.place) t.reserved.is_block in
+      subst (λ (c : HeapChange). AllocatesNew u u.lanes c n) (sym t.is) (record { begins = omega (arith, behind, place); of_kind = refl; holds = refl })
+  is_of change n made (inr t) =
+      let behind = made.behind in let place : (block_of n).place ≡ (block_of_chunks u.lanes (64 * t.reserved.zone + t.reserved.first) t.reserved.count).place = ap (λ (b : Block). b.place) t.reserved.is_block in
+      subst (λ (c : HeapChange). AllocatesNew u u.lanes c n) (sym t.is) (record { begins = omega (arith, behind, place); of_kind = refl; holds = refl })
+
+  -- and of the object's block, which the lane reserved
+  block_is : (change : HeapChange) (n : NewObject) → AllocatesIts u change n → block_changed u.lanes change ≡ block_of n
+  block_is change n (inl t) = ap (block_changed u.lanes) t.is ∙ sym t.reserved.is_block
+  block_is change n (inr t) = ap (block_changed u.lanes) t.is ∙ sym t.reserved.is_block
+
+  is_reserved : (change : HeapChange) (n : NewObject) → AllocatesIts u change n → IsReservedFor u n
+  is_reserved change n (inl t) = inl t.reserved
+  is_reserved change n (inr t) = inr t.reserved
+
+  abbrev AreMade : List NewObject → Type 0
+  AreMade ns = All (Contains news) ns
+
+  all_can_make : (made : List HeapChange) (ns : List NewObject) → AllZip (AllocatesIts u) made ns → AreMade ns → All Can made
+  all_can_make [] ns each there = All-nil Can
+  all_can_make (change ∷ made) [] each there = absurd each
+  all_can_make (change ∷ made) (n ∷ ns) each there =
+      All-cons Can change made (can_make change n (has.each n (All-head (Contains news) n ns there)) each.0) (all_can_make made ns each.1 (All-tail (Contains news) n ns there))
+
+  all_of : (made : List HeapChange) (ns : List NewObject) → AllZip (AllocatesIts u) made ns → AreMade ns → AllZip (AllocatesNew u u.lanes) made ns
+  all_of [] [] each there = each
+  all_of [] (n ∷ ns) each there = absurd each
+  all_of (change ∷ made) [] each there = absurd each
+  all_of (change ∷ made) (n ∷ ns) each there = (is_of change n (has.each n (All-head (Contains news) n ns there)) each.0, all_of made ns each.1 (All-tail (Contains news) n ns there))
+
+  made_there : AreMade news
+  made_there = All-contains_itself news
+
+  pub of_call : ChangesOf u u.lanes (entered.freed ++ entered.made)
+  of_call = record { freed = entered.freed; made = entered.made; are = refl; frees = entered.frees; allocates = all_of entered.made news entered.allocates made_there; once = entered.once_made }
+
+  -- ---- all lie apart
+
+  abbrev Follows : HeapChange → Published → Type 0
+  Follows change step = MayFollow u.lanes (Changes change) step
+
+  behind_made : (a : HeapChange) (n : NewObject) → Contains news n → AllocatesIts u a n → (made : List HeapChange) (ns : List NewObject) → AllZip (AllocatesIts u) made ns → AreMade ns
+      → AllByRecursion (λ off. nat_eq n.off off ≡ false) (map (λ (m : NewObject). m.off) ns) → All (Follows a) (map Changes made)
+  behind_made a n here mine [] ns each there differ = All-nil (Follows a)
+  behind_made a n here mine (b ∷ made) [] each there differ = absurd each
+  behind_made a n here mine (b ∷ made) (m ∷ ns) each there differ =
+      All-cons (Follows a) (Changes b) (map Changes made)
+      (subst (λ (x : Block). AreDisjoint x (block_changed u.lanes b)) (sym (block_is a n mine)) (subst (AreDisjoint (block_of n)) (sym (block_is b m each.0))
+      (has.apart_new n m here (All-head (Contains news) m ns there) (λ same. false≢true (sym differ.0 ∙ eq-eqb n.off m.off same)))))
+      (behind_made a n here mine made ns each.1 (All-tail (Contains news) m ns there) differ.1)
+
+  made_ordered : (made : List HeapChange) (ns : List NewObject) → AllZip (AllocatesIts u) made ns → AreMade ns → IsDistinct nat_eq (map (λ (m : NewObject). m.off) ns) → AreInOrder u.lanes (map Changes made)
+  unfolding IsDistinct
+  made_ordered [] ns each there once = tt
+  made_ordered (a ∷ made) [] each there once = absurd each
+  made_ordered (a ∷ made) (n ∷ ns) each there once = (
+    behind_made a n (All-head (Contains news) n ns there) each.0 made ns each.1 (All-tail (Contains news) n ns there) once.0,
+    made_ordered made ns each.1 (All-tail (Contains news) n ns there) once.1,
+  )
+
+  turned : (a b : Block) → AreDisjoint a b → AreDisjoint b a
+  turned a b (inl before) = inr before
+  turned a b (inr behind) = inl behind
+
+  abbrev Frees : HeapChange → ℕ → Type 0
+  Frees change off = IsFreed w u.lanes u.zones holds.no_fault change off
+
+  freed_made : (a : HeapChange) (off : ℕ) → Frees a off → (made : List HeapChange) (ns : List NewObject) → AllZip (AllocatesIts u) made ns → All (Follows a) (map Changes made)
+  freed_made a off freed [] ns each = All-nil (Follows a)
+  freed_made a off freed (b ∷ made) [] each = absurd each
+  freed_made a off freed (b ∷ made) (m ∷ ns) each =
+      All-cons (Follows a) (Changes b) (map Changes made)
+      (subst (AreDisjoint (block_changed u.lanes a)) (sym (block_is b m each.0)) (turned (block_of m) (block_changed u.lanes a)
+      (overlaps_none o header pool u s held.holds.no_fault m (block_changed u.lanes a) (is_reserved b m each.0)
+      (two_same (λ (x y : ℕ). Contains (blocks w x y) (block_changed u.lanes a)) u.lanes o.lanes u.zones o.zones fits.lane.lanes fits.lane.zones freed.is_there))))
+      (freed_made a off freed made ns each.1)
+
+  freed_freed : (a : HeapChange) (off : ℕ) → Frees a off → (freed : List HeapChange) (offs : List ℕ) → AllZip (FreesAt u.lanes) freed offs → All Can freed → AllByRecursion (λ at. nat_eq off at ≡ false) offs
+      → All (Follows a) (map Changes freed)
+  freed_freed a off mine [] offs each can differ = All-nil (Follows a)
+  freed_freed a off mine (b ∷ freed) [] each can differ = absurd each
+  freed_freed a off mine (b ∷ freed) (at ∷ offs) each can differ =
+      All-cons (Follows a) (Changes b) (map Changes freed)
+      (two_freed w u.lanes u.zones holds.no_fault a b off at differ.0 mine (freed_there w u.lanes u.zones holds.no_fault b at (All-head Can b freed can) each.0))
+      (freed_freed a off mine freed offs each.1 (All-tail Can b freed can) differ.1)
+
+  freed_ordered : (freed : List HeapChange) (offs : List ℕ) → AllZip (FreesAt u.lanes) freed offs → All Can freed → IsDistinct nat_eq offs → AreInOrder u.lanes (map Changes freed ++ map Changes entered.made)
+  unfolding IsDistinct
+  freed_ordered [] offs each can once = made_ordered entered.made news entered.allocates made_there entered.once_made
+  freed_ordered (a ∷ freed) [] each can once = absurd each
+  freed_ordered (a ∷ freed) (off ∷ offs) each can once =
+      let mine : Frees a off = freed_there w u.lanes u.zones holds.no_fault a off (All-head Can a freed can) each.0 in (
+        All-append (Follows a) (map Changes freed) (map Changes entered.made) (freed_freed a off mine freed offs each.1 (All-tail Can a freed can) once.0) (freed_made a off mine entered.made news entered.allocates),
+        freed_ordered freed offs each.1 (All-tail Can a freed can) once.1,
+      )
+
+  actions_ordered : (actions : List Action) (steps : List Published) → AreInOrder u.lanes steps → AreInOrder u.lanes (map Performs actions ++ steps)
+  actions_ordered [] steps ordered = ordered
+  actions_ordered (a ∷ actions) steps ordered = ((λ k e near. tt), actions_ordered actions steps ordered)
+
+  -- ---- so it has an entry for each thing that it may publish
+
+  abbrev CanDo : Published → Type 0
+  CanDo step = CanPublish w u.lanes u.zones step
+
+  can_perform : All CanDo (map Performs (published_in u))
+  can_perform = All-map CanDo Performs (published_in u)
+      (All-weaker (CanPerform (call_words u held.words) u.lanes u.zones) (CanPerform w u.lanes u.zones) (λ a can. can_alike (call_words u held.words) w u.lanes u.zones header base a held.to.holds holds can) (published_in u) held.to.performable)
+
+  can_change : All CanDo (map Changes entered.freed ++ map Changes entered.made)
+  can_change = All-append CanDo (map Changes entered.freed) (map Changes entered.made) (All-map CanDo Changes entered.freed entered.may_free)
+      (All-map CanDo Changes entered.made (all_can_make entered.made news entered.allocates made_there))
+
+  pub has_entries : HasEntriesFor u header held.held.before base all
+  has_entries = record {
+    entries = entered.entries;
+    below = entered.not_last;
+    was = two_same (λ (a c : ℕ). HoldsImage u.words a c header held.held.before) o.lanes u.lanes o.zones u.zones (sym fits.lane.lanes) (sym fits.lane.zones) held.held.holds;
+    holds = holds;
+    can = subst (All CanDo) (sym (parts u all entered)) (All-append CanDo (map Performs (published_in u)) (map Changes entered.freed ++ map Changes entered.made) can_perform can_change);
+    ordered = subst (AreInOrder u.lanes) (sym (parts u all entered)) (actions_ordered (published_in u) (map Changes entered.freed ++ map Changes entered.made) (freed_ordered entered.freed (blocks_in u).freed entered.frees entered.may_free entered.once_freed));
+  }
