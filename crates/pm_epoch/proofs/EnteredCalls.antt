@@ -1,8 +1,9 @@
 -- A committed call whose log has what it publishes may publish that: each thing may be published on the pool that its words hold, behind those before it.
-use Rattle.std.proofs.Common.{◌≡◌, ⊎_elim, inl, inr, ℕ, ◌+◌, ◌*◌, ◌/◌, ◌≤◌, false, All, List, [], ◌∷◌, ◌++◌, length, map, slice_index, None, Some, refl, sym, ap, ◌∙◌, subst, arith, eq-eqb}
+use Rattle.std.proofs.Common.{◌≡◌, ◌≢◌, ⊎_elim, inl, inr, ℕ, ◌+◌, ◌*◌, ◌/◌, ◌≤◌, false, All, List, [], ◌∷◌, ◌++◌, length, map, slice_index, None, Some, refl, sym, ap, ◌∙◌, subst, arith, eq-eqb}
 use Rattle.std.specs.Prelude.{nat_eq}
 use Rattle.std.specs.List.{AllByRecursion, AllZip, Contains, IsDistinct}
-use Rattle.std.proofs.lemmas.Bool.{false≢true}
+use Rattle.std.specs.Int.{bit_at}
+use Rattle.std.proofs.lemmas.Bool.{cases_eq, false≢true}
 use Rattle.std.proofs.lemmas.List.Elements.{All-append, All-cons, All-contains_itself, All-head, All-map, All-nil, All-tail, All-weaker}
 use Rattle.pm_header.specs.declared.header.Header.{Header}
 use Rattle.pm_layout.specs.Sizes.{descriptor_of}
@@ -10,11 +11,11 @@ use Rattle.pm_layout.specs.declared.class.Class.TheVariants.{Chunks, Lines}
 use Rattle.pm_objects.specs.declared.pool.Object.{Object}
 use Rattle.pm_objects.specs.declared.pool.PoolView.{PoolView}
 use Rattle.pm_image.specs.declared.block.Block.{Block}
-use Rattle.pm_image.specs.Blocks.{blocks, class_in, descriptor_word}
+use Rattle.pm_image.specs.Blocks.{blocks, chunk_word, class_in, descriptor_word}
 use Rattle.pm_image.specs.Contents.{bytes_in, offset_in, size_in}
 use Rattle.pm_image.specs.HeapFaults.{heap_fault}
 use Rattle.pm_model.specs.Actions.{Action, end_of}
-use Rattle.pm_view.specs.View.{View}
+use Rattle.pm_view.specs.View.{Lock, View}
 use Rattle.pm_view.specs.Views.{reserves}
 use Rattle.pm_world.specs.Fits.{LaneFits}
 use Rattle.pm_world.specs.History.{Flies, settled}
@@ -22,7 +23,7 @@ use Rattle.pm_world.specs.Opening.{Opening}
 use Rattle.pm_crash.specs.CallBlocks.{IsMadeIn, NewObject, block_of, blocks_in}
 use Rattle.pm_crash.specs.CallChanges.{AllocatesNew, ChangesOf, FreesAt}
 use Rattle.pm_crash.specs.Held.{HoldsImage, HoldsPool, IsBlockOf, IsObjectAt, object_of}
-use Rattle.pm_crash.specs.HeapChanges.{AreDisjoint, CanChange, HeapChange, block_changed, run_at}
+use Rattle.pm_crash.specs.HeapChanges.{AreDisjoint, CanChange, Frees, HeapChange, MayBeFreed, block_changed, run_at}
 use Rattle.pm_crash.specs.HeapChanges.HeapChange.{AllocatesChunks, AllocatesInRun, FreesChunks, FreesInRun}
 use Rattle.pm_crash.specs.NewObjects.{AreFreeChunks, HasNewObject, IsFreeInRun, block_of_chunks, block_of_run}
 use Rattle.pm_crash.specs.OpenCall.{HasMade, call_words}
@@ -32,14 +33,16 @@ use Rattle.pm_crash.specs.Publishing.{AreInOrder, CanPublish, MayFollow, Publish
 use Rattle.pm_crash.specs.Publishing.Published.{Changes, Performs}
 use Rattle.pm_crash.proofs.AloneCourse.{StandsAlone}
 use Rattle.pm_crash.proofs.AloneMemory.{memory_of}
-use Rattle.pm_crash.proofs.Apart.{apart, good_chunk, rising}
+use Rattle.pm_crash.proofs.Apart.{apart, good_chunk, lines_of_block, rising}
 use Rattle.pm_crash.proofs.Classes.{whole_by_byte}
 use Rattle.pm_crash.proofs.Continued.{two_same}
 use Rattle.pm_crash.proofs.EmptyRuns.{class_of_run}
 use Rattle.pm_crash.proofs.ObjectsOfBlocks.{block_is_there, object_is_there}
 use Rattle.pm_crash.proofs.Standing.{standing_is_block}
-use Rattle.pm_epoch.specs.Epochs.{AllocatesInItsRun, AllocatesIts, AllocatesItsChunks, HasEnteredCall, HasEntriesFor, HoldsCommitted, IsReservedFor, IsUnusedChunk}
+use Rattle.pm_epoch.specs.Epochs.{AllocatesInItsRun, AllocatesIts, AllocatesItsChunks, FreesIts, HasEnteredCall, HasEntriesFor, HoldsCommitted, IsReservedFor, IsUnusedChunk}
 use Rattle.pm_epoch.proofs.OwnAllocations.{parts}
+use Rattle.pm_epoch.proofs.OwnBits.{InRun, run_chunks, runs_apart, whole_in}
+use Rattle.pm_epoch.proofs.ReservedBlocks.{found_freed}
 use Rattle.pm_epoch.proofs.RoomForReserved.{free_chunks, free_run, overlaps_none}
 use Rattle.pm_epoch.proofs.StandingPools.{own_fits}
 
@@ -93,6 +96,35 @@ module _ (w : ℕ → ℕ) (lanes zones : ℕ) (none : heap_fault w lanes zones 
       let here : off ≡ at = sym one.begins ∙ (ap (λ (x : Block). offset_in x) same ∙ other.begins) in absurd (false≢true (sym differ ∙ eq-eqb off at here)))
       (λ (either : AreDisjoint (block_changed lanes a) (block_changed lanes b)). either)
       (apart 0 (blocks w lanes zones) (block_changed lanes a) (block_changed lanes b) (rising w lanes zones none) one.is_there other.is_there)
+
+  -- two blocks at one place overlap
+  overlap : (a b : Block) → a.place ≡ b.place → 1 ≤ a.lines → 1 ≤ b.lines → AreDisjoint a b → ⊥
+  overlap a b same some some_too (inl before) = omega (arith, same, some, before)
+  overlap a b same some some_too (inr behind) = omega (arith, same, some_too, behind)
+
+  -- where a change may free this block of a run, its bit is set
+  set_in_run : (change : HeapChange) (c lines index : ℕ) → CanChange w lanes zones change → Frees lanes change (block_of_run lanes c lines index) → InRun w lanes zones c lines index → bit_at (w (chunk_word lanes c)) index ≡ 1
+  set_in_run (FreesInRun d many i) c lines index can frees mine =
+      let other : InRun w lanes zones d many i = record { inside = can.inside; described = can.is_run } in
+      let some : 1 ≤ many = lines_of_block w lanes zones (block_of_run lanes d many i) none (freed_there (FreesInRun d many i) (offset_in (block_of_run lanes d many i)) can refl).is_there in
+      let place : (block_of_run lanes c lines index).place ≡ (block_of_run lanes d many i).place = sym (ap (λ (b : Block). b.place) frees) in
+      let long : many ≡ lines = ap (λ (b : Block). b.lines) frees in
+      let never : AreDisjoint (block_of_run lanes c lines index) (block_of_run lanes d many i) → ⊥ = overlap (block_of_run lanes c lines index) (block_of_run lanes d many i) place (omega (arith, some, long)) some in
+      ⊎_elim
+      (λ (same : c ≡ d). ⊎_elim
+      (λ (equal : index ≡ i). (λ j. bit_at (w (chunk_word lanes (same j))) (equal j)) ∙ can.is_set)
+      (λ (differ : index ≢ i). absurd (never (runs_apart w lanes zones c lines index d many i mine other (λ same. differ))))
+      (cases_eq index i))
+      (λ (differ : c ≢ d). absurd (never (runs_apart w lanes zones c lines index d many i mine other (λ same. absurd (differ same)))))
+      (cases_eq c d)
+  set_in_run (FreesChunks d chunks) c lines index can frees mine =
+      let some : 1 ≤ 64 * chunks = lines_of_block w lanes zones (block_of_chunks lanes d chunks) none (freed_there (FreesChunks d chunks) (offset_in (block_of_chunks lanes d chunks)) can refl).is_there in
+      let place : (block_of_run lanes c lines index).place ≡ (block_of_chunks lanes d chunks).place = sym (ap (λ (b : Block). b.place) frees) in
+      let long : 64 * chunks ≡ lines = ap (λ (b : Block). b.lines) frees in
+      absurd (overlap (block_of_run lanes c lines index) (block_of_chunks lanes d chunks) place (omega (arith, some, long)) some
+      (run_chunks w lanes zones c lines index d chunks mine (whole_in w lanes zones none d chunks can.in_zones can.is_first)))
+  set_in_run (AllocatesInRun d many i kind bytes) c lines index can frees mine = absurd frees
+  set_in_run (AllocatesChunks d chunks kind bytes) c lines index can frees mine = absurd frees
 
 module _ (o : Opening) (header : Header) (pool : PoolView) (u : View) (s : StandsAlone o header pool u) (held : HoldsCommitted o u header pool) (has : HasMade u) (all : List Published) (entered : HasEnteredCall u all) where
   abbrev w : ℕ → ℕ
@@ -152,6 +184,52 @@ module _ (o : Opening) (header : Header) (pool : PoolView) (u : View) (s : Stand
   is_reserved change n (inl t) = inl t.reserved
   is_reserved change n (inr t) = inr t.reserved
 
+  -- ---- what it freed may be freed
+
+  found : (l : Lock) (lines : ℕ) → Contains u.locks l → l.block ≡ Some lines → w 64 ≢ 64 * l.line + 64 → MayBeFreed w u.lanes u.zones (record { place = 64 * l.line; lines = lines })
+  found l lines there is not_root =
+      two_same (λ (a c : ℕ). MayBeFreed w a c (record { place = 64 * l.line; lines = lines })) o.lanes u.lanes o.zones u.zones (sym fits.lane.lanes) (sym fits.lane.zones)
+      (subst (λ (x : View). heap_fault (slice_index x.words) o.lanes o.zones ≡ None → Contains x.locks l → slice_index x.words 64 ≢ 64 * l.line + 64 → MayBeFreed (slice_index x.words) o.lanes o.zones (record { place = 64 * l.line; lines = lines })) s.here
+      (λ none inside other. found_freed o (memory_of u) s.views s.log s.decided 0 s.goes.world s.goes.in_lanes (λ i. ap (λ (x : View). slice_index x.words i) (sym s.here)) none l lines inside is other)
+      held.holds.no_fault there not_root)
+
+  can_free : (change : HeapChange) (off : ℕ) → FreesIts u change off → Can change
+  can_free change off (inl t) =
+      let begins = t.begins in let of_line = t.of_line in let not_root = t.not_root in
+      let m = found t.lock t.lines t.held t.found (λ same. not_root (omega (arith, same, begins, of_line))) in
+      let frees : Frees u.lanes m.change (block_of_run u.lanes t.chunk t.lines t.index) = subst (Frees u.lanes m.change) (λ j. let b : Block = record { place = sym of_line j; lines = t.lines } in b) m.frees in
+      subst Can (sym t.is) (record {
+        in_zones = t.in_pool;
+        inside = t.inside;
+        is_run = t.described;
+        is_set = set_in_run w u.lanes u.zones holds.no_fault m.change t.chunk t.lines t.index m.can frees (record { inside = t.inside; described = t.described });
+        not_root = λ same. not_root (same ∙ begins);
+      })
+  can_free change off (inr t) = let not_root = t.not_root in let begins = t.begins in subst Can (sym t.is) (record { in_zones = t.in_pool; is_first = t.described; not_root = λ same. not_root (same ∙ begins) })
+
+  frees_at : (change : HeapChange) (off : ℕ) → FreesIts u change off → FreesAt u.lanes change off
+  frees_at change off (inl t) = subst (λ (c : HeapChange). FreesAt u.lanes c off) (sym t.is) t.begins
+  frees_at change off (inr t) = subst (λ (c : HeapChange). FreesAt u.lanes c off) (sym t.is) t.begins
+
+  all_can_free : (freed : List HeapChange) (offs : List ℕ) → AllZip (FreesIts u) freed offs → All Can freed
+  all_can_free [] offs each = All-nil Can
+  all_can_free (change ∷ freed) [] each = absurd each
+  all_can_free (change ∷ freed) (off ∷ offs) each = All-cons Can change freed (can_free change off each.0) (all_can_free freed offs each.1)
+
+  all_frees : (freed : List HeapChange) (offs : List ℕ) → AllZip (FreesIts u) freed offs → AllZip (FreesAt u.lanes) freed offs
+  all_frees [] [] each = each
+  all_frees [] (off ∷ offs) each = absurd each
+  all_frees (change ∷ freed) [] each = absurd each
+  all_frees (change ∷ freed) (off ∷ offs) each = (frees_at change off each.0, all_frees freed offs each.1)
+
+  may_free : All Can entered.freed
+  may_free = all_can_free entered.freed (blocks_in u).freed entered.frees
+
+  frees : AllZip (FreesAt u.lanes) entered.freed (blocks_in u).freed
+  frees = all_frees entered.freed (blocks_in u).freed entered.frees
+
+  -- ---- and what the call does with what it made
+
   abbrev AreMade : List NewObject → Type 0
   AreMade ns = All (Contains news) ns
 
@@ -171,7 +249,7 @@ module _ (o : Opening) (header : Header) (pool : PoolView) (u : View) (s : Stand
   made_there = All-contains_itself news
 
   pub of_call : ChangesOf u u.lanes (entered.freed ++ entered.made)
-  of_call = record { freed = entered.freed; made = entered.made; are = refl; frees = entered.frees; allocates = all_of entered.made news entered.allocates made_there; once = entered.once_made }
+  of_call = record { freed = entered.freed; made = entered.made; are = refl; frees = frees; allocates = all_of entered.made news entered.allocates made_there; once = entered.once_made }
 
   -- ---- all lie apart
 
@@ -201,10 +279,10 @@ module _ (o : Opening) (header : Header) (pool : PoolView) (u : View) (s : Stand
   turned a b (inl before) = inr before
   turned a b (inr behind) = inl behind
 
-  abbrev Frees : HeapChange → ℕ → Type 0
-  Frees change off = IsFreed w u.lanes u.zones holds.no_fault change off
+  abbrev FreesBlock : HeapChange → ℕ → Type 0
+  FreesBlock change off = IsFreed w u.lanes u.zones holds.no_fault change off
 
-  freed_made : (a : HeapChange) (off : ℕ) → Frees a off → (made : List HeapChange) (ns : List NewObject) → AllZip (AllocatesIts u) made ns → All (Follows a) (map Changes made)
+  freed_made : (a : HeapChange) (off : ℕ) → FreesBlock a off → (made : List HeapChange) (ns : List NewObject) → AllZip (AllocatesIts u) made ns → All (Follows a) (map Changes made)
   freed_made a off freed [] ns each = All-nil (Follows a)
   freed_made a off freed (b ∷ made) [] each = absurd each
   freed_made a off freed (b ∷ made) (m ∷ ns) each =
@@ -214,7 +292,7 @@ module _ (o : Opening) (header : Header) (pool : PoolView) (u : View) (s : Stand
       (two_same (λ (x y : ℕ). Contains (blocks w x y) (block_changed u.lanes a)) u.lanes o.lanes u.zones o.zones fits.lane.lanes fits.lane.zones freed.is_there))))
       (freed_made a off freed made ns each.1)
 
-  freed_freed : (a : HeapChange) (off : ℕ) → Frees a off → (freed : List HeapChange) (offs : List ℕ) → AllZip (FreesAt u.lanes) freed offs → All Can freed → AllByRecursion (λ at. nat_eq off at ≡ false) offs
+  freed_freed : (a : HeapChange) (off : ℕ) → FreesBlock a off → (freed : List HeapChange) (offs : List ℕ) → AllZip (FreesAt u.lanes) freed offs → All Can freed → AllByRecursion (λ at. nat_eq off at ≡ false) offs
       → All (Follows a) (map Changes freed)
   freed_freed a off mine [] offs each can differ = All-nil (Follows a)
   freed_freed a off mine (b ∷ freed) [] each can differ = absurd each
@@ -228,7 +306,7 @@ module _ (o : Opening) (header : Header) (pool : PoolView) (u : View) (s : Stand
   freed_ordered [] offs each can once = made_ordered entered.made news entered.allocates made_there entered.once_made
   freed_ordered (a ∷ freed) [] each can once = absurd each
   freed_ordered (a ∷ freed) (off ∷ offs) each can once =
-      let mine : Frees a off = freed_there w u.lanes u.zones holds.no_fault a off (All-head Can a freed can) each.0 in (
+      let mine : FreesBlock a off = freed_there w u.lanes u.zones holds.no_fault a off (All-head Can a freed can) each.0 in (
         All-append (Follows a) (map Changes freed) (map Changes entered.made) (freed_freed a off mine freed offs each.1 (All-tail Can a freed can) once.0) (freed_made a off mine entered.made news entered.allocates),
         freed_ordered freed offs each.1 (All-tail Can a freed can) once.1,
       )
@@ -247,7 +325,7 @@ module _ (o : Opening) (header : Header) (pool : PoolView) (u : View) (s : Stand
       (All-weaker (CanPerform (call_words u held.words) u.lanes u.zones) (CanPerform w u.lanes u.zones) (λ a can. can_alike (call_words u held.words) w u.lanes u.zones header base a held.to.holds holds can) (published_in u) held.to.performable)
 
   can_change : All CanDo (map Changes entered.freed ++ map Changes entered.made)
-  can_change = All-append CanDo (map Changes entered.freed) (map Changes entered.made) (All-map CanDo Changes entered.freed entered.may_free)
+  can_change = All-append CanDo (map Changes entered.freed) (map Changes entered.made) (All-map CanDo Changes entered.freed may_free)
       (All-map CanDo Changes entered.made (all_can_make entered.made news entered.allocates made_there))
 
   pub has_entries : HasEntriesFor u header held.held.before base all
@@ -257,5 +335,5 @@ module _ (o : Opening) (header : Header) (pool : PoolView) (u : View) (s : Stand
     was = two_same (λ (a c : ℕ). HoldsImage u.words a c header held.held.before) o.lanes u.lanes o.zones u.zones (sym fits.lane.lanes) (sym fits.lane.zones) held.held.holds;
     holds = holds;
     can = subst (All CanDo) (sym (parts u all entered)) (All-append CanDo (map Performs (published_in u)) (map Changes entered.freed ++ map Changes entered.made) can_perform can_change);
-    ordered = subst (AreInOrder u.lanes) (sym (parts u all entered)) (actions_ordered (published_in u) (map Changes entered.freed ++ map Changes entered.made) (freed_ordered entered.freed (blocks_in u).freed entered.frees entered.may_free entered.once_freed));
+    ordered = subst (AreInOrder u.lanes) (sym (parts u all entered)) (actions_ordered (published_in u) (map Changes entered.freed ++ map Changes entered.made) (freed_ordered entered.freed (blocks_in u).freed frees may_free entered.once_freed));
   }

@@ -11,14 +11,13 @@ use Rattle.pm_view.specs.declared.occ.Occ.TheVariants.{Run, Zone}
 use Rattle.pm_view.specs.View.{View}
 use Rattle.pm_view.specs.Views.{reserves}
 use Rattle.pm_crash.specs.CallBlocks.{NewObject, block_of, blocks_in}
-use Rattle.pm_crash.specs.CallChanges.{FreesAt}
 use Rattle.pm_crash.specs.HeapChanges.{HeapChange}
-use Rattle.pm_crash.specs.HeapChanges.HeapChange.{AllocatesChunks, AllocatesInRun, FreesChunks, FreesInRun}
+use Rattle.pm_crash.specs.HeapChanges.HeapChange.{AllocatesChunks, AllocatesInRun}
 use Rattle.pm_crash.specs.Pending.{published_in}
 use Rattle.pm_crash.specs.Publishing.{Published}
 use Rattle.pm_crash.specs.Publishing.Published.{Changes, Performs}
 use Rattle.pm_crash.specs.Taken.{AllocatesBit}
-use Rattle.pm_epoch.specs.Epochs.{AllocatesIts, AllocatesOwn, HasEnteredCall, SomeAllocates}
+use Rattle.pm_epoch.specs.Epochs.{AllocatesIts, AllocatesOwn, FreesIts, HasEnteredCall, SomeAllocates}
 
 module _ (u : View) where
   -- each bit that a change allocates for an object of the call is of what the lane reserved
@@ -43,13 +42,11 @@ module _ (u : View) where
   made_own (change ∷ made) (n ∷ news) each at bit (inr later) = made_own made news each.1 at bit later
 
   -- what it frees allocates nothing, nor do its actions
-  freed_none : (change : HeapChange) (off : ℕ) (at : Occ) (bit : ℕ) → FreesAt u.lanes change off → AllocatesBit u.lanes change at bit → ⊥
-  freed_none (AllocatesInRun c lines index kind bytes) off at bit frees is = frees
-  freed_none (AllocatesChunks c chunks kind bytes) off at bit frees is = frees
-  freed_none (FreesInRun c lines index) off at bit frees is = is
-  freed_none (FreesChunks c chunks) off at bit frees is = is
+  freed_none : (change : HeapChange) (off : ℕ) (at : Occ) (bit : ℕ) → FreesIts u change off → AllocatesBit u.lanes change at bit → ⊥
+  freed_none change off at bit (inl t) is = subst (λ (c : HeapChange). AllocatesBit u.lanes c at bit) t.is is
+  freed_none change off at bit (inr t) is = subst (λ (c : HeapChange). AllocatesBit u.lanes c at bit) t.is is
 
-  freed_apart : (freed : List HeapChange) (offs : List ℕ) (steps : List Published) → AllZip (FreesAt u.lanes) freed offs → (at : Occ) (bit : ℕ)
+  freed_apart : (freed : List HeapChange) (offs : List ℕ) (steps : List Published) → AllZip (FreesIts u) freed offs → (at : Occ) (bit : ℕ)
       → SomeAllocates u.lanes (map Changes freed ++ steps) at bit → SomeAllocates u.lanes steps at bit
   freed_apart [] offs steps each at bit some = some
   freed_apart (change ∷ freed) [] steps each at bit some = absurd each

@@ -1,17 +1,17 @@
 -- What a lane that is alone publishes over the pool that its words hold: blocks for new objects, blocks freed, words of objects set (docs/MODEL.md, "From call to
 -- call").
-use Rattle.std.specs.Prelude.{◌≡◌, ◌⊎◌, ◌↔◌, ℕ, ◌+◌, ◌*◌, ◌<◌, ◌≤◌, ◌^◌, IsTrue, Contains, true, false, length, All, List, [], ◌∷◌, ◌++◌, map, nat_eq, slice_index, Some}
-use Rattle.pm_layout.specs.Sizes.{descriptor_of}
-use Rattle.pm_layout.specs.declared.class.Class.TheVariants.{Lines}
+use Rattle.std.specs.Prelude.{◌≡◌, ◌≢◌, ◌⊎◌, ◌↔◌, ℕ, ◌+◌, ◌*◌, ◌<◌, ◌≤◌, ◌^◌, IsTrue, Contains, true, false, length, All, List, [], ◌∷◌, ◌++◌, map, nat_eq, slice_index, Some}
+use Rattle.pm_layout.specs.Sizes.{blocks_of, descriptor_of}
+use Rattle.pm_layout.specs.declared.class.Class.TheVariants.{Chunks, Lines}
 use Rattle.pm_layout.specs.declared.shape.Shape.{Shape}
 use Rattle.pm_header.specs.declared.header.Header.{Header}
 use Rattle.pm_objects.specs.declared.pool.PoolView.{PoolView}
 use Rattle.pm_image.specs.Blocks.{descriptor_word}
-use Rattle.pm_image.specs.Contents.{bytes_in}
+use Rattle.pm_image.specs.Contents.{bytes_in, offset_in}
 use Rattle.pm_view.specs.declared.occ.Occ.{Occ}
 use Rattle.pm_view.specs.declared.occ.Occ.TheVariants.{Zone}
 use Rattle.pm_view.specs.Held.{is_held}
-use Rattle.pm_view.specs.View.{Taken, View}
+use Rattle.pm_view.specs.View.{Lock, Taken, View}
 use Rattle.pm_view.specs.Founds.{IsAlone}
 use Rattle.pm_view.specs.Occupancy.{is_taken}
 use Rattle.pm_view.specs.Steps.{Step}
@@ -31,9 +31,8 @@ use Rattle.pm_world.specs.Opens.{IsClean}
 use Rattle.std.specs.Option.{ForSome}
 use Rattle.pm_crash.specs.Alone.{WorksAlone, standing}
 use Rattle.pm_crash.specs.CallBlocks.{NewObject, allocated_in, block_of, blocks_in}
-use Rattle.pm_crash.specs.CallChanges.{FreesAt}
-use Rattle.pm_crash.specs.HeapChanges.{CanChange, HeapChange, run_at}
-use Rattle.pm_crash.specs.HeapChanges.HeapChange.{AllocatesChunks, AllocatesInRun}
+use Rattle.pm_crash.specs.HeapChanges.{HeapChange, run_at}
+use Rattle.pm_crash.specs.HeapChanges.HeapChange.{AllocatesChunks, AllocatesInRun, FreesChunks, FreesInRun}
 use Rattle.pm_crash.specs.NewObjects.{block_of_chunks, block_of_run}
 use Rattle.pm_crash.specs.Held.{HoldsImage, HoldsPool}
 use Rattle.pm_crash.specs.Publishing.Published.{Changes, Performs}
@@ -109,17 +108,45 @@ pub record AllocatesItsChunks (v : View) (change : HeapChange) (n : NewObject) :
 abbrev pub AllocatesIts : View → HeapChange → NewObject → Type 0
 AllocatesIts v change n = AllocatesInItsRun v change n ⊎ AllocatesItsChunks v change n
 
--- The lane's log has what its call publishes, each thing by one entry: first the call's actions, in their order; then it frees each object that the call found
--- and freed, none of them twice, whose block the words have and which is not the root; then it allocates each that the call made. Behind these stands the entry
--- that ends the generation.
+-- The change frees the block of the object that begins so, in the run that the lane's words describe, which the lane found under a lock that it has; it is not
+-- the root's.
+pub record FreesInItsRun (v : View) (change : HeapChange) (off : ℕ) : Type 0 where
+  pub chunk : ℕ
+  pub lines : ℕ
+  pub index : ℕ
+  pub in_pool : chunk < 64 * v.zones
+  pub inside : index < blocks_of lines
+  pub described : slice_index v.words (descriptor_word v.lanes chunk) ≡ descriptor_of (Lines lines)
+  pub begins : offset_in (block_of_run v.lanes chunk lines index) ≡ off
+  pub lock : Lock
+  pub held : Contains v.locks lock
+  pub found : lock.block ≡ Some lines
+  pub of_line : (block_of_run v.lanes chunk lines index).place ≡ 64 * lock.line
+  pub not_root : slice_index v.words 64 ≢ off
+  pub is : change ≡ FreesInRun chunk lines index
+
+-- so it does with the object's chunks, the first of which the lane's words describe so
+pub record FreesItsChunks (v : View) (change : HeapChange) (off : ℕ) : Type 0 where
+  pub chunk : ℕ
+  pub count : ℕ
+  pub in_pool : chunk < 64 * v.zones
+  pub described : slice_index v.words (descriptor_word v.lanes chunk) ≡ descriptor_of (Chunks count)
+  pub begins : offset_in (block_of_chunks v.lanes chunk count) ≡ off
+  pub not_root : slice_index v.words 64 ≢ off
+  pub is : change ≡ FreesChunks chunk count
+
+abbrev pub FreesIts : View → HeapChange → ℕ → Type 0
+FreesIts v change off = FreesInItsRun v change off ⊎ FreesItsChunks v change off
+
+-- The lane's log has what its call publishes, each thing by one entry: first the call's actions, in their order; then it frees the block of each object that
+-- the call found and freed, none of them twice; then it allocates that of each that the call made. Behind these stands the entry that ends the generation.
 pub record HasEnteredCall (v : View) (all : List Published) : Type 0 where
   pub freed : List HeapChange
   pub made : List HeapChange
   pub are : all ≡ map Performs (published_in v) ++ map Changes (freed ++ made)
   pub entries : v.log.entries ≡ map (entry_published v.lanes) all ++ ends_with v (generation_of v + 1) ∷ []
   pub not_last : generation_of v < generation_limit
-  pub frees : AllZip (FreesAt v.lanes) freed (blocks_in v).freed
-  pub may_free : All (CanChange (slice_index v.words) v.lanes v.zones) freed
+  pub frees : AllZip (FreesIts v) freed (blocks_in v).freed
   pub once_freed : IsDistinct nat_eq (blocks_in v).freed
   pub allocates : AllZip (AllocatesIts v) made (blocks_in v).made
   pub once_made : IsDistinct nat_eq (map (λ (n : NewObject). n.off) (blocks_in v).made)
