@@ -26,7 +26,7 @@ use Rattle.pm_model.specs.Answers.{Answers, after_reply}
 use Rattle.pm_model.proofs.Alike.{after_refused}
 use Rattle.pm_view.specs.Log.{Recorded}
 use Rattle.pm_view.specs.View.{View}
-use Rattle.pm_crash.specs.CallBlocks.{CallBlocks, IsOldIn, KeepsBlocks, NewObject, allocated_by, blocks_behind, blocks_in, is_new_in, no_blocks}
+use Rattle.pm_crash.specs.CallBlocks.{CallBlocks, IsOldIn, KeepsBlocks, NewObject, TellsOfRoot, allocated_by, blocks_behind, blocks_in, is_new_in, no_blocks}
 use Rattle.pm_crash.specs.Held.{HoldsPool}
 use Rattle.pm_crash.specs.Locks.{AreSameLocks}
 use Rattle.pm_crash.specs.OnActions.{AreOld, CanSet, ChangesPending, IsPendingAnswer, IsPublishReason, IsPublishReasonIn, MovesActions, PublishesIn, RefusesPublish, entries_in, entries_wanted, set_refusal}
@@ -283,6 +283,12 @@ pending_allocates_none actions (SetValue id off value) reply answer = refl
 pending_allocates_none actions Cancel reply answer = refl
 pending_allocates_none actions op reply answer = absurd answer
 
+-- tells nothing of the root
+pending_tells_no_root : (actions : List Action) (op : Operation) (reply : Option Value) → IsPendingAnswer actions op reply → (root : Option ℕ) → TellsOfRoot root op reply
+pending_tells_no_root actions (SetValue id off value) reply answer root = tt
+pending_tells_no_root actions Cancel reply answer root = tt
+pending_tells_no_root actions op reply answer root = absurd answer
+
 -- and leaves the blocks
 pending_leaves : (actions : List Action) (op : Operation) (reply : Option Value) (b : CallBlocks) → IsPendingAnswer actions op reply → blocks_behind op reply b ≡ b
 pending_leaves actions (SetValue id off value) reply b answer = ap (λ (r : Option Value). blocks_behind (SetValue id off value) r b) answer ∙ set_leaves id off value actions b
@@ -292,7 +298,7 @@ pending_leaves actions op reply b answer = absurd answer
 pub change_keeps_open : (v next : View) (op : Operation) (reply : Option Value) (level : ℕ) → 1 ≤ level → IsOpen v level stage.Work error.None → ChangesPending v next op reply → IsOpen next level stage.Work error.None
 change_keeps_open v next op reply level some is_open changes = record {
   under_way = change_goes_on v next op reply level some is_open.under_way changes;
-  keeps = keeps_on v next op reply changes.tells.call (pending_leaves (pending_in v) op reply no_blocks changes.answer) (pending_allocates_none (pending_in v) op reply changes.answer) is_open.keeps;
+  keeps = keeps_on v next op reply changes.tells.call (pending_leaves (pending_in v) op reply no_blocks changes.answer) (pending_allocates_none (pending_in v) op reply changes.answer) (pending_tells_no_root (pending_in v) op reply changes.answer) is_open.keeps;
 }
 
 -- none of the objects that are pending is new or freed, and no entry is of one
@@ -311,7 +317,7 @@ publish_keeps_open v next level some is_open moves = record {
       publish_goes_on v next level some is_open.under_way
       (record { tells = moves.tells; logs = moves.logs; words = moves.words; each = moves.each; room = subst (λ (n : ℕ). n ≤ max_entries) (sym (no_entry_more v is_open.keeps)) moves.room })
       (all_old v is_open.keeps (pending_in v));
-  keeps = keeps_on v next Publish None moves.tells.call refl refl is_open.keeps;
+  keeps = keeps_on v next Publish None moves.tells.call refl refl (λ root. tt) is_open.keeps;
 }
 
 reason_in : (v : View) (r : Refusal) → KeepsBlocks v → IsPublishReason v r → IsPublishReasonIn v r
@@ -322,6 +328,6 @@ reason_in v r keeps reason = absurd reason
 
 pub refused_publish_gives_up : (v next : View) (r : Refusal) (level : ℕ) → 1 ≤ level → IsOpen v level stage.Work error.None → RefusesPublish v next r → IsGivenUp next (error.Refused r)
 refused_publish_gives_up v next r level some is_open refuses =
-    gives_up v next Publish (Some (Refused r)) refl refuses.tells.call is_open.keeps (error.Refused r)
+    gives_up v next Publish (Some (Refused r)) refl (λ root. tt) refuses.tells.call is_open.keeps (error.Refused r)
     (refused_publish_aborts v next r level some is_open.under_way (reason_in v r is_open.keeps refuses.reason) refuses.tells refuses.takes_back
     (found_old v (all_old v is_open.keeps (pending_in v))) (λ other. all_old v is_open.keeps (pending_in v)))

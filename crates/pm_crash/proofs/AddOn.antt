@@ -165,5 +165,5 @@ add_goes_on v next id off len level some under_way adds old =
 pub add_keeps_open : (v next : View) (id : Oid) (off len level : ℕ) → 1 ≤ level → IsOpen v level stage.Work error.None → AddsRange v next id off len → IsOpen next level stage.Work error.None
 add_keeps_open v next id off len level some is_open adds = record {
   under_way = add_goes_on v next id off len level some is_open.under_way adds (old_of_none v is_open.keeps id.off);
-  keeps = keeps_on v next (AddRange id off len) None adds.tells.call refl refl is_open.keeps;
+  keeps = keeps_on v next (AddRange id off len) None adds.tells.call refl refl (λ root. tt) is_open.keeps;
 }

@@ -36,7 +36,7 @@ use Rattle.pm_model.proofs.ObjectsByOffset.{more_elsewhere, more_rise, more_ther
 use Rattle.pm_view.specs.Log.{Recorded}
 use Rattle.pm_view.specs.View.{View, Lock}
 use Rattle.pm_world.specs.Records.{is_recorded}
-use Rattle.pm_crash.specs.CallBlocks.{CallBlocks, HasRoomFor, IsMadeIn, NewObject, allocated_in, block_of, blocks_in, is_at, is_freed_in, is_gone_in, is_made_in, is_new_in, object_made, with_made}
+use Rattle.pm_crash.specs.CallBlocks.{CallBlocks, IsMadeIn, MayPrecede, NewObject, allocated_in, block_of, blocks_in, is_at, is_freed_in, is_gone_in, is_made_in, is_new_in, object_made, with_made}
 use Rattle.pm_crash.specs.Held.{HoldsPool, object_of}
 use Rattle.pm_crash.specs.HeapChanges.{AreDisjoint}
 use Rattle.pm_crash.specs.OpenCall.{ComesTo, HasMade, IsChanged, IsUnderWay, LieApart, TracksBlocks, block_at_line, call_words, place_and_size, words_recorded}
@@ -211,10 +211,10 @@ module _ (v next : View) (n : NewObject) (level : ℕ) (some_level : 1 ≤ level
       let there : Contains (blocks_in v).made t.1 = (t.0, t.2, t.3) in
       apart_offsets n t.1 alloc.made.behind (alloc.apart_made t.1 (Contains-append_left (blocks_in v).made (blocks_in v).dropped t.1 there)) (eqb-true t.1.off n.off t.4))
 
-  module _ (w : ℕ → ℕ) (header : Header) (pool : PoolView) (holds : HoldsPool w v.lanes v.zones header pool) (room : HasRoomFor pool (allocated_in next)) (c : ComesTo v w header pool level stage.Work error.None) where
+  module _ (w : ℕ → ℕ) (header : Header) (pool : PoolView) (holds : HoldsPool w v.lanes v.zones header pool) (may : MayPrecede pool next) (c : ComesTo v w header pool level stage.Work error.None) where
     -- no object of the pool before the call stands in its way
     beside_before : All (IsBeside n.size n.off) pool.objects
-    beside_before = All-contains (λ (m : NewObject). All (IsBeside m.size m.off) pool.objects) (allocated_in next) n room (subst (λ (ns : List NewObject). Contains ns n) (sym allocated_now) (Contains-push (allocated_in v) n))
+    beside_before = All-contains (λ (m : NewObject). All (IsBeside m.size m.off) pool.objects) (allocated_in next) n may.room (subst (λ (ns : List NewObject). Contains ns n) (sym allocated_now) (Contains-push (allocated_in v) n))
 
     -- nor of what the words hold now
     beside_base : (off : ℕ) (object : Object) → object_at c.base.objects off ≡ Some object → IsBeside n.size n.off (off, object)

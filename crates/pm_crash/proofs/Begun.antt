@@ -39,7 +39,7 @@ use Rattle.pm_crash.specs.Pending.{pending_before, told_of}
 use Rattle.pm_crash.specs.Performing.{CanPerform}
 use Rattle.pm_crash.specs.Operations.{BeginsCall, IsHeld, IsWantHeld}
 use Rattle.pm_crash.proofs.ObjectsOfBlocks.{object_is_there, objects_rise}
-use Rattle.pm_crash.proofs.CallBlocks.{none_made}
+use Rattle.pm_crash.proofs.CallBlocks.{first_agrees, none_made}
 use Rattle.pm_crash.proofs.Passing.{none_named, unhindered}
 use Rattle.pm_crash.proofs.PendingOn.{pending_first, published_first}
 use Rattle.pm_crash.proofs.Runs.{runs_first}
@@ -128,6 +128,7 @@ unfolding blocks_told
 begin_keeps v wants begins = record {
   blocks = ap (blocks_told no_blocks) begins.call;
   allocated = ap (flat_map (λ (t : Told). allocated_by t.operation t.reply)) begins.call;
+  any_root = λ root. first_agrees v (Begin wants) None begins.call root tt;
 }
 
 -- a pool is changed by nothing

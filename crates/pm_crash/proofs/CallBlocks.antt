@@ -4,6 +4,7 @@ use Rattle.std.specs.List.{All, Contains, filter, flat_map, list_any}
 use Rattle.std.proofs.lemmas.Bool.{or_from, or_parts}
 use Rattle.std.proofs.lemmas.Grind.{div_ceil_times, flat_map-append}
 use Rattle.std.proofs.lemmas.List.{append-nil}
+use Rattle.std.proofs.lemmas.List.Elements.{All-append, All-cons, All-head, All-nil}
 use Rattle.pm_layout.specs.Sizes.{class_of, lines_for}
 use Rattle.pm_objects.specs.Pool.{block_lines, offsets}
 use Rattle.pm_objects.specs.declared.calls.Operation.{Operation}
@@ -23,7 +24,7 @@ use Rattle.pm_model.specs.Bytes.{is_among}
 use Rattle.pm_model.specs.Transaction.{Transaction, is_gone, is_new}
 use Rattle.pm_view.specs.Area.{is_in_area}
 use Rattle.pm_view.specs.View.{Told, View}
-use Rattle.pm_crash.specs.CallBlocks.{CallBlocks, HasRoomFor, IsMadeIn, IsOldIn, KeepsBlocks, NewObject, allocated_by, allocated_in, block_of, blocks_behind, blocks_in, blocks_told, is_at, is_freed_in, is_gone_in, is_made_in, is_new_in, no_blocks, object_made}
+use Rattle.pm_crash.specs.CallBlocks.{AgreesOnRoot, CallBlocks, HasRoomFor, IsMadeIn, IsOldIn, KeepsBlocks, MayPrecede, NewObject, TellsOfRoot, allocated_by, allocated_in, block_of, blocks_behind, blocks_in, blocks_told, is_at, is_freed_in, is_gone_in, is_made_in, is_new_in, no_blocks, object_made}
 use Rattle.pm_crash.specs.NewObjects.{fresh_word, unlinked}
 use Rattle.pm_crash.specs.OpenCall.{IsChanged, TracksBlocks, place_and_size}
 
@@ -46,11 +47,23 @@ allocated_once_more v next op reply call =
     ∙ flat_map-append by v.call (record { operation = op; reply = reply } ∷ [])
     ∙ ap (λ (more : List NewObject). allocated_in v ++ more) (append-nil (allocated_by op reply))
 
--- a pool that has room for what is allocated once it is told had it before
-pub room_before : (v next : View) (op : Operation) (reply : Option Value) → next.call ≡ v.call ++ record { operation = op; reply = reply } ∷ [] → (pool : PoolView)
-    → HasRoomFor pool (allocated_in next) → HasRoomFor pool (allocated_in v)
-room_before v next op reply call pool room =
-    (All-parts (λ (n : NewObject). All (IsBeside n.size n.off) pool.objects) (allocated_in v) (allocated_by op reply) (subst (HasRoomFor pool) (allocated_once_more v next op reply call) room)).0
+-- an operation with its reply agrees with a root
+abbrev Agrees : Option ℕ → Told → Type 0
+Agrees root t = TellsOfRoot root t.operation t.reply
+
+-- a pool that may be the one before the call once the operation is told might be before
+pub may_before : (v next : View) (op : Operation) (reply : Option Value) → next.call ≡ v.call ++ record { operation = op; reply = reply } ∷ [] → (pool : PoolView) → MayPrecede pool next → MayPrecede pool v
+may_before v next op reply call pool may = record {
+  room = (All-parts (λ (n : NewObject). All (IsBeside n.size n.off) pool.objects) (allocated_in v) (allocated_by op reply) (subst (HasRoomFor pool) (allocated_once_more v next op reply call) may.room)).0;
+  root = (All-parts (Agrees pool.root) v.call (record { operation = op; reply = reply } ∷ []) (subst (All (Agrees pool.root)) call may.root)).0;
+}
+
+-- and the operation told agrees with its root
+pub tells_of_root : (v next : View) (op : Operation) (reply : Option Value) → next.call ≡ v.call ++ record { operation = op; reply = reply } ∷ [] → (pool : PoolView) → MayPrecede pool next
+    → TellsOfRoot pool.root op reply
+tells_of_root v next op reply call pool may =
+    let t : Told = record { operation = op; reply = reply } in
+    All-head (Agrees pool.root) t [] (All-parts (Agrees pool.root) v.call (t ∷ []) (subst (All (Agrees pool.root)) call may.root)).1
 
 -- where nothing is told it is the same
 pub same_blocks : (v next : View) → next.call ≡ v.call → blocks_in next ≡ blocks_in v
@@ -59,20 +72,50 @@ same_blocks v next call = ap (blocks_told no_blocks) call
 pub same_allocated : (v next : View) → next.call ≡ v.call → allocated_in next ≡ allocated_in v
 same_allocated v next call = ap (flat_map (λ (t : Told). allocated_by t.operation t.reply)) call
 
+-- and so the call agrees with a root, of one operation or more
+pub first_agrees : (v : View) (op : Operation) (reply : Option Value) → v.call ≡ record { operation = op; reply = reply } ∷ [] → (root : Option ℕ) → TellsOfRoot root op reply → AgreesOnRoot v root
+first_agrees v op reply call root now = subst (All (Agrees root)) (sym call) (All-cons (Agrees root) (record { operation = op; reply = reply }) [] now (All-nil (Agrees root)))
+
+agrees_once_more : (v next : View) (op : Operation) (reply : Option Value) → next.call ≡ v.call ++ record { operation = op; reply = reply } ∷ [] → (root : Option ℕ)
+    → AgreesOnRoot v root → TellsOfRoot root op reply → AgreesOnRoot next root
+agrees_once_more v next op reply call root before now =
+    let t : Told = record { operation = op; reply = reply } in
+    subst (All (Agrees root)) (sym call) (All-append (Agrees root) v.call (t ∷ []) before (All-cons (Agrees root) t [] now (All-nil (Agrees root))))
+
+-- where nothing is told the same pools may be the one before
+pub may_same : (v next : View) → next.call ≡ v.call → (pool : PoolView) → MayPrecede pool v → MayPrecede pool next
+may_same v next call pool may = record { room = subst (HasRoomFor pool) (sym (same_allocated v next call)) may.room; root = subst (All (Agrees pool.root)) (sym call) may.root }
+
 -- a call that kept the blocks does behind an operation that keeps them
 pub keeps_on : (v next : View) (op : Operation) (reply : Option Value) → next.call ≡ v.call ++ record { operation = op; reply = reply } ∷ []
-    → blocks_behind op reply no_blocks ≡ no_blocks → allocated_by op reply ≡ [] → KeepsBlocks v → KeepsBlocks next
-keeps_on v next op reply call none none_more keeps = record {
+    → blocks_behind op reply no_blocks ≡ no_blocks → allocated_by op reply ≡ [] → ((root : Option ℕ) → TellsOfRoot root op reply) → KeepsBlocks v → KeepsBlocks next
+keeps_on v next op reply call none none_more no_root keeps = record {
   blocks = blocks_once_more v next op reply call ∙ ap (blocks_behind op reply) keeps.blocks ∙ none;
   allocated = allocated_once_more v next op reply call ∙ (λ j. keeps.allocated j ++ none_more j);
+  any_root = λ root. agrees_once_more v next op reply call root (keeps.any_root root) (no_root root);
 }
 
 pub keeps_still : (v next : View) → next.call ≡ v.call → KeepsBlocks v → KeepsBlocks next
-keeps_still v next call keeps = record { blocks = same_blocks v next call ∙ keeps.blocks; allocated = same_allocated v next call ∙ keeps.allocated }
+keeps_still v next call keeps = record {
+  blocks = same_blocks v next call ∙ keeps.blocks;
+  allocated = same_allocated v next call ∙ keeps.allocated;
+  any_root = λ root. subst (All (Agrees root)) (sym call) (keeps.any_root root);
+}
 
--- every pool has room for nothing
+-- every pool has room for nothing, and so each may be the one before a call that kept the blocks
 pub room_for_none : (v : View) (pool : PoolView) → allocated_in v ≡ [] → HasRoomFor pool (allocated_in v)
 room_for_none v pool none = subst (HasRoomFor pool) (sym none) (λ k d low. absurd (omega (arith, low)))
+
+pub any_may_precede : (v : View) → KeepsBlocks v → (pool : PoolView) → MayPrecede pool v
+any_may_precede v keeps pool = record { room = room_for_none v pool keeps.allocated; root = keeps.any_root pool.root }
+
+-- so it is behind an operation that allocates nothing and tells nothing of the root
+pub any_may_still : (v next : View) (op : Operation) (reply : Option Value) → next.call ≡ v.call ++ record { operation = op; reply = reply } ∷ [] → allocated_by op reply ≡ []
+    → ((root : Option ℕ) → TellsOfRoot root op reply) → KeepsBlocks v → (pool : PoolView) → MayPrecede pool next
+any_may_still v next op reply call none no_root keeps pool = record {
+  room = room_for_none next pool (allocated_once_more v next op reply call ∙ (λ j. keeps.allocated j ++ none j));
+  root = agrees_once_more v next op reply call pool.root (keeps.any_root pool.root) (no_root pool.root);
+}
 
 -- ---- what the transaction tracks
 

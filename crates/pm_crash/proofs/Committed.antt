@@ -23,13 +23,13 @@ use Rattle.pm_model.specs.Step.{RunsFrom, State, with_pending}
 use Rattle.pm_view.specs.View.{View}
 use Rattle.pm_world.specs.History.{made_final}
 use Rattle.pm_world.specs.Records.{pool_entries}
-use Rattle.pm_crash.specs.CallBlocks.{CallBlocks, HasRoomFor, KeepsBlocks, allocated_in, is_at}
+use Rattle.pm_crash.specs.CallBlocks.{CallBlocks, KeepsBlocks, MayPrecede, is_at}
 use Rattle.pm_crash.specs.Held.{HoldsPool}
 use Rattle.pm_crash.specs.OpenCall.{CommitsTo, ComesTo, IsBefore, IsChanged, IsCommitted, IsOpen, IsUnderWay, IsWholeCall, RunsTo, Turns, call_words}
 use Rattle.pm_crash.specs.Operations.{CommitsCall, KeepsWords, Tells}
 use Rattle.pm_crash.specs.Pending.{pending_before, pending_in, published_in, told_in}
 use Rattle.pm_crash.specs.Performing.{CanPerform, entry_for, performed}
-use Rattle.pm_crash.proofs.CallBlocks.{keeps_on, room_before, room_for_none}
+use Rattle.pm_crash.proofs.CallBlocks.{any_may_precede, keeps_on, may_before}
 use Rattle.pm_crash.proofs.CallWords.{call_works}
 use Rattle.pm_crash.proofs.Continued.{answers_done, known_new, leaves_told, left_changed, left_new, told_has, told_once_more, two_same, LeavesBlocks}
 use Rattle.pm_crash.proofs.KeptWords.{before_back, keeps_known, outside_kept, same_call_words, same_found}
@@ -59,7 +59,7 @@ performable_still v w header pool level at_stage e c a can = record {
 
 -- a call that commits, and did nothing else, turns the pool so
 module _ (v next : View) (under_way : IsUnderWay v 1 stage.Work error.None) (tells : Tells v next Commit None) (records : next.log.records ≡ v.log.records) (keeps : KeepsWords v next)
-    (w : ℕ → ℕ) (header : Header) (pool : PoolView) (holds : HoldsPool w next.lanes next.zones header pool) (id : next.pool ≡ header.id) (before : IsBefore next w) (room : HasRoomFor pool (allocated_in next)) where
+    (w : ℕ → ℕ) (header : Header) (pool : PoolView) (holds : HoldsPool w next.lanes next.zones header pool) (id : next.pool ≡ header.id) (before : IsBefore next w) (may : MayPrecede pool next) where
   old_before : IsBefore v w
   old_before = before_back v next tells.keeps (same_found v next tells.locks) records (λ i outside none. keeps.words i outside) w before
 
@@ -67,7 +67,7 @@ module _ (v next : View) (under_way : IsUnderWay v 1 stage.Work error.None) (tel
   old_holds = two_same (λ (n m : ℕ). HoldsPool w n m header pool) next.lanes v.lanes next.zones v.zones tells.keeps.lanes tells.keeps.zones holds
 
   abbrev c : ComesTo v w header pool 1 stage.Work error.None
-  c = under_way.comes w header pool old_holds (sym tells.keeps.pool ∙ id) old_before (room_before v next Commit None tells.call pool room)
+  c = under_way.comes w header pool old_holds (sym tells.keeps.pool ∙ id) old_before (may_before v next Commit None tells.call pool may)
 
   abbrev last : Transaction
   last = after_reply Commit None c.tx
@@ -150,7 +150,7 @@ pub commit_is_whole : (v next : View) → IsOpen v 1 stage.Work error.None → C
 commit_is_whole v next is_open commits_call = record {
   outside = committed.outside;
   makes = λ w header pool holds id before.
-      let to : CommitsTo next w header pool = committed.comes w header pool holds id before (room_for_none next pool keeps.allocated) in
+      let to : CommitsTo next w header pool = committed.comes w header pool holds id before (any_may_precede next keeps pool) in
       let performs_all : Performs (call_words next w) next.lanes next.zones header to.base (published_in next) = performs (call_words next w) next.lanes next.zones header to.base (published_in next) to.holds to.performable in
       let same : to.copy ≡ to.base = unchanged_pool next to.base to.copy (objects_rise (call_words next w) next.lanes next.zones header to.base to.holds) keeps to.changed in
       let last_pool : PoolView = with_actions (published_in next) to.copy in
@@ -166,7 +166,7 @@ commit_is_whole v next is_open commits_call = record {
   tells = commits_call.tells
 
   keeps : KeepsBlocks next
-  keeps = keeps_on v next Commit None tells.call refl refl is_open.keeps
+  keeps = keeps_on v next Commit None tells.call refl refl (λ root. tt) is_open.keeps
 
   committed : IsCommitted next
   committed = commit_is_told v next is_open.under_way tells commits_call.records commits_call.words

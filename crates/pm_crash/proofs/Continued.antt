@@ -26,7 +26,7 @@ use Rattle.pm_view.specs.Area.{is_in_area}
 use Rattle.pm_view.specs.Blocks.{is_chunk}
 use Rattle.pm_view.specs.View.{View, Lock}
 use Rattle.pm_world.specs.Records.{is_recorded}
-use Rattle.pm_crash.specs.CallBlocks.{CallBlocks, HasRoomFor, IsMadeIn, NewObject, allocated_by, allocated_in, blocks_behind, blocks_in, is_at, is_new_in}
+use Rattle.pm_crash.specs.CallBlocks.{CallBlocks, IsMadeIn, MayPrecede, NewObject, allocated_by, allocated_in, blocks_behind, blocks_in, is_at, is_new_in}
 use Rattle.pm_crash.specs.Locks.{AreSameLocks}
 use Rattle.pm_crash.specs.Held.{HoldsPool}
 use Rattle.pm_crash.specs.OpenCall.{IsBefore, call_words, ComesTo, IsChanged, HasMade, IsUnderWay, LieApart, RecordsUnder, RunsTo, TracksBlocks, locks_of, place_and_size, words_recorded}
@@ -36,7 +36,7 @@ use Rattle.pm_crash.specs.Pending.{pending_before, pending_behind, pending_in, p
 use Rattle.pm_crash.specs.Performing.{CanPerform}
 use Rattle.pm_crash.proofs.PendingOn.{pending_once_more, published_once_more, same_before}
 use Rattle.pm_crash.proofs.Runs.{runs_once_more}
-use Rattle.pm_crash.proofs.CallBlocks.{SameNew, allocated_once_more, blocks_once_more, changed_stays, made_stays, room_before}
+use Rattle.pm_crash.proofs.CallBlocks.{SameNew, allocated_once_more, blocks_once_more, changed_stays, made_stays, may_before}
 
 -- an operation that asks for no lock, makes no object, and is not refused, answers its value
 pub answers_value : (tx : Transaction) (op : Operation) (reply : Option Value) → IsTrue (is_known op) → WantsNone op → first_refusal unhindered tx op ≡ None → reply ≡ value_of tx op
@@ -190,12 +190,12 @@ next_comes v next level to op reply w header pool lane call c on =
 pub record GoesBack (v next : View) : Type 0 where
   pub outside : (i : ℕ) → is_recorded next.log.records i ≡ true → is_in_area v.lane i ≡ false
   pub under : RecordsUnder next
-  pub before : (w : ℕ → ℕ) (header : Header) (pool : PoolView) → HoldsPool w v.lanes v.zones header pool → HasRoomFor pool (allocated_in next) → IsBefore next w → IsBefore v w
+  pub before : (w : ℕ → ℕ) (header : Header) (pool : PoolView) → HoldsPool w v.lanes v.zones header pool → MayPrecede pool next → IsBefore next w → IsBefore v w
   pub entries : next.log.entries ≡ v.log.entries
 
 pub still_under_way : (v next : View) (level to : ℕ) (op : Operation) (reply : Option Value) → IsUnderWay v level stage.Work error.None → Tells v next op reply → GoesBack v next
     → HasMade next
-    → ((w : ℕ → ℕ) (header : Header) (pool : PoolView) → HoldsPool w v.lanes v.zones header pool → v.pool ≡ header.id → IsBefore v w → IsBefore next w → HasRoomFor pool (allocated_in next) → (c : ComesTo v w header pool level stage.Work error.None)
+    → ((w : ℕ → ℕ) (header : Header) (pool : PoolView) → HoldsPool w v.lanes v.zones header pool → v.pool ≡ header.id → IsBefore v w → IsBefore next w → MayPrecede pool next → (c : ComesTo v w header pool level stage.Work error.None)
     → Continues v next w header op reply to c.tx)
     → IsUnderWay next to stage.Work error.None
 still_under_way v next level to op reply under_way tells back has continues =
@@ -214,7 +214,7 @@ still_under_way v next level to op reply under_way tells back has continues =
           let old_id : v.pool ≡ header.id = sym tells.keeps.pool ∙ id in
           let old_holds : HoldsPool w v.lanes v.zones header pool = two_same (λ (n m : ℕ). HoldsPool w n m header pool) next.lanes v.lanes next.zones v.zones tells.keeps.lanes tells.keeps.zones holds in
           let old_before : IsBefore v w = back.before w header pool old_holds room before in
-          let old_room : HasRoomFor pool (allocated_in v) = room_before v next op reply tells.call pool room in
-          let c : ComesTo v w header pool level stage.Work error.None = under_way.comes w header pool old_holds old_id old_before old_room in
+          let old_may : MayPrecede pool v = may_before v next op reply tells.call pool room in
+          let c : ComesTo v w header pool level stage.Work error.None = under_way.comes w header pool old_holds old_id old_before old_may in
           next_comes v next level to op reply w header pool tells.keeps tells.call c (continues w header pool old_holds old_id old_before before room c);
     }

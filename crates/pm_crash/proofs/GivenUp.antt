@@ -29,14 +29,14 @@ use Rattle.pm_view.specs.Log.{Recorded}
 use Rattle.pm_view.specs.View.{View}
 use Rattle.pm_world.specs.Records.{covers, is_recorded}
 use Rattle.pm_world.proofs.CrashLogs.{recorded_from}
-use Rattle.pm_crash.specs.CallBlocks.{HasRoomFor, IsOldIn, KeepsBlocks, allocated_by, allocated_in, blocks_in, is_freed_in, is_new_in}
+use Rattle.pm_crash.specs.CallBlocks.{IsOldIn, KeepsBlocks, MayPrecede, TellsOfRoot, allocated_by, blocks_in, is_freed_in, is_new_in}
 use Rattle.pm_crash.specs.Locks.{AreSameLocks}
 use Rattle.pm_crash.specs.Held.{HoldsPool}
 use Rattle.pm_crash.specs.OpenCall.{IsBefore, ComesTo, ComesToNothing, IsGivenUp, IsOpen, IsUnderWay, RecordsUnder, RunsTo, TracksBlocks, Turns, WasAborted, locks_of, words_recorded}
 use Rattle.pm_crash.specs.Pending.{pending_before, pending_behind, pending_in, told_in}
 use Rattle.pm_crash.specs.Operations.{HasRange, KeepsFound, IsHeld, IsNotAdded, IsNotHeld, IsReason, Overfills, Refuses, KeepsLane, TakesBack, Tells}
 use Rattle.pm_crash.proofs.CallWords.{call_works, held_is_locked, object_under, one_is_kept, same_pool}
-use Rattle.pm_crash.proofs.CallBlocks.{allocated_once_more, old_of_none, room_before, room_for_none, tracks_new}
+use Rattle.pm_crash.proofs.CallBlocks.{any_may_still, may_before, old_of_none, tracks_new}
 use Rattle.pm_crash.proofs.Continued.{answers_done, runs_told, told_once_more, two_same}
 use Rattle.pm_crash.proofs.KeptWords.{found_back, lies_further, lies_under, same_found, under_kept}
 use Rattle.pm_crash.proofs.Passing.{fails_added, fails_end, fails_lock, fails_room, passes_all, unhindered, wants_none, AsksNoLock, Works}
@@ -264,7 +264,7 @@ aborts_call v next op reply level e under_way lane finds kept call back aborts =
       let old_id : v.pool ≡ header.id = sym lane.pool ∙ id in
       let old_before : IsBefore v w = taken_back v next lane finds back under_way.outside under_way.under w before in
       let old_holds : HoldsPool w v.lanes v.zones header pool = two_same (λ (n m : ℕ). HoldsPool w n m header pool) next.lanes v.lanes next.zones v.zones lane.lanes lane.zones holds in
-      let c : ComesTo v w header pool level stage.Work error.None = under_way.comes w header pool old_holds old_id old_before (room_before v next op reply call pool room) in
+      let c : ComesTo v w header pool level stage.Work error.None = under_way.comes w header pool old_holds old_id old_before (may_before v next op reply call pool room) in
       let how = aborts w header pool old_id old_before c in
       comes_to_nothing v next op reply level e w header pool lane.entries kept call c how.0 how.1;
 }
@@ -311,7 +311,7 @@ aborted_runs [] pool actions last runs stands =
 aborted_runs (t ∷ told) pool actions last runs stands = runs_to_end t told pool actions last runs (ap is_working stands)
 
 pub aborted_changes_nothing : (v : View) (e : TxErr) → WasAborted v e → (w : ℕ → ℕ) (header : Header) (pool : PoolView) → HoldsPool w v.lanes v.zones header pool → v.pool ≡ header.id → IsBefore v w
-    → HasRoomFor pool (allocated_in v) → Turns v pool pool
+    → MayPrecede pool v → Turns v pool pool
 aborted_changes_nothing v e was_aborted w header pool holds id before room = λ actions own.
     let c : ComesToNothing v pool e = was_aborted.comes w header pool holds id before room in
     inl (record {
@@ -322,12 +322,12 @@ aborted_changes_nothing v e was_aborted w header pool holds id before room = λ 
 
 pub given_up_changes_nothing : (v : View) (e : TxErr) → IsGivenUp v e → (w : ℕ → ℕ) (header : Header) (pool : PoolView) → HoldsPool w v.lanes v.zones header pool → v.pool ≡ header.id → IsBefore v w
     → Turns v pool pool
-given_up_changes_nothing v e given_up w header pool holds id before = aborted_changes_nothing v e given_up.aborted w header pool holds id before (room_for_none v pool given_up.keeps)
+given_up_changes_nothing v e given_up w header pool holds id before = aborted_changes_nothing v e given_up.aborted w header pool holds id before (given_up.any_pool pool)
 
 -- ---- calls that allocated and freed nothing
 
-pub gives_up : (v next : View) (op : Operation) (reply : Option Value) → allocated_by op reply ≡ [] → next.call ≡ v.call ++ record { operation = op; reply = reply } ∷ [] → KeepsBlocks v → (e : TxErr) → WasAborted next e → IsGivenUp next e
-gives_up v next op reply none call keeps e was_aborted = record { aborted = was_aborted; keeps = allocated_once_more v next op reply call ∙ (λ j. keeps.allocated j ++ none j) }
+pub gives_up : (v next : View) (op : Operation) (reply : Option Value) → allocated_by op reply ≡ [] → ((root : Option ℕ) → TellsOfRoot root op reply) → next.call ≡ v.call ++ record { operation = op; reply = reply } ∷ [] → KeepsBlocks v → (e : TxErr) → WasAborted next e → IsGivenUp next e
+gives_up v next op reply none no_root call keeps e was_aborted = record { aborted = was_aborted; any_pool = any_may_still v next op reply call none no_root keeps }
 
 -- no refusal of a range allocates
 ranged_allocates_none : (op : Operation) (range : Range) (reply : Option Value) → range_of op ≡ Some range → allocated_by op reply ≡ []
@@ -336,13 +336,20 @@ ranged_allocates_none (Write id off bytes) range reply is = refl
 ranged_allocates_none (Read id off len) range reply is = refl
 ranged_allocates_none op range reply is = absurd cc
 
+-- nor tells one of the root
+ranged_tells_no_root : (op : Operation) (range : Range) (reply : Option Value) → range_of op ≡ Some range → (root : Option ℕ) → TellsOfRoot root op reply
+ranged_tells_no_root (AddRange id off len) range reply is root = tt
+ranged_tells_no_root (Write id off bytes) range reply is root = tt
+ranged_tells_no_root (Read id off len) range reply is root = tt
+ranged_tells_no_root op range reply is root = absurd cc
+
 pub refusal_gives_up : (v next : View) (op : Operation) (range : Range) (r : Refusal) (level : ℕ) → 1 ≤ level → IsOpen v level stage.Work error.None → Refuses v next op range r
     → IsGivenUp next (error.Refused r)
 refusal_gives_up v next op range r level some is_open refuses =
     let old : IsOldIn v range.id.off = old_of_none v is_open.keeps range.id.off in
-    gives_up v next op (Some (Refused r)) (ranged_allocates_none op range (Some (Refused r)) refuses.is_range) refuses.tells.call is_open.keeps (error.Refused r)
+    gives_up v next op (Some (Refused r)) (ranged_allocates_none op range (Some (Refused r)) refuses.is_range) (ranged_tells_no_root op range (Some (Refused r)) refuses.is_range) refuses.tells.call is_open.keeps (error.Refused r)
     (refusal_aborts v next op range r level some is_open.under_way refuses old.found (λ other. old.kept))
 
 pub abort_gives_up : (v next : View) (errnum level : ℕ) → 1 ≤ level → IsOpen v level stage.Work error.None → Tells v next (Abort errnum) None → TakesBack v next → IsGivenUp next (error_for errnum)
 abort_gives_up v next errnum level some is_open tells back =
-    gives_up v next (Abort errnum) None refl tells.call is_open.keeps (error_for errnum) (abort_aborts v next errnum level some is_open.under_way tells back)
+    gives_up v next (Abort errnum) None refl (λ root. tt) tells.call is_open.keeps (error_for errnum) (abort_aborts v next errnum level some is_open.under_way tells back)

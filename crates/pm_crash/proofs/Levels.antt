@@ -36,7 +36,7 @@ use Rattle.pm_crash.specs.OpenCall.{IsBefore, ComesTo, IsChanged, IsOpen, IsUnde
 use Rattle.pm_crash.specs.Operations.{BeginsLevel, IsHeld, IsWantHeld, KeepsLog, KeepsWords, Tells}
 use Rattle.pm_crash.proofs.Begun.{all_pass, none_fails}
 use Rattle.pm_crash.proofs.CallWords.{call_works, locks_kept, same_lanes, same_pool, same_zones}
-use Rattle.pm_crash.proofs.CallBlocks.{keeps_on, no_want_gone, none_made, not_made, old_of_none, old_want, room_before}
+use Rattle.pm_crash.proofs.CallBlocks.{keeps_on, no_want_gone, none_made, not_made, old_of_none, old_want, may_before}
 use Rattle.pm_crash.proofs.Continued.{answers_done, known_new, leaves_told, left_changed, left_has, left_new, left_tracks, next_comes, still_under_way, told_has, told_listed, tracks_more, two_same, Continues, LeavesBlocks}
 use Rattle.pm_crash.proofs.KeptWords.{before_back, goes_back, keeps_known, outside_kept, same_call_words, same_found, under_kept}
 use Rattle.pm_crash.proofs.ObjectsOfBlocks.{object_is_there}
@@ -206,7 +206,7 @@ further_begin_goes_on v next wants level some shallow under_way begins old apart
           let old_id : v.pool ≡ header.id = sym begins.keeps.pool ∙ id in
           let old_before : IsBefore v w = before_back v next begins.keeps begins.finds begins.logs.records (λ i outside none. begins.words.words i outside) w before in
           let old_holds : HoldsPool w v.lanes v.zones header pool = two_same (λ (n m : ℕ). HoldsPool w n m header pool) next.lanes v.lanes next.zones v.zones begins.keeps.lanes begins.keeps.zones holds in
-          let c : ComesTo v w header pool level stage.Work error.None = under_way.comes w header pool old_holds old_id old_before (room_before v next (Begin wants) None begins.call pool room) in
+          let c : ComesTo v w header pool level stage.Work error.None = under_way.comes w header pool old_holds old_id old_before (may_before v next (Begin wants) None begins.call pool room) in
           next_comes v next level (level + 1) (Begin wants) None w header pool begins.keeps begins.call c (further_continues v next wants level some shallow under_way begins old w header pool old_id before c);
     }
 
@@ -215,13 +215,13 @@ pub inner_commit_keeps_open : (v next : View) (level : ℕ) → 1 ≤ level → 
     → IsOpen next level stage.Work error.None
 inner_commit_keeps_open v next level some is_open tells logs keeps = record {
   under_way = inner_commit_goes_on v next level some is_open.under_way tells logs keeps;
-  keeps = keeps_on v next Commit None tells.call refl refl is_open.keeps;
+  keeps = keeps_on v next Commit None tells.call refl refl (λ root. tt) is_open.keeps;
 }
 
 pub further_begin_opens : (v next : View) (wants : List Want) (level : ℕ) → 1 ≤ level → level < 64 → IsOpen v level stage.Work error.None → BeginsLevel v next wants
     → IsOpen next (level + 1) stage.Work error.None
 further_begin_opens v next wants level some shallow is_open begins =
-    let keeps : KeepsBlocks next = keeps_on v next (Begin wants) None begins.call refl refl is_open.keeps in
+    let keeps : KeepsBlocks next = keeps_on v next (Begin wants) None begins.call refl refl (λ root. tt) is_open.keeps in
     record {
       under_way =
           further_begin_goes_on v next wants level some shallow is_open.under_way begins (λ want there. old_of_none v is_open.keeps want.id.off) (λ n l lines there held found. none_made next keeps n there);

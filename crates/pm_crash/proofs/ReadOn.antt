@@ -114,5 +114,5 @@ read_goes_on v next id off len level some under_way reads old =
 pub read_keeps_open : (v next : View) (id : Oid) (off len level : ℕ) → 1 ≤ level → IsOpen v level stage.Work error.None → ReadsBytes v next id off len → IsOpen next level stage.Work error.None
 read_keeps_open v next id off len level some is_open reads = record {
   under_way = read_goes_on v next id off len level some is_open.under_way reads (old_of_none v is_open.keeps id.off);
-  keeps = keeps_on v next (Read id off len) (Some (Bytes (bytes_seen v id off len))) reads.tells.call refl refl is_open.keeps;
+  keeps = keeps_on v next (Read id off len) (Some (Bytes (bytes_seen v id off len))) reads.tells.call refl refl (λ root. tt) is_open.keeps;
 }

@@ -26,7 +26,7 @@ use Rattle.pm_crash.specs.OpenCall.{IsGivenUp, IsOpen, IsUnderWay, RunsTo, WasAb
 use Rattle.pm_crash.specs.Pending.{pending_before, told_of}
 use Rattle.pm_crash.specs.Operations.{IsBeginReason, RefusesCall, RefusesLevel, is_placed, lacks_place, locks_wanted, wants_first, wants_more}
 use Rattle.pm_crash.proofs.CallWords.{call_works, same_lanes, same_pool, same_zones}
-use Rattle.pm_crash.proofs.CallBlocks.{any_alike, filter_alike, no_want_gone, old_of_none, old_want}
+use Rattle.pm_crash.proofs.CallBlocks.{any_alike, filter_alike, first_agrees, no_want_gone, old_of_none, old_want, room_for_none}
 use Rattle.pm_crash.proofs.GivenUp.{aborts_call, gives_up}
 use Rattle.pm_crash.proofs.Passing.{no_work, none_named}
 use Rattle.pm_crash.proofs.PendingOn.{pending_first}
@@ -208,7 +208,10 @@ call_aborted v wants r refuses = record {
 pub call_refused : (v : View) (wants : List Want) (r : Refusal) → RefusesCall v wants r → IsGivenUp v (error.Refused r)
 call_refused v wants r refuses = record {
   aborted = call_aborted v wants r refuses;
-  keeps = ap (flat_map (λ (t : Told). allocated_by t.operation t.reply)) refuses.call;
+  any_pool = λ pool. record {
+    room = room_for_none v pool (ap (flat_map (λ (t : Told). allocated_by t.operation t.reply)) refuses.call);
+    root = first_agrees v (Begin wants) (Some (Refused r)) refuses.call pool.root tt;
+  };
 }
 
 -- what is wanted the call found, and did not free
@@ -233,5 +236,5 @@ level_aborted v next level wants r some under_way refuses old =
 pub level_refused : (v next : View) (level : ℕ) (wants : List Want) (r : Refusal) → 1 ≤ level → IsOpen v level stage.Work error.None → RefusesLevel v next level wants r
     → IsGivenUp next (error.Refused r)
 level_refused v next level wants r some is_open refuses =
-    gives_up v next (Begin wants) (Some (Refused r)) refl refuses.call is_open.keeps (error.Refused r)
+    gives_up v next (Begin wants) (Some (Refused r)) refl (λ root. tt) refuses.call is_open.keeps (error.Refused r)
     (level_aborted v next level wants r some is_open.under_way refuses (λ want there. old_of_none v is_open.keeps want.id.off))

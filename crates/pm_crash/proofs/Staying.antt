@@ -16,13 +16,13 @@ use Rattle.pm_view.specs.Log.{Recorded}
 use Rattle.pm_view.specs.View.{View, Lock}
 use Rattle.pm_world.specs.Records.{is_recorded}
 use Rattle.pm_crash.proofs.CallWords.{locks_kept, same_made_words}
-use Rattle.pm_crash.specs.CallBlocks.{HasRoomFor, IsMadeIn, NewObject, allocated_in, blocks_in}
+use Rattle.pm_crash.specs.CallBlocks.{IsMadeIn, NewObject, allocated_in, blocks_in}
 use Rattle.pm_crash.specs.Held.{HoldsPool}
 use Rattle.pm_crash.specs.OpenCall.{IsBefore, ComesTo, ComesToNothing, IsGivenUp, IsOpen, IsUnderWay, IsWholeCall, RecordsUnder, MakesStep, WasAborted, call_words, made_words, words_recorded}
 use Rattle.pm_crash.specs.Pending.{act_of, pending_in, published_in, told_in, told_of}
 use Rattle.pm_crash.specs.Performing.{CanPerform}
 use Rattle.pm_crash.specs.Operations.{KeepsKnown, KeepsLog, KeepsWords, TakesBack, TellsNothing}
-use Rattle.pm_crash.proofs.CallBlocks.{keeps_still, same_allocated, same_blocks}
+use Rattle.pm_crash.proofs.CallBlocks.{keeps_still, may_same, same_allocated, same_blocks}
 use Rattle.pm_crash.proofs.Continued.{known_new, left_apart, left_changed, left_has, left_new, left_tracks, runs_told, two_same, LeavesBlocks}
 use Rattle.pm_crash.proofs.PendingOn.{pending_same, published_same, same_before}
 use Rattle.pm_crash.proofs.GivenUp.{outside_taken_back, taken_back, under_taken_back}
@@ -90,10 +90,6 @@ comes_still v next level at_stage e w header pool quiet logs leaves same c =
           (sym quiet.keeps.lanes) (sym quiet.keeps.zones) (λ block there. ap (λ (f : ℕ → ℕ). size_in f block) same ∙ c.sizes_stay block there);
     }
 
--- a pool has room for what was allocated as before
-quiet_room : (v next : View) → TellsNothing v next → (pool : PoolView) → HasRoomFor pool (allocated_in next) → HasRoomFor pool (allocated_in v)
-quiet_room v next quiet pool = subst (HasRoomFor pool) (same_allocated v next quiet.call)
-
 pub goes_on_learning : (v next : View) (level : ℕ) (at_stage : Stage) (e : TxErr) → IsUnderWay v level at_stage e → TellsNothing v next → KeepsLog v next → KeepsKnown v next → IsUnderWay next level at_stage e
 goes_on_learning v next level at_stage e under_way quiet logs words =
     let lane : next.lane ≡ v.lane = quiet.keeps.lane in
@@ -110,7 +106,7 @@ goes_on_learning v next level at_stage e under_way quiet logs words =
       has = left_has v next leaves quiet.keeps (λ n there. subst (λ (ns : List NewObject). Contains ns n) (sym (same_allocated v next quiet.call)) there) (left_apart v next leaves quiet.locks under_way.has.apart_found) under_way.has;
       comes = λ w header pool holds id before room.
           comes_still v next level at_stage e w header pool quiet logs leaves (same_known_words v next logs.records words under_way.outside w)
-          (under_way.comes w header pool (quiet_holds v next quiet w header pool holds) (sym quiet.keeps.pool ∙ id) (quiet_back v next quiet logs words w before) (quiet_room v next quiet pool room));
+          (under_way.comes w header pool (quiet_holds v next quiet w header pool holds) (sym quiet.keeps.pool ∙ id) (quiet_back v next quiet logs words w before) (may_same next v (sym quiet.call) pool room));
     }
 
 pub goes_on_quietly : (v next : View) (level : ℕ) (at_stage : Stage) (e : TxErr) → IsUnderWay v level at_stage e → TellsNothing v next → KeepsLog v next → KeepsWords v next → IsUnderWay next level at_stage e
@@ -148,7 +144,7 @@ still_aborted v next e was_aborted quiet outside under back = record {
   under = under;
   comes = λ w header pool holds id before room.
       let c : ComesToNothing v pool e =
-      was_aborted.comes w header pool (quiet_holds v next quiet w header pool holds) (sym quiet.keeps.pool ∙ id) (back w before) (quiet_room v next quiet pool room) in
+      was_aborted.comes w header pool (quiet_holds v next quiet w header pool holds) (sym quiet.keeps.pool ∙ id) (back w before) (may_same next v (sym quiet.call) pool room) in
       record {
         tx = c.tx;
         runs = runs_told v next pool c.tx quiet.keeps.entries (same_told v next quiet) c.runs;
@@ -170,7 +166,7 @@ aborted_learns v next e was_aborted quiet logs words = still_aborted v next e wa
 
 -- so does one that allocated nothing
 pub given_up_stays : (v next : View) (e : TxErr) → IsGivenUp v e → TellsNothing v next → TakesBack v next → IsGivenUp next e
-given_up_stays v next e given_up quiet back = record { aborted = aborted_stays v next e given_up.aborted quiet back; keeps = same_allocated v next quiet.call ∙ given_up.keeps }
+given_up_stays v next e given_up quiet back = record { aborted = aborted_stays v next e given_up.aborted quiet back; any_pool = λ pool. may_same v next quiet.call pool (given_up.any_pool pool) }
 
 pub given_up_learns : (v next : View) (e : TxErr) → IsGivenUp v e → TellsNothing v next → KeepsLog v next → KeepsKnown v next → IsGivenUp next e
-given_up_learns v next e given_up quiet logs words = record { aborted = aborted_learns v next e given_up.aborted quiet logs words; keeps = same_allocated v next quiet.call ∙ given_up.keeps }
+given_up_learns v next e given_up quiet logs words = record { aborted = aborted_learns v next e given_up.aborted quiet logs words; any_pool = λ pool. may_same v next quiet.call pool (given_up.any_pool pool) }

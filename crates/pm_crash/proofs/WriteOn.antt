@@ -186,5 +186,5 @@ pub write_keeps_open : (v next : View) (id : Oid) (off level : ℕ) (bytes : Lis
     → IsOpen next level stage.Work error.None
 write_keeps_open v next id off level bytes some is_open writes = record {
   under_way = write_goes_on v next id off level bytes some is_open.under_way writes (old_of_none v is_open.keeps id.off);
-  keeps = keeps_on v next (Write id off bytes) None writes.tells.call refl refl is_open.keeps;
+  keeps = keeps_on v next (Write id off bytes) None writes.tells.call refl refl (λ root. tt) is_open.keeps;
 }

@@ -1,6 +1,6 @@
 -- What a call allocated and freed so far, by the operations that it told: the lists that the plain model's transaction keeps (pmemobj_tx_alloc(3),
 -- pmemobj_tx_free(3)).
-use Rattle.std.specs.Prelude.{◌≡◌, ℕ, ◌-◌, ◌%◌, ◌==◌, ◌||◌, ◌≤◌, not, Bool, All, List, [], ◌∷◌, ◌++◌, filter, flat_map, length, slice_index, Contains, Option, Some, false, if◌then◌else◌}
+use Rattle.std.specs.Prelude.{◌≡◌, ◌≢◌, ℕ, ◌-◌, ◌%◌, ◌==◌, ◌||◌, ◌≤◌, not, Bool, All, List, [], ◌∷◌, ◌++◌, filter, flat_map, length, slice_index, Contains, Option, None, Some, false, if◌then◌else◌}
 use Rattle.std.specs.List.{list_any}
 use Rattle.pm_layout.specs.Sizes.{class_of}
 use Rattle.pm_objects.specs.Pool.{block_lines}
@@ -10,6 +10,7 @@ use Rattle.pm_objects.specs.declared.history.Value.{Value}
 use Rattle.pm_objects.specs.declared.history.Value.TheVariants.{Offset, Refused}
 use Rattle.pm_objects.specs.declared.pool.Object.{Object}
 use Rattle.pm_objects.specs.declared.pool.PoolView.{PoolView}
+use Rattle.pm_objects.specs.declared.refusal.Refusal.TheVariants as refusal
 use Rattle.pm_image.specs.declared.block.Block.{Block}
 use Rattle.pm_image.specs.Contents.{bytes_in}
 use Rattle.pm_image.specs.Reads.{ReadsBlock}
@@ -76,10 +77,22 @@ allocated_by op reply = []
 abbrev pub allocated_in : View → List NewObject
 allocated_in v = flat_map (λ (t : Told). allocated_by t.operation t.reply) v.call
 
--- the call allocated and freed nothing
+-- What a free tells of the pool's root by its reply: one that is done is not of the root, and one that is refused for the root is (docs/MODEL.md, "Objects
+-- made and freed").
+abbrev pub TellsOfRoot : Option ℕ → Operation → Option Value → Type 0
+TellsOfRoot root (Free id) None = root ≢ Some id.off
+TellsOfRoot root (Free id) (Some (Refused refusal.RootKept)) = root ≡ Some id.off
+TellsOfRoot root op reply = Unit {0}
+
+-- each operation of the open call, with its reply, agrees with this root
+abbrev pub AgreesOnRoot : View → Option ℕ → Type 0
+AgreesOnRoot v root = All (λ (t : Told). TellsOfRoot root t.operation t.reply) v.call
+
+-- the call allocated and freed nothing, and tells nothing of the root
 pub record KeepsBlocks (v : View) : Type 0 where
   pub blocks : blocks_in v ≡ no_blocks
   pub allocated : allocated_in v ≡ []
+  pub any_root : (root : Option ℕ) → AgreesOnRoot v root
 
 -- the open call made an object at the offset and has it; it made one, whether it freed it again or not; it found and freed the one there
 abbrev pub is_made_in : View → ℕ → Bool
@@ -98,6 +111,12 @@ is_gone_in v off = is_freed_in v off || list_any (is_at off) (blocks_in v).dropp
 -- a pool has room for these: no object's block overlaps one of theirs
 abbrev pub HasRoomFor : PoolView → List NewObject → Type 0
 HasRoomFor pool news = All (λ (n : NewObject). All (IsBeside n.size n.off) pool.objects) news
+
+-- The pool may be the one before the open call, by what the call told of the heap: it has room for what the call allocated, and its root is none that the
+-- call freed, and the one for which a free was refused.
+pub record MayPrecede (pool : PoolView) (v : View) : Type 0 where
+  pub room : HasRoomFor pool (allocated_in v)
+  pub root : AgreesOnRoot v pool.root
 
 -- the block of such an object
 abbrev pub block_of : NewObject → Block

@@ -23,7 +23,7 @@ use Rattle.pm_view.specs.Log.{Recorded}
 use Rattle.pm_view.specs.View.{View, Lock}
 use Rattle.pm_world.specs.History.{made_final}
 use Rattle.pm_world.specs.Records.{IsRecordAt, is_recorded, pool_entries}
-use Rattle.pm_crash.specs.CallBlocks.{CallBlocks, HasRoomFor, IsMadeIn, KeepsBlocks, NewObject, allocated_in, block_of, blocks_in, is_freed_in, is_gone_in, is_made_in, is_new_in, object_made}
+use Rattle.pm_crash.specs.CallBlocks.{CallBlocks, IsMadeIn, KeepsBlocks, MayPrecede, NewObject, allocated_in, block_of, blocks_in, is_freed_in, is_gone_in, is_made_in, is_new_in, object_made}
 use Rattle.pm_crash.specs.HeapChanges.{AreDisjoint}
 use Rattle.pm_crash.specs.Locks.{AreSameLocks}
 use Rattle.pm_crash.specs.Held.{HoldsPool}
@@ -159,8 +159,8 @@ pub record HasMade (v : View) : Type 0 where
   pub apart_new : (n m : NewObject) → Contains (blocks_in v).made n → Contains (blocks_in v).made m → n.off ≢ m.off → AreDisjoint (block_of n) (block_of m)
   pub apart_found : LieApart v
 
--- The lane has a call under way at this level, in this stage and with this error, whatever pool the words before it hold, if that has room for what the
--- call allocated. It holds 64 locks at most, each of a line of a chunk where it found a block there, recorded words of those blocks alone, has no redo
+-- The lane has a call under way at this level, in this stage and with this error, whatever pool the words before it hold, if that may be the one before
+-- what it allocated and freed. It holds 64 locks at most, each of a line of a chunk where it found a block there, recorded words of those blocks alone, has no redo
 -- entries, which come with the commit, and has in its words what it made, apart from what it found
 pub record IsUnderWay (v : View) (level : ℕ) (at_stage : Stage) (error : TxErr) : Type 0 where
   pub in_lanes : v.lane < v.lanes
@@ -170,7 +170,7 @@ pub record IsUnderWay (v : View) (level : ℕ) (at_stage : Stage) (error : TxErr
   pub under : RecordsUnder v
   pub unentered : v.log.entries ≡ []
   pub has : HasMade v
-  pub comes : (w : ℕ → ℕ) (header : Header) (pool : PoolView) → HoldsPool w v.lanes v.zones header pool → v.pool ≡ header.id → IsBefore v w → HasRoomFor pool (allocated_in v)
+  pub comes : (w : ℕ → ℕ) (header : Header) (pool : PoolView) → HoldsPool w v.lanes v.zones header pool → v.pool ≡ header.id → IsBefore v w → MayPrecede pool v
       → ComesTo v w header pool level at_stage error
 
 -- so it has, and allocated and freed nothing so far
@@ -187,18 +187,18 @@ pub record ComesToNothing (v : View) (pool : PoolView) (error : TxErr) : Type 0 
   pub actions : tx.actions ≡ pending_in v
   pub unchanged : tx.pool ≡ pool
 
--- the lane's call was aborted with this error, whatever pool the words before it hold, if that has room for what the call allocated. It recorded words of
+-- the lane's call was aborted with this error, whatever pool the words before it hold, if that may be the one before what it allocated and freed. It recorded words of
 -- the blocks that it found alone
 pub record WasAborted (v : View) (error : TxErr) : Type 0 where
   pub outside : (i : ℕ) → is_recorded v.log.records i ≡ true → is_in_area v.lane i ≡ false
   pub under : RecordsUnder v
-  pub comes : (w : ℕ → ℕ) (header : Header) (pool : PoolView) → HoldsPool w v.lanes v.zones header pool → v.pool ≡ header.id → IsBefore v w → HasRoomFor pool (allocated_in v)
+  pub comes : (w : ℕ → ℕ) (header : Header) (pool : PoolView) → HoldsPool w v.lanes v.zones header pool → v.pool ≡ header.id → IsBefore v w → MayPrecede pool v
       → ComesToNothing v pool error
 
--- so it was, and allocated nothing
+-- so it was, and each pool may be the one before it: it told nothing of the heap
 pub record IsGivenUp (v : View) (error : TxErr) : Type 0 where
   pub aborted : WasAborted v error
-  pub keeps : allocated_in v ≡ []
+  pub any_pool : (pool : PoolView) → MayPrecede pool v
 
 -- The committed call turns the pool before it into its transaction's copy with what it published performed. The words that it stored hold a pool, and the
 -- copy is that one with what the call made and freed
@@ -211,11 +211,11 @@ pub record CommitsTo (v : View) (w : ℕ → ℕ) (header : Header) (pool : Pool
   pub performable : All (CanPerform (call_words v w) v.lanes v.zones) (published_in v)
   pub turns : Turns v pool (with_actions (published_in v) copy)
 
--- the lane's call is committed, whatever pool the words before it hold, if that has room for what the call allocated; it has in its words what it made
+-- the lane's call is committed, whatever pool the words before it hold, if that may be the one before what it allocated and freed; it has in its words what it made
 pub record IsCommitted (v : View) : Type 0 where
   pub outside : (i : ℕ) → is_recorded v.log.records i ≡ true → is_in_area v.lane i ≡ false
   pub has : HasMade v
-  pub comes : (w : ℕ → ℕ) (header : Header) (pool : PoolView) → HoldsPool w v.lanes v.zones header pool → v.pool ≡ header.id → IsBefore v w → HasRoomFor pool (allocated_in v)
+  pub comes : (w : ℕ → ℕ) (header : Header) (pool : PoolView) → HoldsPool w v.lanes v.zones header pool → v.pool ≡ header.id → IsBefore v w → MayPrecede pool v
       → CommitsTo v w header pool
 
 -- the call makes a step of the plain model: from words that hold a pool it makes words that hold the next one

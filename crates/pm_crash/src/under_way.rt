@@ -17,7 +17,7 @@ ghost use Rattle.pm_model.specs.Checks.{Range};
 ghost use Rattle.pm_model.specs.declared.stage.Stage.{Stage};
 ghost use Rattle.pm_model.specs.declared.stage.Stage.TheVariants as stage;
 ghost use Rattle.pm_view.specs.View.{View};
-ghost use Rattle.pm_crash.specs.CallBlocks.{HasRoomFor, IsOldIn, NewObject, allocated_in, is_freed_in, is_new_in};
+ghost use Rattle.pm_crash.specs.CallBlocks.{IsOldIn, MayPrecede, NewObject, is_freed_in, is_new_in};
 ghost use Rattle.pm_crash.specs.Held.{HoldsPool};
 ghost use Rattle.pm_crash.specs.OnActions.{AreOld, ChangesPending, IsPublishReasonIn, PublishesIn};
 ghost use Rattle.pm_crash.specs.OpenCall.{IsBefore, IsCommitted, IsUnderWay, LieApart, Turns, WasAborted};
@@ -89,5 +89,5 @@ pub fn a_call_under_way_ends()
     ensures committed { (v next : View) → IsUnderWay v 1 stage.Work error.None → Tells v next Commit None → next.log.records ≡ v.log.records → KeepsWords v next
         → IsCommitted next }
     ensures aborted { (v : View) (e : TxErr) → WasAborted v e → (w : ℕ → ℕ) (header : Header) (pool : PoolView)
-        → HoldsPool w v.lanes v.zones header pool → v.pool ≡ header.id → IsBefore v w → HasRoomFor pool (allocated_in v) → Turns v pool pool }
+        → HoldsPool w v.lanes v.zones header pool → v.pool ≡ header.id → IsBefore v w → MayPrecede pool v → Turns v pool pool }
 {}
