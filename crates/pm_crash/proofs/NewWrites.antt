@@ -205,12 +205,12 @@ module _ (v next : View) (id : Oid) (off level : ℕ) (bytes : List ℕ) (some_l
   back = record {
     outside = λ i is. under_way.outside i (sym (ap (λ (records : List Recorded). is_recorded records i) writes.logs.records) ∙ is);
     under = under_kept v next (same_found v next writes.tells.locks) writes.logs.records under_way.under;
-    before = λ w header pool holds room before. record {
+    before = λ w header pool holds may before. record {
       recorded = λ slot r i at inside. before.recorded slot r i (ap (λ (records : List Recorded). slice_get records slot) writes.logs.records ∙ at) inside;
       known = λ i known outside none lies.
           let from = lies.from in let to = lies.to in
           let listed : Contains (allocated_in next) n = told_listed v next (Write id off bytes) None writes.tells.call n (under_way.has.listed n made.has) in
-          let apart : AreDisjoint (block_of n) lies.block = room_apart w v.lanes v.zones header pool n lies.block holds (All-contains (λ (m : NewObject). All (IsBeside m.size m.off) pool.objects) (allocated_in next) n room listed) lies.is_there in
+          let apart : AreDisjoint (block_of n) lies.block = room_apart w v.lanes v.zones header pool n lies.block holds (All-contains (λ (m : NewObject). All (IsBeside m.size m.off) pool.objects) (allocated_in next) n may.room listed) lies.is_there in
           before.known i (writes.tells.keeps.known i known) (ap (λ (k : ℕ). is_in_area k i) writes.tells.keeps.lane ∙ outside) (ap (λ (records : List Recorded). is_recorded records i) writes.logs.records ∙ none) (lies_further v next writes.tells.keeps w i lies)
           ∙ apart_unwritten lies.block i apart from to outside;
       found = found_back v next writes.tells.keeps (same_found v next writes.tells.locks) w before;

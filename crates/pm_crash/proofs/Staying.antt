@@ -16,7 +16,7 @@ use Rattle.pm_view.specs.Log.{Recorded}
 use Rattle.pm_view.specs.View.{View, Lock}
 use Rattle.pm_world.specs.Records.{is_recorded}
 use Rattle.pm_crash.proofs.CallWords.{locks_kept, same_made_words}
-use Rattle.pm_crash.specs.CallBlocks.{IsMadeIn, NewObject, allocated_in, blocks_in}
+use Rattle.pm_crash.specs.CallBlocks.{IsMadeIn, NewObject, blocks_in}
 use Rattle.pm_crash.specs.Held.{HoldsPool}
 use Rattle.pm_crash.specs.OpenCall.{IsBefore, ComesTo, ComesToNothing, IsGivenUp, IsOpen, IsUnderWay, IsWholeCall, RecordsUnder, MakesStep, WasAborted, call_words, made_words, words_recorded}
 use Rattle.pm_crash.specs.Pending.{act_of, pending_in, published_in, told_in, told_of}
