@@ -1,5 +1,5 @@
 -- Which words a lane's entries are of: none that tells of blocks, whatever steps the lane makes.
-use Rattle.std.proofs.Common.{◌≡◌, ⊎_elim, ℕ, Bool, true, false, List, [], ◌∷◌, ◌++◌, length, slice_get, is_some, Some, refl, sym, ap, ◌∙◌, subst, eqb, eq-eqb, ◌||◌}
+use Rattle.std.proofs.Common.{◌≡◌, ℕ, Bool, true, false, List, [], ◌∷◌, ◌++◌, slice_get, is_some, Some, refl, sym, ap, ◌∙◌, subst, eqb, eq-eqb, ◌||◌}
 use Rattle.std.proofs.lemmas.Option.{get_or_from_slice_get, none-some, slice_get_within}
 use Rattle.std.proofs.lemmas.List.Folds.{list_any_at}
 use Rattle.pm_view.specs.declared.change.Change.{Change}

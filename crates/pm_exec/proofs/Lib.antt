@@ -18,6 +18,7 @@ pub mod CallParts
 pub mod CallsInTurn
 pub mod PendingLists
 pub mod Begun
+pub mod HeapKept
 pub mod LooksAlone
 pub mod ChangeLines
 pub mod ActionLines

@@ -11,11 +11,10 @@ use Rattle.pm_crash.specs.Alone.{standing}
 use Rattle.pm_crash.specs.Leading.{Leads}
 use Rattle.pm_memory.specs.Solo.{Sees, Solo}
 use Rattle.pm_lock.specs.Resting.{IsAtRest}
-use Rattle.pm_undo.proofs.Areas.{generation_in_area}
 use Rattle.pm_undo.proofs.Lockings.{found_guards}
 use Rattle.pm_undo.specs.Working.{FindsOpening}
 use Rattle.pm_view.proofs.SameLane.{same_lane-after}
-use Rattle.pm_view.specs.Area.{Part, area_word, is_in_area, part_of}
+use Rattle.pm_view.specs.Area.{Part, is_in_area, part_of}
 use Rattle.pm_view.specs.Area.Part.{GenerationWord, SealWord, EntryWord, SlotWord, OtherWord}
 use Rattle.pm_view.specs.Blocks.{bitmap_word, descriptor_word, is_chunk, is_run, tells_nothing, chunk_of, zone_of}
 use Rattle.pm_view.specs.Founds.{FoundAlone}
@@ -30,7 +29,7 @@ use Rattle.pm_view.specs.Views.{after, has_bit}
 use Rattle.pm_world.proofs.Apart.{area_bounds}
 use Rattle.pm_world.proofs.Living.{descriptor_page, TellsOf}
 use Rattle.pm_world.proofs.Parts.{entry_part, generation_part, seal_part, slot_part}
-use Rattle.pm_world.specs.Entries.{IsEnterable, set_word, IsGrowing}
+use Rattle.pm_world.specs.Entries.{set_word, IsGrowing}
 use Rattle.pm_world.specs.Lawful.{Allowed, StoreFits, MayChange, MayDescribe}
 use Rattle.pm_world.specs.Opening.{IsSound, Opening, Guards, IsChunk, is_free_chunk}
 use Rattle.pm_world.specs.declared.lane.Lane.{Lane}

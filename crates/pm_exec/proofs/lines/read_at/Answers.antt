@@ -6,6 +6,7 @@ use Rattle.pm_tx.specs.Calls.{HasLooked, IsGivenUpFor, IsStoppedFor}
 use Rattle.pm_tx.specs.Ranges.{HasReadRange, KnowsRange}
 use Rattle.pm_world.specs.declared.lane.Lane.{Lane}
 use Rattle.pm_exec.specs.Progress.{IsAtLine, Values}
+use Rattle.pm_exec.proofs.HeapKept.{told_keeps, told_old}
 use Rattle.pm_exec.proofs.AddAndWrite.{ends_so, given_up, unrefused}
 use Rattle.pm_exec.proofs.ReadLine.{front_is, read_cut, read_done, read_is, read_not_spent}
 use Rattle.pm_exec.proofs.lines.read_at.Goals as goal
@@ -23,7 +24,7 @@ returns-in_ok-push-in-Ok-clause-done c o first actions front a =
     let pushed : values ++ (c.args.said.now.line, Bytes bytes) ∷ [] ≡ c.push.new.self.items = sym (c.in_ok-push-in-Ok.ensures.items ∙ ap (λ (bs : List ℕ). values ++ (c.args.said.now.line, Bytes bs) ∷ []) filled) in
     subst (λ (vs : Values). IsAtLine o first new actions c.args.names (front ++ c.args.said.now ∷ []) vs) pushed
     (read_done o first old actions c.args.names front values a new c.args.said.now c.args.range.0 place c.id_of.ensures c.args.range.1 c.args.range.2 c.requires.is_said bytes
-    (subst (λ (n : ℕ). HasLooked a.view (λ w. KnowsRange w place c.args.range.1 n false × HasReadRange o Sees new w place c.args.range.1 n bytes)) long (c.in-Ok.ensures.done o a.view a.works))
+    (subst (λ (n : ℕ). HasLooked a.view (λ w. KnowsRange w place c.args.range.1 n false × HasReadRange o Sees new w place c.args.range.1 n bytes)) long (c.in-Ok.ensures.done o a.view a.works (told_old c.args.names front a.view a.told c.id_of.result.off)))
     (ap (λ (l : Lane Solo). l.level) c.in-Ok.ensures.lane ∙ a.level))
 
 pub returns-in-Err-clause-ends : goal.returns-in-Err-clause-ends
@@ -42,7 +43,7 @@ returns-in-Err-clause-ends c o first actions front rest a =
     (ends_so o first old actions c.args.names front values a new c.args.said.now rest values r (read_not_spent r (c.in-Err.ensures.causes none)) refl
     (λ goes. given_up o first old actions c.args.names front values a new c.args.said.now (operation.Read place off len) (read_is o first old actions c.args.names front values a new c.args.said.now c.args.range.0 place c.id_of.ensures off len is)
     (record { id = place; off = off; len = len }) r
-    (subst (λ (n : ℕ). HasLooked a.view (λ w. IsGivenUpFor Sees new old.records.items (operation.Read place off n) (record { id = place; off = off; len = n }) r w)) long (c.in-Err.ensures.given_up none goes o a.view a.works))
+    (subst (λ (n : ℕ). HasLooked a.view (λ w. IsGivenUpFor Sees new old.records.items (operation.Read place off n) (record { id = place; off = off; len = n }) r w)) long (c.in-Err.ensures.given_up none goes o a.view a.works (told_keeps c.args.names front a.view a.told)))
     (c.in-Err.ensures.given_up_lane none goes) (λ asked same. let clash = sym is ∙ same in cc) refl rest)
     (λ stops. read_cut o first old actions c.args.names front values a new c.args.said.now c.args.range.0 place c.id_of.ensures off len is rest
-    (subst (λ (n : ℕ). HasLooked a.view (λ w. IsStoppedFor Sees new old.records.items (operation.Read place off n) (record { id = place; off = off; len = n }) w)) long (c.in-Err.ensures.stopped none stops o a.view a.works))))
+    (subst (λ (n : ℕ). HasLooked a.view (λ w. IsStoppedFor Sees new old.records.items (operation.Read place off n) (record { id = place; off = off; len = n }) w)) long (c.in-Err.ensures.stopped none stops o a.view a.works (told_keeps c.args.names front a.view a.told)))))
