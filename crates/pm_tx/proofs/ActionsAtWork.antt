@@ -3,7 +3,7 @@ use Rattle.std.proofs.Common.{◌≡◌, ℕ, ◌+◌, ◌≤◌, arith, All, Li
 use Rattle.std.specs.Option.{option_map}
 use Rattle.std.specs.Result.{result_err}
 use Rattle.std.proofs.lemmas.List.{append-nil, map-append}
-use Rattle.pm_crash.proofs.ActionsOn.{change_keeps_open}
+use Rattle.pm_crash.proofs.ActionsOn.{change_goes_on}
 use Rattle.pm_crash.proofs.PendingOn.{pending_once_more, published_once_more}
 use Rattle.pm_crash.specs.OnActions.{ChangesPending, IsPendingAnswer}
 use Rattle.pm_crash.specs.Operations.{KeepsLog, KeepsWords, Tells}
@@ -120,7 +120,7 @@ module _ (v m : View) (is : IsAsBefore v m) (op : Operation) (reply : Option Val
       (tell_works m op reply is.working)
       (ap (λ (l : Log). l.entries) is.log ∙ work.no_entries)
       (published_told ∙ (ap (λ (more : List Action). published_in v ++ more) none ∙ append-nil (published_in v)))
-      (change_keeps_open v told op reply lane.level work.level work.is_open (changes answer))
+      (change_goes_on v told op reply lane.level work.level work.under_way (changes answer))
 
 -- ---- a set-value
 

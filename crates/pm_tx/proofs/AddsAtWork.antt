@@ -5,7 +5,8 @@ use Rattle.std.proofs.lemmas.Bool.{and_from, and_parts, leb-true, or_right}
 use Rattle.std.proofs.lemmas.List.{length-map, map-append}
 use Rattle.std.proofs.lemmas.List.Elements.{All-append, All-contains_itself, All-weaker}
 use Rattle.std.proofs.lemmas.List.Folds.{list_any_at}
-use Rattle.pm_crash.proofs.AddOn.{add_keeps_open}
+use Rattle.pm_crash.specs.CallBlocks.{IsOldIn}
+use Rattle.pm_crash.proofs.AddOn.{add_goes_on}
 use Rattle.pm_crash.proofs.CallWords.{behind_is_outside}
 use Rattle.pm_crash.proofs.NewRecords.{new_is_covered}
 use Rattle.pm_crash.specs.OpenCall.{words_recorded}
@@ -164,8 +165,8 @@ module _ {M : Type 0} (o : Opening) (at : M → View → Type 0) (lane : Lane M)
           let none = front_undrawn v (adds_range (map span_of v.log.records) id off len v) stops.made add_few work.working.undrawn in
           record { ready = add_may_be_made; draws = add_draws; stops = stops; number = none.0; entries = none.1 }
 
-      pub add_is_made : id.off + off + len < 2 ^ 60 → (next : Lane M) → HasSameFields lane next → next.records.items ≡ lane.records.items ++ plan → at next.memory w → HasAddedRange o at next v (map span_of v.log.records) id off len
-      add_is_made low next fields records seen =
+      pub add_is_made : IsOldIn v id.off → id.off + off + len < 2 ^ 60 → (next : Lane M) → HasSameFields lane next → next.records.items ≡ lane.records.items ++ plan → at next.memory w → HasAddedRange o at next v (map span_of v.log.records) id off len
+      add_is_made old low next fields records seen =
           let call = made.1.stays.call in
           let added : AddsRange v w id off len = range_added in
           let opening_u : FindsOpening o u =
@@ -179,7 +180,7 @@ module _ {M : Type 0} (o : Opening) (at : M → View → Type 0) (lane : Lane M)
           (tell_works u (AddRange id off len) None made.1.working)
           (made.1.entries ∙ work.no_entries)
           (published_once_more v w (AddRange id off len) None added.tells.keeps.entries added.tells.call ∙ append-nil (published_in v))
-          (add_keeps_open v w id off len lane.level work.level work.is_open added) in
+          (add_goes_on v w id off len lane.level work.level work.under_way added old) in
           record {
             ready = add_may_be_made;
             draws = add_draws;
@@ -201,12 +202,12 @@ module _ {M : Type 0} (o : Opening) (at : M → View → Type 0) (lane : Lane M)
     pub lane_may_add : length lane.records.items + length (plan_of lane.records.items (id.off + off) len) ≤ 64 → Ready v (adds_range lane.records.items id off len v)
     lane_may_add room = subst (λ s. Ready v (adds_range s id off len v)) (sym work.seen.records) (add_may_be_made can (few lane.records.items work.seen.records room))
 
-    pub lane_has_added : length lane.records.items + length (plan_of lane.records.items (id.off + off) len) ≤ 64 → id.off + off + len < 2 ^ 60 → (next : Lane M) → HasSameFields lane next
+    pub lane_has_added : IsOldIn v id.off → length lane.records.items + length (plan_of lane.records.items (id.off + off) len) ≤ 64 → id.off + off + len < 2 ^ 60 → (next : Lane M) → HasSameFields lane next
         → next.records.items ≡ lane.records.items ++ plan_of lane.records.items (id.off + off) len → at next.memory (after (after_all v (snapshots lane.records.items (id.off + off) len v)) (Tell (AddRange id off len) None))
         → HasAddedRange o at next v lane.records.items id off len
-    lane_has_added room low next fields records seen =
+    lane_has_added old room low next fields records seen =
         subst (λ s. HasAddedRange o at next v s id off len) (sym work.seen.records)
-        (add_is_made can (few lane.records.items work.seen.records room) low next fields
+        (add_is_made can (few lane.records.items work.seen.records room) old low next fields
         (records ∙ ap (λ s. lane.records.items ++ plan_of s (id.off + off) len) work.seen.records)
         (subst (λ s. at next.memory (after (after_all v (snapshots s (id.off + off) len v)) (Tell (AddRange id off len) None))) work.seen.records seen))
 

@@ -2,7 +2,7 @@
 use Rattle.std.proofs.Common.{◌≤◌, ◌≡◌, ℕ, All, inl, inr, List, [], ◌∷◌, ◌++◌, map, length, slice_get, None, Option, Some, refl, sym, ap, ◌∙◌, subst, arith}
 use Rattle.std.proofs.lemmas.List.Elements.{All-nil}
 use Rattle.std.proofs.lemmas.Option.{none-some}
-use Rattle.pm_crash.proofs.Begun.{begin_opens}
+use Rattle.pm_crash.proofs.Begun.{begin_under_way}
 use Rattle.pm_crash.proofs.RefusedBegin.{call_refused}
 use Rattle.pm_crash.specs.Operations.{IsBeginReason, TakesWanted}
 use Rattle.pm_objects.specs.declared.calls.Operation.{Operation}
@@ -113,7 +113,7 @@ module _ {M : Type 0} (at : M → View → Type 0) (lane : Lane M) (v : View) (i
         no_entries = ap (λ (log : Log). log.entries) is.log;
         published = lists_none (record lane { memory = memory; level = 1; stage = stage.Work }) next is.unlisted
             (published_first next (record { operation = Begin wants; reply = None }) (ap (λ (told : List Told). told ++ record { operation = Begin wants; reply = None } ∷ []) is.untold));
-        is_open = begin_opens next wants (record {
+        under_way = begin_under_way next wants (record {
           call = ap (λ (told : List Told). told ++ record { operation = Begin wants; reply = None } ∷ []) is.untold;
           no_records = no_records;
           no_entries = ap (λ (log : Log). log.entries) is.log;

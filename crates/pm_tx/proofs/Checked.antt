@@ -1,5 +1,9 @@
 -- What a check found is why an operation on a range is refused, or what it is done by.
-use Rattle.std.proofs.Common.{◌≡◌, ◌⊎◌, ⊎_elim, inl, inr, Result, Ok, Err, IfErr, true, refl, sym, ap, ◌∙◌, subst}
+use Rattle.std.proofs.Common.{◌≡◌, ◌⊎◌, ⊎_elim, inl, inr, ◌||◌, ℕ, zero, suc, Result, Ok, Err, IfErr, true, refl, sym, ap, ◌∙◌, subst}
+use Rattle.std.specs.List.{list_any}
+use Rattle.pm_model.specs.Bytes.{is_among}
+use Rattle.pm_crash.proofs.CallBlocks.{keeps_still, same_blocks}
+use Rattle.pm_crash.specs.CallBlocks.{CallBlocks, IsOldIn, KeepsBlocks, is_at}
 use Rattle.pm_crash.specs.Operations.{IsNotAdded, IsNotHeld, IsReason, PassesEnd}
 use Rattle.pm_model.specs.Checks.{Range, is_write, needs_write}
 use Rattle.pm_objects.specs.declared.calls.Operation.{Operation}
@@ -10,7 +14,7 @@ use Rattle.pm_world.specs.Opening.{Opening}
 use Rattle.pm_world.specs.declared.lane.Lane.{Lane}
 use Rattle.pm_tx.specs.AtWork.{IsAtWork}
 use Rattle.pm_tx.specs.Calls.{HasLooked}
-use Rattle.pm_tx.specs.Learning.{HasChecked}
+use Rattle.pm_tx.specs.Learning.{HasChecked, Looks}
 
 -- what holds of each error that a result may be
 pub if_err : {T E : Type 0} (P : E → Type 0) (result : Result T E) → ((r : E) → result ≡ Err r → P r) → IfErr result P
@@ -21,10 +25,31 @@ if_err P (Err r) so = so r refl
 pub of_err : {T E : Type 0} (P : E → Type 0) (result : Result T E) (r : E) → result ≡ Err r → IfErr result P → P r
 of_err P result r is holds = subst (λ answer. IfErr answer P) is holds
 
+-- looks tell nothing, so the call has of the heap what it had
+pub looks_call : (n : ℕ) (v w : View) → Looks n v w → w.call ≡ v.call
+unfolding Looks
+looks_call zero v w is = ap (λ (u : View). u.call) is
+looks_call (suc n) v w t = ap (λ (u : View). u.call) t.6 ∙ looks_call n v t.0 t.3
+
+old_still : (v w : View) → w.call ≡ v.call → (off : ℕ) → IsOldIn v off → IsOldIn w off
+old_still v w call off old =
+    let same = same_blocks v w call in
+    record {
+      found = ap (λ (b : CallBlocks). list_any (is_at off) b.made || list_any (is_at off) b.dropped) same ∙ old.found;
+      kept = ap (λ (b : CallBlocks). is_among b.freed off) same ∙ old.kept;
+    }
+
 module _ {M : Type 0} (o : Opening) (at : M → View → Type 0) (mid : Lane M) (v : View) where
   -- what a check left, for whoever asks for the view alone
   pub looked_so : (P Q : View → Type 0) → HasChecked o at mid v P → ((w : View) → IsAtWork o at mid w → P w → Q w) → HasLooked v Q
   looked_so P Q t so = record { loads = t.loads; view = t.view; looks = t.looks; working = t.works.working; holds = so t.view t.works t.holds }
+
+  -- so it is of a call that kept the blocks, and of an object that it found
+  pub looked_keeping : (P Q : View → Type 0) → HasChecked o at mid v P → KeepsBlocks v → ((w : View) → IsAtWork o at mid w → KeepsBlocks w → P w → Q w) → HasLooked v Q
+  looked_keeping P Q t keeps so = record { loads = t.loads; view = t.view; looks = t.looks; working = t.works.working; holds = so t.view t.works (keeps_still v t.view (looks_call t.loads v t.view t.looks) keeps) t.holds }
+
+  pub looked_old : (P Q : View → Type 0) (off : ℕ) → HasChecked o at mid v P → IsOldIn v off → ((w : View) → IsAtWork o at mid w → IsOldIn w off → P w → Q w) → HasLooked v Q
+  looked_old P Q off t old so = record { loads = t.loads; view = t.view; looks = t.looks; working = t.works.working; holds = so t.view t.works (old_still v t.view (looks_call t.loads v t.view t.looks) off old) t.holds }
 
   module _ {T : Type 0} (op : Operation) (range : Range) (result : Result T Refusal) (r : Refusal) (is : result ≡ Err r) where
     abbrev Checks : (View → Type 0) → Type 0

@@ -3,8 +3,9 @@ use Rattle.std.proofs.Common.{◌≡◌, ◌⊎◌, ⊎_elim, not, take, append_
 use Rattle.std.specs.List.{filter}
 use Rattle.std.proofs.lemmas.List.Elements.{All-weaker}
 use Rattle.pm_crash.proofs.Committed.{commit_is_whole}
-use Rattle.pm_crash.proofs.Levels.{inner_commit_keeps_open}
-use Rattle.pm_crash.specs.OpenCall.{IsOpen}
+use Rattle.pm_crash.proofs.Levels.{inner_commit_goes_on}
+use Rattle.pm_crash.specs.CallBlocks.{KeepsBlocks}
+use Rattle.pm_crash.specs.OpenCall.{IsOpen, IsUnderWay}
 use Rattle.pm_crash.specs.Operations.{Tells}
 use Rattle.pm_crash.specs.Performing.{entry_for}
 use Rattle.pm_crash.proofs.Staying.{open_stays}
@@ -408,9 +409,9 @@ module _ {M : Type 0} (at : M → View → Type 0) (lane : Lane M) (o : Opening)
         may_publish v settled_view is.working is.no_entries is.may_come (settle_lawful v).1 (e ∷ entries) (omega arith)
         (subst (λ (es : List Redo). length es ≤ 63) are is.published.few) (subst (All (IsOfPool v)) are is.published.of_pool)
 
-  module _ (outer : lane.level ≡ 1) (n : ℕ) where
+  module _ (keeps : KeepsBlocks v) (outer : lane.level ≡ 1) (n : ℕ) where
     open_at_one : IsOpen v 1 model_stage.Work error.None
-    open_at_one = subst (λ level. IsOpen v level model_stage.Work error.None) outer is.is_open
+    open_at_one = record { under_way = subst (λ level. IsUnderWay v level model_stage.Work error.None) outer is.under_way; keeps = keeps }
 
     deciding : IsDeciding v settled_view records listed n
     deciding = at_entries lane.entries.items refl where
@@ -444,8 +445,8 @@ module _ {M : Type 0} (at : M → View → Type 0) (lane : Lane M) (o : Opening)
     working = tell_works v Commit None is.working;
     no_entries = is.no_entries;
     published = lists_on lane (record lane { memory = memory; level = lane.level - 1; stage = stage.Work }) v (after v (Tell Commit None)) refl (same_lane-after v (Tell Commit None)) refl (published_once_more v (after v (Tell Commit None)) Commit None refl refl ∙ append-nil (published_in v)) is.published;
-    is_open =
-        inner_commit_keeps_open v (after v (Tell Commit None)) (lane.level - 1) (omega (arith, inner)) (subst (λ level. IsOpen v level model_stage.Work error.None) (let e : lane.level ≡ lane.level - 1 + 1 = omega (arith, inner) in e) is.is_open)
+    under_way =
+        inner_commit_goes_on v (after v (Tell Commit None)) (lane.level - 1) (omega (arith, inner)) (subst (λ level. IsUnderWay v level model_stage.Work error.None) (let e : lane.level ≡ lane.level - 1 + 1 = omega (arith, inner) in e) is.under_way)
         (record { keeps = record { lanes = refl; zones = refl; pool = refl; lane = refl; entries = refl; known = λ i there. there }; locks = refl; call = refl })
         (record { records = refl; entries = refl }) (record { words = λ i outside. refl });
     may_come = (let m = is.may_come in record { found = m.found; seen = m.seen; below = m.below });
@@ -454,9 +455,9 @@ module _ {M : Type 0} (at : M → View → Type 0) (lane : Lane M) (o : Opening)
     zones = is.zones;
   }
 
-  module _ (outer : lane.level ≡ 1) (new : Lane M) where
+  module _ (keeps : KeepsBlocks v) (outer : lane.level ≡ 1) (new : Lane M) where
     abbrev decides_so : IsDeciding v settled_view records listed new.last
-    decides_so = deciding outer new.last
+    decides_so = deciding keeps outer new.last
 
     -- it was committed
     pub committed : Runs {T = Unit {0}} (at lane.memory) (at new.memory) (commits records listed new.last) (Ok tt) → new.locks.items ≡ lane.locks.items → new.records.items ≡ [] → new.entries.items ≡ [] → new.drawn ≡ Some new.last → IsOfSamePool lane new → new.stopped ≡ lane.stopped

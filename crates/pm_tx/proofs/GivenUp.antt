@@ -3,6 +3,7 @@ use Rattle.std.proofs.Common.{◌≡◌, ℕ, ◌+◌, ◌-◌, ◌/◌, ◌<◌
 use Rattle.std.specs.List.{IsDistinct}
 use Rattle.std.specs.Prelude.{nat_eq}
 use Rattle.pm_crash.proofs.GivenUp.{abort_gives_up}
+use Rattle.pm_crash.specs.CallBlocks.{KeepsBlocks}
 use Rattle.pm_crash.specs.OpenCall.{IsGivenUp}
 use Rattle.pm_crash.specs.Operations.{TakesBack, Tells}
 use Rattle.pm_model.specs.Answers.{error_for}
@@ -285,5 +286,5 @@ module _ {M : Type 0} (at : M → View → Type 0) (lane : Lane M) (o : Opening)
         }
 
 -- an abort that is asked for gives up the call
-pub gives_up_by_abort : {M : Type 0} (at : M → View → Type 0) (lane : Lane M) (o : Opening) (v : View) → IsAtWork o at lane v → (errnum : ℕ) (error : TxErr) → error ≡ error_for errnum → GivesUpBy v (Abort errnum) None error
-gives_up_by_abort at lane o v is errnum error so next tells back = subst (IsGivenUp next) (sym so) (abort_gives_up v next errnum lane.level is.level is.is_open tells back)
+pub gives_up_by_abort : {M : Type 0} (at : M → View → Type 0) (lane : Lane M) (o : Opening) (v : View) → IsAtWork o at lane v → KeepsBlocks v → (errnum : ℕ) (error : TxErr) → error ≡ error_for errnum → GivesUpBy v (Abort errnum) None error
+gives_up_by_abort at lane o v is keeps errnum error so next tells back = subst (IsGivenUp next) (sym so) (abort_gives_up v next errnum lane.level is.level (record { under_way = is.under_way; keeps = keeps }) tells back)

@@ -4,7 +4,7 @@ use Rattle.std.specs.Prelude.{nat_eq}
 use Rattle.std.specs.List.{IsDistinct}
 use Rattle.std.specs.Option.{ForSome}
 use Rattle.pm_model.specs.Actions.Action.{SetWord}
-use Rattle.pm_crash.specs.OpenCall.{IsOpen}
+use Rattle.pm_crash.specs.OpenCall.{IsUnderWay}
 use Rattle.pm_model.specs.declared.stage.Stage.TheVariants as model_stage
 use Rattle.pm_objects.specs.declared.history.TxErr.TheVariants as error
 use Rattle.pm_view.specs.Constants.{IsSameLane}
@@ -122,8 +122,8 @@ lists_on lane next v w entries same locks published lists = record {
 -- and by what it lists of the entries of its call
 pub goes_on_listing : {M : Type 0} (o : Opening) (at : M → View → Type 0) (lane next : Lane M) (v w : View) → IsAtWork o at lane v → HasSameFields (record lane { entries = next.entries }) next → KeepsObjects v w
     → at next.memory w → next.records.items ≡ map span_of w.log.records → All IsSpan next.records.items → FindsOpening o w → IsWorking w → w.log.entries ≡ [] → ListsPublished next w
-    → IsOpen w lane.level model_stage.Work error.None → IsAtWork o at next w
-goes_on_listing o at lane next v w work fields keeps seen records spans opening working no_entries published is_open = record {
+    → IsUnderWay w lane.level model_stage.Work error.None → IsAtWork o at next w
+goes_on_listing o at lane next v w work fields keeps seen records spans opening working no_entries published under_way = record {
   seen = record {
     memory = seen;
     pool = keeps.lane.pool ∙ (work.seen.pool ∙ sym fields.pool);
@@ -144,7 +144,7 @@ goes_on_listing o at lane next v w work fields keeps seen records spans opening 
   working = working;
   no_entries = no_entries;
   published = published;
-  is_open = subst (λ n. IsOpen w n model_stage.Work error.None) (sym fields.level) is_open;
+  under_way = subst (λ n. IsUnderWay w n model_stage.Work error.None) (sym fields.level) under_way;
   may_come = record { found = work.may_come.found; seen = keeps.seen _ work.may_come.seen; below = work.may_come.below };
   lines = record {
     inside = subst (λ locks. All (λ (l : Lock). l.line < length w.words / 8) locks) (sym keeps.locks) (subst (λ n. All (λ (l : Lock). l.line < n / 8) v.locks) (work.opening.size ∙ sym opening.size) work.lines.inside);
@@ -164,8 +164,8 @@ goes_on_listing o at lane next v w work fields keeps seen records spans opening 
 -- where it lists the same
 pub goes_on : {M : Type 0} (o : Opening) (at : M → View → Type 0) (lane next : Lane M) (v w : View) → IsAtWork o at lane v → HasSameFields lane next → KeepsObjects v w
     → at next.memory w → next.records.items ≡ map span_of w.log.records → All IsSpan next.records.items → FindsOpening o w → IsWorking w → w.log.entries ≡ [] → published_in w ≡ published_in v
-    → IsOpen w lane.level model_stage.Work error.None → IsAtWork o at next w
-goes_on o at lane next v w work fields keeps seen records spans opening working no_entries published is_open =
+    → IsUnderWay w lane.level model_stage.Work error.None → IsAtWork o at next w
+goes_on o at lane next v w work fields keeps seen records spans opening working no_entries published under_way =
     let but_entries : HasSameFields (record lane { entries = next.entries }) next =
     record { pool = fields.pool; shape = fields.shape; locks = fields.locks; entries = refl; level = fields.level; stage = fields.stage; error = fields.error; drawn = fields.drawn; last = fields.last; stopped = fields.stopped } in
-    goes_on_listing o at lane next v w work but_entries keeps seen records spans opening working no_entries (lists_on lane next v w fields.entries keeps.lane keeps.locks published work.published) is_open
+    goes_on_listing o at lane next v w work but_entries keeps seen records spans opening working no_entries (lists_on lane next v w fields.entries keeps.lane keeps.locks published work.published) under_way

@@ -5,7 +5,7 @@ use Rattle.std.proofs.lemmas.Bool.{eqb-true, false≢true, or_cases}
 use Rattle.std.proofs.lemmas.List.Folds.{Any-from_list_any}
 use Rattle.std.proofs.Math.Nat.{eq-or-lt_of_le}
 use Rattle.pm_crash.proofs.RecordedWords.{among_recorded}
-use Rattle.pm_crash.proofs.Staying.{open_learns}
+use Rattle.pm_crash.proofs.Staying.{goes_on_learning}
 use Rattle.pm_model.specs.Bytes.{is_among}
 use Rattle.pm_undo.specs.Spans.{words_in}
 use Rattle.pm_world.specs.Records.{is_recorded}
@@ -66,7 +66,7 @@ forget o at other lane v work there = record {
   working = work.working;
   no_entries = work.no_entries;
   published = work.published;
-  is_open = work.is_open;
+  under_way = work.under_way;
   may_come = work.may_come;
   lines = work.lines;
   objects = work.objects;
@@ -100,7 +100,7 @@ module _ {M : Type 0} (o : Opening) (lane : Lane M) (m : View) (work : IsAtWork 
       goes_on o Anywhere lane lane m (after m (Load word x)) work (same_fields lane) objects_learned tt
       (work.seen.records ∙ ap (λ (l : Log). map span_of l.records) (sym learned.log)) work.spans
       (opening_learned m word x plain.0 o work.opening) learned.working (ap (λ (l : Log). l.entries) learned.log ∙ work.no_entries) (published_same m (after m (Load word x)) call.entries call.call)
-      (open_learns m (after m (Load word x)) lane.level _ _ work.is_open
+      (goes_on_learning m (after m (Load word x)) lane.level _ _ work.under_way
       (record { keeps = record { lanes = call.lane.lanes; zones = call.lane.zones; pool = call.lane.pool; lane = call.lane.lane; entries = call.entries; known = call.remembers }; locks = call.locks; call = call.call })
       (record { records = ap (λ (l : Log). l.records) learned.log; entries = ap (λ (l : Log). l.entries) learned.log })
       (record {
@@ -198,7 +198,7 @@ looks_once v word x low finds = (v, word, x, refl, low, finds, refl)
 pub moved : {M : Type 0} (o : Opening) (at : M → View → Type 0) (lane next : Lane M) (w : View) → IsAtWork o Anywhere lane w → HasSameFields lane next → next.records ≡ lane.records → at next.memory w → IsAtWork o at next w
 moved o at lane next w work fields records seen =
     forget o Anywhere at next w
-    (goes_on o Anywhere lane next w w work fields (same_objects w) tt (ap (λ rs. rs.items) records ∙ work.seen.records) (subst (λ rs. All IsSpan rs.items) (sym records) work.spans) work.opening work.working work.no_entries refl work.is_open) seen
+    (goes_on o Anywhere lane next w w work fields (same_objects w) tt (ap (λ rs. rs.items) records ∙ work.seen.records) (subst (λ rs. All IsSpan rs.items) (sym records) work.spans) work.opening work.working work.no_entries refl work.under_way) seen
 
 -- a check after a check
 pub checked_then : {M : Type 0} (o : Opening) (at : M → View → Type 0) (lane next : Lane M) (v : View) (P Q : View → Type 0) → (first : HasChecked o at lane v P) → HasChecked o at next first.view Q → HasChecked o at next v Q

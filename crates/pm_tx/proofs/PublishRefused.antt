@@ -1,6 +1,7 @@
 -- A publish that is refused gives up the open call, unless the lane stops before.
 use Rattle.std.proofs.Common.{◌≡◌, ◌≢◌, ◌⊎◌, ⊎_elim, List, Some, sym, ◌∙◌, subst}
 use Rattle.pm_crash.proofs.ActionsOn.{refused_publish_gives_up}
+use Rattle.pm_crash.specs.CallBlocks.{KeepsBlocks}
 use Rattle.pm_crash.specs.OnActions.{IsPublishReason}
 use Rattle.pm_objects.specs.declared.calls.Operation.TheVariants.{Publish}
 use Rattle.pm_objects.specs.declared.history.TxErr.TheVariants as error
@@ -11,7 +12,7 @@ use Rattle.pm_view.specs.View.{View}
 use Rattle.pm_world.specs.Opening.{Opening}
 use Rattle.pm_world.specs.declared.lane.Lane.{Lane}
 use Rattle.pm_world.specs.declared.lane.Span.{Span}
-use Rattle.pm_tx.proofs.Checked.{looked_so}
+use Rattle.pm_tx.proofs.Checked.{looked_keeping}
 use Rattle.pm_tx.specs.Actions.{IsPublishGivenUp, IsPublishStopped}
 use Rattle.pm_tx.specs.AtWork.{IsAtWork}
 use Rattle.pm_tx.specs.Calls.{HasLooked}
@@ -28,11 +29,11 @@ publish_not_stopped r cause stopped =
     cause
 
 -- a publish that is refused for the lane's reason gives the call up
-publish_gives_up : {M : Type 0} (o : Opening) (at : M → View → Type 0) (lane : Lane M) (v : View) → IsAtWork o at lane v → (r : Refusal) → IsPublishReason v r → GivesUpBy v Publish (Some (Refused r)) (error.Refused r)
-publish_gives_up o at lane v work r reason next told back = refused_publish_gives_up v next r lane.level work.level work.is_open (record { reason = reason; tells = told; takes_back = back })
+publish_gives_up : {M : Type 0} (o : Opening) (at : M → View → Type 0) (lane : Lane M) (v : View) → IsAtWork o at lane v → KeepsBlocks v → (r : Refusal) → IsPublishReason v r → GivesUpBy v Publish (Some (Refused r)) (error.Refused r)
+publish_gives_up o at lane v work keeps r reason next told back = refused_publish_gives_up v next r lane.level work.level (record { under_way = work.under_way; keeps = keeps }) (record { reason = reason; tells = told; takes_back = back })
 
 -- from a view at which the check found the reason
-module _ {M : Type 0} (at : M → View → Type 0) (old mid new : Lane M) (o : Opening) (v : View) (r answer : Refusal) (finds : HasChecked o at mid v (λ w. IsPublishReason w r)) (kept : mid.records.items ≡ old.records.items) where
+module _ {M : Type 0} (at : M → View → Type 0) (old mid new : Lane M) (o : Opening) (v : View) (keeps : KeepsBlocks v) (r answer : Refusal) (finds : HasChecked o at mid v (λ w. IsPublishReason w r)) (kept : mid.records.items ≡ old.records.items) where
   -- what giving up leaves of the records that there were
   abbrev Ends : List Span → View → Type 0
   Ends spans w = IsEndedBy at new w (gives_up spans Publish (Some (Refused r)) new.last) Publish (Some (Refused r))
@@ -43,10 +44,10 @@ module _ {M : Type 0} (at : M → View → Type 0) (old mid new : Lane M) (o : O
   pub publish_given_up : answer ≡ r → ((o : Opening) (w : View) → IsAtWork o at mid w → GivesUpBy w Publish (Some (Refused r)) (error.Refused r) → Ends mid.records.items w) → HasLooked v (IsPublishGivenUp at new old.records.items answer)
   publish_given_up is ends =
       subst (λ (a : Refusal). HasLooked v (IsPublishGivenUp at new old.records.items a)) (sym is)
-      (looked_so o at mid v (λ w. IsPublishReason w r) (IsPublishGivenUp at new old.records.items r) finds
-      (λ w works reason. record { reason = reason; ended = subst (λ (spans : List Span). Ends spans w) kept (ends o w works (publish_gives_up o at mid w works r reason)) }))
+      (looked_keeping o at mid v (λ w. IsPublishReason w r) (IsPublishGivenUp at new old.records.items r) finds keeps
+      (λ w works still reason. record { reason = reason; ended = subst (λ (spans : List Span). Ends spans w) kept (ends o w works (publish_gives_up o at mid w works still r reason)) }))
 
   pub publish_stopped : ((o : Opening) (w : View) → IsAtWork o at mid w → GivesUpBy w Publish (Some (Refused r)) (error.Refused r) → Stops mid.records.items w) → HasLooked v (IsPublishStopped at new old.records.items)
   publish_stopped stops =
-      looked_so o at mid v (λ w. IsPublishReason w r) (IsPublishStopped at new old.records.items) finds
-      (λ w works reason. record { refusal = r; reason = reason; stopped = subst (λ (spans : List Span). Stops spans w) kept (stops o w works (publish_gives_up o at mid w works r reason)) })
+      looked_keeping o at mid v (λ w. IsPublishReason w r) (IsPublishStopped at new old.records.items) finds keeps
+      (λ w works still reason. record { refusal = r; reason = reason; stopped = subst (λ (spans : List Span). Stops spans w) kept (stops o w works (publish_gives_up o at mid w works still r reason)) })

@@ -7,6 +7,7 @@ use Rattle.std.proofs.lemmas.List.{length-map, map-append}
 use Rattle.std.proofs.lemmas.List.Elements.{All-append, All-map, All-weaker}
 use Rattle.std.proofs.lemmas.List.Folds.{list_any_at}
 use Rattle.pm_crash.proofs.ActionsOn.{publish_keeps_open}
+use Rattle.pm_crash.specs.CallBlocks.{KeepsBlocks}
 use Rattle.pm_crash.proofs.PendingOn.{pending_same}
 use Rattle.pm_crash.specs.OnActions.{CanSet, IsPublishReason, MovesActions, PassesObject, entries_wanted}
 use Rattle.pm_crash.specs.Operations.{IsHeld, IsNotHeld}
@@ -224,9 +225,9 @@ module _ {M : Type 0} (o : Opening) (at : M → View → Type 0) (lane : Lane M)
         let is = as_before v work.working in
         record { tells = tells v v is Publish None; logs = log_kept v v is Publish None; words = words_kept v v is Publish None; each = each_pending; room = room }
 
-    pub has_published : (next : Lane M) → HasSameFields (record lane { entries = next.entries }) next → next.records ≡ lane.records → at next.memory told → next.entries.items ≡ lane.entries.items ++ map redo_for actions
+    pub has_published : KeepsBlocks v → (next : Lane M) → HasSameFields (record lane { entries = next.entries }) next → next.records ≡ lane.records → at next.memory told → next.entries.items ≡ lane.entries.items ++ map redo_for actions
         → HasPublished o at next v
-    has_published next fields records seen more =
+    has_published kept next fields records seen more =
         let is = as_before v work.working in
         let keeps : KeepsObjects v told = objects v v is Publish None in
         let new : map redo_for actions ≡ map entry_of (pending_in v) = redo_listed actions ∙ ap (map entry_of) pending in
@@ -242,7 +243,7 @@ module _ {M : Type 0} (o : Opening) (at : M → View → Type 0) (lane : Lane M)
         record {
           works =
               goes_on_listing o at lane next v told work fields keeps seen (ap (λ rs. rs.items) records ∙ work.seen.records) (subst (λ rs. All IsSpan rs.items) (sym records) work.spans) (opening_told v v is Publish None o work.opening)
-              (tell_works v Publish None work.working) work.no_entries lists (publish_keeps_open v told lane.level work.level work.is_open moves);
+              (tell_works v Publish None work.working) work.no_entries lists (publish_keeps_open v told lane.level work.level (record { under_way = work.under_way; keeps = kept }) moves).under_way;
           moves = moves;
           none = pending_told v v is Publish None;
         }

@@ -6,9 +6,10 @@ use Rattle.std.proofs.lemmas.List.{ext_get_or, get_or-drop, get_or-take, length-
 use Rattle.std.proofs.lemmas.List.FromFn.{length-map-range_with_len}
 use Rattle.pm_words.proofs.Reading.{length-bytes_of}
 use Rattle.pm_words.specs.Words.{bytes_of}
+use Rattle.pm_crash.specs.CallBlocks.{IsOldIn}
 use Rattle.pm_crash.proofs.Bytewise.{byte_of_words}
 use Rattle.pm_crash.proofs.Covered.{count_of, covers_some}
-use Rattle.pm_crash.proofs.ReadOn.{read_keeps_open}
+use Rattle.pm_crash.proofs.ReadOn.{read_goes_on}
 use Rattle.pm_crash.specs.Operations.{ReadsBytes, bytes_seen}
 use Rattle.pm_model.specs.Bytes.{covered_words}
 use Rattle.pm_objects.specs.declared.calls.Operation.TheVariants.{Read}
@@ -133,8 +134,8 @@ module _ {M : Type 0} (o : Opening) (at : M → View → Type 0) (lane : Lane M)
     read_few : length (after_all v (reads_range id off len bytes v)).entries ≤ length v.entries
     read_few = let same = ap (λ (u : View). length u.entries) sequence.1 in let e = ap length made.1.call.entries in omega (arith, same, e)
 
-    pub read_is_made : bytes ≡ bytes_seen v id off len → (next : Lane M) → HasSameFields lane next → next.records ≡ lane.records → at next.memory w → HasReadRange o at next v id off len bytes
-    read_is_made is next fields records seen =
+    pub read_is_made : IsOldIn v id.off → bytes ≡ bytes_seen v id off len → (next : Lane M) → HasSameFields lane next → next.records ≡ lane.records → at next.memory w → HasReadRange o at next v id off len bytes
+    read_is_made old is next fields records seen =
         let call = made.1.call in
         let read : ReadsBytes v w id off len = record {
           tells = record {
@@ -161,7 +162,7 @@ module _ {M : Type 0} (o : Opening) (at : M → View → Type 0) (lane : Lane M)
         })
         seen (ap (λ rs. rs.items) records ∙ (work.seen.records ∙ ap (λ (l : Log). map span_of l.records) (sym made.1.log))) (subst (λ rs. All IsSpan rs.items) (sym records) work.spans)
         opening (tell_works u (Read id off len) (Some (Bytes bytes)) made.1.working) (ap (λ (l : Log). l.entries) made.1.log ∙ work.no_entries) (published_once_more v w (Read id off len) _ read.tells.keeps.entries read.tells.call ∙ append-nil (published_in v))
-        (read_keeps_open v w id off len lane.level work.level work.is_open read) in
+        (read_goes_on v w id off len lane.level work.level work.under_way read old) in
         record {
           ready = read_may_be_made;
           draws = drawless v (reads_range id off len bytes v) read_few;

@@ -1,6 +1,7 @@
 -- A call on a range that is refused gives up the open call, unless the lane stops before.
 use Rattle.std.proofs.Common.{◌≡◌, ◌≢◌, ◌⊎◌, ⊎_elim, inl, inr, List, None, Some, true, refl, sym, ◌∙◌, subst}
 use Rattle.pm_crash.proofs.GivenUp.{refusal_gives_up}
+use Rattle.pm_crash.specs.CallBlocks.{KeepsBlocks}
 use Rattle.pm_crash.specs.Operations.{IsReason}
 use Rattle.pm_model.specs.Checks.{Range, range_of}
 use Rattle.pm_objects.specs.declared.calls.Operation.{Operation}
@@ -13,7 +14,7 @@ use Rattle.pm_world.specs.Opening.{Opening}
 use Rattle.pm_world.specs.Sequences.{Sequence}
 use Rattle.pm_world.specs.declared.lane.Lane.{Lane}
 use Rattle.pm_world.specs.declared.lane.Span.{Span}
-use Rattle.pm_tx.proofs.Checked.{looked_so}
+use Rattle.pm_tx.proofs.Checked.{looked_keeping}
 use Rattle.pm_tx.proofs.GivenUp.{undrawn_lane}
 use Rattle.pm_tx.specs.AtWork.{IsAtWork}
 use Rattle.pm_tx.specs.Calls.{HasLooked, IsGivenUpFor, IsStoppedAt, IsStoppedFor}
@@ -33,10 +34,10 @@ not_stopped r cause stopped =
     ⊎_elim (λ (e : r ≡ refusal.NotLocked). let clash : refusal.NotLocked ≡ refusal.Stopped = sym e ∙ stopped in absurd cc) (λ (e : r ≡ refusal.OutOfRange). let clash : refusal.OutOfRange ≡ refusal.Stopped = sym e ∙ stopped in absurd cc) cause
 
 -- a refusal for the operation's reason gives the call up
-pub gives_up_by_reason : {M : Type 0} (at : M → View → Type 0) (lane : Lane M) (o : Opening) (v : View) → IsAtWork o at lane v → (op : Operation) (range : Range) (r : Refusal) → range_of op ≡ Some range → IsReason v op range r
+pub gives_up_by_reason : {M : Type 0} (at : M → View → Type 0) (lane : Lane M) (o : Opening) (v : View) → IsAtWork o at lane v → KeepsBlocks v → (op : Operation) (range : Range) (r : Refusal) → range_of op ≡ Some range → IsReason v op range r
     → GivesUpBy v op (Some (Refused r)) (error.Refused r)
-gives_up_by_reason at lane o v is op range r of_range reason next tells back =
-    refusal_gives_up v next op range r lane.level is.level is.is_open (record { is_range = of_range; reason = reason; tells = tells; takes_back = back })
+gives_up_by_reason at lane o v is keeps op range r of_range reason next tells back =
+    refusal_gives_up v next op range r lane.level is.level (record { under_way = is.under_way; keeps = keeps }) (record { is_range = of_range; reason = reason; tells = tells; takes_back = back })
 
 module _ {M : Type 0} (at : M → View → Type 0) (old mid new : Lane M) (op : Operation) (range : Range) (of_range : range_of op ≡ Some range) (r answer : Refusal) where
   -- what a refusal leaves, and what a stop does
@@ -61,25 +62,25 @@ module _ {M : Type 0} (at : M → View → Type 0) (old mid new : Lane M) (op : 
   Answers = (r ≡ refusal.Stopped → answer ≡ refusal.Stopped) × (answer ≢ refusal.Stopped → answer ≡ r)
 
   module _ (finds : Finds) (kept : r ≢ refusal.Stopped → mid.records.items ≡ old.records.items) (answers : Answers) where
-    pub given_up_for : Ends mid.records.items → answer ≢ refusal.Stopped → (o : Opening) (v : View) → IsAtWork o at old v → HasLooked v (λ w. IsGivenUpFor at new old.records.items op range answer w)
-    given_up_for ends stays o v work =
+    pub given_up_for : Ends mid.records.items → answer ≢ refusal.Stopped → (o : Opening) (v : View) → IsAtWork o at old v → KeepsBlocks v → HasLooked v (λ w. IsGivenUpFor at new old.records.items op range answer w)
+    given_up_for ends stays o v work keeps =
         let goes : r ≢ refusal.Stopped = λ e. stays (answers.0 e) in
         subst (λ (a : Refusal). HasLooked v (λ w. IsGivenUpFor at new old.records.items op range a w)) (sym (answers.1 stays))
-        (looked_so o at mid v (λ w. IsReason w op range r) (λ w. IsGivenUpFor at new old.records.items op range r w) (finds goes o v work)
-        (λ w works reason. record {
+        (looked_keeping o at mid v (λ w. IsReason w op range r) (λ w. IsGivenUpFor at new old.records.items op range r w) (finds goes o v work) keeps
+        (λ w works still reason. record {
           reason = reason;
           ended =
-              subst (λ (spans : List Span). IsEndedBy at new w (gives_up spans op (Some (Refused r)) new.last) op (Some (Refused r))) (kept goes) (ends stays o w works (gives_up_by_reason at mid o w works op range r of_range reason));
+              subst (λ (spans : List Span). IsEndedBy at new w (gives_up spans op (Some (Refused r)) new.last) op (Some (Refused r))) (kept goes) (ends stays o w works (gives_up_by_reason at mid o w works still op range r of_range reason));
         }))
 
-    pub stopped_for : Stops mid.records.items → r ≢ refusal.Stopped → answer ≡ refusal.Stopped → (o : Opening) (v : View) → IsAtWork o at old v → HasLooked v (λ w. IsStoppedFor at new old.records.items op range w)
-    stopped_for stops goes stopped o v work =
-        looked_so o at mid v (λ w. IsReason w op range r) (λ w. IsStoppedFor at new old.records.items op range w) (finds goes o v work)
-        (λ w works reason. record {
+    pub stopped_for : Stops mid.records.items → r ≢ refusal.Stopped → answer ≡ refusal.Stopped → (o : Opening) (v : View) → IsAtWork o at old v → KeepsBlocks v → HasLooked v (λ w. IsStoppedFor at new old.records.items op range w)
+    stopped_for stops goes stopped o v work keeps =
+        looked_keeping o at mid v (λ w. IsReason w op range r) (λ w. IsStoppedFor at new old.records.items op range w) (finds goes o v work) keeps
+        (λ w works still reason. record {
           refusal = r;
           reason = reason;
           stopped =
-              subst (λ (spans : List Span). IsStoppedIn at new w (gives_up spans op (Some (Refused r)) new.last) op (Some (Refused r))) (kept goes) (stops goes stopped o w works (gives_up_by_reason at mid o w works op range r of_range reason));
+              subst (λ (spans : List Span). IsStoppedIn at new w (gives_up spans op (Some (Refused r)) new.last) op (Some (Refused r))) (kept goes) (stops goes stopped o w works (gives_up_by_reason at mid o w works still op range r of_range reason));
         })
 
     module _ (Can : View → Type 0) (steps : Sequence) (cut : r ≡ refusal.Stopped → (o : Opening) (v : View) → IsAtWork o at old v → HasLooked v (λ w. Can w × StopsUndrawn (at mid.memory) w steps)) (at_once : r ≡ refusal.Stopped → new ≡ record mid { stopped = true }) (drawn : mid.drawn ≡ old.drawn) where
@@ -98,8 +99,8 @@ module _ {M : Type 0} (at : M → View → Type 0) (old mid new : Lane M) (op : 
           } in
           record { loads = t.loads; view = t.view; looks = t.looks; working = t.working; holds = inl (t.holds.0, subst (λ (lane : Lane M). IsStoppedIn at lane t.view steps op None) (sym (at_once e)) in_steps) }
 
-      pub stopped_at : Stops mid.records.items → answer ≡ refusal.Stopped → (o : Opening) (v : View) → IsAtWork o at old v → HasLooked v (λ w. IsStoppedAt at new old.records.items op range Can steps w)
-      stopped_at stops stopped o v work = ⊎_elim (λ (e : r ≡ refusal.Stopped). stopped_in_steps e o v work)
+      pub stopped_at : Stops mid.records.items → answer ≡ refusal.Stopped → (o : Opening) (v : View) → IsAtWork o at old v → KeepsBlocks v → HasLooked v (λ w. IsStoppedAt at new old.records.items op range Can steps w)
+      stopped_at stops stopped o v work keeps = ⊎_elim (λ (e : r ≡ refusal.Stopped). stopped_in_steps e o v work)
           (λ (goes : r ≢ refusal.Stopped).
-          let t = stopped_for stops goes stopped o v work in record { loads = t.loads; view = t.view; looks = t.looks; working = t.working; holds = inr t.holds })
+          let t = stopped_for stops goes stopped o v work keeps in record { loads = t.loads; view = t.view; looks = t.looks; working = t.working; holds = inr t.holds })
           (stopped_or_not r)

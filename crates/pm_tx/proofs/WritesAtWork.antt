@@ -1,7 +1,8 @@
 -- A lane at work may write a range that it recorded; it stays at work, and its call is what the plain model's write makes of it.
 use Rattle.std.proofs.Common.{◌≡◌, ℕ, ◌+◌, ◌*◌, ◌/◌, ◌≤◌, arith, All, List, [], ◌∷◌, ◌++◌, length, map, None, true, refl, sym, ap, ◌∙◌, subst}
 use Rattle.pm_words.specs.Words.{AreBytes}
-use Rattle.pm_crash.proofs.WriteOn.{write_keeps_open}
+use Rattle.pm_crash.specs.CallBlocks.{IsOldIn}
+use Rattle.pm_crash.proofs.WriteOn.{write_goes_on}
 use Rattle.pm_crash.specs.Operations.{WritesBytes}
 use Rattle.pm_objects.specs.declared.calls.Operation.TheVariants.{Write}
 use Rattle.pm_objects.specs.declared.ids.Oid.{Oid}
@@ -95,9 +96,9 @@ module _ {M : Type 0} (o : Opening) (at : M → View → Type 0) (lane : Lane M)
       let none = front_undrawn v (writes_range id off bytes v) stops.made write_few work.working.undrawn in
       record { ready = write_may_be_made; draws = write_draws; stops = stops; number = none.0; entries = none.1 }
 
-  pub write_is_made : AreBytes bytes → (next : Lane M) → HasSameFields lane next → next.records ≡ lane.records → at next.memory (after (after_all v (writes (id.off + off) bytes v)) (Tell (Write id off bytes) None))
+  pub write_is_made : IsOldIn v id.off → AreBytes bytes → (next : Lane M) → HasSameFields lane next → next.records ≡ lane.records → at next.memory (after (after_all v (writes (id.off + off) bytes v)) (Tell (Write id off bytes) None))
       → HasWrittenRange o at next v id off bytes
-  write_is_made are next fields records seen =
+  write_is_made old are next fields records seen =
       let has = made.1 in
       let last : View = after (after_all v (writes (id.off + off) bytes v)) (Tell (Write id off bytes) None) in
       let written : WritesBytes v last id off bytes = bytes_written are in
@@ -110,7 +111,7 @@ module _ {M : Type 0} (o : Opening) (at : M → View → Type 0) (lane : Lane M)
       (tell_works (after_all v (writes (id.off + off) bytes v)) (Write id off bytes) None has.working)
       (ap (λ (l : Log). l.entries) has.log ∙ work.no_entries)
       (published_once_more v last (Write id off bytes) None written.tells.keeps.entries written.tells.call ∙ append-nil (published_in v))
-      (write_keeps_open v last id off lane.level bytes work.level work.is_open written) in
+      (write_goes_on v last id off lane.level bytes work.level work.under_way written old) in
       record {
         ready = write_may_be_made;
         draws = write_draws;

@@ -1,6 +1,6 @@
 -- How a lane stands between two operations of a transaction: what its fields say, what its view has, and what its call came to.
 use Rattle.std.specs.Prelude.{◌≡◌, ◌≤◌, false, [], All, length, map}
-use Rattle.pm_crash.specs.OpenCall.{IsOpen}
+use Rattle.pm_crash.specs.OpenCall.{IsUnderWay}
 use Rattle.pm_crash.specs.Pending.{published_in}
 use Rattle.pm_model.specs.declared.stage.Stage.TheVariants as model_stage
 use Rattle.pm_objects.specs.declared.history.TxErr.TheVariants as error
@@ -23,7 +23,8 @@ pub record ListsPublished {M : Type 0} (lane : Lane M) (v : View) : Type 0 where
   pub few : length lane.entries.items ≤ 63
   pub of_pool : All (IsOfPool v) lane.entries.items
 
--- the lane has a transaction open, in work: its fields say so, its view may record and write, and its call came to what the plain model has
+-- the lane has a transaction open, in work: its fields say so, its view may record and write, and its call came to what the plain model has, which may have
+-- made and freed objects
 pub record IsAtWork {M : Type 0} (o : Opening) (at : M → View → Type 0) (lane : Lane M) (v : View) : Type 0 where
   pub seen : IsSeenAs at lane v
   pub level : 1 ≤ lane.level
@@ -37,7 +38,7 @@ pub record IsAtWork {M : Type 0} (o : Opening) (at : M → View → Type 0) (lan
   pub working : IsWorking v
   pub no_entries : v.log.entries ≡ []
   pub published : ListsPublished lane v
-  pub is_open : IsOpen v lane.level model_stage.Work error.None
+  pub under_way : IsUnderWay v lane.level model_stage.Work error.None
   pub may_come : MayCome v
   pub lines : HoldsLines v
   pub objects : FindsObjects v

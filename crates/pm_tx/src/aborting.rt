@@ -1,4 +1,5 @@
 ghost use Rattle.std.specs.Prelude.{◌≡◌, [], None, Some, Err, true, IfErr, OnErr, OnOk};
+ghost use Rattle.pm_crash.specs.CallBlocks.{KeepsBlocks};
 ghost use Rattle.pm_model.specs.Answers.{error_for};
 ghost use Rattle.pm_objects.specs.declared.calls.Operation.TheVariants.{Abort};
 ghost use Rattle.pm_objects.specs.declared.history.TxErr.{TxErr};
@@ -35,11 +36,11 @@ fn aborted_with(errnum: u32) -> TxErr
 pub fn abort<M: LawfulMem>(lane: &mut Lane<M>, errnum: u32) -> Result<(), Refusal>
     requires at_work { work_refusal lane.old ≡ None → IsLaneAtWork M.at lane.old }
     ensures refused { (r : Refusal) → work_refusal lane.old ≡ Some r → (result ≡ Err r) × (lane.new ≡ lane.old) }
-    ensures ended { OnOk result ((o : Opening) (v : View) → IsAtWork o M.at lane.old v → IsEndedBy M.at lane.new v (gives_up lane.old.records.items (Abort errnum) None lane.new.last) (Abort errnum) None) }
+    ensures ended { OnOk result ((o : Opening) (v : View) → IsAtWork o M.at lane.old v → KeepsBlocks v → IsEndedBy M.at lane.new v (gives_up lane.old.records.items (Abort errnum) None lane.new.last) (Abort errnum) None) }
     ensures none { OnOk result (lane.new.records.items ≡ []) }
     ensures lane { OnOk result (lane.new
         ≡ record lane.old { memory = lane.new.memory; records = lane.new.records; entries = lane.new.entries; stage = stage.OnAbort; error = error_for errnum; drawn = Some lane.new.last; last = lane.new.last }) }
-    ensures stops { OnErr result (work_refusal lane.old ≡ None → (o : Opening) (v : View) → IsAtWork o M.at lane.old v
+    ensures stops { OnErr result (work_refusal lane.old ≡ None → (o : Opening) (v : View) → IsAtWork o M.at lane.old v → KeepsBlocks v
         → IsStoppedIn M.at lane.new v (gives_up lane.old.records.items (Abort errnum) None lane.new.last) (Abort errnum) None) }
     ensures stopped { IfErr result (λ r. work_refusal lane.old ≡ None → r ≡ refusal.Stopped) }
     ensures stopped_lane { OnErr result (work_refusal lane.old ≡ None

@@ -1,4 +1,5 @@
 ghost use Rattle.std.specs.Prelude.{◌≡◌, ◌≢◌, ◌⊎◌, ◌+◌, ◌≤◌, length, [], Err, None, Some, true, IfOk, IfErr, OnOk};
+ghost use Rattle.pm_crash.specs.CallBlocks.{IsOldIn, KeepsBlocks};
 ghost use Rattle.pm_crash.specs.Operations.{IsReason};
 ghost use Rattle.pm_model.specs.Bytes.{covered_words, new_words};
 ghost use Rattle.pm_objects.specs.declared.calls.Operation.TheVariants.{AddRange};
@@ -41,7 +42,7 @@ pub fn do_add<M: LawfulMem>(lane: &mut Lane<M>, id: Oid, off: u64, len: u64) -> 
     requires may { MayAddRange M.at lane.old id off len }
     ensures words { IfOk result (λ count. count ≡ length (new_words (words_in lane.old.records.items) (covered_words (id.off + off) len))) }
     ensures made { OnOk result (IsMade (M.at lane.old.memory) (M.at lane.new.memory) (adds_range lane.old.records.items id off len)) }
-    ensures done { OnOk result ((o : Opening) (v : View) → IsAtWork o M.at lane.old v → CanAdd v id off len → HasAddedRange o M.at lane.new v lane.old.records.items id off len) }
+    ensures done { OnOk result ((o : Opening) (v : View) → IsAtWork o M.at lane.old v → IsOldIn v id.off → CanAdd v id off len → HasAddedRange o M.at lane.new v lane.old.records.items id off len) }
     ensures full { result ≡ Err refusal.LogFull → (o : Opening) (v : View) → IsAtWork o M.at lane.old v → CanAdd v id off len
         → IsReason v (AddRange id off len) (record { id = id; off = off; len = len }) refusal.LogFull }
     ensures unchanged { result ≡ Err refusal.LogFull → lane.new ≡ lane.old }
@@ -59,7 +60,7 @@ pub fn do_add<M: LawfulMem>(lane: &mut Lane<M>, id: Oid, off: u64, len: u64) -> 
 fn try_add<M: LawfulMem>(lane: &mut Lane<M>, id: Oid, off: u64, len: u64) -> Result<u64, Refusal>
     requires at_work { IsLaneAtWork M.at lane.old }
     ensures words { IfOk result (λ count. count ≡ length (new_words (words_in lane.old.records.items) (covered_words (id.off + off) len))) }
-    ensures done { OnOk result ((o : Opening) (v : View) → IsAtWork o M.at lane.old v → HasLooked v (λ w. CanAdd w id off len × HasAddedRange o M.at lane.new w lane.old.records.items id off len)) }
+    ensures done { OnOk result ((o : Opening) (v : View) → IsAtWork o M.at lane.old v → IsOldIn v id.off → HasLooked v (λ w. CanAdd w id off len × HasAddedRange o M.at lane.new w lane.old.records.items id off len)) }
     ensures refused { IfErr result (λ r. r ≢ refusal.Stopped → (o : Opening) (v : View) → IsAtWork o M.at lane.old v
         → HasChecked o M.at lane.new v (λ w. IsReason w (AddRange id off len) (record { id = id; off = off; len = len }) r)) }
     ensures kept { IfErr result (λ r. r ≢ refusal.Stopped → lane.new.records ≡ lane.old.records) }
@@ -81,14 +82,14 @@ fn add_at_work<M: LawfulMem>(
 ) -> Result<u64, Refusal>
     requires at_work { IsLaneAtWork M.at lane.old }
     ensures words { IfOk result (λ count. count ≡ length (new_words (words_in lane.old.records.items) (covered_words (id.off + off) len))) }
-    ensures done { OnOk result ((o : Opening) (v : View) → IsAtWork o M.at lane.old v → HasLooked v (λ w. CanAdd w id off len × HasAddedRange o M.at lane.new w lane.old.records.items id off len)) }
+    ensures done { OnOk result ((o : Opening) (v : View) → IsAtWork o M.at lane.old v → IsOldIn v id.off → HasLooked v (λ w. CanAdd w id off len × HasAddedRange o M.at lane.new w lane.old.records.items id off len)) }
     ensures lane { OnOk result (lane.new ≡ record lane.old { memory = lane.new.memory; records = lane.new.records }) }
-    ensures given_up { IfErr result (λ r. r ≢ refusal.Stopped → (o : Opening) (v : View) → IsAtWork o M.at lane.old v
+    ensures given_up { IfErr result (λ r. r ≢ refusal.Stopped → (o : Opening) (v : View) → IsAtWork o M.at lane.old v → KeepsBlocks v
         → HasLooked v (λ w. IsGivenUpFor M.at lane.new lane.old.records.items (AddRange id off len) (record { id = id; off = off; len = len }) r w)) }
     ensures none { IfErr result (λ r. r ≢ refusal.Stopped → lane.new.records.items ≡ []) }
     ensures given_up_lane { IfErr result (λ r. r ≢ refusal.Stopped
         → lane.new ≡ record lane.old { memory = lane.new.memory; records = lane.new.records; entries = lane.new.entries; stage = stage.OnAbort; error = error.Refused r; drawn = Some lane.new.last; last = lane.new.last }) }
-    ensures stopped { IfErr result (λ r. r ≡ refusal.Stopped → (o : Opening) (v : View) → IsAtWork o M.at lane.old v
+    ensures stopped { IfErr result (λ r. r ≡ refusal.Stopped → (o : Opening) (v : View) → IsAtWork o M.at lane.old v → KeepsBlocks v
         → HasLooked v (λ w. IsStoppedAt M.at lane.new lane.old.records.items (AddRange id off len) (record { id = id; off = off; len = len }) (λ u. CanAdd u id off len) (adds_range lane.old.records.items id off len) w)) }
     ensures stopped_lane { IfErr result (λ r. r ≡ refusal.Stopped
         → lane.new ≡ record lane.old { memory = lane.new.memory; records = lane.new.records; drawn = lane.new.drawn; last = lane.new.last; stopped = true }) }
@@ -114,14 +115,14 @@ pub fn add_range<M: LawfulMem>(
     requires at_work { work_refusal lane.old ≡ None → IsLaneAtWork M.at lane.old }
     ensures refused { (r : Refusal) → work_refusal lane.old ≡ Some r → (result ≡ Err r) × (lane.new ≡ lane.old) }
     ensures words { IfOk result (λ count. count ≡ length (new_words (words_in lane.old.records.items) (covered_words (id.off + off) len))) }
-    ensures done { OnOk result ((o : Opening) (v : View) → IsAtWork o M.at lane.old v → HasLooked v (λ w. CanAdd w id off len × HasAddedRange o M.at lane.new w lane.old.records.items id off len)) }
+    ensures done { OnOk result ((o : Opening) (v : View) → IsAtWork o M.at lane.old v → IsOldIn v id.off → HasLooked v (λ w. CanAdd w id off len × HasAddedRange o M.at lane.new w lane.old.records.items id off len)) }
     ensures lane { OnOk result (lane.new ≡ record lane.old { memory = lane.new.memory; records = lane.new.records }) }
-    ensures given_up { IfErr result (λ r. work_refusal lane.old ≡ None → r ≢ refusal.Stopped → (o : Opening) (v : View) → IsAtWork o M.at lane.old v
+    ensures given_up { IfErr result (λ r. work_refusal lane.old ≡ None → r ≢ refusal.Stopped → (o : Opening) (v : View) → IsAtWork o M.at lane.old v → KeepsBlocks v
         → HasLooked v (λ w. IsGivenUpFor M.at lane.new lane.old.records.items (AddRange id off len) (record { id = id; off = off; len = len }) r w)) }
     ensures none { IfErr result (λ r. work_refusal lane.old ≡ None → r ≢ refusal.Stopped → lane.new.records.items ≡ []) }
     ensures given_up_lane { IfErr result (λ r. work_refusal lane.old ≡ None → r ≢ refusal.Stopped
         → lane.new ≡ record lane.old { memory = lane.new.memory; records = lane.new.records; entries = lane.new.entries; stage = stage.OnAbort; error = error.Refused r; drawn = Some lane.new.last; last = lane.new.last }) }
-    ensures stopped { IfErr result (λ r. work_refusal lane.old ≡ None → r ≡ refusal.Stopped → (o : Opening) (v : View) → IsAtWork o M.at lane.old v
+    ensures stopped { IfErr result (λ r. work_refusal lane.old ≡ None → r ≡ refusal.Stopped → (o : Opening) (v : View) → IsAtWork o M.at lane.old v → KeepsBlocks v
         → HasLooked v (λ w. IsStoppedAt M.at lane.new lane.old.records.items (AddRange id off len) (record { id = id; off = off; len = len }) (λ u. CanAdd u id off len) (adds_range lane.old.records.items id off len) w)) }
     ensures stopped_lane { IfErr result (λ r. work_refusal lane.old ≡ None → r ≡ refusal.Stopped
         → lane.new ≡ record lane.old { memory = lane.new.memory; records = lane.new.records; drawn = lane.new.drawn; last = lane.new.last; stopped = true }) }

@@ -1,5 +1,6 @@
 ghost use Rattle.std.specs.Prelude.{◌≡◌, ◌≢◌, ◌⊎◌, ◌+◌, ◌%◌, ◌≤◌, ◌++◌, [], All, Err, None, Some, map, true, length, IfErr, OnErr, OnOk};
 ghost use Rattle.std.specs.List.{Any};
+ghost use Rattle.pm_crash.specs.CallBlocks.{KeepsBlocks};
 ghost use Rattle.pm_crash.specs.OnActions.{CanSet, IsPublishReason, PassesObject};
 ghost use Rattle.pm_crash.specs.Operations.{IsHeld, IsNotHeld};
 ghost use Rattle.pm_crash.specs.Pending.{pending_in};
@@ -95,7 +96,7 @@ fn check_publish<M: LawfulMem>(lane: &mut Lane<M>, actions: &[SetAction]) -> Res
 fn move_actions<M: LawfulMem>(lane: &mut Lane<M>, actions: &mut ArrayVec<SetAction, 63>)
     requires may { MayMoveActions M.at lane.old actions.old.items }
     requires few { length lane.old.entries.items + length actions.old.items ≤ 63 }
-    ensures done { (o : Opening) (v : View) → IsAtWork o M.at lane.old v → pending_of actions.old.items ≡ pending_in v → All (λ (a : SetAction). CanSet v (action_of a)) actions.old.items → HasPublished o M.at lane.new v }
+    ensures done { (o : Opening) (v : View) → IsAtWork o M.at lane.old v → KeepsBlocks v → pending_of actions.old.items ≡ pending_in v → All (λ (a : SetAction). CanSet v (action_of a)) actions.old.items → HasPublished o M.at lane.new v }
     ensures listed { lane.new.entries.items ≡ lane.old.entries.items ++ map redo_for actions.old.items }
     ensures none { actions.new.items ≡ [] }
     ensures else_same { lane.new ≡ record lane.old { memory = lane.new.memory; entries = lane.new.entries } }
@@ -112,16 +113,16 @@ fn publish_working<M: LawfulMem>(
 ) -> Result<(), Refusal>
     requires at_work { IsLaneAtWork M.at lane.old }
     requires aligned { All (λ (a : SetAction). a.off % 8 ≡ 0) actions.old.items }
-    ensures done { OnOk result ((o : Opening) (v : View) → IsAtWork o M.at lane.old v → pending_of actions.old.items ≡ pending_in v → HasLooked v (HasPublished o M.at lane.new)) }
+    ensures done { OnOk result ((o : Opening) (v : View) → IsAtWork o M.at lane.old v → KeepsBlocks v → pending_of actions.old.items ≡ pending_in v → HasLooked v (HasPublished o M.at lane.new)) }
     ensures listed { OnOk result (lane.new.entries.items ≡ lane.old.entries.items ++ map redo_for actions.old.items) }
     ensures emptied { OnOk result (actions.new.items ≡ []) }
     ensures lane { OnOk result (lane.new ≡ record lane.old { memory = lane.new.memory; entries = lane.new.entries }) }
-    ensures given_up { IfErr result (λ r. r ≢ refusal.Stopped → (o : Opening) (v : View) → IsAtWork o M.at lane.old v → pending_of actions.old.items ≡ pending_in v
+    ensures given_up { IfErr result (λ r. r ≢ refusal.Stopped → (o : Opening) (v : View) → IsAtWork o M.at lane.old v → KeepsBlocks v → pending_of actions.old.items ≡ pending_in v
         → HasLooked v (IsPublishGivenUp M.at lane.new lane.old.records.items r)) }
     ensures none { IfErr result (λ r. r ≢ refusal.Stopped → lane.new.records.items ≡ []) }
     ensures given_up_lane { IfErr result (λ r. r ≢ refusal.Stopped
         → lane.new ≡ record lane.old { memory = lane.new.memory; records = lane.new.records; entries = lane.new.entries; stage = stage.OnAbort; error = error.Refused r; drawn = Some lane.new.last; last = lane.new.last }) }
-    ensures stopped { IfErr result (λ r. r ≡ refusal.Stopped → (o : Opening) (v : View) → IsAtWork o M.at lane.old v → pending_of actions.old.items ≡ pending_in v
+    ensures stopped { IfErr result (λ r. r ≡ refusal.Stopped → (o : Opening) (v : View) → IsAtWork o M.at lane.old v → KeepsBlocks v → pending_of actions.old.items ≡ pending_in v
         → HasLooked v (IsPublishStopped M.at lane.new lane.old.records.items)) }
     ensures stopped_lane { IfErr result (λ r. r ≡ refusal.Stopped
         → lane.new ≡ record lane.old { memory = lane.new.memory; records = lane.new.records; drawn = lane.new.drawn; last = lane.new.last; stopped = true }) }
@@ -149,16 +150,16 @@ pub fn publish<M: LawfulMem>(
     requires at_work { work_refusal lane.old ≡ None → IsLaneAtWork M.at lane.old }
     requires aligned { All (λ (a : SetAction). a.off % 8 ≡ 0) actions.old.items }
     ensures refused { (r : Refusal) → work_refusal lane.old ≡ Some r → (result ≡ Err r) × (lane.new ≡ lane.old) }
-    ensures done { OnOk result ((o : Opening) (v : View) → IsAtWork o M.at lane.old v → pending_of actions.old.items ≡ pending_in v → HasLooked v (HasPublished o M.at lane.new)) }
+    ensures done { OnOk result ((o : Opening) (v : View) → IsAtWork o M.at lane.old v → KeepsBlocks v → pending_of actions.old.items ≡ pending_in v → HasLooked v (HasPublished o M.at lane.new)) }
     ensures listed { OnOk result (lane.new.entries.items ≡ lane.old.entries.items ++ map redo_for actions.old.items) }
     ensures emptied { OnOk result (actions.new.items ≡ []) }
     ensures lane { OnOk result (lane.new ≡ record lane.old { memory = lane.new.memory; entries = lane.new.entries }) }
-    ensures given_up { IfErr result (λ r. work_refusal lane.old ≡ None → r ≢ refusal.Stopped → (o : Opening) (v : View) → IsAtWork o M.at lane.old v → pending_of actions.old.items ≡ pending_in v
+    ensures given_up { IfErr result (λ r. work_refusal lane.old ≡ None → r ≢ refusal.Stopped → (o : Opening) (v : View) → IsAtWork o M.at lane.old v → KeepsBlocks v → pending_of actions.old.items ≡ pending_in v
         → HasLooked v (IsPublishGivenUp M.at lane.new lane.old.records.items r)) }
     ensures none { IfErr result (λ r. work_refusal lane.old ≡ None → r ≢ refusal.Stopped → lane.new.records.items ≡ []) }
     ensures given_up_lane { IfErr result (λ r. work_refusal lane.old ≡ None → r ≢ refusal.Stopped
         → lane.new ≡ record lane.old { memory = lane.new.memory; records = lane.new.records; entries = lane.new.entries; stage = stage.OnAbort; error = error.Refused r; drawn = Some lane.new.last; last = lane.new.last }) }
-    ensures stopped { IfErr result (λ r. work_refusal lane.old ≡ None → r ≡ refusal.Stopped → (o : Opening) (v : View) → IsAtWork o M.at lane.old v → pending_of actions.old.items ≡ pending_in v
+    ensures stopped { IfErr result (λ r. work_refusal lane.old ≡ None → r ≡ refusal.Stopped → (o : Opening) (v : View) → IsAtWork o M.at lane.old v → KeepsBlocks v → pending_of actions.old.items ≡ pending_in v
         → HasLooked v (IsPublishStopped M.at lane.new lane.old.records.items)) }
     ensures stopped_lane { IfErr result (λ r. work_refusal lane.old ≡ None → r ≡ refusal.Stopped
         → lane.new ≡ record lane.old { memory = lane.new.memory; records = lane.new.records; drawn = lane.new.drawn; last = lane.new.last; stopped = true }) }

@@ -1,4 +1,5 @@
 ghost use Rattle.std.specs.Prelude.{◌≡◌, ◌≢◌, ◌⊎◌, false, true, length, [], None, Some, Err, IfErr, OnErr, OnOk};
+ghost use Rattle.pm_crash.specs.CallBlocks.{IsOldIn, KeepsBlocks};
 ghost use Rattle.pm_crash.specs.Operations.{IsReason};
 ghost use Rattle.pm_objects.specs.declared.calls.Operation.TheVariants.{Read};
 ghost use Rattle.pm_objects.specs.declared.history.TxErr.TheVariants as error;
@@ -27,7 +28,7 @@ pub fn do_read<M: LawfulMem>(lane: &mut Lane<M>, id: Oid, off: u64, into: &mut [
     requires may { MayReadRange M.at lane.old id off (length into.old) }
     ensures as_long { length into.new ≡ length into.old }
     ensures made { IsMade (M.at lane.old.memory) (M.at lane.new.memory) (reads_range id off (length into.old) into.new) }
-    ensures done { (o : Opening) (v : View) → IsAtWork o M.at lane.old v → KnowsRange v id off (length into.old) false → HasReadRange o M.at lane.new v id off (length into.old) into.new }
+    ensures done { (o : Opening) (v : View) → IsAtWork o M.at lane.old v → IsOldIn v id.off → KnowsRange v id off (length into.old) false → HasReadRange o M.at lane.new v id off (length into.old) into.new }
     ensures else_same { lane.new ≡ record lane.old { memory = lane.new.memory } }
 {
     read_words(&mut lane.memory, id.off + off, into);
@@ -43,7 +44,7 @@ fn try_read<M: LawfulMem>(
 ) -> Result<(), Refusal>
     requires at_work { IsLaneAtWork M.at lane.old }
     ensures as_long { length into.new ≡ length into.old }
-    ensures done { OnOk result ((o : Opening) (v : View) → IsAtWork o M.at lane.old v
+    ensures done { OnOk result ((o : Opening) (v : View) → IsAtWork o M.at lane.old v → IsOldIn v id.off
         → HasLooked v (λ w. KnowsRange w id off (length into.old) false × HasReadRange o M.at lane.new w id off (length into.old) into.new)) }
     ensures refused { IfErr result (λ r. (o : Opening) (v : View) → IsAtWork o M.at lane.old v
         → HasChecked o M.at lane.new v (λ w. IsReason w (Read id off (length into.old)) (record { id = id; off = off; len = length into.old }) r)) }
@@ -66,14 +67,14 @@ fn read_at_work<M: LawfulMem>(
     requires at_work { IsLaneAtWork M.at lane.old }
     ensures as_long { length into.new ≡ length into.old }
     ensures unread { OnErr result (into.new ≡ into.old) }
-    ensures done { OnOk result ((o : Opening) (v : View) → IsAtWork o M.at lane.old v → HasLooked v (λ w. KnowsRange w id off (length into.old) false × HasReadRange o M.at lane.new w id off (length into.old) into.new)) }
+    ensures done { OnOk result ((o : Opening) (v : View) → IsAtWork o M.at lane.old v → IsOldIn v id.off → HasLooked v (λ w. KnowsRange w id off (length into.old) false × HasReadRange o M.at lane.new w id off (length into.old) into.new)) }
     ensures lane { OnOk result (lane.new ≡ record lane.old { memory = lane.new.memory }) }
-    ensures given_up { IfErr result (λ r. r ≢ refusal.Stopped → (o : Opening) (v : View) → IsAtWork o M.at lane.old v
+    ensures given_up { IfErr result (λ r. r ≢ refusal.Stopped → (o : Opening) (v : View) → IsAtWork o M.at lane.old v → KeepsBlocks v
         → HasLooked v (λ w. IsGivenUpFor M.at lane.new lane.old.records.items (Read id off (length into.old)) (record { id = id; off = off; len = length into.old }) r w)) }
     ensures none { IfErr result (λ r. r ≢ refusal.Stopped → lane.new.records.items ≡ []) }
     ensures given_up_lane { IfErr result (λ r. r ≢ refusal.Stopped
         → lane.new ≡ record lane.old { memory = lane.new.memory; records = lane.new.records; entries = lane.new.entries; stage = stage.OnAbort; error = error.Refused r; drawn = Some lane.new.last; last = lane.new.last }) }
-    ensures stopped { IfErr result (λ r. r ≡ refusal.Stopped → (o : Opening) (v : View) → IsAtWork o M.at lane.old v
+    ensures stopped { IfErr result (λ r. r ≡ refusal.Stopped → (o : Opening) (v : View) → IsAtWork o M.at lane.old v → KeepsBlocks v
         → HasLooked v (λ w. IsStoppedFor M.at lane.new lane.old.records.items (Read id off (length into.old)) (record { id = id; off = off; len = length into.old }) w)) }
     ensures stopped_lane { IfErr result (λ r. r ≡ refusal.Stopped
         → lane.new ≡ record lane.old { memory = lane.new.memory; records = lane.new.records; drawn = lane.new.drawn; last = lane.new.last; stopped = true }) }
@@ -100,14 +101,14 @@ pub fn read<M: LawfulMem>(
     ensures refused { (r : Refusal) → work_refusal lane.old ≡ Some r → (result ≡ Err r) × (lane.new ≡ lane.old) }
     ensures as_long { length into.new ≡ length into.old }
     ensures unread { OnErr result (into.new ≡ into.old) }
-    ensures done { OnOk result ((o : Opening) (v : View) → IsAtWork o M.at lane.old v → HasLooked v (λ w. KnowsRange w id off (length into.old) false × HasReadRange o M.at lane.new w id off (length into.old) into.new)) }
+    ensures done { OnOk result ((o : Opening) (v : View) → IsAtWork o M.at lane.old v → IsOldIn v id.off → HasLooked v (λ w. KnowsRange w id off (length into.old) false × HasReadRange o M.at lane.new w id off (length into.old) into.new)) }
     ensures lane { OnOk result (lane.new ≡ record lane.old { memory = lane.new.memory }) }
-    ensures given_up { IfErr result (λ r. work_refusal lane.old ≡ None → r ≢ refusal.Stopped → (o : Opening) (v : View) → IsAtWork o M.at lane.old v
+    ensures given_up { IfErr result (λ r. work_refusal lane.old ≡ None → r ≢ refusal.Stopped → (o : Opening) (v : View) → IsAtWork o M.at lane.old v → KeepsBlocks v
         → HasLooked v (λ w. IsGivenUpFor M.at lane.new lane.old.records.items (Read id off (length into.old)) (record { id = id; off = off; len = length into.old }) r w)) }
     ensures none { IfErr result (λ r. work_refusal lane.old ≡ None → r ≢ refusal.Stopped → lane.new.records.items ≡ []) }
     ensures given_up_lane { IfErr result (λ r. work_refusal lane.old ≡ None → r ≢ refusal.Stopped
         → lane.new ≡ record lane.old { memory = lane.new.memory; records = lane.new.records; entries = lane.new.entries; stage = stage.OnAbort; error = error.Refused r; drawn = Some lane.new.last; last = lane.new.last }) }
-    ensures stopped { IfErr result (λ r. work_refusal lane.old ≡ None → r ≡ refusal.Stopped → (o : Opening) (v : View) → IsAtWork o M.at lane.old v
+    ensures stopped { IfErr result (λ r. work_refusal lane.old ≡ None → r ≡ refusal.Stopped → (o : Opening) (v : View) → IsAtWork o M.at lane.old v → KeepsBlocks v
         → HasLooked v (λ w. IsStoppedFor M.at lane.new lane.old.records.items (Read id off (length into.old)) (record { id = id; off = off; len = length into.old }) w)) }
     ensures stopped_lane { IfErr result (λ r. work_refusal lane.old ≡ None → r ≡ refusal.Stopped
         → lane.new ≡ record lane.old { memory = lane.new.memory; records = lane.new.records; drawn = lane.new.drawn; last = lane.new.last; stopped = true }) }

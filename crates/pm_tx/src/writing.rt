@@ -1,4 +1,5 @@
 ghost use Rattle.std.specs.Prelude.{◌≡◌, ◌≢◌, ◌⊎◌, ℕ, length, [], None, Some, true, Err, IfErr, OnErr, OnOk};
+ghost use Rattle.pm_crash.specs.CallBlocks.{IsOldIn, KeepsBlocks};
 ghost use Rattle.pm_crash.specs.Operations.{IsReason};
 ghost use Rattle.pm_objects.specs.declared.calls.Operation.TheVariants.{Write};
 ghost use Rattle.pm_objects.specs.declared.history.TxErr.TheVariants as error;
@@ -33,7 +34,7 @@ pub fn do_write<M: LawfulMem>(
 ) -> Result<(), Stopped>
     requires may { MayWriteRange M.at lane.old id off (length bytes.now) }
     ensures ran { Runs (M.at lane.old.memory) (M.at lane.new.memory) (writes_range id off bytes.now) result }
-    ensures done { OnOk result ((o : Opening) (v : View) → IsAtWork o M.at lane.old v → CanWrite v id off (length bytes.now) → HasWrittenRange o M.at lane.new v id off bytes.now) }
+    ensures done { OnOk result ((o : Opening) (v : View) → IsAtWork o M.at lane.old v → IsOldIn v id.off → CanWrite v id off (length bytes.now) → HasWrittenRange o M.at lane.new v id off bytes.now) }
     ensures stops { OnErr result ((o : Opening) (v : View) → IsAtWork o M.at lane.old v → CanWrite v id off (length bytes.now) → StopsUndrawn (M.at lane.new.memory) v (writes_range id off bytes.now)) }
     ensures else_same { lane.new ≡ record lane.old { memory = lane.new.memory } }
 {
@@ -50,7 +51,7 @@ fn try_write<M: LawfulMem>(
     bytes: &[u8],
 ) -> Result<(), Refusal>
     requires at_work { IsLaneAtWork M.at lane.old }
-    ensures done { OnOk result ((o : Opening) (v : View) → IsAtWork o M.at lane.old v → HasLooked v (λ w. CanWrite w id off (length bytes.now) × HasWrittenRange o M.at lane.new w id off bytes.now)) }
+    ensures done { OnOk result ((o : Opening) (v : View) → IsAtWork o M.at lane.old v → IsOldIn v id.off → HasLooked v (λ w. CanWrite w id off (length bytes.now) × HasWrittenRange o M.at lane.new w id off bytes.now)) }
     ensures refused { IfErr result (λ r. r ≢ refusal.Stopped → (o : Opening) (v : View) → IsAtWork o M.at lane.old v
         → HasChecked o M.at lane.new v (λ w. IsReason w (Write id off bytes.now) (record { id = id; off = off; len = length bytes.now }) r)) }
     ensures stops { result ≡ Err refusal.Stopped → (o : Opening) (v : View) → IsAtWork o M.at lane.old v → HasLooked v (λ w. CanWrite w id off (length bytes.now) × StopsUndrawn (M.at lane.new.memory) w (writes_range id off bytes.now)) }
@@ -72,14 +73,14 @@ fn write_at_work<M: LawfulMem>(
     bytes: &[u8],
 ) -> Result<(), Refusal>
     requires at_work { IsLaneAtWork M.at lane.old }
-    ensures done { OnOk result ((o : Opening) (v : View) → IsAtWork o M.at lane.old v → HasLooked v (λ w. CanWrite w id off (length bytes.now) × HasWrittenRange o M.at lane.new w id off bytes.now)) }
+    ensures done { OnOk result ((o : Opening) (v : View) → IsAtWork o M.at lane.old v → IsOldIn v id.off → HasLooked v (λ w. CanWrite w id off (length bytes.now) × HasWrittenRange o M.at lane.new w id off bytes.now)) }
     ensures lane { OnOk result (lane.new ≡ record lane.old { memory = lane.new.memory }) }
-    ensures given_up { IfErr result (λ r. r ≢ refusal.Stopped → (o : Opening) (v : View) → IsAtWork o M.at lane.old v
+    ensures given_up { IfErr result (λ r. r ≢ refusal.Stopped → (o : Opening) (v : View) → IsAtWork o M.at lane.old v → KeepsBlocks v
         → HasLooked v (λ w. IsGivenUpFor M.at lane.new lane.old.records.items (Write id off bytes.now) (record { id = id; off = off; len = length bytes.now }) r w)) }
     ensures none { IfErr result (λ r. r ≢ refusal.Stopped → lane.new.records.items ≡ []) }
     ensures given_up_lane { IfErr result (λ r. r ≢ refusal.Stopped
         → lane.new ≡ record lane.old { memory = lane.new.memory; records = lane.new.records; entries = lane.new.entries; stage = stage.OnAbort; error = error.Refused r; drawn = Some lane.new.last; last = lane.new.last }) }
-    ensures stopped { IfErr result (λ r. r ≡ refusal.Stopped → (o : Opening) (v : View) → IsAtWork o M.at lane.old v
+    ensures stopped { IfErr result (λ r. r ≡ refusal.Stopped → (o : Opening) (v : View) → IsAtWork o M.at lane.old v → KeepsBlocks v
         → HasLooked v (λ w. IsStoppedAt M.at lane.new lane.old.records.items (Write id off bytes.now) (record { id = id; off = off; len = length bytes.now }) (λ u. CanWrite u id off (length bytes.now)) (writes_range id off bytes.now) w)) }
     ensures stopped_lane { IfErr result (λ r. r ≡ refusal.Stopped
         → lane.new ≡ record lane.old { memory = lane.new.memory; records = lane.new.records; drawn = lane.new.drawn; last = lane.new.last; stopped = true }) }
@@ -103,14 +104,14 @@ pub fn write<M: LawfulMem>(
 ) -> Result<(), Refusal>
     requires at_work { work_refusal lane.old ≡ None → IsLaneAtWork M.at lane.old }
     ensures refused { (r : Refusal) → work_refusal lane.old ≡ Some r → (result ≡ Err r) × (lane.new ≡ lane.old) }
-    ensures done { OnOk result ((o : Opening) (v : View) → IsAtWork o M.at lane.old v → HasLooked v (λ w. CanWrite w id off (length bytes.now) × HasWrittenRange o M.at lane.new w id off bytes.now)) }
+    ensures done { OnOk result ((o : Opening) (v : View) → IsAtWork o M.at lane.old v → IsOldIn v id.off → HasLooked v (λ w. CanWrite w id off (length bytes.now) × HasWrittenRange o M.at lane.new w id off bytes.now)) }
     ensures lane { OnOk result (lane.new ≡ record lane.old { memory = lane.new.memory }) }
-    ensures given_up { IfErr result (λ r. work_refusal lane.old ≡ None → r ≢ refusal.Stopped → (o : Opening) (v : View) → IsAtWork o M.at lane.old v
+    ensures given_up { IfErr result (λ r. work_refusal lane.old ≡ None → r ≢ refusal.Stopped → (o : Opening) (v : View) → IsAtWork o M.at lane.old v → KeepsBlocks v
         → HasLooked v (λ w. IsGivenUpFor M.at lane.new lane.old.records.items (Write id off bytes.now) (record { id = id; off = off; len = length bytes.now }) r w)) }
     ensures none { IfErr result (λ r. work_refusal lane.old ≡ None → r ≢ refusal.Stopped → lane.new.records.items ≡ []) }
     ensures given_up_lane { IfErr result (λ r. work_refusal lane.old ≡ None → r ≢ refusal.Stopped
         → lane.new ≡ record lane.old { memory = lane.new.memory; records = lane.new.records; entries = lane.new.entries; stage = stage.OnAbort; error = error.Refused r; drawn = Some lane.new.last; last = lane.new.last }) }
-    ensures stopped { IfErr result (λ r. work_refusal lane.old ≡ None → r ≡ refusal.Stopped → (o : Opening) (v : View) → IsAtWork o M.at lane.old v
+    ensures stopped { IfErr result (λ r. work_refusal lane.old ≡ None → r ≡ refusal.Stopped → (o : Opening) (v : View) → IsAtWork o M.at lane.old v → KeepsBlocks v
         → HasLooked v (λ w. IsStoppedAt M.at lane.new lane.old.records.items (Write id off bytes.now) (record { id = id; off = off; len = length bytes.now }) (λ u. CanWrite u id off (length bytes.now)) (writes_range id off bytes.now) w)) }
     ensures stopped_lane { IfErr result (λ r. work_refusal lane.old ≡ None → r ≡ refusal.Stopped
         → lane.new ≡ record lane.old { memory = lane.new.memory; records = lane.new.records; drawn = lane.new.drawn; last = lane.new.last; stopped = true }) }

@@ -55,10 +55,10 @@ returns-clause-made g c =
     c.in_ok-count.ensures.made (runs_made (g.M.LaneMem.at c.snapshot.new.lane.memory) (g.M.LaneMem.at c.tell_added.new.mem) (Tell (AddRange c.args.id c.args.off c.args.len) None) c.tell_added.ensures)
 
 pub returns-clause-done : goal.returns-clause-done
-returns-clause-done g c o v work can =
+returns-clause-done g c o v work old can =
     let same = fields_same c.args.lane.now c.snapshot.new.lane c.in_ok-count.ensures.else_same in
     let room = c.in_ok-count.ensures.room in
-    lane_has_added o g.M.LaneMem.at c.args.lane.now v work c.args.id c.args.off c.args.len can room
+    lane_has_added o g.M.LaneMem.at c.args.lane.now v work c.args.id c.args.off c.args.len can old room
     (range_is_low v work.objects c.args.id c.args.off c.args.len true can.range o work.sound work.opening work.zones) _
     (record { pool = same.pool; shape = same.shape; locks = same.locks; entries = same.entries; level = same.level; stage = same.stage; error = same.error; drawn = same.drawn; last = same.last; stopped = same.stopped })
     c.in_ok-count.ensures.recorded

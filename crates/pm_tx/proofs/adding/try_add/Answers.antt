@@ -6,7 +6,7 @@ use Rattle.pm_objects.specs.declared.refusal.Refusal.{Refusal}
 use Rattle.pm_objects.specs.declared.refusal.Refusal.TheVariants as refusal
 use Rattle.pm_world.specs.declared.lane.Lane.{Lane}
 use Rattle.pm_world.specs.declared.lane.Span.{Span}
-use Rattle.pm_tx.proofs.Checked.{if_err, lock_or_end, looked_so, of_err}
+use Rattle.pm_tx.proofs.Checked.{if_err, lock_or_end, looked_old, looked_so, of_err}
 use Rattle.pm_tx.proofs.LearnsAtWork.{checked_so}
 use Rattle.pm_tx.specs.Learning.{HasChecked}
 use Rattle.pm_tx.specs.Ranges.{HasAddedRange, KnowsRange, StopsUndrawn, adds_range}
@@ -55,11 +55,11 @@ returns-in_err-do_add-clause-stops g c e o v work =
     ))
 
 pub returns-clause-done : goal.returns-clause-done
-returns-clause-done g c o v work =
-    looked_so o g.M.LaneMem.at c.check_words.new.lane v (λ w. KnowsRange w c.args.id c.args.off c.args.len true)
-    (λ w. KnowsRange w c.args.id c.args.off c.args.len true × HasAddedRange o g.M.LaneMem.at c.do_add.new.lane w c.args.lane.now.records.items c.args.id c.args.off c.args.len) (c.in_ok-check_words.ensures.ok o v work)
-    (λ w works can. (
+returns-clause-done g c o v work old =
+    looked_old o g.M.LaneMem.at c.check_words.new.lane v (λ w. KnowsRange w c.args.id c.args.off c.args.len true)
+    (λ w. KnowsRange w c.args.id c.args.off c.args.len true × HasAddedRange o g.M.LaneMem.at c.do_add.new.lane w c.args.lane.now.records.items c.args.id c.args.off c.args.len) c.args.id.off (c.in_ok-check_words.ensures.ok o v work) old
+    (λ w works still can. (
       can,
       subst (λ (spans : List Span). HasAddedRange o g.M.LaneMem.at c.do_add.new.lane w spans c.args.id c.args.off c.args.len) (ap (λ (lane : Lane g.row.M.Denot). lane.records.items) c.check_words.ensures.else_same)
-          (c.in_ok-do_add.ensures.done o w works can),
+          (c.in_ok-do_add.ensures.done o w works still can),
     ))

@@ -4,8 +4,8 @@ use Rattle.pm_tx.proofs.Committed.{committed, stopped_committing}
 use Rattle.pm_tx.proofs.committing.commit_outer.Goals as goal
 
 pub returns-in-Ok-clause-ended : goal.returns-in-Ok-clause-ended
-returns-in-Ok-clause-ended g c o v is outer =
-    committed g.M.LaneMem.at c.args.lane.now o v is outer _ c.in-Ok.ensures.ran (ap (λ (lane : Lane g.row.M.Denot). lane.locks.items) c.in-Ok.ensures.else_same) c.in-Ok.ensures.none c.in-Ok.ensures.unlisted c.in-Ok.ensures.drawn (record { pool = ap (λ (lane : Lane g.row.M.Denot). lane.pool) c.in-Ok.ensures.else_same; shape = ap (λ (lane : Lane g.row.M.Denot). lane.shape) c.in-Ok.ensures.else_same }) (ap (λ (lane : Lane g.row.M.Denot). lane.stopped) c.in-Ok.ensures.else_same)
+returns-in-Ok-clause-ended g c o v is keeps outer =
+    committed g.M.LaneMem.at c.args.lane.now o v is keeps outer _ c.in-Ok.ensures.ran (ap (λ (lane : Lane g.row.M.Denot). lane.locks.items) c.in-Ok.ensures.else_same) c.in-Ok.ensures.none c.in-Ok.ensures.unlisted c.in-Ok.ensures.drawn (record { pool = ap (λ (lane : Lane g.row.M.Denot). lane.pool) c.in-Ok.ensures.else_same; shape = ap (λ (lane : Lane g.row.M.Denot). lane.shape) c.in-Ok.ensures.else_same }) (ap (λ (lane : Lane g.row.M.Denot). lane.stopped) c.in-Ok.ensures.else_same)
 
 pub returns-in-Err-clause-stops : goal.returns-in-Err-clause-stops
-returns-in-Err-clause-stops g c o v is outer = stopped_committing g.M.LaneMem.at c.args.lane.now o v is outer _ c.in-Err.ensures.stops refl
+returns-in-Err-clause-stops g c o v is keeps outer = stopped_committing g.M.LaneMem.at c.args.lane.now o v is keeps outer _ c.in-Err.ensures.stops refl

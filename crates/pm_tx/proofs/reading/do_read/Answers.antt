@@ -46,11 +46,11 @@ returns-clause-made g c =
     (runs_made mid new step (subst (λ n. Made (g.M.LaneMem.at c.read_words.new.mem) (g.M.LaneMem.at c.tell_read.new.self) (Tell (Read c.args.id c.args.off n) (Some (Bytes c.read_words.new.into)))) c.read_words.ensures.as_long c.tell_read.ensures))
 
 pub returns-clause-done : goal.returns-clause-done
-returns-clause-done g c o v work can =
+returns-clause-done g c o v work old can =
     let first = reads_first o g.M.LaneMem.at c.args.lane.now v work c.args.id c.args.off (length c.args.into.now) can in
     let place : c.args.id.off ≡ 64 * can.range.object.lock.line + 64 = can.range.object.place in
     let even : c.args.id.off % 8 ≡ 0 = omega (arith, place) in
-    read_is_made o g.M.LaneMem.at c.args.lane.now v work c.args.id c.args.off (length c.args.into.now) can c.read_words.new.into
+    read_is_made o g.M.LaneMem.at c.args.lane.now v work c.args.id c.args.off (length c.args.into.now) can c.read_words.new.into old
     (told_is_seen v c.args.id c.args.off (length c.args.into.now) c.read_words.new.into even c.read_words.ensures.as_long (c.read_words.ensures.found v work.seen.memory first)) _
     (record { pool = refl; shape = refl; locks = refl; entries = refl; level = refl; stage = refl; error = refl; drawn = refl; last = refl; stopped = refl }) refl
     (subst (λ n. Made (g.M.LaneMem.at c.read_words.new.mem) (g.M.LaneMem.at c.tell_read.new.self) (Tell (Read c.args.id c.args.off n) (Some (Bytes c.read_words.new.into)))) c.read_words.ensures.as_long c.tell_read.ensures _

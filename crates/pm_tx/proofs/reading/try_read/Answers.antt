@@ -1,6 +1,6 @@
 use Rattle.std.proofs.Common.{◌≡◌, Err, length, false, rules}
 use Rattle.pm_objects.specs.declared.calls.Operation.TheVariants.{Read}
-use Rattle.pm_tx.proofs.Checked.{if_err, lock_or_end, looked_so, of_err}
+use Rattle.pm_tx.proofs.Checked.{if_err, lock_or_end, looked_old, of_err}
 use Rattle.pm_tx.specs.Ranges.{HasReadRange, KnowsRange}
 use Rattle.pm_tx.proofs.reading.try_read.Goals as goal
 
@@ -19,7 +19,7 @@ do_read-requires g c =
     record { may = (r.0, t.view, t.works, t.holds) }
 
 pub returns-clause-done : goal.returns-clause-done
-returns-clause-done g c o v work =
-    looked_so o g.M.LaneMem.at c.check_words.new.lane v (λ w. KnowsRange w c.args.id c.args.off (length c.args.into.now) false)
-    (λ w. KnowsRange w c.args.id c.args.off (length c.args.into.now) false × HasReadRange o g.M.LaneMem.at c.do_read.new.lane w c.args.id c.args.off (length c.args.into.now) c.do_read.new.into) (c.in_ok-check_words.ensures.ok o v work)
-    (λ w works can. (can, c.do_read.ensures.done o w works can))
+returns-clause-done g c o v work old =
+    looked_old o g.M.LaneMem.at c.check_words.new.lane v (λ w. KnowsRange w c.args.id c.args.off (length c.args.into.now) false)
+    (λ w. KnowsRange w c.args.id c.args.off (length c.args.into.now) false × HasReadRange o g.M.LaneMem.at c.do_read.new.lane w c.args.id c.args.off (length c.args.into.now) c.do_read.new.into) c.args.id.off (c.in_ok-check_words.ensures.ok o v work) old
+    (λ w works still can. (can, c.do_read.ensures.done o w works still can))

@@ -46,9 +46,9 @@ returns-clause-ran g c =
     c.in_ok-write_words.ensures (runs_made (g.M.LaneMem.at c.write_words.new.mem) (g.M.LaneMem.at c.tell_write.new.self) (Tell (Write c.args.id c.args.off c.args.bytes.now) None) c.tell_write.ensures)
 
 pub returns-clause-done : goal.returns-clause-done
-returns-clause-done g c o v work can =
+returns-clause-done g c o v work old can =
     let first = writes_first o g.M.LaneMem.at c.args.lane.now v work c.args.id c.args.off c.args.bytes.now can in
-    write_is_made o g.M.LaneMem.at c.args.lane.now v work c.args.id c.args.off c.args.bytes.now can (λ i. let e = c.type_inv.bytes i in omega (arith, e)) _
+    write_is_made o g.M.LaneMem.at c.args.lane.now v work c.args.id c.args.off c.args.bytes.now can old (λ i. let e = c.type_inv.bytes i in omega (arith, e)) _
     (record { pool = refl; shape = refl; locks = refl; entries = refl; level = refl; stage = refl; error = refl; drawn = refl; last = refl; stopped = refl }) refl
     (c.tell_write.ensures _ (was_made (g.M.LaneMem.at c.args.lane.now.memory) (g.M.LaneMem.at c.write_words.new.mem) (writes (c.args.id.off + c.args.off) c.args.bytes.now) tt c.in_ok-write_words.ensures v work.seen.memory first)).0
 

@@ -1,6 +1,6 @@
 use Rattle.std.proofs.Common.{◌≡◌, Err, length, refl, rules}
 use Rattle.pm_objects.specs.declared.calls.Operation.TheVariants.{Write}
-use Rattle.pm_tx.proofs.Checked.{if_err, lock_end_or_record, looked_so, of_err}
+use Rattle.pm_tx.proofs.Checked.{if_err, lock_end_or_record, looked_old, looked_so, of_err}
 use Rattle.pm_tx.specs.Ranges.{CanWrite, HasWrittenRange, StopsUndrawn, writes_range}
 use Rattle.pm_tx.proofs.writing.try_write.Goals as goal
 
@@ -24,7 +24,7 @@ returns-in-Err-clause-stops g c e o v work =
     (c.in_ok-check_write.ensures.ok o v work) (λ w works can. (can, c.in-Err.ensures.stops o w works can))
 
 pub returns-in-Ok-clause-done : goal.returns-in-Ok-clause-done
-returns-in-Ok-clause-done g c o v work =
-    looked_so o g.M.LaneMem.at c.check_write.new.lane v (λ w. CanWrite w c.args.id c.args.off (length c.args.bytes.now))
-    (λ w. CanWrite w c.args.id c.args.off (length c.args.bytes.now) × HasWrittenRange o g.M.LaneMem.at c.do_write.new.lane w c.args.id c.args.off c.args.bytes.now) (c.in_ok-check_write.ensures.ok o v work)
-    (λ w works can. (can, c.in-Ok.ensures.done o w works can))
+returns-in-Ok-clause-done g c o v work old =
+    looked_old o g.M.LaneMem.at c.check_write.new.lane v (λ w. CanWrite w c.args.id c.args.off (length c.args.bytes.now))
+    (λ w. CanWrite w c.args.id c.args.off (length c.args.bytes.now) × HasWrittenRange o g.M.LaneMem.at c.do_write.new.lane w c.args.id c.args.off c.args.bytes.now) c.args.id.off (c.in_ok-check_write.ensures.ok o v work) old
+    (λ w works still can. (can, c.in-Ok.ensures.done o w works still can))
