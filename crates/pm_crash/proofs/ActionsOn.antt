@@ -240,7 +240,7 @@ publish_refused v w tx refusal.NotLocked of finds unless (k, a, inside, at, unhe
     let found : is_new tx (object_of a).off ≡ false = tracks_new v tx of.tracks (object_of a).off ∙ subst (λ (x : Action). is_new_in v (object_of x).off ≡ false) at (of.found k a inside) in
     let unlocked : list_any (is_unlocked_action tx) tx.actions ≡ true =
     ap (list_any (is_unlocked_action tx)) of.actions
-    ∙ list_any-from_Any (is_unlocked_action tx) (pending_in v) (k, a, inside, at, lock_is_missing v tx (object_of a) true of.of_pool of.locks found unheld) in
+    ∙ list_any-from_Any (is_unlocked_action tx) (pending_in v) (k, a, inside, at, lock_is_missing v tx (object_of a) true of.of_pool of.locks (λ same. found) unheld) in
     record {
       refused_first =
           fails_lock tx Publish of.works (record { no_wants = refl; no_begin = refl; no_alloc = refl; no_free = refl }) refl

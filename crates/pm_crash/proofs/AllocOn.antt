@@ -23,7 +23,7 @@ use Rattle.pm_image.specs.Contents.{bytes_in, offset_in, size_in}
 use Rattle.pm_image.specs.declared.block.Block.{Block}
 use Rattle.pm_image.proofs.Members.{first_member, later_member}
 use Rattle.pm_model.specs.declared.stage.Stage.TheVariants as stage
-use Rattle.pm_model.specs.Actions.{Action, max_entries}
+use Rattle.pm_model.specs.Actions.{max_entries}
 use Rattle.pm_model.specs.Answers.{Answers, IsBeside, IsDone, IsNewPlace, IsRefused, after_reply}
 use Rattle.pm_model.specs.Bytes.{is_among}
 use Rattle.pm_model.specs.Checks.{first_refusal}
@@ -40,14 +40,15 @@ use Rattle.pm_crash.specs.CallBlocks.{CallBlocks, IsMadeIn, MayPrecede, NewObjec
 use Rattle.pm_crash.specs.Held.{HoldsPool, object_of}
 use Rattle.pm_crash.specs.HeapChanges.{AreDisjoint}
 use Rattle.pm_crash.specs.OpenCall.{ComesTo, HasMade, IsChanged, IsUnderWay, LieApart, TracksBlocks, block_at_line, call_words, place_and_size, words_recorded}
-use Rattle.pm_crash.specs.Operations.{AllocatesObject}
-use Rattle.pm_crash.specs.Pending.{published_in}
+use Rattle.pm_crash.specs.Operations.{AllocatesObject, entries_so_far}
 use Rattle.pm_crash.specs.Performing.{CanPerform}
 use Rattle.pm_crash.proofs.CallBlocks.{SameNew, allocated_once_more, blocks_once_more, made_stays, object_stays}
-use Rattle.pm_crash.proofs.CallWords.{call_works, locks_kept, same_lanes, same_zones}
+use Rattle.pm_crash.proofs.CallWords.{as_many_entries, call_works, locks_kept, same_lanes, same_zones}
 use Rattle.pm_crash.proofs.Continued.{known_new, still_under_way, two_same, Continues, GoesBack}
 use Rattle.pm_crash.proofs.KeptWords.{known_back, same_found, same_known_words, under_kept}
+use Rattle.pm_crash.proofs.ManyObjects.{AreOnce}
 use Rattle.pm_crash.proofs.ObjectsOfBlocks.{block_is_there, object_is_there}
+use Rattle.pm_crash.proofs.OnceMade.{once_more}
 use Rattle.pm_crash.proofs.Passing.{no_tx, no_work, not_busy, not_missing, not_spent, unhindered, Works}
 
 -- ---- objects of a list in rising offsets
@@ -62,7 +63,7 @@ first_is_least a (x ∷ xs) (suc k) rising inside =
     omega (arith, first, later)
 
 -- so at its offset each stands
-stands_there : (objects : Objects) (k : ℕ) (d : ℕ × Object) → IsStrictlyIncreasing (offsets objects) → k < length objects → object_at objects (get_or objects k d).0 ≡ Some (get_or objects k d).1
+pub stands_there : (objects : Objects) (k : ℕ) (d : ℕ × Object) → IsStrictlyIncreasing (offsets objects) → k < length objects → object_at objects (get_or objects k d).0 ≡ Some (get_or objects k d).1
 stands_there [] k d rising inside = absurd (omega (arith, inside))
 stands_there (e ∷ es) zero d rising inside = ap (λ (b : Bool). cond b (Some e.1) (object_at es e.0)) (eq-eqb e.0 e.0 refl)
 stands_there (e ∷ es) (suc k) d rising inside =
@@ -162,23 +163,18 @@ module _ (v next : View) (n : NewObject) (level : ℕ) (some_level : 1 ≤ level
       (made_cases k too))
       (made_cases m there)
 
-  once : (m k : NewObject) → Contains (blocks_in next).made m → Contains (blocks_in next).made k → m.off ≡ k.off → m ≡ k
-  once m k there too same_off = ⊎_elim
-      (λ (before : Contains (blocks_in v).made m). ⊎_elim
-      (λ (also : Contains (blocks_in v).made k). under_way.has.once m k before also same_off)
-      (λ (same : k ≡ n). absurd (elsewhere m before (same_off ∙ ap (λ (x : NewObject). x.off) same)))
-      (made_cases k too))
-      (λ (same : m ≡ n). ⊎_elim
-      (λ (before : Contains (blocks_in v).made k). absurd (elsewhere k before (sym same_off ∙ ap (λ (x : NewObject). x.off) same)))
-      (λ (also : k ≡ n). same ∙ sym also)
-      (made_cases k too))
-      (made_cases m there)
-
   -- nothing that is gone was where it stands
   gone_not : is_gone_in v n.off ≡ false
   gone_not = or_from (is_freed_in v n.off) (list_any (is_at n.off) (blocks_in v).dropped) alloc.unfreed (false_from_ne_true (list_any (is_at n.off) (blocks_in v).dropped) (λ dropped.
       let t = Any-from_list_any (is_at n.off) (blocks_in v).dropped dropped in
       apart_offsets n t.1 alloc.made.behind (alloc.apart_made t.1 (Contains-append_right (blocks_in v).made (blocks_in v).dropped t.1 (t.0, t.2, t.3))) (eqb-true t.1.off n.off t.4)))
+
+  -- where it stands no object was made before
+  not_made_there : is_made_in v n.off ≡ false
+  not_made_there = false_from_ne_true (is_made_in v n.off) (λ made.
+      let t = Any-from_list_any (is_at n.off) (blocks_in v).made made in
+      let there : Contains (blocks_in v).made t.1 = (t.0, t.2, t.3) in
+      apart_offsets n t.1 alloc.made.behind (alloc.apart_made t.1 (Contains-append_left (blocks_in v).made (blocks_in v).dropped t.1 there)) (eqb-true t.1.off n.off t.4))
 
   has : HasMade next
   has = record {
@@ -191,7 +187,7 @@ module _ (v next : View) (n : NewObject) (level : ℕ) (some_level : 1 ≤ level
         (λ (before : Contains (blocks_in v).made m). under_way.has.kept m before)
         (λ (same : m ≡ n). ap (λ (x : NewObject). is_gone_in v x.off) same ∙ gone_not)
         (made_cases m there);
-    once = once;
+    once = subst (λ (b : CallBlocks). AreOnce b.made) (sym blocks_now) (once_more (blocks_in v).made n under_way.has.once not_made_there);
     apart_new = apart_new;
     apart_found = apart;
   }
@@ -203,13 +199,6 @@ module _ (v next : View) (n : NewObject) (level : ℕ) (some_level : 1 ≤ level
     before = λ w header pool holds room. known_back v next alloc.tells.keeps (same_found v next alloc.tells.locks) alloc.logs.records (λ i known outside none. alloc.keeps.known i outside known) w;
     entries = alloc.logs.entries;
   }
-
-  -- where it stands no object was made before
-  not_made_there : is_made_in v n.off ≡ false
-  not_made_there = false_from_ne_true (is_made_in v n.off) (λ made.
-      let t = Any-from_list_any (is_at n.off) (blocks_in v).made made in
-      let there : Contains (blocks_in v).made t.1 = (t.0, t.2, t.3) in
-      apart_offsets n t.1 alloc.made.behind (alloc.apart_made t.1 (Contains-append_left (blocks_in v).made (blocks_in v).dropped t.1 there)) (eqb-true t.1.off n.off t.4))
 
   module _ (w : ℕ → ℕ) (header : Header) (pool : PoolView) (holds : HoldsPool w v.lanes v.zones header pool) (may : MayPrecede pool next) (c : ComesTo v w header pool level stage.Work error.None) where
     -- no object of the pool before the call stands in its way
@@ -276,11 +265,9 @@ module _ (v next : View) (n : NewObject) (level : ℕ) (some_level : 1 ≤ level
         let works : Works c.tx = call_works v w header pool level some_level under_way c in
         let some = alloc.some in let most = alloc.most in
         let sized : (eqb n.size 0 || ltb 262080 n.size) ≡ false = or_from (eqb n.size 0) (ltb 262080 n.size) (ne_eqb n.size 0 (λ none. omega (arith, some, none))) (le-ltb 262080 n.size (omega (arith, most))) in
-        let moved : length c.tx.moved ≡ length (published_in v) = ap (λ (actions : List Action). length actions) c.moved in
-        let made : length c.tx.made ≡ length (blocks_in v).made = ap (λ (offs : List ℕ). length offs) c.tracks.made ∙ length-map (blocks_in v).made (λ (m : NewObject). m.off) in
-        let freed : length c.tx.freed ≡ length (blocks_in v).freed = ap (λ (offs : List ℕ). length offs) c.tracks.freed in
         let enough = alloc.room in
-        let roomy : ltb max_entries (entries_of c.tx + 2) ≡ false = le-ltb max_entries (entries_of c.tx + 2) (omega (arith, moved, made, freed, enough)) in
+        let entries : entries_of c.tx ≡ entries_so_far v = as_many_entries v w header pool level c in
+        let roomy : ltb max_entries (entries_of c.tx + 2) ≡ false = le-ltb max_entries (entries_of c.tx + 2) (omega (arith, entries, enough)) in
         (λ j. option_map (λ (check : Refusal × Bool). check.0) (find (λ (check : Refusal × Bool). check.1)
         ((refusal.NotWork, no_work c.tx works j)
         ∷ (refusal.NoTx, no_tx c.tx (Alloc n.size n.kind) works j)

@@ -1,7 +1,7 @@
 -- A call that has begun with the locks that it wanted is the model's transaction at its first level.
 use Rattle.std.proofs.Common.{◌≡◌, ℕ, ◌≤◌, ◌||◌, Bool, true, false, not, eqb, ltb, cond, List, [], ◌∷◌, length, map, get_or, slice_index, Option, None, MatchOption, refl, sym, ◌∙◌, ap, subst, arith}
 use Rattle.std.specs.Prelude.{IsSome}
-use Rattle.std.specs.List.{All, Contains, filter, find, flat_map, list_any}
+use Rattle.std.specs.List.{All, Contains, IsDistinct, filter, find, flat_map, list_any}
 use Rattle.std.specs.List.Sorted.{IsStrictlyIncreasing}
 use Rattle.std.specs.Option.{option_map}
 use Rattle.std.proofs.lemmas.Bool.{and_from, and_right, cond-true, eq-eqb, false≢true, le-ltb, or_from}
@@ -38,6 +38,7 @@ use Rattle.pm_crash.specs.OpenCall.{HasMade, IsBefore, IsChanged, IsOpen, IsUnde
 use Rattle.pm_crash.specs.Pending.{pending_before, told_of}
 use Rattle.pm_crash.specs.Performing.{CanPerform}
 use Rattle.pm_crash.specs.Operations.{BeginsCall, IsHeld, IsWantHeld}
+use Rattle.pm_crash.proofs.ManyObjects.{AreOnce}
 use Rattle.pm_crash.proofs.ObjectsOfBlocks.{object_is_there, objects_rise}
 use Rattle.pm_crash.proofs.CallBlocks.{first_agrees, none_made}
 use Rattle.pm_crash.proofs.Passing.{none_named, unhindered}
@@ -144,13 +145,17 @@ changed_none v pool rising keeps = record {
 pub unfound_none : (v : View) (objects : Objects) → KeepsBlocks v → (off : ℕ) → is_new_in v off ≡ true → object_at objects off ≡ None
 unfound_none v objects keeps off new = absurd (false≢true (sym (ap (λ (b : CallBlocks). list_any (is_at off) b.made || list_any (is_at off) b.dropped) keeps.blocks) ∙ new))
 
+none_once : AreOnce []
+unfolding IsDistinct
+none_once = tt
+
 -- nothing that it made is wanting
 pub has_none : (v : View) → KeepsBlocks v → HasMade v
 has_none v keeps = record {
   each = λ n there. none_made v keeps n there;
   listed = λ n there. none_made v keeps n there;
   kept = λ n there. none_made v keeps n there;
-  once = λ n m there too same. none_made v keeps n there;
+  once = subst (λ (b : CallBlocks). AreOnce b.made) (sym keeps.blocks) none_once;
   apart_new = λ n m there too differ. none_made v keeps n there;
   apart_found = λ n l lines there held found. none_made v keeps n there;
 }

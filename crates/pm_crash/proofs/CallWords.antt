@@ -15,7 +15,8 @@ use Rattle.pm_image.specs.Blocks.{blocks}
 use Rattle.pm_image.specs.Contents.{bytes_in, offset_in, size_in}
 use Rattle.pm_image.proofs.Members.{member_cases, no_member}
 use Rattle.pm_model.specs.declared.stage.Stage.TheVariants as stage
-use Rattle.pm_model.specs.Transaction.{Transaction, holds_object, is_gone, is_locked, is_new}
+use Rattle.pm_model.specs.Transaction.{Transaction, entries_of, holds_object, is_gone, is_locked, is_new}
+use Rattle.pm_model.specs.Actions.{Action}
 use Rattle.pm_model.specs.Bytes.{bytes_of, covered_words}
 use Rattle.pm_model.specs.Checks.{is_not_held}
 use Rattle.pm_view.specs.Area.{area_word, is_in_area}
@@ -24,11 +25,12 @@ use Rattle.pm_view.specs.Log.{Final}
 use Rattle.pm_view.specs.View.{View, Lock}
 use Rattle.pm_world.specs.History.{made_final}
 use Rattle.pm_world.specs.Records.{is_recorded}
-use Rattle.pm_crash.specs.CallBlocks.{IsOldIn, blocks_in}
+use Rattle.pm_crash.specs.CallBlocks.{IsOldIn, NewObject, blocks_in}
 use Rattle.pm_crash.specs.Locks.{AreSameLocks}
 use Rattle.pm_crash.specs.Held.{HoldsPool}
 use Rattle.pm_crash.specs.OpenCall.{IsBefore, call_words, ComesTo, IsChanged, IsUnderWay, LiesInBlock, TracksBlocks, lock_of, locks_of, block_at_line, made_words}
-use Rattle.pm_crash.specs.Operations.{IsHeld}
+use Rattle.pm_crash.specs.Operations.{IsHeld, entries_so_far}
+use Rattle.pm_crash.specs.Pending.{published_in}
 use Rattle.pm_crash.proofs.Covered.{covered_has_byte}
 use Rattle.pm_crash.proofs.Apart.{lines_of_block}
 use Rattle.pm_crash.proofs.ObjectsOfBlocks.{object_is_there}
@@ -177,3 +179,11 @@ same_lanes v w header base tx holds changed = ap (λ (p : PoolView). p.lanes) ch
 
 pub same_zones : (v : View) (w : ℕ → ℕ) (header : Header) (base : PoolView) (tx : Transaction) → HoldsPool (call_words v w) v.lanes v.zones header base → IsChanged v base tx.pool → tx.pool.zones ≡ v.zones
 same_zones v w header base tx holds changed = ap (λ (p : PoolView). p.zones) changed.fixed ∙ ap (λ (p : PoolView). p.zones) holds.is_pool
+
+-- the transaction's entries are those of the call
+pub as_many_entries : (v : View) (w : ℕ → ℕ) (header : Header) (pool : PoolView) (level : ℕ) → (c : ComesTo v w header pool level stage.Work error.None) → entries_of c.tx ≡ entries_so_far v
+as_many_entries v w header pool level c =
+    let moved : length c.tx.moved ≡ length (published_in v) = ap (λ (actions : List Action). length actions) c.moved in
+    let made : length c.tx.made ≡ length (blocks_in v).made = ap (λ (offs : List ℕ). length offs) c.tracks.made ∙ length-map (blocks_in v).made (λ (n : NewObject). n.off) in
+    let freed : length c.tx.freed ≡ length (blocks_in v).freed = ap (λ (offs : List ℕ). length offs) c.tracks.freed in
+    omega (arith, moved, made, freed)

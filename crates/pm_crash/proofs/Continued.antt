@@ -1,7 +1,7 @@
 -- A call goes on by an operation that is told, if the model's transaction goes on so and the words made so far are those of its pool.
 use Rattle.std.proofs.Common.{◌≡◌, ℕ, ◌<◌, ◌≤◌, ◌/◌, ◌||◌, true, false, List, [], ◌∷◌, ◌++◌, length, map, Option, None, MatchOption, sym, ◌∙◌, ap, subst, arith}
-use Rattle.std.specs.Prelude.{IsTrue, IsSome}
-use Rattle.std.specs.List.{All, Contains, list_any}
+use Rattle.std.specs.Prelude.{IsTrue, IsSome, nat_eq}
+use Rattle.std.specs.List.{All, Contains, IsDistinct, list_any}
 use Rattle.std.proofs.lemmas.List.{map-append}
 use Rattle.std.proofs.lemmas.List.Elements.{All-append, All-nil, Contains-append_left}
 use Rattle.pm_header.specs.declared.header.Header.{Header}
@@ -121,7 +121,7 @@ left_has v next leaves lane listed apart has = record {
   each = λ n there. made_stays v next n lane.lane lane.known (leaves.same n (before n there)) (has.each n (before n there));
   listed = λ n there. listed n (has.listed n (before n there));
   kept = λ n there. ap (λ (b : CallBlocks). is_among b.freed n.off || list_any (is_at n.off) b.dropped) leaves.blocks ∙ has.kept n (before n there);
-  once = λ n m there too same. has.once n m (before n there) (before m too) same;
+  once = subst (λ (b : CallBlocks). IsDistinct nat_eq (map (λ (n : NewObject). n.off) b.made)) (sym leaves.blocks) has.once;
   apart_new = λ n m there too differ. has.apart_new n m (before n there) (before m too) differ;
   apart_found = apart;
 } where

@@ -86,13 +86,13 @@ outside_taken_back v next lane back outside i is = ⊎_elim
     back.records
 
 -- the operations on ranges ask for no lock, and are known
-ranged_asks : (op : Operation) (range : Range) → range_of op ≡ Some range → AsksNoLock op
+pub ranged_asks : (op : Operation) (range : Range) → range_of op ≡ Some range → AsksNoLock op
 ranged_asks (AddRange id off len) range is = record { no_wants = refl; no_begin = refl; no_alloc = refl; no_free = refl; aligned = refl; no_more = λ tx. refl; no_action = refl }
 ranged_asks (Write id off bytes) range is = record { no_wants = refl; no_begin = refl; no_alloc = refl; no_free = refl; aligned = refl; no_more = λ tx. refl; no_action = refl }
 ranged_asks (Read id off len) range is = record { no_wants = refl; no_begin = refl; no_alloc = refl; no_free = refl; aligned = refl; no_more = λ tx. refl; no_action = refl }
 ranged_asks op range is = absurd cc
 
-ranged_known : (op : Operation) (range : Range) → range_of op ≡ Some range → is_known op ≡ true
+pub ranged_known : (op : Operation) (range : Range) → range_of op ≡ Some range → is_known op ≡ true
 ranged_known (AddRange id off len) range is = refl
 ranged_known (Write id off bytes) range is = refl
 ranged_known (Read id off len) range is = refl
@@ -109,12 +109,12 @@ record_is_no_write (Write id off bytes) is = absurd (false≢true is)
 record_is_no_write op is = refl
 
 -- the checks of an operation on a range
-lock_check : (tx : Transaction) (op : Operation) (range : Range) → range_of op ≡ Some range → is_not_locked tx op ≡ is_lock_missing tx (needs_write op) range
+pub lock_check : (tx : Transaction) (op : Operation) (range : Range) → range_of op ≡ Some range → is_not_locked tx op ≡ is_lock_missing tx (needs_write op) range
 lock_check tx op range is = ap (λ (b : Bool). (b && list_any (is_unlocked_action tx) tx.actions) || frees_unlocked tx op || option_map_or (is_lock_missing tx (needs_write op)) (range_of op) false) (ranged_publishes_none op range is)
     ∙ ap (λ (b : Bool). b || option_map_or (is_lock_missing tx (needs_write op)) (range_of op) false) (frees_none_unlocked tx op (ranged_asks op range is).no_free)
     ∙ ap (λ (r : Option Range). option_map_or (is_lock_missing tx (needs_write op)) r false) is
 
-end_check : (tx : Transaction) (op : Operation) (range : Range) → range_of op ≡ Some range → passes_end tx op ≡ passes_end_of tx range
+pub end_check : (tx : Transaction) (op : Operation) (range : Range) → range_of op ≡ Some range → passes_end tx op ≡ passes_end_of tx range
 end_check tx op range is = ap (λ (b : Bool). (b && list_any (passes_object tx.pool.objects) tx.actions) || option_map_or (passes_end_of tx) (range_of op) false) (ranged_publishes_none op range is)
     ∙ ap (λ (r : Option Range). option_map_or (passes_end_of tx) r false) is
 
@@ -133,13 +133,13 @@ not_all words (y ∷ xs) x there none = ⊎_elim
     (member_cases y xs x there)
 
 -- the object that is named is the range's
-ranged_named : (tx : Transaction) (op : Operation) (range : Range) → range_of op ≡ Some range → objects_named tx op ≡ range.id.off ∷ []
+pub ranged_named : (tx : Transaction) (op : Operation) (range : Range) → range_of op ≡ Some range → objects_named tx op ≡ range.id.off ∷ []
 ranged_named tx (AddRange id off len) range is = ap (λ (r : Option Range). option_map_or (λ (x : Range). x.id.off ∷ []) r []) is
 ranged_named tx (Write id off bytes) range is = ap (λ (r : Option Range). option_map_or (λ (x : Range). x.id.off ∷ []) r []) is
 ranged_named tx (Read id off len) range is = ap (λ (r : Option Range). option_map_or (λ (x : Range). x.id.off ∷ []) r []) is
 ranged_named tx op range is = absurd cc
 
--- the transaction of the open call, and what it finds of a range of an object that the call did not make
+-- the transaction of the open call, and what it finds of a range of an object of its pool that the call did not make
 record Asked (v : View) (w : ℕ → ℕ) (header : Header) (op : Operation) (range : Range) (tx : Transaction) : Type 0 where
   works : Works tx
   is_range : range_of op ≡ Some range
@@ -148,14 +148,15 @@ record Asked (v : View) (w : ℕ → ℕ) (header : Header) (op : Operation) (ra
   recorded : tx.recorded ≡ words_recorded v.log.records
   records : tx.records ≡ length v.log.records
   tracks : TracksBlocks tx (blocks_in v)
-  found : is_new_in v range.id.off ≡ false
+  found : range.id.pool ≡ v.pool → is_new_in v range.id.off ≡ false
   long : (write : Bool) → (held : IsHeld v range.id write) → Contains v.known (8 * held.lock.line + 1) → is_freed_in v range.id.off ≡ false → length (bytes_of tx.pool.objects range.id.off) ≡ slice_index v.words (8 * held.lock.line + 1)
 
 asked_lock : (v : View) (w : ℕ → ℕ) (header : Header) (op : Operation) (range : Range) (tx : Transaction) → Asked v w header op range tx → IsHeld v range.id (needs_write op) → is_not_locked tx op ≡ false
 asked_lock v w header op range tx asked held = lock_check tx op range asked.is_range ∙ held_is_locked v range.id (needs_write op) tx held asked.locks asked.of_pool
 
-asked_kept : (v : View) (w : ℕ → ℕ) (header : Header) (op : Operation) (range : Range) (tx : Transaction) → Asked v w header op range tx → is_freed_in v range.id.off ≡ false → names_gone tx op ≡ false
-asked_kept v w header op range tx asked kept = ap (list_any (is_gone tx)) (ranged_named tx op range asked.is_range) ∙ one_is_kept v tx asked.tracks range.id.off (record { found = asked.found; kept = kept })
+asked_kept : (v : View) (w : ℕ → ℕ) (header : Header) (op : Operation) (range : Range) (tx : Transaction) → Asked v w header op range tx → range.id.pool ≡ v.pool → is_freed_in v range.id.off ≡ false
+    → names_gone tx op ≡ false
+asked_kept v w header op range tx asked same kept = ap (list_any (is_gone tx)) (ranged_named tx op range asked.is_range) ∙ one_is_kept v tx asked.tracks range.id.off (record { found = asked.found same; kept = kept })
 
 asked_end : (v : View) (w : ℕ → ℕ) (header : Header) (op : Operation) (range : Range) (tx : Transaction) → Asked v w header op range tx → HasRange v range.id range.off range.len (needs_write op)
     → is_freed_in v range.id.off ≡ false → passes_end tx op ≡ false
@@ -169,10 +170,10 @@ pub record IsRefusedFor (tx : Transaction) (op : Operation) (r : Refusal) : Type
   pub refused_first : first_refusal unhindered tx op ≡ Some r
   pub traced : changes_nothing r ≡ false
 
-pub lock_is_missing : (v : View) (tx : Transaction) (id : Oid) (write : Bool) → tx.pool.id ≡ v.pool → AreSameLocks tx.locks (locks_of v) → is_new tx id.off ≡ false → IsNotHeld v id write → is_not_held tx write id ≡ true
+pub lock_is_missing : (v : View) (tx : Transaction) (id : Oid) (write : Bool) → tx.pool.id ≡ v.pool → AreSameLocks tx.locks (locks_of v) → (id.pool ≡ v.pool → is_new tx id.off ≡ false) → IsNotHeld v id write → is_not_held tx write id ≡ true
 lock_is_missing v tx id write of_pool locks found unheld =
     ap not (⊎_elim
-    (λ (same : id.pool ≡ tx.pool.id). and_right (eqb id.pool tx.pool.id) (holds_object tx id.off write) (or_from (is_new tx id.off) (is_locked tx.locks id.off write) found (locks.same id.off write ∙ unheld (same ∙ of_pool))))
+    (λ (same : id.pool ≡ tx.pool.id). and_right (eqb id.pool tx.pool.id) (holds_object tx id.off write) (or_from (is_new tx id.off) (is_locked tx.locks id.off write) (found (same ∙ of_pool)) (locks.same id.off write ∙ unheld (same ∙ of_pool))))
     (λ (other : id.pool ≢ tx.pool.id). and_left (eqb id.pool tx.pool.id) (holds_object tx id.off write) (ne_eqb id.pool tx.pool.id other))
     (cases_eq id.pool tx.pool.id))
 
@@ -182,7 +183,7 @@ by_reason : (v : View) (w : ℕ → ℕ) (header : Header) (op : Operation) (ran
 by_reason v w header op range tx refusal.NotLocked asked unless reason = record {
   refused_first =
       fails_lock tx op asked.works (wants_none op (ranged_asks op range asked.is_range)) (ranged_asks op range asked.is_range).aligned
-      (lock_check tx op range asked.is_range ∙ lock_is_missing v tx range.id (needs_write op) asked.of_pool asked.locks (tracks_new v tx asked.tracks range.id.off ∙ asked.found) reason);
+      (lock_check tx op range asked.is_range ∙ lock_is_missing v tx range.id (needs_write op) asked.of_pool asked.locks (λ same. tracks_new v tx asked.tracks range.id.off ∙ asked.found same) reason);
   traced = refl;
 }
 by_reason v w header op range tx refusal.OutOfRange asked unless reason =
@@ -191,7 +192,7 @@ by_reason v w header op range tx refusal.OutOfRange asked unless reason =
     let outside : slice_index v.words (8 * reason.object.lock.line + 1) < range.off + range.len = reason.outside in
     record {
       refused_first =
-          fails_end tx op asked.works (ranged_asks op range asked.is_range) (asked_kept v w header op range tx asked kept) (asked_lock v w header op range tx asked reason.object)
+          fails_end tx op asked.works (ranged_asks op range asked.is_range) (asked_kept v w header op range tx asked reason.object.of_pool kept) (asked_lock v w header op range tx asked reason.object)
           (end_check tx op range asked.is_range ∙ lt-ltb (length (bytes_of tx.pool.objects range.id.off)) (range.off + range.len) (omega arith));
       traced = refl;
     }
@@ -199,10 +200,10 @@ by_reason v w header op range tx refusal.NotAdded asked unless reason =
     let kept : is_freed_in v range.id.off ≡ false = unless (λ same. absurd cc) in
     let missing : IsNotAdded v range.id range.off range.len (needs_write op) = reason.1 in
     let none : is_among tx.recorded missing.word ≡ false = ap (λ (ws : List ℕ). is_among ws missing.word) asked.recorded ∙ among_recorded v.log.records missing.word ∙ missing.unrecorded in
-    let old : not (is_new tx range.id.off) ≡ true = ap not (tracks_new v tx asked.tracks range.id.off ∙ asked.found) in
+    let old : not (is_new tx range.id.off) ≡ true = ap not (tracks_new v tx asked.tracks range.id.off ∙ asked.found missing.range.object.of_pool) in
     record {
       refused_first =
-          fails_added tx op asked.works (ranged_asks op range asked.is_range) (asked_kept v w header op range tx asked kept) (asked_lock v w header op range tx asked missing.range.object) (asked_end v w header op range tx asked missing.range kept)
+          fails_added tx op asked.works (ranged_asks op range asked.is_range) (asked_kept v w header op range tx asked missing.range.object.of_pool kept) (asked_lock v w header op range tx asked missing.range.object) (asked_end v w header op range tx asked missing.range kept)
           (added_check tx op range asked.is_range ∙ and_from (is_write op) (has_unrecorded tx range) reason.0
           (and_from (not (is_new tx range.id.off)) (not (list_all (is_among tx.recorded) (words_in range))) old (ap not (not_all tx.recorded (words_in range) missing.word missing.written none))));
       traced = refl;
@@ -214,10 +215,10 @@ by_reason v w header op range tx refusal.LogFull asked unless reason =
     let number : length (records_of (new_words tx.recorded (words_in range))) ≡ length (records_of (new_words (words_recorded v.log.records) (words_in range))) =
     ap (λ (ws : List ℕ). length (records_of (new_words ws (words_in range)))) asked.recorded in
     let over : 64 < length v.log.records + length (records_of (new_words (words_recorded v.log.records) (words_in range))) = full.overfull in
-    let old : not (is_new tx range.id.off) ≡ true = ap not (tracks_new v tx asked.tracks range.id.off ∙ asked.found) in
+    let old : not (is_new tx range.id.off) ≡ true = ap not (tracks_new v tx asked.tracks range.id.off ∙ asked.found full.range.object.of_pool) in
     record {
       refused_first =
-          fails_room tx op asked.works (ranged_asks op range asked.is_range) (asked_kept v w header op range tx asked kept) (asked_lock v w header op range tx asked full.range.object) (asked_end v w header op range tx asked full.range kept)
+          fails_room tx op asked.works (ranged_asks op range asked.is_range) (asked_kept v w header op range tx asked full.range.object.of_pool kept) (asked_lock v w header op range tx asked full.range.object) (asked_end v w header op range tx asked full.range kept)
           (added_check tx op range asked.is_range ∙ and_left (is_write op) (has_unrecorded tx range) (record_is_no_write op reason.0))
           (room_check tx op range asked.is_range
           ∙ and_from (is_record op) (overfills tx range) reason.0
@@ -251,13 +252,13 @@ comes_to_nothing v next op reply level e w header pool entries kept call c answe
       unchanged = ap (λ (x : Transaction). x.pool) aborts ∙ c.before;
     }
 
--- so a call is aborted by such an operation
-pub aborts_call : (v next : View) (op : Operation) (reply : Option Value) (level : ℕ) (e : TxErr) → IsUnderWay v level stage.Work error.None → KeepsLane v next → KeepsFound v next
+-- so a call is aborted by such an operation, whatever pool may precede it
+pub aborts_from : (v next : View) (op : Operation) (reply : Option Value) (level : ℕ) (e : TxErr) → IsUnderWay v level stage.Work error.None → KeepsLane v next → KeepsFound v next
     → ((actions : List Action) → pending_behind op reply actions ≡ actions) → next.call ≡ v.call ++ record { operation = op; reply = reply } ∷ [] → TakesBack v next
-    → ((w : ℕ → ℕ) (header : Header) (pool : PoolView) → v.pool ≡ header.id → IsBefore v w → (c : ComesTo v w header pool level stage.Work error.None)
+    → ((w : ℕ → ℕ) (header : Header) (pool : PoolView) → HoldsPool w v.lanes v.zones header pool → v.pool ≡ header.id → IsBefore v w → MayPrecede pool next → (c : ComesTo v w header pool level stage.Work error.None)
     → Answers c.tx op reply × (after_reply op reply c.tx ≡ aborted e c.tx))
     → WasAborted next e
-aborts_call v next op reply level e under_way lane finds kept call back aborts = record {
+aborts_from v next op reply level e under_way lane finds kept call back aborts = record {
   outside = outside_taken_back v next lane back under_way.outside;
   under = under_taken_back v next finds back under_way.under;
   comes = λ w header pool holds id before room.
@@ -265,13 +266,21 @@ aborts_call v next op reply level e under_way lane finds kept call back aborts =
       let old_before : IsBefore v w = taken_back v next lane finds back under_way.outside under_way.under w before in
       let old_holds : HoldsPool w v.lanes v.zones header pool = two_same (λ (n m : ℕ). HoldsPool w n m header pool) next.lanes v.lanes next.zones v.zones lane.lanes lane.zones holds in
       let c : ComesTo v w header pool level stage.Work error.None = under_way.comes w header pool old_holds old_id old_before (may_before v next op reply call pool room) in
-      let how = aborts w header pool old_id old_before c in
+      let how = aborts w header pool old_holds old_id old_before room c in
       comes_to_nothing v next op reply level e w header pool lane.entries kept call c how.0 how.1;
 }
 
--- the range is of an object that the call did not make; and did not free, unless its lock is missing
+pub aborts_call : (v next : View) (op : Operation) (reply : Option Value) (level : ℕ) (e : TxErr) → IsUnderWay v level stage.Work error.None → KeepsLane v next → KeepsFound v next
+    → ((actions : List Action) → pending_behind op reply actions ≡ actions) → next.call ≡ v.call ++ record { operation = op; reply = reply } ∷ [] → TakesBack v next
+    → ((w : ℕ → ℕ) (header : Header) (pool : PoolView) → v.pool ≡ header.id → IsBefore v w → (c : ComesTo v w header pool level stage.Work error.None)
+    → Answers c.tx op reply × (after_reply op reply c.tx ≡ aborted e c.tx))
+    → WasAborted next e
+aborts_call v next op reply level e under_way lane finds kept call back aborts =
+    aborts_from v next op reply level e under_way lane finds kept call back (λ w header pool holds same_id before may c. aborts w header pool same_id before c)
+
+-- the range is of no object of the pool that the call made; nor of one that it freed, unless its lock is missing
 pub refusal_aborts : (v next : View) (op : Operation) (range : Range) (r : Refusal) (level : ℕ) → 1 ≤ level → IsUnderWay v level stage.Work error.None → Refuses v next op range r
-    → is_new_in v range.id.off ≡ false → (r ≢ refusal.NotLocked → is_freed_in v range.id.off ≡ false) → WasAborted next (error.Refused r)
+    → (range.id.pool ≡ v.pool → is_new_in v range.id.off ≡ false) → (r ≢ refusal.NotLocked → is_freed_in v range.id.off ≡ false) → WasAborted next (error.Refused r)
 refusal_aborts v next op range r level some under_way refuses found unless =
     aborts_call v next op (Some (Refused r)) level (error.Refused r) under_way refuses.tells.keeps (same_found v next refuses.tells.locks) (λ actions. refl) refuses.tells.call refuses.takes_back
     (λ w header pool same_id before c.
@@ -284,7 +293,7 @@ refusal_aborts v next op range r level some under_way refuses found unless =
       records = c.records;
       tracks = c.tracks;
       found = found;
-      long = λ write held size_known kept. (object_under v w header pool level range.id write under_way before c held size_known (record { found = found; kept = kept })).long;
+      long = λ write held size_known kept. (object_under v w header pool level range.id write under_way before c held size_known (record { found = found held.of_pool; kept = kept })).long;
     } in
     let is : IsRefusedFor c.tx op r = by_reason v w header op range c.tx r asked unless refuses.reason in (
       refused_answers c.tx op r (ranged_known op range refuses.is_range) is,
@@ -348,7 +357,7 @@ pub refusal_gives_up : (v next : View) (op : Operation) (range : Range) (r : Ref
 refusal_gives_up v next op range r level some is_open refuses =
     let old : IsOldIn v range.id.off = old_of_none v is_open.keeps range.id.off in
     gives_up v next op (Some (Refused r)) (ranged_allocates_none op range (Some (Refused r)) refuses.is_range) (ranged_tells_no_root op range (Some (Refused r)) refuses.is_range) refuses.tells.call is_open.keeps (error.Refused r)
-    (refusal_aborts v next op range r level some is_open.under_way refuses old.found (λ other. old.kept))
+    (refusal_aborts v next op range r level some is_open.under_way refuses (λ same. old.found) (λ other. old.kept))
 
 pub abort_gives_up : (v next : View) (errnum level : ℕ) → 1 ≤ level → IsOpen v level stage.Work error.None → Tells v next (Abort errnum) None → TakesBack v next → IsGivenUp next (error_for errnum)
 abort_gives_up v next errnum level some is_open tells back =

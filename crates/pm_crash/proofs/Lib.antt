@@ -34,7 +34,12 @@ pub mod BeginsAgain
 pub mod Begun
 pub mod Levels
 pub mod RefusedBegin
+pub mod OnceMade
 pub mod AllocOn
+pub mod FreeChecks
+pub mod FreeOn
+pub mod RefusedFree
+pub mod GoneRanges
 pub mod NewRanges
 pub mod NewWrites
 pub mod RefusedAlloc

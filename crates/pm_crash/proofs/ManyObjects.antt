@@ -132,7 +132,7 @@ some_at off (m ∷ news) some = go (eqb m.off off) refl some (some_at off news) 
   go false is later rest = let found = rest later in (found.0, (later_member m news found.0 found.1.0, found.1.1))
 
 -- the first is at an offset of its own
-others_apart : (n : NewObject) (news : List NewObject) → AreOnce (n ∷ news) → (list_any (is_at n.off) news ≡ false) × AreOnce news
+pub others_apart : (n : NewObject) (news : List NewObject) → AreOnce (n ∷ news) → (list_any (is_at n.off) news ≡ false) × AreOnce news
 unfolding IsDistinct
 others_apart n news once = (not_at n.off news once.0, once.1)
 

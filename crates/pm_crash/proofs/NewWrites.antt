@@ -49,7 +49,9 @@ use Rattle.pm_crash.proofs.Bytewise.{length-put}
 use Rattle.pm_crash.proofs.Covered.{covered_has_byte, written_words}
 use Rattle.pm_crash.proofs.KeptWords.{found_back, lies_further, same_found, under_kept}
 use Rattle.pm_crash.proofs.NewRanges.{new_is_held, new_is_kept, new_long, new_to_it}
+use Rattle.pm_crash.proofs.ManyObjects.{AreOnce}
 use Rattle.pm_crash.proofs.ObjectsOfBlocks.{object_is_there}
+use Rattle.pm_crash.proofs.OnceMade.{one_at_offset}
 use Rattle.pm_crash.proofs.Passing.{passes_all, AsksNoLock, Works}
 use Rattle.pm_crash.proofs.WriteOn.{put_elsewhere}
 
@@ -182,14 +184,14 @@ module _ (v next : View) (id : Oid) (off level : ℕ) (bytes : List ℕ) (some_l
       (cases_eq m.off n.off)
     where
       one_object : (m : NewObject) → Contains (blocks_in v).made m → m.off ≡ n.off → m ≡ n
-      one_object m there same = under_way.has.once m n there made.has same
+      one_object m there same = one_at_offset (blocks_in v).made m n under_way.has.once there made.has same
 
   has : HasMade next
   has = record {
     each = each;
     listed = λ m there. told_listed v next (Write id off bytes) None writes.tells.call m (under_way.has.listed m (made_before m there));
     kept = λ m there. ap (λ (b : CallBlocks). is_among b.freed m.off || list_any (is_at m.off) b.dropped) blocks_now ∙ under_way.has.kept m (made_before m there);
-    once = λ m k there too. under_way.has.once m k (made_before m there) (made_before k too);
+    once = subst (λ (b : CallBlocks). AreOnce b.made) (sym blocks_now) under_way.has.once;
     apart_new = λ m k there too. under_way.has.apart_new m k (made_before m there) (made_before k too);
     apart_found = λ m l lines there held. under_way.has.apart_found m l lines (made_before m there) (subst (λ (ls : List Lock). Contains ls l) writes.tells.locks held);
   }
@@ -239,7 +241,7 @@ module _ (v next : View) (id : Oid) (off level : ℕ) (bytes : List ℕ) (some_l
     put_there : (m : NewObject) → Contains (blocks_in v).made m → object_at (put_object id.off off bytes pool.objects) m.off ≡ Some (object_made next m)
     put_there m there = ⊎_elim
         (λ (same : m.off ≡ n.off).
-        let one : m ≡ n = under_way.has.once m n there made.has same in
+        let one : m ≡ n = one_at_offset (blocks_in v).made m n under_way.has.once there made.has same in
         object_at-put id.off off bytes pool.objects m.off
         ∙ cond-true (eqb m.off id.off) (option_map (with_bytes off bytes) (object_at pool.objects m.off)) (object_at pool.objects m.off) (eq-eqb m.off id.off (same ∙ sym made.place))
         ∙ ap (option_map (with_bytes off bytes)) (was.new m there)

@@ -162,6 +162,33 @@ fails_lock tx op works wants aligned fails =
     ∷ (refusal.NoSpace, finds_no_space unhindered op)
     ∷ [])))
 
+-- where the lock is held, an object that is gone is
+pub fails_gone : (tx : Transaction) (op : Operation) → Works tx → AsksNoLock op → is_not_locked tx op ≡ false → names_gone tx op ≡ true → first_refusal unhindered tx op ≡ Some refusal.NoObject
+unfolding first_refusal
+fails_gone tx op works asks locked gone =
+    let wants : WantsNone op = wants_none op asks in
+    (λ j. option_map (λ (check : Refusal × Bool). check.0) (find (λ (check : Refusal × Bool). check.1)
+    ((refusal.NotWork, no_work tx works j)
+    ∷ (refusal.NoTx, no_tx tx op works j)
+    ∷ (refusal.Spent, not_spent tx j)
+    ∷ (refusal.Deep, not_deep tx op wants j)
+    ∷ (refusal.LocksFull, few_locks tx op works wants j)
+    ∷ (refusal.Unaligned, asks.aligned j)
+    ∷ (refusal.BadSize, makes_none op wants.no_alloc j)
+    ∷ (refusal.NotLocked, locked j)
+    ∷ (refusal.NoObject, has_places tx op wants j)
+    ∷ (refusal.Busy, not_busy tx op j)
+    ∷ (refusal.NoObject, not_missing tx op j)
+    ∷ (refusal.NoObject, gone j)
+    ∷ (refusal.RootKept, frees_root tx op)
+    ∷ (refusal.Listed, frees_listed tx op)
+    ∷ (refusal.OutOfRange, passes_end tx op)
+    ∷ (refusal.NotAdded, is_not_added tx op)
+    ∷ (refusal.LogFull, passes_log tx op)
+    ∷ (refusal.ActionsFull, passes_actions tx op)
+    ∷ (refusal.NoSpace, finds_no_space unhindered op)
+    ∷ [])))
+
 pub fails_end : (tx : Transaction) (op : Operation) → Works tx → AsksNoLock op → names_gone tx op ≡ false → is_not_locked tx op ≡ false → passes_end tx op ≡ true → first_refusal unhindered tx op ≡ Some refusal.OutOfRange
 unfolding first_of_six first_of_four
 fails_end tx op works asks kept locked fails = four_checks tx op works asks kept ∙ (λ j. first_of_four (locked j) (fails j) (is_not_added tx op) (passes_log tx op))

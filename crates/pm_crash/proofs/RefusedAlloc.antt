@@ -1,9 +1,8 @@
 -- An allocation that is refused is refused by the model for the same reason.
-use Rattle.std.proofs.Common.{◌≡◌, ⊎_elim, ℕ, ◌+◌, ◌<◌, ◌≤◌, ◌||◌, Bool, true, false, eqb, ltb, List, [], ◌∷◌, length, Option, Some, MatchOption, refl, sym, ◌∙◌, ap, subst, arith}
+use Rattle.std.proofs.Common.{◌≡◌, ⊎_elim, ℕ, ◌+◌, ◌<◌, ◌≤◌, ◌||◌, Bool, true, false, eqb, ltb, [], ◌∷◌, length, Option, Some, MatchOption, refl, sym, ◌∙◌, subst, arith}
 use Rattle.std.specs.List.{find}
 use Rattle.std.specs.Option.{option_map}
 use Rattle.std.proofs.lemmas.Bool.{eq-eqb, le-ltb, lt-ltb, ne_eqb, or_from, or_left, or_right}
-use Rattle.std.proofs.lemmas.List.{length-map}
 use Rattle.pm_header.specs.declared.header.Header.{Header}
 use Rattle.pm_objects.specs.declared.calls.Operation.TheVariants.{Alloc}
 use Rattle.pm_objects.specs.declared.history.TxErr.TheVariants as error
@@ -12,17 +11,15 @@ use Rattle.pm_objects.specs.declared.pool.PoolView.{PoolView}
 use Rattle.pm_objects.specs.declared.refusal.Refusal.{Refusal}
 use Rattle.pm_objects.specs.declared.refusal.Refusal.TheVariants as refusal
 use Rattle.pm_model.specs.declared.stage.Stage.TheVariants as stage
-use Rattle.pm_model.specs.Actions.{Action, max_entries}
+use Rattle.pm_model.specs.Actions.{max_entries}
 use Rattle.pm_model.specs.Answers.{Answers, IsDone, IsRefused, changes_nothing}
 use Rattle.pm_model.specs.Checks.{Seen, first_refusal}
 use Rattle.pm_model.specs.Transaction.{Transaction, entries_of, locked_all}
 use Rattle.pm_model.proofs.Alike.{after_refused}
 use Rattle.pm_view.specs.View.{View}
-use Rattle.pm_crash.specs.CallBlocks.{NewObject, blocks_in}
 use Rattle.pm_crash.specs.OpenCall.{ComesTo, IsUnderWay, WasAborted}
 use Rattle.pm_crash.specs.Operations.{IsAllocReason, RefusesAlloc, entries_so_far}
-use Rattle.pm_crash.specs.Pending.{published_in}
-use Rattle.pm_crash.proofs.CallWords.{call_works}
+use Rattle.pm_crash.proofs.CallWords.{as_many_entries, call_works}
 use Rattle.pm_crash.proofs.GivenUp.{aborts_call}
 use Rattle.pm_crash.proofs.KeptWords.{same_found}
 use Rattle.pm_crash.proofs.Passing.{no_tx, no_work, not_busy, not_spent, Works}
@@ -76,11 +73,7 @@ module _ (v : View) (w : ℕ → ℕ) (header : Header) (pool : PoolView) (level
   works = call_works v w header pool level some_level under_way c
 
   entries_same : entries_of c.tx ≡ entries_so_far v
-  entries_same =
-      let moved : length c.tx.moved ≡ length (published_in v) = ap (λ (actions : List Action). length actions) c.moved in
-      let made : length c.tx.made ≡ length (blocks_in v).made = ap (λ (offs : List ℕ). length offs) c.tracks.made ∙ length-map (blocks_in v).made (λ (m : NewObject). m.off) in
-      let freed : length c.tx.freed ≡ length (blocks_in v).freed = ap (λ (offs : List ℕ). length offs) c.tracks.freed in
-      omega (arith, moved, made, freed)
+  entries_same = as_many_entries v w header pool level c
 
   by_reason : (r : Refusal) → IsAllocReason v size r → IsAllocRefused c.tx size kind r
   unfolding first_of_three

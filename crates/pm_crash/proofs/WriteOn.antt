@@ -80,7 +80,7 @@ put_elsewhere objects off at other bytes differ =
     object_at-put off at bytes objects other ∙ cond-false (eqb other off) (option_map (with_bytes at bytes) (object_at objects other)) (object_at objects other) (ne_eqb other off differ)
 
 -- an offset at which the call made no object is none of those
-differs_from_new : (v : View) (n : NewObject) (off : ℕ) → Contains (blocks_in v).made n → is_new_in v off ≡ false → n.off ≢ off
+pub differs_from_new : (v : View) (n : NewObject) (off : ℕ) → Contains (blocks_in v).made n → is_new_in v off ≡ false → n.off ≢ off
 differs_from_new v n off there old same =
     false≢true (sym old ∙ or_left (list_any (is_at off) (blocks_in v).made) (list_any (is_at off) (blocks_in v).dropped) (list_any-from_Any (is_at off) (blocks_in v).made (there.0, n, there.1, there.2, eq-eqb n.off off same)))
 

@@ -77,10 +77,11 @@ allocated_by op reply = []
 abbrev pub allocated_in : View → List NewObject
 allocated_in v = flat_map (λ (t : Told). allocated_by t.operation t.reply) v.call
 
--- What a free tells of the pool's root by its reply: one that is done is not of the root, and one that is refused for the root is (docs/MODEL.md, "Objects
--- made and freed").
+-- What a free tells of the pool's root by its reply: one that is done is not of the root, nor is one that is refused for room, which is looked at behind
+-- the root; and one that is refused for the root is (docs/MODEL.md, "Objects made and freed").
 abbrev pub TellsOfRoot : Option ℕ → Operation → Option Value → Type 0
 TellsOfRoot root (Free id) None = root ≢ Some id.off
+TellsOfRoot root (Free id) (Some (Refused refusal.ActionsFull)) = root ≢ Some id.off
 TellsOfRoot root (Free id) (Some (Refused refusal.RootKept)) = root ≡ Some id.off
 TellsOfRoot root op reply = Unit {0}
 
@@ -139,3 +140,9 @@ pub record IsMadeIn (v : View) (n : NewObject) : Type 0 where
 pub record IsOldIn (v : View) (off : ℕ) : Type 0 where
   pub found : is_new_in v off ≡ false
   pub kept : is_freed_in v off ≡ false
+
+-- what is at the offset is the same of both open calls: made, new, or freed
+pub record IsSameIn (v next : View) (off : ℕ) : Type 0 where
+  pub made : is_made_in next off ≡ is_made_in v off
+  pub new : is_new_in next off ≡ is_new_in v off
+  pub freed : is_freed_in next off ≡ is_freed_in v off

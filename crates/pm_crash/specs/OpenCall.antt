@@ -1,6 +1,6 @@
 -- A lane's open call, by its view alone: the words that it makes, and what the plain model's transaction has come to.
-use Rattle.std.specs.Prelude.{◌≡◌, ◌≢◌, ℕ, ◌+◌, ◌*◌, ◌/◌, ◌<◌, ◌≤◌, true, false, if◌then◌else◌, List, [], ◌∷◌, map, length, slice_index, flat_map, All, Contains, None, Some}
-use Rattle.std.specs.List.{range_with_len}
+use Rattle.std.specs.Prelude.{◌≡◌, ◌≢◌, ℕ, ◌+◌, ◌*◌, ◌/◌, ◌<◌, ◌≤◌, true, false, if◌then◌else◌, List, [], ◌∷◌, map, length, nat_eq, slice_index, flat_map, All, Contains, None, Some}
+use Rattle.std.specs.List.{range_with_len, IsDistinct}
 use Rattle.std.specs.List.Sorted.{IsStrictlyIncreasing}
 use Rattle.pm_header.specs.declared.header.Header.{Header}
 use Rattle.pm_objects.specs.Pool.{object_at, offsets}
@@ -155,7 +155,7 @@ pub record HasMade (v : View) : Type 0 where
   pub each : (n : NewObject) → Contains (blocks_in v).made n → IsMadeIn v n
   pub listed : (n : NewObject) → Contains (blocks_in v).made n → Contains (allocated_in v) n
   pub kept : (n : NewObject) → Contains (blocks_in v).made n → is_gone_in v n.off ≡ false
-  pub once : (n m : NewObject) → Contains (blocks_in v).made n → Contains (blocks_in v).made m → n.off ≡ m.off → n ≡ m
+  pub once : IsDistinct nat_eq (map (λ (n : NewObject). n.off) (blocks_in v).made)
   pub apart_new : (n m : NewObject) → Contains (blocks_in v).made n → Contains (blocks_in v).made m → n.off ≢ m.off → AreDisjoint (block_of n) (block_of m)
   pub apart_found : LieApart v
 

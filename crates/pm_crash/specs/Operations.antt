@@ -4,7 +4,7 @@ use Rattle.std.specs.List.{list_any}
 use Rattle.pm_layout.specs.Sizes.{class_of}
 use Rattle.pm_words.specs.Words.{bytes_of, AreBytes}
 use Rattle.pm_objects.specs.declared.calls.Operation.{Operation}
-use Rattle.pm_objects.specs.declared.calls.Operation.TheVariants.{AddRange, Alloc, Begin, Commit, Read, Write}
+use Rattle.pm_objects.specs.declared.calls.Operation.TheVariants.{AddRange, Alloc, Begin, Commit, Free, Read, Write}
 use Rattle.pm_objects.specs.declared.calls.Want.{Want}
 use Rattle.pm_objects.specs.declared.history.Value.{Value}
 use Rattle.pm_objects.specs.declared.history.Value.TheVariants.{Bytes, Offset, Refused}
@@ -22,7 +22,7 @@ use Rattle.pm_view.specs.Blocks.{is_chunk}
 use Rattle.pm_view.specs.Log.{Recorded}
 use Rattle.pm_view.specs.View.{View, Lock}
 use Rattle.pm_world.specs.Records.{IsRecordAt, is_recorded, pool_entries}
-use Rattle.pm_crash.specs.CallBlocks.{IsMadeIn, NewObject, block_of, blocks_in, is_freed_in, object_made}
+use Rattle.pm_crash.specs.CallBlocks.{IsMadeIn, IsOldIn, NewObject, block_of, blocks_in, is_freed_in, is_gone_in, is_made_in, is_new_in, object_made}
 use Rattle.pm_crash.specs.HeapChanges.{AreDisjoint}
 use Rattle.pm_crash.specs.Locks.{AreSameLocks}
 use Rattle.pm_crash.specs.OpenCall.{IsUnderBlock, block_at_line, locks_of, words_recorded}
@@ -334,4 +334,68 @@ IsAllocReason v size r = ⊥
 pub record RefusesAlloc (v next : View) (size kind : ℕ) (r : Refusal) : Type 0 where
   pub reason : IsAllocReason v size r
   pub tells : Tells v next (Alloc size kind) (Some (Refused r))
+  pub takes_back : TakesBack v next
+
+-- the lane refused an operation on a range that passes the end of such an object, took back what the call did, and told so
+pub record RefusesNewRange (v next : View) (op : Operation) (range : Range) : Type 0 where
+  pub is_range : range_of op ≡ Some range
+  pub past : PassesNewEnd v range.id range.off range.len
+  pub tells : Tells v next op (Some (Refused refusal.OutOfRange))
+  pub takes_back : TakesBack v next
+
+-- ---- objects that the call frees
+
+-- The lane freed an object that it found and holds for writing, and told so. No word that it knew changed; and the log has room for the entry that frees the
+-- object's block, and for the one that ends its generation
+pub record FreesFound (v next : View) (id : Oid) : Type 0 where
+  pub tells : Tells v next (Free id) None
+  pub logs : KeepsLog v next
+  pub keeps : KeepsKnown v next
+  pub held : IsHeld v id true
+  pub old : IsOldIn v id.off
+  pub fits : entries_so_far v + 2 ≤ max_entries
+
+-- It freed an object that it made, and told so. That needs no room: the object's entry is taken back
+pub record FreesMade (v next : View) (id : Oid) : Type 0 where
+  pub tells : Tells v next (Free id) None
+  pub logs : KeepsLog v next
+  pub keeps : KeepsKnown v next
+  pub made : IsMade v id
+
+-- the lane has what is at the offset, for writing if so asked: its call made an object there, whether it freed it again or not, or it holds the lock
+abbrev pub has_at : View → ℕ → Bool → Bool
+has_at v off write = is_new_in v off || is_locked (locks_of v) off write
+
+-- so it has, and the object there is gone: the call freed it, or made it and freed it again
+pub record IsGone (v : View) (id : Oid) (write : Bool) : Type 0 where
+  pub of_pool : id.pool ≡ v.pool
+  pub has : has_at v id.off write ≡ true
+  pub gone : is_gone_in v id.off ≡ true
+
+-- or it is not gone
+pub record IsLeft (v : View) (id : Oid) (write : Bool) : Type 0 where
+  pub of_pool : id.pool ≡ v.pool
+  pub has : has_at v id.off write ≡ true
+  pub left : is_gone_in v id.off ≡ false
+
+-- the lane refused an operation on a range of an object that is gone, took back what the call did, and told so
+pub record RefusesGone (v next : View) (op : Operation) (range : Range) : Type 0 where
+  pub is_range : range_of op ≡ Some range
+  pub gone : IsGone v range.id (needs_write op)
+  pub tells : Tells v next op (Some (Refused refusal.NoObject))
+  pub takes_back : TakesBack v next
+
+-- Why a free is refused: the lane has not the object for writing, or it is gone, or it is the root, or the log has no room for its entry, which an object that
+-- the call made needs not. Which object is the root is not asked for here: the reply tells it (`TellsOfRoot`). No object is in a list or has members
+abbrev pub IsFreeReason : View → Oid → Refusal → Type 0
+IsFreeReason v id refusal.NotLocked = id.pool ≡ v.pool → has_at v id.off true ≡ false
+IsFreeReason v id refusal.NoObject = IsGone v id true
+IsFreeReason v id refusal.RootKept = IsLeft v id true
+IsFreeReason v id refusal.ActionsFull = IsLeft v id true × (is_made_in v id.off ≡ false) × (max_entries < entries_so_far v + 2)
+IsFreeReason v id r = ⊥
+
+-- the lane refused to free an object, took back what the call did, and told so
+pub record RefusesFree (v next : View) (id : Oid) (r : Refusal) : Type 0 where
+  pub reason : IsFreeReason v id r
+  pub tells : Tells v next (Free id) (Some (Refused r))
   pub takes_back : TakesBack v next

@@ -63,8 +63,8 @@ pub use laws::{
 };
 pub use taken::what_is_taken_follows_the_blocks;
 pub use under_way::{
-    a_call_under_way_ends, a_call_under_way_goes_on, a_call_under_way_is_aborted,
-    a_call_under_way_makes_objects,
+    a_call_under_way_ends, a_call_under_way_frees_objects, a_call_under_way_goes_on,
+    a_call_under_way_is_aborted, a_call_under_way_makes_objects,
 };
 
 #[cfg(test)]

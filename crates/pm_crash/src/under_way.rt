@@ -1,7 +1,7 @@
-ghost use Rattle.std.specs.Prelude.{◌≡◌, ◌≢◌, ℕ, ◌+◌, ◌<◌, ◌≤◌, Contains, List, All, None, Some, Option, false};
+ghost use Rattle.std.specs.Prelude.{◌≡◌, ◌≢◌, ℕ, ◌+◌, ◌<◌, ◌≤◌, Contains, List, All, None, Some, Option, false, true};
 ghost use Rattle.pm_header.specs.declared.header.Header.{Header};
 ghost use Rattle.pm_objects.specs.declared.calls.Operation.{Operation};
-ghost use Rattle.pm_objects.specs.declared.calls.Operation.TheVariants.{Abort, Commit, Publish};
+ghost use Rattle.pm_objects.specs.declared.calls.Operation.TheVariants.{Abort, Commit, Free, Publish};
 ghost use Rattle.pm_objects.specs.declared.calls.Want.{Want};
 ghost use Rattle.pm_objects.specs.declared.history.TxErr.{TxErr};
 ghost use Rattle.pm_objects.specs.declared.history.TxErr.TheVariants as error;
@@ -17,11 +17,11 @@ ghost use Rattle.pm_model.specs.Checks.{Range};
 ghost use Rattle.pm_model.specs.declared.stage.Stage.{Stage};
 ghost use Rattle.pm_model.specs.declared.stage.Stage.TheVariants as stage;
 ghost use Rattle.pm_view.specs.View.{View};
-ghost use Rattle.pm_crash.specs.CallBlocks.{IsOldIn, MayPrecede, NewObject, is_freed_in, is_new_in};
+ghost use Rattle.pm_crash.specs.CallBlocks.{IsOldIn, IsSameIn, MayPrecede, NewObject, is_freed_in, is_gone_in, is_new_in};
 ghost use Rattle.pm_crash.specs.Held.{HoldsPool};
 ghost use Rattle.pm_crash.specs.OnActions.{AreOld, ChangesPending, IsPublishReasonIn, PublishesIn};
 ghost use Rattle.pm_crash.specs.OpenCall.{IsBefore, IsCommitted, IsUnderWay, LieApart, Turns, WasAborted};
-ghost use Rattle.pm_crash.specs.Operations.{AddsNewRange, AddsRange, AllocatesObject, BeginsCall, BeginsLevel, KeepsKnown, KeepsLog, KeepsWords, ReadsBytes, ReadsNewBytes, Refuses, RefusesAlloc, RefusesLevel, TakesBack, Tells, TellsNothing, WritesBytes, WritesNewBytes};
+ghost use Rattle.pm_crash.specs.Operations.{AddsNewRange, AddsRange, AllocatesObject, BeginsCall, BeginsLevel, FreesFound, FreesMade, KeepsKnown, KeepsLog, KeepsWords, ReadsBytes, ReadsNewBytes, Refuses, RefusesAlloc, RefusesFree, RefusesGone, RefusesLevel, RefusesNewRange, TakesBack, Tells, TellsNothing, WritesBytes, WritesNewBytes};
 ghost use Rattle.pm_crash.specs.Pending.{pending_in};
 
 /// A law: a call under way, which may have made and freed objects, goes on with each operation on what it found and did not free, as the plain
@@ -61,13 +61,29 @@ pub fn a_call_under_way_makes_objects()
         → IsUnderWay v level stage.Work error.None → ReadsNewBytes v next id off len → IsUnderWay next level stage.Work error.None }
 {}
 
+/// A law: a call under way goes on where it frees an object: one that it found and holds for writing, and for which the log has room, or one
+/// that it made, whose entry is taken back. The object is gone then, and what else there is stays. No code runs.
+pub fn a_call_under_way_frees_objects()
+    ensures found { (v next : View) (id : Oid) (level : ℕ) → 1 ≤ level
+        → IsUnderWay v level stage.Work error.None → FreesFound v next id → IsUnderWay next level stage.Work error.None }
+    ensures made { (v next : View) (id : Oid) (level : ℕ) → 1 ≤ level
+        → IsUnderWay v level stage.Work error.None → FreesMade v next id → IsUnderWay next level stage.Work error.None }
+    ensures is_gone { (v next : View) (id : Oid) → Tells v next (Free id) None → is_gone_in next id.off ≡ true }
+    ensures others { (v next : View) (id : Oid) (off : ℕ) → Tells v next (Free id) None → off ≢ id.off → IsSameIn v next off }
+{}
+
 /// A law: where an operation of a call under way is refused for the first reason that the lane has, or an abort is asked for, the call is aborted
 /// as the plain model's, and stays so while it is taken back. A range is of an object that the call did not make, nor free unless its lock is
-/// missing; and so is each action that is published. No code runs.
+/// missing; or of one that is gone, which the call has; or it passes the end of one that it made. Each action that is published is on an object
+/// that the call did not make, nor free unless its lock is missing. No code runs.
 pub fn a_call_under_way_is_aborted()
     ensures by_range { (v next : View) (op : Operation) (range : Range) (r : Refusal) (level : ℕ) → 1 ≤ level
         → IsUnderWay v level stage.Work error.None → Refuses v next op range r
-        → is_new_in v range.id.off ≡ false → (r ≢ refusal.NotLocked → is_freed_in v range.id.off ≡ false) → WasAborted next (error.Refused r) }
+        → (range.id.pool ≡ v.pool → is_new_in v range.id.off ≡ false) → (r ≢ refusal.NotLocked → is_freed_in v range.id.off ≡ false) → WasAborted next (error.Refused r) }
+    ensures by_gone { (v next : View) (op : Operation) (range : Range) (level : ℕ) → 1 ≤ level
+        → IsUnderWay v level stage.Work error.None → RefusesGone v next op range → WasAborted next (error.Refused refusal.NoObject) }
+    ensures by_new_range { (v next : View) (op : Operation) (range : Range) (level : ℕ) → 1 ≤ level
+        → IsUnderWay v level stage.Work error.None → RefusesNewRange v next op range → WasAborted next (error.Refused refusal.OutOfRange) }
     ensures by_begin { (v next : View) (level : ℕ) (wants : List Want) (r : Refusal) → 1 ≤ level
         → IsUnderWay v level stage.Work error.None → RefusesLevel v next level wants r
         → ((want : Want) → Contains wants want → IsOldIn v want.id.off) → WasAborted next (error.Refused r) }
@@ -77,6 +93,8 @@ pub fn a_call_under_way_is_aborted()
         → WasAborted next (error.Refused r) }
     ensures by_alloc { (v next : View) (size kind : ℕ) (r : Refusal) (level : ℕ) → 1 ≤ level
         → IsUnderWay v level stage.Work error.None → RefusesAlloc v next size kind r → WasAborted next (error.Refused r) }
+    ensures by_free { (v next : View) (id : Oid) (r : Refusal) (level : ℕ) → 1 ≤ level
+        → IsUnderWay v level stage.Work error.None → RefusesFree v next id r → WasAborted next (error.Refused r) }
     ensures asked { (v next : View) (errnum level : ℕ) → 1 ≤ level
         → IsUnderWay v level stage.Work error.None → Tells v next (Abort errnum) None → TakesBack v next → WasAborted next (error_for errnum) }
     ensures taken_back { (v next : View) (e : TxErr) → WasAborted v e → TellsNothing v next → TakesBack v next → WasAborted next e }

@@ -1,12 +1,20 @@
 use Rattle.pm_crash.proofs.ActionsOn.{refused_publish_aborts}
 use Rattle.pm_crash.proofs.GivenUp.{abort_aborts, refusal_aborts}
+use Rattle.pm_crash.proofs.GoneRanges.{gone_range_aborts, new_range_aborts}
 use Rattle.pm_crash.proofs.RefusedAlloc.{refused_alloc_aborts}
 use Rattle.pm_crash.proofs.RefusedBegin.{level_aborted}
+use Rattle.pm_crash.proofs.RefusedFree.{refused_free_aborts}
 use Rattle.pm_crash.proofs.Staying.{aborted_learns, aborted_stays}
 use Rattle.pm_crash.proofs.under_way.a_call_under_way_is_aborted.Goals as goal
 
 pub returns-clause-by_range : goal.returns-clause-by_range
 returns-clause-by_range c = refusal_aborts
+
+pub returns-clause-by_gone : goal.returns-clause-by_gone
+returns-clause-by_gone c = gone_range_aborts
+
+pub returns-clause-by_new_range : goal.returns-clause-by_new_range
+returns-clause-by_new_range c = new_range_aborts
 
 pub returns-clause-by_begin : goal.returns-clause-by_begin
 returns-clause-by_begin c = level_aborted
@@ -16,6 +24,9 @@ returns-clause-by_publish c = refused_publish_aborts
 
 pub returns-clause-by_alloc : goal.returns-clause-by_alloc
 returns-clause-by_alloc c = refused_alloc_aborts
+
+pub returns-clause-by_free : goal.returns-clause-by_free
+returns-clause-by_free c = refused_free_aborts
 
 pub returns-clause-asked : goal.returns-clause-asked
 returns-clause-asked c = abort_aborts
