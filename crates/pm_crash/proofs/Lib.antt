@@ -50,6 +50,10 @@ pub mod UnreadNow
 pub mod LongerReplays
 pub mod DrawnWords
 pub mod OneCourse
+pub mod BlocksApart
+pub mod BlockPlaces
+pub mod ReservedBlocks
+pub mod RoomForReserved
 pub mod KeptEntries
 pub mod EndedCalls
 pub mod InFlight
@@ -82,6 +86,7 @@ pub mod KnownHeap
 pub mod Raises
 pub mod Raising
 pub mod SeenAlone
+pub mod BorneOut
 pub mod RisingBlocks
 pub mod NoHeapFault
 pub mod OneBlockMore
