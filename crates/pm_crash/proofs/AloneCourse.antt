@@ -30,19 +30,24 @@ use Rattle.pm_world.specs.Moves.{Moves}
 use Rattle.pm_world.specs.Opening.{Opening}
 use Rattle.pm_world.specs.Opens.{IsFresh, IsClean}
 use Rattle.pm_world.specs.World.{Views, is_low}
-use Rattle.pm_crash.specs.Held.{HoldsImage}
+use Rattle.pm_crash.specs.Held.{HoldsImage, HoldsPool}
 use Rattle.pm_crash.proofs.BeginsAgain.{again, begins_between, over_decided, over_log}
 use Rattle.pm_world.proofs.Chunks.{chunk_is}
 use Rattle.pm_world.proofs.Frame.{view_else, view_here}
 use Rattle.pm_world.proofs.StepSeen.{not_low_more, told}
 use Rattle.pm_world.proofs.Worlds.{room_kept}
 use Rattle.pm_crash.specs.Alone.{BeginsAlone, alone_views, idle_view, Begins, BeginsAgain}
+use Rattle.pm_crash.specs.CallBlocks.{MayPrecede}
 use Rattle.pm_crash.specs.HeldHistory.{DrawsEnded, IsEndedCall}
 use Rattle.pm_crash.specs.Leading.{Leads}
-use Rattle.pm_crash.specs.OneLane.{IsModelStep, IsPaid, Makes, Moment, Move, moved}
+use Rattle.pm_crash.specs.OneLane.{IsModelStep, IsPaid, Makes, Moment, Move, TellsAsOpening, moved}
+use Rattle.pm_crash.specs.OpenCall.{MakesItsStep}
+use Rattle.pm_crash.specs.Reserved.{IsBorneOut}
 use Rattle.pm_crash.proofs.AloneMemory.{draw_moves, drain_moves, flush_moves, give_moves, in_picture, load_moves, memory_of, number_moves, occupied_moves, occupy_moves, one_if, same_memory, sizes_after, store_moves, take_read_moves, take_write_moves, tell_moves, vacate_moves, zone_give_moves, zone_try_moves, or_moves, and_moves}
+use Rattle.pm_crash.proofs.Continued.{two_same}
 use Rattle.pm_crash.proofs.EndedCalls.{given_up_steps, whole_steps}
 use Rattle.pm_crash.proofs.LogCourse.{InRange, all_of, carried}
+use Rattle.pm_crash.proofs.RoomForReserved.{may_precede as precedes}
 use Rattle.pm_crash.proofs.OneCourse.{Goes, goes_first, goes_on, goes_between}
 
 -- the calls and the entries of a lane grow
@@ -239,13 +244,13 @@ module _ (o : Opening) (header : Header) (pool : PoolView) where
     now = record { memory = memory_of v; views = stands.views; log = stands.log; decided = stands.decided }
 
     -- a step that moves the memory on
-    goes_step : (s : Step) → IsLawful v s → Moves 0 s (memory_of v) (memory_of (after v s)) → IsPaid v s → StandsAlone o header pool (after v s)
+    goes_step : (s : Step) → IsLawful v s → Moves 0 s (memory_of v) (memory_of (after v s)) → IsPaid o v s → StandsAlone o header pool (after v s)
     goes_step s lawful moves paid =
         let move : Move = record { step = s; memory = memory_of (after v s) } in
-        let makes : Makes 0 now move = record {
+        let makes : Makes o 0 now move = record {
           lawful = subst (λ (u : View). IsLawful u s) (sym stands.here) lawful;
           moves = moves;
-          paid = subst (λ (u : View). IsPaid u s) (sym stands.here) paid;
+          paid = subst (λ (u : View). IsPaid o u s) (sym stands.here) paid;
         } in
         let next : Moment = moved 0 now move in
         record {
@@ -303,10 +308,26 @@ module _ (o : Opening) (header : Header) (pool : PoolView) where
     lawful_so : (s : Step) → Allowed v s → (is_counted s ≡ true → MayCount v) → IsLawful v s
     lawful_so s may due = record { allowed = may; due = due }
 
+    -- where it is borne out, a pool that words hold which tell of blocks and of the root what the opening's do may be the one before its call
+    pub may_precede : (w : ℕ → ℕ) (its : Header) (was : PoolView) → TellsAsOpening o w → HoldsPool w o.lanes o.zones its was → IsBorneOut v → MayPrecede was v
+    may_precede w its was tells holds borne_out =
+        let sees : (i : ℕ) → slice_index v.words i ≡ slice_index (stands.views 0).words i = λ i. ap (λ (u : View). slice_index u.words i) (sym stands.here) in
+        subst (MayPrecede was) stands.here
+        (precedes o (memory_of v) stands.views stands.log stands.decided 0 stands.goes.world stands.goes.in_lanes sees w tells its was holds (sym (sees 64) ∙ stands.goes.front 64 (omega arith))
+        (subst IsBorneOut (sym stands.here) borne_out))
+
+    pub borne_out_steps : MakesItsStep v → IsBorneOut v → IsModelStep o v
+    borne_out_steps makes_its borne_out w its was tells holds id before =
+        let lane = (stands.goes.world.each_lane 0 stands.goes.in_lanes).lane in
+        let lanes : v.lanes ≡ o.lanes = ap (λ (u : View). u.lanes) (sym stands.here) ∙ lane.lanes in
+        let zones : v.zones ≡ o.zones = ap (λ (u : View). u.zones) (sym stands.here) ∙ lane.zones in
+        makes_its.makes w its was holds id before (may_precede w its was tells (two_same (λ (a b : ℕ). HoldsPool w a b its was) v.lanes o.lanes v.zones o.zones lanes zones holds) borne_out)
+
     -- a call that draws is a step of the model
-    owes : IsEndedCall v → IsModelStep v
-    owes (inl whole) = whole_steps v whole
-    owes (inr (e, given_up, none, unentered)) = given_up_steps v e given_up none unentered
+    owes : IsEndedCall v → IsModelStep o v
+    owes (inl whole) = whole_steps o v whole
+    owes (inr (inl (e, given_up, none, unentered))) = given_up_steps o v e given_up none unentered
+    owes (inr (inr (makes_its, borne_out))) = borne_out_steps makes_its borne_out
 
     -- each step that it may make
     pub stands_after : (s : Step) → IsAlone v → Allowed v s → FoundAlone v s → DrawsEnded v s → (is_counted s ≡ true → MayCount v) → ((n : ℕ) → s ≡ Draw n → n ≡ length v.entries + 1)

@@ -23,9 +23,9 @@ use Rattle.pm_model.specs.Step.{RunsFrom, State, with_pending}
 use Rattle.pm_view.specs.View.{View}
 use Rattle.pm_world.specs.History.{made_final}
 use Rattle.pm_world.specs.Records.{pool_entries}
-use Rattle.pm_crash.specs.CallBlocks.{CallBlocks, KeepsBlocks, MayPrecede, is_at}
+use Rattle.pm_crash.specs.CallBlocks.{CallBlocks, KeepsBlocks, MayPrecede, blocks_in, is_at}
 use Rattle.pm_crash.specs.Held.{HoldsPool}
-use Rattle.pm_crash.specs.OpenCall.{CommitsTo, ComesTo, IsBefore, IsChanged, IsCommitted, IsOpen, IsUnderWay, IsWholeCall, RunsTo, Turns, call_words}
+use Rattle.pm_crash.specs.OpenCall.{CommitsTo, ComesTo, IsBefore, IsChanged, IsCommitted, IsOpen, IsUnderWay, IsWholeCall, MakesItsStep, RunsTo, Turns, call_words}
 use Rattle.pm_crash.specs.Operations.{CommitsCall, KeepsWords, Tells}
 use Rattle.pm_crash.specs.Pending.{pending_before, pending_in, published_in, told_in}
 use Rattle.pm_crash.specs.Performing.{CanPerform, entry_for, performed}
@@ -136,31 +136,38 @@ commit_is_told v next under_way tells records keeps =
       comes = commits_to v next under_way tells records keeps;
     }
 
--- a call that changed no block left no change of the pool but what its words hold
-pub unchanged_pool : (v : View) (base pool : PoolView) → IsStrictlyIncreasing (offsets base.objects) → KeepsBlocks v → IsChanged v base pool → pool ≡ base
-unchanged_pool v base pool rising keeps changed =
+-- a call that has nothing that it made, and freed nothing that it found, left no change of the pool but what its words hold
+unchanged_pool : (v : View) (base pool : PoolView) → IsStrictlyIncreasing (offsets base.objects) → (blocks_in v).made ≡ [] → (blocks_in v).freed ≡ [] → IsChanged v base pool → pool ≡ base
+unchanged_pool v base pool rising none_made none_freed changed =
     let same : pool.objects ≡ base.objects = same_objects pool.objects base.objects changed.rising rising (λ off.
     changed.others off
-    (ap (λ (b : CallBlocks). list_any (is_at off) b.made) keeps.blocks)
-    (ap (λ (b : CallBlocks). is_among b.freed off) keeps.blocks)) in
+    (ap (list_any (is_at off)) none_made)
+    (ap (λ (freed : List ℕ). is_among freed off) none_freed)) in
     changed.fixed ∙ (λ j. let p : PoolView = record base { objects = same j } in p)
 
--- so such a call is whole once it is committed, with an entry for each action that it published
-pub commit_is_whole : (v next : View) → IsOpen v 1 stage.Work error.None → CommitsCall v next → IsWholeCall next
-commit_is_whole v next is_open commits_call = record {
+-- so such a call makes its step once it is committed, with an entry for each action that it published
+pub commit_makes_its_step : (v : View) → IsCommitted v → (blocks_in v).made ≡ [] → (blocks_in v).freed ≡ [] → pool_entries v ≡ map entry_for (published_in v) → MakesItsStep v
+commit_makes_its_step v committed none_made none_freed entries = record {
   outside = committed.outside;
-  makes = λ w header pool holds id before.
-      let to : CommitsTo next w header pool = committed.comes w header pool holds id before (any_may_precede next keeps pool) in
-      let performs_all : Performs (call_words next w) next.lanes next.zones header to.base (published_in next) = performs (call_words next w) next.lanes next.zones header to.base (published_in next) to.holds to.performable in
-      let same : to.copy ≡ to.base = unchanged_pool next to.base to.copy (objects_rise (call_words next w) next.lanes next.zones header to.base to.holds) keeps to.changed in
-      let last_pool : PoolView = with_actions (published_in next) to.copy in
+  makes = λ w header pool holds id before may.
+      let to : CommitsTo v w header pool = committed.comes w header pool holds id before may in
+      let performs_all : Performs (call_words v w) v.lanes v.zones header to.base (published_in v) = performs (call_words v w) v.lanes v.zones header to.base (published_in v) to.holds to.performable in
+      let same : to.copy ≡ to.base = unchanged_pool v to.base to.copy (objects_rise (call_words v w) v.lanes v.zones header to.base to.holds) none_made none_freed to.changed in
+      let last_pool : PoolView = with_actions (published_in v) to.copy in
       record {
         next = last_pool;
         holds =
-            subst (λ (f : ℕ → ℕ). HoldsPool f next.lanes next.zones header last_pool) (λ j i. made_final (sym entries j) i (call_words next w i))
-            (subst (λ (p : PoolView). HoldsPool (performed (published_in next) (call_words next w)) next.lanes next.zones header (with_actions (published_in next) p)) (sym same) performs_all.holds);
+            subst (λ (f : ℕ → ℕ). HoldsPool f v.lanes v.zones header last_pool) (λ j i. made_final (sym entries j) i (call_words v w i))
+            (subst (λ (p : PoolView). HoldsPool (performed (published_in v) (call_words v w)) v.lanes v.zones header (with_actions (published_in v) p)) (sym same) performs_all.holds);
         steps = to.turns;
       };
+}
+
+-- and is whole where it told nothing of the heap
+pub commit_is_whole : (v next : View) → IsOpen v 1 stage.Work error.None → CommitsCall v next → IsWholeCall next
+commit_is_whole v next is_open commits_call = record {
+  outside = committed.outside;
+  makes = λ w header pool holds id before. its.makes w header pool holds id before (any_may_precede next keeps pool);
 } where
   tells : Tells v next Commit None
   tells = commits_call.tells
@@ -173,3 +180,6 @@ commit_is_whole v next is_open commits_call = record {
 
   entries : pool_entries next ≡ map entry_for (published_in next)
   entries = commits_call.entries ∙ ap (map entry_for) (sym (published_once_more v next Commit None tells.keeps.entries tells.call ∙ append-nil (published_in v)))
+
+  its : MakesItsStep next
+  its = commit_makes_its_step next committed (ap (λ (b : CallBlocks). b.made) keeps.blocks) (ap (λ (b : CallBlocks). b.freed) keeps.blocks) entries

@@ -1,5 +1,5 @@
 -- As a lane draws, where no other lane has a call: the words after the whole history are those before its call.
-use Rattle.std.proofs.Common.{◌≡◌, ◌≢◌, ⊎_elim, inl, inr, ℕ, ◌+◌, ◌/◌, ◌<◌, true, false, eqb, leb, IfSome, List, [], slice_index, Option, Some, None, refl, sym, ◌∙◌, ap, subst, arith}
+use Rattle.std.proofs.Common.{◌≡◌, ◌≢◌, ⊎_elim, inl, inr, ℕ, ◌+◌, ◌*◌, ◌/◌, ◌<◌, ◌≤◌, true, false, eqb, leb, IfSome, List, [], slice_index, Option, Some, None, refl, sym, ◌∙◌, ap, subst, arith}
 use Rattle.std.specs.List.{Contains}
 use Rattle.std.proofs.lemmas.Bool.{and_parts, and_right, cases_Bool, cases_eq, eqb-true, false_from_ne_true, leb-true, or_from}
 use Rattle.std.proofs.lemmas.List.Elements.{All-contains}
@@ -22,7 +22,7 @@ use Rattle.pm_world.proofs.CrashLogs.{unrecorded_unlogged}
 use Rattle.pm_world.proofs.Pairs.{none_redone}
 use Rattle.pm_world.proofs.Replays.{replayed-other, replayed-same}
 use Rattle.pm_crash.specs.Lines.{AgreeAtLine}
-use Rattle.pm_crash.specs.OneLane.{Moment}
+use Rattle.pm_crash.specs.OneLane.{Moment, TellsAsOpening}
 use Rattle.pm_crash.specs.OpenCall.{IsBefore, LiesInBlock, block_at_line}
 use Rattle.pm_crash.proofs.FoundBlocks.{block_in_chunk, found_is_block, found_within}
 use Rattle.pm_crash.proofs.Continued.{two_same}
@@ -52,6 +52,20 @@ module _ (o : Opening) (k : ℕ) (m : Moment) (world : World o m.memory m.views 
       let f = final_there e.difference i is in
       let guard = (world.each_entry e there).guarded f.0 f.1 in
       world.sound.apart guard.0 i (subst (Guards o guard.0) f.2 guard.1) tells))
+
+  -- nor of the root's word, and so the words tell of both what the opening's do
+  root_stays : words_after (slice_index o.words) m.log 64 ≡ slice_index o.words 64
+  root_stays =
+      replayed-other every m.log 64 (slice_index o.words 64)
+      (λ e there. false_from_ne_true (is_final e.difference 64)
+      (λ is.
+      let f = final_there e.difference 64 is in
+      let guard = (world.each_entry e there).guarded f.0 f.1 in
+      let behind : 512 + 1024 * o.lanes ≤ 64 = world.sound.behind_areas guard.0 64 (subst (Guards o guard.0) f.2 guard.1) in
+      absurd (omega (arith, behind))))
+
+  pub tells_as_opening : TellsAsOpening o (words_after (slice_index o.words) m.log)
+  tells_as_opening = record { blocks = heads_stay; root = root_stays }
 
   -- a block that was found under a lock is one of the words after the history
   found_stays : (line lines : ℕ) → heap_fault (words_after (slice_index o.words) m.log) o.lanes o.zones ≡ None → block_at o.lanes o.words line ≡ Some lines

@@ -29,7 +29,7 @@ use Rattle.pm_world.proofs.Losses.{loses-flight, some_lane}
 use Rattle.pm_world.proofs.Replays.{replayed-more}
 use Rattle.pm_crash.specs.Draws.{DrawsStep, KeepsDecided, kept_log, kept_words}
 use Rattle.pm_crash.specs.Held.{HoldsPool}
-use Rattle.pm_crash.specs.HeldHistory.{DrawsEnded, HoldReplay, IsEndedCall, IsHeldHistory}
+use Rattle.pm_crash.specs.HeldHistory.{DrawsOnAny, HoldReplay, IsEndedOnAny, IsHeldHistory}
 use Rattle.pm_crash.specs.OpenCall.{IsGivenUp, IsWholeCall}
 use Rattle.pm_crash.specs.Pending.{act_of, acts_of, pending_after, pending_before, state_after}
 use Rattle.pm_crash.proofs.Drawn.{given_up_draws, own, whole_draws}
@@ -95,7 +95,7 @@ draw_left o log v n header pool keep left held =
 
 -- a draw of an ended call leaves it so
 pub draw_stays_held : (o : Opening) (mem : Memory) (views : Views) (log : List Entry) (decided later : ℕ → Bool) → World o mem views log decided → (k n : ℕ) → k < o.lanes → flight (views k) ≡ None
-    → is_redoing (views k).log.phase ≡ false → KeepsDecided decided later → (header : Header) (pool : PoolView) → (views k).pool ≡ header.id → IsEndedCall (views k) → IsHeldHistory o log decided header pool
+    → is_redoing (views k).log.phase ≡ false → KeepsDecided decided later → (header : Header) (pool : PoolView) → (views k).pool ≡ header.id → IsEndedOnAny (views k) → IsHeldHistory o log decided header pool
     → IsHeldHistory o (log ++ entry_of (views k) n ∷ []) later header pool
 draw_stays_held o mem views log decided later world k n inside idle still more header pool id ended history = record {
   each = λ keep keeps.
@@ -138,7 +138,7 @@ crash_leaves_replay o mem views log decided image header pool world history surv
 
 -- so does each lawful step of a lane, if what it draws is an ended call
 pub step_stays_held : (o : Opening) (mem : Memory) (views : Views) (log : List Entry) (decided : ℕ → Bool) → World o mem views log decided → (k : ℕ) (s : LaneStep) → k < o.lanes → IsLawful (views k) s
-    → (header : Header) (pool : PoolView) → (views k).pool ≡ header.id → DrawsEnded (views k) s → IsHeldHistory o log decided header pool
+    → (header : Header) (pool : PoolView) → (views k).pool ≡ header.id → DrawsOnAny (views k) s → IsHeldHistory o log decided header pool
     → IsHeldHistory o (log_after log (views k) s) (decided_after decided (views k) s) header pool
 step_stays_held o mem views log decided world k (Draw n) inside lawful header pool id ended history =
     draw_stays_held o mem views log decided (decided_after decided (views k) (Draw n)) world k n inside (ap (λ (phase : Phase). flight_in phase (views k).number) lawful.allowed.is_open) (ap is_redoing lawful.allowed.is_open)

@@ -170,14 +170,14 @@ module _ (o : Opening) (k : ℕ) (header : Header) (pool : PoolView) (m : Moment
       }
 
 module _ (o : Opening) (memory : Memory) (views : Views) (k : ℕ) (header : Header) (pool : PoolView) (steps : List Move) (m : Moment) (image : List ℕ) where
-  pub replay_held : Begins o memory views k header pool → IsCourse k (beginning memory views) steps m → Survives o m.memory m.views image → NoneTorn o m.views image
+  pub replay_held : Begins o memory views k header pool → IsCourse o k (beginning memory views) steps m → Survives o m.memory m.views image → NoneTorn o m.views image
       → HoldsReplay (recovered_at image o.lanes) o.lanes o.zones header pool (kept_entries o m image)
   replay_held begins course = image_replays o k header pool m (goes_along o k header pool (beginning memory views) steps m (goes_first o memory views k header pool begins) course) image
 
-  pub ended_kept : Begins o memory views k header pool → IsCourse k (beginning memory views) steps m → (e : Entry) → Contains m.log e → IsAcknowledged m.views e → Contains (kept_entries o m image) e
+  pub ended_kept : Begins o memory views k header pool → IsCourse o k (beginning memory views) steps m → (e : Entry) → Contains m.log e → IsAcknowledged m.views e → Contains (kept_entries o m image) e
   ended_kept begins course = acknowledged_kept o k header pool m (goes_along o k header pool (beginning memory views) steps m (goes_first o memory views k header pool begins) course) image
 
-  pub replay_meant : Begins o memory views k header pool → IsCourse k (beginning memory views) steps m → Survives o m.memory m.views image → NoneTorn o m.views image
+  pub replay_meant : Begins o memory views k header pool → IsCourse o k (beginning memory views) steps m → Survives o m.memory m.views image → NoneTorn o m.views image
       → MeansReplay image pool (kept_entries o m image)
   replay_meant begins course survives whole =
       let g : Goes o k header pool m = goes_along o k header pool (beginning memory views) steps m (goes_first o memory views k header pool begins) course in
@@ -185,7 +185,7 @@ module _ (o : Opening) (memory : Memory) (views : Views) (k : ℕ) (header : Hea
       record { last = held.last; replays = held.replays; means = image_means o k header pool m g image pool begins.holds begins.clean survives whole held }
 
   -- the same from between calls on
-  module _ (first : Moment) (begins : BeginsBetween o k header pool first) (course : IsCourse k first steps m) where
+  module _ (first : Moment) (begins : BeginsBetween o k header pool first) (course : IsCourse o k first steps m) where
     goes : Goes o k header pool m
     goes = goes_along o k header pool first steps m (goes_between o k header pool first begins) course
 

@@ -55,6 +55,10 @@ pub mod UnreadNow
 pub mod LongerReplays
 pub mod DrawnWords
 pub mod OneCourse
+pub mod BlocksApart
+pub mod BlockPlaces
+pub mod ReservedBlocks
+pub mod RoomForReserved
 pub mod KeptEntries
 pub mod EndedCalls
 pub mod InFlight
@@ -87,6 +91,7 @@ pub mod KnownHeap
 pub mod Raises
 pub mod Raising
 pub mod SeenAlone
+pub mod BorneOut
 pub mod RisingBlocks
 pub mod NoHeapFault
 pub mod OneBlockMore

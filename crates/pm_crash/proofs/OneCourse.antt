@@ -51,7 +51,7 @@ use Rattle.pm_crash.specs.Pending.{pending_after, pending_before, pending_from, 
 use Rattle.pm_crash.proofs.CleanWords.{clean_words_hold, clean_words_sound, world_begins}
 use Rattle.pm_crash.proofs.Continued.{two_same}
 use Rattle.pm_crash.proofs.Differing.{difference_makes_call}
-use Rattle.pm_crash.proofs.DrawnWords.{drawn_before}
+use Rattle.pm_crash.proofs.DrawnWords.{drawn_before, tells_as_opening}
 use Rattle.pm_crash.proofs.FrontWords.{front_stays}
 use Rattle.pm_crash.proofs.HeapWordsAlone.{held_by_heap}
 use Rattle.pm_crash.proofs.HistoryActs.{act_drawn, replays_none, turns_history}
@@ -59,31 +59,31 @@ use Rattle.pm_crash.proofs.LogCourse.{InRange, range_after}
 use Rattle.pm_crash.proofs.LongerReplays.{every, holds_once_more, words_after}
 
 -- a lawful step is one that is paid
-paid_keeps : (s : Step) → Keeps s → KeepsFrom (λ v. IsLawful v s × IsPaid v s) s
-paid_keeps s keeps o old new views log decided k v world inside is may moves = keeps o old new views log decided k v world inside is may.0 moves
+paid_keeps : (began : Opening) (s : Step) → Keeps s → KeepsFrom (λ v. IsLawful v s × IsPaid began v s) s
+paid_keeps began s keeps o old new views log decided k v world inside is may moves = keeps o old new views log decided k v world inside is may.0 moves
 
 -- each step keeps the world
-keeps_each : (s : Step) → KeepsFrom (λ v. IsLawful v s × IsPaid v s) s
-keeps_each (Load w x) = paid_keeps (Load w x) (loads w x)
-keeps_each (Store w x) = paid_keeps (Store w x) (stores w x)
-keeps_each (Or w bits found) = paid_keeps (Or w bits found) (sets w bits found)
-keeps_each (And w bits found) = paid_keeps (And w bits found) (clears w bits found)
-keeps_each (Flush line) = paid_keeps (Flush line) (flushes line)
-keeps_each Drain = paid_keeps Drain drains
-keeps_each (TakeWrite line won) = paid_keeps (TakeWrite line won) (takes_write line won)
-keeps_each (TakeRead line won) = paid_keeps (TakeRead line won) (takes_read line won)
-keeps_each (Raise line won) = λ o old new views log decided k v world inside is lawful moves. absurd moves
-keeps_each (Give line) = paid_keeps (Give line) (gives line)
-keeps_each (ZoneTry zone won) = paid_keeps (ZoneTry zone won) (tries_zone zone won)
-keeps_each (ZoneGive zone) = paid_keeps (ZoneGive zone) (gives_zone_back zone)
-keeps_each (Occupied at found) = paid_keeps (Occupied at found) (sees_occupancy at found)
-keeps_each (Occupy at bits won) = paid_keeps (Occupy at bits won) (occupies at bits won)
-keeps_each (Vacate at bits) = paid_keeps (Vacate at bits) (vacates at bits)
-keeps_each (Draw n) = λ o old new views log decided k v world inside is may moves. draws n o old new views log decided k v world inside is (may.0, may.1.1) moves
-keeps_each (NumberSeen n) = paid_keeps (NumberSeen n) (sees_numbers n)
-keeps_each (StopSeen set) = paid_keeps (StopSeen set) (sees_stops set)
-keeps_each SetStop = paid_keeps SetStop sets_stop
-keeps_each (Tell operation reply) = paid_keeps (Tell operation reply) (tells operation reply)
+keeps_each : (began : Opening) (s : Step) → KeepsFrom (λ v. IsLawful v s × IsPaid began v s) s
+keeps_each began (Load w x) = paid_keeps began (Load w x) (loads w x)
+keeps_each began (Store w x) = paid_keeps began (Store w x) (stores w x)
+keeps_each began (Or w bits found) = paid_keeps began (Or w bits found) (sets w bits found)
+keeps_each began (And w bits found) = paid_keeps began (And w bits found) (clears w bits found)
+keeps_each began (Flush line) = paid_keeps began (Flush line) (flushes line)
+keeps_each began Drain = paid_keeps began Drain drains
+keeps_each began (TakeWrite line won) = paid_keeps began (TakeWrite line won) (takes_write line won)
+keeps_each began (TakeRead line won) = paid_keeps began (TakeRead line won) (takes_read line won)
+keeps_each began (Raise line won) = λ o old new views log decided k v world inside is lawful moves. absurd moves
+keeps_each began (Give line) = paid_keeps began (Give line) (gives line)
+keeps_each began (ZoneTry zone won) = paid_keeps began (ZoneTry zone won) (tries_zone zone won)
+keeps_each began (ZoneGive zone) = paid_keeps began (ZoneGive zone) (gives_zone_back zone)
+keeps_each began (Occupied at found) = paid_keeps began (Occupied at found) (sees_occupancy at found)
+keeps_each began (Occupy at bits won) = paid_keeps began (Occupy at bits won) (occupies at bits won)
+keeps_each began (Vacate at bits) = paid_keeps began (Vacate at bits) (vacates at bits)
+keeps_each began (Draw n) = λ o old new views log decided k v world inside is may moves. draws n o old new views log decided k v world inside is (may.0, may.1.1) moves
+keeps_each began (NumberSeen n) = paid_keeps began (NumberSeen n) (sees_numbers n)
+keeps_each began (StopSeen set) = paid_keeps began (StopSeen set) (sees_stops set)
+keeps_each began SetStop = paid_keeps began SetStop sets_stop
+keeps_each began (Tell operation reply) = paid_keeps began (Tell operation reply) (tells operation reply)
 
 -- a step that draws no number leaves the history, and the lane no other number
 record DrawsNone (log : List Entry) (v : View) (s : Step) : Type 0 where
@@ -221,9 +221,9 @@ module _ (o : Opening) (k : ℕ) (header : Header) (pool : PoolView) (m : Moment
   idle_entries : (j : ℕ) → j < o.lanes → j ≢ k → (m.views j).log.entries ≡ []
   idle_entries j low other = subst (λ (p : Phase). HasNone p (m.views j)) (g.others j low other) (g.world.each_lane j low).entries.none
 
-  module _ (s : Move) (makes : Makes k m s) where
+  module _ (s : Move) (makes : Makes o k m s) where
     world_goes : World o (moved k m s).memory (moved k m s).views (moved k m s).log (moved k m s).decided
-    world_goes = (keeps_each s.step o m.memory s.memory m.views m.log m.decided k (m.views k) g.world g.in_lanes refl (makes.lawful, makes.paid) makes.moves).0
+    world_goes = (keeps_each o s.step o m.memory s.memory m.views m.log m.decided k (m.views k) g.world g.in_lanes refl (makes.lawful, makes.paid) makes.moves).0
 
     others_rest : (j : ℕ) → j < o.lanes → j ≢ k → ((moved k m s).views j).log.phase ≡ Idle
     others_rest j low other = ap (λ (u : View). u.log.phase) (view_else m.views k (after (m.views k) s.step) j other) ∙ g.others j low other
@@ -265,7 +265,7 @@ module _ (o : Opening) (k : ℕ) (header : Header) (pool : PoolView) (m : Moment
   pub reached_all : Reaches o header pool m.log
   reached_all = subst (Reaches o header pool) (take_all (length m.log) m.log (omega arith)) (g.reached (length m.log) g.few (omega arith))
 
-  module _ (n : ℕ) (memory : Memory) (makes : Makes k m (record { step = Draw n; memory = memory })) where
+  module _ (n : ℕ) (memory : Memory) (makes : Makes o k m (record { step = Draw n; memory = memory })) where
     abbrev longer : List Entry
     longer = m.log ++ entry_of (m.views k) n ∷ []
 
@@ -280,7 +280,7 @@ module _ (o : Opening) (k : ℕ) (header : Header) (pool : PoolView) (m : Moment
         let holds : HoldsPool words v.lanes v.zones header reached_all.last =
         two_same (λ (a b : ℕ). HoldsPool words a b header reached_all.last) o.lanes v.lanes o.zones v.zones (sym here.lanes) (sym here.zones) reached_all.holds in
         let step : MakesStep v words header reached_all.last =
-        makes.paid.0 words header reached_all.last holds g.of_pool
+        makes.paid.0 words header reached_all.last (tells_as_opening o k m g.world g.in_lanes) holds g.of_pool
         (drawn_before o k m g.world g.in_lanes g.alone idle_records idle_entries makes.lawful.allowed.is_open reached_all.holds.no_fault) in
         let made : HoldsPool (made_words v words) o.lanes o.zones header step.next =
         two_same (λ (a b : ℕ). HoldsPool (made_words v words) a b header step.next) v.lanes o.lanes v.zones o.zones here.lanes here.zones step.holds in
@@ -325,16 +325,16 @@ module _ (o : Opening) (k : ℕ) (header : Header) (pool : PoolView) (m : Moment
           (cases_lt (length m.log) j);
     }
 
-pub goes_on : (o : Opening) (k : ℕ) (header : Header) (pool : PoolView) (m : Moment) (s : Move) → Goes o k header pool m → Makes k m s → Goes o k header pool (moved k m s)
+pub goes_on : (o : Opening) (k : ℕ) (header : Header) (pool : PoolView) (m : Moment) (s : Move) → Goes o k header pool m → Makes o k m s → Goes o k header pool (moved k m s)
 goes_on o k header pool m s g makes = ⊎_elim
     (λ (draw : IsDraw s.step).
-    subst (λ (x : Step). Makes k m (record { step = x; memory = s.memory }) → Goes o k header pool (moved k m (record { step = x; memory = s.memory }))) (sym draw.1)
+    subst (λ (x : Step). Makes o k m (record { step = x; memory = s.memory }) → Goes o k header pool (moved k m (record { step = x; memory = s.memory }))) (sym draw.1)
     (λ drawn. goes_drawn o k header pool m g draw.0 s.memory drawn) makes)
     (λ (none : DrawsNone m.log (m.views k) s.step). goes_still o k header pool m g s makes none)
     (draws_or_not m.log (m.views k) s.step)
 
 -- and so to the course's end
-pub goes_along : (o : Opening) (k : ℕ) (header : Header) (pool : PoolView) (m : Moment) (steps : List Move) (last : Moment) → Goes o k header pool m → IsCourse k m steps last → Goes o k header pool last
+pub goes_along : (o : Opening) (k : ℕ) (header : Header) (pool : PoolView) (m : Moment) (steps : List Move) (last : Moment) → Goes o k header pool m → IsCourse o k m steps last → Goes o k header pool last
 unfolding IsCourse
 goes_along o k header pool m [] last g course = subst (Goes o k header pool) (sym course) g
 goes_along o k header pool m (s ∷ steps) last g course = goes_along o k header pool (moved k m s) steps last (goes_on o k header pool m s g course.0) course.1

@@ -12,8 +12,9 @@ use Rattle.pm_world.specs.History.{Entry}
 use Rattle.pm_world.specs.Opening.{Opening}
 use Rattle.pm_crash.specs.Draws.{KeepsDecided, kept_log, kept_words}
 use Rattle.pm_crash.specs.Held.{HoldsPool}
-use Rattle.pm_crash.specs.OpenCall.{IsGivenUp, IsWholeCall}
+use Rattle.pm_crash.specs.OpenCall.{IsGivenUp, IsWholeCall, MakesItsStep}
 use Rattle.pm_crash.specs.Pending.{acts_of, state_after}
+use Rattle.pm_crash.specs.Reserved.{IsBorneOut}
 use Rattle.pm_view.specs.Views.{changes_heap}
 
 -- the words hold what the kept calls make of a pool, one whole call after another
@@ -26,11 +27,21 @@ pub record HoldReplay (w : ℕ → ℕ) (o : Opening) (keep : ℕ → Bool) (log
 pub record IsHeldHistory (o : Opening) (log : List Entry) (decided : ℕ → Bool) (header : Header) (pool : PoolView) : Type 0 where
   pub each : (keep : ℕ → Bool) → KeepsDecided decided keep → HoldReplay (kept_words o keep log) o keep log header pool
 
--- the view's call may enter the history: it is whole, or was given up and taken back
-abbrev pub IsEndedCall : View → Type 0
-IsEndedCall v = IsWholeCall v ⊎ ((e : TxErr) × IsGivenUp v e × (v.log.records ≡ []) × (v.log.entries ≡ []))
+-- the view's call may enter a history of many lanes: it is whole, or was given up and taken back, whatever pool the words before it hold
+abbrev pub IsEndedOnAny : View → Type 0
+IsEndedOnAny v = IsWholeCall v ⊎ ((e : TxErr) × IsGivenUp v e × (v.log.records ≡ []) × (v.log.entries ≡ []))
 
--- a draw is of an ended call, which allocates and frees no block
+-- The view's call may enter the history of a lane alone: it is so, or it is a step from each pool that may be the one before what it told of the heap, and what
+-- the lane has bears that out.
+abbrev pub IsEndedCall : View → Type 0
+IsEndedCall v = IsWholeCall v ⊎ (((e : TxErr) × IsGivenUp v e × (v.log.records ≡ []) × (v.log.entries ≡ [])) ⊎ (MakesItsStep v × IsBorneOut v))
+
+-- a draw is of a call that ended on any pool, and publishes no change of a block
+abbrev pub DrawsOnAny : View → Step → Type 0
+DrawsOnAny v (Draw n) = IsEndedOnAny v × (changes_heap v ≡ false)
+DrawsOnAny v s = Unit {0}
+
+-- a draw is of an ended call, which publishes no change of a block
 abbrev pub DrawsEnded : View → Step → Type 0
 DrawsEnded v (Draw n) = IsEndedCall v × (changes_heap v ≡ false)
 DrawsEnded v s = Unit {0}

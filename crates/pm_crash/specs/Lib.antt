@@ -13,6 +13,7 @@ pub mod Lines
 pub mod OneLane
 pub mod Locks
 pub mod CallBlocks
+pub mod Reserved
 pub mod OpenCall
 pub mod Operations
 pub mod OnActions

@@ -1,5 +1,5 @@
 -- The course of a world in which one lane makes steps, and what its history makes of the pool that the world began from.
-use Rattle.std.specs.Prelude.{◌≡◌, ℕ, ◌<◌, Bool, false, Contains, List, [], ◌∷◌, length, Some}
+use Rattle.std.specs.Prelude.{◌≡◌, ℕ, ◌<◌, Bool, false, Contains, List, [], ◌∷◌, length, slice_index, Some}
 use Rattle.std.specs.List.{filter}
 use Rattle.pm_header.specs.declared.header.Header.{Header}
 use Rattle.pm_objects.specs.declared.pool.PoolView.{PoolView}
@@ -17,7 +17,7 @@ use Rattle.pm_world.specs.Laws.{with_view}
 use Rattle.pm_world.specs.Lawful.{IsLawful}
 use Rattle.pm_world.specs.Memory.{Memory}
 use Rattle.pm_world.specs.Moves.{Moves}
-use Rattle.pm_world.specs.Opening.{Opening}
+use Rattle.pm_world.specs.Opening.{Opening, TellsOfBlocks}
 use Rattle.pm_world.specs.Opens.{IsClean, IsFresh, IsOpened, IsOver, IsRested, IsStanding}
 use Rattle.pm_world.specs.World.{Views}
 use Rattle.pm_crash.specs.Pending.{acts_of, state_after}
@@ -49,26 +49,31 @@ moved k m s = record {
   decided = decided_after m.decided (m.views k) s.step;
 }
 
--- the lane's call is a step of the plain model, whatever pool the words before it hold
-abbrev pub IsModelStep : View → Type 0
-IsModelStep v = (w : ℕ → ℕ) (header : Header) (pool : PoolView) → HoldsPool w v.lanes v.zones header pool → v.pool ≡ header.id → IsBefore v w
+-- the words tell of blocks, and of the pool's root, what the opening's do: within one world no call changes these
+pub record TellsAsOpening (o : Opening) (w : ℕ → ℕ) : Type 0 where
+  pub blocks : (i : ℕ) → TellsOfBlocks o i → w i ≡ slice_index o.words i
+  pub root : w 64 ≡ slice_index o.words 64
+
+-- the lane's call is a step of the plain model, whatever pool such words before it hold
+abbrev pub IsModelStep : Opening → View → Type 0
+IsModelStep o v = (w : ℕ → ℕ) (header : Header) (pool : PoolView) → TellsAsOpening o w → HoldsPool w v.lanes v.zones header pool → v.pool ≡ header.id → IsBefore v w
     → MakesStep v w header pool
 
--- what a lane owes for a step besides what is lawful: a call that draws is a step of the plain model, and allocates and frees no block
-abbrev pub IsPaid : View → Step → Type 0
-IsPaid v (Draw n) = IsModelStep v × (changes_heap v ≡ false)
-IsPaid v s = Unit {0}
+-- what a lane owes for a step besides what is lawful: a call that draws is a step of the plain model, and publishes no change of a block
+abbrev pub IsPaid : Opening → View → Step → Type 0
+IsPaid o v (Draw n) = IsModelStep o v × (changes_heap v ≡ false)
+IsPaid o v s = Unit {0}
 
 -- lane k makes the step
-pub record Makes (k : ℕ) (m : Moment) (s : Move) : Type 0 where
+pub record Makes (o : Opening) (k : ℕ) (m : Moment) (s : Move) : Type 0 where
   pub lawful : IsLawful (m.views k) s.step
   pub moves : Moves k s.step m.memory s.memory
-  pub paid : IsPaid (m.views k) s.step
+  pub paid : IsPaid o (m.views k) s.step
 
--- lane k makes these steps, one after another, from the one moment to the other
-unfoldable pub IsCourse : ℕ → Moment → List Move → Moment → Type 0
-IsCourse k m [] last = last ≡ m
-IsCourse k m (s ∷ steps) last = Makes k m s × IsCourse k (moved k m s) steps last
+-- in the world that began so, lane k makes these steps, one after another, from the one moment to the other
+unfoldable pub IsCourse : Opening → ℕ → Moment → List Move → Moment → Type 0
+IsCourse o k m [] last = last ≡ m
+IsCourse o k m (s ∷ steps) last = Makes o k m s × IsCourse o k (moved k m s) steps last
 
 -- a world begins over an image that holds a pool, with each log clean and no lane having made a step; lane k is of this pool
 pub record Begins (o : Opening) (memory : Memory) (views : Views) (k : ℕ) (header : Header) (pool : PoolView) : Type 0 where

@@ -229,3 +229,9 @@ pub record IsWholeCall (v : View) : Type 0 where
   pub outside : (i : ℕ) → is_recorded v.log.records i ≡ true → is_in_area v.lane i ≡ false
   pub makes : (w : ℕ → ℕ) (header : Header) (pool : PoolView) → HoldsPool w v.lanes v.zones header pool → v.pool ≡ header.id → IsBefore v w
       → MakesStep v w header pool
+
+-- the lane's call is a step of the plain model from each pool that may be the one before what it allocated and freed. It recorded no word of its own area
+pub record MakesItsStep (v : View) : Type 0 where
+  pub outside : (i : ℕ) → is_recorded v.log.records i ≡ true → is_in_area v.lane i ≡ false
+  pub makes : (w : ℕ → ℕ) (header : Header) (pool : PoolView) → HoldsPool w v.lanes v.zones header pool → v.pool ≡ header.id → IsBefore v w → MayPrecede pool v
+      → MakesStep v w header pool

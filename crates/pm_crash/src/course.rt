@@ -29,8 +29,8 @@ pub fn a_recovered_pool_opens_a_world()
 /// A law: a call that is whole is a step of the plain model, whatever pool it meets; and so is one that was given up, once its log has no
 /// record. No code runs.
 pub fn an_ended_call_is_a_model_step()
-    ensures whole { (v : View) → IsWholeCall v → IsModelStep v }
-    ensures given_up { (v : View) (e : TxErr) → IsGivenUp v e → v.log.records ≡ [] → v.log.entries ≡ [] → IsModelStep v }
+    ensures whole { (o : Opening) (v : View) → IsWholeCall v → IsModelStep o v }
+    ensures given_up { (o : Opening) (v : View) (e : TxErr) → IsGivenUp v e → v.log.records ≡ [] → v.log.entries ≡ [] → IsModelStep o v }
 {}
 
 /// A law: where one lane alone makes steps, every image that a power failure leaves means the pool to which the entries that it does not lose
@@ -38,18 +38,18 @@ pub fn an_ended_call_is_a_model_step()
 /// that begins between calls, from the words as they stand, with the calls so far. No code runs.
 pub fn one_lanes_images_mean_the_replay()
     ensures meaning { (o : Opening) (memory : Memory) (views : Views) (k : ℕ) (header : Header) (pool : PoolView) (steps : List Move) (m : Moment) (image : List ℕ)
-        → Begins o memory views k header pool → IsCourse k (beginning memory views) steps m → Survives o m.memory m.views image → NoneTorn o m.views image
+        → Begins o memory views k header pool → IsCourse o k (beginning memory views) steps m → Survives o m.memory m.views image → NoneTorn o m.views image
         → MeansReplay image pool (kept_entries o m image) }
     ensures replay { (o : Opening) (memory : Memory) (views : Views) (k : ℕ) (header : Header) (pool : PoolView) (steps : List Move) (m : Moment) (image : List ℕ)
-        → Begins o memory views k header pool → IsCourse k (beginning memory views) steps m → Survives o m.memory m.views image → NoneTorn o m.views image
+        → Begins o memory views k header pool → IsCourse o k (beginning memory views) steps m → Survives o m.memory m.views image → NoneTorn o m.views image
         → HoldsReplay (recovered_at image o.lanes) o.lanes o.zones header pool (kept_entries o m image) }
     ensures ended { (o : Opening) (memory : Memory) (views : Views) (k : ℕ) (header : Header) (pool : PoolView) (steps : List Move) (m : Moment) (image : List ℕ)
-        → Begins o memory views k header pool → IsCourse k (beginning memory views) steps m
+        → Begins o memory views k header pool → IsCourse o k (beginning memory views) steps m
         → (e : Entry) → Contains m.log e → IsAcknowledged m.views e → Contains (kept_entries o m image) e }
     ensures between { (o : Opening) (k : ℕ) (header : Header) (pool : PoolView) (steps : List Move) (m : Moment) (image : List ℕ) (first : Moment)
-        → BeginsBetween o k header pool first → IsCourse k first steps m → Survives o m.memory m.views image → NoneTorn o m.views image
+        → BeginsBetween o k header pool first → IsCourse o k first steps m → Survives o m.memory m.views image → NoneTorn o m.views image
         → MeansReplay image pool (kept_entries o m image) }
     ensures between_ended { (o : Opening) (k : ℕ) (header : Header) (pool : PoolView) (steps : List Move) (m : Moment) (image : List ℕ) (first : Moment)
-        → BeginsBetween o k header pool first → IsCourse k first steps m
+        → BeginsBetween o k header pool first → IsCourse o k first steps m
         → (e : Entry) → Contains m.log e → IsAcknowledged m.views e → Contains (kept_entries o m image) e }
 {}

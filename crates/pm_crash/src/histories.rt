@@ -15,7 +15,7 @@ ghost use Rattle.pm_world.specs.Opening.{Opening};
 ghost use Rattle.pm_world.specs.World.{Views, World};
 ghost use Rattle.pm_crash.specs.Draws.{DrawsStep, KeepsDecided, kept_words};
 ghost use Rattle.pm_crash.specs.Held.{HoldsPool};
-ghost use Rattle.pm_crash.specs.HeldHistory.{DrawsEnded, HoldReplay, IsHeldHistory};
+ghost use Rattle.pm_crash.specs.HeldHistory.{DrawsOnAny, HoldReplay, IsHeldHistory};
 ghost use Rattle.pm_crash.specs.OpenCall.{IsBefore, IsGivenUp, IsWholeCall};
 
 /// A law: whatever of the calls in flight is left out, the words that the others make of the opening's may be those before the open call of
@@ -49,7 +49,7 @@ pub fn a_history_is_held()
         → HoldsPool (slice_index o.words) o.lanes o.zones header pool → IsHeldHistory o [] decided header pool }
     ensures steps { (o : Opening) (mem : Memory) (views : Views) (log : List Entry) (decided : ℕ → Bool)
         → World o mem views log decided → (k : ℕ) (s : Step) → k < o.lanes → IsLawful (views k) s
-        → (header : Header) (pool : PoolView) → (views k).pool ≡ header.id → DrawsEnded (views k) s
+        → (header : Header) (pool : PoolView) → (views k).pool ≡ header.id → DrawsOnAny (views k) s
         → IsHeldHistory o log decided header pool
         → IsHeldHistory o (log_after log (views k) s) (decided_after decided (views k) s) header pool }
 {}

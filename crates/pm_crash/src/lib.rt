@@ -27,8 +27,9 @@ pub use actions::{
 };
 pub use alone::{
     a_call_in_flight_is_lost_by_its_generation, a_generation_rises_with_each_store_of_it,
-    a_lane_alone_knows_what_is_taken, a_lane_alone_leaves_its_whole_calls, a_pool_stays_sound,
-    no_record_is_torn, no_record_is_torn_behind_a_rest,
+    a_lane_alone_bears_out_its_call, a_lane_alone_knows_what_is_taken,
+    a_lane_alone_leaves_its_whole_calls, a_pool_stays_sound, no_record_is_torn,
+    no_record_is_torn_behind_a_rest,
 };
 pub use blocks::{
     a_filled_block_has_a_new_object, a_freed_block_holds_none, a_new_block_holds_a_new_object,

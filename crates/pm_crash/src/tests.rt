@@ -43,6 +43,7 @@ fn laws(_rt: HostRuntime) {
     no_record_is_torn_behind_a_rest();
     a_pool_stays_sound();
     a_lane_alone_knows_what_is_taken();
+    a_lane_alone_bears_out_its_call();
     a_filled_block_has_a_new_object();
     a_write_in_a_new_object_stays();
     a_new_block_holds_a_new_object();

@@ -1,4 +1,4 @@
-ghost use Rattle.std.specs.Prelude.{◌≡◌, ◌≢◌, ℕ, ◌+◌, ◌<◌, ◌≤◌, Contains, List, All, None, Some, Option, false, true};
+ghost use Rattle.std.specs.Prelude.{◌≡◌, ◌≢◌, ℕ, ◌+◌, ◌<◌, ◌≤◌, Contains, List, [], All, map, None, Some, Option, false, true};
 ghost use Rattle.pm_header.specs.declared.header.Header.{Header};
 ghost use Rattle.pm_objects.specs.declared.calls.Operation.{Operation};
 ghost use Rattle.pm_objects.specs.declared.calls.Operation.TheVariants.{Abort, Commit, Free, Publish};
@@ -17,12 +17,14 @@ ghost use Rattle.pm_model.specs.Checks.{Range};
 ghost use Rattle.pm_model.specs.declared.stage.Stage.{Stage};
 ghost use Rattle.pm_model.specs.declared.stage.Stage.TheVariants as stage;
 ghost use Rattle.pm_view.specs.View.{View};
-ghost use Rattle.pm_crash.specs.CallBlocks.{IsOldIn, IsSameIn, MayPrecede, NewObject, is_freed_in, is_gone_in, is_new_in};
+ghost use Rattle.pm_world.specs.Records.{pool_entries};
+ghost use Rattle.pm_crash.specs.CallBlocks.{IsOldIn, IsSameIn, MayPrecede, NewObject, blocks_in, is_freed_in, is_gone_in, is_new_in};
 ghost use Rattle.pm_crash.specs.Held.{HoldsPool};
 ghost use Rattle.pm_crash.specs.OnActions.{AreOld, ChangesPending, IsPublishReasonIn, PublishesIn};
-ghost use Rattle.pm_crash.specs.OpenCall.{IsBefore, IsCommitted, IsUnderWay, LieApart, Turns, WasAborted};
+ghost use Rattle.pm_crash.specs.OpenCall.{IsBefore, IsCommitted, IsUnderWay, LieApart, MakesItsStep, Turns, WasAborted};
 ghost use Rattle.pm_crash.specs.Operations.{AddsNewRange, AddsRange, AllocatesObject, BeginsCall, BeginsLevel, FreesFound, FreesMade, KeepsKnown, KeepsLog, KeepsWords, ReadsBytes, ReadsNewBytes, Refuses, RefusesAlloc, RefusesFree, RefusesGone, RefusesLevel, RefusesNewRange, TakesBack, Tells, TellsNothing, WritesBytes, WritesNewBytes};
-ghost use Rattle.pm_crash.specs.Pending.{pending_in};
+ghost use Rattle.pm_crash.specs.Pending.{pending_in, published_in};
+ghost use Rattle.pm_crash.specs.Performing.{entry_for};
 
 /// A law: a call under way, which may have made and freed objects, goes on with each operation on what it found and did not free, as the plain
 /// model's transaction does: ranges recorded, written and read, further levels begun and ended, actions asked for and published. What it
@@ -102,10 +104,14 @@ pub fn a_call_under_way_is_aborted()
 {}
 
 /// A law: a call under way that commits its outermost level is committed, as the plain model's; and one that was aborted is a step of the plain
-/// model that changes nothing, from each pool that has room for what it allocated. No code runs.
+/// model that changes nothing, from each pool that may precede it. A committed call that has nothing that it made, freed nothing that it found, and
+/// has an entry for each action that it published makes its step; and so does an aborted one with no record and no entry. No code runs.
 pub fn a_call_under_way_ends()
     ensures committed { (v next : View) → IsUnderWay v 1 stage.Work error.None → Tells v next Commit None → next.log.records ≡ v.log.records → KeepsWords v next
         → IsCommitted next }
     ensures aborted { (v : View) (e : TxErr) → WasAborted v e → (w : ℕ → ℕ) (header : Header) (pool : PoolView)
         → HoldsPool w v.lanes v.zones header pool → v.pool ≡ header.id → IsBefore v w → MayPrecede pool v → Turns v pool pool }
+    ensures makes_its_step { (v : View) → IsCommitted v → (blocks_in v).made ≡ [] → (blocks_in v).freed ≡ [] → pool_entries v ≡ map entry_for (published_in v)
+        → MakesItsStep v }
+    ensures aborted_makes_its_step { (v : View) (e : TxErr) → WasAborted v e → v.log.records ≡ [] → v.log.entries ≡ [] → MakesItsStep v }
 {}

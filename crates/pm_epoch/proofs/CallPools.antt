@@ -1,7 +1,6 @@
--- A lane that works alone, with nothing undrained before its call draws: the pool before the call has room for what the call allocated, where that lies in
--- blocks that the lane reserved; and as its words stand they hold the pool that the call stored.
+-- A lane that works alone, with nothing undrained before its call draws: the pool before the call may precede it, where what the lane has bears out what the call
+-- told of the heap; and as its words stand they hold the pool that the call stored.
 use Rattle.std.proofs.Common.{◌≡◌, ◌≢◌, ⊎_elim, ℕ, ◌<◌, ◌≤◌, true, false, not, ◌&&◌, Contains, [], length, slice_index, Some, None, sym, ap, ◌∙◌, subst, arith}
-use Rattle.std.specs.List.{All}
 use Rattle.std.proofs.lemmas.Bool.{cases_Bool, cases_eq, cond-true, false_from_ne_true, false≢true, cond-false, or_from}
 use Rattle.std.proofs.lemmas.Option.{none-some}
 use Rattle.pm_header.specs.declared.header.Header.{Header}
@@ -26,17 +25,18 @@ use Rattle.pm_world.proofs.Slots.{word_recorded}
 use Rattle.pm_crash.specs.Alone.{Begins}
 use Rattle.pm_crash.specs.Held.{HoldsPool}
 use Rattle.pm_crash.specs.OpenCall.{ComesTo, CommitsTo, IsCommitted, IsUnderWay, call_words, IsBefore}
-use Rattle.pm_crash.proofs.AloneCourse.{StandsAlone}
+use Rattle.pm_crash.proofs.AloneCourse.{StandsAlone, may_precede}
 use Rattle.pm_crash.proofs.AloneMemory.{memory_of}
 use Rattle.pm_crash.proofs.Continued.{two_same}
-use Rattle.pm_crash.proofs.DrawnWords.{drawn_before, heads_stay}
+use Rattle.pm_crash.proofs.DrawnWords.{drawn_before, heads_stay, tells_as_opening}
 use Rattle.pm_crash.proofs.EmptyRuns.{new_runs_alike}
 use Rattle.pm_crash.proofs.HeldAlike.{held_alike}
 use Rattle.pm_crash.proofs.LongerReplays.{every}
 use Rattle.pm_crash.proofs.NewRuns.{may_have_runs}
-use Rattle.pm_crash.specs.CallBlocks.{HasRoomFor, allocated_in}
-use Rattle.pm_epoch.specs.Epochs.{HoldsCalls, HoldsCommitted, HoldsOpenCall, IsReservedFor}
-use Rattle.pm_epoch.proofs.RoomForReserved.{room_behind}
+use Rattle.pm_crash.specs.CallBlocks.{MayPrecede}
+use Rattle.pm_crash.specs.OneLane.{TellsAsOpening}
+use Rattle.pm_crash.specs.Reserved.{IsBorneOut}
+use Rattle.pm_epoch.specs.Epochs.{HoldsCalls, HoldsCommitted, HoldsOpenCall}
 use Rattle.pm_epoch.proofs.StandingPools.{holds_calls, image_pool, now, own_fits, reached, words_behind}
 
 module _ (o : Opening) (header : Header) (pool : PoolView) (w : View) (s : StandsAlone o header pool w) (is_open : w.log.phase ≡ Open [] []) (drained : w.changes ≡ []) where
@@ -131,8 +131,15 @@ module _ (o : Opening) (header : Header) (pool : PoolView) (w : View) (s : Stand
   one_pool : (held : HoldsCalls o w header pool) → held.before ≡ (reached o header pool w s).last
   one_pool held = held.holds.holds.is_pool ∙ sym (image_pool o header pool w s writes_none loses_none).is_pool
 
-  pub has_room : (held : HoldsCalls o w header pool) → All (IsReservedFor w) (allocated_in w) → HasRoomFor held.before (allocated_in w)
-  has_room held reserved = subst (λ (p : PoolView). HasRoomFor p (allocated_in w)) (sym (one_pool held)) (room_behind o header pool w s (allocated_in w) reserved)
+  tells : TellsAsOpening o (words_behind o header pool w s)
+  tells = tells_as_opening o 0 (now o header pool w s) s.goes.world s.goes.in_lanes
+
+  -- the pool behind its calls may be the one before this one
+  behind_may_precede : IsBorneOut w → MayPrecede (reached o header pool w s).last w
+  behind_may_precede = may_precede o header pool w s (words_behind o header pool w s) header (reached o header pool w s).last tells (reached o header pool w s).holds
+
+  pub may_precede_call : (held : HoldsCalls o w header pool) → IsBorneOut w → MayPrecede held.before w
+  may_precede_call held borne_out = subst (λ (p : PoolView). MayPrecede p w) (sym (one_pool held)) (behind_may_precede borne_out)
 
   module _ (v : View) (begins : Begins o header pool v) where
     abbrev calls_here : HoldsCalls o w header pool
@@ -141,17 +148,14 @@ module _ (o : Opening) (header : Header) (pool : PoolView) (w : View) (s : Stand
     pub open_calls_held : HoldsCalls o w header pool
     open_calls_held = calls_here
 
-    module _ (reserved : All (IsReservedFor w) (allocated_in w)) where
-      room : HasRoomFor (reached o header pool w s).last (allocated_in w)
-      room = room_behind o header pool w s (allocated_in w) reserved
-
+    module _ (borne_out : IsBorneOut w) where
       pub holds_open_call : (level : ℕ) (at_stage : Stage) (error : TxErr) → IsUnderWay w level at_stage error → HoldsOpenCall o w header pool level at_stage error
       holds_open_call level at_stage error under_way =
           let comes : ComesTo w (words_behind o header pool w s) header (reached o header pool w s).last level at_stage error =
-          under_way.comes (words_behind o header pool w s) header (reached o header pool w s).last before_holds of_pool is_before room in
+          under_way.comes (words_behind o header pool w s) header (reached o header pool w s).last before_holds of_pool is_before (behind_may_precede borne_out) in
           record { held = calls_here; words = words_behind o header pool w s; comes = comes; holds = stored_holds comes.base comes.holds }
 
       pub holds_committed : IsCommitted w → HoldsCommitted o w header pool
       holds_committed committed =
-          let to : CommitsTo w (words_behind o header pool w s) header (reached o header pool w s).last = committed.comes (words_behind o header pool w s) header (reached o header pool w s).last before_holds of_pool is_before room in
+          let to : CommitsTo w (words_behind o header pool w s) header (reached o header pool w s).last = committed.comes (words_behind o header pool w s) header (reached o header pool w s).last before_holds of_pool is_before (behind_may_precede borne_out) in
           record { held = calls_here; words = words_behind o header pool w s; to = to; holds = stored_holds to.base to.holds }

@@ -39,11 +39,12 @@ use Rattle.pm_crash.proofs.Continued.{two_same}
 use Rattle.pm_crash.proofs.EmptyRuns.{class_of_run}
 use Rattle.pm_crash.proofs.ObjectsOfBlocks.{block_is_there, object_is_there}
 use Rattle.pm_crash.proofs.Standing.{standing_is_block}
-use Rattle.pm_epoch.specs.Epochs.{AllocatesInItsRun, AllocatesIts, AllocatesItsChunks, FreesIts, HasEnteredCall, HasEntriesFor, HoldsCommitted, IsReservedFor, IsUnusedChunk}
+use Rattle.pm_epoch.specs.Epochs.{AllocatesInItsRun, AllocatesIts, AllocatesItsChunks, FreesIts, HasEnteredCall, HasEntriesFor, HoldsCommitted}
+use Rattle.pm_crash.specs.Reserved.{IsReservedFor, IsUnusedChunk}
 use Rattle.pm_epoch.proofs.OwnAllocations.{parts}
-use Rattle.pm_epoch.proofs.OwnBits.{InRun, run_chunks, runs_apart, whole_in}
-use Rattle.pm_epoch.proofs.ReservedBlocks.{found_freed}
-use Rattle.pm_epoch.proofs.RoomForReserved.{free_chunks, free_run, overlaps_none}
+use Rattle.pm_crash.proofs.BlocksApart.{InRun, run_chunks, runs_apart, whole_in}
+use Rattle.pm_crash.proofs.ReservedBlocks.{found_freed}
+use Rattle.pm_crash.proofs.BorneOut.{free_chunks, free_run, overlaps_none}
 use Rattle.pm_epoch.proofs.StandingPools.{own_fits}
 
 -- ---- an action that may be performed on a pool may be by other words that hold it

@@ -42,7 +42,7 @@ use Rattle.pm_epoch.specs.Epochs.{HasEntriesFor, LoadsNoneOf, MayPublish}
 use Rattle.pm_epoch.proofs.HandedOver.{allocated, reserved_drawn}
 use Rattle.pm_epoch.proofs.LeftBlocks.{left_before}
 use Rattle.pm_epoch.proofs.PublishingHeap.{same_after}
-use Rattle.pm_epoch.proofs.ReservedBlocks.{found_stands}
+use Rattle.pm_crash.proofs.ReservedBlocks.{found_stands}
 use Rattle.pm_epoch.proofs.StandingPools.{own_fits}
 use Rattle.pm_epoch.proofs.StayingWords.{run_stays, same_block}
 

@@ -2,7 +2,6 @@ pub mod StandingPools
 pub mod Targets
 pub mod PublishedPools
 pub mod PublishedImages
-pub mod ReservedBlocks
 pub mod OwnBits
 pub mod OwnAllocations
 pub mod EnteredCalls
@@ -26,8 +25,6 @@ pub mod HeldBehindLog
 pub mod DrawnCalls
 pub mod PublishingCalls
 pub mod PublishedCalls
-pub mod BlockPlaces
-pub mod RoomForReserved
 pub mod CallPools
 pub mod ReplayedCalls
 pub mod LeftCalls

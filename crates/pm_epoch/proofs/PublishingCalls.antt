@@ -92,7 +92,7 @@ module _ (o : Opening) (header : Header) (pool : PoolView) (u : View) (n : ℕ) 
   -- ---- to what its calls lead
 
   pub held : HoldsCommitted o u header pool
-  held = holds_committed o header pool u stands call.draws.is_open call.draws.drained call.start call.works.begins call.in_reserved call.committed
+  held = holds_committed o header pool u stands call.draws.is_open call.draws.drained call.start call.works.begins call.borne_out call.committed
 
   -- the pool before it, and the one that it publishes all on, which the call stored
   abbrev pub before : PoolView

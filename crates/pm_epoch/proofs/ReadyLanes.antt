@@ -27,7 +27,7 @@ use Rattle.pm_blocks.specs.NewRuns.{IsThere, MayMakeRun}
 use Rattle.pm_alloc.specs.NewObjects.{CanMakeObject}
 use Rattle.pm_epoch.specs.Epochs.{IsAtWorkAlone}
 use Rattle.pm_epoch.proofs.ClearChunks.{is_unused}
-use Rattle.pm_epoch.proofs.ReservedBlocks.{found_stands}
+use Rattle.pm_crash.proofs.ReservedBlocks.{found_stands}
 
 module _ (o : Opening) (mem : Memory) (views : Views) (log : List Entry) (decided : ℕ → Bool) (k : ℕ) (world : World o mem views log decided) (inside : k < o.lanes)
     (sees : (i : ℕ) → mem (PoolWord i) ≡ slice_index (views k).words i) (pictures : (at : Occ) → mem (occ_at at) ≡ occ_in (views k) at) (shape : Shape) (work : IsAtWorkAlone (views k) shape) where

@@ -9,7 +9,6 @@ use Rattle.pm_objects.specs.declared.pool.PoolView.{PoolView}
 use Rattle.pm_image.specs.Blocks.{descriptor_word}
 use Rattle.pm_image.specs.Contents.{bytes_in, offset_in}
 use Rattle.pm_view.specs.declared.occ.Occ.{Occ}
-use Rattle.pm_view.specs.declared.occ.Occ.TheVariants.{Zone}
 use Rattle.pm_view.specs.Held.{is_held}
 use Rattle.pm_view.specs.View.{Lock, Taken, View}
 use Rattle.pm_view.specs.Founds.{IsAlone}
@@ -30,11 +29,12 @@ use Rattle.pm_world.specs.Fits.{IsLane}
 use Rattle.pm_world.specs.Opens.{IsClean}
 use Rattle.std.specs.Option.{ForSome}
 use Rattle.pm_crash.specs.Alone.{WorksAlone, standing}
-use Rattle.pm_crash.specs.CallBlocks.{NewObject, allocated_in, block_of, blocks_in}
-use Rattle.pm_crash.specs.HeapChanges.{HeapChange, run_at}
+use Rattle.pm_crash.specs.CallBlocks.{NewObject, block_of, blocks_in}
+use Rattle.pm_crash.specs.HeapChanges.{HeapChange}
 use Rattle.pm_crash.specs.HeapChanges.HeapChange.{AllocatesChunks, AllocatesInRun, FreesChunks, FreesInRun}
 use Rattle.pm_crash.specs.NewObjects.{block_of_chunks, block_of_run}
 use Rattle.pm_crash.specs.Held.{HoldsImage, HoldsPool}
+use Rattle.pm_crash.specs.Reserved.{IsBorneOut, IsReservedInChunks, IsReservedInRun}
 use Rattle.pm_crash.specs.Publishing.Published.{Changes, Performs}
 use Rattle.pm_crash.specs.Publishing.{AreInOrder, CanPublish, Published, entry_published}
 use Rattle.pm_crash.specs.Taken.{AllocatesBit, FreesBit, TakenBehindAll}
@@ -63,37 +63,6 @@ pub record HasEntriesFor (v : View) (header : Header) (before now : PoolView) (a
 pub record MayPublish (b : View) (header : Header) (before now : PoolView) (all : List Published) : Type 0 where
   pub seal : MaySeal b
   pub has : HasEntriesFor b header before now all
-
--- the lane reserved the chunk of a zone, 0 for the first, and its words describe it by 0
-pub record IsUnusedChunk (lanes : ℕ) (v : View) (zone chunk : ℕ) : Type 0 where
-  pub reserved : reserves v (Zone zone) chunk ≡ true
-  pub undescribed : slice_index v.words (descriptor_word lanes (64 * zone + chunk)) ≡ 0
-
--- the object's block is one of a run, and the lane reserved it there
-pub record IsReservedInRun (v : View) (n : NewObject) : Type 0 where
-  pub chunk : ℕ
-  pub lines : ℕ
-  pub index : ℕ
-  pub in_pool : chunk < 64 * v.zones
-  pub low : index < 64
-  pub described : slice_index v.words (descriptor_word v.lanes chunk) ≡ descriptor_of (Lines lines)
-  pub reserved : reserves v (run_at v.lanes chunk) index ≡ true
-  pub is_block : block_of n ≡ block_of_run v.lanes chunk lines index
-
--- it is whole chunks of a zone, which the lane reserved, and each of which its words describe by 0
-pub record IsReservedInChunks (v : View) (n : NewObject) : Type 0 where
-  pub zone : ℕ
-  pub first : ℕ
-  pub count : ℕ
-  pub in_pool : zone < v.zones
-  pub low : first < 64
-  pub fits : first + count ≤ 64
-  pub unused : (j : ℕ) → j < count → IsUnusedChunk v.lanes v zone (first + j)
-  pub is_block : block_of n ≡ block_of_chunks v.lanes (64 * zone + first) count
-
--- the object's block lies in what the lane reserved
-abbrev pub IsReservedFor : View → NewObject → Type 0
-IsReservedFor v n = IsReservedInRun v n ⊎ IsReservedInChunks v n
 
 -- The change allocates the object's block in the run where the lane reserved it, for its type and the bytes that it has by the lane's words.
 pub record AllocatesInItsRun (v : View) (change : HeapChange) (n : NewObject) : Type 0 where
@@ -300,15 +269,15 @@ abbrev pub LoadsNoneOf : List Final → Step → Type 0
 LoadsNoneOf entries (Load i found) = is_entered entries i ≡ false
 LoadsNoneOf entries s = Unit {0}
 
--- A lane worked alone to where its committed call draws this number, with a log that has what the call publishes; and what the call allocated lies in blocks that
--- the lane reserved. Since the draw it made steps that publish the log. The numbers drawn are its own.
+-- A lane worked alone to where its committed call draws this number, with a log that has what the call publishes; and what the lane has bears out what the call told
+-- of the heap. Since the draw it made steps that publish the log. The numbers drawn are its own.
 pub record IsPublishing (o : Opening) (header : Header) (pool : PoolView) (u : View) (n : ℕ) (all : List Published) (w : View) : Type 0 where
   pub start : View
   pub steps : List Step
   pub works : WorksAlone o header pool start steps u
   pub draws : Allowed u (Draw n)
   pub committed : IsCommitted u
-  pub in_reserved : All (IsReservedFor u) (allocated_in u)
+  pub borne_out : IsBorneOut u
   pub entered : HasEnteredCall u all
   pub log_steps : List Step
   pub publishes : Publishes (after u (Draw n)) log_steps w

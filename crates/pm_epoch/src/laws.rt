@@ -40,16 +40,17 @@ ghost use Rattle.pm_crash.specs.Held.{HoldsImage, HoldsPool};
 ghost use Rattle.pm_crash.specs.Publishing.Published.{Changes, Performs};
 ghost use Rattle.pm_crash.specs.Publishing.{AreInOrder, Published, all_blocks_published, all_pool_published};
 ghost use Rattle.pm_crash.specs.Alone.{BeginsAgain, MeansCalls, WorksAlone, kept_numbered, standing};
-ghost use Rattle.pm_crash.specs.CallBlocks.{HasRoomFor, NewObject, allocated_in, block_of};
+ghost use Rattle.pm_crash.specs.CallBlocks.{MayPrecede, NewObject, block_of};
 ghost use Rattle.pm_crash.specs.OpenCall.{IsCommitted, IsUnderWay, Turns};
 ghost use Rattle.pm_crash.specs.Pending.{acts_alone, state_alone};
+ghost use Rattle.pm_crash.specs.Reserved.{IsBorneOut, IsReservedFor, IsUnusedChunk};
 ghost use Rattle.pm_crash.specs.Taken.{TakenBehindAll};
 ghost use Rattle.pm_fresh.specs.Filled.{IsFilled};
 ghost use Rattle.pm_fresh.specs.Making.{page_in};
 ghost use Rattle.pm_blocks.specs.NewRuns.{IsUnused};
 ghost use Rattle.pm_alloc.specs.NewObjects.{CanMakeObject};
 ghost use Rattle.pm_sealed.specs.Sealed.{LeavesSealed, Publishes, has_nothing};
-ghost use Rattle.pm_epoch.specs.Epochs.{AllocatesOwn, AreOfOwnBits, HandsOver, HasEnded, HasEnteredCall, HasEntriesFor, HasSameHeap, HoldsCalls, HoldsCommitted, HoldsOpenCall, IsAtWorkAlone, IsGiving, IsPublishing, IsReservedFor, IsUnusedChunk, KnowsTaken, LoadsNoneOf, MayPublish, PromisesTaken, PublishesAlone, RestsBehindCall};
+ghost use Rattle.pm_epoch.specs.Epochs.{AllocatesOwn, AreOfOwnBits, HandsOver, HasEnded, HasEnteredCall, HasEntriesFor, HasSameHeap, HoldsCalls, HoldsCommitted, HoldsOpenCall, IsAtWorkAlone, IsGiving, IsPublishing, KnowsTaken, LoadsNoneOf, MayPublish, PromisesTaken, PublishesAlone, RestsBehindCall};
 
 /// A law: in a world where a lane has each word as it is, what it reserved may be allocated: a block of a run, by the class that the run's
 /// descriptor says, and chunks that are described by 0; and a block that it found under a lock may be freed, unless it is the root's, where
@@ -144,13 +145,13 @@ pub fn a_published_pool_stands()
 
 /// A law: where a lane works alone, with nothing undrained and no record or entry in the making, and its call has not drawn its number, its words as
 /// an image hold the pool to which its calls lead, one whole call after another; and as they stand they hold the pool that its open call stored, of which
-/// the copy of the plain model's transaction is that with what the call made and freed, where what it allocated lies in blocks that the lane reserved.
+/// the copy of the plain model's transaction is that with what the call made and freed, where what the lane has bears out what the call told of the heap.
 /// No code runs.
 pub fn a_lane_alone_holds_its_pools()
     ensures calls { (o : Opening) (header : Header) (pool : PoolView) (v w : View) (steps : List Step)
         → WorksAlone o header pool v steps w → w.log.phase ≡ Open [] [] → w.changes ≡ [] → HoldsCalls o w header pool }
     ensures open_call { (o : Opening) (header : Header) (pool : PoolView) (v w : View) (steps : List Step) (level : ℕ) (at_stage : Stage) (error : TxErr)
-        → WorksAlone o header pool v steps w → w.log.phase ≡ Open [] [] → w.changes ≡ [] → IsUnderWay w level at_stage error → All (IsReservedFor w) (allocated_in w)
+        → WorksAlone o header pool v steps w → w.log.phase ≡ Open [] [] → w.changes ≡ [] → IsUnderWay w level at_stage error → IsBorneOut w
         → HoldsOpenCall o w header pool level at_stage error }
 {}
 
@@ -161,20 +162,20 @@ pub fn a_reserved_block_overlaps_none()
         → AreDisjoint (block_of n) b }
 {}
 
-/// A law: where a lane works alone, with nothing undrained and no record or entry in the making, and what its call allocated so far lies in blocks that it
-/// reserved, the pool before the call has room for that. No code runs.
-pub fn a_pool_has_room_for_what_is_reserved()
+/// A law: where a lane works alone, with nothing undrained and no record or entry in the making, and what it has bears out what its call told of the
+/// heap so far, the pool before the call may precede it: it has room for what the call allocated, and its root is none that the call freed. No code runs.
+pub fn a_pool_may_precede_a_call_borne_out()
     ensures { (o : Opening) (header : Header) (pool : PoolView) (start v : View) (steps : List Step)
-        → WorksAlone o header pool start steps v → v.log.phase ≡ Open [] [] → v.changes ≡ [] → (held : HoldsCalls o v header pool) → All (IsReservedFor v) (allocated_in v)
-        → HasRoomFor held.before (allocated_in v) }
+        → WorksAlone o header pool start steps v → v.log.phase ≡ Open [] [] → v.changes ≡ [] → (held : HoldsCalls o v header pool) → IsBorneOut v
+        → MayPrecede held.before v }
 {}
 
-/// A law: where a lane works alone, with nothing undrained and no record or entry in the making, its call is committed and what that allocated lies in
-/// blocks that the lane reserved, the call turns the pool before it into its transaction's copy with what it published performed; and as they stand the
+/// A law: where a lane works alone, with nothing undrained and no record or entry in the making, its call is committed and what the lane has
+/// bears out what that told of the heap, the call turns the pool before it into its transaction's copy with what it published performed; and as they stand the
 /// words hold the pool that the call stored, of which the copy is that with what it made and freed. No code runs.
 pub fn a_committed_call_turns_its_pool()
     ensures { (o : Opening) (header : Header) (pool : PoolView) (start u : View) (steps : List Step)
-        → WorksAlone o header pool start steps u → u.log.phase ≡ Open [] [] → u.changes ≡ [] → IsCommitted u → All (IsReservedFor u) (allocated_in u) → HoldsCommitted o u header pool }
+        → WorksAlone o header pool start steps u → u.log.phase ≡ Open [] [] → u.changes ≡ [] → IsCommitted u → IsBorneOut u → HoldsCommitted o u header pool }
 {}
 
 /// A law: where a lane works alone, and its call turns the pool to which its calls lead into another, they lead to that one with the call, whatever number

@@ -18,7 +18,7 @@ fn laws(_rt: HostRuntime) {
     a_lane_holds_what_it_knows_behind_its_log();
     a_lane_knows_what_is_taken_behind_its_log();
     a_lane_whose_call_has_ended_begins_again();
-    a_pool_has_room_for_what_is_reserved();
+    a_pool_may_precede_a_call_borne_out();
     a_published_call_has_ended();
     a_published_call_is_replayed();
     a_published_pool_stands();

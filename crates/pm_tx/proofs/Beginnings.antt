@@ -162,12 +162,12 @@ module _ {M : Type 0} (at : M → View → Type 0) (lane : Lane M) (v : View) (i
       tt,
       (
         (
-          inr (
+          inr (inl (
             error.Refused r,
             call_refused (after v (Tell (Begin wants) (Some (Refused r)))) wants r (record { call = told_so; no_records = no_records; reason = reason_at r reason }),
             no_records,
             ap (λ (log : Log). log.entries) is.log,
-          ),
+          )),
           empty_plain (after v (Tell (Begin wants) (Some (Refused r)))) (ap (λ (log : Log). log.entries) is.log),
         ),
         tt,

@@ -108,7 +108,7 @@ module _ (v m : View) (working : IsWorking v) (may : MayCome v) (back : IsTakenB
 
   pub end_is_drawn : (error : TxErr) → GivesUpBy v operation reply error → (n : ℕ) → DrawEnded m (ends_call operation reply n m)
   unfolding ends_call in_turn one DrawEnded after_all
-  end_is_drawn error why n = (tt, ((inr (error, why told tells taken_back, ap (λ (log : Log). log.records) back.log, ap (λ (log : Log). log.entries) back.log), empty_plain told (ap (λ (log : Log). log.entries) back.log)), tt))
+  end_is_drawn error why n = (tt, ((inr (inl (error, why told tells taken_back, ap (λ (log : Log). log.records) back.log, ap (λ (log : Log). log.entries) back.log)), empty_plain told (ap (λ (log : Log). log.entries) back.log)), tt))
 
 end_is_two : (m : View) (operation : Operation) (reply : Option Value) (n : ℕ) → length (ends_call operation reply n m) ≡ 2
 unfolding ends_call in_turn one

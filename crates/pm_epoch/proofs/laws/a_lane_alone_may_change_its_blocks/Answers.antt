@@ -1,4 +1,4 @@
-use Rattle.pm_epoch.proofs.ReservedBlocks.{block_free, chunks_free, found_freed}
+use Rattle.pm_crash.proofs.ReservedBlocks.{block_free, chunks_free, found_freed}
 use Rattle.pm_epoch.proofs.laws.a_lane_alone_may_change_its_blocks.Goals as goal
 
 pub returns : goal.returns

@@ -1,5 +1,5 @@
 use Rattle.pm_crash.proofs.AloneCourse.{stands_at}
-use Rattle.pm_epoch.proofs.RoomForReserved.{overlaps_none}
+use Rattle.pm_crash.proofs.BorneOut.{overlaps_none}
 use Rattle.pm_epoch.proofs.laws.a_reserved_block_overlaps_none.Goals as goal
 
 pub returns : goal.returns

@@ -32,7 +32,7 @@ use Rattle.pm_crash.specs.NewObjects.{AreFreeChunks, IsFreeInRun}
 use Rattle.pm_crash.proofs.FoundBlocks.{found_of_words}
 use Rattle.pm_crash.proofs.MayChange.{free_chunks, free_in_run, may_be_freed}
 use Rattle.pm_crash.proofs.SameBlocks.{same_blocks, taken_now}
-use Rattle.pm_epoch.specs.Epochs.{IsUnusedChunk}
+use Rattle.pm_crash.specs.Reserved.{IsUnusedChunk}
 
 module _ (o : Opening) (mem : Memory) (views : Views) (log : List Entry) (decided : ℕ → Bool) (k : ℕ) (world : World o mem views log decided) (inside : k < o.lanes)
     (sees : (i : ℕ) → mem (PoolWord i) ≡ slice_index (views k).words i) where

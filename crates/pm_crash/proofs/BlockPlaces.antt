@@ -13,7 +13,7 @@ use Rattle.pm_crash.specs.HeapChanges.{AreDisjoint}
 use Rattle.pm_crash.specs.NewObjects.{AreFreeChunks, IsFreeInRun, block_of_chunks, block_of_run}
 use Rattle.pm_crash.proofs.Classes.{chunks_of_class, lines_of_class}
 use Rattle.pm_crash.proofs.Standing.{block_stands, IsChunkBlock, IsRunBlock, Stands}
-use Rattle.pm_epoch.proofs.OwnBits.{InChunks, InRun, chunks_apart, free_in, run_chunks, runs_apart, whole_in}
+use Rattle.pm_crash.proofs.BlocksApart.{InChunks, InRun, chunks_apart, free_in, run_chunks, runs_apart, whole_in}
 
 module _ (w : ℕ → ℕ) (lanes zones : ℕ) where
   pub data Lies (b : Block) : Type 0 where
