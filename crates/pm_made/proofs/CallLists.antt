@@ -1,5 +1,5 @@
 -- A call's lists beside those that the plain model has of the call.
-use Rattle.std.proofs.Common.{◌≡◌, ⊎_elim, ℕ, ◌++◌, ◌&&◌, ◌||◌, Bool, true, false, not, cond, eqb, List, [], ◌∷◌, map, length, Option, Some, None, refl, sym, ap, ◌∙◌, subst, arith}
+use Rattle.std.proofs.Common.{◌≡◌, ⊎_elim, ℕ, ◌++◌, ◌&&◌, ◌||◌, Bool, true, false, not, cond, eqb, List, [], ◌∷◌, map, Some, refl, sym, ap, ◌∙◌, subst}
 use Rattle.std.specs.List.{All, filter, find, list_any}
 use Rattle.std.specs.Option.{option_map}
 use Rattle.std.proofs.lemmas.Bool.{cases_eq, eq-eqb, eqb-true, false≢true, ne_eqb}
@@ -7,7 +7,7 @@ use Rattle.std.proofs.lemmas.List.{map-append}
 use Rattle.std.proofs.lemmas.List.Elements.{All-head, All-tail}
 use Rattle.std.proofs.lemmas.List.Folds.{list_any-append}
 use Rattle.pm_model.specs.Bytes.{is_among}
-use Rattle.pm_crash.specs.CallBlocks.{CallBlocks, NewObject, is_at, with_freed}
+use Rattle.pm_crash.specs.CallBlocks.{CallBlocks, NewObject, is_at, no_blocks, with_freed}
 use Rattle.pm_made.specs.declared.objects.Freed.{Freed}
 use Rattle.pm_made.specs.declared.objects.Made.{Made}
 use Rattle.pm_made.specs.Made.{BlockLists, FitsPages, IsOffsetIn, ListsBlocks, begins_at, has_object, new_of}
@@ -128,3 +128,18 @@ none_there off (m ∷ ms) none = go (eqb m.off off) none (none_there off ms)
         → m ∷ ms ≡ cond (not b) (m ∷ filter (λ (x : Made). not (begins_at off x)) ms) (filter (λ (x : Made). not (begins_at off x)) ms)
     go true missing later = absurd (false≢true (sym missing))
     go false missing later = ap (λ (xs : List Made). m ∷ xs) (later missing)
+
+-- the lists of a call that made and freed nothing are empty
+pub none_made : (b : BlockLists) → ListsBlocks b no_blocks → b.made ≡ []
+none_made b lists = none b.made lists.made
+  where
+    none : (ms : List Made) → map new_of ms ≡ [] → ms ≡ []
+    none [] is = refl
+    none (m ∷ ms) is = absurd cc
+
+pub none_freed : (b : BlockLists) → ListsBlocks b no_blocks → b.freed ≡ []
+none_freed b lists = none b.freed lists.freed
+  where
+    none : (fs : List Freed) → map (λ (f : Freed). f.off) fs ≡ [] → fs ≡ []
+    none [] is = refl
+    none (f ∷ fs) is = absurd cc

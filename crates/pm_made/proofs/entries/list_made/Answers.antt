@@ -1,4 +1,4 @@
-use Rattle.std.proofs.Common.{◌≡◌, ℕ, List, get_or, take, take_all, subst, rules}
+use Rattle.std.proofs.Common.{◌≡◌, ℕ, get_or, take_all, subst, rules}
 use Rattle.std.specs.List.{All}
 use Rattle.std.proofs.lemmas.List.Elements.{All-more}
 use Rattle.pm_made.specs.declared.objects.Made.{Made}

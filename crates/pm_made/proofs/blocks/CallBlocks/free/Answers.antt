@@ -1,10 +1,9 @@
-use Rattle.std.proofs.Common.{◌≡◌, Bool, true, false, not, ℕ, List, length, ap, sym, subst, ◌∙◌, rules, tests}
+use Rattle.std.proofs.Common.{not, ℕ, length, ap, sym, subst, ◌∙◌, rules, tests}
 use Rattle.std.specs.List.{All, filter, list_any}
 use Rattle.std.proofs.lemmas.List.Elements.{All-filter}
 use Rattle.arrayvec.proofs.ArrayVecLemmas.{filter-from_retain}
-use Rattle.pm_crash.specs.CallBlocks.{CallBlocks, with_freed}
 use Rattle.pm_made.specs.declared.objects.Made.{Made}
-use Rattle.pm_made.specs.Made.{BlockLists, FitsPages, IsOffsetIn, ListsBlocks, begins_at}
+use Rattle.pm_made.specs.Made.{BlockLists, FitsPages, ListsBlocks, begins_at}
 use Rattle.pm_made.proofs.CallLists.{lists_dropped, lists_freed, made_fits, none_there}
 use Rattle.pm_made.proofs.blocks.CallBlocks.free.Goals as goal
 

@@ -3,7 +3,7 @@ use Rattle.std.specs.List.{list_any}
 use Rattle.std.proofs.lemmas.Iterator.{YieldsList-from_slice}
 use Rattle.std.proofs.lemmas.Iterator.Search.{any_from_yields_List}
 use Rattle.pm_model.specs.Bytes.{is_among}
-use Rattle.pm_crash.specs.CallBlocks.{CallBlocks, is_at}
+use Rattle.pm_crash.specs.CallBlocks.{is_at}
 use Rattle.pm_made.specs.declared.objects.Freed.{Freed}
 use Rattle.pm_made.specs.Made.{BlockLists, has_object}
 use Rattle.pm_made.proofs.CallLists.{freed_is}

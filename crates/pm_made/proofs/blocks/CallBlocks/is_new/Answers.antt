@@ -1,4 +1,4 @@
-use Rattle.std.proofs.Common.{◌≡◌, ◌||◌, Bool, ap, sym, ◌∙◌}
+use Rattle.std.proofs.Common.{◌||◌, Bool, ap, sym, ◌∙◌}
 use Rattle.std.specs.List.{list_any}
 use Rattle.pm_crash.specs.CallBlocks.{is_at}
 use Rattle.pm_made.specs.Made.{BlockLists, has_object}
