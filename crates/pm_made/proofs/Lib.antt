@@ -1,0 +1,3 @@
+pub mod LineSets
+pub mod CallLists
+pub mod EachEntry
