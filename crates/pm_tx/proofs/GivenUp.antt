@@ -4,7 +4,10 @@ use Rattle.std.specs.List.{IsDistinct}
 use Rattle.std.specs.Prelude.{nat_eq}
 use Rattle.pm_crash.proofs.GivenUp.{abort_gives_up}
 use Rattle.pm_crash.specs.CallBlocks.{KeepsBlocks}
-use Rattle.pm_crash.specs.OpenCall.{IsGivenUp}
+use Rattle.pm_crash.proofs.EndedCalls.{aborted_makes_its_step}
+use Rattle.pm_crash.specs.HeldHistory.{IsEndedCall}
+use Rattle.pm_crash.specs.OpenCall.{IsGivenUp, WasAborted}
+use Rattle.pm_crash.specs.Reserved.{IsBorneOut}
 use Rattle.pm_crash.specs.Operations.{TakesBack, Tells}
 use Rattle.pm_model.specs.Answers.{error_for}
 use Rattle.pm_objects.specs.declared.calls.Operation.{Operation}
@@ -39,7 +42,7 @@ use Rattle.std.proofs.lemmas.List.{take-append-le}
 use Rattle.std.proofs.Math.Seq.{take-append-add}
 use Rattle.std.proofs.lemmas.Option.{none-some}
 use Rattle.pm_tx.proofs.Fronts.{front_undrawn}
-use Rattle.pm_tx.specs.Ending.{told_more, drawn_more, GivesUpBy, IsAfterCall, IsEndedBy, IsOver, IsReadyForAny, IsStoppedIn, IsTakenBack, IsUndrawn, IsWorkingLane}
+use Rattle.pm_tx.specs.Ending.{told_more, drawn_more, EndsGivenUp, GivesUpBy, IsAfterCall, IsEndedBy, IsOver, IsReadyForAny, IsStoppedIn, IsTakenBack, IsUndrawn, IsWorkingLane}
 use Rattle.pm_tx.specs.Sequences.{ends_call, gives_up, takes_back}
 use Rattle.pm_tx.proofs.TakenBack.{take_back_lawful}
 
@@ -52,6 +55,13 @@ pub last_behind : (entries : List Numbered) (e : Numbered) → last_number_of (e
 last_behind [] e = refl
 last_behind (d ∷ []) e = refl
 last_behind (c ∷ d ∷ entries) e = last_behind (d ∷ entries) e
+
+-- a call that was given up, with no record and no entry, is an ended one
+ended_so : (v : View) (error : TxErr) → EndsGivenUp v error → v.log.records ≡ [] → v.log.entries ≡ [] → IsEndedCall v
+ended_so v error ends none unentered = ⊎_elim
+    (λ (given_up : IsGivenUp v error). inr (inl (error, given_up, none, unentered)))
+    (λ (aborted : WasAborted v error × IsBorneOut v). inr (inr (aborted_makes_its_step v error aborted.0 none unentered, aborted.1)))
+    ends
 
 module _ (v m : View) (working : IsWorking v) (may : MayCome v) (back : IsTakenBack v m) (operation : Operation) (reply : Option Value) where
   abbrev pub told : View
@@ -108,7 +118,7 @@ module _ (v m : View) (working : IsWorking v) (may : MayCome v) (back : IsTakenB
 
   pub end_is_drawn : (error : TxErr) → GivesUpBy v operation reply error → (n : ℕ) → DrawEnded m (ends_call operation reply n m)
   unfolding ends_call in_turn one DrawEnded after_all
-  end_is_drawn error why n = (tt, ((inr (inl (error, why told tells taken_back, ap (λ (log : Log). log.records) back.log, ap (λ (log : Log). log.entries) back.log)), empty_plain told (ap (λ (log : Log). log.entries) back.log)), tt))
+  end_is_drawn error why n = (tt, ((ended_so told error (why told tells taken_back back.call.reserved) (ap (λ (log : Log). log.records) back.log) (ap (λ (log : Log). log.entries) back.log), empty_plain told (ap (λ (log : Log). log.entries) back.log)), tt))
 
 end_is_two : (m : View) (operation : Operation) (reply : Option Value) (n : ℕ) → length (ends_call operation reply n m) ≡ 2
 unfolding ends_call in_turn one
@@ -287,4 +297,4 @@ module _ {M : Type 0} (at : M → View → Type 0) (lane : Lane M) (o : Opening)
 
 -- an abort that is asked for gives up the call
 pub gives_up_by_abort : {M : Type 0} (at : M → View → Type 0) (lane : Lane M) (o : Opening) (v : View) → IsAtWork o at lane v → KeepsBlocks v → (errnum : ℕ) (error : TxErr) → error ≡ error_for errnum → GivesUpBy v (Abort errnum) None error
-gives_up_by_abort at lane o v is keeps errnum error so next tells back = subst (IsGivenUp next) (sym so) (abort_gives_up v next errnum lane.level is.level (record { under_way = is.under_way; keeps = keeps }) tells back)
+gives_up_by_abort at lane o v is keeps errnum error so next tells back reserved = inl (subst (IsGivenUp next) (sym so) (abort_gives_up v next errnum lane.level is.level (record { under_way = is.under_way; keeps = keeps }) tells back))

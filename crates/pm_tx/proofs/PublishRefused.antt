@@ -1,5 +1,5 @@
 -- A publish that is refused gives up the open call, unless the lane stops before.
-use Rattle.std.proofs.Common.{◌≡◌, ◌≢◌, ◌⊎◌, ⊎_elim, List, Some, sym, ◌∙◌, subst}
+use Rattle.std.proofs.Common.{inl, ◌≡◌, ◌≢◌, ◌⊎◌, ⊎_elim, List, Some, sym, ◌∙◌, subst}
 use Rattle.pm_crash.proofs.ActionsOn.{refused_publish_gives_up}
 use Rattle.pm_crash.specs.CallBlocks.{KeepsBlocks}
 use Rattle.pm_crash.specs.OnActions.{IsPublishReason}
@@ -30,7 +30,7 @@ publish_not_stopped r cause stopped =
 
 -- a publish that is refused for the lane's reason gives the call up
 publish_gives_up : {M : Type 0} (o : Opening) (at : M → View → Type 0) (lane : Lane M) (v : View) → IsAtWork o at lane v → KeepsBlocks v → (r : Refusal) → IsPublishReason v r → GivesUpBy v Publish (Some (Refused r)) (error.Refused r)
-publish_gives_up o at lane v work keeps r reason next told back = refused_publish_gives_up v next r lane.level work.level (record { under_way = work.under_way; keeps = keeps }) (record { reason = reason; tells = told; takes_back = back })
+publish_gives_up o at lane v work keeps r reason next told back reserved = inl (refused_publish_gives_up v next r lane.level work.level (record { under_way = work.under_way; keeps = keeps }) (record { reason = reason; tells = told; takes_back = back }))
 
 -- from a view at which the check found the reason
 module _ {M : Type 0} (at : M → View → Type 0) (old mid new : Lane M) (o : Opening) (v : View) (keeps : KeepsBlocks v) (r answer : Refusal) (finds : HasChecked o at mid v (λ w. IsPublishReason w r)) (kept : mid.records.items ≡ old.records.items) where

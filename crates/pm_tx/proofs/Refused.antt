@@ -36,8 +36,8 @@ not_stopped r cause stopped =
 -- a refusal for the operation's reason gives the call up
 pub gives_up_by_reason : {M : Type 0} (at : M → View → Type 0) (lane : Lane M) (o : Opening) (v : View) → IsAtWork o at lane v → KeepsBlocks v → (op : Operation) (range : Range) (r : Refusal) → range_of op ≡ Some range → IsReason v op range r
     → GivesUpBy v op (Some (Refused r)) (error.Refused r)
-gives_up_by_reason at lane o v is keeps op range r of_range reason next tells back =
-    refusal_gives_up v next op range r lane.level is.level (record { under_way = is.under_way; keeps = keeps }) (record { is_range = of_range; reason = reason; tells = tells; takes_back = back })
+gives_up_by_reason at lane o v is keeps op range r of_range reason next tells back reserved =
+    inl (refusal_gives_up v next op range r lane.level is.level (record { under_way = is.under_way; keeps = keeps }) (record { is_range = of_range; reason = reason; tells = tells; takes_back = back }))
 
 module _ {M : Type 0} (at : M → View → Type 0) (old mid new : Lane M) (op : Operation) (range : Range) (of_range : range_of op ≡ Some range) (r answer : Refusal) where
   -- what a refusal leaves, and what a stop does

@@ -5,8 +5,9 @@ use Rattle.pm_objects.specs.declared.calls.Operation.TheVariants.{Commit}
 use Rattle.pm_objects.specs.declared.history.TxErr.{TxErr}
 use Rattle.pm_objects.specs.declared.history.Value.{Value}
 use Rattle.pm_memory.specs.Runs.{Stops}
-use Rattle.pm_crash.specs.OpenCall.{IsGivenUp}
+use Rattle.pm_crash.specs.OpenCall.{IsGivenUp, WasAborted}
 use Rattle.pm_crash.specs.Operations.{TakesBack, Tells}
+use Rattle.pm_crash.specs.Reserved.{IsBorneOut}
 use Rattle.pm_undo.specs.Working.{HasArea, IsSameCall, IsWorking}
 use Rattle.pm_view.specs.Log.{no_log}
 use Rattle.pm_view.specs.Constants.{IsSameLane}
@@ -71,9 +72,14 @@ StopsEnded old new spans entries n = (v : View) → old v → Ready v (decides_a
 abbrev pub StopsDrawn : (View → Type 0) → (View → Type 0) → List Span → List Redo → ℕ → Type 0
 StopsDrawn old new spans entries n = (v : View) → old v → Ready v (commits spans entries n v) → Stops new (drawn_view v entries n) (completes spans entries (drawn_view v entries n))
 
--- once it is taken back and this operation is told, the call is given up with this error
+-- the call was given up with this error, and is one of a lane alone's history: whatever pool was before it, or from each that may be, which what the lane has
+-- bears out
+abbrev pub EndsGivenUp : View → TxErr → Type 0
+EndsGivenUp v error = IsGivenUp v error ⊎ (WasAborted v error × IsBorneOut v)
+
+-- once it is taken back, with all that the lane reserved, and this operation is told, the call is given up with this error
 abbrev pub GivesUpBy : View → Operation → Option Value → TxErr → Type 0
-GivesUpBy v operation reply error = (next : View) → Tells v next operation reply → TakesBack v next → IsGivenUp next error
+GivesUpBy v operation reply error = (next : View) → Tells v next operation reply → TakesBack v next → next.reserved ≡ v.reserved → EndsGivenUp next error
 
 -- no call is open any more: it drew this number, the lane's last, its log is empty, nothing is undrained, and the lane holds the locks that it held
 pub record IsOver (v w : View) (n : ℕ) : Type 0 where
