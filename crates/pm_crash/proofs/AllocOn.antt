@@ -35,7 +35,6 @@ use Rattle.pm_model.proofs.Objects.{rising_tail}
 use Rattle.pm_model.proofs.ObjectsByOffset.{more_elsewhere, more_rise, more_there}
 use Rattle.pm_view.specs.Log.{Recorded}
 use Rattle.pm_view.specs.View.{View, Lock}
-use Rattle.pm_world.specs.Records.{is_recorded}
 use Rattle.pm_crash.specs.CallBlocks.{CallBlocks, IsMadeIn, MayPrecede, NewObject, allocated_in, block_of, blocks_in, is_at, is_freed_in, is_gone_in, is_made_in, is_new_in, object_made, with_made}
 use Rattle.pm_crash.specs.Held.{HoldsPool, object_of}
 use Rattle.pm_crash.specs.HeapChanges.{AreDisjoint}
@@ -45,7 +44,7 @@ use Rattle.pm_crash.specs.Performing.{CanPerform}
 use Rattle.pm_crash.proofs.CallBlocks.{SameNew, allocated_once_more, blocks_once_more, made_stays, object_stays}
 use Rattle.pm_crash.proofs.CallWords.{as_many_entries, call_works, locks_kept, same_lanes, same_zones}
 use Rattle.pm_crash.proofs.Continued.{known_new, still_under_way, two_same, Continues, GoesBack}
-use Rattle.pm_crash.proofs.KeptWords.{known_back, same_found, same_known_words, under_kept}
+use Rattle.pm_crash.proofs.KeptWords.{known_goes_back, same_found, same_known_words}
 use Rattle.pm_crash.proofs.ManyObjects.{AreOnce}
 use Rattle.pm_crash.proofs.ObjectsOfBlocks.{block_is_there, object_is_there}
 use Rattle.pm_crash.proofs.OnceMade.{once_more}
@@ -193,12 +192,7 @@ module _ (v next : View) (n : NewObject) (level : ℕ) (some_level : 1 ≤ level
   }
 
   back : GoesBack v next
-  back = record {
-    outside = λ i is. under_way.outside i (sym (ap (λ (records : List Recorded). is_recorded records i) alloc.logs.records) ∙ is);
-    under = under_kept v next (same_found v next alloc.tells.locks) alloc.logs.records under_way.under;
-    before = λ w header pool holds room. known_back v next alloc.tells.keeps (same_found v next alloc.tells.locks) alloc.logs.records (λ i known outside none. alloc.keeps.known i outside known) w;
-    entries = alloc.logs.entries;
-  }
+  back = known_goes_back v next alloc.tells.keeps (same_found v next alloc.tells.locks) alloc.logs alloc.keeps under_way.outside under_way.under
 
   module _ (w : ℕ → ℕ) (header : Header) (pool : PoolView) (holds : HoldsPool w v.lanes v.zones header pool) (may : MayPrecede pool next) (c : ComesTo v w header pool level stage.Work error.None) where
     -- no object of the pool before the call stands in its way

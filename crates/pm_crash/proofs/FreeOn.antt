@@ -29,7 +29,6 @@ use Rattle.pm_model.proofs.Made.{among_else, among_more}
 use Rattle.pm_model.proofs.ObjectsByOffset.{fewer_elsewhere, fewer_rise, fewer_there}
 use Rattle.pm_view.specs.Log.{Recorded}
 use Rattle.pm_view.specs.View.{View, Lock}
-use Rattle.pm_world.specs.Records.{is_recorded}
 use Rattle.pm_crash.specs.CallBlocks.{CallBlocks, IsMadeIn, IsSameIn, MayPrecede, NewObject, blocks_in, is_at, is_freed_in, is_gone_in, is_made_in, is_new_in, object_made}
 use Rattle.pm_crash.specs.Held.{HoldsPool}
 use Rattle.pm_crash.specs.Locks.{AreSameLocks}
@@ -38,9 +37,9 @@ use Rattle.pm_crash.specs.Operations.{FreesFound, FreesMade, KeepsKnown, KeepsLo
 use Rattle.pm_crash.specs.Performing.{CanPerform}
 use Rattle.pm_crash.proofs.CallBlocks.{SameNew, blocks_once_more, made_stays, not_made, object_stays, tells_of_root, tracks_gone}
 use Rattle.pm_crash.proofs.CallWords.{as_many_entries, call_works, held_is_locked, locks_kept, same_pool}
-use Rattle.pm_crash.proofs.Continued.{known_new, still_under_way, told_listed, Continues, GoesBack}
+use Rattle.pm_crash.proofs.Continued.{known_new, still_under_way, told_listed, Continues}
 use Rattle.pm_crash.proofs.FreeChecks.{free_passes, not_the_root, tracks_made, unlisted}
-use Rattle.pm_crash.proofs.KeptWords.{known_back, same_found, same_known_words, under_kept}
+use Rattle.pm_crash.proofs.KeptWords.{known_goes_back, same_found, same_known_words}
 use Rattle.pm_crash.proofs.ManyObjects.{AreOnce}
 use Rattle.pm_crash.proofs.NewRanges.{new_is_held, new_is_kept}
 use Rattle.pm_crash.proofs.OnceMade.{alone_there, left_elsewhere, made_beside, made_without, member_kept, object_alone, offsets_without, once_kept}
@@ -56,15 +55,6 @@ free_answers tx id passes =
       seen = unhindered;
       answer = subst (λ (fr : Option Refusal). MatchOption fr (IsDone tx (Free id) None) (λ r. IsRefused r None)) (sym passes) done;
     }
-
--- what was before the call may have been before the free, which changes no word that the lane knew
-free_goes_back : (v next : View) (id : Oid) (level : ℕ) → IsUnderWay v level stage.Work error.None → Tells v next (Free id) None → KeepsLog v next → KeepsKnown v next → GoesBack v next
-free_goes_back v next id level under_way tells logs keeps = record {
-  outside = λ i is. under_way.outside i (sym (ap (λ (records : List Recorded). is_recorded records i) logs.records) ∙ is);
-  under = under_kept v next (same_found v next tells.locks) logs.records under_way.under;
-  before = λ w header pool holds may. known_back v next tells.keeps (same_found v next tells.locks) logs.records (λ i known outside none. keeps.known i outside known) w;
-  entries = logs.entries;
-}
 
 -- what the transaction is behind a free: the pool without the object, and these lists
 abbrev freed_so : Transaction → ℕ → List ℕ → Objects → List ℕ → Transaction
@@ -189,7 +179,7 @@ module _ (v next : View) (id : Oid) (level : ℕ) (some_level : 1 ≤ level) (un
 
 pub found_free_goes_on : (v next : View) (id : Oid) (level : ℕ) → 1 ≤ level → IsUnderWay v level stage.Work error.None → FreesFound v next id → IsUnderWay next level stage.Work error.None
 found_free_goes_on v next id level some under_way frees =
-    still_under_way v next level level (Free id) None under_way frees.tells (free_goes_back v next id level under_way frees.tells frees.logs frees.keeps) (has v next id level some under_way frees)
+    still_under_way v next level level (Free id) None under_way frees.tells (known_goes_back v next frees.tells.keeps (same_found v next frees.tells.locks) frees.logs frees.keeps under_way.outside under_way.under) (has v next id level some under_way frees)
     (λ w header pool holds same_id before next_before may c. found_continues v next id level some under_way frees w header pool holds same_id may c)
 
 -- ---- an object that it made
@@ -318,7 +308,7 @@ module _ (v next : View) (id : Oid) (level : ℕ) (some_level : 1 ≤ level) (un
 
 pub made_free_goes_on : (v next : View) (id : Oid) (level : ℕ) → 1 ≤ level → IsUnderWay v level stage.Work error.None → FreesMade v next id → IsUnderWay next level stage.Work error.None
 made_free_goes_on v next id level some under_way frees =
-    still_under_way v next level level (Free id) None under_way frees.tells (free_goes_back v next id level under_way frees.tells frees.logs frees.keeps) (has_left v next id level some under_way frees)
+    still_under_way v next level level (Free id) None under_way frees.tells (known_goes_back v next frees.tells.keeps (same_found v next frees.tells.locks) frees.logs frees.keeps under_way.outside under_way.under) (has_left v next id level some under_way frees)
     (λ w header pool holds same_id before next_before may c. made_continues v next id level some under_way frees w header pool holds same_id may c)
 
 -- ---- what is gone behind a free, and what is as before

@@ -82,6 +82,16 @@ goes_back v next lane finds logs stay outside under = record {
   entries = logs.entries;
 }
 
+-- so it is where the lane looked at words for the first time
+pub known_goes_back : (v next : View) → KeepsLane v next → KeepsFound v next → KeepsLog v next → KeepsKnown v next → ((i : ℕ) → is_recorded v.log.records i ≡ true → is_in_area v.lane i ≡ false) → RecordsUnder v
+    → GoesBack v next
+known_goes_back v next lane finds logs keeps outside under = record {
+  under = under_kept v next finds logs.records under;
+  outside = λ i is. outside i (sym (ap (λ (records : List Recorded). is_recorded records i) logs.records) ∙ is);
+  before = λ w header pool holds may. known_back v next lane finds logs.records (λ i known out none. keeps.known i out known) w;
+  entries = logs.entries;
+}
+
 -- the words of the call after, by the records before
 pub same_records : (v next : View) (w : ℕ → ℕ) (i : ℕ) → next.log.records ≡ v.log.records → call_words next w i ≡ cond (is_recorded v.log.records i) (slice_index next.words i) (w i)
 same_records v next w i logs = ap (λ (records : List Recorded). cond (is_recorded records i) (slice_index next.words i) (w i)) logs
