@@ -78,7 +78,7 @@ abbrev pub allocated_in : View → List NewObject
 allocated_in v = flat_map (λ (t : Told). allocated_by t.operation t.reply) v.call
 
 -- What a free tells of the pool's root by its reply: one that is done is not of the root, nor is one that is refused for room, which is looked at behind
--- the root; and one that is refused for the root is (docs/MODEL.md, "Objects made and freed").
+-- the root; and one that is refused for the root is (docs/MODEL.md, "The crash theorem").
 abbrev pub TellsOfRoot : Option ℕ → Operation → Option Value → Type 0
 TellsOfRoot root (Free id) None = root ≢ Some id.off
 TellsOfRoot root (Free id) (Some (Refused refusal.ActionsFull)) = root ≢ Some id.off
