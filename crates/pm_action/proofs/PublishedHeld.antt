@@ -141,7 +141,7 @@ module _ {M : Type 0} (at : M → View → Type 0) (lane : Lane M) (actions : Li
 
     module _ (same : actions ≡ pending_before v) where
       draws : DrawEnded v (publishes (entries_of actions) Publish n v)
-      draws = publish_drawn v (entries_of actions) mays Publish n (whole same)
+      draws = publish_drawn v (entries_of actions) mays Publish n (λ next t. inl (whole same next t))
 
       pub published : IsAfterCall at new w → IsEndedBy at new v (publishes (entries_of actions) Publish n) Publish None
       published behind =

@@ -4,6 +4,8 @@ use Rattle.std.specs.List.{list_any}
 use Rattle.pm_model.specs.Bytes.{is_among}
 use Rattle.pm_crash.proofs.CallBlocks.{keeps_still, same_blocks}
 use Rattle.pm_crash.specs.CallBlocks.{CallBlocks, IsOldIn, KeepsBlocks, is_at}
+use Rattle.pm_crash.specs.Reserved.{IsBorneOut}
+use Rattle.pm_view.specs.Founds.{IsAlone}
 use Rattle.pm_crash.specs.Operations.{IsNotAdded, IsNotHeld, IsReason, PassesEnd}
 use Rattle.pm_model.specs.Checks.{Range, is_write, needs_write}
 use Rattle.pm_objects.specs.declared.calls.Operation.{Operation}
@@ -14,6 +16,8 @@ use Rattle.pm_world.specs.Opening.{Opening}
 use Rattle.pm_world.specs.declared.lane.Lane.{Lane}
 use Rattle.pm_tx.specs.AtWork.{IsAtWork}
 use Rattle.pm_tx.specs.Calls.{HasLooked}
+use Rattle.pm_tx.proofs.BorneOut.{looks_borne}
+use Rattle.pm_tx.specs.Ending.{MayGiveUp}
 use Rattle.pm_tx.specs.Learning.{HasChecked, Looks}
 
 -- what holds of each error that a result may be
@@ -39,6 +43,12 @@ old_still v w call off old =
       kept = ap (λ (b : CallBlocks). is_among b.freed off) same ∙ old.kept;
     }
 
+may_still : (n : ℕ) (v w : View) → Looks n v w → MayGiveUp v → MayGiveUp w
+may_still n v w looks may = ⊎_elim
+    (λ (keeps : KeepsBlocks v). inl (keeps_still v w (looks_call n v w looks) keeps))
+    (λ (borne : IsAlone v × IsBorneOut v). inr (looks_borne n v w looks borne.0 borne.1))
+    may
+
 module _ {M : Type 0} (o : Opening) (at : M → View → Type 0) (mid : Lane M) (v : View) where
   -- what a check left, for whoever asks for the view alone
   pub looked_so : (P Q : View → Type 0) → HasChecked o at mid v P → ((w : View) → IsAtWork o at mid w → P w → Q w) → HasLooked v Q
@@ -47,6 +57,12 @@ module _ {M : Type 0} (o : Opening) (at : M → View → Type 0) (mid : Lane M) 
   -- so it is of a call that kept the blocks, and of an object that it found
   pub looked_keeping : (P Q : View → Type 0) → HasChecked o at mid v P → KeepsBlocks v → ((w : View) → IsAtWork o at mid w → KeepsBlocks w → P w → Q w) → HasLooked v Q
   looked_keeping P Q t keeps so = record { loads = t.loads; view = t.view; looks = t.looks; working = t.works.working; holds = so t.view t.works (keeps_still v t.view (looks_call t.loads v t.view t.looks) keeps) t.holds }
+
+  -- and of one that may be given up, at an object that it found
+  pub looked_giving_up : (P Q : View → Type 0) (off : ℕ) → HasChecked o at mid v P → IsOldIn v off → MayGiveUp v → ((w : View) → IsAtWork o at mid w → IsOldIn w off → MayGiveUp w → P w → Q w) → HasLooked v Q
+  looked_giving_up P Q off t old may so =
+      let call = looks_call t.loads v t.view t.looks in
+      record { loads = t.loads; view = t.view; looks = t.looks; working = t.works.working; holds = so t.view t.works (old_still v t.view call off old) (may_still t.loads v t.view t.looks may) t.holds }
 
   pub looked_old : (P Q : View → Type 0) (off : ℕ) → HasChecked o at mid v P → IsOldIn v off → ((w : View) → IsAtWork o at mid w → IsOldIn w off → P w → Q w) → HasLooked v Q
   looked_old P Q off t old so = record { loads = t.loads; view = t.view; looks = t.looks; working = t.works.working; holds = so t.view t.works (old_still v t.view (looks_call t.loads v t.view t.looks) off old) t.holds }

@@ -1,14 +1,18 @@
 -- A call at work may be committed, and then it is over.
-use Rattle.std.proofs.Common.{◌≡◌, ◌⊎◌, ⊎_elim, not, take, append_assoc, ℕ, ◌+◌, ◌-◌, ◌≤◌, inl, inr, true, All, List, [], ◌∷◌, ◌++◌, map, length, slice_index, Err, None, Ok, OnErr, Result, Some, refl, sym, ap, ◌∙◌, subst, arith}
+use Rattle.std.proofs.Common.{◌≡◌, ◌⊎◌, ⊎_elim, not, take, append_assoc, ℕ, ◌+◌, ◌-◌, ◌<◌, ◌≤◌, inl, inr, true, All, List, [], ◌∷◌, ◌++◌, map, length, slice_index, Err, None, Ok, OnErr, Result, Some, refl, sym, ap, ◌∙◌, subst, arith}
 use Rattle.std.specs.List.{filter}
 use Rattle.std.proofs.lemmas.List.Elements.{All-weaker}
-use Rattle.pm_crash.proofs.Committed.{commit_is_whole}
+use Rattle.pm_crash.proofs.CallBlocks.{blocks_once_more, keeps_still, same_blocks}
+use Rattle.pm_crash.proofs.Committed.{commit_is_told, commit_is_whole, commit_makes_its_step}
 use Rattle.pm_crash.proofs.Levels.{inner_commit_goes_on}
-use Rattle.pm_crash.specs.CallBlocks.{KeepsBlocks}
-use Rattle.pm_crash.specs.OpenCall.{IsOpen, IsUnderWay}
+use Rattle.pm_crash.specs.CallBlocks.{CallBlocks, KeepsBlocks, blocks_in}
+use Rattle.pm_crash.specs.OpenCall.{IsUnderWay}
+use Rattle.pm_crash.specs.Reserved.{IsBorneOut}
 use Rattle.pm_crash.specs.Operations.{Tells}
 use Rattle.pm_crash.specs.Performing.{entry_for}
-use Rattle.pm_crash.proofs.Staying.{open_stays}
+use Rattle.pm_crash.proofs.Staying.{goes_on_quietly}
+use Rattle.pm_tx.proofs.BorneOut.{borne_on, borne_still, same_heads_outside, whole_ended}
+use Rattle.pm_world.specs.Records.{pool_entries}
 use Rattle.pm_model.specs.Actions.{Action}
 use Rattle.pm_model.specs.Actions.Action.{SetWord}
 use Rattle.pm_pending.specs.Pending.{entry_of}
@@ -51,8 +55,8 @@ use Rattle.pm_lock.proofs.Drawless.{drawless, drawn_in_turn}
 use Rattle.pm_lock.specs.Begun.{MayCome}
 use Rattle.pm_lock.specs.Leading.{DrawEnded}
 use Rattle.pm_tx.specs.AtWork.{IsAtWork}
-use Rattle.pm_tx.specs.Ending.{CanDecide, IsDecidable, IsDrawnBy, IsEndedBy, IsOver, IsStoppedIn, IsUndrawn, StopsDrawn, decided_view, drawn_more, drawn_view, told_more}
-use Rattle.pm_tx.specs.Publishing.{IsWholeOnceLogged, MayPublish, published_view}
+use Rattle.pm_tx.specs.Ending.{CanDecide, IsDecidable, IsDrawnBy, IsEndedBy, IsOver, IsStoppedIn, IsUndrawn, PublishesNoBlock, StopsDrawn, decided_view, drawn_more, drawn_view, told_more}
+use Rattle.pm_tx.specs.Publishing.{IsWholeOnceLogged, MayPublish, TellsLogged, published_view}
 use Rattle.pm_tx.proofs.Fronts.{front_drawn, front_undrawn, stopped_left, stopped_right}
 use Rattle.pm_tx.proofs.Published.{performing_drawn, publish_drawn, publish_last, publish_lawful, written}
 use Rattle.pm_memory.specs.Runs.{Stops}
@@ -69,10 +73,20 @@ pub finals_for : (actions : List Action) → map final_of (map entry_of actions)
 finals_for [] = refl
 finals_for (SetWord id off value ∷ actions) = ap (λ (fs : List Final). entry_for (SetWord id off value) ∷ fs) (finals_for actions)
 
--- a call that logged what it published is whole once its commit is told
-whole_once_logged : (v : View) → IsOpen v 1 model_stage.Work error.None → (entries : List Redo) → entries ≡ map entry_of (published_in v) → IsWholeOnceLogged v entries Commit
-whole_once_logged v is_open entries listed next t =
-    commit_is_whole v next is_open (record { tells = t.tells; records = t.records; words = t.words; entries = t.logged ∙ (ap (map final_of) listed ∙ finals_for (published_in v)) })
+-- a call that logged what it published is whole once its commit is told, where it publishes no change of a block
+whole_once_logged : (v : View) → IsUnderWay v 1 model_stage.Work error.None → PublishesNoBlock v → (entries : List Redo) → entries ≡ map entry_of (published_in v) → IsWholeOnceLogged v entries Commit
+whole_once_logged v under_way no_block entries listed next t = ⊎_elim
+    (λ (keeps : KeepsBlocks v). inl (commit_is_whole v next (record { under_way = under_way; keeps = keeps }) (record { tells = t.tells; records = t.records; words = t.words; entries = logged })))
+    (λ (borne : ((blocks_in v).made ≡ []) × ((blocks_in v).freed ≡ []) × IsBorneOut v).
+    let blocks : blocks_in next ≡ blocks_in v = blocks_once_more v next Commit None t.tells.call in
+    inr (
+      commit_makes_its_step next (commit_is_told v next under_way t.tells t.records t.words) (ap (λ (b : CallBlocks). b.made) blocks ∙ borne.0) (ap (λ (b : CallBlocks). b.freed) blocks ∙ borne.1)
+          (logged ∙ ap (map entry_for) (sym (published_once_more v next Commit None t.tells.keeps.entries t.tells.call ∙ append-nil (published_in v)))),
+      borne_on v next (same_heads_outside v next under_way.in_lanes t.tells.keeps.lanes t.tells.keeps.zones t.reserved t.words.words) Commit None t.tells.call refl (λ root. tt) borne.2,
+    ))
+    no_block where
+      logged : pool_entries next ≡ map entry_for (published_in v)
+      logged = t.logged ∙ (ap (map final_of) listed ∙ finals_for (published_in v))
 
 -- the steps of deciding a call, in their parts
 decides_in_parts : (m : View) (spans : List Span) (entries : List Redo) (n : ℕ) → decides_all spans entries n m
@@ -131,20 +145,24 @@ module _ (v m : View) (working : IsWorking v) (no_entries : v.log.entries ≡ []
       }
 
   -- a call that published nothing needs no entry
-  end_drawn : IsOpen v 1 model_stage.Work error.None → published_in v ≡ [] → (n : ℕ) → DrawEnded m (ends_call Commit None n m)
+  tells_logged : TellsLogged v told [] Commit
+  tells_logged = record {
+    tells = tells;
+    records = ap (λ (l : Log). l.records) log;
+    words = record { words = λ i outside. ap (λ (u : View). slice_index u.words i) settled };
+    logged =
+        ap (λ (l : Log). filter (λ (f : Final). not (is_in_area m.lane f.word)) l.entries) log
+        ∙ ap (filter (λ (f : Final). not (is_in_area m.lane f.word))) no_entries;
+    reserved = ap (λ (u : View). u.reserved) settled;
+  }
+
+  end_drawn : IsUnderWay v 1 model_stage.Work error.None → PublishesNoBlock v → published_in v ≡ [] → (n : ℕ) → DrawEnded m (ends_call Commit None n m)
   unfolding ends_call in_turn one DrawEnded after_all
-  end_drawn is_open nothing_published n = (
+  end_drawn under_way no_block nothing_published n = (
     tt,
     (
       (
-        inl (commit_is_whole v told is_open (record {
-          tells = tells;
-          records = ap (λ (l : Log). l.records) log;
-          words = record { words = λ i outside. ap (λ (u : View). slice_index u.words i) settled };
-          entries =
-              ap (λ (l : Log). filter (λ (f : Final). not (is_in_area m.lane f.word)) l.entries) log
-              ∙ (ap (filter (λ (f : Final). not (is_in_area m.lane f.word))) no_entries ∙ sym (ap (map entry_for) nothing_published));
-        })),
+        whole_ended told (whole_once_logged v under_way no_block [] (sym (ap (map entry_of) nothing_published)) told tells_logged),
         empty_plain told (ap (λ (l : Log). l.entries) log ∙ no_entries),
       ),
       tt,
@@ -251,20 +269,20 @@ module _ (v m : View) (working : IsWorking v) (no_entries : v.log.entries ≡ []
       let stays = front_drawn (behind_draw n) (retires_any spans (behind_draw n)) made n (let e = ap length t.2 in omega (arith, e)) t.1.number (let e = ap length t.3 in omega (arith, e)) in
       last_then n (behind_draw n) w (ended_last n) stays.0 stays.1 stays.2
 
-  decided_drawn : IsOpen v 1 model_stage.Work error.None → published_in v ≡ [] → (n : ℕ) → DrawEnded m (decides spans n m)
+  decided_drawn : IsUnderWay v 1 model_stage.Work error.None → PublishesNoBlock v → published_in v ≡ [] → (n : ℕ) → DrawEnded m (decides spans n m)
   unfolding decides in_turn
-  decided_drawn is_open nothing_published n =
+  decided_drawn under_way no_block nothing_published n =
       let ends : List Step = ends_call Commit None n m in
-      drawn_in_turn m ends (retires_any spans (after_all m ends)) (end_drawn is_open nothing_published n) (drawless (after_all m ends) (retires_any spans (after_all m ends)) (let e = ap length (tail_behind n).2 in omega (arith, e)))
+      drawn_in_turn m ends (retires_any spans (after_all m ends)) (end_drawn under_way no_block nothing_published n) (drawless (after_all m ends) (retires_any spans (after_all m ends)) (let e = ap length (tail_behind n).2 in omega (arith, e)))
 
   -- without entries the call may be decided so
-  deciding_none : IsOpen v 1 model_stage.Work error.None → published_in v ≡ [] → (n : ℕ) → IsDeciding v m spans [] n
+  deciding_none : IsUnderWay v 1 model_stage.Work error.None → PublishesNoBlock v → published_in v ≡ [] → (n : ℕ) → IsDeciding v m spans [] n
   unfolding decides_all logs_listed completes nothing after_all
-  deciding_none is_open nothing_published n = record {
+  deciding_none under_way no_block nothing_published n = record {
     ready = (decided_lawful n).0;
     over = (decided_lawful n).1;
     last = decided_last n;
-    draws = decided_drawn is_open nothing_published n;
+    draws = decided_drawn under_way no_block nothing_published n;
     still = refl;
     behind = front_is_drawn n;
   }
@@ -289,13 +307,25 @@ module _ (v m : View) (working : IsWorking v) (no_entries : v.log.entries ≡ []
         may_come = record { found = may.found; seen = call.seen (NumberSeen may.found) may.seen; below = may.below };
       }
 
-  -- the call is open as it was
-  open_settled_still : IsOpen v 1 model_stage.Work error.None → IsOpen m 1 model_stage.Work error.None
-  open_settled_still is_open =
+  -- the call is under way as it was, and publishes no more
+  still_under_way : IsUnderWay v 1 model_stage.Work error.None → IsUnderWay m 1 model_stage.Work error.None
+  still_under_way under_way =
       let lane = call.lane in
-      open_stays v m 1 model_stage.Work error.None is_open
+      goes_on_quietly v m 1 model_stage.Work error.None under_way
       (record { keeps = record { lanes = lane.lanes; zones = lane.zones; pool = lane.pool; lane = lane.lane; entries = call.entries; known = call.remembers }; locks = call.locks; call = call.call })
       (record { records = ap (λ (l : Log). l.records) log; entries = ap (λ (l : Log). l.entries) log }) (record { words = λ i outside. ap (λ (u : View). slice_index u.words i) settled })
+
+  still_no_block : v.lane < v.lanes → PublishesNoBlock v → PublishesNoBlock m
+  still_no_block inside no_block =
+      let blocks : blocks_in m ≡ blocks_in v = same_blocks v m call.call in
+      ⊎_elim (λ (keeps : KeepsBlocks v). inl (keeps_still v m call.call keeps))
+      (λ (borne : ((blocks_in v).made ≡ []) × ((blocks_in v).freed ≡ []) × IsBorneOut v).
+      inr (
+        ap (λ (b : CallBlocks). b.made) blocks ∙ borne.0,
+        ap (λ (b : CallBlocks). b.freed) blocks ∙ borne.1,
+        borne_still v m (same_heads_outside v m inside call.lane.lanes call.lane.zones call.reserved (λ i outside. ap (λ (u : View). slice_index u.words i) settled)) call.call borne.2,
+      ))
+      no_block
 
   over_before : (w : View) (n : ℕ) → IsOver m w n → IsOver v w n
   over_before w n over = record { lane = same_lane-then v m w call.lane over.lane; locks = over.locks ∙ call.locks; log = over.log; drained = over.drained; number = over.number; last = over.last }
@@ -306,14 +336,14 @@ module _ (v m : View) (working : IsWorking v) (no_entries : v.log.entries ≡ []
     record { number = last.1.number; entries = last.1.entries ∙ ap (λ (entries : List Numbered). drawn_more entries n w.call) call.entries },
   )
 
-  deciding_some : (spans : List Span) (e : Redo) (entries : List Redo) → length (e ∷ entries) ≤ 63 → All (IsOfPool v) (e ∷ entries) → IsOpen v 1 model_stage.Work error.None → e ∷ entries ≡ map entry_of (published_in v) → (n : ℕ)
+  deciding_some : (spans : List Span) (e : Redo) (entries : List Redo) → length (e ∷ entries) ≤ 63 → All (IsOfPool v) (e ∷ entries) → IsUnderWay v 1 model_stage.Work error.None → PublishesNoBlock v → e ∷ entries ≡ map entry_of (published_in v) → (n : ℕ)
       → IsDeciding v m spans (e ∷ entries) n
   unfolding decides_all logs_listed completes
-  deciding_some spans e entries few each is_open listed n =
+  deciding_some spans e entries few each under_way no_block listed n =
       let all : List Redo = e ∷ entries in
       let mays : MayPublish m all = may_publish all (omega arith) few each in
       let lawful = publish_lawful m all mays Commit n in
-      let whole = whole_once_logged m (open_settled_still is_open) all (listed ∙ ap (map entry_of) (sym (published_same v m call.entries call.call))) in
+      let whole = whole_once_logged m (still_under_way under_way) (still_no_block under_way.in_lanes no_block) all (listed ∙ ap (map entry_of) (sym (published_same v m call.entries call.call))) in
       record {
         ready = lawful.0;
         over = over_before (after_all m (publishes all Commit n m)) n lawful.1;
@@ -409,19 +439,19 @@ module _ {M : Type 0} (at : M → View → Type 0) (lane : Lane M) (o : Opening)
         may_publish v settled_view is.working is.no_entries is.may_come (settle_lawful v).1 (e ∷ entries) (omega arith)
         (subst (λ (es : List Redo). length es ≤ 63) are is.published.few) (subst (All (IsOfPool v)) are is.published.of_pool)
 
-  module _ (keeps : KeepsBlocks v) (outer : lane.level ≡ 1) (n : ℕ) where
-    open_at_one : IsOpen v 1 model_stage.Work error.None
-    open_at_one = record { under_way = subst (λ level. IsUnderWay v level model_stage.Work error.None) outer is.under_way; keeps = keeps }
+  module _ (no_block : PublishesNoBlock v) (outer : lane.level ≡ 1) (n : ℕ) where
+    at_one : IsUnderWay v 1 model_stage.Work error.None
+    at_one = subst (λ level. IsUnderWay v level model_stage.Work error.None) outer is.under_way
 
     deciding : IsDeciding v settled_view records listed n
     deciding = at_entries lane.entries.items refl where
       at_entries : (entries : List Redo) → lane.entries.items ≡ entries → IsDeciding v settled_view records entries n
       at_entries [] are =
           subst (λ (spans : List Span). IsDeciding v settled_view spans [] n) (sym is.seen.records)
-          (deciding_none v settled_view is.working is.no_entries is.may_come (settle_lawful v).1 open_at_one (nothing_published are) n)
+          (deciding_none v settled_view is.working is.no_entries is.may_come (settle_lawful v).1 at_one no_block (nothing_published are) n)
       at_entries (e ∷ entries) are =
           deciding_some v settled_view is.working is.no_entries is.may_come (settle_lawful v).1 records e entries
-          (subst (λ (es : List Redo). length es ≤ 63) are is.published.few) (subst (All (IsOfPool v)) are is.published.of_pool) open_at_one (sym are ∙ is.published.listed) n
+          (subst (λ (es : List Redo). length es ≤ 63) are is.published.few) (subst (All (IsOfPool v)) are is.published.of_pool) at_one no_block (sym are ∙ is.published.listed) n
 
   pub decidable : (behind : View → Type 0) → Runs {T = Unit {0}} (at lane.memory) behind settles (Ok tt) → IsDecidable behind records listed
   unfolding Runs
@@ -455,9 +485,9 @@ module _ {M : Type 0} (at : M → View → Type 0) (lane : Lane M) (o : Opening)
     zones = is.zones;
   }
 
-  module _ (keeps : KeepsBlocks v) (outer : lane.level ≡ 1) (new : Lane M) where
+  module _ (no_block : PublishesNoBlock v) (outer : lane.level ≡ 1) (new : Lane M) where
     abbrev decides_so : IsDeciding v settled_view records listed new.last
-    decides_so = deciding keeps outer new.last
+    decides_so = deciding no_block outer new.last
 
     -- it was committed
     pub committed : Runs {T = Unit {0}} (at lane.memory) (at new.memory) (commits records listed new.last) (Ok tt) → new.locks.items ≡ lane.locks.items → new.records.items ≡ [] → new.entries.items ≡ [] → new.drawn ≡ Some new.last → IsOfSamePool lane new → new.stopped ≡ lane.stopped

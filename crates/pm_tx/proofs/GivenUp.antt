@@ -2,16 +2,12 @@
 use Rattle.std.proofs.Common.{◌≡◌, ℕ, ◌+◌, ◌-◌, ◌/◌, ◌<◌, ◌≤◌, ⊎_elim, All, inl, inr, List, [], ◌∷◌, ◌++◌, map, length, length-append, take, Option, Err, Ok, None, Some, true, false, refl, sym, ap, ◌∙◌, subst, arith}
 use Rattle.std.specs.List.{IsDistinct}
 use Rattle.std.specs.Prelude.{nat_eq}
-use Rattle.pm_crash.proofs.GivenUp.{abort_gives_up}
-use Rattle.pm_crash.specs.CallBlocks.{KeepsBlocks}
 use Rattle.pm_crash.proofs.EndedCalls.{aborted_makes_its_step}
 use Rattle.pm_crash.specs.HeldHistory.{IsEndedCall}
 use Rattle.pm_crash.specs.OpenCall.{IsGivenUp, WasAborted}
 use Rattle.pm_crash.specs.Reserved.{IsBorneOut}
 use Rattle.pm_crash.specs.Operations.{TakesBack, Tells}
-use Rattle.pm_model.specs.Answers.{error_for}
 use Rattle.pm_objects.specs.declared.calls.Operation.{Operation}
-use Rattle.pm_objects.specs.declared.calls.Operation.TheVariants.{Abort}
 use Rattle.pm_objects.specs.declared.history.TxErr.{TxErr}
 use Rattle.pm_objects.specs.declared.history.Value.{Value}
 use Rattle.pm_memory.specs.declared.lane_mem.Stopped.{Stopped}
@@ -294,7 +290,3 @@ module _ {M : Type 0} (at : M → View → Type 0) (lane : Lane M) (o : Opening)
           drawn = drawn ∙ (undrawn_lane at lane v is.seen is.working.undrawn ∙ sym undrawn.0);
           came = record { told = inl undrawn.0; entries = inl undrawn };
         }
-
--- an abort that is asked for gives up the call
-pub gives_up_by_abort : {M : Type 0} (at : M → View → Type 0) (lane : Lane M) (o : Opening) (v : View) → IsAtWork o at lane v → KeepsBlocks v → (errnum : ℕ) (error : TxErr) → error ≡ error_for errnum → GivesUpBy v (Abort errnum) None error
-gives_up_by_abort at lane o v is keeps errnum error so next tells back reserved = inl (subst (IsGivenUp next) (sym so) (abort_gives_up v next errnum lane.level is.level (record { under_way = is.under_way; keeps = keeps }) tells back))

@@ -31,6 +31,7 @@ use Rattle.pm_world.specs.Lawful.{MayDraw, MayTell}
 use Rattle.pm_world.specs.Sequences.{Ready, in_turn, one}
 use Rattle.pm_lock.proofs.Drawless.{drawless, drawn_in_turn}
 use Rattle.pm_lock.specs.Leading.{DrawEnded}
+use Rattle.pm_tx.proofs.BorneOut.{whole_ended}
 use Rattle.pm_tx.proofs.Fronts.{front_drawn, front_undrawn}
 use Rattle.pm_tx.proofs.GivenUp.{last_behind}
 use Rattle.pm_tx.proofs.GoingOn.{knows_on, of_pool_on}
@@ -126,6 +127,7 @@ module _ (v : View) (entries : List Redo) (may : MayPublish v entries) where
       logged =
           (λ j. filter (λ (f : Final). not (is_in_area (written.1.call.lane.lane j) f.word)) (logged j))
           ∙ pool_of v entries may.each;
+      reserved = written.1.call.reserved;
     }
 
     -- each entry is of a word that the lane locked
@@ -145,7 +147,7 @@ module _ (v : View) (entries : List Redo) (may : MayPublish v entries) where
 
     end_drawn : IsWholeOnceLogged v entries operation → (n : ℕ) → DrawEnded m (ends_call operation None n m)
     unfolding ends_call in_turn one DrawEnded after_all
-    end_drawn whole n = (tt, ((inl (whole told tells_logged), told_plain), tt))
+    end_drawn whole n = (tt, ((whole_ended told (whole told tells_logged), told_plain), tt))
 
     module _ (n : ℕ) where
       abbrev drawn : View

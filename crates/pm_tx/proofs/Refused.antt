@@ -1,7 +1,10 @@
 -- A call on a range that is refused gives up the open call, unless the lane stops before.
-use Rattle.std.proofs.Common.{◌≡◌, ◌≢◌, ◌⊎◌, ⊎_elim, inl, inr, List, None, Some, true, refl, sym, ◌∙◌, subst}
-use Rattle.pm_crash.proofs.GivenUp.{refusal_gives_up}
-use Rattle.pm_crash.specs.CallBlocks.{KeepsBlocks}
+use Rattle.std.proofs.Common.{◌≡◌, ◌≢◌, ◌⊎◌, ⊎_elim, inl, inr, ℕ, List, [], Option, None, Some, true, refl, sym, ◌∙◌, subst}
+use Rattle.pm_crash.proofs.GivenUp.{refusal_aborts}
+use Rattle.pm_crash.specs.CallBlocks.{IsOldIn, TellsOfRoot, allocated_by}
+use Rattle.pm_objects.specs.declared.calls.Operation.TheVariants.{AddRange, Read, Write}
+use Rattle.pm_objects.specs.declared.history.Value.{Value}
+use Rattle.pm_tx.proofs.BorneOut.{gives_up_so}
 use Rattle.pm_crash.specs.Operations.{IsReason}
 use Rattle.pm_model.specs.Checks.{Range, range_of}
 use Rattle.pm_objects.specs.declared.calls.Operation.{Operation}
@@ -14,11 +17,11 @@ use Rattle.pm_world.specs.Opening.{Opening}
 use Rattle.pm_world.specs.Sequences.{Sequence}
 use Rattle.pm_world.specs.declared.lane.Lane.{Lane}
 use Rattle.pm_world.specs.declared.lane.Span.{Span}
-use Rattle.pm_tx.proofs.Checked.{looked_keeping}
+use Rattle.pm_tx.proofs.Checked.{looked_giving_up}
 use Rattle.pm_tx.proofs.GivenUp.{undrawn_lane}
 use Rattle.pm_tx.specs.AtWork.{IsAtWork}
 use Rattle.pm_tx.specs.Calls.{HasLooked, IsGivenUpFor, IsStoppedAt, IsStoppedFor}
-use Rattle.pm_tx.specs.Ending.{GivesUpBy, IsEndedBy, IsLaneAtWork, IsStoppedIn}
+use Rattle.pm_tx.specs.Ending.{GivesUpBy, IsEndedBy, IsLaneAtWork, IsStoppedIn, MayGiveUp}
 use Rattle.pm_tx.specs.Learning.{HasChecked}
 use Rattle.pm_tx.specs.Ranges.{StopsUndrawn}
 use Rattle.pm_tx.specs.Sequences.{gives_up}
@@ -33,11 +36,25 @@ pub not_stopped : (r : Refusal) → (r ≡ refusal.NotLocked) ⊎ (r ≡ refusal
 not_stopped r cause stopped =
     ⊎_elim (λ (e : r ≡ refusal.NotLocked). let clash : refusal.NotLocked ≡ refusal.Stopped = sym e ∙ stopped in absurd cc) (λ (e : r ≡ refusal.OutOfRange). let clash : refusal.OutOfRange ≡ refusal.Stopped = sym e ∙ stopped in absurd cc) cause
 
+-- no refusal of a range allocates, nor tells of the root
+ranged_allocates_none : (op : Operation) (range : Range) (reply : Option Value) → range_of op ≡ Some range → allocated_by op reply ≡ []
+ranged_allocates_none (AddRange id off len) range reply is = refl
+ranged_allocates_none (Write id off bytes) range reply is = refl
+ranged_allocates_none (Read id off len) range reply is = refl
+ranged_allocates_none op range reply is = absurd cc
+
+ranged_tells_no_root : (op : Operation) (range : Range) (reply : Option Value) → range_of op ≡ Some range → (root : Option ℕ) → TellsOfRoot root op reply
+ranged_tells_no_root (AddRange id off len) range reply is root = tt
+ranged_tells_no_root (Write id off bytes) range reply is root = tt
+ranged_tells_no_root (Read id off len) range reply is root = tt
+ranged_tells_no_root op range reply is root = absurd cc
+
 -- a refusal for the operation's reason gives the call up
-pub gives_up_by_reason : {M : Type 0} (at : M → View → Type 0) (lane : Lane M) (o : Opening) (v : View) → IsAtWork o at lane v → KeepsBlocks v → (op : Operation) (range : Range) (r : Refusal) → range_of op ≡ Some range → IsReason v op range r
-    → GivesUpBy v op (Some (Refused r)) (error.Refused r)
-gives_up_by_reason at lane o v is keeps op range r of_range reason next tells back reserved =
-    inl (refusal_gives_up v next op range r lane.level is.level (record { under_way = is.under_way; keeps = keeps }) (record { is_range = of_range; reason = reason; tells = tells; takes_back = back }))
+pub gives_up_by_reason : {M : Type 0} (at : M → View → Type 0) (lane : Lane M) (o : Opening) (v : View) → IsAtWork o at lane v → (op : Operation) (range : Range) (r : Refusal) → IsOldIn v range.id.off → MayGiveUp v
+    → range_of op ≡ Some range → IsReason v op range r → GivesUpBy v op (Some (Refused r)) (error.Refused r)
+gives_up_by_reason at lane o v is op range r found may of_range reason =
+    gives_up_so o at lane v is may op (Some (Refused r)) (error.Refused r) (ranged_allocates_none op range (Some (Refused r)) of_range) (ranged_tells_no_root op range (Some (Refused r)) of_range)
+    (λ next tells back. refusal_aborts v next op range r lane.level is.level is.under_way (record { is_range = of_range; reason = reason; tells = tells; takes_back = back }) (λ same. found.found) (λ other. found.kept))
 
 module _ {M : Type 0} (at : M → View → Type 0) (old mid new : Lane M) (op : Operation) (range : Range) (of_range : range_of op ≡ Some range) (r answer : Refusal) where
   -- what a refusal leaves, and what a stop does
@@ -62,25 +79,25 @@ module _ {M : Type 0} (at : M → View → Type 0) (old mid new : Lane M) (op : 
   Answers = (r ≡ refusal.Stopped → answer ≡ refusal.Stopped) × (answer ≢ refusal.Stopped → answer ≡ r)
 
   module _ (finds : Finds) (kept : r ≢ refusal.Stopped → mid.records.items ≡ old.records.items) (answers : Answers) where
-    pub given_up_for : Ends mid.records.items → answer ≢ refusal.Stopped → (o : Opening) (v : View) → IsAtWork o at old v → KeepsBlocks v → HasLooked v (λ w. IsGivenUpFor at new old.records.items op range answer w)
-    given_up_for ends stays o v work keeps =
+    pub given_up_for : Ends mid.records.items → answer ≢ refusal.Stopped → (o : Opening) (v : View) → IsAtWork o at old v → IsOldIn v range.id.off → MayGiveUp v → HasLooked v (λ w. IsGivenUpFor at new old.records.items op range answer w)
+    given_up_for ends stays o v work found may =
         let goes : r ≢ refusal.Stopped = λ e. stays (answers.0 e) in
         subst (λ (a : Refusal). HasLooked v (λ w. IsGivenUpFor at new old.records.items op range a w)) (sym (answers.1 stays))
-        (looked_keeping o at mid v (λ w. IsReason w op range r) (λ w. IsGivenUpFor at new old.records.items op range r w) (finds goes o v work) keeps
-        (λ w works still reason. record {
+        (looked_giving_up o at mid v (λ w. IsReason w op range r) (λ w. IsGivenUpFor at new old.records.items op range r w) range.id.off (finds goes o v work) found may
+        (λ w works found_still may_still reason. record {
           reason = reason;
           ended =
-              subst (λ (spans : List Span). IsEndedBy at new w (gives_up spans op (Some (Refused r)) new.last) op (Some (Refused r))) (kept goes) (ends stays o w works (gives_up_by_reason at mid o w works still op range r of_range reason));
+              subst (λ (spans : List Span). IsEndedBy at new w (gives_up spans op (Some (Refused r)) new.last) op (Some (Refused r))) (kept goes) (ends stays o w works (gives_up_by_reason at mid o w works op range r found_still may_still of_range reason));
         }))
 
-    pub stopped_for : Stops mid.records.items → r ≢ refusal.Stopped → answer ≡ refusal.Stopped → (o : Opening) (v : View) → IsAtWork o at old v → KeepsBlocks v → HasLooked v (λ w. IsStoppedFor at new old.records.items op range w)
-    stopped_for stops goes stopped o v work keeps =
-        looked_keeping o at mid v (λ w. IsReason w op range r) (λ w. IsStoppedFor at new old.records.items op range w) (finds goes o v work) keeps
-        (λ w works still reason. record {
+    pub stopped_for : Stops mid.records.items → r ≢ refusal.Stopped → answer ≡ refusal.Stopped → (o : Opening) (v : View) → IsAtWork o at old v → IsOldIn v range.id.off → MayGiveUp v → HasLooked v (λ w. IsStoppedFor at new old.records.items op range w)
+    stopped_for stops goes stopped o v work found may =
+        looked_giving_up o at mid v (λ w. IsReason w op range r) (λ w. IsStoppedFor at new old.records.items op range w) range.id.off (finds goes o v work) found may
+        (λ w works found_still may_still reason. record {
           refusal = r;
           reason = reason;
           stopped =
-              subst (λ (spans : List Span). IsStoppedIn at new w (gives_up spans op (Some (Refused r)) new.last) op (Some (Refused r))) (kept goes) (stops goes stopped o w works (gives_up_by_reason at mid o w works still op range r of_range reason));
+              subst (λ (spans : List Span). IsStoppedIn at new w (gives_up spans op (Some (Refused r)) new.last) op (Some (Refused r))) (kept goes) (stops goes stopped o w works (gives_up_by_reason at mid o w works op range r found_still may_still of_range reason));
         })
 
     module _ (Can : View → Type 0) (steps : Sequence) (cut : r ≡ refusal.Stopped → (o : Opening) (v : View) → IsAtWork o at old v → HasLooked v (λ w. Can w × StopsUndrawn (at mid.memory) w steps)) (at_once : r ≡ refusal.Stopped → new ≡ record mid { stopped = true }) (drawn : mid.drawn ≡ old.drawn) where
@@ -99,8 +116,8 @@ module _ {M : Type 0} (at : M → View → Type 0) (old mid new : Lane M) (op : 
           } in
           record { loads = t.loads; view = t.view; looks = t.looks; working = t.working; holds = inl (t.holds.0, subst (λ (lane : Lane M). IsStoppedIn at lane t.view steps op None) (sym (at_once e)) in_steps) }
 
-      pub stopped_at : Stops mid.records.items → answer ≡ refusal.Stopped → (o : Opening) (v : View) → IsAtWork o at old v → KeepsBlocks v → HasLooked v (λ w. IsStoppedAt at new old.records.items op range Can steps w)
-      stopped_at stops stopped o v work keeps = ⊎_elim (λ (e : r ≡ refusal.Stopped). stopped_in_steps e o v work)
+      pub stopped_at : Stops mid.records.items → answer ≡ refusal.Stopped → (o : Opening) (v : View) → IsAtWork o at old v → IsOldIn v range.id.off → MayGiveUp v → HasLooked v (λ w. IsStoppedAt at new old.records.items op range Can steps w)
+      stopped_at stops stopped o v work found may = ⊎_elim (λ (e : r ≡ refusal.Stopped). stopped_in_steps e o v work)
           (λ (goes : r ≢ refusal.Stopped).
-          let t = stopped_for stops goes stopped o v work keeps in record { loads = t.loads; view = t.view; looks = t.looks; working = t.working; holds = inr t.holds })
+          let t = stopped_for stops goes stopped o v work found may in record { loads = t.loads; view = t.view; looks = t.looks; working = t.working; holds = inr t.holds })
           (stopped_or_not r)

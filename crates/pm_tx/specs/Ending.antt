@@ -5,10 +5,12 @@ use Rattle.pm_objects.specs.declared.calls.Operation.TheVariants.{Commit}
 use Rattle.pm_objects.specs.declared.history.TxErr.{TxErr}
 use Rattle.pm_objects.specs.declared.history.Value.{Value}
 use Rattle.pm_memory.specs.Runs.{Stops}
+use Rattle.pm_crash.specs.CallBlocks.{KeepsBlocks, blocks_in}
 use Rattle.pm_crash.specs.OpenCall.{IsGivenUp, WasAborted}
 use Rattle.pm_crash.specs.Operations.{TakesBack, Tells}
 use Rattle.pm_crash.specs.Reserved.{IsBorneOut}
 use Rattle.pm_undo.specs.Working.{HasArea, IsSameCall, IsWorking}
+use Rattle.pm_view.specs.Founds.{IsAlone}
 use Rattle.pm_view.specs.Log.{no_log}
 use Rattle.pm_view.specs.Constants.{IsSameLane}
 use Rattle.pm_view.specs.Log.Phase.{Idle, Open}
@@ -76,6 +78,15 @@ StopsDrawn old new spans entries n = (v : View) → old v → Ready v (commits s
 -- bears out
 abbrev pub EndsGivenUp : View → TxErr → Type 0
 EndsGivenUp v error = IsGivenUp v error ⊎ (WasAborted v error × IsBorneOut v)
+
+-- The open call may be given up: it told nothing of the heap, or its lane is alone, and what that has bears out what the call told.
+abbrev pub MayGiveUp : View → Type 0
+MayGiveUp v = KeepsBlocks v ⊎ (IsAlone v × IsBorneOut v)
+
+-- It may be committed, with no change of a block to publish: it told nothing of the heap, or has nothing that it made and freed nothing that it found, and what
+-- the lane has bears that out.
+abbrev pub PublishesNoBlock : View → Type 0
+PublishesNoBlock v = KeepsBlocks v ⊎ (((blocks_in v).made ≡ []) × ((blocks_in v).freed ≡ []) × IsBorneOut v)
 
 -- once it is taken back, with all that the lane reserved, and this operation is told, the call is given up with this error
 abbrev pub GivesUpBy : View → Operation → Option Value → TxErr → Type 0

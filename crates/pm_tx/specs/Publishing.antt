@@ -1,11 +1,12 @@
 -- A call that publishes: its redo entries are logged, it is told and draws its number, and the log is performed.
-use Rattle.std.specs.Prelude.{◌≡◌, ◌≤◌, ℕ, All, List, length, map, None}
+use Rattle.std.specs.Prelude.{◌≡◌, ◌⊎◌, ◌≤◌, ℕ, All, List, length, map, None}
 use Rattle.pm_objects.specs.declared.calls.Operation.{Operation}
 use Rattle.pm_record.specs.declared.redo.Redo.{Redo}
 use Rattle.pm_view.specs.View.{View}
 use Rattle.pm_view.specs.Views.{after_all}
-use Rattle.pm_crash.specs.OpenCall.{IsWholeCall}
+use Rattle.pm_crash.specs.OpenCall.{IsWholeCall, MakesItsStep}
 use Rattle.pm_crash.specs.Operations.{KeepsWords, Tells}
+use Rattle.pm_crash.specs.Reserved.{IsBorneOut}
 use Rattle.pm_redo.specs.Entering.{HasPlace, IsOfPool, IsReadyToLog, final_of}
 use Rattle.pm_redo.specs.Sequences.{logs}
 use Rattle.pm_world.specs.Records.{pool_entries}
@@ -24,16 +25,21 @@ pub record MayPublish (v : View) (entries : List Redo) : Type 0 where
   pub each : All (IsOfPool v) entries
   pub may_come : MayCome v
 
--- the entries are in the log, and the operation is told: the lane recorded no more, and changed no word outside of its area
+-- the entries are in the log, and the operation is told: the lane recorded and reserved no more, and changed no word outside of its area
 pub record TellsLogged (v next : View) (entries : List Redo) (operation : Operation) : Type 0 where
   pub tells : Tells v next operation None
   pub records : next.log.records ≡ v.log.records
   pub words : KeepsWords v next
   pub logged : pool_entries next ≡ map final_of entries
+  pub reserved : next.reserved ≡ v.reserved
 
--- so the call is whole, whatever view that is
+-- the call is whole, or makes its step from each pool that may be the one before it, and what its lane has bears out what it told
+abbrev pub EndsWhole : View → Type 0
+EndsWhole v = IsWholeCall v ⊎ (MakesItsStep v × IsBorneOut v)
+
+-- so it is then, whatever view that is
 abbrev pub IsWholeOnceLogged : View → List Redo → Operation → Type 0
-IsWholeOnceLogged v entries operation = (next : View) → TellsLogged v next entries operation → IsWholeCall next
+IsWholeOnceLogged v entries operation = (next : View) → TellsLogged v next entries operation → EndsWhole next
 
 -- the view once the entries are logged, and the one once the call drew this number
 abbrev pub logged_view : View → List Redo → View

@@ -1,5 +1,4 @@
 ghost use Rattle.std.specs.Prelude.{◌≡◌, [], None, Some, Err, true, IfErr, OnErr, OnOk};
-ghost use Rattle.pm_crash.specs.CallBlocks.{KeepsBlocks};
 ghost use Rattle.pm_model.specs.Answers.{error_for};
 ghost use Rattle.pm_objects.specs.declared.calls.Operation.TheVariants.{Abort};
 ghost use Rattle.pm_objects.specs.declared.history.TxErr.{TxErr};
@@ -9,7 +8,7 @@ ghost use Rattle.pm_view.specs.View.{View};
 ghost use Rattle.pm_world.specs.Opening.{Opening};
 ghost use Rattle.pm_world.specs.declared.lane.Stage.TheVariants as stage;
 ghost use Rattle.pm_tx.specs.AtWork.{IsAtWork};
-ghost use Rattle.pm_tx.specs.Ending.{IsEndedBy, IsLaneAtWork, IsStoppedIn};
+ghost use Rattle.pm_tx.specs.Ending.{IsEndedBy, IsLaneAtWork, IsStoppedIn, MayGiveUp};
 ghost use Rattle.pm_tx.specs.Sequences.{gives_up};
 ghost use Rattle.pm_tx.specs.Stages.{work_refusal};
 
@@ -36,11 +35,11 @@ fn aborted_with(errnum: u32) -> TxErr
 pub fn abort<M: LawfulMem>(lane: &mut Lane<M>, errnum: u32) -> Result<(), Refusal>
     requires at_work { work_refusal lane.old ≡ None → IsLaneAtWork M.at lane.old }
     ensures refused { (r : Refusal) → work_refusal lane.old ≡ Some r → (result ≡ Err r) × (lane.new ≡ lane.old) }
-    ensures ended { OnOk result ((o : Opening) (v : View) → IsAtWork o M.at lane.old v → KeepsBlocks v → IsEndedBy M.at lane.new v (gives_up lane.old.records.items (Abort errnum) None lane.new.last) (Abort errnum) None) }
+    ensures ended { OnOk result ((o : Opening) (v : View) → IsAtWork o M.at lane.old v → MayGiveUp v → IsEndedBy M.at lane.new v (gives_up lane.old.records.items (Abort errnum) None lane.new.last) (Abort errnum) None) }
     ensures none { OnOk result (lane.new.records.items ≡ []) }
     ensures lane { OnOk result (lane.new
         ≡ record lane.old { memory = lane.new.memory; records = lane.new.records; entries = lane.new.entries; stage = stage.OnAbort; error = error_for errnum; drawn = Some lane.new.last; last = lane.new.last }) }
-    ensures stops { OnErr result (work_refusal lane.old ≡ None → (o : Opening) (v : View) → IsAtWork o M.at lane.old v → KeepsBlocks v
+    ensures stops { OnErr result (work_refusal lane.old ≡ None → (o : Opening) (v : View) → IsAtWork o M.at lane.old v → MayGiveUp v
         → IsStoppedIn M.at lane.new v (gives_up lane.old.records.items (Abort errnum) None lane.new.last) (Abort errnum) None) }
     ensures stopped { IfErr result (λ r. work_refusal lane.old ≡ None → r ≡ refusal.Stopped) }
     ensures stopped_lane { OnErr result (work_refusal lane.old ≡ None

@@ -1,5 +1,5 @@
 ghost use Rattle.std.specs.Prelude.{◌≡◌, ◌≢◌, ◌⊎◌, ◌+◌, ◌≤◌, length, [], Err, None, Some, true, IfOk, IfErr, OnOk};
-ghost use Rattle.pm_crash.specs.CallBlocks.{IsOldIn, KeepsBlocks};
+ghost use Rattle.pm_crash.specs.CallBlocks.{IsOldIn};
 ghost use Rattle.pm_crash.specs.Operations.{IsReason};
 ghost use Rattle.pm_model.specs.Bytes.{covered_words, new_words};
 ghost use Rattle.pm_objects.specs.declared.calls.Operation.TheVariants.{AddRange};
@@ -16,7 +16,7 @@ ghost use Rattle.pm_world.specs.Opening.{Opening};
 ghost use Rattle.pm_world.specs.Sequences.{IsMade, IsStopped};
 ghost use Rattle.pm_tx.specs.AtWork.{IsAtWork};
 ghost use Rattle.pm_tx.specs.Calls.{HasLooked, IsGivenUpFor, IsStoppedAt};
-ghost use Rattle.pm_tx.specs.Ending.{IsLaneAtWork};
+ghost use Rattle.pm_tx.specs.Ending.{IsLaneAtWork, MayGiveUp};
 ghost use Rattle.pm_tx.specs.Learning.{HasChecked};
 ghost use Rattle.pm_tx.specs.Ranges.{CanAdd, HasAddedRange, MayAddRange, StopsUndrawn, adds_range};
 
@@ -84,12 +84,12 @@ fn add_at_work<M: LawfulMem>(
     ensures words { IfOk result (λ count. count ≡ length (new_words (words_in lane.old.records.items) (covered_words (id.off + off) len))) }
     ensures done { OnOk result ((o : Opening) (v : View) → IsAtWork o M.at lane.old v → IsOldIn v id.off → HasLooked v (λ w. CanAdd w id off len × HasAddedRange o M.at lane.new w lane.old.records.items id off len)) }
     ensures lane { OnOk result (lane.new ≡ record lane.old { memory = lane.new.memory; records = lane.new.records }) }
-    ensures given_up { IfErr result (λ r. r ≢ refusal.Stopped → (o : Opening) (v : View) → IsAtWork o M.at lane.old v → KeepsBlocks v
+    ensures given_up { IfErr result (λ r. r ≢ refusal.Stopped → (o : Opening) (v : View) → IsAtWork o M.at lane.old v → IsOldIn v id.off → MayGiveUp v
         → HasLooked v (λ w. IsGivenUpFor M.at lane.new lane.old.records.items (AddRange id off len) (record { id = id; off = off; len = len }) r w)) }
     ensures none { IfErr result (λ r. r ≢ refusal.Stopped → lane.new.records.items ≡ []) }
     ensures given_up_lane { IfErr result (λ r. r ≢ refusal.Stopped
         → lane.new ≡ record lane.old { memory = lane.new.memory; records = lane.new.records; entries = lane.new.entries; stage = stage.OnAbort; error = error.Refused r; drawn = Some lane.new.last; last = lane.new.last }) }
-    ensures stopped { IfErr result (λ r. r ≡ refusal.Stopped → (o : Opening) (v : View) → IsAtWork o M.at lane.old v → KeepsBlocks v
+    ensures stopped { IfErr result (λ r. r ≡ refusal.Stopped → (o : Opening) (v : View) → IsAtWork o M.at lane.old v → IsOldIn v id.off → MayGiveUp v
         → HasLooked v (λ w. IsStoppedAt M.at lane.new lane.old.records.items (AddRange id off len) (record { id = id; off = off; len = len }) (λ u. CanAdd u id off len) (adds_range lane.old.records.items id off len) w)) }
     ensures stopped_lane { IfErr result (λ r. r ≡ refusal.Stopped
         → lane.new ≡ record lane.old { memory = lane.new.memory; records = lane.new.records; drawn = lane.new.drawn; last = lane.new.last; stopped = true }) }
@@ -117,12 +117,12 @@ pub fn add_range<M: LawfulMem>(
     ensures words { IfOk result (λ count. count ≡ length (new_words (words_in lane.old.records.items) (covered_words (id.off + off) len))) }
     ensures done { OnOk result ((o : Opening) (v : View) → IsAtWork o M.at lane.old v → IsOldIn v id.off → HasLooked v (λ w. CanAdd w id off len × HasAddedRange o M.at lane.new w lane.old.records.items id off len)) }
     ensures lane { OnOk result (lane.new ≡ record lane.old { memory = lane.new.memory; records = lane.new.records }) }
-    ensures given_up { IfErr result (λ r. work_refusal lane.old ≡ None → r ≢ refusal.Stopped → (o : Opening) (v : View) → IsAtWork o M.at lane.old v → KeepsBlocks v
+    ensures given_up { IfErr result (λ r. work_refusal lane.old ≡ None → r ≢ refusal.Stopped → (o : Opening) (v : View) → IsAtWork o M.at lane.old v → IsOldIn v id.off → MayGiveUp v
         → HasLooked v (λ w. IsGivenUpFor M.at lane.new lane.old.records.items (AddRange id off len) (record { id = id; off = off; len = len }) r w)) }
     ensures none { IfErr result (λ r. work_refusal lane.old ≡ None → r ≢ refusal.Stopped → lane.new.records.items ≡ []) }
     ensures given_up_lane { IfErr result (λ r. work_refusal lane.old ≡ None → r ≢ refusal.Stopped
         → lane.new ≡ record lane.old { memory = lane.new.memory; records = lane.new.records; entries = lane.new.entries; stage = stage.OnAbort; error = error.Refused r; drawn = Some lane.new.last; last = lane.new.last }) }
-    ensures stopped { IfErr result (λ r. work_refusal lane.old ≡ None → r ≡ refusal.Stopped → (o : Opening) (v : View) → IsAtWork o M.at lane.old v → KeepsBlocks v
+    ensures stopped { IfErr result (λ r. work_refusal lane.old ≡ None → r ≡ refusal.Stopped → (o : Opening) (v : View) → IsAtWork o M.at lane.old v → IsOldIn v id.off → MayGiveUp v
         → HasLooked v (λ w. IsStoppedAt M.at lane.new lane.old.records.items (AddRange id off len) (record { id = id; off = off; len = len }) (λ u. CanAdd u id off len) (adds_range lane.old.records.items id off len) w)) }
     ensures stopped_lane { IfErr result (λ r. work_refusal lane.old ≡ None → r ≡ refusal.Stopped
         → lane.new ≡ record lane.old { memory = lane.new.memory; records = lane.new.records; drawn = lane.new.drawn; last = lane.new.last; stopped = true }) }

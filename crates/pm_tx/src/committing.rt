@@ -1,5 +1,4 @@
 ghost use Rattle.std.specs.Prelude.{◌≡◌, ◌⊎◌, ◌-◌, ◌≤◌, [], None, Some, Err, true, IfErr, OnErr, OnOk};
-ghost use Rattle.pm_crash.specs.CallBlocks.{KeepsBlocks};
 ghost use Rattle.pm_objects.specs.declared.calls.Operation.TheVariants.{Commit};
 ghost use Rattle.pm_objects.specs.declared.refusal.Refusal.{Refusal};
 ghost use Rattle.pm_objects.specs.declared.refusal.Refusal.TheVariants as refusal;
@@ -11,7 +10,7 @@ ghost use Rattle.pm_world.specs.Opening.{Opening};
 ghost use Rattle.pm_world.specs.Sequences.{IsMade, IsReady, IsStopped, Runs, in_turn, one, settles};
 ghost use Rattle.pm_world.specs.declared.lane.Stage.TheVariants as stage;
 ghost use Rattle.pm_tx.specs.AtWork.{IsAtWork};
-ghost use Rattle.pm_tx.specs.Ending.{IsDecidable, IsEndedBy, IsLaneAtWork, IsStoppedIn, StopsDrawn, StopsEnded};
+ghost use Rattle.pm_tx.specs.Ending.{IsDecidable, IsEndedBy, IsLaneAtWork, IsStoppedIn, PublishesNoBlock, StopsDrawn, StopsEnded};
 ghost use Rattle.pm_tx.specs.Sequences.{commits, decides, decides_all, logs_listed, retires_any};
 ghost use Rattle.pm_tx.specs.Stages.{work_refusal};
 
@@ -89,10 +88,10 @@ fn finish<M: LawfulMem>(lane: &mut Lane<M>) -> Result<(), Stopped>
 /// Commits the outermost level.
 fn commit_outer<M: LawfulMem>(lane: &mut Lane<M>) -> Result<(), Refusal>
     requires at_work { IsLaneAtWork M.at lane.old }
-    ensures ended { OnOk result ((o : Opening) (v : View) → IsAtWork o M.at lane.old v → KeepsBlocks v → lane.old.level ≡ 1 → IsEndedBy M.at lane.new v (commits lane.old.records.items lane.old.entries.items lane.new.last) Commit None) }
+    ensures ended { OnOk result ((o : Opening) (v : View) → IsAtWork o M.at lane.old v → PublishesNoBlock v → lane.old.level ≡ 1 → IsEndedBy M.at lane.new v (commits lane.old.records.items lane.old.entries.items lane.new.last) Commit None) }
     ensures none { OnOk result (lane.new.records.items ≡ []) }
     ensures lane { OnOk result (lane.new ≡ record lane.old { memory = lane.new.memory; records = lane.new.records; entries = lane.new.entries; stage = stage.OnCommit; drawn = Some lane.new.last; last = lane.new.last }) }
-    ensures stops { OnErr result ((o : Opening) (v : View) → IsAtWork o M.at lane.old v → KeepsBlocks v → lane.old.level ≡ 1 → IsStoppedIn M.at lane.new v (commits lane.old.records.items lane.old.entries.items lane.new.last) Commit None) }
+    ensures stops { OnErr result ((o : Opening) (v : View) → IsAtWork o M.at lane.old v → PublishesNoBlock v → lane.old.level ≡ 1 → IsStoppedIn M.at lane.new v (commits lane.old.records.items lane.old.entries.items lane.new.last) Commit None) }
     ensures stopped { IfErr result (λ r. r ≡ refusal.Stopped) }
     ensures stopped_lane { OnErr result (lane.new ≡ record lane.old { memory = lane.new.memory; records = lane.new.records; entries = lane.new.entries; drawn = lane.new.drawn; last = lane.new.last; stopped = true }) }
 {
@@ -128,7 +127,7 @@ fn commit_inner<M: LawfulMem>(lane: &mut Lane<M>)
 pub fn commit<M: LawfulMem>(lane: &mut Lane<M>) -> Result<(), Refusal>
     requires at_work { work_refusal lane.old ≡ None → IsLaneAtWork M.at lane.old }
     ensures refused { (r : Refusal) → work_refusal lane.old ≡ Some r → (result ≡ Err r) × (lane.new ≡ lane.old) }
-    ensures ended { OnOk result ((o : Opening) (v : View) → IsAtWork o M.at lane.old v → KeepsBlocks v → lane.old.level ≡ 1 → IsEndedBy M.at lane.new v (commits lane.old.records.items lane.old.entries.items lane.new.last) Commit None) }
+    ensures ended { OnOk result ((o : Opening) (v : View) → IsAtWork o M.at lane.old v → PublishesNoBlock v → lane.old.level ≡ 1 → IsEndedBy M.at lane.new v (commits lane.old.records.items lane.old.entries.items lane.new.last) Commit None) }
     ensures none { OnOk result (lane.old.level ≡ 1 → lane.new.records.items ≡ []) }
     ensures lane { OnOk result (lane.old.level ≡ 1
         → lane.new ≡ record lane.old { memory = lane.new.memory; records = lane.new.records; entries = lane.new.entries; stage = stage.OnCommit; drawn = Some lane.new.last; last = lane.new.last }) }
@@ -136,7 +135,7 @@ pub fn commit<M: LawfulMem>(lane: &mut Lane<M>) -> Result<(), Refusal>
     ensures inner_lane { OnOk result (2 ≤ lane.old.level → lane.new ≡ record lane.old { memory = lane.new.memory; stage = stage.OnCommit }) }
     ensures inner_stays { OnOk result ((o : Opening) (v : View) → IsAtWork o M.at lane.old v → 2 ≤ lane.old.level
         → IsAtWork o M.at (record lane.new { level = lane.new.level - 1; stage = stage.Work }) (after v (Tell Commit None))) }
-    ensures stops { OnErr result (work_refusal lane.old ≡ None → (o : Opening) (v : View) → IsAtWork o M.at lane.old v → KeepsBlocks v → IsStoppedIn M.at lane.new v (commits lane.old.records.items lane.old.entries.items lane.new.last) Commit None) }
+    ensures stops { OnErr result (work_refusal lane.old ≡ None → (o : Opening) (v : View) → IsAtWork o M.at lane.old v → PublishesNoBlock v → IsStoppedIn M.at lane.new v (commits lane.old.records.items lane.old.entries.items lane.new.last) Commit None) }
     ensures stopped { IfErr result (λ r. work_refusal lane.old ≡ None → r ≡ refusal.Stopped) }
     ensures stopped_lane { OnErr result (work_refusal lane.old ≡ None
         → lane.new ≡ record lane.old { memory = lane.new.memory; records = lane.new.records; entries = lane.new.entries; drawn = lane.new.drawn; last = lane.new.last; stopped = true }) }

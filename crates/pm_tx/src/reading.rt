@@ -1,5 +1,5 @@
 ghost use Rattle.std.specs.Prelude.{◌≡◌, ◌≢◌, ◌⊎◌, false, true, length, [], None, Some, Err, IfErr, OnErr, OnOk};
-ghost use Rattle.pm_crash.specs.CallBlocks.{IsOldIn, KeepsBlocks};
+ghost use Rattle.pm_crash.specs.CallBlocks.{IsOldIn};
 ghost use Rattle.pm_crash.specs.Operations.{IsReason};
 ghost use Rattle.pm_objects.specs.declared.calls.Operation.TheVariants.{Read};
 ghost use Rattle.pm_objects.specs.declared.history.TxErr.TheVariants as error;
@@ -11,7 +11,7 @@ ghost use Rattle.pm_world.specs.Sequences.{IsMade};
 ghost use Rattle.pm_world.specs.declared.lane.Stage.TheVariants as stage;
 ghost use Rattle.pm_tx.specs.AtWork.{IsAtWork};
 ghost use Rattle.pm_tx.specs.Calls.{HasLooked, IsGivenUpFor, IsStoppedFor};
-ghost use Rattle.pm_tx.specs.Ending.{IsLaneAtWork};
+ghost use Rattle.pm_tx.specs.Ending.{IsLaneAtWork, MayGiveUp};
 ghost use Rattle.pm_tx.specs.Learning.{HasChecked};
 ghost use Rattle.pm_tx.specs.Ranges.{HasReadRange, KnowsRange, MayReadRange, reads_range};
 ghost use Rattle.pm_tx.specs.Stages.{work_refusal};
@@ -69,12 +69,12 @@ fn read_at_work<M: LawfulMem>(
     ensures unread { OnErr result (into.new ≡ into.old) }
     ensures done { OnOk result ((o : Opening) (v : View) → IsAtWork o M.at lane.old v → IsOldIn v id.off → HasLooked v (λ w. KnowsRange w id off (length into.old) false × HasReadRange o M.at lane.new w id off (length into.old) into.new)) }
     ensures lane { OnOk result (lane.new ≡ record lane.old { memory = lane.new.memory }) }
-    ensures given_up { IfErr result (λ r. r ≢ refusal.Stopped → (o : Opening) (v : View) → IsAtWork o M.at lane.old v → KeepsBlocks v
+    ensures given_up { IfErr result (λ r. r ≢ refusal.Stopped → (o : Opening) (v : View) → IsAtWork o M.at lane.old v → IsOldIn v id.off → MayGiveUp v
         → HasLooked v (λ w. IsGivenUpFor M.at lane.new lane.old.records.items (Read id off (length into.old)) (record { id = id; off = off; len = length into.old }) r w)) }
     ensures none { IfErr result (λ r. r ≢ refusal.Stopped → lane.new.records.items ≡ []) }
     ensures given_up_lane { IfErr result (λ r. r ≢ refusal.Stopped
         → lane.new ≡ record lane.old { memory = lane.new.memory; records = lane.new.records; entries = lane.new.entries; stage = stage.OnAbort; error = error.Refused r; drawn = Some lane.new.last; last = lane.new.last }) }
-    ensures stopped { IfErr result (λ r. r ≡ refusal.Stopped → (o : Opening) (v : View) → IsAtWork o M.at lane.old v → KeepsBlocks v
+    ensures stopped { IfErr result (λ r. r ≡ refusal.Stopped → (o : Opening) (v : View) → IsAtWork o M.at lane.old v → IsOldIn v id.off → MayGiveUp v
         → HasLooked v (λ w. IsStoppedFor M.at lane.new lane.old.records.items (Read id off (length into.old)) (record { id = id; off = off; len = length into.old }) w)) }
     ensures stopped_lane { IfErr result (λ r. r ≡ refusal.Stopped
         → lane.new ≡ record lane.old { memory = lane.new.memory; records = lane.new.records; drawn = lane.new.drawn; last = lane.new.last; stopped = true }) }
@@ -103,12 +103,12 @@ pub fn read<M: LawfulMem>(
     ensures unread { OnErr result (into.new ≡ into.old) }
     ensures done { OnOk result ((o : Opening) (v : View) → IsAtWork o M.at lane.old v → IsOldIn v id.off → HasLooked v (λ w. KnowsRange w id off (length into.old) false × HasReadRange o M.at lane.new w id off (length into.old) into.new)) }
     ensures lane { OnOk result (lane.new ≡ record lane.old { memory = lane.new.memory }) }
-    ensures given_up { IfErr result (λ r. work_refusal lane.old ≡ None → r ≢ refusal.Stopped → (o : Opening) (v : View) → IsAtWork o M.at lane.old v → KeepsBlocks v
+    ensures given_up { IfErr result (λ r. work_refusal lane.old ≡ None → r ≢ refusal.Stopped → (o : Opening) (v : View) → IsAtWork o M.at lane.old v → IsOldIn v id.off → MayGiveUp v
         → HasLooked v (λ w. IsGivenUpFor M.at lane.new lane.old.records.items (Read id off (length into.old)) (record { id = id; off = off; len = length into.old }) r w)) }
     ensures none { IfErr result (λ r. work_refusal lane.old ≡ None → r ≢ refusal.Stopped → lane.new.records.items ≡ []) }
     ensures given_up_lane { IfErr result (λ r. work_refusal lane.old ≡ None → r ≢ refusal.Stopped
         → lane.new ≡ record lane.old { memory = lane.new.memory; records = lane.new.records; entries = lane.new.entries; stage = stage.OnAbort; error = error.Refused r; drawn = Some lane.new.last; last = lane.new.last }) }
-    ensures stopped { IfErr result (λ r. work_refusal lane.old ≡ None → r ≡ refusal.Stopped → (o : Opening) (v : View) → IsAtWork o M.at lane.old v → KeepsBlocks v
+    ensures stopped { IfErr result (λ r. work_refusal lane.old ≡ None → r ≡ refusal.Stopped → (o : Opening) (v : View) → IsAtWork o M.at lane.old v → IsOldIn v id.off → MayGiveUp v
         → HasLooked v (λ w. IsStoppedFor M.at lane.new lane.old.records.items (Read id off (length into.old)) (record { id = id; off = off; len = length into.old }) w)) }
     ensures stopped_lane { IfErr result (λ r. work_refusal lane.old ≡ None → r ≡ refusal.Stopped
         → lane.new ≡ record lane.old { memory = lane.new.memory; records = lane.new.records; drawn = lane.new.drawn; last = lane.new.last; stopped = true }) }

@@ -1,5 +1,5 @@
 ghost use Rattle.std.specs.Prelude.{◌≡◌, ◌≢◌, ◌⊎◌, ℕ, length, [], None, Some, true, Err, IfErr, OnErr, OnOk};
-ghost use Rattle.pm_crash.specs.CallBlocks.{IsOldIn, KeepsBlocks};
+ghost use Rattle.pm_crash.specs.CallBlocks.{IsOldIn};
 ghost use Rattle.pm_crash.specs.Operations.{IsReason};
 ghost use Rattle.pm_objects.specs.declared.calls.Operation.TheVariants.{Write};
 ghost use Rattle.pm_objects.specs.declared.history.TxErr.TheVariants as error;
@@ -11,7 +11,7 @@ ghost use Rattle.pm_world.specs.Sequences.{Runs};
 ghost use Rattle.pm_world.specs.declared.lane.Stage.TheVariants as stage;
 ghost use Rattle.pm_tx.specs.AtWork.{IsAtWork};
 ghost use Rattle.pm_tx.specs.Calls.{HasLooked, IsGivenUpFor, IsStoppedAt};
-ghost use Rattle.pm_tx.specs.Ending.{IsLaneAtWork};
+ghost use Rattle.pm_tx.specs.Ending.{IsLaneAtWork, MayGiveUp};
 ghost use Rattle.pm_tx.specs.Learning.{HasChecked};
 ghost use Rattle.pm_tx.specs.Ranges.{CanWrite, HasWrittenRange, MayWriteRange, StopsUndrawn, writes_range};
 ghost use Rattle.pm_tx.specs.Stages.{work_refusal};
@@ -75,12 +75,12 @@ fn write_at_work<M: LawfulMem>(
     requires at_work { IsLaneAtWork M.at lane.old }
     ensures done { OnOk result ((o : Opening) (v : View) → IsAtWork o M.at lane.old v → IsOldIn v id.off → HasLooked v (λ w. CanWrite w id off (length bytes.now) × HasWrittenRange o M.at lane.new w id off bytes.now)) }
     ensures lane { OnOk result (lane.new ≡ record lane.old { memory = lane.new.memory }) }
-    ensures given_up { IfErr result (λ r. r ≢ refusal.Stopped → (o : Opening) (v : View) → IsAtWork o M.at lane.old v → KeepsBlocks v
+    ensures given_up { IfErr result (λ r. r ≢ refusal.Stopped → (o : Opening) (v : View) → IsAtWork o M.at lane.old v → IsOldIn v id.off → MayGiveUp v
         → HasLooked v (λ w. IsGivenUpFor M.at lane.new lane.old.records.items (Write id off bytes.now) (record { id = id; off = off; len = length bytes.now }) r w)) }
     ensures none { IfErr result (λ r. r ≢ refusal.Stopped → lane.new.records.items ≡ []) }
     ensures given_up_lane { IfErr result (λ r. r ≢ refusal.Stopped
         → lane.new ≡ record lane.old { memory = lane.new.memory; records = lane.new.records; entries = lane.new.entries; stage = stage.OnAbort; error = error.Refused r; drawn = Some lane.new.last; last = lane.new.last }) }
-    ensures stopped { IfErr result (λ r. r ≡ refusal.Stopped → (o : Opening) (v : View) → IsAtWork o M.at lane.old v → KeepsBlocks v
+    ensures stopped { IfErr result (λ r. r ≡ refusal.Stopped → (o : Opening) (v : View) → IsAtWork o M.at lane.old v → IsOldIn v id.off → MayGiveUp v
         → HasLooked v (λ w. IsStoppedAt M.at lane.new lane.old.records.items (Write id off bytes.now) (record { id = id; off = off; len = length bytes.now }) (λ u. CanWrite u id off (length bytes.now)) (writes_range id off bytes.now) w)) }
     ensures stopped_lane { IfErr result (λ r. r ≡ refusal.Stopped
         → lane.new ≡ record lane.old { memory = lane.new.memory; records = lane.new.records; drawn = lane.new.drawn; last = lane.new.last; stopped = true }) }
@@ -106,12 +106,12 @@ pub fn write<M: LawfulMem>(
     ensures refused { (r : Refusal) → work_refusal lane.old ≡ Some r → (result ≡ Err r) × (lane.new ≡ lane.old) }
     ensures done { OnOk result ((o : Opening) (v : View) → IsAtWork o M.at lane.old v → IsOldIn v id.off → HasLooked v (λ w. CanWrite w id off (length bytes.now) × HasWrittenRange o M.at lane.new w id off bytes.now)) }
     ensures lane { OnOk result (lane.new ≡ record lane.old { memory = lane.new.memory }) }
-    ensures given_up { IfErr result (λ r. work_refusal lane.old ≡ None → r ≢ refusal.Stopped → (o : Opening) (v : View) → IsAtWork o M.at lane.old v → KeepsBlocks v
+    ensures given_up { IfErr result (λ r. work_refusal lane.old ≡ None → r ≢ refusal.Stopped → (o : Opening) (v : View) → IsAtWork o M.at lane.old v → IsOldIn v id.off → MayGiveUp v
         → HasLooked v (λ w. IsGivenUpFor M.at lane.new lane.old.records.items (Write id off bytes.now) (record { id = id; off = off; len = length bytes.now }) r w)) }
     ensures none { IfErr result (λ r. work_refusal lane.old ≡ None → r ≢ refusal.Stopped → lane.new.records.items ≡ []) }
     ensures given_up_lane { IfErr result (λ r. work_refusal lane.old ≡ None → r ≢ refusal.Stopped
         → lane.new ≡ record lane.old { memory = lane.new.memory; records = lane.new.records; entries = lane.new.entries; stage = stage.OnAbort; error = error.Refused r; drawn = Some lane.new.last; last = lane.new.last }) }
-    ensures stopped { IfErr result (λ r. work_refusal lane.old ≡ None → r ≡ refusal.Stopped → (o : Opening) (v : View) → IsAtWork o M.at lane.old v → KeepsBlocks v
+    ensures stopped { IfErr result (λ r. work_refusal lane.old ≡ None → r ≡ refusal.Stopped → (o : Opening) (v : View) → IsAtWork o M.at lane.old v → IsOldIn v id.off → MayGiveUp v
         → HasLooked v (λ w. IsStoppedAt M.at lane.new lane.old.records.items (Write id off bytes.now) (record { id = id; off = off; len = length bytes.now }) (λ u. CanWrite u id off (length bytes.now)) (writes_range id off bytes.now) w)) }
     ensures stopped_lane { IfErr result (λ r. work_refusal lane.old ≡ None → r ≡ refusal.Stopped
         → lane.new ≡ record lane.old { memory = lane.new.memory; records = lane.new.records; drawn = lane.new.drawn; last = lane.new.last; stopped = true }) }

@@ -1,4 +1,4 @@
-use Rattle.std.proofs.Common.{refl, ap, sym, ◌∙◌}
+use Rattle.std.proofs.Common.{inl, refl, ap, sym, ◌∙◌}
 use Rattle.pm_memory.specs.Solo.{Solo}
 use Rattle.pm_objects.specs.declared.calls.Operation.TheVariants as operation
 use Rattle.pm_objects.specs.declared.refusal.Refusal.TheVariants as refusal
@@ -23,5 +23,5 @@ returns-in-Err-clause-ends c o first actions front rest values a =
     rw c.not_done.ensures
     (ends_so o first old actions c.args.names front values a new c.args.said.now rest values r (not_spent r refusal.LogFull (λ same. cc) (c.in-Err.ensures.causes none)) refl
     (λ goes. given_up o first old actions c.args.names front values a new c.args.said.now (operation.AddRange place c.args.off c.args.len) (add_is o first old actions c.args.names front values a new c.args.said.now c.args.id place c.id_of.ensures c.args.off c.args.len is)
-    (record { id = place; off = c.args.off; len = c.args.len }) r (c.in-Err.ensures.given_up none goes o a.view a.works (told_keeps c.args.names front a.view a.told)) (c.in-Err.ensures.given_up_lane none goes) (λ asked same. let clash = sym is ∙ same in cc) refl rest)
-    (λ stops. add_cut o first old actions c.args.names front values a new c.args.said.now c.args.id place c.id_of.ensures c.args.off c.args.len is rest (c.in-Err.ensures.stopped none stops o a.view a.works (told_keeps c.args.names front a.view a.told))))
+    (record { id = place; off = c.args.off; len = c.args.len }) r (c.in-Err.ensures.given_up none goes o a.view a.works (told_old c.args.names front a.view a.told c.id_of.result.off) (inl (told_keeps c.args.names front a.view a.told))) (c.in-Err.ensures.given_up_lane none goes) (λ asked same. let clash = sym is ∙ same in cc) refl rest)
+    (λ stops. add_cut o first old actions c.args.names front values a new c.args.said.now c.args.id place c.id_of.ensures c.args.off c.args.len is rest (c.in-Err.ensures.stopped none stops o a.view a.works (told_old c.args.names front a.view a.told c.id_of.result.off) (inl (told_keeps c.args.names front a.view a.told)))))

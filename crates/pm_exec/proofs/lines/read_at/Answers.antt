@@ -1,4 +1,4 @@
-use Rattle.std.proofs.Common.{◌≡◌, refl, ap, sym, ◌∙◌, subst, ◌++◌, ◌∷◌, [], false, ℕ, List, length, rules}
+use Rattle.std.proofs.Common.{inl, ◌≡◌, refl, ap, sym, ◌∙◌, subst, ◌++◌, ◌∷◌, [], false, ℕ, List, length, rules}
 use Rattle.pm_memory.specs.Solo.{Sees, Solo}
 use Rattle.pm_objects.specs.declared.calls.Operation.TheVariants as operation
 use Rattle.pm_objects.specs.declared.history.Value.TheVariants.{Bytes}
@@ -43,7 +43,7 @@ returns-in-Err-clause-ends c o first actions front rest a =
     (ends_so o first old actions c.args.names front values a new c.args.said.now rest values r (read_not_spent r (c.in-Err.ensures.causes none)) refl
     (λ goes. given_up o first old actions c.args.names front values a new c.args.said.now (operation.Read place off len) (read_is o first old actions c.args.names front values a new c.args.said.now c.args.range.0 place c.id_of.ensures off len is)
     (record { id = place; off = off; len = len }) r
-    (subst (λ (n : ℕ). HasLooked a.view (λ w. IsGivenUpFor Sees new old.records.items (operation.Read place off n) (record { id = place; off = off; len = n }) r w)) long (c.in-Err.ensures.given_up none goes o a.view a.works (told_keeps c.args.names front a.view a.told)))
+    (subst (λ (n : ℕ). HasLooked a.view (λ w. IsGivenUpFor Sees new old.records.items (operation.Read place off n) (record { id = place; off = off; len = n }) r w)) long (c.in-Err.ensures.given_up none goes o a.view a.works (told_old c.args.names front a.view a.told c.id_of.result.off) (inl (told_keeps c.args.names front a.view a.told))))
     (c.in-Err.ensures.given_up_lane none goes) (λ asked same. let clash = sym is ∙ same in cc) refl rest)
     (λ stops. read_cut o first old actions c.args.names front values a new c.args.said.now c.args.range.0 place c.id_of.ensures off len is rest
-    (subst (λ (n : ℕ). HasLooked a.view (λ w. IsStoppedFor Sees new old.records.items (operation.Read place off n) (record { id = place; off = off; len = n }) w)) long (c.in-Err.ensures.stopped none stops o a.view a.works (told_keeps c.args.names front a.view a.told)))))
+    (subst (λ (n : ℕ). HasLooked a.view (λ w. IsStoppedFor Sees new old.records.items (operation.Read place off n) (record { id = place; off = off; len = n }) w)) long (c.in-Err.ensures.stopped none stops o a.view a.works (told_old c.args.names front a.view a.told c.id_of.result.off) (inl (told_keeps c.args.names front a.view a.told))))))

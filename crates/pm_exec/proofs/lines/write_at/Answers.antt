@@ -1,4 +1,4 @@
-use Rattle.std.proofs.Common.{refl, ap, sym, ◌∙◌, length}
+use Rattle.std.proofs.Common.{inl, refl, ap, sym, ◌∙◌, length}
 use Rattle.pm_memory.specs.Solo.{Solo}
 use Rattle.pm_objects.specs.declared.calls.Operation.TheVariants as operation
 use Rattle.pm_objects.specs.declared.refusal.Refusal.TheVariants as refusal
@@ -24,5 +24,5 @@ returns-in-Err-clause-ends c o first actions front rest values a =
     rw c.not_done.ensures
     (ends_so o first old actions c.args.names front values a new c.args.said.now rest values r (not_spent r refusal.NotAdded (λ same. cc) (c.in-Err.ensures.causes none)) refl
     (λ goes. given_up o first old actions c.args.names front values a new c.args.said.now (operation.Write place c.args.off bytes) (write_is o first old actions c.args.names front values a new c.args.said.now c.args.id place c.id_of.ensures c.args.off bytes is)
-    (record { id = place; off = c.args.off; len = length bytes }) r (c.in-Err.ensures.given_up none goes o a.view a.works (told_keeps c.args.names front a.view a.told)) (c.in-Err.ensures.given_up_lane none goes) (λ asked same. let clash = sym is ∙ same in cc) refl rest)
-    (λ stops. write_cut o first old actions c.args.names front values a new c.args.said.now c.args.id place c.id_of.ensures c.args.off bytes is rest (c.in-Err.ensures.stopped none stops o a.view a.works (told_keeps c.args.names front a.view a.told))))
+    (record { id = place; off = c.args.off; len = length bytes }) r (c.in-Err.ensures.given_up none goes o a.view a.works (told_old c.args.names front a.view a.told c.id_of.result.off) (inl (told_keeps c.args.names front a.view a.told))) (c.in-Err.ensures.given_up_lane none goes) (λ asked same. let clash = sym is ∙ same in cc) refl rest)
+    (λ stops. write_cut o first old actions c.args.names front values a new c.args.said.now c.args.id place c.id_of.ensures c.args.off bytes is rest (c.in-Err.ensures.stopped none stops o a.view a.works (told_old c.args.names front a.view a.told c.id_of.result.off) (inl (told_keeps c.args.names front a.view a.told)))))

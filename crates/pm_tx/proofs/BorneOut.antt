@@ -1,0 +1,215 @@
+-- What a lane has bears out what its call told of the heap, behind steps that tell nothing of it, and where the call is given up.
+use Rattle.std.proofs.Common.{◌≡◌, ⊎_elim, inl, inr, ℕ, zero, suc, ◌+◌, ◌-◌, ◌*◌, ◌/◌, ◌<◌, ◌&&◌, true, false, cond, eqb, leb, ltb, List, [], ◌∷◌, ◌++◌, Contains, slice_index, Option, Some, None, refl, sym, ◌∙◌, ap, subst, arith}
+use Rattle.std.specs.List.{All, list_any}
+use Rattle.std.specs.Option.{is_some}
+use Rattle.std.proofs.lemmas.Bool.{and_parts, false_from_ne_true, leb-true}
+use Rattle.std.proofs.lemmas.List.{append-nil}
+use Rattle.std.proofs.lemmas.List.Elements.{All-append, All-cons, All-nil, All-weaker}
+use Rattle.std.proofs.lemmas.List.Folds.{Any-from_list_any}
+use Rattle.pm_image.specs.Blocks.{descriptor_word}
+use Rattle.pm_model.specs.Answers.{error_for}
+use Rattle.pm_objects.specs.declared.calls.Operation.{Operation}
+use Rattle.pm_objects.specs.declared.calls.Operation.TheVariants.{Abort}
+use Rattle.pm_objects.specs.declared.history.TxErr.{TxErr}
+use Rattle.pm_objects.specs.declared.history.Value.{Value}
+use Rattle.pm_view.specs.declared.occ.Occ.{Occ}
+use Rattle.pm_view.specs.declared.occ.Occ.TheVariants.{Zone}
+use Rattle.pm_view.specs.Area.{area_word, is_in_area}
+use Rattle.pm_view.specs.Blocks.{is_chunk, zone_page}
+use Rattle.pm_view.specs.Founds.{IsAlone}
+use Rattle.pm_view.specs.Held.{is_guarded, is_under, is_under_found}
+use Rattle.pm_view.specs.Steps.Step.{Load}
+use Rattle.pm_view.specs.View.{Lock, Told, View}
+use Rattle.pm_view.specs.Views.{after, has_bit, reserves}
+use Rattle.pm_world.specs.Opening.{Opening}
+use Rattle.pm_world.specs.Records.{is_recorded}
+use Rattle.pm_world.specs.declared.lane.Lane.{Lane}
+use Rattle.pm_crash.proofs.AloneMemory.{load_words}
+use Rattle.pm_crash.proofs.CallBlocks.{allocated_once_more, same_allocated}
+use Rattle.pm_crash.proofs.CallWords.{behind_is_outside}
+use Rattle.pm_crash.proofs.FoundBlocks.{IsPageOf, page_of_chunk}
+use Rattle.pm_crash.proofs.GivenUp.{abort_aborts, gives_up}
+use Rattle.pm_crash.proofs.NewRuns.{page_at}
+use Rattle.pm_crash.specs.CallBlocks.{AgreesOnRoot, KeepsBlocks, NewObject, TellsOfRoot, allocated_by, allocated_in}
+use Rattle.pm_crash.specs.HeapChanges.{run_at}
+use Rattle.pm_crash.specs.NewObjects.{block_of_chunks, block_of_run}
+use Rattle.pm_crash.specs.HeldHistory.{IsEndedCall}
+use Rattle.pm_crash.specs.OpenCall.{IsWholeCall, MakesItsStep, WasAborted}
+use Rattle.pm_crash.specs.Operations.{TakesBack, Tells}
+use Rattle.pm_crash.specs.Reserved.{IsBorneOut, IsReservedFor, IsReservedInChunks, IsReservedInRun, root_in}
+use Rattle.pm_lock.specs.Finding.{FindsObject}
+use Rattle.pm_undo.proofs.Kept.{is_of}
+use Rattle.pm_undo.proofs.Lockings.{locked_is_plain}
+use Rattle.pm_tx.proofs.Objects.{is_found}
+use Rattle.pm_tx.specs.AtWork.{IsAtWork}
+use Rattle.pm_tx.specs.Ending.{GivesUpBy, MayGiveUp}
+use Rattle.pm_tx.specs.Learning.{Looks}
+use Rattle.pm_tx.specs.Publishing.{EndsWhole}
+
+-- the lane has reserved the same, and no word changed that describes a chunk, nor the root's
+pub record HasSameHeads (v next : View) : Type 0 where
+  pub lanes : next.lanes ≡ v.lanes
+  pub zones : next.zones ≡ v.zones
+  pub reserved : next.reserved ≡ v.reserved
+  pub described : (c : ℕ) → c < 64 * v.zones → slice_index next.words (descriptor_word v.lanes c) ≡ slice_index v.words (descriptor_word v.lanes c)
+  pub root : slice_index next.words 64 ≡ slice_index v.words 64
+
+module _ (v next : View) (same : HasSameHeads v next) where
+  reserves_still : (at : Occ) (bit : ℕ) → reserves next at bit ≡ reserves v at bit
+  reserves_still at bit = ap (list_any (has_bit at bit)) same.reserved
+
+  in_run_still : (n : NewObject) → IsReservedInRun v n → IsReservedInRun next n
+  in_run_still n run =
+      let in_pool = run.in_pool in let zones = same.zones in
+      record {
+        chunk = run.chunk;
+        lines = run.lines;
+        index = run.index;
+        in_pool = omega (arith, in_pool, zones);
+        low = run.low;
+        described = ap (λ (m : ℕ). slice_index next.words (descriptor_word m run.chunk)) same.lanes ∙ (same.described run.chunk run.in_pool ∙ run.described);
+        reserved = reserves_still (run_at next.lanes run.chunk) run.index ∙ (ap (λ (m : ℕ). reserves v (run_at m run.chunk) run.index) same.lanes ∙ run.reserved);
+        is_block = run.is_block ∙ ap (λ (m : ℕ). block_of_run m run.chunk run.lines run.index) (sym same.lanes);
+      }
+
+  in_chunks_still : (n : NewObject) → IsReservedInChunks v n → IsReservedInChunks next n
+  in_chunks_still n has =
+      let in_pool = has.in_pool in let zones = same.zones in let fits = has.fits in
+      record {
+        zone = has.zone;
+        first = has.first;
+        count = has.count;
+        in_pool = omega (arith, in_pool, zones);
+        low = has.low;
+        fits = has.fits;
+        unused = λ j near.
+            let t = has.unused j near in
+            let inside : 64 * has.zone + (has.first + j) < 64 * v.zones = omega (arith, in_pool, fits, near) in
+            record {
+              reserved = reserves_still (Zone has.zone) (has.first + j) ∙ t.reserved;
+              undescribed = ap (λ (m : ℕ). slice_index next.words (descriptor_word m (64 * has.zone + (has.first + j)))) same.lanes ∙ (same.described (64 * has.zone + (has.first + j)) inside ∙ t.undescribed);
+            };
+        is_block = has.is_block ∙ ap (λ (m : ℕ). block_of_chunks m (64 * has.zone + has.first) has.count) (sym same.lanes);
+      }
+
+  reserved_still : (n : NewObject) → IsReservedFor v n → IsReservedFor next n
+  reserved_still n (inl run) = inl (in_run_still n run)
+  reserved_still n (inr has) = inr (in_chunks_still n has)
+
+  same_root : root_in (slice_index next.words) ≡ root_in (slice_index v.words)
+  same_root = ap (λ (x : ℕ). cond (eqb x 0) None (Some x)) same.root
+
+  -- an operation with its reply agrees with a root
+  abbrev Agrees : Option ℕ → Told → Type 0
+  Agrees root t = TellsOfRoot root t.operation t.reply
+
+  -- behind an operation that allocates nothing and tells nothing of the root
+  pub borne_on : (op : Operation) (reply : Option Value) → next.call ≡ v.call ++ record { operation = op; reply = reply } ∷ [] → allocated_by op reply ≡ [] → ((root : Option ℕ) → TellsOfRoot root op reply)
+      → IsBorneOut v → IsBorneOut next
+  borne_on op reply call none no_root borne =
+      let root : Option ℕ = root_in (slice_index v.words) in
+      let t : Told = record { operation = op; reply = reply } in
+      record {
+        reserved =
+            subst (All (IsReservedFor next)) (sym (allocated_once_more v next op reply call ∙ ((λ j. allocated_in v ++ none j) ∙ append-nil (allocated_in v))))
+            (All-weaker (IsReservedFor v) (IsReservedFor next) reserved_still (allocated_in v) borne.reserved);
+        root =
+            subst (AgreesOnRoot next) (sym same_root)
+            (subst (All (Agrees root)) (sym call) (All-append (Agrees root) v.call (t ∷ []) borne.root (All-cons (Agrees root) t [] (no_root root) (All-nil (Agrees root)))));
+      }
+
+  -- and where nothing is told
+  pub borne_still : next.call ≡ v.call → IsBorneOut v → IsBorneOut next
+  borne_still call borne = record {
+    reserved = subst (All (IsReservedFor next)) (sym (same_allocated v next call)) (All-weaker (IsReservedFor v) (IsReservedFor next) reserved_still (allocated_in v) borne.reserved);
+    root = subst (AgreesOnRoot next) (sym same_root) (subst (All (Agrees (root_in (slice_index v.words)))) (sym call) borne.root);
+  }
+
+-- ---- words outside of the lane's area that stay
+
+chunk_words_outside : (lane lanes c : ℕ) → lane < lanes → is_in_area lane (descriptor_word lanes c) ≡ false
+chunk_words_outside lane lanes c inside = behind_is_outside lane lanes (descriptor_word lanes c) inside (omega arith)
+
+root_outside : (lane : ℕ) → is_in_area lane 64 ≡ false
+root_outside lane = false_from_ne_true (is_in_area lane 64) (λ is. let low = leb-true (area_word lane) 64 (and_parts _ _ is).0 in omega (arith, low))
+
+pub same_heads_outside : (v next : View) → v.lane < v.lanes → next.lanes ≡ v.lanes → next.zones ≡ v.zones → next.reserved ≡ v.reserved
+    → ((i : ℕ) → is_in_area v.lane i ≡ false → slice_index next.words i ≡ slice_index v.words i) → HasSameHeads v next
+same_heads_outside v next inside lanes zones reserved words = record {
+  lanes = lanes;
+  zones = zones;
+  reserved = reserved;
+  described = λ c in_pool. words (descriptor_word v.lanes c) (chunk_words_outside v.lane v.lanes c inside);
+  root = words 64 (root_outside v.lane);
+}
+
+-- looks of a lane alone leave it so
+looks_same : (m : View) (word x : ℕ) → x ≡ slice_index m.words word → HasSameHeads m (after m (Load word x))
+looks_same m word x found =
+    let words : (i : ℕ) → slice_index (after m (Load word x)).words i ≡ slice_index m.words i = λ i. ap (λ (ws : List ℕ). slice_index ws i) (load_words m word x found) in
+    record { lanes = refl; zones = refl; reserved = refl; described = λ c in_pool. words (descriptor_word m.lanes c); root = words 64 }
+
+pub looks_borne : (n : ℕ) (v w : View) → Looks n v w → IsAlone v → IsBorneOut v → IsAlone w × IsBorneOut w
+unfolding Looks
+looks_borne zero v w is alone borne = subst (λ (u : View). IsAlone u × IsBorneOut u) (sym is) (alone, borne)
+looks_borne (suc n) v w t alone borne =
+    let before : IsAlone t.0 × IsBorneOut t.0 = looks_borne n v t.0 t.3 alone borne in
+    let there : View = after t.0 (Load t.1 t.2) in
+    subst (λ (u : View). IsAlone u × IsBorneOut u) (sym t.6)
+    (before.0, borne_still t.0 there (looks_same t.0 t.1 t.2 (t.5.1 before.0)) refl before.1)
+
+-- ---- a call that is whole
+
+pub whole_ended : (v : View) → EndsWhole v → IsEndedCall v
+whole_ended v ends = ⊎_elim (λ (whole : IsWholeCall v). inl whole) (λ (borne : MakesItsStep v × IsBorneOut v). inr (inr borne)) ends
+
+-- ---- a call that is taken back
+
+module _ {M : Type 0} (o : Opening) (at : M → View → Type 0) (lane : Lane M) (v : View) (work : IsAtWork o at lane v) where
+  -- no word is recorded that no lock of the lane is of
+  unrecorded : (i : ℕ) → ((l : Lock) → Contains v.locks l → is_under i l ≡ true → ⊥) → is_recorded v.log.records i ≡ false
+  unrecorded i none = false_from_ne_true (is_recorded v.log.records i) (λ is.
+      let t = is_of v.log.records i is in
+      let user = work.working.records.each t.slot t.recorded i t.there t.covering in
+      let u = Any-from_list_any (λ (l : Lock). l.write && is_some l.block && is_under i l) v.locks user.own in
+      let held : Contains v.locks u.1 = (u.0, u.2, u.3) in
+      none u.1 held (and_parts (u.1.write && is_some u.1.block) (is_under i u.1) u.4).1)
+
+  descriptor_unrecorded : (c : ℕ) → is_recorded v.log.records (descriptor_word v.lanes c) ≡ false
+  descriptor_unrecorded c = unrecorded (descriptor_word v.lanes c) (λ l held under.
+      let page : ℕ = page_at v.lanes c in
+      let of : IsPageOf v.lanes page c = page_of_chunk v.lanes page c refl in
+      (locked_is_plain o work.sound v work.opening l (descriptor_word v.lanes c) held (is_found v work.objects l held) under).0.plain page of.in_chunk (sym of.descriptor))
+
+  root_unrecorded : is_recorded v.log.records 64 ≡ false
+  root_unrecorded = unrecorded 64 (λ l held under.
+      let object : FindsObject v l = work.objects l held in
+      let chunk : is_chunk v.lanes (l.line / 64) ≡ true = work.under_way.chunks l object.lines held object.block in
+      let page = leb-true (zone_page v.lanes 0) (l.line / 64) (and_parts _ _ chunk).0 in
+      let from = leb-true (8 * l.line) 64 (under_from l object.lines object.block under) in
+      omega (arith, page, from)) where
+        under_from : (l : Lock) (lines : ℕ) → l.block ≡ Some lines → is_under 64 l ≡ true → leb (8 * l.line) 64 ≡ true
+        under_from l lines block under = (and_parts (leb (8 * l.line) 64) (ltb 64 (8 * (l.line + lines))) (and_parts (leb (8 * l.line) 64 && ltb 64 (8 * (l.line + lines))) (is_guarded (64 - 8 * l.line)) (sym (ap (λ (b : Option ℕ). is_under_found l.line b 64) block) ∙ under)).0).0
+
+  pub heads_taken_back : (next : View) (op : Operation) (reply : Option Value) → Tells v next op reply → TakesBack v next → next.reserved ≡ v.reserved → HasSameHeads v next
+  heads_taken_back next op reply tells back reserved = record {
+    lanes = tells.keeps.lanes;
+    zones = tells.keeps.zones;
+    reserved = reserved;
+    described = λ c in_pool. back.others (descriptor_word v.lanes c) (chunk_words_outside v.lane v.lanes c work.working.area.lane) (descriptor_unrecorded c);
+    root = back.others 64 (root_outside v.lane) root_unrecorded;
+  }
+
+  -- so it is given up, where the operation tells nothing of the heap and each view behind it is an aborted call's
+  pub gives_up_so : MayGiveUp v → (op : Operation) (reply : Option Value) (error : TxErr) → allocated_by op reply ≡ [] → ((root : Option ℕ) → TellsOfRoot root op reply)
+      → ((next : View) → Tells v next op reply → TakesBack v next → WasAborted next error) → GivesUpBy v op reply error
+  gives_up_so may op reply error none no_root aborts next tells back reserved = ⊎_elim
+      (λ (keeps : KeepsBlocks v). inl (gives_up v next op reply none no_root tells.call keeps error (aborts next tells back)))
+      (λ (borne : IsAlone v × IsBorneOut v).
+      inr (aborts next tells back, borne_on v next (heads_taken_back next op reply tells back reserved) op reply tells.call none no_root borne.1))
+      may
+
+  -- an abort that is asked for gives up the call
+  pub gives_up_by_abort : MayGiveUp v → (errnum : ℕ) (error : TxErr) → error ≡ error_for errnum → GivesUpBy v (Abort errnum) None error
+  gives_up_by_abort may errnum error so =
+      gives_up_so may (Abort errnum) None error refl (λ root. tt) (λ next tells back. subst (WasAborted next) (sym so) (abort_aborts v next errnum lane.level work.level work.under_way tells back))
