@@ -1,0 +1,138 @@
+-- A lane whose transaction may make and free objects looks at the root's word, and tells an operation that changes no word: it is at work still.
+use Rattle.std.proofs.Common.{◌≡◌, ⊎_elim, inl, inr, ℕ, ◌+◌, ◌*◌, ◌/◌, Bool, true, false, not, cond, eqb, List, [], ◌∷◌, ◌++◌, Contains, map, slice_index, Option, Some, None, refl, sym, ◌∙◌, ap, subst, arith}
+use Rattle.std.specs.List.{All}
+use Rattle.std.proofs.lemmas.Bool.{and_parts, cases_Bool, leb-true, ne_eqb}
+use Rattle.std.proofs.lemmas.List.{append-nil}
+use Rattle.std.proofs.lemmas.List.Elements.{All-append, All-cons, All-nil, All-weaker}
+use Rattle.pm_objects.specs.declared.calls.Operation.{Operation}
+use Rattle.pm_objects.specs.declared.history.Value.{Value}
+use Rattle.pm_view.specs.Blocks.{allocation_word, bitmap_word, chunk_of, descriptor_word, is_chunk, is_run, is_word, zone_page}
+use Rattle.pm_view.specs.Founds.{FindsKnown}
+use Rattle.pm_view.specs.Held.{is_known}
+use Rattle.pm_view.specs.Log.{Log}
+use Rattle.pm_view.specs.Steps.Step.{Load}
+use Rattle.pm_view.specs.View.{Lock, Told, View}
+use Rattle.pm_view.specs.Views.{after}
+use Rattle.pm_world.specs.Lanes.{span_of}
+use Rattle.pm_world.specs.Opening.{Opening}
+use Rattle.pm_world.specs.declared.lane.Lane.{Lane}
+use Rattle.pm_crash.proofs.AloneMemory.{load_words}
+use Rattle.pm_crash.proofs.CallBlocks.{allocated_once_more, same_blocks}
+use Rattle.pm_crash.proofs.PendingOn.{published_same}
+use Rattle.pm_crash.proofs.Staying.{goes_on_learning}
+use Rattle.pm_crash.specs.CallBlocks.{NewObject, TellsOfRoot, allocated_by, allocated_in}
+use Rattle.pm_crash.specs.Reserved.{IsBorneOut, IsReservedFor, root_in}
+use Rattle.pm_lock.specs.Finding.{FindsObject}
+use Rattle.pm_made.specs.Made.{BlockLists, ListsBlocks}
+use Rattle.pm_made.specs.declared.objects.Freed.{Freed}
+use Rattle.pm_undo.proofs.Kept.{is_of}
+use Rattle.pm_undo.proofs.Learned.{learns_at_work, opening_learned}
+use Rattle.pm_undo.specs.Spans.{IsSpan}
+use Rattle.pm_undo.specs.Working.{HasLearned, IsPlain}
+use Rattle.pm_tx.proofs.AddsAtWork.{listed_is_known}
+use Rattle.pm_tx.proofs.BorneOut.{HasSameHeads, borne_still, looks_borne}
+use Rattle.pm_tx.proofs.GoingOn.{HasSameFields, goes_on, objects_kept}
+use Rattle.pm_tx.proofs.LearnsAtWork.{looks_once}
+use Rattle.pm_tx.specs.AtWork.{IsAtWork}
+use Rattle.pm_tx.specs.Learning.{Finds, Looks}
+use Rattle.pm_transaction.specs.AtWork.{HasLookedWith, IsAtWorkWith, IsHeldFreed}
+
+-- ---- the root's word is plain
+
+tells_none : (lanes : ℕ) (words : List ℕ) (line : ℕ) → is_word (allocation_word lanes words line) 64 ≡ false
+tells_none lanes words line = ⊎_elim
+    (λ (chunk : is_chunk lanes (line / 64) ≡ true).
+    let page = leb-true (zone_page lanes 0) (line / 64) (and_parts _ _ chunk).0 in
+    let some = leb-true 1 (chunk_of lanes (line / 64)) (and_parts _ _ chunk).1 in
+    ap (λ (b : Bool). is_word (cond (not b) None (Some (cond (is_run (slice_index words (descriptor_word lanes (line / 64)))) (bitmap_word (line / 64)) (descriptor_word lanes (line / 64))))) 64) chunk
+    ∙ ⊎_elim
+    (λ (run : is_run (slice_index words (descriptor_word lanes (line / 64))) ≡ true). ap (λ (b : Bool). eqb (cond b (bitmap_word (line / 64)) (descriptor_word lanes (line / 64))) 64) run ∙ ne_eqb (bitmap_word (line / 64)) 64 (λ same. omega (arith, page, same)))
+    (λ (other : is_run (slice_index words (descriptor_word lanes (line / 64))) ≡ false). ap (λ (b : Bool). eqb (cond b (bitmap_word (line / 64)) (descriptor_word lanes (line / 64))) 64) other ∙ ne_eqb (descriptor_word lanes (line / 64)) 64 (λ same. omega (arith, some, same)))
+    (cases_Bool (is_run (slice_index words (descriptor_word lanes (line / 64))))))
+    (λ (none : is_chunk lanes (line / 64) ≡ false).
+    ap (λ (b : Bool). is_word (cond (not b) None (Some (cond (is_run (slice_index words (descriptor_word lanes (line / 64)))) (bitmap_word (line / 64)) (descriptor_word lanes (line / 64))))) 64) none)
+    (cases_Bool (is_chunk lanes (line / 64)))
+
+root_is_plain : (v : View) → IsPlain v 64
+root_is_plain v = record {
+  quiet = λ l held. tells_none v.lanes v.words l.line;
+  plain = λ page chunk same. let some = leb-true 1 (chunk_of v.lanes page) (and_parts _ _ chunk).1 in omega (arith, some, same);
+}
+
+-- ---- a look at it
+
+module _ {M : Type 0} (o : Opening) (at : M → View → Type 0) (lane next : Lane M) (v : View) (x : ℕ) (fields : HasSameFields lane next) (records : next.records ≡ lane.records) where
+  abbrev looked : View
+  looked = after v (Load 64 x)
+
+  look_at_root : IsAtWork o at lane v → FindsKnown v 64 x → at next.memory looked → IsAtWork o at next looked
+  look_at_root work finds seen =
+      let learned : HasLearned v 64 looked = learns_at_work v 64 x (root_is_plain v) finds work.working in
+      let call = learned.call in
+      let size_known : (k : Lock) → Contains v.locks k → is_known v (8 * k.line + 1) ≡ true = λ k there. (let object : FindsObject v k = work.objects k there in listed_is_known v (8 * k.line + 1) object.known) in
+      goes_on o at lane next v looked work fields (objects_kept v looked call (λ k there. learned.same (8 * k.line + 1) (size_known k there))) seen
+      (ap (λ rs. rs.items) records ∙ (work.seen.records ∙ ap (λ (l : Log). map span_of l.records) (sym learned.log))) (subst (λ rs. All IsSpan rs.items) (sym records) work.spans)
+      (opening_learned v 64 x (root_is_plain v) o work.opening) learned.working (ap (λ (l : Log). l.entries) learned.log ∙ work.no_entries) (published_same v looked call.entries call.call)
+      (goes_on_learning v looked lane.level _ _ work.under_way
+      (record { keeps = record { lanes = call.lane.lanes; zones = call.lane.zones; pool = call.lane.pool; lane = call.lane.lane; entries = call.entries; known = call.remembers }; locks = call.locks; call = call.call })
+      (record { records = ap (λ (l : Log). l.records) learned.log; entries = ap (λ (l : Log). l.entries) learned.log })
+      (record {
+        known = λ i outside there. learned.same i (listed_is_known v i there);
+        recorded = λ i outside is. let t = is_of v.log.records i is in learned.same i (work.working.records.each t.slot t.recorded i t.there t.covering).known;
+      }))
+
+  pub looks_at_root : (blocks : BlockLists) → IsAtWorkWith o at lane blocks v → Finds v 64 x → at next.memory looked → HasLookedWith o at next blocks v (λ w. slice_index w.words 64 ≡ x)
+  looks_at_root blocks is finds seen =
+      let inside = is.work.working.area.inside in
+      let looks : Looks 1 v looked = looks_once v 64 x (omega (arith, inside)) finds in
+      let borne = looks_borne 1 v looked looks is.alone is.borne_out in
+      let learned : HasLearned v 64 looked = learns_at_work v 64 x (root_is_plain v) finds.0 is.work.working in
+      record {
+        loads = 1;
+        view = looked;
+        looks = looks;
+        works = record {
+          work = look_at_root is.work finds.0 seen;
+          lists = subst (ListsBlocks blocks) (sym (same_blocks v looked learned.call.call)) is.lists;
+          alone = borne.0;
+          borne_out = borne.1;
+          freed_held = freed_still v looked learned.call.locks blocks.freed is.freed_held;
+        };
+        holds = ap (λ (ws : List ℕ). slice_index ws 64) (load_words v 64 x (finds.1 is.alone)) ∙ sym (finds.1 is.alone);
+      } where
+        freed_still : (v w : View) → w.locks ≡ v.locks → (freed : List Freed) → All (IsHeldFreed v) freed → All (IsHeldFreed w) freed
+        freed_still v w locks freed all =
+            All-weaker (IsHeldFreed v) (IsHeldFreed w) (λ f held. record { lock = held.lock; held = subst (λ (ls : List Lock). Contains ls held.lock) (sym locks) held.held; write = held.write; block = held.block; place = held.place }) freed all
+
+-- ---- what the lane has bears out an operation more that allocates nothing, where its reply agrees with the root
+
+-- whatever a view's call tells, what it reserved is the same
+reserved_so : (v : View) (call : List Told) (n : NewObject) → IsReservedFor (record v { call = call }) n → IsReservedFor v n
+reserved_so v call n (inl run) = inl (record { chunk = run.chunk; lines = run.lines; index = run.index; in_pool = run.in_pool; low = run.low; described = run.described; reserved = run.reserved; is_block = run.is_block })
+reserved_so v call n (inr has) = inr (record {
+  zone = has.zone;
+  first = has.first;
+  count = has.count;
+  in_pool = has.in_pool;
+  low = has.low;
+  fits = has.fits;
+  unused = λ j near. let t = has.unused j near in record { reserved = t.reserved; undescribed = t.undescribed };
+  is_block = has.is_block;
+})
+
+pub borne_told : (v next : View) → HasSameHeads v next → (op : Operation) (reply : Option Value) → next.call ≡ v.call ++ record { operation = op; reply = reply } ∷ [] → allocated_by op reply ≡ []
+    → TellsOfRoot (root_in (slice_index v.words)) op reply → IsBorneOut v → IsBorneOut next
+borne_told v next same op reply call none agrees borne =
+    let root : Option ℕ = root_in (slice_index next.words) in
+    let t : Told = record { operation = op; reply = reply } in
+    let before : View = record next { call = v.call } in
+    let still : IsBorneOut before = borne_still v before (record { lanes = same.lanes; zones = same.zones; reserved = same.reserved; described = same.described; root = same.root }) refl borne in
+    let same_root : root_in (slice_index v.words) ≡ root = sym (ap (λ (x : ℕ). cond (eqb x 0) None (Some x)) same.root) in
+    record {
+      reserved = subst (All (IsReservedFor next)) (sym (allocated_once_more v next op reply call ∙ ((λ j. allocated_in v ++ none j) ∙ append-nil (allocated_in v))))
+          (All-weaker (IsReservedFor before) (IsReservedFor next) (reserved_so next v.call) (allocated_in v) still.reserved);
+      root =
+          subst (All (λ (t : Told). TellsOfRoot root t.operation t.reply)) (sym call)
+          (All-append (λ (t : Told). TellsOfRoot root t.operation t.reply) v.call (t ∷ []) still.root
+          (All-cons (λ (t : Told). TellsOfRoot root t.operation t.reply) t [] (subst (λ (r : Option ℕ). TellsOfRoot r op reply) same_root agrees) (All-nil (λ (t : Told). TellsOfRoot root t.operation t.reply))));
+    }

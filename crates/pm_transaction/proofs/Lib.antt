@@ -1,0 +1,4 @@
+pub mod HeldBlocks
+pub mod AtWork
+pub mod Owned
+pub mod Frees
