@@ -39,3 +39,5 @@ pub mod ToldViews
 pub mod ToldObjects
 pub mod FreedLocks
 pub mod NewObjectViews
+pub mod StayingBorneOut
+pub mod MakingAlone

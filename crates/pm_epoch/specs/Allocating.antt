@@ -1,9 +1,10 @@
 -- An object that a lane makes within a call, where it works alone, and that the call may tell (docs/MODEL.md, "From call to call").
-use Rattle.std.specs.Prelude.{◌≡◌, ℕ, ◌+◌, ◌*◌, ◌≤◌, true, IsTrue, is_some, All, Contains, List, ◌++◌, Some}
+use Rattle.std.specs.Prelude.{◌≡◌, ℕ, ◌+◌, ◌*◌, ◌<◌, ◌≤◌, true, IsTrue, is_some, slice_index, All, Contains, List, ◌++◌, Some}
 use Rattle.std.specs.Option.{ForSome}
 use Rattle.pm_header.specs.declared.header.Header.{Header}
 use Rattle.pm_layout.specs.declared.shape.Shape.{Shape}
 use Rattle.pm_image.specs.declared.block.Block.{Block}
+use Rattle.pm_image.specs.Blocks.{descriptor_word}
 use Rattle.pm_memory.specs.Solo.{Sees, Solo}
 use Rattle.pm_model.specs.declared.stage.Stage.TheVariants as stage
 use Rattle.pm_objects.specs.declared.calls.Operation.TheVariants.{Alloc}
@@ -55,6 +56,10 @@ pub record IsFoundAt (v : View) (off : ℕ) : Type 0 where
 -- so it does with each object that the open call found and freed: no lock is given back before the call's end
 abbrev pub HasLockedFreed : View → Type 0
 HasLockedFreed v = (off : ℕ) → is_freed_in v off ≡ true → IsFoundAt v off
+
+-- each chunk of the pool is described by the one view's words as by the other's
+abbrev pub HasSameDescriptors : View → View → Type 0
+HasSameDescriptors v w = (chunk : ℕ) → chunk < 64 * v.zones → slice_index w.words (descriptor_word v.lanes chunk) ≡ slice_index v.words (descriptor_word v.lanes chunk)
 
 -- The lane works alone with a call under way at this level, and may make an object in a pool of this shape. What it has bears out what the call told of the heap.
 -- Under each of its locks it found a block; and of each object that the call found and freed it has the lock.

@@ -1,8 +1,11 @@
-ghost use Rattle.std.specs.Prelude.{◌≡◌, ◌≢◌, ◌↔◌, ℕ, ◌+◌, ◌*◌, ◌<◌, ◌≤◌, Bool, IsTrue, true, false, All, Contains, List, [], ◌∷◌, ◌++◌, length, map, slice_index, None, Some};
+ghost use Rattle.std.specs.Prelude.{◌≡◌, ◌≢◌, ◌↔◌, ℕ, ◌+◌, ◌*◌, ◌<◌, ◌≤◌, Bool, IsTrue, true, false, All, Contains, List, [], ◌∷◌, ◌++◌, length, map, slice_index, Option, None, Some};
 ghost use Rattle.std.specs.Int.{bit_at};
 ghost use Rattle.pm_header.specs.declared.header.Header.{Header};
 ghost use Rattle.pm_objects.specs.Pool.{block_lines};
+ghost use Rattle.pm_objects.specs.declared.calls.Operation.{Operation};
+ghost use Rattle.pm_objects.specs.declared.calls.Want.{Want};
 ghost use Rattle.pm_objects.specs.declared.history.TxErr.{TxErr};
+ghost use Rattle.pm_objects.specs.declared.history.Value.{Value};
 ghost use Rattle.pm_objects.specs.declared.ids.Oid.{Oid};
 ghost use Rattle.pm_objects.specs.declared.pool.PoolView.{PoolView};
 ghost use Rattle.pm_layout.specs.Sizes.{class_of, descriptor_of};
@@ -42,18 +45,18 @@ ghost use Rattle.pm_crash.specs.Held.{HoldsImage, HoldsPool};
 ghost use Rattle.pm_crash.specs.Publishing.Published.{Changes, Performs};
 ghost use Rattle.pm_crash.specs.Publishing.{AreInOrder, Published, all_blocks_published, all_pool_published};
 ghost use Rattle.pm_crash.specs.Alone.{BeginsAgain, MeansCalls, WorksAlone, kept_numbered, standing};
-ghost use Rattle.pm_crash.specs.CallBlocks.{MayPrecede, NewObject, block_of, blocks_in, is_freed_in};
+ghost use Rattle.pm_crash.specs.CallBlocks.{MayPrecede, NewObject, TellsOfRoot, allocated_by, block_of, blocks_in, is_freed_in};
 ghost use Rattle.pm_crash.specs.OpenCall.{IsCommitted, IsUnderWay, Turns};
-ghost use Rattle.pm_crash.specs.Operations.{AllocatesObject, FreesFound, KeepsFound, entries_so_far};
+ghost use Rattle.pm_crash.specs.Operations.{AllocatesObject, BeginsCall, FreesFound, KeepsFound, Tells, entries_so_far};
 ghost use Rattle.pm_crash.specs.Pending.{acts_alone, state_alone};
-ghost use Rattle.pm_crash.specs.Reserved.{IsBorneOut, IsReservedFor, IsUnusedChunk};
+ghost use Rattle.pm_crash.specs.Reserved.{IsBorneOut, IsReservedFor, IsUnusedChunk, root_in};
 ghost use Rattle.pm_crash.specs.Taken.{TakenBehindAll};
 ghost use Rattle.pm_fresh.specs.Filled.{IsFilled};
 ghost use Rattle.pm_fresh.specs.Making.{page_in};
 ghost use Rattle.pm_blocks.specs.NewRuns.{IsUnused};
 ghost use Rattle.pm_alloc.specs.NewObjects.{CanMakeObject, HasNewObject};
 ghost use Rattle.pm_sealed.specs.Sealed.{LeavesSealed, Publishes, has_nothing};
-ghost use Rattle.pm_epoch.specs.Allocating.{HasLockedFreed, IsCallAlone, IsCallAloneStill, LeavesObject, MakesObject, object_in_block, with_object_told};
+ghost use Rattle.pm_epoch.specs.Allocating.{HasLockedFreed, HasSameDescriptors, IsCallAlone, IsCallAloneStill, LeavesObject, MakesObject, object_in_block, with_object_told};
 ghost use Rattle.pm_epoch.specs.Epochs.{AllocatesOwn, AreOfOwnBits, HandsOver, HasEnded, HasEnteredCall, HasEntriesFor, HasSameHeap, HoldsCalls, HoldsCommitted, HoldsOpenCall, IsAtWorkAlone, IsGiving, IsPublishing, KnowsTaken, LoadsNoneOf, MayPublish, PromisesTaken, PublishesAlone, RestsBehindCall};
 
 /// A law: in a world where a lane has each word as it is, what it reserved may be allocated: a block of a run, by the class that the run's
@@ -92,6 +95,12 @@ pub fn a_lane_alone_may_make_objects()
         → ((at : Occ) → mem (occ_at at) ≡ occ_in (views k) at) → IsAtWorkAlone (views k) shape → CanMakeObject (views k) shape }
 {}
 
+/// A law: so may a lane that works alone, and is at work. No code runs.
+pub fn a_lane_that_works_alone_may_make_objects()
+    ensures { (o : Opening) (header : Header) (pool : PoolView) (start v : View) (steps : List Step) (shape : Shape)
+        → WorksAlone o header pool start steps v → IsAtWorkAlone v shape → CanMakeObject v shape }
+{}
+
 /// A law: the block that a lane filled for an object has a new object's words in the lane's view. No code runs.
 pub fn a_filled_block_is_fresh()
     ensures { (v w : View) (line lines kind size : ℕ) → IsFilled v line lines kind size w → 1 ≤ size → size ≤ 262080 → block_lines (class_of size) ≡ lines
@@ -117,6 +126,16 @@ pub fn a_lane_alone_may_tell_its_new_object()
     ensures goes_on { (o : Opening) (header : Header) (pool : PoolView) (start v u : View) (steps : List Step) (shape : Shape) (level size kind : ℕ) (block : Block) → 1 ≤ level
         → IsCallAlone o header pool start steps v shape level → MakesObject v u size kind block → 1 ≤ size → size ≤ 262080 → entries_so_far v + 2 ≤ max_entries
         → IsCallAloneStill o header pool start steps (with_object_told u (object_in_block block size kind)) shape level }
+{}
+
+/// A law: what a lane has bears out what its call told of the heap from the call's begin on, which tells nothing of it. So it does once an operation is told that
+/// allocates nothing and, where it is a free, agrees with the root that the words have, if the lane has what it had reserved, and each chunk is described as it
+/// was. No code runs.
+pub fn a_call_stays_borne_out()
+    ensures begins { (v : View) (wants : List Want) → BeginsCall v wants → IsBorneOut v }
+    ensures told { (o : Opening) (header : Header) (pool : PoolView) (start v w : View) (steps more : List Step) (op : Operation) (reply : Option Value)
+        → WorksAlone o header pool start steps v → WorksAlone o header pool start more w → Tells v w op reply → allocated_by op reply ≡ []
+        → TellsOfRoot (root_in (slice_index v.words)) op reply → w.reserved ≡ v.reserved → HasSameDescriptors v w → IsBorneOut v → IsBorneOut w }
 {}
 
 /// A law: of each object that a call found and freed the lane has the lock, with its block found: so it is where the call freed none, where it frees one that it

@@ -3,6 +3,7 @@ use super::*;
 /// Each law by its name: none runs any code.
 #[test]
 fn laws(_rt: HostRuntime) {
+    a_call_stays_borne_out();
     a_clear_chunk_is_unused();
     a_committed_call_may_publish_what_it_entered();
     a_committed_call_turns_its_pool();
@@ -18,6 +19,7 @@ fn laws(_rt: HostRuntime) {
     a_lane_at_work_knows_what_is_taken();
     a_lane_holds_what_it_knows_behind_its_log();
     a_lane_knows_what_is_taken_behind_its_log();
+    a_lane_that_works_alone_may_make_objects();
     a_lane_whose_call_has_ended_begins_again();
     a_new_object_leaves_a_view();
     a_pool_may_precede_a_call_borne_out();
