@@ -134,20 +134,23 @@ module _ (o : Opening) (header : Header) (pool : PoolView) (b : View) (s : Stand
     found_block : (l : Lock) (lines : ℕ) → Contains b.locks l → l.block ≡ Some lines → Contains (blocks (slice_index o.words) o.lanes o.zones) (block_at_line l.line lines)
     found_block l lines there is = let size = s.goes.world.sound.size in (found_of_words o.words o.lanes o.zones l.line lines none (omega (arith, size))).0 (found_at_opening l lines there is)
 
-    found_lies : (l : Lock) (lines : ℕ) → Contains b.locks l → l.block ≡ Some lines → Lies (slice_index b.words) o.lanes o.zones (block_at_line l.line lines)
-    found_lies l lines there is =
-        lies_still (slice_index o.words) (slice_index b.words) o.lanes o.zones (block_at_line l.line lines) taken_same
-        (each_lies (slice_index o.words) o.lanes o.zones none (block_at_line l.line lines) (found_block l lines there is))
-
-    pub found_has_lines : (l : Lock) (lines : ℕ) → Contains b.locks l → l.block ≡ Some lines → 1 ≤ lines
-    found_has_lines l lines there is =
-        let size : ℕ = size_in (slice_index o.words) (block_at_line l.line lines) in
-        let lines_are : block_lines (class_of size) ≡ lines = (size_of_block (slice_index o.words) o.lanes o.zones (block_at_line l.line lines) none (found_block l lines there is)).lines in
+    -- a block of the opening's words has a line at least, and none that it reserved overlaps it
+    pub opening_has_lines : (x : Block) → Contains (blocks (slice_index o.words) o.lanes o.zones) x → 1 ≤ x.lines
+    opening_has_lines x there =
+        let size : ℕ = size_in (slice_index o.words) x in
+        let lines_are : block_lines (class_of size) ≡ x.lines = (size_of_block (slice_index o.words) o.lanes o.zones x none there).lines in
         let needed : lines_for size ≤ block_lines (class_of size) = lines_needed size in
         omega (arith, lines_are, needed)
 
+    pub opening_apart : (n : NewObject) → IsReservedFor b n → (x : Block) → Contains (blocks (slice_index o.words) o.lanes o.zones) x → AreDisjoint (block_of n) x
+    opening_apart n reserved x there =
+        lies_apart n x reserved (lies_still (slice_index o.words) (slice_index b.words) o.lanes o.zones x taken_same (each_lies (slice_index o.words) o.lanes o.zones none x there))
+
+    pub found_has_lines : (l : Lock) (lines : ℕ) → Contains b.locks l → l.block ≡ Some lines → 1 ≤ lines
+    found_has_lines l lines there is = opening_has_lines (block_at_line l.line lines) (found_block l lines there is)
+
     pub found_apart : (n : NewObject) → IsReservedFor b n → (l : Lock) (lines : ℕ) → Contains b.locks l → l.block ≡ Some lines → AreDisjoint (block_of n) (block_at_line l.line lines)
-    found_apart n reserved l lines there is = lies_apart n (block_at_line l.line lines) reserved (found_lies l lines there is)
+    found_apart n reserved l lines there is = opening_apart n reserved (block_at_line l.line lines) (found_block l lines there is)
 
 -- the words at the opening have no fault
 pub opening_has_no_fault : (o : Opening) (header : Header) (pool : PoolView) (start b : View) (steps : List Step) → WorksAlone o header pool start steps b → heap_fault (slice_index o.words) o.lanes o.zones ≡ None

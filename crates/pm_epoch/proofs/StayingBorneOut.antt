@@ -35,7 +35,7 @@ begun_borne_out v wants begins =
     }
 
 -- the root's word is the opening's
-root_stands : (o : Opening) (header : Header) (pool : PoolView) (start v : View) (steps : List Step) → WorksAlone o header pool start steps v → slice_index v.words 64 ≡ slice_index o.words 64
+pub root_stands : (o : Opening) (header : Header) (pool : PoolView) (start v : View) (steps : List Step) → WorksAlone o header pool start steps v → slice_index v.words 64 ≡ slice_index o.words 64
 root_stands o header pool start v steps works = (stood o header pool start v steps works).goes.front 64 (omega arith)
 
 module _ (o : Opening) (header : Header) (pool : PoolView) (start v w : View) (steps more : List Step) (op : Operation) (reply : Option Value) (works : WorksAlone o header pool start steps v)

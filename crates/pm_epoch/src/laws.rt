@@ -47,7 +47,7 @@ ghost use Rattle.pm_crash.specs.Publishing.{AreInOrder, Published, all_blocks_pu
 ghost use Rattle.pm_crash.specs.Alone.{BeginsAgain, MeansCalls, WorksAlone, kept_numbered, standing};
 ghost use Rattle.pm_crash.specs.CallBlocks.{MayPrecede, NewObject, TellsOfRoot, allocated_by, block_of, blocks_in, is_freed_in};
 ghost use Rattle.pm_crash.specs.OpenCall.{IsCommitted, IsUnderWay, Turns};
-ghost use Rattle.pm_crash.specs.Operations.{AllocatesObject, BeginsCall, FreesFound, KeepsFound, Tells, entries_so_far};
+ghost use Rattle.pm_crash.specs.Operations.{AllocatesObject, BeginsCall, FreesFound, IsMade, KeepsFound, Tells, entries_so_far};
 ghost use Rattle.pm_crash.specs.Pending.{acts_alone, state_alone};
 ghost use Rattle.pm_crash.specs.Reserved.{IsBorneOut, IsReservedFor, IsUnusedChunk, root_in};
 ghost use Rattle.pm_crash.specs.Taken.{TakenBehindAll};
@@ -136,6 +136,13 @@ pub fn a_call_stays_borne_out()
     ensures told { (o : Opening) (header : Header) (pool : PoolView) (start v w : View) (steps more : List Step) (op : Operation) (reply : Option Value)
         → WorksAlone o header pool start steps v → WorksAlone o header pool start more w → Tells v w op reply → allocated_by op reply ≡ []
         → TellsOfRoot (root_in (slice_index v.words)) op reply → w.reserved ≡ v.reserved → HasSameDescriptors v w → IsBorneOut v → IsBorneOut w }
+{}
+
+/// A law: an object that the call of a lane alone made is not the pool's root, by the words, where what the lane has bears out what the call told. So a free of it
+/// agrees with the root. No code runs.
+pub fn a_made_object_is_not_the_root()
+    ensures { (o : Opening) (header : Header) (pool : PoolView) (start v : View) (steps : List Step) (id : Oid)
+        → WorksAlone o header pool start steps v → IsBorneOut v → IsMade v id → root_in (slice_index v.words) ≢ Some id.off }
 {}
 
 /// A law: of each object that a call found and freed the lane has the lock, with its block found: so it is where the call freed none, where it frees one that it

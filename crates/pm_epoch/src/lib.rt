@@ -17,12 +17,12 @@ pub use laws::{
     a_lane_alone_publishes_a_pool, a_lane_at_rest_may_begin_again,
     a_lane_at_work_knows_what_is_taken, a_lane_holds_what_it_knows_behind_its_log,
     a_lane_knows_what_is_taken_behind_its_log, a_lane_that_works_alone_may_make_objects,
-    a_lane_whose_call_has_ended_begins_again, a_new_object_leaves_a_view,
-    a_pool_may_precede_a_call_borne_out, a_published_call_has_ended, a_published_call_is_replayed,
-    a_published_pool_stands, a_publishing_lane_leaves_its_whole_calls,
-    a_reserved_block_overlaps_none, a_world_leads_to_what_is_published,
-    changes_of_own_bits_are_in_order, giving_back_keeps_what_is_taken,
-    publishing_keeps_what_a_lane_has, what_a_call_freed_is_locked,
+    a_lane_whose_call_has_ended_begins_again, a_made_object_is_not_the_root,
+    a_new_object_leaves_a_view, a_pool_may_precede_a_call_borne_out, a_published_call_has_ended,
+    a_published_call_is_replayed, a_published_pool_stands,
+    a_publishing_lane_leaves_its_whole_calls, a_reserved_block_overlaps_none,
+    a_world_leads_to_what_is_published, changes_of_own_bits_are_in_order,
+    giving_back_keeps_what_is_taken, publishing_keeps_what_a_lane_has, what_a_call_freed_is_locked,
 };
 
 #[cfg(test)]

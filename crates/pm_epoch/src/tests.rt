@@ -21,6 +21,7 @@ fn laws(_rt: HostRuntime) {
     a_lane_knows_what_is_taken_behind_its_log();
     a_lane_that_works_alone_may_make_objects();
     a_lane_whose_call_has_ended_begins_again();
+    a_made_object_is_not_the_root();
     a_new_object_leaves_a_view();
     a_pool_may_precede_a_call_borne_out();
     a_published_call_has_ended();
