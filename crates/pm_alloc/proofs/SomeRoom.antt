@@ -18,7 +18,7 @@ use Rattle.pm_alloc.proofs.RoomsInRuns.{room_in_run}
 use Rattle.pm_alloc.proofs.RoomsOfChunks.{room_of_chunks}
 
 module _ (at : View → Type 0) (v : View) where
-  pub room_view : (class : Class) (block : Block) → HasRoom at v class block → View
+  unfoldable pub room_view : (class : Class) (block : Block) → HasRoom at v class block → View
   room_view (Lines lines) block (inl found) = found.0.searched.view
   room_view (Lines lines) block (inr new) = with_run new.1.zone new.1.chunk lines new.1.made.view
   room_view (Chunks count) block room = room.0.searched.view

@@ -28,3 +28,17 @@ pub mod PublishedCalls
 pub mod CallPools
 pub mod ReplayedCalls
 pub mod LeftCalls
+pub mod QuietSteps
+pub mod HeldApart
+pub mod GainedRooms
+pub mod GainedRuns
+pub mod GainedObjects
+pub mod ListedObjects
+pub mod ApartObjects
+pub mod ToldViews
+pub mod ToldObjects
+pub mod FreedLocks
+pub mod NewObjectViews
+pub mod StayingBorneOut
+pub mod MakingAlone
+pub mod NotTheRoot

@@ -1,8 +1,12 @@
-ghost use Rattle.std.specs.Prelude.{◌≡◌, ◌≢◌, ◌↔◌, ℕ, ◌+◌, ◌*◌, ◌<◌, ◌≤◌, Bool, IsTrue, true, false, All, Contains, List, [], ◌∷◌, ◌++◌, length, map, slice_index, None, Some};
+ghost use Rattle.std.specs.Prelude.{◌≡◌, ◌≢◌, ◌↔◌, ℕ, ◌+◌, ◌*◌, ◌<◌, ◌≤◌, Bool, IsTrue, true, false, All, Contains, List, [], ◌∷◌, ◌++◌, length, map, slice_index, Option, None, Some};
 ghost use Rattle.std.specs.Int.{bit_at};
 ghost use Rattle.pm_header.specs.declared.header.Header.{Header};
 ghost use Rattle.pm_objects.specs.Pool.{block_lines};
+ghost use Rattle.pm_objects.specs.declared.calls.Operation.{Operation};
+ghost use Rattle.pm_objects.specs.declared.calls.Want.{Want};
 ghost use Rattle.pm_objects.specs.declared.history.TxErr.{TxErr};
+ghost use Rattle.pm_objects.specs.declared.history.Value.{Value};
+ghost use Rattle.pm_objects.specs.declared.ids.Oid.{Oid};
 ghost use Rattle.pm_objects.specs.declared.pool.PoolView.{PoolView};
 ghost use Rattle.pm_layout.specs.Sizes.{class_of, descriptor_of};
 ghost use Rattle.pm_layout.specs.declared.shape.Shape.{Shape};
@@ -13,7 +17,8 @@ ghost use Rattle.pm_image.specs.HeapFaults.{heap_fault};
 ghost use Rattle.pm_image.specs.Logs.{recovered_at};
 ghost use Rattle.pm_image.specs.Means.{IsMeaning};
 ghost use Rattle.pm_memory.specs.Keep.{IsKeptImage};
-ghost use Rattle.pm_model.specs.Actions.{Action};
+ghost use Rattle.pm_memory.specs.Solo.{Sees, Solo};
+ghost use Rattle.pm_model.specs.Actions.{Action, max_entries};
 ghost use Rattle.pm_model.specs.History.{opened};
 ghost use Rattle.pm_model.specs.Names.{Replays};
 ghost use Rattle.pm_model.specs.declared.stage.Stage.{Stage};
@@ -40,16 +45,18 @@ ghost use Rattle.pm_crash.specs.Held.{HoldsImage, HoldsPool};
 ghost use Rattle.pm_crash.specs.Publishing.Published.{Changes, Performs};
 ghost use Rattle.pm_crash.specs.Publishing.{AreInOrder, Published, all_blocks_published, all_pool_published};
 ghost use Rattle.pm_crash.specs.Alone.{BeginsAgain, MeansCalls, WorksAlone, kept_numbered, standing};
-ghost use Rattle.pm_crash.specs.CallBlocks.{MayPrecede, NewObject, block_of};
+ghost use Rattle.pm_crash.specs.CallBlocks.{MayPrecede, NewObject, TellsOfRoot, allocated_by, block_of, blocks_in, is_freed_in};
 ghost use Rattle.pm_crash.specs.OpenCall.{IsCommitted, IsUnderWay, Turns};
+ghost use Rattle.pm_crash.specs.Operations.{AllocatesObject, BeginsCall, FreesFound, IsMade, KeepsFound, Tells, entries_so_far};
 ghost use Rattle.pm_crash.specs.Pending.{acts_alone, state_alone};
-ghost use Rattle.pm_crash.specs.Reserved.{IsBorneOut, IsReservedFor, IsUnusedChunk};
+ghost use Rattle.pm_crash.specs.Reserved.{IsBorneOut, IsReservedFor, IsUnusedChunk, root_in};
 ghost use Rattle.pm_crash.specs.Taken.{TakenBehindAll};
 ghost use Rattle.pm_fresh.specs.Filled.{IsFilled};
 ghost use Rattle.pm_fresh.specs.Making.{page_in};
 ghost use Rattle.pm_blocks.specs.NewRuns.{IsUnused};
-ghost use Rattle.pm_alloc.specs.NewObjects.{CanMakeObject};
+ghost use Rattle.pm_alloc.specs.NewObjects.{CanMakeObject, HasNewObject};
 ghost use Rattle.pm_sealed.specs.Sealed.{LeavesSealed, Publishes, has_nothing};
+ghost use Rattle.pm_epoch.specs.Allocating.{HasLockedFreed, HasSameDescriptors, IsCallAlone, IsCallAloneStill, LeavesObject, MakesObject, object_in_block, with_object_told};
 ghost use Rattle.pm_epoch.specs.Epochs.{AllocatesOwn, AreOfOwnBits, HandsOver, HasEnded, HasEnteredCall, HasEntriesFor, HasSameHeap, HoldsCalls, HoldsCommitted, HoldsOpenCall, IsAtWorkAlone, IsGiving, IsPublishing, KnowsTaken, LoadsNoneOf, MayPublish, PromisesTaken, PublishesAlone, RestsBehindCall};
 
 /// A law: in a world where a lane has each word as it is, what it reserved may be allocated: a block of a run, by the class that the run's
@@ -88,10 +95,62 @@ pub fn a_lane_alone_may_make_objects()
         → ((at : Occ) → mem (occ_at at) ≡ occ_in (views k) at) → IsAtWorkAlone (views k) shape → CanMakeObject (views k) shape }
 {}
 
+/// A law: so may a lane that works alone, and is at work. No code runs.
+pub fn a_lane_that_works_alone_may_make_objects()
+    ensures { (o : Opening) (header : Header) (pool : PoolView) (start v : View) (steps : List Step) (shape : Shape)
+        → WorksAlone o header pool start steps v → IsAtWorkAlone v shape → CanMakeObject v shape }
+{}
+
 /// A law: the block that a lane filled for an object has a new object's words in the lane's view. No code runs.
 pub fn a_filled_block_is_fresh()
     ensures { (v w : View) (line lines kind size : ℕ) → IsFilled v line lines kind size w → 1 ≤ size → size ≤ 262080 → block_lines (class_of size) ≡ lines
         → IsFreshBlock (slice_index w.words) (record { place = 64 * line; lines = lines }) kind size }
+{}
+
+/// A law: where `new_object` of `pm_alloc` made an object in a memory of one lane, by what that ensures the memory may be seen as a view to which exactly its
+/// steps led, within the lane's stop number. No code runs.
+pub fn a_new_object_leaves_a_view()
+    ensures { (m : Solo) (v : View) (size kind : ℕ) (block : Block) → HasNewObject (Sees m) v size kind block → LeavesObject m v size kind block }
+{}
+
+/// A law: where a lane works alone with a call under way, an object of 1 to 262080 bytes that it made is one that the call may tell, if the log has room for
+/// its entry and for the one that ends the generation. No word that the lane knew changed, and the object's block lies apart from what the call found, made and
+/// freed. What the lane has bears out what the call told then, so that it may make and tell another: docs/MODEL.md, "From call to call". Where `new_object` finds
+/// no room, a refused allocation asks of the lane only that what the call did be taken back. No code runs.
+pub fn a_lane_alone_may_tell_its_new_object()
+    ensures allocates { (o : Opening) (header : Header) (pool : PoolView) (start v u : View) (steps : List Step) (shape : Shape) (level size kind : ℕ) (block : Block)
+        → IsCallAlone o header pool start steps v shape level → MakesObject v u size kind block → 1 ≤ size → size ≤ 262080 → entries_so_far v + 2 ≤ max_entries
+        → AllocatesObject v (with_object_told u (object_in_block block size kind)) (object_in_block block size kind) }
+    ensures bears_out { (o : Opening) (header : Header) (pool : PoolView) (start v u : View) (steps : List Step) (shape : Shape) (level size kind : ℕ) (block : Block)
+        → IsCallAlone o header pool start steps v shape level → MakesObject v u size kind block → IsBorneOut (with_object_told u (object_in_block block size kind)) }
+    ensures goes_on { (o : Opening) (header : Header) (pool : PoolView) (start v u : View) (steps : List Step) (shape : Shape) (level size kind : ℕ) (block : Block) → 1 ≤ level
+        → IsCallAlone o header pool start steps v shape level → MakesObject v u size kind block → 1 ≤ size → size ≤ 262080 → entries_so_far v + 2 ≤ max_entries
+        → IsCallAloneStill o header pool start steps (with_object_told u (object_in_block block size kind)) shape level }
+{}
+
+/// A law: what a lane has bears out what its call told of the heap from the call's begin on, which tells nothing of it. So it does once an operation is told that
+/// allocates nothing and, where it is a free, agrees with the root that the words have, if the lane has what it had reserved, and each chunk is described as it
+/// was. No code runs.
+pub fn a_call_stays_borne_out()
+    ensures begins { (v : View) (wants : List Want) → BeginsCall v wants → IsBorneOut v }
+    ensures told { (o : Opening) (header : Header) (pool : PoolView) (start v w : View) (steps more : List Step) (op : Operation) (reply : Option Value)
+        → WorksAlone o header pool start steps v → WorksAlone o header pool start more w → Tells v w op reply → allocated_by op reply ≡ []
+        → TellsOfRoot (root_in (slice_index v.words)) op reply → w.reserved ≡ v.reserved → HasSameDescriptors v w → IsBorneOut v → IsBorneOut w }
+{}
+
+/// A law: an object that the call of a lane alone made is not the pool's root, by the words, where what the lane has bears out what the call told. So a free of it
+/// agrees with the root. No code runs.
+pub fn a_made_object_is_not_the_root()
+    ensures { (o : Opening) (header : Header) (pool : PoolView) (start v : View) (steps : List Step) (id : Oid)
+        → WorksAlone o header pool start steps v → IsBorneOut v → IsMade v id → root_in (slice_index v.words) ≢ Some id.off }
+{}
+
+/// A law: of each object that a call found and freed the lane has the lock, with its block found: so it is where the call freed none, where it frees one that it
+/// holds, and where it keeps the locks under which it found blocks. No code runs.
+pub fn what_a_call_freed_is_locked()
+    ensures none { (v : View) → (blocks_in v).freed ≡ [] → HasLockedFreed v }
+    ensures frees { (v next : View) (id : Oid) → FreesFound v next id → HasLockedFreed v → HasLockedFreed next }
+    ensures stays { (v next : View) → KeepsFound v next → ((off : ℕ) → is_freed_in next off ≡ is_freed_in v off) → HasLockedFreed v → HasLockedFreed next }
 {}
 
 /// A law: changes of the heap that may be made of the same words, no two of one bit of an occupancy word, may be published in any order, behind

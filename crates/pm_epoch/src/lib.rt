@@ -2,24 +2,27 @@
 //!
 //! Promises whoever proves what a lane's calls leave that what such a call publishes, blocks for new objects, blocks freed and words set, is in
 //! the pool that a power failure leaves as a whole or not at all (`a_lane_alone_publishes_a_pool`), and that the words at the call's end hold
-//! that pool, from which the next call begins (`a_published_pool_stands`); and that a world lets a lane make objects, and publish what it reserved
-//! and found. No code runs. It stands on `pm_sealed` for what a sealed log leaves, and on `pm_crash` for what entries make of a pool; docs/MODEL.md.
+//! that pool, from which the next call begins (`a_published_pool_stands`); that a world lets a lane make objects, and publish what it reserved
+//! and found; and that an object which a lane alone made is one that its call may tell (`a_lane_alone_may_tell_its_new_object`). No code runs. It
+//! stands on `pm_sealed` for what a sealed log leaves, and on `pm_crash` for what entries make of a pool; docs/MODEL.md.
 #![tactic(auto)]
 
 mod laws;
 
 pub use laws::{
-    a_clear_chunk_is_unused, a_committed_call_may_publish_what_it_entered,
+    a_call_stays_borne_out, a_clear_chunk_is_unused, a_committed_call_may_publish_what_it_entered,
     a_committed_call_turns_its_pool, a_draw_hands_over, a_draw_promises_what_will_be_taken,
     a_filled_block_is_fresh, a_lane_alone_holds_its_pools, a_lane_alone_may_change_its_blocks,
-    a_lane_alone_may_make_objects, a_lane_alone_publishes_a_pool, a_lane_at_rest_may_begin_again,
+    a_lane_alone_may_make_objects, a_lane_alone_may_tell_its_new_object,
+    a_lane_alone_publishes_a_pool, a_lane_at_rest_may_begin_again,
     a_lane_at_work_knows_what_is_taken, a_lane_holds_what_it_knows_behind_its_log,
-    a_lane_knows_what_is_taken_behind_its_log, a_lane_whose_call_has_ended_begins_again,
-    a_pool_may_precede_a_call_borne_out, a_published_call_has_ended, a_published_call_is_replayed,
-    a_published_pool_stands, a_publishing_lane_leaves_its_whole_calls,
-    a_reserved_block_overlaps_none, a_world_leads_to_what_is_published,
-    changes_of_own_bits_are_in_order, giving_back_keeps_what_is_taken,
-    publishing_keeps_what_a_lane_has,
+    a_lane_knows_what_is_taken_behind_its_log, a_lane_that_works_alone_may_make_objects,
+    a_lane_whose_call_has_ended_begins_again, a_made_object_is_not_the_root,
+    a_new_object_leaves_a_view, a_pool_may_precede_a_call_borne_out, a_published_call_has_ended,
+    a_published_call_is_replayed, a_published_pool_stands,
+    a_publishing_lane_leaves_its_whole_calls, a_reserved_block_overlaps_none,
+    a_world_leads_to_what_is_published, changes_of_own_bits_are_in_order,
+    giving_back_keeps_what_is_taken, publishing_keeps_what_a_lane_has, what_a_call_freed_is_locked,
 };
 
 #[cfg(test)]

@@ -1,0 +1,89 @@
+-- What is told changes nothing else of a view: what a lane reserved it has, and it may make another object.
+use Rattle.std.proofs.Common.{◌++◌, ◌∷◌, [], inl, inr, List, Option, refl, subst, sym}
+use Rattle.pm_header.specs.declared.header.Header.{Header}
+use Rattle.pm_layout.specs.declared.shape.Shape.{Shape}
+use Rattle.pm_objects.specs.declared.calls.Operation.{Operation}
+use Rattle.pm_objects.specs.declared.history.Value.{Value}
+use Rattle.pm_objects.specs.declared.pool.PoolView.{PoolView}
+use Rattle.pm_view.specs.Steps.{Step}
+use Rattle.pm_view.specs.Steps.Step.{Tell}
+use Rattle.pm_view.specs.View.{View}
+use Rattle.pm_view.specs.Views.{after}
+use Rattle.pm_world.specs.Lawful.{MayTell}
+use Rattle.pm_world.specs.Opening.{Opening}
+use Rattle.pm_undo.specs.Working.{HasRecords, IsWorking}
+use Rattle.pm_blocks.specs.NewRuns.{MayMakeRun}
+use Rattle.pm_alloc.specs.NewObjects.{CanMakeObject}
+use Rattle.pm_crash.specs.Alone.{WorksAlone}
+use Rattle.pm_crash.specs.CallBlocks.{NewObject}
+use Rattle.pm_crash.specs.Leading.{Leads}
+use Rattle.pm_crash.specs.Reserved.{IsReservedFor}
+use Rattle.pm_crash.proofs.Leading.{leads_then}
+
+module _ (u : View) (op : Operation) (reply : Option Value) where
+  abbrev w : View
+  w = after u (Tell op reply)
+
+  pub reserved_where_told : (n : NewObject) → IsReservedFor u n → IsReservedFor w n
+  reserved_where_told n (inl run) =
+      inl (record { chunk = run.chunk; lines = run.lines; index = run.index; in_pool = run.in_pool; low = run.low; described = run.described; reserved = run.reserved; is_block = run.is_block })
+  reserved_where_told n (inr has) = inr (record {
+    zone = has.zone;
+    first = has.first;
+    count = has.count;
+    in_pool = has.in_pool;
+    low = has.low;
+    fits = has.fits;
+    unused = λ j near. let t = has.unused j near in record { reserved = t.reserved; undescribed = t.undescribed };
+    is_block = has.is_block;
+  })
+
+  records_where_told : HasRecords u → HasRecords w
+  records_where_told r = record {
+    most = r.most;
+    stored = r.stored;
+    some = r.some;
+    few = r.few;
+    each = λ slot q i at covered. let user = r.each slot q i at covered in record { own = user.own; known = user.known; outside = user.outside; inside = user.inside };
+    once = r.once;
+  }
+
+  working_where_told : IsWorking u → IsWorking w
+  working_where_told works = record {
+    is_open = works.is_open;
+    undrawn = works.undrawn;
+    area = record { lane = works.area.lane; few = works.area.few; inside = works.area.inside; below = works.area.below };
+    records = records_where_told works.records;
+    drained = works.drained;
+  }
+
+  run_where_told : (shape : Shape) → MayMakeRun u shape → MayMakeRun w shape
+  run_where_told shape may = record {
+    search = record { shape = record { lanes = may.search.shape.lanes; zones = may.search.shape.zones; size = may.search.shape.size }; early = may.search.early; unlocked = may.search.unlocked };
+    alone = may.alone;
+    working = working_where_told may.working;
+    locked = may.locked;
+    pictured = may.pictured;
+    unused = λ zone chunk in_pool low clear. let t = may.unused zone chunk in_pool low clear in
+        record { undescribed = t.undescribed; closed = t.closed; no_chunk = t.no_chunk; no_block = t.no_block; drained = t.drained; unlogged = t.unlogged };
+  }
+
+  pub can_where_told : (shape : Shape) → CanMakeObject u shape → CanMakeObject w shape
+  can_where_told shape can = record {
+    run = run_where_told shape can.run;
+    pool = record { lane = can.pool.lane; size = can.pool.size; of_pool = can.pool.of_pool; no_bitmap = can.pool.no_bitmap };
+    pictured = record { runs = can.pictured.runs; taken = can.pictured.taken };
+  }
+
+  -- the lane may tell while its call is open
+  tells : MayTell u.log.phase → Leads u (Tell op reply ∷ []) w
+  unfolding Leads
+  tells may = (may, tt, tt, refl)
+
+  pub works_where_told : (o : Opening) (header : Header) (pool : PoolView) (start : View) (steps : List Step) → IsWorking u → WorksAlone o header pool start steps u → WorksAlone o header pool start (steps ++ Tell op reply ∷ []) w
+  works_where_told o header pool start steps at_work works = record {
+    begins = works.begins;
+    leads = leads_then start u w steps (Tell op reply ∷ []) works.leads (tells (subst MayTell (sym at_work.is_open) tt));
+    numbered = works.numbered;
+    within = works.within;
+  }

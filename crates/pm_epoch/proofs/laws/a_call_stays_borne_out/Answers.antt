@@ -1,0 +1,8 @@
+use Rattle.pm_epoch.proofs.StayingBorneOut.{begun_borne_out, told_borne_out}
+use Rattle.pm_epoch.proofs.laws.a_call_stays_borne_out.Goals as goal
+
+pub returns : goal.returns
+returns c = record {
+  begins = begun_borne_out;
+  told = λ o header pool start v w steps more op reply works on tells none root reserved same. told_borne_out o header pool start v w steps more op reply works on tells none root reserved same;
+}
