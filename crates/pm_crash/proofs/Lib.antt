@@ -111,3 +111,4 @@ pub mod ChangesKept
 pub mod PublishedInTurn
 pub mod ManyObjects
 pub mod PublishedCopy
+pub mod GivingBack

@@ -4,7 +4,7 @@ use Rattle.std.proofs.lemmas.Bool.{cases_lt, eqb-true, false≢true, le-leb, leb
 use Rattle.std.proofs.lemmas.Nat.Bits.{bit_at-lt, bit_at_mask_below, bit_at_mask_inside, bit_at_ones, bit_at_or, ones_shl}
 use Rattle.pm_layout.specs.Sizes.{blocks_of}
 use Rattle.pm_view.specs.Blocks.{is_run}
-use Rattle.pm_occupancy.proofs.occupancy.run_word.Goals as goal
+use Rattle.pm_occupancy.proofs.taken.taken_blocks.Goals as goal
 
 -- the ones from a bit on
 ones_inside : (k block : ℕ) → k ≤ 64 → k ≤ block → block < 64 → bit_at ((2 ^ 64 - 1) * 2 ^ k % 2 ^ 64) block ≡ 1

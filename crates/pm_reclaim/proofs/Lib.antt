@@ -1,0 +1,5 @@
+pub mod Steps
+pub mod Rest
+pub mod RunWords
+pub mod ZoneWords
+pub mod Pools
