@@ -3,3 +3,4 @@ pub mod Rest
 pub mod RunWords
 pub mod ZoneWords
 pub mod Pools
+pub mod Resting

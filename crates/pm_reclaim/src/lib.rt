@@ -8,3 +8,6 @@
 mod reclaiming;
 
 pub use reclaiming::reclaim;
+
+#[cfg(test)]
+mod tests;
