@@ -30,7 +30,7 @@ pub fn taken_blocks(descriptor: u64, bitmap: u64) -> u64
     ensures { (block : ℕ) → block < 64 → (bit_at result block ≡ 1)
         ↔ ((not (is_run descriptor) || nat_le (blocks_of (descriptor / 256)) block || bit_at bitmap block == 1) ≡ true) }
 {
-    if descriptor % DESCRIPTOR_UNIT == RUN {
+    if is_run(descriptor) {
         bitmap | u64::MAX << blocks_of(descriptor / DESCRIPTOR_UNIT)
     } else {
         u64::MAX
@@ -74,7 +74,7 @@ impl TakenChunks {
 fn is_taken(descriptor: u64, chunk: u64, end: u64) -> bool
     ensures { result ≡ (is_run descriptor || nat_lt chunk end) }
 {
-    descriptor % DESCRIPTOR_UNIT == RUN || chunk < end
+    is_run(descriptor) || chunk < end
 }
 
 /// Up to which chunk the huge blocks reach that begin at or before this one, where those before it reach up to `end`.
