@@ -1,15 +1,19 @@
 -- The zones of a pool, one after another; behind the last the lane has nothing left.
-use Rattle.std.proofs.Common.{◌≡◌, inl, inr, ⊎_elim, ℕ, ◌+◌, ◌/◌, ◌<◌, ◌≤◌, ◌||◌, true, sym, ◌∙◌, subst, arith}
+use Rattle.std.proofs.Common.{◌≡◌, ◌≢◌, inl, inr, ⊎_elim, ℕ, ◌+◌, ◌/◌, ◌^◌, ◌<◌, ◌≤◌, ◌||◌, true, List, [], ◌∷◌, refl, sym, ◌∙◌, subst, arith}
 use Rattle.std.specs.List.{list_any}
-use Rattle.std.proofs.lemmas.Bool.{cases_lt, false_from_ne_true, false≢true, or_cases, or_left}
+use Rattle.std.proofs.lemmas.Bool.{cases_eq, cases_lt, false_from_ne_true, false≢true, or_cases, or_left, or_right}
+use Rattle.std.proofs.lemmas.List.Elements.{All-head}
+use Rattle.std.proofs.lemmas.Nat.Bits.{bit_at-lt, bit_at-zero, same_from_bits_below}
+use Rattle.std.specs.Int.{bit_at}
 use Rattle.pm_layout.specs.declared.shape.Shape.{Shape}
 use Rattle.pm_view.specs.declared.occ.Occ.{Occ}
 use Rattle.pm_view.specs.declared.occ.Occ.TheVariants.{Run, Zone}
-use Rattle.pm_view.specs.View.{View}
+use Rattle.pm_view.specs.View.{Taken, View}
 use Rattle.pm_view.specs.Views.{chunk_bit, has_bit, reserves, zone_at}
 use Rattle.pm_world.specs.Heap.{IsOcc, has_run_chunk, has_taken}
+use Rattle.pm_world.proofs.Reserved.{bit_had}
 use Rattle.pm_crash.specs.KnownTaken.{IsKept, KnowsTaken}
-use Rattle.pm_reclaim.specs.Reclaims.{HasNothingLeft, HasReclaimed, IsReclaimed, MayReclaim, zone_in}
+use Rattle.pm_reclaim.specs.Reclaims.{AreOfPool, HasNothingLeft, HasReclaimed, IsReclaimed, MayReclaim, zone_in}
 use Rattle.pm_reclaim.proofs.Steps.{may_still, of_pool_before, reclaims_none, reclaims_then, same_lanes}
 use Rattle.pm_reclaim.proofs.ZoneWords.{reclaimed_still}
 
@@ -19,6 +23,16 @@ IsInPool at v n = HasReclaimed at v (λ w. (other : Occ) → IsOcc w.lanes w.zon
 
 pub in_pool_first : (at : View → Type 0) (v : View) (shape : Shape) → MayReclaim v shape → at v → IsInPool at v 0
 in_pool_first at v shape may there = record { view = v; reclaims = reclaims_none v may.rests.taken; there = there; holds = λ other of low. absurd (omega (arith, low)) }
+
+-- blocks of the pool of which there is no bit are none
+no_blocks : (lanes zones : ℕ) (blocks : List Taken) → AreOfPool lanes zones blocks → ((at : Occ) (bit : ℕ) → IsOcc lanes zones at → bit < 64 → list_any (has_bit at bit) blocks ≡ true → ⊥) → blocks ≡ []
+no_blocks lanes zones [] all none = refl
+no_blocks lanes zones (t ∷ blocks) all none =
+    let small = All-head (λ (u : Taken). u.bits < 2 ^ 64) t blocks all.small in
+    absurd (All-head (λ (u : Taken). u.bits ≢ 0) t blocks all.some (same_from_bits_below 64 t.bits 0 small (omega arith) (λ bit low. ⊎_elim
+    (λ (set : bit_at t.bits bit ≡ 1). absurd (none t.at bit (All-head (λ (u : Taken). IsOcc lanes zones u.at) t blocks all.of_pool) low (or_left (has_bit t.at bit t) (list_any (has_bit t.at bit) blocks) (bit_had t bit set))))
+    (λ (clear : bit_at t.bits bit ≢ 1). let less = bit_at-lt t.bits bit in let off = bit_at-zero bit in omega (arith, clear, less, off))
+    (cases_eq (bit_at t.bits bit) 1))))
 
 -- ---- of a word that was reclaimed the lane has nothing
 
@@ -46,6 +60,9 @@ module _ (w : View) (knows : KnowsTaken w) (all : (at : Occ) → IsOcc w.lanes w
         (or_cases (reserves w at bit) (has_run_chunk w at) some))
         (λ (freed : list_any (has_bit at bit) w.freed ≡ true). kept_none at bit of low (inr freed) has)
         (or_cases (reserves w at bit || has_run_chunk w at) (list_any (has_bit at bit) w.freed) has));
+    none_reserved = λ blocks. no_blocks w.lanes w.zones w.reserved blocks reserved_none;
+    none_freed = λ blocks. no_blocks w.lanes w.zones w.freed blocks (λ at bit of low freed. kept_none at bit of low (inr freed)
+        (or_right (reserves w at bit || has_run_chunk w at) (list_any (has_bit at bit) w.freed) freed));
   }
 
 module _ (at : View → Type 0) (v : View) (shape : Shape) (may : MayReclaim v shape) (n : ℕ) (so : IsInPool at v n) where

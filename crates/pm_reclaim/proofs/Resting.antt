@@ -1,5 +1,5 @@
 -- A lane that rests alone: one that freed chunks, and as it reserves blocks of a run; for the tests.
-use Rattle.std.proofs.Common.{◌≡◌, ◌≢◌, ◌⊎◌, inl, inr, ⊎_elim, ℕ, ◌+◌, ◌*◌, ◌/◌, ◌^◌, ◌<◌, ◌≤◌, ◌||◌, Bool, true, false, IsTrue, bit_and, bit_or, eqb, List, [], ◌∷◌, ◌++◌, length, length-set, set, slice_index, None, refl, sym, ap, ◌∙◌, subst, arith}
+use Rattle.std.proofs.Common.{◌≡◌, ◌≢◌, ◌⊎◌, inl, inr, ⊎_elim, ℕ, ◌+◌, ◌*◌, ◌/◌, ◌^◌, ◌<◌, ◌||◌, Bool, true, false, bit_and, bit_or, eqb, List, [], ◌∷◌, length, length-set, set, slice_index, None, refl, sym, ap, ◌∙◌, subst, arith}
 use Rattle.std.specs.Int.{bit_at, bit_not, w64}
 use Rattle.std.specs.List.{list_any}
 use Rattle.std.proofs.lemmas.Bool.{and_parts, cases_eq, eqb-true, false_from_ne_true, false≢true, or_cases, or_left, or_right}
@@ -13,8 +13,7 @@ use Rattle.pm_view.specs.declared.occ.Occ.TheVariants.{Run, Zone}
 use Rattle.pm_view.specs.Founds.{FoundAlone}
 use Rattle.pm_view.specs.Occupancy.{IsOccupancy, is_taken}
 use Rattle.pm_view.specs.Blocks.{zone_of}
-use Rattle.pm_view.specs.Steps.{Step}
-use Rattle.pm_view.specs.Steps.Step.{Occupied, Occupy}
+use Rattle.pm_view.specs.Steps.Step.{Occupy}
 use Rattle.pm_view.specs.View.{Taken, View}
 use Rattle.pm_view.specs.Views.{after, chunk_bit, has_bit, is_same_occ, occ_in, reserves, zone_at}
 use Rattle.pm_world.specs.Heap.{IsOcc, has_run_chunk, has_taken}
@@ -25,7 +24,6 @@ use Rattle.pm_world.proofs.Vacated.{and_bit, and_bits, not_bit, not_both, or_bit
 use Rattle.pm_crash.specs.KnownTaken.{IsKept, KnowsTaken}
 use Rattle.pm_crash.proofs.GivingBack.{one_or_two}
 use Rattle.pm_reclaim.specs.Reclaims.{MayReclaim, RestsAlone}
-use Rattle.pm_reclaim.specs.Tests.{Rests}
 
 -- ---- a lane that freed chunks of the first zone
 

@@ -1,9 +1,9 @@
 -- Steps of a reclaim, one after another, and what stays as it was behind them.
-use Rattle.std.proofs.Common.{◌≡◌, ◌≢◌, ⊎_elim, ℕ, ◌/◌, ◌<◌, List, [], ◌∷◌, ◌++◌, true, length, map, set, slice_index, refl, sym, ap, ◌∙◌, subst}
+use Rattle.std.proofs.Common.{◌≡◌, ◌≢◌, ⊎_elim, ℕ, ◌/◌, ◌^◌, ◌<◌, Bool, not, cond, eqb, eq-eqb, bit_and, Contains, List, [], ◌∷◌, ◌++◌, true, length, map, set, slice_index, refl, sym, ap, ◌∙◌, subst}
 use Rattle.std.specs.Int.{bit_at, bit_not, w64}
-use Rattle.std.proofs.lemmas.Bool.{cases_eq}
+use Rattle.std.proofs.lemmas.Bool.{cases_eq, false≢true}
 use Rattle.std.proofs.lemmas.List.{get_or-set_other, get_or-set_same, set-get_or}
-use Rattle.std.proofs.lemmas.List.Elements.{All-append, All-cons, All-nil}
+use Rattle.std.proofs.lemmas.List.Elements.{All-append, All-cons, All-contains_itself, All-nil, All-weaker}
 use Rattle.pm_layout.specs.declared.shape.Shape.{Shape}
 use Rattle.pm_view.specs.declared.occ.Occ.{Occ}
 use Rattle.pm_view.specs.declared.occ.Occ.TheVariants.{Run, Zone}
@@ -11,16 +11,17 @@ use Rattle.pm_view.specs.Founds.{FoundAlone}
 use Rattle.pm_view.specs.Occupancy.{is_taken}
 use Rattle.pm_view.specs.Steps.{Step}
 use Rattle.pm_view.specs.Steps.Step.{Load, Occupied, Vacate}
-use Rattle.pm_view.specs.View.{Lock, View}
-use Rattle.pm_view.specs.Views.{after, occ_in, runs_with, vacated_word, with_block, zones_with}
+use Rattle.pm_view.specs.View.{Lock, Taken, View}
+use Rattle.pm_view.specs.Views.{after, exchanged, is_same_occ, occ_in, runs_with, vacated_word, with_block, without_taken, zones_with}
 use Rattle.pm_world.specs.Heap.{IsOcc}
 use Rattle.pm_world.specs.Lawful.{HasOcc, MayVacate}
-use Rattle.pm_world.proofs.Vacated.{and_bits}
+use Rattle.pm_world.proofs.StepGive.{filter-passed}
+use Rattle.pm_world.proofs.Vacated.{and_bits, vacated_all, vacated_small}
 use Rattle.pm_crash.specs.KnownTaken.{KnowsTaken}
 use Rattle.pm_crash.specs.Leading.{Leads}
-use Rattle.pm_crash.proofs.GivingBack.{IsPictured, giving_keeps, is_pictured}
+use Rattle.pm_crash.proofs.GivingBack.{IsPictured, giving_keeps, is_pictured, unmade}
 use Rattle.pm_crash.proofs.Leading.{leads_then}
-use Rattle.pm_reclaim.specs.Reclaims.{IsReclaiming, MayReclaim, Reclaims, RestsAlone, TellsTaken}
+use Rattle.pm_reclaim.specs.Reclaims.{AreOfPool, IsReclaiming, MayReclaim, Reclaims, RestsAlone, TellsTaken}
 
 -- ---- no step, one step, and more
 
@@ -29,7 +30,10 @@ unfolding Leads
 leads_none v = refl
 
 pub reclaims_none : (v : View) → KnowsTaken v → Reclaims v v
-reclaims_none v taken = record { steps = []; leads = leads_none v; only = All-nil IsReclaiming; same = refl; less = λ at bit one. one; taken = taken }
+reclaims_none v taken = record { steps = []; leads = leads_none v; only = All-nil IsReclaiming; same = refl; less = λ at bit one. one; taken = taken; reserved = λ all. all; freed = λ all. all }
+
+of_pool_as : (lanes others zones more : ℕ) → lanes ≡ others → zones ≡ more → (blocks : List Taken) → AreOfPool lanes zones blocks → AreOfPool others more blocks
+of_pool_as lanes others zones more same_lanes same_zones blocks all = subst (λ n. AreOfPool others n blocks) same_zones (subst (λ n. AreOfPool n zones blocks) same_lanes all)
 
 pub reclaims_then : (u v w : View) → Reclaims u v → Reclaims v w → Reclaims u w
 reclaims_then u v w first second = record {
@@ -39,6 +43,10 @@ reclaims_then u v w first second = record {
   same = second.same ∙ ap (λ (z : View). record z { run_words = w.run_words; zone_words = w.zone_words; known = w.known; reserved = w.reserved; freed = w.freed; seen = w.seen }) first.same;
   less = λ at bit one. first.less at bit (second.less at bit one);
   taken = second.taken;
+  reserved = λ all. of_pool_as v.lanes u.lanes v.zones u.zones (ap (λ (z : View). z.lanes) first.same) (ap (λ (z : View). z.zones) first.same) w.reserved
+      (second.reserved (of_pool_as u.lanes v.lanes u.zones v.zones (sym (ap (λ (z : View). z.lanes) first.same)) (sym (ap (λ (z : View). z.zones) first.same)) v.reserved (first.reserved all)));
+  freed = λ all. of_pool_as v.lanes u.lanes v.zones u.zones (ap (λ (z : View). z.lanes) first.same) (ap (λ (z : View). z.zones) first.same) w.freed
+      (second.freed (of_pool_as u.lanes v.lanes u.zones v.zones (sym (ap (λ (z : View). z.lanes) first.same)) (sym (ap (λ (z : View). z.zones) first.same)) v.freed (first.freed all)));
 }
 
 -- ---- looks
@@ -60,6 +68,8 @@ reclaims_seen v w s knows leads is same = record {
   same = same ∙ ap (λ (z : View). record v { run_words = z.run_words; zone_words = z.zone_words; known = w.known; reserved = z.reserved; freed = z.freed; seen = w.seen }) (sym same);
   less = λ at bit one. ap (λ n. bit_at n bit) (sym (occ_beside v w.known w.seen at)) ∙ (ap (λ (z : View). bit_at (occ_in z at) bit) (sym same) ∙ one);
   taken = subst KnowsTaken (sym same) (knows_beside v w.known w.seen knows);
+  reserved = λ all. subst (AreOfPool v.lanes v.zones) (ap (λ (z : View). z.reserved) (sym same)) all;
+  freed = λ all. subst (AreOfPool v.lanes v.zones) (ap (λ (z : View). z.freed) (sym same)) all;
 }
 
 pub reclaims_load : (v : View) (w found : ℕ) → RestsAlone v → w < length v.words → FoundAlone v (Load w found) → Reclaims v (after v (Load w found))
@@ -110,6 +120,18 @@ less_vacated v (Run place) (Zone second) bits bit low one = one
 less_vacated v (Zone zone) (Run second) bits bit low one = one
 less_vacated v (Zone zone) (Zone second) bits bit low one = less_of v.zone_words zone second bits bit low one
 
+-- what is left of blocks is of the pool as they were
+left_of_pool : (at : Occ) (bits lanes zones : ℕ) → bits < 2 ^ 64 → (blocks : List Taken) → AreOfPool lanes zones blocks → AreOfPool lanes zones (without_taken at bits blocks)
+left_of_pool at bits lanes zones small blocks all = record {
+  of_pool = vacated_all at bits small (IsOcc lanes zones) blocks all.of_pool;
+  small = vacated_small at bits small blocks all.small;
+  some =
+      let left : List Taken = without_taken at bits blocks in
+      let is_some : Taken → Bool = λ t. not (eqb t.bits 0) in
+      let given : Taken → Taken = λ t. cond (is_same_occ at t.at) (record t { bits = bit_and t.bits (bit_not w64 bits) }) t in
+      All-weaker (Contains left) (λ (t : Taken). t.bits ≢ 0) (λ t there none. false≢true (sym (ap not (eq-eqb t.bits 0 none)) ∙ filter-passed is_some (map given blocks) t there)) left (All-contains_itself left);
+}
+
 pub reclaims_vacate : (v : View) (at : Occ) (bits : ℕ) → KnowsTaken v → MayVacate v at bits → Reclaims v (after v (Vacate at bits))
 unfolding Leads
 reclaims_vacate v at bits knows may = record {
@@ -119,6 +141,8 @@ reclaims_vacate v at bits knows may = record {
   same = refl;
   less = λ other bit one. less_vacated v at other bits bit (is_pictured v at knows may.there) one;
   taken = giving_keeps v (Vacate at bits) knows may tt;
+  reserved = λ all. left_of_pool at bits v.lanes v.zones may.small (exchanged v at) (subst (AreOfPool v.lanes v.zones) (sym (unmade v at bits knows may at may.there.of_pool)) all);
+  freed = λ all. left_of_pool at bits v.lanes v.zones may.small v.freed all;
 }
 
 -- ---- what stays

@@ -1,5 +1,5 @@
 -- What a lane that is alone gives back behind its call's end, and what it has then: docs/FORMAT.md, "Volatile words".
-use Rattle.std.specs.Prelude.{◌≡◌, ◌↔◌, ℕ, ◌/◌, ◌<◌, true, false, All, List, [], slice_index}
+use Rattle.std.specs.Prelude.{◌≡◌, ◌≢◌, ◌↔◌, ℕ, ◌/◌, ◌^◌, ◌<◌, true, false, All, List, [], slice_index}
 use Rattle.std.specs.Int.{bit_at}
 use Rattle.pm_layout.specs.declared.shape.Shape.{Shape}
 use Rattle.pm_view.specs.declared.occ.Occ.{Occ}
@@ -11,7 +11,7 @@ use Rattle.pm_view.specs.Log.Phase.{Idle}
 use Rattle.pm_view.specs.Occupancy.{is_taken}
 use Rattle.pm_view.specs.Steps.{Step}
 use Rattle.pm_view.specs.Steps.Step.{Load, Occupied, Vacate}
-use Rattle.pm_view.specs.View.{View}
+use Rattle.pm_view.specs.View.{Taken, View}
 use Rattle.pm_view.specs.Views.{occ_in}
 use Rattle.pm_world.specs.Heap.{IsOcc, has_taken}
 use Rattle.pm_world.specs.Lanes.{IsOfShape}
@@ -39,9 +39,15 @@ IsReclaiming (Occupied at found) = Unit {0}
 IsReclaiming (Vacate at bits) = Unit {0}
 IsReclaiming s = ⊥
 
+-- blocks are of occupancy words of the pool, each by some bits of a word of 64
+pub record AreOfPool (lanes zones : ℕ) (blocks : List Taken) : Type 0 where
+  pub of_pool : All (λ (t : Taken). IsOcc lanes zones t.at) blocks
+  pub small : All (λ (t : Taken). t.bits < 2 ^ 64) blocks
+  pub some : All (λ (t : Taken). t.bits ≢ 0) blocks
+
 -- Such steps lead from the one view to the other, each allowed, and answered as a lane that is alone is. What the lane has of the heap may change, what it
 -- knows and what it saw, and nothing else: its words, changes, log, locks, calls, entries and number are as before. Each bit that is set then was set before,
--- and the lane knows what is taken still.
+-- and the lane knows what is taken still. Where all that it reserved, or freed, was of the pool, so is what it has of that then.
 pub record Reclaims (v w : View) : Type 0 where
   pub steps : List Step
   pub leads : Leads v steps w
@@ -49,6 +55,8 @@ pub record Reclaims (v w : View) : Type 0 where
   pub same : w ≡ record v { run_words = w.run_words; zone_words = w.zone_words; known = w.known; reserved = w.reserved; freed = w.freed; seen = w.seen }
   pub less : (at : Occ) (bit : ℕ) → bit_at (occ_in w at) bit ≡ 1 → bit_at (occ_in v at) bit ≡ 1
   pub taken : KnowsTaken w
+  pub reserved : AreOfPool v.lanes v.zones v.reserved → AreOfPool v.lanes v.zones w.reserved
+  pub freed : AreOfPool v.lanes v.zones v.freed → AreOfPool v.lanes v.zones w.freed
 
 -- the memory may be seen as a view to which such steps led, and of which this holds
 pub record HasReclaimed (at : View → Type 0) (v : View) (Q : View → Type 0) : Type 0 where
@@ -65,10 +73,13 @@ TellsTaken v at word = (bit : ℕ) → bit < 64 → (bit_at word bit ≡ 1) ↔ 
 abbrev pub IsReclaimed : View → Occ → Type 0
 IsReclaimed v at = TellsTaken v at (occ_in v at)
 
--- each occupancy word of the pool has what the words say is taken, and the lane has nothing that it reserved or freed
+-- Each occupancy word of the pool has what the words say is taken, and the lane has nothing that it reserved or freed: no bit of it, and so no block that is
+-- of the pool.
 pub record HasNothingLeft (w : View) : Type 0 where
   pub reclaimed : (at : Occ) → IsOcc w.lanes w.zones at → IsReclaimed w at
   pub none_left : (at : Occ) (bit : ℕ) → IsOcc w.lanes w.zones at → bit < 64 → has_taken w at bit ≡ false
+  pub none_reserved : AreOfPool w.lanes w.zones w.reserved → w.reserved ≡ []
+  pub none_freed : AreOfPool w.lanes w.zones w.freed → w.freed ≡ []
 
 -- ---- on the way
 

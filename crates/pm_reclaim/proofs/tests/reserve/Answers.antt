@@ -1,4 +1,4 @@
-use Rattle.std.proofs.Common.{◌*◌, ◌+◌, ap, sym, subst, arith}
+use Rattle.std.proofs.Common.{arith}
 use Rattle.pm_view.specs.declared.occ.Occ.TheVariants.{Run}
 use Rattle.pm_view.specs.Steps.Step.{Occupy}
 use Rattle.pm_view.specs.Views.{after}
