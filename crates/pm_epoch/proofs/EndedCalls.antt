@@ -24,8 +24,9 @@ use Rattle.pm_world.proofs.Reserved.{occ_same}
 use Rattle.pm_world.proofs.StepGive.{filter-passed}
 use Rattle.pm_world.proofs.Vacated.{vacated_all, vacated_small}
 use Rattle.pm_crash.specs.Alone.{BeginsAgain, standing}
-use Rattle.pm_epoch.specs.Epochs.{HasEnded, IsGiving}
-use Rattle.pm_epoch.proofs.GivingBack.{giving_keeps, unmade}
+use Rattle.pm_reclaim.specs.KnownTaken.{IsGiving}
+use Rattle.pm_epoch.specs.Epochs.{HasEnded}
+use Rattle.pm_reclaim.proofs.GivingBack.{giving_keeps, unmade}
 
 -- what the lane knows it holds, once it has forgotten the rest
 still_held : (v : View) (known : List ℕ) (w : ℕ) → Contains (filter (is_held v) known) w → IsTrue (is_held v w)

@@ -18,7 +18,7 @@ use Rattle.pm_crash.specs.Alone.{WorksAlone}
 use Rattle.pm_crash.proofs.AloneCourse.{StandsAlone, stands_at}
 use Rattle.pm_crash.proofs.AloneMemory.{memory_of}
 use Rattle.pm_crash.proofs.KnownHeap.{known_alone}
-use Rattle.pm_epoch.specs.Epochs.{KnowsTaken}
+use Rattle.pm_reclaim.specs.KnownTaken.{KnowsTaken}
 use Rattle.pm_crash.proofs.ReservedBlocks.{free_still}
 use Rattle.pm_epoch.proofs.StandingPools.{own_fits}
 

@@ -11,7 +11,6 @@ pub mod ReadyLanes
 pub mod KnowingLanes
 pub mod RestingLanes
 pub mod PublishingHeap
-pub mod GivingBack
 pub mod PromisedTaken
 pub mod TakenBehindLog
 pub mod EndedCalls

@@ -13,8 +13,9 @@ use Rattle.pm_world.specs.Heap.{IsOcc, has_run_chunk, has_taken}
 use Rattle.pm_crash.specs.Publishing.{Published}
 use Rattle.pm_crash.specs.Publishing.Published.{Changes, Performs}
 use Rattle.pm_crash.specs.Taken.{AllocatesBit, FreesBit, TakenBehindAll}
-use Rattle.pm_epoch.specs.Epochs.{HandsOver, KnowsTaken, PromisesTaken, SomeAllocates, SomeFrees}
-use Rattle.pm_epoch.proofs.GivingBack.{chunk_taken}
+use Rattle.pm_reclaim.specs.KnownTaken.{KnowsTaken}
+use Rattle.pm_epoch.specs.Epochs.{HandsOver, PromisesTaken, SomeAllocates, SomeFrees}
+use Rattle.pm_reclaim.proofs.GivingBack.{chunk_taken}
 
 -- ---- what is taken behind all of these
 

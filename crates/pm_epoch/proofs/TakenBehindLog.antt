@@ -18,7 +18,8 @@ use Rattle.pm_world.specs.Heap.{IsOcc, has_taken}
 use Rattle.pm_crash.specs.Publishing.{Published}
 use Rattle.pm_crash.specs.Taken.{TakenBehindAll}
 use Rattle.pm_sealed.specs.Sealed.{Publishes}
-use Rattle.pm_epoch.specs.Epochs.{HasSameHeap, IsKept, KnowsTaken, MayPublish, PromisesTaken}
+use Rattle.pm_reclaim.specs.KnownTaken.{IsKept, KnowsTaken}
+use Rattle.pm_epoch.specs.Epochs.{HasSameHeap, MayPublish, PromisesTaken}
 use Rattle.pm_epoch.proofs.PublishedPools.{taken_stands}
 use Rattle.pm_epoch.proofs.PublishingHeap.{same_along, same_lane_along}
 

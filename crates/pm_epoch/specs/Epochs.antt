@@ -14,7 +14,7 @@ use Rattle.pm_view.specs.View.{Lock, Taken, View}
 use Rattle.pm_view.specs.Founds.{IsAlone}
 use Rattle.pm_view.specs.Occupancy.{is_taken}
 use Rattle.pm_view.specs.Steps.{Step}
-use Rattle.pm_view.specs.Steps.Step.{Draw, Give, Load, Vacate, ZoneGive}
+use Rattle.pm_view.specs.Steps.Step.{Draw, Load}
 use Rattle.pm_view.specs.Views.{after, has_bit, is_made, occ_in, reserves, changes_heap}
 use Rattle.std.specs.Int.{bit_at}
 use Rattle.std.specs.List.{AllZip, IsDistinct, list_any}
@@ -34,6 +34,7 @@ use Rattle.pm_crash.specs.HeapChanges.{HeapChange}
 use Rattle.pm_crash.specs.HeapChanges.HeapChange.{AllocatesChunks, AllocatesInRun, FreesChunks, FreesInRun}
 use Rattle.pm_crash.specs.NewObjects.{block_of_chunks, block_of_run}
 use Rattle.pm_crash.specs.Held.{HoldsImage, HoldsPool}
+use Rattle.pm_reclaim.specs.KnownTaken.{IsKept, KnowsTaken}
 use Rattle.pm_crash.specs.Reserved.{IsBorneOut, IsReservedInChunks, IsReservedInRun}
 use Rattle.pm_crash.specs.Publishing.Published.{Changes, Performs}
 use Rattle.pm_crash.specs.Publishing.{AreInOrder, CanPublish, Published, entry_published}
@@ -191,25 +192,6 @@ pub record HasSameHeap (v w : View) : Type 0 where
   pub number : w.number ≡ v.number
 
 -- ---- behind its log
-
--- a step by which a lane gives back: a line's lock, a zone's, or what it reserved or freed
-abbrev pub IsGiving : Step → Type 0
-IsGiving (Give line) = Unit {0}
-IsGiving (ZoneGive zone) = Unit {0}
-IsGiving (Vacate at bits) = Unit {0}
-IsGiving s = ⊥
-
--- the lane reserved what the bit is of, or freed it and has not given it back
-abbrev pub IsKept : View → Occ → ℕ → Type 0
-IsKept v at bit = (reserves v at bit ≡ true) ⊎ (list_any (has_bit at bit) v.freed ≡ true)
-
--- Each bit of the lane's picture of an occupancy word is set exactly where what it is of is taken by its words, or the lane has it; and what it reserved, or
--- freed, is not taken by its words.
-pub record KnowsTaken (v : View) : Type 0 where
-  pub pages : length v.run_words ≡ 1 + 2 * v.lanes + 65 * v.zones
-  pub zone_count : length v.zone_words ≡ 32
-  pub bits : (at : Occ) (bit : ℕ) → IsOcc v.lanes v.zones at → bit < 64 → (bit_at (occ_in v at) bit ≡ 1) ↔ ((is_taken (slice_index v.words) v.lanes at bit ≡ true) ⊎ (has_taken v at bit ≡ true))
-  pub apart : (at : Occ) (bit : ℕ) → IsOcc v.lanes v.zones at → bit < 64 → IsKept v at bit → is_taken (slice_index v.words) v.lanes at bit ≡ false
 
 -- As its call has drawn, it is so of what is taken once all of this is published.
 pub record PromisesTaken (v : View) (all : List Published) : Type 0 where

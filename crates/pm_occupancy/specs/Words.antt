@@ -1,8 +1,10 @@
 -- The occupancy words as the pool's words give them, as lists.
-use Rattle.std.specs.Prelude.{ℕ, zero, suc, ◌+◌, ◌*◌, ◌^◌, nat_lt, Bool, if◌then◌else◌, List, map}
-use Rattle.std.specs.List.{range_with_len}
+use Rattle.std.specs.Prelude.{◌≡◌, ◌↔◌, ℕ, zero, suc, ◌+◌, ◌*◌, ◌^◌, ◌<◌, ◌≤◌, nat_lt, Bool, true, if◌then◌else◌, List, map}
+use Rattle.std.specs.Int.{bit_at}
+use Rattle.std.specs.List.{list_any, range_with_len}
 use Rattle.pm_view.specs.Blocks.{is_chunk}
-use Rattle.pm_view.specs.Occupancy.{is_block_taken, is_chunk_taken}
+use Rattle.pm_view.specs.Occupancy.{is_block_taken, is_chunk_taken, reaches}
+use Rattle.pm_occupancy.specs.declared.taken.TakenChunks.{TakenChunks}
 
 -- 1 for a bit that passes the test
 abbrev pub bit_if : Bool → ℕ
@@ -26,3 +28,10 @@ run_words_of words lanes zones = map (page_word_of words lanes) (range_with_len 
 
 unfoldable pub zone_words_of : (ℕ → ℕ) → ℕ → ℕ → List ℕ
 zone_words_of words lanes zones = map (zone_word_of words lanes zones) (range_with_len 0 32)
+
+-- Of so many first chunks of a zone, this is what is taken by the words: up to where the huge blocks reach that begin there, and a bit for each of the chunks
+-- that is taken, and no other.
+pub record TellsChunks (words : ℕ → ℕ) (lanes zone count : ℕ) (taken : TakenChunks) : Type 0 where
+  pub reached : (other : ℕ) → list_any (reaches words lanes zone other) (range_with_len 0 count) ≡ nat_lt other taken.end
+  pub below : (chunk : ℕ) → chunk < count → (bit_at taken.bits chunk ≡ 1) ↔ (is_chunk_taken words lanes zone chunk ≡ true)
+  pub above : (chunk : ℕ) → count ≤ chunk → bit_at taken.bits chunk ≡ 0

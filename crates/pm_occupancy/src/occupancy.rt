@@ -1,22 +1,14 @@
 //! Each word from the pool's descriptors and bitmaps.
 
-ghost use Rattle.std.specs.Prelude.{◌≡◌, ◌≢◌, ℕ, ◌+◌, ◌*◌, ◌/◌, ◌<◌, ◌≤◌, ◌↔◌, ◌⊎◌, ◌==◌, ◌&&◌, ◌||◌, not, nat_le, nat_lt, true, false, length, slice_index, IfOk, IsTrue};
+ghost use Rattle.std.specs.Prelude.{◌≡◌, ℕ, ◌+◌, ◌*◌, ◌<◌, ◌≤◌, ◌↔◌, true, false, length, slice_index, IfOk};
 ghost use Rattle.std.specs.Int.{bit_at};
-ghost use Rattle.pm_layout.specs.Sizes.{blocks_of};
-ghost use Rattle.pm_view.specs.Blocks.{zone_page, descriptor_word, bitmap_word, is_run, is_huge, is_chunk};
+ghost use Rattle.pm_view.specs.Blocks.{zone_page, is_chunk};
 ghost use Rattle.pm_view.specs.Occupancy.{is_block_taken, is_chunk_taken, IsOccupancy};
 ghost use Rattle.pm_occupancy.specs.Words.{run_words_of, zone_words_of};
 
-use pm_layout::{CHUNKS_PER_ZONE, MAX_ZONES, Shape, blocks_of};
+use crate::taken::{TakenChunks, taken_blocks};
+use pm_layout::{CHUNKS_PER_ZONE, MAX_ZONES, Shape};
 use std::alloc::{AllocError, Global};
-
-/// The descriptor's low byte, for a run and for the first chunk of a block.
-const RUN: u64 = 1;
-
-const WHOLE: u64 = 2;
-
-/// What the rest of a descriptor counts in.
-const DESCRIPTOR_UNIT: u64 = 256;
 
 /// Words of a page, and so of a chunk.
 const PAGE_WORDS: u64 = 512;
@@ -76,19 +68,7 @@ fn page_word(words: &[u64], shape: Shape, page: u64) -> u64
         return 0;
     }
     let descriptor = words[(PAGE_WORDS * zone_page(shape, zone) + chunk - 1) as usize];
-    run_word(descriptor, words[(PAGE_WORDS * page) as usize])
-}
-
-/// The word of a chunk that has this descriptor and begins with this word: what is no block of a run counts as taken.
-fn run_word(descriptor: u64, bitmap: u64) -> u64
-    ensures { (block : ℕ) → block < 64 → (bit_at result block ≡ 1)
-        ↔ ((not (is_run descriptor) || nat_le (blocks_of (descriptor / 256)) block || bit_at bitmap block == 1) ≡ true) }
-{
-    if descriptor % DESCRIPTOR_UNIT == RUN {
-        bitmap | u64::MAX << blocks_of(descriptor / DESCRIPTOR_UNIT)
-    } else {
-        u64::MAX
-    }
+    taken_blocks(descriptor, words[(PAGE_WORDS * page) as usize])
 }
 
 /// A word for each of 32 zones.
@@ -117,7 +97,7 @@ fn zone_word(words: &[u64], shape: Shape, zone: u64) -> u64
     }
 }
 
-/// The word of a zone that the pool has: `end` is up to which chunk the huge blocks so far reach.
+/// The word of a zone that the pool has.
 fn chunks_word(words: &[u64], shape: Shape, zone: u64) -> u64
     requires length { length words.now ≡ 512 + 1024 * shape.lanes + 33280 * shape.zones }
     requires zone { zone < shape.zones }
@@ -125,44 +105,11 @@ fn chunks_word(words: &[u64], shape: Shape, zone: u64) -> u64
         → (bit_at result chunk ≡ 1) ↔ (is_chunk_taken (slice_index words.now) shape.lanes zone chunk ≡ true) }
 {
     let descriptors = PAGE_WORDS * zone_page(shape, zone);
-    let mut taken = 0;
-    let mut end = 0;
+    let mut taken = TakenChunks::none();
     for chunk in 0..CHUNKS_PER_ZONE {
-        let descriptor = words[(descriptors + chunk) as usize];
-        end = furthest_end(end, chunk, descriptor);
-        if is_taken(descriptor, chunk, end) {
-            taken = with_bit(taken, chunk);
-        }
+        taken = taken.with_next(chunk, words[(descriptors + chunk) as usize]);
     }
-    taken
-}
-
-/// Whether a chunk is a run, or one of a huge block, where these reach up to `end`.
-fn is_taken(descriptor: u64, chunk: u64, end: u64) -> bool
-    ensures { result ≡ (is_run descriptor || nat_lt chunk end) }
-{
-    descriptor % DESCRIPTOR_UNIT == RUN || chunk < end
-}
-
-/// Up to which chunk the huge blocks reach that begin at or before this one, where those before it reach up to `end`.
-fn furthest_end(end: u64, chunk: u64, descriptor: u64) -> u64
-    requires { chunk < 64 }
-    ensures { (other : ℕ) → nat_lt other result ≡ (nat_lt other end || (is_huge descriptor && nat_lt other (chunk + descriptor / 256))) }
-{
-    if descriptor % DESCRIPTOR_UNIT == WHOLE {
-        end.max(chunk + descriptor / DESCRIPTOR_UNIT)
-    } else {
-        end
-    }
-}
-
-/// The word with one bit more.
-fn with_bit(word: u64, bit: u64) -> u64
-    requires { bit < 64 }
-    ensures set { bit_at result bit ≡ 1 }
-    ensures others { (other : ℕ) → other ≢ bit → bit_at result other ≡ bit_at word other }
-{
-    word | 1 << bit
+    taken.bits
 }
 
 /// The page at which a zone begins, or, for the number of zones, that behind them.

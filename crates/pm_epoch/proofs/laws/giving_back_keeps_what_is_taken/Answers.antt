@@ -1,4 +1,4 @@
-use Rattle.pm_epoch.proofs.GivingBack.{giving_keeps}
+use Rattle.pm_reclaim.proofs.GivingBack.{giving_keeps}
 use Rattle.pm_epoch.proofs.laws.giving_back_keeps_what_is_taken.Goals as goal
 
 pub returns : goal.returns

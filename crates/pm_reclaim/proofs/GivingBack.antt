@@ -18,25 +18,25 @@ use Rattle.pm_world.specs.Opening.{IsChunk}
 use Rattle.pm_world.proofs.HeapWords.{no_run_taken}
 use Rattle.pm_world.proofs.Reserved.{occ_same, same_occ}
 use Rattle.pm_world.proofs.Vacated.{and_bit, and_bits, not_bit, not_both, vacated_after, vacated_before, vacated_gone}
-use Rattle.pm_epoch.specs.Epochs.{IsGiving, IsKept, KnowsTaken}
+use Rattle.pm_reclaim.specs.KnownTaken.{IsGiving, IsKept, KnowsTaken}
 
 -- ---- the picture
 
 -- the picture has a place for the word
-abbrev IsPictured : View → Occ → Type 0
+abbrev pub IsPictured : View → Occ → Type 0
 IsPictured v (Run place) = place / 4096 < length v.run_words
 IsPictured v (Zone zone) = zone < length v.zone_words
 
-is_pictured : (v : View) (at : Occ) → KnowsTaken v → HasOcc v at → IsPictured v at
+pub is_pictured : (v : View) (at : Occ) → KnowsTaken v → HasOcc v at → IsPictured v at
 is_pictured v (Run place) knows has = let low = has.of_pool.2 in let pages = knows.pages in omega (arith, low, pages)
 is_pictured v (Zone zone) knows has = let low : zone < 32 = has.inside in let count = knows.zone_count in omega (arith, low, count)
 
 -- the word has what is left, and each other what it had
-vacated_here : (v : View) (at : Occ) (bits : ℕ) → IsPictured v at → occ_in (after v (Vacate at bits)) at ≡ vacated_word bits (occ_in v at)
+pub vacated_here : (v : View) (at : Occ) (bits : ℕ) → IsPictured v at → occ_in (after v (Vacate at bits)) at ≡ vacated_word bits (occ_in v at)
 vacated_here v (Run place) bits low = get_or-set_same v.run_words (place / 4096) (vacated_word bits (slice_index v.run_words (place / 4096))) 0 low
 vacated_here v (Zone zone) bits low = get_or-set_same v.zone_words zone (vacated_word bits (slice_index v.zone_words zone)) 0 low
 
-vacated_else : (v : View) (at other : Occ) (bits lanes zones : ℕ) → IsOcc lanes zones at → IsOcc lanes zones other → other ≢ at → occ_in (after v (Vacate at bits)) other ≡ occ_in v other
+pub vacated_else : (v : View) (at other : Occ) (bits lanes zones : ℕ) → IsOcc lanes zones at → IsOcc lanes zones other → other ≢ at → occ_in (after v (Vacate at bits)) other ≡ occ_in v other
 vacated_else v (Run place) (Run second) bits lanes zones of of' apart =
     get_or-set_other v.run_words (place / 4096) (second / 4096) (vacated_word bits (slice_index v.run_words (place / 4096))) 0 (λ same. let one = of.0 in let two = of'.0 in apart (ap Run (omega (arith, same, one, two))))
 vacated_else v (Run place) (Zone second) bits lanes zones of of' apart = refl
@@ -44,7 +44,7 @@ vacated_else v (Zone place) (Run second) bits lanes zones of of' apart = refl
 vacated_else v (Zone place) (Zone second) bits lanes zones of of' apart = get_or-set_other v.zone_words place second (vacated_word bits (slice_index v.zone_words place)) 0 (λ same. apart (ap Zone same))
 
 -- two words are one, or are not
-one_or_two : (at other : Occ) → (at ≡ other) ⊎ (at ≢ other)
+pub one_or_two : (at other : Occ) → (at ≡ other) ⊎ (at ≢ other)
 one_or_two at other = ⊎_elim (λ (same : is_same_occ at other ≡ true). inl (occ_same at other same))
     (λ (apart : is_same_occ at other ≡ false). inr (λ same. false≢true (sym apart ∙ (ap (is_same_occ at) (sym same) ∙ same_occ at))))
     (cases_Bool (is_same_occ at other))

@@ -1,10 +1,10 @@
 use Rattle.std.proofs.Common.{rules, ◌≡◌, ⊎_elim, ℕ, ◌-◌, ◌*◌, ◌/◌, ◌%◌, ◌^◌, ◌<◌, ◌≤◌, ◌↔◌, ◌==◌, ◌||◌, Bool, not, nat_le, true, bit_or, sym, ap, ◌∙◌, arith, eq-eqb}
 use Rattle.std.specs.Int.{bit_at}
-use Rattle.std.proofs.lemmas.Bool.{cases_lt, eqb-true, false≢true, le-leb, leb-true, ne_eqb, not_from_false, not_from_true, or_cases, or_left, or_right}
+use Rattle.std.proofs.lemmas.Bool.{cases_lt, eqb-true, false≢true, le-leb, leb-true, not_from_false, not_from_true, or_cases, or_left, or_right}
 use Rattle.std.proofs.lemmas.Nat.Bits.{bit_at-lt, bit_at_mask_below, bit_at_mask_inside, bit_at_ones, bit_at_or, ones_shl}
 use Rattle.pm_layout.specs.Sizes.{blocks_of}
 use Rattle.pm_view.specs.Blocks.{is_run}
-use Rattle.pm_occupancy.proofs.occupancy.run_word.Goals as goal
+use Rattle.pm_occupancy.proofs.taken.taken_blocks.Goals as goal
 
 -- the ones from a bit on
 ones_inside : (k block : ℕ) → k ≤ 64 → k ≤ block → block < 64 → bit_at ((2 ^ 64 - 1) * 2 ^ k % 2 ^ 64) block ≡ 1
@@ -31,14 +31,14 @@ joined is_of bitmap k block so within low =
           (or_cases (not is_of || nat_le k block) (bit_at bitmap block == 1) e),
     )
 
-pub returns-then-descriptor-eq-RUN : goal.returns-then-descriptor-eq-RUN
-returns-then-descriptor-eq-RUN c = λ block low.
+pub returns-then-is_run : goal.returns-then-is_run
+returns-then-is_run c = λ block low.
     let few : c.blocks_of.result ≤ 64 = search rules in
-    rw (← c.blocks_of.ensures.value) (joined (is_run c.args.descriptor) c.args.bitmap c.blocks_of.result block (eq-eqb (c.args.descriptor % 256) 1 c.if-descriptor-eq-RUN.true) few low)
+    rw (← c.blocks_of.ensures.value) (joined (is_run c.args.descriptor) c.args.bitmap c.blocks_of.result block (sym c.is_run.ensures ∙ c.if-is_run.true) few low)
 
-pub returns-else-descriptor-eq-RUN : goal.returns-else-descriptor-eq-RUN
-returns-else-descriptor-eq-RUN c = λ block low.
+pub returns-else-is_run : goal.returns-else-is_run
+returns-else-is_run c = λ block low.
     let behind : Bool = nat_le (blocks_of (c.args.descriptor / 256)) block in
     let set : Bool = bit_at c.args.bitmap block == 1 in
-    let other : not (is_run c.args.descriptor) ≡ true = not_from_false (is_run c.args.descriptor) (ne_eqb (c.args.descriptor % 256) 1 c.if-descriptor-eq-RUN.false) in
+    let other : not (is_run c.args.descriptor) ≡ true = not_from_false (is_run c.args.descriptor) (sym c.is_run.ensures ∙ c.if-is_run.false) in
     (λ _. or_left (not (is_run c.args.descriptor) || behind) set (or_left (not (is_run c.args.descriptor)) behind other), λ _. bit_at_ones 64 block low)

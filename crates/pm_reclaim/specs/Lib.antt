@@ -1,0 +1,3 @@
+pub mod Reclaims
+pub mod Tests
+pub mod KnownTaken
