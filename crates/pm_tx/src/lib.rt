@@ -50,6 +50,7 @@ pub use pending::{cancel_at_work, set_at_work};
 pub use publishing::{a_log_may_be_published, publish_log};
 pub use publishing_actions::publish;
 pub use reading::{do_read, read};
+pub use refusing::{refuse, refuse_write};
 pub use stages::check_work;
 pub use starting::start;
 pub use taking_back::take_back;
