@@ -1,0 +1,150 @@
+-- What a lane has with its lists of a transaction stays so behind what tells nothing of the heap, and changes no word that describes a chunk, nor the root's.
+use Rattle.std.proofs.Common.{◌≡◌, inl, inr, ℕ, zero, suc, ◌+◌, ◌*◌, ◌<◌, Bool, true, false, cond, List, [], ◌∷◌, ◌++◌, map, Contains, slice_index, Option, refl, sym, ap, ◌∙◌, subst, arith}
+use Rattle.std.specs.List.{list_any}
+use Rattle.pm_image.specs.Blocks.{descriptor_word}
+use Rattle.pm_layout.specs.Sizes.{blocks_of}
+use Rattle.pm_made.specs.Made.{BlockLists, ListsBlocks}
+use Rattle.pm_model.specs.Bytes.{is_among}
+use Rattle.pm_model.specs.Transaction.{Lock as Locked, is_locked}
+use Rattle.pm_objects.specs.declared.calls.Operation.{Operation}
+use Rattle.pm_objects.specs.declared.history.Value.{Value}
+use Rattle.pm_view.specs.declared.occ.Occ.{Occ}
+use Rattle.pm_view.specs.declared.occ.Occ.TheVariants.{Zone}
+use Rattle.pm_view.specs.Blocks.{allocation_word, block_at, is_word}
+use Rattle.pm_view.specs.Founds.{IsAlone}
+use Rattle.pm_view.specs.Steps.Step.{Load}
+use Rattle.pm_view.specs.View.{Lock, View}
+use Rattle.pm_view.specs.Views.{after, has_bit, reserves, with_block}
+use Rattle.pm_world.specs.Opening.{Opening}
+use Rattle.pm_world.specs.declared.lane.Lane.{Lane}
+use Rattle.pm_crash.proofs.AloneMemory.{load_words}
+use Rattle.pm_crash.proofs.CallBlocks.{same_blocks}
+use Rattle.pm_crash.specs.CallBlocks.{CallBlocks, NewObject, TellsOfRoot, allocated_by, blocks_in, is_freed_in}
+use Rattle.pm_crash.specs.HeapChanges.{run_at}
+use Rattle.pm_crash.specs.NewObjects.{block_of_chunks, block_of_run}
+use Rattle.pm_crash.specs.OpenCall.{lock_of, locks_of}
+use Rattle.pm_crash.specs.Reserved.{IsBorneOut, IsReservedInChunks, IsReservedInRun}
+use Rattle.pm_tx.proofs.BorneOut.{HasSameHeads, borne_on, borne_still}
+use Rattle.pm_tx.specs.AtWork.{IsAtWork}
+use Rattle.pm_tx.specs.Learning.{Looks}
+use Rattle.pm_transaction.specs.AtWork.{IsAtWorkWith, LiesInReserved}
+
+-- all that it has but for being at work
+pub record Keeps (blocks : BlockLists) (v : View) : Type 0 where
+  pub lists : ListsBlocks blocks (blocks_in v)
+  pub alone : IsAlone v
+  pub borne_out : IsBorneOut v
+  pub freed_held : (off : ℕ) → is_freed_in v off ≡ true → is_locked (locks_of v) off true ≡ true
+  pub within : (n : NewObject) → Contains (blocks_in v).made n → LiesInReserved v n
+
+pub kept_of : {M : Type 0} (o : Opening) (at : M → View → Type 0) (lane : Lane M) (blocks : BlockLists) (v : View) → IsAtWorkWith o at lane blocks v → Keeps blocks v
+kept_of o at lane blocks v all = record { lists = all.lists; alone = all.alone; borne_out = all.borne_out; freed_held = all.freed_held; within = all.within }
+
+pub with_lists : {M : Type 0} (o : Opening) (at : M → View → Type 0) (lane : Lane M) (blocks : BlockLists) (v : View) → IsAtWork o at lane v → Keeps blocks v → IsAtWorkWith o at lane blocks v
+with_lists o at lane blocks v work keeps =
+    record { work = work; lists = keeps.lists; alone = keeps.alone; borne_out = keeps.borne_out; freed_held = keeps.freed_held; within = keeps.within }
+
+-- ---- what the lane reserved
+
+module _ (v w : View) (same : HasSameHeads v w) where
+  reserves_still : (at : Occ) (bit : ℕ) → reserves w at bit ≡ reserves v at bit
+  reserves_still at bit = ap (list_any (has_bit at bit)) same.reserved
+
+  in_run_still : (n : NewObject) (run : IsReservedInRun v n) → run.index < blocks_of run.lines → LiesInReserved w n
+  in_run_still n run inside =
+      let in_pool = run.in_pool in let zones = same.zones in
+      inl (
+        record {
+          chunk = run.chunk;
+          lines = run.lines;
+          index = run.index;
+          in_pool = omega (arith, in_pool, zones);
+          low = run.low;
+          described = ap (λ (m : ℕ). slice_index w.words (descriptor_word m run.chunk)) same.lanes ∙ (same.described run.chunk run.in_pool ∙ run.described);
+          reserved = reserves_still (run_at w.lanes run.chunk) run.index ∙ (ap (λ (m : ℕ). reserves v (run_at m run.chunk) run.index) same.lanes ∙ run.reserved);
+          is_block = run.is_block ∙ ap (λ (m : ℕ). block_of_run m run.chunk run.lines run.index) (sym same.lanes);
+        },
+        inside,
+      )
+
+  in_chunks_still : (n : NewObject) → IsReservedInChunks v n → IsReservedInChunks w n
+  in_chunks_still n has =
+      let in_pool = has.in_pool in let zones = same.zones in let fits = has.fits in
+      record {
+        zone = has.zone;
+        first = has.first;
+        count = has.count;
+        in_pool = omega (arith, in_pool, zones);
+        low = has.low;
+        fits = has.fits;
+        unused = λ j near.
+            let t = has.unused j near in
+            let inside : 64 * has.zone + (has.first + j) < 64 * v.zones = omega (arith, in_pool, fits, near) in
+            record {
+              reserved = reserves_still (Zone has.zone) (has.first + j) ∙ t.reserved;
+              undescribed = ap (λ (m : ℕ). slice_index w.words (descriptor_word m (64 * has.zone + (has.first + j)))) same.lanes ∙ (same.described (64 * has.zone + (has.first + j)) inside ∙ t.undescribed);
+            };
+        is_block = has.is_block ∙ ap (λ (m : ℕ). block_of_chunks m (64 * has.zone + has.first) has.count) (sym same.lanes);
+      }
+
+  pub lies_still : (n : NewObject) → LiesInReserved v n → LiesInReserved w n
+  lies_still n (inl run) = in_run_still n run.0 run.1
+  lies_still n (inr has) = inr (in_chunks_still n has)
+
+  module _ (blocks : BlockLists) (keeps : Keeps blocks v) (table : w.table ≡ v.table) (locks : locks_of w ≡ locks_of v) (same_lists : blocks_in w ≡ blocks_in v) where
+    lists_still : ListsBlocks blocks (blocks_in w)
+    lists_still = subst (ListsBlocks blocks) (sym same_lists) keeps.lists
+
+    held_still : (off : ℕ) → is_freed_in w off ≡ true → is_locked (locks_of w) off true ≡ true
+    held_still off freed = ap (λ (ls : List Locked). is_locked ls off true) locks ∙ keeps.freed_held off (ap (λ (b : CallBlocks). is_among b.freed off) (sym same_lists) ∙ freed)
+
+    within_still : (n : NewObject) → Contains (blocks_in w).made n → LiesInReserved w n
+    within_still n there = lies_still n (keeps.within n (subst (λ (b : CallBlocks). Contains b.made n) same_lists there))
+
+    -- behind an operation that tells nothing of the heap
+    pub keeps_told : (op : Operation) (reply : Option Value) → w.call ≡ v.call ++ record { operation = op; reply = reply } ∷ [] → allocated_by op reply ≡ [] → ((root : Option ℕ) → TellsOfRoot root op reply)
+        → Keeps blocks w
+    keeps_told op reply call none no_root = record {
+      lists = lists_still;
+      alone = table ∙ keeps.alone;
+      borne_out = borne_on v w same op reply call none no_root keeps.borne_out;
+      freed_held = held_still;
+      within = within_still;
+    }
+
+    -- and where nothing is told
+    pub keeps_quiet : w.call ≡ v.call → Keeps blocks w
+    keeps_quiet call = record {
+      lists = lists_still;
+      alone = table ∙ keeps.alone;
+      borne_out = borne_still v w same call keeps.borne_out;
+      freed_held = held_still;
+      within = within_still;
+    }
+
+-- ---- looks
+
+-- a load says of a lock which block begins there alone
+lock_same : (lanes : ℕ) (words : List ℕ) (word : ℕ) (l : Lock) (b : Bool) → is_word (allocation_word lanes words l.line) word ≡ b → lock_of (with_block lanes words word l) ≡ lock_of l
+lock_same lanes words word l true is = ap (λ (b : Bool). lock_of (cond b (record l { block = block_at lanes words l.line }) l)) is
+lock_same lanes words word l false is = ap (λ (b : Bool). lock_of (cond b (record l { block = block_at lanes words l.line }) l)) is
+
+locks_same : (lanes : ℕ) (words : List ℕ) (word : ℕ) (ls : List Lock) → map lock_of (map (with_block lanes words word) ls) ≡ map lock_of ls
+locks_same lanes words word [] = refl
+locks_same lanes words word (l ∷ ls) =
+    (λ j. lock_same lanes words word l (is_word (allocation_word lanes words l.line) word) refl j ∷ locks_same lanes words word ls j)
+
+look_heads : (m : View) (word x : ℕ) → x ≡ slice_index m.words word → HasSameHeads m (after m (Load word x))
+look_heads m word x found =
+    let words : (i : ℕ) → slice_index (after m (Load word x)).words i ≡ slice_index m.words i = λ i. ap (λ (ws : List ℕ). slice_index ws i) (load_words m word x found) in
+    record { lanes = refl; zones = refl; reserved = refl; described = λ c in_pool. words (descriptor_word m.lanes c); root = words 64 }
+
+pub looks_keep : (blocks : BlockLists) (n : ℕ) (v w : View) → Looks n v w → Keeps blocks v → Keeps blocks w
+unfolding Looks
+looks_keep blocks zero v w is keeps = subst (Keeps blocks) (sym is) keeps
+looks_keep blocks (suc n) v w t keeps =
+    let m : View = t.0 in
+    let before : Keeps blocks m = looks_keep blocks n v m t.3 keeps in
+    let there : View = after m (Load t.1 t.2) in
+    subst (Keeps blocks) (sym t.6)
+    (keeps_quiet m there (look_heads m t.1 t.2 (t.5.1 before.alone)) blocks before refl (locks_same m.lanes there.words t.1 m.locks) (same_blocks m there refl) refl)
