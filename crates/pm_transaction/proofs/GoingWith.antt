@@ -1,5 +1,5 @@
 -- What a lane has with its lists of a transaction stays so behind what tells nothing of the heap, and changes no word that describes a chunk, nor the root's.
-use Rattle.std.proofs.Common.{◌≡◌, inl, inr, ℕ, zero, suc, ◌+◌, ◌*◌, ◌<◌, Bool, true, false, cond, List, [], ◌∷◌, ◌++◌, map, Contains, slice_index, Option, refl, sym, ap, ◌∙◌, subst, arith}
+use Rattle.std.proofs.Common.{◌≡◌, inl, inr, ℕ, zero, suc, ◌+◌, ◌*◌, ◌<◌, ◌||◌, Bool, true, false, cond, List, [], ◌∷◌, ◌++◌, map, Contains, slice_index, Option, refl, sym, ap, ◌∙◌, subst, arith}
 use Rattle.std.specs.List.{list_any}
 use Rattle.pm_image.specs.Blocks.{descriptor_word}
 use Rattle.pm_layout.specs.Sizes.{blocks_of}
@@ -19,7 +19,7 @@ use Rattle.pm_world.specs.Opening.{Opening}
 use Rattle.pm_world.specs.declared.lane.Lane.{Lane}
 use Rattle.pm_crash.proofs.AloneMemory.{load_words}
 use Rattle.pm_crash.proofs.CallBlocks.{same_blocks}
-use Rattle.pm_crash.specs.CallBlocks.{CallBlocks, NewObject, TellsOfRoot, allocated_by, blocks_in, is_freed_in}
+use Rattle.pm_crash.specs.CallBlocks.{CallBlocks, IsOldIn, NewObject, TellsOfRoot, allocated_by, blocks_in, is_at, is_freed_in}
 use Rattle.pm_crash.specs.HeapChanges.{run_at}
 use Rattle.pm_crash.specs.NewObjects.{block_of_chunks, block_of_run}
 use Rattle.pm_crash.specs.OpenCall.{lock_of, locks_of}
@@ -120,6 +120,15 @@ module _ (v w : View) (same : HasSameHeads v w) where
       borne_out = borne_still v w same call keeps.borne_out;
       freed_held = held_still;
       within = within_still;
+    }
+
+-- what the call found it found still, where nothing is told
+pub old_still : (v w : View) → w.call ≡ v.call → (off : ℕ) → IsOldIn v off → IsOldIn w off
+old_still v w call off old =
+    let same : blocks_in w ≡ blocks_in v = same_blocks v w call in
+    record {
+      found = ap (λ (b : CallBlocks). list_any (is_at off) b.made || list_any (is_at off) b.dropped) same ∙ old.found;
+      kept = ap (λ (b : CallBlocks). is_among b.freed off) same ∙ old.kept;
     }
 
 -- ---- looks

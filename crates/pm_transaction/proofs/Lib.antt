@@ -5,3 +5,8 @@ pub mod NewReads
 pub mod NewAdds
 pub mod FilledBytes
 pub mod NewWrites
+pub mod SameReserved
+pub mod FoundGoing
+pub mod RangeOrigins
+pub mod RangeRefusals
+pub mod NewStops
