@@ -24,17 +24,17 @@ use Rattle.pm_crash.specs.CallBlocks.{NewObject, TellsOfRoot, allocated_by, allo
 use Rattle.pm_crash.specs.Reserved.{IsBorneOut, IsReservedFor, root_in}
 use Rattle.pm_lock.specs.Finding.{FindsObject}
 use Rattle.pm_made.specs.Made.{BlockLists, ListsBlocks}
-use Rattle.pm_made.specs.declared.objects.Freed.{Freed}
 use Rattle.pm_undo.proofs.Kept.{is_of}
 use Rattle.pm_undo.proofs.Learned.{learns_at_work, opening_learned}
 use Rattle.pm_undo.specs.Spans.{IsSpan}
 use Rattle.pm_undo.specs.Working.{HasLearned, IsPlain}
 use Rattle.pm_tx.proofs.AddsAtWork.{listed_is_known}
-use Rattle.pm_tx.proofs.BorneOut.{HasSameHeads, borne_still, looks_borne}
+use Rattle.pm_tx.proofs.BorneOut.{HasSameHeads, borne_still}
 use Rattle.pm_tx.proofs.GoingOn.{HasSameFields, goes_on, objects_kept}
 use Rattle.pm_tx.proofs.LearnsAtWork.{looks_once}
 use Rattle.pm_tx.specs.AtWork.{IsAtWork}
 use Rattle.pm_tx.specs.Learning.{Finds, Looks}
+use Rattle.pm_transaction.proofs.GoingWith.{Keeps, kept_of, looks_keep}
 use Rattle.pm_transaction.specs.AtWork.{HasLookedWith, IsAtWorkWith, IsHeldFreed}
 
 -- ---- the root's word is plain
@@ -85,7 +85,7 @@ module _ {M : Type 0} (o : Opening) (at : M → View → Type 0) (lane next : La
   looks_at_root blocks is finds seen =
       let inside = is.work.working.area.inside in
       let looks : Looks 1 v looked = looks_once v 64 x (omega (arith, inside)) finds in
-      let borne = looks_borne 1 v looked looks is.alone is.borne_out in
+      let keeps : Keeps lane.locks.items blocks looked = looks_keep lane.locks.items blocks 1 v looked looks (kept_of o at lane blocks v is) in
       let learned : HasLearned v 64 looked = learns_at_work v 64 x (root_is_plain v) finds.0 is.work.working in
       record {
         loads = 1;
@@ -93,16 +93,14 @@ module _ {M : Type 0} (o : Opening) (at : M → View → Type 0) (lane next : La
         looks = looks;
         works = record {
           work = look_at_root is.work finds.0 seen;
-          lists = subst (ListsBlocks blocks) (sym (same_blocks v looked learned.call.call)) is.lists;
-          alone = borne.0;
-          borne_out = borne.1;
-          freed_held = freed_still v looked learned.call.locks blocks.freed is.freed_held;
+          lists = keeps.lists;
+          alone = keeps.alone;
+          borne_out = keeps.borne_out;
+          freed_held = subst (λ ls. All (IsHeldFreed ls.items) blocks.freed) (sym fields.locks) is.freed_held;
+          within = keeps.within;
         };
         holds = ap (λ (ws : List ℕ). slice_index ws 64) (load_words v 64 x (finds.1 is.alone)) ∙ sym (finds.1 is.alone);
-      } where
-        freed_still : (v w : View) → w.locks ≡ v.locks → (freed : List Freed) → All (IsHeldFreed v) freed → All (IsHeldFreed w) freed
-        freed_still v w locks freed all =
-            All-weaker (IsHeldFreed v) (IsHeldFreed w) (λ f held. record { lock = held.lock; held = subst (λ (ls : List Lock). Contains ls held.lock) (sym locks) held.held; write = held.write; block = held.block; place = held.place }) freed all
+      }
 
 -- ---- what the lane has bears out an operation more that allocates nothing, where its reply agrees with the root
 

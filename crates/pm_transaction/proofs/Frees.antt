@@ -1,15 +1,16 @@
 -- A free of a lane at work: told, it leaves the lane at work; refused, it gives the call up.
-use Rattle.std.proofs.Common.{◌≡◌, ◌≢◌, ◌⊎◌, ⊎_elim, inl, inr, ℕ, ◌+◌, ◌<◌, ◌≤◌, Bool, true, false, cond, eqb, List, [], ◌∷◌, ◌++◌, slice_index, Some, None, refl, sym, ◌∙◌, ap, subst, arith}
+use Rattle.std.proofs.Common.{◌≡◌, ◌≢◌, ◌⊎◌, ⊎_elim, inl, inr, ℕ, ◌+◌, ◌<◌, ◌≤◌, Bool, true, false, not, cond, eqb, List, [], ◌∷◌, ◌++◌, Contains, slice_index, Some, None, refl, sym, ◌∙◌, ap, subst, arith}
 use Rattle.std.specs.List.{All, list_any}
 use Rattle.std.proofs.lemmas.Bool.{cases_Bool, cond-false, cond-true, eq-eqb, false≢true, ne_eqb, or_left, or_parts}
 use Rattle.std.proofs.lemmas.List.{append-nil}
-use Rattle.std.proofs.lemmas.List.Elements.{All-append, All-cons, All-nil, All-weaker}
+use Rattle.std.proofs.lemmas.List.Elements.{All-append, All-cons, All-nil}
 use Rattle.std.proofs.lemmas.Option.{same_Some}
 use Rattle.pm_crash.proofs.CallBlocks.{blocks_once_more}
 use Rattle.pm_crash.proofs.FreeOn.{found_free_goes_on, made_free_goes_on}
+use Rattle.pm_crash.proofs.OnceMade.{member_kept}
 use Rattle.pm_crash.proofs.PendingOn.{published_once_more}
 use Rattle.pm_crash.proofs.RefusedFree.{refused_free_aborts}
-use Rattle.pm_crash.specs.CallBlocks.{CallBlocks, blocks_in, is_at, is_made_in, with_freed}
+use Rattle.pm_crash.specs.CallBlocks.{CallBlocks, NewObject, blocks_in, is_at, is_made_in, with_freed}
 use Rattle.pm_crash.specs.OpenCall.{IsUnderWay}
 use Rattle.pm_crash.specs.Operations.{FreesFound, FreesMade, KeepsKnown, KeepsLog, Tells, entries_so_far}
 use Rattle.pm_crash.specs.Pending.{published_in}
@@ -42,7 +43,8 @@ use Rattle.pm_tx.specs.AtWork.{IsAtWork}
 use Rattle.pm_tx.specs.Ending.{GivesUpBy}
 use Rattle.pm_transaction.proofs.AtWork.{borne_told}
 use Rattle.pm_made.proofs.CallLists.{made_is}
-use Rattle.pm_transaction.proofs.Owned.{behind_owned, left_here, member_passes}
+use Rattle.pm_transaction.proofs.GoingWith.{lies_still}
+use Rattle.pm_transaction.proofs.Owned.{behind_owned, its_block, left_here, member_passes}
 use Rattle.pm_transaction.specs.AtWork.{IsAtWorkWith, IsHeldFreed, IsUnderLock}
 use Rattle.pm_transaction.specs.Freeing.{CanFree, HasFreed, IsFreeRefused, IsOwned, lines_of}
 use Rattle.pm_transaction.specs.declared.freeing.Owned.{Owned}
@@ -114,23 +116,29 @@ module _ {M : Type 0} (o : Opening) (at : M → View → Type 0) (lane : Lane M)
   heads_told : HasSameHeads v told
   heads_told = record { lanes = refl; zones = refl; reserved = refl; described = λ c in_pool. refl; root = refl }
 
+  -- what is made behind it was made before
+  made_before : (n : NewObject) → Contains (with_freed id.off (blocks_in v)).made n → Contains (blocks_in v).made n
+  made_before n there = ⊎_elim
+      (λ (own : list_any (is_at id.off) (blocks_in v).made ≡ true).
+      (member_kept (λ (n : NewObject). not (is_at id.off n)) (blocks_in v).made n (subst (λ (b : CallBlocks). Contains b.made n) (cond-true (list_any (is_at id.off) (blocks_in v).made) _ _ own) there)).0)
+      (λ (other : list_any (is_at id.off) (blocks_in v).made ≡ false). subst (λ (b : CallBlocks). Contains b.made n) (cond-false (list_any (is_at id.off) (blocks_in v).made) _ _ other) there)
+      (cases_Bool (list_any (is_at id.off) (blocks_in v).made))
+
   -- what is listed as freed is held
   module _ (x : Owned) (can : CanFree v id x) (now : BlockLists) where
     abbrev made_there : Bool
     made_there = list_any (begins_at id.off) blocks.made
 
-    listed_held : (lines : ℕ) → (made_there ≡ false → IsHeldFreed v (record { off = id.off; lines = lines })) → now.freed ≡ cond made_there blocks.freed (blocks.freed ++ record { off = id.off; lines = lines } ∷ []) → All (IsHeldFreed told) now.freed
-    listed_held lines held are =
-        let still : (freed : List Freed) → All (IsHeldFreed v) freed → All (IsHeldFreed told) freed =
-        λ freed all. All-weaker (IsHeldFreed v) (IsHeldFreed told) (λ f h. record { lock = h.lock; held = h.held; write = h.write; block = h.block; place = h.place }) freed all in
-        ⊎_elim
-        (λ (there : made_there ≡ true). subst (All (IsHeldFreed told)) (sym (are ∙ cond-true made_there _ _ there)) (still blocks.freed is.freed_held))
+    listed_held : (lines : ℕ) → (made_there ≡ false → IsHeldFreed lane.locks.items (record { off = id.off; lines = lines })) → now.freed ≡ cond made_there blocks.freed (blocks.freed ++ record { off = id.off; lines = lines } ∷ [])
+        → All (IsHeldFreed lane.locks.items) now.freed
+    listed_held lines held are = ⊎_elim
+        (λ (there : made_there ≡ true). subst (All (IsHeldFreed lane.locks.items)) (sym (are ∙ cond-true made_there _ _ there)) is.freed_held)
         (λ (none : made_there ≡ false).
-        subst (All (IsHeldFreed told)) (sym (are ∙ cond-false made_there _ _ none))
-        (still _ (All-append (IsHeldFreed v) blocks.freed _ is.freed_held (All-cons (IsHeldFreed v) _ [] (held none) (All-nil (IsHeldFreed v))))))
+        subst (All (IsHeldFreed lane.locks.items)) (sym (are ∙ cond-false made_there _ _ none))
+        (All-append (IsHeldFreed lane.locks.items) blocks.freed _ is.freed_held (All-cons (IsHeldFreed lane.locks.items) _ [] (held none) (All-nil (IsHeldFreed lane.locks.items)))))
         (cases_Bool made_there)
 
-    pub has_freed : (next : Lane M) → HasSameFields lane next → next.records ≡ lane.records → at next.memory told → (lines : ℕ) → (made_there ≡ false → IsHeldFreed v (record { off = id.off; lines = lines }))
+    pub has_freed : (next : Lane M) → HasSameFields lane next → next.records ≡ lane.records → at next.memory told → (lines : ℕ) → (made_there ≡ false → IsHeldFreed lane.locks.items (record { off = id.off; lines = lines }))
         → ((call : CallBlocks) → ListsBlocks blocks call → ListsBlocks now (with_freed id.off call))
         → now.freed ≡ cond made_there blocks.freed (blocks.freed ++ record { off = id.off; lines = lines } ∷ []) → HasFreed o at next now v id
     has_freed next fields records seen lines held of_call are = record {
@@ -141,7 +149,8 @@ module _ {M : Type 0} (o : Opening) (at : M → View → Type 0) (lane : Lane M)
         lists = subst (ListsBlocks now) (sym (blocks_once_more v told (Free id) None refl)) (of_call (blocks_in v) is.lists);
         alone = is.alone;
         borne_out = borne_told v told heads_told (Free id) None refl refl (root_elsewhere (slice_index v.words) id.off can.not_root) is.borne_out;
-        freed_held = listed_held lines held are;
+        freed_held = subst (λ ls. All (IsHeldFreed ls.items) now.freed) (sym fields.locks) (listed_held lines held are);
+        within = λ n there. lies_still v told heads_told n (is.within n (made_before n (subst (λ (b : CallBlocks). Contains b.made n) (blocks_once_more v told (Free id) None refl) there)));
       };
       frees = frees_so x can;
     }
@@ -155,9 +164,10 @@ module _ {M : Type 0} (o : Opening) (at : M → View → Type 0) (lane : Lane M)
   pub found_not_made : (x : Owned) → CanFree v id x → list_any (begins_at id.off) blocks.made ≡ false → x ≢ owned.Made
   found_not_made x can none same = false≢true (sym none ∙ made_listed (subst (λ (y : Owned). IsOwned v id y) same can.own))
 
-  pub held_when_found : (x : Owned) (lines : ℕ) → lines ≡ lines_of x → CanFree v id x → list_any (begins_at id.off) blocks.made ≡ false → IsHeldFreed v (record { off = id.off; lines = lines })
+  pub held_when_found : (x : Owned) (lines : ℕ) → lines ≡ lines_of x → CanFree v id x → list_any (begins_at id.off) blocks.made ≡ false → IsHeldFreed lane.locks.items (record { off = id.off; lines = lines })
   held_when_found owned.Made lines same can none = absurd (false≢true (sym none ∙ made_listed can.own))
-  held_when_found (owned.Found its) lines same can none = subst (λ (n : ℕ). IsUnderLock v id.off n) (sym same) can.own.1
+  held_when_found (owned.Found its) lines same can none =
+      its_block o at lane blocks v is id.off lines (subst (λ (n : ℕ). IsUnderLock v id.off n) (sym same) can.own.1)
 
   -- why the free is refused: the object is the root, or the log has no room
   pub refused_as_root : (x : Owned) → IsOwned v id x → slice_index v.words 64 ≡ id.off → IsFreeRefused v id refusal.RootKept

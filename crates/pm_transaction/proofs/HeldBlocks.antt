@@ -13,7 +13,8 @@ use Rattle.pm_world.specs.declared.lane.HeldLock.{HeldLock}
 use Rattle.pm_tx.proofs.HeldLocks.{line_locked}
 use Rattle.pm_tx.specs.Ranges.{is_lock_of}
 use Rattle.pm_transaction.proofs.Owned.{find_none, find_some}
-use Rattle.pm_transaction.specs.Freeing.{HasBlock, writes_line}
+use Rattle.pm_transaction.specs.AtWork.{HasBlock}
+use Rattle.pm_transaction.specs.Freeing.{writes_line}
 
 module _ (locks : List HeldLock) (off : ℕ) (high : 64 ≤ off) (even : off % 64 ≡ 0) where
   abbrev line : ℕ

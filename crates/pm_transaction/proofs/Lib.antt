@@ -1,3 +1,15 @@
+pub mod NewWords
+pub mod GoingWith
+pub mod NewRangeWords
+pub mod NewReads
+pub mod NewAdds
+pub mod FilledBytes
+pub mod NewWrites
+pub mod SameReserved
+pub mod FoundGoing
+pub mod RangeOrigins
+pub mod RangeRefusals
+pub mod NewStops
 pub mod HeldBlocks
 pub mod AtWork
 pub mod Owned

@@ -6,7 +6,7 @@ use Rattle.std.proofs.lemmas.Bool.{and_from, cases_Bool, cond-false, cond-true, 
 use Rattle.std.proofs.lemmas.List.Elements.{All-contains, All-contains_itself, All-weaker}
 use Rattle.std.proofs.lemmas.Option.{same_Some}
 use Rattle.std.proofs.lemmas.List.Folds.{Any-from_list_any, list_any_at}
-use Rattle.pm_image.proofs.Members.{first_member, later_member}
+use Rattle.pm_image.proofs.Members.{first_member, later_member, member_made}
 use Rattle.pm_crash.proofs.CallBlocks.{any_map}
 use Rattle.pm_crash.proofs.Includes.{made_member}
 use Rattle.pm_crash.specs.CallBlocks.{IsOldIn, NewObject, blocks_in, is_at, is_freed_in, is_gone_in, is_new_in}
@@ -28,8 +28,8 @@ use Rattle.pm_world.specs.Lanes.{lock_of as view_lock}
 use Rattle.pm_world.specs.Opening.{Opening}
 use Rattle.pm_world.specs.declared.lane.HeldLock.{HeldLock}
 use Rattle.pm_world.specs.declared.lane.Lane.{Lane}
-use Rattle.pm_transaction.specs.AtWork.{IsAtWorkWith, IsHeldFreed, IsUnderLock}
-use Rattle.pm_transaction.specs.Freeing.{HasBlock, IsOwned}
+use Rattle.pm_transaction.specs.AtWork.{HasBlock, IsAtWorkWith, IsHeldFreed, IsUnderLock}
+use Rattle.pm_transaction.specs.Freeing.{IsOwned}
 use Rattle.pm_transaction.specs.declared.freeing.Owned.{Owned}
 use Rattle.pm_transaction.specs.declared.freeing.Owned.TheVariants as owned
 
@@ -109,11 +109,27 @@ module _ {M : Type 0} (o : Opening) (at : M → View → Type 0) (lane : Lane M)
   made_by id of_pool None some same = absurd cc
   made_by id of_pool (Some m) some same = made_here id of_pool (new_of m) (sym same)
 
-  freed_had : (off : ℕ) → is_freed_in v off ≡ true → has_at v off true ≡ true
-  freed_had off freed =
+  -- what it freed it holds for writing
+  pub freed_locked : (off : ℕ) → is_freed_in v off ≡ true → is_locked (locks_of v) off true ≡ true
+  freed_locked off freed =
       let t = Any-from_list_any (λ (f : Freed). eqb f.off off) blocks.freed (freed_is blocks (blocks_in v) off is.lists ∙ freed) in
-      let held : IsHeldFreed v t.1 = All-contains (IsHeldFreed v) blocks.freed t.1 is.freed_held (t.0, t.2, t.3) in
-      or_right (is_new_in v off) (is_locked (locks_of v) off true) (subst (λ k. is_locked (locks_of v) k true ≡ true) (eqb-true t.1.off off t.4) (under_lock_locked v t.1.off t.1.lines held))
+      let held : IsHeldFreed lane.locks.items t.1 = All-contains (IsHeldFreed lane.locks.items) blocks.freed t.1 is.freed_held (t.0, t.2, t.3) in
+      subst (λ k. is_locked (locks_of v) k true ≡ true) (eqb-true t.1.off off t.4) (under_lock_locked v t.1.off t.1.lines (under_its_lock t.1.off t.1.lines held))
+
+  freed_had : (off : ℕ) → is_freed_in v off ≡ true → has_at v off true ≡ true
+  freed_had off freed = or_right (is_new_in v off) (is_locked (locks_of v) off true) (freed_locked off freed)
+
+  -- and a lock of its view is of its list
+  pub its_block : (off lines : ℕ) → IsUnderLock v off lines → HasBlock lane.locks.items off lines
+  its_block off lines under =
+      let t = member_made view_lock lane.locks.items under.lock (subst (λ (ls : List Lock). Contains ls under.lock) (sym is.work.seen.locks) under.held) in
+      record {
+        lock = t.0;
+        held = t.1.0;
+        write = ap (λ (l : Lock). l.write) t.1.1 ∙ under.write;
+        block = ap (λ (l : Lock). l.block) t.1.1 ∙ under.block;
+        place = under.place ∙ ap (λ (l : Lock). 64 * l.line + 64) (sym t.1.1);
+      }
 
   pub gone_here : (id : Oid) → id.pool ≡ v.pool → is_gone_in v id.off ≡ true → IsGone v id true
   gone_here id of_pool gone = record {

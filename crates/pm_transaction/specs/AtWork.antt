@@ -1,7 +1,8 @@
--- How a lane stands between two operations of a transaction that may make and free objects: what its lists say, and what bears out what it told.
-use Rattle.std.specs.Prelude.{◌≡◌, ℕ, ◌+◌, ◌*◌, true, All, Contains, Some}
-use Rattle.pm_crash.specs.CallBlocks.{blocks_in}
-use Rattle.pm_crash.specs.Reserved.{IsBorneOut}
+-- How a lane stands between two operations of a transaction that may make and free objects: docs/MODEL.md, "Transactions that make objects".
+use Rattle.std.specs.Prelude.{◌≡◌, ◌⊎◌, ℕ, ◌+◌, ◌*◌, ◌<◌, true, All, Contains, List, Some}
+use Rattle.pm_layout.specs.Sizes.{blocks_of}
+use Rattle.pm_crash.specs.CallBlocks.{NewObject, blocks_in}
+use Rattle.pm_crash.specs.Reserved.{IsBorneOut, IsReservedInChunks, IsReservedInRun}
 use Rattle.pm_made.specs.Made.{BlockLists, ListsBlocks}
 use Rattle.pm_made.specs.declared.objects.Freed.{Freed}
 use Rattle.pm_tx.specs.AtWork.{IsAtWork}
@@ -9,6 +10,7 @@ use Rattle.pm_tx.specs.Learning.{Looks}
 use Rattle.pm_view.specs.Founds.{IsAlone}
 use Rattle.pm_view.specs.View.{Lock, View}
 use Rattle.pm_world.specs.Opening.{Opening}
+use Rattle.pm_world.specs.declared.lane.HeldLock.{HeldLock}
 use Rattle.pm_world.specs.declared.lane.Lane.{Lane}
 
 -- the object lies under a lock that the lane holds for writing, and its block has so many lines
@@ -19,18 +21,36 @@ pub record IsUnderLock (v : View) (off lines : ℕ) : Type 0 where
   pub block : lock.block ≡ Some lines
   pub place : off ≡ 64 * lock.line + 64
 
--- an object that the lane lists as freed does
-abbrev pub IsHeldFreed : View → Freed → Type 0
-IsHeldFreed v f = IsUnderLock v f.off f.lines
+-- one of the locks is for writing, of the line before the offset, and under it was found a block of so many lines
+pub record HasBlock (locks : List HeldLock) (off lines : ℕ) : Type 0 where
+  pub lock : HeldLock
+  pub held : Contains locks lock
+  pub write : lock.write ≡ true
+  pub block : lock.block ≡ Some lines
+  pub place : off ≡ 64 * lock.line + 64
 
--- The lane has a transaction at work, and these lists of what that made and freed; it is alone, and what it has bears out what the call told of the heap. What it
--- found and freed it holds for writing still.
+-- the locks hold an object that is listed as freed
+abbrev pub IsHeldFreed : List HeldLock → Freed → Type 0
+IsHeldFreed locks f = HasBlock locks f.off f.lines
+
+-- the object's block lies whole in what the lane reserved: it is one of a run's blocks, or whole chunks
+abbrev pub LiesInReserved : View → NewObject → Type 0
+LiesInReserved v n = ((run : IsReservedInRun v n) × (run.index < blocks_of run.lines)) ⊎ IsReservedInChunks v n
+
+-- The lane has a transaction at work, and these lists of what that made and freed; it is alone, and what it has bears out what the call told of the heap.
 pub record IsAtWorkWith {M : Type 0} (o : Opening) (at : M → View → Type 0) (lane : Lane M) (blocks : BlockLists) (v : View) : Type 0 where
   pub work : IsAtWork o at lane v
   pub lists : ListsBlocks blocks (blocks_in v)
   pub alone : IsAlone v
   pub borne_out : IsBorneOut v
-  pub freed_held : All (IsHeldFreed v) blocks.freed
+  -- what it found and freed it holds for writing still
+  pub freed_held : All (IsHeldFreed lane.locks.items) blocks.freed
+  -- the block of what it made lies whole in what it reserved, which bearing out does not ask: so it may store the block's words
+  pub within : (n : NewObject) → Contains (blocks_in v).made n → LiesInReserved v n
+
+-- the lane is, whatever it was opened with, as some view
+abbrev pub IsLaneAtWorkWith : {M : Type 0} → (M → View → Type 0) → Lane M → BlockLists → Type 0
+IsLaneAtWorkWith at lane blocks = (o : Opening) × ((v : View) × IsAtWorkWith o at lane blocks v)
 
 -- from the view before, the lane looked at some words at most, is at work still with these lists, and this holds of its view
 pub record HasLookedWith {M : Type 0} (o : Opening) (at : M → View → Type 0) (lane : Lane M) (blocks : BlockLists) (v : View) (Q : View → Type 0) : Type 0 where

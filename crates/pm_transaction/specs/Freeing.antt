@@ -28,14 +28,6 @@ use Rattle.pm_transaction.specs.declared.freeing.Owned.TheVariants as owned
 abbrev pub writes_line : ℕ → HeldLock → Bool
 writes_line line l = l.line == line && l.write
 
--- one of the locks is for writing, of the line before the offset, and under it was found a block of so many lines
-pub record HasBlock (locks : List HeldLock) (off lines : ℕ) : Type 0 where
-  pub lock : HeldLock
-  pub held : Contains locks lock
-  pub write : lock.write ≡ true
-  pub block : lock.block ≡ Some lines
-  pub place : off ≡ 64 * lock.line + 64
-
 -- the object is one that the call made, or one that it found and holds for writing, with a block of so many lines
 abbrev pub IsOwned : View → Oid → Owned → Type 0
 IsOwned v id owned.Made = IsMade v id

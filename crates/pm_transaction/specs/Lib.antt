@@ -1,2 +1,4 @@
 pub mod AtWork
+pub mod NewRanges
+pub mod AnyRanges
 pub mod Freeing

@@ -20,8 +20,8 @@ ghost use Rattle.pm_world.specs.Lanes.{lock_of as view_lock};
 ghost use Rattle.pm_world.specs.Opening.{Opening};
 ghost use Rattle.pm_world.specs.declared.lane.HeldLock.{HeldLock};
 ghost use Rattle.pm_world.specs.declared.lane.Stage.TheVariants as stage;
-ghost use Rattle.pm_transaction.specs.AtWork.{HasLookedWith, IsAtWorkWith};
-ghost use Rattle.pm_transaction.specs.Freeing.{CanFree, HasBlock, HasFreed, IsFreeGivenUp, IsFreeRefused, IsFreeStopped, IsOwned, lines_of, writes_line};
+ghost use Rattle.pm_transaction.specs.AtWork.{HasBlock, HasLookedWith, IsAtWorkWith};
+ghost use Rattle.pm_transaction.specs.Freeing.{CanFree, HasFreed, IsFreeGivenUp, IsFreeRefused, IsFreeStopped, IsOwned, lines_of, writes_line};
 ghost use Rattle.pm_transaction.specs.declared.freeing.Owned.{Owned};
 ghost use Rattle.pm_transaction.specs.declared.freeing.Owned.TheVariants as is;
 

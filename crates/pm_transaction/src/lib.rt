@@ -1,11 +1,18 @@
-//! The calls of a transaction on any object, found or made: pmemobj_tx_alloc(3), pmemobj_tx_free(3).
+//! The calls of a transaction on any object, found or made: pmemobj_tx_add_range(3), pmemobj_tx_free(3), and the writes and reads that are plain memory
+//! accesses there.
 //!
-//! Promises the calls of a lane that is alone, whose transaction may make and free objects (`free`): each makes exactly the stated memory calls,
-//! or the first of them up to the lane's stop, and what it makes of the call is the plain model's; a refusal is the model's reason, and gives the
-//! transaction up. It stands on `pm_tx` for the calls on objects that were found, on `pm_made` for the lists of those that were made and freed,
-//! and on `pm_crash` for what a call comes to; docs/MODEL.md, "Transactions that make objects".
+//! Promises the calls of a lane that is alone, over any lawful memory, whose transaction may make and free objects (`add_range`, `write`, `read`,
+//! `free`). What the transaction found is `pm_tx`'s; what it made needs no lock and no record. Each makes exactly the stated memory calls, and is
+//! the plain model's; a refusal is the model's reason and gives the transaction up. It stands on `pm_tx` for objects found, on `pm_made` for the
+//! lists of what was made and freed, and on `pm_crash` for what a call comes to; docs/MODEL.md, "Transactions that make objects".
 #![tactic(auto)]
 
 mod freeing;
+mod new_ranges;
+mod origins;
+mod ranges;
 
 pub use freeing::free;
+pub use new_ranges::{do_add_new, do_read_new, do_write_new};
+pub use origins::Origin;
+pub use ranges::{add_range, read, write};

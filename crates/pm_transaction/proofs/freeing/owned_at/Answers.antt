@@ -8,7 +8,7 @@ use Rattle.pm_model.specs.Transaction.{is_locked}
 use Rattle.pm_world.specs.Lanes.{lock_of as view_lock}
 use Rattle.pm_world.specs.declared.lane.HeldLock.{HeldLock}
 use Rattle.pm_transaction.proofs.Owned.{blocks_listed, gone_here, made_by, not_made, old_here, pool_seen, under_its_lock, unlocked_seen}
-use Rattle.pm_transaction.specs.Freeing.{HasBlock}
+use Rattle.pm_transaction.specs.AtWork.{HasBlock}
 use Rattle.pm_transaction.proofs.freeing.owned_at.Goals as goal
 
 pub returns-then-is_gone-clause-gone : goal.returns-then-is_gone-clause-gone

@@ -1,0 +1,144 @@
+-- What a lane has with its lists of a transaction stays so behind what tells nothing of the heap, and changes no word that describes a chunk, nor the root's.
+use Rattle.std.proofs.Common.{◌≡◌, inl, inr, ℕ, zero, suc, ◌+◌, ◌*◌, ◌<◌, ◌||◌, List, [], ◌∷◌, ◌++◌, Contains, slice_index, Option, refl, sym, ap, ◌∙◌, subst, arith}
+use Rattle.std.specs.List.{All, list_any}
+use Rattle.pm_image.specs.Blocks.{descriptor_word}
+use Rattle.pm_layout.specs.Sizes.{blocks_of}
+use Rattle.pm_made.specs.Made.{BlockLists, ListsBlocks}
+use Rattle.pm_model.specs.Bytes.{is_among}
+use Rattle.pm_objects.specs.declared.calls.Operation.{Operation}
+use Rattle.pm_objects.specs.declared.history.Value.{Value}
+use Rattle.pm_view.specs.declared.occ.Occ.{Occ}
+use Rattle.pm_view.specs.declared.occ.Occ.TheVariants.{Zone}
+use Rattle.pm_view.specs.Founds.{IsAlone}
+use Rattle.pm_view.specs.Steps.Step.{Load}
+use Rattle.pm_view.specs.View.{View}
+use Rattle.pm_view.specs.Views.{after, has_bit, reserves}
+use Rattle.pm_world.specs.Opening.{Opening}
+use Rattle.pm_world.specs.declared.lane.HeldLock.{HeldLock}
+use Rattle.pm_world.specs.declared.lane.Lane.{Lane}
+use Rattle.pm_crash.proofs.AloneMemory.{load_words}
+use Rattle.pm_crash.proofs.CallBlocks.{same_blocks}
+use Rattle.pm_crash.specs.CallBlocks.{CallBlocks, IsOldIn, NewObject, TellsOfRoot, allocated_by, blocks_in, is_at}
+use Rattle.pm_crash.specs.HeapChanges.{run_at}
+use Rattle.pm_crash.specs.NewObjects.{block_of_chunks, block_of_run}
+use Rattle.pm_crash.specs.Reserved.{IsBorneOut, IsReservedInChunks, IsReservedInRun}
+use Rattle.pm_tx.proofs.BorneOut.{HasSameHeads, borne_on, borne_still}
+use Rattle.pm_tx.specs.AtWork.{IsAtWork}
+use Rattle.pm_tx.specs.Learning.{Looks}
+use Rattle.pm_transaction.specs.AtWork.{IsAtWorkWith, IsHeldFreed, LiesInReserved}
+
+-- all that it has but for being at work
+pub record Keeps (locks : List HeldLock) (blocks : BlockLists) (v : View) : Type 0 where
+  pub lists : ListsBlocks blocks (blocks_in v)
+  pub alone : IsAlone v
+  pub borne_out : IsBorneOut v
+  pub freed_held : All (IsHeldFreed locks) blocks.freed
+  pub within : (n : NewObject) → Contains (blocks_in v).made n → LiesInReserved v n
+
+pub kept_of : {M : Type 0} (o : Opening) (at : M → View → Type 0) (lane : Lane M) (blocks : BlockLists) (v : View) → IsAtWorkWith o at lane blocks v → Keeps lane.locks.items blocks v
+kept_of o at lane blocks v all = record { lists = all.lists; alone = all.alone; borne_out = all.borne_out; freed_held = all.freed_held; within = all.within }
+
+pub with_lists : {M : Type 0} (o : Opening) (at : M → View → Type 0) (lane : Lane M) (blocks : BlockLists) (v : View) → IsAtWork o at lane v → Keeps lane.locks.items blocks v → IsAtWorkWith o at lane blocks v
+with_lists o at lane blocks v work keeps =
+    record { work = work; lists = keeps.lists; alone = keeps.alone; borne_out = keeps.borne_out; freed_held = keeps.freed_held; within = keeps.within }
+
+-- ---- what the lane reserved
+
+module _ (v w : View) (same : HasSameHeads v w) where
+  reserves_still : (at : Occ) (bit : ℕ) → reserves w at bit ≡ reserves v at bit
+  reserves_still at bit = ap (list_any (has_bit at bit)) same.reserved
+
+  in_run_still : (n : NewObject) (run : IsReservedInRun v n) → run.index < blocks_of run.lines → LiesInReserved w n
+  in_run_still n run inside =
+      let in_pool = run.in_pool in let zones = same.zones in
+      inl (
+        record {
+          chunk = run.chunk;
+          lines = run.lines;
+          index = run.index;
+          in_pool = omega (arith, in_pool, zones);
+          low = run.low;
+          described = ap (λ (m : ℕ). slice_index w.words (descriptor_word m run.chunk)) same.lanes ∙ (same.described run.chunk run.in_pool ∙ run.described);
+          reserved = reserves_still (run_at w.lanes run.chunk) run.index ∙ (ap (λ (m : ℕ). reserves v (run_at m run.chunk) run.index) same.lanes ∙ run.reserved);
+          is_block = run.is_block ∙ ap (λ (m : ℕ). block_of_run m run.chunk run.lines run.index) (sym same.lanes);
+        },
+        inside,
+      )
+
+  in_chunks_still : (n : NewObject) → IsReservedInChunks v n → IsReservedInChunks w n
+  in_chunks_still n has =
+      let in_pool = has.in_pool in let zones = same.zones in let fits = has.fits in
+      record {
+        zone = has.zone;
+        first = has.first;
+        count = has.count;
+        in_pool = omega (arith, in_pool, zones);
+        low = has.low;
+        fits = has.fits;
+        unused = λ j near.
+            let t = has.unused j near in
+            let inside : 64 * has.zone + (has.first + j) < 64 * v.zones = omega (arith, in_pool, fits, near) in
+            record {
+              reserved = reserves_still (Zone has.zone) (has.first + j) ∙ t.reserved;
+              undescribed = ap (λ (m : ℕ). slice_index w.words (descriptor_word m (64 * has.zone + (has.first + j)))) same.lanes ∙ (same.described (64 * has.zone + (has.first + j)) inside ∙ t.undescribed);
+            };
+        is_block = has.is_block ∙ ap (λ (m : ℕ). block_of_chunks m (64 * has.zone + has.first) has.count) (sym same.lanes);
+      }
+
+  pub lies_still : (n : NewObject) → LiesInReserved v n → LiesInReserved w n
+  lies_still n (inl run) = in_run_still n run.0 run.1
+  lies_still n (inr has) = inr (in_chunks_still n has)
+
+  module _ (locks : List HeldLock) (blocks : BlockLists) (keeps : Keeps locks blocks v) (table : w.table ≡ v.table) (same_lists : blocks_in w ≡ blocks_in v) where
+    lists_still : ListsBlocks blocks (blocks_in w)
+    lists_still = subst (ListsBlocks blocks) (sym same_lists) keeps.lists
+
+    within_still : (n : NewObject) → Contains (blocks_in w).made n → LiesInReserved w n
+    within_still n there = lies_still n (keeps.within n (subst (λ (b : CallBlocks). Contains b.made n) same_lists there))
+
+    -- behind an operation that tells nothing of the heap
+    pub keeps_told : (op : Operation) (reply : Option Value) → w.call ≡ v.call ++ record { operation = op; reply = reply } ∷ [] → allocated_by op reply ≡ [] → ((root : Option ℕ) → TellsOfRoot root op reply)
+        → Keeps locks blocks w
+    keeps_told op reply call none no_root = record {
+      lists = lists_still;
+      alone = table ∙ keeps.alone;
+      borne_out = borne_on v w same op reply call none no_root keeps.borne_out;
+      freed_held = keeps.freed_held;
+      within = within_still;
+    }
+
+    -- and where nothing is told
+    pub keeps_quiet : w.call ≡ v.call → Keeps locks blocks w
+    keeps_quiet call = record {
+      lists = lists_still;
+      alone = table ∙ keeps.alone;
+      borne_out = borne_still v w same call keeps.borne_out;
+      freed_held = keeps.freed_held;
+      within = within_still;
+    }
+
+-- what the call found it found still, where nothing is told
+pub old_still : (v w : View) → w.call ≡ v.call → (off : ℕ) → IsOldIn v off → IsOldIn w off
+old_still v w call off old =
+    let same : blocks_in w ≡ blocks_in v = same_blocks v w call in
+    record {
+      found = ap (λ (b : CallBlocks). list_any (is_at off) b.made || list_any (is_at off) b.dropped) same ∙ old.found;
+      kept = ap (λ (b : CallBlocks). is_among b.freed off) same ∙ old.kept;
+    }
+
+-- ---- looks
+
+look_heads : (m : View) (word x : ℕ) → x ≡ slice_index m.words word → HasSameHeads m (after m (Load word x))
+look_heads m word x found =
+    let words : (i : ℕ) → slice_index (after m (Load word x)).words i ≡ slice_index m.words i = λ i. ap (λ (ws : List ℕ). slice_index ws i) (load_words m word x found) in
+    record { lanes = refl; zones = refl; reserved = refl; described = λ c in_pool. words (descriptor_word m.lanes c); root = words 64 }
+
+pub looks_keep : (locks : List HeldLock) (blocks : BlockLists) (n : ℕ) (v w : View) → Looks n v w → Keeps locks blocks v → Keeps locks blocks w
+unfolding Looks
+looks_keep locks blocks zero v w is keeps = subst (Keeps locks blocks) (sym is) keeps
+looks_keep locks blocks (suc n) v w t keeps =
+    let m : View = t.0 in
+    let before : Keeps locks blocks m = looks_keep locks blocks n v m t.3 keeps in
+    let there : View = after m (Load t.1 t.2) in
+    subst (Keeps locks blocks) (sym t.6)
+    (keeps_quiet m there (look_heads m t.1 t.2 (t.5.1 before.alone)) locks blocks before refl (same_blocks m there refl) refl)
