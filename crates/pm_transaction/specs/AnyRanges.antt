@@ -1,4 +1,4 @@
--- Which object a range is of, why an operation on it is refused, and what the refusal leaves: docs/MODEL.md, "Ranges of any object".
+-- Which object a range is of, why an operation on it is refused, and what the refusal leaves: docs/MODEL.md, "Transactions that make objects".
 use Rattle.std.specs.Prelude.{◌≡◌, ◌≢◌, ◌⊎◌, ℕ, ◌+◌, ◌<◌, ◌≤◌, ◌||◌, true, false, Contains, List, Result, Ok, Err, None, Some}
 use Rattle.pm_crash.specs.CallBlocks.{CallBlocks as Call, IsOldIn, NewObject, is_at}
 use Rattle.pm_crash.specs.Operations.{IsGone, IsReason, PassesNewEnd}

@@ -1,5 +1,5 @@
 -- What a lane at work does with a range of an object that its transaction made, which needs no lock and no record, and what it leaves: docs/MODEL.md,
--- "Ranges of any object".
+-- "Transactions that make objects".
 use Rattle.std.specs.Prelude.{◌≡◌, ℕ, List, None}
 use Rattle.pm_crash.specs.Operations.{AddsNewRange, HasNewRange, ReadsNewBytes, WritesNewBytes, bytes_seen}
 use Rattle.pm_lock.specs.Leading.{DrawEnded}
