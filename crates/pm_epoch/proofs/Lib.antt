@@ -27,3 +27,4 @@ pub mod PublishedCalls
 pub mod CallPools
 pub mod ReplayedCalls
 pub mod LeftCalls
+pub mod ReclaimingLanes

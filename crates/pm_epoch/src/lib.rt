@@ -14,12 +14,12 @@ pub use laws::{
     a_filled_block_is_fresh, a_lane_alone_holds_its_pools, a_lane_alone_may_change_its_blocks,
     a_lane_alone_may_make_objects, a_lane_alone_publishes_a_pool, a_lane_at_rest_may_begin_again,
     a_lane_at_work_knows_what_is_taken, a_lane_holds_what_it_knows_behind_its_log,
-    a_lane_knows_what_is_taken_behind_its_log, a_lane_whose_call_has_ended_begins_again,
-    a_pool_may_precede_a_call_borne_out, a_published_call_has_ended, a_published_call_is_replayed,
-    a_published_pool_stands, a_publishing_lane_leaves_its_whole_calls,
-    a_reserved_block_overlaps_none, a_world_leads_to_what_is_published,
-    changes_of_own_bits_are_in_order, giving_back_keeps_what_is_taken,
-    publishing_keeps_what_a_lane_has,
+    a_lane_knows_what_is_taken_behind_its_log, a_lane_that_reclaimed_begins_again,
+    a_lane_whose_call_has_ended_begins_again, a_pool_may_precede_a_call_borne_out,
+    a_published_call_has_ended, a_published_call_is_replayed, a_published_pool_stands,
+    a_publishing_lane_leaves_its_whole_calls, a_reserved_block_overlaps_none,
+    a_world_leads_to_what_is_published, changes_of_own_bits_are_in_order,
+    giving_back_keeps_what_is_taken, publishing_keeps_what_a_lane_has,
 };
 
 #[cfg(test)]

@@ -17,6 +17,7 @@ fn laws(_rt: HostRuntime) {
     a_lane_at_work_knows_what_is_taken();
     a_lane_holds_what_it_knows_behind_its_log();
     a_lane_knows_what_is_taken_behind_its_log();
+    a_lane_that_reclaimed_begins_again();
     a_lane_whose_call_has_ended_begins_again();
     a_pool_may_precede_a_call_borne_out();
     a_published_call_has_ended();
