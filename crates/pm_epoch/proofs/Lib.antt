@@ -41,3 +41,4 @@ pub mod NewObjectViews
 pub mod StayingBorneOut
 pub mod MakingAlone
 pub mod NotTheRoot
+pub mod ReclaimingLanes

@@ -34,6 +34,7 @@ ghost use Rattle.pm_view.specs.View.{Lock, View};
 ghost use Rattle.pm_view.specs.Views.{is_made, changes_heap, after, occ_in, reserves};
 ghost use Rattle.pm_world.specs.Heap.{IsOcc};
 ghost use Rattle.pm_world.specs.History.{Entry};
+ghost use Rattle.pm_world.specs.Lanes.{IsOfShape};
 ghost use Rattle.pm_world.specs.Lawful.{Allowed};
 ghost use Rattle.pm_world.specs.Memory.{Memory, occ_at};
 ghost use Rattle.pm_world.specs.Memory.Location.{PoolWord};
@@ -55,6 +56,7 @@ ghost use Rattle.pm_fresh.specs.Filled.{IsFilled};
 ghost use Rattle.pm_fresh.specs.Making.{page_in};
 ghost use Rattle.pm_blocks.specs.NewRuns.{IsUnused};
 ghost use Rattle.pm_alloc.specs.NewObjects.{CanMakeObject, HasNewObject};
+ghost use Rattle.pm_reclaim.specs.Reclaims.{AreOfPool, HasNothingLeft, MayReclaim, Reclaims};
 ghost use Rattle.pm_sealed.specs.Sealed.{LeavesSealed, Publishes, has_nothing};
 ghost use Rattle.pm_reclaim.specs.KnownTaken.{IsGiving, KnowsTaken};
 ghost use Rattle.pm_epoch.specs.Allocating.{HasLockedFreed, HasSameDescriptors, IsCallAlone, IsCallAloneStill, LeavesObject, MakesObject, object_in_block, with_object_told};
@@ -280,6 +282,16 @@ pub fn a_lane_whose_call_has_ended_begins_again()
         → HasEnded o header pool (after v s) }
     ensures begins { (o : Opening) (header : Header) (pool : PoolView) (v : View) → HasEnded o header pool v → v.locks ≡ [] → v.zone_locks ≡ [] → v.freed ≡ []
         → BeginsAgain (standing o v) header pool v }
+{}
+
+/// A law: a lane whose call has ended, and that has no line locked, may reclaim what it has; behind that its call has ended still, and where all that it had
+/// freed was of the pool, it may begin again over its words as they stand. No code runs.
+pub fn a_lane_that_reclaimed_begins_again()
+    ensures may { (o : Opening) (header : Header) (pool : PoolView) (v : View) (shape : Shape) → HasEnded o header pool v → v.locks ≡ [] → IsOfShape v shape
+        → MayReclaim v shape }
+    ensures ended { (o : Opening) (header : Header) (pool : PoolView) (v w : View) → HasEnded o header pool v → v.locks ≡ [] → Reclaims v w → HasEnded o header pool w }
+    ensures begins { (o : Opening) (header : Header) (pool : PoolView) (v w : View) → HasEnded o header pool v → v.zone_locks ≡ [] → v.locks ≡ []
+        → AreOfPool v.lanes v.zones v.freed → Reclaims v w → HasNothingLeft w → BeginsAgain (standing o w) header pool w }
 {}
 
 /// A law: a call that a lane alone published has ended at its log's end. No code runs.

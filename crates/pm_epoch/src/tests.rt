@@ -19,6 +19,7 @@ fn laws(_rt: HostRuntime) {
     a_lane_at_work_knows_what_is_taken();
     a_lane_holds_what_it_knows_behind_its_log();
     a_lane_knows_what_is_taken_behind_its_log();
+    a_lane_that_reclaimed_begins_again();
     a_lane_that_works_alone_may_make_objects();
     a_lane_whose_call_has_ended_begins_again();
     a_made_object_is_not_the_root();

@@ -72,14 +72,18 @@ reclaims_seen v w s knows leads is same = record {
   freed = λ all. subst (AreOfPool v.lanes v.zones) (ap (λ (z : View). z.freed) (sym same)) all;
 }
 
+-- a load of a lane alone that has no line locked
+pub load_same : (v : View) (w found : ℕ) → found ≡ slice_index v.words w → v.locks ≡ [] → after v (Load w found) ≡ record v { known = (after v (Load w found)).known; seen = v.seen ++ Load w found ∷ [] }
+load_same v w found is free =
+    let u : View = after v (Load w found) in
+    let words : set v.words w found ≡ v.words = ap (set v.words w) is ∙ set-get_or v.words w 0 in
+    let locks : map (with_block v.lanes (set v.words w found) w) v.locks ≡ v.locks = ap (map (with_block v.lanes (set v.words w found) w)) free ∙ sym free in
+    ap (λ (ws : List ℕ). record u { words = ws }) words ∙ ap (λ (ls : List Lock). record u { words = v.words; locks = ls }) locks
+
 pub reclaims_load : (v : View) (w found : ℕ) → RestsAlone v → w < length v.words → FoundAlone v (Load w found) → Reclaims v (after v (Load w found))
 unfolding Leads
 reclaims_load v w found rests inside alone =
-    let u : View = after v (Load w found) in
-    let words : set v.words w found ≡ v.words = ap (set v.words w) (alone rests.alone) ∙ set-get_or v.words w 0 in
-    let locks : map (with_block v.lanes (set v.words w found) w) v.locks ≡ v.locks = ap (map (with_block v.lanes (set v.words w found) w)) rests.free ∙ sym rests.free in
-    reclaims_seen v u (Load w found) rests.taken (inside, alone, tt, refl) tt
-    (ap (λ (ws : List ℕ). record u { words = ws }) words ∙ ap (λ (ls : List Lock). record u { words = v.words; locks = ls }) locks)
+    reclaims_seen v (after v (Load w found)) (Load w found) rests.taken (inside, alone, tt, refl) tt (load_same v w found (alone rests.alone) rests.free)
 
 same_runs : (v : View) (at : Occ) → runs_with at (occ_in v at) v.run_words ≡ v.run_words
 same_runs v (Run place) = set-get_or v.run_words (place / 4096) 0
@@ -94,14 +98,17 @@ pub occ_looked : (v : View) (at : Occ) (found : ℕ) → found ≡ occ_in v at �
 occ_looked v (Run place) found is = ap (λ (ws : List ℕ). slice_index ws (place / 4096)) (ap (set v.run_words (place / 4096)) is ∙ set-get_or v.run_words (place / 4096) 0) ∙ sym is
 occ_looked v (Zone zone) found is = ap (λ (ws : List ℕ). slice_index ws zone) (ap (set v.zone_words zone) is ∙ set-get_or v.zone_words zone 0) ∙ sym is
 
+-- a look at an occupancy word of a lane alone
+pub look_same : (v : View) (at : Occ) (found : ℕ) → found ≡ occ_in v at → after v (Occupied at found) ≡ record v { seen = v.seen ++ Occupied at found ∷ [] }
+look_same v at found is =
+    let u : View = after v (Occupied at found) in
+    ap (λ (ws : List ℕ). record u { run_words = ws }) (ap (λ n. runs_with at n v.run_words) is ∙ same_runs v at)
+    ∙ ap (λ (ws : List ℕ). record u { run_words = v.run_words; zone_words = ws }) (ap (λ n. zones_with at n v.zone_words) is ∙ same_zones v at)
+
 pub reclaims_look : (v : View) (at : Occ) (found : ℕ) → RestsAlone v → HasOcc v at → FoundAlone v (Occupied at found) → Reclaims v (after v (Occupied at found))
 unfolding Leads
 reclaims_look v at found rests there alone =
-    let u : View = after v (Occupied at found) in
-    let is = alone rests.alone in
-    reclaims_seen v u (Occupied at found) rests.taken (there, alone, tt, refl) tt
-    (ap (λ (ws : List ℕ). record u { run_words = ws }) (ap (λ n. runs_with at n v.run_words) is ∙ same_runs v at)
-    ∙ ap (λ (ws : List ℕ). record u { run_words = v.run_words; zone_words = ws }) (ap (λ n. zones_with at n v.zone_words) is ∙ same_zones v at))
+    reclaims_seen v (after v (Occupied at found)) (Occupied at found) rests.taken (there, alone, tt, refl) tt (look_same v at found (alone rests.alone))
 
 -- ---- bits given back
 
