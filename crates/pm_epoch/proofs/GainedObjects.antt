@@ -214,8 +214,11 @@ module _ (o : Opening) (header : Header) (pool : PoolView) (start v : View) (ste
       (λ (from : 8 * line ≤ i). ⊎_elim (λ (to : i < 8 * (line + block.lines)). absurd (out from to)) (λ (high : 8 * (line + block.lines) ≤ i). inr high) (cases_lt i (8 * (line + block.lines))))
       (cases_lt i (8 * line)))
 
-  fits_v : LaneFits o (memory_of v) (settled o (s o header pool start v steps works shape can all at).log (s o header pool start v steps works shape can all at).decided) (Flies (s o header pool start v steps works shape can all at).log (s o header pool start v steps works shape can all at).decided 0) 0 v
-  fits_v = own_fits o header pool v (s o header pool start v steps works shape can all at)
+  at_v : StandsAlone o header pool v
+  at_v = stood o header pool start v steps works
+
+  fits_v : LaneFits o (memory_of v) (settled o at_v.log at_v.decided) (Flies at_v.log at_v.decided 0) 0 v
+  fits_v = own_fits o header pool v at_v
 
   -- what it knew is none of the block
   known_beside : (i : ℕ) → Contains v.known i → is_in_area v.lane i ≡ false → 8 * line ≤ i → i < 8 * (line + block.lines) → ⊥
@@ -223,7 +226,7 @@ module _ (o : Opening) (header : Header) (pool : PoolView) (start v : View) (ste
       (λ (core : (is_in_area v.lane i || list_any (is_under i) v.locks) ≡ true). ⊎_elim
       (λ (area : is_in_area v.lane i ≡ true). false≢true (sym out ∙ area))
       (λ (under : list_any (is_under i) v.locks ≡ true).
-      reserved_in_none o header pool x stands_x i (is.own i from to).0 (locked_in_block o header pool v (s o header pool start v steps works shape can all at) all i under))
+      reserved_in_none o header pool x stands_x i (is.own i from to).0 (locked_in_block o header pool v at_v all i under))
       (or_cases (is_in_area v.lane i) (list_any (is_under i) v.locks) core))
       (λ (own : is_reserved v i ≡ true). is.fresh i from to own)
       (or_cases (is_in_area v.lane i || list_any (is_under i) v.locks) (is_reserved v i) (fits_v.picture.held i known))
