@@ -17,13 +17,13 @@ use Rattle.pm_world.specs.Lanes.{span_of}
 use Rattle.pm_world.specs.Opening.{Opening}
 use Rattle.pm_world.specs.declared.lane.Lane.{Lane}
 use Rattle.pm_crash.proofs.AloneMemory.{load_words}
-use Rattle.pm_crash.proofs.CallBlocks.{allocated_once_more, same_blocks}
+use Rattle.pm_crash.proofs.CallBlocks.{allocated_once_more}
 use Rattle.pm_crash.proofs.PendingOn.{published_same}
 use Rattle.pm_crash.proofs.Staying.{goes_on_learning}
 use Rattle.pm_crash.specs.CallBlocks.{NewObject, TellsOfRoot, allocated_by, allocated_in}
 use Rattle.pm_crash.specs.Reserved.{IsBorneOut, IsReservedFor, root_in}
 use Rattle.pm_lock.specs.Finding.{FindsObject}
-use Rattle.pm_made.specs.Made.{BlockLists, ListsBlocks}
+use Rattle.pm_made.specs.Made.{BlockLists}
 use Rattle.pm_undo.proofs.Kept.{is_of}
 use Rattle.pm_undo.proofs.Learned.{learns_at_work, opening_learned}
 use Rattle.pm_undo.specs.Spans.{IsSpan}

@@ -1,5 +1,5 @@
 -- A free of a lane at work: told, it leaves the lane at work; refused, it gives the call up.
-use Rattle.std.proofs.Common.{◌≡◌, ◌≢◌, ◌⊎◌, ⊎_elim, inl, inr, ℕ, ◌+◌, ◌<◌, ◌≤◌, Bool, true, false, not, cond, eqb, List, [], ◌∷◌, ◌++◌, Contains, slice_index, Some, None, refl, sym, ◌∙◌, ap, subst, arith}
+use Rattle.std.proofs.Common.{◌≡◌, ◌≢◌, ◌⊎◌, ⊎_elim, inl, inr, ℕ, ◌+◌, ◌<◌, ◌≤◌, Bool, true, false, not, cond, eqb, [], ◌∷◌, ◌++◌, Contains, slice_index, Some, None, refl, sym, ◌∙◌, ap, subst, arith}
 use Rattle.std.specs.List.{All, list_any}
 use Rattle.std.proofs.lemmas.Bool.{cases_Bool, cond-false, cond-true, eq-eqb, false≢true, ne_eqb, or_left, or_parts}
 use Rattle.std.proofs.lemmas.List.{append-nil}
@@ -17,7 +17,6 @@ use Rattle.pm_crash.specs.Pending.{published_in}
 use Rattle.pm_crash.specs.Reserved.{root_in}
 use Rattle.pm_lock.specs.Leading.{DrawEnded}
 use Rattle.pm_made.specs.Made.{BlockLists, ListsBlocks, begins_at}
-use Rattle.pm_made.specs.declared.objects.Freed.{Freed}
 use Rattle.pm_model.specs.declared.stage.Stage.TheVariants as model_stage
 use Rattle.pm_objects.specs.declared.calls.Operation.TheVariants.{Free}
 use Rattle.pm_objects.specs.declared.history.TxErr.TheVariants as error

@@ -1,5 +1,5 @@
 -- A free of an object in a transaction (pmemobj_tx_free(3)): what it needs, and what it leaves, done, refused or stopped.
-use Rattle.std.specs.Prelude.{◌≡◌, ◌≢◌, ◌⊎◌, ◌==◌, ◌&&◌, Bool, ℕ, ◌+◌, ◌*◌, ◌≤◌, true, Contains, List, Some, None, slice_index}
+use Rattle.std.specs.Prelude.{◌≡◌, ◌≢◌, ◌⊎◌, ◌==◌, ◌&&◌, Bool, ℕ, ◌+◌, ◌≤◌, List, Some, None, slice_index}
 use Rattle.pm_crash.specs.CallBlocks.{IsOldIn, TellsOfRoot}
 use Rattle.pm_crash.specs.Operations.{FreesFound, FreesMade, IsFreeReason, IsMade, entries_so_far}
 use Rattle.pm_crash.specs.Reserved.{root_in}
