@@ -12,7 +12,6 @@ mod origins;
 mod ranges;
 
 pub use new_ranges::{do_add_new, do_read_new, do_write_new};
-pub use origins::Origin;
 pub use ranges::{add_range, read, write};
 
 #[cfg(test)]
