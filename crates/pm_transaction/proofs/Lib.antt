@@ -1,3 +1,4 @@
+pub mod Begun
 pub mod NewWords
 pub mod GoingWith
 pub mod NewRangeWords

@@ -1,4 +1,5 @@
 pub mod AtWork
 pub mod NewRanges
 pub mod AnyRanges
+pub mod Beginning
 pub mod Freeing

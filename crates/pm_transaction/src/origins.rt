@@ -11,7 +11,7 @@ use pm_objects::{Oid, Refusal};
 
 /// Where the object of a range comes from.
 #[derive(Clone, Copy, Debug, PartialEq, Eq, Drop)]
-pub enum Origin {
+pub(crate) enum Origin {
     /// The transaction found it.
     Found,
     /// The transaction made it.

@@ -1,7 +1,7 @@
 ghost use Rattle.std.specs.Prelude.{◌≡◌, false, IfOk};
 
 use super::*;
-use crate::origins::origin_of;
+use crate::origins::{Origin, origin_of};
 use arrayvec::ArrayVec;
 use pm_layout::Shape;
 use pm_made::{CallBlocks, Made};
