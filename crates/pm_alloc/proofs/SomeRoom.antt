@@ -30,7 +30,7 @@ module _ (at : View → Type 0) (v : View) where
   room_there (Chunks count) block room = room.0.searched.there
 
   -- the search is the same, whatever holds of the memory behind it
-  searched_then : (new : View → Type 0) (at : View → Type 0) (more : List Taken) (Q : View → Type 0) (searched : HasSearched at v more Q) → new searched.view → HasSearched new v more Q
+  pub searched_then : (new : View → Type 0) (at : View → Type 0) (more : List Taken) (Q : View → Type 0) (searched : HasSearched at v more Q) → new searched.view → HasSearched new v more Q
   searched_then new at more Q searched there = record {
     view = searched.view;
     steps = searched.steps;

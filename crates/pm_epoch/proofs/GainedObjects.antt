@@ -26,6 +26,7 @@ use Rattle.pm_view.specs.Area.{is_in_area}
 use Rattle.pm_view.specs.Blocks.{describes}
 use Rattle.pm_view.specs.Held.{is_known, is_reserved, is_under}
 use Rattle.pm_view.specs.Steps.{Step}
+use Rattle.pm_view.proofs.SameLane.{same_lane-then}
 use Rattle.pm_view.specs.View.{Taken, View}
 use Rattle.pm_view.specs.Views.{after_all, has_bit, reserves}
 use Rattle.pm_world.specs.Fits.{LaneFits}
@@ -60,7 +61,7 @@ use Rattle.pm_crash.proofs.Leading.{leads_then}
 use Rattle.pm_crash.proofs.OnTheWay.{works_up_to}
 use Rattle.pm_epoch.specs.Allocating.{MakesObject, object_in_block}
 use Rattle.pm_epoch.proofs.FilledBlocks.{filled_is_fresh}
-use Rattle.pm_epoch.proofs.GainedRooms.{Gains, WasFree, chunks_gain, chunks_held, run_gains, run_held}
+use Rattle.pm_epoch.proofs.GainedRooms.{Gains, IsOfItsRun, WasFree, chunks_gain, chunks_held, run_gains, run_held}
 use Rattle.pm_epoch.proofs.GainedRuns.{new_gains, new_held, run_steps_lead}
 use Rattle.pm_epoch.proofs.HeldApart.{AllFound, locked_in_block, reserved_in_none}
 use Rattle.pm_epoch.proofs.QuietSteps.{fills_lead, search_leads}
@@ -258,8 +259,8 @@ module _ (o : Opening) (header : Header) (pool : PoolView) (start v : View) (ste
   unused_then : (zone k : ℕ) → IsUnusedChunk v.lanes x zone k → IsUnusedChunk v.lanes u zone k
   unused_then zone k t = record { reserved = reserves_same (Zone zone) k ∙ t.reserved; undescribed = descriptor_same (64 * zone + k) ∙ t.undescribed }
 
-  own_then : (own : IsReservedFor x n) → WasFree v x n own → (now : IsReservedFor u n) × WasFree v u n now
-  own_then (inl run) free = (
+  own_then : (own : IsReservedFor x n) → WasFree v x n own → IsOfItsRun x n own → (now : IsReservedFor u n) × (WasFree v u n now × IsOfItsRun u n now)
+  own_then (inl run) free within = (
     inl (record {
       chunk = run.chunk;
       lines = run.lines;
@@ -270,9 +271,9 @@ module _ (o : Opening) (header : Header) (pool : PoolView) (start v : View) (ste
       reserved = reserves_same (run_at u.lanes run.chunk) run.index ∙ (ap (λ m. reserves x (run_at m run.chunk) run.index) lanes_u ∙ run.reserved);
       is_block = run.is_block ∙ ap (λ m. block_of_run m run.chunk run.lines run.index) (sym lanes_u);
     }),
-    free,
+    (free, within),
   )
-  own_then (inr has) free = (
+  own_then (inr has) free within = (
     inr (record {
       zone = has.zone;
       first = has.first;
@@ -283,11 +284,11 @@ module _ (o : Opening) (header : Header) (pool : PoolView) (start v : View) (ste
       unused = λ j near. subst (λ m. IsUnusedChunk m u has.zone (has.first + j)) (sym (lanes_u ∙ lanes_x)) (unused_then has.zone (has.first + j) (subst (λ m. IsUnusedChunk m x has.zone (has.first + j)) lanes_x (has.unused j near)));
       is_block = has.is_block ∙ ap (λ m. block_of_chunks m (64 * has.zone + has.first) has.count) (sym lanes_u);
     }),
-    free,
+    (free, within),
   )
 
-  owned : (now : IsReservedFor u n) × WasFree v u n now
-  owned = own_then gained.own gained.free
+  owned : (now : IsReservedFor u n) × (WasFree v u n now × IsOfItsRun u n now)
+  owned = own_then gained.own gained.free gained.within
 
   pub object_gained : Gains v u n
   object_gained = record {
@@ -301,13 +302,17 @@ module _ (o : Opening) (header : Header) (pool : PoolView) (start v : View) (ste
       locks = f.call.locks ∙ gained.still.locks;
       log = f.log ∙ gained.still.log;
       known = λ i there. f.call.remembers i (gained.still.known i there);
+      same_lane = same_lane-then v x u gained.still.same_lane f.call.lane;
+      number = f.call.number ∙ gained.still.number;
+      seen = λ s there. f.call.seen s (gained.still.seen s there);
     };
     keeps = record {
       runs = λ c lines index in_pool low described own. let t = gained.keeps.runs c lines index in_pool low described own in (descriptor_same c ∙ t.0, reserves_same (run_at v.lanes c) index ∙ t.1);
       chunks = λ zone k in_pool low t. unused_then zone k (gained.keeps.chunks zone k in_pool low t);
     };
     own = owned.0;
-    free = owned.1;
+    free = owned.1.0;
+    within = owned.1.1;
     words = λ i known out. beside i (known_beside i known out) ∙ gained.words i known out;
     root = beside 64 (λ from to. let behind = block_behind 64 from to in absurd (omega (arith, behind))) ∙ gained.root;
   }

@@ -9,7 +9,7 @@ use Rattle.std.proofs.lemmas.Nat.Bits.{bit_at-pow_same}
 use Rattle.pm_image.specs.declared.block.Block.{Block}
 use Rattle.pm_image.specs.Blocks.{chunk_word, descriptor_word}
 use Rattle.pm_image.proofs.Rooms.{run_fits}
-use Rattle.pm_layout.specs.Sizes.{block_place, descriptor_of}
+use Rattle.pm_layout.specs.Sizes.{block_place, blocks_of, descriptor_of}
 use Rattle.pm_layout.specs.declared.class.Class.TheVariants.{Chunks, Lines}
 use Rattle.pm_layout.specs.declared.shape.Shape.{Shape}
 use Rattle.pm_model.specs.Places.{CanHold}
@@ -17,6 +17,7 @@ use Rattle.pm_view.specs.declared.occ.Occ.TheVariants.{Zone}
 use Rattle.pm_view.specs.Area.{is_in_area}
 use Rattle.pm_view.specs.Blocks.{allocation_word, block_at, is_word}
 use Rattle.pm_view.specs.Blocks.{descriptor_word as lane_descriptor}
+use Rattle.pm_view.specs.Constants.{IsSameLane}
 use Rattle.pm_view.specs.Founds.{FoundAlone, IsAlone}
 use Rattle.pm_view.specs.Steps.{Step}
 use Rattle.pm_view.specs.Steps.Step.{Load, Store, Or, And, Flush, Drain, TakeWrite, TakeRead, Raise, Give, ZoneTry, ZoneGive, Occupied, Occupy, Vacate, Draw, NumberSeen, StopSeen, SetStop, Tell}
@@ -55,6 +56,9 @@ pub record IsCallStill (v x : View) : Type 0 where
   pub locks : x.locks ≡ v.locks
   pub log : x.log ≡ v.log
   pub known : (i : ℕ) → Contains v.known i → Contains x.known i
+  pub same_lane : IsSameLane v x
+  pub number : x.number ≡ v.number
+  pub seen : (s : Step) → Contains v.seen s → Contains x.seen s
 
 -- each block of a run and each chunk that it reserved it has still, described as it was
 pub record KeepsReserved (v x : View) : Type 0 where
@@ -67,12 +71,18 @@ abbrev pub WasFree : (v x : View) (n : NewObject) → IsReservedFor x n → Type
 WasFree v x n (inl run) = reserves v (run_at v.lanes run.chunk) run.index ≡ false
 WasFree v x n (inr has) = (j : ℕ) → j < has.count → reserves v (Zone has.zone) (has.first + j) ≡ false
 
+-- the object's block is one of those of its run
+abbrev pub IsOfItsRun : (x : View) (n : NewObject) → IsReservedFor x n → Type 0
+IsOfItsRun x n (inl run) = run.index < blocks_of run.lines
+IsOfItsRun x n (inr has) = Unit {0}
+
 -- the lane has reserved the object's block since, and no word that it knew changed, nor the root's
 pub record Gains (v x : View) (n : NewObject) : Type 0 where
   pub still : IsCallStill v x
   pub keeps : KeepsReserved v x
   pub own : IsReservedFor x n
   pub free : WasFree v x n own
+  pub within : IsOfItsRun x n own
   pub words : (i : ℕ) → Contains v.known i → is_in_area v.lane i ≡ false → slice_index x.words i ≡ slice_index v.words i
   pub root : slice_index x.words 64 ≡ slice_index v.words 64
 
@@ -152,6 +162,17 @@ module _ (v : View) (shape : Shape) (can : CanMakeObject v shape) (all : AllFoun
       locks = locks_kept v x searched.steps searched.searches can.run.alone can.run.locked all;
       log = ap (λ (z : View). z.log) searched.kept.same;
       known = searched.kept.known;
+      same_lane = record {
+        lanes = ap (λ (z : View). z.lanes) searched.kept.same;
+        zones = ap (λ (z : View). z.zones) searched.kept.same;
+        pool = ap (λ (z : View). z.pool) searched.kept.same;
+        lane = ap (λ (z : View). z.lane) searched.kept.same;
+        stop = ap (λ (z : View). z.stop) searched.kept.same;
+        table = ap (λ (z : View). z.table) searched.kept.same;
+        size = searched.kept.words;
+      };
+      number = ap (λ (z : View). z.number) searched.kept.same;
+      seen = searched.kept.remembers;
     }
 
     pub search_keeps : KeepsReserved v x
@@ -228,6 +249,7 @@ module _ (v : View) (shape : Shape) (can : CanMakeObject v shape) (all : AllFoun
         keeps = search_keeps _ _ got.searched;
         own = inl own_run;
         free = run_was_free;
+        within = least.free.in_run;
         words = λ i known out. same_word _ _ got.searched i;
         root = same_word _ _ got.searched 64;
       }
@@ -314,6 +336,7 @@ module _ (v : View) (shape : Shape) (can : CanMakeObject v shape) (all : AllFoun
         keeps = search_keeps _ _ got.searched;
         own = inr own_chunks;
         free = chunks_were_free;
+        within = tt;
         words = λ i known out. same_word _ _ got.searched i;
         root = same_word _ _ got.searched 64;
       }

@@ -20,9 +20,12 @@ use Rattle.pm_view.specs.Area.{is_in_area}
 use Rattle.pm_view.specs.Blocks.{bitmap_word, chunk_of, covers, page_told}
 use Rattle.pm_view.specs.Blocks.{descriptor_word as lane_descriptor}
 use Rattle.pm_view.specs.Held.{is_held, is_reserved, is_under}
+use Rattle.pm_view.specs.Constants.{IsSameLane}
+use Rattle.pm_view.specs.Steps.{Step}
 use Rattle.pm_view.specs.Steps.Step.{Vacate}
 use Rattle.pm_view.specs.View.{Taken, View}
 use Rattle.pm_view.specs.Views.{after, after_all, chunk_bit, has_bit, reserves, zone_at}
+use Rattle.pm_view.proofs.SameLane.{same_lane-then}
 use Rattle.pm_view.proofs.Sequences.{after_all-append}
 use Rattle.pm_world.specs.Fits.{LaneFits}
 use Rattle.pm_world.specs.History.{Flies, settled}
@@ -333,6 +336,17 @@ module _ (o : Opening) (header : Header) (pool : PoolView) (v : View) (s : Stand
         (or_cases (is_in_area v.lane i || list_any (is_under i) v.locks) (is_reserved v i) held))
         (cases_Bool (is_in_area v.lane i))
 
+    lane_made : IsSameLane w x
+    lane_made = record {
+      lanes = ap (λ (z : View). z.lanes) made.same;
+      zones = ap (λ (z : View). z.zones) made.same;
+      pool = ap (λ (z : View). z.pool) made.same;
+      lane = ap (λ (z : View). z.lane) made.same;
+      stop = ap (λ (z : View). z.stop) made.same;
+      table = ap (λ (z : View). z.table) made.same;
+      size = made.size;
+    }
+
     pub new_gains : (n : NewObject) → block_of n ≡ block → Gains v x n
     unfolding own_first
     new_gains n is = record {
@@ -346,6 +360,9 @@ module _ (o : Opening) (header : Header) (pool : PoolView) (v : View) (s : Stand
         locks = ap (λ (z : View). z.locks) made.same ∙ found.locks;
         log = ap (λ (z : View). z.log) made.same ∙ found.log;
         known = λ i there. made_remembers w w.lanes page lines i (found.known i there) (held_still i (held_before i there));
+        same_lane = same_lane-then v w x found.same_lane lane_made;
+        number = ap (λ (z : View). z.number) made.same ∙ found.number;
+        seen = λ s there. subst (λ (seen : List Step). Contains seen s) (sym (ap (λ (z : View). z.seen) made.same)) (found.seen s there);
       };
       keeps = record { runs = runs_still; chunks = chunks_still };
       own = inl (own_first n is);
@@ -353,6 +370,7 @@ module _ (o : Opening) (header : Header) (pool : PoolView) (v : View) (s : Stand
           let few = low in
           let at_page : run_at v.lanes c ≡ run_on (page_in v.lanes zone chunk) = ap Run (omega (arith, few)) in
           ap (λ at. reserves v at 0) at_page ∙ unused.no_block 0;
+      within = class;
       words = words_still;
       root = other_word 64 (λ same. let behind = chunk_here.0 in absurd (omega (arith, same, behind))) (λ same. absurd (omega (arith, same)));
     }

@@ -41,4 +41,5 @@ pub mod NewObjectViews
 pub mod StayingBorneOut
 pub mod MakingAlone
 pub mod NotTheRoot
+pub mod OpeningSeen
 pub mod ReclaimingLanes

@@ -94,6 +94,7 @@ module _ {M : Type 0} (o : Opening) (at : M → View → Type 0) (lane next : La
         works = record {
           work = look_at_root is.work finds.0 seen;
           lists = keeps.lists;
+          pages = keeps.pages;
           alone = keeps.alone;
           borne_out = keeps.borne_out;
           freed_held = subst (λ ls. All (IsHeldFreed ls.items) blocks.freed) (sym fields.locks) is.freed_held;

@@ -41,9 +41,10 @@ module _ {M : Type 0} (at : M → View → Type 0) (lane : Lane M) (blocks : Blo
       let same : blocks_in begun.view ≡ no_blocks = begun_none begun.view begun.call in
       record {
         begun = begun;
-        opens = λ o sound few finds. record {
+        opens = λ o sound few finds pages. record {
           work = begun.opens o sound few finds;
           lists = subst (ListsBlocks blocks) (sym same) none;
+          pages = pages;
           alone = begun.same.table ∙ alone;
           borne_out = begun_borne_out begun.view begun.call;
           freed_held = none_freed lane.locks.items blocks.freed none.freed;

@@ -1,5 +1,5 @@
 -- A free of a lane at work: told, it leaves the lane at work; refused, it gives the call up.
-use Rattle.std.proofs.Common.{◌≡◌, ◌≢◌, ◌⊎◌, ⊎_elim, inl, inr, ℕ, ◌+◌, ◌<◌, ◌≤◌, Bool, true, false, not, cond, eqb, [], ◌∷◌, ◌++◌, Contains, slice_index, Some, None, refl, sym, ◌∙◌, ap, subst, arith}
+use Rattle.std.proofs.Common.{◌≡◌, ◌≢◌, ◌⊎◌, ⊎_elim, inl, inr, ℕ, ◌+◌, ◌<◌, ◌≤◌, Bool, true, false, not, cond, eqb, [], ◌∷◌, ◌++◌, Contains, length, slice_index, Some, None, refl, sym, ◌∙◌, ap, subst, arith}
 use Rattle.std.specs.List.{All, list_any}
 use Rattle.std.proofs.lemmas.Bool.{cases_Bool, cond-false, cond-true, eq-eqb, false≢true, ne_eqb, or_left, or_parts}
 use Rattle.std.proofs.lemmas.List.{append-nil}
@@ -139,13 +139,14 @@ module _ {M : Type 0} (o : Opening) (at : M → View → Type 0) (lane : Lane M)
 
     pub has_freed : (next : Lane M) → HasSameFields lane next → next.records ≡ lane.records → at next.memory told → (lines : ℕ) → (made_there ≡ false → IsHeldFreed lane.locks.items (record { off = id.off; lines = lines }))
         → ((call : CallBlocks) → ListsBlocks blocks call → ListsBlocks now (with_freed id.off call))
-        → now.freed ≡ cond made_there blocks.freed (blocks.freed ++ record { off = id.off; lines = lines } ∷ []) → HasFreed o at next now v id
-    has_freed next fields records seen lines held of_call are = record {
+        → now.freed ≡ cond made_there blocks.freed (blocks.freed ++ record { off = id.off; lines = lines } ∷ []) → length now.dropped ≡ length blocks.dropped → HasFreed o at next now v id
+    has_freed next fields records seen lines held of_call are as_many = record {
       ready = tell_ready;
       draws = tell_draws;
       works = record {
         work = tell_at_work next fields records seen x can;
         lists = subst (ListsBlocks now) (sym (blocks_once_more v told (Free id) None refl)) (of_call (blocks_in v) is.lists);
+        pages = as_many ∙ is.pages;
         alone = is.alone;
         borne_out = borne_told v told heads_told (Free id) None refl refl (root_elsewhere (slice_index v.words) id.off can.not_root) is.borne_out;
         freed_held = subst (λ ls. All (IsHeldFreed ls.items) now.freed) (sym fields.locks) (listed_held lines held are);

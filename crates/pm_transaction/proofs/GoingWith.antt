@@ -25,22 +25,23 @@ use Rattle.pm_crash.specs.Reserved.{IsBorneOut, IsReservedInChunks, IsReservedIn
 use Rattle.pm_tx.proofs.BorneOut.{HasSameHeads, borne_on, borne_still}
 use Rattle.pm_tx.specs.AtWork.{IsAtWork}
 use Rattle.pm_tx.specs.Learning.{Looks}
-use Rattle.pm_transaction.specs.AtWork.{IsAtWorkWith, IsHeldFreed, LiesInReserved}
+use Rattle.pm_transaction.specs.AtWork.{AreForPool, IsAtWorkWith, IsHeldFreed, LiesInReserved}
 
 -- all that it has but for being at work
 pub record Keeps (locks : List HeldLock) (blocks : BlockLists) (v : View) : Type 0 where
   pub lists : ListsBlocks blocks (blocks_in v)
+  pub pages : AreForPool blocks v
   pub alone : IsAlone v
   pub borne_out : IsBorneOut v
   pub freed_held : All (IsHeldFreed locks) blocks.freed
   pub within : (n : NewObject) → Contains (blocks_in v).made n → LiesInReserved v n
 
 pub kept_of : {M : Type 0} (o : Opening) (at : M → View → Type 0) (lane : Lane M) (blocks : BlockLists) (v : View) → IsAtWorkWith o at lane blocks v → Keeps lane.locks.items blocks v
-kept_of o at lane blocks v all = record { lists = all.lists; alone = all.alone; borne_out = all.borne_out; freed_held = all.freed_held; within = all.within }
+kept_of o at lane blocks v all = record { lists = all.lists; pages = all.pages; alone = all.alone; borne_out = all.borne_out; freed_held = all.freed_held; within = all.within }
 
 pub with_lists : {M : Type 0} (o : Opening) (at : M → View → Type 0) (lane : Lane M) (blocks : BlockLists) (v : View) → IsAtWork o at lane v → Keeps lane.locks.items blocks v → IsAtWorkWith o at lane blocks v
 with_lists o at lane blocks v work keeps =
-    record { work = work; lists = keeps.lists; alone = keeps.alone; borne_out = keeps.borne_out; freed_held = keeps.freed_held; within = keeps.within }
+    record { work = work; lists = keeps.lists; pages = keeps.pages; alone = keeps.alone; borne_out = keeps.borne_out; freed_held = keeps.freed_held; within = keeps.within }
 
 -- ---- what the lane reserved
 
@@ -96,11 +97,15 @@ module _ (v w : View) (same : HasSameHeads v w) where
     within_still : (n : NewObject) → Contains (blocks_in w).made n → LiesInReserved w n
     within_still n there = lies_still n (keeps.within n (subst (λ (b : CallBlocks). Contains b.made n) same_lists there))
 
+    pages_still : AreForPool blocks w
+    pages_still = let pages = keeps.pages in let lanes = same.lanes in let zones = same.zones in omega (arith, pages, lanes, zones)
+
     -- behind an operation that tells nothing of the heap
     pub keeps_told : (op : Operation) (reply : Option Value) → w.call ≡ v.call ++ record { operation = op; reply = reply } ∷ [] → allocated_by op reply ≡ [] → ((root : Option ℕ) → TellsOfRoot root op reply)
         → Keeps locks blocks w
     keeps_told op reply call none no_root = record {
       lists = lists_still;
+      pages = pages_still;
       alone = table ∙ keeps.alone;
       borne_out = borne_on v w same op reply call none no_root keeps.borne_out;
       freed_held = keeps.freed_held;
@@ -111,6 +116,7 @@ module _ (v w : View) (same : HasSameHeads v w) where
     pub keeps_quiet : w.call ≡ v.call → Keeps locks blocks w
     keeps_quiet call = record {
       lists = lists_still;
+      pages = pages_still;
       alone = table ∙ keeps.alone;
       borne_out = borne_still v w same call keeps.borne_out;
       freed_held = keeps.freed_held;

@@ -15,3 +15,8 @@ pub mod HeldBlocks
 pub mod AtWork
 pub mod Owned
 pub mod Frees
+pub mod Allocates
+pub mod NewOffsets
+pub mod RefusedAllocs
+pub mod NoSpace
+pub mod Made

@@ -1,5 +1,5 @@
 -- How a lane stands between two operations of a transaction that may make and free objects: docs/MODEL.md, "Transactions that make objects".
-use Rattle.std.specs.Prelude.{◌≡◌, ◌⊎◌, ℕ, ◌+◌, ◌*◌, ◌<◌, true, All, Contains, List, Some}
+use Rattle.std.specs.Prelude.{◌≡◌, ◌⊎◌, ℕ, ◌+◌, ◌*◌, ◌<◌, true, All, Contains, List, Some, length}
 use Rattle.pm_layout.specs.Sizes.{blocks_of}
 use Rattle.pm_crash.specs.CallBlocks.{NewObject, blocks_in}
 use Rattle.pm_crash.specs.Reserved.{IsBorneOut, IsReservedInChunks, IsReservedInRun}
@@ -37,10 +37,15 @@ IsHeldFreed locks f = HasBlock locks f.off f.lines
 abbrev pub LiesInReserved : View → NewObject → Type 0
 LiesInReserved v n = ((run : IsReservedInRun v n) × (run.index < blocks_of run.lines)) ⊎ IsReservedInChunks v n
 
+-- the set of lines of what was dropped has a word for each page of the pool
+abbrev pub AreForPool : BlockLists → View → Type 0
+AreForPool blocks v = length blocks.dropped ≡ 1 + 2 * v.lanes + 65 * v.zones
+
 -- The lane has a transaction at work, and these lists of what that made and freed; it is alone, and what it has bears out what the call told of the heap.
 pub record IsAtWorkWith {M : Type 0} (o : Opening) (at : M → View → Type 0) (lane : Lane M) (blocks : BlockLists) (v : View) : Type 0 where
   pub work : IsAtWork o at lane v
   pub lists : ListsBlocks blocks (blocks_in v)
+  pub pages : AreForPool blocks v
   pub alone : IsAlone v
   pub borne_out : IsBorneOut v
   -- what it found and freed it holds for writing still

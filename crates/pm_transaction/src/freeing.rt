@@ -102,10 +102,11 @@ fn load_root<M: LawfulMem>(lane: &mut Lane<M>) -> u64
 }
 
 /// Whether the log has room for one entry more, and for the one that ends the generation.
-fn has_room<M: LawfulMem>(lane: &Lane<M>, blocks: &CallBlocks) -> bool
+pub(crate) fn has_room<M: LawfulMem>(lane: &Lane<M>, blocks: &CallBlocks) -> bool
     ensures yes { IsTrue result → (o : Opening) (v : View) → IsAtWorkWith o M.at lane.now blocks.now v → entries_so_far v + 2 ≤ max_entries }
     ensures no_ { result ≡ false → (o : Opening) (v : View) → IsAtWorkWith o M.at lane.now blocks.now v → max_entries < entries_so_far v + 2 }
     ensures few { IsTrue result → length blocks.now.freed < 63 }
+    ensures few_made { IsTrue result → length blocks.now.made < 63 }
 {
     let published = lane.entries.len() + 2;
     published <= MAX_ENTRIES && blocks.count() <= MAX_ENTRIES - published

@@ -75,11 +75,11 @@ fn fresh(alloc: Global) -> Result<Lane<SoloMem>, Fail>
     })
 }
 
-/// No range is for a lane with no transaction: nothing is read.
+/// No range is for a lane with no transaction, and no object: nothing is read, and nothing listed.
 #[test]
 fn no_transaction(rt: HostRuntime) -> Result<(), Fail> {
     let mut lane = fresh(rt.alloc())?;
-    let blocks = CallBlocks::new(rt.alloc(), Shape::new(1, 1)?)?;
+    let mut blocks = CallBlocks::new(rt.alloc(), Shape::new(1, 1)?)?;
     let mut into = [9; 3];
     assert_eq!(rt;
         read(&mut lane, &blocks, id(16512), 0, &mut into),
@@ -94,6 +94,8 @@ fn no_transaction(rt: HostRuntime) -> Result<(), Fail> {
         write(&mut lane, &blocks, id(16512), 0, &[1, 2]),
         Err(Refusal::NoTx)
     );
+    assert_eq!(rt; alloc(&mut lane, &mut blocks, 64, 1), Err(Refusal::NoTx));
+    assert_eq!(rt; blocks.count(), 0);
     assert_eq!(rt; lane.level, 0);
     Ok(())
 }

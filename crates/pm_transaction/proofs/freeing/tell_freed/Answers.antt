@@ -20,4 +20,4 @@ returns-clause-done g c o v is can =
     has_freed o g.M.LaneMem.at c.args.lane.now c.args.blocks.now v is c.args.id c.args.owned can c.free.new.self _
     (record { pool = refl; shape = refl; locks = refl; entries = refl; level = refl; stage = refl; error = refl; drawn = refl; last = refl; stopped = refl }) refl
     (c.tell.ensures v is.work.seen.memory).0 c.lines_of.result
-    (held_when_found o g.M.LaneMem.at c.args.lane.now c.args.blocks.now v is c.args.id c.args.owned c.lines_of.result c.lines_of.ensures can) c.free.ensures.of_call c.free.ensures.freed
+    (held_when_found o g.M.LaneMem.at c.args.lane.now c.args.blocks.now v is c.args.id c.args.owned c.lines_of.result c.lines_of.ensures can) c.free.ensures.of_call c.free.ensures.freed c.free.ensures.pages
