@@ -20,3 +20,4 @@ pub mod NewOffsets
 pub mod RefusedAllocs
 pub mod NoSpace
 pub mod Made
+pub mod Ended

@@ -4,3 +4,4 @@ pub mod AnyRanges
 pub mod Beginning
 pub mod Freeing
 pub mod Allocating
+pub mod Ending

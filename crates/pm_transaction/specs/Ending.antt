@@ -1,0 +1,33 @@
+-- The end of a transaction that made and freed objects (pmemobj_tx_end(3)): docs/MODEL.md, "Transactions that make objects".
+use Rattle.std.specs.Prelude.{◌≡◌, [], List}
+use Rattle.pm_lock.specs.Locking.{gives}
+use Rattle.pm_lock.specs.Resting.{IsAtRest}
+use Rattle.pm_reclaim.specs.KnownTaken.{KnowsTaken}
+use Rattle.pm_reclaim.specs.Reclaims.{HasNothingLeft, Reclaims}
+use Rattle.pm_tx.specs.Ending.{IsAfterCall}
+use Rattle.pm_view.specs.Founds.{IsAlone}
+use Rattle.pm_view.specs.View.{View}
+use Rattle.pm_view.specs.Views.{after_all}
+use Rattle.pm_world.specs.Sequences.{Ready}
+use Rattle.pm_world.specs.declared.lane.HeldLock.{HeldLock}
+use Rattle.pm_world.specs.declared.lane.Lane.{Lane}
+
+-- the lane is between its call and the end of its transaction, alone, and knows what is taken
+pub record MayEnd {M : Type 0} (at : M → View → Type 0) (lane : Lane M) (v : View) : Type 0 where
+  pub behind : IsAfterCall at lane v
+  pub alone : IsAlone v
+  pub taken : KnowsTaken v
+
+-- the view once these locks were given back
+abbrev pub unlocked_view : View → List HeldLock → View
+unlocked_view v locks = after_all v (gives locks v)
+
+-- From the view before the lane gave its locks back, which changed nothing else but what it knows, and then what it had reserved or freed and no word says is
+-- taken; it has nothing of that left, and rests.
+pub record HasEndedWith {M : Type 0} (at : M → View → Type 0) (lane : Lane M) (v : View) (locks : List HeldLock) : Type 0 where
+  pub ready : Ready v (gives locks v)
+  pub given : unlocked_view v locks ≡ record v { locks = []; known = (unlocked_view v locks).known }
+  pub view : View
+  pub reclaims : Reclaims (unlocked_view v locks) view
+  pub rests : IsAtRest at lane view
+  pub left : HasNothingLeft view
