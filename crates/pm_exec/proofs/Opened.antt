@@ -15,7 +15,7 @@ use Rattle.pm_objects.specs.declared.pool.PoolView.{PoolView}
 use Rattle.pm_recover.proofs.Clean.{clean}
 use Rattle.pm_recover.proofs.Meaning.{meaning_kept}
 use Rattle.pm_recover.proofs.Sound.{lanes_of_meaning, sound_if_meaning}
-use Rattle.pm_recover.specs.Recovery.{HasNoStrayRecord, IsCleanLog, IsRecovered}
+use Rattle.pm_recover.specs.Recovery.{IsCleanLog, IsRecovered}
 use Rattle.pm_world.specs.Opening.{IsSound}
 use Rattle.pm_world.specs.Opens.{IsClean}
 use Rattle.pm_exec.specs.Openings.{first_view, opening_of}
@@ -63,17 +63,17 @@ module _ (image : List ℕ) (pool : PoolView) (is : IsMeaning image pool) (words
   pub sound_opened : IsSound (opening_of pool words)
   sound_opened = sound_of_heap (opening_of pool words) words_hold.no_fault words_long (shape_of image pool is).shape.lanes_from (shape_of image pool is).shape.lanes_to
 
-  -- and without a record of a generation to come a lane alone begins
-  module _ (past : HasNoStrayRecord image pool.lanes) (stop : Option ℕ) where
+  -- and a lane alone begins
+  module _ (stop : Option ℕ) where
     pub means_so : IsMeaning words pool
-    means_so = meaning_kept image words pool is past recovered
+    means_so = meaning_kept image words pool is recovered
 
     holds_so : HoldsImage words pool.lanes pool.zones means_so.header pool
     holds_so = holds_image words pool means_so
 
     clean_so : (j : ℕ) → j < pool.lanes → IsClean (opening_of pool words) j
     clean_so j inside =
-        let c : IsCleanLog words j = clean image words pool.lanes j (sound_if_meaning image pool is) past recovered inside in
+        let c : IsCleanLog words j = clean image words pool.lanes j (sound_if_meaning image pool is) recovered inside in
         record { unsealed = c.unsealed; first_generation = c.first_generation; last_generation = c.last_generation; stale = c.stale }
 
     pub begins_alone : BeginsAlone (opening_of pool words) means_so.header pool (first_view pool words stop)

@@ -21,7 +21,7 @@ use Rattle.pm_objects.specs.declared.history.Entry.{Entry}
 use Rattle.pm_objects.specs.declared.pool.PoolView.{PoolView}
 use Rattle.pm_recover.proofs.Meaning.{page_stands}
 use Rattle.pm_recover.proofs.Sound.{header_if_meaning, sound_if_meaning}
-use Rattle.pm_recover.specs.Recovery.{HasNoStrayRecord, IsRecovered}
+use Rattle.pm_recover.specs.Recovery.{IsRecovered}
 use Rattle.pm_script.specs.declared.script.ScriptLine.{ScriptLine}
 use Rattle.pm_view.specs.View.{View}
 use Rattle.pm_world.specs.Crash.{NoneTorn, loses}
@@ -172,12 +172,12 @@ module _ (pool : PoolView) (words : List ℕ) (stop : Option ℕ) (script : List
         losses = losses;
       }
 
-      module _ (before : List ℕ) (means : IsMeaning before pool) (recovered : IsRecovered before words pool.lanes) (past : HasNoStrayRecord before pool.lanes) (none : HasNoTornMatch words pool script stop) where
+      module _ (before : List ℕ) (means : IsMeaning before pool) (recovered : IsRecovered before words pool.lanes) (none : HasNoTornMatch words pool script stop) where
         abbrev header : Header
-        header = (means_so before pool means words recovered past stop).header
+        header = (means_so before pool means words recovered stop).header
 
         begins : BeginsAlone o header pool first
-        begins = begins_alone before pool means words recovered past stop
+        begins = begins_alone before pool means words recovered stop
 
         works : WorksAlone o header pool first e.steps e.last
         works = works_where_seen o header pool lane.memory first e.last e.steps (inl begins) e.leads e.seen

@@ -2,7 +2,7 @@ ghost use Rattle.std.specs.Prelude.{◌≡◌, ◌<◌, ◌≤◌, ◌==◌, ◌
 ghost use Rattle.std.specs.List.Sorted.{IsStrictlyIncreasing};
 ghost use Rattle.pm_image.specs.Means.{IsMeaning};
 ghost use Rattle.pm_objects.specs.declared.pool.PoolView.{PoolView};
-ghost use Rattle.pm_recover.specs.Recovery.{HasNoStrayRecord, IsRecovered};
+ghost use Rattle.pm_recover.specs.Recovery.{IsRecovered};
 ghost use Rattle.pm_script.specs.Scripts.{AreCalls, operations};
 ghost use Rattle.pm_exec.specs.Calls.{numbers_of};
 ghost use Rattle.pm_exec.specs.Histories.{closed_history};
@@ -40,8 +40,8 @@ pub fn exec(
     ensures history { IfOk result (λ out. (pool : PoolView) → IsMeaning image pool → IsHistoryOf pool script.now.lines stop out.history.items out.end) }
     ensures made { IfOk result (λ out. (pool : PoolView) → IsMeaning image pool → MakesCallsOf image pool script.now.lines stop keep out.history.items out.end out.words.items) }
 
-    // Taken for granted: no slot has a stray record, and no torn record's sum matches by chance.
-    ensures replay { IfOk result (λ out. (pool : PoolView) → IsMeaning image pool → HasNoStrayRecord image pool.lanes
+    // Taken for granted: no torn record's sum matches by chance.
+    ensures replay { IfOk result (λ out. (pool : PoolView) → IsMeaning image pool
         → ((words : List ℕ) → IsRecovered image words pool.lanes → HasNoTornMatch words pool script.now.lines stop)
         → LeavesReplay image pool out.history.items out.words.items) }
 {
@@ -66,7 +66,7 @@ fn run(
     ensures size { IfOk result (λ out. length out.words.items ≡ length image.now) }
     ensures history { IfOk result (λ out. IsHistoryOf pool.now script.now.lines stop out.history.items out.end) }
     ensures made { IfOk result (λ out. MakesCalls image.now pool.now script.now.lines stop keep out.history.items out.end out.words.items) }
-    ensures replay { IfOk result (λ out. (before : List ℕ) → IsMeaning before pool.now → IsRecovered before image.now pool.now.lanes → HasNoStrayRecord before pool.now.lanes
+    ensures replay { IfOk result (λ out. (before : List ℕ) → IsMeaning before pool.now → IsRecovered before image.now pool.now.lanes
         → HasNoTornMatch image.now pool.now script.now.lines stop → LeavesReplay before pool.now out.history.items out.words.items) }
 {
     let mut history = Vec::new(alloc);

@@ -1,14 +1,15 @@
 -- The logs of a recovered image are clean.
 use Rattle.std.proofs.Common.{◌≡◌, ◌≢◌, ⊎_elim, ℕ, ◌+◌, ◌*◌, ◌<◌, ◌≤◌, ◌&&◌, ◌||◌, Bool, true, false, not, cond, ltb, List, [], length, Some, refl, sym, ◌∙◌, ap, subst, arith}
 use Rattle.std.proofs.lemmas.Bool.{and_left, and_right, cases_lt, false≢true, le-ltb, or_from, or_parts}
-use Rattle.pm_record.specs.Undo.{undo_of}
+use Rattle.pm_record.specs.Undo.{is_record, undo_of}
 use Rattle.pm_record.specs.declared.undo.Undo.{Undo}
 use Rattle.pm_image.specs.Logs.{generation, generation_word, is_sealed, records, undo_slot}
 use Rattle.pm_image.specs.Steps.{valid_record}
 use Rattle.pm_image.proofs.Unsealed.{not_sealed}
 use Rattle.pm_recover.specs.Recovery.{HasNoStrayRecord, IsCleanLog, IsRecovered, generation_after, has_record, has_torn_slot, is_raised}
 use Rattle.pm_recover.specs.Steps.{HasSoundLogs}
-use Rattle.pm_recover.proofs.Areas.{SameLog, same_slot}
+use Rattle.pm_recover.proofs.Parts.{all_same}
+use Rattle.pm_recover.proofs.Strays.{earlier_without, sum_without}
 use Rattle.pm_recover.proofs.Slots.{generation_stands, no_record_in, no_records, none_recorded, not_valid, of_another, unrecorded, valid_if}
 
 -- the generation where the lane is raised, and where it is not
@@ -54,46 +55,26 @@ not_less image lane = at (is_raised image lane) where
   at true = omega arith
   at false = omega arith
 
--- what is recovered has the same slots
-pub same_log : (before after : List ℕ) (lanes lane : ℕ) → HasSoundLogs before lanes → IsRecovered before after lanes → lane < lanes → SameLog before after lane
-same_log before after lanes lane sound is inside =
-    let areas : 512 + 1024 * lanes ≤ length before = sound.has_lanes.areas in
-    let long : length after ≡ length before = is.as_long in
-    record { long = omega arith; as_long = omega arith; same = λ i from to. sym (is.areas lane i inside from to) }
+-- what is recovered has the same slots torn
+pub torn_as_before : (before after : List ℕ) (lanes lane : ℕ) → IsRecovered before after lanes → lane < lanes → has_torn_slot after lane ≡ has_torn_slot before lane
+unfolding has_torn_slot
+torn_as_before before after lanes lane is inside =
+    ap not (all_same (λ slot. is_record (undo_slot after lane slot)) (λ slot. is_record (undo_slot before lane slot)) 64
+    (λ slot few. ap is_record (is.slots lane slot inside few) ∙ sum_without (generation_after before lane) (undo_slot before lane slot)))
 
--- each record is of an earlier generation than the one after recovery
-earlier : (image : List ℕ) (lanes lane slot : ℕ) (u : Undo) → HasNoStrayRecord image lanes → lane < lanes → slot < 64 → undo_of (undo_slot image lane slot) ≡ Some u
-    → u.generation < generation_after image lane
-earlier image lanes lane slot u past in_lanes in_slots is = go (is_raised image lane) (is_sealed image lane) refl refl where
-  go : (raised sealed : Bool) → is_raised image lane ≡ raised → is_sealed image lane ≡ sealed → u.generation < generation_after image lane
-  go true sealed raised is_so =
-      let old : u.generation ≤ generation image lane = past.past lane slot u in_lanes in_slots is in
-      let next : generation_after image lane ≡ generation image lane + 1 = after_raised image lane raised in
-      omega arith
-  go false true kept sealed =
-      let old : u.generation < generation image lane = past.sealed lane slot u in_lanes in_slots is sealed in
-      let still : generation_after image lane ≡ generation image lane = after_kept image lane kept in
-      omega arith
-  go false false kept unsealed =
-      let old : u.generation ≤ generation image lane = past.past lane slot u in_lanes in_slots is in
-      let still : generation_after image lane ≡ generation image lane = after_kept image lane kept in
-      let other : u.generation ≢ generation image lane =
-      of_another (generation image lane) (undo_of (undo_slot image lane slot)) u (no_record_in image lane slot (none_if_kept image lane unsealed kept) in_slots) is in
-      omega arith
+pub first_after : (before : List ℕ) (lanes lane : ℕ) → HasSoundLogs before lanes → lane < lanes → 1 ≤ generation_after before lane
+first_after before lanes lane sound inside = let first = sound.first_generation lane inside in let more = not_less before lane in omega (arith, first, more)
 
-pub clean : (before after : List ℕ) (lanes lane : ℕ) → HasSoundLogs before lanes → HasNoStrayRecord before lanes → IsRecovered before after lanes → lane < lanes → IsCleanLog after lane
-clean before after lanes lane sound past is inside =
-    let log : SameLog before after lane = same_log before after lanes lane sound is inside in
+pub clean : (before after : List ℕ) (lanes lane : ℕ) → HasSoundLogs before lanes → IsRecovered before after lanes → lane < lanes → IsCleanLog after lane
+clean before after lanes lane sound is inside =
     let now : generation_word after lane ≡ generation_after before lane = is.generations lane inside in
     record {
       unsealed = is.seals lane inside;
-      first_generation =
-          let first : 1 ≤ generation before lane = sound.first_generation lane inside in
-          let more : generation before lane ≤ generation_after before lane = not_less before lane in
-          omega arith;
+      first_generation = let first = first_after before lanes lane sound inside in omega (arith, first, now);
       last_generation = subst (λ (n : ℕ). n ≤ 4611686018427387904) (sym now) (last_after before lanes lane sound inside);
       stale = λ slot u in_slots read.
-          subst (λ (n : ℕ). u.generation < n) (sym now) (earlier before lanes lane slot u past inside in_slots (ap undo_of (same_slot before after lane slot log in_slots) ∙ read));
+          subst (λ (n : ℕ). u.generation < n) (sym now)
+          (earlier_without (generation_after before lane) (undo_slot before lane slot) u (first_after before lanes lane sound inside) (ap undo_of (sym (is.slots lane slot inside in_slots)) ∙ read));
     }
 
 -- a clean log has no valid record

@@ -1,4 +1,5 @@
 pub mod Parts
+pub mod Strays
 pub mod Slots
 pub mod Areas
 pub mod Sound

@@ -18,7 +18,7 @@ use Rattle.pm_image.proofs.HeapWords.{reads_heap}
 use Rattle.pm_image.proofs.InPlace.{recovered_in_place}
 use Rattle.pm_image.proofs.LocalMeaning.{meaning_local}
 use Rattle.pm_image.proofs.Unsealed.{no_entries_for, nothing_in, records_row}
-use Rattle.pm_recover.specs.Recovery.{HasNoStrayRecord, IsCleanLog, IsRecovered}
+use Rattle.pm_recover.specs.Recovery.{IsCleanLog, IsRecovered}
 use Rattle.pm_recover.specs.Steps.{HasSoundLogs}
 use Rattle.pm_recover.proofs.Clean.{clean, clean_has_none}
 use Rattle.pm_recover.proofs.PutBack.{first_for, lanes_cover_none}
@@ -32,11 +32,11 @@ pub record HasCleanLogs (image : List ℕ) (lanes : ℕ) : Type 0 where
   pub has_lanes : HasLanes image lanes
   pub clean : (lane : ℕ) → lane < lanes → IsCleanLog image lane
 
-pub clean_logs : (before after : List ℕ) (lanes : ℕ) → HasSoundLogs before lanes → HasNoStrayRecord before lanes → IsRecovered before after lanes → HasCleanLogs after lanes
-clean_logs before after lanes sound past is =
+pub clean_logs : (before after : List ℕ) (lanes : ℕ) → HasSoundLogs before lanes → IsRecovered before after lanes → HasCleanLogs after lanes
+clean_logs before after lanes sound is =
     let has : HasLanes before lanes = sound.has_lanes in
     let long : length after ≡ length before = is.as_long in
-    record { has_lanes = record { lanes_fit = has.lanes_fit; areas = omega arith; small = omega arith }; clean = λ lane inside. clean before after lanes lane sound past is inside }
+    record { has_lanes = record { lanes_fit = has.lanes_fit; areas = omega arith; small = omega arith }; clean = λ lane inside. clean before after lanes lane sound is inside }
 
 none_valid : (image : List ℕ) (lanes lane slot : ℕ) → HasCleanLogs image lanes → lane < lanes → slot < 64 → valid_record image lane slot ≡ None
 none_valid image lanes lane slot logs in_lanes in_slots = no_record_in image lane slot (clean_has_none image lane (logs.clean lane in_lanes)) in_slots
@@ -114,10 +114,10 @@ outside lanes zones i (inl root) = inl (omega arith)
 outside lanes zones i (inr zone) = inr zone.0
 
 agree_in_meaning : (before after : List ℕ) (lanes zones : ℕ) → HasShape before lanes zones → log_fault before lanes zones ≡ None → heap_fault (recovered_at before lanes) lanes zones ≡ None
-    → HasHeaderKept before lanes → HasNoStrayRecord before lanes → IsRecovered before after lanes → AgreeInMeaning before after lanes zones
-agree_in_meaning before after lanes zones shape logs heap header past is =
+    → HasHeaderKept before lanes → IsRecovered before after lanes → AgreeInMeaning before after lanes zones
+agree_in_meaning before after lanes zones shape logs heap header is =
     let sound : HasSoundLogs before lanes = logs_sound before lanes zones shape logs in
-    let clean_after : HasCleanLogs after lanes = clean_logs before after lanes sound past is in
+    let clean_after : HasCleanLogs after lanes = clean_logs before after lanes sound is in
     record {
       shape = shape;
       other_shape = record { shape = shape.shape; size = shape.size ∙ ap (λ (n : ℕ). 8 * n) (sym is.as_long) };
@@ -130,12 +130,12 @@ agree_in_meaning before after lanes zones shape logs heap header past is =
       };
     }
 
-pub meaning_kept : (before after : List ℕ) (pool : PoolView) → IsMeaning before pool → HasNoStrayRecord before pool.lanes → IsRecovered before after pool.lanes → IsMeaning after pool
-meaning_kept before after pool means past is =
+pub meaning_kept : (before after : List ℕ) (pool : PoolView) → IsMeaning before pool → IsRecovered before after pool.lanes → IsMeaning after pool
+meaning_kept before after pool means is =
     let same : pool.lanes ≡ means.lanes = sym (lanes_of_meaning before pool means) in
     let heap : heap_fault (recovered_at before means.lanes) means.lanes means.zones ≡ None =
     (neither (log_fault before means.lanes means.zones) (heap_fault (recovered_at before means.lanes) means.lanes means.zones) means.no_fault).1 in
     let agree : AgreeInMeaning before after means.lanes means.zones =
     agree_in_meaning before after means.lanes means.zones means.has_header.has_shape (logs_of_meaning before pool means) heap
-    (subst (HasHeaderKept before) same (header_if_meaning before pool means)) (subst (HasNoStrayRecord before) same past) (subst (IsRecovered before after) same is) in
+    (subst (HasHeaderKept before) same (header_if_meaning before pool means)) (subst (IsRecovered before after) same is) in
     (meaning_local before after means.lanes means.zones agree).pools pool means

@@ -2,9 +2,9 @@
 use Rattle.std.specs.Prelude.{◌≡◌, ◌≢◌, ◌⊎◌, ℕ, ◌+◌, ◌*◌, ◌/◌, ◌%◌, ◌^◌, ◌<◌, ◌≤◌, ◌==◌, List, [], filter, find, length, slice_index, Some, None}
 use Rattle.pm_record.specs.declared.redo.Redo.{Redo}
 use Rattle.pm_record.specs.declared.undo.Undo.{Undo}
-use Rattle.pm_image.specs.Logs.{area_word, generation, generation_word, seal_word, all_applied, covers, entries_for, record_for, restored}
+use Rattle.pm_image.specs.Logs.{area_word, generation, generation_word, seal_word, all_applied, covers, entries_for, record_for, restored, undo_slot}
 use Rattle.pm_image.specs.Steps.{HasLanes, valid_record}
-use Rattle.pm_recover.specs.Recovery.{IsOutside, generation_after}
+use Rattle.pm_recover.specs.Recovery.{IsOfSlot, IsOutside, generation_after, without_stray}
 
 -- the record is of four words of the image at most, all of them behind the areas of so many lanes, and its generation can be raised
 pub record IsRestorable (image : List ℕ) (lanes : ℕ) (u : Undo) : Type 0 where
@@ -49,3 +49,9 @@ pub record AreSettled (old new : List ℕ) (lanes : ℕ) : Type 0 where
   pub generations : (lane : ℕ) → lane < lanes → generation_word new lane ≡ generation_after old lane
   pub seals : (lane : ℕ) → lane < lanes → seal_word new lane ≡ 0
   pub others : (i : ℕ) → ((lane : ℕ) → lane < lanes → (i ≢ area_word lane) × (i ≢ area_word lane + 1)) → slice_index new i ≡ slice_index old i
+
+-- the slots of so many numbers, 64 a lane, are without stray records, and no other word differs
+pub record AreCleared (old new : List ℕ) (count : ℕ) : Type 0 where
+  pub as_long : length new ≡ length old
+  pub slots : (n : ℕ) → n < count → undo_slot new (n / 64) (n % 64) ≡ without_stray (generation_word old (n / 64)) (undo_slot old (n / 64) (n % 64))
+  pub others : (i : ℕ) → ((n : ℕ) → n < count → IsOfSlot (n / 64) (n % 64) i → ⊥) → slice_index new i ≡ slice_index old i

@@ -1,12 +1,14 @@
 //! Recovery: what the opening of a pool does with the logs that a power failure left.
 //!
 //! Promises whoever opens a pool that its words become the recovered words, that no lane is sealed any more, that each lane has
-//! the generation that it goes on with, and that the image means what it meant. An image with a fault stays as it is. It stands
+//! the generation that it goes on with and no record that a later one might be taken for, and that the image means what it meant. An image with a fault stays as
+//! it is. It stands
 //! on `pm_image` for meaning and faults, `pm_record` for records and entries and `pm_raw` for the words; the definitions are in
 //! specs/Recovery.antt.
 #![tactic(auto)]
 
 mod applying;
+mod clearing;
 mod fault;
 mod laws;
 mod recovering;

@@ -7,11 +7,12 @@ ghost use Rattle.std.specs.List.{flat_map, range_with_len};
 ghost use Rattle.pm_image.specs.Logs.{entries, seal_word};
 ghost use Rattle.pm_image.specs.Means.{IsImageFault, IsMeaning};
 ghost use Rattle.pm_recover.specs.declared.fault.RecoverFault.TheVariants.{Image, Memory};
-ghost use Rattle.pm_recover.specs.Recovery.{HasMeaning, HasNoStrayRecord, IsRecovered};
+ghost use Rattle.pm_recover.specs.Recovery.{HasMeaning, IsRecovered};
 ghost use Rattle.pm_recover.specs.Answers.{IfImage};
 ghost use Rattle.pm_recover.specs.Steps.{HasApartLogs, HasSoundLogs};
 
 use crate::applying::apply_all;
+use crate::clearing::clear_strays;
 use crate::fault::RecoverFault;
 use crate::restoring::restore_all;
 use crate::settling::settle_lanes;
@@ -22,15 +23,14 @@ use std::alloc::{AllocError, Global};
 
 /// Recovers the image of a pool, as its opening does: the words that valid undo records have are put back, the entries of sealed
 /// lanes are applied, each sealed lane takes its last entry's generation and is sealed no more, and each other lane with such a
-/// record, or with a torn slot, goes on to its next generation (docs/FORMAT.md, "Recovery"). An error is the image's first
+/// record, or with a torn slot, goes on to its next generation; and a record of a lane's generation from then on, or of one to come, is cleared
+/// (docs/FORMAT.md, "Recovery"). An error is the image's first
 /// fault, or want of memory; all memory is taken before the first word is written, so the image is then as it was.
 pub fn recover(alloc: Global, image: &mut RawImage) -> Result<(), RecoverFault>
     ensures done { OnOk result (HasMeaning image.old) }
     ensures recovered { OnOk result ((pool : PoolView) → IsMeaning image.old pool → IsRecovered image.old image.new pool.lanes) }
     ensures seals { OnOk result ((pool : PoolView) (lane : ℕ) → IsMeaning image.old pool → lane < pool.lanes → seal_word image.new lane ≡ 0) }
-
-    // To go on to a generation wakes no old record, where there is none of it.
-    ensures meaning { OnOk result ((pool : PoolView) → IsMeaning image.old pool → HasNoStrayRecord image.old pool.lanes → IsMeaning image.new pool) }
+    ensures meaning { OnOk result ((pool : PoolView) → IsMeaning image.old pool → IsMeaning image.new pool) }
     ensures unchanged { OnErr result (image.new ≡ image.old) }
     ensures fault { IfErr result (λ e. IfImage e (IsImageFault image.old)) }
     ensures refused { (found : ImageFault) → IsImageFault image.old found → IsErrAnd result (λ e. IfImage e (λ told. told ≡ found)) }
@@ -57,7 +57,7 @@ fn sound_lanes(alloc: Global, image: &RawImage) -> Result<u64, RecoverFault>
     }
 }
 
-/// Restores what the records of so many lanes have, applies their entries, which these are, and ends their logs.
+/// Restores what the records of so many lanes have, applies their entries, which these are, ends their logs, and clears stray records.
 fn recover_lanes(image: &mut RawImage, lanes: u64, found: &[Redo])
     requires sound { HasSoundLogs image.old lanes }
     requires apart { HasApartLogs image.old lanes }
@@ -67,4 +67,5 @@ fn recover_lanes(image: &mut RawImage, lanes: u64, found: &[Redo])
     restore_all(image, lanes);
     apply_all(image, lanes, found);
     settle_lanes(image, lanes);
+    clear_strays(image, lanes);
 }

@@ -96,11 +96,11 @@ fn recovers(rt: &impl Abort, alloc: Global, image: &mut RawImage, what: usize) {
     assert!(rt; recover(alloc, image) == Ok(()), "case {what}");
 }
 
-/// Slots of the lane by hand: the words and the generation afterwards.
+/// Slots of the lane by hand: the words and the generation afterwards, and in the last two cases the slots, of which a stray record's is cleared.
 #[test]
 fn slots(rt: HostRuntime) -> Result<(), Fail> {
     let alloc = rt.alloc();
-    let table: [(u64, &[Slot], &[(u64, u64)]); 8] = [
+    let table: [(u64, &[Slot], &[(u64, u64)]); 10] = [
         (5, &[], &[(GENERATION, 5), (WORD, 9)]),
         (
             5,
@@ -138,6 +138,16 @@ fn slots(rt: HostRuntime) -> Result<(), Fail> {
             &[(GENERATION, 6), (WORD, 9), (WORD + 2, 71)],
         ),
         (1 << 62, &[(81, 5, 1)], &[(GENERATION, 1 << 62), (WORD, 9)]),
+        (
+            5,
+            &[(81, 6, 0), (82, 4, 0)],
+            &[(GENERATION, 5), (WORD, 9), (648, 0), (655, 0), (656, 4)],
+        ),
+        (
+            5,
+            &[(81, 5, 0), (82, 6, 0)],
+            &[(GENERATION, 6), (WORD, 71), (648, 5), (656, 0)],
+        ),
     ];
     for (what, (generation, slots, words)) in table.into_iter().enumerate() {
         let mut image = pool(alloc, generation, slots)?;

@@ -10,7 +10,7 @@ use Rattle.pm_exec.specs.Torn.{HasNoTornMatch}
 use Rattle.pm_image.specs.Means.{IsImageFault, IsMeaning}
 use Rattle.pm_objects.specs.declared.history.Entry.{Entry}
 use Rattle.pm_objects.specs.declared.pool.PoolView.{PoolView}
-use Rattle.pm_recover.specs.Recovery.{HasNoStrayRecord, IsRecovered}
+use Rattle.pm_recover.specs.Recovery.{IsRecovered}
 use Rattle.pm_script.specs.Scripts.{IsScript}
 use Rattle.pm_script.specs.Words.{lines}
 use Rattle.pm_script.specs.declared.script.Script.{Script}
@@ -43,7 +43,7 @@ pub has_run : (source script_text : List ℕ) (e : Exec) (image written : List �
     → length source % 8 ≡ 0 → image ≡ words_of source → IsScript (lines script_text) script → IsOpened image e.layout script.lanes
     → ((pool : PoolView) → IsMeaning image pool → IsHistoryOf pool script.lines e.stop history end)
     → ((pool : PoolView) → IsMeaning image pool → MakesCallsOf image pool script.lines e.stop e.keep history end written)
-    → ((pool : PoolView) → IsMeaning image pool → HasNoStrayRecord image pool.lanes → HasNoTorn image pool script e.stop → LeavesReplay image pool history written)
+    → ((pool : PoolView) → IsMeaning image pool → HasNoTorn image pool script e.stop → LeavesReplay image pool history written)
     → bytes ≡ bytes_of written → text ≡ report_text history (end ∷ []) → IsRunOver source script_text e bytes text
 has_run source script_text e image written script history end bytes text in_words is is_script opened calls made replay is_image is_report = record {
   in_words = in_words;
@@ -57,5 +57,5 @@ has_run source script_text e image written script history end bytes text in_word
   is_report = is_report;
   calls = subst (λ (ws : List ℕ). (pool : PoolView) → IsMeaning ws pool → IsHistoryOf pool script.lines e.stop history end) is calls;
   made = subst (λ (ws : List ℕ). (pool : PoolView) → IsMeaning ws pool → MakesCallsOf ws pool script.lines e.stop e.keep history end written) is made;
-  replay = subst (λ (ws : List ℕ). (pool : PoolView) → IsMeaning ws pool → HasNoStrayRecord ws pool.lanes → HasNoTorn ws pool script e.stop → LeavesReplay ws pool history written) is replay;
+  replay = subst (λ (ws : List ℕ). (pool : PoolView) → IsMeaning ws pool → HasNoTorn ws pool script e.stop → LeavesReplay ws pool history written) is replay;
 }

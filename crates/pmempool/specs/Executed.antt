@@ -4,7 +4,7 @@ use Rattle.pm_words.specs.Words.{bytes_of, words_of}
 use Rattle.pm_image.specs.Means.{IsMeaning}
 use Rattle.pm_objects.specs.declared.history.Entry.{Entry}
 use Rattle.pm_objects.specs.declared.pool.PoolView.{PoolView}
-use Rattle.pm_recover.specs.Recovery.{HasNoStrayRecord, IsRecovered}
+use Rattle.pm_recover.specs.Recovery.{IsRecovered}
 use Rattle.pm_script.specs.Scripts.{IsBadLine, IsScript}
 use Rattle.pm_script.specs.Words.{lines}
 use Rattle.pm_script.specs.declared.fault.BadLine.{BadLine}
@@ -31,7 +31,7 @@ script_limit = 1048576
 -- a script's run on the pool of these bytes leaves these bytes and this text: the report of a history of the script's calls. Lane 0 made the
 -- memory calls of the script's lines, one after another, up to its end, and what is left is the image that the keep number chooses of what was
 -- undrained there. It stands for what was read after those of the calls that are not lost, one whole call after another. Taken for granted
--- there: no slot of the pool read has a stray record, and no torn record's sum matches by chance
+-- there: no torn record's sum matches by chance
 pub record IsRunOver (source script_text : List ℕ) (e : Exec) (written text : List ℕ) : Type 0 where
   pub in_words : length source % 8 ≡ 0
   pub script : Script
@@ -44,7 +44,7 @@ pub record IsRunOver (source script_text : List ℕ) (e : Exec) (written text : 
   pub is_report : text ≡ report_text history (end ∷ [])
   pub calls : (pool : PoolView) → IsMeaning (words_of source) pool → IsHistoryOf pool script.lines e.stop history end
   pub made : (pool : PoolView) → IsMeaning (words_of source) pool → MakesCallsOf (words_of source) pool script.lines e.stop e.keep history end image
-  pub replay : (pool : PoolView) → IsMeaning (words_of source) pool → HasNoStrayRecord (words_of source) pool.lanes
+  pub replay : (pool : PoolView) → IsMeaning (words_of source) pool
       → ((words : List ℕ) → IsRecovered (words_of source) words pool.lanes → HasNoTornMatch words pool script.lines e.stop)
       → LeavesReplay (words_of source) pool history image
 

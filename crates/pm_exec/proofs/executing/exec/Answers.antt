@@ -1,7 +1,7 @@
 use Rattle.std.proofs.Common.{ℕ, List, subst}
 use Rattle.pm_image.proofs.Meanings.{one_meaning}
 use Rattle.pm_objects.specs.declared.pool.PoolView.{PoolView}
-use Rattle.pm_recover.specs.Recovery.{HasNoStrayRecord, IsRecovered}
+use Rattle.pm_recover.specs.Recovery.{IsRecovered}
 use Rattle.pm_exec.specs.Runs.{IsHistoryOf, LeavesReplay, MakesCallsOf}
 use Rattle.pm_exec.specs.Torn.{HasNoTornMatch}
 use Rattle.pm_exec.proofs.executing.exec.Goals as goal
@@ -22,6 +22,6 @@ pub returns-clause-replay : goal.returns-clause-replay
 returns-clause-replay c pool means =
     let out = c.in_ok-outcome in
     subst
-    (λ (p : PoolView). HasNoStrayRecord c.args.image p.lanes → ((words : List ℕ) → IsRecovered c.args.image words p.lanes → HasNoTornMatch words p c.args.script.now.lines c.args.stop) → LeavesReplay c.args.image p out.outcome.history.items out.outcome.words.items)
+    (λ (p : PoolView). ((words : List ℕ) → IsRecovered c.args.image words p.lanes → HasNoTornMatch words p c.args.script.now.lines c.args.stop) → LeavesReplay c.args.image p out.outcome.history.items out.outcome.words.items)
     (one_meaning c.args.image c.in_ok-pool.pool pool c.in_ok-pool.ensures.means means)
-    (λ past none. out.ensures.replay c.args.image c.in_ok-pool.ensures.means c.in_ok-pool.ensures.recovered past (none c.open.new.image c.in_ok-pool.ensures.recovered))
+    (λ none. out.ensures.replay c.args.image c.in_ok-pool.ensures.means c.in_ok-pool.ensures.recovered (none c.open.new.image c.in_ok-pool.ensures.recovered))

@@ -79,7 +79,7 @@ returns-clause-made c =
     (run_made pool words c.args.stop lines c.requires.rising fits c.run_all.new.lane c.run_all.new.history.items c.in_ok-halt.halt run decided c.args.keep c.in_ok-words.words.items c.in_ok-words.ensures decides)
 
 pub returns-clause-replay : goal.returns-clause-replay
-returns-clause-replay c before means recovered past none =
+returns-clause-replay c before means recovered none =
     let pool = c.args.pool.now in
     let words = c.args.image.now in
     let lines = c.args.script.now.lines in
@@ -92,4 +92,4 @@ returns-clause-replay c before means recovered past none =
     let decides : decided ≡ not (eqb (slice_index c.in_ok-words.words.items 513) 0 && eqb (slice_index c.in_ok-words.words.items 512) c.in_ok-halt.halt.generation) = search rules in
     let closed : closed_history c.run_all.new.history.items c.in_ok-halt.halt.is_open decided ≡ c.close_history.new.history.items = sym c.in_ok-close_history.ensures in
     subst (λ (es : List Entry). LeavesReplay before pool es c.in_ok-words.words.items) closed
-    (run_replay pool words c.args.stop lines c.requires.rising fits c.run_all.new.lane c.run_all.new.history.items c.in_ok-halt.halt run decided c.args.keep c.in_ok-words.words.items c.in_ok-words.ensures decides before means recovered past none)
+    (run_replay pool words c.args.stop lines c.requires.rising fits c.run_all.new.lane c.run_all.new.history.items c.in_ok-halt.halt run decided c.args.keep c.in_ok-words.words.items c.in_ok-words.ensures decides before means recovered none)

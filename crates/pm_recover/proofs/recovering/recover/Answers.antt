@@ -11,7 +11,7 @@ pub returns-clause-seals : goal.returns-clause-seals
 returns-clause-seals c = λ pool lane is inside. (returns-clause-recovered c pool is).seals lane inside
 
 pub returns-clause-meaning : goal.returns-clause-meaning
-returns-clause-meaning c = λ pool is past. meaning_kept c.args.image.now c.recover_lanes.new.image pool is past (returns-clause-recovered c pool is)
+returns-clause-meaning c = λ pool is. meaning_kept c.args.image.now c.recover_lanes.new.image pool is (returns-clause-recovered c pool is)
 
 pub returns-clause-refused : goal.returns-clause-refused
 returns-clause-refused c = λ found fault. let means = (c.in_ok-lanes.ensures {u = tt}).done in no_meaning_and_fault c.args.image.now means.0 found means.1 fault

@@ -13,4 +13,4 @@ settle_lanes-requires c =
 pub returns : goal.returns
 returns c =
     let applied = subst (λ (es : List Redo). AreApplied es c.args.lanes c.restore_all.new.image c.apply_all.new.image) c.requires.entries c.apply_all.ensures in
-    recovered_made c.args.image.now c.restore_all.new.image c.apply_all.new.image c.settle_lanes.new.image c.args.lanes c.requires.sound c.requires.apart c.restore_all.ensures applied c.settle_lanes.ensures
+    recovered_made c.args.image.now c.restore_all.new.image c.apply_all.new.image c.settle_lanes.new.image c.clear_strays.new.image c.args.lanes c.requires.sound c.requires.apart c.restore_all.ensures applied c.settle_lanes.ensures c.clear_strays.ensures
