@@ -15,3 +15,9 @@ pub mod HeldBlocks
 pub mod AtWork
 pub mod Owned
 pub mod Frees
+pub mod ModelEntries
+pub mod FreeReplies
+pub mod EnteredWords
+pub mod BlockEntries
+pub mod BlockChanges
+pub mod BlocksAtWork

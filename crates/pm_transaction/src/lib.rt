@@ -9,12 +9,14 @@
 
 mod beginning;
 mod freeing;
+mod laws;
 mod new_ranges;
 mod origins;
 mod ranges;
 
 pub use beginning::begin;
 pub use freeing::free;
+pub use laws::a_lane_alone_may_publish_its_blocks;
 pub use new_ranges::{do_add_new, do_read_new, do_write_new};
 pub use ranges::{add_range, read, write};
 
