@@ -21,3 +21,7 @@ pub mod EnteredWords
 pub mod BlockEntries
 pub mod BlockChanges
 pub mod BlocksAtWork
+pub mod PerformedSteps
+pub mod CommitViews
+pub mod PublishedCommit
+pub mod EndedCommit

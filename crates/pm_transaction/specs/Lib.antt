@@ -4,3 +4,4 @@ pub mod AnyRanges
 pub mod Beginning
 pub mod Freeing
 pub mod Committing
+pub mod Published

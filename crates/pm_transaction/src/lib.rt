@@ -16,7 +16,7 @@ mod ranges;
 
 pub use beginning::begin;
 pub use freeing::free;
-pub use laws::a_lane_alone_may_publish_its_blocks;
+pub use laws::{a_commit_of_a_lane_alone_publishes_its_call, a_lane_alone_may_publish_its_blocks};
 pub use new_ranges::{do_add_new, do_read_new, do_write_new};
 pub use ranges::{add_range, read, write};
 
