@@ -15,7 +15,6 @@ use Rattle.pm_layout.specs.declared.class.Class.{Class}
 use Rattle.pm_layout.specs.declared.class.Class.TheVariants.{Chunks, Lines}
 use Rattle.pm_objects.specs.declared.pool.PoolView.{PoolView}
 use Rattle.pm_record.specs.declared.redo.Op.TheVariants.{And, Or, Set}
-use Rattle.pm_record.specs.declared.redo.Redo.{Redo}
 use Rattle.pm_redo.specs.Entering.{EntersHeap, final_of}
 use Rattle.pm_view.specs.Founds.{IsAlone}
 use Rattle.pm_view.specs.Log.{Final}

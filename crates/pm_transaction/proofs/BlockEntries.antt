@@ -1,5 +1,5 @@
 -- The redo entry of an object's block is that of the change of the heap which frees or allocates the block: of the run's bitmap, or of the first chunk's descriptor.
-use Rattle.std.proofs.Common.{◌≡◌, ℕ, ◌+◌, ◌-◌, ◌*◌, ◌/◌, ◌%◌, ◌^◌, ◌<◌, ◌≤◌, cond, ltb, List, refl, sym, ap, ◌∙◌, subst, arith}
+use Rattle.std.proofs.Common.{◌≡◌, ℕ, ◌+◌, ◌-◌, ◌*◌, ◌/◌, ◌^◌, ◌<◌, ◌≤◌, ltb, List, refl, sym, ap, ◌∙◌, arith}
 use Rattle.std.proofs.lemmas.Bool.{cond-false, cond-true, le-ltb, lt-ltb}
 use Rattle.std.proofs.Math.Nat.{mul-div_cancel_left}
 use Rattle.std.proofs.Math.Pow.{pow-lt}
@@ -15,7 +15,6 @@ use Rattle.pm_record.specs.declared.redo.Op.TheVariants.{And, Or, Set}
 use Rattle.pm_record.specs.declared.redo.Redo.{Redo}
 use Rattle.pm_redo.specs.Entering.{final_of}
 use Rattle.pm_view.specs.Blocks.{descriptor_word as lane_descriptor}
-use Rattle.pm_view.specs.Log.{Final}
 use Rattle.pm_world.specs.Entries.{final_by}
 use Rattle.pm_crash.specs.HeapChanges.{entry_of}
 use Rattle.pm_crash.specs.HeapChanges.HeapChange.{AllocatesChunks, AllocatesInRun, FreesChunks, FreesInRun}

@@ -1,6 +1,6 @@
 -- What a transaction of a lane that works alone freed lies under its locks, each object once, and is not the root; and its log has room for the entries of the blocks of
 -- all that it made and freed, which the lane may enter.
-use Rattle.std.proofs.Common.{◌≡◌, ◌≢◌, ℕ, ◌+◌, ◌≤◌, All, Contains, List, ◌++◌, length, map, None, slice_index, sym, ap, ◌∙◌, subst, arith}
+use Rattle.std.proofs.Common.{◌≡◌, ◌≢◌, ℕ, ◌+◌, ◌≤◌, Contains, List, length, map, None, slice_index, ap, subst, arith}
 use Rattle.std.specs.Prelude.{nat_eq}
 use Rattle.std.specs.List.{IsDistinct}
 use Rattle.std.proofs.lemmas.List.{length-map}
@@ -15,7 +15,6 @@ use Rattle.pm_view.specs.Steps.{Step}
 use Rattle.pm_view.specs.View.{Lock, View}
 use Rattle.pm_world.specs.Lanes.{lock_of as view_lock}
 use Rattle.pm_world.specs.Opening.{Opening}
-use Rattle.pm_world.specs.declared.lane.HeldLock.{HeldLock}
 use Rattle.pm_world.specs.declared.lane.Lane.{Lane}
 use Rattle.pm_crash.proofs.AloneCourse.{StandsAlone}
 use Rattle.pm_crash.proofs.CallWords.{as_many_entries}
@@ -23,7 +22,6 @@ use Rattle.pm_crash.proofs.Includes.{made_member}
 use Rattle.pm_crash.specs.Alone.{WorksAlone}
 use Rattle.pm_crash.specs.CallBlocks.{NewObject, blocks_in}
 use Rattle.pm_crash.specs.OpenCall.{ComesTo}
-use Rattle.pm_crash.specs.Operations.{entries_so_far}
 use Rattle.pm_crash.specs.Pending.{pending_before, published_in, told_in}
 use Rattle.pm_crash.specs.Reserved.{root_in}
 use Rattle.pm_epoch.proofs.CallPools.{call_comes, call_has_no_fault}

@@ -1,9 +1,9 @@
 -- The views on the way of a commit that publishes entries: all is made persistent, the entries are logged, and the commit is told; then the number is drawn, and the log
 -- performed. To where the number is drawn the lane works alone, and its call is committed.
-use Rattle.std.proofs.Common.{◌≡◌, inl, inr, ℕ, ◌+◌, ◌*◌, ◌/◌, ◌<◌, ◌≤◌, ◌&&◌, true, false, All, Option, List, [], ◌∷◌, ◌++◌, length, length-append, map, slice_index, None, refl, sym, ap, ◌∙◌, subst, arith}
+use Rattle.std.proofs.Common.{◌≡◌, inl, inr, ℕ, ◌/◌, ◌<◌, ◌≤◌, ◌&&◌, true, false, All, Option, List, [], ◌∷◌, ◌++◌, length, length-append, map, slice_index, None, refl, sym, ap, ◌∙◌, subst, arith}
 use Rattle.std.specs.List.{list_any}
 use Rattle.std.specs.Option.{ForSome, is_some}
-use Rattle.std.proofs.lemmas.List.{append-nil, length-map}
+use Rattle.std.proofs.lemmas.List.{length-map}
 use Rattle.std.proofs.lemmas.List.Elements.{All-append, All-cons, All-head, All-nil, All-tail, All-weaker}
 use Rattle.pm_header.specs.declared.header.Header.{Header}
 use Rattle.pm_memory.specs.Solo.{AreNumbered}
@@ -40,7 +40,7 @@ use Rattle.pm_crash.proofs.Leading.{leads_then}
 use Rattle.pm_crash.specs.Alone.{WorksAlone}
 use Rattle.pm_crash.specs.Leading.{Leads}
 use Rattle.pm_crash.specs.OpenCall.{IsCommitted, IsUnderWay}
-use Rattle.pm_crash.specs.Operations.{KeepsWords, Tells}
+use Rattle.pm_crash.specs.Operations.{Tells}
 use Rattle.pm_crash.specs.Pending.{published_in}
 use Rattle.pm_crash.specs.Reserved.{IsBorneOut}
 use Rattle.pm_lock.proofs.Drawless.{drawless}

@@ -1,6 +1,6 @@
 -- A commit of a lane that works alone: it publishes its call from where the number is drawn, and at the end that call has ended. Wherever the lane stops on the way, it
 -- works alone still, or it publishes.
-use Rattle.std.proofs.Common.{◌≡◌, ◌⊎◌, ⊎_elim, inl, inr, ℕ, zero, suc, ◌+◌, ◌*◌, ◌/◌, ◌≤◌, ◌&&◌, Bool, true, false, List, [], ◌∷◌, ◌++◌, append_assoc, length, slice_index, take, All, None, refl, sym, ap, ◌∙◌, subst, arith}
+use Rattle.std.proofs.Common.{◌≡◌, ◌⊎◌, ⊎_elim, inl, inr, ℕ, zero, suc, ◌/◌, ◌≤◌, ◌&&◌, false, List, [], ◌∷◌, ◌++◌, append_assoc, length, slice_index, take, All, None, refl, sym, ap, ◌∙◌, subst, arith}
 use Rattle.std.specs.List.{list_any}
 use Rattle.std.specs.Option.{ForSome}
 use Rattle.std.proofs.lemmas.List.Elements.{All-weaker}
@@ -23,7 +23,7 @@ use Rattle.pm_crash.specs.Leading.{Leads}
 use Rattle.pm_crash.specs.Publishing.{Published}
 use Rattle.pm_epoch.proofs.FreeChunks.{ReservesNoRun, no_run_reserved}
 use Rattle.pm_epoch.proofs.PublishedCalls.{has_ended}
-use Rattle.pm_epoch.specs.Epochs.{HasEnded, HasEnteredCall, IsPublishing, LoadsNoneOf}
+use Rattle.pm_epoch.specs.Epochs.{HasEnded, IsPublishing, LoadsNoneOf}
 use Rattle.pm_made.specs.Entries.{entries_of}
 use Rattle.pm_made.specs.Made.{BlockLists}
 use Rattle.pm_sealed.specs.Sealed.{Publishes}
@@ -31,8 +31,8 @@ use Rattle.pm_view.proofs.Sequences.{after_all-append}
 use Rattle.pm_view.specs.Area.{is_in_area}
 use Rattle.pm_view.specs.Blocks.{is_run}
 use Rattle.pm_view.specs.Blocks.{descriptor_word as lane_descriptor}
-use Rattle.pm_view.specs.Log.{Log, Phase}
-use Rattle.pm_view.specs.Log.Phase.{Applying, Drawn, Idle}
+use Rattle.pm_view.specs.Log.{Log}
+use Rattle.pm_view.specs.Log.Phase.{Applying, Idle}
 use Rattle.pm_view.specs.Steps.{Step}
 use Rattle.pm_view.specs.Steps.Step.{Draw, Tell}
 use Rattle.pm_view.specs.View.{View}
@@ -47,12 +47,13 @@ use Rattle.pm_world.specs.declared.lane.Span.{Span}
 use Rattle.pm_world.proofs.Sequencing.{ready_right}
 use Rattle.pm_redo.specs.Sequences.{logs}
 use Rattle.pm_tx.specs.Sequences.{commits, decides_all, ends_call, performs_logged, publishes}
+use Rattle.pm_transaction.proofs.BlocksAtWork.{may_publish_blocks}
 use Rattle.pm_transaction.proofs.CommitViews.{borne_out, call_l, committed, each_d, leads_d, leads_to, number_view, outside_l, performed, performed_view, ready_to_perform, settled_view, steps_to_draw, told_view, works_to, drawn as is_drawn}
 use Rattle.pm_transaction.proofs.PerformedSteps.{IsAlong, performing_loads_none, performs_along, publishes_along}
 use Rattle.pm_transaction.proofs.PublishedCommit.{entered_call}
 use Rattle.pm_transaction.specs.AtWork.{IsAtWorkWith}
 use Rattle.pm_transaction.specs.Committing.{MayPublishBlocks}
-use Rattle.pm_transaction.specs.Published.{HasDrawn, IsCommittingAlone}
+use Rattle.pm_transaction.specs.Published.{CommitsAlone, HasDrawn, HasOwnCounts, IsCommittingAlone}
 
 -- ---- the commit's steps
 
@@ -118,7 +119,7 @@ module _ {M : Type 0} (o : Opening) (at : M → View → Type 0) (lane : Lane M)
   unfolding after_all
   behind_draw more = after_all-append v front (Draw n ∷ more) ∙ ap (λ (x : View). after_all x (Draw n ∷ more)) (sym there)
 
-  pub at_end : after_all v (commits spans entries n v) ≡ performed_view v entries n
+  at_end : after_all v (commits spans entries n v) ≡ performed_view v entries n
   at_end = ap (after_all v) (in_parts spans entries n v some) ∙ behind_draw tail
 
   -- ---- what is published
@@ -195,12 +196,12 @@ module _ {M : Type 0} (o : Opening) (at : M → View → Type 0) (lane : Lane M)
   abbrev end : View
   end = after_all v (commits spans entries n v)
 
-  pub has_drawn : ForSome end.stop (λ stop. end.calls ≤ stop) → AreNumbered 1 end.entries → HasDrawn o header pool n end
+  has_drawn : ForSome end.stop (λ stop. end.calls ≤ stop) → AreNumbered 1 end.entries → HasDrawn o header pool n end
   has_drawn within numbered =
       subst (λ (x : View). ForSome x.stop (λ stop. x.calls ≤ stop) → AreNumbered 1 x.entries → HasDrawn o header pool n x) (sym at_end)
       (λ low counted. let p = publishing tail (performed_view v entries n) leads_tail publishes_tail low counted in record { drawn = u; all = p.0; publishing = p.1 }) within numbered
 
-  pub call_ends : (shape : Shape) → CanMakeObject v shape → ForSome end.stop (λ stop. end.calls ≤ stop) → AreNumbered 1 end.entries → HasEnded o header pool end
+  call_ends : (shape : Shape) → CanMakeObject v shape → ForSome end.stop (λ stop. end.calls ≤ stop) → AreNumbered 1 end.entries → HasEnded o header pool end
   call_ends shape can within numbered =
       subst (λ (x : View). ForSome x.stop (λ stop. x.calls ≤ stop) → AreNumbered 1 x.entries → HasEnded o header pool x) (sym at_end)
       (λ low counted. let p = publishing tail (performed_view v entries n) leads_tail publishes_tail low counted in
@@ -220,7 +221,7 @@ module _ {M : Type 0} (o : Opening) (at : M → View → Type 0) (lane : Lane M)
     within = within;
   }
 
-  pub stops_so : (k : ℕ) → ForSome (stop_at k).stop (λ stop. (stop_at k).calls ≤ stop) → AreNumbered 1 (stop_at k).entries → IsCommittingAlone o header pool start steps n (stop_at k)
+  stops_so : (k : ℕ) → ForSome (stop_at k).stop (λ stop. (stop_at k).calls ≤ stop) → AreNumbered 1 (stop_at k).entries → IsCommittingAlone o header pool start steps n (stop_at k)
   stops_so k =
       subst (λ (all : List Step). ForSome (after_all v (take k all)).stop (λ stop. (after_all v (take k all)).calls ≤ stop) → AreNumbered 1 (after_all v (take k all)).entries → IsCommittingAlone o header pool start steps n (after_all v (take k all)))
       (sym (in_parts spans entries n v some))
@@ -236,3 +237,29 @@ module _ {M : Type 0} (o : Opening) (at : M → View → Type 0) (lane : Lane M)
       let p = publishing (take both.0 tail) x (leads_front d (performed_view v entries n) tail both.0 leads_tail) (publishes_front d (performed_view v entries n) tail both.0 publishes_tail) within numbered in
       inr (record { drawn = u; all = p.0; publishing = p.1 }))))
       (front_cases front tail (Draw n) k))
+
+-- ---- of a lane that commits so, with entries by their name
+
+module _ {M : Type 0} (o : Opening) (header : Header) (pool : PoolView) (start v : View) (steps : List Step) (at : M → View → Type 0) (lane : Lane M) (blocks : BlockLists) (all : List Redo) (spans : List Span) (n : ℕ)
+    (c : CommitsAlone o header pool start steps at lane blocks v all) where
+  abbrev Behind : (View → Type 0) → List Redo → Type 0
+  Behind Q es = Ready v (commits spans es n v) → HasOwnCounts (after_all v (commits spans es n v)) → Q (after_all v (commits spans es n v))
+
+  may_publish : MayPublishBlocks v blocks
+  may_publish = may_publish_blocks o at lane blocks header pool start v steps c.works c.work
+
+  abbrev own_entries : List Redo
+  own_entries = lane.entries.items ++ entries_of v.lanes blocks
+
+  some_own : 1 ≤ length own_entries
+  some_own = subst (λ (es : List Redo). 1 ≤ length es) c.are c.some
+
+  pub commit_publishes : Behind (HasDrawn o header pool n) all
+  commit_publishes = subst (Behind (HasDrawn o header pool n)) (sym c.are) (λ ready own. has_drawn o at lane blocks header pool start v steps c.works c.work c.outer may_publish some_own n spans ready own.within own.numbered)
+
+  pub commit_ends : (shape : Shape) → CanMakeObject v shape → Behind (HasEnded o header pool) all
+  commit_ends shape can = subst (Behind (HasEnded o header pool)) (sym c.are) (λ ready own. call_ends o at lane blocks header pool start v steps c.works c.work c.outer may_publish some_own n spans ready shape can own.within own.numbered)
+
+  pub commit_stops : (made : ℕ) → Ready v (commits spans all n v) → HasOwnCounts (after_all v (take made (commits spans all n v))) → IsCommittingAlone o header pool start steps n (after_all v (take made (commits spans all n v)))
+  commit_stops made = subst (λ (es : List Redo). Ready v (commits spans es n v) → HasOwnCounts (after_all v (take made (commits spans es n v))) → IsCommittingAlone o header pool start steps n (after_all v (take made (commits spans es n v))))
+      (sym c.are) (λ ready own. stops_so o at lane blocks header pool start v steps c.works c.work c.outer may_publish some_own n spans ready made own.within own.numbered)

@@ -1,5 +1,5 @@
 -- A free that the plain model does not refuse answers nothing; so an object that a call freed is not the root on which the call agrees.
-use Rattle.std.proofs.Common.{◌≡◌, ◌≢◌, ◌⊎◌, ⊎_elim, inl, inr, ◌||◌, ℕ, Bool, true, false, not, cond, Contains, List, [], ◌∷◌, ◌++◌, map, MatchOption, Option, None, Some, sym, ap, ◌∙◌, subst}
+use Rattle.std.proofs.Common.{◌≢◌, ◌⊎◌, ⊎_elim, inl, inr, ◌||◌, ℕ, Bool, true, false, not, cond, Contains, List, [], ◌∷◌, ◌++◌, map, MatchOption, Option, None, Some, sym, subst}
 use Rattle.std.specs.List.{All, filter, list_any}
 use Rattle.std.proofs.lemmas.List.Elements.{All-cons, All-head, All-nil, All-tail, Contains-append_cases}
 use Rattle.pm_image.proofs.Members.{no_member, only_member}

@@ -1,6 +1,6 @@
 -- A transaction of the plain model lists each object that it found and freed once, and what it publishes, makes and frees leaves room in its log for the entry
 -- that ends the generation: each operation that is not refused keeps that.
-use Rattle.std.proofs.Common.{◌≡◌, ℕ, ◌+◌, ◌≤◌, ◌&&◌, ◌||◌, Bool, true, false, not, cond, eqb, leb, ltb, List, [], ◌∷◌, ◌++◌, length, Option, Some, None, refl, sym, ◌∙◌, ap, subst, arith}
+use Rattle.std.proofs.Common.{◌≡◌, ℕ, ◌+◌, ◌≤◌, ◌&&◌, Bool, true, false, not, cond, eqb, leb, ltb, List, [], ◌∷◌, ◌++◌, length, Option, None, refl, sym, ◌∙◌, ap, subst, arith}
 use Rattle.std.specs.Prelude.{nat_eq}
 use Rattle.std.specs.List.{AllByRecursion, IsDistinct, filter, find}
 use Rattle.std.proofs.lemmas.Bool.{ltb-false, or_parts}
@@ -11,11 +11,10 @@ use Rattle.pm_objects.specs.declared.calls.Operation.TheVariants.{Abort, AddRang
 use Rattle.pm_objects.specs.declared.history.TxErr.{TxErr}
 use Rattle.pm_objects.specs.declared.history.TxErr.TheVariants as error
 use Rattle.pm_objects.specs.declared.history.Value.{Value}
-use Rattle.pm_objects.specs.declared.history.Value.TheVariants.{Offset}
 use Rattle.pm_objects.specs.declared.pool.PoolView.{PoolView}
 use Rattle.pm_objects.specs.declared.refusal.Refusal.{Refusal}
 use Rattle.pm_model.specs.Actions.{Action, max_entries, with_actions}
-use Rattle.pm_model.specs.Answers.{Told, Answers, IsValue, after, after_reply, error_for, value_of}
+use Rattle.pm_model.specs.Answers.{Told, Answers, IsValue, after, after_reply, error_for}
 use Rattle.pm_model.specs.Bytes.{covered_words, is_among, new_words, records_of}
 use Rattle.pm_model.specs.Checks.{Seen, checks, first_refusal, names_gone, passes_actions}
 use Rattle.pm_model.specs.NewObjects.{pool_without}

@@ -1,6 +1,5 @@
 -- The steps that perform a redo log: they load no word, and before each of them the log is not at its end.
-use Rattle.std.proofs.Common.{◌≡◌, ◌⊎◌, ⊎_elim, inl, inr, ℕ, ◌+◌, ◌/◌, ◌<◌, ◌≤◌, Bool, true, false, All, List, [], ◌∷◌, ◌++◌, is_some, length, refl, sym, ap, ◌∙◌, subst, arith, slice_index}
-use Rattle.std.proofs.lemmas.Bool.{false≢true}
+use Rattle.std.proofs.Common.{◌≡◌, ◌⊎◌, ⊎_elim, inl, inr, ℕ, ◌+◌, ◌/◌, ◌<◌, Bool, true, false, All, List, [], ◌∷◌, ◌++◌, is_some, length, refl, sym, ap, ◌∙◌, subst, slice_index}
 use Rattle.std.proofs.lemmas.List.Elements.{All-cons, All-nil}
 use Rattle.pm_crash.proofs.Raises.{raise_by}
 use Rattle.pm_crash.specs.Leading.{Leads}
@@ -14,7 +13,7 @@ use Rattle.pm_redo.proofs.PairWords.{seal_part}
 use Rattle.pm_redo.specs.Sequences.{applies, applies_each, applies_entry, does, ending_of, entry_at, performs_on, writes_seal}
 use Rattle.pm_sealed.specs.Sealed.{Publishes, is_publishing}
 use Rattle.pm_tx.proofs.Courses.{Course, Throughout, course_counted, course_in_turn, course_of_kind, course_one}
-use Rattle.pm_tx.proofs.StepKinds.{HasOnly, HasQuietSteps, only_makes_room, only_one, only_persists, only_settles}
+use Rattle.pm_tx.proofs.StepKinds.{HasOnly, HasQuietSteps, only_makes_room, only_persists, only_settles}
 use Rattle.pm_undo.proofs.Areas.{generation_word, other_part}
 use Rattle.pm_undo.specs.Sequences.{persists}
 use Rattle.pm_view.specs.declared.change.Change.{Change}
@@ -27,7 +26,7 @@ use Rattle.pm_view.specs.Steps.{Step}
 use Rattle.pm_view.specs.Steps.Step.{And as And_step, Drain, Flush, Load, Or as Or_step, Store}
 use Rattle.pm_view.specs.View.{View}
 use Rattle.pm_view.specs.Views.{after, after_all, log_after_drain}
-use Rattle.pm_world.specs.Sequences.{Sequence, ands, counted, finds_in, in_turn, makes_room, one, ors, settles, stores}
+use Rattle.pm_world.specs.Sequences.{Sequence, ands, finds_in, in_turn, makes_room, one, ors, settles, stores}
 
 -- ---- no loads
 

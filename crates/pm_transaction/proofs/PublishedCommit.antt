@@ -5,28 +5,23 @@ use Rattle.std.specs.List.{AllZip, IsDistinct}
 use Rattle.std.proofs.lemmas.List.{append-nil, map-append}
 use Rattle.pm_header.specs.declared.header.Header.{Header}
 use Rattle.pm_image.specs.HeapFaults.{heap_fault}
-use Rattle.pm_layout.specs.declared.shape.Shape.{Shape}
-use Rattle.pm_memory.specs.Solo.{AreNumbered}
 use Rattle.pm_model.specs.Actions.{Action}
 use Rattle.pm_objects.specs.declared.calls.Operation.TheVariants.{Commit}
 use Rattle.pm_objects.specs.declared.pool.PoolView.{PoolView}
-use Rattle.pm_pending.specs.Pending.{entry_of as entry_for_action}
 use Rattle.pm_record.specs.declared.redo.Redo.{Redo}
 use Rattle.pm_redo.proofs.Whole.{ending_final}
 use Rattle.pm_redo.specs.Entering.{ending, final_of}
 use Rattle.pm_view.specs.Founds.{IsAlone}
 use Rattle.pm_view.specs.Log.{Final}
 use Rattle.pm_view.specs.View.{Lock, View}
-use Rattle.pm_world.specs.Entries.{ends_with}
 use Rattle.pm_world.specs.Opening.{Opening}
-use Rattle.pm_world.specs.Records.{generation_of}
 use Rattle.pm_world.specs.declared.lane.Lane.{Lane}
 use Rattle.pm_view.specs.Steps.{Step}
 use Rattle.pm_crash.proofs.AloneCourse.{StandsAlone}
 use Rattle.pm_crash.proofs.CallBlocks.{blocks_once_more}
 use Rattle.pm_crash.proofs.PendingOn.{published_once_more}
 use Rattle.pm_crash.specs.Alone.{WorksAlone}
-use Rattle.pm_crash.specs.CallBlocks.{CallBlocks, NewObject, blocks_in}
+use Rattle.pm_crash.specs.CallBlocks.{CallBlocks, blocks_in}
 use Rattle.pm_crash.specs.HeapChanges.{HeapChange, entry_of}
 use Rattle.pm_crash.specs.Pending.{published_in}
 use Rattle.pm_crash.specs.Performing.{entry_for}

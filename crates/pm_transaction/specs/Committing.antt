@@ -1,5 +1,5 @@
 -- When a transaction that made and freed objects may be committed: docs/MODEL.md, "Transactions that make objects".
-use Rattle.std.specs.Prelude.{ℕ, ◌+◌, ◌≤◌, All, length}
+use Rattle.std.specs.Prelude.{◌+◌, ◌≤◌, All, length}
 use Rattle.pm_crash.specs.Pending.{published_in}
 use Rattle.pm_made.specs.Entries.{IsBlockIn, block_freed, block_made, entries_of}
 use Rattle.pm_made.specs.Made.{BlockLists}

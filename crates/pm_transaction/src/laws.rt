@@ -1,11 +1,10 @@
 //! Laws of transactions that make and free objects, of a lane that works alone.
 
-ghost use Rattle.std.specs.Prelude.{◌≡◌, ℕ, ◌≤◌, List, ◌++◌, length, take};
-ghost use Rattle.std.specs.Option.{ForSome};
+ghost use Rattle.std.specs.Prelude.{ℕ, List, take};
 ghost use Rattle.pm_header.specs.declared.header.Header.{Header};
 ghost use Rattle.pm_layout.specs.declared.shape.Shape.{Shape};
-ghost use Rattle.pm_memory.specs.Solo.{AreNumbered};
 ghost use Rattle.pm_objects.specs.declared.pool.PoolView.{PoolView};
+ghost use Rattle.pm_record.specs.declared.redo.Redo.{Redo};
 ghost use Rattle.pm_view.specs.Steps.{Step};
 ghost use Rattle.pm_view.specs.View.{View};
 ghost use Rattle.pm_view.specs.Views.{after_all};
@@ -16,12 +15,11 @@ ghost use Rattle.pm_world.specs.declared.lane.Span.{Span};
 ghost use Rattle.pm_alloc.specs.NewObjects.{CanMakeObject};
 ghost use Rattle.pm_crash.specs.Alone.{WorksAlone};
 ghost use Rattle.pm_epoch.specs.Epochs.{HasEnded};
-ghost use Rattle.pm_made.specs.Entries.{entries_of};
 ghost use Rattle.pm_made.specs.Made.{BlockLists};
 ghost use Rattle.pm_tx.specs.Sequences.{commits};
 ghost use Rattle.pm_transaction.specs.AtWork.{IsAtWorkWith};
 ghost use Rattle.pm_transaction.specs.Committing.{MayPublishBlocks};
-ghost use Rattle.pm_transaction.specs.Published.{HasDrawn, IsCommittingAlone};
+ghost use Rattle.pm_transaction.specs.Published.{CommitsAlone, HasDrawn, HasOwnCounts, IsCommittingAlone};
 
 use pm_world::LawfulMem;
 
@@ -32,26 +30,17 @@ pub fn a_lane_alone_may_publish_its_blocks<M: LawfulMem>()
         → WorksAlone o header pool start steps v → IsAtWorkWith o M.at lane blocks v → MayPublishBlocks v blocks }
 {}
 
-/// A law: a commit of such a transaction at its outermost level, with the entries that its lane lists and those of the blocks, some at least, publishes its call from
-/// where its number is drawn; and at its end, if no chunk that the lane reserved was a run as it may make objects, the call has ended. Wherever the lane stops in its
-/// steps, it works alone still, or it has drawn the number and publishes. No code runs.
+/// A law: a commit of such a transaction with the entries of its actions and blocks, some at least, publishes the call from where its number is drawn. At its end the
+/// call has ended, if the lane could make objects before it, so that it reserved no chunk that is a run. Wherever the lane stops in its steps, it works alone still, or
+/// it has drawn the number and publishes. No code runs.
 pub fn a_commit_of_a_lane_alone_publishes_its_call<M: LawfulMem>()
-    ensures publishes { (o : Opening) (header : Header) (pool : PoolView) (start v : View) (steps : List Step) (lane : Lane M) (blocks : BlockLists) (spans : List Span) (n : ℕ)
-        → WorksAlone o header pool start steps v → IsAtWorkWith o M.at lane blocks v → lane.level ≡ 1 → MayPublishBlocks v blocks → 1 ≤ length (lane.entries.items ++ entries_of v.lanes blocks)
-        → Ready v (commits spans (lane.entries.items ++ entries_of v.lanes blocks) n v)
-        → ForSome (after_all v (commits spans (lane.entries.items ++ entries_of v.lanes blocks) n v)).stop (λ stop. (after_all v (commits spans (lane.entries.items ++ entries_of v.lanes blocks) n v)).calls ≤ stop)
-        → AreNumbered 1 (after_all v (commits spans (lane.entries.items ++ entries_of v.lanes blocks) n v)).entries
-        → HasDrawn o header pool n (after_all v (commits spans (lane.entries.items ++ entries_of v.lanes blocks) n v)) }
-    ensures ended { (o : Opening) (header : Header) (pool : PoolView) (start v : View) (steps : List Step) (lane : Lane M) (blocks : BlockLists) (shape : Shape) (spans : List Span) (n : ℕ)
-        → WorksAlone o header pool start steps v → IsAtWorkWith o M.at lane blocks v → CanMakeObject v shape → lane.level ≡ 1 → MayPublishBlocks v blocks → 1 ≤ length (lane.entries.items ++ entries_of v.lanes blocks)
-        → Ready v (commits spans (lane.entries.items ++ entries_of v.lanes blocks) n v)
-        → ForSome (after_all v (commits spans (lane.entries.items ++ entries_of v.lanes blocks) n v)).stop (λ stop. (after_all v (commits spans (lane.entries.items ++ entries_of v.lanes blocks) n v)).calls ≤ stop)
-        → AreNumbered 1 (after_all v (commits spans (lane.entries.items ++ entries_of v.lanes blocks) n v)).entries
-        → HasEnded o header pool (after_all v (commits spans (lane.entries.items ++ entries_of v.lanes blocks) n v)) }
-    ensures stops { (o : Opening) (header : Header) (pool : PoolView) (start v : View) (steps : List Step) (lane : Lane M) (blocks : BlockLists) (spans : List Span) (n k : ℕ)
-        → WorksAlone o header pool start steps v → IsAtWorkWith o M.at lane blocks v → lane.level ≡ 1 → MayPublishBlocks v blocks → 1 ≤ length (lane.entries.items ++ entries_of v.lanes blocks)
-        → Ready v (commits spans (lane.entries.items ++ entries_of v.lanes blocks) n v)
-        → ForSome (after_all v (take k (commits spans (lane.entries.items ++ entries_of v.lanes blocks) n v))).stop (λ stop. (after_all v (take k (commits spans (lane.entries.items ++ entries_of v.lanes blocks) n v))).calls ≤ stop)
-        → AreNumbered 1 (after_all v (take k (commits spans (lane.entries.items ++ entries_of v.lanes blocks) n v))).entries
-        → IsCommittingAlone o header pool start steps n (after_all v (take k (commits spans (lane.entries.items ++ entries_of v.lanes blocks) n v))) }
+    ensures publishes { (o : Opening) (header : Header) (pool : PoolView) (start v : View) (steps : List Step) (lane : Lane M) (blocks : BlockLists) (entries : List Redo) (spans : List Span) (n : ℕ)
+        → CommitsAlone o header pool start steps M.at lane blocks v entries → Ready v (commits spans entries n v)
+        → HasOwnCounts (after_all v (commits spans entries n v)) → HasDrawn o header pool n (after_all v (commits spans entries n v)) }
+    ensures ended { (o : Opening) (header : Header) (pool : PoolView) (start v : View) (steps : List Step) (lane : Lane M) (blocks : BlockLists) (entries : List Redo) (spans : List Span) (n : ℕ) (shape : Shape)
+        → CommitsAlone o header pool start steps M.at lane blocks v entries → CanMakeObject v shape → Ready v (commits spans entries n v)
+        → HasOwnCounts (after_all v (commits spans entries n v)) → HasEnded o header pool (after_all v (commits spans entries n v)) }
+    ensures stops { (o : Opening) (header : Header) (pool : PoolView) (start v : View) (steps : List Step) (lane : Lane M) (blocks : BlockLists) (entries : List Redo) (spans : List Span) (n made : ℕ)
+        → CommitsAlone o header pool start steps M.at lane blocks v entries → Ready v (commits spans entries n v)
+        → HasOwnCounts (after_all v (take made (commits spans entries n v))) → IsCommittingAlone o header pool start steps n (after_all v (take made (commits spans entries n v))) }
 {}

@@ -5,6 +5,9 @@
 //! `free`). What the transaction found is `pm_tx`'s; what it made needs no lock and no record. Each makes exactly the stated memory calls, and is
 //! the plain model's; a refusal is the model's reason and gives the transaction up. It stands on `pm_tx` for objects found, on `pm_made` for the
 //! lists of what was made and freed, and on `pm_crash` for what a call comes to; docs/MODEL.md, "Transactions that make objects".
+//!
+//! Its laws say, of a lane that works alone, that such a transaction may be committed with the redo entries of its blocks, and that its call has ended then. They
+//! stand on `pm_epoch`; docs/MODEL.md, "From call to call".
 #![tactic(auto)]
 
 mod beginning;
