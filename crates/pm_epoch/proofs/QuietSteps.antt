@@ -26,7 +26,7 @@ module _ (P : Step → Type 0) (store : (w x : ℕ) → P (Store w x)) (flush : 
   Every [] = Unit {0}
   Every (s ∷ steps) = P s × Every steps
 
-  pub every_append : (xs ys : List Step) → Every xs → Every ys → Every (xs ++ ys)
+  every_append : (xs ys : List Step) → Every xs → Every ys → Every (xs ++ ys)
   every_append [] ys first second = second
   every_append (s ∷ xs) ys first second = (first.0, every_append xs ys first.1 second)
 
@@ -100,10 +100,10 @@ undrawn_owes : (v : View) (s : Step) → IsUndrawn s → DrawsEnded v s
 undrawn_owes v (Draw n) is = absurd is
 undrawn_owes v s is = tt
 
-abbrev pub AllUndrawn : List Step → Type 0
+abbrev AllUndrawn : List Step → Type 0
 AllUndrawn steps = Every IsUndrawn (λ w x. tt) (λ line. tt) tt steps
 
-pub ready_leads : (v : View) (steps : List Step) → Ready v steps → AllUndrawn steps → Leads v steps (after_all v steps)
+ready_leads : (v : View) (steps : List Step) → Ready v steps → AllUndrawn steps → Leads v steps (after_all v steps)
 unfolding Leads Ready after_all
 ready_leads v [] ready undrawn = refl
 ready_leads v (s ∷ steps) ready undrawn = (ready.0, foreseen_is_found v s ready.1, undrawn_owes v s undrawn.0, ready_leads (after v s) steps ready.2 undrawn.1)
