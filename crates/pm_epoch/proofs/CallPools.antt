@@ -4,6 +4,7 @@ use Rattle.std.proofs.Common.{◌≡◌, ◌≢◌, ⊎_elim, ℕ, ◌<◌, ◌�
 use Rattle.std.proofs.lemmas.Bool.{cases_Bool, cases_eq, cond-true, false_from_ne_true, false≢true, cond-false, or_from}
 use Rattle.std.proofs.lemmas.Option.{none-some}
 use Rattle.pm_header.specs.declared.header.Header.{Header}
+use Rattle.pm_image.specs.HeapFaults.{heap_fault}
 use Rattle.pm_objects.specs.declared.history.TxErr.{TxErr}
 use Rattle.pm_objects.specs.declared.pool.PoolView.{PoolView}
 use Rattle.pm_view.specs.Log.Phase.{Open}
@@ -39,15 +40,9 @@ use Rattle.pm_crash.specs.Reserved.{IsBorneOut}
 use Rattle.pm_epoch.specs.Epochs.{HoldsCalls, HoldsCommitted, HoldsOpenCall}
 use Rattle.pm_epoch.proofs.StandingPools.{holds_calls, image_pool, now, own_fits, reached, words_behind}
 
-module _ (o : Opening) (header : Header) (pool : PoolView) (w : View) (s : StandsAlone o header pool w) (is_open : w.log.phase ≡ Open [] []) (drained : w.changes ≡ []) where
+module _ (o : Opening) (header : Header) (pool : PoolView) (w : View) (s : StandsAlone o header pool w) (is_open : w.log.phase ≡ Open [] []) where
   fits : LaneFits o (memory_of w) (settled o s.log s.decided) (Flies s.log s.decided 0) 0 w
   fits = own_fits o header pool w s
-
-  -- no slot of it is being written
-  writes_none : (slot : ℕ) → IsBeingWritten w slot → ⊥
-  writes_none slot = ⊎_elim
-      (λ (undrained : is_drained_slot w slot ≡ false). false≢true (sym undrained ∙ all_drained w slot drained))
-      (λ (used : (length w.log.records ≤ slot) × (slot < used_slots w.log.phase w)). let all : used_slots w.log.phase w ≡ length w.log.records = ap (λ p. used_slots p w) is_open in let from = used.0 in let to = used.1 in omega (arith, all, from, to))
 
   -- no call of it is lost: none is in flight
   undrawn : w.number ≡ None
@@ -127,10 +122,6 @@ module _ (o : Opening) (header : Header) (pool : PoolView) (w : View) (s : Stand
       (new_runs_alike (call_words w (words_behind o header pool w s)) (slice_index w.words) o.lanes o.zones
       (may_have_runs o (call_words w (words_behind o header pool w s)) call_heads s.goes.world.sound here.no_fault (slice_index w.words) living_same s.goes.world.new_runs) here.no_fault)
 
-  -- the pool before the call is no other
-  one_pool : (held : HoldsCalls o w header pool) → held.before ≡ (reached o header pool w s).last
-  one_pool held = held.holds.holds.is_pool ∙ sym (image_pool o header pool w s writes_none loses_none).is_pool
-
   tells : TellsAsOpening o (words_behind o header pool w s)
   tells = tells_as_opening o 0 (now o header pool w s) s.goes.world s.goes.in_lanes
 
@@ -138,24 +129,44 @@ module _ (o : Opening) (header : Header) (pool : PoolView) (w : View) (s : Stand
   behind_may_precede : IsBorneOut w → MayPrecede (reached o header pool w s).last w
   behind_may_precede = may_precede o header pool w s (words_behind o header pool w s) header (reached o header pool w s).last tells (reached o header pool w s).holds
 
-  pub may_precede_call : (held : HoldsCalls o w header pool) → IsBorneOut w → MayPrecede held.before w
-  may_precede_call held borne_out = subst (λ (p : PoolView). MayPrecede p w) (sym (one_pool held)) (behind_may_precede borne_out)
+  -- so the call came to this, and as they stand its words have no fault
+  pub call_comes : (level : ℕ) (at_stage : Stage) (error : TxErr) → IsUnderWay w level at_stage error → IsBorneOut w → ComesTo w (words_behind o header pool w s) header (reached o header pool w s).last level at_stage error
+  call_comes level at_stage error under_way borne_out =
+      under_way.comes (words_behind o header pool w s) header (reached o header pool w s).last before_holds of_pool is_before (behind_may_precede borne_out)
 
-  module _ (v : View) (begins : Begins o header pool v) where
-    abbrev calls_here : HoldsCalls o w header pool
-    calls_here = holds_calls o header pool w s writes_none loses_none v begins
+  pub call_has_no_fault : (level : ℕ) (at_stage : Stage) (error : TxErr) → IsUnderWay w level at_stage error → IsBorneOut w → heap_fault (slice_index w.words) o.lanes o.zones ≡ None
+  call_has_no_fault level at_stage error under_way borne_out = let comes = call_comes level at_stage error under_way borne_out in (stored_holds comes.base comes.holds).no_fault
 
-    pub open_calls_held : HoldsCalls o w header pool
-    open_calls_held = calls_here
+  -- where nothing is undrained
+  module _ (drained : w.changes ≡ []) where
+    -- no slot of it is being written
+    writes_none : (slot : ℕ) → IsBeingWritten w slot → ⊥
+    writes_none slot = ⊎_elim
+        (λ (undrained : is_drained_slot w slot ≡ false). false≢true (sym undrained ∙ all_drained w slot drained))
+        (λ (used : (length w.log.records ≤ slot) × (slot < used_slots w.log.phase w)). let all : used_slots w.log.phase w ≡ length w.log.records = ap (λ p. used_slots p w) is_open in let from = used.0 in let to = used.1 in omega (arith, all, from, to))
 
-    module _ (borne_out : IsBorneOut w) where
-      pub holds_open_call : (level : ℕ) (at_stage : Stage) (error : TxErr) → IsUnderWay w level at_stage error → HoldsOpenCall o w header pool level at_stage error
-      holds_open_call level at_stage error under_way =
-          let comes : ComesTo w (words_behind o header pool w s) header (reached o header pool w s).last level at_stage error =
-          under_way.comes (words_behind o header pool w s) header (reached o header pool w s).last before_holds of_pool is_before (behind_may_precede borne_out) in
-          record { held = calls_here; words = words_behind o header pool w s; comes = comes; holds = stored_holds comes.base comes.holds }
+    -- the pool before the call is no other
+    one_pool : (held : HoldsCalls o w header pool) → held.before ≡ (reached o header pool w s).last
+    one_pool held = held.holds.holds.is_pool ∙ sym (image_pool o header pool w s writes_none loses_none).is_pool
 
-      pub holds_committed : IsCommitted w → HoldsCommitted o w header pool
-      holds_committed committed =
-          let to : CommitsTo w (words_behind o header pool w s) header (reached o header pool w s).last = committed.comes (words_behind o header pool w s) header (reached o header pool w s).last before_holds of_pool is_before (behind_may_precede borne_out) in
-          record { held = calls_here; words = words_behind o header pool w s; to = to; holds = stored_holds to.base to.holds }
+    pub may_precede_call : (held : HoldsCalls o w header pool) → IsBorneOut w → MayPrecede held.before w
+    may_precede_call held borne_out = subst (λ (p : PoolView). MayPrecede p w) (sym (one_pool held)) (behind_may_precede borne_out)
+
+    module _ (v : View) (begins : Begins o header pool v) where
+      abbrev calls_here : HoldsCalls o w header pool
+      calls_here = holds_calls o header pool w s writes_none loses_none v begins
+
+      pub open_calls_held : HoldsCalls o w header pool
+      open_calls_held = calls_here
+
+      module _ (borne_out : IsBorneOut w) where
+        pub holds_open_call : (level : ℕ) (at_stage : Stage) (error : TxErr) → IsUnderWay w level at_stage error → HoldsOpenCall o w header pool level at_stage error
+        holds_open_call level at_stage error under_way =
+            let comes : ComesTo w (words_behind o header pool w s) header (reached o header pool w s).last level at_stage error =
+            under_way.comes (words_behind o header pool w s) header (reached o header pool w s).last before_holds of_pool is_before (behind_may_precede borne_out) in
+            record { held = calls_here; words = words_behind o header pool w s; comes = comes; holds = stored_holds comes.base comes.holds }
+
+        pub holds_committed : IsCommitted w → HoldsCommitted o w header pool
+        holds_committed committed =
+            let to : CommitsTo w (words_behind o header pool w s) header (reached o header pool w s).last = committed.comes (words_behind o header pool w s) header (reached o header pool w s).last before_holds of_pool is_before (behind_may_precede borne_out) in
+            record { held = calls_here; words = words_behind o header pool w s; to = to; holds = stored_holds to.base to.holds }

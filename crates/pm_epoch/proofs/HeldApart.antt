@@ -101,7 +101,7 @@ module _ (o : Opening) (header : Header) (pool : PoolView) (b : View) (s : Stand
         let was_run : is_run (slice_index o.words (lane_descriptor o.lanes page)) ≡ true = ap (λ i. is_run (slice_index o.words i)) of.descriptor ∙ run in
         ap (slice_index b.words) (sym of.bitmap) ∙ (telling_word o header pool b s page (bitmap_word page) chunk.0 was_taken (inr (refl, was_run)) ∙ ap (slice_index o.words) of.bitmap)
 
-  taken_same : SameTaken (slice_index o.words) (slice_index b.words) o.lanes o.zones
+  pub taken_same : SameTaken (slice_index o.words) (slice_index b.words) o.lanes o.zones
   taken_same = record { descriptor = descriptor_same; bitmap = bitmap_same }
 
   pub reserved_run : (n : NewObject) → (run : IsReservedInRun b n) → IsFreeInRun (slice_index b.words) o.lanes o.zones run.chunk run.lines run.index
@@ -133,6 +133,11 @@ module _ (o : Opening) (header : Header) (pool : PoolView) (b : View) (s : Stand
   module _ (none : heap_fault (slice_index o.words) o.lanes o.zones ≡ None) where
     found_block : (l : Lock) (lines : ℕ) → Contains b.locks l → l.block ≡ Some lines → Contains (blocks (slice_index o.words) o.lanes o.zones) (block_at_line l.line lines)
     found_block l lines there is = let size = s.goes.world.sound.size in (found_of_words o.words o.lanes o.zones l.line lines none (omega (arith, size))).0 (found_at_opening l lines there is)
+
+    -- and so it lies by the lane's words
+    pub found_lies : (l : Lock) (lines : ℕ) → Contains b.locks l → l.block ≡ Some lines → Lies (slice_index b.words) o.lanes o.zones (block_at_line l.line lines)
+    found_lies l lines there is =
+        lies_still (slice_index o.words) (slice_index b.words) o.lanes o.zones (block_at_line l.line lines) taken_same (each_lies (slice_index o.words) o.lanes o.zones none (block_at_line l.line lines) (found_block l lines there is))
 
     -- a block of the opening's words has a line at least, and none that it reserved overlaps it
     pub opening_has_lines : (x : Block) → Contains (blocks (slice_index o.words) o.lanes o.zones) x → 1 ≤ x.lines

@@ -9,7 +9,7 @@ use Rattle.pm_view.specs.declared.occ.Occ.{Occ}
 use Rattle.pm_view.specs.Occupancy.{is_taken}
 use Rattle.pm_view.specs.Steps.{Step}
 use Rattle.pm_view.specs.View.{View}
-use Rattle.pm_view.specs.Views.{has_bit, is_made, occ_in, reserves}
+use Rattle.pm_view.specs.Views.{has_bit, occ_in, reserves}
 use Rattle.pm_world.specs.Fits.{LaneFits}
 use Rattle.pm_world.specs.Heap.{IsOcc, has_taken}
 use Rattle.pm_world.specs.History.{Flies, settled}
@@ -19,7 +19,7 @@ use Rattle.pm_crash.proofs.AloneCourse.{StandsAlone, stands_at}
 use Rattle.pm_crash.proofs.AloneMemory.{memory_of}
 use Rattle.pm_crash.proofs.KnownHeap.{known_alone}
 use Rattle.pm_reclaim.specs.KnownTaken.{KnowsTaken}
-use Rattle.pm_crash.proofs.ReservedBlocks.{free_still}
+use Rattle.pm_epoch.proofs.FreeChunks.{ReservesNoRun, free_by_words}
 use Rattle.pm_epoch.proofs.StandingPools.{own_fits}
 
 module _ (o : Opening) (header : Header) (pool : PoolView) (v w : View) (steps : List Step) (works : WorksAlone o header pool v steps w) where
@@ -32,10 +32,10 @@ module _ (o : Opening) (header : Header) (pool : PoolView) (v w : View) (steps :
   pub none_freed : w.freed ≡ []
   none_freed = fits.blocks.freed
 
-  module _ (no_run : (page : ℕ) → is_made w page ≡ false) where
+  module _ (no_run : ReservesNoRun o.lanes w) where
     pub free_here : (at : Occ) (bit : ℕ) → reserves w at bit ≡ true → is_taken (slice_index w.words) o.lanes at bit ≡ false
-    free_here at bit = subst (λ (u : View). ((page : ℕ) → is_made u page ≡ false) → reserves u at bit ≡ true → is_taken (slice_index u.words) o.lanes at bit ≡ false) stands.here
-        (λ none. free_still o (memory_of w) stands.views stands.log stands.decided 0 stands.goes.world stands.goes.in_lanes (λ i. ap (λ (u : View). slice_index u.words i) (sym stands.here)) none at bit) no_run
+    free_here at bit = subst (λ (u : View). ReservesNoRun o.lanes u → reserves u at bit ≡ true → is_taken (slice_index u.words) o.lanes at bit ≡ false) stands.here
+        (λ none. free_by_words o (memory_of w) stands.views stands.log stands.decided 0 stands.goes.world stands.goes.in_lanes (λ i. ap (λ (u : View). slice_index u.words i) (sym stands.here)) none at bit) no_run
 
     there : (at : Occ) → IsOcc w.lanes w.zones at → IsOcc o.lanes o.zones at
     there at of = subst (λ n. IsOcc n o.zones at) fits.lane.lanes (subst (λ n. IsOcc w.lanes n at) fits.lane.zones of)

@@ -8,6 +8,7 @@ pub mod EnteredCalls
 pub mod FilledBlocks
 pub mod ClearChunks
 pub mod ReadyLanes
+pub mod FreeChunks
 pub mod KnowingLanes
 pub mod RestingLanes
 pub mod PublishingHeap

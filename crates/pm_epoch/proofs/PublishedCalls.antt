@@ -1,5 +1,6 @@
 -- A call that a lane alone published has ended at its log's end.
-use Rattle.std.proofs.Common.{◌≡◌, ℕ, ◌^◌, ◌<◌, Bool, true, false, All, List, [], ◌∷◌, flat_map, is_some, Some, refl, sym, ap, ◌∙◌, subst, arith}
+use Rattle.std.proofs.Common.{◌≡◌, ℕ, ◌^◌, ◌<◌, ◌≤◌, Bool, true, false, All, List, [], ◌∷◌, flat_map, is_some, Some, refl, sym, ap, ◌∙◌, subst, arith}
+use Rattle.std.specs.Option.{ForSome}
 use Rattle.std.proofs.lemmas.Bool.{false≢true}
 use Rattle.pm_header.specs.declared.header.Header.{Header}
 use Rattle.pm_objects.specs.declared.pool.PoolView.{PoolView}
@@ -26,8 +27,9 @@ use Rattle.pm_crash.proofs.AloneMemory.{memory_of}
 use Rattle.pm_crash.proofs.Continued.{two_same}
 use Rattle.pm_sealed.specs.Sealed.{Publishes, is_publishing}
 use Rattle.pm_sealed.proofs.EndedLog as ended_log
-use Rattle.pm_epoch.specs.Epochs.{HasEnded, HasEntriesFor, HasSameHeap, IsPublishing, MayPublish, PromisesTaken, PublishesAlone}
+use Rattle.pm_epoch.specs.Epochs.{HasEnded, HasEntriesFor, HasSameHeap, IsPublishing, LoadsNoneOf, MayPublish, PromisesTaken}
 use Rattle.pm_epoch.proofs.PublishingCalls.{alone, base, before, few, fits, has, heap, lane, led, may, newest, own, stands}
+use Rattle.pm_epoch.proofs.FreeChunks.{ReservesNoRun}
 use Rattle.pm_epoch.proofs.HandedOver.{allocated, hands_over, reserved_drawn}
 use Rattle.pm_epoch.proofs.HeldBehindLog.{holds_behind}
 use Rattle.pm_epoch.proofs.KnowingLanes.{knows_at_work, none_freed}
@@ -117,10 +119,8 @@ unfolding Publishes
 empty_along v [] w empty leads idle = ap (λ (u : View). u.log) leads ∙ empty (ap (λ (u : View). u.log.phase) (sym leads) ∙ idle)
 empty_along v (s ∷ steps) w empty leads idle = empty_along (after v s) steps w (empty_after v s leads.0 leads.1) leads.3 idle
 
-module _ (o : Opening) (header : Header) (pool : PoolView) (u : View) (n : ℕ) (all : List Published) (w : View) (published : PublishesAlone o header pool u n all w) where
-  abbrev call : IsPublishing o header pool u n all w
-  call = published.publishing
-
+module _ (o : Opening) (header : Header) (pool : PoolView) (u : View) (n : ℕ) (all : List Published) (w : View) (call : IsPublishing o header pool u n all w) (no_run : ReservesNoRun o.lanes u)
+    (loads : All (LoadsNoneOf u.log.entries) call.log_steps) (over : w.log.phase ≡ Idle) (within : ForSome w.stop (λ stop. w.calls ≤ stop)) where
   abbrev b : View
   b = after u (Draw n)
 
@@ -150,7 +150,7 @@ module _ (o : Opening) (header : Header) (pool : PoolView) (u : View) (n : ℕ) 
 
   -- its picture promises what will be taken
   promised : PromisesTaken b all
-  promised = promises u n all (knows_at_work o header pool call.start u call.steps call.works published.no_run) (none_freed o header pool call.start u call.steps call.works)
+  promised = promises u n all (knows_at_work o header pool call.start u call.steps call.works no_run) (none_freed o header pool call.start u call.steps call.works)
       (hands_over o header pool before_it its_base call.start u call.steps all call.works its_entries n (own o header pool u n all w call))
 
   -- what it has reserved still is of the pool, and of bits of a word
@@ -167,18 +167,18 @@ module _ (o : Opening) (header : Header) (pool : PoolView) (u : View) (n : ℕ) 
   has_ended = record {
     now = all_pool_published o.lanes all its_base;
     holds = two_same (λ (a c : ℕ). HoldsImage w.words a c header (all_pool_published a all its_base)) u.lanes o.lanes u.zones o.zones own_fits_now.lane.lanes own_fits_now.lane.zones
-        (image_stands b w header before_it its_base all call.log_steps may_now is_alone call.publishes published.over);
+        (image_stands b w header before_it its_base all call.log_steps may_now is_alone call.publishes over);
     replays = led o header pool u n all w call;
-    clean = λ j low. let lanes = own_fits_now.lane.lanes in let c = ended_log.clean b w call.log_steps may_now.seal is_alone call.publishes published.over j (omega (arith, lanes, low)) in
+    clean = λ j low. let lanes = own_fits_now.lane.lanes in let c = ended_log.clean b w call.log_steps may_now.seal is_alone call.publishes over j (omega (arith, lanes, low)) in
         record { unsealed = c.unsealed; first_generation = c.first_generation; last_generation = c.last_generation; stale = c.stale };
     lane = record { lanes = own_lane.lanes ∙ own_fits_now.lane.lanes; zones = own_lane.zones ∙ own_fits_now.lane.zones; lane = own_lane.lane ∙ own_fits_now.lane.lane; size = refl };
-    held = λ i there. holds_behind o header pool before_it its_base call.start u call.steps n all call.works call.draws may_now w call.log_steps i call.publishes published.loads there;
-    drained = ended_log.drained b w call.log_steps may_now.seal is_alone call.publishes published.over;
-    idle = empty_along b call.log_steps w (λ idle. absurd (false≢true (ap is_publishing (sym idle) ∙ ap is_publishing may_now.seal.drawn))) call.publishes published.over;
+    held = λ i there. holds_behind o header pool before_it its_base call.start u call.steps n all call.works call.draws may_now w call.log_steps i call.publishes loads there;
+    drained = ended_log.drained b w call.log_steps may_now.seal is_alone call.publishes over;
+    idle = empty_along b call.log_steps w (λ idle. absurd (false≢true (ap is_publishing (sym idle) ∙ ap is_publishing may_now.seal.drawn))) call.publishes over;
     of_pool = subst (All (λ (t : Taken). IsOcc o.lanes o.zones t.at)) (sym same_heap.reserved) of_pool_still;
     small = subst (All (λ (t : Taken). t.bits < 2 ^ 64)) (sym same_heap.reserved) small_still;
-    taken = knows_behind b w header before_it its_base all call.log_steps may_now is_alone call.publishes published.over promised;
-    within = published.within;
+    taken = knows_behind b w header before_it its_base all call.log_steps may_now is_alone call.publishes over promised;
+    within = within;
     of_header = own_lane.pool ∙ (ap (λ (x : View). x.pool) (sym (stands o header pool u n all w call).here) ∙ (stands o header pool u n all w call).goes.of_pool);
     alone = own_lane.table ∙ is_alone;
     numbered = call.numbered;

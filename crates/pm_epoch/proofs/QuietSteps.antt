@@ -30,18 +30,18 @@ module _ (P : Step → Type 0) (store : (w x : ℕ) → P (Store w x)) (flush : 
   every_append [] ys first second = second
   every_append (s ∷ xs) ys first second = (first.0, every_append xs ys first.1 second)
 
-  abbrev Are : Sequence → Type 0
+  abbrev pub Are : Sequence → Type 0
   Are f = (v : View) → Every (f v)
 
-  are_in_turn : (f g : Sequence) → Are f → Are g → Are (in_turn f g)
+  pub are_in_turn : (f g : Sequence) → Are f → Are g → Are (in_turn f g)
   unfolding in_turn
   are_in_turn f g first second v = every_append (f v) (g (after_all v (f v))) (first v) (second (after_all v (f v)))
 
-  are_one : (s : Step) → P s → Are (one s)
+  pub are_one : (s : Step) → P s → Are (one s)
   unfolding one
   are_one s is v = (is, tt)
 
-  are_counted : (steps : ℕ → Sequence) → ((i : ℕ) → Are (steps i)) → (n : ℕ) → Are (counted steps n)
+  pub are_counted : (steps : ℕ → Sequence) → ((i : ℕ) → Are (steps i)) → (n : ℕ) → Are (counted steps n)
   unfolding counted nothing
   are_counted steps each zero v = tt
   are_counted steps each (suc n) v = are_in_turn (counted steps n) (steps n) (are_counted steps each n) (each n) v
@@ -54,15 +54,15 @@ module _ (P : Step → Type 0) (store : (w x : ℕ) → P (Store w x)) (flush : 
   either true xs ys first second = first
   either false xs ys first second = second
 
-  are_settles : Are settles
+  pub are_settles : Are settles
   unfolding settles flushes drains
   are_settles = are_in_turn flushes drains (λ v. flushed_lines (unflushed_lines v.changes)) (λ v. either (eqb (length v.changes) 0) [] (Drain ∷ []) tt (drain, tt))
 
-  are_room : Are makes_room
+  pub are_room : Are makes_room
   unfolding makes_room
   are_room v = either (ltb (length v.changes) max_changes) [] (settles v) tt (are_settles v)
 
-  are_stores : (w x : ℕ) → Are (stores w x)
+  pub are_stores : (w x : ℕ) → Are (stores w x)
   unfolding stores
   are_stores w x = are_in_turn makes_room (one (Store w x)) are_room (are_one (Store w x) (store w x))
 

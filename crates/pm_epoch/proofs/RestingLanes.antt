@@ -68,7 +68,7 @@ module _ (o : Opening) (header : Header) (pool : PoolView) (v w : View) (steps :
     no_locks = rests.free;
     of_pool = fits.blocks.of_pool;
     small = fits.blocks.small;
-    free = free_here o header pool v w steps works rests.no_run;
+    free = free_here o header pool v w steps works (λ page chunk. rests.no_run page);
     nothing_freed = fits.blocks.freed;
     within = works.within;
   }

@@ -21,3 +21,13 @@ pub mod RefusedAllocs
 pub mod NoSpace
 pub mod Made
 pub mod Ended
+pub mod ModelEntries
+pub mod FreeReplies
+pub mod EnteredWords
+pub mod BlockEntries
+pub mod BlockChanges
+pub mod BlocksAtWork
+pub mod PerformedSteps
+pub mod CommitViews
+pub mod PublishedCommit
+pub mod EndedCommit

@@ -5,3 +5,5 @@ pub mod Beginning
 pub mod Freeing
 pub mod Allocating
 pub mod Ending
+pub mod Committing
+pub mod Published

@@ -5,12 +5,16 @@
 //! `alloc`, `free`, `end`). What the transaction found is `pm_tx`'s; what it made needs no lock and no record. Each makes exactly the stated memory calls, and is
 //! the plain model's; a refusal is the model's reason and gives the transaction up. It stands on `pm_tx` for objects found, on `pm_alloc` for
 //! new ones, on `pm_made` for the lists of what was made and freed, and on `pm_crash` for what a call comes to; docs/MODEL.md, "Transactions that make objects".
+//!
+//! Its laws say, of a lane that works alone, that such a transaction may be committed with the redo entries of its blocks, and that its call has ended then. They
+//! stand on `pm_epoch`; docs/MODEL.md, "From call to call".
 #![tactic(auto)]
 
 mod allocating;
 mod beginning;
 mod ending;
 mod freeing;
+mod laws;
 mod new_ranges;
 mod origins;
 mod ranges;
@@ -19,6 +23,7 @@ pub use allocating::alloc;
 pub use beginning::begin;
 pub use ending::end;
 pub use freeing::free;
+pub use laws::{a_commit_of_a_lane_alone_publishes_its_call, a_lane_alone_may_publish_its_blocks};
 pub use new_ranges::{do_add_new, do_read_new, do_write_new};
 pub use ranges::{add_range, read, write};
 

@@ -2,4 +2,4 @@ use Rattle.pm_epoch.proofs.KnowingLanes.{knows_at_work, none_freed}
 use Rattle.pm_epoch.proofs.laws.a_lane_at_work_knows_what_is_taken.Goals as goal
 
 pub returns : goal.returns
-returns c = record { freed = none_freed; taken = knows_at_work }
+returns c = record { freed = none_freed; taken = λ o header pool v w steps works no_run. knows_at_work o header pool v w steps works (λ page chunk. no_run page) }

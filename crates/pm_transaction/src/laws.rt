@@ -1,0 +1,46 @@
+//! Laws of transactions that make and free objects, of a lane that works alone.
+
+ghost use Rattle.std.specs.Prelude.{ℕ, List, take};
+ghost use Rattle.pm_header.specs.declared.header.Header.{Header};
+ghost use Rattle.pm_layout.specs.declared.shape.Shape.{Shape};
+ghost use Rattle.pm_objects.specs.declared.pool.PoolView.{PoolView};
+ghost use Rattle.pm_record.specs.declared.redo.Redo.{Redo};
+ghost use Rattle.pm_view.specs.Steps.{Step};
+ghost use Rattle.pm_view.specs.View.{View};
+ghost use Rattle.pm_view.specs.Views.{after_all};
+ghost use Rattle.pm_world.specs.Opening.{Opening};
+ghost use Rattle.pm_world.specs.Sequences.{Ready};
+ghost use Rattle.pm_world.specs.declared.lane.Lane.{Lane};
+ghost use Rattle.pm_world.specs.declared.lane.Span.{Span};
+ghost use Rattle.pm_alloc.specs.NewObjects.{CanMakeObject};
+ghost use Rattle.pm_crash.specs.Alone.{WorksAlone};
+ghost use Rattle.pm_epoch.specs.Epochs.{HasEnded};
+ghost use Rattle.pm_made.specs.Made.{BlockLists};
+ghost use Rattle.pm_tx.specs.Sequences.{commits};
+ghost use Rattle.pm_transaction.specs.AtWork.{IsAtWorkWith};
+ghost use Rattle.pm_transaction.specs.Committing.{MayPublishBlocks};
+ghost use Rattle.pm_transaction.specs.Published.{CommitsAlone, HasDrawn, HasOwnCounts, IsCommittingAlone};
+
+use pm_world::LawfulMem;
+
+/// A law: a transaction of a lane that works alone, at work with its lists of what it made and freed, may be committed with the redo entries of their blocks: the
+/// pool has room for each block, the lane may enter each entry, and its log has room for all of them and the one that ends its generation. No code runs.
+pub fn a_lane_alone_may_publish_its_blocks<M: LawfulMem>()
+    ensures { (o : Opening) (header : Header) (pool : PoolView) (start v : View) (steps : List Step) (lane : Lane M) (blocks : BlockLists)
+        → WorksAlone o header pool start steps v → IsAtWorkWith o M.at lane blocks v → MayPublishBlocks v blocks }
+{}
+
+/// A law: a commit of such a transaction with the entries of its actions and blocks, some at least, publishes the call from where its number is drawn. At its end the
+/// call has ended, if the lane could make objects before it, so that it reserved no chunk that is a run. Wherever the lane stops in its steps, it works alone still, or
+/// it has drawn the number and publishes. No code runs.
+pub fn a_commit_of_a_lane_alone_publishes_its_call<M: LawfulMem>()
+    ensures publishes { (o : Opening) (header : Header) (pool : PoolView) (start v : View) (steps : List Step) (lane : Lane M) (blocks : BlockLists) (entries : List Redo) (spans : List Span) (n : ℕ)
+        → CommitsAlone o header pool start steps M.at lane blocks v entries → Ready v (commits spans entries n v)
+        → HasOwnCounts (after_all v (commits spans entries n v)) → HasDrawn o header pool n (after_all v (commits spans entries n v)) }
+    ensures ended { (o : Opening) (header : Header) (pool : PoolView) (start v : View) (steps : List Step) (lane : Lane M) (blocks : BlockLists) (entries : List Redo) (spans : List Span) (n : ℕ) (shape : Shape)
+        → CommitsAlone o header pool start steps M.at lane blocks v entries → CanMakeObject v shape → Ready v (commits spans entries n v)
+        → HasOwnCounts (after_all v (commits spans entries n v)) → HasEnded o header pool (after_all v (commits spans entries n v)) }
+    ensures stops { (o : Opening) (header : Header) (pool : PoolView) (start v : View) (steps : List Step) (lane : Lane M) (blocks : BlockLists) (entries : List Redo) (spans : List Span) (n made : ℕ)
+        → CommitsAlone o header pool start steps M.at lane blocks v entries → Ready v (commits spans entries n v)
+        → HasOwnCounts (after_all v (take made (commits spans entries n v))) → IsCommittingAlone o header pool start steps n (after_all v (take made (commits spans entries n v))) }
+{}
