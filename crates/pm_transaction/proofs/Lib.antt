@@ -15,3 +15,4 @@ pub mod HeldBlocks
 pub mod AtWork
 pub mod Owned
 pub mod Frees
+pub mod BlockCommits

@@ -3,3 +3,4 @@ pub mod NewRanges
 pub mod AnyRanges
 pub mod Beginning
 pub mod Freeing
+pub mod Committing

@@ -111,8 +111,8 @@ fn commit_outer<M: LawfulMem>(lane: &mut Lane<M>) -> Result<(), Refusal>
     }
 }
 
-/// Commits an inner level: the operation is told, and all else is left to the outer ones.
-fn commit_inner<M: LawfulMem>(lane: &mut Lane<M>)
+/// Commits an inner level: the operation is told, and all else is left to the outer ones. Once the level has ended, the transaction is in work again.
+pub fn commit_inner<M: LawfulMem>(lane: &mut Lane<M>)
     requires at_work { IsLaneAtWork M.at lane.old }
     ensures made { IsMade (M.at lane.old.memory) (M.at lane.new.memory) (one (Tell Commit None)) }
     ensures lane { lane.new ≡ record lane.old { memory = lane.new.memory; stage = stage.OnCommit } }
