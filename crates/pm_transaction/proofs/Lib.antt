@@ -31,3 +31,4 @@ pub mod PerformedSteps
 pub mod CommitViews
 pub mod PublishedCommit
 pub mod EndedCommit
+pub mod BlockCommits

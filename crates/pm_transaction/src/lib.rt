@@ -2,7 +2,7 @@
 //! are plain memory accesses there.
 //!
 //! Promises the calls of a lane that is alone, over any lawful memory, whose transaction may make and free objects (`begin`, `add_range`, `write`, `read`,
-//! `alloc`, `free`, `end`). What the transaction found is `pm_tx`'s; what it made needs no lock and no record. Each makes exactly the stated memory calls, and is
+//! `alloc`, `free`, `commit`, `end`). What the transaction found is `pm_tx`'s; what it made needs no lock and no record. Each makes exactly the stated memory calls, and is
 //! the plain model's; a refusal is the model's reason and gives the transaction up. It stands on `pm_tx` for objects found, on `pm_alloc` for
 //! new ones, on `pm_made` for the lists of what was made and freed, and on `pm_crash` for what a call comes to; docs/MODEL.md, "Transactions that make objects".
 //!
@@ -12,6 +12,7 @@
 
 mod allocating;
 mod beginning;
+mod committing;
 mod ending;
 mod freeing;
 mod laws;
@@ -21,6 +22,7 @@ mod ranges;
 
 pub use allocating::alloc;
 pub use beginning::begin;
+pub use committing::commit;
 pub use ending::end;
 pub use freeing::free;
 pub use laws::{a_commit_of_a_lane_alone_publishes_its_call, a_lane_alone_may_publish_its_blocks};

@@ -16,7 +16,7 @@ use Rattle.pm_world.specs.Lanes.{span_of}
 use Rattle.pm_world.specs.Sequences.{in_turn, nothing, one, settles}
 use Rattle.pm_world.specs.declared.lane.Span.{Span}
 use Rattle.pm_view.specs.Steps.{Step}
-use Rattle.pm_tx.proofs.Committed.{may_publish}
+use Rattle.pm_tx.proofs.Decided.{may_publish}
 use Rattle.pm_tx.proofs.Courses.{Course, Throughout, course_in_turn, course_nothing, course_of_kind, course_one, course_weaker, throughout_at, throughout_both}
 use Rattle.pm_tx.proofs.PublishCourse.{publishes_throughout}
 use Rattle.pm_tx.proofs.Retirement.{HasRetired, IsBeside, IsSteady, Retires, Stands, beside_keeps, log_ended, quiet_beside, retires_course, steady_drawn, steady_open}

@@ -12,7 +12,7 @@ use Rattle.pm_world.specs.declared.lane.Lane.{Lane}
 use Rattle.pm_lock.proofs.Drawless.{kept, kept_by_all}
 use Rattle.pm_lock.proofs.Leads.{counted_then}
 use Rattle.pm_lock.specs.Leading.{DrawEnded}
-use Rattle.pm_tx.specs.Ending.{IsDrawnOrNot, IsStoppedIn, IsUndrawn}
+use Rattle.pm_tx.specs.Ending.{IsDrawnOrNot, IsStoppedAmong, IsStoppedIn, IsUndrawn}
 use Rattle.std.proofs.lemmas.Option.{none-some}
 use Rattle.pm_view.specs.Log.{Phase}
 use Rattle.pm_view.specs.Log.Phase.{Idle, Open, Drawn, Sealing, Applying, Clearing, Retiring}
@@ -129,11 +129,10 @@ front_drawn v (s ∷ steps) (suc made) n few some told =
     (rest.0, rest.1 ∙ one.2, rest.2 ∙ one.3 (omega (arith, told, low)))
 
 module _ {M : Type 0} (at : M → View → Type 0) (lane : Lane M) (v : View) (steps : Sequence) (operation : Operation) (reply : Option Value) where
-  stopped_at : (made : ℕ) → made < length (steps v) → counted (take (made + 1) (steps v)) ≡ counted (take made (steps v)) + 1 → (w : View) → after_all v (take made (steps v)) ≡ w → Ready v (steps v) → DrawEnded v (steps v) → at lane.memory w → IsAtStop w → lane.stopped ≡ true → lane.drawn ≡ w.number → IsDrawnOrNot v w operation reply
-      → IsStoppedIn at lane v steps operation reply
-  stopped_at made fewer due w same ready draws seen stop says drawn came = record {
+  stopped_at : (made : ℕ) → made < length (steps v) → counted (take (made + 1) (steps v)) ≡ counted (take made (steps v)) + 1 → (w : View) → after_all v (take made (steps v)) ≡ w → Ready v (steps v) → at lane.memory w → IsAtStop w → lane.stopped ≡ true → lane.drawn ≡ w.number → IsDrawnOrNot v w operation reply
+      → IsStoppedAmong at lane v steps operation reply
+  stopped_at made fewer due w same ready seen stop says drawn came = record {
     ready = ready;
-    draws = draws;
     stops = record { made = made; fewer = fewer; seen = subst (at lane.memory) (sym same) seen; stopped = subst (λ (u : View). IsAtStop u) (sym same) stop; due = due };
     stopped = says;
     drawn = drawn ∙ sym (ap (λ (u : View). u.number) same);
@@ -141,21 +140,21 @@ module _ {M : Type 0} (at : M → View → Type 0) (lane : Lane M) (v : View) (s
   }
 
   -- the lane stopped among the first of the steps
-  pub stopped_left : (xs ys : List Step) → steps v ≡ xs ++ ys → Ready v (steps v) → DrawEnded v (steps v) → (s : Stops (at lane.memory) v xs) → lane.stopped ≡ true → lane.drawn ≡ (after_all v (take s.made xs)).number
-      → IsDrawnOrNot v (after_all v (take s.made xs)) operation reply → IsStoppedIn at lane v steps operation reply
-  stopped_left xs ys are ready draws s says drawn came =
+  pub among_left : (xs ys : List Step) → steps v ≡ xs ++ ys → Ready v (steps v) → (s : Stops (at lane.memory) v xs) → lane.stopped ≡ true → lane.drawn ≡ (after_all v (take s.made xs)).number
+      → IsDrawnOrNot v (after_all v (take s.made xs)) operation reply → IsStoppedAmong at lane v steps operation reply
+  among_left xs ys are ready s says drawn came =
       let fewer = s.fewer in
       let long = length-append xs ys in
       let all = ap length are in
       let same : take s.made (steps v) ≡ take s.made xs = ap (take s.made) are ∙ take-append-le s.made xs ys (omega (arith, fewer)) in
       let more : take (s.made + 1) (steps v) ≡ take (s.made + 1) xs = ap (take (s.made + 1)) are ∙ take-append-le (s.made + 1) xs ys (omega (arith, fewer)) in
       stopped_at s.made (omega (arith, fewer, long, all)) (ap counted more ∙ (s.due ∙ ap (λ (front : List Step). counted front + 1) (sym same))) (after_all v (take s.made xs))
-      (ap (λ all. after_all v (take s.made all)) are ∙ ap (after_all v) (take-append-le s.made xs ys (omega (arith, fewer)))) ready draws s.seen s.stopped says drawn came
+      (ap (λ all. after_all v (take s.made all)) are ∙ ap (after_all v) (take-append-le s.made xs ys (omega (arith, fewer)))) ready s.seen s.stopped says drawn came
 
   -- or behind them
-  pub stopped_right : (xs : List Step) (m : View) (ys : List Step) → after_all v xs ≡ m → steps v ≡ xs ++ ys → Ready v (steps v) → DrawEnded v (steps v) → (s : Stops (at lane.memory) m ys) → lane.stopped ≡ true
-      → lane.drawn ≡ (after_all m (take s.made ys)).number → IsDrawnOrNot v (after_all m (take s.made ys)) operation reply → IsStoppedIn at lane v steps operation reply
-  stopped_right xs m ys there are ready draws s says drawn came =
+  pub among_right : (xs : List Step) (m : View) (ys : List Step) → after_all v xs ≡ m → steps v ≡ xs ++ ys → Ready v (steps v) → (s : Stops (at lane.memory) m ys) → lane.stopped ≡ true
+      → lane.drawn ≡ (after_all m (take s.made ys)).number → IsDrawnOrNot v (after_all m (take s.made ys)) operation reply → IsStoppedAmong at lane v steps operation reply
+  among_right xs m ys there are ready s says drawn came =
       let fewer = s.fewer in
       let long = length-append xs ys in
       let all = ap length are in
@@ -167,4 +166,16 @@ module _ {M : Type 0} (at : M → View → Type 0) (lane : Lane M) (v : View) (s
       let due = s.due in
       stopped_at (length xs + s.made) (omega (arith, fewer, long, all)) (omega (arith, now, then, due)) (after_all m (take s.made ys))
       (ap (λ all. after_all v (take (length xs + s.made) all)) are ∙ (ap (after_all v) (take-append-add xs ys s.made) ∙ (after_all-append v xs (take s.made ys) ∙ ap (λ u. after_all u (take s.made ys)) there)))
-      ready draws s.seen s.stopped says drawn came
+      ready s.seen s.stopped says drawn came
+
+  -- where what they draw is an ended call's
+  pub among_ended : DrawEnded v (steps v) → IsStoppedAmong at lane v steps operation reply → IsStoppedIn at lane v steps operation reply
+  among_ended draws s = record { ready = s.ready; draws = draws; stops = s.stops; stopped = s.stopped; drawn = s.drawn; came = s.came }
+
+  pub stopped_left : (xs ys : List Step) → steps v ≡ xs ++ ys → Ready v (steps v) → DrawEnded v (steps v) → (s : Stops (at lane.memory) v xs) → lane.stopped ≡ true → lane.drawn ≡ (after_all v (take s.made xs)).number
+      → IsDrawnOrNot v (after_all v (take s.made xs)) operation reply → IsStoppedIn at lane v steps operation reply
+  stopped_left xs ys are ready draws s says drawn came = among_ended draws (among_left xs ys are ready s says drawn came)
+
+  pub stopped_right : (xs : List Step) (m : View) (ys : List Step) → after_all v xs ≡ m → steps v ≡ xs ++ ys → Ready v (steps v) → DrawEnded v (steps v) → (s : Stops (at lane.memory) m ys) → lane.stopped ≡ true
+      → lane.drawn ≡ (after_all m (take s.made ys)).number → IsDrawnOrNot v (after_all m (take s.made ys)) operation reply → IsStoppedIn at lane v steps operation reply
+  stopped_right xs m ys there are ready draws s says drawn came = among_ended draws (among_right xs m ys there are ready s says drawn came)

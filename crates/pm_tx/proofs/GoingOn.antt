@@ -1,5 +1,5 @@
 -- A lane at work stays so by what keeps its locks, what it found under them, and its call.
-use Rattle.std.proofs.Common.{◌≡◌, refl, ℕ, ◌+◌, ◌*◌, All, Contains, [], map, slice_index, Some, sym, ap, ◌∙◌, subst, arith, ◌<◌, ◌≤◌, ◌/◌, ◌&&◌, List, is_some, length, get_or, ⊎_elim, inl, inr, ◌^◌}
+use Rattle.std.proofs.Common.{◌≡◌, refl, true, ℕ, ◌+◌, ◌*◌, All, Contains, [], map, slice_index, Some, sym, ap, ◌∙◌, subst, arith, ◌<◌, ◌≤◌, ◌/◌, ◌&&◌, List, is_some, length, get_or, ⊎_elim, inl, inr, ◌^◌}
 use Rattle.std.specs.Prelude.{nat_eq}
 use Rattle.std.specs.List.{IsDistinct}
 use Rattle.std.specs.Option.{ForSome}
@@ -23,10 +23,11 @@ use Rattle.pm_crash.specs.Pending.{published_in}
 use Rattle.pm_model.specs.Actions.{Action}
 use Rattle.pm_pending.specs.Pending.{entry_of}
 use Rattle.pm_record.specs.declared.redo.Op.TheVariants.{Set}
-use Rattle.pm_redo.specs.Entering.{IsOfPool, KnowsWord}
+use Rattle.pm_redo.specs.Entering.{EntersHeap, IsOfPool, KnowsWord, MayEnter}
 use Rattle.pm_record.specs.declared.redo.Redo.{Redo}
 use Rattle.pm_tx.specs.AtWork.{ListsPublished}
 use Rattle.pm_view.specs.Area.{is_in_area}
+use Rattle.pm_view.specs.Rights.{is_written}
 use Rattle.std.specs.Prelude.{IsTrue}
 use Rattle.std.specs.List.{list_any}
 use Rattle.pm_view.specs.Held.{is_under}
@@ -94,6 +95,25 @@ of_pool_on v w lane locks e is known = record {
 pub knows_on : (v w : View) → ((u : ℕ) → Contains v.known u → Contains w.known u) → KeepsOutside v w → (e : Redo) → IsOfPool v e → KnowsWord w e
 knows_on v w remembers same e is =
     ⊎_elim inl (λ (t : IsKnownWord v (e.place / 8)). inr (record { known = remembers (e.place / 8) t.known; small = subst (λ n. n < 2 ^ 64) (sym (same (e.place / 8) is.outside)) t.small })) is.known
+
+-- an entry of the heap stays one, which asks of its word what it was
+heap_on : (v w : View) → IsSameLane v w → w.locks ≡ v.locks → KeepsOutside v w → (e : Redo) → EntersHeap v e → EntersHeap w e
+heap_on v w lane locks same e is = record {
+  entry = is.entry;
+  alone = lane.table ∙ is.alone;
+  unlocked = ap (λ (held : List Lock). list_any (λ (l : Lock). l.write && is_some l.block && is_under (e.place / 8) l) held) locks ∙ is.unlocked;
+  outside = ap (λ (k : ℕ). is_in_area k (e.place / 8)) lane.lane ∙ is.outside;
+  inside = (let low = is.inside in let size = lane.size in omega (arith, low, size));
+  small = subst (λ n. n < 2 ^ 64) (sym (same (e.place / 8) is.outside)) is.small;
+}
+
+-- so the lane may enter what it might before, where it knows the words still that it locked for writing
+pub enters_on : (v w : View) → IsSameLane v w → w.locks ≡ v.locks → ((u : ℕ) → is_written v u ≡ true → Contains v.known u → Contains w.known u) → KeepsOutside v w → (e : Redo) → MayEnter v e → MayEnter w e
+enters_on v w lane locks remembers same e may = ⊎_elim
+    (λ (is : IsOfPool v e).
+    inl (of_pool_on v w lane locks e is (⊎_elim inl (λ (t : IsKnownWord v (e.place / 8)). inr (record { known = remembers (e.place / 8) is.own t.known; small = subst (λ n. n < 2 ^ 64) (sym (same (e.place / 8) is.outside)) t.small })) is.known)))
+    (λ (is : EntersHeap v e). inr (heap_on v w lane locks same e is))
+    may
 
 -- an action sets its word
 sets_word : (a : Action) → (entry_of a).op ≡ Set

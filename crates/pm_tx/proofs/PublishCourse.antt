@@ -10,7 +10,8 @@ use Rattle.pm_record.specs.declared.redo.Redo.{Redo}
 use Rattle.pm_record.specs.Redo.{op_code}
 use Rattle.pm_redo.proofs.PairWords.{pair_part, seal_part}
 use Rattle.pm_redo.proofs.Sealed.{seal_lawful}
-use Rattle.pm_redo.specs.Entering.{IsOfPool, ending}
+use Rattle.pm_redo.proofs.Whole.{may_outside}
+use Rattle.pm_redo.specs.Entering.{MayEnter, ending}
 use Rattle.pm_redo.specs.Sequences.{applies, applies_each, applies_entry, ending_of, entry_at, logs, performs, performs_on, seals, stores_two, writes_entries, writes_log, writes_pair, writes_pairs, writes_seal, does}
 use Rattle.pm_undo.proofs.Areas.{generation_word, other_part}
 use Rattle.pm_undo.specs.Sequences.{persists}
@@ -390,7 +391,7 @@ module _ (m : View) (entries : List Redo) (may : MayPublish m entries) (lane : m
       let can = perform_may m entries may operation n in
       let sealed = (seal_lawful d (entries ++ ending d ∷ []) can.place can.drawn can.drained can.below can.entered).1 in
       subst (λ k. Throughout Holds r d (performs_on k (entries ++ ending_of k g ∷ []) d)) (sym p.1)
-      (performs_throughout entries g (All-weaker (IsOfPool m) (λ (e : Redo). is_in_area 0 (e.place / 8) ≡ false) (λ e o. ap (λ k. is_in_area k (e.place / 8)) (sym lane) ∙ o.outside) entries may.each) r d p
+      (performs_throughout entries g (All-weaker (MayEnter m) (λ (e : Redo). is_in_area 0 (e.place / 8) ≡ false) (λ e o. ap (λ k. is_in_area k (e.place / 8)) (sym lane) ∙ may_outside m e o) entries may.each) r d p
       (subst (λ k. (after_all d (writes_seal k (length (entries ++ ending_of k g ∷ [])) d)).log.phase ≡ Applying 0) p.1 (ap (λ (l : Log). l.phase) sealed.log)))
 
   pub publishes_throughout : (r : ℕ) → r ≡ 0 → Throughout Holds r m (publishes entries operation n m)

@@ -1,7 +1,7 @@
 -- A call that publishes: its log is written, it is told and draws its number, the log is performed, and then it is over.
-use Rattle.std.proofs.Common.{◌≡◌, ℕ, ◌*◌, ◌/◌, ◌≤◌, not, inl, inr, List, [], ◌∷◌, ◌++◌, All, Any, IsTrue, length, length-append, map, take, None, Some, refl, sym, ap, ◌∙◌, subst, arith, false}
-use Rattle.std.specs.List.{filter, Contains}
-use Rattle.std.proofs.lemmas.Bool.{cond-false, cond-true}
+use Rattle.std.proofs.Common.{◌≡◌, ◌⊎◌, ⊎_elim, true, ℕ, ◌*◌, ◌/◌, ◌≤◌, not, inl, inr, List, [], ◌∷◌, ◌++◌, All, Any, IsTrue, length, length-append, map, take, None, Some, refl, sym, ap, ◌∙◌, subst, arith, false, ◌||◌}
+use Rattle.std.specs.List.{filter, list_any, Contains}
+use Rattle.std.proofs.lemmas.Bool.{cases_Bool, cond-false, cond-true, or_left, or_right}
 use Rattle.std.proofs.lemmas.List.{length-map}
 use Rattle.std.proofs.lemmas.List.Elements.{All-head, All-tail, All-weaker}
 use Rattle.pm_crash.specs.Operations.{Tells}
@@ -21,11 +21,14 @@ use Rattle.pm_view.specs.Log.Phase.{Drawn}
 use Rattle.pm_view.specs.Rights.{is_written}
 use Rattle.pm_view.specs.Steps.{Step}
 use Rattle.pm_view.specs.Steps.Step.{Draw, NumberSeen, Tell}
-use Rattle.pm_view.specs.View.{Numbered, Told, View}
+use Rattle.pm_view.specs.View.{Lock, Numbered, Told, View}
 use Rattle.pm_view.specs.Views.{after, after_all, changes_heap, unallocated}
-use Rattle.pm_redo.proofs.Whole.{own_plain_log}
-use Rattle.pm_view.specs.Held.{is_held}
+use Rattle.pm_redo.proofs.Whole.{entered_own, may_outside, own_plain_log}
+use Rattle.pm_view.specs.Founds.{IsAlone}
+use Rattle.pm_view.specs.Held.{is_held, is_reserved, is_under}
 use Rattle.pm_world.proofs.Sequencing.{ready_both}
+use Rattle.pm_world.proofs.StepGive.{contains-filter}
+use Rattle.pm_world.proofs.Stored.{written_under}
 use Rattle.pm_world.specs.Lanes.{last_number_of}
 use Rattle.pm_world.specs.Lawful.{MayDraw, MayTell}
 use Rattle.pm_world.specs.Sequences.{Ready, in_turn, one}
@@ -34,20 +37,20 @@ use Rattle.pm_lock.specs.Leading.{DrawEnded}
 use Rattle.pm_tx.proofs.BorneOut.{whole_ended}
 use Rattle.pm_tx.proofs.Fronts.{front_drawn, front_undrawn}
 use Rattle.pm_tx.proofs.GivenUp.{last_behind}
-use Rattle.pm_tx.proofs.GoingOn.{knows_on, of_pool_on}
+use Rattle.pm_tx.proofs.GoingOn.{enters_on, knows_on, of_pool_on}
 use Rattle.pm_tx.specs.Ending.{IsDrawnBy, IsOver, IsUndrawn, drawn_more, told_more}
 use Rattle.pm_tx.specs.Publishing.{IsWholeOnceLogged, MayPublish, TellsLogged, logged_view, published_view}
 use Rattle.pm_tx.specs.Sequences.{ends_call, performs_logged, publishes}
 use Rattle.pm_world.proofs.StorePair.{final_word}
 
--- one of the entries at least is of a word that the lane locked for writing
+-- where each is of a word that the lane locked for writing, one of the entries at least is
 any_written : (v : View) (entries more : List Redo) → 1 ≤ length entries → All (IsOfPool v) entries → Any (λ (f : Final). IsTrue (is_written v f.word)) (map final_of (entries ++ more))
 any_written v [] more some each = absurd (omega (arith, some))
 any_written v (e ∷ entries) more some each =
     (0, final_of e, omega arith, refl, subst (λ w. IsTrue (is_written v w)) (sym (final_word e.op (e.place / 8) e.value)) (All-head (IsOfPool v) e entries each).own)
 
 -- of these and the one that ends the generation, these are of the pool
-pool_of : (v : View) (entries : List Redo) → All (IsOfPool v) entries → filter (λ (f : Final). not (is_in_area v.lane f.word)) (map final_of (entries ++ ending v ∷ [])) ≡ map final_of entries
+pool_of : (v : View) (entries : List Redo) → All (MayEnter v) entries → filter (λ (f : Final). not (is_in_area v.lane f.word)) (map final_of (entries ++ ending v ∷ [])) ≡ map final_of entries
 pool_of v [] each =
     let word : 8 * area_word v.lane / 8 ≡ area_word v.lane = omega arith in
     cond-false (not (is_in_area v.lane (8 * area_word v.lane / 8))) (final_of (ending v) ∷ []) []
@@ -55,8 +58,8 @@ pool_of v [] each =
 pool_of v (e ∷ entries) each =
     let rest : List Final = filter (λ (f : Final). not (is_in_area v.lane f.word)) (map final_of (entries ++ ending v ∷ [])) in
     cond-true (not (is_in_area v.lane (final_of e).word)) (final_of e ∷ rest) rest
-    (ap (λ w. not (is_in_area v.lane w)) (final_word e.op (e.place / 8) e.value) ∙ ap not (All-head (IsOfPool v) e entries each).outside)
-    ∙ ap (λ (fs : List Final). final_of e ∷ fs) (pool_of v entries (All-tail (IsOfPool v) e entries each))
+    (ap (λ w. not (is_in_area v.lane w)) (final_word e.op (e.place / 8) e.value) ∙ ap not (may_outside v e (All-head (MayEnter v) e entries each)))
+    ∙ ap (λ (fs : List Final). final_of e ∷ fs) (pool_of v entries (All-tail (MayEnter v) e entries each))
 
 -- a call with entries is still to be decided
 pub some_drawn : (records : List Recorded) (entries : List Final) → 1 ≤ length entries → phase_drawn records entries ≡ Drawn
@@ -69,7 +72,7 @@ module _ (v : View) (entries : List Redo) (may : MayPublish v entries) where
   m = logged_view v entries
 
   pub written : Ready v (logs entries v) × HasLogged v entries (logged_view v entries)
-  written = log_lawful v entries may.ready may.few (All-weaker (IsOfPool v) (MayEnter v) (λ e is. inl is) entries may.each)
+  written = log_lawful v entries may.ready may.few may.each
 
   -- while they are logged nothing is drawn
   pub logging_undrawn : (k : ℕ) → IsUndrawn v (after_all v (take k (logs entries v)))
@@ -92,6 +95,25 @@ module _ (v : View) (entries : List Redo) (may : MayPublish v entries) where
     abbrev told : View
     told = after m (Tell operation None)
 
+    told_lane : IsSameLane v told
+    told_lane = let l = written.1.call.lane in record { lanes = l.lanes; zones = l.zones; pool = l.pool; lane = l.lane; stop = l.stop; table = l.table; size = l.size }
+
+    told_entered : AreEntered told (entries ++ ending told ∷ [])
+    told_entered = record {
+      front = entries;
+      are = refl;
+      each = All-weaker (MayEnter v) (MayEnter told) (enters_on v told told_lane written.1.call.locks (λ u own there. written.1.call.remembers u there) written.1.outside) entries may.each;
+      logged = logged ∙ ap (λ (e : Redo). map final_of (entries ++ e ∷ [])) same_ending;
+      most = (let number = length-append entries (ending told ∷ []) in let few = may.few in omega (arith, number, few));
+    }
+
+    -- one of the entries at least changes the pool
+    changes_pool : Any (λ (f : Final). IsTrue (is_written told f.word)) told.log.entries ⊎ IsTrue (changes_heap told)
+    unfolding told_entered
+    changes_pool = ⊎_elim
+        (λ (own : All (IsOfPool told) entries). inl (subst (Any (λ (f : Final). IsTrue (is_written told f.word))) (sym logged) (any_written told entries (ending v ∷ []) may.some own)))
+        (λ (heap : IsAlone told × (changes_heap told ≡ true)). inr heap.1) (entered_own told (entries ++ ending told ∷ []) told_entered)
+
     may_draw : MayDraw told
     may_draw = record {
       is_open = written.1.is_open;
@@ -100,11 +122,8 @@ module _ (v : View) (entries : List Redo) (may : MayPublish v entries) where
       found = may.may_come.found;
       seen = written.1.call.seen (NumberSeen may.may_come.found) may.may_come.seen;
       below = may.may_come.below;
-      entered = inr (inl (subst (Any (λ (f : Final). IsTrue (is_written told f.word))) (sym logged)
-          (any_written told entries (ending v ∷ []) may.some (All-weaker (IsOfPool v) (IsOfPool told) (λ e is. of_pool_on v told told_lane written.1.call.locks e is (knows_on v told written.1.call.remembers written.1.outside e is)) entries may.each))));
-    } where
-      told_lane : IsSameLane v told
-      told_lane = let l = written.1.call.lane in record { lanes = l.lanes; zones = l.zones; pool = l.pool; lane = l.lane; stop = l.stop; table = l.table; size = l.size }
+      entered = inr changes_pool;
+    }
 
     pub end_ready : (n : ℕ) → Ready m (ends_call operation None n m)
     unfolding ends_call in_turn one Ready after_all
@@ -130,24 +149,15 @@ module _ (v : View) (entries : List Redo) (may : MayPublish v entries) where
       reserved = written.1.call.reserved;
     }
 
-    -- each entry is of a word that the lane locked
-    own_told : All (IsOfPool told) entries
-    own_told = All-weaker (IsOfPool v) (IsOfPool told) (λ e is. of_pool_on v told lane_told written.1.call.locks e is (knows_on v told written.1.call.remembers written.1.outside e is)) entries may.each where
-      lane_told : IsSameLane v told
-      lane_told = let l = written.1.call.lane in record { lanes = l.lanes; zones = l.zones; pool = l.pool; lane = l.lane; stop = l.stop; table = l.table; size = l.size }
+    -- where each entry is of a word that the lane locked, none of them changes the heap
+    told_plain : All (IsOfPool v) entries → changes_heap told ≡ false
+    unfolding told_entered
+    told_plain own = own_plain_log told (entries ++ ending told ∷ []) told_entered
+        (All-weaker (IsOfPool v) (IsOfPool told) (λ e is. of_pool_on v told told_lane written.1.call.locks e is (knows_on v told written.1.call.remembers written.1.outside e is)) entries own)
 
-    told_plain : changes_heap told ≡ false
-    told_plain = own_plain_log told (entries ++ ending told ∷ []) (record {
-      front = entries;
-      are = refl;
-      each = All-weaker (IsOfPool told) (MayEnter told) (λ e is. inl is) entries own_told;
-      logged = logged ∙ ap (λ (e : Redo). map final_of (entries ++ e ∷ [])) same_ending;
-      most = (let number = length-append entries (ending told ∷ []) in let few = may.few in omega (arith, number, few));
-    }) own_told
-
-    end_drawn : IsWholeOnceLogged v entries operation → (n : ℕ) → DrawEnded m (ends_call operation None n m)
+    end_drawn : All (IsOfPool v) entries → IsWholeOnceLogged v entries operation → (n : ℕ) → DrawEnded m (ends_call operation None n m)
     unfolding ends_call in_turn one DrawEnded after_all
-    end_drawn whole n = (tt, ((whole_ended told (whole told tells_logged), told_plain), tt))
+    end_drawn own whole n = (tt, ((whole_ended told (whole told tells_logged), told_plain own), tt))
 
     module _ (n : ℕ) where
       abbrev drawn : View
@@ -163,16 +173,25 @@ module _ (v : View) (entries : List Redo) (may : MayPublish v entries) where
       lane_drawn : IsSameLane v drawn
       lane_drawn = let l = written.1.call.lane in record { lanes = l.lanes; zones = l.zones; pool = l.pool; lane = l.lane; stop = l.stop; table = l.table; size = l.size }
 
-      -- what it knew it knows behind the draw, which is of no block
-      remembers_drawn : (u : ℕ) → Contains v.known u → Contains drawn.known u
-      remembers_drawn u there = subst (λ known. Contains known u)
-          (sym (cond-false (changes_heap told) (filter (is_held (record told { reserved = unallocated told })) told.known) told.known told_plain)) (written.1.call.remembers u there)
+      -- the words under its locks that it knew it knows behind the draw, by which it no longer holds what it allocates
+      remembers_drawn : (u : ℕ) → is_written v u ≡ true → Contains v.known u → Contains drawn.known u
+      remembers_drawn u own there =
+          let left : View = record told { reserved = unallocated told } in
+          let known = written.1.call.remembers u there in
+          let under : list_any (is_under u) left.locks ≡ true = subst (λ (locks : List Lock). list_any (is_under u) locks ≡ true) (sym written.1.call.locks) (written_under v.locks u own) in
+          let held : is_held left u ≡ true =
+          or_left (is_in_area left.lane u || list_any (is_under u) left.locks) (is_reserved left u) (or_right (is_in_area left.lane u) (list_any (is_under u) left.locks) under) in
+          ⊎_elim
+          (λ (heap : changes_heap told ≡ true).
+          subst (λ known. Contains known u) (sym (cond-true (changes_heap told) (filter (is_held left) told.known) told.known heap)) (contains-filter (is_held left) told.known u known held))
+          (λ (plain : changes_heap told ≡ false). subst (λ known. Contains known u) (sym (cond-false (changes_heap told) (filter (is_held left) told.known) told.known plain)) known)
+          (cases_Bool (changes_heap told))
 
       entered : AreEntered drawn (entries ++ ending drawn ∷ [])
       entered = record {
         front = entries;
         are = refl;
-        each = All-weaker (IsOfPool v) (MayEnter drawn) (λ e is. inl (of_pool_on v drawn lane_drawn written.1.call.locks e is (knows_on v drawn remembers_drawn written.1.outside e is))) entries may.each;
+        each = All-weaker (MayEnter v) (MayEnter drawn) (enters_on v drawn lane_drawn written.1.call.locks remembers_drawn written.1.outside) entries may.each;
         logged = ap (λ (p : Phase). (log_drawn p m.log).entries) written.1.is_open ∙ (logged ∙ ap (λ (e : Redo). map final_of (entries ++ e ∷ [])) same_ending);
         most = (let number = length-append entries (ending drawn ∷ []) in let few = may.few in omega (arith, number, few));
       }
@@ -269,8 +288,8 @@ module _ (v : View) (entries : List Redo) (may : MayPublish v entries) where
       pub publish_last : IsDrawnBy v (after_all v (publishes entries operation n v)) operation None n
       publish_last = subst (λ (w : View). IsDrawnBy v w operation None n) (sym there) whole_tail.2
 
-      pub publish_drawn : IsWholeOnceLogged v entries operation → DrawEnded v (publishes entries operation n v)
+      pub publish_drawn : All (IsOfPool v) entries → IsWholeOnceLogged v entries operation → DrawEnded v (publishes entries operation n v)
       unfolding publishes in_turn
-      publish_drawn whole =
+      publish_drawn own whole =
           drawn_in_turn v first (ends ++ tail d) (drawless v first (let e = ap length written.1.call.entries in omega (arith, e)))
-          (drawn_in_turn m ends (tail d) (end_drawn whole n) (drawless d (tail d) whole_tail.3))
+          (drawn_in_turn m ends (tail d) (end_drawn own whole n) (drawless d (tail d) whole_tail.3))

@@ -25,6 +25,7 @@ use Rattle.pm_lock.specs.Begun.{HoldsLines}
 use Rattle.pm_lock.specs.Leading.{DrawEnded}
 use Rattle.pm_lock.specs.Resting.{HasPlace, IsAtRest}
 use Rattle.pm_tx.specs.AtWork.{IsAtWork}
+use Rattle.pm_tx.specs.Generations.{CanPublish}
 use Rattle.pm_tx.specs.Publishing.{MayPublish}
 use Rattle.pm_record.specs.declared.redo.Redo.{Redo}
 use Rattle.pm_tx.specs.Sequences.{commits, completes, decides, decides_all, ends_call, logs_listed}
@@ -43,6 +44,10 @@ pub record IsTakenBack (v w : View) : Type 0 where
 -- the lane is at work, whatever it was opened with, as some view
 abbrev pub IsLaneAtWork : {M : Type 0} → (M → View → Type 0) → Lane M → Type 0
 IsLaneAtWork at lane = (o : Opening) × ((v : View) × IsAtWork o at lane v)
+
+-- some view that the lane may be seen as is at work, and the entries that the lane lists may be published with its commit
+abbrev pub MayCommitCall : {M : Type 0} → (M → View → Type 0) → Lane M → Type 0
+MayCommitCall at lane = (v : View) × (IsSeenAs at lane v × IsWorking v × CanPublish v lane.entries.items)
 
 -- the memory may be seen as a view from which the lane may make the sequence, whatever number it draws
 unfoldable pub IsReadyForAny : (View → Type 0) → (ℕ → Sequence) → Type 0
@@ -150,6 +155,14 @@ IsUndrawn v w = (w.number ≡ None) × (w.entries ≡ v.entries)
 pub record IsDrawnOrNot (v w : View) (operation : Operation) (reply : Option Value) : Type 0 where
   pub told : (w.number ≡ None) ⊎ (w.call ≡ told_more v.call operation reply)
   pub entries : ((w.number ≡ None) × (w.entries ≡ v.entries)) ⊎ ((n : ℕ) × IsDrawnAs v w n)
+
+-- the first of the steps were made, up to the lane's stop. The lane tells the number that its call drew by then, if it did
+pub record IsStoppedAmong {M : Type 0} (at : M → View → Type 0) (lane : Lane M) (v : View) (steps : Sequence) (operation : Operation) (reply : Option Value) : Type 0 where
+  pub ready : Ready v (steps v)
+  pub stops : Stops (at lane.memory) v (steps v)
+  pub stopped : lane.stopped ≡ true
+  pub drawn : lane.drawn ≡ (after_all v (take stops.made (steps v))).number
+  pub came : IsDrawnOrNot v (after_all v (take stops.made (steps v))) operation reply
 
 -- the first of the steps were made, up to the lane's stop: what they draw is an ended call's. The lane tells the number that its call drew
 -- by then, if it did

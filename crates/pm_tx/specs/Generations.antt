@@ -4,7 +4,7 @@ use Rattle.pm_crash.specs.Alone.{GrowsFirst, IsUnsealed}
 use Rattle.pm_image.specs.Logs.{generation_word}
 use Rattle.pm_view.specs.Log.{Phase, no_log, phase_drawn}
 use Rattle.pm_record.specs.declared.redo.Redo.{Redo}
-use Rattle.pm_redo.specs.Entering.{IsOfPool}
+use Rattle.pm_redo.specs.Entering.{MayEnter}
 use Rattle.pm_view.specs.Log.Phase.{Applying, Clearing, Drawn, Idle, Open, Retiring, Sealing}
 use Rattle.pm_view.specs.Steps.{Step}
 use Rattle.pm_view.specs.View.{View}
@@ -54,12 +54,12 @@ IsCommitting v [] raised w =
     ⊎ ((raised ≡ 1) × (is_some w.number ≡ true) × ((w.log.phase ≡ Retiring) ⊎ (w.log.phase ≡ Idle)))
 IsCommitting v (e ∷ entries) raised w = IsPublishing (length (e ∷ entries)) raised w
 
--- the open call may publish these entries with its commit, 63 at most, of words of the pool that its lane locked for writing: none is stored yet,
--- and a number is left for it
+-- the open call may publish these entries with its commit, 63 at most, each one that its lane may enter: none is stored yet, and a number is left for
+-- it
 pub record CanPublish (v : View) (entries : List Redo) : Type 0 where
   pub unentered : v.log.entries ≡ []
   pub few : length entries ≤ 63
-  pub each : All (IsOfPool v) entries
+  pub each : All (MayEnter v) entries
   pub may_come : MayCome v
 
 -- from the view before a call is given up, behind so many stores of the generation: the call is open with its records, or, without any, it is

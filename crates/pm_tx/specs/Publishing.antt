@@ -7,7 +7,7 @@ use Rattle.pm_view.specs.Views.{after_all}
 use Rattle.pm_crash.specs.OpenCall.{IsWholeCall, MakesItsStep}
 use Rattle.pm_crash.specs.Operations.{KeepsWords, Tells}
 use Rattle.pm_crash.specs.Reserved.{IsBorneOut}
-use Rattle.pm_redo.specs.Entering.{HasPlace, IsOfPool, IsReadyToLog, final_of}
+use Rattle.pm_redo.specs.Entering.{HasPlace, IsReadyToLog, MayEnter, final_of}
 use Rattle.pm_redo.specs.Sequences.{logs}
 use Rattle.pm_world.specs.Records.{pool_entries}
 use Rattle.pm_lock.specs.Begun.{MayCome}
@@ -15,14 +15,13 @@ use Rattle.pm_memory.specs.Runs.{Stops}
 use Rattle.pm_world.specs.Sequences.{Ready}
 use Rattle.pm_tx.specs.Sequences.{ends_call, performs_logged, publishes}
 
--- the lane may publish these entries, some at least and 63 at most, of words of the pool that it locked for writing: nothing is undrained, and a
--- number is left for the call
+-- the lane may publish these entries, some at least and 63 at most, each one that it may enter: nothing is undrained, and a number is left for the call
 pub record MayPublish (v : View) (entries : List Redo) : Type 0 where
   pub ready : IsReadyToLog v
   pub place : HasPlace v
   pub some : 1 ≤ length entries
   pub few : length entries ≤ 63
-  pub each : All (IsOfPool v) entries
+  pub each : All (MayEnter v) entries
   pub may_come : MayCome v
 
 -- the entries are in the log, and the operation is told: the lane recorded and reserved no more, and changed no word outside of its area

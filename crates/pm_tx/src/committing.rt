@@ -10,7 +10,7 @@ ghost use Rattle.pm_world.specs.Opening.{Opening};
 ghost use Rattle.pm_world.specs.Sequences.{IsMade, IsReady, IsStopped, Runs, in_turn, one, settles};
 ghost use Rattle.pm_world.specs.declared.lane.Stage.TheVariants as stage;
 ghost use Rattle.pm_tx.specs.AtWork.{IsAtWork};
-ghost use Rattle.pm_tx.specs.Ending.{IsDecidable, IsEndedBy, IsLaneAtWork, IsStoppedIn, PublishesNoBlock, StopsDrawn, StopsEnded};
+ghost use Rattle.pm_tx.specs.Ending.{IsDecidable, IsEndedBy, IsLaneAtWork, IsStoppedIn, MayCommitCall, PublishesNoBlock, StopsDrawn, StopsEnded};
 ghost use Rattle.pm_tx.specs.Sequences.{commits, decides, decides_all, logs_listed, retires_any};
 ghost use Rattle.pm_tx.specs.Stages.{work_refusal};
 
@@ -69,10 +69,14 @@ fn decide_all<M: LawfulMem>(lane: &mut Lane<M>) -> Result<(), Stopped>
     }
 }
 
-/// Makes all that the call did persistent, and then final.
+/// Commits the lane's open call, whatever the transaction's level and stage, of which it changes nothing: the part of pmemobj_tx_commit(3) that reaches
+/// the memory. All that the call did is made persistent; the redo entries that the lane lists, if any, are logged; the commit is told, and the call
+/// draws its number; then the log is performed, by which all of its words change at once, or, without entries, the records are ended. An entry may be of
+/// a word that the lane locked for writing, or, of a lane that is alone, of one that allocates or frees a block. Makes exactly the memory calls of
+/// `commits`, or the first of them up to the lane's stop.
 #[tactic(auto, using(pm_world::proofs::Sequencing::runs_then, pm_world::proofs::Sequencing::runs_err), unfolding(crate::specs::Sequences::commits))]
-fn finish<M: LawfulMem>(lane: &mut Lane<M>) -> Result<(), Stopped>
-    requires at_work { IsLaneAtWork M.at lane.old }
+pub fn commit_call<M: LawfulMem>(lane: &mut Lane<M>) -> Result<(), Stopped>
+    requires may { MayCommitCall M.at lane.old }
     ensures ran { Runs (M.at lane.old.memory) (M.at lane.new.memory) (commits lane.old.records.items lane.old.entries.items lane.new.last) result }
     ensures none { OnOk result (lane.new.records.items ≡ []) }
     ensures unlisted { OnOk result (lane.new.entries.items ≡ []) }
@@ -95,7 +99,7 @@ fn commit_outer<M: LawfulMem>(lane: &mut Lane<M>) -> Result<(), Refusal>
     ensures stopped { IfErr result (λ r. r ≡ refusal.Stopped) }
     ensures stopped_lane { OnErr result (lane.new ≡ record lane.old { memory = lane.new.memory; records = lane.new.records; entries = lane.new.entries; drawn = lane.new.drawn; last = lane.new.last; stopped = true }) }
 {
-    match finish(lane) {
+    match commit_call(lane) {
         Ok(()) => {
             lane.stage = Stage::OnCommit;
             Ok(())
@@ -107,8 +111,8 @@ fn commit_outer<M: LawfulMem>(lane: &mut Lane<M>) -> Result<(), Refusal>
     }
 }
 
-/// Commits an inner level: the operation is told, and all else is left to the outer ones.
-fn commit_inner<M: LawfulMem>(lane: &mut Lane<M>)
+/// Commits an inner level: the operation is told, and all else is left to the outer ones. Once the level has ended, the transaction is in work again.
+pub fn commit_inner<M: LawfulMem>(lane: &mut Lane<M>)
     requires at_work { IsLaneAtWork M.at lane.old }
     ensures made { IsMade (M.at lane.old.memory) (M.at lane.new.memory) (one (Tell Commit None)) }
     ensures lane { lane.new ≡ record lane.old { memory = lane.new.memory; stage = stage.OnCommit } }

@@ -3,7 +3,8 @@
 //! Promises the calls of an outermost transaction (`begin`, `add_range`, `write`, `read`, `set_at_work`, `cancel_at_work`, `publish`, `commit`,
 //! `abort`, `end`). Each makes exactly the stated sequence of memory calls, or the first of them up to the lane's stop, and what it makes
 //! of the call is the plain model's: a refusal is the model's reason, takes back what was done and gives the transaction up. The parts
-//! stand beside them: checks (`check_range`, `check_words`, `check_write`), and the work (`do_add`, `do_write`, `do_read`). They stand on
+//! stand beside them: checks (`check_range`, `check_words`, `check_write`), and the work (`do_add`, `do_write`, `do_read`, and `commit_call`, which also
+//! performs entries that allocate and free blocks). They stand on
 //! `pm_lock` for a begin's locks, on `pm_undo` for the records without which no word is stored, and on `pm_crash` for what a call comes to.
 #![tactic(auto)]
 
@@ -35,7 +36,7 @@ pub use adding::{add_range, do_add};
 pub use beginning::{begin, open_call, refuse_call};
 pub use bounds::a_call_makes_few_stores;
 pub use checking::{check_range, check_words, check_write};
-pub use committing::commit;
+pub use committing::{commit, commit_call, commit_inner};
 pub use ending::end_call;
 pub use ending_level::end;
 pub use generations::{
@@ -44,7 +45,7 @@ pub use generations::{
     a_generation_rises_with_its_stores, steps_that_may_be_made_lead_on,
 };
 pub use giving_up::give_up;
-pub use laws::a_call_may_be_taken_back;
+pub use laws::{a_call_may_be_committed, a_call_may_be_taken_back};
 pub use learning::learn;
 pub use pending::{cancel_at_work, set_at_work};
 pub use publishing::{a_log_may_be_published, publish_log};

@@ -1,6 +1,7 @@
-ghost use Rattle.std.specs.Prelude.{◌≡◌, ◌⊎◌, ℕ, List, [], take, None, Some, OnErr, OnOk};
+ghost use Rattle.std.specs.Prelude.{◌≡◌, ◌⊎◌, ℕ, All, List, [], take, None, Some, OnErr, OnOk};
 ghost use Rattle.pm_objects.specs.declared.calls.Operation.{Operation};
 ghost use Rattle.pm_record.specs.declared.redo.Redo.{Redo};
+ghost use Rattle.pm_redo.specs.Entering.{IsOfPool};
 ghost use Rattle.pm_redo.specs.Sequences.{logs};
 ghost use Rattle.pm_view.specs.View.{View};
 ghost use Rattle.pm_view.specs.Views.{after_all};
@@ -34,12 +35,12 @@ pub fn publish_log<M: LawfulMem>(lane: &mut Lane<M>, operation: &Operation) -> R
 }
 
 /// A law: a lane that may publish entries may make all of these calls, and then the call is over: it came to this operation, its entry is the last,
-/// and what it drew is an ended call's where the call is whole once its entries are logged and it is told. Wherever the lane stops, as long as it
-/// logs them nothing is drawn, and behind the draw the call's entry is the last. No code runs.
+/// and what it drew is an ended call's where its entries are of words that it locked for writing, and the call is whole once they are logged and it is
+/// told. Wherever the lane stops, as long as it logs them nothing is drawn, and behind the draw the call's entry is the last. No code runs.
 pub fn a_log_may_be_published()
     ensures ended { (v : View) (entries : List Redo) (operation : Operation) (n : ℕ) → MayPublish v entries
         → Ready v (publishes entries operation n v) × IsOver v (after_all v (publishes entries operation n v)) n }
-    ensures draws { (v : View) (entries : List Redo) (operation : Operation) (n : ℕ) → MayPublish v entries → IsWholeOnceLogged v entries operation
+    ensures draws { (v : View) (entries : List Redo) (operation : Operation) (n : ℕ) → MayPublish v entries → All (IsOfPool v) entries → IsWholeOnceLogged v entries operation
         → DrawEnded v (publishes entries operation n v) }
     ensures last { (v : View) (entries : List Redo) (operation : Operation) (n : ℕ) → MayPublish v entries
         → IsDrawnBy v (after_all v (publishes entries operation n v)) operation None n }

@@ -1,7 +1,10 @@
 use Rattle.std.proofs.Common.{ap, refl}
 use Rattle.pm_world.specs.declared.lane.Lane.{Lane}
-use Rattle.pm_tx.proofs.Committed.{committed, stopped_committing}
+use Rattle.pm_tx.proofs.Committed.{committed, may_commit, stopped_committing}
 use Rattle.pm_tx.proofs.committing.commit_outer.Goals as goal
+
+pub commit_call-requires : goal.commit_call-requires
+commit_call-requires g c = let is = c.requires.at_work in record { may = may_commit g.M.LaneMem.at c.args.lane.now is.0 is.1.0 is.1.1 }
 
 pub returns-in-Ok-clause-ended : goal.returns-in-Ok-clause-ended
 returns-in-Ok-clause-ended g c o v is keeps outer =

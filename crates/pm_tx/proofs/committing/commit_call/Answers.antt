@@ -4,16 +4,17 @@ use Rattle.pm_world.specs.Sequences.{settles}
 use Rattle.pm_tx.specs.Sequences.{logs_listed}
 use Rattle.pm_tx.proofs.Deciding.{stops_drawn}
 use Rattle.pm_tx.proofs.Undoing.{settle_ready}
-use Rattle.pm_tx.proofs.Committed.{decidable, on_err, on_err_so}
-use Rattle.pm_tx.proofs.committing.finish.Goals as goal
+use Rattle.pm_tx.proofs.CommitSteps.{decidable}
+use Rattle.pm_tx.proofs.Committed.{on_err, on_err_so}
+use Rattle.pm_tx.proofs.committing.commit_call.Goals as goal
 
 pub settle-requires : goal.settle-requires
-settle-requires g c = let is = c.requires.at_work in settle_ready (g.M.LaneMem.at c.args.lane.now.memory) is.1.0 is.1.1.seen.memory
+settle-requires g c = let may = c.requires.may in settle_ready (g.M.LaneMem.at c.args.lane.now.memory) may.0 may.1.0.memory
 
 pub decide_all-requires : goal.decide_all-requires
 decide_all-requires g c =
-    let is = c.requires.at_work in
-    record { decidable = decidable g.M.LaneMem.at c.args.lane.now is.0 is.1.0 is.1.1 (g.M.LaneMem.at c.settle.new.mem) c.in_ok-settle.ensures }
+    let may = c.requires.may in
+    record { decidable = decidable g.M.LaneMem.at c.args.lane.now may.0 may.1.0 may.1.1 may.1.2 (g.M.LaneMem.at c.settle.new.mem) c.in_ok-settle.ensures }
 
 pub returns-in_err-settle-clause-stops : goal.returns-in_err-settle-clause-stops
 returns-in_err-settle-clause-stops g c =
