@@ -54,6 +54,7 @@ module _ {M : Type 0} (o : Opening) (at : M → View → Type 0) (lane : Lane M)
       record {
         work = work;
         lists = keeps.lists;
+        pages = keeps.pages;
         alone = keeps.alone;
         borne_out = keeps.borne_out;
         freed_held = subst (λ ls. All (IsHeldFreed ls.items) blocks.freed) (sym locks) keeps.freed_held;
