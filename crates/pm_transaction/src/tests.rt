@@ -75,7 +75,7 @@ fn fresh(alloc: Global) -> Result<Lane<SoloMem>, Fail>
     })
 }
 
-/// No range is for a lane with no transaction: nothing is read.
+/// No range is for a lane with no transaction: nothing is read. Nor is there anything to commit.
 #[test]
 fn no_transaction(rt: HostRuntime) -> Result<(), Fail> {
     let mut lane = fresh(rt.alloc())?;
@@ -94,6 +94,7 @@ fn no_transaction(rt: HostRuntime) -> Result<(), Fail> {
         write(&mut lane, &blocks, id(16512), 0, &[1, 2]),
         Err(Refusal::NoTx)
     );
+    assert_eq!(rt; commit(&mut lane, &blocks), Err(Refusal::NoTx));
     assert_eq!(rt; lane.level, 0);
     Ok(())
 }
