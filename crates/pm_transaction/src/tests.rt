@@ -75,7 +75,7 @@ fn fresh(alloc: Global) -> Result<Lane<SoloMem>, Fail>
     })
 }
 
-/// No range is for a lane with no transaction, and no object: nothing is read, and nothing listed.
+/// No range is for a lane with no transaction, and no object: nothing is read, and nothing listed. Nor is there anything to commit, or to end.
 #[test]
 fn no_transaction(rt: HostRuntime) -> Result<(), Fail> {
     let mut lane = fresh(rt.alloc())?;
@@ -96,6 +96,8 @@ fn no_transaction(rt: HostRuntime) -> Result<(), Fail> {
     );
     assert_eq!(rt; alloc(&mut lane, &mut blocks, 64, 1), Err(Refusal::NoTx));
     assert_eq!(rt; blocks.count(), 0);
+    assert_eq!(rt; commit(&mut lane, &blocks), Err(Refusal::NoTx));
+    assert_eq!(rt; end(&mut lane), Err(Refusal::NoTx));
     assert_eq!(rt; lane.level, 0);
     Ok(())
 }
