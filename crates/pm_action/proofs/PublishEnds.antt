@@ -46,7 +46,7 @@ use Rattle.pm_action.specs.Outside.{IsWholeOnceTold}
 use Rattle.pm_action.specs.Publishing.{IsBegunPublishCause, IsPublished, IsPublishedBy, IsStoppedPublishing, MayPublishHeld, PublishEnds, StaysSound, entries_of}
 use Rattle.pm_action.proofs.Started.{told_further}
 use Rattle.pm_tx.proofs.Beginnings.{works}
-use Rattle.pm_action.proofs.PublishedHeld.{may_publish, pending_few, pending_some}
+use Rattle.pm_action.proofs.PublishedHeld.{may_publish, own, pending_few, pending_some}
 use Rattle.pm_action.proofs.ToldOutside.{pending_behind_one}
 
 -- ---- since the call began
@@ -83,6 +83,7 @@ module _ {M : Type 0} (at : M → View → Type 0) (held : Lane M) (v : View) (s
           untold = goes.begun.untold;
           works = works at held h goes.begun;
           may = may_publish at held (pending_of items) h may_held (pending_some at held items h may_held some) (pending_few at held items h may_held few);
+          own = own at held (pending_of items) h may_held;
           stopped = so h may_held now;
         })
 
@@ -151,7 +152,7 @@ module _ {M : Type 0} (at : M → View → Type 0) (new : Lane M) (v u : View) (
   }
 
   stopped_further : IsStoppedPublishing at new (pending_of items) u → IsStoppedPublishing at new (pending_of items) v
-  stopped_further was = record { holding = was.holding; led = led_then v u was.holding led was.led; holds = was.holds; undrawn = was.undrawn ∙ entries; untold = was.untold; works = was.works; may = was.may; stopped = was.stopped }
+  stopped_further was = record { holding = was.holding; led = led_then v u was.holding led was.led; holds = was.holds; undrawn = was.undrawn ∙ entries; untold = was.untold; works = was.works; may = was.may; own = was.own; stopped = was.stopped }
 
   none_further : HasFoundNone at new items u → HasFoundNone at new items v
   unfolding told_further

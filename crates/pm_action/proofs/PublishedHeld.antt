@@ -21,7 +21,7 @@ use Rattle.pm_objects.specs.declared.ids.Oid.{Oid}
 use Rattle.pm_pending.specs.Pending.{action_of, entry_of, pending_of, redo_for}
 use Rattle.pm_pending.specs.declared.actions.SetAction.{SetAction}
 use Rattle.pm_record.specs.declared.redo.Redo.{Redo}
-use Rattle.pm_redo.specs.Entering.{IsOfPool}
+use Rattle.pm_redo.specs.Entering.{IsOfPool, MayEnter}
 use Rattle.pm_redo.specs.Sequences.{logs}
 use Rattle.pm_view.specs.Blocks.{is_chunk}
 use Rattle.pm_view.specs.Log.{Log}
@@ -53,6 +53,9 @@ module _ {M : Type 0} (at : M → View → Type 0) (lane : Lane M) (actions : Li
   entries : List Redo
   entries = entries_of actions
 
+  pub own : All (IsOfPool v) (entries_of actions)
+  own = all_of_pool v may.sound may.holds.objects actions may.holds.each
+
   pub may_publish : 1 ≤ length actions → length actions ≤ 63 → MayPublish v (entries_of actions)
   may_publish some few =
       let n = length-map actions entry_of in
@@ -65,7 +68,7 @@ module _ {M : Type 0} (at : M → View → Type 0) (lane : Lane M) (actions : Li
         place = record { lane = area.lane; few = area.few; inside = area.inside };
         some = omega (arith, n, some);
         few = omega (arith, n, few);
-        each = all_of_pool v may.sound may.holds.objects actions may.holds.each;
+        each = All-weaker (IsOfPool v) (MayEnter v) (λ e is. inl is) (entries_of actions) own;
         may_come = is.may_come;
       }
 
@@ -141,7 +144,7 @@ module _ {M : Type 0} (at : M → View → Type 0) (lane : Lane M) (actions : Li
 
     module _ (same : actions ≡ pending_before v) where
       draws : DrawEnded v (publishes (entries_of actions) Publish n v)
-      draws = publish_drawn v (entries_of actions) mays Publish n (λ next t. inl (whole same next t))
+      draws = publish_drawn v (entries_of actions) mays Publish n own (λ next t. inl (whole same next t))
 
       pub published : IsAfterCall at new w → IsEndedBy at new v (publishes (entries_of actions) Publish n) Publish None
       published behind =

@@ -1,5 +1,5 @@
 -- What a publish outside of a transaction leaves: all that is pending takes effect at once, or the lane stopped in it.
-use Rattle.std.specs.Prelude.{◌≡◌, ◌≤◌, Bool, false, List, [], ◌∷◌, length, map, None, Result, Ok, Err}
+use Rattle.std.specs.Prelude.{◌≡◌, ◌≤◌, All, Bool, false, List, [], ◌∷◌, length, map, None, Result, Ok, Err}
 use Rattle.pm_crash.specs.Pending.{pending_before}
 use Rattle.pm_model.specs.Actions.{Action}
 use Rattle.pm_objects.specs.declared.calls.Operation.TheVariants.{Publish}
@@ -8,6 +8,7 @@ use Rattle.pm_objects.specs.declared.refusal.Refusal.TheVariants as refusal
 use Rattle.pm_pending.specs.Pending.{entry_of, pending_of}
 use Rattle.pm_pending.specs.declared.actions.SetAction.{SetAction}
 use Rattle.pm_record.specs.declared.redo.Redo.{Redo}
+use Rattle.pm_redo.specs.Entering.{IsOfPool}
 use Rattle.pm_undo.specs.Working.{FindsOpening, IsWorking}
 use Rattle.pm_view.specs.Constants.{IsSameLane}
 use Rattle.pm_view.specs.Log.{no_log}
@@ -70,7 +71,7 @@ pub record IsPublishedBy {M : Type 0} (at : M → View → Type 0) (lane : Lane 
   pub drawn_there : view.entries ≡ (after_all holding (publishes (entries_of actions) Publish lane.last holding)).entries
   pub pending : pending_before view ≡ []
 
--- it held them, and the lane stopped as it published
+-- it held them, so that each entry is of a word that it locked for writing, and the lane stopped as it published
 pub record IsStoppedPublishing {M : Type 0} (at : M → View → Type 0) (lane : Lane M) (actions : List Action) (v : View) : Type 0 where
   pub holding : View
   pub led : IsLed v holding
@@ -79,6 +80,7 @@ pub record IsStoppedPublishing {M : Type 0} (at : M → View → Type 0) (lane :
   pub untold : holding.call ≡ []
   pub works : IsWorking holding
   pub may : MayPublish holding (entries_of actions)
+  pub own : All (IsOfPool holding) (entries_of actions)
   pub stopped : IsStoppedIn at lane holding (publishes (entries_of actions) Publish lane.last) Publish None
 
 -- what a publish leaves that is done: of no actions it is told, and that is all

@@ -1,6 +1,7 @@
 -- What a commit comes to, from a lane at work.
 use Rattle.std.proofs.Common.{◌≡◌, ⊎_elim, inl, inr, ℕ, ◌+◌, ◌<◌, ◌≤◌, false, List, [], ◌∷◌, ◌++◌, length, map, take, None, Some, refl, sym, ap, ◌∙◌, subst, arith}
 use Rattle.std.proofs.lemmas.List.{length-map}
+use Rattle.std.proofs.lemmas.List.Elements.{All-weaker}
 use Rattle.std.proofs.lemmas.Bool.{false≢true}
 use Rattle.std.proofs.lemmas.Option.{none-some}
 use Rattle.pm_crash.proofs.Leading.{leads_then}
@@ -13,6 +14,7 @@ use Rattle.pm_model.specs.Shown.{answer_of}
 use Rattle.pm_objects.specs.declared.calls.Operation.TheVariants.{Commit}
 use Rattle.pm_pending.specs.Pending.{entry_of}
 use Rattle.pm_record.specs.declared.redo.Redo.{Redo}
+use Rattle.pm_redo.specs.Entering.{IsOfPool, MayEnter}
 use Rattle.pm_script.specs.declared.script.ScriptLine.{ScriptLine}
 use Rattle.pm_script.specs.declared.script.ScriptOp.{ScriptOp}
 use Rattle.pm_script.specs.declared.script.ScriptOp.TheVariants as op
@@ -94,7 +96,7 @@ module _ (o : Opening) (first : View) (lane : Lane Solo) (actions : List SetActi
       ∙ (ap (λ (listed : List Redo). commits (spans_of v) listed new.last v) a.works.published.listed ∙ ap (λ (x : ScriptOp). line_calls names x new.last v) (sym is))
 
   can_publish : CanPublish v entries
-  can_publish = record { unentered = a.works.no_entries; few = a.works.published.few; each = a.works.published.of_pool; may_come = a.works.may_come }
+  can_publish = record { unentered = a.works.no_entries; few = a.works.published.few; each = All-weaker (IsOfPool v) (MayEnter v) (λ e own. inl own) entries a.works.published.of_pool; may_come = a.works.may_come }
 
   -- one store of the generation, and those of the redo log that performs what was published
   commit_stores : stores_among (steps v) ≤ 1 + logs_of (published_in v)
@@ -154,7 +156,7 @@ module _ (o : Opening) (first : View) (lane : Lane Solo) (actions : List SetActi
             (⊎_elim (λ (none : w.number ≡ None). absurd (none-some drawn.0 (sym none ∙ drawn.1.number))) (λ (told : w.call ≡ v.call ++ done Commit ∷ []). told) s.came.told)))
             s.came.entries;
         opening = commit_first o v (steps v) k a.of_lane s.ready a.generation entries (λ i. commits_of v lane.records.items entries new.last i a.of_lane a.works.working a.works.seen.records (λ some. can_publish));
-        untorn = inl (record { view = v; steps = a.steps; leads = a.leads; working = a.works.working; calm = λ quiet. quiet_in_commit v lane.records.items entries new.last k quiet a.works.published.few a.works.published.of_pool });
+        untorn = inl (record { view = v; steps = a.steps; leads = a.leads; working = a.works.working; calm = λ quiet. quiet_in_commit v lane.records.items entries new.last k quiet can_publish.few can_publish.each });
         at_stop = s.stops.stopped;
         stops = inl (record {
           front = front;

@@ -13,7 +13,8 @@ use Rattle.pm_objects.specs.declared.ids.Oid.{Oid}
 use Rattle.pm_record.specs.Redo.{op_code}
 use Rattle.pm_record.specs.declared.redo.Redo.{Redo}
 use Rattle.pm_redo.proofs.PairWords.{pair_part, seal_part}
-use Rattle.pm_redo.specs.Entering.{IsOfPool, ending}
+use Rattle.pm_redo.proofs.Whole.{may_outside}
+use Rattle.pm_redo.specs.Entering.{MayEnter, ending}
 use Rattle.pm_redo.specs.Sequences.{applies, applies_each, applies_entry, ending_of, entry_at, logs, no_entry, performs, performs_on, stores_two, writes_entries, writes_log, writes_pair, writes_pairs, writes_seal, does}
 use Rattle.pm_undo.specs.Sequences.{ends_generation, persists, restores, retires}
 use Rattle.pm_undo.specs.Working.{IsWorking}
@@ -268,9 +269,9 @@ unfolding commits
 only_commits spans entries n few each =
     only_in_turn IsSlotless settles (decides_all spans entries n) (only_settles IsSlotless slotless_steps) (only_decides_all spans entries n few each)
 
--- entries of words of the pool are outside of the area of lane 0
-pool_sets : (v : View) (entries : List Redo) → v.lane ≡ 0 → All (IsOfPool v) entries → All SetsNoSlot entries
-pool_sets v entries lane each = All-weaker (IsOfPool v) SetsNoSlot (λ e of_pool. inl (ap (λ n. is_in_area n (e.place / 8)) (sym lane) ∙ of_pool.outside)) entries each
+-- entries that lane 0 may enter are outside of its area
+pool_sets : (v : View) (entries : List Redo) → v.lane ≡ 0 → All (MayEnter v) entries → All SetsNoSlot entries
+pool_sets v entries lane each = All-weaker (MayEnter v) SetsNoSlot (λ e may. inl (ap (λ n. is_in_area n (e.place / 8)) (sym lane) ∙ may_outside v e may)) entries each
 
 -- recorded words are put back, none of which is of a slot
 module _ (v : View) (working : IsWorking v) (lane : v.lane ≡ 0) where
@@ -300,14 +301,14 @@ pub quiet_in_write : (v : View) (id : Oid) (off : ℕ) (bytes : List ℕ) (k : �
 quiet_in_write v id off bytes k quiet working can =
     quiet_by (writes_range id off bytes) (calm_writes id off bytes (added_outside v (id.off + off) (length bytes) quiet.lane working can.added)) v k quiet
 
--- what publishes stores no slot word where each entry is of a word of the pool, and there are 63 at most, so that the pairs end before the slots
-pub quiet_in_publish : (v : View) (entries : List Redo) (operation : Operation) (n k : ℕ) → IsQuiet v → length entries ≤ 63 → All (IsOfPool v) entries → IsQuiet (after_all v (take k (publishes entries operation n v)))
+-- what publishes stores no slot word where the lane may enter each entry, and there are 63 at most, so that the pairs end before the slots
+pub quiet_in_publish : (v : View) (entries : List Redo) (operation : Operation) (n k : ℕ) → IsQuiet v → length entries ≤ 63 → All (MayEnter v) entries → IsQuiet (after_all v (take k (publishes entries operation n v)))
 quiet_in_publish v entries operation n k quiet few each =
     let steps : List Step = publishes entries operation n v in
     quiet_all v (take k steps) quiet (each_first IsSlotless k steps (only_publishes entries operation n few (pool_sets v entries quiet.lane each) v quiet.lane))
 
 -- nor does a commit
-pub quiet_in_commit : (v : View) (spans : List Span) (entries : List Redo) (n k : ℕ) → IsQuiet v → length entries ≤ 63 → All (IsOfPool v) entries → IsQuiet (after_all v (take k (commits spans entries n v)))
+pub quiet_in_commit : (v : View) (spans : List Span) (entries : List Redo) (n k : ℕ) → IsQuiet v → length entries ≤ 63 → All (MayEnter v) entries → IsQuiet (after_all v (take k (commits spans entries n v)))
 quiet_in_commit v spans entries n k quiet few each =
     let steps : List Step = commits spans entries n v in
     quiet_all v (take k steps) quiet (each_first IsSlotless k steps (only_commits spans entries n few (pool_sets v entries quiet.lane each) v quiet.lane))
