@@ -23,11 +23,8 @@ use Rattle.pm_world.proofs.HeapWords.{free_in, page_in, page_in_chunk, page_in_n
 use Rattle.pm_world.proofs.Reserved.{reserved_low, reserved_of_pool, told_here}
 use Rattle.pm_crash.proofs.ReservedBlocks.{chunks_free, telling}
 use Rattle.pm_crash.proofs.SameBlocks.{taken_now}
+use Rattle.pm_epoch.specs.Epochs.{ReservesNoRun}
 use Rattle.pm_epoch.proofs.LeftBlocks.{has_parts}
-
--- of the chunks that it reserved none is a run
-abbrev pub ReservesNoRun : ℕ → View → Type 0
-ReservesNoRun lanes v = (page : ℕ) → IsChunk lanes page → is_made v page ≡ false
 
 module _ (o : Opening) (mem : Memory) (views : Views) (log : List Entry) (decided : ℕ → Bool) (k : ℕ) (world : World o mem views log decided) (inside : k < o.lanes) (sees : (i : ℕ) → mem (PoolWord i) ≡ slice_index (views k).words i)
     (no_run : ReservesNoRun o.lanes (views k)) where

@@ -19,7 +19,8 @@ use Rattle.pm_crash.proofs.AloneCourse.{StandsAlone, stands_at}
 use Rattle.pm_crash.proofs.AloneMemory.{memory_of}
 use Rattle.pm_crash.proofs.KnownHeap.{known_alone}
 use Rattle.pm_reclaim.specs.KnownTaken.{KnowsTaken}
-use Rattle.pm_epoch.proofs.FreeChunks.{ReservesNoRun, free_by_words}
+use Rattle.pm_epoch.specs.Epochs.{ReservesNoRun}
+use Rattle.pm_epoch.proofs.FreeChunks.{free_by_words}
 use Rattle.pm_epoch.proofs.StandingPools.{own_fits}
 
 module _ (o : Opening) (header : Header) (pool : PoolView) (v w : View) (steps : List Step) (works : WorksAlone o header pool v steps w) where

@@ -27,9 +27,8 @@ use Rattle.pm_crash.proofs.AloneMemory.{memory_of}
 use Rattle.pm_crash.proofs.Continued.{two_same}
 use Rattle.pm_sealed.specs.Sealed.{Publishes, is_publishing}
 use Rattle.pm_sealed.proofs.EndedLog as ended_log
-use Rattle.pm_epoch.specs.Epochs.{HasEnded, HasEntriesFor, HasSameHeap, IsPublishing, LoadsNoneOf, MayPublish, PromisesTaken}
+use Rattle.pm_epoch.specs.Epochs.{HasEnded, HasEntriesFor, HasSameHeap, IsPublishing, LoadsNoneOf, MayPublish, PromisesTaken, ReservesNoRun}
 use Rattle.pm_epoch.proofs.PublishingCalls.{alone, base, before, few, fits, has, heap, lane, led, may, newest, own, stands}
-use Rattle.pm_epoch.proofs.FreeChunks.{ReservesNoRun}
 use Rattle.pm_epoch.proofs.HandedOver.{allocated, hands_over, reserved_drawn}
 use Rattle.pm_epoch.proofs.HeldBehindLog.{holds_behind}
 use Rattle.pm_epoch.proofs.KnowingLanes.{knows_at_work, none_freed}

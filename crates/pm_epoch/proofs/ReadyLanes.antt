@@ -74,7 +74,7 @@ module _ (o : Opening) (mem : Memory) (views : Views) (log : List Entry) (decide
           let has : has_chunk v page ≡ true =
           list_any-from_Any (has_bit (Zone (zone_of v.lanes page)) (chunk_of v.lanes page - 1)) v.reserved (there.0, b, there.1, there.2, ap (λ x. has_bit x (chunk_of v.lanes page - 1) b) (ap Zone c.zoned ∙ sym is) ∙ had) in
           ap (λ p. is_run (slice_index v.words (descriptor_word v.lanes p))) (sym at)
-          ∙ false_from_ne_true (is_run (slice_index v.words (descriptor_word v.lanes page))) (λ run. false≢true (sym (work.no_run page) ∙ and_from (has_chunk v page) (is_run (slice_index v.words (descriptor_word v.lanes page))) has run))
+          ∙ false_from_ne_true (is_run (slice_index v.words (descriptor_word v.lanes page))) (λ run. false≢true (sym (work.no_run page c.chunk) ∙ and_from (has_chunk v page) (is_run (slice_index v.words (descriptor_word v.lanes page))) has run))
 
   whole : HasWholePool v
   whole = record {

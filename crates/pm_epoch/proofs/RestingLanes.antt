@@ -1,5 +1,5 @@
 -- A lane that is alone and rests behind a call begins again from the words as they stand.
-use Rattle.std.proofs.Common.{◌≡◌, ◌≢◌, inl, ⊎_elim, ℕ, ◌<◌, ◌≤◌, false, ◌&&◌, List, length, is_none, refl, sym, ap, ◌∙◌, arith}
+use Rattle.std.proofs.Common.{subst, ◌≡◌, ◌≢◌, inl, ⊎_elim, ℕ, ◌<◌, ◌≤◌, false, ◌&&◌, List, length, is_none, refl, sym, ap, ◌∙◌, arith}
 use Rattle.std.specs.List.{list_any}
 use Rattle.std.proofs.lemmas.Bool.{cases_eq, false≢true}
 use Rattle.pm_header.specs.declared.header.Header.{Header}
@@ -23,7 +23,7 @@ use Rattle.pm_crash.proofs.AloneImages.{ended_stays}
 use Rattle.pm_crash.proofs.AloneMemory.{memory_of}
 use Rattle.pm_crash.proofs.KnownHeap.{known_alone}
 use Rattle.pm_crash.proofs.OnTheWay.{alone_on_the_way}
-use Rattle.pm_epoch.specs.Epochs.{RestsBehindCall}
+use Rattle.pm_epoch.specs.Epochs.{ReservesNoRun, RestsBehindCall}
 use Rattle.pm_epoch.proofs.StandingPools.{holds_calls, own_fits}
 use Rattle.pm_epoch.proofs.KnowingLanes.{free_here}
 
@@ -68,7 +68,7 @@ module _ (o : Opening) (header : Header) (pool : PoolView) (v w : View) (steps :
     no_locks = rests.free;
     of_pool = fits.blocks.of_pool;
     small = fits.blocks.small;
-    free = free_here o header pool v w steps works (λ page chunk. rests.no_run page);
+    free = free_here o header pool v w steps works (subst (λ m. ReservesNoRun m w) fits.lane.lanes rests.no_run);
     nothing_freed = fits.blocks.freed;
     within = works.within;
   }

@@ -40,7 +40,7 @@ use Rattle.pm_crash.specs.Publishing.Published.{Changes, Performs}
 use Rattle.pm_crash.specs.Publishing.{AreInOrder, CanPublish, Published, entry_published}
 use Rattle.pm_crash.specs.Taken.{AllocatesBit, FreesBit, TakenBehindAll}
 use Rattle.pm_sealed.specs.Sealed.{MaySeal, Publishes}
-use Rattle.pm_world.specs.Opening.{Opening}
+use Rattle.pm_world.specs.Opening.{IsChunk, Opening}
 use Rattle.pm_model.specs.Names.{Replays}
 use Rattle.pm_model.specs.History.{opened}
 use Rattle.pm_model.specs.declared.stage.Stage.{Stage}
@@ -134,6 +134,10 @@ abbrev pub AreOfOwnBits : ℕ → List HeapChange → Type 0
 AreOfOwnBits lanes [] = Unit {0}
 AreOfOwnBits lanes (change ∷ others) = All (HasNoBitOf lanes change) others × AreOfOwnBits lanes others
 
+-- of the pool's chunks, of so many lanes, that the lane reserved none is a run
+abbrev pub ReservesNoRun : ℕ → View → Type 0
+ReservesNoRun lanes v = (page : ℕ) → IsChunk lanes page → is_made v page ≡ false
+
 -- The lane is alone and at work on a pool of this shape, holds no zone's lock, and has entered no change of a block; it has a picture of each occupancy word,
 -- and no chunk that it reserved is a run.
 pub record IsAtWorkAlone (v : View) (shape : Shape) : Type 0 where
@@ -144,7 +148,7 @@ pub record IsAtWorkAlone (v : View) (shape : Shape) : Type 0 where
   pub plain : changes_heap v ≡ false
   pub zones : v.zones ≤ length v.zone_words
   pub runs : 1 + 2 * v.lanes + 65 * v.zones ≤ length v.run_words
-  pub no_run : (page : ℕ) → is_made v page ≡ false
+  pub no_run : ReservesNoRun v.lanes v
 
 -- ---- before its call draws
 
@@ -178,7 +182,7 @@ pub record RestsBehindCall (w : View) : Type 0 where
   pub drained : w.changes ≡ []
   pub free : w.locks ≡ []
   pub unlocked : w.zone_locks ≡ []
-  pub no_run : (page : ℕ) → is_made w page ≡ false
+  pub no_run : ReservesNoRun w.lanes w
   pub number : ℕ
   pub numbered : w.number ≡ Some number
 
@@ -268,7 +272,7 @@ pub record IsPublishing (o : Opening) (header : Header) (pool : PoolView) (u : V
 -- It published to its log's end, and since the draw loaded no word that an entry is of; and no chunk that it had reserved is a run.
 pub record PublishesAlone (o : Opening) (header : Header) (pool : PoolView) (u : View) (n : ℕ) (all : List Published) (w : View) : Type 0 where
   pub publishing : IsPublishing o header pool u n all w
-  pub no_run : (page : ℕ) → is_made u page ≡ false
+  pub no_run : ReservesNoRun u.lanes u
   pub loads : All (LoadsNoneOf u.log.entries) publishing.log_steps
   pub over : w.log.phase ≡ Idle
   pub within : ForSome w.stop (λ stop. w.calls ≤ stop)

@@ -31,7 +31,7 @@ ghost use Rattle.pm_view.specs.Occupancy.{is_taken};
 ghost use Rattle.pm_view.specs.Steps.{Step};
 ghost use Rattle.pm_view.specs.Steps.Step.{Draw};
 ghost use Rattle.pm_view.specs.View.{Lock, View};
-ghost use Rattle.pm_view.specs.Views.{is_made, changes_heap, after, occ_in, reserves};
+ghost use Rattle.pm_view.specs.Views.{changes_heap, after, occ_in, reserves};
 ghost use Rattle.pm_world.specs.Heap.{IsOcc};
 ghost use Rattle.pm_world.specs.History.{Entry};
 ghost use Rattle.pm_world.specs.Lanes.{IsOfShape};
@@ -60,7 +60,7 @@ ghost use Rattle.pm_reclaim.specs.Reclaims.{AreOfPool, HasNothingLeft, MayReclai
 ghost use Rattle.pm_sealed.specs.Sealed.{LeavesSealed, Publishes, has_nothing};
 ghost use Rattle.pm_reclaim.specs.KnownTaken.{IsGiving, KnowsTaken};
 ghost use Rattle.pm_epoch.specs.Allocating.{HasLockedFreed, HasSameDescriptors, IsCallAlone, IsCallAloneStill, LeavesObject, MakesObject, object_in_block, with_object_told};
-ghost use Rattle.pm_epoch.specs.Epochs.{AllocatesOwn, AreOfOwnBits, HandsOver, HasEnded, HasEnteredCall, HasEntriesFor, HasSameHeap, HoldsCalls, HoldsCommitted, HoldsOpenCall, IsAtWorkAlone, IsPublishing, LoadsNoneOf, MayPublish, PromisesTaken, PublishesAlone, RestsBehindCall};
+ghost use Rattle.pm_epoch.specs.Epochs.{AllocatesOwn, AreOfOwnBits, HandsOver, HasEnded, HasEnteredCall, HasEntriesFor, HasSameHeap, HoldsCalls, HoldsCommitted, HoldsOpenCall, IsAtWorkAlone, IsPublishing, LoadsNoneOf, MayPublish, PromisesTaken, PublishesAlone, ReservesNoRun, RestsBehindCall};
 
 /// A law: in a world where a lane has each word as it is, what it reserved may be allocated: a block of a run, by the class that the run's
 /// descriptor says, and chunks that are described by 0; and a block that it found under a lock may be freed, unless it is the root's, where
@@ -333,7 +333,7 @@ pub fn a_draw_promises_what_will_be_taken()
 pub fn a_lane_at_work_knows_what_is_taken()
     ensures freed { (o : Opening) (header : Header) (pool : PoolView) (v w : View) (steps : List Step) → WorksAlone o header pool v steps w → w.freed ≡ [] }
     ensures taken { (o : Opening) (header : Header) (pool : PoolView) (v w : View) (steps : List Step)
-        → WorksAlone o header pool v steps w → ((page : ℕ) → is_made w page ≡ false) → KnowsTaken w }
+        → WorksAlone o header pool v steps w → ReservesNoRun w.lanes w → KnowsTaken w }
 {}
 
 /// A law: where a lane works alone, with an entry for each thing that it publishes, and allocates only what it reserved, the draw hands over: it has no

@@ -21,9 +21,9 @@ use Rattle.pm_crash.proofs.Leading.{leads_end, leads_then}
 use Rattle.pm_crash.specs.Alone.{WorksAlone}
 use Rattle.pm_crash.specs.Leading.{Leads}
 use Rattle.pm_crash.specs.Publishing.{Published}
-use Rattle.pm_epoch.proofs.FreeChunks.{ReservesNoRun, no_run_reserved}
+use Rattle.pm_epoch.proofs.FreeChunks.{no_run_reserved}
 use Rattle.pm_epoch.proofs.PublishedCalls.{has_ended}
-use Rattle.pm_epoch.specs.Epochs.{HasEnded, IsPublishing, LoadsNoneOf}
+use Rattle.pm_epoch.specs.Epochs.{HasEnded, IsPublishing, LoadsNoneOf, ReservesNoRun}
 use Rattle.pm_made.specs.Entries.{entries_of}
 use Rattle.pm_made.specs.Made.{BlockLists}
 use Rattle.pm_sealed.specs.Sealed.{Publishes}
