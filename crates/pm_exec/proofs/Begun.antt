@@ -43,7 +43,8 @@ use Rattle.pm_exec.specs.Course.{IsLineMade, IsRefusalMade, IsUsedUp, LinesMade,
 use Rattle.pm_exec.specs.Progress.{AreToldDone, IsAtLine, IsGivenUpAt, IsNotDone, IsStart, IsToldDone, IsUnbegun, done, not_done, numbered, refused, values_told}
 use Rattle.pm_exec.specs.declared.calls.Names.{Names}
 use Rattle.pm_exec.proofs.Along.{lane_along}
-use Rattle.pm_exec.proofs.OpeningFound.{IsThere, IsUntouched, finds_opening, untouched_along}
+use Rattle.pm_exec.specs.Founded.{IsThere}
+use Rattle.pm_exec.proofs.OpeningFound.{IsUntouched, finds_opening, untouched_along}
 use Rattle.pm_pending.specs.declared.actions.SetAction.{SetAction}
 use Rattle.pm_crash.specs.Pending.{pending_before, pending_from, pending_told}
 use Rattle.pm_crash.proofs.PendingOn.{calls_further, pending_first, published_first, same_before}

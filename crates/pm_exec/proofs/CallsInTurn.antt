@@ -23,7 +23,7 @@ use Rattle.pm_exec.specs.Progress.{IsAnswered, IsHalted, IsStart, IsUnbegun}
 use Rattle.pm_exec.specs.Running.{AreEntries, HasComeTo, HasHalted, IsEntryOf, open_entry}
 use Rattle.pm_exec.specs.declared.calls.Names.{Names}
 use Rattle.pm_exec.specs.declared.running.Halt.{Halt}
-use Rattle.pm_exec.proofs.Standing.{starts_again}
+use Rattle.pm_exec.proofs.Standing.{founded_along, starts_again}
 use Rattle.pm_pending.specs.declared.actions.SetAction.{SetAction}
 use Rattle.pm_exec.specs.declared.ending.CallAnswer.{CallAnswer}
 
@@ -49,7 +49,7 @@ made_then names (c ∷ calls) (h ∷ history) call d e u v w made settled is = (
 module _ (o : Opening) (first : View) (lane : Lane Solo) (actions : List SetAction) (names : Names) (calls : List (List ScriptLine)) (history : List Entry) (h : HasComeTo o first lane actions names calls history) where
   -- where those were answered, the lane may begin it
   pub begins : IsStart (standing o h.answered.view) lane actions h.answered.view
-  begins = let a = h.answered in starts_again o first a.view a.called.steps h.opened a.called.leads lane actions a.rests a.idle a.pending
+  begins = let a = h.answered in starts_again o a.view lane actions a.founded a.rests a.idle a.pending
 
   -- the word of its generation, as its memory has it
   generation_seen : (found : ℕ) → found ≡ slice_index lane.memory.words 512 → found ≡ generation_of h.answered.view
@@ -85,6 +85,7 @@ module _ (o : Opening) (first : View) (lane : Lane Solo) (actions : List SetActi
             };
             rests = x.rests;
             idle = x.idle;
+            founded = founded_along o.lanes o.zones a.view x.view x.steps x.leads a.idle a.founded;
             pending = x.pending;
           };
         }

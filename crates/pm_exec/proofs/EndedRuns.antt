@@ -158,7 +158,7 @@ module _ (o : Opening) (first : View) (names : Names) (all : List (List ScriptLi
         (settled_at names calls history entries entered k d low).1 ∙ sym (ended_stays last left (slice_index_or history k d).number (over (slice_index_or history k d).number))
 
   -- all calls were answered
-  pub ended_finished : (lane : Lane Solo) (history : List Entry) (halt : Halt) → HasFinished first lane names all history halt → IsEnded o first lane names all decided halt.generation (closed_history history halt.is_open decided) halt.end
+  pub ended_finished : (lane : Lane Solo) (history : List Entry) (halt : Halt) → HasFinished o first lane names all history halt → IsEnded o first lane names all decided halt.generation (closed_history history halt.is_open decided) halt.end
   ended_finished lane history halt f =
       let view : View = f.answered.view in
       let called = f.answered.called in
@@ -419,7 +419,7 @@ module _ (o : Opening) (first : View) (names : Names) (all : List (List ScriptLi
   pub ended_run : (lane : Lane Solo) (history : List Entry) (halt : Halt) → ForSome first.stop (λ n. n < 2 ^ 64) → HasRun o first lane names all history halt
       → IsEnded o first lane names all decided halt.generation (closed_history history halt.is_open decided) halt.end
   ended_run lane history halt fits run = ⊎_elim
-      (λ (f : HasFinished first lane names all history halt). ended_finished lane history halt f)
+      (λ (f : HasFinished o first lane names all history halt). ended_finished lane history halt f)
       (λ (h : HasHaltedIn o first lane names all history halt). ⊎_elim
       (λ (s : HasStopped o first lane names h.answered h.lines history halt). ⊎_elim
       (λ (u : IsUndrawn s.before s.halted.cut.view). ended_undrawn lane h.answered h.lines h.behind h.are history halt fits s u)

@@ -37,7 +37,7 @@ use Rattle.pm_exec.specs.Openings.{first_view, opening_of}
 use Rattle.pm_crash.specs.Leading.{Leads}
 use Rattle.pm_exec.specs.Course.{CallsMade}
 use Rattle.pm_exec.specs.Progress.{IsStart}
-use Rattle.pm_exec.specs.Running.{AreEntries, HasComeTo, HasRun}
+use Rattle.pm_exec.specs.Running.{AreEntries, HasComeTo, HasRun, IsOpenedAs}
 use Rattle.pm_exec.specs.Runs.{IsHistoryOf, LeavesReplay, MakesCalls}
 use Rattle.pm_exec.specs.Torn.{HasNoTornMatch}
 use Rattle.pm_exec.specs.declared.calls.Names.{Names}
@@ -47,6 +47,7 @@ use Rattle.pm_exec.proofs.EndedRuns.{IsCutAt, IsEnded, ended_run}
 use Rattle.pm_exec.proofs.Opened.{begins_alone, means_so, shape_of, size_of, words_long}
 use Rattle.pm_exec.proofs.RisingCalls.{call_lines_rise}
 use Rattle.pm_exec.proofs.ShownHistories.{as_many, as_many_numbered, calls_are, numbers_count, shown_replay}
+use Rattle.pm_exec.proofs.Standing.{founded_first}
 use Rattle.pm_exec.proofs.StoppedEnd.{within_stop}
 use Rattle.pm_exec.proofs.Untorn.{none_torn_where_stopped}
 use Rattle.pm_occupancy.proofs.Words.{words_are_occupancy, zone_words_count}
@@ -58,7 +59,7 @@ pub run_begins : (pool : PoolView) (words : List ℕ) (stop : Option ℕ) (lane 
     → HasComeTo (opening_of pool words) (first_view pool words stop) lane [] names [] history
 unfolding Leads CallsMade among
 run_begins pool words stop lane names history none is = record {
-  opened = record { of_lane = is.of_lane; alone = is.alone; sound = is.sound; zones = is.zones; lanes_are = is.lanes_are; zones_are = refl; words_are = is.words_are; uncalled = refl; idle = is.idle; free = is.rests.free; nothing_reserved = refl; nothing_freed = refl; zone_count = zone_words_count (slice_index words) pool.lanes pool.zones; taken = λ zone chunk in_pool low taken. (known.chunks zone chunk in_pool low).1 taken };
+  opened = opened;
   answered = record {
     view = first_view pool words stop;
     called = record {
@@ -70,12 +71,16 @@ run_begins pool words stop lane names history none is = record {
     };
     rests = is.rests;
     idle = is.idle;
+    founded = founded_first (opening_of pool words) (first_view pool words stop) opened;
     pending = is.pending;
   };
 }
   where
     known : IsOccupancy (run_words_of (slice_index words) pool.lanes pool.zones) (zone_words_of (slice_index words) pool.lanes pool.zones) (slice_index words) pool.lanes pool.zones
     known = words_are_occupancy (slice_index words) pool.lanes pool.zones is.zones
+
+    opened : IsOpenedAs (opening_of pool words) (first_view pool words stop)
+    opened = record { of_lane = is.of_lane; alone = is.alone; sound = is.sound; zones = is.zones; lanes_are = is.lanes_are; zones_are = refl; words_are = is.words_are; uncalled = refl; idle = is.idle; free = is.rests.free; nothing_reserved = refl; nothing_freed = refl; zone_count = zone_words_count (slice_index words) pool.lanes pool.zones; taken = λ zone chunk in_pool low taken. (known.chunks zone chunk in_pool low).1 taken }
 
 -- the same of names and lines that are given otherwise
 pub run_of : (o : Opening) (first : View) (lane : Lane Solo) (history : List Entry) (halt : Halt) (names other : Names) (lines script : List ScriptLine) → names ≡ other → lines ≡ script

@@ -1,5 +1,5 @@
 -- How far a run has come, call by call: for the crate's own functions.
-use Rattle.std.specs.Prelude.{◌≡◌, ◌⊎◌, ℕ, ◌≤◌, ◌%◌, ◌^◌, List, [], ◌∷◌, ◌++◌, slice_index, Option, None, Some, ⊤, true, length, ◌<◌}
+use Rattle.std.specs.Prelude.{◌≡◌, ◌⊎◌, ℕ, ◌≤◌, ◌%◌, ◌^◌, List, [], ◌∷◌, ◌++◌, slice_index, Option, None, Some, ⊤, length}
 use Rattle.pm_crash.specs.Alone.{standing}
 use Rattle.pm_crash.specs.Leading.{Leads}
 use Rattle.pm_memory.specs.Solo.{Sees, Solo}
@@ -21,6 +21,7 @@ use Rattle.pm_world.specs.declared.lane.Lane.{Lane}
 use Rattle.pm_exec.specs.Bounds.{stores_of_calls}
 use Rattle.pm_exec.specs.Calls.{call_of, numbers_of}
 use Rattle.pm_exec.specs.Course.{CallsMade}
+use Rattle.pm_exec.specs.Founded.{IsFounded, KnowsTaken}
 use Rattle.pm_exec.specs.Histories.{settled_fate}
 use Rattle.pm_exec.specs.Progress.{IsPending, HasEnded, IsHalted, IsUnbegun}
 use Rattle.pm_exec.specs.declared.calls.Names.{Names}
@@ -28,8 +29,6 @@ use Rattle.pm_exec.specs.declared.running.Halt.{Halt}
 use Rattle.pm_crash.specs.Pending.{pending_before}
 use Rattle.pm_exec.specs.declared.ending.CallAnswer.{CallAnswer}
 use Rattle.pm_pending.specs.declared.actions.SetAction.{SetAction}
-use Rattle.std.specs.Int.{bit_at}
-use Rattle.pm_view.specs.Occupancy.{is_chunk_taken}
 
 -- the entry of an answered call of these lines, as the lane's view has the call
 pub record IsEntryOf (names : Names) (lines : List ScriptLine) (e : Entry) (n : Numbered) : Type 0 where
@@ -44,10 +43,6 @@ abbrev pub AreEntries : Names → List (List ScriptLine) → List Entry → List
 AreEntries names [] [] [] = ⊤
 AreEntries names (call ∷ calls) (e ∷ history) (n ∷ entries) = IsEntryOf names call e n × AreEntries names calls history entries
 AreEntries names calls history entries = ⊥
-
--- the view has the bits set of the chunks that the pool's words say are taken
-abbrev pub KnowsTaken : Opening → View → Type 0
-KnowsTaken o v = (zone chunk : ℕ) → zone < o.zones → chunk < 64 → is_chunk_taken (slice_index o.words) o.lanes zone chunk ≡ true → bit_at (slice_index v.zone_words zone) chunk ≡ 1
 
 -- the view of lane 0, alone, over the words of a sound pool, before its first call
 pub record IsOpenedAs (o : Opening) (v : View) : Type 0 where
@@ -75,17 +70,18 @@ pub record HasCalled (first : View) (names : Names) (calls : List (List ScriptLi
   pub few : stores_among steps ≤ stores_of_calls names calls
 
 -- and the lane rests behind them
-pub record HasAnswered (first : View) (lane : Lane Solo) (actions : List SetAction) (names : Names) (calls : List (List ScriptLine)) (history : List Entry) : Type 0 where
+pub record HasAnswered (o : Opening) (first : View) (lane : Lane Solo) (actions : List SetAction) (names : Names) (calls : List (List ScriptLine)) (history : List Entry) : Type 0 where
   pub view : View
   pub called : HasCalled first names calls history view
   pub rests : IsAtRest Sees lane view
   pub idle : view.log ≡ no_log Idle
+  pub founded : IsFounded o.lanes o.zones view
   pub pending : IsPending actions (pending_before view)
 
 -- so it did over the pool from whose words the first view is
 pub record HasComeTo (o : Opening) (first : View) (lane : Lane Solo) (actions : List SetAction) (names : Names) (calls : List (List ScriptLine)) (history : List Entry) : Type 0 where
   pub opened : IsOpenedAs o first
-  pub answered : HasAnswered first lane actions names calls history
+  pub answered : HasAnswered o first lane actions names calls history
 
 -- the entry of a call that was not answered, as lost, if it drew a number
 abbrev pub open_entry : Names → List ScriptLine → Option ℕ → Reply → Option Entry
@@ -122,9 +118,9 @@ abbrev pub HasHalted : Opening → View → Lane Solo → Names → List (List S
 HasHalted o first lane names answered lines history halt = HasStopped o first lane names answered lines history halt ⊎ HasSpent o first lane names answered lines history halt
 
 -- the lane was answered all calls
-pub record HasFinished (first : View) (lane : Lane Solo) (names : Names) (calls : List (List ScriptLine)) (history : List Entry) (halt : Halt) : Type 0 where
+pub record HasFinished (o : Opening) (first : View) (lane : Lane Solo) (names : Names) (calls : List (List ScriptLine)) (history : List Entry) (halt : Halt) : Type 0 where
   pub actions : List SetAction
-  pub answered : HasAnswered first lane actions names calls history
+  pub answered : HasAnswered o first lane actions names calls history
   pub is_open : halt.is_open ≡ None
   pub ends : halt.end ≡ end.Ended
 
@@ -138,4 +134,4 @@ pub record HasHaltedIn (o : Opening) (first : View) (lane : Lane Solo) (names : 
 
 -- so the run of these calls came to its end
 abbrev pub HasRun : Opening → View → Lane Solo → Names → List (List ScriptLine) → List Entry → Halt → Type 0
-HasRun o first lane names calls history halt = HasFinished first lane names calls history halt ⊎ HasHaltedIn o first lane names calls history halt
+HasRun o first lane names calls history halt = HasFinished o first lane names calls history halt ⊎ HasHaltedIn o first lane names calls history halt
