@@ -33,7 +33,7 @@ use Rattle.pm_world.specs.Entries.{set_word, IsGrowing}
 use Rattle.pm_world.specs.Lawful.{Allowed, StoreFits, MayChange, MayDescribe}
 use Rattle.pm_world.specs.Opening.{IsSound, Opening, Guards, IsChunk, is_free_chunk}
 use Rattle.pm_world.specs.declared.lane.Lane.{Lane}
-use Rattle.pm_exec.specs.Progress.{IsStart}
+use Rattle.pm_exec.specs.Progress.{HasNothing, IsStart}
 use Rattle.pm_exec.specs.Running.{IsOpenedAs}
 use Rattle.pm_exec.proofs.Along.{same_along}
 use Rattle.pm_exec.proofs.EnteredWords.{NoneEnters, enters_after, none_entered, NoneSealed}
@@ -269,9 +269,9 @@ founded_along lanes zones v w steps leads idle f =
     record { of_lane = same.lane ∙ f.of_lane; zones_are = same.zones ∙ f.zones_are; few = f.few; was = f.was; sound = f.sound; stands = both.0; known = both.1 }
 
 -- a lane that rests again may begin its next call, over the pool as it stands
-pub starts_again : (o : Opening) (v : View) (lane : Lane Solo) (actions : List SetAction) → IsFounded o.lanes o.zones v → IsAtRest Sees lane v → v.log ≡ no_log Idle → IsPending actions (pending_before v)
+pub starts_again : (o : Opening) (v : View) (lane : Lane Solo) (actions : List SetAction) → IsFounded o.lanes o.zones v → IsAtRest Sees lane v → v.log ≡ no_log Idle → HasNothing v → IsPending actions (pending_before v)
     → IsStart (standing o v) lane actions v
-starts_again o v lane actions f rests idle pending = record {
+starts_again o v lane actions f rests idle has_none pending = record {
   rests = rests;
   idle = idle;
   of_lane = f.of_lane;
@@ -280,5 +280,6 @@ starts_again o v lane actions f rests idle pending = record {
   zones = f.few;
   lanes_are = f.stands.lanes;
   words_are = refl;
+  has_none = has_none;
   pending = pending;
 }

@@ -1,29 +1,29 @@
 -- How far a run has come, call by call: for the crate's own functions.
-use Rattle.std.specs.Prelude.{◌≡◌, ◌⊎◌, ℕ, ◌≤◌, ◌%◌, ◌^◌, List, [], ◌∷◌, ◌++◌, slice_index, Option, None, Some, ⊤, length}
-use Rattle.pm_crash.specs.Alone.{standing}
-use Rattle.pm_crash.specs.Leading.{Leads}
+use Rattle.std.specs.Prelude.{◌≡◌, ◌⊎◌, ℕ, ◌≤◌, ◌%◌, ◌^◌, List, [], ◌∷◌, ◌++◌, slice_index, Option, None, Some, ⊤, length, ◌<◌}
+use Rattle.pm_crash.specs.Alone.{Begins, BeginsAlone, standing}
+use Rattle.pm_header.specs.declared.header.Header.{Header}
 use Rattle.pm_memory.specs.Solo.{Sees, Solo}
 use Rattle.pm_objects.specs.declared.history.Entry.{Entry}
 use Rattle.pm_objects.specs.declared.history.Fate.TheVariants as fate
 use Rattle.pm_objects.specs.declared.history.Reply.{Reply}
+use Rattle.pm_objects.specs.declared.pool.PoolView.{PoolView}
 use Rattle.pm_script.specs.declared.script.ScriptLine.{ScriptLine}
 use Rattle.pm_text.specs.declared.report.LaneEnd.TheVariants as end
 use Rattle.pm_lock.specs.Resting.{IsAtRest}
-use Rattle.pm_view.specs.Counts.{stores_among}
+use Rattle.pm_view.specs.Constants.{IsSameLane}
 use Rattle.pm_view.specs.Log.{no_log}
 use Rattle.pm_view.specs.Log.Phase.{Idle}
-use Rattle.pm_view.specs.Steps.{Step}
 use Rattle.pm_view.specs.View.{Numbered, View}
 use Rattle.pm_view.specs.Founds.{IsAlone}
 use Rattle.pm_world.specs.Opening.{IsSound, Opening}
 use Rattle.pm_world.specs.Records.{generation_of}
 use Rattle.pm_world.specs.declared.lane.Lane.{Lane}
-use Rattle.pm_exec.specs.Bounds.{stores_of_calls}
+use Rattle.pm_exec.specs.Bounds.{IsBounded, stores_of_calls}
 use Rattle.pm_exec.specs.Calls.{call_of, numbers_of}
 use Rattle.pm_exec.specs.Course.{CallsMade}
 use Rattle.pm_exec.specs.Founded.{IsFounded, KnowsTaken}
 use Rattle.pm_exec.specs.Histories.{settled_fate}
-use Rattle.pm_exec.specs.Progress.{IsPending, HasEnded, IsHalted, IsUnbegun}
+use Rattle.pm_exec.specs.Progress.{HasNothing, IsPending, HasEnded, IsHalted, IsUnbegun}
 use Rattle.pm_exec.specs.declared.calls.Names.{Names}
 use Rattle.pm_exec.specs.declared.running.Halt.{Halt}
 use Rattle.pm_crash.specs.Pending.{pending_before}
@@ -61,21 +61,24 @@ pub record IsOpenedAs (o : Opening) (v : View) : Type 0 where
   pub zone_count : length v.zone_words ≡ 32
   pub taken : KnowsTaken o v
 
--- these calls were answered, one after another from the first view, and led to this view
-pub record HasCalled (first : View) (names : Names) (calls : List (List ScriptLine)) (history : List Entry) (view : View) : Type 0 where
-  pub steps : List Step
-  pub leads : Leads first steps view
+-- these calls were answered, one after another from the first view, and led to this view. Where the lane began alone there, it begins here, over words
+-- that have the opening's header page
+pub record HasCalled (o : Opening) (first : View) (names : Names) (calls : List (List ScriptLine)) (history : List Entry) (view : View) : Type 0 where
   pub are : AreEntries names calls history view.entries
+  pub again : (header : Header) (pool : PoolView) → BeginsAlone o header pool first → Begins (standing o view) header pool view
+  pub page : (header : Header) (pool : PoolView) → BeginsAlone o header pool first → (i : ℕ) → i < 512 → slice_index view.words i ≡ slice_index o.words i
+  pub same : IsSameLane first view
   pub made : CallsMade names calls history first view
-  pub few : stores_among steps ≤ stores_of_calls names calls
+  pub bound : IsBounded first view (stores_of_calls names calls)
 
 -- and the lane rests behind them
 pub record HasAnswered (o : Opening) (first : View) (lane : Lane Solo) (actions : List SetAction) (names : Names) (calls : List (List ScriptLine)) (history : List Entry) : Type 0 where
   pub view : View
-  pub called : HasCalled first names calls history view
+  pub called : HasCalled o first names calls history view
   pub rests : IsAtRest Sees lane view
   pub idle : view.log ≡ no_log Idle
   pub founded : IsFounded o.lanes o.zones view
+  pub has_none : HasNothing view
   pub pending : IsPending actions (pending_before view)
 
 -- so it did over the pool from whose words the first view is
@@ -91,7 +94,7 @@ open_entry names lines (Some n) reply = Some (record { number = n; call = call_o
 -- the lane stopped in the call of these lines, behind others
 pub record HasStopped (o : Opening) (first : View) (lane : Lane Solo) (names : Names) (answered : List (List ScriptLine)) (lines : List ScriptLine) (history : List Entry) (halt : Halt) : Type 0 where
   pub before : View
-  pub called : HasCalled first names answered history before
+  pub called : HasCalled o first names answered history before
   pub idle : before.log ≡ no_log Idle
   pub drained : before.changes ≡ []
   pub number : Option ℕ
@@ -104,7 +107,7 @@ pub record HasStopped (o : Opening) (first : View) (lane : Lane Solo) (names : N
 -- it could not begin the call of these lines
 pub record HasSpent (o : Opening) (first : View) (lane : Lane Solo) (names : Names) (answered : List (List ScriptLine)) (lines : List ScriptLine) (history : List Entry) (halt : Halt) : Type 0 where
   pub before : View
-  pub called : HasCalled first names answered history before
+  pub called : HasCalled o first names answered history before
   pub idle : before.log ≡ no_log Idle
   pub drained : before.changes ≡ []
   pub unbegun : IsUnbegun before lane
