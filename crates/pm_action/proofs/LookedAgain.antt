@@ -64,7 +64,7 @@ module _ (v : View) (line : ℕ) (chunk : is_chunk v.lanes (line / 64) ≡ true)
 
   pub looks_at_size : LooksAgain v w
   looks_at_size = record {
-    led = led_once v (Load word x) (omega (arith, inside)) (λ alone. size_found) tt refl;
+    led = led_once v (Load word x) (omega (arith, inside)) (λ alone. size_found) tt refl (record { zone_locks = refl; reserved = refl; freed = refl });
     same = (λ i. record v { words = words_same i; known = w.known; locks = locks_same i; seen = w.seen });
     remembers = still_known;
     saw = λ s there. Contains-append_left v.seen (Load word x ∷ []) s there;

@@ -107,7 +107,8 @@ module _ {M : Type 0} (at : M → View → Type 0) (held : Lane M) (v : View) (s
           let e : IsEndedBy at mid h (publishes es Publish mid.last) Publish None = ended_there in
           let gone : view ≡ record w { locks = []; known = view.known } = closed.same in
           let back : IsLed w view =
-          ready_led w (gives mid.locks.items w) closed.ready (drawless w (gives mid.locks.items w) (let n = ap (λ (u : View). length u.entries) gone in omega (arith, n))) (none_counted mid.locks.items w) in
+          ready_led w (gives mid.locks.items w) closed.ready (drawless w (gives mid.locks.items w) (let n = ap (λ (u : View). length u.entries) gone in omega (arith, n))) (none_counted mid.locks.items w)
+          (record { zone_locks = ap (λ (u : View). u.zone_locks) gone; reserved = ap (λ (u : View). u.reserved) gone; freed = ap (λ (u : View). u.freed) gone }) in
           let told : w.call ≡ record { operation = Publish; reply = None } ∷ [] = e.told ∙ ap (λ (told : List Told). told ++ record { operation = Publish; reply = None } ∷ []) goes.begun.untold in
           let entries : view.entries ≡ drawn_more v.entries mid.last (record { operation = Publish; reply = None } ∷ []) =
           ap (λ (u : View). u.entries) gone ∙ (e.entries ∙ (λ i. drawn_more (goes.entries i) mid.last (told i))) in

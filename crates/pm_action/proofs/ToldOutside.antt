@@ -18,9 +18,9 @@ use Rattle.pm_world.specs.Sequences.{IsMade, Ready, Runs, in_turn, one}
 use Rattle.pm_world.specs.declared.lane.Lane.{Lane}
 use Rattle.pm_lock.proofs.Drawless.{drawless}
 use Rattle.pm_lock.proofs.GivenBack.{none_counted}
-use Rattle.pm_lock.proofs.Leads.{led_same, led_then, ready_led}
+use Rattle.pm_lock.proofs.Leads.{heap_drawn, led_same, led_then, ready_led}
 use Rattle.pm_lock.specs.Begun.{IsBegun}
-use Rattle.pm_lock.specs.Leading.{DrawEnded, IsLed}
+use Rattle.pm_lock.specs.Leading.{DrawEnded, IsLed, KeepsHeap}
 use Rattle.pm_lock.specs.Locking.{gives}
 use Rattle.pm_tx.specs.Ending.{IsAfterCall, IsClosedBy, IsOver, drawn_more}
 use Rattle.pm_tx.specs.Sequences.{ends_call}
@@ -74,6 +74,13 @@ module _ {M : Type 0} (at : M → View → Type 0) (lane : Lane M) (v : View) (i
   unfolding ends_call in_turn one counted after_all
   ends_uncounted = refl
 
+  ends_heap : KeepsHeap v mid
+  unfolding ends_call in_turn one after_all
+  ends_heap =
+      let told : View = after v (Tell op reply) in
+      let drawn_so = heap_drawn told drawn.last (empty_plain told (ap (λ (log : Log). log.entries) is.log)) in
+      record { zone_locks = drawn_so.zone_locks; reserved = drawn_so.reserved; freed = drawn_so.freed }
+
   mid_entries : mid.entries ≡ drawn_more v.entries drawn.last (record { operation = op; reply = reply } ∷ [])
   unfolding ends_call in_turn one after_all
   mid_entries = ap (drawn_more v.entries drawn.last) told_alone
@@ -88,8 +95,9 @@ module _ {M : Type 0} (at : M → View → Type 0) (lane : Lane M) (v : View) (i
       let w : View = after_all mid (gives drawn.locks.items mid) in
       let same : w ≡ record mid { locks = []; known = w.known } = closed.same in
       let back : IsLed mid w =
-      ready_led mid (gives drawn.locks.items mid) closed.ready (drawless mid (gives drawn.locks.items mid) (let e = ap (λ (u : View). length u.entries) same in omega (arith, e))) (none_counted drawn.locks.items mid) in
-      let led : IsLed v w = led_then v mid w (ready_led v ends ready (ends_drawn whole) ends_uncounted) back in
+      ready_led mid (gives drawn.locks.items mid) closed.ready (drawless mid (gives drawn.locks.items mid) (let e = ap (λ (u : View). length u.entries) same in omega (arith, e))) (none_counted drawn.locks.items mid)
+      (record { zone_locks = ap (λ (u : View). u.zone_locks) same; reserved = ap (λ (u : View). u.reserved) same; freed = ap (λ (u : View). u.freed) same }) in
+      let led : IsLed v w = led_then v mid w (ready_led v ends ready (ends_drawn whole) ends_uncounted ends_heap) back in
       let entries : w.entries ≡ drawn_more v.entries drawn.last (record { operation = op; reply = reply } ∷ []) = ap (λ (u : View). u.entries) same ∙ mid_entries in
       record {
         told = record {

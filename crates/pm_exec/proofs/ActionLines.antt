@@ -27,7 +27,7 @@ use Rattle.pm_model.specs.Checks.{is_action}
 use Rattle.pm_objects.specs.declared.history.TxErr.TheVariants as error
 use Rattle.pm_world.specs.declared.lane.Stage.TheVariants as stage
 use Rattle.pm_lock.proofs.Leads.{led_none, led_then, ready_led}
-use Rattle.pm_lock.specs.Leading.{DrawEnded, IsLed}
+use Rattle.pm_lock.specs.Leading.{DrawEnded, IsLed, KeepsHeap}
 use Rattle.pm_tx.specs.Actions.{HasCanceled, HasPublished, IsPublishGivenUp, IsPublishStopped, cancels}
 use Rattle.pm_tx.specs.AtWork.{IsAtWork}
 use Rattle.pm_tx.specs.Ending.{IsEndedBy, IsStoppedIn}
@@ -97,11 +97,15 @@ module _ (operation : Operation) (reply : Option Value) where
   unfolding one counted
   told_free v = refl
 
+  told_heap : (v : View) → KeepsHeap v (after_all v (tells v))
+  unfolding one after_all
+  told_heap v = record { zone_locks = refl; reserved = refl; freed = refl }
+
   tell_stores : (v : View) → stores_among (tells v) ≡ 0
   tell_stores v = none_in_one (Tell operation reply) refl v
 
   tell_led : (v : View) → MayTell v.log.phase → IsLed v (after v (Tell operation reply))
-  tell_led v may = let t = tell_ready v may in subst (λ (u : View). IsLed v u) (told_view v) (ready_led v (tells v) t.0 t.1 (told_free v))
+  tell_led v may = let t = tell_ready v may in subst (λ (u : View). IsLed v u) (told_view v) (ready_led v (tells v) t.0 t.1 (told_free v) (told_heap v))
 
 module _ (o : Opening) (first : View) (lane : Lane Solo) (actions : List SetAction) (names : Names) (front : List ScriptLine) (values : Values) (a : IsAtLine o first lane actions names front values) (new : Lane Solo) (said : ScriptLine) where
   abbrev v : View

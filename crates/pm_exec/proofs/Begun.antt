@@ -14,7 +14,7 @@ use Rattle.pm_script.specs.declared.script.ScriptLine.{ScriptLine}
 use Rattle.pm_script.specs.declared.script.ScriptOp.TheVariants as op
 use Rattle.pm_lock.proofs.Leading.{ready_leads}
 use Rattle.pm_lock.specs.Lacking.{LacksObject}
-use Rattle.pm_lock.specs.Leading.{IsLed}
+use Rattle.pm_lock.specs.Leading.{IsLed, KeepsHeap}
 use Rattle.pm_lock.specs.Locking.{IsBusy, takes}
 use Rattle.pm_tx.specs.Beginning.{IsSpent, RestsBehind}
 use Rattle.pm_tx.specs.Begins.{FailsToBegin, HasBegun, HasRefused, LeavesLane}
@@ -43,7 +43,9 @@ use Rattle.pm_exec.specs.Course.{IsLineMade, IsRefusalMade, IsUsedUp, LinesMade,
 use Rattle.pm_exec.specs.Progress.{AreToldDone, IsAtLine, IsGivenUpAt, IsNotDone, IsStart, IsToldDone, IsUnbegun, done, not_done, numbered, refused, values_told}
 use Rattle.pm_exec.specs.declared.calls.Names.{Names}
 use Rattle.pm_exec.proofs.Along.{lane_along}
-use Rattle.pm_exec.proofs.OpeningFound.{IsThere, IsUntouched, finds_opening, untouched_along}
+use Rattle.pm_exec.proofs.HeapStill.{begun_heap, nothing_still}
+use Rattle.pm_exec.specs.Founded.{IsThere}
+use Rattle.pm_exec.proofs.OpeningFound.{IsUntouched, finds_opening, untouched_along}
 use Rattle.pm_pending.specs.declared.actions.SetAction.{SetAction}
 use Rattle.pm_crash.specs.Pending.{pending_before, pending_from, pending_told}
 use Rattle.pm_crash.proofs.PendingOn.{calls_further, pending_first, published_first, same_before}
@@ -94,10 +96,21 @@ module _ (o : Opening) (first : View) (lane new : Lane Solo) (actions : List Set
   unfolding starts sees_generation by_lane by_view looks in_turn one after_all Ready
   number_is n ready = ready.2.1 is.alone
 
-  behind : (steps : Sequence) → (after_all first (steps first)).entries ≡ first.entries → counted (steps first) ≡ 0 → IsUsedUp first → RestsBehind Sees new first steps → IsUnbegun first new
-  behind steps kept free used r = record {
+  -- nor do they change what the lane has of the heap
+  looks_heap : KeepsHeap first (after_all first (sees_generation first))
+  unfolding sees_generation by_lane by_view looks after_all
+  looks_heap = record { zone_locks = refl; reserved = refl; freed = refl }
+
+  starts_heap : (n : ℕ) → KeepsHeap first (after_all first (starts n first))
+  unfolding starts sees_generation by_lane by_view looks in_turn one after_all
+  starts_heap n =
+      let m : View = after first (Load (area_word first.lane) (slice_index first.words (area_word first.lane))) in
+      let kept = begun_heap m.log.phase m in record { zone_locks = kept.zone_locks; reserved = kept.reserved; freed = kept.freed }
+
+  behind : (steps : Sequence) → (after_all first (steps first)).entries ≡ first.entries → counted (steps first) ≡ 0 → KeepsHeap first (after_all first (steps first)) → IsUsedUp first → RestsBehind Sees new first steps → IsUnbegun first new
+  behind steps kept free heap used r = record {
     view = after_all first (steps first);
-    free = record { led = record { steps = steps first; leads = ready_leads first (steps first) r.ready r.draws; uncounted = free }; undrawn = kept };
+    free = record { led = record { steps = steps first; leads = ready_leads first (steps first) r.ready r.draws; uncounted = free; heap = heap }; undrawn = kept };
     seen = r.rests.seen.memory;
     used_up = used;
     fresh = r.rests.fresh;
@@ -106,8 +119,8 @@ module _ (o : Opening) (first : View) (lane new : Lane Solo) (actions : List Set
 
   pub spent : IsSpent Sees new first → IsUnbegun first new
   spent s =
-      ⊎_elim (λ t. behind sees_generation none_drawn_yet looks_free (inl t.0) t.1)
-      (λ t. behind (starts t.0) (none_drawn t.0) (starts_free t.0) (inr (subst (λ n. generation_limit ≤ n) (number_is t.0 t.1.1.ready) t.1.0)) t.1.1) s
+      ⊎_elim (λ t. behind sees_generation none_drawn_yet looks_free looks_heap (inl t.0) t.1)
+      (λ t. behind (starts t.0) (none_drawn t.0) (starts_free t.0) (starts_heap t.0) (inr (subst (λ n. generation_limit ≤ n) (number_is t.0 t.1.1.ready) t.1.0)) t.1.1) s
 
   module _ (said : ScriptLine) (asked : List ScriptWant) (begins : said.operation ≡ op.Begin asked) (wants : List Want) (wants_are : wants ≡ map (want_of names) asked) where
     begin_is : operation_of names said.operation ≡ operation.Begin wants
@@ -150,6 +163,7 @@ module _ (o : Opening) (first : View) (lane new : Lane Solo) (actions : List Set
           of_lane = lane_is;
           alone = untouched.alone;
           works = b.opens o is.sound is.zones (finds_opening o w untouched in_lanes);
+          has_none = nothing_still first w b.led.heap is.has_none;
           level = level;
           opens = (said, [], refl, ap stands_alone begins);
           told = subst (AreToldDone names (said ∷ [])) (sym b.call) (told_so, tt);
@@ -185,6 +199,8 @@ module _ (o : Opening) (first : View) (lane new : Lane Solo) (actions : List Set
           steps = b.led.steps;
           leads = b.led.leads;
           behind = b.over;
+          has_none = nothing_still first b.view b.led.heap is.has_none;
+          number = b.number;
           entries =
               b.entries
               ∙ ap (λ (told : List Told). first.entries ++ numbered new.last told ∷ []) (b.call ∙ ap (λ (o : Operation). refused o r ∷ []) (sym begin_is));

@@ -1,6 +1,5 @@
 -- One more call of a run, behind those that were answered.
-use Rattle.std.proofs.Common.{◌≡◌, inl, inr, ℕ, ◌<◌, ◌%◌, ◌^◌, List, [], ◌∷◌, ◌++◌, length, slice_index, Option, None, refl, sym, ap, ◌∙◌, subst, arith}
-use Rattle.pm_crash.proofs.Leading.{leads_then}
+use Rattle.std.proofs.Common.{◌≡◌, inl, inr, ℕ, ◌+◌, ◌<◌, ◌%◌, ◌^◌, List, [], ◌∷◌, ◌++◌, length, slice_index, Option, None, refl, sym, ap, ◌∙◌, subst, arith}
 use Rattle.pm_crash.specs.Alone.{standing}
 use Rattle.pm_memory.specs.Solo.{Sees, Solo}
 use Rattle.pm_objects.specs.declared.calls.Call.{Call}
@@ -9,13 +8,14 @@ use Rattle.pm_objects.specs.declared.history.Fate.{Fate}
 use Rattle.pm_objects.specs.declared.history.Reply.{Reply}
 use Rattle.pm_script.specs.declared.script.ScriptLine.{ScriptLine}
 use Rattle.pm_text.specs.declared.report.LaneEnd.TheVariants as end
+use Rattle.pm_view.proofs.SameLane.{same_lane-then}
 use Rattle.pm_view.specs.Area.{area_word}
 use Rattle.pm_view.specs.View.{Numbered, View}
 use Rattle.pm_world.specs.Opening.{Opening}
 use Rattle.pm_world.specs.Records.{generation_of}
 use Rattle.pm_world.specs.declared.lane.Lane.{Lane}
-use Rattle.pm_tx.proofs.StoreCounts.{stores_append}
-use Rattle.pm_exec.proofs.FewStores.{calls_more}
+use Rattle.pm_exec.proofs.FewStores.{bounded_then, bounded_within, calls_more}
+use Rattle.pm_exec.specs.Bounds.{stores_of_call, stores_of_calls}
 use Rattle.pm_exec.specs.Calls.{call_of, numbers_of}
 use Rattle.pm_exec.specs.Course.{CallsMade, IsCallMade}
 use Rattle.pm_exec.specs.Histories.{settled_fate}
@@ -49,7 +49,7 @@ made_then names (c ∷ calls) (h ∷ history) call d e u v w made settled is = (
 module _ (o : Opening) (first : View) (lane : Lane Solo) (actions : List SetAction) (names : Names) (calls : List (List ScriptLine)) (history : List Entry) (h : HasComeTo o first lane actions names calls history) where
   -- where those were answered, the lane may begin it
   pub begins : IsStart (standing o h.answered.view) lane actions h.answered.view
-  begins = let a = h.answered in starts_again o first a.view a.called.steps h.opened a.called.leads lane actions a.rests a.idle a.pending
+  begins = let a = h.answered in starts_again o a.view lane actions a.founded a.rests a.idle a.has_none a.pending
 
   -- the word of its generation, as its memory has it
   generation_seen : (found : ℕ) → found ≡ slice_index lane.memory.words 512 → found ≡ generation_of h.answered.view
@@ -66,7 +66,7 @@ module _ (o : Opening) (first : View) (lane : Lane Solo) (actions : List SetActi
 
   module _ (lines : List ScriptLine) (new : Lane Solo) where
     -- it was answered too
-    pub one_more : (left : List SetAction) (number : ℕ) (e : CallAnswer) (reply : Reply) (call : Call) (fate : Fate) → IsAnswered h.answered.view new left names lines number e reply → call ≡ call_of names lines → fate ≡ settled_fate e
+    pub one_more : (left : List SetAction) (number : ℕ) (e : CallAnswer) (reply : Reply) (call : Call) (fate : Fate) → IsAnswered (standing o h.answered.view) h.answered.view new left names lines number e reply → call ≡ call_of names lines → fate ≡ settled_fate e
         → HasComeTo o first new left names (calls ++ lines ∷ []) (history ++ record { number = number; call = call; reply = reply; fate = fate } ∷ [])
     one_more left number e reply call fate x is settled =
         let a = h.answered in
@@ -75,16 +75,21 @@ module _ (o : Opening) (first : View) (lane : Lane Solo) (actions : List SetActi
           answered = record {
             view = x.view;
             called = record {
-              steps = a.called.steps ++ x.steps;
-              leads = leads_then first a.view x.view a.called.steps x.steps a.called.leads x.leads;
               are = subst (AreEntries names (calls ++ lines ∷ []) (history ++ record { number = number; call = call; reply = reply; fate = fate } ∷ [])) (sym x.entries)
                   (entries_then names calls history a.view.entries lines (record { number = number; call = call; reply = reply; fate = fate }) (record { number = number; call = x.told }) a.called.are
                   (record { number = refl; call = is; answer = e; ended = x.so; fate = settled }));
+              again = λ header pool begins. x.link.again header pool (a.called.again header pool begins);
+              page = λ header pool begins i low. x.link.page header pool (a.called.again header pool begins) i low ∙ a.called.page header pool begins i low;
+              same = same_lane-then first a.view x.view a.called.same x.link.same;
               made = made_then names calls history lines (record { number = number; call = call; reply = reply; fate = fate }) e first a.view x.view a.called.made settled x.made;
-              few = (let both = stores_append a.called.steps x.steps in let before = a.called.few in let here = x.few in let more = calls_more names calls lines in omega (arith, both, before, here, more));
+              bound =
+                  bounded_within first x.view (stores_of_calls names calls + stores_of_call names lines) (stores_of_calls names (calls ++ lines ∷ [])) (let more = calls_more names calls lines in omega (arith, more))
+                  (bounded_then first a.view x.view (stores_of_calls names calls) (stores_of_call names lines) a.called.bound (x.link.bound a.rests.drained));
             };
             rests = x.rests;
             idle = x.idle;
+            founded = x.link.founded a.idle a.founded;
+            has_none = x.has_none;
             pending = x.pending;
           };
         }

@@ -15,6 +15,7 @@ use Rattle.pm_objects.specs.declared.refusal.Refusal.{Refusal}
 use Rattle.pm_script.specs.declared.script.ScriptLine.{ScriptLine}
 use Rattle.pm_script.specs.declared.script.ScriptOp.{ScriptOp}
 use Rattle.pm_lock.proofs.Leading.{ready_leads}
+use Rattle.pm_lock.proofs.Leads.{heap_then}
 use Rattle.pm_lock.specs.Leading.{DrawEnded}
 use Rattle.pm_tx.proofs.GiveUpCourse.{gives_up_of}
 use Rattle.pm_tx.proofs.Leading.{ended_leads, stopped_leads}
@@ -58,6 +59,7 @@ use Rattle.pm_exec.specs.Quiet.{IsQuiet}
 use Rattle.pm_exec.specs.Torn.{words_after}
 use Rattle.pm_exec.proofs.Along.{alone_along, lane_along}
 use Rattle.pm_exec.proofs.CommitFront.{give_up_keeps}
+use Rattle.pm_exec.proofs.HeapStill.{gives_up_heapless, heap_along, nothing_still}
 use Rattle.pm_exec.proofs.QuietSequences.{quiet_in_give_up}
 use Rattle.pm_exec.proofs.LooksAlone.{IsSameBut, looks_same}
 use Rattle.pm_exec.proofs.UndrawnSteps.{IsUndrawn, Keeps, all_undrawn_keep, first_undrawn_keep}
@@ -95,7 +97,7 @@ module _ (o : Opening) (first : View) (lane : Lane Solo) (actions : List SetActi
     to_u = let l = looks_led n a.view u looks in (a.steps ++ l.0, leads_then first a.view u a.steps l.0 a.leads l.1.0)
 
     pub free_u : IsFree a.view u
-    free_u = let l = looks_led n a.view u looks in record { led = record { steps = l.0; leads = l.1.0; uncounted = l.1.1 }; undrawn = same.entries }
+    free_u = let l = looks_led n a.view u looks in record { led = record { steps = l.0; leads = l.1.0; uncounted = l.1.1; heap = same.heap }; undrawn = same.entries }
 
     pub lane_u : u.lane ≡ 0
     lane_u = same.lane ∙ a.of_lane
@@ -178,6 +180,7 @@ module _ (o : Opening) (first : View) (lane : Lane Solo) (actions : List SetActi
             of_lane = lane_along u w (steps u) leads lane_u;
             alone = alone_along u w (steps u) leads same.alone;
             works = works;
+            has_none = nothing_still a.view w (heap_then a.view u w same.heap keeps.heap) a.has_none;
             level = level;
             opens = (a.opens.0, a.opens.1 ++ said ∷ [], ap (λ (ls : List ScriptLine). ls ++ said ∷ []) a.opens.2, a.opens.3);
             told = subst (AreToldDone names (front ++ said ∷ [])) (sym call) (told_more names front said a.view.call t a.told is_done);
@@ -256,6 +259,8 @@ module _ (o : Opening) (first : View) (lane : Lane Solo) (actions : List SetActi
               steps = to_u.0 ++ steps u;
               leads = leads_then first u w to_u.0 (steps u) to_u.1 (ended_leads Sees new u steps (operation_of names said.operation) (Some (Refused r)) e);
               behind = e.behind;
+              has_none = nothing_still a.view w (heap_then a.view u w same.heap (heap_along u w (steps u) (gives_up_heapless lane.records.items (operation_of names said.operation) (Some (Refused r)) new.last u lane_u) (ended_leads Sees new u steps (operation_of names said.operation) (Some (Refused r)) e))) a.has_none;
+              number = e.over.number;
               entries = e.entries ∙ ap (λ (es : List Numbered). es ++ numbered new.last w.call ∷ []) entries_u;
               level = level;
               left = ap is_work at;

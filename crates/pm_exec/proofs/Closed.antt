@@ -10,10 +10,11 @@ use Rattle.pm_objects.specs.declared.refusal.Refusal.{Refusal}
 use Rattle.pm_script.specs.declared.script.ScriptLine.{ScriptLine}
 use Rattle.pm_lock.proofs.Drawless.{drawless}
 use Rattle.pm_lock.proofs.Leading.{ready_leads}
+use Rattle.pm_lock.specs.Leading.{KeepsHeap}
 use Rattle.pm_lock.specs.Locking.{gives, line_at}
 use Rattle.pm_tx.proofs.StepKinds.{Each, only_counted, only_one}
 use Rattle.pm_tx.specs.Ending.{IsClosedBy}
-use Rattle.pm_view.specs.Counts.{counted, is_counted}
+use Rattle.pm_view.specs.Counts.{counted, is_counted, stores_among}
 use Rattle.pm_view.specs.Steps.{Step}
 use Rattle.pm_view.specs.Steps.Step.{Give}
 use Rattle.pm_view.specs.View.{Told, View}
@@ -23,10 +24,15 @@ use Rattle.pm_world.specs.Sequences.{one}
 use Rattle.pm_world.specs.declared.lane.HeldLock.{HeldLock}
 use Rattle.pm_world.specs.declared.lane.Lane.{Lane}
 use Rattle.pm_tx.proofs.StoreCounts.{stores_append, stores_counted}
+use Rattle.pm_exec.proofs.BeginsBehind.{rests_behind}
+use Rattle.pm_exec.proofs.HeapStill.{nothing_still}
+use Rattle.pm_exec.proofs.Links.{linked}
+use Rattle.pm_exec.specs.Bounds.{stores_of_call}
 use Rattle.pm_exec.specs.Course.{AreMade}
-use Rattle.pm_exec.specs.Progress.{IsAnswered, IsCommitted, IsCut, IsGivenUpAt, IsHalted, IsOver, IsRefusedAt, Values}
+use Rattle.pm_exec.specs.Progress.{HasNothing, IsAnswered, IsCommitted, IsCut, IsGivenUpAt, IsHalted, IsOver, IsRefusedAt, Values}
 use Rattle.pm_exec.specs.declared.calls.Names.{Names}
 use Rattle.pm_pending.specs.declared.actions.SetAction.{SetAction}
+use Rattle.pm_crash.specs.Leading.{Leads}
 use Rattle.pm_crash.specs.Pending.{pending_from}
 use Rattle.pm_view.specs.View.{Numbered}
 use Rattle.pm_exec.specs.Calls.{starts_alone}
@@ -54,9 +60,9 @@ unfolding gives
 gives_uncounted locks v lane = none_counted (gives locks v) (only_counted IsUncounted (λ i. one (Give (line_at locks i))) (length locks) (λ i below. only_one IsUncounted (Give (line_at locks i)) refl) v lane)
 
 -- the end answers the call, and the lane rests
-pub answered : (first : View) (lane new : Lane Solo) (actions : List SetAction) (names : Names) (lines : List ScriptLine) (told : List Told) (error found : TxErr) (reply : Reply) → (over : IsOver first lane actions names lines told error) → IsClosedBy Sees new over.view (gives lane.locks.items)
-    → found ≡ lane.error → TransactionEnded names lines error reply told → IsAnswered first new actions names lines lane.last (answer.Transaction found) reply
-answered first lane new actions names lines told error found reply over c is so =
+pub answered : (o : Opening) (first : View) (lane new : Lane Solo) (actions : List SetAction) (names : Names) (lines : List ScriptLine) (told : List Told) (error found : TxErr) (reply : Reply) → (over : IsOver first lane actions names lines told error) → IsClosedBy Sees new over.view (gives lane.locks.items)
+    → found ≡ lane.error → TransactionEnded names lines error reply told → IsAnswered o first new actions names lines lane.last (answer.Transaction found) reply
+answered o first lane new actions names lines told error found reply over c is so =
     let v : View = over.view in
     let steps : List Step = gives lane.locks.items v in
     let w : View = after_all v steps in
@@ -64,12 +70,19 @@ answered first lane new actions names lines told error found reply over c is so 
     let entries : w.entries ≡ v.entries = ap (λ (u : View). u.entries) same in
     let few : length w.entries ≤ length v.entries = omega (arith, ap length entries) in
     let leads = ready_leads v steps c.ready (drawless v steps few) in
+    let all : Leads first (over.steps ++ steps) w = leads_then first v w over.steps steps over.leads leads in
+    let heap : KeepsHeap v w = record { zone_locks = ap (λ (u : View). u.zone_locks) same; reserved = ap (λ (u : View). u.reserved) same; freed = ap (λ (u : View). u.freed) same } in
+    let has_none : HasNothing w = nothing_still v w heap over.has_none in
+    let idle = ap (λ (u : View). u.log) same ∙ over.behind.log in
+    let behind = rests_behind new w c.rests idle has_none lane.last (ap (λ (u : View). u.number) same ∙ over.number) in
+    let all_few : stores_among (over.steps ++ steps) ≤ stores_of_call names lines =
+    (let both = stores_append over.steps steps in let counts = stores_counted steps in let none = gives_uncounted lane.locks.items v over.behind.seen.memory.lane in let before = over.few in omega (arith, both, counts, none, before)) in
     record {
       view = w;
-      steps = over.steps ++ steps;
-      leads = leads_then first v w over.steps steps over.leads leads;
+      link = linked o new first w (over.steps ++ steps) (stores_of_call names lines) all c.rests.seen.memory behind all_few;
       rests = c.rests;
-      idle = ap (λ (u : View). u.log) same ∙ over.behind.log;
+      idle = idle;
+      has_none = has_none;
       told = told;
       entries = entries ∙ over.entries;
       so = subst (λ (e : TxErr). TransactionEnded names lines e reply told) (sym (is ∙ over.fails)) so;
@@ -77,9 +90,8 @@ answered first lane new actions names lines told error found reply over c is so 
       made = record {
         over = v;
         made = subst (λ (e : TxErr). AreMade names lines e first v) (sym (is ∙ over.fails)) over.made;
-        closed = record { led = record { steps = steps; leads = leads; uncounted = gives_uncounted lane.locks.items v over.behind.seen.memory.lane }; undrawn = entries };
+        closed = record { led = record { steps = steps; leads = leads; uncounted = gives_uncounted lane.locks.items v over.behind.seen.memory.lane; heap = heap }; undrawn = entries };
       };
-      few = (let both = stores_append over.steps steps in let counts = stores_counted steps in let none = gives_uncounted lane.locks.items v over.behind.seen.memory.lane in let before = over.few in omega (arith, both, counts, none, before));
     }
 
 -- what was given up at a line has ended with that line's reply

@@ -43,6 +43,7 @@ use Rattle.pm_exec.specs.Course.{IsFree, line_calls, spans_of}
 use Rattle.pm_exec.specs.Progress.{AreToldDone, IsAtLine, IsCommitted, IsCut, IsFlyingBy, IsInFlight, IsToldDone, Values, done, numbered, values_told}
 use Rattle.pm_exec.specs.declared.calls.Names.{Names}
 use Rattle.pm_exec.proofs.ChangeLines.{front_of}
+use Rattle.pm_exec.proofs.HeapStill.{commits_heapless, heap_along, nothing_still}
 use Rattle.pm_exec.proofs.LineStores.{commits_few}
 use Rattle.pm_exec.proofs.PendingLists.{drawn_pending, still_pending}
 use Rattle.pm_exec.proofs.LineLists.{gave_nothing, made_more, told_more}
@@ -125,6 +126,8 @@ module _ (o : Opening) (first : View) (lane : Lane Solo) (actions : List SetActi
           steps = a.steps ++ steps v;
           leads = leads_then first v w a.steps (steps v) a.leads (ended_leads Sees new v steps Commit None e);
           behind = e.behind;
+          has_none = nothing_still v w (heap_along v w (steps v) (commits_heapless lane.records.items entries new.last v a.of_lane) (ended_leads Sees new v steps Commit None e)) a.has_none;
+          number = e.over.number;
           entries = drawn;
           level = ap (λ (l : Lane Solo). l.level) fields ∙ a.level;
           left = ap (λ (l : Lane Solo). is_work l.stage) fields;

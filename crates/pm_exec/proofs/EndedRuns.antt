@@ -1,16 +1,14 @@
 -- How a run came to its end: the calls that were answered, the one that was not, if it drew a number, and the history of both.
-use Rattle.std.proofs.Common.{◌&&◌, ◌≡◌, ◌≢◌, ◌⊎◌, ⊎_elim, inl, inr, ℕ, zero, suc, ◌+◌, ◌<◌, ◌≤◌, ◌%◌, ◌^◌, Bool, true, false, not, eqb, ltb, List, [], ◌∷◌, ◌++◌, length, Option, None, Some, slice_index_or, refl, sym, ap, ◌∙◌, subst, arith, length-append, append-nil, append_assoc}
+use Rattle.std.proofs.Common.{◌&&◌, ◌≡◌, ◌≢◌, ◌⊎◌, ⊎_elim, inl, inr, ℕ, zero, suc, ◌+◌, ◌<◌, ◌≤◌, ◌%◌, ◌^◌, Bool, true, false, not, eqb, ltb, List, [], ◌∷◌, ◌++◌, length, Option, None, Some, slice_index, slice_index_or, refl, sym, ap, ◌∙◌, subst, arith, length-append, append-nil, append_assoc}
 use Rattle.std.specs.Option.{ForSome}
 use Rattle.std.proofs.lemmas.Bool.{cases_lt, le-ltb, lt-ltb}
 use Rattle.std.proofs.lemmas.List.{get_or_append_left, get_or_push}
 use Rattle.std.proofs.lemmas.List.Elements.{All-cons, All-head, All-nil, All-tail}
 use Rattle.std.proofs.lemmas.Option.{none-some}
-use Rattle.pm_crash.proofs.Leading.{leads_then}
+use Rattle.pm_crash.proofs.AloneCourse.{begins_lane}
 use Rattle.pm_crash.proofs.AloneImages.{ended_stays, words_fate}
 use Rattle.pm_crash.proofs.SeenAlone.{works_where_seen}
 use Rattle.pm_crash.specs.Alone.{BeginsAlone, IsDrawnAt, Rests, WorksAlone, raises, standing}
-use Rattle.pm_crash.proofs.OnTheWay.{works_up_to}
-use Rattle.pm_crash.proofs.Raises.{raises_append}
 use Rattle.pm_crash.proofs.Raising.{generation_raised}
 use Rattle.pm_crash.specs.Leading.{Leads}
 use Rattle.pm_memory.specs.Solo.{Sees, Solo}
@@ -21,14 +19,15 @@ use Rattle.pm_objects.specs.declared.pool.PoolView.{PoolView}
 use Rattle.pm_header.specs.declared.header.Header.{Header}
 use Rattle.pm_image.specs.Logs.{generation_word, seal_word}
 use Rattle.pm_memory.specs.Keep.{IsKeptImage}
+use Rattle.pm_view.specs.Area.{area_word}
 use Rattle.pm_view.specs.Log.{Log, Phase, no_log}
 use Rattle.pm_view.specs.Log.Phase.{Applying, Clearing, Drawn, Idle, Open, Retiring, Sealing}
 use Rattle.pm_world.specs.Crash.{loses}
 use Rattle.pm_world.specs.Records.{generation_of}
-use Rattle.pm_tx.proofs.StoreCounts.{stores_append}
-use Rattle.pm_view.specs.Counts.{stores_among}
-use Rattle.pm_exec.specs.Bounds.{stores_of_call, stores_of_calls}
-use Rattle.pm_exec.proofs.FewStores.{calls_within, led_stores}
+use Rattle.pm_view.proofs.SameLane.{same_lane-then}
+use Rattle.pm_view.specs.Constants.{IsSameLane}
+use Rattle.pm_exec.specs.Bounds.{IsBounded, stores_of_call, stores_of_calls}
+use Rattle.pm_exec.proofs.FewStores.{bounded, bounded_then, bounded_within, calls_within, led_stores}
 use Rattle.pm_exec.specs.declared.ending.CallAnswer.{CallAnswer}
 use Rattle.pm_exec.specs.declared.ending.CallAnswer.TheVariants as answer
 use Rattle.pm_objects.specs.declared.history.TxErr.TheVariants as error
@@ -40,12 +39,13 @@ use Rattle.pm_view.specs.View.{Numbered, View}
 use Rattle.pm_world.specs.Opening.{Opening}
 use Rattle.pm_world.specs.declared.lane.Lane.{Lane}
 use Rattle.pm_exec.specs.Calls.{call_of}
-use Rattle.pm_exec.specs.Course.{CallsMade, ComesToEnd}
+use Rattle.pm_exec.specs.Course.{ComesToEnd}
 use Rattle.pm_exec.specs.Histories.{closed_history, open_fate, settled_fate}
 use Rattle.pm_exec.specs.Progress.{IsCut, IsInFlight, IsUndrawn, Values}
 use Rattle.pm_exec.specs.Running.{AreEntries, HasCalled, HasFinished, HasHaltedIn, HasRun, HasSpent, HasStopped, open_entry}
 use Rattle.pm_exec.specs.declared.calls.Names.{Names}
 use Rattle.pm_exec.specs.declared.running.Halt.{Halt}
+use Rattle.pm_exec.proofs.Along.{same_along}
 use Rattle.pm_exec.proofs.RisingCalls.{AreRising}
 use Rattle.pm_exec.proofs.ShownCalls.{entry_open}
 use Rattle.pm_exec.proofs.ShownHistories.{AreShown, IsShownAs, Rises, numbers_count, shown_answered, shown_more, as_many}
@@ -88,17 +88,19 @@ rising_next : (calls : List (List ScriptLine)) (call : List ScriptLine) (more : 
 rising_next [] call more rising = All-head Rises call more rising
 rising_next (c ∷ calls) call more rising = rising_next calls call more (All-tail Rises c (calls ++ call ∷ more) rising)
 
--- at its last view the lane was cut short in a call of the run
-pub record IsCutAt (o : Opening) (first : View) (lane : Lane Solo) (names : Names) (all : List (List ScriptLine)) (last : View) : Type 0 where
+-- no steps lead to where they began
+leads_nowhere : (v : View) → Leads v [] v
+unfolding Leads
+leads_nowhere v = refl
+
+-- at its last view the lane was cut short in a call of the run, which it began at the view before
+pub record IsCutAt (o : Opening) (first : View) (lane : Lane Solo) (names : Names) (all : List (List ScriptLine)) (before last : View) : Type 0 where
   pub answered : List (List ScriptLine)
   pub lines : List ScriptLine
   pub behind : List (List ScriptLine)
   pub are : all ≡ answered ++ lines ∷ behind
   pub history : List Entry
-  pub before : View
-  pub called : HasCalled first names answered history before
-  pub idle : before.log ≡ no_log Idle
-  pub drained : before.changes ≡ []
+  pub called : HasCalled o first names answered history before
   pub values : Values
   pub cut : IsCut (standing o before) before lane names lines values
   pub is : last ≡ cut.view
@@ -109,20 +111,21 @@ AreFated o first last decided generation history =
     (header : Header) (pool : PoolView) → BeginsAlone o header pool first → (keep : ℕ) (left : List ℕ) → IsKeptImage keep last.words (last.changes ∷ []) left → decided ≡ not (eqb (seal_word left 0) 0 && eqb (generation_word left 0) generation)
     → (k : ℕ) (d : Entry) → k < length history → is_lost (slice_index_or history k d).fate ≡ loses left last (slice_index_or history k d).number
 
--- the run is over at its last view
+-- the run is over at its last view. The lane came there from the last of its calls that were answered by these steps: none, or those of the call in which
+-- it stopped
 pub record IsEnded (o : Opening) (first : View) (lane : Lane Solo) (names : Names) (all : List (List ScriptLine)) (decided : Bool) (generation : ℕ) (history : List Entry) (ended : LaneEnd) : Type 0 where
   pub answered : List (List ScriptLine)
   pub behind : List (List ScriptLine)
   pub are : all ≡ answered ++ behind
   pub middle : View
+  pub last : View
   pub settled : List Entry
   pub others : List Entry
   pub settled_first : history ≡ settled ++ others
-  pub made : CallsMade names answered settled first middle
-  pub last : View
-  pub steps : List Step
-  pub leads : Leads first steps last
-  pub few : stores_among steps ≤ stores_of_calls names all
+  pub called : HasCalled o first names answered settled middle
+  pub link : List Step
+  pub linked : Leads middle link last
+  pub bound : IsBounded first last (stores_of_calls names all)
   pub seen : Sees lane.memory last
   pub ends : ComesToEnd names behind ended middle last
   pub numbered : List (List ScriptLine)
@@ -135,7 +138,7 @@ pub record IsEnded (o : Opening) (first : View) (lane : Lane Solo) (names : Name
   pub unstopped : ((calls : ℕ) → ended ≡ end.Stopped calls → ⊥) → length history ≡ length answered
   pub at_stop : (calls : ℕ) → ended ≡ end.Stopped calls → first.stop ≡ Some calls
   pub fated : AreFated o first last decided generation history
-  pub stands : Rests last ⊎ IsCutAt o first lane names all last
+  pub stands : Rests last ⊎ IsCutAt o first lane names all middle last
 
 module _ (o : Opening) (first : View) (names : Names) (all : List (List ScriptLine)) (rising : AreRising all) (decided : Bool) where
   -- the entries of answered calls alone
@@ -158,7 +161,7 @@ module _ (o : Opening) (first : View) (names : Names) (all : List (List ScriptLi
         (settled_at names calls history entries entered k d low).1 ∙ sym (ended_stays last left (slice_index_or history k d).number (over (slice_index_or history k d).number))
 
   -- all calls were answered
-  pub ended_finished : (lane : Lane Solo) (history : List Entry) (halt : Halt) → HasFinished first lane names all history halt → IsEnded o first lane names all decided halt.generation (closed_history history halt.is_open decided) halt.end
+  pub ended_finished : (lane : Lane Solo) (history : List Entry) (halt : Halt) → HasFinished o first lane names all history halt → IsEnded o first lane names all decided halt.generation (closed_history history halt.is_open decided) halt.end
   ended_finished lane history halt f =
       let view : View = f.answered.view in
       let called = f.answered.called in
@@ -174,11 +177,11 @@ module _ (o : Opening) (first : View) (names : Names) (all : List (List ScriptLi
         settled = history;
         others = [];
         settled_first = sym (append-nil history);
-        made = called.made;
+        called = called;
+        link = [];
+        linked = leads_nowhere view;
         last = view;
-        steps = called.steps;
-        leads = called.leads;
-        few = called.few;
+        bound = called.bound;
         seen = f.answered.rests.seen.memory;
         ends = (refl, refl);
         numbered = all;
@@ -199,6 +202,12 @@ module _ (o : Opening) (first : View) (names : Names) (all : List (List ScriptLi
     stores_within : stores_of_calls names answered + stores_of_call names lines ≤ stores_of_calls names all
     stores_within = subst (λ (calls : List (List ScriptLine)). stores_of_calls names answered + stores_of_call names lines ≤ stores_of_calls names calls) (sym are) (calls_within names answered behind lines)
 
+    -- with those of the call in which the lane came to its end
+    within_all : {before : View} (last : View) → IsBounded first before (stores_of_calls names answered) → IsBounded before last (stores_of_call names lines) → IsBounded first last (stores_of_calls names all)
+    within_all {before} last first_bound last_bound =
+        bounded_within first last (stores_of_calls names answered + stores_of_call names lines) (stores_of_calls names all) stores_within
+        (bounded_then first before last (stores_of_calls names answered) (stores_of_call names lines) first_bound last_bound)
+
     pub ended_spent : HasSpent o first lane names answered lines history halt → IsEnded o first lane names all decided halt.generation (closed_history history halt.is_open decided) halt.end
     ended_spent s =
         let view : View = s.unbegun.view in
@@ -214,11 +223,11 @@ module _ (o : Opening) (first : View) (names : Names) (all : List (List ScriptLi
           settled = history;
           others = [];
           settled_first = sym (append-nil history);
-          made = called.made;
+          called = called;
+          link = s.unbegun.free.led.steps;
+          linked = s.unbegun.free.led.leads;
           last = view;
-          steps = called.steps ++ s.unbegun.free.led.steps;
-          leads = leads_then first s.before view called.steps s.unbegun.free.led.steps called.leads s.unbegun.free.led.leads;
-          few = (let both = stores_append called.steps s.unbegun.free.led.steps in let none = led_stores s.before view s.unbegun.free.led in let before = called.few in let within = stores_within in omega (arith, both, none, before, within));
+          bound = within_all view called.bound (bounded s.before view (stores_of_call names lines) s.unbegun.free.led.steps s.drained s.unbegun.free.led.leads (let none = led_stores s.before view s.unbegun.free.led in omega (arith, none)));
           seen = s.unbegun.seen;
           ends = record { call = lines; behind = behind; are = refl; of_line = s.of_line; free = s.unbegun.free; used_up = s.unbegun.used_up };
           numbered = answered;
@@ -242,14 +251,14 @@ module _ (o : Opening) (first : View) (names : Names) (all : List (List ScriptLi
       abbrev before : View
       before = s.before
 
-      to_last : Leads first (s.called.steps ++ s.halted.cut.steps) last
-      to_last = leads_then first before last s.called.steps s.halted.cut.steps s.called.leads s.halted.cut.leads
+      same : IsSameLane first last
+      same = same_lane-then first before last s.called.same (same_along before last s.halted.cut.steps s.halted.cut.leads)
 
       many : length history ≡ length answered
       many = as_many_calls answered (lines ∷ behind) are history before.entries s.called.are
 
       exact : last.calls % 2 ^ 64 ≡ last.calls
-      exact = counted_exactly first last (s.called.steps ++ s.halted.cut.steps) lane.memory to_last s.halted.cut.seen fits s.halted.cut.at_stop
+      exact = counted_exactly first last lane.memory same s.halted.cut.seen fits s.halted.cut.at_stop
 
       stopped_calls : (calls : ℕ) → end.Stopped (last.calls % 2 ^ 64) ≡ end.Stopped calls → last.calls ≡ calls
       stopped_calls calls same = sym exact ∙ ap stop_number same where
@@ -270,11 +279,11 @@ module _ (o : Opening) (first : View) (names : Names) (all : List (List ScriptLi
             settled = history;
             others = others;
             settled_first = settled_first;
-            made = s.called.made;
+            called = s.called;
+            link = s.halted.cut.steps;
+            linked = s.halted.cut.leads;
             last = last;
-            steps = s.called.steps ++ s.halted.cut.steps;
-            leads = to_last;
-            few = (let both = stores_append s.called.steps s.halted.cut.steps in let before = s.called.few in let here = s.halted.cut.few in let within = stores_within in omega (arith, both, before, here, within));
+            bound = within_all last s.called.bound (bounded before last (stores_of_call names lines) s.halted.cut.steps s.drained s.halted.cut.leads s.halted.cut.few);
             seen = s.halted.cut.seen;
             ends = record { call = lines; behind = behind; are = refl; stops = s.halted.cut.stops; at_stop = sym exact };
             numbered = numbered;
@@ -285,7 +294,7 @@ module _ (o : Opening) (first : View) (names : Names) (all : List (List ScriptLi
             fates = fates;
             whole = λ same. absurd (let clash : end.Stopped (last.calls % 2 ^ 64) ≡ end.Ended = same in cc);
             unstopped = λ other. absurd (other (last.calls % 2 ^ 64) refl);
-            at_stop = λ calls same. stopped_at first last (s.called.steps ++ s.halted.cut.steps) lane.memory to_last s.halted.cut.seen s.halted.cut.at_stop ∙ ap Some (stopped_calls calls same);
+            at_stop = λ calls is. stopped_at first last lane.memory same s.halted.cut.seen s.halted.cut.at_stop ∙ ap Some (stopped_calls calls is);
             fated = fated;
             stands = inr (record {
               answered = answered;
@@ -293,10 +302,7 @@ module _ (o : Opening) (first : View) (names : Names) (all : List (List ScriptLi
               behind = behind;
               are = are;
               history = history;
-              before = before;
               called = s.called;
-              idle = s.idle;
-              drained = s.drained;
               values = s.reply.values;
               cut = s.halted.cut;
               is = refl;
@@ -379,12 +385,10 @@ module _ (o : Opening) (first : View) (names : Names) (all : List (List ScriptLi
         twice_not false = refl
 
         -- the generation since the call began
-        raised_since : (header : Header) (pool : PoolView) → WorksAlone o header pool first (s.called.steps ++ s.halted.cut.steps) last → generation_of last ≡ generation_of before + raises s.halted.cut.steps
+        raised_since : (header : Header) (pool : PoolView) → WorksAlone (standing o before) header pool before s.halted.cut.steps last → generation_of last ≡ generation_of before + raises s.halted.cut.steps
         raised_since header pool works =
-            let all = generation_raised o header pool first last (s.called.steps ++ s.halted.cut.steps) works in
-            let up = generation_raised o header pool first before s.called.steps (works_up_to o header pool first before last s.called.steps s.halted.cut.steps works s.called.leads) in
-            let both = raises_append s.called.steps s.halted.cut.steps in
-            omega (arith, all, up, both)
+            let from : generation_of before ≡ generation_word before.words 0 = ap (λ n. slice_index before.words (area_word n)) (begins_lane (standing o before) header pool before works.begins) in
+            generation_raised (standing o before) header pool before last s.halted.cut.steps works ∙ ap (λ g. g + raises s.halted.cut.steps) (sym from)
 
         flying_at : (phase : Phase) → generation_of last ≡ generation_of before + raises s.halted.cut.steps → IsFlyingBy (raises s.halted.cut.steps) phase → IsDrawnAt (generation_of before) last phase
         flying_at Idle raised flies = omega (arith, raised, flies)
@@ -402,10 +406,10 @@ module _ (o : Opening) (first : View) (names : Names) (all : List (List ScriptLi
             (λ (high : length history ≤ k).
             let l = long in
             let e : slice_index_or full k d ≡ flying = get_or_push history flying d k (omega (arith, high, low, l)) in
-            let works = works_where_seen o header pool lane.memory first last (s.called.steps ++ s.halted.cut.steps) (inl begins) to_last s.halted.cut.seen in
+            let works = works_where_seen (standing o before) header pool lane.memory before last s.halted.cut.steps (s.called.again header pool begins) s.halted.cut.leads s.halted.cut.seen in
             ap (λ (x : Entry). is_lost x.fate) e ∙ lost_open decided ∙ ap not decides ∙ twice_not (eqb (seal_word left 0) 0 && eqb (generation_word left 0) halt.generation)
             ∙ ap (λ g. eqb (seal_word left 0) 0 && eqb (generation_word left 0) g) s.generation
-            ∙ sym (ap (λ (x : Entry). loses left last x.number) e ∙ words_fate o header pool first last (s.called.steps ++ s.halted.cut.steps) works keep left kept (generation_of before) f.number f.drawn (flying_at last.log.phase (raised_since header pool works) f.flies)))
+            ∙ sym (ap (λ (x : Entry). loses left last x.number) e ∙ words_fate (standing o before) header pool before last s.halted.cut.steps works keep left kept (generation_of before) f.number f.drawn (flying_at last.log.phase (raised_since header pool works) f.flies)))
             (cases_lt k (length history))
 
         pub ended_flying : IsEnded o first lane names all decided halt.generation (closed_history history halt.is_open decided) halt.end
@@ -419,7 +423,7 @@ module _ (o : Opening) (first : View) (names : Names) (all : List (List ScriptLi
   pub ended_run : (lane : Lane Solo) (history : List Entry) (halt : Halt) → ForSome first.stop (λ n. n < 2 ^ 64) → HasRun o first lane names all history halt
       → IsEnded o first lane names all decided halt.generation (closed_history history halt.is_open decided) halt.end
   ended_run lane history halt fits run = ⊎_elim
-      (λ (f : HasFinished first lane names all history halt). ended_finished lane history halt f)
+      (λ (f : HasFinished o first lane names all history halt). ended_finished lane history halt f)
       (λ (h : HasHaltedIn o first lane names all history halt). ⊎_elim
       (λ (s : HasStopped o first lane names h.answered h.lines history halt). ⊎_elim
       (λ (u : IsUndrawn s.before s.halted.cut.view). ended_undrawn lane h.answered h.lines h.behind h.are history halt fits s u)

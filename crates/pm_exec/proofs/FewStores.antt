@@ -4,7 +4,7 @@ use Rattle.std.specs.List.{range_with_len}
 use Rattle.std.proofs.lemmas.Bool.{false≢true}
 use Rattle.std.proofs.lemmas.List.Sums.{sum_by-append, sum_by-cons, sum_by_push}
 use Rattle.pm_crash.proofs.BusyCalls.{calls_are, drains_few, flushes_few}
-use Rattle.pm_crash.proofs.Leading.{leads_end}
+use Rattle.pm_crash.proofs.Leading.{leads_end, leads_then}
 use Rattle.pm_crash.proofs.NewRecords.{words_of_all, words_of_new}
 use Rattle.pm_crash.specs.Leading.{Leads}
 use Rattle.pm_crash.specs.OpenCall.{words_recorded}
@@ -17,7 +17,7 @@ use Rattle.pm_tx.proofs.PlannedWords.{new_are_covered}
 use Rattle.pm_tx.proofs.StoreCounts.{stores_counted}
 use Rattle.pm_tx.specs.Sequences.{word_count}
 use Rattle.pm_undo.specs.Spans.{words_in}
-use Rattle.pm_view.specs.Counts.{counted, is_counted, stores_among}
+use Rattle.pm_view.specs.Counts.{among, counted, is_counted, is_drain, is_flush, is_store, stores_among}
 use Rattle.pm_view.specs.Log.{Log, Phase, Recorded, no_log, log_drawn}
 use Rattle.pm_view.specs.Log.Phase.{Idle, Open, Drawn, Sealing, Applying, Clearing, Retiring}
 use Rattle.pm_view.specs.Steps.{Step}
@@ -142,6 +142,29 @@ bounded v w most steps none leads few =
       drains = (let d = drains_few v w steps leads in omega (arith, d, empty));
       calls = calls_are v w steps leads;
     }
+
+-- one behind the other
+among_append : (kind : Step → Bool) (xs ys : List Step) → among kind (xs ++ ys) ≡ among kind xs + among kind ys
+unfolding among
+among_append kind [] ys = (let e : among kind ys ≡ 0 + among kind ys = omega arith in e)
+among_append kind (x ∷ xs) ys = let rest = among_append kind xs ys in omega (arith, rest)
+
+pub bounded_then : (u v w : View) (most more : ℕ) → IsBounded u v most → IsBounded v w more → IsBounded u w (most + more)
+bounded_then u v w most more first second =
+    let stores = among_append is_store first.steps second.steps in
+    let flushes = among_append is_flush first.steps second.steps in
+    let drains = among_append is_drain first.steps second.steps in
+    record {
+      steps = first.steps ++ second.steps;
+      leads = leads_then u v w first.steps second.steps first.leads second.leads;
+      stores = (let a = first.stores in let b = second.stores in omega (arith, stores, a, b));
+      flushes = (let a = first.flushes in let b = second.flushes in omega (arith, stores, flushes, a, b));
+      drains = (let a = first.drains in let b = second.drains in omega (arith, stores, drains, a, b));
+      calls = (let a = first.calls in let b = second.calls in omega (arith, stores, flushes, drains, a, b));
+    }
+
+pub bounded_within : (v w : View) (most more : ℕ) → most ≤ more → IsBounded v w most → IsBounded v w more
+bounded_within v w most more few b = record { steps = b.steps; leads = b.leads; stores = (let s = b.stores in omega (arith, s, few)); flushes = b.flushes; drains = b.drains; calls = b.calls }
 
 pub calls_bounded : (v w : View) (most : ℕ) → v.calls ≡ 0 → IsBounded v w most → w.calls ≤ 3 * most
 calls_bounded v w most none b = let c = b.calls in let s = b.stores in let f = b.flushes in let d = b.drains in omega (arith, none, c, s, f, d)

@@ -93,5 +93,6 @@ is_start pool words stop lane sound shape seen idle unharmed unlisted = record {
   zones = (let most = shape.zones_to in omega (arith, most));
   lanes_are = refl;
   words_are = refl;
+  has_none = record { unlocked = refl; nothing_reserved = refl; nothing_freed = refl };
   pending = none_pending pool words stop;
 }

@@ -23,14 +23,7 @@ use Rattle.pm_world.proofs.Reserved.{occ_same}
 use Rattle.pm_world.proofs.Vacated.{and_bit, not_bit, or_bit_left, vacated_before}
 use Rattle.pm_world.specs.Lawful.{Allowed}
 use Rattle.pm_world.specs.Opening.{IsChunk, IsSound, Opening, is_free_chunk}
-use Rattle.pm_exec.specs.Running.{KnowsTaken}
-
--- the bits of chunks that were taken are set, and none of them is reserved; nothing is freed
-pub record KnowsChunks (o : Opening) (v : View) : Type 0 where
-  pub count : length v.zone_words ≡ 32
-  pub taken : KnowsTaken o v
-  pub apart : (zone chunk : ℕ) → zone < o.zones → chunk < 64 → is_chunk_taken (slice_index o.words) o.lanes zone chunk ≡ true → reserves v (Zone zone) chunk ≡ false
-  pub unfreed : v.freed ≡ []
+use Rattle.pm_exec.specs.Founded.{KnowsChunks}
 
 -- a chunk of the pool that it reserved was free
 pub chunk_free : (o : Opening) (v : View) → v.lanes ≡ o.lanes → KnowsChunks o v → (page : ℕ) → IsChunk o.lanes page → descriptor_word o.lanes page < length o.words → IsSound o → has_chunk v page ≡ true → is_free_chunk (slice_index o.words) o.lanes page ≡ true

@@ -15,10 +15,14 @@ pub mod OpeningFound
 pub mod KnownChunks
 pub mod Standing
 pub mod CallParts
+pub mod BeginsBehind
+pub mod Links
 pub mod CallsInTurn
 pub mod PendingLists
 pub mod Begun
 pub mod HeapKept
+pub mod HeapStill
+pub mod IdleNumbers
 pub mod LooksAlone
 pub mod ChangeLines
 pub mod ActionLines

@@ -1,11 +1,15 @@
 -- What a lane that is alone keeps while it looks at words.
 use Rattle.std.proofs.Common.{◌≡◌, ℕ, zero, suc, set, refl, sym, ap, ◌∙◌, subst}
 use Rattle.std.proofs.lemmas.List.{set-get_or}
+use Rattle.pm_lock.proofs.Leads.{heap_still, heap_then}
+use Rattle.pm_lock.specs.Leading.{KeepsHeap}
 use Rattle.pm_tx.specs.Learning.{Looks}
 use Rattle.pm_view.specs.Founds.{IsAlone}
+use Rattle.pm_view.specs.Steps.Step.{Load}
 use Rattle.pm_view.specs.View.{View}
+use Rattle.pm_view.specs.Views.{after}
 
--- the words, the call, its number and the entries are the same
+-- the words, the call, its number and the entries are the same, and what the lane has of the heap
 pub record IsSameBut (v w : View) : Type 0 where
   pub alone : IsAlone w
   pub lane : w.lane ≡ v.lane
@@ -13,10 +17,11 @@ pub record IsSameBut (v w : View) : Type 0 where
   pub call : w.call ≡ v.call
   pub number : w.number ≡ v.number
   pub entries : w.entries ≡ v.entries
+  pub heap : KeepsHeap v w
 
 pub looks_same : (n : ℕ) (v w : View) → Looks n v w → IsAlone v → IsSameBut v w
 unfolding Looks
-looks_same zero v w is alone = subst (IsSameBut v) (sym is) (record { alone = alone; lane = refl; words = refl; call = refl; number = refl; entries = refl })
+looks_same zero v w is alone = subst (IsSameBut v) (sym is) (record { alone = alone; lane = refl; words = refl; call = refl; number = refl; entries = refl; heap = heap_still v })
 looks_same (suc n) v w t alone =
     let m : View = t.0 in
     let front : IsSameBut v m = looks_same n v m t.3 alone in
@@ -28,4 +33,5 @@ looks_same (suc n) v w t alone =
       call = front.call;
       number = front.number;
       entries = front.entries;
+      heap = heap_then v m (after m (Load t.1 t.2)) front.heap (record { zone_locks = refl; reserved = refl; freed = refl });
     })

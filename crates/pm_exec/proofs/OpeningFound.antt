@@ -7,7 +7,7 @@ use Rattle.pm_crash.specs.Leading.{Leads}
 use Rattle.pm_undo.specs.Working.{FindsOpening}
 use Rattle.pm_view.specs.Blocks.{allocation_word, block_at, descriptor_word, is_word}
 use Rattle.pm_view.specs.Counts.{counted, is_counted, is_store}
-use Rattle.pm_view.specs.Founds.{FoundAlone, IsAlone}
+use Rattle.pm_view.specs.Founds.{FoundAlone}
 use Rattle.pm_view.specs.Log.{Phase}
 use Rattle.pm_view.specs.Log.Phase.{Idle, Open, Drawn, Sealing, Applying, Clearing, Retiring}
 use Rattle.pm_view.specs.Steps.{Step}
@@ -16,17 +16,7 @@ use Rattle.pm_view.specs.View.{Lock, View}
 use Rattle.pm_view.specs.Views.{after, begun, with_block}
 use Rattle.pm_world.specs.Lawful.{Allowed}
 use Rattle.pm_world.specs.Opening.{Opening}
-
--- what was found under the lock is there at the opening
-abbrev pub IsThere : Opening → Lock → Type 0
-IsThere o l = IfSome l.block (λ lines. block_at o.lanes o.words l.line ≡ Some lines)
-
--- the lane is alone, its words are such as these, and what was found under locks is there
-pub record HasFound (o : Opening) (Kept : List ℕ → Type 0) (v : View) : Type 0 where
-  pub lanes : v.lanes ≡ o.lanes
-  pub alone : IsAlone v
-  pub words : Kept v.words
-  pub locks : All (IsThere o) v.locks
+use Rattle.pm_exec.specs.Founded.{HasFound, IsThere}
 
 -- no word has changed, and what was found under locks is there
 abbrev pub IsUntouched : Opening → View → Type 0

@@ -8,7 +8,7 @@ use Rattle.std.specs.List.{Any}
 use Rattle.std.proofs.lemmas.List.{length-map}
 use Rattle.std.proofs.lemmas.List.Elements.{All-append, All-cons, All-nil}
 use Rattle.pm_lock.proofs.Leading.{ready_leads}
-use Rattle.pm_lock.proofs.Leads.{led_same}
+use Rattle.pm_lock.proofs.Leads.{heap_then, led_same}
 use Rattle.pm_lock.specs.Lacking.{LacksObject}
 use Rattle.pm_lock.specs.Leading.{IsLed}
 use Rattle.pm_action.specs.Holding.{Overruns}
@@ -18,6 +18,7 @@ use Rattle.pm_crash.proofs.Leading.{leads_then}
 use Rattle.pm_crash.proofs.Raises.{raises_append}
 use Rattle.pm_crash.specs.Alone.{raises}
 use Rattle.pm_crash.specs.OnActions.{set_refusal}
+use Rattle.pm_crash.specs.Leading.{Leads}
 use Rattle.pm_crash.specs.Pending.{pending_before}
 use Rattle.pm_memory.specs.Solo.{Sees, Solo}
 use Rattle.pm_image.specs.Logs.{generation_word}
@@ -52,18 +53,22 @@ use Rattle.pm_world.specs.Opening.{Opening}
 use Rattle.pm_world.specs.Records.{generation_of}
 use Rattle.pm_world.specs.Sequences.{Sequence}
 use Rattle.pm_world.specs.declared.lane.Lane.{Lane}
-use Rattle.pm_exec.specs.Bounds.{most_stores, stores_of_lines}
+use Rattle.pm_exec.specs.Bounds.{most_stores, stores_of_call, stores_of_lines}
 use Rattle.pm_exec.specs.Calls.{IsCall, id_of, operation_of, stands_alone}
 use Rattle.pm_exec.specs.Course.{IsOneLine, IsOutsideMade, IsPublishRefusal, pending_entries}
-use Rattle.pm_exec.specs.Progress.{ActedOutside, IsActed, IsAnswered, IsCut, IsFlyingBy, IsInFlight, IsStart, IsToldDone, done, numbered}
+use Rattle.pm_exec.specs.Progress.{ActedOutside, HasNothing, IsActed, IsAnswered, IsCut, IsFlyingBy, IsInFlight, IsStart, IsToldDone, done, numbered}
 use Rattle.pm_exec.specs.declared.calls.Names.{Names}
 use Rattle.pm_exec.specs.declared.ending.CallAnswer.TheVariants as answer
 use Rattle.pm_exec.proofs.ActionLines.{set_taken}
 use Rattle.pm_exec.proofs.Along.{lane_along}
 use Rattle.pm_exec.proofs.Begun.{first_untouched, not_busy, spent}
 use Rattle.pm_exec.proofs.ChangeLines.{front_of}
+use Rattle.pm_exec.proofs.BeginsBehind.{rests_behind}
 use Rattle.pm_exec.proofs.FewStores.{led_stores, lines_within}
+use Rattle.pm_exec.proofs.HeapStill.{heap_along, nothing_still, publishes_heapless}
+use Rattle.pm_exec.proofs.IdleNumbers.{idle_numbered}
 use Rattle.pm_exec.proofs.OpeningFound.{IsUntouched, finds_opening, untouched_along}
+use Rattle.pm_exec.proofs.Links.{linked}
 use Rattle.pm_exec.proofs.PendingLists.{uncounted_raises}
 use Rattle.pm_exec.proofs.PublishFront.{publish_flies}
 use Rattle.pm_exec.proofs.QuietSequences.{quiet_in_publish}
@@ -80,11 +85,18 @@ module _ (o : Opening) (first : View) (lane new : Lane Solo) (actions : List Set
     leads = told.led.leads;
     rests = told.rests;
     idle = told.idle;
+    has_none = has_none;
+    behind = rests_behind new told.view told.rests told.idle has_none number.0 number.1;
     entries = told.entries;
     pending = record { are = told.pending; aligned = aligned };
     made = made;
     few = (let none = led_stores first told.view told.led in omega (arith, none));
-  }
+  } where
+    has_none : HasNothing told.view
+    has_none = nothing_still first told.view told.led.heap is.has_none
+
+    number : (n : ℕ) × (told.view.number ≡ Some n)
+    number = idle_numbered first told.view told.led.steps told.led.leads is.idle told.idle _ told.entries
 
   -- ---- an action made pending
 
@@ -155,12 +167,20 @@ module _ (o : Opening) (first : View) (lane new : Lane Solo) (actions : List Set
         let h : View = b.holding in
         let made : List Step = publishes entries operation.Publish new.last h in
         let over : View = after_all h made in
+        let published : Leads h made over = ready_leads h made b.ready b.draws in
+        let leads = leads_then first over b.view (b.led.steps ++ made) b.back.steps (leads_then first h over b.led.steps made b.led.leads published) b.back.leads in
+        let at_first = lane_along first h b.led.steps b.led.leads is.of_lane in
+        let heap = heap_then first over b.view (heap_then first h over b.led.heap (heap_along h over made (publishes_heapless entries operation.Publish new.last h at_first) published)) b.back.heap in
+        let has_none : HasNothing b.view = nothing_still first b.view heap is.has_none in
+        let number = idle_numbered first b.view ((b.led.steps ++ made) ++ b.back.steps) leads is.idle b.idle _ b.entries in
         record {
           view = b.view;
           steps = (b.led.steps ++ made) ++ b.back.steps;
-          leads = leads_then first over b.view (b.led.steps ++ made) b.back.steps (leads_then first h over b.led.steps made b.led.leads (ready_leads h made b.ready b.draws)) b.back.leads;
+          leads = leads;
           rests = b.rests;
           idle = b.idle;
+          has_none = has_none;
+          behind = rests_behind new b.view b.rests b.idle has_none number.0 number.1;
           entries = b.entries ∙ ap (λ (y : Operation). first.entries ++ numbered new.last (record { operation = y; reply = None } ∷ []) ∷ []) publish_is;
           pending = record { are = sym b.pending; aligned = All-nil (λ (a : SetAction). a.off % 8 ≡ 0) };
           made = subst (λ (y : ScriptOp). IsOutsideMade y None first b.view) (sym says) (inl (record {
@@ -302,22 +322,21 @@ refused_acted o first new left names x refusal.Spent going unspent acted = absur
 refused_acted o first new left names x r going unspent acted = acted
 
 -- what was told of a call outside is its answer
-pub outside_answered : (first : View) (new : Lane Solo) (left : List SetAction) (names : Names) (said : ScriptLine) (r : Option Refusal) (reply : Reply) → stands_alone said.operation ≡ true → reply.values ≡ [] → reply.at ≡ 0 → IsActed first new left names said.operation r
-    → IsAnswered first new left names (said ∷ []) new.last (answer.Outside r) reply
-outside_answered first new left names said r reply outside values at acted =
+pub outside_answered : (o : Opening) (first : View) (new : Lane Solo) (left : List SetAction) (names : Names) (said : ScriptLine) (r : Option Refusal) (reply : Reply) → stands_alone said.operation ≡ true → reply.values ≡ [] → reply.at ≡ 0 → IsActed first new left names said.operation r
+    → IsAnswered o first new left names (said ∷ []) new.last (answer.Outside r) reply
+outside_answered o first new left names said r reply outside values at acted =
     let one : IsOneLine (said ∷ []) said.operation = record { line = said; alone = refl; says = refl; outside = outside } in
     record {
       view = acted.view;
-      steps = acted.steps;
-      leads = acted.leads;
+      link = linked o new first acted.view acted.steps (stores_of_call names (said ∷ [])) acted.leads acted.rests.seen.memory acted.behind (let few = acted.few in omega (arith, few));
       rests = acted.rests;
       idle = acted.idle;
+      has_none = acted.has_none;
       told = record { operation = operation_of names said.operation; reply = option_map Refused r } ∷ [];
       entries = acted.entries;
       so = record { op = said.operation; one = one; at = at; values = values; told_so = refl };
       pending = acted.pending;
       made = (said.operation, one, acted.made);
-      few = (let few = acted.few in omega (arith, few));
     }
 
 -- lines that are a call and begin with one that stands alone are that line

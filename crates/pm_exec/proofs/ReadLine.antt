@@ -88,7 +88,7 @@ module _ (o : Opening) (first : View) (lane : Lane Solo) (actions : List SetActi
         let lane_is = lane_u o first lane actions names front values a n u looks in
         let kept : Keeps u (after_all u (steps u)) = all_undrawn_keep u (steps u) (reads_undrawn place off len bytes u lane_is) in
         record {
-          led = led_then a.view u (after_all u (steps u)) before.led (ready_led u (steps u) h.ready h.draws (reads_free place off len bytes u));
+          led = led_then a.view u (after_all u (steps u)) before.led (ready_led u (steps u) h.ready h.draws (reads_free place off len bytes u) kept.heap);
           undrawn = kept.entries ∙ before.undrawn;
         }
 

@@ -8,7 +8,7 @@ use Rattle.std.proofs.lemmas.List.{length-map, map-append, take-append-le}
 use Rattle.pm_crash.proofs.AloneImages.{calls_meant, header_stays, size_stays}
 use Rattle.pm_crash.proofs.AtRest.{none_torn_at_rest}
 use Rattle.pm_crash.proofs.SeenAlone.{image_where_seen, works_where_seen}
-use Rattle.pm_crash.specs.Alone.{BeginsAlone, MeansCalls, Rests, WorksAlone, alone_views, kept_numbered}
+use Rattle.pm_crash.specs.Alone.{Begins, BeginsAlone, MeansCalls, Rests, WorksAlone, alone_views, kept_numbered, standing}
 use Rattle.pm_header.specs.declared.header.Header.{Header}
 use Rattle.pm_image.specs.Blocks.{blocks}
 use Rattle.pm_image.specs.Contents.{offset_in}
@@ -23,13 +23,15 @@ use Rattle.pm_recover.proofs.Meaning.{page_stands}
 use Rattle.pm_recover.proofs.Sound.{header_if_meaning, sound_if_meaning}
 use Rattle.pm_recover.specs.Recovery.{IsRecovered}
 use Rattle.pm_script.specs.declared.script.ScriptLine.{ScriptLine}
+use Rattle.pm_view.proofs.SameLane.{same_lane, same_lane-then}
+use Rattle.pm_view.specs.Constants.{IsSameLane}
 use Rattle.pm_view.specs.View.{View}
 use Rattle.pm_world.specs.Crash.{NoneTorn, loses}
 use Rattle.pm_world.specs.Opening.{Opening}
 use Rattle.pm_world.specs.declared.lane.Lane.{Lane}
 use Rattle.pm_memory.specs.Solo.{Solo}
 use Rattle.pm_view.specs.Counts.{among}
-use Rattle.pm_exec.specs.Bounds.{IsBounded, stores_of_script}
+use Rattle.pm_exec.specs.Bounds.{stores_of_script}
 use Rattle.pm_exec.proofs.FewStores.{bounded, calls_bounded}
 use Rattle.pm_exec.specs.Calls.{call_of, names_of, numbers_of, call_lines}
 use Rattle.pm_exec.specs.Histories.{closed_history}
@@ -37,7 +39,7 @@ use Rattle.pm_exec.specs.Openings.{first_view, opening_of}
 use Rattle.pm_crash.specs.Leading.{Leads}
 use Rattle.pm_exec.specs.Course.{CallsMade}
 use Rattle.pm_exec.specs.Progress.{IsStart}
-use Rattle.pm_exec.specs.Running.{AreEntries, HasComeTo, HasRun}
+use Rattle.pm_exec.specs.Running.{AreEntries, HasComeTo, HasRun, IsOpenedAs}
 use Rattle.pm_exec.specs.Runs.{IsHistoryOf, LeavesReplay, MakesCalls}
 use Rattle.pm_exec.specs.Torn.{HasNoTornMatch}
 use Rattle.pm_exec.specs.declared.calls.Names.{Names}
@@ -47,6 +49,7 @@ use Rattle.pm_exec.proofs.EndedRuns.{IsCutAt, IsEnded, ended_run}
 use Rattle.pm_exec.proofs.Opened.{begins_alone, means_so, shape_of, size_of, words_long}
 use Rattle.pm_exec.proofs.RisingCalls.{call_lines_rise}
 use Rattle.pm_exec.proofs.ShownHistories.{as_many, as_many_numbered, calls_are, numbers_count, shown_replay}
+use Rattle.pm_exec.proofs.Standing.{founded_first}
 use Rattle.pm_exec.proofs.StoppedEnd.{within_stop}
 use Rattle.pm_exec.proofs.Untorn.{none_torn_where_stopped}
 use Rattle.pm_occupancy.proofs.Words.{words_are_occupancy, zone_words_count}
@@ -58,24 +61,30 @@ pub run_begins : (pool : PoolView) (words : List ℕ) (stop : Option ℕ) (lane 
     → HasComeTo (opening_of pool words) (first_view pool words stop) lane [] names [] history
 unfolding Leads CallsMade among
 run_begins pool words stop lane names history none is = record {
-  opened = record { of_lane = is.of_lane; alone = is.alone; sound = is.sound; zones = is.zones; lanes_are = is.lanes_are; zones_are = refl; words_are = is.words_are; uncalled = refl; idle = is.idle; free = is.rests.free; nothing_reserved = refl; nothing_freed = refl; zone_count = zone_words_count (slice_index words) pool.lanes pool.zones; taken = λ zone chunk in_pool low taken. (known.chunks zone chunk in_pool low).1 taken };
+  opened = opened;
   answered = record {
     view = first_view pool words stop;
     called = record {
-      steps = [];
-      leads = refl;
       are = subst (λ (es : List Entry). AreEntries names [] es []) (sym none) tt;
+      again = λ header pool begins. inl begins;
+      page = λ header pool begins i low. refl;
+      same = same_lane (first_view pool words stop);
       made = subst (λ (es : List Entry). CallsMade names [] es (first_view pool words stop) (first_view pool words stop)) (sym none) refl;
-      few = omega arith;
+      bound = bounded (first_view pool words stop) (first_view pool words stop) 0 [] refl refl (omega arith);
     };
     rests = is.rests;
     idle = is.idle;
+    founded = founded_first (opening_of pool words) (first_view pool words stop) opened;
+    has_none = is.has_none;
     pending = is.pending;
   };
 }
   where
     known : IsOccupancy (run_words_of (slice_index words) pool.lanes pool.zones) (zone_words_of (slice_index words) pool.lanes pool.zones) (slice_index words) pool.lanes pool.zones
     known = words_are_occupancy (slice_index words) pool.lanes pool.zones is.zones
+
+    opened : IsOpenedAs (opening_of pool words) (first_view pool words stop)
+    opened = record { of_lane = is.of_lane; alone = is.alone; sound = is.sound; zones = is.zones; lanes_are = is.lanes_are; zones_are = refl; words_are = is.words_are; uncalled = refl; idle = is.idle; free = is.rests.free; nothing_reserved = refl; nothing_freed = refl; zone_count = zone_words_count (slice_index words) pool.lanes pool.zones; taken = λ zone chunk in_pool low taken. (known.chunks zone chunk in_pool low).1 taken }
 
 -- the same of names and lines that are given otherwise
 pub run_of : (o : Opening) (first : View) (lane : Lane Solo) (history : List Entry) (halt : Halt) (names other : Names) (lines script : List ScriptLine) → names ≡ other → lines ≡ script
@@ -141,11 +150,11 @@ module _ (pool : PoolView) (words : List ℕ) (stop : Option ℕ) (script : List
     image_kept : IsKeptImage keep e.last.words (e.last.changes ∷ []) left
     image_kept = image_where_seen lane.memory e.last keep left e.seen kept
 
-    bound : IsBounded first e.last (stores_of_script names script)
-    bound = bounded first e.last (stores_of_script names script) e.steps refl e.leads e.few
+    same : IsSameLane first e.last
+    same = same_lane-then first e.middle e.last e.called.same (same_along e.middle e.last e.link e.linked)
 
     pub run_size : length left ≡ length words
-    run_size = image_kept.size ∙ (same_along first e.last e.steps e.leads).size
+    run_size = image_kept.size ∙ same.size
 
     module _ (decides : decided ≡ not (eqb (slice_index left 513) 0 && eqb (slice_index left 512) halt.generation)) where
       losses : (header : Header) → BeginsAlone o header pool first → All (λ (x : Entry). is_lost x.fate ≡ loses left e.last x.number) closed
@@ -160,13 +169,13 @@ module _ (pool : PoolView) (words : List ℕ) (stop : Option ℕ) (script : List
         rest = e.others;
         are_ended = e.settled_first;
         middle = e.middle;
-        made = e.made;
+        made = e.called.made;
         last = e.last;
         ends = e.ends;
-        within = within_stop first e.last e.steps lane.memory e.leads e.seen;
+        within = within_stop first e.last lane.memory same e.seen;
         image = image_kept;
-        bound = bound;
-        few = calls_bounded first e.last (stores_of_script names script) refl bound;
+        bound = e.bound;
+        few = calls_bounded first e.last (stores_of_script names script) refl e.bound;
         numbers = as_many_numbered names e.numbered closed e.last.entries e.shown;
         fates = e.fates;
         losses = losses;
@@ -179,24 +188,34 @@ module _ (pool : PoolView) (words : List ℕ) (stop : Option ℕ) (script : List
         begins : BeginsAlone o header pool first
         begins = begins_alone before pool means words recovered stop
 
-        works : WorksAlone o header pool first e.steps e.last
-        works = works_where_seen o header pool lane.memory first e.last e.steps (inl begins) e.leads e.seen
+        -- behind the last call that was answered the lane began again: what it makes from there on is all that matters
+        abbrev here : Opening
+        here = standing o e.middle
 
-        torn : NoneTorn o (alone_views o e.last) left
-        torn = ⊎_elim (λ (rests : Rests e.last). none_torn_at_rest o e.last left rests)
-            (λ (c : IsCutAt o first lane names (call_lines script) e.last).
-            subst (λ (w : View). IsKeptImage keep w.words (w.changes ∷ []) left → NoneTorn o (alone_views o w) left) (sym c.is)
+        again : Begins here header pool e.middle
+        again = e.called.again header pool begins
+
+        works : WorksAlone here header pool e.middle e.link e.last
+        works = works_where_seen here header pool lane.memory e.middle e.last e.link again e.linked e.seen
+
+        torn : NoneTorn here (alone_views here e.last) left
+        torn = ⊎_elim (λ (rests : Rests e.last). none_torn_at_rest here e.last left rests)
+            (λ (c : IsCutAt o first lane names (call_lines script) e.middle e.last).
+            subst (λ (w : View). IsKeptImage keep w.words (w.changes ∷ []) left → NoneTorn here (alone_views here w) left) (sym c.is)
             (λ cut_kept.
-            none_torn_where_stopped pool words stop header pool c.answered c.history c.before lane c.lines c.values begins c.called c.idle c.drained c.cut
-            (λ front rest is. none c.answered c.behind c.lines front rest c.history c.before c.are c.called.made is) keep left cut_kept)
+            none_torn_where_stopped pool e.middle header pool lane c.lines c.values again c.cut
+            (λ front rest is. none c.answered c.behind c.lines front rest c.history e.middle c.are c.called.made is) keep left cut_kept)
             image_kept)
             e.stands
 
         meant : MeansCalls left pool.lanes pool.zones pool (kept_numbered left e.last)
-        meant = calls_meant o header pool first e.last e.steps works keep left image_kept torn
+        meant = calls_meant here header pool e.middle e.last e.link works keep left image_kept torn
+
+        page : (i : ℕ) → i < 512 → slice_index left i ≡ slice_index words i
+        page i low = header_stays here header pool e.middle e.last e.link works keep left image_kept i low ∙ e.called.page header pool begins i low
 
         left_long : length left ≡ 512 + 1024 * pool.lanes + 33280 * pool.zones
-        left_long = size_stays o header pool first e.last e.steps works keep left image_kept ∙ words_long before pool means words recovered
+        left_long = size_stays here header pool e.middle e.last e.link works keep left image_kept ∙ e.called.same.size ∙ words_long before pool means words recovered
 
         last_long : length left ≡ 512 + 1024 * meant.last.lanes + 33280 * meant.last.zones
         last_long = size_of left meant.last meant.means
@@ -213,8 +232,8 @@ module _ (pool : PoolView) (words : List ℕ) (stop : Option ℕ) (script : List
           last = meant.last;
           means = meant.means;
           replays = shown_replay names left e.last e.numbered closed pool.lanes pool.zones pool e.shown (losses header begins) meant;
-          page = λ i low other. header_stays o header pool first e.last e.steps works keep left image_kept i low ∙ page_recovered before words pool means recovered i low other;
-          root = header_stays o header pool first e.last e.steps works keep left image_kept 64 (omega arith) ∙ recovered.words 64 (inl (omega arith));
+          page = λ i low other. page i low ∙ page_recovered before words pool means recovered i low other;
+          root = page 64 (omega arith) ∙ recovered.words 64 (inl (omega arith));
           blocks =
               subst (λ n. map offset_in (blocks (recovered_at left n) n meant.last.zones) ≡ offsets meant.last.objects) last_lanes
               (subst (λ z. map offset_in (blocks (recovered_at left pool.lanes) pool.lanes z) ≡ offsets meant.last.objects) last_zones meant.blocks_are);

@@ -33,11 +33,12 @@ use Rattle.pm_world.specs.Entries.{set_word, IsGrowing}
 use Rattle.pm_world.specs.Lawful.{Allowed, StoreFits, MayChange, MayDescribe}
 use Rattle.pm_world.specs.Opening.{IsSound, Opening, Guards, IsChunk, is_free_chunk}
 use Rattle.pm_world.specs.declared.lane.Lane.{Lane}
-use Rattle.pm_exec.specs.Progress.{IsStart}
+use Rattle.pm_exec.specs.Progress.{HasNothing, IsStart}
 use Rattle.pm_exec.specs.Running.{IsOpenedAs}
-use Rattle.pm_exec.proofs.Along.{alone_along, lane_along}
+use Rattle.pm_exec.proofs.Along.{same_along}
 use Rattle.pm_exec.proofs.EnteredWords.{NoneEnters, enters_after, none_entered, NoneSealed}
-use Rattle.pm_exec.proofs.OpeningFound.{HasFound, IsThere, found_after}
+use Rattle.pm_exec.specs.Founded.{IsFounded, IsThere, KnowsChunks, Stands, TellsAsOpened}
+use Rattle.pm_exec.proofs.OpeningFound.{found_after}
 use Rattle.pm_pending.specs.declared.actions.SetAction.{SetAction}
 use Rattle.pm_crash.specs.Pending.{pending_before}
 use Rattle.pm_exec.specs.Progress.{IsPending}
@@ -49,18 +50,7 @@ use Rattle.pm_world.proofs.StorePair.{final_word}
 use Rattle.std.specs.List.{list_any}
 use Rattle.pm_view.specs.Occupancy.{is_chunk_taken}
 use Rattle.pm_view.specs.declared.occ.Occ.TheVariants.{Zone}
-use Rattle.pm_world.specs.Heap.{AreNewRuns}
-use Rattle.pm_exec.proofs.KnownChunks.{KnowsChunks, chunk_free, knows_after}
-
--- as many words as at the opening; what tells of the chunks that were taken is the same, and a chunk that was free has no block
-pub record TellsAsOpened (o : Opening) (words : List ℕ) : Type 0 where
-  pub size : length words ≡ length o.words
-  pub telling : (page i : ℕ) → IsChunk o.lanes page → is_free_chunk (slice_index o.words) o.lanes page ≡ false → TellsOf o page i → slice_index words i ≡ slice_index o.words i
-  pub new_runs : AreNewRuns o (slice_index words)
-
--- so the lane has them, and what was found under its locks is there
-abbrev pub Stands : Opening → View → Type 0
-Stands o v = HasFound o (TellsAsOpened o) v
+use Rattle.pm_exec.proofs.KnownChunks.{chunk_free, knows_after}
 
 -- the word describes a chunk, or is the first of one that is a run or free
 abbrev pub Matters : Opening → ℕ → Type 0
@@ -240,41 +230,56 @@ module _ (o : Opening) (sound : IsSound o) (v : View) (is : Stands o v) (known :
       found_after o (TellsAsOpened o) (λ words tells line. same_blocks o words tells.size sound tells.new_runs tells.telling line) v is s may found (kept_after s may)
 
 -- and so do all, one after another
-pub stands_along : (o : Opening) → IsSound o → (v w : View) (steps : List Step) → Leads v steps w → v.lane < o.lanes → v.zones ≡ o.zones → o.zones ≤ 32 → Stands o v → KnowsChunks o v → NoneSealed (Matters o) v.log → Stands o w
+pub stands_along : (o : Opening) → IsSound o → (v w : View) (steps : List Step) → Leads v steps w → v.lane < o.lanes → v.zones ≡ o.zones → o.zones ≤ 32 → Stands o v → KnowsChunks o v → NoneSealed (Matters o) v.log → Stands o w × KnowsChunks o w
 unfolding Leads
-stands_along o sound v w [] leads lane zones few is known entered = subst (Stands o) (sym leads) is
+stands_along o sound v w [] leads lane zones few is known entered = subst (λ (u : View). Stands o u × KnowsChunks o u) (sym leads) (is, known)
 stands_along o sound v w (s ∷ steps) leads lane zones few is known entered =
     stands_along o sound (after v s) w steps leads.3 (subst (λ (n : ℕ). n < o.lanes) (sym (same_lane-after v s).lane) lane) ((same_lane-after v s).zones ∙ zones) few (stands_after o sound v is known entered lane s leads.0 leads.1)
     (knows_after o v is.alone few known s leads.0 leads.1 leads.2)
     (enters_after (Matters o) v entered (plain_silent o sound v is known entered lane) s leads.0 leads.2)
 
-module _ (o : Opening) (first v : View) (steps : List Step) (opened : IsOpenedAs o first) (leads : Leads first steps v) where
-  -- from the first view of a run on
-  stands_there : Stands o v
-  stands_there =
-      stands_along o opened.sound first v steps leads (let zeroth = opened.of_lane in let some = opened.sound.some_lanes in omega (arith, zeroth, some)) opened.zones_are opened.zones (record {
-        lanes = opened.lanes_are;
-        alone = opened.alone;
-        words = record {
-          size = ap length opened.words_are;
-          telling = λ page i chunk taken tells. ap (λ (words : List ℕ). slice_index words i) opened.words_are;
-          new_runs = λ page in_pool free. inl (ap (λ (words : List ℕ). slice_index words (descriptor_word o.lanes page)) opened.words_are ∙ opened.sound.undescribed page in_pool free);
-        };
-        locks = subst (All (IsThere o)) (sym opened.free) (All-nil (IsThere o));
-      })
-      (record { count = opened.zone_count; taken = opened.taken; apart = λ zone chunk in_pool low taken. ap (list_any (has_bit (Zone zone) chunk)) opened.nothing_reserved; unfreed = opened.nothing_freed })
-      (λ still. subst (λ (l : Log). NoneEnters (Matters o) l.entries) (sym opened.idle) (none_entered (Matters o)))
+-- so it is of the first view of a run
+pub founded_first : (o : Opening) (v : View) → IsOpenedAs o v → IsFounded o.lanes o.zones v
+founded_first o v opened = record {
+  of_lane = opened.of_lane;
+  zones_are = opened.zones_are;
+  few = opened.zones;
+  was = o.words;
+  sound = opened.sound;
+  stands = record {
+    lanes = opened.lanes_are;
+    alone = opened.alone;
+    words = record {
+      size = ap length opened.words_are;
+      telling = λ page i chunk taken tells. ap (λ (words : List ℕ). slice_index words i) opened.words_are;
+      new_runs = λ page in_pool free. inl (ap (λ (words : List ℕ). slice_index words (descriptor_word o.lanes page)) opened.words_are ∙ opened.sound.undescribed page in_pool free);
+    };
+    locks = subst (All (IsThere o)) (sym opened.free) (All-nil (IsThere o));
+  };
+  known = record { count = opened.zone_count; taken = opened.taken; apart = λ zone chunk in_pool low taken. ap (list_any (has_bit (Zone zone) chunk)) opened.nothing_reserved; unfreed = opened.nothing_freed };
+}
 
-  -- a lane that rests again may begin its next call, over the pool as it stands
-  pub starts_again : (lane : Lane Solo) (actions : List SetAction) → IsAtRest Sees lane v → v.log ≡ no_log Idle → IsPending actions (pending_before v) → IsStart (standing o v) lane actions v
-  starts_again lane actions rests idle pending = record {
-    rests = rests;
-    idle = idle;
-    of_lane = lane_along first v steps leads opened.of_lane;
-    alone = alone_along first v steps leads opened.alone;
-    sound = (let there = stands_there.words in sound_with o v.words there.size opened.sound there.new_runs there.telling);
-    zones = opened.zones;
-    lanes_are = stands_there.lanes;
-    words_are = refl;
-    pending = pending;
-  }
+-- and from one call to the next
+pub founded_along : (lanes zones : ℕ) (v w : View) (steps : List Step) → Leads v steps w → v.log ≡ no_log Idle → IsFounded lanes zones v → IsFounded lanes zones w
+founded_along lanes zones v w steps leads idle f =
+    let base : Opening = record { lanes = lanes; zones = zones; words = f.was } in
+    let both = stands_along base f.sound v w steps leads (let lane = f.of_lane in let some = f.sound.some_lanes in omega (arith, lane, some)) f.zones_are f.few f.stands f.known
+    (λ still. subst (λ (l : Log). NoneEnters (Matters base) l.entries) (sym idle) (none_entered (Matters base))) in
+    let same = same_along v w steps leads in
+    record { of_lane = same.lane ∙ f.of_lane; zones_are = same.zones ∙ f.zones_are; few = f.few; was = f.was; sound = f.sound; stands = both.0; known = both.1 }
+
+-- a lane that rests again may begin its next call, over the pool as it stands
+pub starts_again : (o : Opening) (v : View) (lane : Lane Solo) (actions : List SetAction) → IsFounded o.lanes o.zones v → IsAtRest Sees lane v → v.log ≡ no_log Idle → HasNothing v → IsPending actions (pending_before v)
+    → IsStart (standing o v) lane actions v
+starts_again o v lane actions f rests idle has_none pending = record {
+  rests = rests;
+  idle = idle;
+  of_lane = f.of_lane;
+  alone = f.stands.alone;
+  sound = (let there = f.stands.words in sound_with (record o { words = f.was }) v.words there.size f.sound there.new_runs there.telling);
+  zones = f.few;
+  lanes_are = f.stands.lanes;
+  words_are = refl;
+  has_none = has_none;
+  pending = pending;
+}

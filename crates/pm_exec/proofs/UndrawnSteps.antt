@@ -1,9 +1,11 @@
--- Steps that draw no number and take and give no lock keep the entries, the number and the lines of the locks.
+-- Steps that draw no number and take and give no lock keep the entries, the number, the lines of the locks and what the lane has of the heap.
 use Rattle.std.proofs.Common.{◌≡◌, ◌⊎◌, ⊎_elim, inl, inr, ℕ, zero, suc, ◌+◌, ◌/◌, ◌<◌, Bool, true, false, cond, List, [], ◌∷◌, ◌++◌, length, map, take, None, Some, refl, ◌∙◌, arith}
 use Rattle.pm_objects.specs.declared.calls.Operation.TheVariants.{AddRange, Read, Write}
 use Rattle.pm_objects.specs.declared.history.Value.TheVariants.{Bytes}
 use Rattle.pm_objects.specs.declared.ids.Oid.{Oid}
 use Rattle.pm_crash.specs.Writes.{written_word}
+use Rattle.pm_lock.proofs.Leads.{heap_still, heap_then}
+use Rattle.pm_lock.specs.Leading.{KeepsHeap}
 use Rattle.pm_tx.proofs.StepKinds.{Each, HasOnly, HasQuietSteps, each_first, only_counted, only_in_turn, only_looks_from, only_one, only_persists, only_restores, only_settles, only_snapshots, only_stores, only_with_generation, only_with_word}
 use Rattle.pm_tx.specs.Ranges.{adds_range, reads_range, writes_range}
 use Rattle.pm_tx.specs.Sequences.{reads, takes_back, undoes, word_count, writes, writes_word}
@@ -29,17 +31,18 @@ IsUndrawn s = ⊥
 abbrev pub lines_of : List Lock → List ℕ
 lines_of locks = map (λ (l : Lock). l.line) locks
 
--- the entries, the number and the lines of the locks are the same
+-- the entries, the number and the lines of the locks are the same, and what the lane has of the heap
 pub record Keeps (v w : View) : Type 0 where
   pub number : w.number ≡ v.number
   pub entries : w.entries ≡ v.entries
   pub lines : lines_of w.locks ≡ lines_of v.locks
+  pub heap : KeepsHeap v w
 
 pub keeps_all : (v : View) → Keeps v v
-keeps_all v = record { number = refl; entries = refl; lines = refl }
+keeps_all v = record { number = refl; entries = refl; lines = refl; heap = heap_still v }
 
 pub keeps_then : (u v w : View) → Keeps u v → Keeps v w → Keeps u w
-keeps_then u v w first second = record { number = second.number ∙ first.number; entries = second.entries ∙ first.entries; lines = second.lines ∙ first.lines }
+keeps_then u v w first second = record { number = second.number ∙ first.number; entries = second.entries ∙ first.entries; lines = second.lines ∙ first.lines; heap = heap_then u v w first.heap second.heap }
 
 -- a load may find a block under a lock, and keeps the lock
 lines_loaded : (lanes : ℕ) (words : List ℕ) (w : ℕ) (locks : List Lock) → lines_of (map (with_block lanes words w) locks) ≡ lines_of locks
@@ -50,11 +53,11 @@ lines_loaded lanes words w (l ∷ locks) = (λ i. at (is_word (allocation_word l
   at false = refl
 
 pub undrawn_keeps : (v : View) (s : Step) → IsUndrawn s → Keeps v (after v s)
-undrawn_keeps v (Load w x) quiet = record { number = refl; entries = refl; lines = lines_loaded v.lanes (after v (Load w x)).words w v.locks }
-undrawn_keeps v (Store w x) quiet = record { number = refl; entries = refl; lines = refl }
-undrawn_keeps v (Flush line) quiet = record { number = refl; entries = refl; lines = refl }
-undrawn_keeps v Drain quiet = record { number = refl; entries = refl; lines = refl }
-undrawn_keeps v (Tell operation reply) quiet = record { number = refl; entries = refl; lines = refl }
+undrawn_keeps v (Load w x) quiet = record { number = refl; entries = refl; lines = lines_loaded v.lanes (after v (Load w x)).words w v.locks; heap = record { zone_locks = refl; reserved = refl; freed = refl } }
+undrawn_keeps v (Store w x) quiet = record { number = refl; entries = refl; lines = refl; heap = record { zone_locks = refl; reserved = refl; freed = refl } }
+undrawn_keeps v (Flush line) quiet = record { number = refl; entries = refl; lines = refl; heap = record { zone_locks = refl; reserved = refl; freed = refl } }
+undrawn_keeps v Drain quiet = record { number = refl; entries = refl; lines = refl; heap = record { zone_locks = refl; reserved = refl; freed = refl } }
+undrawn_keeps v (Tell operation reply) quiet = record { number = refl; entries = refl; lines = refl; heap = record { zone_locks = refl; reserved = refl; freed = refl } }
 undrawn_keeps v s quiet = absurd quiet
 
 pub all_undrawn_keep : (v : View) (steps : List Step) → Each IsUndrawn steps → Keeps v (after_all v steps)

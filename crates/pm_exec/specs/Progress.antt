@@ -4,6 +4,7 @@ use Rattle.std.specs.List.{AllZip}
 use Rattle.pm_crash.specs.Alone.{raises}
 use Rattle.pm_crash.specs.Leading.{Leads}
 use Rattle.pm_crash.specs.Pending.{pending_before, pending_in, published_in, told_of as model_told}
+use Rattle.pm_epoch.specs.Epochs.{RestsBehindCall}
 use Rattle.pm_image.specs.Logs.{generation_word}
 use Rattle.pm_memory.specs.Solo.{Sees, Solo}
 use Rattle.pm_model.specs.Checks.{is_action}
@@ -47,6 +48,7 @@ use Rattle.pm_world.specs.declared.lane.Span.{Span}
 use Rattle.pm_exec.specs.Bounds.{logs_of, most_stores, recorded_count, stores_of_call, stores_of_lines}
 use Rattle.pm_exec.specs.Calls.{id_of, numbers_of, operation_of, stands_alone, starts_alone}
 use Rattle.pm_exec.specs.Course.{AreMade, IsCallMade, IsFree, IsOneLine, IsOutsideMade, IsStoppedInCall, IsUsedUp, LinesMade, spans_of}
+use Rattle.pm_exec.specs.Links.{IsLink}
 use Rattle.pm_exec.specs.Quiet.{IsQuiet}
 use Rattle.pm_exec.specs.Torn.{words_after}
 use Rattle.pm_exec.specs.declared.calls.Names.{Names}
@@ -96,6 +98,12 @@ values_told lines told = values_of (numbers_of lines) (map model_told told)
 abbrev pub numbered : ℕ → List Told → Numbered
 numbered n told = record { number = n; call = told }
 
+-- the lane has nothing of the heap: no zone's lock, nothing that it reserved and nothing that it freed
+pub record HasNothing (v : View) : Type 0 where
+  pub unlocked : v.zone_locks ≡ []
+  pub nothing_reserved : v.reserved ≡ []
+  pub nothing_freed : v.freed ≡ []
+
 -- the lane rests, alone, before a call: o is the pool as it stands
 pub record IsStart (o : Opening) (lane : Lane Solo) (actions : List SetAction) (v : View) : Type 0 where
   pub rests : IsAtRest Sees lane v
@@ -106,6 +114,7 @@ pub record IsStart (o : Opening) (lane : Lane Solo) (actions : List SetAction) (
   pub zones : o.zones ≤ 32
   pub lanes_are : v.lanes ≡ o.lanes
   pub words_are : v.words ≡ o.words
+  pub has_none : HasNothing v
   pub pending : IsPending actions (pending_before v)
 
 -- from the view before the call steps led to one at which the lane is at work, with these lines done, which gave these values: outside of its
@@ -117,6 +126,7 @@ pub record IsAtLine (o : Opening) (first : View) (lane : Lane Solo) (actions : L
   pub of_lane : view.lane ≡ 0
   pub alone : IsAlone view
   pub works : IsAtWork o Sees lane view
+  pub has_none : HasNothing view
   pub level : lane.level ≡ 1
   -- the first of them is none that stands alone
   pub opens : (line : ScriptLine) × (rest : List ScriptLine) × (front ≡ line ∷ rest) × (stands_alone line.operation ≡ false)
@@ -142,6 +152,8 @@ pub record IsOver (first : View) (lane : Lane Solo) (actions : List SetAction) (
   pub steps : List Step
   pub leads : Leads first steps view
   pub behind : IsAfterCall Sees lane view
+  pub has_none : HasNothing view
+  pub number : view.number ≡ Some lane.last
   pub entries : view.entries ≡ first.entries ++ numbered lane.last told ∷ []
   pub level : lane.level ≡ 1
   pub left : is_work lane.stage ≡ false
@@ -295,19 +307,18 @@ abbrev pub HasEnded : Names → List ScriptLine → CallAnswer → Reply → Lis
 HasEnded names lines (answer.Transaction e) reply told = TransactionEnded names lines e reply told
 HasEnded names lines (answer.Outside r) reply told = OutsideEnded names lines r reply told
 
--- the call was answered, and the lane rests again
-pub record IsAnswered (first : View) (lane : Lane Solo) (actions : List SetAction) (names : Names) (lines : List ScriptLine) (number : ℕ) (a : CallAnswer) (reply : Reply) : Type 0 where
+-- the call was answered, a link of its run, and the lane rests again
+pub record IsAnswered (o : Opening) (first : View) (lane : Lane Solo) (actions : List SetAction) (names : Names) (lines : List ScriptLine) (number : ℕ) (a : CallAnswer) (reply : Reply) : Type 0 where
   pub view : View
-  pub steps : List Step
-  pub leads : Leads first steps view
+  pub link : IsLink o first view (stores_of_call names lines)
   pub rests : IsAtRest Sees lane view
   pub idle : view.log ≡ no_log Idle
+  pub has_none : HasNothing view
   pub told : List Told
   pub entries : view.entries ≡ first.entries ++ numbered number told ∷ []
   pub so : HasEnded names lines a reply told
   pub pending : IsPending actions (pending_before view)
   pub made : IsCallMade names lines a first view
-  pub few : stores_among steps ≤ stores_of_call names lines
 
 -- the lane stopped in the call
 pub record IsHalted (o : Opening) (first : View) (lane : Lane Solo) (names : Names) (lines : List ScriptLine) (number : Option ℕ) (reply : Reply) : Type 0 where
@@ -317,7 +328,7 @@ pub record IsHalted (o : Opening) (first : View) (lane : Lane Solo) (names : Nam
 
 -- how a call of these lines ended
 abbrev pub HasCome : Opening → View → Lane Solo → List SetAction → Names → List ScriptLine → CallEnd → Type 0
-HasCome o first lane actions names lines (call_end.Answered number a reply) = IsAnswered first lane actions names lines number a reply
+HasCome o first lane actions names lines (call_end.Answered number a reply) = IsAnswered o first lane actions names lines number a reply
 HasCome o first lane actions names lines (call_end.Halted number reply) = IsHalted o first lane names lines number reply
 HasCome o first lane actions names lines (call_end.Unbegun line) = IsUnbegun first lane × (slice_index (numbers_of lines) 0 ≡ line)
 
@@ -328,6 +339,8 @@ pub record IsActed (first : View) (lane : Lane Solo) (actions : List SetAction) 
   pub leads : Leads first steps view
   pub rests : IsAtRest Sees lane view
   pub idle : view.log ≡ no_log Idle
+  pub has_none : HasNothing view
+  pub behind : RestsBehindCall view
   pub entries : view.entries ≡ first.entries ++ numbered lane.last (record { operation = operation_of names op; reply = option_map Refused r } ∷ []) ∷ []
   pub pending : IsPending actions (pending_before view)
   pub made : IsOutsideMade op r first view

@@ -1,35 +1,34 @@
 -- How far a run has come, call by call: for the crate's own functions.
-use Rattle.std.specs.Prelude.{◌≡◌, ◌⊎◌, ℕ, ◌≤◌, ◌%◌, ◌^◌, List, [], ◌∷◌, ◌++◌, slice_index, Option, None, Some, ⊤, true, length, ◌<◌}
-use Rattle.pm_crash.specs.Alone.{standing}
-use Rattle.pm_crash.specs.Leading.{Leads}
+use Rattle.std.specs.Prelude.{◌≡◌, ◌⊎◌, ℕ, ◌≤◌, ◌%◌, ◌^◌, List, [], ◌∷◌, ◌++◌, slice_index, Option, None, Some, ⊤, length, ◌<◌}
+use Rattle.pm_crash.specs.Alone.{Begins, BeginsAlone, standing}
+use Rattle.pm_header.specs.declared.header.Header.{Header}
 use Rattle.pm_memory.specs.Solo.{Sees, Solo}
 use Rattle.pm_objects.specs.declared.history.Entry.{Entry}
 use Rattle.pm_objects.specs.declared.history.Fate.TheVariants as fate
 use Rattle.pm_objects.specs.declared.history.Reply.{Reply}
+use Rattle.pm_objects.specs.declared.pool.PoolView.{PoolView}
 use Rattle.pm_script.specs.declared.script.ScriptLine.{ScriptLine}
 use Rattle.pm_text.specs.declared.report.LaneEnd.TheVariants as end
 use Rattle.pm_lock.specs.Resting.{IsAtRest}
-use Rattle.pm_view.specs.Counts.{stores_among}
+use Rattle.pm_view.specs.Constants.{IsSameLane}
 use Rattle.pm_view.specs.Log.{no_log}
 use Rattle.pm_view.specs.Log.Phase.{Idle}
-use Rattle.pm_view.specs.Steps.{Step}
 use Rattle.pm_view.specs.View.{Numbered, View}
 use Rattle.pm_view.specs.Founds.{IsAlone}
 use Rattle.pm_world.specs.Opening.{IsSound, Opening}
 use Rattle.pm_world.specs.Records.{generation_of}
 use Rattle.pm_world.specs.declared.lane.Lane.{Lane}
-use Rattle.pm_exec.specs.Bounds.{stores_of_calls}
+use Rattle.pm_exec.specs.Bounds.{IsBounded, stores_of_calls}
 use Rattle.pm_exec.specs.Calls.{call_of, numbers_of}
 use Rattle.pm_exec.specs.Course.{CallsMade}
+use Rattle.pm_exec.specs.Founded.{IsFounded, KnowsTaken}
 use Rattle.pm_exec.specs.Histories.{settled_fate}
-use Rattle.pm_exec.specs.Progress.{IsPending, HasEnded, IsHalted, IsUnbegun}
+use Rattle.pm_exec.specs.Progress.{HasNothing, IsPending, HasEnded, IsHalted, IsUnbegun}
 use Rattle.pm_exec.specs.declared.calls.Names.{Names}
 use Rattle.pm_exec.specs.declared.running.Halt.{Halt}
 use Rattle.pm_crash.specs.Pending.{pending_before}
 use Rattle.pm_exec.specs.declared.ending.CallAnswer.{CallAnswer}
 use Rattle.pm_pending.specs.declared.actions.SetAction.{SetAction}
-use Rattle.std.specs.Int.{bit_at}
-use Rattle.pm_view.specs.Occupancy.{is_chunk_taken}
 
 -- the entry of an answered call of these lines, as the lane's view has the call
 pub record IsEntryOf (names : Names) (lines : List ScriptLine) (e : Entry) (n : Numbered) : Type 0 where
@@ -44,10 +43,6 @@ abbrev pub AreEntries : Names → List (List ScriptLine) → List Entry → List
 AreEntries names [] [] [] = ⊤
 AreEntries names (call ∷ calls) (e ∷ history) (n ∷ entries) = IsEntryOf names call e n × AreEntries names calls history entries
 AreEntries names calls history entries = ⊥
-
--- the view has the bits set of the chunks that the pool's words say are taken
-abbrev pub KnowsTaken : Opening → View → Type 0
-KnowsTaken o v = (zone chunk : ℕ) → zone < o.zones → chunk < 64 → is_chunk_taken (slice_index o.words) o.lanes zone chunk ≡ true → bit_at (slice_index v.zone_words zone) chunk ≡ 1
 
 -- the view of lane 0, alone, over the words of a sound pool, before its first call
 pub record IsOpenedAs (o : Opening) (v : View) : Type 0 where
@@ -66,26 +61,30 @@ pub record IsOpenedAs (o : Opening) (v : View) : Type 0 where
   pub zone_count : length v.zone_words ≡ 32
   pub taken : KnowsTaken o v
 
--- these calls were answered, one after another from the first view, and led to this view
-pub record HasCalled (first : View) (names : Names) (calls : List (List ScriptLine)) (history : List Entry) (view : View) : Type 0 where
-  pub steps : List Step
-  pub leads : Leads first steps view
+-- these calls were answered, one after another from the first view, and led to this view. Where the lane began alone there, it begins here, over words
+-- that have the opening's header page
+pub record HasCalled (o : Opening) (first : View) (names : Names) (calls : List (List ScriptLine)) (history : List Entry) (view : View) : Type 0 where
   pub are : AreEntries names calls history view.entries
+  pub again : (header : Header) (pool : PoolView) → BeginsAlone o header pool first → Begins (standing o view) header pool view
+  pub page : (header : Header) (pool : PoolView) → BeginsAlone o header pool first → (i : ℕ) → i < 512 → slice_index view.words i ≡ slice_index o.words i
+  pub same : IsSameLane first view
   pub made : CallsMade names calls history first view
-  pub few : stores_among steps ≤ stores_of_calls names calls
+  pub bound : IsBounded first view (stores_of_calls names calls)
 
 -- and the lane rests behind them
-pub record HasAnswered (first : View) (lane : Lane Solo) (actions : List SetAction) (names : Names) (calls : List (List ScriptLine)) (history : List Entry) : Type 0 where
+pub record HasAnswered (o : Opening) (first : View) (lane : Lane Solo) (actions : List SetAction) (names : Names) (calls : List (List ScriptLine)) (history : List Entry) : Type 0 where
   pub view : View
-  pub called : HasCalled first names calls history view
+  pub called : HasCalled o first names calls history view
   pub rests : IsAtRest Sees lane view
   pub idle : view.log ≡ no_log Idle
+  pub founded : IsFounded o.lanes o.zones view
+  pub has_none : HasNothing view
   pub pending : IsPending actions (pending_before view)
 
 -- so it did over the pool from whose words the first view is
 pub record HasComeTo (o : Opening) (first : View) (lane : Lane Solo) (actions : List SetAction) (names : Names) (calls : List (List ScriptLine)) (history : List Entry) : Type 0 where
   pub opened : IsOpenedAs o first
-  pub answered : HasAnswered first lane actions names calls history
+  pub answered : HasAnswered o first lane actions names calls history
 
 -- the entry of a call that was not answered, as lost, if it drew a number
 abbrev pub open_entry : Names → List ScriptLine → Option ℕ → Reply → Option Entry
@@ -95,7 +94,7 @@ open_entry names lines (Some n) reply = Some (record { number = n; call = call_o
 -- the lane stopped in the call of these lines, behind others
 pub record HasStopped (o : Opening) (first : View) (lane : Lane Solo) (names : Names) (answered : List (List ScriptLine)) (lines : List ScriptLine) (history : List Entry) (halt : Halt) : Type 0 where
   pub before : View
-  pub called : HasCalled first names answered history before
+  pub called : HasCalled o first names answered history before
   pub idle : before.log ≡ no_log Idle
   pub drained : before.changes ≡ []
   pub number : Option ℕ
@@ -108,7 +107,7 @@ pub record HasStopped (o : Opening) (first : View) (lane : Lane Solo) (names : N
 -- it could not begin the call of these lines
 pub record HasSpent (o : Opening) (first : View) (lane : Lane Solo) (names : Names) (answered : List (List ScriptLine)) (lines : List ScriptLine) (history : List Entry) (halt : Halt) : Type 0 where
   pub before : View
-  pub called : HasCalled first names answered history before
+  pub called : HasCalled o first names answered history before
   pub idle : before.log ≡ no_log Idle
   pub drained : before.changes ≡ []
   pub unbegun : IsUnbegun before lane
@@ -122,9 +121,9 @@ abbrev pub HasHalted : Opening → View → Lane Solo → Names → List (List S
 HasHalted o first lane names answered lines history halt = HasStopped o first lane names answered lines history halt ⊎ HasSpent o first lane names answered lines history halt
 
 -- the lane was answered all calls
-pub record HasFinished (first : View) (lane : Lane Solo) (names : Names) (calls : List (List ScriptLine)) (history : List Entry) (halt : Halt) : Type 0 where
+pub record HasFinished (o : Opening) (first : View) (lane : Lane Solo) (names : Names) (calls : List (List ScriptLine)) (history : List Entry) (halt : Halt) : Type 0 where
   pub actions : List SetAction
-  pub answered : HasAnswered first lane actions names calls history
+  pub answered : HasAnswered o first lane actions names calls history
   pub is_open : halt.is_open ≡ None
   pub ends : halt.end ≡ end.Ended
 
@@ -138,4 +137,4 @@ pub record HasHaltedIn (o : Opening) (first : View) (lane : Lane Solo) (names : 
 
 -- so the run of these calls came to its end
 abbrev pub HasRun : Opening → View → Lane Solo → Names → List (List ScriptLine) → List Entry → Halt → Type 0
-HasRun o first lane names calls history halt = HasFinished first lane names calls history halt ⊎ HasHaltedIn o first lane names calls history halt
+HasRun o first lane names calls history halt = HasFinished o first lane names calls history halt ⊎ HasHaltedIn o first lane names calls history halt

@@ -171,7 +171,8 @@ module _ {M : Type 0} (at : M → View → Type 0) (lane : Lane M) (v : View) (i
       let b : IsBegun at lane v = is.begun in
       record {
         view = w;
-        led = ready_led v (gives taken v) back.0 (drawless v (gives taken v) (let e = ap (λ (u : View). length u.entries) same in omega (arith, e))) (none_counted taken v);
+        led = ready_led v (gives taken v) back.0 (drawless v (gives taken v) (let e = ap (λ (u : View). length u.entries) same in omega (arith, e))) (none_counted taken v)
+            (record { zone_locks = ap (λ (u : View). u.zone_locks) same; reserved = ap (λ (u : View). u.reserved) same; freed = ap (λ (u : View). u.freed) same });
         seen = ap (λ (u : View). u.seen) same;
         entries = ap (λ (u : View). u.entries) same;
         rests = record {

@@ -1,5 +1,6 @@
 -- Steps that lead from one view to another, one after another.
-use Rattle.std.proofs.Common.{◌≡◌, ◌+◌, Bool, false, cond, List, [], ◌∷◌, ◌++◌, refl, sym, ap, subst, arith}
+use Rattle.std.proofs.Common.{◌≡◌, ℕ, ◌+◌, Bool, false, cond, List, [], ◌∷◌, ◌++◌, flat_map, refl, sym, ap, ◌∙◌, subst, arith}
+use Rattle.std.proofs.lemmas.Bool.{cond-false}
 use Rattle.pm_crash.proofs.Leading.{leads_end, leads_then}
 use Rattle.pm_lock.proofs.Leading.{ready_leads}
 use Rattle.pm_crash.specs.HeldHistory.{DrawsEnded}
@@ -10,33 +11,49 @@ use Rattle.pm_view.specs.Counts.{counted, is_counted}
 use Rattle.pm_view.specs.Founds.{FoundAlone}
 use Rattle.pm_view.specs.Steps.{Step}
 use Rattle.pm_view.specs.View.{View}
-use Rattle.pm_view.specs.Views.{after, after_all}
+use Rattle.pm_view.specs.Steps.Step.{Draw}
+use Rattle.pm_view.specs.Views.{after, after_all, changes_heap, freed_by, unallocated}
 use Rattle.pm_world.specs.Lawful.{Allowed}
 use Rattle.pm_world.specs.Sequences.{Ready}
-use Rattle.pm_lock.specs.Leading.{DrawEnded, IsLed}
+use Rattle.pm_lock.specs.Leading.{DrawEnded, IsLed, KeepsHeap}
 
 pub counted_then : (xs ys : List Step) → counted (xs ++ ys) ≡ counted xs + counted ys
 unfolding counted
 counted_then [] ys = omega arith
 counted_then (x ∷ xs) ys = let rest = counted_then xs ys in omega (arith, rest)
 
+pub heap_still : (v : View) → KeepsHeap v v
+heap_still v = record { zone_locks = refl; reserved = refl; freed = refl }
+
+pub heap_then : (u v w : View) → KeepsHeap u v → KeepsHeap v w → KeepsHeap u w
+heap_then u v w first second = record { zone_locks = second.zone_locks ∙ first.zone_locks; reserved = second.reserved ∙ first.reserved; freed = second.freed ∙ first.freed }
+
+-- a draw that publishes no change of a block keeps it
+pub heap_drawn : (v : View) (n : ℕ) → changes_heap v ≡ false → KeepsHeap v (after v (Draw n))
+heap_drawn v n plain = record {
+  zone_locks = refl;
+  reserved = cond-false (changes_heap v) (unallocated v) v.reserved plain;
+  freed = cond-false (changes_heap v) (v.freed ++ flat_map (freed_by v) v.log.entries) v.freed plain;
+}
+
 pub led_none : (v : View) → IsLed v v
 unfolding Leads counted
-led_none v = record { steps = []; leads = refl; uncounted = refl }
+led_none v = record { steps = []; leads = refl; uncounted = refl; heap = heap_still v }
 
 pub led_then : (u v w : View) → IsLed u v → IsLed v w → IsLed u w
 led_then u v w first second = record {
   steps = first.steps ++ second.steps;
   leads = leads_then u v w first.steps second.steps first.leads second.leads;
   uncounted = (let a = first.uncounted in let b = second.uncounted in let c = counted_then first.steps second.steps in omega (arith, a, b, c));
+  heap = heap_then u v w first.heap second.heap;
 }
 
-pub led_once : (v : View) (s : Step) → Allowed v s → FoundAlone v s → DrawsEnded v s → is_counted s ≡ false → IsLed v (after v s)
+pub led_once : (v : View) (s : Step) → Allowed v s → FoundAlone v s → DrawsEnded v s → is_counted s ≡ false → KeepsHeap v (after v s) → IsLed v (after v s)
 unfolding Leads counted
-led_once v s allowed found draws free = record { steps = s ∷ []; leads = (allowed, found, draws, refl); uncounted = ap (λ (b : Bool). cond b 1 0 + 0) free }
+led_once v s allowed found draws free heap = record { steps = s ∷ []; leads = (allowed, found, draws, refl); uncounted = ap (λ (b : Bool). cond b 1 0 + 0) free; heap = heap }
 
-pub ready_led : (v : View) (steps : List Step) → Ready v steps → DrawEnded v steps → counted steps ≡ 0 → IsLed v (after_all v steps)
-ready_led v steps ready draws free = record { steps = steps; leads = ready_leads v steps ready draws; uncounted = free }
+pub ready_led : (v : View) (steps : List Step) → Ready v steps → DrawEnded v steps → counted steps ≡ 0 → KeepsHeap v (after_all v steps) → IsLed v (after_all v steps)
+ready_led v steps ready draws free heap = record { steps = steps; leads = ready_leads v steps ready draws; uncounted = free; heap = heap }
 
 -- no step changes the lane
 pub led_same : (v w : View) → IsLed v w → IsSameLane v w

@@ -33,7 +33,7 @@ looks_then u v w first second = record {
 -- a load, whatever is found
 pub looks_at : (v : View) (w x : ℕ) → w < length v.words → 512 * (1 + 2 * v.lanes) ≤ w → FoundAlone v (Load w x) → OnlyLooks v (after v (Load w x))
 looks_at v w x inside behind found = record {
-  led = led_once v (Load w x) inside found tt refl;
+  led = led_once v (Load w x) inside found tt refl (record { zone_locks = refl; reserved = refl; freed = refl });
   same = refl;
   front = λ u low. get_or-set_other v.words w u x 0 (λ same. omega (arith, same, low, behind));
   remembers = λ s there. Contains-append_left v.seen (Load w x ∷ []) s there;

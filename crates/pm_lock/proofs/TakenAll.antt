@@ -46,8 +46,8 @@ first_more plan i low = ap (λ n. first_taken plan n) (let e : i + 1 ≡ suc i =
 
 -- one try of a lock
 led_take : (v : View) (line : ℕ) (write won : Bool) → Allowed v (takes line write won) → FoundAlone v (takes line write won) → IsLed v (after v (takes line write won))
-led_take v line true won may found = led_once v (takes line true won) may found tt refl
-led_take v line false won may found = led_once v (takes line false won) may found tt refl
+led_take v line true won may found = led_once v (takes line true won) may found tt refl (record { zone_locks = refl; reserved = refl; freed = refl })
+led_take v line false won may found = led_once v (takes line false won) may found tt refl (record { zone_locks = refl; reserved = refl; freed = refl })
 
 lost_locks : (v : View) (line : ℕ) (write : Bool) → (after v (takes line write false)).locks ≡ v.locks
 lost_locks v line true = refl

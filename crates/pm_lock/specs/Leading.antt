@@ -12,8 +12,15 @@ unfoldable pub DrawEnded : View → List Step → Type 0
 DrawEnded v [] = Unit {0}
 DrawEnded v (s ∷ steps) = DrawsEnded v s × DrawEnded (after v s) steps
 
--- some steps lead from the one view to the other, and none of them is a counted call
+-- the lane has of the heap what it had: the zones whose lock it holds, what it reserved and what it freed
+pub record KeepsHeap (v w : View) : Type 0 where
+  pub zone_locks : w.zone_locks ≡ v.zone_locks
+  pub reserved : w.reserved ≡ v.reserved
+  pub freed : w.freed ≡ v.freed
+
+-- some steps lead from the one view to the other, none of them is a counted call, and the lane has of the heap what it had
 pub record IsLed (v w : View) : Type 0 where
   pub steps : List Step
   pub leads : Leads v steps w
   pub uncounted : counted steps ≡ 0
+  pub heap : KeepsHeap v w

@@ -1,5 +1,5 @@
 -- What a begin comes to once its locks are planned.
-use Rattle.std.proofs.Common.{◌≡◌, ◌⊎◌, inl, inr, ℕ, ◌≤◌, Bool, true, false, List, [], ◌∷◌, ◌++◌, map, length, None, Some, Result, Ok, Err, refl, sym, ap, ◌∙◌, subst, arith}
+use Rattle.std.proofs.Common.{◌≡◌, ◌⊎◌, inl, inr, ℕ, ◌≤◌, Bool, true, false, List, [], ◌∷◌, ◌++◌, map, length, slice_index, None, Some, Result, Ok, Err, refl, sym, ap, ◌∙◌, subst, arith}
 use Rattle.std.specs.Prelude.{IfErr, OnOk}
 use Rattle.pm_crash.specs.Locks.{AreSameLocks}
 use Rattle.pm_crash.specs.OpenCall.{locks_of}
@@ -15,9 +15,12 @@ use Rattle.pm_objects.specs.declared.refusal.Refusal.TheVariants as refusal
 use Rattle.pm_undo.specs.Working.{FindsOpening}
 use Rattle.pm_view.proofs.SameLane.{same_lane-then}
 use Rattle.pm_view.specs.Counts.{counted}
-use Rattle.pm_view.specs.Steps.Step.{Tell}
+use Rattle.pm_view.specs.Area.{area_word}
+use Rattle.pm_view.specs.Log.{Phase}
+use Rattle.pm_view.specs.Log.Phase.{Idle}
+use Rattle.pm_view.specs.Steps.Step.{Load, Tell}
 use Rattle.pm_view.specs.View.{View, Told, Numbered}
-use Rattle.pm_view.specs.Views.{after, after_all}
+use Rattle.pm_view.specs.Views.{after, after_all, begun as begun_view}
 use Rattle.pm_world.specs.Lanes.{IsSeenAs, lock_of}
 use Rattle.pm_world.specs.Opening.{Opening, IsSound}
 use Rattle.pm_world.specs.declared.lane.HeldLock.{HeldLock}
@@ -25,9 +28,9 @@ use Rattle.pm_world.specs.Sequences.{by_lane, by_view, in_turn, looks, one}
 use Rattle.pm_world.specs.declared.lane.Lane.{Lane}
 use Rattle.pm_world.specs.declared.lane.Stage.TheVariants as stage
 use Rattle.pm_lock.proofs.FoundObjects.{plan_models}
-use Rattle.pm_lock.proofs.Leads.{led_once, led_same, led_then, ready_led}
+use Rattle.pm_lock.proofs.Leads.{heap_still, led_once, led_same, led_then, ready_led}
 use Rattle.pm_lock.specs.Finding.{FindsObjects, HasFound}
-use Rattle.pm_lock.specs.Leading.{IsLed}
+use Rattle.pm_lock.specs.Leading.{IsLed, KeepsHeap}
 use Rattle.pm_lock.specs.Locking.{HasTaken, IsBusy}
 use Rattle.pm_lock.specs.Plans.{IsPlan, model_locks, unfound}
 use Rattle.pm_lock.specs.Resting.{IsAtRest}
@@ -119,7 +122,7 @@ module _ {M : Type 0} (at : M → View → Type 0) (old mid lane : Lane M) (want
   -- or all are there, and the transaction is open
   pub begun : all ≡ true → (new : Lane M) → IsSeenAs at new w → ((o : Opening) → IsSound o → FindsOpening o f.view → o.zones ≤ 32 → FindsObjects f.view → TakesWanted f.view [] wants → IsAtWork o at new w) → HasBegun at new v wants
   begun found new seen works =
-      let more : IsLed f.view w = led_once f.view (Tell (Begin wants) None) (may_tell at lane f.view f.begun) tt tt refl in
+      let more : IsLed f.view w = led_once f.view (Tell (Begin wants) None) (may_tell at lane f.view f.begun) tt tt refl (record { zone_locks = refl; reserved = refl; freed = refl }) in
       let all_led : IsLed v w = led_then v f.view w led more in
       record {
         view = w;
@@ -181,8 +184,16 @@ module _ {M : Type 0} (at : M → View → Type 0) (old mid : Lane M) (v : View)
   unfolding starts sees_generation by_lane by_view looks in_turn one counted after_all
   none_counted = refl
 
+  begins_heap : (p : Phase) (w : View) → KeepsHeap w (begun_view p w)
+  begins_heap Idle w = record { zone_locks = refl; reserved = refl; freed = refl }
+  begins_heap p w = heap_still w
+
+  started_heap : KeepsHeap v u
+  unfolding starts sees_generation by_lane by_view looks in_turn one after_all
+  started_heap = let m : View = after v (Load (area_word v.lane) (slice_index v.words (area_word v.lane))) in let b = begins_heap m.log.phase m in record { zone_locks = b.zone_locks; reserved = b.reserved; freed = b.freed }
+
   pub started_led : IsLed v u
-  started_led = ready_led v (starts n v) started.ready started.draws none_counted
+  started_led = ready_led v (starts n v) started.ready started.draws none_counted started_heap
 
   pub no_locks : IsAtRest at old v → mid ≡ record old { memory = mid.memory } → mid.locks.items ≡ []
   no_locks rests same = ap (λ (l : Lane M). l.locks.items) same ∙ none_of old.locks.items (rests.seen.locks ∙ rests.free) where

@@ -31,10 +31,10 @@ use Rattle.pm_world.specs.declared.lane.Lane.{Lane}
 use Rattle.pm_world.specs.declared.lane.Stage.TheVariants as stage
 use Rattle.pm_world.proofs.Plain.{empty_plain}
 use Rattle.pm_world.proofs.Shapes.{IsOfSamePool}
-use Rattle.pm_lock.proofs.Leads.{ready_led}
+use Rattle.pm_lock.proofs.Leads.{heap_drawn, ready_led}
 use Rattle.pm_lock.specs.Begun.{IsBegun}
 use Rattle.pm_lock.specs.Finding.{FindsObjects}
-use Rattle.pm_lock.specs.Leading.{DrawEnded}
+use Rattle.pm_lock.specs.Leading.{DrawEnded, KeepsHeap}
 use Rattle.pm_tx.specs.AtWork.{IsAtWork}
 use Rattle.pm_tx.specs.Begins.{IsRefusedAtOnce}
 use Rattle.pm_tx.specs.Ending.{IsAfterCall, IsOver, IsReadyForAny, IsTakenBack}
@@ -180,6 +180,13 @@ module _ {M : Type 0} (at : M → View → Type 0) (lane : Lane M) (v : View) (i
     unfolding ends_call in_turn one counted after_all
     ends_uncounted = refl
 
+    ends_heap : KeepsHeap v mid
+    unfolding ends_call in_turn one after_all
+    ends_heap =
+        let told : View = after v (Tell (Begin wants) (Some (Refused r))) in
+        let drawn = heap_drawn told n (empty_plain told (ap (λ (log : Log). log.entries) is.log)) in
+        record { zone_locks = drawn.zone_locks; reserved = drawn.reserved; freed = drawn.freed }
+
     mid_call : mid.call ≡ record { operation = Begin wants; reply = Some (Refused r) } ∷ []
     unfolding ends_call in_turn one after_all
     mid_call = told_so
@@ -198,7 +205,7 @@ module _ {M : Type 0} (at : M → View → Type 0) (lane : Lane M) (v : View) (i
     refused reason new last made locks records listed drawn pool stops = record {
       refused = record {
         view = mid;
-        led = ready_led v ends ends_ready (ends_drawn reason) ends_uncounted;
+        led = ready_led v ends ends_ready (ends_drawn reason) ends_uncounted ends_heap;
         same = over.lane;
         over = refused_after new last made locks records listed drawn pool stops;
         number = over.number ∙ ap Some (sym last);

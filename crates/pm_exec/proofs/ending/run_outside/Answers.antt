@@ -1,10 +1,17 @@
-use Rattle.std.proofs.Common.{◌≢◌, Option, Some, ℕ, [], ◌∷◌, sym, subst, rules}
+use Rattle.std.proofs.Common.{◌≢◌, Option, None, Some, ℕ, [], ◌∷◌, sym, subst, rules}
 use Rattle.pm_objects.specs.declared.refusal.Refusal.TheVariants as refusal
 use Rattle.pm_exec.specs.Progress.{IsAnswered, IsCut, IsHalted}
 use Rattle.pm_exec.specs.declared.ending.CallAnswer.TheVariants as answer
 use Rattle.pm_exec.proofs.Closed.{halted}
 use Rattle.pm_exec.proofs.OutsideLine.{outside_answered, refused_acted, stopped_in}
 use Rattle.pm_exec.proofs.ending.run_outside.Goals as goal
+
+pub returns-in-Ok : goal.returns-in-Ok
+returns-in-Ok c o first is =
+    let lane = c.act_outside.new.lane in
+    let left = c.act_outside.new.actions.items in
+    subst (λ (number : ℕ). IsAnswered o first lane left c.args.names (c.args.said.now ∷ []) number (answer.Outside None) c.reply_of-reply.result) (sym c.last_number.ensures)
+    (outside_answered o first lane left c.args.names c.args.said.now None c.reply_of-reply.result c.requires.outside (search rules) c.reply_of-reply.ensures.at (c.in-Ok.ensures o first is))
 
 pub returns-in-Err-Stopped : goal.returns-in-Err-Stopped
 returns-in-Err-Stopped c o first is =
@@ -20,6 +27,6 @@ returns-in-Err c o first is =
     let left = c.act_outside.new.actions.items in
     let going : why ≢ refusal.Stopped = search rules in
     let unspent : why ≢ refusal.Spent = search rules in
-    subst (λ (number : ℕ). IsAnswered first lane left c.args.names (c.args.said.now ∷ []) number (answer.Outside (Some why)) c.reply_of-reply.result) (sym c.last_number-in-Err.ensures)
-    (outside_answered first lane left c.args.names c.args.said.now (Some why) c.reply_of-reply.result c.requires.outside (search rules) c.reply_of-reply.ensures.at
+    subst (λ (number : ℕ). IsAnswered o first lane left c.args.names (c.args.said.now ∷ []) number (answer.Outside (Some why)) c.reply_of-reply.result) (sym c.last_number-in-Err.ensures)
+    (outside_answered o first lane left c.args.names c.args.said.now (Some why) c.reply_of-reply.result c.requires.outside (search rules) c.reply_of-reply.ensures.at
     (refused_acted o first lane left c.args.names c.args.said.now.operation why going unspent (c.in-Err.ensures o first is)))

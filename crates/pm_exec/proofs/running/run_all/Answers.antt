@@ -59,7 +59,7 @@ returns c o first h =
     let all = t.1 ∙ ap (λ (calls : List (List ScriptLine)). t.0 ++ calls) none ∙ append-nil t.0 in
     inl (record {
       actions = c.loop-rest.actions.items;
-      answered = subst (λ (calls : List (List ScriptLine)). HasAnswered first c.loop-rest.lane c.loop-rest.actions.items c.args.names calls c.loop-rest.history.items) (sym all) t.2.answered;
+      answered = subst (λ (calls : List (List ScriptLine)). HasAnswered o first c.loop-rest.lane c.loop-rest.actions.items c.args.names calls c.loop-rest.history.items) (sym all) t.2.answered;
       is_open = refl;
       ends = refl;
     })
