@@ -27,6 +27,7 @@ use Rattle.pm_crash.specs.Alone.{BeginsAgain, standing}
 use Rattle.pm_reclaim.specs.KnownTaken.{IsGiving}
 use Rattle.pm_epoch.specs.Epochs.{HasEnded}
 use Rattle.pm_reclaim.proofs.GivingBack.{giving_keeps, unmade}
+use Rattle.pm_reclaim.proofs.Steps.{left_of_pool}
 
 -- what the lane knows it holds, once it has forgotten the rest
 still_held : (v : View) (known : List ℕ) (w : ℕ) → Contains (filter (is_held v) known) w → IsTrue (is_held v w)
@@ -46,6 +47,7 @@ module _ (o : Opening) (header : Header) (pool : PoolView) (v : View) (ended : H
         idle = ended.idle;
         of_pool = vacated_all at bits may.small (IsOcc o.lanes o.zones) (exchanged v at) (subst (All (λ (t : Taken). IsOcc o.lanes o.zones t.at)) (sym same) ended.of_pool);
         small = vacated_small at bits may.small (exchanged v at) (subst (All (λ (t : Taken). t.bits < 2 ^ 64)) (sym same) ended.small);
+        freed_of_pool = left_of_pool at bits o.lanes o.zones may.small v.freed ended.freed_of_pool;
         taken = giving_keeps v (Vacate at bits) ended.taken may gives;
         within = ended.within;
         of_header = ended.of_header;
@@ -65,6 +67,7 @@ module _ (o : Opening) (header : Header) (pool : PoolView) (v : View) (ended : H
     idle = ended.idle;
     of_pool = ended.of_pool;
     small = ended.small;
+    freed_of_pool = ended.freed_of_pool;
     taken = giving_keeps v (Give line) ended.taken may gives;
     within = ended.within;
     of_header = ended.of_header;
@@ -84,6 +87,7 @@ module _ (o : Opening) (header : Header) (pool : PoolView) (v : View) (ended : H
     idle = ended.idle;
     of_pool = ended.of_pool;
     small = ended.small;
+    freed_of_pool = ended.freed_of_pool;
     taken = giving_keeps v (ZoneGive zone) ended.taken may gives;
     within = ended.within;
     of_header = ended.of_header;

@@ -101,14 +101,18 @@ block_bits lanes c index mask blocks low is these =
       small = All-cons IsWordOfBits t [] (pow-lt {i = index} {j = 64} low) (All-nil IsWordOfBits);
     })
 
-pub row_bits : (lanes c chunks descriptor : ℕ) (blocks : List Taken) → c % 64 + chunks ≤ 64 → descriptor / 256 ≡ chunks → blocks ≡ chunks_described lanes (descriptor_word lanes c) descriptor ∷ [] → HaveBits blocks (IsChunkBit c chunks)
-row_bits lanes c chunks descriptor blocks fits is these =
+-- the row of chunks that such a descriptor says
+pub row_described : (lanes c chunks descriptor : ℕ) → descriptor / 256 ≡ chunks → chunks_described lanes (descriptor_word lanes c) descriptor ≡ record { at = Zone (c / 64); bits = chunk_bits (c % 64) chunks }
+row_described lanes c chunks descriptor is =
     let w : ℕ = descriptor_word lanes c in
     let zone : zone_of lanes (w / 512) ≡ c / 64 = omega arith in
     let first : w % 512 ≡ c % 64 = omega arith in
+    λ i. record { at = Zone (zone i); bits = 2 ^ (first i) * (2 ^ (is i) - 1) }
+
+pub row_bits : (lanes c chunks descriptor : ℕ) (blocks : List Taken) → c % 64 + chunks ≤ 64 → descriptor / 256 ≡ chunks → blocks ≡ chunks_described lanes (descriptor_word lanes c) descriptor ∷ [] → HaveBits blocks (IsChunkBit c chunks)
+row_bits lanes c chunks descriptor blocks fits is these =
     let t : Taken = record { at = Zone (c / 64); bits = chunk_bits (c % 64) chunks } in
-    let same : chunks_described lanes w descriptor ≡ t = λ i. record { at = Zone (zone i); bits = 2 ^ (first i) * (2 ^ (is i) - 1) } in
-    subst (λ xs. HaveBits xs (IsChunkBit c chunks)) (sym (these ∙ ap (λ x. x ∷ []) same))
+    subst (λ xs. HaveBits xs (IsChunkBit c chunks)) (sym (these ∙ ap (λ x. x ∷ []) (row_described lanes c chunks descriptor is)))
     (record {
       bits = λ at bit. let one = one_of t at bit in let row = row_bit (c % 64) chunks bit in ((λ has. ((one.0 has).0, row.0 (one.0 has).1)), (λ of. one.1 (of.0, row.1 of.1)));
       small = All-cons IsWordOfBits t [] (bits_small (c % 64) chunks fits) (All-nil IsWordOfBits);

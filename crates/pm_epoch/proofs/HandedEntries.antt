@@ -1,22 +1,28 @@
 -- What the entry of each thing that a lane alone publishes allocates and frees in the lane's view: a change of the heap its bits, an action none.
-use Rattle.std.proofs.Common.{◌≡◌, ⊎_elim, inl, inr, ℕ, ◌+◌, ◌-◌, ◌*◌, ◌/◌, ◌%◌, ◌^◌, ◌<◌, ◌≤◌, ◌&&◌, true, false, not, eqb, leb, ltb, List, None, slice_index, refl, sym, ap, ◌∙◌, subst, arith, eq-eqb, ne_eqb}
-use Rattle.std.specs.Int.{bit_not, w64}
+use Rattle.std.proofs.Common.{◌≡◌, ◌≢◌, ⊎_elim, inl, inr, ℕ, ◌+◌, ◌-◌, ◌*◌, ◌/◌, ◌%◌, ◌^◌, ◌<◌, ◌≤◌, ◌&&◌, true, false, not, eqb, leb, ltb, All, List, [], ◌∷◌, None, slice_index, refl, sym, ap, ◌∙◌, subst, arith, eq-eqb, ne_eqb, pow_pos}
+use Rattle.std.specs.Int.{bit_at, bit_not, w64}
 use Rattle.std.proofs.Math.Pow.{pow-lt}
 use Rattle.std.proofs.lemmas.Bool.{and_from, and_parts, cases_Bool, false_from_ne_true, false≢true, ltb-true, or_from}
+use Rattle.std.proofs.lemmas.List.Elements.{All-cons, All-nil}
+use Rattle.std.proofs.lemmas.Nat.Bits.{bit_at-zero}
+use Rattle.pm_chunks.specs.Chunks.{chunk_bits}
+use Rattle.pm_chunks.proofs.ChunkBits.{bit_inside, bits_small}
+use Rattle.pm_reclaim.specs.Reclaims.{AreOfPool}
 use Rattle.pm_image.specs.Blocks.{chunk_word, descriptor_word}
 use Rattle.pm_image.specs.HeapFaults.{heap_fault}
 use Rattle.pm_image.proofs.HeapWords.{chunks_fit}
 use Rattle.pm_view.specs.declared.occ.Occ.{Occ}
+use Rattle.pm_view.specs.declared.occ.Occ.TheVariants.{Run, Zone}
 use Rattle.pm_view.specs.Area.{area_word, is_in_area}
 use Rattle.pm_view.specs.Blocks.{chunk_of, describes, is_chunk, is_run, zone_of}
 use Rattle.pm_view.specs.Blocks.{descriptor_word as lane_descriptor}
 use Rattle.pm_view.specs.Log.{Final}
 use Rattle.pm_view.specs.Occupancy.{is_chunk_taken}
 use Rattle.pm_view.specs.Rights.{is_written}
-use Rattle.pm_view.specs.View.{View}
-use Rattle.pm_view.specs.Views.{allocated_by, freed_by, is_bitmap, is_of_heap}
+use Rattle.pm_view.specs.View.{Taken, View}
+use Rattle.pm_view.specs.Views.{allocated_by, chunks_described, freed_by, is_bitmap, is_of_heap}
 use Rattle.pm_world.specs.Fits.{LaneFits}
-use Rattle.pm_world.specs.Heap.{heap_words}
+use Rattle.pm_world.specs.Heap.{IsOcc, heap_words}
 use Rattle.pm_world.specs.Memory.{Memory}
 use Rattle.pm_world.specs.Opening.{Guards, IsChunk, IsSound, Opening, is_free_chunk}
 use Rattle.pm_world.proofs.Exclusion.{writes_under}
@@ -27,10 +33,11 @@ use Rattle.pm_crash.specs.Publishing.{CanPublish, Published, entry_published}
 use Rattle.pm_crash.specs.Publishing.Published.{Changes, Performs}
 use Rattle.pm_crash.specs.Taken.{AllocatesBit, FreesBit}
 use Rattle.pm_crash.proofs.Apart.{good_chunk}
+use Rattle.pm_crash.proofs.ChangesApart.{some_of_first}
 use Rattle.pm_crash.proofs.BitMore.{index_small}
 use Rattle.pm_crash.proofs.Classes.{whole_by_byte}
 use Rattle.pm_crash.proofs.FoundBlocks.{IsPageOf, page_of_chunk}
-use Rattle.pm_epoch.proofs.EntryBits.{HaveBits, block_bits, chunks_allocate, chunks_free, no_bits, none_telling, row_bits, run_allocates, run_frees}
+use Rattle.pm_epoch.proofs.EntryBits.{HaveBits, block_bits, chunks_allocate, chunks_free, no_bits, none_telling, row_bits, row_described, run_allocates, run_frees}
 use Rattle.pm_epoch.proofs.EntryWords.{action_tells_none}
 
 -- the bits that this makes taken, and those that it makes free
@@ -45,6 +52,7 @@ MakesFree lanes (Changes change) at bit = FreesBit lanes change at bit
 pub record IsHanded (v : View) (s : Published) : Type 0 where
   pub allocates : HaveBits (allocated_by v (entry_published v.lanes s)) (MakesTaken v.lanes s)
   pub frees : HaveBits (freed_by v (entry_published v.lanes s)) (MakesFree v.lanes s)
+  pub places : AreOfPool v.lanes v.zones (freed_by v (entry_published v.lanes s))
 
 -- the mask of an AND that clears one bit is that bit
 turned_twice : (index : ℕ) → index < 64 → bit_not w64 (2 ^ 64 - 1 - 2 ^ index) ≡ 2 ^ index
@@ -125,28 +133,60 @@ module _ (o : Opening) (mem : Memory) (before : ℕ → ℕ) (flies : ℕ → Li
   run_described : (c lines : ℕ) → w (descriptor_word v.lanes c) ≡ 1 + 256 * lines → is_run (w (descriptor_word v.lanes c)) ≡ true
   run_described c lines is = eq-eqb (w (descriptor_word v.lanes c) % 256) 1 (omega (arith, is))
 
+  -- ---- what is freed is of the pool
+
+  none_of_pool : (blocks : List Taken) → blocks ≡ [] → AreOfPool v.lanes v.zones blocks
+  none_of_pool blocks none = subst (AreOfPool v.lanes v.zones) (sym none)
+      (record { of_pool = All-nil (λ (t : Taken). IsOcc v.lanes v.zones t.at); small = All-nil (λ (t : Taken). t.bits < 2 ^ 64); some = All-nil (λ (t : Taken). t.bits ≢ 0) })
+
+  one_of_pool : (blocks : List Taken) (t : Taken) → blocks ≡ t ∷ [] → IsOcc v.lanes v.zones t.at → t.bits < 2 ^ 64 → t.bits ≢ 0 → AreOfPool v.lanes v.zones blocks
+  one_of_pool blocks t is of small some = subst (AreOfPool v.lanes v.zones) (sym is)
+      (record {
+        of_pool = All-cons (λ (u : Taken). IsOcc v.lanes v.zones u.at) t [] of (All-nil (λ (u : Taken). IsOcc v.lanes v.zones u.at));
+        small = All-cons (λ (u : Taken). u.bits < 2 ^ 64) t [] small (All-nil (λ (u : Taken). u.bits < 2 ^ 64));
+        some = All-cons (λ (u : Taken). u.bits ≢ 0) t [] some (All-nil (λ (u : Taken). u.bits ≢ 0));
+      })
+
+  bit_of_pool : (c index : ℕ) (blocks : List Taken) → c < 64 * v.zones → index < 64
+      → blocks ≡ record { at = Run (8 * chunk_word v.lanes c); bits = bit_not w64 (2 ^ 64 - 1 - 2 ^ index) } ∷ [] → AreOfPool v.lanes v.zones blocks
+  bit_of_pool c index blocks inside low is =
+      let turned = turned_twice index low in
+      let small : 2 ^ index < 2 ^ 64 = pow-lt {i = index} {j = 64} low in
+      let some : 1 ≤ 2 ^ index = pow_pos index in
+      one_of_pool blocks (record { at = Run (8 * chunk_word v.lanes c); bits = bit_not w64 (2 ^ 64 - 1 - 2 ^ index) }) is
+      (omega arith, (omega arith, omega arith), omega (arith, inside))
+      (omega (arith, turned, small)) (λ zero. omega (arith, turned, some, zero))
+
+  row_of_pool : (c chunks descriptor : ℕ) (blocks : List Taken) → c < 64 * v.zones → 1 ≤ chunks → c % 64 + chunks ≤ 64 → descriptor / 256 ≡ chunks
+      → blocks ≡ chunks_described v.lanes (descriptor_word v.lanes c) descriptor ∷ [] → AreOfPool v.lanes v.zones blocks
+  row_of_pool c chunks descriptor blocks inside some fits high is =
+      let t : Taken = record { at = Zone (c / 64); bits = chunk_bits (c % 64) chunks } in
+      let set = bit_inside (c % 64) chunks (c % 64) (omega arith) (omega (arith, some)) in
+      one_of_pool blocks t (is ∙ ap (λ (x : Taken). x ∷ []) (row_described v.lanes c chunks descriptor high)) (omega (arith, inside)) (bits_small (c % 64) chunks fits)
+      (λ zero. let none = bit_at-zero (c % 64) in let clear = sym (ap (λ n. bit_at n (c % 64)) zero) ∙ set in omega (arith, none, clear))
+
   -- ---- each of what may be published
 
   pub handed : (s : Published) → CanPublish w v.lanes v.zones s → IsHanded v s
   handed (Performs a) can =
       let tells = action_tells_none w v.lanes v.zones none a can in
       let nothing = none_telling v (entry_published v.lanes (Performs a)) tells.plain tells.no_bitmap in
-      record { allocates = no_bits (allocated_by v (entry_published v.lanes (Performs a))) nothing.0; frees = no_bits (freed_by v (entry_published v.lanes (Performs a))) nothing.1 }
+      record { allocates = no_bits (allocated_by v (entry_published v.lanes (Performs a))) nothing.0; frees = no_bits (freed_by v (entry_published v.lanes (Performs a))) nothing.1; places = none_of_pool (freed_by v (entry_published v.lanes (Performs a))) nothing.1 }
   handed (Changes (AllocatesInRun c lines index kind bytes)) can =
       let f : Final = entry_of v.lanes (AllocatesInRun c lines index kind bytes) in
       let run = run_described c lines can.0.is_run in
       let told = run_allocates v f (bitmap_of_heap f c refl run) (bitmap_plain c) (bitmap_is c run) refl in
-      record { allocates = block_bits v.lanes c index (2 ^ index) (allocated_by v f) (index_small lines index can.0.inside) refl told.0; frees = no_bits (freed_by v f) told.1 }
+      record { allocates = block_bits v.lanes c index (2 ^ index) (allocated_by v f) (index_small lines index can.0.inside) refl told.0; frees = no_bits (freed_by v f) told.1; places = none_of_pool (freed_by v f) told.1 }
   handed (Changes (FreesInRun c lines index)) can =
       let f : Final = entry_of v.lanes (FreesInRun c lines index) in
       let run = run_described c lines can.is_run in
       let told = run_frees v f (bitmap_of_heap f c refl run) (bitmap_plain c) (bitmap_is c run) refl in
       let low : index < 64 = index_small lines index can.inside in
-      record { allocates = no_bits (allocated_by v f) told.0; frees = block_bits v.lanes c index (bit_not w64 (2 ^ 64 - 1 - 2 ^ index)) (freed_by v f) low (turned_twice index low) told.1 }
+      record { allocates = no_bits (allocated_by v f) told.0; frees = block_bits v.lanes c index (bit_not w64 (2 ^ 64 - 1 - 2 ^ index)) (freed_by v f) low (turned_twice index low) told.1; places = bit_of_pool c index (freed_by v f) can.in_zones low told.1 }
   handed (Changes (AllocatesChunks c chunks kind bytes)) can =
       let f : Final = entry_of v.lanes (AllocatesChunks c chunks kind bytes) in
       let told = chunks_allocate v f (descriptor_of_heap f c refl) (descriptor_describes c) (eq-eqb ((2 + 256 * chunks) % 256) 2 (omega arith)) (ne_eqb (2 + 256 * chunks) 0 (λ zero. omega (arith, zero))) in
-      record { allocates = row_bits v.lanes c chunks (2 + 256 * chunks) (allocated_by v f) can.0.in_zone (omega arith) told.0; frees = no_bits (freed_by v f) told.1 }
+      record { allocates = row_bits v.lanes c chunks (2 + 256 * chunks) (allocated_by v f) can.0.in_zone (omega arith) told.0; frees = no_bits (freed_by v f) told.1; places = none_of_pool (freed_by v f) told.1 }
   handed (Changes (FreesChunks c chunks)) can =
       let f : Final = entry_of v.lanes (FreesChunks c chunks) in
       let is : w (descriptor_word v.lanes c) ≡ 2 + 256 * chunks = can.is_first in
@@ -155,4 +195,5 @@ module _ (o : Opening) (mem : Memory) (before : ℕ → ℕ) (flies : ℕ → Li
       let whole = whole_by_byte w v.lanes c good (omega (arith, is)) in
       let room = chunks_fit w v.lanes c (w (descriptor_word v.lanes c) / 256) good whole in
       let told = chunks_free v f (descriptor_of_heap f c refl) (descriptor_describes c) refl refl in
-      record { allocates = no_bits (allocated_by v f) told.0; frees = row_bits v.lanes c chunks (w (descriptor_word v.lanes c)) (freed_by v f) (omega (arith, room, high)) high told.1 }
+      record { allocates = no_bits (allocated_by v f) told.0; frees = row_bits v.lanes c chunks (w (descriptor_word v.lanes c)) (freed_by v f) (omega (arith, room, high)) high told.1;
+        places = row_of_pool c chunks (w (descriptor_word v.lanes c)) (freed_by v f) can.in_zones (some_of_first w v.lanes v.zones c chunks none can) (omega (arith, room, high)) high told.1 }

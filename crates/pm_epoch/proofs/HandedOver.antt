@@ -1,5 +1,5 @@
 -- As its call draws, a lane hands over what it publishes: what it allocates it no longer has reserved, and what it frees it has from then on.
-use Rattle.std.proofs.Common.{◌≡◌, ◌⊎◌, ◌↔◌, inl, inr, ⊎_elim, ℕ, ◌+◌, ◌<◌, ◌||◌, true, false, not, leb, ltb, None, All, List, [], ◌∷◌, ◌++◌, flat_map, map, slice_index, refl, sym, ap, ◌∙◌, subst, arith}
+use Rattle.std.proofs.Common.{◌≡◌, ◌≢◌, ◌⊎◌, ◌↔◌, inl, inr, ⊎_elim, ℕ, ◌+◌, ◌^◌, ◌<◌, ◌||◌, true, false, not, leb, ltb, None, All, List, [], ◌∷◌, ◌++◌, flat_map, map, slice_index, refl, sym, ap, ◌∙◌, subst, arith}
 use Rattle.std.specs.List.{list_any}
 use Rattle.std.proofs.lemmas.Bool.{and_from, cases_Bool, cond-false, cond-true, false≢true, le-leb, lt-ltb, or_cases, or_left, or_parts, or_right}
 use Rattle.std.proofs.lemmas.List.Elements.{All-append, All-head, All-nil, All-tail, All-weaker}
@@ -32,6 +32,7 @@ use Rattle.pm_crash.proofs.AloneCourse.{StandsAlone, stands_at}
 use Rattle.pm_crash.proofs.AloneMemory.{memory_of}
 use Rattle.pm_crash.proofs.OneChange.{freed_chunks, freed_in_run}
 use Rattle.pm_crash.proofs.TakenChanges.{chunks_give, freed_takes}
+use Rattle.pm_reclaim.specs.Reclaims.{AreOfPool}
 use Rattle.pm_epoch.specs.Epochs.{AllocatesOwn, HandsOver, HasEntriesFor, SomeAllocates, SomeFrees}
 use Rattle.pm_epoch.proofs.EntryBits.{HaveBits, none_aside}
 use Rattle.pm_epoch.proofs.HandedEntries.{IsHanded, MakesFree, MakesTaken, handed}
@@ -104,6 +105,20 @@ module _ (v : View) (last : Final) (aside : is_of_heap v last ≡ false) where
       by_kind (Performs action) at bit = ((λ is. ⊎_elim (λ (never : ⊥). absurd never) (λ (later : SomeFrees v.lanes all at bit). later) is), (λ later. inr later))
       by_kind (Changes change) at bit = ((λ is. is), (λ is. is))
 
+  all_of_pool : (all : List Published) → All (IsHanded v) all → AreOfPool v.lanes v.zones (flat_map (freed_by v) (map (entry_published v.lanes) all ++ last ∷ []))
+  all_of_pool [] each = subst (λ (xs : List Taken). AreOfPool v.lanes v.zones (xs ++ [])) (sym (none_aside v last aside).1)
+      (record { of_pool = All-nil (λ (t : Taken). IsOcc v.lanes v.zones t.at); small = All-nil IsWordOfBits; some = All-nil (λ (t : Taken). t.bits ≢ 0) })
+  all_of_pool (s ∷ all) each =
+      let these : List Taken = freed_by v (entry_published v.lanes s) in
+      let rest : List Taken = flat_map (freed_by v) (map (entry_published v.lanes) all ++ last ∷ []) in
+      let first = (All-head (IsHanded v) s all each).places in
+      let others = all_of_pool all (All-tail (IsHanded v) s all each) in
+      record {
+        of_pool = All-append (λ (t : Taken). IsOcc v.lanes v.zones t.at) these rest first.of_pool others.of_pool;
+        small = All-append (λ (t : Taken). t.bits < 2 ^ 64) these rest first.small others.small;
+        some = All-append (λ (t : Taken). t.bits ≢ 0) these rest first.some others.some;
+      }
+
 -- ---- what is freed was taken
 
 module _ (w : ℕ → ℕ) (lanes zones : ℕ) (no_fault : heap_fault w lanes zones ≡ None) where
@@ -150,6 +165,11 @@ module _ (o : Opening) (header : Header) (pool before now : PoolView) (start v :
 
   freed : HaveBits (flat_map (freed_by v) v.log.entries) (SomeFrees v.lanes all)
   freed = subst (λ (entries : List Final). HaveBits (flat_map (freed_by v) entries) (SomeFrees v.lanes all)) (sym has.entries) (all_free v last aside all each)
+
+  -- all of which is of the pool
+  pub freed_of_pool : (n : ℕ) → AreOfPool v.lanes v.zones (after v (Draw n)).freed
+  freed_of_pool n = subst (AreOfPool v.lanes v.zones) (sym (freed_drawn v n fits.blocks.freed))
+      (subst (λ (entries : List Final). AreOfPool v.lanes v.zones (flat_map (freed_by v) entries)) (sym has.entries) (all_of_pool v last aside all each))
 
   -- and the view as it has drawn
   module _ (n : ℕ) where

@@ -27,9 +27,10 @@ use Rattle.pm_crash.proofs.AloneMemory.{memory_of}
 use Rattle.pm_crash.proofs.Continued.{two_same}
 use Rattle.pm_sealed.specs.Sealed.{Publishes, is_publishing}
 use Rattle.pm_sealed.proofs.EndedLog as ended_log
+use Rattle.pm_reclaim.specs.Reclaims.{AreOfPool}
 use Rattle.pm_epoch.specs.Epochs.{HasEnded, HasEntriesFor, HasSameHeap, IsPublishing, LoadsNoneOf, MayPublish, PromisesTaken, ReservesNoRun}
 use Rattle.pm_epoch.proofs.PublishingCalls.{alone, base, before, few, fits, has, heap, lane, led, may, newest, own, stands}
-use Rattle.pm_epoch.proofs.HandedOver.{allocated, hands_over, reserved_drawn}
+use Rattle.pm_epoch.proofs.HandedOver.{allocated, freed_of_pool, hands_over, reserved_drawn}
 use Rattle.pm_epoch.proofs.HeldBehindLog.{holds_behind}
 use Rattle.pm_epoch.proofs.KnowingLanes.{knows_at_work, none_freed}
 use Rattle.pm_epoch.proofs.LeftBlocks.{IsWordOfBits, left_all, left_small}
@@ -176,6 +177,8 @@ module _ (o : Opening) (header : Header) (pool : PoolView) (u : View) (n : ℕ) 
     idle = empty_along b call.log_steps w (λ idle. absurd (false≢true (ap is_publishing (sym idle) ∙ ap is_publishing may_now.seal.drawn))) call.publishes over;
     of_pool = subst (All (λ (t : Taken). IsOcc o.lanes o.zones t.at)) (sym same_heap.reserved) of_pool_still;
     small = subst (All (λ (t : Taken). t.bits < 2 ^ 64)) (sym same_heap.reserved) small_still;
+    freed_of_pool = subst (AreOfPool o.lanes o.zones) (sym same_heap.freed) (two_same (λ a c. AreOfPool a c b.freed) u.lanes o.lanes u.zones o.zones own_fits_now.lane.lanes own_fits_now.lane.zones
+        (freed_of_pool o header pool before_it its_base call.start u call.steps all call.works its_entries n));
     taken = knows_behind b w header before_it its_base all call.log_steps may_now is_alone call.publishes over promised;
     within = within;
     of_header = own_lane.pool ∙ (ap (λ (x : View). x.pool) (sym (stands o header pool u n all w call).here) ∙ (stands o header pool u n all w call).goes.of_pool);

@@ -38,6 +38,7 @@ module _ (o : Opening) (header : Header) (pool : PoolView) where
       idle = ended.idle;
       of_pool = ended.of_pool;
       small = ended.small;
+      freed_of_pool = ended.freed_of_pool;
       taken = record { pages = ended.taken.pages; zone_count = ended.taken.zone_count; bits = ended.taken.bits; apart = ended.taken.apart };
       within = ended.within;
       of_header = ended.of_header;
@@ -109,10 +110,9 @@ module _ (o : Opening) (header : Header) (pool : PoolView) where
   pub ended_reclaimed : (v w : View) → HasEnded o header pool v → v.locks ≡ [] → Reclaims v w → HasEnded o header pool w
   ended_reclaimed v w ended free reclaims = ended_behind v w reclaims.steps ended free reclaims.leads reclaims.only
 
-  pub begins_reclaimed : (v w : View) → HasEnded o header pool v → v.zone_locks ≡ [] → v.locks ≡ [] → AreOfPool v.lanes v.zones v.freed → Reclaims v w → HasNothingLeft w → BeginsAgain (standing o w) header pool w
-  begins_reclaimed v w ended unlocked free of_pool reclaims left =
+  pub begins_reclaimed : (v w : View) → HasEnded o header pool v → v.zone_locks ≡ [] → v.locks ≡ [] → Reclaims v w → HasNothingLeft w → BeginsAgain (standing o w) header pool w
+  begins_reclaimed v w ended unlocked free reclaims left =
       let same = reclaims.same in
-      let lanes = ap (λ (z : View). z.lanes) same in
-      let zones = ap (λ (z : View). z.zones) same in
-      ended_begins o header pool w (ended_reclaimed v w ended free reclaims) (ap (λ (z : View). z.locks) same ∙ free) (ap (λ (z : View). z.zone_locks) same ∙ unlocked)
-      (left.none_freed (subst (λ n. AreOfPool n w.zones w.freed) (sym lanes) (subst (λ n. AreOfPool v.lanes n w.freed) (sym zones) (reclaims.freed of_pool))))
+      let still = ended_reclaimed v w ended free reclaims in
+      ended_begins o header pool w still (ap (λ (z : View). z.locks) same ∙ free) (ap (λ (z : View). z.zone_locks) same ∙ unlocked)
+      (left.none_freed (subst (λ n. AreOfPool n w.zones w.freed) (sym still.lane.lanes) (subst (λ n. AreOfPool o.lanes n w.freed) (sym still.lane.zones) still.freed_of_pool)))

@@ -35,6 +35,7 @@ use Rattle.pm_crash.specs.HeapChanges.HeapChange.{AllocatesChunks, AllocatesInRu
 use Rattle.pm_crash.specs.NewObjects.{block_of_chunks, block_of_run}
 use Rattle.pm_crash.specs.Held.{HoldsImage, HoldsPool}
 use Rattle.pm_reclaim.specs.KnownTaken.{IsKept, KnowsTaken}
+use Rattle.pm_reclaim.specs.Reclaims.{AreOfPool}
 use Rattle.pm_crash.specs.Reserved.{IsBorneOut, IsReservedInChunks, IsReservedInRun}
 use Rattle.pm_crash.specs.Publishing.Published.{Changes, Performs}
 use Rattle.pm_crash.specs.Publishing.{AreInOrder, CanPublish, Published, entry_published}
@@ -218,6 +219,7 @@ pub record HasEnded (o : Opening) (header : Header) (pool : PoolView) (v : View)
   pub idle : v.log ≡ no_log Idle
   pub of_pool : All (λ (t : Taken). IsOcc o.lanes o.zones t.at) v.reserved
   pub small : All (λ (t : Taken). t.bits < 2 ^ 64) v.reserved
+  pub freed_of_pool : AreOfPool o.lanes o.zones v.freed
   pub taken : KnowsTaken v
   pub within : ForSome v.stop (λ stop. v.calls ≤ stop)
   pub of_header : v.pool ≡ header.id

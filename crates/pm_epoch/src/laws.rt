@@ -284,14 +284,14 @@ pub fn a_lane_whose_call_has_ended_begins_again()
         → BeginsAgain (standing o v) header pool v }
 {}
 
-/// A law: a lane whose call has ended, and that has no line locked, may reclaim what it has; behind that its call has ended still, and where all that it had
-/// freed was of the pool, it may begin again over its words as they stand. No code runs.
+/// A law: a lane whose call has ended, and that has no line locked, may reclaim what it has; behind that its call has ended still, and it may begin again
+/// over its words as they stand. No code runs.
 pub fn a_lane_that_reclaimed_begins_again()
     ensures may { (o : Opening) (header : Header) (pool : PoolView) (v : View) (shape : Shape) → HasEnded o header pool v → v.locks ≡ [] → IsOfShape v shape
         → MayReclaim v shape }
     ensures ended { (o : Opening) (header : Header) (pool : PoolView) (v w : View) → HasEnded o header pool v → v.locks ≡ [] → Reclaims v w → HasEnded o header pool w }
     ensures begins { (o : Opening) (header : Header) (pool : PoolView) (v w : View) → HasEnded o header pool v → v.zone_locks ≡ [] → v.locks ≡ []
-        → AreOfPool v.lanes v.zones v.freed → Reclaims v w → HasNothingLeft w → BeginsAgain (standing o w) header pool w }
+        → Reclaims v w → HasNothingLeft w → BeginsAgain (standing o w) header pool w }
 {}
 
 /// A law: a call that a lane alone published has ended at its log's end. No code runs.

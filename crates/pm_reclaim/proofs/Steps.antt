@@ -128,7 +128,7 @@ less_vacated v (Zone zone) (Run second) bits bit low one = one
 less_vacated v (Zone zone) (Zone second) bits bit low one = less_of v.zone_words zone second bits bit low one
 
 -- what is left of blocks is of the pool as they were
-left_of_pool : (at : Occ) (bits lanes zones : ℕ) → bits < 2 ^ 64 → (blocks : List Taken) → AreOfPool lanes zones blocks → AreOfPool lanes zones (without_taken at bits blocks)
+pub left_of_pool : (at : Occ) (bits lanes zones : ℕ) → bits < 2 ^ 64 → (blocks : List Taken) → AreOfPool lanes zones blocks → AreOfPool lanes zones (without_taken at bits blocks)
 left_of_pool at bits lanes zones small blocks all = record {
   of_pool = vacated_all at bits small (IsOcc lanes zones) blocks all.of_pool;
   small = vacated_small at bits small blocks all.small;
