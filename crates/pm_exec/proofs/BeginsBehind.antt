@@ -28,7 +28,7 @@ rests_behind lane w rests idle none n numbered = record {
   drained = rests.drained;
   free = rests.free;
   unlocked = none.unlocked;
-  no_run = λ page. ap (λ (reserved : List Taken). list_any (has_bit (zone_at w.lanes page) (chunk_bit w.lanes page)) reserved && is_run (slice_index w.words (descriptor_word w.lanes page))) none.nothing_reserved;
+  no_run = λ page inside. ap (λ (reserved : List Taken). list_any (has_bit (zone_at w.lanes page) (chunk_bit w.lanes page)) reserved && is_run (slice_index w.words (descriptor_word w.lanes page))) none.nothing_reserved;
   number = n;
   numbered = numbered;
 }
