@@ -195,5 +195,8 @@ module _ (o : Opening) (mem : Memory) (before : ℕ → ℕ) (flies : ℕ → Li
       let whole = whole_by_byte w v.lanes c good (omega (arith, is)) in
       let room = chunks_fit w v.lanes c (w (descriptor_word v.lanes c) / 256) good whole in
       let told = chunks_free v f (descriptor_of_heap f c refl) (descriptor_describes c) refl refl in
-      record { allocates = no_bits (allocated_by v f) told.0; frees = row_bits v.lanes c chunks (w (descriptor_word v.lanes c)) (freed_by v f) (omega (arith, room, high)) high told.1;
-        places = row_of_pool c chunks (w (descriptor_word v.lanes c)) (freed_by v f) can.in_zones (some_of_first w v.lanes v.zones c chunks none can) (omega (arith, room, high)) high told.1 }
+      record {
+        allocates = no_bits (allocated_by v f) told.0;
+        frees = row_bits v.lanes c chunks (w (descriptor_word v.lanes c)) (freed_by v f) (omega (arith, room, high)) high told.1;
+        places = row_of_pool c chunks (w (descriptor_word v.lanes c)) (freed_by v f) can.in_zones (some_of_first w v.lanes v.zones c chunks none can) (omega (arith, room, high)) high told.1;
+      }
