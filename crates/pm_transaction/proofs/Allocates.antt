@@ -52,6 +52,7 @@ use Rattle.pm_tx.proofs.GoingOn.{HasSameFields, KeepsObjects, goes_on}
 use Rattle.pm_tx.specs.AtWork.{IsAtWork}
 use Rattle.pm_transaction.proofs.Owned.{under_its_lock}
 use Rattle.pm_transaction.specs.Allocating.{MayAllocate, made_in_block}
+use Rattle.pm_transaction.proofs.NotMaking.{not_making_able}
 use Rattle.pm_transaction.specs.AtWork.{IsAtWorkWith, IsHeldFreed, LiesInReserved}
 
 -- ---- what is asked of a lane alone, from what it has at work
@@ -206,6 +207,7 @@ module _ {M : Type 0} (o : Opening) (at : M → View → Type 0) (lane : Lane M)
       lists = subst (ListsBlocks now) (sym lists_are) (of_call (blocks_in v) is.lists);
       pages = (let pages = is.pages in let same = ap (λ (b : BlockLists). length b.dropped) listed in let lanes = gains.still.lanes in let zones = gains.still.zones in omega (arith, pages, same, lanes, zones));
       alone = gains.still.same_lane.table ∙ is.alone;
+      not_making = not_making_able w lane.shape still.alone.can;
       borne_out = still.alone.borne_out;
       freed_held = subst (λ (b : BlockLists). All (IsHeldFreed next.locks.items) b.freed) (sym listed) (subst (λ ls. All (IsHeldFreed ls.items) blocks.freed) (sym fields.locks) is.freed_held);
       within = λ m there. lies_within m (Contains-push_cases (blocks_in v).made n m (subst (λ (b : CallBlocks). Contains b.made m) lists_are there));

@@ -96,6 +96,7 @@ module _ {M : Type 0} (o : Opening) (at : M → View → Type 0) (lane next : La
           lists = keeps.lists;
           pages = keeps.pages;
           alone = keeps.alone;
+          not_making = keeps.not_making;
           borne_out = keeps.borne_out;
           freed_held = subst (λ ls. All (IsHeldFreed ls.items) blocks.freed) (sym fields.locks) is.freed_held;
           within = keeps.within;

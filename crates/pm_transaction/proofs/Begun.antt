@@ -41,11 +41,12 @@ module _ {M : Type 0} (at : M → View → Type 0) (lane : Lane M) (blocks : Blo
       let same : blocks_in begun.view ≡ no_blocks = begun_none begun.view begun.call in
       record {
         begun = begun;
-        opens = λ o sound few finds pages. record {
+        opens = λ o sound few finds pages quiet. record {
           work = begun.opens o sound few finds;
           lists = subst (ListsBlocks blocks) (sym same) none;
           pages = pages;
           alone = begun.same.table ∙ alone;
+          not_making = quiet;
           borne_out = begun_borne_out begun.view begun.call;
           freed_held = none_freed lane.locks.items blocks.freed none.freed;
           within = λ n there. absurd (no_member n (subst (λ (b : CallBlocks). Contains b.made n) same there));

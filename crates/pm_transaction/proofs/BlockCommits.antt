@@ -50,12 +50,13 @@ module _ {M : Type 0} (o : Opening) (at : M → View → Type 0) (lane : Lane M)
   stays_with next locks work =
       let told : View = after v (Tell Commit None) in
       let heads : HasSameHeads v told = record { lanes = refl; zones = refl; reserved = refl; described = λ c in_pool. refl; root = refl } in
-      let keeps = keeps_told v told heads lane.locks.items blocks (kept_of o at lane blocks v is) refl (blocks_once_more v told Commit None refl) Commit None refl refl (λ root. tt) in
+      let keeps = keeps_told v told heads lane.locks.items blocks (kept_of o at lane blocks v is) refl refl (blocks_once_more v told Commit None refl) Commit None refl refl (λ root. tt) in
       record {
         work = work;
         lists = keeps.lists;
         pages = keeps.pages;
         alone = keeps.alone;
+        not_making = keeps.not_making;
         borne_out = keeps.borne_out;
         freed_held = subst (λ ls. All (IsHeldFreed ls.items) blocks.freed) (sym locks) keeps.freed_held;
         within = keeps.within;

@@ -30,7 +30,7 @@ use Rattle.pm_tx.proofs.BorneOut.{HasSameHeads, same_heads_outside}
 use Rattle.pm_tx.specs.AtWork.{IsAtWork}
 use Rattle.pm_tx.specs.Ranges.{HasAddedRange, HasReadRange, HasWrittenRange, adds_range, reads_range, writes_range}
 use Rattle.pm_transaction.proofs.GoingWith.{Keeps, keeps_told, with_lists}
-use Rattle.pm_transaction.proofs.SameReserved.{adds_leave, reads_leave, writes_leave}
+use Rattle.pm_transaction.proofs.SameHeap.{adds_leave, reads_leave, writes_leave}
 use Rattle.pm_transaction.specs.AtWork.{IsAtWorkWith}
 
 module _ {M : Type 0} (o : Opening) (at : M → View → Type 0) (next : Lane M) (blocks : BlockLists) (v : View) (keeps : Keeps next.locks.items blocks v) (inside : v.lane < v.lanes) (id : Oid) (off : ℕ) where
@@ -38,17 +38,17 @@ module _ {M : Type 0} (o : Opening) (at : M → View → Type 0) (next : Lane M)
   read_with_lists len bytes has =
       let w : View = after_all v (reads_range id off len bytes v) in
       let read : ReadsBytes v w id off len = has.read in
-      let heads : HasSameHeads v w = same_heads_outside v w inside read.tells.keeps.lanes read.tells.keeps.zones (reads_leave id off len bytes v) read.keeps.words in
+      let heads : HasSameHeads v w = same_heads_outside v w inside read.tells.keeps.lanes read.tells.keeps.zones (reads_leave id off len bytes v).reserved read.keeps.words in
       with_lists o at next blocks w has.works
-      (keeps_told v w heads next.locks.items blocks keeps (same_lane-after_all v (reads_range id off len bytes v)).table (blocks_once_more v w (Read id off len) _ read.tells.call) (Read id off len) _ read.tells.call refl (λ root. tt))
+      (keeps_told v w heads next.locks.items blocks keeps (same_lane-after_all v (reads_range id off len bytes v)).table (reads_leave id off len bytes v).zone_locks (blocks_once_more v w (Read id off len) _ read.tells.call) (Read id off len) _ read.tells.call refl (λ root. tt))
 
   pub added_with_lists : (len : ℕ) (spans : List Span) → HasAddedRange o at next v spans id off len → IsAtWorkWith o at next blocks (after_all v (adds_range spans id off len v))
   added_with_lists len spans has =
       let w : View = after_all v (adds_range spans id off len v) in
       let added : AddsRange v w id off len = has.added in
-      let heads : HasSameHeads v w = same_heads_outside v w inside added.tells.keeps.lanes added.tells.keeps.zones (adds_leave spans id off len v) added.keeps.words in
+      let heads : HasSameHeads v w = same_heads_outside v w inside added.tells.keeps.lanes added.tells.keeps.zones (adds_leave spans id off len v).reserved added.keeps.words in
       with_lists o at next blocks w has.works
-      (keeps_told v w heads next.locks.items blocks keeps (same_lane-after_all v (adds_range spans id off len v)).table (blocks_once_more v w (AddRange id off len) None added.tells.call) (AddRange id off len) None added.tells.call refl (λ root. tt))
+      (keeps_told v w heads next.locks.items blocks keeps (same_lane-after_all v (adds_range spans id off len v)).table (adds_leave spans id off len v).zone_locks (blocks_once_more v w (AddRange id off len) None added.tells.call) (AddRange id off len) None added.tells.call refl (λ root. tt))
 
   module _ (bytes : List ℕ) (has : HasWrittenRange o at next v id off bytes) where
     abbrev w : View
@@ -89,7 +89,7 @@ module _ {M : Type 0} (o : Opening) (at : M → View → Type 0) (next : Lane M)
     heads = record {
       lanes = written.tells.keeps.lanes;
       zones = written.tells.keeps.zones;
-      reserved = writes_leave id off bytes v;
+      reserved = (writes_leave id off bytes v).reserved;
       described = λ c in_pool. same_beside (descriptor_word v.lanes c) (behind_is_outside v.lane v.lanes (descriptor_word v.lanes c) inside (omega arith)) (λ there. no_descriptor (descriptor_word v.lanes c) there c refl);
       root = same_beside 64 (root_outside v.lane) (λ there. not_the_roots 64 there refl);
     } where
@@ -99,4 +99,4 @@ module _ {M : Type 0} (o : Opening) (at : M → View → Type 0) (next : Lane M)
     pub written_with_lists : IsAtWorkWith o at next blocks (after_all v (writes_range id off bytes v))
     written_with_lists =
         with_lists o at next blocks w works
-        (keeps_told v w heads next.locks.items blocks keeps (same_lane-after_all v (writes_range id off bytes v)).table (blocks_once_more v w (Write id off bytes) None written.tells.call) (Write id off bytes) None written.tells.call refl (λ root. tt))
+        (keeps_told v w heads next.locks.items blocks keeps (same_lane-after_all v (writes_range id off bytes v)).table (writes_leave id off bytes v).zone_locks (blocks_once_more v w (Write id off bytes) None written.tells.call) (Write id off bytes) None written.tells.call refl (λ root. tt))

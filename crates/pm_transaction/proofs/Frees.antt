@@ -44,6 +44,7 @@ use Rattle.pm_transaction.proofs.AtWork.{borne_told}
 use Rattle.pm_made.proofs.CallLists.{made_is}
 use Rattle.pm_transaction.proofs.GoingWith.{lies_still}
 use Rattle.pm_transaction.proofs.Owned.{behind_owned, its_block, left_here, member_passes}
+use Rattle.pm_transaction.proofs.NotMaking.{not_making_still}
 use Rattle.pm_transaction.specs.AtWork.{IsAtWorkWith, IsHeldFreed, IsUnderLock}
 use Rattle.pm_transaction.specs.Freeing.{CanFree, HasFreed, IsFreeRefused, IsOwned, lines_of}
 use Rattle.pm_transaction.specs.declared.freeing.Owned.{Owned}
@@ -148,6 +149,7 @@ module _ {M : Type 0} (o : Opening) (at : M → View → Type 0) (lane : Lane M)
         lists = subst (ListsBlocks now) (sym (blocks_once_more v told (Free id) None refl)) (of_call (blocks_in v) is.lists);
         pages = as_many ∙ is.pages;
         alone = is.alone;
+        not_making = not_making_still v told heads_told refl is.not_making;
         borne_out = borne_told v told heads_told (Free id) None refl refl (root_elsewhere (slice_index v.words) id.off can.not_root) is.borne_out;
         freed_held = subst (λ ls. All (IsHeldFreed ls.items) now.freed) (sym fields.locks) (listed_held lines held are);
         within = λ n there. lies_still v told heads_told n (is.within n (made_before n (subst (λ (b : CallBlocks). Contains b.made n) (blocks_once_more v told (Free id) None refl) there)));

@@ -25,23 +25,25 @@ use Rattle.pm_crash.specs.Reserved.{IsBorneOut, IsReservedInChunks, IsReservedIn
 use Rattle.pm_tx.proofs.BorneOut.{HasSameHeads, borne_on, borne_still}
 use Rattle.pm_tx.specs.AtWork.{IsAtWork}
 use Rattle.pm_tx.specs.Learning.{Looks}
-use Rattle.pm_transaction.specs.AtWork.{AreForPool, IsAtWorkWith, IsHeldFreed, LiesInReserved}
+use Rattle.pm_transaction.proofs.NotMaking.{not_making_still}
+use Rattle.pm_transaction.specs.AtWork.{AreForPool, IsAtWorkWith, IsHeldFreed, IsNotMaking, LiesInReserved}
 
 -- all that it has but for being at work
 pub record Keeps (locks : List HeldLock) (blocks : BlockLists) (v : View) : Type 0 where
   pub lists : ListsBlocks blocks (blocks_in v)
   pub pages : AreForPool blocks v
   pub alone : IsAlone v
+  pub not_making : IsNotMaking v
   pub borne_out : IsBorneOut v
   pub freed_held : All (IsHeldFreed locks) blocks.freed
   pub within : (n : NewObject) → Contains (blocks_in v).made n → LiesInReserved v n
 
 pub kept_of : {M : Type 0} (o : Opening) (at : M → View → Type 0) (lane : Lane M) (blocks : BlockLists) (v : View) → IsAtWorkWith o at lane blocks v → Keeps lane.locks.items blocks v
-kept_of o at lane blocks v all = record { lists = all.lists; pages = all.pages; alone = all.alone; borne_out = all.borne_out; freed_held = all.freed_held; within = all.within }
+kept_of o at lane blocks v all = record { lists = all.lists; pages = all.pages; alone = all.alone; not_making = all.not_making; borne_out = all.borne_out; freed_held = all.freed_held; within = all.within }
 
 pub with_lists : {M : Type 0} (o : Opening) (at : M → View → Type 0) (lane : Lane M) (blocks : BlockLists) (v : View) → IsAtWork o at lane v → Keeps lane.locks.items blocks v → IsAtWorkWith o at lane blocks v
 with_lists o at lane blocks v work keeps =
-    record { work = work; lists = keeps.lists; pages = keeps.pages; alone = keeps.alone; borne_out = keeps.borne_out; freed_held = keeps.freed_held; within = keeps.within }
+    record { work = work; lists = keeps.lists; pages = keeps.pages; alone = keeps.alone; not_making = keeps.not_making; borne_out = keeps.borne_out; freed_held = keeps.freed_held; within = keeps.within }
 
 -- ---- what the lane reserved
 
@@ -90,7 +92,7 @@ module _ (v w : View) (same : HasSameHeads v w) where
   lies_still n (inl run) = in_run_still n run.0 run.1
   lies_still n (inr has) = inr (in_chunks_still n has)
 
-  module _ (locks : List HeldLock) (blocks : BlockLists) (keeps : Keeps locks blocks v) (table : w.table ≡ v.table) (same_lists : blocks_in w ≡ blocks_in v) where
+  module _ (locks : List HeldLock) (blocks : BlockLists) (keeps : Keeps locks blocks v) (table : w.table ≡ v.table) (zones : w.zone_locks ≡ v.zone_locks) (same_lists : blocks_in w ≡ blocks_in v) where
     lists_still : ListsBlocks blocks (blocks_in w)
     lists_still = subst (ListsBlocks blocks) (sym same_lists) keeps.lists
 
@@ -107,6 +109,7 @@ module _ (v w : View) (same : HasSameHeads v w) where
       lists = lists_still;
       pages = pages_still;
       alone = table ∙ keeps.alone;
+      not_making = not_making_still v w same zones keeps.not_making;
       borne_out = borne_on v w same op reply call none no_root keeps.borne_out;
       freed_held = keeps.freed_held;
       within = within_still;
@@ -118,6 +121,7 @@ module _ (v w : View) (same : HasSameHeads v w) where
       lists = lists_still;
       pages = pages_still;
       alone = table ∙ keeps.alone;
+      not_making = not_making_still v w same zones keeps.not_making;
       borne_out = borne_still v w same call keeps.borne_out;
       freed_held = keeps.freed_held;
       within = within_still;
@@ -147,4 +151,4 @@ looks_keep locks blocks (suc n) v w t keeps =
     let before : Keeps locks blocks m = looks_keep locks blocks n v m t.3 keeps in
     let there : View = after m (Load t.1 t.2) in
     subst (Keeps locks blocks) (sym t.6)
-    (keeps_quiet m there (look_heads m t.1 t.2 (t.5.1 before.alone)) locks blocks before refl (same_blocks m there refl) refl)
+    (keeps_quiet m there (look_heads m t.1 t.2 (t.5.1 before.alone)) locks blocks before refl refl (same_blocks m there refl) refl)

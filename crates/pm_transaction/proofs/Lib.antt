@@ -6,7 +6,8 @@ pub mod NewReads
 pub mod NewAdds
 pub mod FilledBytes
 pub mod NewWrites
-pub mod SameReserved
+pub mod SameHeap
+pub mod NotMaking
 pub mod FoundGoing
 pub mod RangeOrigins
 pub mod RangeRefusals

@@ -39,6 +39,7 @@ use Rattle.pm_tx.specs.Ranges.{reads_range}
 use Rattle.pm_tx.specs.Sequences.{reads, word_count}
 use Rattle.pm_transaction.proofs.GoingWith.{Keeps, keeps_told, kept_of, with_lists}
 use Rattle.pm_transaction.proofs.NewRangeWords.{covered_fill, covered_in_pool, covered_is_known, quiet_word}
+use Rattle.pm_transaction.proofs.SameHeap.{reads_leave}
 use Rattle.pm_transaction.specs.AtWork.{IsAtWorkWith}
 use Rattle.pm_transaction.specs.NewRanges.{HasReadNew}
 
@@ -134,7 +135,7 @@ module _ {M : Type 0} (o : Opening) (at : M → View → Type 0) (lane : Lane M)
         opening (tell_works u (Read id off len) (Some (Bytes bytes)) made.1.working) (ap (λ (l : Log). l.entries) made.1.log ∙ all.work.no_entries) (published_once_more v w (Read id off len) _ read.tells.keeps.entries read.tells.call ∙ append-nil (published_in v))
         (new_read_goes_on v w id off len lane.level all.work.level all.work.under_way read) in
         let keeps : Keeps next.locks.items blocks w =
-        keeps_told v w heads next.locks.items blocks (subst (λ (ls : List HeldLock). Keeps ls blocks v) (ap (λ ls. ls.items) (sym fields.locks)) (kept_of o at lane blocks v all)) call.lane.table (blocks_once_more v w (Read id off len) _ read.tells.call) (Read id off len) _ read.tells.call refl (λ root. tt) in
+        keeps_told v w heads next.locks.items blocks (subst (λ (ls : List HeldLock). Keeps ls blocks v) (ap (λ ls. ls.items) (sym fields.locks)) (kept_of o at lane blocks v all)) call.lane.table (ap (λ (z : View). z.zone_locks) (sym sequence.1) ∙ (reads_leave id off len bytes v).zone_locks) (blocks_once_more v w (Read id off len) _ read.tells.call) (Read id off len) _ read.tells.call refl (λ root. tt) in
         record {
           ready = new_read_may_be_made;
           draws = drawless v (reads_range id off len bytes v) read_few;

@@ -40,6 +40,7 @@ use Rattle.pm_tx.specs.Sequences.{word_count, writes}
 use Rattle.pm_transaction.proofs.FilledBytes.{HasFilled, all_filled, filled_heads, fills_lawful}
 use Rattle.pm_transaction.proofs.GoingWith.{Keeps, keeps_told, kept_of, with_lists}
 use Rattle.pm_transaction.proofs.NewRangeWords.{covered_fill, covers_no_size, no_descriptor}
+use Rattle.pm_transaction.proofs.SameHeap.{writes_leave}
 use Rattle.pm_transaction.specs.AtWork.{IsAtWorkWith}
 use Rattle.pm_transaction.specs.NewRanges.{HasWrittenNew}
 
@@ -138,7 +139,7 @@ module _ {M : Type 0} (o : Opening) (at : M → View → Type 0) (lane : Lane M)
       (published_once_more v w (Write id off bytes) None told.tells.keeps.entries told.tells.call ∙ append-nil (published_in v))
       (new_write_goes_on v w id off lane.level bytes all.work.level all.work.under_way told) in
       let keeps : Keeps next.locks.items blocks w =
-      keeps_told v w heads next.locks.items blocks (subst (λ (ls : List HeldLock). Keeps ls blocks v) (ap (λ ls. ls.items) (sym fields.locks)) (kept_of o at lane blocks v all)) has.call.lane.table (blocks_once_more v w (Write id off bytes) None told.tells.call) (Write id off bytes) None told.tells.call refl (λ root. tt) in
+      keeps_told v w heads next.locks.items blocks (subst (λ (ls : List HeldLock). Keeps ls blocks v) (ap (λ ls. ls.items) (sym fields.locks)) (kept_of o at lane blocks v all)) has.call.lane.table (ap (λ (z : View). z.zone_locks) (sym sequence.1) ∙ (writes_leave id off bytes v).zone_locks) (blocks_once_more v w (Write id off bytes) None told.tells.call) (Write id off bytes) None told.tells.call refl (λ root. tt) in
       record {
         ready = new_write_may_be_made;
         draws = write_draws;

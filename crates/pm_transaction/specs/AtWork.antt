@@ -1,5 +1,6 @@
 -- How a lane stands between two operations of a transaction that may make and free objects: docs/MODEL.md, "Transactions that make objects".
-use Rattle.std.specs.Prelude.{◌≡◌, ◌⊎◌, ℕ, ◌+◌, ◌*◌, ◌<◌, true, All, Contains, List, Some, length}
+use Rattle.std.specs.Prelude.{◌≡◌, ◌⊎◌, ℕ, ◌+◌, ◌*◌, ◌/◌, ◌%◌, ◌<◌, true, false, All, Contains, List, [], Some, length, slice_index}
+use Rattle.pm_image.specs.Blocks.{descriptor_word}
 use Rattle.pm_layout.specs.Sizes.{blocks_of}
 use Rattle.pm_crash.specs.CallBlocks.{NewObject, blocks_in}
 use Rattle.pm_crash.specs.Reserved.{IsBorneOut, IsReservedInChunks, IsReservedInRun}
@@ -7,8 +8,11 @@ use Rattle.pm_made.specs.Made.{BlockLists, ListsBlocks}
 use Rattle.pm_made.specs.declared.objects.Freed.{Freed}
 use Rattle.pm_tx.specs.AtWork.{IsAtWork}
 use Rattle.pm_tx.specs.Learning.{Looks}
+use Rattle.pm_view.specs.declared.occ.Occ.TheVariants.{Zone}
+use Rattle.pm_view.specs.Blocks.{is_run}
 use Rattle.pm_view.specs.Founds.{IsAlone}
 use Rattle.pm_view.specs.View.{Lock, View}
+use Rattle.pm_view.specs.Views.{reserves}
 use Rattle.pm_world.specs.Opening.{Opening}
 use Rattle.pm_world.specs.declared.lane.HeldLock.{HeldLock}
 use Rattle.pm_world.specs.declared.lane.Lane.{Lane}
@@ -41,12 +45,19 @@ LiesInReserved v n = ((run : IsReservedInRun v n) × (run.index < blocks_of run.
 abbrev pub AreForPool : BlockLists → View → Type 0
 AreForPool blocks v = length blocks.dropped ≡ 1 + 2 * v.lanes + 65 * v.zones
 
--- The lane has a transaction at work, and these lists of what that made and freed; it is alone, and what it has bears out what the call told of the heap.
+-- the lane is not in the midst of making an object: it holds no zone's lock, and no chunk of the pool that it reserved is a run
+pub record IsNotMaking (v : View) : Type 0 where
+  pub unlocked : v.zone_locks ≡ []
+  pub no_run : (c : ℕ) → c < 64 * v.zones → reserves v (Zone (c / 64)) (c % 64) ≡ true → is_run (slice_index v.words (descriptor_word v.lanes c)) ≡ false
+
+-- The lane has a transaction at work, and these lists of what that made and freed; it is alone and makes no object now, and what it has bears out what the call told of the
+-- heap.
 pub record IsAtWorkWith {M : Type 0} (o : Opening) (at : M → View → Type 0) (lane : Lane M) (blocks : BlockLists) (v : View) : Type 0 where
   pub work : IsAtWork o at lane v
   pub lists : ListsBlocks blocks (blocks_in v)
   pub pages : AreForPool blocks v
   pub alone : IsAlone v
+  pub not_making : IsNotMaking v
   pub borne_out : IsBorneOut v
   -- what it found and freed it holds for writing still
   pub freed_held : All (IsHeldFreed lane.locks.items) blocks.freed

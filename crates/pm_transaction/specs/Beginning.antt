@@ -7,9 +7,10 @@ use Rattle.pm_undo.specs.Working.{FindsOpening}
 use Rattle.pm_view.specs.View.{View}
 use Rattle.pm_world.specs.Opening.{IsSound, Opening}
 use Rattle.pm_world.specs.declared.lane.Lane.{Lane}
-use Rattle.pm_transaction.specs.AtWork.{AreForPool, IsAtWorkWith}
+use Rattle.pm_transaction.specs.AtWork.{AreForPool, IsAtWorkWith, IsNotMaking}
 
 -- the transaction is open as `pm_tx` has it; and whatever the pool was opened with, the lane is at work with these lists, which are of nothing made or freed, if they are for this pool
+-- and it makes no object now
 pub record HasBegunWith {M : Type 0} (at : M → View → Type 0) (lane : Lane M) (blocks : BlockLists) (v : View) (wants : List Want) : Type 0 where
   pub begun : HasBegun at lane v wants
-  pub opens : (o : Opening) → IsSound o → o.zones ≤ 32 → FindsOpening o begun.view → AreForPool blocks begun.view → IsAtWorkWith o at lane blocks begun.view
+  pub opens : (o : Opening) → IsSound o → o.zones ≤ 32 → FindsOpening o begun.view → AreForPool blocks begun.view → IsNotMaking begun.view → IsAtWorkWith o at lane blocks begun.view

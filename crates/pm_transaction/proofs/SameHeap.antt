@@ -1,5 +1,5 @@
--- The sequences of ranges leave what a lane reserved as it was, from whatever view they are made.
-use Rattle.std.proofs.Common.{◌≡◌, ℕ, zero, suc, ◌+◌, ◌/◌, Bool, true, false, cond, eqb, ltb, List, [], ◌∷◌, map, length, slice_index, Some, None, refl, ap, ◌∙◌}
+-- The sequences of ranges leave what a lane has of the heap as it was, from whatever view they are made.
+use Rattle.std.proofs.Common.{◌≡◌, ℕ, zero, suc, ◌+◌, ◌/◌, Bool, true, false, cond, eqb, ltb, List, [], ◌∷◌, map, length, slice_index, Some, None, refl, sym, subst}
 use Rattle.pm_image.specs.Logs.{slot_line}
 use Rattle.pm_objects.specs.declared.calls.Operation.TheVariants.{AddRange, Read, Write}
 use Rattle.pm_objects.specs.declared.history.Value.TheVariants.{Bytes}
@@ -17,125 +17,127 @@ use Rattle.pm_undo.specs.Spans.{plan_of}
 use Rattle.pm_world.specs.Records.{slot_word, spelled}
 use Rattle.pm_world.specs.Sequences.{Sequence, by_lane, by_view, counted, drains, flushes, in_turn, looks, makes_room, nothing, one, settles, stores, with_word}
 use Rattle.pm_world.specs.declared.lane.Span.{Span}
+use Rattle.pm_lock.proofs.Leads.{heap_still, heap_then}
+use Rattle.pm_lock.specs.Leading.{KeepsHeap}
 use Rattle.pm_tx.specs.Ranges.{adds_range, reads_range, writes_range}
 use Rattle.pm_tx.specs.Sequences.{reads, word_count, writes, writes_word}
 
 -- it leaves it so
-abbrev pub LeavesReserved : Sequence → Type 0
-LeavesReserved steps = (v : View) → (after_all v (steps v)).reserved ≡ v.reserved
+abbrev pub LeavesHeap : Sequence → Type 0
+LeavesHeap steps = (v : View) → KeepsHeap v (after_all v (steps v))
 
-by_nothing : LeavesReserved nothing
+by_nothing : LeavesHeap nothing
 unfolding nothing after_all
-by_nothing v = refl
+by_nothing v = heap_still v
 
-by_one : (s : Step) → ((v : View) → (after v s).reserved ≡ v.reserved) → LeavesReserved (one s)
+by_one : (s : Step) → ((v : View) → KeepsHeap v (after v s)) → LeavesHeap (one s)
 unfolding one after_all
 by_one s same v = same v
 
-by_look : (w : ℕ) → LeavesReserved (looks w)
+by_look : (w : ℕ) → LeavesHeap (looks w)
 unfolding looks after_all
-by_look w v = refl
+by_look w v = record { zone_locks = refl; reserved = refl; freed = refl }
 
-by_both : (s t : Sequence) → LeavesReserved s → LeavesReserved t → LeavesReserved (in_turn s t)
+by_both : (s t : Sequence) → LeavesHeap s → LeavesHeap t → LeavesHeap (in_turn s t)
 unfolding in_turn
 by_both s t first second v =
     let m : View = after_all v (s v) in
-    ap (λ (u : View). u.reserved) (after_all-append v (s v) (t m)) ∙ (second m ∙ first v)
+    subst (KeepsHeap v) (sym (after_all-append v (s v) (t m))) (heap_then v m (after_all m (t m)) (first v) (second m))
 
-by_each : (steps : ℕ → Sequence) (n : ℕ) → ((i : ℕ) → LeavesReserved (steps i)) → LeavesReserved (counted steps n)
+by_each : (steps : ℕ → Sequence) (n : ℕ) → ((i : ℕ) → LeavesHeap (steps i)) → LeavesHeap (counted steps n)
 unfolding counted
 by_each steps zero each = by_nothing
 by_each steps (suc n) each = by_both (counted steps n) (steps n) (by_each steps n each) (each n)
 
-by_any_view : (steps : View → Sequence) → ((u : View) → LeavesReserved (steps u)) → LeavesReserved (by_view steps)
+by_any_view : (steps : View → Sequence) → ((u : View) → LeavesHeap (steps u)) → LeavesHeap (by_view steps)
 unfolding by_view
 by_any_view steps each v = each v v
 
-by_any_lane : (steps : ℕ → Sequence) → ((lane : ℕ) → LeavesReserved (steps lane)) → LeavesReserved (by_lane steps)
+by_any_lane : (steps : ℕ → Sequence) → ((lane : ℕ) → LeavesHeap (steps lane)) → LeavesHeap (by_lane steps)
 unfolding by_lane
 by_any_lane steps each = by_any_view (λ v. steps v.lane) (λ u. each u.lane)
 
-by_any_word : (w : ℕ) (steps : ℕ → Sequence) → ((x : ℕ) → LeavesReserved (steps x)) → LeavesReserved (with_word w steps)
+by_any_word : (w : ℕ) (steps : ℕ → Sequence) → ((x : ℕ) → LeavesHeap (steps x)) → LeavesHeap (with_word w steps)
 unfolding with_word
 by_any_word w steps each = by_any_view (λ u. in_turn (looks w) (steps (slice_index u.words w))) (λ u. by_both (looks w) (steps (slice_index u.words w)) (by_look w) (each (slice_index u.words w)))
 
-flushed_lines : (lines : List ℕ) (v : View) → (after_all v (map Flush lines)).reserved ≡ v.reserved
+flushed_lines : (lines : List ℕ) (v : View) → KeepsHeap v (after_all v (map Flush lines))
 unfolding after_all
-flushed_lines [] v = refl
-flushed_lines (line ∷ lines) v = flushed_lines lines (after v (Flush line))
+flushed_lines [] v = heap_still v
+flushed_lines (line ∷ lines) v = let m : View = after v (Flush line) in heap_then v m (after_all m (map Flush lines)) record { zone_locks = refl; reserved = refl; freed = refl } (flushed_lines lines m)
 
-by_flushes : LeavesReserved flushes
+by_flushes : LeavesHeap flushes
 unfolding flushes
 by_flushes v = flushed_lines (unflushed_lines v.changes) v
 
-by_drains : LeavesReserved drains
+by_drains : LeavesHeap drains
 unfolding drains after_all
 by_drains v = at (eqb (length v.changes) 0) where
-  at : (b : Bool) → (after_all v (cond b [] (Drain ∷ []))).reserved ≡ v.reserved
-  at true = refl
-  at false = refl
+  at : (b : Bool) → KeepsHeap v (after_all v (cond b [] (Drain ∷ [])))
+  at true = heap_still v
+  at false = record { zone_locks = refl; reserved = refl; freed = refl }
 
-by_settles : LeavesReserved settles
+by_settles : LeavesHeap settles
 unfolding settles
 by_settles = by_both flushes drains by_flushes by_drains
 
-by_room : LeavesReserved makes_room
+by_room : LeavesHeap makes_room
 unfolding makes_room after_all
 by_room v = at (ltb (length v.changes) max_changes) where
-  at : (b : Bool) → (after_all v (cond b [] (settles v))).reserved ≡ v.reserved
-  at true = refl
+  at : (b : Bool) → KeepsHeap v (after_all v (cond b [] (settles v)))
+  at true = heap_still v
   at false = by_settles v
 
-by_stores : (w x : ℕ) → LeavesReserved (stores w x)
+by_stores : (w x : ℕ) → LeavesHeap (stores w x)
 unfolding stores
-by_stores w x = by_both makes_room (one (Store w x)) by_room (by_one (Store w x) (λ v. refl))
+by_stores w x = by_both makes_room (one (Store w x)) by_room (by_one (Store w x) (λ v. record { zone_locks = refl; reserved = refl; freed = refl }))
 
-by_looks : (word count : ℕ) → LeavesReserved (looks_from word count)
+by_looks : (word count : ℕ) → LeavesHeap (looks_from word count)
 unfolding looks_from
 by_looks word count = by_each (λ i. looks (word + i)) count (λ i. by_look (word + i))
 
-by_slot : (lane slot : ℕ) (words : List ℕ) → LeavesReserved (writes_slot lane slot words)
+by_slot : (lane slot : ℕ) (words : List ℕ) → LeavesHeap (writes_slot lane slot words)
 unfolding writes_slot stores_from
 by_slot lane slot words =
     by_both (counted (λ i. stores (slot_word lane slot + i) (slice_index words i)) (length words)) (one (Flush (slot_line lane slot)))
-    (by_each (λ i. stores (slot_word lane slot + i) (slice_index words i)) (length words) (λ i. by_stores (slot_word lane slot + i) (slice_index words i))) (by_one (Flush (slot_line lane slot)) (λ v. refl))
+    (by_each (λ i. stores (slot_word lane slot + i) (slice_index words i)) (length words) (λ i. by_stores (slot_word lane slot + i) (slice_index words i))) (by_one (Flush (slot_line lane slot)) (λ v. record { zone_locks = refl; reserved = refl; freed = refl }))
 
-by_record : (lane generation slot : ℕ) (s : Span) → LeavesReserved (writes_record lane generation slot s)
+by_record : (lane generation slot : ℕ) (s : Span) → LeavesHeap (writes_record lane generation slot s)
 unfolding writes_record
 by_record lane generation slot s =
     by_any_view (λ v. in_turn (looks_from s.word s.count) (writes_slot lane slot (spelled generation (recorded_in v s))))
     (λ u. by_both (looks_from s.word s.count) (writes_slot lane slot (spelled generation (recorded_in u s))) (by_looks s.word s.count) (by_slot lane slot (spelled generation (recorded_in u s))))
 
-by_records : (slot : ℕ) (spans : List Span) (lane generation : ℕ) → LeavesReserved (writes_all slot spans lane generation)
+by_records : (slot : ℕ) (spans : List Span) (lane generation : ℕ) → LeavesHeap (writes_all slot spans lane generation)
 unfolding writes_all writes_records
 by_records slot spans lane generation =
     by_both (counted (λ i. writes_record lane generation (slot + i) (span_at spans i)) (length spans)) (one Drain)
-    (by_each (λ i. writes_record lane generation (slot + i) (span_at spans i)) (length spans) (λ i. by_record lane generation (slot + i) (span_at spans i))) (by_one Drain (λ v. refl))
+    (by_each (λ i. writes_record lane generation (slot + i) (span_at spans i)) (length spans) (λ i. by_record lane generation (slot + i) (span_at spans i))) (by_one Drain (λ v. record { zone_locks = refl; reserved = refl; freed = refl }))
 
-by_logs : (slot : ℕ) (spans : List Span) → LeavesReserved (logs_any slot spans)
+by_logs : (slot : ℕ) (spans : List Span) → LeavesHeap (logs_any slot spans)
 unfolding logs_any logs with_generation
 by_logs slot [] = by_nothing
 by_logs slot (s ∷ spans) =
     by_any_lane (λ lane. with_word (area_word lane) (writes_all slot (s ∷ spans) lane)) (λ lane. by_any_word (area_word lane) (writes_all slot (s ∷ spans) lane) (λ x. by_records slot (s ∷ spans) lane x))
 
-pub adds_leave : (spans : List Span) (id : Oid) (off len : ℕ) → LeavesReserved (adds_range spans id off len)
+pub adds_leave : (spans : List Span) (id : Oid) (off len : ℕ) → LeavesHeap (adds_range spans id off len)
 unfolding adds_range snapshots
 adds_leave spans id off len =
-    by_both (logs_any (length spans) (plan_of spans (id.off + off) len)) (one (Tell (AddRange id off len) None)) (by_logs (length spans) (plan_of spans (id.off + off) len)) (by_one (Tell (AddRange id off len) None) (λ v. refl))
+    by_both (logs_any (length spans) (plan_of spans (id.off + off) len)) (one (Tell (AddRange id off len) None)) (by_logs (length spans) (plan_of spans (id.off + off) len)) (by_one (Tell (AddRange id off len) None) (λ v. record { zone_locks = refl; reserved = refl; freed = refl }))
 
-pub reads_leave : (id : Oid) (off len : ℕ) (bytes : List ℕ) → LeavesReserved (reads_range id off len bytes)
+pub reads_leave : (id : Oid) (off len : ℕ) (bytes : List ℕ) → LeavesHeap (reads_range id off len bytes)
 unfolding reads_range reads
 reads_leave id off len bytes =
     by_both (looks_from ((id.off + off) / 8) (word_count (id.off + off) len)) (one (Tell (Read id off len) (Some (Bytes bytes)))) (by_looks ((id.off + off) / 8) (word_count (id.off + off) len))
-    (by_one (Tell (Read id off len) (Some (Bytes bytes))) (λ v. refl))
+    (by_one (Tell (Read id off len) (Some (Bytes bytes))) (λ v. record { zone_locks = refl; reserved = refl; freed = refl }))
 
-by_word_written : (place : ℕ) (bytes : List ℕ) (w : ℕ) → LeavesReserved (writes_word place bytes w)
+by_word_written : (place : ℕ) (bytes : List ℕ) (w : ℕ) → LeavesHeap (writes_word place bytes w)
 unfolding writes_word
 by_word_written place bytes w = by_any_word w (λ x. stores w (written_word place bytes w x)) (λ x. by_stores w (written_word place bytes w x))
 
-pub writes_leave : (id : Oid) (off : ℕ) (bytes : List ℕ) → LeavesReserved (writes_range id off bytes)
+pub writes_leave : (id : Oid) (off : ℕ) (bytes : List ℕ) → LeavesHeap (writes_range id off bytes)
 unfolding writes_range writes
 writes_leave id off bytes =
     by_both (counted (λ i. writes_word (id.off + off) bytes ((id.off + off) / 8 + i)) (word_count (id.off + off) (length bytes))) (one (Tell (Write id off bytes) None))
     (by_each (λ i. writes_word (id.off + off) bytes ((id.off + off) / 8 + i)) (word_count (id.off + off) (length bytes)) (λ i. by_word_written (id.off + off) bytes ((id.off + off) / 8 + i)))
-    (by_one (Tell (Write id off bytes) None) (λ v. refl))
+    (by_one (Tell (Write id off bytes) None) (λ v. record { zone_locks = refl; reserved = refl; freed = refl }))

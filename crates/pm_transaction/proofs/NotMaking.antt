@@ -1,0 +1,67 @@
+-- A lane that makes no object makes none behind what changes no descriptor and keeps what it has of the heap; and no chunk that it reserved is a run, by page or by number.
+use Rattle.std.proofs.Common.{◌≡◌, ⊎_elim, ℕ, ◌+◌, ◌-◌, ◌*◌, ◌/◌, ◌%◌, ◌<◌, ◌≤◌, ◌&&◌, true, false, List, [], slice_index, refl, sym, ap, ◌∙◌, subst, arith}
+use Rattle.std.specs.List.{list_any}
+use Rattle.std.proofs.lemmas.Bool.{and_from, and_parts, cases_Bool, false_from_ne_true, false≢true}
+use Rattle.pm_header.specs.declared.header.Header.{Header}
+use Rattle.pm_image.specs.Blocks.{descriptor_word}
+use Rattle.pm_layout.specs.declared.shape.Shape.{Shape}
+use Rattle.pm_objects.specs.declared.pool.PoolView.{PoolView}
+use Rattle.pm_view.specs.declared.occ.Occ.TheVariants.{Zone}
+use Rattle.pm_view.specs.Blocks.{chunk_of, is_run, zone_of, zone_page}
+use Rattle.pm_view.specs.Blocks.{descriptor_word as lane_descriptor}
+use Rattle.pm_view.specs.Steps.{Step}
+use Rattle.pm_view.specs.View.{View}
+use Rattle.pm_view.specs.Views.{chunk_bit, has_bit, has_chunk, is_made, reserves, zone_at}
+use Rattle.pm_world.specs.Heap.{BlocksFit, IsOcc}
+use Rattle.pm_world.specs.Opening.{IsChunk, Opening}
+use Rattle.pm_world.proofs.Reserved.{reserved_of_pool}
+use Rattle.pm_crash.proofs.FoundBlocks.{IsPageOf, page_of_chunk}
+use Rattle.pm_crash.proofs.NewRuns.{page_at}
+use Rattle.pm_crash.specs.Alone.{WorksAlone}
+use Rattle.pm_alloc.specs.NewObjects.{CanMakeObject}
+use Rattle.pm_epoch.proofs.FreeChunks.{no_run_reserved}
+use Rattle.pm_epoch.specs.Epochs.{ReservesNoRun}
+use Rattle.pm_tx.proofs.BorneOut.{HasSameHeads}
+use Rattle.pm_transaction.specs.AtWork.{IsNotMaking}
+
+pub not_making_still : (v w : View) → HasSameHeads v w → w.zone_locks ≡ v.zone_locks → IsNotMaking v → IsNotMaking w
+not_making_still v w same zone_locks quiet = record {
+  unlocked = zone_locks ∙ quiet.unlocked;
+  no_run = λ c in_pool has.
+      let zones = same.zones in
+      let inside : c < 64 * v.zones = omega (arith, in_pool, zones) in
+      ap is_run (ap (λ n. slice_index w.words (descriptor_word n c)) same.lanes ∙ same.described c inside) ∙ quiet.no_run c inside (ap (list_any (has_bit (Zone (c / 64)) (c % 64))) (sym same.reserved) ∙ has);
+}
+
+-- by the page of a chunk, and by its number
+pub not_making_by : (v : View) → v.zone_locks ≡ [] → ReservesNoRun v.lanes v → IsNotMaking v
+not_making_by v unlocked none = record {
+  unlocked = unlocked;
+  no_run = λ c in_pool has. false_from_ne_true (is_run (slice_index v.words (descriptor_word v.lanes c))) (λ run.
+      let page : ℕ = page_at v.lanes c in
+      let of : IsPageOf v.lanes page c = page_of_chunk v.lanes page c refl in
+      let zone : zone_of v.lanes page ≡ c / 64 = omega arith in
+      let bit : chunk_of v.lanes page - 1 ≡ c % 64 = omega arith in
+      let chunk : IsChunk v.lanes page = (omega arith, omega arith) in
+      let reserved : has_chunk v page ≡ true = (λ i. list_any (has_bit (Zone (zone i)) (bit i)) v.reserved) ∙ has in
+      let is : is_run (slice_index v.words (lane_descriptor v.lanes page)) ≡ true = ap (λ i. is_run (slice_index v.words i)) of.descriptor ∙ run in
+      false≢true (sym (none page chunk) ∙ and_from (has_chunk v page) (is_run (slice_index v.words (lane_descriptor v.lanes page))) reserved is));
+}
+
+pub not_making_able : (v : View) (shape : Shape) → CanMakeObject v shape → IsNotMaking v
+not_making_able v shape can = not_making_by v can.run.search.unlocked (no_run_reserved v can.pool.no_bitmap)
+
+pub reserves_no_run : (o : Opening) (heap : ℕ → ℕ) (v : View) → BlocksFit o heap v → v.lanes ≡ o.lanes → v.zones ≡ o.zones → IsNotMaking v → ReservesNoRun v.lanes v
+reserves_no_run o heap v fits lanes zones quiet page chunk = false_from_ne_true (is_made v page) (λ made.
+    let both = and_parts (has_chunk v page) (is_run (slice_index v.words (lane_descriptor v.lanes page))) made in
+    let zone : ℕ = zone_of v.lanes page in
+    let bit : ℕ = chunk_of v.lanes page - 1 in
+    let first = chunk.0 in let some = chunk.1 in
+    let in_pool : zone < o.zones = reserved_of_pool o heap v (Zone zone) bit fits both.0 in
+    let c : ℕ = 64 * zone + bit in
+    let low : bit < 64 = omega (arith, some) in
+    let of : IsPageOf v.lanes page c = page_of_chunk v.lanes page c (omega (arith, first, some)) in
+    let its_zone : c / 64 ≡ zone = omega (arith, low) in
+    let its_bit : c % 64 ≡ bit = omega (arith, low) in
+    let reserved : reserves v (Zone (c / 64)) (c % 64) ≡ true = (λ i. list_any (has_bit (Zone (its_zone i)) (its_bit i)) v.reserved) ∙ both.0 in
+    false≢true (sym (quiet.no_run c (omega (arith, low, in_pool, zones)) reserved) ∙ (ap (λ i. is_run (slice_index v.words i)) (sym of.descriptor) ∙ both.1)))
