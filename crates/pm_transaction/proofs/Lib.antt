@@ -33,3 +33,4 @@ pub mod CommitViews
 pub mod PublishedCommit
 pub mod EndedCommit
 pub mod BlockCommits
+pub mod EndingAlone

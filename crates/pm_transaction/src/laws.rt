@@ -1,27 +1,40 @@
 //! Laws of transactions that make and free objects, of a lane that works alone.
 
-ghost use Rattle.std.specs.Prelude.{ℕ, List, take};
+ghost use Rattle.std.specs.Prelude.{◌≡◌, ℕ, List, [], Some, take};
 ghost use Rattle.pm_header.specs.declared.header.Header.{Header};
 ghost use Rattle.pm_layout.specs.declared.shape.Shape.{Shape};
 ghost use Rattle.pm_objects.specs.declared.pool.PoolView.{PoolView};
 ghost use Rattle.pm_record.specs.declared.redo.Redo.{Redo};
+ghost use Rattle.pm_view.specs.Founds.{IsAlone};
+ghost use Rattle.pm_view.specs.Log.{no_log};
+ghost use Rattle.pm_view.specs.Log.Phase.{Idle};
 ghost use Rattle.pm_view.specs.Steps.{Step};
 ghost use Rattle.pm_view.specs.View.{View};
 ghost use Rattle.pm_view.specs.Views.{after_all};
 ghost use Rattle.pm_world.specs.Opening.{Opening};
 ghost use Rattle.pm_world.specs.Sequences.{Ready};
+ghost use Rattle.pm_world.specs.declared.lane.HeldLock.{HeldLock};
 ghost use Rattle.pm_world.specs.declared.lane.Lane.{Lane};
 ghost use Rattle.pm_world.specs.declared.lane.Span.{Span};
 ghost use Rattle.pm_alloc.specs.NewObjects.{CanMakeObject};
-ghost use Rattle.pm_crash.specs.Alone.{WorksAlone};
+ghost use Rattle.pm_crash.specs.Alone.{BeginsAgain, WorksAlone, standing};
 ghost use Rattle.pm_epoch.specs.Epochs.{HasEnded};
 ghost use Rattle.pm_made.specs.Made.{BlockLists};
+ghost use Rattle.pm_tx.specs.Ending.{IsAfterCall};
 ghost use Rattle.pm_tx.specs.Sequences.{commits};
-ghost use Rattle.pm_transaction.specs.AtWork.{IsAtWorkWith};
+ghost use Rattle.pm_transaction.specs.Allocating.{MayAllocate};
+ghost use Rattle.pm_transaction.specs.AtWork.{IsAtWorkWith, IsNotMaking};
 ghost use Rattle.pm_transaction.specs.Committing.{MayPublishBlocks};
+ghost use Rattle.pm_transaction.specs.Ending.{HasEndedWith, MayEnd};
 ghost use Rattle.pm_transaction.specs.Published.{CommitsAlone, HasDrawn, HasOwnCounts, IsCommittingAlone};
 
 use pm_world::LawfulMem;
+
+/// A law: a lane that works alone, and is at work in a transaction with its lists, may make an object there. No code runs.
+pub fn a_lane_alone_may_allocate<M: LawfulMem>()
+    ensures { (o : Opening) (header : Header) (pool : PoolView) (start v : View) (steps : List Step) (lane : Lane M) (blocks : BlockLists)
+        → WorksAlone o header pool start steps v → IsAtWorkWith o M.at lane blocks v → MayAllocate o M.at lane blocks v }
+{}
 
 /// A law: a transaction of a lane that works alone, at work with its lists of what it made and freed, may be committed with the redo entries of their blocks: the
 /// pool has room for each block, the lane may enter each entry, and its log has room for all of them and the one that ends its generation. No code runs.
@@ -43,4 +56,18 @@ pub fn a_commit_of_a_lane_alone_publishes_its_call<M: LawfulMem>()
     ensures stops { (o : Opening) (header : Header) (pool : PoolView) (start v : View) (steps : List Step) (lane : Lane M) (blocks : BlockLists) (entries : List Redo) (spans : List Span) (n made : ℕ)
         → CommitsAlone o header pool start steps M.at lane blocks v entries → Ready v (commits spans entries n v)
         → HasOwnCounts (after_all v (take made (commits spans entries n v))) → IsCommittingAlone o header pool start steps n (after_all v (take made (commits spans entries n v))) }
+{}
+
+/// A law: a lane alone, behind its call, may end the transaction, and behind that it begins again, over the words as they stand. So it is where the call's
+/// log was published, with its blocks among the rest, and holds no zone's lock; and where it works alone still, since its call was given up, or
+/// published no block. No code runs.
+pub fn a_lane_alone_that_ended_begins_again<M: LawfulMem>()
+    ensures may { (o : Opening) (header : Header) (pool : PoolView) (v : View) (lane : Lane M) → HasEnded o header pool v → IsAfterCall M.at lane v → MayEnd M.at lane v }
+    ensures begins { (o : Opening) (header : Header) (pool : PoolView) (v : View) (lane : Lane M) (locks : List HeldLock) → HasEnded o header pool v → v.zone_locks ≡ []
+        → (ended : HasEndedWith M.at lane v locks) → BeginsAgain (standing o ended.view) header pool ended.view }
+    ensures may_else { (o : Opening) (header : Header) (pool : PoolView) (start v : View) (steps : List Step) (lane : Lane M)
+        → WorksAlone o header pool start steps v → IsAlone v → IsNotMaking v → IsAfterCall M.at lane v → MayEnd M.at lane v }
+    ensures begins_else { (o : Opening) (header : Header) (pool : PoolView) (start v : View) (steps : List Step) (lane : Lane M) (locks : List HeldLock) (number : ℕ)
+        → WorksAlone o header pool start steps v → v.log ≡ no_log Idle → v.zone_locks ≡ [] → v.number ≡ Some number
+        → (ended : HasEndedWith M.at lane v locks) → BeginsAgain (standing o ended.view) header pool ended.view }
 {}
