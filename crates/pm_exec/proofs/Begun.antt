@@ -1,9 +1,8 @@
 -- What a script's begin comes to: the lane is at work over the words of the opening, or its call is refused, or it does not begin.
 use Rattle.std.specs.List.{Any}
-use Rattle.std.proofs.Common.{◌≡◌, ⊎_elim, inl, inr, ℕ, ◌<◌, ◌≤◌, Bool, true, false, All, List, [], ◌∷◌, ◌++◌, length, map, slice_index, refl, sym, ap, ◌∙◌, subst, arith}
+use Rattle.std.proofs.Common.{◌≡◌, ⊎_elim, inl, inr, ℕ, ◌≤◌, Bool, true, false, All, List, [], ◌∷◌, ◌++◌, length, map, slice_index, refl, sym, ap, ◌∙◌, subst, arith}
 use Rattle.std.proofs.lemmas.Bool.{false≢true}
-use Rattle.std.proofs.lemmas.List.Elements.{All-contains, All-nil}
-use Rattle.pm_image.specs.Logs.{generation_word}
+use Rattle.std.proofs.lemmas.List.Elements.{All-contains}
 use Rattle.pm_memory.specs.Solo.{IsGranted, Sees, Solo}
 use Rattle.pm_objects.specs.declared.history.TxErr.TheVariants as error
 use Rattle.pm_objects.specs.declared.refusal.Refusal.{Refusal}
@@ -26,7 +25,6 @@ use Rattle.pm_view.specs.Steps.Step.{Load}
 use Rattle.pm_view.specs.View.{Told, View}
 use Rattle.pm_view.specs.Views.{after, after_all, begun}
 use Rattle.pm_world.specs.Opening.{Opening}
-use Rattle.pm_world.specs.Records.{generation_of}
 use Rattle.pm_world.specs.Sequences.{Ready, Sequence, by_lane, by_view, in_turn, looks, nothing, one}
 use Rattle.pm_world.specs.declared.lane.Lane.{Lane}
 use Rattle.pm_world.specs.declared.lane.Stage.TheVariants as stage
@@ -42,10 +40,9 @@ use Rattle.pm_world.specs.Lawful.{generation_limit}
 use Rattle.pm_exec.specs.Course.{IsLineMade, IsRefusalMade, IsUsedUp, LinesMade, line_calls, IsBeginRefusal}
 use Rattle.pm_exec.specs.Progress.{AreToldDone, IsAtLine, IsGivenUpAt, IsNotDone, IsStart, IsToldDone, IsUnbegun, done, not_done, numbered, refused, values_told}
 use Rattle.pm_exec.specs.declared.calls.Names.{Names}
-use Rattle.pm_exec.proofs.Along.{lane_along}
+use Rattle.pm_exec.proofs.Along.{alone_along, lane_along}
 use Rattle.pm_exec.proofs.HeapStill.{begun_heap, nothing_still}
-use Rattle.pm_exec.specs.Founded.{IsThere}
-use Rattle.pm_exec.proofs.OpeningFound.{IsUntouched, finds_opening, untouched_along}
+use Rattle.pm_exec.proofs.Starts.{finds_led, start_alone, start_idle, start_lane, start_sound, start_zones, words_led}
 use Rattle.pm_pending.specs.declared.actions.SetAction.{SetAction}
 use Rattle.pm_crash.specs.Pending.{pending_before, pending_from, pending_told}
 use Rattle.pm_crash.proofs.PendingOn.{calls_further, pending_first, published_first, same_before}
@@ -55,17 +52,6 @@ use Rattle.pm_exec.specs.Progress.{IsPending}
 use Rattle.pm_exec.proofs.PendingLists.{uncounted_raises}
 
 module _ (o : Opening) (first : View) (lane new : Lane Solo) (actions : List SetAction) (names : Names) (is : IsStart o lane actions first) where
-  pub first_untouched : IsUntouched o first
-  first_untouched = record {
-    lanes = is.lanes_are;
-    alone = is.alone;
-    words = is.words_are;
-    locks = subst (All (IsThere o)) (sym is.rests.free) (All-nil (IsThere o));
-  }
-
-  first_generation : generation_of first ≡ generation_word o.words 0
-  first_generation = ap (λ n. slice_index first.words (area_word n)) is.of_lane ∙ ap (λ (words : List ℕ). slice_index words (area_word 0)) is.words_are
-
   -- no lock is refused
   pub not_busy : IsBusy Sees new first → ⊥
   not_busy b = refuted b.write (All-contains IsGranted b.view.seen (takes b.line b.write false) b.rests.seen.memory.alone b.refused) where
@@ -76,7 +62,7 @@ module _ (o : Opening) (first : View) (lane new : Lane Solo) (actions : List Set
   -- looks at the generation and the number keep the entries
   none_drawn : (n : ℕ) → (after_all first (starts n first)).entries ≡ first.entries
   unfolding starts sees_generation by_lane by_view looks in_turn one after_all
-  none_drawn n = ap (λ (l : Log). (begun l.phase (after first (Load (area_word first.lane) (slice_index first.words (area_word first.lane))))).entries) is.idle
+  none_drawn n = ap (λ (l : Log). (begun l.phase (after first (Load (area_word first.lane) (slice_index first.words (area_word first.lane))))).entries) (start_idle o lane actions first is)
 
   none_drawn_yet : (after_all first (sees_generation first)).entries ≡ first.entries
   unfolding sees_generation by_lane by_view looks after_all
@@ -94,7 +80,7 @@ module _ (o : Opening) (first : View) (lane new : Lane Solo) (actions : List Set
   -- what is seen of the numbers is how many it drew
   number_is : (n : ℕ) → Ready first (starts n first) → n ≡ length first.entries
   unfolding starts sees_generation by_lane by_view looks in_turn one after_all Ready
-  number_is n ready = ready.2.1 is.alone
+  number_is n ready = ready.2.1 (start_alone o lane actions first is)
 
   -- nor do they change what the lane has of the heap
   looks_heap : KeepsHeap first (after_all first (sees_generation first))
@@ -153,28 +139,27 @@ module _ (o : Opening) (first : View) (lane new : Lane Solo) (actions : List Set
     pub begun_at_line : HasBegun Sees new first wants → new.level ≡ 1 → IsAtLine o first new actions names (said ∷ []) []
     begun_at_line b level =
         let w : View = b.view in
-        let untouched : IsUntouched o w = untouched_along o first w b.led.steps b.led.leads b.led.uncounted first_untouched in
-        let lane_is : w.lane ≡ 0 = lane_along first w b.led.steps b.led.leads is.of_lane in
-        let in_lanes : w.lane < w.lanes = (let place = is.rests.place.lane in let same = b.same.lane in let lanes = b.same.lanes in omega (arith, place, same, lanes)) in
+        let words_are : w.words ≡ o.words = words_led o lane actions first is w b.led in
+        let lane_is : w.lane ≡ 0 = lane_along first w b.led.steps b.led.leads (start_lane o lane actions first is) in
         record {
           view = w;
           steps = b.led.steps;
           leads = b.led.leads;
           of_lane = lane_is;
-          alone = untouched.alone;
-          works = b.opens o is.sound is.zones (finds_opening o w untouched in_lanes);
+          alone = alone_along first w b.led.steps b.led.leads (start_alone o lane actions first is);
+          works = b.opens o (start_sound o lane actions first is) (start_zones o lane actions first is) (finds_led o lane actions first is new.memory w b.led b.seen.memory);
           has_none = nothing_still first w b.led.heap is.has_none;
           level = level;
           opens = (said, [], refl, ap stands_alone begins);
           told = subst (AreToldDone names (said ∷ [])) (sym b.call) (told_so, tt);
           gave = nothing_given w.call b.call;
           entries = b.entries;
-          generation = ap (λ n. slice_index w.words (area_word n)) lane_is ∙ ap (λ (words : List ℕ). slice_index words (area_word 0)) untouched.words;
-          words = λ i outside. ap (λ (words : List ℕ). slice_index words i) untouched.words ∙ sym (begin_writes_none (slice_index o.words) i);
+          generation = ap (λ n. slice_index w.words (area_word n)) lane_is ∙ ap (λ (words : List ℕ). slice_index words (area_word 0)) words_are;
+          words = λ i outside. ap (λ (words : List ℕ). slice_index words i) words_are ∙ sym (begin_writes_none (slice_index o.words) i);
           unraised = uncounted_raises b.led.steps b.led.uncounted;
           pending = record { are = is.pending.are ∙ sym (pending_first w (done (operation.Begin wants)) b.call ∙ same_before first w b.entries); aligned = is.pending.aligned };
           made = line_made w b.led b.entries;
-          few = (let nothing = ap logs_of (published_first w (done (operation.Begin wants)) b.call) in let none = led_stores first w b.led in let kept = led_count first w b.led in let before = idle_count first is.idle in omega (arith, nothing, none, kept, before));
+          few = (let nothing = ap logs_of (published_first w (done (operation.Begin wants)) b.call) in let none = led_stores first w b.led in let kept = led_count first w b.led in let before = idle_count first (start_idle o lane actions first is) in omega (arith, nothing, none, kept, before));
         }
 
     -- a begin that is refused changes nothing of what is pending

@@ -23,7 +23,7 @@ use Rattle.pm_exec.specs.Progress.{IsAnswered, IsHalted, IsStart, IsUnbegun}
 use Rattle.pm_exec.specs.Running.{AreEntries, HasComeTo, HasHalted, IsEntryOf, open_entry}
 use Rattle.pm_exec.specs.declared.calls.Names.{Names}
 use Rattle.pm_exec.specs.declared.running.Halt.{Halt}
-use Rattle.pm_exec.proofs.Standing.{starts_again}
+use Rattle.pm_exec.proofs.Starts.{start_lane}
 use Rattle.pm_pending.specs.declared.actions.SetAction.{SetAction}
 use Rattle.pm_exec.specs.declared.ending.CallAnswer.{CallAnswer}
 
@@ -49,13 +49,22 @@ made_then names (c ∷ calls) (h ∷ history) call d e u v w made settled is = (
 module _ (o : Opening) (first : View) (lane : Lane Solo) (actions : List SetAction) (names : Names) (calls : List (List ScriptLine)) (history : List Entry) (h : HasComeTo o first lane actions names calls history) where
   -- where those were answered, the lane may begin it
   pub begins : IsStart (standing o h.answered.view) lane actions h.answered.view
-  begins = let a = h.answered in starts_again o a.view lane actions a.founded a.rests a.idle a.has_none a.pending
+  begins =
+      let a = h.answered in
+      record {
+        rests = a.rests;
+        header = h.header;
+        pool = h.pool;
+        begins = a.called.again h.header h.pool h.begins;
+        has_none = a.has_none;
+        pending = a.pending;
+      }
 
   -- the word of its generation, as its memory has it
   generation_seen : (found : ℕ) → found ≡ slice_index lane.memory.words 512 → found ≡ generation_of h.answered.view
   generation_seen found is =
       let v : View = h.answered.view in
-      is ∙ ap (λ (words : List ℕ). slice_index words 512) (sym h.answered.rests.seen.memory.words) ∙ ap (λ (n : ℕ). slice_index v.words (area_word n)) (sym begins.of_lane)
+      is ∙ ap (λ (words : List ℕ). slice_index words 512) (sym h.answered.rests.seen.memory.words) ∙ ap (λ (n : ℕ). slice_index v.words (area_word n)) (sym (start_lane (standing o v) lane actions v begins))
 
   -- its memory has that word
   pub generation_inside : 512 < length lane.memory.words
@@ -71,7 +80,9 @@ module _ (o : Opening) (first : View) (lane : Lane Solo) (actions : List SetActi
     one_more left number e reply call fate x is settled =
         let a = h.answered in
         record {
-          opened = h.opened;
+          header = h.header;
+          pool = h.pool;
+          begins = h.begins;
           answered = record {
             view = x.view;
             called = record {
@@ -88,7 +99,6 @@ module _ (o : Opening) (first : View) (lane : Lane Solo) (actions : List SetActi
             };
             rests = x.rests;
             idle = x.idle;
-            founded = x.link.founded a.idle a.founded;
             has_none = x.has_none;
             pending = x.pending;
           };

@@ -406,7 +406,7 @@ module _ (o : Opening) (first : View) (names : Names) (all : List (List ScriptLi
             (λ (high : length history ≤ k).
             let l = long in
             let e : slice_index_or full k d ≡ flying = get_or_push history flying d k (omega (arith, high, low, l)) in
-            let works = works_where_seen (standing o before) header pool lane.memory before last s.halted.cut.steps (s.called.again header pool begins) s.halted.cut.leads s.halted.cut.seen in
+            let works = works_where_seen (standing o before) header pool lane.memory before last s.halted.cut.steps (s.called.again header pool (inl begins)) s.halted.cut.leads s.halted.cut.seen in
             ap (λ (x : Entry). is_lost x.fate) e ∙ lost_open decided ∙ ap not decides ∙ twice_not (eqb (seal_word left 0) 0 && eqb (generation_word left 0) halt.generation)
             ∙ ap (λ g. eqb (seal_word left 0) 0 && eqb (generation_word left 0) g) s.generation
             ∙ sym (ap (λ (x : Entry). loses left last x.number) e ∙ words_fate (standing o before) header pool before last s.halted.cut.steps works keep left kept (generation_of before) f.number f.drawn (flying_at last.log.phase (raised_since header pool works) f.flies)))

@@ -1,7 +1,8 @@
 -- A lane that is made over the words of a pool has made no step.
 use Rattle.std.proofs.Common.{◌%◌, [], ◌≡◌, inl, ℕ, ◌+◌, ◌-◌, ◌*◌, List, slice_index, length, take, drop, Option, refl, sym, ap, ◌∙◌, subst, arith}
 use Rattle.std.proofs.Math.Seq.{take-length}
-use Rattle.pm_layout.specs.Layout.{IsShape}
+use Rattle.pm_crash.specs.Alone.{BeginsAlone}
+use Rattle.pm_header.specs.declared.header.Header.{Header}
 use Rattle.pm_layout.specs.declared.shape.Shape.{Shape}
 use Rattle.pm_memory.proofs.Unlocked.{sees_opened}
 use Rattle.pm_memory.specs.Solo.{Sees, Solo, opened, view_of}
@@ -10,7 +11,6 @@ use Rattle.pm_occupancy.proofs.Words.{run_words_count, zone_words_count}
 use Rattle.pm_objects.specs.declared.history.TxErr.TheVariants as error
 use Rattle.pm_objects.specs.declared.pool.PoolView.{PoolView}
 use Rattle.pm_world.specs.Lanes.{IsIdle, IsOfShape, IsSeenAs}
-use Rattle.pm_world.specs.Opening.{IsSound}
 use Rattle.pm_world.specs.declared.lane.Lane.{Lane}
 use Rattle.pm_exec.specs.Openings.{first_view, opening_of}
 use Rattle.pm_exec.specs.Progress.{IsStart}
@@ -64,17 +64,22 @@ occupied_so pool words lent stop lanes zones m n run_words zone_words all same_l
       zones = (zones_are ∙ (λ j. zone_words_of (slice_index (all j)) (same_lanes j) (same_zones j))) i;
     })
 
-pub shaped_first : (pool : PoolView) (words : List ℕ) (stop : Option ℕ) (shape : Shape) → IsSound (opening_of pool words) → shape.lanes ≡ pool.lanes → shape.zones ≡ pool.zones → IsOfShape (first_view pool words stop) shape
-shaped_first pool words stop shape sound lanes zones = record { lanes = sym lanes; zones = sym zones; size = (let size = sound.size in omega (arith, size, lanes, zones)) }
+-- so long are words over which a lane begins
+pub begun_long : (pool : PoolView) (words : List ℕ) (stop : Option ℕ) → (header : Header) × BeginsAlone (opening_of pool words) header pool (first_view pool words stop)
+    → length words ≡ 512 + 1024 * pool.lanes + 33280 * pool.zones
+begun_long pool words stop begun = let bytes = begun.1.holds.has_header.has_shape.size in omega (arith, bytes)
+
+pub shaped_first : (pool : PoolView) (words : List ℕ) (stop : Option ℕ) (shape : Shape) → length words ≡ 512 + 1024 * pool.lanes + 33280 * pool.zones → shape.lanes ≡ pool.lanes → shape.zones ≡ pool.zones → IsOfShape (first_view pool words stop) shape
+shaped_first pool words stop shape size lanes zones = record { lanes = sym lanes; zones = sym zones; size = omega (arith, size, lanes, zones) }
 
 -- before the first call nothing is pending
 none_pending : (pool : PoolView) (words : List ℕ) (stop : Option ℕ) → IsPending [] (pending_before (first_view pool words stop))
 unfolding pending_from
 none_pending pool words stop = record { are = refl; aligned = All-nil (λ (a : SetAction). a.off % 8 ≡ 0) }
 
-pub is_start : (pool : PoolView) (words : List ℕ) (stop : Option ℕ) (lane : Lane Solo) → IsSound (opening_of pool words) → IsShape pool.lanes pool.zones → IsSeenAs Sees lane (first_view pool words stop) → IsIdle lane → lane.error ≡ error.None → lane.entries.items ≡ []
+pub is_start : (pool : PoolView) (words : List ℕ) (stop : Option ℕ) (lane : Lane Solo) → (header : Header) × BeginsAlone (opening_of pool words) header pool (first_view pool words stop) → IsSeenAs Sees lane (first_view pool words stop) → IsIdle lane → lane.error ≡ error.None → lane.entries.items ≡ []
     → IsStart (opening_of pool words) lane [] (first_view pool words stop)
-is_start pool words stop lane sound shape seen idle unharmed unlisted = record {
+is_start pool words stop lane begun seen idle unharmed unlisted = record {
   rests = record {
     seen = seen;
     answered = idle.answered;
@@ -84,15 +89,11 @@ is_start pool words stop lane sound shape seen idle unharmed unlisted = record {
     fresh = inl refl;
     drained = refl;
     free = refl;
-    place = record { lane = (let some = shape.lanes_from in omega (arith, some)); few = omega arith; inside = (let some = shape.lanes_from in let size = sound.size in omega (arith, some, size)) };
+    place = (let shape = begun.1.holds.has_header.has_shape in let some = shape.shape.lanes_from in let bytes = shape.size in record { lane = omega (arith, some); few = omega arith; inside = omega (arith, some, bytes) });
   };
-  idle = refl;
-  of_lane = refl;
-  alone = refl;
-  sound = sound;
-  zones = (let most = shape.zones_to in omega (arith, most));
-  lanes_are = refl;
-  words_are = refl;
+  header = begun.0;
+  pool = pool;
+  begins = inl begun.1;
   has_none = record { unlocked = refl; nothing_reserved = refl; nothing_freed = refl };
   pending = none_pending pool words stop;
 }

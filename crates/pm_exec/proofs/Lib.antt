@@ -11,9 +11,7 @@ pub mod Along
 pub mod UndrawnSteps
 pub mod PublishFront
 pub mod CommitFront
-pub mod OpeningFound
-pub mod KnownChunks
-pub mod Standing
+pub mod Starts
 pub mod CallParts
 pub mod BeginsBehind
 pub mod Links
@@ -43,4 +41,3 @@ pub mod EndedRuns
 pub mod RunEnds
 pub mod FewStores
 pub mod LineStores
-pub mod EnteredWords

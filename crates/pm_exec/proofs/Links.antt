@@ -11,7 +11,6 @@ use Rattle.pm_world.specs.declared.lane.Lane.{Lane}
 use Rattle.pm_exec.proofs.Along.{same_along}
 use Rattle.pm_exec.proofs.BeginsBehind.{begins_behind, page_behind}
 use Rattle.pm_exec.proofs.FewStores.{bounded}
-use Rattle.pm_exec.proofs.Standing.{founded_along}
 use Rattle.pm_exec.specs.Links.{IsLink}
 
 pub linked : (o : Opening) (lane : Lane Solo) (first view : View) (steps : List Step) (most : ℕ) → Leads first steps view → Sees lane.memory view → RestsBehindCall view → stores_among steps ≤ most → IsLink o first view most
@@ -19,6 +18,5 @@ linked o lane first view steps most leads seen rests few = record {
   same = same_along first view steps leads;
   again = λ header pool begins. begins_behind o header pool lane first view steps begins leads seen rests;
   page = λ header pool begins. page_behind o header pool lane first view steps begins leads seen;
-  founded = founded_along o.lanes o.zones first view steps leads;
   bound = λ drained. bounded first view most steps drained leads few;
 }

@@ -1,9 +1,9 @@
 -- A recovered image whose image before had a meaning: what its words hold, and that a lane alone begins over them.
 use Rattle.std.proofs.Common.{◌≡◌, inl, inr, ℕ, ◌+◌, ◌*◌, ◌<◌, ◌≤◌, ◌⊎◌, List, length, slice_index, Option, refl, sym, ap, ◌∙◌, subst, arith}
-use Rattle.pm_crash.proofs.Guarded.{sound_of_heap}
 use Rattle.pm_crash.proofs.HeapWordsAlone.{held_by_heap}
 use Rattle.pm_crash.specs.Alone.{BeginsAlone}
 use Rattle.pm_crash.specs.Held.{HoldsImage, HoldsPool}
+use Rattle.pm_header.specs.declared.header.Header.{Header}
 use Rattle.pm_image.proofs.FaultFree.{neither}
 use Rattle.pm_image.specs.HeapFaults.{heap_fault}
 use Rattle.pm_image.specs.LogFaults.{log_fault}
@@ -16,7 +16,6 @@ use Rattle.pm_recover.proofs.Clean.{clean}
 use Rattle.pm_recover.proofs.Meaning.{meaning_kept}
 use Rattle.pm_recover.proofs.Sound.{lanes_of_meaning, sound_if_meaning}
 use Rattle.pm_recover.specs.Recovery.{IsCleanLog, IsRecovered}
-use Rattle.pm_world.specs.Opening.{IsSound}
 use Rattle.pm_world.specs.Opens.{IsClean}
 use Rattle.pm_exec.specs.Openings.{first_view, opening_of}
 
@@ -59,11 +58,7 @@ module _ (image : List ℕ) (pool : PoolView) (is : IsMeaning image pool) (words
   pub words_hold : HoldsPool (slice_index words) pool.lanes pool.zones is.header pool
   words_hold = held_by_heap (recovered_at image pool.lanes) (slice_index words) pool.lanes pool.zones is.header pool (holds_image image pool is).holds (λ i heap. recovered.words i (outside_areas i heap))
 
-  -- blocks lie apart, whatever the slots have
-  pub sound_opened : IsSound (opening_of pool words)
-  sound_opened = sound_of_heap (opening_of pool words) words_hold.no_fault words_long (shape_of image pool is).shape.lanes_from (shape_of image pool is).shape.lanes_to
-
-  -- and a lane alone begins
+  -- a lane alone begins
   module _ (stop : Option ℕ) where
     pub means_so : IsMeaning words pool
     means_so = meaning_kept image words pool is recovered
@@ -99,3 +94,6 @@ module _ (image : List ℕ) (pool : PoolView) (is : IsMeaning image pool) (words
       of_pool = ap (λ (p : PoolView). p.id) means_so.is_pool;
       alone = refl;
     }
+
+    pub begun_alone : (header : Header) × BeginsAlone (opening_of pool words) header pool (first_view pool words stop)
+    begun_alone = (means_so.header, begins_alone)

@@ -1,14 +1,14 @@
 -- A call on pending actions outside of a transaction, by a lane that rests alone: it is answered, or refused, or the lane stops in it, or can't begin it.
-use Rattle.std.proofs.Common.{◌≡◌, ◌≢◌, ⊎_elim, inl, inr, ℕ, ◌%◌, ◌<◌, ◌≤◌, All, true, false, List, [], ◌∷◌, ◌++◌, length, map, get_or, slice_index, take, Option, None, Some, Result, Ok, Err, IfErr, OnErr, OnOk, refl, sym, ap, ◌∙◌, subst, arith}
+use Rattle.std.proofs.Common.{◌≡◌, ◌≢◌, ⊎_elim, inl, inr, ℕ, ◌%◌, ◌≤◌, All, true, false, List, [], ◌∷◌, ◌++◌, length, map, get_or, slice_index, take, Option, None, Some, Result, Ok, Err, IfErr, OnErr, OnOk, refl, sym, ap, ◌∙◌, subst, arith}
 use Rattle.std.proofs.lemmas.Option.{none-some}
 use Rattle.std.proofs.lemmas.Bool.{false≢true}
-use Rattle.pm_script.specs.Scripts.{operations}
+use Rattle.pm_script.specs.Scripts.{IsTransaction, operations}
 use Rattle.std.specs.Option.{option_map}
 use Rattle.std.specs.List.{Any}
 use Rattle.std.proofs.lemmas.List.{length-map}
 use Rattle.std.proofs.lemmas.List.Elements.{All-append, All-cons, All-nil}
 use Rattle.pm_lock.proofs.Leading.{ready_leads}
-use Rattle.pm_lock.proofs.Leads.{heap_then, led_same}
+use Rattle.pm_lock.proofs.Leads.{heap_then}
 use Rattle.pm_lock.specs.Lacking.{LacksObject}
 use Rattle.pm_lock.specs.Leading.{IsLed}
 use Rattle.pm_action.specs.Holding.{Overruns}
@@ -61,13 +61,13 @@ use Rattle.pm_exec.specs.declared.calls.Names.{Names}
 use Rattle.pm_exec.specs.declared.ending.CallAnswer.TheVariants as answer
 use Rattle.pm_exec.proofs.ActionLines.{set_taken}
 use Rattle.pm_exec.proofs.Along.{lane_along}
-use Rattle.pm_exec.proofs.Begun.{first_untouched, not_busy, spent}
+use Rattle.pm_exec.proofs.Begun.{not_busy, spent}
 use Rattle.pm_exec.proofs.ChangeLines.{front_of}
 use Rattle.pm_exec.proofs.BeginsBehind.{rests_behind}
 use Rattle.pm_exec.proofs.FewStores.{led_stores, lines_within}
 use Rattle.pm_exec.proofs.HeapStill.{heap_along, nothing_still, publishes_heapless}
 use Rattle.pm_exec.proofs.IdleNumbers.{idle_numbered}
-use Rattle.pm_exec.proofs.OpeningFound.{IsUntouched, finds_opening, untouched_along}
+use Rattle.pm_exec.proofs.Starts.{finds_led, start_idle, start_lane, start_sound, words_led}
 use Rattle.pm_exec.proofs.Links.{linked}
 use Rattle.pm_exec.proofs.PendingLists.{uncounted_raises}
 use Rattle.pm_exec.proofs.PublishFront.{publish_flies}
@@ -96,7 +96,7 @@ module _ (o : Opening) (first : View) (lane new : Lane Solo) (actions : List Set
     has_none = nothing_still first told.view told.led.heap is.has_none
 
     number : (n : ℕ) × (told.view.number ≡ Some n)
-    number = idle_numbered first told.view told.led.steps told.led.leads is.idle told.idle _ told.entries
+    number = idle_numbered first told.view told.led.steps told.led.leads (start_idle o lane actions first is) told.idle _ told.entries
 
   -- ---- an action made pending
 
@@ -148,10 +148,7 @@ module _ (o : Opening) (first : View) (lane new : Lane Solo) (actions : List Set
 
   -- wherever the lane goes on to without a counted call, it finds the pool as it was opened
   pub stays : StaysSound Sees first
-  stays memory w led seen =
-      let same = led_same first w led in
-      let in_lanes : w.lane < w.lanes = (let place = is.rests.place.lane in let lane = same.lane in let lanes = same.lanes in omega (arith, place, lane, lanes)) in
-      (o, (is.sound, finds_opening o w (untouched_along o first w led.steps led.leads led.uncounted (first_untouched o first lane new actions names is)) in_lanes))
+  stays memory w led seen = (o, (start_sound o lane actions first is, finds_led o lane actions first is memory w led seen))
 
   pub rests_soundly : RestsSoundly Sees lane
   rests_soundly = (first, (is.rests, stays))
@@ -169,10 +166,10 @@ module _ (o : Opening) (first : View) (lane new : Lane Solo) (actions : List Set
         let over : View = after_all h made in
         let published : Leads h made over = ready_leads h made b.ready b.draws in
         let leads = leads_then first over b.view (b.led.steps ++ made) b.back.steps (leads_then first h over b.led.steps made b.led.leads published) b.back.leads in
-        let at_first = lane_along first h b.led.steps b.led.leads is.of_lane in
+        let at_first = lane_along first h b.led.steps b.led.leads (start_lane o lane actions first is) in
         let heap = heap_then first over b.view (heap_then first h over b.led.heap (heap_along h over made (publishes_heapless entries operation.Publish new.last h at_first) published)) b.back.heap in
         let has_none : HasNothing b.view = nothing_still first b.view heap is.has_none in
-        let number = idle_numbered first b.view ((b.led.steps ++ made) ++ b.back.steps) leads is.idle b.idle _ b.entries in
+        let number = idle_numbered first b.view ((b.led.steps ++ made) ++ b.back.steps) leads (start_idle o lane actions first is) b.idle _ b.entries in
         record {
           view = b.view;
           steps = (b.led.steps ++ made) ++ b.back.steps;
@@ -234,13 +231,10 @@ module _ (o : Opening) (first : View) (lane new : Lane Solo) (actions : List Set
       w = after_all h (take k (steps h))
 
       lane_is : h.lane ≡ 0
-      lane_is = lane_along first h s.led.steps s.led.leads is.of_lane
-
-      untouched : IsUntouched o h
-      untouched = untouched_along o first h s.led.steps s.led.leads s.led.uncounted (first_untouched o first lane new actions names is)
+      lane_is = lane_along first h s.led.steps s.led.leads (start_lane o lane actions first is)
 
       first_generation : generation_of h ≡ generation_word o.words 0
-      first_generation = ap (λ n. slice_index h.words (area_word n)) lane_is ∙ ap (λ (words : List ℕ). slice_index words (area_word 0)) untouched.words
+      first_generation = ap (λ n. slice_index h.words (area_word n)) lane_is ∙ ap (λ (words : List ℕ). slice_index words (area_word 0)) (words_led o lane actions first is h s.led)
 
       raised : raises (take k (steps h)) ≡ raises (s.led.steps ++ take k (steps h))
       raised = let both = raises_append s.led.steps (take k (steps h)) in let none = uncounted_raises s.led.steps s.led.uncounted in omega (arith, both, none)
@@ -348,3 +342,11 @@ one_line (line ∷ lines) first (inl t) is alone =
     absurd (false≢true (sym (ap stands_alone begins) ∙ ap (λ (l : ScriptLine). stands_alone l.operation) (sym is) ∙ alone))
 one_line (line ∷ []) first (inr t) is alone = ap (λ (l : ScriptLine). l ∷ []) (sym is)
 one_line (line ∷ more ∷ lines) first (inr t) is alone = absurd (let long = ap length t.1 in omega (arith, long))
+
+-- and if they begin with one that does not, they are a transaction
+pub transaction_lines : (lines : List ScriptLine) (first : ScriptLine) → IsCall (operations lines) → first ≡ get_or lines 0 first → stands_alone first.operation ≡ false → IsTransaction (operations lines)
+transaction_lines lines first (inl t) is other = t
+transaction_lines [] first (inr t) is other = absurd (let clash = ap length t.1 in omega (arith, clash))
+transaction_lines (line ∷ lines) first (inr t) is other =
+    let says : line.operation ≡ t.0 = ap (λ (ops : List ScriptOp). get_or ops 0 op.Commit) t.1 in
+    absurd (false≢true (sym other ∙ ap (λ (l : ScriptLine). stands_alone l.operation) is ∙ ap stands_alone says ∙ t.2))

@@ -39,7 +39,7 @@ use Rattle.pm_exec.specs.Openings.{first_view, opening_of}
 use Rattle.pm_crash.specs.Leading.{Leads}
 use Rattle.pm_exec.specs.Course.{CallsMade}
 use Rattle.pm_exec.specs.Progress.{IsStart}
-use Rattle.pm_exec.specs.Running.{AreEntries, HasComeTo, HasRun, IsOpenedAs}
+use Rattle.pm_exec.specs.Running.{AreEntries, HasComeTo, HasRun}
 use Rattle.pm_exec.specs.Runs.{IsHistoryOf, LeavesReplay, MakesCalls}
 use Rattle.pm_exec.specs.Torn.{HasNoTornMatch}
 use Rattle.pm_exec.specs.declared.calls.Names.{Names}
@@ -49,42 +49,33 @@ use Rattle.pm_exec.proofs.EndedRuns.{IsCutAt, IsEnded, ended_run}
 use Rattle.pm_exec.proofs.Opened.{begins_alone, means_so, shape_of, size_of, words_long}
 use Rattle.pm_exec.proofs.RisingCalls.{call_lines_rise}
 use Rattle.pm_exec.proofs.ShownHistories.{as_many, as_many_numbered, calls_are, numbers_count, shown_replay}
-use Rattle.pm_exec.proofs.Standing.{founded_first}
 use Rattle.pm_exec.proofs.StoppedEnd.{within_stop}
 use Rattle.pm_exec.proofs.Untorn.{none_torn_where_stopped}
-use Rattle.pm_occupancy.proofs.Words.{words_are_occupancy, zone_words_count}
-use Rattle.pm_occupancy.specs.Words.{run_words_of, zone_words_of}
-use Rattle.pm_view.specs.Occupancy.{IsOccupancy}
 
 -- before the first call none was answered
 pub run_begins : (pool : PoolView) (words : List ℕ) (stop : Option ℕ) (lane : Lane Solo) (names : Names) (history : List Entry) → history ≡ [] → IsStart (opening_of pool words) lane [] (first_view pool words stop)
     → HasComeTo (opening_of pool words) (first_view pool words stop) lane [] names [] history
 unfolding Leads CallsMade among
 run_begins pool words stop lane names history none is = record {
-  opened = opened;
+  header = is.header;
+  pool = is.pool;
+  begins = is.begins;
   answered = record {
     view = first_view pool words stop;
     called = record {
       are = subst (λ (es : List Entry). AreEntries names [] es []) (sym none) tt;
-      again = λ header pool begins. inl begins;
+      again = λ header pool begins. begins;
       page = λ header pool begins i low. refl;
       same = same_lane (first_view pool words stop);
       made = subst (λ (es : List Entry). CallsMade names [] es (first_view pool words stop) (first_view pool words stop)) (sym none) refl;
       bound = bounded (first_view pool words stop) (first_view pool words stop) 0 [] refl refl (omega arith);
     };
     rests = is.rests;
-    idle = is.idle;
-    founded = founded_first (opening_of pool words) (first_view pool words stop) opened;
+    idle = refl;
     has_none = is.has_none;
     pending = is.pending;
   };
 }
-  where
-    known : IsOccupancy (run_words_of (slice_index words) pool.lanes pool.zones) (zone_words_of (slice_index words) pool.lanes pool.zones) (slice_index words) pool.lanes pool.zones
-    known = words_are_occupancy (slice_index words) pool.lanes pool.zones is.zones
-
-    opened : IsOpenedAs (opening_of pool words) (first_view pool words stop)
-    opened = record { of_lane = is.of_lane; alone = is.alone; sound = is.sound; zones = is.zones; lanes_are = is.lanes_are; zones_are = refl; words_are = is.words_are; uncalled = refl; idle = is.idle; free = is.rests.free; nothing_reserved = refl; nothing_freed = refl; zone_count = zone_words_count (slice_index words) pool.lanes pool.zones; taken = λ zone chunk in_pool low taken. (known.chunks zone chunk in_pool low).1 taken }
 
 -- the same of names and lines that are given otherwise
 pub run_of : (o : Opening) (first : View) (lane : Lane Solo) (history : List Entry) (halt : Halt) (names other : Names) (lines script : List ScriptLine) → names ≡ other → lines ≡ script
@@ -193,7 +184,7 @@ module _ (pool : PoolView) (words : List ℕ) (stop : Option ℕ) (script : List
         here = standing o e.middle
 
         again : Begins here header pool e.middle
-        again = e.called.again header pool begins
+        again = e.called.again header pool (inl begins)
 
         works : WorksAlone here header pool e.middle e.link e.last
         works = works_where_seen here header pool lane.memory e.middle e.last e.link again e.linked e.seen
@@ -212,7 +203,7 @@ module _ (pool : PoolView) (words : List ℕ) (stop : Option ℕ) (script : List
         meant = calls_meant here header pool e.middle e.last e.link works keep left image_kept torn
 
         page : (i : ℕ) → i < 512 → slice_index left i ≡ slice_index words i
-        page i low = header_stays here header pool e.middle e.last e.link works keep left image_kept i low ∙ e.called.page header pool begins i low
+        page i low = header_stays here header pool e.middle e.last e.link works keep left image_kept i low ∙ e.called.page header pool (inl begins) i low
 
         left_long : length left ≡ 512 + 1024 * pool.lanes + 33280 * pool.zones
         left_long = size_stays here header pool e.middle e.last e.link works keep left image_kept ∙ e.called.same.size ∙ words_long before pool means words recovered

@@ -1,7 +1,6 @@
 pub mod Bounds
 pub mod Calls
 pub mod Course
-pub mod Founded
 pub mod Links
 pub mod Histories
 pub mod Opening

@@ -4,12 +4,9 @@ use Rattle.pm_crash.specs.Alone.{Begins, standing}
 use Rattle.pm_header.specs.declared.header.Header.{Header}
 use Rattle.pm_objects.specs.declared.pool.PoolView.{PoolView}
 use Rattle.pm_view.specs.Constants.{IsSameLane}
-use Rattle.pm_view.specs.Log.{no_log}
-use Rattle.pm_view.specs.Log.Phase.{Idle}
 use Rattle.pm_view.specs.View.{View}
 use Rattle.pm_world.specs.Opening.{Opening}
 use Rattle.pm_exec.specs.Bounds.{IsBounded}
-use Rattle.pm_exec.specs.Founded.{IsFounded}
 
 -- From the first view, with the pool as it stands there, a call led the lane to the other, with at most so many stores. Wherever the lane began, it begins
 -- again behind the call, over the words as they stand, which have the same header page.
@@ -17,5 +14,4 @@ pub record IsLink (o : Opening) (first view : View) (most : ℕ) : Type 0 where
   pub same : IsSameLane first view
   pub again : (header : Header) (pool : PoolView) → Begins o header pool first → Begins (standing o view) header pool view
   pub page : (header : Header) (pool : PoolView) → Begins o header pool first → (i : ℕ) → i < 512 → slice_index view.words i ≡ slice_index o.words i
-  pub founded : first.log ≡ no_log Idle → IsFounded o.lanes o.zones first → IsFounded o.lanes o.zones view
   pub bound : first.changes ≡ [] → IsBounded first view most

@@ -1,10 +1,11 @@
 -- How far a call of a run has come: for the crate's own functions.
 use Rattle.std.specs.Prelude.{◌≡◌, ◌⊎◌, ℕ, ◌+◌, ◌≤◌, false, List, [], ◌∷◌, ◌++◌, map, slice_index, take, Option, None, Some, Result, Ok, Err, ⊤}
 use Rattle.std.specs.List.{AllZip}
-use Rattle.pm_crash.specs.Alone.{raises}
+use Rattle.pm_crash.specs.Alone.{Begins, raises}
 use Rattle.pm_crash.specs.Leading.{Leads}
 use Rattle.pm_crash.specs.Pending.{pending_before, pending_in, published_in, told_of as model_told}
 use Rattle.pm_epoch.specs.Epochs.{RestsBehindCall}
+use Rattle.pm_header.specs.declared.header.Header.{Header}
 use Rattle.pm_image.specs.Logs.{generation_word}
 use Rattle.pm_memory.specs.Solo.{Sees, Solo}
 use Rattle.pm_model.specs.Checks.{is_action}
@@ -18,6 +19,7 @@ use Rattle.pm_objects.specs.declared.history.TxErr.TheVariants as error
 use Rattle.pm_objects.specs.declared.history.Value.{Value}
 use Rattle.pm_objects.specs.declared.history.Value.TheVariants.{Bytes, Refused}
 use Rattle.pm_objects.specs.declared.ids.Oid.{Oid}
+use Rattle.pm_objects.specs.declared.pool.PoolView.{PoolView}
 use Rattle.pm_objects.specs.declared.refusal.Refusal.{Refusal}
 use Rattle.pm_objects.specs.declared.refusal.Refusal.TheVariants as refusal
 use Rattle.pm_script.specs.declared.script.ScriptLine.{ScriptLine}
@@ -40,7 +42,7 @@ use Rattle.pm_view.specs.Log.Phase.{Applying, Clearing, Drawn, Idle, Retiring, S
 use Rattle.pm_view.specs.Steps.{Step}
 use Rattle.pm_view.specs.View.{Numbered, Told, View}
 use Rattle.pm_view.specs.Views.{after_all}
-use Rattle.pm_world.specs.Opening.{IsSound, Opening}
+use Rattle.pm_world.specs.Opening.{Opening}
 use Rattle.pm_world.specs.Records.{generation_of}
 use Rattle.pm_world.specs.Sequences.{Ready}
 use Rattle.pm_world.specs.declared.lane.Lane.{Lane}
@@ -104,16 +106,12 @@ pub record HasNothing (v : View) : Type 0 where
   pub nothing_reserved : v.reserved ≡ []
   pub nothing_freed : v.freed ≡ []
 
--- the lane rests, alone, before a call: o is the pool as it stands
+-- the lane rests before a call, where it begins: o is the pool as it stands
 pub record IsStart (o : Opening) (lane : Lane Solo) (actions : List SetAction) (v : View) : Type 0 where
   pub rests : IsAtRest Sees lane v
-  pub idle : v.log ≡ no_log Idle
-  pub of_lane : v.lane ≡ 0
-  pub alone : IsAlone v
-  pub sound : IsSound o
-  pub zones : o.zones ≤ 32
-  pub lanes_are : v.lanes ≡ o.lanes
-  pub words_are : v.words ≡ o.words
+  pub header : Header
+  pub pool : PoolView
+  pub begins : Begins o header pool v
   pub has_none : HasNothing v
   pub pending : IsPending actions (pending_before v)
 

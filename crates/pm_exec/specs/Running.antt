@@ -1,6 +1,6 @@
 -- How far a run has come, call by call: for the crate's own functions.
-use Rattle.std.specs.Prelude.{◌≡◌, ◌⊎◌, ℕ, ◌≤◌, ◌%◌, ◌^◌, List, [], ◌∷◌, ◌++◌, slice_index, Option, None, Some, ⊤, length, ◌<◌}
-use Rattle.pm_crash.specs.Alone.{Begins, BeginsAlone, standing}
+use Rattle.std.specs.Prelude.{◌≡◌, ◌⊎◌, ℕ, ◌%◌, ◌^◌, List, [], ◌∷◌, ◌++◌, slice_index, Option, None, Some, ⊤, ◌<◌}
+use Rattle.pm_crash.specs.Alone.{Begins, standing}
 use Rattle.pm_header.specs.declared.header.Header.{Header}
 use Rattle.pm_memory.specs.Solo.{Sees, Solo}
 use Rattle.pm_objects.specs.declared.history.Entry.{Entry}
@@ -14,14 +14,12 @@ use Rattle.pm_view.specs.Constants.{IsSameLane}
 use Rattle.pm_view.specs.Log.{no_log}
 use Rattle.pm_view.specs.Log.Phase.{Idle}
 use Rattle.pm_view.specs.View.{Numbered, View}
-use Rattle.pm_view.specs.Founds.{IsAlone}
-use Rattle.pm_world.specs.Opening.{IsSound, Opening}
+use Rattle.pm_world.specs.Opening.{Opening}
 use Rattle.pm_world.specs.Records.{generation_of}
 use Rattle.pm_world.specs.declared.lane.Lane.{Lane}
 use Rattle.pm_exec.specs.Bounds.{IsBounded, stores_of_calls}
 use Rattle.pm_exec.specs.Calls.{call_of, numbers_of}
 use Rattle.pm_exec.specs.Course.{CallsMade}
-use Rattle.pm_exec.specs.Founded.{IsFounded, KnowsTaken}
 use Rattle.pm_exec.specs.Histories.{settled_fate}
 use Rattle.pm_exec.specs.Progress.{HasNothing, IsPending, HasEnded, IsHalted, IsUnbegun}
 use Rattle.pm_exec.specs.declared.calls.Names.{Names}
@@ -44,29 +42,12 @@ AreEntries names [] [] [] = ⊤
 AreEntries names (call ∷ calls) (e ∷ history) (n ∷ entries) = IsEntryOf names call e n × AreEntries names calls history entries
 AreEntries names calls history entries = ⊥
 
--- the view of lane 0, alone, over the words of a sound pool, before its first call
-pub record IsOpenedAs (o : Opening) (v : View) : Type 0 where
-  pub of_lane : v.lane ≡ 0
-  pub alone : IsAlone v
-  pub sound : IsSound o
-  pub zones : o.zones ≤ 32
-  pub lanes_are : v.lanes ≡ o.lanes
-  pub zones_are : v.zones ≡ o.zones
-  pub words_are : v.words ≡ o.words
-  pub uncalled : v.entries ≡ []
-  pub idle : v.log ≡ no_log Idle
-  pub free : v.locks ≡ []
-  pub nothing_reserved : v.reserved ≡ []
-  pub nothing_freed : v.freed ≡ []
-  pub zone_count : length v.zone_words ≡ 32
-  pub taken : KnowsTaken o v
-
--- these calls were answered, one after another from the first view, and led to this view. Where the lane began alone there, it begins here, over words
+-- these calls were answered, one after another from the first view, and led to this view. Wherever the lane began, it begins again here, over words
 -- that have the opening's header page
 pub record HasCalled (o : Opening) (first : View) (names : Names) (calls : List (List ScriptLine)) (history : List Entry) (view : View) : Type 0 where
   pub are : AreEntries names calls history view.entries
-  pub again : (header : Header) (pool : PoolView) → BeginsAlone o header pool first → Begins (standing o view) header pool view
-  pub page : (header : Header) (pool : PoolView) → BeginsAlone o header pool first → (i : ℕ) → i < 512 → slice_index view.words i ≡ slice_index o.words i
+  pub again : (header : Header) (pool : PoolView) → Begins o header pool first → Begins (standing o view) header pool view
+  pub page : (header : Header) (pool : PoolView) → Begins o header pool first → (i : ℕ) → i < 512 → slice_index view.words i ≡ slice_index o.words i
   pub same : IsSameLane first view
   pub made : CallsMade names calls history first view
   pub bound : IsBounded first view (stores_of_calls names calls)
@@ -77,13 +58,14 @@ pub record HasAnswered (o : Opening) (first : View) (lane : Lane Solo) (actions 
   pub called : HasCalled o first names calls history view
   pub rests : IsAtRest Sees lane view
   pub idle : view.log ≡ no_log Idle
-  pub founded : IsFounded o.lanes o.zones view
   pub has_none : HasNothing view
   pub pending : IsPending actions (pending_before view)
 
--- so it did over the pool from whose words the first view is
+-- so it did from where it began
 pub record HasComeTo (o : Opening) (first : View) (lane : Lane Solo) (actions : List SetAction) (names : Names) (calls : List (List ScriptLine)) (history : List Entry) : Type 0 where
-  pub opened : IsOpenedAs o first
+  pub header : Header
+  pub pool : PoolView
+  pub begins : Begins o header pool first
   pub answered : HasAnswered o first lane actions names calls history
 
 -- the entry of a call that was not answered, as lost, if it drew a number

@@ -1,11 +1,13 @@
 //! The run of a script's calls by lane 0, one after another.
 
 ghost use Rattle.std.specs.Prelude.{◌≡◌, ◌++◌, ◌∷◌, [], List, IfOk, IfSome, IfNone};
+ghost use Rattle.pm_crash.specs.Alone.{BeginsAlone};
+ghost use Rattle.pm_header.specs.declared.header.Header.{Header};
 ghost use Rattle.pm_layout.specs.Layout.{IsShape};
 ghost use Rattle.pm_script.specs.Scripts.{AreCalls, operations};
 ghost use Rattle.pm_script.specs.declared.script.ScriptLine.{ScriptLine};
 ghost use Rattle.pm_view.specs.View.{View};
-ghost use Rattle.pm_world.specs.Opening.{IsSound, Opening};
+ghost use Rattle.pm_world.specs.Opening.{Opening};
 ghost use Rattle.pm_exec.specs.Calls.{IsCall, call_lines, call_of};
 ghost use Rattle.pm_exec.specs.declared.calls.Names.{Names};
 ghost use Rattle.pm_exec.specs.Openings.{first_view, opening_of};
@@ -138,7 +140,7 @@ pub(crate) fn open_lane(
     stop: Option<u64>,
 ) -> Result<Lane<SoloMem>, AllocError>
     requires shape { IsShape pool.now.lanes pool.now.zones }
-    requires sound { IsSound (opening_of pool.now image.now) }
+    requires begins { (header : Header) × BeginsAlone (opening_of pool.now image.now) header pool.now (first_view pool.now image.now stop) }
     ensures { IfOk result (λ lane. IsStart (opening_of pool.now image.now) lane [] (first_view pool.now image.now stop)) }
 {
     let Ok(shape) = Shape::new(pool.lanes, pool.zones) else {

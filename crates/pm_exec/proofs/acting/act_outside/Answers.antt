@@ -1,5 +1,6 @@
 use Rattle.std.proofs.Common.{rules}
 use Rattle.pm_exec.proofs.OutsideLine.{cancel_acted, items_kept, publish_acted, rests_soundly, set_acted, stays}
+use Rattle.pm_exec.proofs.Starts.{start_alone}
 use Rattle.pm_exec.proofs.acting.act_outside.Goals as goal
 
 pub publish-requires-clause-rests : goal.publish-requires-clause-rests
@@ -21,8 +22,8 @@ returns-in-Publish c o first is =
     let e = c.publish.ensures in
     let sound = stays o first c.args.lane.now c.publish.new.lane c.args.actions.now.items c.args.names is in
     publish_acted o first c.args.lane.now c.publish.new.lane c.args.actions.now.items c.args.names is c.args.operation.now c.in-Publish.is c.publish.result c.publish.new.actions.items
-    (e.ends first is.rests sound is.pending.are) e.emptied (items_kept c.publish.result (λ a. a.items) c.publish.new.actions c.args.actions.now e.kept) (λ none. e.missing none first is.rests sound is.pending.are is.alone)
-    (λ past. e.past_end past first is.rests sound is.pending.are is.alone)
+    (e.ends first is.rests sound is.pending.are) e.emptied (items_kept c.publish.result (λ a. a.items) c.publish.new.actions c.args.actions.now e.kept) (λ none. e.missing none first is.rests sound is.pending.are (start_alone o c.args.lane.now c.args.actions.now.items first is))
+    (λ past. e.past_end past first is.rests sound is.pending.are (start_alone o c.args.lane.now c.args.actions.now.items first is))
 
 pub returns-in-Cancel : goal.returns-in-Cancel
 returns-in-Cancel c o first is =

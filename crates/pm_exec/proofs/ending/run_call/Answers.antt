@@ -1,10 +1,14 @@
-use Rattle.std.proofs.Common.{List, sym, subst, rules}
+use Rattle.std.proofs.Common.{List, sym, subst, rules, ◌∙◌}
 use Rattle.pm_script.specs.declared.script.ScriptLine.{ScriptLine}
 use Rattle.pm_exec.specs.Progress.{HasCome}
-use Rattle.pm_exec.proofs.OutsideLine.{one_line}
+use Rattle.pm_exec.proofs.OutsideLine.{one_line, transaction_lines}
 use Rattle.pm_exec.proofs.ending.run_call.Goals as goal
 
 pub returns-then-stands_alone : goal.returns-then-stands_alone
 returns-then-stands_alone c o first is =
     let one = one_line c.args.lines.now c.index-lines-0.result c.requires.call c.index-lines-0.is (search rules) in
     subst (λ (lines : List ScriptLine). HasCome o first c.run_outside.new.lane c.run_outside.new.actions.items c.args.names lines c.run_outside.result) (sym one) (c.run_outside.ensures o first is)
+
+pub run_transaction-requires-clause-transaction : goal.run_transaction-requires-clause-transaction
+run_transaction-requires-clause-transaction c =
+    transaction_lines c.args.lines.now c.index-lines-0.result c.requires.call c.index-lines-0.is (sym c.stands_alone.ensures ∙ c.if-stands_alone.false)

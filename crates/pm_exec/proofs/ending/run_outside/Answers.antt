@@ -1,6 +1,7 @@
-use Rattle.std.proofs.Common.{◌≢◌, Option, None, Some, ℕ, [], ◌∷◌, sym, subst, rules}
+use Rattle.std.proofs.Common.{◌≢◌, Option, None, Some, Err, ℕ, [], ◌∷◌, refl, sym, subst, rules}
+use Rattle.pm_objects.specs.declared.refusal.Refusal.{Refusal}
 use Rattle.pm_objects.specs.declared.refusal.Refusal.TheVariants as refusal
-use Rattle.pm_exec.specs.Progress.{IsAnswered, IsCut, IsHalted}
+use Rattle.pm_exec.specs.Progress.{ActedOutside, IsAnswered, IsCut, IsHalted}
 use Rattle.pm_exec.specs.declared.ending.CallAnswer.TheVariants as answer
 use Rattle.pm_exec.proofs.Closed.{halted}
 use Rattle.pm_exec.proofs.OutsideLine.{outside_answered, refused_acted, stopped_in}
@@ -19,6 +20,11 @@ returns-in-Err-Stopped c o first is =
     let cut : IsCut o first lane c.args.names (c.args.said.now ∷ []) [] = stopped_in o first lane c.act_outside.new.actions.items c.args.names c.args.said.now c.act_outside.result (search rules) (c.act_outside.ensures o first is) in
     subst (λ (number : Option ℕ). IsHalted o first lane c.args.names (c.args.said.now ∷ []) number c.reply_of-reply.result) (sym c.in_flight.ensures)
     (halted o first lane c.args.names (c.args.said.now ∷ []) [] c.reply_of-reply.result cut (search rules) c.reply_of-reply.ensures.at)
+
+pub returns-in-Err-Spent : goal.returns-in-Err-Spent
+returns-in-Err-Spent c o first is =
+    let w = c.in-Err-Spent in
+    (subst (λ (why : Refusal). ActedOutside {T = Unit {0}} o first c.act_outside.new.lane c.act_outside.new.actions.items c.args.names c.args.said.now.operation (Err why)) w.field-0-is (w.ensures o first is), refl)
 
 pub returns-in-Err : goal.returns-in-Err
 returns-in-Err c o first is =

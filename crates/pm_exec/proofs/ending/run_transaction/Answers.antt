@@ -23,3 +23,21 @@ returns-in-Err-Stopped c o first is =
     let reply = c.reply_of-in-Err-Stopped in
     halted o first c.transact.new.lane c.args.names c.args.lines.now c.transact.new.values.items reply.result
     (subst (λ (why : NotDone). IsNotDone o first c.transact.new.lane c.transact.new.actions.items c.args.names c.args.lines.now c.transact.new.values.items why) w.field-0-is (w.ensures o first is)) reply.ensures.values reply.ensures.at
+
+pub returns-in-Err-Spent : goal.returns-in-Err-Spent
+returns-in-Err-Spent c o first is =
+    let w = c.in-Err-Spent in
+    subst (λ (why : NotDone). IsNotDone o first c.transact.new.lane c.transact.new.actions.items c.args.names c.args.lines.now c.transact.new.values.items why) w.field-0-is (w.ensures o first is)
+
+pub answer-requires : goal.answer-requires
+answer-requires c =
+    let f = c.requires.first in
+    let d = c.in-Ok.ensures f.0 f.1.0 f.1.1 in
+    (f.1.0, (c.args.names, (c.args.lines.now, (d.told, (_, (c.transact.new.actions.items, d.over))))))
+
+pub answer-requires-in-Err-GivenUp : goal.answer-requires-in-Err-GivenUp
+answer-requires-in-Err-GivenUp c =
+    let f = c.requires.first in
+    let w = c.in-Err-GivenUp in
+    let g = subst (λ (why : NotDone). IsNotDone f.0 f.1.0 c.transact.new.lane c.transact.new.actions.items c.args.names c.args.lines.now c.transact.new.values.items why) w.field-0-is (w.ensures f.0 f.1.0 f.1.1) in
+    (f.1.0, (c.args.names, (c.args.lines.now, (g.told, (_, (c.transact.new.actions.items, g.over))))))

@@ -5,12 +5,12 @@ use Rattle.pm_exec.specs.Calls.{names_of}
 use Rattle.pm_exec.specs.Histories.{closed_history}
 use Rattle.pm_exec.specs.Openings.{first_view, opening_of}
 use Rattle.pm_exec.specs.Runs.{IsHistoryOf, LeavesReplay, MakesCalls}
-use Rattle.pm_exec.proofs.Opened.{sound_opened, words_long}
+use Rattle.pm_exec.proofs.Opened.{begun_alone, words_long}
 use Rattle.pm_exec.proofs.RunEnds.{run_begins, run_history, run_made, run_of, run_replay, run_size}
 use Rattle.pm_exec.proofs.executing.run.Goals as goal
 
-pub open_lane-requires-clause-sound : goal.open_lane-requires-clause-sound
-open_lane-requires-clause-sound c = let r = c.requires.recovered in sound_opened r.0 c.args.pool.now r.1.0 c.args.image.now r.1.1
+pub open_lane-requires-clause-begins : goal.open_lane-requires-clause-begins
+open_lane-requires-clause-begins c = let r = c.requires.recovered in begun_alone r.0 c.args.pool.now r.1.0 c.args.image.now r.1.1 c.args.stop
 
 pub run_all-requires-clause-start : goal.run_all-requires-clause-start
 run_all-requires-clause-start c =

@@ -2,6 +2,7 @@ use Rattle.std.proofs.Common.{ap, ◌∷◌, [], Err}
 use Rattle.pm_memory.specs.Solo.{Solo}
 use Rattle.pm_world.specs.declared.lane.Lane.{Lane}
 use Rattle.pm_exec.proofs.Begun.{begun_at_line, not_begun}
+use Rattle.pm_exec.proofs.Starts.{start_alone}
 use Rattle.pm_exec.proofs.lines.begin_with.Goals as goal
 
 pub returns-in-Ok-clause-done : goal.returns-in-Ok-clause-done
@@ -18,5 +19,5 @@ pub returns-in-Err-clause-ends : goal.returns-in-Err-clause-ends
 returns-in-Err-clause-ends c o first actions rest is =
     let b = c.requires.begins in
     rw c.not_done.ensures
-    (not_begun o first c.args.lane.now c.begin.new.lane actions c.args.names is c.args.said.now b.0 b.1.0 c.args.wants.now b.1.1 rest c.in-Err.why (λ same. c.in-Err.ensures.missing (ap Err same) first is.rests is.alone)
+    (not_begun o first c.args.lane.now c.begin.new.lane actions c.args.names is c.args.said.now b.0 b.1.0 c.args.wants.now b.1.1 rest c.in-Err.why (λ same. c.in-Err.ensures.missing (ap Err same) first is.rests (start_alone o c.args.lane.now actions first is))
     (c.in-Err.ensures.fails first is.rests) c.in-Err.ensures.leaves)

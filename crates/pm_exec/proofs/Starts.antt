@@ -1,0 +1,44 @@
+-- What a lane has where it begins, and at views that it comes to from there without a counted call.
+use Rattle.std.proofs.Common.{◌≡◌, ◌≤◌, List, ◌∙◌}
+use Rattle.pm_crash.proofs.AloneCourse.{begins_alone, begins_holds, begins_idle, begins_lane, begins_words, stands_at, stands_begun}
+use Rattle.pm_crash.proofs.SeenAlone.{works_where_seen}
+use Rattle.pm_crash.specs.Alone.{WorksAlone}
+use Rattle.pm_epoch.proofs.OpeningSeen.{finds_opening}
+use Rattle.pm_lock.proofs.LookedAlone.{led_words}
+use Rattle.pm_lock.specs.Leading.{IsLed}
+use Rattle.pm_memory.specs.Solo.{Sees, Solo}
+use Rattle.pm_pending.specs.declared.actions.SetAction.{SetAction}
+use Rattle.pm_undo.specs.Working.{FindsOpening}
+use Rattle.pm_view.specs.Founds.{IsAlone}
+use Rattle.pm_view.specs.Log.{no_log}
+use Rattle.pm_view.specs.Log.Phase.{Idle}
+use Rattle.pm_view.specs.View.{View}
+use Rattle.pm_world.specs.Opening.{IsSound, Opening}
+use Rattle.pm_world.specs.declared.lane.Lane.{Lane}
+use Rattle.pm_exec.specs.Progress.{IsStart}
+
+module _ (o : Opening) (lane : Lane Solo) (actions : List SetAction) (v : View) (is : IsStart o lane actions v) where
+  pub start_lane : v.lane ≡ 0
+  start_lane = begins_lane o is.header is.pool v is.begins
+
+  pub start_idle : v.log ≡ no_log Idle
+  start_idle = begins_idle o is.header is.pool v is.begins
+
+  pub start_alone : IsAlone v
+  start_alone = begins_alone o is.header is.pool v is.begins
+
+  pub start_zones : o.zones ≤ 32
+  start_zones = (begins_holds o is.header is.pool v is.begins).1.has_header.has_shape.shape.zones_to
+
+  -- the pool is sound
+  pub start_sound : IsSound o
+  start_sound = (stands_begun o is.header is.pool v is.begins).goes.world.sound
+
+  -- it is found so, as its words stand, wherever a memory is seen as the view
+  pub finds_led : (m : Solo) (w : View) → IsLed v w → Sees m w → FindsOpening o w
+  finds_led m w led seen =
+      let works : WorksAlone o is.header is.pool v led.steps w = works_where_seen o is.header is.pool m v w led.steps is.begins led.leads seen in
+      finds_opening o is.header is.pool w (stands_at o is.header is.pool v led.steps w is.begins led.leads works.numbered works.within)
+
+  pub words_led : (w : View) → IsLed v w → w.words ≡ o.words
+  words_led w led = led_words v w led start_alone ∙ begins_words o is.header is.pool v is.begins
