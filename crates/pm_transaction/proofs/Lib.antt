@@ -34,3 +34,4 @@ pub mod PublishedCommit
 pub mod EndedCommit
 pub mod BlockCommits
 pub mod EndingAlone
+pub mod ActionsWithLists

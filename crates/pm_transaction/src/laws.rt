@@ -1,16 +1,21 @@
 //! Laws of transactions that make and free objects, of a lane that works alone.
 
-ghost use Rattle.std.specs.Prelude.{◌≡◌, ℕ, List, [], Some, take};
+ghost use Rattle.std.specs.Prelude.{◌≡◌, ℕ, List, [], Option, Some, option_map, take};
 ghost use Rattle.pm_header.specs.declared.header.Header.{Header};
 ghost use Rattle.pm_layout.specs.declared.shape.Shape.{Shape};
+ghost use Rattle.pm_objects.specs.declared.calls.Operation.TheVariants.{SetValue};
+ghost use Rattle.pm_objects.specs.declared.history.Value.TheVariants.{Refused};
+ghost use Rattle.pm_objects.specs.declared.ids.Oid.{Oid};
 ghost use Rattle.pm_objects.specs.declared.pool.PoolView.{PoolView};
+ghost use Rattle.pm_objects.specs.declared.refusal.Refusal.{Refusal};
 ghost use Rattle.pm_record.specs.declared.redo.Redo.{Redo};
 ghost use Rattle.pm_view.specs.Founds.{IsAlone};
 ghost use Rattle.pm_view.specs.Log.{no_log};
 ghost use Rattle.pm_view.specs.Log.Phase.{Idle};
+ghost use Rattle.pm_view.specs.Steps.Step.{Tell};
 ghost use Rattle.pm_view.specs.Steps.{Step};
 ghost use Rattle.pm_view.specs.View.{View};
-ghost use Rattle.pm_view.specs.Views.{after_all};
+ghost use Rattle.pm_view.specs.Views.{after, after_all};
 ghost use Rattle.pm_world.specs.Opening.{Opening};
 ghost use Rattle.pm_world.specs.Sequences.{Ready};
 ghost use Rattle.pm_world.specs.declared.lane.HeldLock.{HeldLock};
@@ -20,6 +25,8 @@ ghost use Rattle.pm_alloc.specs.NewObjects.{CanMakeObject};
 ghost use Rattle.pm_crash.specs.Alone.{BeginsAgain, WorksAlone, standing};
 ghost use Rattle.pm_epoch.specs.Epochs.{HasEnded};
 ghost use Rattle.pm_made.specs.Made.{BlockLists};
+ghost use Rattle.pm_tx.specs.Actions.{HasCanceled, cancels};
+ghost use Rattle.pm_tx.specs.AtWork.{IsAtWork};
 ghost use Rattle.pm_tx.specs.Ending.{IsAfterCall};
 ghost use Rattle.pm_tx.specs.Sequences.{commits};
 ghost use Rattle.pm_transaction.specs.Allocating.{MayAllocate};
@@ -70,4 +77,14 @@ pub fn a_lane_alone_that_ended_begins_again<M: LawfulMem>()
     ensures begins_else { (o : Opening) (header : Header) (pool : PoolView) (start v : View) (steps : List Step) (lane : Lane M) (locks : List HeldLock) (number : ℕ)
         → WorksAlone o header pool start steps v → v.log ≡ no_log Idle → v.zone_locks ≡ [] → v.number ≡ Some number
         → (ended : HasEndedWith M.at lane v locks) → BeginsAgain (standing o ended.view) header pool ended.view }
+{}
+
+/// A law: a lane at work in a transaction with its lists has them still behind an action that `pm_tx` made pending there, or refused, and behind a cancel of what
+/// was pending: neither tells anything of the heap. No code runs.
+pub fn calls_on_actions_keep_the_lists<M: LawfulMem>()
+    ensures set { (o : Opening) (v : View) (lane next : Lane M) (blocks : BlockLists) (id : Oid) (off value : ℕ) (refused : Option Refusal) → IsAtWorkWith o M.at lane blocks v
+        → next.locks ≡ lane.locks → IsAtWork o M.at next (after v (Tell (SetValue id off value) (option_map Refused refused)))
+        → IsAtWorkWith o M.at next blocks (after v (Tell (SetValue id off value) (option_map Refused refused))) }
+    ensures canceled { (o : Opening) (v : View) (lane next : Lane M) (blocks : BlockLists) → IsAtWorkWith o M.at lane blocks v
+        → next.locks ≡ lane.locks → HasCanceled o M.at next v → IsAtWorkWith o M.at next blocks (after_all v (cancels v)) }
 {}
