@@ -23,15 +23,14 @@ use Rattle.pm_world.specs.Opening.{Opening}
 use Rattle.pm_world.specs.Sequences.{IsStopped, Runs, in_turn, settles}
 use Rattle.pm_world.specs.declared.lane.Lane.{Lane}
 use Rattle.pm_world.specs.declared.lane.Span.{Span}
-use Rattle.pm_tx.proofs.BorneOut.{HasSameHeads}
 use Rattle.pm_tx.proofs.CommitSteps.{behind_commit, commit_last, commit_lawful, deciding_of, stopped_among}
 use Rattle.pm_tx.proofs.Committed.{committed, stopped_committing}
 use Rattle.pm_tx.specs.AtWork.{IsAtWork}
 use Rattle.pm_tx.specs.Ending.{IsEndedBy, IsStoppedAmong, IsStoppedIn, MayCommitCall, PublishesNoBlock, StopsDrawn}
 use Rattle.pm_tx.specs.Generations.{CanPublish}
 use Rattle.pm_tx.specs.Sequences.{commits, logs_listed}
-use Rattle.pm_transaction.proofs.GoingWith.{keeps_told, kept_of}
-use Rattle.pm_transaction.specs.AtWork.{IsAtWorkWith, IsHeldFreed}
+use Rattle.pm_transaction.proofs.ActionsWithLists.{told_with_lists}
+use Rattle.pm_transaction.specs.AtWork.{IsAtWorkWith}
 use Rattle.pm_transaction.specs.Committing.{HasCommitted, MayPublishBlocks, commits_with}
 
 -- where a map lists nothing, nothing was there
@@ -47,20 +46,7 @@ StopsEither at lane new spans entries =
 module _ {M : Type 0} (o : Opening) (at : M → View → Type 0) (lane : Lane M) (blocks : BlockLists) (v : View) (is : IsAtWorkWith o at lane blocks v) where
   -- the commit of an inner level leaves it what it has
   pub stays_with : (next : Lane M) → next.locks ≡ lane.locks → IsAtWork o at next (after v (Tell Commit None)) → IsAtWorkWith o at next blocks (after v (Tell Commit None))
-  stays_with next locks work =
-      let told : View = after v (Tell Commit None) in
-      let heads : HasSameHeads v told = record { lanes = refl; zones = refl; reserved = refl; described = λ c in_pool. refl; root = refl } in
-      let keeps = keeps_told v told heads lane.locks.items blocks (kept_of o at lane blocks v is) refl refl (blocks_once_more v told Commit None refl) Commit None refl refl (λ root. tt) in
-      record {
-        work = work;
-        lists = keeps.lists;
-        pages = keeps.pages;
-        alone = keeps.alone;
-        not_making = keeps.not_making;
-        borne_out = keeps.borne_out;
-        freed_held = subst (λ ls. All (IsHeldFreed ls.items) blocks.freed) (sym locks) keeps.freed_held;
-        within = keeps.within;
-      }
+  stays_with next locks work = told_with_lists o at lane next blocks v is locks Commit None (blocks_once_more v (after v (Tell Commit None)) Commit None refl) refl (λ root. tt) work
 
   -- where it publishes no change of a block it lists none
   no_entries : PublishesNoBlock v → entries_of v.lanes blocks ≡ []

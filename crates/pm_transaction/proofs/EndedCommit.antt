@@ -5,7 +5,6 @@ use Rattle.std.specs.List.{list_any}
 use Rattle.std.specs.Option.{ForSome}
 use Rattle.std.proofs.lemmas.List.Elements.{All-weaker}
 use Rattle.pm_header.specs.declared.header.Header.{Header}
-use Rattle.pm_layout.specs.declared.shape.Shape.{Shape}
 use Rattle.pm_memory.specs.Solo.{AreNumbered}
 use Rattle.pm_objects.specs.declared.calls.Operation.TheVariants.{Commit}
 use Rattle.pm_objects.specs.declared.pool.PoolView.{PoolView}
@@ -14,14 +13,12 @@ use Rattle.pm_redo.proofs.Sealed.{seal_lawful}
 use Rattle.pm_redo.proofs.Whole.{may_outside}
 use Rattle.pm_redo.specs.Entering.{MayEnter, ending}
 use Rattle.pm_redo.specs.Sequences.{ending_of, performs, performs_on, seals, writes_seal}
-use Rattle.pm_alloc.specs.NewObjects.{CanMakeObject}
 use Rattle.pm_crash.proofs.AloneCourse.{begins_lane}
 use Rattle.pm_crash.proofs.CallWords.{behind_is_outside}
 use Rattle.pm_crash.proofs.Leading.{leads_end, leads_then}
 use Rattle.pm_crash.specs.Alone.{WorksAlone}
 use Rattle.pm_crash.specs.Leading.{Leads}
 use Rattle.pm_crash.specs.Publishing.{Published}
-use Rattle.pm_epoch.proofs.FreeChunks.{no_run_reserved}
 use Rattle.pm_epoch.proofs.PublishedCalls.{has_ended}
 use Rattle.pm_epoch.specs.Epochs.{HasEnded, IsPublishing, LoadsNoneOf, ReservesNoRun}
 use Rattle.pm_made.specs.Entries.{entries_of}
@@ -49,8 +46,9 @@ use Rattle.pm_redo.specs.Sequences.{logs}
 use Rattle.pm_tx.specs.Sequences.{commits, decides_all, ends_call, performs_logged, publishes}
 use Rattle.pm_transaction.proofs.BlocksAtWork.{may_publish_blocks}
 use Rattle.pm_transaction.proofs.CommitViews.{borne_out, call_l, committed, each_d, leads_d, leads_to, number_view, outside_l, performed, performed_view, ready_to_perform, settled_view, steps_to_draw, told_view, works_to, drawn as is_drawn}
-use Rattle.pm_transaction.proofs.PerformedSteps.{IsAlong, performing_loads_none, performs_along, publishes_along}
+use Rattle.pm_transaction.proofs.PerformedSteps.{IsAlong, performing_keeps_zones, performing_loads_none, performs_along, publishes_along}
 use Rattle.pm_transaction.proofs.PublishedCommit.{entered_call}
+use Rattle.pm_transaction.proofs.EndingAlone.{none_run}
 use Rattle.pm_transaction.specs.AtWork.{IsAtWorkWith}
 use Rattle.pm_transaction.specs.Committing.{MayPublishBlocks}
 use Rattle.pm_transaction.specs.Published.{CommitsAlone, HasDrawn, HasOwnCounts, IsCommittingAlone}
@@ -190,8 +188,16 @@ module _ {M : Type 0} (o : Opening) (at : M → View → Type 0) (lane : Lane M)
       ap (λ k. slice_index u.words (lane_descriptor k page)) call.lane.lanes ∙ outside_l o at lane blocks header pool start v steps works is outer may (lane_descriptor v.lanes page) outside_area in
       (λ j. list_any (has_bit (zone_at (call.lane.lanes j) page) (chunk_bit (call.lane.lanes j) page)) (call.reserved j) && is_run (word j))
 
-  no_run : (shape : Shape) → CanMakeObject v shape → ReservesNoRun o.lanes u
-  no_run shape can = subst (λ k. ReservesNoRun k u) is.work.opening.lanes (λ page chunk. same_made page chunk ∙ no_run_reserved v can.pool.no_bitmap page chunk)
+  no_run : ReservesNoRun o.lanes u
+  no_run = subst (λ k. ReservesNoRun k u) is.work.opening.lanes (λ page chunk. same_made page chunk ∙ none_run o header pool start v steps works is.not_making page chunk)
+
+  -- nor is a zone locked
+  zones_performed : (performed_view v entries n).zone_locks ≡ d.zone_locks
+  unfolding performs_logged performs by_lane by_view
+  zones_performed = performing_keeps_zones d.lane (entries ++ ending d ∷ []) d
+
+  unlocked : (after_all v (commits spans entries n v)).zone_locks ≡ []
+  unlocked = ap (λ (x : View). x.zone_locks) at_end ∙ (zones_performed ∙ ((call_l o at lane blocks header pool start v steps works is outer may).zone_locks ∙ is.not_making.unlocked))
 
   abbrev end : View
   end = after_all v (commits spans entries n v)
@@ -201,11 +207,11 @@ module _ {M : Type 0} (o : Opening) (at : M → View → Type 0) (lane : Lane M)
       subst (λ (x : View). ForSome x.stop (λ stop. x.calls ≤ stop) → AreNumbered 1 x.entries → HasDrawn o header pool n x) (sym at_end)
       (λ low counted. let p = publishing tail (performed_view v entries n) leads_tail publishes_tail low counted in record { drawn = u; all = p.0; publishing = p.1 }) within numbered
 
-  call_ends : (shape : Shape) → CanMakeObject v shape → ForSome end.stop (λ stop. end.calls ≤ stop) → AreNumbered 1 end.entries → HasEnded o header pool end
-  call_ends shape can within numbered =
+  call_ends : ForSome end.stop (λ stop. end.calls ≤ stop) → AreNumbered 1 end.entries → HasEnded o header pool end
+  call_ends within numbered =
       subst (λ (x : View). ForSome x.stop (λ stop. x.calls ≤ stop) → AreNumbered 1 x.entries → HasEnded o header pool x) (sym at_end)
       (λ low counted. let p = publishing tail (performed_view v entries n) leads_tail publishes_tail low counted in
-      has_ended o header pool u n p.0 (performed_view v entries n) p.1 (no_run shape can) (subst (All (LoadsNoneOf u.log.entries)) (sym p.2) loads) over low) within numbered
+      has_ended o header pool u n p.0 (performed_view v entries n) p.1 no_run (subst (All (LoadsNoneOf u.log.entries)) (sym p.2) loads) over low) within numbered
 
   -- ---- wherever it stops
 
@@ -257,8 +263,12 @@ module _ {M : Type 0} (o : Opening) (header : Header) (pool : PoolView) (start v
   pub commit_publishes : Behind (HasDrawn o header pool n) all
   commit_publishes = subst (Behind (HasDrawn o header pool n)) (sym c.are) (λ ready own. has_drawn o at lane blocks header pool start v steps c.works c.work c.outer may_publish some_own n spans ready own.within own.numbered)
 
-  pub commit_ends : (shape : Shape) → CanMakeObject v shape → Behind (HasEnded o header pool) all
-  commit_ends shape can = subst (Behind (HasEnded o header pool)) (sym c.are) (λ ready own. call_ends o at lane blocks header pool start v steps c.works c.work c.outer may_publish some_own n spans ready shape can own.within own.numbered)
+  pub commit_ends : Behind (HasEnded o header pool) all
+  commit_ends = subst (Behind (HasEnded o header pool)) (sym c.are) (λ ready own. call_ends o at lane blocks header pool start v steps c.works c.work c.outer may_publish some_own n spans ready own.within own.numbered)
+
+  pub commit_unlocks : Ready v (commits spans all n v) → (after_all v (commits spans all n v)).zone_locks ≡ []
+  commit_unlocks = subst (λ (es : List Redo). Ready v (commits spans es n v) → (after_all v (commits spans es n v)).zone_locks ≡ []) (sym c.are)
+      (λ ready. unlocked o at lane blocks header pool start v steps c.works c.work c.outer may_publish some_own n spans ready)
 
   pub commit_stops : (made : ℕ) → Ready v (commits spans all n v) → HasOwnCounts (after_all v (take made (commits spans all n v))) → IsCommittingAlone o header pool start steps n (after_all v (take made (commits spans all n v)))
   commit_stops made = subst (λ (es : List Redo). Ready v (commits spans es n v) → HasOwnCounts (after_all v (take made (commits spans es n v))) → IsCommittingAlone o header pool start steps n (after_all v (take made (commits spans es n v))))

@@ -67,6 +67,18 @@ module _ (o : Opening) (header : Header) (pool : PoolView) (locks : List HeldLoc
   unfolding gives
   given_all v ready ended = given_first (length locks) v ready ended
 
+-- ---- of a lane that works alone, and makes no object now
+
+module _ (o : Opening) (header : Header) (pool : PoolView) (start v : View) (steps : List Step) (works : WorksAlone o header pool start steps v) where
+  stands_v : StandsAlone o header pool v
+  stands_v = stands_at o header pool start steps v works.begins works.leads works.numbered works.within
+
+  fits_v : LaneFits o (memory_of v) (settled o stands_v.log stands_v.decided) (Flies stands_v.log stands_v.decided 0) 0 v
+  fits_v = own_fits o header pool v stands_v
+
+  pub none_run : IsNotMaking v → ReservesNoRun v.lanes v
+  none_run quiet = reserves_no_run o (heap_words o (memory_of v)) v fits_v.blocks fits_v.lane.lanes fits_v.lane.zones quiet
+
 module _ {M : Type 0} (o : Opening) (header : Header) (pool : PoolView) (at : M → View → Type 0) (lane : Lane M) where
   pub ended_may_end : (v : View) → HasEnded o header pool v → IsAfterCall at lane v → MayEnd at lane v
   ended_may_end v ended behind = record { behind = behind; alone = ended.alone; taken = ended.taken }
@@ -135,17 +147,8 @@ module _ {M : Type 0} (o : Opening) (header : Header) (pool : PoolView) (at : M 
   -- ---- what it may do as it works alone
 
   module _ (start v : View) (steps : List Step) (works : WorksAlone o header pool start steps v) where
-    stands_v : StandsAlone o header pool v
-    stands_v = stands_at o header pool start steps v works.begins works.leads works.numbered works.within
-
-    fits_v : LaneFits o (memory_of v) (settled o stands_v.log stands_v.decided) (Flies stands_v.log stands_v.decided 0) 0 v
-    fits_v = own_fits o header pool v stands_v
-
-    none_run : IsNotMaking v → ReservesNoRun v.lanes v
-    none_run quiet = reserves_no_run o (heap_words o (memory_of v)) v fits_v.blocks fits_v.lane.lanes fits_v.lane.zones quiet
-
     pub given_up_may_end : IsAlone v → IsNotMaking v → IsAfterCall at lane v → MayEnd at lane v
-    given_up_may_end alone quiet behind = record { behind = behind; alone = alone; taken = knows_at_work o header pool start v steps works (subst (λ n. ReservesNoRun n v) fits_v.lane.lanes (none_run quiet)) }
+    given_up_may_end alone quiet behind = record { behind = behind; alone = alone; taken = knows_at_work o header pool start v steps works (subst (λ n. ReservesNoRun n v) (fits_v o header pool start v steps works).lane.lanes (none_run o header pool start v steps works quiet)) }
 
     pub may_allocate : (blocks : BlockLists) → IsAtWorkWith o at lane blocks v → MayAllocate o at lane blocks v
     may_allocate blocks is = record {
@@ -156,8 +159,8 @@ module _ {M : Type 0} (o : Opening) (header : Header) (pool : PoolView) (at : M 
         of_shape = is.work.seen.shape;
         unlocked = is.not_making.unlocked;
         plain = ap (list_any _) is.work.no_entries;
-        zones = (let zones = fits_v.lane.zones in let few = is.work.zones in let count = stands_v.zone_count in omega (arith, zones, few, count));
-        runs = (let pages = stands_v.pages in let size = stands_v.goes.world.sound.size in let long = fits_v.lane.size in let lanes = fits_v.lane.lanes in let zones = fits_v.lane.zones in omega (arith, pages, size, long, lanes, zones));
-        no_run = none_run is.not_making;
+        zones = (let zones = (fits_v o header pool start v steps works).lane.zones in let few = is.work.zones in let count = (stands_v o header pool start v steps works).zone_count in omega (arith, zones, few, count));
+        runs = (let pages = (stands_v o header pool start v steps works).pages in let size = (stands_v o header pool start v steps works).goes.world.sound.size in let long = (fits_v o header pool start v steps works).lane.size in let lanes = (fits_v o header pool start v steps works).lane.lanes in let zones = (fits_v o header pool start v steps works).lane.zones in omega (arith, pages, size, long, lanes, zones));
+        no_run = none_run o header pool start v steps works is.not_making;
       });
     }

@@ -1,6 +1,6 @@
--- The steps that perform a redo log: they load no word, and before each of them the log is not at its end.
+-- The steps that perform a redo log: they load no word, take and give no zone's lock, and before each of them the log is not at its end.
 use Rattle.std.proofs.Common.{◌≡◌, ◌⊎◌, ⊎_elim, inl, inr, ℕ, ◌+◌, ◌/◌, ◌<◌, Bool, true, false, All, List, [], ◌∷◌, ◌++◌, is_some, length, refl, sym, ap, ◌∙◌, subst, slice_index}
-use Rattle.std.proofs.lemmas.List.Elements.{All-cons, All-nil}
+use Rattle.std.proofs.lemmas.List.Elements.{All-cons, All-head, All-nil, All-tail}
 use Rattle.pm_crash.proofs.Raises.{raise_by}
 use Rattle.pm_crash.specs.Leading.{Leads}
 use Rattle.pm_epoch.proofs.QuietSteps.{Are, Every, are_counted, are_in_turn, are_one, are_room, are_settles, are_stores}
@@ -28,53 +28,80 @@ use Rattle.pm_view.specs.View.{View}
 use Rattle.pm_view.specs.Views.{after, after_all, log_after_drain}
 use Rattle.pm_world.specs.Sequences.{Sequence, ands, finds_in, in_turn, makes_room, one, ors, settles, stores}
 
--- ---- no loads
+-- ---- of one kind
 
-module _ (finals : List Final) where
-  abbrev P : Step → Type 0
-  P = LoadsNoneOf finals
-
+module _ (P : Step → Type 0) (store : (w x : ℕ) → P (Store w x)) (flush : (line : ℕ) → P (Flush line)) (drain : P Drain) (or : (w bits x : ℕ) → P (Or_step w bits x)) (and : (w bits x : ℕ) → P (And_step w bits x)) where
   abbrev All_are : Sequence → Type 0
-  All_are = Are P (λ w x. tt) (λ line. tt) tt
+  All_are = Are P store flush drain
 
   both : (s t : Sequence) → All_are s → All_are t → All_are (in_turn s t)
-  both = are_in_turn P (λ w x. tt) (λ line. tt) tt
+  both = are_in_turn P store flush drain
 
   single : (s : Step) → P s → All_are (one s)
-  single = are_one P (λ w x. tt) (λ line. tt) tt
+  single = are_one P store flush drain
 
   finds : (word : ℕ) (s : ℕ → Step) → ((x : ℕ) → P (s x)) → All_are (in_turn makes_room (finds_in word s))
   unfolding finds_in
-  finds word s is = both makes_room (finds_in word s) (are_room P (λ w x. tt) (λ line. tt) tt) (λ v. (is (slice_index v.words word), tt))
+  finds word s is = both makes_room (finds_in word s) (are_room P store flush drain) (λ v. (is (slice_index v.words word), tt))
 
   applies_one : (e : Redo) → All_are (applies_entry e)
   unfolding applies_entry ors ands
   applies_one e = by e.op where
     by : (op : Op) → All_are (does op (e.place / 8) e.value)
-    by Set = are_stores P (λ w x. tt) (λ line. tt) tt (e.place / 8) e.value
-    by Or = finds (e.place / 8) (Or_step (e.place / 8) e.value) (λ x. tt)
-    by And = finds (e.place / 8) (And_step (e.place / 8) e.value) (λ x. tt)
+    by Set = are_stores P store flush drain (e.place / 8) e.value
+    by Or = finds (e.place / 8) (Or_step (e.place / 8) e.value) (or (e.place / 8) e.value)
+    by And = finds (e.place / 8) (And_step (e.place / 8) e.value) (and (e.place / 8) e.value)
 
   applies_all : (all : List Redo) → All_are (applies all)
   unfolding applies applies_each
-  applies_all all = both (applies_each all) settles (are_counted P (λ w x. tt) (λ line. tt) tt (λ i. applies_entry (entry_at all i)) (λ i. applies_one (entry_at all i)) (length all)) (are_settles P (λ w x. tt) (λ line. tt) tt)
+  applies_all all = both (applies_each all) settles (are_counted P store flush drain (λ i. applies_entry (entry_at all i)) (λ i. applies_one (entry_at all i)) (length all)) (are_settles P store flush drain)
 
   seals_so : (lane n : ℕ) → All_are (writes_seal lane n)
   unfolding writes_seal persists
   seals_so lane n =
-      both (stores (area_word lane + 1) n) (in_turn (one (Flush (area_word lane / 8))) (one Drain)) (are_stores P (λ w x. tt) (λ line. tt) tt (area_word lane + 1) n)
-      (both (one (Flush (area_word lane / 8))) (one Drain) (single (Flush (area_word lane / 8)) tt) (single Drain tt))
+      both (stores (area_word lane + 1) n) (in_turn (one (Flush (area_word lane / 8))) (one Drain)) (are_stores P store flush drain (area_word lane + 1) n)
+      (both (one (Flush (area_word lane / 8))) (one Drain) (single (Flush (area_word lane / 8)) (flush (area_word lane / 8))) (single Drain drain))
 
   performs_so : (lane : ℕ) (all : List Redo) → All_are (performs_on lane all)
   unfolding performs_on
   performs_so lane all = both (writes_seal lane (length all)) (in_turn (applies all) (writes_seal lane 0)) (seals_so lane (length all)) (both (applies all) (writes_seal lane 0) (applies_all all) (seals_so lane 0))
 
-  every_all : (steps : List Step) → Every P (λ w x. tt) (λ line. tt) tt steps → All P steps
+  every_all : (steps : List Step) → Every P store flush drain steps → All P steps
   every_all [] each = All-nil P
   every_all (s ∷ steps) each = All-cons P s steps each.0 (every_all steps each.1)
 
-  pub performing_loads_none : (lane : ℕ) (all : List Redo) (v : View) → All (LoadsNoneOf finals) (performs_on lane all v)
-  performing_loads_none lane all v = every_all (performs_on lane all v) (performs_so lane all v)
+  performing_all : (lane : ℕ) (all : List Redo) (v : View) → All P (performs_on lane all v)
+  performing_all lane all v = every_all (performs_on lane all v) (performs_so lane all v)
+
+-- they load none of the words that entries are of
+pub performing_loads_none : (finals : List Final) (lane : ℕ) (all : List Redo) (v : View) → All (LoadsNoneOf finals) (performs_on lane all v)
+performing_loads_none finals = performing_all (LoadsNoneOf finals) (λ w x. tt) (λ line. tt) tt (λ w bits x. tt) (λ w bits x. tt)
+
+-- each changes words, flushes or drains
+abbrev IsOfWords : Step → Type 0
+IsOfWords (Store w x) = Unit {0}
+IsOfWords (Or_step w bits x) = Unit {0}
+IsOfWords (And_step w bits x) = Unit {0}
+IsOfWords (Flush line) = Unit {0}
+IsOfWords Drain = Unit {0}
+IsOfWords s = ⊥
+
+zones_after : (v : View) (s : Step) → IsOfWords s → (after v s).zone_locks ≡ v.zone_locks
+zones_after v (Store w x) is = refl
+zones_after v (Or_step w bits x) is = refl
+zones_after v (And_step w bits x) is = refl
+zones_after v (Flush line) is = refl
+zones_after v Drain is = refl
+zones_after v s is = absurd is
+
+zones_along : (v : View) (steps : List Step) → All IsOfWords steps → (after_all v steps).zone_locks ≡ v.zone_locks
+unfolding after_all
+zones_along v [] all = refl
+zones_along v (s ∷ steps) all = zones_along (after v s) steps (All-tail IsOfWords s steps all) ∙ zones_after v s (All-head IsOfWords s steps all)
+
+-- so no zone's lock is taken or given back
+pub performing_keeps_zones : (lane : ℕ) (all : List Redo) (v : View) → (after_all v (performs_on lane all v)).zone_locks ≡ v.zone_locks
+performing_keeps_zones lane all v = zones_along v (performs_on lane all v) (performing_all IsOfWords (λ w x. tt) (λ line. tt) tt (λ w bits x. tt) (λ w bits x. tt) lane all v)
 
 -- ---- where the log stands before each step
 

@@ -2,7 +2,6 @@
 
 ghost use Rattle.std.specs.Prelude.{◌≡◌, ℕ, List, [], Option, Some, option_map, take};
 ghost use Rattle.pm_header.specs.declared.header.Header.{Header};
-ghost use Rattle.pm_layout.specs.declared.shape.Shape.{Shape};
 ghost use Rattle.pm_objects.specs.declared.calls.Operation.TheVariants.{SetValue};
 ghost use Rattle.pm_objects.specs.declared.history.Value.TheVariants.{Refused};
 ghost use Rattle.pm_objects.specs.declared.ids.Oid.{Oid};
@@ -21,7 +20,6 @@ ghost use Rattle.pm_world.specs.Sequences.{Ready};
 ghost use Rattle.pm_world.specs.declared.lane.HeldLock.{HeldLock};
 ghost use Rattle.pm_world.specs.declared.lane.Lane.{Lane};
 ghost use Rattle.pm_world.specs.declared.lane.Span.{Span};
-ghost use Rattle.pm_alloc.specs.NewObjects.{CanMakeObject};
 ghost use Rattle.pm_crash.specs.Alone.{BeginsAgain, WorksAlone, standing};
 ghost use Rattle.pm_epoch.specs.Epochs.{HasEnded};
 ghost use Rattle.pm_made.specs.Made.{BlockLists};
@@ -51,15 +49,17 @@ pub fn a_lane_alone_may_publish_its_blocks<M: LawfulMem>()
 {}
 
 /// A law: a commit of such a transaction with the entries of its actions and blocks, some at least, publishes the call from where its number is drawn. At its end the
-/// call has ended, if the lane could make objects before it, so that it reserved no chunk that is a run. Wherever the lane stops in its steps, it works alone still, or
-/// it has drawn the number and publishes. No code runs.
+/// call has ended, and the lane holds no zone's lock. Wherever the lane stops in its steps, it works alone still, or it has drawn the number and publishes.
+/// No code runs.
 pub fn a_commit_of_a_lane_alone_publishes_its_call<M: LawfulMem>()
     ensures publishes { (o : Opening) (header : Header) (pool : PoolView) (start v : View) (steps : List Step) (lane : Lane M) (blocks : BlockLists) (entries : List Redo) (spans : List Span) (n : ℕ)
         → CommitsAlone o header pool start steps M.at lane blocks v entries → Ready v (commits spans entries n v)
         → HasOwnCounts (after_all v (commits spans entries n v)) → HasDrawn o header pool n (after_all v (commits spans entries n v)) }
-    ensures ended { (o : Opening) (header : Header) (pool : PoolView) (start v : View) (steps : List Step) (lane : Lane M) (blocks : BlockLists) (entries : List Redo) (spans : List Span) (n : ℕ) (shape : Shape)
-        → CommitsAlone o header pool start steps M.at lane blocks v entries → CanMakeObject v shape → Ready v (commits spans entries n v)
+    ensures ended { (o : Opening) (header : Header) (pool : PoolView) (start v : View) (steps : List Step) (lane : Lane M) (blocks : BlockLists) (entries : List Redo) (spans : List Span) (n : ℕ)
+        → CommitsAlone o header pool start steps M.at lane blocks v entries → Ready v (commits spans entries n v)
         → HasOwnCounts (after_all v (commits spans entries n v)) → HasEnded o header pool (after_all v (commits spans entries n v)) }
+    ensures unlocked { (o : Opening) (header : Header) (pool : PoolView) (start v : View) (steps : List Step) (lane : Lane M) (blocks : BlockLists) (entries : List Redo) (spans : List Span) (n : ℕ)
+        → CommitsAlone o header pool start steps M.at lane blocks v entries → Ready v (commits spans entries n v) → (after_all v (commits spans entries n v)).zone_locks ≡ [] }
     ensures stops { (o : Opening) (header : Header) (pool : PoolView) (start v : View) (steps : List Step) (lane : Lane M) (blocks : BlockLists) (entries : List Redo) (spans : List Span) (n made : ℕ)
         → CommitsAlone o header pool start steps M.at lane blocks v entries → Ready v (commits spans entries n v)
         → HasOwnCounts (after_all v (take made (commits spans entries n v))) → IsCommittingAlone o header pool start steps n (after_all v (take made (commits spans entries n v))) }

@@ -1,9 +1,10 @@
-use Rattle.pm_transaction.proofs.EndedCommit.{commit_ends, commit_publishes, commit_stops}
+use Rattle.pm_transaction.proofs.EndedCommit.{commit_ends, commit_publishes, commit_stops, commit_unlocks}
 use Rattle.pm_transaction.proofs.laws.a_commit_of_a_lane_alone_publishes_its_call.Goals as goal
 
 pub returns : goal.returns
 returns g c = record {
   publishes = λ o header pool start v steps lane blocks entries spans n commits. commit_publishes o header pool start v steps g.M.LaneMem.at lane blocks entries spans n commits;
-  ended = λ o header pool start v steps lane blocks entries spans n shape commits can. commit_ends o header pool start v steps g.M.LaneMem.at lane blocks entries spans n commits shape can;
+  ended = λ o header pool start v steps lane blocks entries spans n commits. commit_ends o header pool start v steps g.M.LaneMem.at lane blocks entries spans n commits;
+  unlocked = λ o header pool start v steps lane blocks entries spans n commits. commit_unlocks o header pool start v steps g.M.LaneMem.at lane blocks entries spans n commits;
   stops = λ o header pool start v steps lane blocks entries spans n made commits. commit_stops o header pool start v steps g.M.LaneMem.at lane blocks entries spans n commits made;
 }
