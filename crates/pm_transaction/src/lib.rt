@@ -1,13 +1,13 @@
-//! The calls of a transaction on any object, found or made: pmemobj_tx_begin(3), pmemobj_tx_add_range(3), pmemobj_tx_free(3), and the writes and reads that
-//! are plain memory accesses there.
+//! The calls of a transaction on any object, found or made: pmemobj_tx_begin(3), pmemobj_tx_add_range(3), pmemobj_tx_alloc(3), pmemobj_tx_free(3),
+//! pmemobj_tx_commit(3) and pmemobj_tx_end(3), and the writes and reads that are plain memory accesses there.
 //!
 //! Promises the calls of a lane that is alone, over any lawful memory, whose transaction may make and free objects (`begin`, `add_range`, `write`, `read`,
 //! `alloc`, `free`, `commit`, `end`). What the transaction found is `pm_tx`'s; what it made needs no lock and no record. Each makes exactly the stated memory calls, and is
 //! the plain model's; a refusal is the model's reason and gives the transaction up. It stands on `pm_tx` for objects found, on `pm_alloc` for
 //! new ones, on `pm_made` for the lists of what was made and freed, and on `pm_crash` for what a call comes to; docs/MODEL.md, "Transactions that make objects".
 //!
-//! Its laws say, of a lane that works alone, that such a transaction may be committed with the redo entries of its blocks, and that its call has ended then. They
-//! stand on `pm_epoch`; docs/MODEL.md, "From call to call".
+//! Its laws say, of a lane that works alone, that it may make an object wherever it is at work, that such a transaction may be committed with the redo entries of its
+//! blocks, that its call has ended then, and that the lane begins again behind the transaction's end. They stand on `pm_epoch`; docs/MODEL.md, "From call to call".
 #![tactic(auto)]
 
 mod allocating;
@@ -25,7 +25,11 @@ pub use beginning::begin;
 pub use committing::commit;
 pub use ending::end;
 pub use freeing::free;
-pub use laws::{a_commit_of_a_lane_alone_publishes_its_call, a_lane_alone_may_publish_its_blocks};
+pub use laws::{
+    a_commit_of_a_lane_alone_publishes_its_call, a_lane_alone_may_allocate,
+    a_lane_alone_may_publish_its_blocks, a_lane_alone_that_ended_begins_again,
+    calls_on_actions_keep_the_lists,
+};
 pub use new_ranges::{do_add_new, do_read_new, do_write_new};
 pub use ranges::{add_range, read, write};
 
