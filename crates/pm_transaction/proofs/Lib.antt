@@ -35,3 +35,4 @@ pub mod EndedCommit
 pub mod BlockCommits
 pub mod EndingAlone
 pub mod ActionsWithLists
+pub mod BeginningAlone

@@ -3,6 +3,7 @@
 ghost use Rattle.std.specs.Prelude.{◌≡◌, ℕ, List, [], Option, Some, option_map, take};
 ghost use Rattle.pm_header.specs.declared.header.Header.{Header};
 ghost use Rattle.pm_objects.specs.declared.calls.Operation.TheVariants.{SetValue};
+ghost use Rattle.pm_objects.specs.declared.calls.Want.{Want};
 ghost use Rattle.pm_objects.specs.declared.history.Value.TheVariants.{Refused};
 ghost use Rattle.pm_objects.specs.declared.ids.Oid.{Oid};
 ghost use Rattle.pm_objects.specs.declared.pool.PoolView.{PoolView};
@@ -20,7 +21,7 @@ ghost use Rattle.pm_world.specs.Sequences.{Ready};
 ghost use Rattle.pm_world.specs.declared.lane.HeldLock.{HeldLock};
 ghost use Rattle.pm_world.specs.declared.lane.Lane.{Lane};
 ghost use Rattle.pm_world.specs.declared.lane.Span.{Span};
-ghost use Rattle.pm_crash.specs.Alone.{BeginsAgain, WorksAlone, standing};
+ghost use Rattle.pm_crash.specs.Alone.{Begins, BeginsAgain, WorksAlone, standing};
 ghost use Rattle.pm_epoch.specs.Epochs.{HasEnded};
 ghost use Rattle.pm_made.specs.Made.{BlockLists};
 ghost use Rattle.pm_tx.specs.Actions.{HasCanceled, cancels};
@@ -28,12 +29,22 @@ ghost use Rattle.pm_tx.specs.AtWork.{IsAtWork};
 ghost use Rattle.pm_tx.specs.Ending.{IsAfterCall};
 ghost use Rattle.pm_tx.specs.Sequences.{commits};
 ghost use Rattle.pm_transaction.specs.Allocating.{MayAllocate};
-ghost use Rattle.pm_transaction.specs.AtWork.{IsAtWorkWith, IsNotMaking};
+ghost use Rattle.pm_transaction.specs.AtWork.{AreForPool, IsAtWorkWith, IsNotMaking};
+ghost use Rattle.pm_transaction.specs.Beginning.{HasBegunWith};
 ghost use Rattle.pm_transaction.specs.Committing.{MayPublishBlocks};
 ghost use Rattle.pm_transaction.specs.Ending.{HasEndedWith, MayEnd};
 ghost use Rattle.pm_transaction.specs.Published.{CommitsAlone, HasDrawn, HasOwnCounts, IsCommittingAlone};
 
 use pm_world::LawfulMem;
+
+/// A law: a lane alone that began a transaction where it may begin, with no zone locked and nothing reserved, works alone there, and is at work with its lists, if
+/// these are for its pool. No code runs.
+pub fn a_lane_alone_begins_at_work<M: LawfulMem>()
+    ensures works { (o : Opening) (header : Header) (pool : PoolView) (v : View) (lane : Lane M) (blocks : BlockLists) (wants : List Want) → Begins o header pool v
+        → (begun : HasBegunWith M.at lane blocks v wants) → HasOwnCounts begun.begun.view → WorksAlone o header pool v begun.begun.led.steps begun.begun.view }
+    ensures at_work { (o : Opening) (header : Header) (pool : PoolView) (v : View) (lane : Lane M) (blocks : BlockLists) (wants : List Want) → Begins o header pool v
+        → AreForPool blocks v → v.zone_locks ≡ [] → v.reserved ≡ [] → (begun : HasBegunWith M.at lane blocks v wants) → HasOwnCounts begun.begun.view → IsAtWorkWith o M.at lane blocks begun.begun.view }
+{}
 
 /// A law: a lane that works alone, and is at work in a transaction with its lists, may make an object there. No code runs.
 pub fn a_lane_alone_may_allocate<M: LawfulMem>()

@@ -26,9 +26,9 @@ pub use committing::commit;
 pub use ending::end;
 pub use freeing::free;
 pub use laws::{
-    a_commit_of_a_lane_alone_publishes_its_call, a_lane_alone_may_allocate,
-    a_lane_alone_may_publish_its_blocks, a_lane_alone_that_ended_begins_again,
-    calls_on_actions_keep_the_lists,
+    a_commit_of_a_lane_alone_publishes_its_call, a_lane_alone_begins_at_work,
+    a_lane_alone_may_allocate, a_lane_alone_may_publish_its_blocks,
+    a_lane_alone_that_ended_begins_again, calls_on_actions_keep_the_lists,
 };
 pub use new_ranges::{do_add_new, do_read_new, do_write_new};
 pub use ranges::{add_range, read, write};

@@ -1,0 +1,42 @@
+-- A lane alone that began a transaction where it may begin works alone there, and is at work with its lists.
+use Rattle.std.proofs.Common.{◌≡◌, ◌≤◌, ◌/◌, ◌%◌, ℕ, List, [], refl, sym, ap, ◌∙◌, arith}
+use Rattle.std.specs.List.{list_any}
+use Rattle.std.proofs.lemmas.Bool.{false≢true}
+use Rattle.pm_header.specs.declared.header.Header.{Header}
+use Rattle.pm_objects.specs.declared.calls.Want.{Want}
+use Rattle.pm_objects.specs.declared.pool.PoolView.{PoolView}
+use Rattle.pm_view.specs.declared.occ.Occ.TheVariants.{Zone}
+use Rattle.pm_view.specs.View.{Taken, View}
+use Rattle.pm_view.specs.Views.{has_bit}
+use Rattle.pm_world.specs.Opening.{Opening}
+use Rattle.pm_world.specs.declared.lane.Lane.{Lane}
+use Rattle.pm_crash.proofs.AloneCourse.{StandsAlone, begins_holds, stands_at}
+use Rattle.pm_crash.specs.Alone.{Begins, WorksAlone}
+use Rattle.pm_epoch.proofs.OpeningSeen.{finds_opening}
+use Rattle.pm_made.specs.Made.{BlockLists}
+use Rattle.pm_transaction.specs.AtWork.{AreForPool, IsAtWorkWith, IsNotMaking}
+use Rattle.pm_transaction.specs.Beginning.{HasBegunWith}
+use Rattle.pm_transaction.specs.Published.{HasOwnCounts}
+
+module _ {M : Type 0} (o : Opening) (header : Header) (pool : PoolView) (at : M → View → Type 0) (v : View) (lane : Lane M) (blocks : BlockLists) (wants : List Want) (begins : Begins o header pool v) (has : HasBegunWith at lane blocks v wants)
+    (counts : HasOwnCounts has.begun.view) where
+  abbrev w : View
+  w = has.begun.view
+
+  pub begun_works : WorksAlone o header pool v has.begun.led.steps w
+  begun_works = record { begins = begins; leads = has.begun.led.leads; numbered = counts.numbered; within = counts.within }
+
+  stands : StandsAlone o header pool w
+  stands = stands_at o header pool v has.begun.led.steps w begins has.begun.led.leads counts.numbered counts.within
+
+  module _ (pages : AreForPool blocks v) (unlocked : v.zone_locks ≡ []) (none : v.reserved ≡ []) where
+    quiet : IsNotMaking w
+    quiet = record {
+      unlocked = has.begun.led.heap.zone_locks ∙ unlocked;
+      no_run = λ c in_pool reserved. absurd (false≢true (sym (ap (λ (blocks : List Taken). list_any (has_bit (Zone (c / 64)) (c % 64)) blocks) (has.begun.led.heap.reserved ∙ none)) ∙ reserved));
+    }
+
+    pub begun_at_work : IsAtWorkWith o at lane blocks w
+    begun_at_work =
+        has.opens o stands.goes.world.sound (begins_holds o header pool v begins).1.has_header.has_shape.shape.zones_to (finds_opening o header pool w stands)
+        (let lanes = has.begun.same.lanes in let zones = has.begun.same.zones in omega (arith, pages, lanes, zones)) quiet
