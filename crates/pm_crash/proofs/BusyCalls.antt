@@ -2,6 +2,7 @@
 use Rattle.std.proofs.Common.{◌≡◌, ℕ, zero, suc, ◌+◌, ◌<◌, ◌≤◌, Bool, true, false, not, cond, IsTrue, List, [], ◌∷◌, ◌++◌, length, slice_index, slice_index_or, refl, ap, ◌∙◌, arith, rules, length-append}
 use Rattle.std.proofs.lemmas.Bool.{cond-true, cond-false}
 use Rattle.pm_crash.specs.Leading.{Leads}
+use Rattle.pm_crash.specs.Walking.{Walks}
 use Rattle.pm_view.specs.declared.change.Change.{Change}
 use Rattle.pm_view.specs.Changes.{and_change, drained, flushed, is_in_line, mark, or_change, store_change}
 use Rattle.pm_view.specs.Counts.{DropsSome, FlushesSome, among, drains_among, flushes_among, is_drain, is_flush, is_store, stores_among}
@@ -153,23 +154,29 @@ drain_step v (StopSeen set) may = omega arith
 drain_step v SetStop may = omega arith
 drain_step v (Tell operation reply) may = omega arith
 
-flushes_owed : (v w : View) (steps : List Step) → Leads v steps w → flushes_among steps + unflushed w.changes ≤ stores_among steps + unflushed v.changes
-unfolding Leads among
-flushes_owed v w [] leads = let same = ap (λ (u : View). unflushed u.changes) leads in omega (arith, same)
-flushes_owed v w (s ∷ steps) leads = let one = flush_step v s leads.0 in let rest = flushes_owed (after v s) w steps leads.3 in omega (arith, one, rest)
+-- steps that lead from one view to another are such
+pub walks_of : (v w : View) (steps : List Step) → Leads v steps w → Walks v steps w
+unfolding Leads Walks
+walks_of v w [] leads = leads
+walks_of v w (s ∷ steps) leads = (leads.0, leads.1, walks_of (after v s) w steps leads.3)
 
-drains_owed : (v w : View) (steps : List Step) → Leads v steps w → drains_among steps + length w.changes ≤ stores_among steps + length v.changes
-unfolding Leads among
-drains_owed v w [] leads = let same = ap (λ (u : View). length u.changes) leads in omega (arith, same)
-drains_owed v w (s ∷ steps) leads = let one = drain_step v s leads.0 in let rest = drains_owed (after v s) w steps leads.3 in omega (arith, one, rest)
+flushes_owed : (v w : View) (steps : List Step) → Walks v steps w → flushes_among steps + unflushed w.changes ≤ stores_among steps + unflushed v.changes
+unfolding Walks among
+flushes_owed v w [] walks = let same = ap (λ (u : View). unflushed u.changes) walks in omega (arith, same)
+flushes_owed v w (s ∷ steps) walks = let one = flush_step v s walks.0 in let rest = flushes_owed (after v s) w steps walks.2 in omega (arith, one, rest)
+
+drains_owed : (v w : View) (steps : List Step) → Walks v steps w → drains_among steps + length w.changes ≤ stores_among steps + length v.changes
+unfolding Walks among
+drains_owed v w [] walks = let same = ap (λ (u : View). length u.changes) walks in omega (arith, same)
+drains_owed v w (s ∷ steps) walks = let one = drain_step v s walks.0 in let rest = drains_owed (after v s) w steps walks.2 in omega (arith, one, rest)
 
 -- each flush marks a change that was unmarked: one of the stores', or one that was undrained before
-pub flushes_few : (v w : View) (steps : List Step) → Leads v steps w → flushes_among steps ≤ stores_among steps + length v.changes
-flushes_few v w steps leads = let owed = flushes_owed v w steps leads in let few = unflushed_few v.changes in omega (arith, owed, few)
+pub flushes_few : (v w : View) (steps : List Step) → Walks v steps w → flushes_among steps ≤ stores_among steps + length v.changes
+flushes_few v w steps walks = let owed = flushes_owed v w steps walks in let few = unflushed_few v.changes in omega (arith, owed, few)
 
 -- and each drain drops one
-pub drains_few : (v w : View) (steps : List Step) → Leads v steps w → drains_among steps ≤ stores_among steps + length v.changes
-drains_few v w steps leads = let owed = drains_owed v w steps leads in omega (arith, owed)
+pub drains_few : (v w : View) (steps : List Step) → Walks v steps w → drains_among steps ≤ stores_among steps + length v.changes
+drains_few v w steps walks = let owed = drains_owed v w steps walks in omega (arith, owed)
 
 -- the counted calls are the stores, the flushes and the drains
 begun_calls : (phase : Phase) (v : View) → (begun phase v).calls ≡ v.calls
@@ -203,7 +210,7 @@ calls_step v (StopSeen set) = omega arith
 calls_step v SetStop = omega arith
 calls_step v (Tell operation reply) = omega arith
 
-pub calls_are : (v w : View) (steps : List Step) → Leads v steps w → w.calls ≡ v.calls + (stores_among steps + flushes_among steps + drains_among steps)
-unfolding Leads among
-calls_are v w [] leads = let same = ap (λ (u : View). u.calls) leads in omega (arith, same)
-calls_are v w (s ∷ steps) leads = let one = calls_step v s in let rest = calls_are (after v s) w steps leads.3 in omega (arith, one, rest)
+pub calls_are : (v w : View) (steps : List Step) → Walks v steps w → w.calls ≡ v.calls + (stores_among steps + flushes_among steps + drains_among steps)
+unfolding Walks among
+calls_are v w [] walks = let same = ap (λ (u : View). u.calls) walks in omega (arith, same)
+calls_are v w (s ∷ steps) walks = let one = calls_step v s in let rest = calls_are (after v s) w steps walks.2 in omega (arith, one, rest)

@@ -20,3 +20,4 @@ pub mod OnActions
 pub mod Writes
 pub mod Taken
 pub mod CallChanges
+pub mod Walking

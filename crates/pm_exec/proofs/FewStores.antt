@@ -3,7 +3,7 @@ use Rattle.std.proofs.Common.{◌≡◌, ℕ, ◌+◌, ◌*◌, ◌≤◌, Bool,
 use Rattle.std.specs.List.{range_with_len}
 use Rattle.std.proofs.lemmas.Bool.{false≢true}
 use Rattle.std.proofs.lemmas.List.Sums.{sum_by-append, sum_by-cons, sum_by_push}
-use Rattle.pm_crash.proofs.BusyCalls.{calls_are, drains_few, flushes_few}
+use Rattle.pm_crash.proofs.BusyCalls.{calls_are, drains_few, flushes_few, walks_of}
 use Rattle.pm_crash.proofs.Leading.{leads_end, leads_then}
 use Rattle.pm_crash.proofs.NewRecords.{words_of_all, words_of_new}
 use Rattle.pm_crash.specs.Leading.{Leads}
@@ -138,9 +138,9 @@ bounded v w most steps none leads few =
       steps = steps;
       leads = leads;
       stores = few;
-      flushes = (let f = flushes_few v w steps leads in omega (arith, f, empty));
-      drains = (let d = drains_few v w steps leads in omega (arith, d, empty));
-      calls = calls_are v w steps leads;
+      flushes = (let f = flushes_few v w steps (walks_of v w steps leads) in omega (arith, f, empty));
+      drains = (let d = drains_few v w steps (walks_of v w steps leads) in omega (arith, d, empty));
+      calls = calls_are v w steps (walks_of v w steps leads);
     }
 
 -- one behind the other

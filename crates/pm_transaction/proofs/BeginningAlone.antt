@@ -1,5 +1,5 @@
 -- A lane alone that began a transaction where it may begin works alone there, and is at work with its lists.
-use Rattle.std.proofs.Common.{◌≡◌, ◌≤◌, ◌/◌, ◌%◌, ℕ, List, [], refl, sym, ap, ◌∙◌, arith}
+use Rattle.std.proofs.Common.{◌≡◌, ◌*◌, ◌<◌, ◌/◌, ◌%◌, ℕ, List, [], sym, ap, ◌∙◌, subst, arith}
 use Rattle.std.specs.List.{list_any}
 use Rattle.std.proofs.lemmas.Bool.{false≢true}
 use Rattle.pm_header.specs.declared.header.Header.{Header}
@@ -14,7 +14,7 @@ use Rattle.pm_crash.proofs.AloneCourse.{StandsAlone, begins_holds, stands_at}
 use Rattle.pm_crash.specs.Alone.{Begins, WorksAlone}
 use Rattle.pm_epoch.proofs.OpeningSeen.{finds_opening}
 use Rattle.pm_made.specs.Made.{BlockLists}
-use Rattle.pm_transaction.specs.AtWork.{AreForPool, IsAtWorkWith, IsNotMaking}
+use Rattle.pm_transaction.specs.AtWork.{AreForPool, IsAtWorkWith, IsNotMaking, ReservesNoChunk}
 use Rattle.pm_transaction.specs.Beginning.{HasBegunWith}
 use Rattle.pm_transaction.specs.Published.{HasOwnCounts}
 
@@ -29,11 +29,13 @@ module _ {M : Type 0} (o : Opening) (header : Header) (pool : PoolView) (at : M 
   stands : StandsAlone o header pool w
   stands = stands_at o header pool v has.begun.led.steps w begins has.begun.led.leads counts.numbered counts.within
 
-  module _ (pages : AreForPool blocks v) (unlocked : v.zone_locks ≡ []) (none : v.reserved ≡ []) where
+  module _ (pages : AreForPool blocks v) (unlocked : v.zone_locks ≡ []) (none : ReservesNoChunk v) where
     quiet : IsNotMaking w
     quiet = record {
       unlocked = has.begun.led.heap.zone_locks ∙ unlocked;
-      no_run = λ c in_pool reserved. absurd (false≢true (sym (ap (λ (blocks : List Taken). list_any (has_bit (Zone (c / 64)) (c % 64)) blocks) (has.begun.led.heap.reserved ∙ none)) ∙ reserved));
+      no_run = λ c in_pool reserved. absurd (false≢true (
+          sym (none c (subst (λ (zones : ℕ). c < 64 * zones) has.begun.same.zones in_pool))
+          ∙ (sym (ap (λ (blocks : List Taken). list_any (has_bit (Zone (c / 64)) (c % 64)) blocks) has.begun.led.heap.reserved) ∙ reserved)));
     }
 
     pub begun_at_work : IsAtWorkWith o at lane blocks w

@@ -21,7 +21,7 @@ use Rattle.pm_redo.proofs.Performed.{perform_lawful}
 use Rattle.pm_redo.proofs.Whole.{heap_kept, may_enter_kept}
 use Rattle.pm_redo.specs.Entering.{AreEntered, EntersHeap, HasLogged, IsOfPool, IsPerformed, IsReadyToLog, IsReadyToPerform, MayEnter, ending, final_of}
 use Rattle.pm_redo.specs.Sequences.{ending_of, logs}
-use Rattle.pm_view.specs.Area.{is_in_area}
+use Rattle.pm_view.specs.Area.{area_word, is_in_area}
 use Rattle.pm_view.specs.Log.{Log, Phase, log_drawn}
 use Rattle.pm_view.specs.Log.Phase.{Drawn, Open}
 use Rattle.pm_view.specs.Steps.{Step}
@@ -177,6 +177,9 @@ module _ {M : Type 0} (o : Opening) (at : M → View → Type 0) (lane : Lane M)
 
   pub logged_l : l.log.entries ≡ map final_of (entries ++ ending l ∷ [])
   logged_l = written.1.entered.logged ∙ ap (λ (e : Redo). map final_of (entries ++ e ∷ [])) same_ending
+
+  pub generation_l : generation_of l ≡ generation_of v
+  generation_l = written.1.generation ∙ (words_m (area_word m.lane) ∙ ap (λ (k : ℕ). slice_index v.words (area_word k)) call_m.lane.lane)
 
   pub below_l : generation_of l < generation_limit
   below_l = let same = written.1.generation in let below = ready_to_log.entering.area.below in omega (arith, same, below)

@@ -1,6 +1,6 @@
 -- A commit of a lane that works alone: it publishes its call from where the number is drawn, and at the end that call has ended. Wherever the lane stops on the way, it
 -- works alone still, or it publishes.
-use Rattle.std.proofs.Common.{◌≡◌, ◌⊎◌, ⊎_elim, inl, inr, ℕ, zero, suc, ◌/◌, ◌≤◌, ◌&&◌, false, List, [], ◌∷◌, ◌++◌, append_assoc, length, slice_index, take, All, None, refl, sym, ap, ◌∙◌, subst, arith}
+use Rattle.std.proofs.Common.{◌≡◌, ◌⊎◌, ⊎_elim, inl, inr, ℕ, zero, suc, ◌/◌, ◌<◌, ◌≤◌, ◌&&◌, false, List, [], ◌∷◌, ◌++◌, append_assoc, length, length-append, slice_index, take, drop, All, None, refl, sym, ap, ◌∙◌, subst, arith}
 use Rattle.std.specs.List.{list_any}
 use Rattle.std.specs.Option.{ForSome}
 use Rattle.std.proofs.lemmas.List.Elements.{All-weaker}
@@ -13,7 +13,7 @@ use Rattle.pm_redo.proofs.Sealed.{seal_lawful}
 use Rattle.pm_redo.proofs.Whole.{may_outside}
 use Rattle.pm_redo.specs.Entering.{MayEnter, ending}
 use Rattle.pm_redo.specs.Sequences.{ending_of, performs, performs_on, seals, writes_seal}
-use Rattle.pm_crash.proofs.AloneCourse.{begins_lane}
+use Rattle.pm_crash.proofs.AloneCourse.{begins_lane, grows_along}
 use Rattle.pm_crash.proofs.CallWords.{behind_is_outside}
 use Rattle.pm_crash.proofs.Leading.{leads_end, leads_then}
 use Rattle.pm_crash.specs.Alone.{WorksAlone}
@@ -45,13 +45,14 @@ use Rattle.pm_world.proofs.Sequencing.{ready_right}
 use Rattle.pm_redo.specs.Sequences.{logs}
 use Rattle.pm_tx.specs.Sequences.{commits, decides_all, ends_call, performs_logged, publishes}
 use Rattle.pm_transaction.proofs.BlocksAtWork.{may_publish_blocks}
-use Rattle.pm_transaction.proofs.CommitViews.{borne_out, call_l, committed, each_d, leads_d, leads_to, number_view, outside_l, performed, performed_view, ready_to_perform, settled_view, steps_to_draw, told_view, works_to, drawn as is_drawn}
+use Rattle.pm_transaction.proofs.CommitViews.{borne_out, call_l, committed, each_d, generation_l, leads_d, leads_to, number_view, outside_l, performed, performed_view, ready_to_perform, settled_view, steps_to_draw, told_view, works_to, drawn as is_drawn}
 use Rattle.pm_transaction.proofs.PerformedSteps.{IsAlong, performing_keeps_zones, performing_loads_none, performs_along, publishes_along}
 use Rattle.pm_transaction.proofs.PublishedCommit.{entered_call}
 use Rattle.pm_transaction.proofs.EndingAlone.{none_run}
+use Rattle.pm_transaction.proofs.LeftCommits.{settled_page}
 use Rattle.pm_transaction.specs.AtWork.{IsAtWorkWith}
 use Rattle.pm_transaction.specs.Committing.{MayPublishBlocks}
-use Rattle.pm_transaction.specs.Published.{CommitsAlone, HasDrawn, HasOwnCounts, IsCommittingAlone}
+use Rattle.pm_transaction.specs.Published.{CommitsAlone, HasDrawn, HasOwnCounts, IsCommittingAlone, IsCommittingIn}
 
 -- ---- the commit's steps
 
@@ -76,6 +77,13 @@ unfolding Publishes after_all
 publishes_front v w steps zero publishes = refl
 publishes_front v w [] (suc k) publishes = refl
 publishes_front v w (s ∷ steps) (suc k) publishes = (publishes.0, publishes.1, publishes.2, publishes_front (after v s) w steps k publishes.3)
+
+-- the others lead on from there
+leads_back : (v w : View) (steps : List Step) (k : ℕ) → Leads v steps w → Leads (after_all v (take k steps)) (drop k steps) w
+unfolding Leads after_all
+leads_back v w steps zero leads = leads
+leads_back v w [] (suc k) leads = leads
+leads_back v w (s ∷ steps) (suc k) leads = leads_back (after v s) w steps k leads.3
 
 -- the first of two lists of steps: some of the first list, or that and some of the second
 front_cases : (xs ys : List Step) (s : Step) (k : ℕ) → (take k (xs ++ s ∷ ys) ≡ take k xs) ⊎ ((j : ℕ) × (take k (xs ++ s ∷ ys) ≡ xs ++ s ∷ take j ys))
@@ -227,22 +235,57 @@ module _ {M : Type 0} (o : Opening) (at : M → View → Type 0) (lane : Lane M)
     within = within;
   }
 
-  stops_so : (k : ℕ) → ForSome (stop_at k).stop (λ stop. (stop_at k).calls ≤ stop) → AreNumbered 1 (stop_at k).entries → IsCommittingAlone o header pool start steps n (stop_at k)
+  stops_so : (k : ℕ) → ForSome (stop_at k).stop (λ stop. (stop_at k).calls ≤ stop) → AreNumbered 1 (stop_at k).entries → IsCommittingIn (generation_of v) o header pool start steps n (stop_at k)
   stops_so k =
-      subst (λ (all : List Step). ForSome (after_all v (take k all)).stop (λ stop. (after_all v (take k all)).calls ≤ stop) → AreNumbered 1 (after_all v (take k all)).entries → IsCommittingAlone o header pool start steps n (after_all v (take k all)))
+      subst (λ (all : List Step). ForSome (after_all v (take k all)).stop (λ stop. (after_all v (take k all)).calls ≤ stop) → AreNumbered 1 (after_all v (take k all)).entries → IsCommittingIn (generation_of v) o header pool start steps n (after_all v (take k all)))
       (sym (in_parts spans entries n v some))
       (⊎_elim
       (λ (first : take k (front ++ Draw n ∷ tail) ≡ take k front).
-      subst (λ (taken : List Step). ForSome (after_all v taken).stop (λ stop. (after_all v taken).calls ≤ stop) → AreNumbered 1 (after_all v taken).entries → IsCommittingAlone o header pool start steps n (after_all v taken)) (sym first)
+      subst (λ (taken : List Step). ForSome (after_all v taken).stop (λ stop. (after_all v taken).calls ≤ stop) → AreNumbered 1 (after_all v taken).entries → IsCommittingIn (generation_of v) o header pool start steps n (after_all v taken)) (sym first)
       (λ within numbered. inl (take k front, before_draw k within numbered)))
       (λ (both : (j : ℕ) × (take k (front ++ Draw n ∷ tail) ≡ front ++ Draw n ∷ take j tail)).
       let x : View = after_all d (take both.0 tail) in
-      subst (λ (taken : List Step). ForSome (after_all v taken).stop (λ stop. (after_all v taken).calls ≤ stop) → AreNumbered 1 (after_all v taken).entries → IsCommittingAlone o header pool start steps n (after_all v taken)) (sym both.1)
-      (subst (λ (z : View). ForSome z.stop (λ stop. z.calls ≤ stop) → AreNumbered 1 z.entries → IsCommittingAlone o header pool start steps n z) (sym (behind_draw (take both.0 tail)))
+      subst (λ (taken : List Step). ForSome (after_all v taken).stop (λ stop. (after_all v taken).calls ≤ stop) → AreNumbered 1 (after_all v taken).entries → IsCommittingIn (generation_of v) o header pool start steps n (after_all v taken)) (sym both.1)
+      (subst (λ (z : View). ForSome z.stop (λ stop. z.calls ≤ stop) → AreNumbered 1 z.entries → IsCommittingIn (generation_of v) o header pool start steps n z) (sym (behind_draw (take both.0 tail)))
       (λ within numbered.
       let p = publishing (take both.0 tail) x (leads_front d (performed_view v entries n) tail both.0 leads_tail) (publishes_front d (performed_view v entries n) tail both.0 publishes_tail) within numbered in
-      inr (record { drawn = u; all = p.0; publishing = p.1 }))))
+      inr (record { drawn = u; all = p.0; publishing = p.1 }, generation_l o at lane blocks header pool start v steps works is outer may))))
       (front_cases front tail (Draw n) k))
+
+  -- ---- and where it has drawn its number
+
+  -- before the draw there is no entry more
+  few_before : (k : ℕ) → length (after_all v (take k front)).entries ≤ length v.entries
+  few_before k =
+      let x : View = after_all v (take k front) in
+      let leads = leads_to o at lane blocks header pool start v steps works is outer may in
+      let grows = grows_along x (drop k front) u (leads_back v u front k leads) in
+      let all = ap length grows.entries in let both = length-append x.entries grows.rest in
+      let same = ap length (call_l o at lane blocks header pool start v steps works is outer may).entries in omega (arith, all, both, same)
+
+  abbrev IsDrawnFrom : View → Type 0
+  IsDrawnFrom x =
+      ForSome x.stop (λ stop. x.calls ≤ stop) → AreNumbered 1 x.entries → length v.entries < length x.entries → (has : HasDrawn o header pool n x) × (generation_of has.drawn ≡ generation_of v)
+
+  drawn_so : (k : ℕ) → IsDrawnFrom (stop_at k)
+  drawn_so k =
+      subst (λ (all : List Step). IsDrawnFrom (after_all v (take k all))) (sym (in_parts spans entries n v some))
+      (⊎_elim
+      (λ (first : take k (front ++ Draw n ∷ tail) ≡ take k front).
+      subst (λ (taken : List Step). IsDrawnFrom (after_all v taken)) (sym first) (λ within numbered more. absurd (let few = few_before k in omega (arith, few, more))))
+      (λ (both : (j : ℕ) × (take k (front ++ Draw n ∷ tail) ≡ front ++ Draw n ∷ take j tail)).
+      subst (λ (taken : List Step). IsDrawnFrom (after_all v taken)) (sym both.1)
+      (subst IsDrawnFrom (sym (behind_draw (take both.0 tail)))
+      (λ within numbered more.
+      let x : View = after_all d (take both.0 tail) in
+      let p = publishing (take both.0 tail) x (leads_front d (performed_view v entries n) tail both.0 leads_tail) (publishes_front d (performed_view v entries n) tail both.0 publishes_tail) within numbered in
+      (record { drawn = u; all = p.0; publishing = p.1 }, generation_l o at lane blocks header pool start v steps works is outer may))))
+      (front_cases front tail (Draw n) k))
+
+-- of whatever generation it drew
+committing_alone : (generation : ℕ) (o : Opening) (header : Header) (pool : PoolView) (start w : View) (steps : List Step) (n : ℕ) → IsCommittingIn generation o header pool start steps n w → IsCommittingAlone o header pool start steps n w
+committing_alone generation o header pool start w steps n (inl still) = inl still
+committing_alone generation o header pool start w steps n (inr drew) = inr drew.0
 
 -- ---- of a lane that commits so, with entries by their name
 
@@ -266,10 +309,22 @@ module _ {M : Type 0} (o : Opening) (header : Header) (pool : PoolView) (start v
   pub commit_ends : Behind (HasEnded o header pool) all
   commit_ends = subst (Behind (HasEnded o header pool)) (sym c.are) (λ ready own. call_ends o at lane blocks header pool start v steps c.works c.work c.outer may_publish some_own n spans ready own.within own.numbered)
 
+  pub commit_keeps_page : Ready v (commits spans all n v) → HasOwnCounts (after_all v (commits spans all n v)) → (i : ℕ) → i < 512 → slice_index (after_all v (commits spans all n v)).words i ≡ slice_index o.words i
+  commit_keeps_page ready own = settled_page o header pool n (after_all v (commits spans all n v)) (commit_publishes ready own) (commit_ends ready own).drained
+
   pub commit_unlocks : Ready v (commits spans all n v) → (after_all v (commits spans all n v)).zone_locks ≡ []
   commit_unlocks = subst (λ (es : List Redo). Ready v (commits spans es n v) → (after_all v (commits spans es n v)).zone_locks ≡ []) (sym c.are)
       (λ ready. unlocked o at lane blocks header pool start v steps c.works c.work c.outer may_publish some_own n spans ready)
 
-  pub commit_stops : (made : ℕ) → Ready v (commits spans all n v) → HasOwnCounts (after_all v (take made (commits spans all n v))) → IsCommittingAlone o header pool start steps n (after_all v (take made (commits spans all n v)))
-  commit_stops made = subst (λ (es : List Redo). Ready v (commits spans es n v) → HasOwnCounts (after_all v (take made (commits spans es n v))) → IsCommittingAlone o header pool start steps n (after_all v (take made (commits spans es n v))))
+  pub commit_stops_in : (made : ℕ) → Ready v (commits spans all n v) → HasOwnCounts (after_all v (take made (commits spans all n v))) → IsCommittingIn (generation_of v) o header pool start steps n (after_all v (take made (commits spans all n v)))
+  commit_stops_in made = subst (λ (es : List Redo). Ready v (commits spans es n v) → HasOwnCounts (after_all v (take made (commits spans es n v))) → IsCommittingIn (generation_of v) o header pool start steps n (after_all v (take made (commits spans es n v))))
       (sym c.are) (λ ready own. stops_so o at lane blocks header pool start v steps c.works c.work c.outer may_publish some_own n spans ready made own.within own.numbered)
+
+  pub commit_stops : (made : ℕ) → Ready v (commits spans all n v) → HasOwnCounts (after_all v (take made (commits spans all n v))) → IsCommittingAlone o header pool start steps n (after_all v (take made (commits spans all n v)))
+  commit_stops made ready own = committing_alone (generation_of v) o header pool start (after_all v (take made (commits spans all n v))) steps n (commit_stops_in made ready own)
+
+  pub commit_drawn : (made : ℕ) → Ready v (commits spans all n v) → HasOwnCounts (after_all v (take made (commits spans all n v))) → length v.entries < length (after_all v (take made (commits spans all n v))).entries
+      → (has : HasDrawn o header pool n (after_all v (take made (commits spans all n v)))) × (generation_of has.drawn ≡ generation_of v)
+  commit_drawn made = subst (λ (es : List Redo). Ready v (commits spans es n v) → HasOwnCounts (after_all v (take made (commits spans es n v))) → length v.entries < length (after_all v (take made (commits spans es n v))).entries
+      → (has : HasDrawn o header pool n (after_all v (take made (commits spans es n v)))) × (generation_of has.drawn ≡ generation_of v))
+      (sym c.are) (λ ready own more. drawn_so o at lane blocks header pool start v steps c.works c.work c.outer may_publish some_own n spans ready made own.within own.numbered more)

@@ -1,8 +1,6 @@
 -- A lane alone may end its transaction behind its call, and begins again then.
-use Rattle.std.proofs.Common.{◌≡◌, ⊎_elim, ℕ, zero, suc, ◌+◌, ◌-◌, ◌<◌, ◌≤◌, ◌&&◌, ◌||◌, true, false, List, [], ◌∷◌, ◌++◌, Some, length, slice_index, refl, sym, ap, ◌∙◌, subst, arith}
-use Rattle.std.specs.Option.{ForSome}
+use Rattle.std.proofs.Common.{◌≡◌, ℕ, zero, suc, ◌-◌, ◌/◌, ◌%◌, ◌≤◌, ◌||◌, List, [], ◌∷◌, ◌++◌, Some, length, slice_index, sym, ap, ◌∙◌, subst, arith}
 use Rattle.std.proofs.lemmas.Bool.{and_parts, false_from_ne_true, false≢true, or_left}
-use Rattle.std.proofs.lemmas.List.{append-nil}
 use Rattle.std.specs.List.{list_any}
 use Rattle.pm_header.specs.declared.header.Header.{Header}
 use Rattle.pm_memory.specs.Solo.{AreNumbered}
@@ -16,12 +14,12 @@ use Rattle.pm_view.specs.Log.{no_log}
 use Rattle.pm_view.specs.Log.Phase.{Idle}
 use Rattle.pm_view.specs.Steps.{Step}
 use Rattle.pm_view.specs.Steps.Step.{Give}
-use Rattle.pm_view.specs.View.{Numbered, View}
-use Rattle.pm_view.specs.Views.{after, after_all, has_bit, has_chunk, is_made, reserves}
+use Rattle.pm_view.specs.View.{View}
+use Rattle.pm_view.specs.Views.{after_all, has_bit, has_chunk, is_made, reserves}
 use Rattle.pm_world.specs.Fits.{LaneFits}
-use Rattle.pm_world.specs.Heap.{has_run_chunk, has_taken}
+use Rattle.pm_world.specs.Heap.{has_run_chunk}
 use Rattle.pm_world.specs.History.{Flies, settled}
-use Rattle.pm_world.specs.Opening.{IsChunk, Opening}
+use Rattle.pm_world.specs.Opening.{Opening}
 use Rattle.pm_world.specs.Sequences.{Ready, counted, in_turn, nothing, one}
 use Rattle.pm_world.specs.declared.lane.HeldLock.{HeldLock}
 use Rattle.pm_world.specs.declared.lane.Lane.{Lane}
@@ -47,7 +45,7 @@ use Rattle.pm_made.specs.Made.{BlockLists}
 use Rattle.pm_tx.specs.Ending.{IsAfterCall}
 use Rattle.pm_transaction.proofs.NotMaking.{reserves_no_run}
 use Rattle.pm_transaction.specs.Allocating.{MayAllocate}
-use Rattle.pm_transaction.specs.AtWork.{IsAtWorkWith, IsNotMaking}
+use Rattle.pm_transaction.specs.AtWork.{IsAtWorkWith, IsNotMaking, ReservesNoChunk}
 use Rattle.pm_transaction.specs.Ending.{HasEndedWith, MayEnd, unlocked_view}
 
 -- ---- as locks are given back
@@ -78,6 +76,19 @@ module _ (o : Opening) (header : Header) (pool : PoolView) (start v : View) (ste
 
   pub none_run : IsNotMaking v → ReservesNoRun v.lanes v
   none_run quiet = reserves_no_run o (heap_words o (memory_of v)) v fits_v.blocks fits_v.lane.lanes fits_v.lane.zones quiet
+
+-- what is reclaimed is reserved no more
+module _ {M : Type 0} (at : M → View → Type 0) (lane : Lane M) (v : View) (locks : List HeldLock) (ended : HasEndedWith at lane v locks) where
+  abbrev left : View
+  left = ended.view
+
+  pub ended_reserves_none : ReservesNoChunk left
+  ended_reserves_none c in_pool =
+      let zone : ℕ = c / 64 in
+      let bit : ℕ = c % 64 in
+      false_from_ne_true (reserves left (Zone zone) bit) (λ reserved.
+      false≢true (sym (ended.left.none_left (Zone zone) bit (omega (arith, in_pool)) (omega arith))
+      ∙ or_left (reserves left (Zone zone) bit || has_run_chunk left (Zone zone)) (list_any (has_bit (Zone zone) bit) left.freed) (or_left (reserves left (Zone zone) bit) (has_run_chunk left (Zone zone)) reserved)))
 
 module _ {M : Type 0} (o : Opening) (header : Header) (pool : PoolView) (at : M → View → Type 0) (lane : Lane M) where
   pub ended_may_end : (v : View) → HasEnded o header pool v → IsAfterCall at lane v → MayEnd at lane v

@@ -33,6 +33,14 @@ pub mod CommitViews
 pub mod PublishedCommit
 pub mod EndedCommit
 pub mod BlockCommits
+pub mod LeftCommits
 pub mod EndingAlone
 pub mod ActionsWithLists
 pub mod BeginningAlone
+pub mod MakingKinds
+pub mod MakingKept
+pub mod ReservedApart
+pub mod MakingSteps
+pub mod MadeBySteps
+pub mod NoRoomFound
+pub mod StopsMaking

@@ -4,6 +4,7 @@ pub mod AnyRanges
 pub mod Beginning
 pub mod Freeing
 pub mod Allocating
+pub mod MakingSteps
 pub mod Ending
 pub mod Committing
 pub mod Published

@@ -13,6 +13,7 @@ use Rattle.pm_record.specs.declared.redo.Redo.{Redo}
 use Rattle.pm_view.specs.Steps.{Step}
 use Rattle.pm_view.specs.View.{View}
 use Rattle.pm_world.specs.Opening.{Opening}
+use Rattle.pm_world.specs.Records.{generation_of}
 use Rattle.pm_world.specs.declared.lane.Lane.{Lane}
 use Rattle.pm_transaction.specs.AtWork.{IsAtWorkWith}
 
@@ -39,3 +40,8 @@ pub record HasDrawn (o : Opening) (header : Header) (pool : PoolView) (n : ℕ) 
 -- it did, or the lane works alone still, by some steps more
 abbrev pub IsCommittingAlone : Opening → Header → PoolView → View → List Step → ℕ → View → Type 0
 IsCommittingAlone o header pool start steps n w = ((more : List Step) × WorksAlone o header pool start (steps ++ more) w) ⊎ HasDrawn o header pool n w
+
+-- so it is, and where it drew the number the lane had this generation then
+abbrev pub IsCommittingIn : ℕ → Opening → Header → PoolView → View → List Step → ℕ → View → Type 0
+IsCommittingIn generation o header pool start steps n w =
+    ((more : List Step) × WorksAlone o header pool start (steps ++ more) w) ⊎ ((has : HasDrawn o header pool n w) × (generation_of has.drawn ≡ generation))

@@ -1,6 +1,6 @@
 //! A transaction that may make and free objects, begun.
 
-ghost use Rattle.std.specs.Prelude.{◌≡◌, Any, Err, IfErr, OnOk, false, true};
+ghost use Rattle.std.specs.Prelude.{◌≡◌, Any, Err, IfErr, OnOk, false, length, true};
 ghost use Rattle.pm_lock.specs.Lacking.{LacksObject};
 ghost use Rattle.pm_lock.specs.Resting.{IsAtRest, IsLaneAtRest};
 ghost use Rattle.pm_objects.specs.declared.refusal.Refusal.TheVariants as refusal;
@@ -28,6 +28,7 @@ pub fn begin<M: LawfulMem>(
     ensures stopped { lane.old.stopped ≡ true → (result ≡ Err refusal.Stopped) × (lane.new ≡ lane.old) }
     ensures begun { OnOk result ((v : View) → IsAtRest M.at lane.old v → IsAlone v → HasBegunWith M.at lane.new blocks.new v wants.now) }
     ensures opened { OnOk result (lane.new ≡ record lane.old { memory = lane.new.memory; locks = lane.new.locks; level = 1; stage = stage.Work }) }
+    ensures pages { OnOk result (length blocks.new.dropped ≡ length blocks.old.dropped) }
     ensures fails { IfErr result (λ r. (v : View) → IsAtRest M.at lane.old v → FailsToBegin M.at lane.new v wants.now r) }
     ensures lacks { result ≡ Err refusal.NoObject → (v : View) → IsAtRest M.at lane.old v → HasFoundNone M.at lane.new v wants.now }
     ensures missing { result ≡ Err refusal.NoObject → (v : View) → IsAtRest M.at lane.old v → IsAlone v → Any (LacksObject v) wants.now }

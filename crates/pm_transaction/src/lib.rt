@@ -7,9 +7,11 @@
 //! new ones, on `pm_made` for the lists of what was made and freed, and on `pm_crash` for what a call comes to; docs/MODEL.md, "Transactions that make objects".
 //!
 //! Its laws say, of a lane that works alone, that it may make an object wherever it is at work, that such a transaction may be committed with the redo entries of its
-//! blocks, that its call has ended then, and that the lane begins again behind the transaction's end. They stand on `pm_epoch`; docs/MODEL.md, "From call to call".
+//! blocks, that its call has ended then, what a power failure leaves of it on the way, and that the lane begins again behind the transaction's end; and that an object
+//! is made by few stores, which keep what its call found. They stand on `pm_epoch`; docs/MODEL.md, "From call to call".
 #![tactic(auto)]
 
+mod alloc_laws;
 mod allocating;
 mod beginning;
 mod committing;
@@ -20,12 +22,14 @@ mod new_ranges;
 mod origins;
 mod ranges;
 
+pub use alloc_laws::an_object_is_made_by_few_stores;
 pub use allocating::alloc;
 pub use beginning::begin;
 pub use committing::commit;
 pub use ending::end;
 pub use freeing::free;
 pub use laws::{
+    a_commit_cut_short_is_lost_by_its_words, a_commit_cut_short_leaves_its_whole_calls,
     a_commit_of_a_lane_alone_publishes_its_call, a_lane_alone_begins_at_work,
     a_lane_alone_may_allocate, a_lane_alone_may_publish_its_blocks,
     a_lane_alone_that_ended_begins_again, calls_on_actions_keep_the_lists,

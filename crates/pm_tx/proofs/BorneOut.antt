@@ -127,10 +127,10 @@ module _ (v next : View) (same : HasSameHeads v next) where
 
 -- ---- words outside of the lane's area that stay
 
-chunk_words_outside : (lane lanes c : ℕ) → lane < lanes → is_in_area lane (descriptor_word lanes c) ≡ false
+pub chunk_words_outside : (lane lanes c : ℕ) → lane < lanes → is_in_area lane (descriptor_word lanes c) ≡ false
 chunk_words_outside lane lanes c inside = behind_is_outside lane lanes (descriptor_word lanes c) inside (omega arith)
 
-root_outside : (lane : ℕ) → is_in_area lane 64 ≡ false
+pub root_outside : (lane : ℕ) → is_in_area lane 64 ≡ false
 root_outside lane = false_from_ne_true (is_in_area lane 64) (λ is. let low = leb-true (area_word lane) 64 (and_parts _ _ is).0 in omega (arith, low))
 
 pub same_heads_outside : (v next : View) → v.lane < v.lanes → next.lanes ≡ v.lanes → next.zones ≡ v.zones → next.reserved ≡ v.reserved
@@ -175,13 +175,13 @@ module _ {M : Type 0} (o : Opening) (at : M → View → Type 0) (lane : Lane M)
       let held : Contains v.locks u.1 = (u.0, u.2, u.3) in
       none u.1 held (and_parts (u.1.write && is_some u.1.block) (is_under i u.1) u.4).1)
 
-  descriptor_unrecorded : (c : ℕ) → is_recorded v.log.records (descriptor_word v.lanes c) ≡ false
+  pub descriptor_unrecorded : (c : ℕ) → is_recorded v.log.records (descriptor_word v.lanes c) ≡ false
   descriptor_unrecorded c = unrecorded (descriptor_word v.lanes c) (λ l held under.
       let page : ℕ = page_at v.lanes c in
       let of : IsPageOf v.lanes page c = page_of_chunk v.lanes page c refl in
       (locked_is_plain o work.sound v work.opening l (descriptor_word v.lanes c) held (is_found v work.objects l held) under).0.plain page of.in_chunk (sym of.descriptor))
 
-  root_unrecorded : is_recorded v.log.records 64 ≡ false
+  pub root_unrecorded : is_recorded v.log.records 64 ≡ false
   root_unrecorded = unrecorded 64 (λ l held under.
       let object : FindsObject v l = work.objects l held in
       let chunk : is_chunk v.lanes (l.line / 64) ≡ true = work.under_way.chunks l object.lines held object.block in
