@@ -11,8 +11,9 @@ build:
 
 # A pool is made and shown, and neither overwritten nor made of values out of range; a damaged one is told by its fault. Then a transaction
 # writes eight bytes of its root, and stops at some call: a power failure leaves the root unchanged, or changed as a whole. Three more are run one
-# after another: what the first wrote is read, the second is refused a write that it did not record, and the third reads what stands. At last
-# two words are set by one publish: a power failure leaves both or neither.
+# after another: what the first wrote is read, the second is refused a write that it did not record, and the third reads what stands. Then
+# two words are set by one publish: a power failure leaves both or neither. At last a transaction makes an object, and the next frees it and makes
+# another: a power failure leaves each of these calls whole, or not at all.
 demo: build
 	@rm -f $(POOL) build/damaged.pool build/demo-*.pool
 	@printf 'lane 0\nbegin root\nadd root 0 8\nwrite root 0 0102030405060708\ncommit\n' > build/demo.script
@@ -41,6 +42,13 @@ demo: build
 	  echo "build/pmempool exec $(POOL) .. --stops 0:$$stop --keep $$keep"; \
 	  build/pmempool exec $(POOL) --script build/demo-set.script --out build/demo-set-$$stop-$$keep.pool --layout demo --stops 0:$$stop --keep $$keep; \
 	  build/pmempool dump build/demo-set-$$stop-$$keep.pool; \
+	done; done
+	@printf 'lane 0\nbegin\nalloc a 100 7\nwrite 20608 0 cafe\ncommit\nbegin 20608\nfree 20608\nalloc b 8 9\ncommit\n' > build/demo-objects.script
+	cat build/demo-objects.script
+	@for stop in 43 44 46 80; do for keep in 0 1; do \
+	  echo "build/pmempool exec $(POOL) .. --stops 0:$$stop --keep $$keep"; \
+	  build/pmempool exec $(POOL) --script build/demo-objects.script --out build/demo-objects-$$stop-$$keep.pool --layout demo --stops 0:$$stop --keep $$keep; \
+	  build/pmempool dump build/demo-objects-$$stop-$$keep.pool; \
 	done; done
 
 # Times beside `cp` of the same file, and the times of ten million stores and of ten thousand blocks reserved by one lane alone.

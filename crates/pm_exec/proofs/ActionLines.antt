@@ -1,10 +1,13 @@
 -- A line that makes an action pending, gives up what is pending, or publishes it, from a lane at work.
-use Rattle.std.proofs.Common.{◌≡◌, inl, ℕ, ◌%◌, ◌≤◌, All, Bool, true, false, not, cond, eqb, leb, List, [], ◌∷◌, ◌++◌, length, slice_index, take, Option, None, Some, refl, sym, ap, ◌∙◌, subst, arith, append-nil}
+use Rattle.std.proofs.Common.{◌≡◌, ◌≢◌, ◌⊎◌, inl, inr, ℕ, zero, suc, ◌+◌, ◌%◌, ◌≤◌, All, Bool, true, false, not, cond, eqb, leb, List, [], ◌∷◌, ◌++◌, length, slice_index, take, Option, None, Some, refl, sym, ap, ◌∙◌, subst, arith, append-nil}
 use Rattle.std.specs.Option.{option_map}
 use Rattle.std.proofs.lemmas.Bool.{eqb-true}
 use Rattle.std.proofs.lemmas.List.Elements.{All-append, All-cons, All-nil}
 use Rattle.pm_crash.specs.OnActions.{set_refusal}
 use Rattle.pm_crash.specs.OpenCall.{words_recorded}
+use Rattle.pm_crash.specs.Operations.{entries_so_far}
+use Rattle.pm_crash.specs.CallBlocks.{CallBlocks, blocks_behind, blocks_in}
+use Rattle.pm_crash.proofs.CallBlocks.{blocks_once_more}
 use Rattle.pm_crash.specs.Pending.{pending_in, published_by, published_in}
 use Rattle.pm_crash.proofs.PendingOn.{published_once_more}
 use Rattle.pm_memory.specs.Solo.{Sees, Solo}
@@ -23,55 +26,57 @@ use Rattle.pm_script.specs.declared.script.ScriptLine.{ScriptLine}
 use Rattle.pm_script.specs.declared.script.ScriptOp.{ScriptOp}
 use Rattle.pm_script.specs.declared.script.ScriptOp.TheVariants as op
 use Rattle.pm_script.specs.declared.script.ScriptWant.{ScriptWant}
-use Rattle.pm_model.specs.Checks.{is_action}
 use Rattle.pm_objects.specs.declared.history.TxErr.TheVariants as error
 use Rattle.pm_world.specs.declared.lane.Stage.TheVariants as stage
 use Rattle.pm_lock.proofs.Leads.{led_none, led_then, ready_led}
 use Rattle.pm_lock.specs.Leading.{DrawEnded, IsLed, KeepsHeap}
+use Rattle.pm_made.specs.Made.{BlockLists}
+use Rattle.pm_transaction.proofs.ActionsWithLists.{canceled_with_lists, set_with_lists}
+use Rattle.pm_transaction.proofs.GoingWith.{Keeps, keeps_told, kept_of, looks_keep, with_lists}
+use Rattle.pm_transaction.specs.AtWork.{IsAtWorkWith}
+use Rattle.pm_tx.proofs.BorneOut.{HasSameHeads}
 use Rattle.pm_tx.specs.Actions.{HasCanceled, HasPublished, IsPublishGivenUp, IsPublishStopped, cancels}
 use Rattle.pm_tx.specs.AtWork.{IsAtWork}
-use Rattle.pm_tx.specs.Ending.{IsEndedBy, IsStoppedIn}
+use Rattle.pm_tx.specs.Ending.{IsStoppedIn}
 use Rattle.pm_tx.specs.Learning.{Looks}
 use Rattle.pm_tx.proofs.StepKinds.{HasOnly, only_in_turn, only_one, only_settles}
 use Rattle.pm_tx.proofs.StoreCounts.{HasStores, none_in_one, none_in_settles, stores_in_turn}
 use Rattle.pm_tx.specs.Calls.{HasLooked}
-use Rattle.pm_tx.specs.Sequences.{gives_up}
 use Rattle.pm_tx.proofs.Unraised.{IsWork, quiet_work}
 use Rattle.pm_undo.specs.Working.{log_settled}
 use Rattle.pm_undo.proofs.Settled.{settle_lawful}
-use Rattle.pm_view.specs.Counts.{counted, stores_among}
+use Rattle.pm_view.specs.Counts.{stores_among}
 use Rattle.pm_view.specs.Log.{Log}
 use Rattle.pm_view.specs.Steps.Step.{Tell}
 use Rattle.pm_view.specs.View.{Told, View}
 use Rattle.pm_view.specs.Views.{after, after_all}
 use Rattle.pm_view.proofs.Sequences.{after_all-append}
 use Rattle.pm_world.specs.Opening.{Opening}
-use Rattle.pm_world.specs.Sequences.{Ready, Sequence, in_turn, nothing, one, settles}
+use Rattle.pm_world.specs.Sequences.{Ready, Sequence, in_turn, one, settles}
 use Rattle.pm_world.specs.Lawful.{MayTell}
 use Rattle.pm_world.specs.declared.lane.Lane.{Lane}
-use Rattle.pm_exec.specs.Bounds.{log_stores, logs_of, most_stores, recorded_count}
+use Rattle.pm_exec.specs.Bounds.{log_due, log_stores, logs_of, most_stores, recorded_count}
 use Rattle.pm_exec.specs.Calls.{id_of, operation_of}
-use Rattle.pm_exec.specs.Course.{IsFree, IsLineMade, line_calls}
+use Rattle.pm_exec.specs.Course.{IsLineMade, IsLineStopped}
 use Rattle.pm_exec.specs.Progress.{IsAtLine, IsCut, IsGivenUpAt, IsPending, IsToldDone, Values, done, values_told}
 use Rattle.pm_exec.specs.Torn.{words_after, words_by}
 use Rattle.pm_exec.specs.declared.calls.Names.{Names}
-use Rattle.pm_exec.proofs.ChangeLines.{at_next_with, calm_behind, cut_ended, cut_in, free_u, lane_u, over_ended, words_u}
-use Rattle.pm_exec.proofs.AddAndWrite.{given_up_so}
+use Rattle.pm_exec.proofs.ChangeLines.{at_next_with, calm_behind, cut_in, free_u, lane_u, words_u}
+use Rattle.pm_exec.proofs.AddAndWrite.{cut_giving_up, given_up, not_spent, tells_uncounted}
+use Rattle.pm_exec.proofs.LooksAlone.{looks_none}
 use Rattle.pm_exec.proofs.LineLists.{gave_more, gave_nothing, words_more}
 use Rattle.pm_exec.proofs.CommitFront.{settled_log}
 use Rattle.pm_exec.proofs.QuietSequences.{calm_steps, quiet_by}
 use Rattle.pm_exec.proofs.QuietSlots.{IsCalm}
 use Rattle.pm_exec.proofs.UndrawnSteps.{IsUndrawn, undrawn_steps}
 
-looks_none : (v : View) → Looks 0 v v
-unfolding Looks
-looks_none v = refl
-
--- a call on what is pending publishes nothing of it
-none_published : (v w : View) (op : Operation) (reply : Option Value) → w.entries ≡ v.entries → w.call ≡ v.call ++ record { operation = op; reply = reply } ∷ [] → ((actions : List Action) → published_by op reply actions ≡ [])
-    → logs_of (published_in w) ≡ logs_of (published_in v)
-none_published v w op reply entries call publishes_none =
-    ap logs_of (published_once_more v w op reply entries call ∙ ap (λ (more : List Action). published_in v ++ more) (publishes_none (pending_in v)) ∙ append-nil (published_in v))
+-- behind a call on what is pending that publishes nothing of it, and makes and frees nothing, the log that is due is the same
+due_still : (v w : View) (op : Operation) (reply : Option Value) → w.entries ≡ v.entries → w.call ≡ v.call ++ record { operation = op; reply = reply } ∷ [] → ((actions : List Action) → published_by op reply actions ≡ [])
+    → blocks_behind op reply (blocks_in v) ≡ blocks_in v → log_due w ≡ log_due v
+due_still v w op reply entries call publishes_none keeps_blocks =
+    let actions = ap length (published_once_more v w op reply entries call ∙ ap (λ (more : List Action). published_in v ++ more) (publishes_none (pending_in v)) ∙ append-nil (published_in v)) in
+    let news = ap (λ (b : CallBlocks). length b.made + length b.freed) (blocks_once_more v w op reply call ∙ keeps_blocks) in
+    ap logs_of (omega (arith, actions, news))
 
 -- what a set is not refused for
 pub set_taken : (off : ℕ) (actions : List Action) → None ≡ set_refusal off actions → off % 8 ≡ 0
@@ -79,6 +84,11 @@ set_taken off actions taken = at (eqb (off % 8) 0) refl taken where
   at : (b : Bool) → eqb (off % 8) 0 ≡ b → None ≡ cond (not b) (Some refusal.Unaligned) (cond (leb 63 (length actions)) (Some refusal.ActionsFull) None) → off % 8 ≡ 0
   at true is taken = eqb-true (off % 8) 0 is
   at false is taken = absurd cc
+
+-- no publish is refused as spent
+pub publish_not_spent : (r : Refusal) → (r ≡ refusal.NotLocked) ⊎ (r ≡ refusal.OutOfRange) ⊎ (r ≡ refusal.ActionsFull) ⊎ (r ≡ refusal.Stopped) → r ≢ refusal.Spent
+publish_not_spent r (inl is) = not_spent r refusal.ActionsFull (λ same. cc) (inl is)
+publish_not_spent r (inr is) = not_spent r refusal.ActionsFull (λ same. cc) (inr (inr is))
 
 -- one telling, of a call that is open
 module _ (operation : Operation) (reply : Option Value) where
@@ -93,10 +103,6 @@ module _ (operation : Operation) (reply : Option Value) where
   unfolding one after_all
   told_view v = refl
 
-  told_free : (v : View) → counted (tells v) ≡ 0
-  unfolding one counted
-  told_free v = refl
-
   told_heap : (v : View) → KeepsHeap v (after_all v (tells v))
   unfolding one after_all
   told_heap v = record { zone_locks = refl; reserved = refl; freed = refl }
@@ -105,14 +111,14 @@ module _ (operation : Operation) (reply : Option Value) where
   tell_stores v = none_in_one (Tell operation reply) refl v
 
   tell_led : (v : View) → MayTell v.log.phase → IsLed v (after v (Tell operation reply))
-  tell_led v may = let t = tell_ready v may in subst (λ (u : View). IsLed v u) (told_view v) (ready_led v (tells v) t.0 t.1 (told_free v) (told_heap v))
+  tell_led v may = let t = tell_ready v may in subst (λ (u : View). IsLed v u) (told_view v) (ready_led v (tells v) t.0 t.1 (tells_uncounted operation reply v) (told_heap v))
 
-module _ (o : Opening) (first : View) (lane : Lane Solo) (actions : List SetAction) (names : Names) (front : List ScriptLine) (values : Values) (a : IsAtLine o first lane actions names front values) (new : Lane Solo) (said : ScriptLine) where
+module _ (o : Opening) (first : View) (lane : Lane Solo) (blocks : BlockLists) (actions : List SetAction) (names : Names) (front : List ScriptLine) (values : Values) (a : IsAtLine o first lane blocks actions names front values) (new : Lane Solo) (said : ScriptLine) where
   abbrev v : View
   v = a.view
 
   may : MayTell v.log.phase
-  may = subst MayTell (sym a.works.working.is_open) tt
+  may = subst MayTell (sym a.works.work.working.is_open) tt
 
   module _ (id : ScriptId) (action : SetAction) (id_is : action.id ≡ id_of names id) (is : said.operation ≡ op.Set id action.off action.value) where
     abbrev asks : Operation
@@ -131,14 +137,11 @@ module _ (o : Opening) (first : View) (lane : Lane Solo) (actions : List SetActi
     set_told r = subst (λ (x : ScriptOp). IsToldDone names x (set r)) (sym is) (r, ap (λ (i : Oid). record { operation = operation.SetValue i action.off action.value; reply = option_map Refused r }) id_is)
 
     set_made : (r : Option Refusal) → IsLineMade names said.operation v (w r)
-    unfolding nothing after_all
-    set_made r =
-        record {
-          start = w r;
-          free = record { led = tell_led asks (option_map Refused r) v may; undrawn = refl };
-          number = 0;
-          is = ap (λ (x : ScriptOp). after_all (w r) (line_calls names x 0 (w r))) (sym is);
-        }
+    set_made r = subst (λ (x : ScriptOp). IsLineMade names x v (w r)) (sym is) (record { led = tell_led asks (option_map Refused r) v may; undrawn = refl })
+
+    set_blocks : (r : Option Refusal) → blocks_behind asks (option_map Refused r) (blocks_in v) ≡ blocks_in v
+    set_blocks None = refl
+    set_blocks (Some why) = refl
 
     -- what the line gives: its refusal, if it was refused
     abbrev given_by : Option Refusal → Values
@@ -160,19 +163,19 @@ module _ (o : Opening) (first : View) (lane : Lane Solo) (actions : List SetActi
     }
     left_pending (Some why) left answers done kept pending = record { are = pending; aligned = subst (All (λ (x : SetAction). x.off % 8 ≡ 0)) (sym (kept why refl)) a.pending.aligned }
 
-    pub set_done : (r : Option Refusal) (left : List SetAction) → IsAtWork o Sees new (w r) → new.level ≡ 1 → IsPending left (pending_in (w r)) → IsAtLine o first new left names (front ++ said ∷ []) (given_by r)
-    set_done r left works level pending =
+    pub set_done : (r : Option Refusal) (left : List SetAction) → IsAtWork o Sees new (w r) → new.level ≡ 1 → new.locks ≡ lane.locks → IsPending left (pending_in (w r)) → IsAtLine o first new blocks left names (front ++ said ∷ []) (given_by r)
+    set_done r left works level locks pending =
         let steps : Sequence = tells asks (option_map Refused r) in
         let t = tell_ready asks (option_map Refused r) v may in
         let same = told_view asks (option_map Refused r) v in
-        let logs = none_published v (w r) asks (option_map Refused r) refl refl (λ pending. refl) in
+        let due = due_still v (w r) asks (option_map Refused r) refl refl (λ pending. refl) (set_blocks r) in
         let stored = tell_stores asks (option_map Refused r) v in
-        at_next_with o first lane actions names front values a 0 v (looks_none v) new steps (only_one IsWork (Tell asks (option_map Refused r)) tt v (lane_u o first lane actions names front values a 0 v (looks_none v)))
-        (only_one IsUndrawn (Tell asks (option_map Refused r)) tt v (lane_u o first lane actions names front values a 0 v (looks_none v))) said left t.0 t.1
-        (subst (IsAtWork o Sees new) (sym same) works) level (set r) (set_told r) (ap (λ (u : View). u.call) same)
-        (λ i outside. ap (λ (u : View). slice_index u.words i) same ∙ a.words i outside ∙ sym (words_more names front said (slice_index o.words) i ∙ ap (λ (x : ScriptOp). words_by names x (words_after names front (slice_index o.words)) i) is))
+        at_next_with o first lane blocks actions names front values a 0 v (looks_none v) new steps (only_one IsWork (Tell asks (option_map Refused r)) tt v (lane_u o first lane blocks actions names front values a 0 v (looks_none v)))
+        (only_one IsUndrawn (Tell asks (option_map Refused r)) tt v (lane_u o first lane blocks actions names front values a 0 v (looks_none v))) said blocks left t.0 t.1
+        (subst (IsAtWorkWith o Sees new blocks) (sym same) (set_with_lists o Sees lane new blocks v a.works locks action.id action.off action.value r works)) level locks (set r) (set_told r) (ap (λ (u : View). u.call) same)
+        (λ i under. ap (λ (u : View). slice_index u.words i) same ∙ a.words i under ∙ sym (words_more names front said (slice_index o.words) i ∙ ap (λ (x : ScriptOp). words_by names x (words_after names front (slice_index o.words)) i) is))
         (given_by r) (gives r) (subst (λ (u : View). IsLineMade names said.operation v u) (sym same) (set_made r)) (subst (λ (u : View). IsPending left (pending_in u)) (sym same) pending)
-        (let count = ap recorded_count same in let more = ap (λ (u : View). logs_of (published_in u)) same in omega (arith, stored, count, more, logs))
+        (let count = ap recorded_count same in let more = ap log_due same in omega (arith, stored, count, more, due))
 
   -- ---- what is pending is given up
 
@@ -197,7 +200,7 @@ module _ (o : Opening) (first : View) (lane : Lane Solo) (actions : List SetActi
     canceled = after_all v (cancels v)
 
     abbrev lane_is : v.lane ≡ 0
-    lane_is = lane_u o first lane actions names front values a 0 v (looks_none v)
+    lane_is = lane_u o first lane blocks actions names front values a 0 v (looks_none v)
 
     canceled_is : canceled ≡ after (after_all v (settles v)) (Tell operation.Cancel None)
     unfolding cancels in_turn one after_all
@@ -217,30 +220,28 @@ module _ (o : Opening) (first : View) (lane : Lane Solo) (actions : List SetActi
     canceled_words = ap (λ (u : View). u.words) canceled_is ∙ ap (λ (u : View). u.words) settled_so
 
     canceled_records : recorded_count canceled ≡ recorded_count v
-    canceled_records = ap recorded_count canceled_is ∙ ap recorded_count settled_so ∙ ap (λ (l : Log). length (words_recorded l.records)) (settled_log v a.works.working.is_open v.changes)
+    canceled_records = ap recorded_count canceled_is ∙ ap recorded_count settled_so ∙ ap (λ (l : Log). length (words_recorded l.records)) (settled_log v a.works.work.working.is_open v.changes)
 
-    here : cancels v ≡ line_calls names said.operation 0 v
-    here = ap (λ (x : ScriptOp). line_calls names x 0 v) (sym is)
-
-    pub cancel_done : HasCanceled o Sees new v → new.level ≡ 1 → IsAtLine o first new [] names (front ++ said ∷ []) values
-    cancel_done h level =
-        let logs = none_published v canceled operation.Cancel None canceled_entries canceled_call (λ pending. refl) in
+    pub cancel_done : HasCanceled o Sees new v → new.level ≡ 1 → new.locks ≡ lane.locks → IsAtLine o first new blocks [] names (front ++ said ∷ []) values
+    cancel_done h level locks =
+        let due = due_still v canceled operation.Cancel None canceled_entries canceled_call (λ pending. refl) refl in
         let stored = cancels_store_none v in
         let count = canceled_records in
-        at_next_with o first lane actions names front values a 0 v (looks_none v) new cancels (cancels_work v lane_is) (cancels_undrawn v lane_is) said [] h.ready h.draws h.works level
+        at_next_with o first lane blocks actions names front values a 0 v (looks_none v) new cancels (cancels_work v lane_is) (cancels_undrawn v lane_is) said blocks [] h.ready h.draws
+        (canceled_with_lists o Sees lane new blocks v a.works locks h) level locks
         (done operation.Cancel) (subst (λ (x : ScriptOp). IsToldDone names x (done operation.Cancel)) (sym is) refl) canceled_call
-        (λ i outside. ap (λ (words : List ℕ). slice_index words i) canceled_words ∙ a.words i outside ∙ sym (words_more names front said (slice_index o.words) i ∙ ap (λ (x : ScriptOp). words_by names x (words_after names front (slice_index o.words)) i) is))
+        (λ i under. ap (λ (words : List ℕ). slice_index words i) canceled_words ∙ a.words i under ∙ sym (words_more names front said (slice_index o.words) i ∙ ap (λ (x : ScriptOp). words_by names x (words_after names front (slice_index o.words)) i) is))
         values (gave_nothing names front said v.call (done operation.Cancel) values a.told refl a.gave)
-        (record { start = v; free = record { led = led_none v; undrawn = refl }; number = 0; is = ap (after_all v) here })
-        (record { are = sym h.none; aligned = All-nil (λ (x : SetAction). x.off % 8 ≡ 0) }) (omega (arith, logs, stored, count))
+        (subst (λ (x : ScriptOp). IsLineMade names x v canceled) (sym is) (record { start = v; free = record { led = led_none v; undrawn = refl }; is = refl }))
+        (record { are = sym h.none; aligned = All-nil (λ (x : SetAction). x.off % 8 ≡ 0) }) (omega (arith, due, stored, count))
 
     pub cancel_cut : (rest : List ScriptLine) → IsStoppedIn Sees new v cancels operation.Cancel None → IsCut o first new names (front ++ said ∷ rest) values
     cancel_cut rest stopped =
         let k : ℕ = stopped.stops.made in
-        cut_in o first lane actions names front values a 0 v (looks_none v) new cancels (cancels_work v lane_is) (cancels_undrawn v lane_is) said rest
+        cut_in o first lane blocks actions names front values a 0 v (looks_none v) new cancels (cancels_work v lane_is) (cancels_undrawn v lane_is) said rest
         (subst (λ (x : Operation). IsStoppedIn Sees new v cancels x None) (ap (operation_of names) (sym is)) stopped)
-        (inl (calm_behind o first lane actions names front values a 0 v (looks_none v) (after_all v (take k (cancels v))) a.works.working (λ quiet. quiet_by cancels cancels_calm v k quiet)))
-        0 here (let stored = cancels_store_none v in omega (arith, stored))
+        (inl (calm_behind o first lane blocks actions names front values a 0 v (looks_none v) (after_all v (take k (cancels v))) a.works.work.working (λ quiet. quiet_by cancels cancels_calm v k quiet)))
+        cancels refl (λ m by. subst (λ (x : ScriptOp). IsLineStopped names x v m) (sym is) by) (let stored = cancels_store_none v in omega (arith, stored))
 
   -- ---- what is pending becomes the transaction's
 
@@ -251,52 +252,50 @@ module _ (o : Opening) (first : View) (lane : Lane Solo) (actions : List SetActi
     no_begin : (asked : List ScriptWant) → said.operation ≡ op.Begin asked → ⊥
     no_begin asked begins = let clash = sym is ∙ begins in cc
 
-    log_few : (actions : List Action) → logs_of actions ≤ log_stores
-    log_few [] = omega arith
-    log_few (action ∷ actions) = omega arith
+    log_few : (n : ℕ) → logs_of n ≤ log_stores
+    log_few zero = omega arith
+    log_few (suc n) = omega arith
 
-    publish_made : (u : View) → IsFree v u → MayTell u.log.phase → IsLineMade names said.operation v (after u (Tell operation.Publish None))
-    unfolding nothing after_all
-    publish_made u behind open_ =
-        let here : View = after u (Tell operation.Publish None) in
-        record {
-          start = here;
-          free = record { led = led_then v u here behind.led (tell_led operation.Publish None u open_); undrawn = behind.undrawn };
-          number = 0;
-          is = ap (λ (x : ScriptOp). after_all here (line_calls names x 0 here)) (sym is);
-        }
+    -- told behind some looks, the lists are kept
+    module _ (n : ℕ) (u : View) (looks : Looks n v u) where
+      abbrev here : View
+      here = after u (Tell operation.Publish None)
 
-    pub publish_done : HasLooked v (HasPublished o Sees new) → new.level ≡ 1 → IsAtLine o first new [] names (front ++ said ∷ []) values
-    publish_done t level =
+      published_with_lists : new.locks ≡ lane.locks → IsAtWork o Sees new here → IsAtWorkWith o Sees new blocks here
+      published_with_lists locks work =
+          let heads : HasSameHeads u here = record { lanes = refl; zones = refl; reserved = refl; described = λ c in_pool. refl; root = refl } in
+          let keeps : Keeps new.locks.items blocks u = looks_keep new.locks.items blocks n v u looks (subst (λ ls. Keeps ls.items blocks v) (sym locks) (kept_of o Sees lane blocks v a.works)) in
+          with_lists o Sees new blocks here work
+          (keeps_told u here heads new.locks.items blocks keeps refl refl (blocks_once_more u here operation.Publish None refl) operation.Publish None refl refl (λ root. tt))
+
+      publish_made : MayTell u.log.phase → IsLineMade names said.operation v here
+      publish_made open_ =
+          let behind = free_u o first lane blocks actions names front values a n u looks in
+          subst (λ (x : ScriptOp). IsLineMade names x v here) (sym is) (record { led = led_then v u here behind.led (tell_led operation.Publish None u open_); undrawn = behind.undrawn })
+
+    pub publish_done : HasLooked v (HasPublished o Sees new) → new.level ≡ 1 → new.locks ≡ lane.locks → IsAtLine o first new blocks [] names (front ++ said ∷ []) values
+    publish_done t level locks =
+        let n = t.loads in
         let u : View = t.view in
-        let here : View = after u (Tell operation.Publish None) in
-        let lane_is = lane_u o first lane actions names front values a t.loads u t.looks in
+        let lane_is = lane_u o first lane blocks actions names front values a n u t.looks in
         let open_ = subst MayTell (sym t.working.is_open) tt in
         let r = tell_ready operation.Publish None u open_ in
         let same = told_view operation.Publish None u in
-        let behind = free_u o first lane actions names front values a t.loads u t.looks in
         let stored = tell_stores operation.Publish None u in
-        let few = log_few (published_in here) in
-        at_next_with o first lane actions names front values a t.loads u t.looks new (tells operation.Publish None) (only_one IsWork (Tell operation.Publish None) tt u lane_is)
-        (only_one IsUndrawn (Tell operation.Publish None) tt u lane_is) said [] r.0 r.1
-        (subst (IsAtWork o Sees new) (sym same) t.holds.works) level (done operation.Publish) (subst (λ (x : ScriptOp). IsToldDone names x (done operation.Publish)) (sym is) refl) (ap (λ (w : View). w.call) same)
-        (λ i outside. ap (λ (w : View). slice_index w.words i) same ∙ words_u o first lane actions names front values a t.loads u t.looks i outside ∙ sym (words_more names front said (slice_index o.words) i ∙ ap (λ (x : ScriptOp). words_by names x (words_after names front (slice_index o.words)) i) is))
+        let few = log_few (entries_so_far (after u (Tell operation.Publish None))) in
+        at_next_with o first lane blocks actions names front values a n u t.looks new (tells operation.Publish None) (only_one IsWork (Tell operation.Publish None) tt u lane_is)
+        (only_one IsUndrawn (Tell operation.Publish None) tt u lane_is) said blocks [] r.0 r.1
+        (subst (IsAtWorkWith o Sees new blocks) (sym same) (published_with_lists n u t.looks locks t.holds.works)) level locks (done operation.Publish) (subst (λ (x : ScriptOp). IsToldDone names x (done operation.Publish)) (sym is) refl) (ap (λ (w : View). w.call) same)
+        (λ i under. ap (λ (w : View). slice_index w.words i) same ∙ words_u o first lane blocks actions names front values a n u t.looks i under ∙ sym (words_more names front said (slice_index o.words) i ∙ ap (λ (x : ScriptOp). words_by names x (words_after names front (slice_index o.words)) i) is))
         values (gave_nothing names front said v.call (done operation.Publish) values a.told refl a.gave)
-        (subst (λ (w : View). IsLineMade names said.operation v w) (sym same) (publish_made u behind open_))
+        (subst (λ (w : View). IsLineMade names said.operation v w) (sym same) (publish_made n u t.looks open_))
         (subst (λ (w : View). IsPending [] (pending_in w)) (sym same) (record { are = sym t.holds.none; aligned = All-nil (λ (x : SetAction). x.off % 8 ≡ 0) }))
-        (let most = ap (most_stores names) is in let count = ap recorded_count same in let more = ap (λ (w : View). logs_of (published_in w)) same in omega (arith, stored, count, more, few, most))
+        (let most = ap (most_stores names) is in let count = ap recorded_count same in let more = ap log_due same in omega (arith, stored, count, more, few, most))
 
     pub publish_over : (r : Refusal) → HasLooked v (IsPublishGivenUp Sees new lane.records.items r)
         → new ≡ record lane { memory = new.memory; records = new.records; entries = new.entries; stage = stage.OnAbort; error = error.Refused r; drawn = Some new.last; last = new.last }
-        → (rest : List ScriptLine) → IsGivenUpAt first new actions names (front ++ said ∷ rest) values said.line r
-    publish_over r t fields rest =
-        over_ended o first lane actions names front values a t.loads t.view t.looks new said t.working r
-        (subst (λ (x : Operation). IsEndedBy Sees new t.view (gives_up lane.records.items x (Some (Refused r)) new.last) x (Some (Refused r))) publish_is t.holds.ended)
-        (ap is_action (sym publish_is)) (ap (λ (l : Lane Solo). l.level) fields ∙ a.level) (ap (λ (l : Lane Solo). l.stage) fields) (ap (λ (l : Lane Solo). l.error) fields)
-        (given_up_so names said.operation r v no_begin) rest
+        → (rest : List ScriptLine) → IsGivenUpAt o first new blocks actions names (front ++ said ∷ rest) values said.line r
+    publish_over r t fields rest = given_up o first lane blocks actions names front values a new said operation.Publish publish_is r t.loads t.view t.looks t.working t.holds.ended fields no_begin refl rest
 
     pub publish_cut : (rest : List ScriptLine) → HasLooked v (IsPublishStopped Sees new lane.records.items) → IsCut o first new names (front ++ said ∷ rest) values
-    publish_cut rest t =
-        let r : Refusal = t.holds.refusal in
-        cut_ended o first lane actions names front values a t.loads t.view t.looks new said t.working rest r
-        (subst (λ (x : Operation). IsStoppedIn Sees new t.view (gives_up lane.records.items x (Some (Refused r)) new.last) x (Some (Refused r))) publish_is t.holds.stopped)
+    publish_cut rest t = cut_giving_up o first lane blocks actions names front values a new said operation.Publish publish_is t.holds.refusal t.loads t.view t.looks t.working t.holds.stopped rest

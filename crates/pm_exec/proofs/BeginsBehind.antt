@@ -1,6 +1,5 @@
 -- A lane that rests behind an answered call begins again, over the words as they stand, wherever it began.
-use Rattle.std.proofs.Common.{◌≡◌, inr, ℕ, ◌<◌, ◌&&◌, List, slice_index, Some, ap}
-use Rattle.std.specs.List.{list_any}
+use Rattle.std.proofs.Common.{◌≡◌, inr, ℕ, ◌<◌, List, slice_index, Some}
 use Rattle.pm_crash.proofs.AloneCourse.{StandsAlone, stands_at}
 use Rattle.pm_crash.proofs.SeenAlone.{works_where_seen}
 use Rattle.pm_crash.specs.Alone.{Begins, WorksAlone, standing}
@@ -11,31 +10,31 @@ use Rattle.pm_header.specs.declared.header.Header.{Header}
 use Rattle.pm_lock.specs.Resting.{IsAtRest}
 use Rattle.pm_memory.specs.Solo.{Sees, Solo}
 use Rattle.pm_objects.specs.declared.pool.PoolView.{PoolView}
-use Rattle.pm_view.specs.Blocks.{descriptor_word, is_run}
+use Rattle.pm_transaction.proofs.EndingAlone.{none_run}
 use Rattle.pm_view.specs.Log.{no_log}
 use Rattle.pm_view.specs.Log.Phase.{Idle}
 use Rattle.pm_view.specs.Steps.{Step}
-use Rattle.pm_view.specs.View.{Taken, View}
-use Rattle.pm_view.specs.Views.{chunk_bit, has_bit, zone_at}
+use Rattle.pm_view.specs.View.{View}
 use Rattle.pm_world.specs.Opening.{Opening}
 use Rattle.pm_world.specs.declared.lane.Lane.{Lane}
+use Rattle.pm_exec.proofs.HeapStill.{makes_none}
 use Rattle.pm_exec.specs.Progress.{HasNothing}
 
--- where it has nothing of the heap, no chunk that it reserved is a run
-pub rests_behind : (lane : Lane Solo) (w : View) → IsAtRest Sees lane w → w.log ≡ no_log Idle → HasNothing w → (n : ℕ) → w.number ≡ Some n → RestsBehindCall w
-rests_behind lane w rests idle none n numbered = record {
-  idle = idle;
-  drained = rests.drained;
-  free = rests.free;
-  unlocked = none.unlocked;
-  no_run = λ page inside. ap (λ (reserved : List Taken). list_any (has_bit (zone_at w.lanes page) (chunk_bit w.lanes page)) reserved && is_run (slice_index w.words (descriptor_word w.lanes page))) none.nothing_reserved;
-  number = n;
-  numbered = numbered;
-}
-
 module _ (o : Opening) (header : Header) (pool : PoolView) (lane : Lane Solo) (v w : View) (steps : List Step) (begins : Begins o header pool v) (leads : Leads v steps w) (seen : Sees lane.memory w) where
-  works : WorksAlone o header pool v steps w
+  pub works : WorksAlone o header pool v steps w
   works = works_where_seen o header pool lane.memory v w steps begins leads seen
+
+  -- where it has nothing of the heap, no chunk that it reserved is a run
+  pub rests_behind : IsAtRest Sees lane w → w.log ≡ no_log Idle → HasNothing w → (n : ℕ) → w.number ≡ Some n → RestsBehindCall w
+  rests_behind rests idle none n numbered = record {
+    idle = idle;
+    drained = rests.drained;
+    free = rests.free;
+    unlocked = none.unlocked;
+    no_run = none_run o header pool v w steps works (makes_none w none);
+    number = n;
+    numbered = numbered;
+  }
 
   pub begins_behind : RestsBehindCall w → Begins (standing o w) header pool w
   begins_behind rests = inr (begins_again o header pool v w steps works rests)

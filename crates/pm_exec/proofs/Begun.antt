@@ -1,6 +1,6 @@
 -- What a script's begin comes to: the lane is at work over the words of the opening, or its call is refused, or it does not begin.
 use Rattle.std.specs.List.{Any}
-use Rattle.std.proofs.Common.{◌≡◌, ⊎_elim, inl, inr, ℕ, ◌≤◌, Bool, true, false, All, List, [], ◌∷◌, ◌++◌, length, map, slice_index, refl, sym, ap, ◌∙◌, subst, arith}
+use Rattle.std.proofs.Common.{◌≡◌, ⊎_elim, inl, inr, ℕ, ◌+◌, ◌≤◌, Bool, true, false, List, [], ◌∷◌, ◌++◌, length, map, slice_index, refl, sym, ap, ◌∙◌, subst, arith}
 use Rattle.std.proofs.lemmas.Bool.{false≢true}
 use Rattle.std.proofs.lemmas.List.Elements.{All-contains}
 use Rattle.pm_memory.specs.Solo.{IsGranted, Sees, Solo}
@@ -16,7 +16,11 @@ use Rattle.pm_lock.specs.Lacking.{LacksObject}
 use Rattle.pm_lock.specs.Leading.{IsLed, KeepsHeap}
 use Rattle.pm_lock.specs.Locking.{IsBusy, takes}
 use Rattle.pm_tx.specs.Beginning.{IsSpent, RestsBehind}
-use Rattle.pm_tx.specs.Begins.{FailsToBegin, HasBegun, HasRefused, LeavesLane}
+use Rattle.pm_made.specs.Made.{BlockLists}
+use Rattle.pm_transaction.proofs.BeginningAlone.{begun_at_work}
+use Rattle.pm_transaction.specs.AtWork.{AreForPool}
+use Rattle.pm_transaction.specs.Beginning.{HasBegunWith}
+use Rattle.pm_tx.specs.Begins.{FailsToBegin, HasRefused, LeavesLane}
 use Rattle.pm_tx.specs.Sequences.{sees_generation, starts}
 use Rattle.pm_tx.specs.Stages.{is_work}
 use Rattle.pm_view.specs.Area.{area_word}
@@ -25,7 +29,7 @@ use Rattle.pm_view.specs.Steps.Step.{Load}
 use Rattle.pm_view.specs.View.{Told, View}
 use Rattle.pm_view.specs.Views.{after, after_all, begun}
 use Rattle.pm_world.specs.Opening.{Opening}
-use Rattle.pm_world.specs.Sequences.{Ready, Sequence, by_lane, by_view, in_turn, looks, nothing, one}
+use Rattle.pm_world.specs.Sequences.{Ready, Sequence, by_lane, by_view, in_turn, looks, one}
 use Rattle.pm_world.specs.declared.lane.Lane.{Lane}
 use Rattle.pm_world.specs.declared.lane.Stage.TheVariants as stage
 use Rattle.pm_exec.proofs.FewStores.{idle_count, led_count, led_stores}
@@ -37,21 +41,25 @@ use Rattle.pm_script.specs.declared.script.ScriptOp.{ScriptOp}
 use Rattle.pm_script.specs.declared.script.ScriptWant.{ScriptWant}
 use Rattle.pm_view.specs.Counts.{counted}
 use Rattle.pm_world.specs.Lawful.{generation_limit}
-use Rattle.pm_exec.specs.Course.{IsLineMade, IsRefusalMade, IsUsedUp, LinesMade, line_calls, IsBeginRefusal}
+use Rattle.pm_exec.specs.Course.{IsLineMade, IsRefusalMade, IsUsedUp, LinesMade, IsBeginRefusal}
 use Rattle.pm_exec.specs.Progress.{AreToldDone, IsAtLine, IsGivenUpAt, IsNotDone, IsStart, IsToldDone, IsUnbegun, done, not_done, numbered, refused, values_told}
 use Rattle.pm_exec.specs.declared.calls.Names.{Names}
-use Rattle.pm_exec.proofs.Along.{alone_along, lane_along}
-use Rattle.pm_exec.proofs.HeapStill.{begun_heap, nothing_still}
-use Rattle.pm_exec.proofs.Starts.{finds_led, start_alone, start_idle, start_lane, start_sound, start_zones, words_led}
+use Rattle.pm_exec.proofs.Along.{lane_along, same_along}
+use Rattle.pm_exec.proofs.HeapStill.{begun_heap, makes_none, nothing_still}
+use Rattle.pm_exec.proofs.Links.{passed}
+use Rattle.pm_exec.proofs.Starts.{start_alone, start_idle, start_lane, words_led}
+use Rattle.pm_crash.proofs.SeenAlone.{works_where_seen}
+use Rattle.pm_crash.specs.Operations.{entries_so_far}
+use Rattle.pm_crash.specs.CallBlocks.{CallBlocks, blocks_in, blocks_told, no_blocks}
 use Rattle.pm_pending.specs.declared.actions.SetAction.{SetAction}
 use Rattle.pm_crash.specs.Pending.{pending_before, pending_from, pending_told}
 use Rattle.pm_crash.proofs.PendingOn.{calls_further, pending_first, published_first, same_before}
 use Rattle.pm_model.specs.Checks.{is_action}
-use Rattle.pm_exec.specs.Bounds.{logs_of}
+use Rattle.pm_exec.specs.Bounds.{log_due, logs_of, stores_of_call}
 use Rattle.pm_exec.specs.Progress.{IsPending}
 use Rattle.pm_exec.proofs.PendingLists.{uncounted_raises}
 
-module _ (o : Opening) (first : View) (lane new : Lane Solo) (actions : List SetAction) (names : Names) (is : IsStart o lane actions first) where
+module _ (o : Opening) (first : View) (lane new : Lane Solo) (blocks : BlockLists) (actions : List SetAction) (names : Names) (is : IsStart o lane blocks actions first) where
   -- no lock is refused
   pub not_busy : IsBusy Sees new first → ⊥
   not_busy b = refuted b.write (All-contains IsGranted b.view.seen (takes b.line b.write false) b.rests.seen.memory.alone b.refused) where
@@ -62,7 +70,7 @@ module _ (o : Opening) (first : View) (lane new : Lane Solo) (actions : List Set
   -- looks at the generation and the number keep the entries
   none_drawn : (n : ℕ) → (after_all first (starts n first)).entries ≡ first.entries
   unfolding starts sees_generation by_lane by_view looks in_turn one after_all
-  none_drawn n = ap (λ (l : Log). (begun l.phase (after first (Load (area_word first.lane) (slice_index first.words (area_word first.lane))))).entries) (start_idle o lane actions first is)
+  none_drawn n = ap (λ (l : Log). (begun l.phase (after first (Load (area_word first.lane) (slice_index first.words (area_word first.lane))))).entries) (start_idle o lane blocks actions first is)
 
   none_drawn_yet : (after_all first (sees_generation first)).entries ≡ first.entries
   unfolding sees_generation by_lane by_view looks after_all
@@ -80,7 +88,7 @@ module _ (o : Opening) (first : View) (lane new : Lane Solo) (actions : List Set
   -- what is seen of the numbers is how many it drew
   number_is : (n : ℕ) → Ready first (starts n first) → n ≡ length first.entries
   unfolding starts sees_generation by_lane by_view looks in_turn one after_all Ready
-  number_is n ready = ready.2.1 (start_alone o lane actions first is)
+  number_is n ready = ready.2.1 (start_alone o lane blocks actions first is)
 
   -- nor do they change what the lane has of the heap
   looks_heap : KeepsHeap first (after_all first (sees_generation first))
@@ -120,13 +128,7 @@ module _ (o : Opening) (first : View) (lane new : Lane Solo) (actions : List Set
     nothing_given told are = ap (values_told (said ∷ [])) (sym are)
 
     begin_made : (w : View) → IsLed first w → w.entries ≡ first.entries → IsLineMade names said.operation first w
-    unfolding nothing after_all
-    begin_made w led kept = record {
-      start = w;
-      free = record { led = led; undrawn = kept };
-      number = 0;
-      is = ap (λ (x : ScriptOp). after_all w (line_calls names x 0 w)) (sym begins);
-    }
+    begin_made w led kept = subst (λ (x : ScriptOp). IsLineMade names x first w) (sym begins) (record { led = led; undrawn = kept })
 
     line_made : (w : View) → IsLed first w → w.entries ≡ first.entries → LinesMade names (said ∷ []) first w
     unfolding LinesMade
@@ -136,30 +138,43 @@ module _ (o : Opening) (first : View) (lane new : Lane Solo) (actions : List Set
     unfolding words_after
     begin_writes_none words i = ap (λ (x : ScriptOp). words_by names x words i) begins
 
-    pub begun_at_line : HasBegun Sees new first wants → new.level ≡ 1 → IsAtLine o first new actions names (said ∷ []) []
-    begun_at_line b level =
+    -- it published, made and freed nothing
+    no_log_due : (w : View) → w.call ≡ done (operation.Begin wants) ∷ [] → log_due w ≡ 0
+    unfolding blocks_told
+    no_log_due w call =
+        let none : blocks_in w ≡ no_blocks = ap (blocks_told no_blocks) call in
+        let made = ap (λ (b : CallBlocks). length b.made + length b.freed) none in
+        let published = ap length (published_first w (done (operation.Begin wants)) call) in
+        let nothing : entries_so_far w ≡ 0 = omega (arith, made, published) in ap logs_of nothing
+
+    pub begun_at_line : (now : BlockLists) → length now.dropped ≡ length blocks.dropped → HasBegunWith Sees new now first wants → new.level ≡ 1 → IsAtLine o first new now actions names (said ∷ []) []
+    begun_at_line now pages t level =
+        let b = t.begun in
         let w : View = b.view in
-        let words_are : w.words ≡ o.words = words_led o lane actions first is w b.led in
-        let lane_is : w.lane ≡ 0 = lane_along first w b.led.steps b.led.leads (start_lane o lane actions first is) in
+        let words_are : w.words ≡ o.words = words_led o lane blocks actions first is w b.led in
+        let lane_is : w.lane ≡ 0 = lane_along first w b.led.steps b.led.leads (start_lane o lane blocks actions first is) in
+        let works = works_where_seen o is.header is.pool new.memory first w b.led.steps is.begins b.led.leads b.seen.memory in
+        let for_pool : AreForPool now first = pages ∙ is.pages in
         record {
+          header = is.header;
+          pool = is.pool;
+          begins = is.begins;
           view = w;
           steps = b.led.steps;
           leads = b.led.leads;
           of_lane = lane_is;
-          alone = alone_along first w b.led.steps b.led.leads (start_alone o lane actions first is);
-          works = b.opens o (start_sound o lane actions first is) (start_zones o lane actions first is) (finds_led o lane actions first is new.memory w b.led b.seen.memory);
-          has_none = nothing_still first w b.led.heap is.has_none;
+          works = begun_at_work o is.header is.pool Sees first new now wants is.begins t (record { numbered = works.numbered; within = works.within }) for_pool is.has_none.unlocked is.has_none.no_chunk;
           level = level;
           opens = (said, [], refl, ap stands_alone begins);
           told = subst (AreToldDone names (said ∷ [])) (sym b.call) (told_so, tt);
           gave = nothing_given w.call b.call;
           entries = b.entries;
           generation = ap (λ n. slice_index w.words (area_word n)) lane_is ∙ ap (λ (words : List ℕ). slice_index words (area_word 0)) words_are;
-          words = λ i outside. ap (λ (words : List ℕ). slice_index words i) words_are ∙ sym (begin_writes_none (slice_index o.words) i);
+          words = λ i under. ap (λ (words : List ℕ). slice_index words i) words_are ∙ sym (begin_writes_none (slice_index o.words) i);
           unraised = uncounted_raises b.led.steps b.led.uncounted;
           pending = record { are = is.pending.are ∙ sym (pending_first w (done (operation.Begin wants)) b.call ∙ same_before first w b.entries); aligned = is.pending.aligned };
           made = line_made w b.led b.entries;
-          few = (let nothing = ap logs_of (published_first w (done (operation.Begin wants)) b.call) in let none = led_stores first w b.led in let kept = led_count first w b.led in let before = idle_count first (start_idle o lane actions first is) in omega (arith, nothing, none, kept, before));
+          few = (let nothing = no_log_due w b.call in let none = led_stores first w b.led in let kept = led_count first w b.led in let before = idle_count first (start_idle o lane blocks actions first is) in omega (arith, nothing, none, kept, before));
         }
 
     -- a begin that is refused changes nothing of what is pending
@@ -174,32 +189,37 @@ module _ (o : Opening) (first : View) (lane new : Lane Solo) (actions : List Set
       refused_led : (r : Refusal) (w : View) → IsLed first w → IsBeginRefusal names asked r first → IsRefusalMade names said.operation r first w
       refused_led r w led why = subst (λ (x : ScriptOp). IsRefusalMade names x r first w) (sym begins) (led, why)
 
-      refused_at : (r : Refusal) → IsBeginRefusal names asked r first → HasRefused Sees new first wants r → new.level ≡ 1 → new.stage ≡ stage.OnAbort → new.error ≡ error.Refused r → IsGivenUpAt first new actions names (said ∷ rest) [] said.line r
+      refused_at : (r : Refusal) → IsBeginRefusal names asked r first → HasRefused Sees new first wants r → new.level ≡ 1 → new.stage ≡ stage.OnAbort → new.error ≡ error.Refused r → IsGivenUpAt o first new blocks actions names (said ∷ rest) [] said.line r
       unfolding LinesMade values_of
-      refused_at r why b level at fails = record {
-        told = refused (operation_of names said.operation) r ∷ [];
-        at = record { front = []; said = said; rest = rest; is_lines = refl; of_line = refl; gives_up = ap is_action begin_is; before = []; done = tt; gave = refl; told_so = refl };
-        over = record {
-          view = b.view;
-          steps = b.led.steps;
-          leads = b.led.leads;
-          behind = b.over;
-          has_none = nothing_still first b.view b.led.heap is.has_none;
-          number = b.number;
-          entries =
-              b.entries
-              ∙ ap (λ (told : List Told). first.entries ++ numbered new.last told ∷ []) (b.call ∙ ap (λ (o : Operation). refused o r ∷ []) (sym begin_is));
-          level = level;
-          left = ap is_work at;
-          fails = fails;
-          pending = still_pending b.view new.last (ap (λ (ts : List Told). ts) b.call) b.entries;
-          made = record { front = []; said = said; rest = rest; is = refl; middle = first; made = refl; refused = refused_led r b.view b.led why };
-          few = (let none = led_stores first b.view b.led in omega (arith, none));
-        };
-      }
+      refused_at r why b level at fails =
+          let same = same_along first b.view b.led.steps b.led.leads in
+          let nothing = nothing_still first b.view same.zones b.led.heap is.has_none in
+          record {
+            told = refused (operation_of names said.operation) r ∷ [];
+            at = record { front = []; said = said; rest = rest; is_lines = refl; of_line = refl; gives_up = ap is_action begin_is; before = []; done = tt; gave = refl; told_so = refl };
+            over = record {
+              view = b.view;
+              header = is.header;
+              pool = is.pool;
+              begins = is.begins;
+              passed = passed o new first b.view b.led.steps (stores_of_call names (said ∷ rest)) b.led.leads b.over.seen.memory (makes_none b.view nothing) (let none = led_stores first b.view b.led in omega (arith, none));
+              behind = b.over;
+              unlocked = nothing.unlocked;
+              pages = (let pages = is.pages in let lanes = same.lanes in let zones = same.zones in omega (arith, pages, lanes, zones));
+              number = b.number;
+              entries =
+                  b.entries
+                  ∙ ap (λ (told : List Told). first.entries ++ numbered new.last told ∷ []) (b.call ∙ ap (λ (o : Operation). refused o r ∷ []) (sym begin_is));
+              level = level;
+              left = ap is_work at;
+              fails = fails;
+              pending = still_pending b.view new.last (ap (λ (ts : List Told). ts) b.call) b.entries;
+              made = record { front = []; said = said; rest = rest; is = refl; middle = first; made = refl; refused = refused_led r b.view b.led why };
+            };
+          }
 
       -- why it did not begin
-      pub not_begun : (r : Refusal) → (r ≡ refusal.NoObject → Any (LacksObject first) wants) → FailsToBegin Sees new first wants r → LeavesLane r lane new → IsNotDone o first new actions names (said ∷ rest) [] (not_done said.line r)
+      pub not_begun : (r : Refusal) → (r ≡ refusal.NoObject → Any (LacksObject first) wants) → FailsToBegin Sees new first wants r → LeavesLane r lane new → IsNotDone o first new blocks actions names (said ∷ rest) [] (not_done said.line r)
       not_begun refusal.Spent missing fails leaves = (spent fails, refl)
       not_begun refusal.Busy missing fails leaves = absurd (not_busy fails)
       not_begun refusal.LocksFull missing fails leaves = refused_at refusal.LocksFull tt fails (ap (λ (l : Lane Solo). l.level) leaves) (ap (λ (l : Lane Solo). l.stage) leaves) (ap (λ (l : Lane Solo). l.error) leaves)

@@ -6,7 +6,7 @@ use Rattle.pm_script.specs.Scripts.{AreCalls, IsChange, IsOutside, operations}
 use Rattle.pm_script.specs.Scripts.AreCalls.{none, transaction, outside}
 use Rattle.pm_script.specs.declared.script.ScriptLine.{ScriptLine}
 use Rattle.pm_script.specs.declared.script.ScriptOp.{ScriptOp}
-use Rattle.pm_script.specs.declared.script.ScriptOp.TheVariants.{Begin, Add, Write, Read, Set, Publish, Cancel, Commit}
+use Rattle.pm_script.specs.declared.script.ScriptOp.TheVariants.{Begin, Add, Write, Read, Alloc, Free, Set, Publish, Cancel, Commit}
 use Rattle.pm_script.specs.declared.script.ScriptWant.{ScriptWant}
 use Rattle.pm_exec.specs.Calls.{IsCall, is_commit, call_lines, call_lines_from, stands_alone, with_line}
 use Rattle.pm_exec.proofs.FirstCall.{alone_first, begins_inside}
@@ -29,6 +29,8 @@ no_commit (Begin wants) change = refl
 no_commit (Add id off len) change = refl
 no_commit (Write id off bytes) change = refl
 no_commit (Read id off len) change = refl
+no_commit (Alloc letter size kind) change = refl
+no_commit (Free id) change = refl
 no_commit (Set id off value) change = refl
 no_commit Publish change = refl
 no_commit Cancel change = refl
@@ -67,6 +69,8 @@ outside_stands (Begin wants) may = absurd may
 outside_stands (Add id off len) may = absurd may
 outside_stands (Write id off bytes) may = absurd may
 outside_stands (Read id off len) may = absurd may
+outside_stands (Alloc letter size kind) may = absurd may
+outside_stands (Free id) may = absurd may
 outside_stands (Set id off value) may = refl
 outside_stands Publish may = refl
 outside_stands Cancel may = refl
@@ -93,7 +97,7 @@ all_calls ops (transaction one others t rest) lines are =
     let so : operations lines ≡ Begin t.0 ∷ t.1 ++ Commit ∷ others = are ∙ ap (λ (o : List ScriptOp). o ++ others) t.2 ∙ append_assoc (Begin t.0 ∷ t.1) (Commit ∷ []) others in
     let first : IsFirstOf (Begin t.0 ∷ t.1) others lines = first_of (Begin t.0 ∷ t.1) others lines so (All-cons IsNoCommit (Begin t.0) t.1 refl (All-weaker IsChange IsNoCommit no_commit t.1 t.3)) in
     subst (All IsCallOf) (sym (transaction_first t.0 t.1 others lines so first))
-    (All-cons IsCallOf first.first (call_lines first.rest) (inl (t.0, t.1, first.first_is, t.3)) (all_calls others rest first.rest first.rest_is))
+    (All-cons IsCallOf first.first (call_lines first.rest) (inl (t.0, t.1, first.first_is, t.3, t.4)) (all_calls others rest first.rest first.rest_is))
 all_calls ops (outside one others alone rest) [] are = absurd (let e : [] ≡ one ∷ others = are in cc)
 all_calls ops (outside one others alone rest) (line ∷ lines) are =
     let said : line.operation ≡ one = cc in

@@ -1,6 +1,7 @@
 -- One more call of a run, behind those that were answered.
 use Rattle.std.proofs.Common.{◌≡◌, inl, inr, ℕ, ◌+◌, ◌<◌, ◌%◌, ◌^◌, List, [], ◌∷◌, ◌++◌, length, slice_index, Option, None, refl, sym, ap, ◌∙◌, subst, arith}
 use Rattle.pm_crash.specs.Alone.{standing}
+use Rattle.pm_made.specs.Made.{BlockLists}
 use Rattle.pm_memory.specs.Solo.{Sees, Solo}
 use Rattle.pm_objects.specs.declared.calls.Call.{Call}
 use Rattle.pm_objects.specs.declared.history.Entry.{Entry}
@@ -46,9 +47,9 @@ made_then names [] (h ∷ history) call d e u v w made settled is = absurd made
 made_then names (c ∷ calls) [] call d e u v w made settled is = absurd made
 made_then names (c ∷ calls) (h ∷ history) call d e u v w made settled is = (made.0, made.1, made.2, made.3, made_then names calls history call d e made.0 v w made.4 settled is)
 
-module _ (o : Opening) (first : View) (lane : Lane Solo) (actions : List SetAction) (names : Names) (calls : List (List ScriptLine)) (history : List Entry) (h : HasComeTo o first lane actions names calls history) where
+module _ (o : Opening) (first : View) (lane : Lane Solo) (blocks : BlockLists) (actions : List SetAction) (names : Names) (calls : List (List ScriptLine)) (history : List Entry) (h : HasComeTo o first lane blocks actions names calls history) where
   -- where those were answered, the lane may begin it
-  pub begins : IsStart (standing o h.answered.view) lane actions h.answered.view
+  pub begins : IsStart (standing o h.answered.view) lane blocks actions h.answered.view
   begins =
       let a = h.answered in
       record {
@@ -57,6 +58,7 @@ module _ (o : Opening) (first : View) (lane : Lane Solo) (actions : List SetActi
         pool = h.pool;
         begins = a.called.again h.header h.pool h.begins;
         has_none = a.has_none;
+        pages = a.pages;
         pending = a.pending;
       }
 
@@ -64,7 +66,7 @@ module _ (o : Opening) (first : View) (lane : Lane Solo) (actions : List SetActi
   generation_seen : (found : ℕ) → found ≡ slice_index lane.memory.words 512 → found ≡ generation_of h.answered.view
   generation_seen found is =
       let v : View = h.answered.view in
-      is ∙ ap (λ (words : List ℕ). slice_index words 512) (sym h.answered.rests.seen.memory.words) ∙ ap (λ (n : ℕ). slice_index v.words (area_word n)) (sym (start_lane (standing o v) lane actions v begins))
+      is ∙ ap (λ (words : List ℕ). slice_index words 512) (sym h.answered.rests.seen.memory.words) ∙ ap (λ (n : ℕ). slice_index v.words (area_word n)) (sym (start_lane (standing o v) lane blocks actions v begins))
 
   -- its memory has that word
   pub generation_inside : 512 < length lane.memory.words
@@ -75,9 +77,9 @@ module _ (o : Opening) (first : View) (lane : Lane Solo) (actions : List SetActi
 
   module _ (lines : List ScriptLine) (new : Lane Solo) where
     -- it was answered too
-    pub one_more : (left : List SetAction) (number : ℕ) (e : CallAnswer) (reply : Reply) (call : Call) (fate : Fate) → IsAnswered (standing o h.answered.view) h.answered.view new left names lines number e reply → call ≡ call_of names lines → fate ≡ settled_fate e
-        → HasComeTo o first new left names (calls ++ lines ∷ []) (history ++ record { number = number; call = call; reply = reply; fate = fate } ∷ [])
-    one_more left number e reply call fate x is settled =
+    pub one_more : (now : BlockLists) (left : List SetAction) (number : ℕ) (e : CallAnswer) (reply : Reply) (call : Call) (fate : Fate) → IsAnswered (standing o h.answered.view) h.answered.view new now left names lines number e reply → call ≡ call_of names lines → fate ≡ settled_fate e
+        → HasComeTo o first new now left names (calls ++ lines ∷ []) (history ++ record { number = number; call = call; reply = reply; fate = fate } ∷ [])
+    one_more now left number e reply call fate x is settled =
         let a = h.answered in
         record {
           header = h.header;
@@ -100,6 +102,7 @@ module _ (o : Opening) (first : View) (lane : Lane Solo) (actions : List SetActi
             rests = x.rests;
             idle = x.idle;
             has_none = x.has_none;
+            pages = x.pages;
             pending = x.pending;
           };
         }

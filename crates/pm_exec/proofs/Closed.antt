@@ -1,42 +1,50 @@
--- A call that is over is answered: its locks are given back, by steps that are no counted calls.
-use Rattle.std.proofs.Common.{◌≡◌, ◌≤◌, inl, inr, ℕ, ◌+◌, Bool, true, false, cond, List, [], ◌∷◌, ◌++◌, length, refl, sym, ap, ◌∙◌, subst, arith}
+-- A call that is over is answered: its locks are given back, and what it had reserved or freed, by steps that are no counted calls.
+use Rattle.std.proofs.Common.{◌≡◌, ⊎_elim, inl, inr, ℕ, ◌+◌, ◌≤◌, All, Bool, true, false, cond, List, [], ◌∷◌, ◌++◌, length, slice_index, refl, sym, ap, ◌∙◌, subst, arith}
 use Rattle.std.proofs.lemmas.Bool.{false≢true}
+use Rattle.std.proofs.lemmas.List.Elements.{All-head, All-tail}
+use Rattle.pm_crash.proofs.AloneCourse.{begins_alone}
 use Rattle.pm_crash.proofs.Leading.{leads_then}
+use Rattle.pm_crash.specs.Alone.{Begins, WorksAlone, standing}
+use Rattle.pm_crash.specs.Leading.{Leads}
+use Rattle.pm_crash.specs.Pending.{pending_from}
+use Rattle.pm_epoch.specs.Epochs.{HasEnded}
+use Rattle.pm_header.specs.declared.header.Header.{Header}
+use Rattle.pm_made.specs.Made.{BlockLists}
 use Rattle.pm_memory.specs.Solo.{Sees, Solo}
 use Rattle.pm_objects.specs.declared.history.Reply.{Reply}
 use Rattle.pm_objects.specs.declared.history.TxErr.{TxErr}
 use Rattle.pm_objects.specs.declared.history.TxErr.TheVariants as error
+use Rattle.pm_objects.specs.declared.pool.PoolView.{PoolView}
 use Rattle.pm_objects.specs.declared.refusal.Refusal.{Refusal}
+use Rattle.pm_pending.specs.declared.actions.SetAction.{SetAction}
+use Rattle.pm_reclaim.specs.Reclaims.{IsReclaiming}
 use Rattle.pm_script.specs.declared.script.ScriptLine.{ScriptLine}
 use Rattle.pm_lock.proofs.Drawless.{drawless}
 use Rattle.pm_lock.proofs.Leading.{ready_leads}
 use Rattle.pm_lock.specs.Leading.{KeepsHeap}
 use Rattle.pm_lock.specs.Locking.{gives, line_at}
+use Rattle.pm_transaction.proofs.EndingAlone.{ended_begins_again, ended_may_end, ended_reserves_none, given_up_begins_again, given_up_may_end}
+use Rattle.pm_transaction.specs.Ending.{HasEndedWith, MayEnd, unlocked_view}
 use Rattle.pm_tx.proofs.StepKinds.{Each, only_counted, only_one}
-use Rattle.pm_tx.specs.Ending.{IsClosedBy}
+use Rattle.pm_tx.proofs.StoreCounts.{stores_append, stores_counted}
+use Rattle.pm_view.proofs.SameLane.{same_lane-then}
 use Rattle.pm_view.specs.Counts.{counted, is_counted, stores_among}
+use Rattle.pm_view.specs.Founds.{IsAlone}
 use Rattle.pm_view.specs.Steps.{Step}
-use Rattle.pm_view.specs.Steps.Step.{Give}
-use Rattle.pm_view.specs.View.{Told, View}
-use Rattle.pm_view.specs.Views.{after_all}
+use Rattle.pm_view.specs.Steps.Step.{Give, Load, Occupied, Vacate}
+use Rattle.pm_view.specs.View.{Numbered, Told, View}
 use Rattle.pm_world.specs.Opening.{Opening}
 use Rattle.pm_world.specs.Sequences.{one}
 use Rattle.pm_world.specs.declared.lane.HeldLock.{HeldLock}
 use Rattle.pm_world.specs.declared.lane.Lane.{Lane}
-use Rattle.pm_tx.proofs.StoreCounts.{stores_append, stores_counted}
-use Rattle.pm_exec.proofs.BeginsBehind.{rests_behind}
-use Rattle.pm_exec.proofs.HeapStill.{nothing_still}
-use Rattle.pm_exec.proofs.Links.{linked}
-use Rattle.pm_exec.specs.Bounds.{stores_of_call}
-use Rattle.pm_exec.specs.Course.{AreMade}
-use Rattle.pm_exec.specs.Progress.{HasNothing, IsAnswered, IsCommitted, IsCut, IsGivenUpAt, IsHalted, IsOver, IsRefusedAt, Values}
-use Rattle.pm_exec.specs.declared.calls.Names.{Names}
-use Rattle.pm_pending.specs.declared.actions.SetAction.{SetAction}
-use Rattle.pm_crash.specs.Leading.{Leads}
-use Rattle.pm_crash.specs.Pending.{pending_from}
-use Rattle.pm_view.specs.View.{Numbered}
+use Rattle.pm_exec.proofs.Along.{alone_along, same_along}
+use Rattle.pm_exec.proofs.FewStores.{bounded, bounded_then, bounded_within}
+use Rattle.pm_exec.specs.Bounds.{IsBounded, stores_of_call}
 use Rattle.pm_exec.specs.Calls.{starts_alone}
-use Rattle.pm_exec.specs.Progress.{IsPending, TransactionEnded}
+use Rattle.pm_exec.specs.Course.{AreMade}
+use Rattle.pm_exec.specs.Links.{IsLink, WorksOn}
+use Rattle.pm_exec.specs.Progress.{HasNothing, IsAnswered, IsCommitted, IsCut, IsGivenUpAt, IsHalted, IsOver, IsPending, IsRefusedAt, TransactionEnded, Values}
+use Rattle.pm_exec.specs.declared.calls.Names.{Names}
 use Rattle.pm_exec.specs.declared.ending.CallAnswer.TheVariants as answer
 
 -- the step is no counted call
@@ -59,50 +67,127 @@ gives_uncounted : (locks : List HeldLock) (v : View) → v.lane ≡ 0 → counte
 unfolding gives
 gives_uncounted locks v lane = none_counted (gives locks v) (only_counted IsUncounted (λ i. one (Give (line_at locks i))) (length locks) (λ i below. only_one IsUncounted (Give (line_at locks i)) refl) v lane)
 
--- the end answers the call, and the lane rests
-pub answered : (o : Opening) (first : View) (lane new : Lane Solo) (actions : List SetAction) (names : Names) (lines : List ScriptLine) (told : List Told) (error found : TxErr) (reply : Reply) → (over : IsOver first lane actions names lines told error) → IsClosedBy Sees new over.view (gives lane.locks.items)
-    → found ≡ lane.error → TransactionEnded names lines error reply told → IsAnswered o first new actions names lines lane.last (answer.Transaction found) reply
-answered o first lane new actions names lines told error found reply over c is so =
-    let v : View = over.view in
-    let steps : List Step = gives lane.locks.items v in
-    let w : View = after_all v steps in
-    let same = c.same in
-    let entries : w.entries ≡ v.entries = ap (λ (u : View). u.entries) same in
-    let few : length w.entries ≤ length v.entries = omega (arith, ap length entries) in
-    let leads = ready_leads v steps c.ready (drawless v steps few) in
-    let all : Leads first (over.steps ++ steps) w = leads_then first v w over.steps steps over.leads leads in
-    let heap : KeepsHeap v w = record { zone_locks = ap (λ (u : View). u.zone_locks) same; reserved = ap (λ (u : View). u.reserved) same; freed = ap (λ (u : View). u.freed) same } in
-    let has_none : HasNothing w = nothing_still v w heap over.has_none in
-    let idle = ap (λ (u : View). u.log) same ∙ over.behind.log in
-    let behind = rests_behind new w c.rests idle has_none lane.last (ap (λ (u : View). u.number) same ∙ over.number) in
-    let all_few : stores_among (over.steps ++ steps) ≤ stores_of_call names lines =
-    (let both = stores_append over.steps steps in let counts = stores_counted steps in let none = gives_uncounted lane.locks.items v over.behind.seen.memory.lane in let before = over.few in omega (arith, both, counts, none, before)) in
-    record {
+-- the steps of a reclaim are none
+reclaim_uncounted : (s : Step) → IsReclaiming s → IsUncounted s
+reclaim_uncounted (Load w found) is = refl
+reclaim_uncounted (Occupied at found) is = refl
+reclaim_uncounted (Vacate at bits) is = refl
+reclaim_uncounted s is = absurd is
+
+reclaims_uncounted : (steps : List Step) → All IsReclaiming steps → counted steps ≡ 0
+unfolding counted
+reclaims_uncounted [] only = refl
+reclaims_uncounted (s ∷ steps) only = one_more (is_counted s) (counted steps) (reclaim_uncounted s (All-head IsReclaiming s steps only)) (reclaims_uncounted steps (All-tail IsReclaiming s steps only))
+
+-- a lane that works alone is alone
+begins_works_alone : (o : Opening) (header : Header) (pool : PoolView) (first v : View) (steps : List Step) → WorksAlone o header pool first steps v → IsAlone v
+begins_works_alone o header pool first v steps works = alone_along first v steps works.leads (begins_alone o header pool first works.begins)
+
+-- ---- the end answers the call, and the lane rests
+
+module _ (o : Opening) (first : View) (lane new : Lane Solo) (blocks : BlockLists) (actions : List SetAction) (names : Names) (lines : List ScriptLine) (told : List Told) (error : TxErr) (over : IsOver o first lane blocks actions names lines told error) where
+  abbrev v : View
+  v = over.view
+
+  abbrev locks : List HeldLock
+  locks = lane.locks.items
+
+  -- it may end
+  pub may_end : MayEnd Sees lane v
+  may_end = ⊎_elim
+      (λ (ended : HasEnded o over.header over.pool v). ended_may_end o over.header over.pool Sees lane v ended over.behind)
+      (λ (on : WorksOn o over.header over.pool first v). given_up_may_end o over.header over.pool Sees lane first v on.steps on.works (begins_works_alone o over.header over.pool first v on.steps on.works) on.quiet over.behind)
+      (over.passed.came over.header over.pool over.begins)
+
+  module _ (e : HasEndedWith Sees new v locks) where
+    abbrev u : View
+    u = unlocked_view v locks
+
+    abbrev w : View
+    w = e.view
+
+    same_u : u ≡ record v { locks = []; known = u.known }
+    same_u = e.given
+
+    same_w : w ≡ record u { run_words = w.run_words; zone_words = w.zone_words; known = w.known; reserved = w.reserved; freed = w.freed; seen = w.seen }
+    same_w = e.reclaims.same
+
+    entries_u : u.entries ≡ v.entries
+    entries_u = ap (λ (z : View). z.entries) same_u
+
+    entries_w : w.entries ≡ u.entries
+    entries_w = ap (λ (z : View). z.entries) same_w
+
+    on_u : Leads v (gives locks v) u
+    on_u = ready_leads v (gives locks v) e.ready (drawless v (gives locks v) (let same = ap length entries_u in omega (arith, same)))
+
+    given_none : counted (gives locks v) ≡ 0
+    given_none = gives_uncounted locks v over.behind.seen.memory.lane
+
+    reclaimed_none : counted e.reclaims.steps ≡ 0
+    reclaimed_none = reclaims_uncounted e.reclaims.steps e.reclaims.only
+
+    -- it begins again, wherever it began
+    begins_again : (header : Header) (pool : PoolView) → Begins o header pool first → Begins (standing o w) header pool w
+    begins_again header pool begins = ⊎_elim
+        (λ (ended : HasEnded o header pool v). inr (ended_begins_again o header pool Sees new v locks e ended over.unlocked))
+        (λ (on : WorksOn o header pool first v). inr (given_up_begins_again o header pool Sees new v locks e first on.steps on.works over.behind.log over.unlocked lane.last over.number))
+        (over.passed.came header pool begins)
+
+    words_w : w.words ≡ v.words
+    words_w = ap (λ (z : View). z.words) same_w ∙ ap (λ (z : View). z.words) same_u
+
+    bound_w : first.changes ≡ [] → IsBounded first w (stores_of_call names lines)
+    bound_w drained =
+        let on : Leads v (gives locks v ++ e.reclaims.steps) w = leads_then v u w (gives locks v) e.reclaims.steps on_u e.reclaims.leads in
+        let none : stores_among (gives locks v ++ e.reclaims.steps) ≤ 0 = (let both = stores_append (gives locks v) e.reclaims.steps in let one = stores_counted (gives locks v) in let two = stores_counted e.reclaims.steps in let a = given_none in let b = reclaimed_none in omega (arith, both, one, two, a, b)) in
+        bounded_within first w (stores_of_call names lines + 0) (stores_of_call names lines) (omega arith)
+        (bounded_then first v w (stores_of_call names lines) 0 (over.passed.bound drained) (bounded v w 0 (gives locks v ++ e.reclaims.steps) over.behind.drained on none))
+
+    link : IsLink o first w (stores_of_call names lines)
+    link = record {
+      same = same_lane-then first v w over.passed.same (same_along v w (gives locks v ++ e.reclaims.steps) (leads_then v u w (gives locks v) e.reclaims.steps on_u e.reclaims.leads));
+      again = begins_again;
+      page = λ header pool begins i low. ap (λ (words : List ℕ). slice_index words i) words_w ∙ over.passed.page header pool begins i low;
+      bound = bound_w;
+    }
+
+    has_none : HasNothing w
+    has_none = record { unlocked = ap (λ (z : View). z.zone_locks) same_w ∙ (ap (λ (z : View). z.zone_locks) same_u ∙ over.unlocked); no_chunk = ended_reserves_none Sees new v locks e }
+
+    heap_u : KeepsHeap v u
+    heap_u = record { zone_locks = ap (λ (z : View). z.zone_locks) same_u; reserved = ap (λ (z : View). z.reserved) same_u; freed = ap (λ (z : View). z.freed) same_u }
+
+    pub answered : (found : TxErr) (reply : Reply) → found ≡ lane.error → TransactionEnded names lines error reply told → IsAnswered o first new blocks actions names lines lane.last (answer.Transaction found) reply
+    answered found reply is so = record {
       view = w;
-      link = linked o new first w (over.steps ++ steps) (stores_of_call names lines) all c.rests.seen.memory behind all_few;
-      rests = c.rests;
-      idle = idle;
+      link = link;
+      rests = e.rests;
+      idle = ap (λ (z : View). z.log) same_w ∙ (ap (λ (z : View). z.log) same_u ∙ over.behind.log);
       has_none = has_none;
+      pages = (let pages = over.pages in let lanes = ap (λ (z : View). z.lanes) same_w ∙ ap (λ (z : View). z.lanes) same_u in let zones = ap (λ (z : View). z.zones) same_w ∙ ap (λ (z : View). z.zones) same_u in omega (arith, pages, lanes, zones));
       told = told;
-      entries = entries ∙ over.entries;
-      so = subst (λ (e : TxErr). TransactionEnded names lines e reply told) (sym (is ∙ over.fails)) so;
-      pending = subst (λ (es : List Numbered). IsPending actions (pending_from [] es)) (sym entries) over.pending;
+      entries = entries_w ∙ (entries_u ∙ over.entries);
+      so = subst (λ (x : TxErr). TransactionEnded names lines x reply told) (sym (is ∙ over.fails)) so;
+      pending = subst (λ (es : List Numbered). IsPending actions (pending_from [] es)) (sym (entries_w ∙ entries_u)) over.pending;
       made = record {
         over = v;
-        made = subst (λ (e : TxErr). AreMade names lines e first v) (sym (is ∙ over.fails)) over.made;
-        closed = record { led = record { steps = steps; leads = leads; uncounted = gives_uncounted lane.locks.items v over.behind.seen.memory.lane; heap = heap }; undrawn = entries };
+        made = subst (λ (x : TxErr). AreMade names lines x first v) (sym (is ∙ over.fails)) over.made;
+        unlocked = u;
+        closed = record { led = record { steps = gives locks v; leads = on_u; uncounted = given_none; heap = heap_u }; undrawn = entries_u };
+        reclaims = e.reclaims;
       };
     }
 
 -- what was given up at a line has ended with that line's reply
-pub ended_refused : (first : View) (lane : Lane Solo) (actions : List SetAction) (names : Names) (lines : List ScriptLine) (values : Values) (line : ℕ) (r : Refusal) (reply : Reply) → starts_alone lines ≡ false → (g : IsGivenUpAt first lane actions names lines values line r) → reply.values ≡ values → reply.at ≡ line
+pub ended_refused : (o : Opening) (first : View) (lane : Lane Solo) (blocks : BlockLists) (actions : List SetAction) (names : Names) (lines : List ScriptLine) (values : Values) (line : ℕ) (r : Refusal) (reply : Reply) → starts_alone lines ≡ false → (g : IsGivenUpAt o first lane blocks actions names lines values line r) → reply.values ≡ values → reply.at ≡ line
     → TransactionEnded names lines (error.Refused r) reply g.told
-ended_refused first lane actions names lines values line r reply inside g gave at =
+ended_refused o first lane blocks actions names lines values line r reply inside g gave at =
     (inside, inr (r, refl, subst (λ (n : ℕ). IsRefusedAt names lines n r reply.values g.told) (sym at) (subst (λ (vs : Values). IsRefusedAt names lines line r vs g.told) (sym gave) g.at)))
 
 -- and one whose lines were all done with none
-pub ended_done : (first : View) (lane : Lane Solo) (actions : List SetAction) (names : Names) (lines : List ScriptLine) (values : Values) (reply : Reply) → starts_alone lines ≡ false → (d : IsCommitted first lane actions names lines values) → reply.values ≡ values → reply.at ≡ 0 → TransactionEnded names lines error.None reply d.told
-ended_done first lane actions names lines values reply inside d gave at = (inside, inl (refl, at, d.done, gave ∙ d.gave))
+pub ended_done : (o : Opening) (first : View) (lane : Lane Solo) (blocks : BlockLists) (actions : List SetAction) (names : Names) (lines : List ScriptLine) (values : Values) (reply : Reply) → starts_alone lines ≡ false → (d : IsCommitted o first lane blocks actions names lines values) → reply.values ≡ values → reply.at ≡ 0 → TransactionEnded names lines error.None reply d.told
+ended_done o first lane blocks actions names lines values reply inside d gave at = (inside, inl (refl, at, d.done, gave ∙ d.gave))
 
 -- one in which the lane stopped is halted
 pub halted : (o : Opening) (first : View) (lane : Lane Solo) (names : Names) (lines : List ScriptLine) (values : Values) (reply : Reply) → IsCut o first lane names lines values → reply.values ≡ values → reply.at ≡ 0 → IsHalted o first lane names lines lane.drawn reply

@@ -8,7 +8,8 @@ use Rattle.std.proofs.lemmas.Option.{none-some}
 use Rattle.pm_crash.proofs.AloneCourse.{begins_lane}
 use Rattle.pm_crash.proofs.AloneImages.{ended_stays, words_fate}
 use Rattle.pm_crash.proofs.SeenAlone.{works_where_seen}
-use Rattle.pm_crash.specs.Alone.{BeginsAlone, IsDrawnAt, Rests, WorksAlone, raises, standing}
+use Rattle.pm_transaction.proofs.LeftCommits.{drawn_lost}
+use Rattle.pm_crash.specs.Alone.{Begins, BeginsAlone, IsDrawnAt, Rests, WorksAlone, raises, standing}
 use Rattle.pm_crash.proofs.Raising.{generation_raised}
 use Rattle.pm_crash.specs.Leading.{Leads}
 use Rattle.pm_memory.specs.Solo.{Sees, Solo}
@@ -24,7 +25,7 @@ use Rattle.pm_view.specs.Log.{Log, Phase, no_log}
 use Rattle.pm_view.specs.Log.Phase.{Applying, Clearing, Drawn, Idle, Open, Retiring, Sealing}
 use Rattle.pm_world.specs.Crash.{loses}
 use Rattle.pm_world.specs.Records.{generation_of}
-use Rattle.pm_view.proofs.SameLane.{same_lane-then}
+use Rattle.pm_view.proofs.SameLane.{same_lane, same_lane-then}
 use Rattle.pm_view.specs.Constants.{IsSameLane}
 use Rattle.pm_exec.specs.Bounds.{IsBounded, stores_of_call, stores_of_calls}
 use Rattle.pm_exec.proofs.FewStores.{bounded, bounded_then, bounded_within, calls_within, led_stores}
@@ -41,7 +42,7 @@ use Rattle.pm_world.specs.declared.lane.Lane.{Lane}
 use Rattle.pm_exec.specs.Calls.{call_of}
 use Rattle.pm_exec.specs.Course.{ComesToEnd}
 use Rattle.pm_exec.specs.Histories.{closed_history, open_fate, settled_fate}
-use Rattle.pm_exec.specs.Progress.{IsCut, IsInFlight, IsUndrawn, Values}
+use Rattle.pm_exec.specs.Progress.{IsCut, IsCutAtWork, IsCutPublishing, IsFlying, IsInFlight, IsUndrawn, Values}
 use Rattle.pm_exec.specs.Running.{AreEntries, HasCalled, HasFinished, HasHaltedIn, HasRun, HasSpent, HasStopped, open_entry}
 use Rattle.pm_exec.specs.declared.calls.Names.{Names}
 use Rattle.pm_exec.specs.declared.running.Halt.{Halt}
@@ -111,8 +112,13 @@ AreFated o first last decided generation history =
     (header : Header) (pool : PoolView) → BeginsAlone o header pool first → (keep : ℕ) (left : List ℕ) → IsKeptImage keep last.words (last.changes ∷ []) left → decided ≡ not (eqb (seal_word left 0) 0 && eqb (generation_word left 0) generation)
     → (k : ℕ) (d : Entry) → k < length history → is_lost (slice_index_or history k d).fate ≡ loses left last (slice_index_or history k d).number
 
--- the run is over at its last view. The lane came there from the last of its calls that were answered by these steps: none, or those of the call in which
--- it stopped
+-- from its last call that was answered the lane came to its last view by steps behind which it rests
+pub record HasRested (middle last : View) : Type 0 where
+  pub steps : List Step
+  pub leads : Leads middle steps last
+  pub rests : Rests last
+
+-- the run is over at its last view, where the lane rests behind its calls, or was cut short in one
 pub record IsEnded (o : Opening) (first : View) (lane : Lane Solo) (names : Names) (all : List (List ScriptLine)) (decided : Bool) (generation : ℕ) (history : List Entry) (ended : LaneEnd) : Type 0 where
   pub answered : List (List ScriptLine)
   pub behind : List (List ScriptLine)
@@ -123,8 +129,7 @@ pub record IsEnded (o : Opening) (first : View) (lane : Lane Solo) (names : Name
   pub others : List Entry
   pub settled_first : history ≡ settled ++ others
   pub called : HasCalled o first names answered settled middle
-  pub link : List Step
-  pub linked : Leads middle link last
+  pub same : IsSameLane middle last
   pub bound : IsBounded first last (stores_of_calls names all)
   pub seen : Sees lane.memory last
   pub ends : ComesToEnd names behind ended middle last
@@ -138,7 +143,7 @@ pub record IsEnded (o : Opening) (first : View) (lane : Lane Solo) (names : Name
   pub unstopped : ((calls : ℕ) → ended ≡ end.Stopped calls → ⊥) → length history ≡ length answered
   pub at_stop : (calls : ℕ) → ended ≡ end.Stopped calls → first.stop ≡ Some calls
   pub fated : AreFated o first last decided generation history
-  pub stands : Rests last ⊎ IsCutAt o first lane names all middle last
+  pub stands : HasRested middle last ⊎ IsCutAt o first lane names all middle last
 
 module _ (o : Opening) (first : View) (names : Names) (all : List (List ScriptLine)) (rising : AreRising all) (decided : Bool) where
   -- the entries of answered calls alone
@@ -178,8 +183,7 @@ module _ (o : Opening) (first : View) (names : Names) (all : List (List ScriptLi
         others = [];
         settled_first = sym (append-nil history);
         called = called;
-        link = [];
-        linked = leads_nowhere view;
+        same = same_lane view;
         last = view;
         bound = called.bound;
         seen = f.answered.rests.seen.memory;
@@ -194,7 +198,7 @@ module _ (o : Opening) (first : View) (names : Names) (all : List (List ScriptLi
         unstopped = λ other. many;
         at_stop = λ calls same. absurd (let clash : end.Ended ≡ end.Stopped calls = same in cc);
         fated = at_rest_fated all [] nothing history view.entries called.are view (λ n. inl (ap (λ (l : Log). l.phase) f.answered.idle)) halt.generation;
-        stands = inl rests;
+        stands = inl (record { steps = []; leads = leads_nowhere view; rests = rests });
       }))
 
   -- one could not begin
@@ -224,8 +228,7 @@ module _ (o : Opening) (first : View) (names : Names) (all : List (List ScriptLi
           others = [];
           settled_first = sym (append-nil history);
           called = called;
-          link = s.unbegun.free.led.steps;
-          linked = s.unbegun.free.led.leads;
+          same = same_along s.before view s.unbegun.free.led.steps s.unbegun.free.led.leads;
           last = view;
           bound = within_all view called.bound (bounded s.before view (stores_of_call names lines) s.unbegun.free.led.steps s.drained s.unbegun.free.led.leads (let none = led_stores s.before view s.unbegun.free.led in omega (arith, none)));
           seen = s.unbegun.seen;
@@ -240,7 +243,7 @@ module _ (o : Opening) (first : View) (names : Names) (all : List (List ScriptLi
           unstopped = λ other. many;
           at_stop = λ calls same. absurd (let clash : end.Spent s.line ≡ end.Stopped calls = same in cc);
           fated = at_rest_fated answered (lines ∷ behind) are history s.before.entries called.are view (λ n. ⊎_elim (λ (idle : view.log ≡ no_log Idle). inl (ap (λ (l : Log). l.phase) idle)) (λ begun. inr (λ some. none-some n (sym begun.1 ∙ some))) s.unbegun.fresh) halt.generation;
-          stands = inl rests;
+          stands = inl (record { steps = s.unbegun.free.led.steps; leads = s.unbegun.free.led.leads; rests = rests });
         }))
 
     -- in one the lane stopped
@@ -252,7 +255,7 @@ module _ (o : Opening) (first : View) (names : Names) (all : List (List ScriptLi
       before = s.before
 
       same : IsSameLane first last
-      same = same_lane-then first before last s.called.same (same_along before last s.halted.cut.steps s.halted.cut.leads)
+      same = same_lane-then first before last s.called.same s.halted.cut.same
 
       many : length history ≡ length answered
       many = as_many_calls answered (lines ∷ behind) are history before.entries s.called.are
@@ -280,10 +283,9 @@ module _ (o : Opening) (first : View) (names : Names) (all : List (List ScriptLi
             others = others;
             settled_first = settled_first;
             called = s.called;
-            link = s.halted.cut.steps;
-            linked = s.halted.cut.leads;
+            same = s.halted.cut.same;
             last = last;
-            bound = within_all last s.called.bound (bounded before last (stores_of_call names lines) s.halted.cut.steps s.drained s.halted.cut.leads s.halted.cut.few);
+            bound = within_all last s.called.bound (s.halted.cut.bound s.drained);
             seen = s.halted.cut.seen;
             ends = record { call = lines; behind = behind; are = refl; stops = s.halted.cut.stops; at_stop = sym exact };
             numbered = numbered;
@@ -319,8 +321,14 @@ module _ (o : Opening) (first : View) (names : Names) (all : List (List ScriptLi
           (λ header pool begins keep left kept decides k d low.
           (settled_at names answered history before.entries s.called.are k d low).1 ∙ sym (ended_stays last left (slice_index_or history k d).number (inr (λ some. none-some (slice_index_or history k d).number (sym u.number ∙ some))))))
 
+      -- where it is decided exactly where an image has a seal, or another generation than that with which it began
+      abbrev IsFatedBy : ℕ → Type 0
+      IsFatedBy n =
+          (header : Header) (pool : PoolView) → BeginsAlone o header pool first → (keep : ℕ) (left : List ℕ) → IsKeptImage keep last.words (last.changes ∷ []) left
+          → loses left last n ≡ (eqb (seal_word left 0) 0 && eqb (generation_word left 0) (generation_of before))
+
       -- or behind that
-      module _ (f : IsInFlight before names lines s.reply.values (raises s.halted.cut.steps) last) where
+      module _ (f : IsInFlight before names lines s.reply.values last) (own : IsFatedBy f.number) where
         abbrev pub flying : Entry
         flying = record { number = f.number; call = call_of names lines; reply = s.reply; fate = open_fate decided }
 
@@ -384,21 +392,6 @@ module _ (o : Opening) (first : View) (names : Names) (all : List (List ScriptLi
         twice_not true = refl
         twice_not false = refl
 
-        -- the generation since the call began
-        raised_since : (header : Header) (pool : PoolView) → WorksAlone (standing o before) header pool before s.halted.cut.steps last → generation_of last ≡ generation_of before + raises s.halted.cut.steps
-        raised_since header pool works =
-            let from : generation_of before ≡ generation_word before.words 0 = ap (λ n. slice_index before.words (area_word n)) (begins_lane (standing o before) header pool before works.begins) in
-            generation_raised (standing o before) header pool before last s.halted.cut.steps works ∙ ap (λ g. g + raises s.halted.cut.steps) (sym from)
-
-        flying_at : (phase : Phase) → generation_of last ≡ generation_of before + raises s.halted.cut.steps → IsFlyingBy (raises s.halted.cut.steps) phase → IsDrawnAt (generation_of before) last phase
-        flying_at Idle raised flies = omega (arith, raised, flies)
-        flying_at (Open slot pair) raised flies = absurd flies
-        flying_at Drawn raised flies = omega (arith, raised, flies)
-        flying_at Sealing raised flies = omega (arith, raised, flies)
-        flying_at (Applying applied) raised flies = tt
-        flying_at Clearing raised flies = omega (arith, raised, flies)
-        flying_at Retiring raised flies = omega (arith, raised, flies)
-
         -- it is lost where the image has no seal, and its generation still
         flying_fated : AreFated o first last decided halt.generation full
         flying_fated header pool begins keep left kept decides k d low = ⊎_elim
@@ -406,10 +399,9 @@ module _ (o : Opening) (first : View) (names : Names) (all : List (List ScriptLi
             (λ (high : length history ≤ k).
             let l = long in
             let e : slice_index_or full k d ≡ flying = get_or_push history flying d k (omega (arith, high, low, l)) in
-            let works = works_where_seen (standing o before) header pool lane.memory before last s.halted.cut.steps (s.called.again header pool (inl begins)) s.halted.cut.leads s.halted.cut.seen in
             ap (λ (x : Entry). is_lost x.fate) e ∙ lost_open decided ∙ ap not decides ∙ twice_not (eqb (seal_word left 0) 0 && eqb (generation_word left 0) halt.generation)
             ∙ ap (λ g. eqb (seal_word left 0) 0 && eqb (generation_word left 0) g) s.generation
-            ∙ sym (ap (λ (x : Entry). loses left last x.number) e ∙ words_fate (standing o before) header pool before last s.halted.cut.steps works keep left kept (generation_of before) f.number f.drawn (flying_at last.log.phase (raised_since header pool works) f.flies)))
+            ∙ sym (ap (λ (x : Entry). loses left last x.number) e ∙ own header pool begins keep left kept))
             (cases_lt k (length history))
 
         pub ended_flying : IsEnded o first lane names all decided halt.generation (closed_history history halt.is_open decided) halt.end
@@ -419,16 +411,52 @@ module _ (o : Opening) (first : View) (names : Names) (all : List (List ScriptLi
             full_shown
             (let m = many in let all = length-append history (flying ∷ []) in omega (arith, m, all)) flying_fates flying_fated)
 
+      -- by steps that it made at work
+      module _ (cut : IsCutAtWork (standing o before) before names lines s.reply.values last) (f : IsFlying before names lines s.reply.values (raises cut.steps) last) where
+        -- the generation since the call began
+        raised_since : (header : Header) (pool : PoolView) → WorksAlone (standing o before) header pool before cut.steps last → generation_of last ≡ generation_of before + raises cut.steps
+        raised_since header pool works =
+            let from : generation_of before ≡ generation_word before.words 0 = ap (λ n. slice_index before.words (area_word n)) (begins_lane (standing o before) header pool before works.begins) in
+            generation_raised (standing o before) header pool before last cut.steps works ∙ ap (λ g. g + raises cut.steps) (sym from)
+
+        flying_at : (phase : Phase) → generation_of last ≡ generation_of before + raises cut.steps → IsFlyingBy (raises cut.steps) phase → IsDrawnAt (generation_of before) last phase
+        flying_at Idle raised flies = omega (arith, raised, flies)
+        flying_at (Open slot pair) raised flies = absurd flies
+        flying_at Drawn raised flies = omega (arith, raised, flies)
+        flying_at Sealing raised flies = omega (arith, raised, flies)
+        flying_at (Applying applied) raised flies = tt
+        flying_at Clearing raised flies = omega (arith, raised, flies)
+        flying_at Retiring raised flies = omega (arith, raised, flies)
+
+        pub at_work_fated : IsFatedBy f.flight.number
+        at_work_fated header pool begins keep left kept =
+            let works = works_where_seen (standing o before) header pool lane.memory before last cut.steps (s.called.again header pool (inl begins)) cut.leads s.halted.cut.seen in
+            words_fate (standing o before) header pool before last cut.steps works keep left kept (generation_of before) f.flight.number f.flight.drawn (flying_at last.log.phase (raised_since header pool works) f.flies)
+
+      -- or publishing what it made and freed
+      pub publishing_fated : (cut : IsCutPublishing (standing o before) before names lines s.reply.values last) → IsFatedBy cut.flight.number
+      publishing_fated cut header pool begins keep left kept =
+          let here : Begins (standing o before) header pool before = s.called.again header pool (inl begins) in
+          let has = cut.publishing header pool here in
+          let from : generation_of before ≡ generation_word before.words 0 = ap (λ n. slice_index before.words (area_word n)) (begins_lane (standing o before) header pool before here) in
+          drawn_lost (standing o before) header pool cut.flight.number last has.has keep left kept ∙ ap (λ g. eqb (seal_word left 0) 0 && eqb (generation_word left 0) g) (has.generation ∙ sym from)
+
+      pub ended_cut : IsEnded o first lane names all decided halt.generation (closed_history history halt.is_open decided) halt.end
+      ended_cut = ⊎_elim
+          (λ (cut : IsCutAtWork (standing o before) before names lines s.reply.values last). ⊎_elim
+          (λ (u : IsUndrawn before last). ended_undrawn u)
+          (λ (f : IsFlying before names lines s.reply.values (raises cut.steps) last). ended_flying f.flight (at_work_fated cut f))
+          cut.came)
+          (λ (cut : IsCutPublishing (standing o before) before names lines s.reply.values last). ended_flying cut.flight (publishing_fated cut))
+          s.halted.cut.way
+
   -- however it came to its end
   pub ended_run : (lane : Lane Solo) (history : List Entry) (halt : Halt) → ForSome first.stop (λ n. n < 2 ^ 64) → HasRun o first lane names all history halt
       → IsEnded o first lane names all decided halt.generation (closed_history history halt.is_open decided) halt.end
   ended_run lane history halt fits run = ⊎_elim
       (λ (f : HasFinished o first lane names all history halt). ended_finished lane history halt f)
       (λ (h : HasHaltedIn o first lane names all history halt). ⊎_elim
-      (λ (s : HasStopped o first lane names h.answered h.lines history halt). ⊎_elim
-      (λ (u : IsUndrawn s.before s.halted.cut.view). ended_undrawn lane h.answered h.lines h.behind h.are history halt fits s u)
-      (λ (f : IsInFlight s.before names h.lines s.reply.values (raises s.halted.cut.steps) s.halted.cut.view). ended_flying lane h.answered h.lines h.behind h.are history halt fits s f)
-      s.halted.cut.came)
+      (λ (s : HasStopped o first lane names h.answered h.lines history halt). ended_cut lane h.answered h.lines h.behind h.are history halt fits s)
       (λ (s : HasSpent o first lane names h.answered h.lines history halt). ended_spent lane h.answered h.lines h.behind h.are history halt s)
       h.halted)
       run

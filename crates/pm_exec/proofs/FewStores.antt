@@ -4,9 +4,10 @@ use Rattle.std.specs.List.{range_with_len}
 use Rattle.std.proofs.lemmas.Bool.{false≢true}
 use Rattle.std.proofs.lemmas.List.Sums.{sum_by-append, sum_by-cons, sum_by_push}
 use Rattle.pm_crash.proofs.BusyCalls.{calls_are, drains_few, flushes_few, walks_of}
-use Rattle.pm_crash.proofs.Leading.{leads_end, leads_then}
+use Rattle.pm_crash.proofs.Leading.{leads_end}
 use Rattle.pm_crash.proofs.NewRecords.{words_of_all, words_of_new}
 use Rattle.pm_crash.specs.Leading.{Leads}
+use Rattle.pm_crash.specs.Walking.{Walks}
 use Rattle.pm_crash.specs.OpenCall.{words_recorded}
 use Rattle.pm_crash.specs.Operations.{AddsRange}
 use Rattle.pm_model.specs.Bytes.{covered_words, new_words}
@@ -130,18 +131,27 @@ spans_count records = ap length (at records) where
   at [] = refl
   at (r ∷ rs) = ap (λ (l : List ℕ). range_with_len r.word (length r.old) ++ l) (at rs)
 
+-- steps one behind the other
+pub walks_then : (u v w : View) (xs ys : List Step) → Walks u xs v → Walks v ys w → Walks u (xs ++ ys) w
+unfolding Walks
+walks_then u v w [] ys first second = subst (λ (x : View). Walks x ys w) first second
+walks_then u v w (s ∷ xs) ys first second = (first.0, first.1, walks_then (after u s) v w xs ys first.2 second)
+
 -- from a view at which nothing was undrained
-pub bounded : (v w : View) (most : ℕ) (steps : List Step) → v.changes ≡ [] → Leads v steps w → stores_among steps ≤ most → IsBounded v w most
-bounded v w most steps none leads few =
+pub bounded_walk : (v w : View) (most : ℕ) (steps : List Step) → v.changes ≡ [] → Walks v steps w → stores_among steps ≤ most → IsBounded v w most
+bounded_walk v w most steps none walks few =
     let empty = ap length none in
     record {
       steps = steps;
-      leads = leads;
+      walks = walks;
       stores = few;
-      flushes = (let f = flushes_few v w steps (walks_of v w steps leads) in omega (arith, f, empty));
-      drains = (let d = drains_few v w steps (walks_of v w steps leads) in omega (arith, d, empty));
-      calls = calls_are v w steps (walks_of v w steps leads);
+      flushes = (let f = flushes_few v w steps walks in omega (arith, f, empty));
+      drains = (let d = drains_few v w steps walks in omega (arith, d, empty));
+      calls = calls_are v w steps walks;
     }
+
+pub bounded : (v w : View) (most : ℕ) (steps : List Step) → v.changes ≡ [] → Leads v steps w → stores_among steps ≤ most → IsBounded v w most
+bounded v w most steps none leads few = bounded_walk v w most steps none (walks_of v w steps leads) few
 
 -- one behind the other
 among_append : (kind : Step → Bool) (xs ys : List Step) → among kind (xs ++ ys) ≡ among kind xs + among kind ys
@@ -156,7 +166,7 @@ bounded_then u v w most more first second =
     let drains = among_append is_drain first.steps second.steps in
     record {
       steps = first.steps ++ second.steps;
-      leads = leads_then u v w first.steps second.steps first.leads second.leads;
+      walks = walks_then u v w first.steps second.steps first.walks second.walks;
       stores = (let a = first.stores in let b = second.stores in omega (arith, stores, a, b));
       flushes = (let a = first.flushes in let b = second.flushes in omega (arith, stores, flushes, a, b));
       drains = (let a = first.drains in let b = second.drains in omega (arith, stores, drains, a, b));
@@ -164,7 +174,7 @@ bounded_then u v w most more first second =
     }
 
 pub bounded_within : (v w : View) (most more : ℕ) → most ≤ more → IsBounded v w most → IsBounded v w more
-bounded_within v w most more few b = record { steps = b.steps; leads = b.leads; stores = (let s = b.stores in omega (arith, s, few)); flushes = b.flushes; drains = b.drains; calls = b.calls }
+bounded_within v w most more few b = record { steps = b.steps; walks = b.walks; stores = (let s = b.stores in omega (arith, s, few)); flushes = b.flushes; drains = b.drains; calls = b.calls }
 
 pub calls_bounded : (v w : View) (most : ℕ) → v.calls ≡ 0 → IsBounded v w most → w.calls ≤ 3 * most
 calls_bounded v w most none b = let c = b.calls in let s = b.stores in let f = b.flushes in let d = b.drains in omega (arith, none, c, s, f, d)

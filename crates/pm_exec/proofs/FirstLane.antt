@@ -10,6 +10,8 @@ use Rattle.pm_occupancy.specs.Words.{run_words_of, zone_words_of}
 use Rattle.pm_occupancy.proofs.Words.{run_words_count, zone_words_count}
 use Rattle.pm_objects.specs.declared.history.TxErr.TheVariants as error
 use Rattle.pm_objects.specs.declared.pool.PoolView.{PoolView}
+use Rattle.pm_made.specs.Made.{BlockLists}
+use Rattle.pm_transaction.specs.AtWork.{AreForPool}
 use Rattle.pm_world.specs.Lanes.{IsIdle, IsOfShape, IsSeenAs}
 use Rattle.pm_world.specs.declared.lane.Lane.{Lane}
 use Rattle.pm_exec.specs.Openings.{first_view, opening_of}
@@ -78,8 +80,8 @@ unfolding pending_from
 none_pending pool words stop = record { are = refl; aligned = All-nil (λ (a : SetAction). a.off % 8 ≡ 0) }
 
 pub is_start : (pool : PoolView) (words : List ℕ) (stop : Option ℕ) (lane : Lane Solo) → (header : Header) × BeginsAlone (opening_of pool words) header pool (first_view pool words stop) → IsSeenAs Sees lane (first_view pool words stop) → IsIdle lane → lane.error ≡ error.None → lane.entries.items ≡ []
-    → IsStart (opening_of pool words) lane [] (first_view pool words stop)
-is_start pool words stop lane begun seen idle unharmed unlisted = record {
+    → (blocks : BlockLists) → AreForPool blocks (first_view pool words stop) → IsStart (opening_of pool words) lane blocks [] (first_view pool words stop)
+is_start pool words stop lane begun seen idle unharmed unlisted blocks pages = record {
   rests = record {
     seen = seen;
     answered = idle.answered;
@@ -94,6 +96,7 @@ is_start pool words stop lane begun seen idle unharmed unlisted = record {
   header = begun.0;
   pool = pool;
   begins = inl begun.1;
-  has_none = record { unlocked = refl; nothing_reserved = refl; nothing_freed = refl };
+  has_none = record { unlocked = refl; no_chunk = λ chunk low. refl };
+  pages = pages;
   pending = none_pending pool words stop;
 }

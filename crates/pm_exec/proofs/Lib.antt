@@ -8,6 +8,7 @@ pub mod QuietSlots
 pub mod UndrainedSlots
 pub mod ShownCalls
 pub mod Along
+pub mod AreaSteps
 pub mod UndrawnSteps
 pub mod PublishFront
 pub mod CommitFront
@@ -26,11 +27,14 @@ pub mod ChangeLines
 pub mod ActionLines
 pub mod OutsideLine
 pub mod AddAndWrite
+pub mod FreeLine
+pub mod AllocLine
 pub mod CommitLine
 pub mod ScriptParts
 pub mod Closed
 pub mod Opened
 pub mod FirstLane
+pub mod KeptLines
 pub mod Untorn
 pub mod StoppedEnd
 pub mod LineLists

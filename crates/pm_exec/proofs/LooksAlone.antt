@@ -19,6 +19,10 @@ pub record IsSameBut (v w : View) : Type 0 where
   pub entries : w.entries ≡ v.entries
   pub heap : KeepsHeap v w
 
+pub looks_none : (v : View) → Looks 0 v v
+unfolding Looks
+looks_none v = refl
+
 pub looks_same : (n : ℕ) (v w : View) → Looks n v w → IsAlone v → IsSameBut v w
 unfolding Looks
 looks_same zero v w is alone = subst (IsSameBut v) (sym is) (record { alone = alone; lane = refl; words = refl; call = refl; number = refl; entries = refl; heap = heap_still v })

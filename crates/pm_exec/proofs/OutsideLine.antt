@@ -45,6 +45,7 @@ use Rattle.pm_tx.proofs.OpeningGeneration.{publish_first}
 use Rattle.pm_tx.proofs.StoreCounts.{stores_append, stores_first}
 use Rattle.pm_tx.specs.Ending.{IsDrawnAs}
 use Rattle.pm_tx.specs.Sequences.{publishes}
+use Rattle.pm_view.specs.Counts.{stores_among}
 use Rattle.pm_view.specs.Area.{area_word}
 use Rattle.pm_view.specs.Steps.{Step}
 use Rattle.pm_view.specs.View.{Numbered, Told, View}
@@ -56,15 +57,17 @@ use Rattle.pm_world.specs.declared.lane.Lane.{Lane}
 use Rattle.pm_exec.specs.Bounds.{most_stores, stores_of_call, stores_of_lines}
 use Rattle.pm_exec.specs.Calls.{IsCall, id_of, operation_of, stands_alone}
 use Rattle.pm_exec.specs.Course.{IsOneLine, IsOutsideMade, IsPublishRefusal, pending_entries}
-use Rattle.pm_exec.specs.Progress.{ActedOutside, HasNothing, IsActed, IsAnswered, IsCut, IsFlyingBy, IsInFlight, IsStart, IsToldDone, done, numbered}
+use Rattle.pm_exec.specs.Progress.{ActedOutside, HasNothing, IsActed, IsAnswered, IsCut, IsFlying, IsFlyingBy, IsStart, IsToldDone, done, numbered}
 use Rattle.pm_exec.specs.declared.calls.Names.{Names}
 use Rattle.pm_exec.specs.declared.ending.CallAnswer.TheVariants as answer
 use Rattle.pm_exec.proofs.ActionLines.{set_taken}
-use Rattle.pm_exec.proofs.Along.{lane_along}
+use Rattle.pm_exec.proofs.Along.{lane_along, same_along}
+use Rattle.pm_made.specs.Made.{BlockLists}
+use Rattle.pm_transaction.specs.AtWork.{AreForPool}
 use Rattle.pm_exec.proofs.Begun.{not_busy, spent}
 use Rattle.pm_exec.proofs.ChangeLines.{front_of}
 use Rattle.pm_exec.proofs.BeginsBehind.{rests_behind}
-use Rattle.pm_exec.proofs.FewStores.{led_stores, lines_within}
+use Rattle.pm_exec.proofs.FewStores.{bounded, led_stores, lines_within}
 use Rattle.pm_exec.proofs.HeapStill.{heap_along, nothing_still, publishes_heapless}
 use Rattle.pm_exec.proofs.IdleNumbers.{idle_numbered}
 use Rattle.pm_exec.proofs.Starts.{finds_led, start_idle, start_lane, start_sound, words_led}
@@ -76,7 +79,7 @@ use Rattle.pm_exec.proofs.QuietSequences.{quiet_in_publish}
 abbrev IsAligned : List SetAction → Type 0
 IsAligned actions = All (λ (a : SetAction). a.off % 8 ≡ 0) actions
 
-module _ (o : Opening) (first : View) (lane new : Lane Solo) (actions : List SetAction) (names : Names) (is : IsStart o lane actions first) where
+module _ (o : Opening) (first : View) (lane new : Lane Solo) (blocks : BlockLists) (actions : List SetAction) (names : Names) (is : IsStart o lane blocks actions first) where
   -- a call that was told without a counted call is answered so
   acted : (x : ScriptOp) (r : Option Refusal) (left : List SetAction) → (told : IsToldOutside Sees new left first (operation_of names x) (option_map Refused r)) → IsAligned left → IsOutsideMade x r first told.view → IsActed first new left names x r
   acted x r left told aligned made = record {
@@ -86,17 +89,17 @@ module _ (o : Opening) (first : View) (lane new : Lane Solo) (actions : List Set
     rests = told.rests;
     idle = told.idle;
     has_none = has_none;
-    behind = rests_behind new told.view told.rests told.idle has_none number.0 number.1;
+    behind = rests_behind o is.header is.pool new first told.view told.led.steps is.begins told.led.leads told.rests.seen.memory told.rests told.idle has_none number.0 number.1;
     entries = told.entries;
     pending = record { are = told.pending; aligned = aligned };
     made = made;
     few = (let none = led_stores first told.view told.led in omega (arith, none));
   } where
     has_none : HasNothing told.view
-    has_none = nothing_still first told.view told.led.heap is.has_none
+    has_none = nothing_still first told.view (same_along first told.view told.led.steps told.led.leads).zones told.led.heap is.has_none
 
     number : (n : ℕ) × (told.view.number ≡ Some n)
-    number = idle_numbered first told.view told.led.steps told.led.leads (start_idle o lane actions first is) told.idle _ told.entries
+    number = idle_numbered first told.view told.led.steps told.led.leads (start_idle o lane blocks actions first is) told.idle _ told.entries
 
   -- ---- an action made pending
 
@@ -130,7 +133,7 @@ module _ (o : Opening) (first : View) (lane new : Lane Solo) (actions : List Set
         → OnErr result (left ≡ actions) → IfErr result (IsSetCause lane.stopped action.off (pending_of actions)) → ActedOutside o first new left names x result
     set_acted (Ok done) unstopped made listed passes kept causes = let t = set_told None made.told in acted x None left t (subst IsAligned (sym listed) (one_more passes)) (set_led t.view t.led)
     set_acted (Err refusal.Stopped) unstopped made listed passes kept causes = absurd made
-    set_acted (Err refusal.Spent) unstopped made listed passes kept causes = spent o first lane new actions names is made
+    set_acted (Err refusal.Spent) unstopped made listed passes kept causes = spent o first lane new blocks actions names is made
     set_acted (Err r) unstopped made listed passes kept causes = refused_so r made.told kept causes.1
 
   -- ---- all that is pending given up
@@ -141,14 +144,14 @@ module _ (o : Opening) (first : View) (lane new : Lane Solo) (actions : List Set
       let t = subst (λ (y : Operation). IsToldOutside Sees new left first y None) (ap (operation_of names) (sym says)) made.told in
       acted x None left t (subst IsAligned (sym emptied) (All-nil (λ (a : SetAction). a.off % 8 ≡ 0))) (subst (λ (y : ScriptOp). IsOutsideMade y None first t.view) (sym says) t.led)
   cancel_acted x (Err refusal.Stopped) left says made emptied causes = absurd made
-  cancel_acted x (Err refusal.Spent) left says made emptied causes = spent o first lane new actions names is made
+  cancel_acted x (Err refusal.Spent) left says made emptied causes = spent o first lane new blocks actions names is made
   cancel_acted x (Err r) left says made emptied causes = absurd causes
 
   -- ---- all that is pending published
 
   -- wherever the lane goes on to without a counted call, it finds the pool as it was opened
   pub stays : StaysSound Sees first
-  stays memory w led seen = (o, (start_sound o lane actions first is, finds_led o lane actions first is memory w led seen))
+  stays memory w led seen = (o, (start_sound o lane blocks actions first is, finds_led o lane blocks actions first is memory w led seen))
 
   pub rests_soundly : RestsSoundly Sees lane
   rests_soundly = (first, (is.rests, stays))
@@ -166,10 +169,10 @@ module _ (o : Opening) (first : View) (lane new : Lane Solo) (actions : List Set
         let over : View = after_all h made in
         let published : Leads h made over = ready_leads h made b.ready b.draws in
         let leads = leads_then first over b.view (b.led.steps ++ made) b.back.steps (leads_then first h over b.led.steps made b.led.leads published) b.back.leads in
-        let at_first = lane_along first h b.led.steps b.led.leads (start_lane o lane actions first is) in
+        let at_first = lane_along first h b.led.steps b.led.leads (start_lane o lane blocks actions first is) in
         let heap = heap_then first over b.view (heap_then first h over b.led.heap (heap_along h over made (publishes_heapless entries operation.Publish new.last h at_first) published)) b.back.heap in
-        let has_none : HasNothing b.view = nothing_still first b.view heap is.has_none in
-        let number = idle_numbered first b.view ((b.led.steps ++ made) ++ b.back.steps) leads (start_idle o lane actions first is) b.idle _ b.entries in
+        let has_none : HasNothing b.view = nothing_still first b.view (same_along first b.view ((b.led.steps ++ made) ++ b.back.steps) leads).zones heap is.has_none in
+        let number = idle_numbered first b.view ((b.led.steps ++ made) ++ b.back.steps) leads (start_idle o lane blocks actions first is) b.idle _ b.entries in
         record {
           view = b.view;
           steps = (b.led.steps ++ made) ++ b.back.steps;
@@ -177,7 +180,7 @@ module _ (o : Opening) (first : View) (lane new : Lane Solo) (actions : List Set
           rests = b.rests;
           idle = b.idle;
           has_none = has_none;
-          behind = rests_behind new b.view b.rests b.idle has_none number.0 number.1;
+          behind = rests_behind o is.header is.pool new first b.view ((b.led.steps ++ made) ++ b.back.steps) is.begins leads b.rests.seen.memory b.rests b.idle has_none number.0 number.1;
           entries = b.entries ∙ ap (λ (y : Operation). first.entries ++ numbered new.last (record { operation = y; reply = None } ∷ []) ∷ []) publish_is;
           pending = record { are = sym b.pending; aligned = All-nil (λ (a : SetAction). a.off % 8 ≡ 0) };
           made = subst (λ (y : ScriptOp). IsOutsideMade y None first b.view) (sym says) (inl (record {
@@ -231,67 +234,77 @@ module _ (o : Opening) (first : View) (lane new : Lane Solo) (actions : List Set
       w = after_all h (take k (steps h))
 
       lane_is : h.lane ≡ 0
-      lane_is = lane_along first h s.led.steps s.led.leads (start_lane o lane actions first is)
+      lane_is = lane_along first h s.led.steps s.led.leads (start_lane o lane blocks actions first is)
 
       first_generation : generation_of h ≡ generation_word o.words 0
-      first_generation = ap (λ n. slice_index h.words (area_word n)) lane_is ∙ ap (λ (words : List ℕ). slice_index words (area_word 0)) (words_led o lane actions first is h s.led)
+      first_generation = ap (λ n. slice_index h.words (area_word n)) lane_is ∙ ap (λ (words : List ℕ). slice_index words (area_word 0)) (words_led o lane blocks actions first is h s.led)
 
       raised : raises (take k (steps h)) ≡ raises (s.led.steps ++ take k (steps h))
       raised = let both = raises_append s.led.steps (take k (steps h)) in let none = uncounted_raises s.led.steps s.led.uncounted in omega (arith, both, none)
 
-      in_flight : (n : ℕ) → IsDrawnAs h w n → w.call ≡ done operation.Publish ∷ [] → IsInFlight first names (said ∷ []) [] (raises (s.led.steps ++ take k (steps h))) w
+      in_flight : (n : ℕ) → IsDrawnAs h w n → w.call ≡ done operation.Publish ∷ [] → IsFlying first names (said ∷ []) [] (raises (s.led.steps ++ take k (steps h))) w
       unfolding values_of
       in_flight n drawn told = record {
-        number = n;
-        drawn = drawn.number;
-        told = done operation.Publish ∷ [];
-        entries = drawn.entries ∙ (ap (λ (es : List Numbered). es ++ numbered n w.call ∷ []) s.undrawn ∙ ap (λ (call : List Told). first.entries ++ numbered n call ∷ []) told);
+        flight = record {
+          number = n;
+          drawn = drawn.number;
+          told = done operation.Publish ∷ [];
+          entries = drawn.entries ∙ (ap (λ (es : List Numbered). es ++ numbered n w.call ∷ []) s.undrawn ∙ ap (λ (call : List Told). first.entries ++ numbered n call ∷ []) told);
+          done = (subst (λ (y : ScriptOp). IsToldDone names y (done operation.Publish)) (sym (is_said ∙ says)) refl, tt);
+          gave = refl;
+          begun = refl;
+        };
         flies = subst (λ r. IsFlyingBy r w.log.phase) raised (publish_flies h entries operation.Publish new.last k n lane_is s.may drawn.number);
-        done = (subst (λ (y : ScriptOp). IsToldDone names y (done operation.Publish)) (sym (is_said ∙ says)) refl, tt);
-        gave = refl;
-        begun = refl;
       }
 
+      few : stores_among (s.led.steps ++ take k (steps h)) ≤ stores_of_call names (said ∷ [])
+      few =
+          let both = stores_append s.led.steps (take k (steps h)) in
+          let before = led_stores first h s.led in
+          let part = stores_first k (steps h) in
+          let all = publish_stores entries operation.Publish new.last h in
+          let short = s.may.few in
+          let most = ap (most_stores names) (is_said ∙ says) in
+          let within = lines_within names [] [] said in
+          let none : stores_of_lines names [] ≡ 0 = refl in omega (arith, both, before, part, all, short, most, within, none)
+
       pub publish_cut : IsCut o first new names (said ∷ []) []
-      publish_cut = record {
-        view = w;
-        steps = s.led.steps ++ take k (steps h);
-        leads = leads_then first h w s.led.steps (take k (steps h)) s.led.leads (stopped_leads Sees new h steps operation.Publish None s.stopped);
-        seen = s.stopped.stops.seen;
-        drawn = s.stopped.drawn;
-        came =
-            ⊎_elim (λ (none : (w.number ≡ None) × (w.entries ≡ h.entries)). inl (record { number = none.0; entries = none.1 ∙ s.undrawn }))
-            (λ (drawn : (n : ℕ) × IsDrawnAs h w n). inr (in_flight drawn.0 drawn.1
-            (⊎_elim (λ (none : w.number ≡ None). absurd (none-some drawn.0 (sym none ∙ drawn.1.number))) (λ (told : w.call ≡ h.call ++ done operation.Publish ∷ []). told ∙ ap (λ (call : List Told). call ++ done operation.Publish ∷ []) s.untold) s.stopped.came.told)))
-            s.stopped.came.entries;
-        opening = publish_first o h (steps h) k lane_is s.stopped.ready first_generation (length entries) (publishes_so h entries s.may lane_is operation.Publish new.last k);
-        untorn = inl (record { view = h; steps = s.led.steps; leads = s.led.leads; working = s.works; calm = λ quiet. quiet_in_publish h entries operation.Publish new.last k quiet s.may.few s.may.each });
-        at_stop = s.stopped.stops.stopped;
-        stops = inr (record {
-          publish = record { line = said; alone = refl; says = is_said ∙ says; outside = refl };
-          start = h;
-          free = record { led = s.led; undrawn = s.undrawn };
-          number = new.last;
-          stops = front_of (Sees new.memory) h (steps h) (publishes (pending_entries first) operation.Publish new.last) (ap (λ (pending : List Action). publishes (map entry_of pending) operation.Publish new.last h) is.pending.are) s.stopped.stops;
-        });
-        few = (
-            let both = stores_append s.led.steps (take k (steps h)) in
-            let before = led_stores first h s.led in
-            let part = stores_first k (steps h) in
-            let all = publish_stores entries operation.Publish new.last h in
-            let short = s.may.few in
-            let most = ap (most_stores names) (is_said ∙ says) in
-            let within = lines_within names [] [] said in
-            let none : stores_of_lines names [] ≡ 0 = refl in omega (arith, both, before, part, all, short, most, within, none));
-      }
+      publish_cut =
+          let leads = leads_then first h w s.led.steps (take k (steps h)) s.led.leads (stopped_leads Sees new h steps operation.Publish None s.stopped) in
+          record {
+            view = w;
+            same = same_along first w (s.led.steps ++ take k (steps h)) leads;
+            bound = λ drained. bounded first w (stores_of_call names (said ∷ [])) (s.led.steps ++ take k (steps h)) drained leads few;
+            seen = s.stopped.stops.seen;
+            drawn = s.stopped.drawn;
+            way = inl (record {
+              steps = s.led.steps ++ take k (steps h);
+              leads = leads;
+              came =
+                  ⊎_elim (λ (none : (w.number ≡ None) × (w.entries ≡ h.entries)). inl (record { number = none.0; entries = none.1 ∙ s.undrawn }))
+                  (λ (drawn : (n : ℕ) × IsDrawnAs h w n). inr (in_flight drawn.0 drawn.1
+                  (⊎_elim (λ (none : w.number ≡ None). absurd (none-some drawn.0 (sym none ∙ drawn.1.number))) (λ (told : w.call ≡ h.call ++ done operation.Publish ∷ []). told ∙ ap (λ (call : List Told). call ++ done operation.Publish ∷ []) s.untold) s.stopped.came.told)))
+                  s.stopped.came.entries;
+              opening = publish_first o h (steps h) k lane_is s.stopped.ready first_generation (length entries) (publishes_so h entries s.may lane_is operation.Publish new.last k);
+              untorn = inl (record { view = h; steps = s.led.steps; leads = s.led.leads; working = s.works; calm = λ quiet. quiet_in_publish h entries operation.Publish new.last k quiet s.may.few s.may.each });
+            });
+            at_stop = s.stopped.stops.stopped;
+            stops = inr (record {
+              publish = record { line = said; alone = refl; says = is_said ∙ says; outside = refl };
+              start = h;
+              free = record { led = s.led; undrawn = s.undrawn };
+              number = new.last;
+              stops = front_of (Sees new.memory) h (steps h) (publishes (pending_entries first) operation.Publish new.last) (ap (λ (pending : List Action). publishes (map entry_of pending) operation.Publish new.last h) is.pending.are) s.stopped.stops;
+            });
+          }
 
     -- however it is answered
     pub publish_acted : {T : Type 0} (result : Result T Refusal) (left : List SetAction) → PublishEnds Sees new actions first result → OnOk result (left ≡ []) → OnErr result (left ≡ actions)
         → (result ≡ Err refusal.NoObject → Any (LacksObject first) (wants_for (pending_of actions))) → (result ≡ Err refusal.OutOfRange → Any (Overruns first) (pending_of actions)) → ActedOutside o first new left names x result
     publish_acted (Ok done) left ends emptied kept missing past_end = subst (λ (list : List SetAction). IsActed first new list names x None) (sym emptied) (published actions refl ends)
     publish_acted (Err refusal.Stopped) left ends emptied kept missing past_end = λ said is_said. publish_cut said is_said ends
-    publish_acted (Err refusal.Spent) left ends emptied kept missing past_end = spent o first lane new actions names is ends
-    publish_acted (Err refusal.Busy) left ends emptied kept missing past_end = absurd (not_busy o first lane new actions names is ends)
+    publish_acted (Err refusal.Spent) left ends emptied kept missing past_end = spent o first lane new blocks actions names is ends
+    publish_acted (Err refusal.Busy) left ends emptied kept missing past_end = absurd (not_busy o first lane new blocks actions names is ends)
     publish_acted (Err refusal.NoObject) left ends emptied kept missing past_end =
         subst (λ (list : List SetAction). IsActed first new list names x (Some refusal.NoObject)) (sym kept)
         (refused_publish refusal.NoObject (subst (λ (pending : List Action). Any (LacksObject first) (wants_for pending)) is.pending.are (missing refl)) ends.told)
@@ -316,9 +329,9 @@ refused_acted o first new left names x refusal.Spent going unspent acted = absur
 refused_acted o first new left names x r going unspent acted = acted
 
 -- what was told of a call outside is its answer
-pub outside_answered : (o : Opening) (first : View) (new : Lane Solo) (left : List SetAction) (names : Names) (said : ScriptLine) (r : Option Refusal) (reply : Reply) → stands_alone said.operation ≡ true → reply.values ≡ [] → reply.at ≡ 0 → IsActed first new left names said.operation r
-    → IsAnswered o first new left names (said ∷ []) new.last (answer.Outside r) reply
-outside_answered o first new left names said r reply outside values at acted =
+pub outside_answered : (o : Opening) (first : View) (new : Lane Solo) (blocks : BlockLists) (left : List SetAction) (names : Names) (said : ScriptLine) (r : Option Refusal) (reply : Reply) → stands_alone said.operation ≡ true → reply.values ≡ [] → reply.at ≡ 0 → AreForPool blocks first → IsActed first new left names said.operation r
+    → IsAnswered o first new blocks left names (said ∷ []) new.last (answer.Outside r) reply
+outside_answered o first new blocks left names said r reply outside values at pages acted =
     let one : IsOneLine (said ∷ []) said.operation = record { line = said; alone = refl; says = refl; outside = outside } in
     record {
       view = acted.view;
@@ -326,6 +339,7 @@ outside_answered o first new left names said r reply outside values at acted =
       rests = acted.rests;
       idle = acted.idle;
       has_none = acted.has_none;
+      pages = (let same = same_along first acted.view acted.steps acted.leads in let lanes = same.lanes in let zones = same.zones in omega (arith, pages, lanes, zones));
       told = record { operation = operation_of names said.operation; reply = option_map Refused r } ∷ [];
       entries = acted.entries;
       so = record { op = said.operation; one = one; at = at; values = values; told_so = refl };

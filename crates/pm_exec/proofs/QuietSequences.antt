@@ -34,8 +34,7 @@ use Rattle.pm_world.specs.declared.lane.Span.{Span}
 use Rattle.pm_lock.specs.Locking.{gives, line_at, takes}
 use Rattle.pm_tx.proofs.Retirement.{records_beside}
 use Rattle.pm_tx.proofs.StepKinds.{Each, HasOnly, HasQuietSteps, each_first, each_more, only_by_lane, only_counted, only_in_turn, only_looks, only_looks_from, only_nothing, only_one, only_persists, only_restores, only_settles, only_stores, only_with_generation, only_with_word, only_makes_room}
-use Rattle.pm_tx.proofs.Unraised.{added_outside}
-use Rattle.pm_tx.specs.Ranges.{CanWrite, reads_range, writes_range}
+use Rattle.pm_tx.specs.Ranges.{reads_range, writes_range}
 use Rattle.pm_tx.specs.Sequences.{commits, decides, decides_all, ends_call, gives_up, performs_logged, publishes, reads, retires_any, sees_generation, starts, takes_back, undoes, word_count, writes, writes_word}
 use Rattle.pm_exec.specs.Quiet.{IsQuiet, MakesNone}
 use Rattle.pm_exec.proofs.QuietSlots.{IsCalm, quiet_after, quiet_at, quiet_store}
@@ -297,9 +296,8 @@ quiet_in_start v n k quiet = quiet_by (starts n) (calm_starts n) v k quiet
 pub quiet_in_read : (v : View) (id : Oid) (off len : ℕ) (bytes : List ℕ) (k : ℕ) → IsQuiet v → IsQuiet (after_all v (take k (reads_range id off len bytes v)))
 quiet_in_read v id off len bytes k quiet = quiet_by (reads_range id off len bytes) (calm_reads id off len bytes) v k quiet
 
-pub quiet_in_write : (v : View) (id : Oid) (off : ℕ) (bytes : List ℕ) (k : ℕ) → IsQuiet v → IsWorking v → CanWrite v id off (length bytes) → IsQuiet (after_all v (take k (writes_range id off bytes v)))
-quiet_in_write v id off bytes k quiet working can =
-    quiet_by (writes_range id off bytes) (calm_writes id off bytes (added_outside v (id.off + off) (length bytes) quiet.lane working can.added)) v k quiet
+pub quiet_in_write : (v : View) (id : Oid) (off : ℕ) (bytes : List ℕ) (k : ℕ) → IsQuiet v → ((u : ℕ) → u < word_count (id.off + off) (length bytes) → is_in_area 0 ((id.off + off) / 8 + u) ≡ false) → IsQuiet (after_all v (take k (writes_range id off bytes v)))
+quiet_in_write v id off bytes k quiet outside = quiet_by (writes_range id off bytes) (calm_writes id off bytes outside) v k quiet
 
 -- what publishes stores no slot word where the lane may enter each entry, and there are 63 at most, so that the pairs end before the slots
 pub quiet_in_publish : (v : View) (entries : List Redo) (operation : Operation) (n k : ℕ) → IsQuiet v → length entries ≤ 63 → All (MayEnter v) entries → IsQuiet (after_all v (take k (publishes entries operation n v)))

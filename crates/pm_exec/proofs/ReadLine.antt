@@ -3,7 +3,6 @@ use Rattle.std.proofs.Common.{◌≡◌, ◌≢◌, ◌⊎◌, inl, inr, false, 
 use Rattle.std.proofs.Math.Seq.{take-length}
 use Rattle.std.proofs.lemmas.List.{take-append-le}
 use Rattle.pm_memory.specs.Solo.{Sees, Solo}
-use Rattle.pm_objects.specs.declared.calls.Operation.{Operation}
 use Rattle.pm_objects.specs.declared.calls.Operation.TheVariants as operation
 use Rattle.pm_objects.specs.declared.history.Value.TheVariants.{Bytes}
 use Rattle.pm_objects.specs.declared.ids.Oid.{Oid}
@@ -15,28 +14,36 @@ use Rattle.pm_script.specs.declared.script.ScriptOp.{ScriptOp}
 use Rattle.pm_script.specs.declared.script.ScriptOp.TheVariants as op
 use Rattle.pm_lock.proofs.Leads.{counted_then, led_then, ready_led}
 use Rattle.pm_tx.proofs.Unraised.{reads_work}
-use Rattle.pm_tx.specs.Calls.{HasLooked, IsStoppedFor}
+use Rattle.pm_tx.specs.Calls.{HasLooked}
 use Rattle.pm_tx.specs.Learning.{Looks}
 use Rattle.pm_tx.specs.Ranges.{HasReadRange, KnowsRange, reads_range}
 use Rattle.pm_tx.specs.Sequences.{reads, word_count}
 use Rattle.pm_undo.specs.Sequences.{looks_from}
 use Rattle.pm_view.specs.Area.{is_in_area}
+use Rattle.pm_crash.specs.Operations.{bytes_seen}
+use Rattle.pm_lock.specs.Leading.{DrawEnded}
+use Rattle.pm_made.specs.Made.{BlockLists}
+use Rattle.pm_transaction.specs.AnyRanges.{IsStoppedRefusing}
+use Rattle.pm_transaction.specs.AtWork.{IsAtWorkWith}
+use Rattle.pm_transaction.specs.NewRanges.{HasReadNew}
 use Rattle.pm_view.specs.Counts.{counted as calls_in}
 use Rattle.pm_view.specs.Steps.Step.{Tell}
 use Rattle.pm_view.specs.View.{Told, View}
 use Rattle.pm_view.specs.Views.{after_all}
 use Rattle.pm_world.specs.Opening.{Opening}
-use Rattle.pm_world.specs.Sequences.{Sequence, counted, in_turn, looks, nothing, one}
+use Rattle.pm_world.specs.Sequences.{Ready, Sequence, counted, in_turn, looks, nothing, one}
 use Rattle.pm_world.specs.declared.lane.Lane.{Lane}
 use Rattle.pm_tx.proofs.LineStores.{read_stores}
 use Rattle.pm_crash.specs.OpenCall.{words_recorded}
 use Rattle.pm_view.specs.Log.{Recorded}
 use Rattle.pm_exec.specs.Calls.{id_of, operation_of}
-use Rattle.pm_exec.specs.Course.{IsFree, IsLineMade, line_calls}
+use Rattle.pm_exec.specs.Course.{IsFree, IsLineMade}
 use Rattle.pm_exec.specs.Progress.{IsAtLine, IsCut, IsToldDone, Values}
 use Rattle.pm_exec.specs.Torn.{words_after, words_by}
 use Rattle.pm_exec.specs.declared.calls.Names.{Names}
-use Rattle.pm_exec.proofs.ChangeLines.{at_next, cut_by, free_u, lane_u, words_u}
+use Rattle.pm_exec.proofs.ChangeLines.{at_next, free_u, lane_u, words_u}
+use Rattle.pm_exec.proofs.AddAndWrite.{cut_giving_up, under_outside}
+use Rattle.pm_exec.proofs.LooksAlone.{looks_none}
 use Rattle.pm_exec.proofs.LineLists.{gave_more, words_more}
 use Rattle.pm_exec.proofs.UndrawnSteps.{Keeps, all_undrawn_keep, reads_undrawn}
 use Rattle.pm_pending.specs.declared.actions.SetAction.{SetAction}
@@ -62,12 +69,13 @@ reads_free id off len bytes v =
     omega (arith, before, all)
 
 -- no line that reads is refused as spent
-pub read_not_spent : (r : Refusal) → (r ≡ refusal.NotLocked) ⊎ (r ≡ refusal.OutOfRange) ⊎ (r ≡ refusal.Stopped) → r ≢ refusal.Spent
+pub read_not_spent : (r : Refusal) → (r ≡ refusal.NotLocked) ⊎ (r ≡ refusal.NoObject) ⊎ (r ≡ refusal.OutOfRange) ⊎ (r ≡ refusal.Stopped) → r ≢ refusal.Spent
 read_not_spent r (inl is) = λ spent. let clash : refusal.NotLocked ≡ refusal.Spent = sym is ∙ spent in cc
-read_not_spent r (inr (inl is)) = λ spent. let clash : refusal.OutOfRange ≡ refusal.Spent = sym is ∙ spent in cc
-read_not_spent r (inr (inr is)) = λ spent. let clash : refusal.Stopped ≡ refusal.Spent = sym is ∙ spent in cc
+read_not_spent r (inr (inl is)) = λ spent. let clash : refusal.NoObject ≡ refusal.Spent = sym is ∙ spent in cc
+read_not_spent r (inr (inr (inl is))) = λ spent. let clash : refusal.OutOfRange ≡ refusal.Spent = sym is ∙ spent in cc
+read_not_spent r (inr (inr (inr is))) = λ spent. let clash : refusal.Stopped ≡ refusal.Spent = sym is ∙ spent in cc
 
-module _ (o : Opening) (first : View) (lane : Lane Solo) (actions : List SetAction) (names : Names) (front : List ScriptLine) (values : Values) (a : IsAtLine o first lane actions names front values) (new : Lane Solo) (said : ScriptLine)
+module _ (o : Opening) (first : View) (lane : Lane Solo) (blocks : BlockLists) (actions : List SetAction) (names : Names) (front : List ScriptLine) (values : Values) (a : IsAtLine o first lane blocks actions names front values) (new : Lane Solo) (said : ScriptLine)
     (id : ScriptId) (place : Oid) (place_is : place ≡ id_of names id) (off len : ℕ) (is : said.operation ≡ op.Read id off len) where
   pub read_is : operation.Read place off len ≡ operation_of names said.operation
   read_is = ap (λ (i : Oid). operation.Read i off len) place_is ∙ ap (operation_of names) (sym is)
@@ -76,43 +84,51 @@ module _ (o : Opening) (first : View) (lane : Lane Solo) (actions : List SetActi
     abbrev steps : Sequence
     steps = reads_range place off len bytes
 
-    abbrev told : Told
-    told = record { operation = operation.Read place off len; reply = Some (Bytes bytes) }
+    abbrev told_with : List ℕ → Told
+    told_with bs = record { operation = operation.Read place off len; reply = Some (Bytes bs) }
 
-    is_told : IsToldDone names said.operation told
-    is_told = subst (λ (x : ScriptOp). IsToldDone names x told) (sym is) (bytes, ap (λ (i : Oid). record { operation = operation.Read i off len; reply = Some (Bytes bytes) }) place_is)
+    is_told : IsToldDone names said.operation (told_with bytes)
+    is_told = subst (λ (x : ScriptOp). IsToldDone names x (told_with bytes)) (sym is) (bytes, ap (λ (i : Oid). record { operation = operation.Read i off len; reply = Some (Bytes bytes) }) place_is)
 
-    free_behind : (n : ℕ) (u : View) → Looks n a.view u → HasReadRange o Sees new u place off len bytes → IsFree a.view (after_all u (steps u))
-    free_behind n u looks h =
-        let before = free_u o first lane actions names front values a n u looks in
-        let lane_is = lane_u o first lane actions names front values a n u looks in
-        let kept : Keeps u (after_all u (steps u)) = all_undrawn_keep u (steps u) (reads_undrawn place off len bytes u lane_is) in
-        record {
-          led = led_then a.view u (after_all u (steps u)) before.led (ready_led u (steps u) h.ready h.draws (reads_free place off len bytes u) kept.heap);
-          undrawn = kept.entries ∙ before.undrawn;
-        }
+    -- read, behind some looks
+    module _ (n : ℕ) (u : View) (looks : Looks n a.view u) (ready : Ready u (steps u)) (draws : DrawEnded u (steps u)) where
+      abbrev w : View
+      w = after_all u (steps u)
 
-    line_made : (w : View) → IsFree a.view w → IsLineMade names said.operation a.view w
-    unfolding nothing after_all
-    line_made w free = record { start = w; free = free; number = 0; is = ap (λ (x : ScriptOp). after_all w (line_calls names x 0 w)) (sym is) }
+      lane_is : u.lane ≡ 0
+      lane_is = lane_u o first lane blocks actions names front values a n u looks
 
-    pub read_done : HasLooked a.view (λ w. KnowsRange w place off len false × HasReadRange o Sees new w place off len bytes) → new.level ≡ 1 → IsAtLine o first new actions names (front ++ said ∷ []) (values ++ (said.line, Bytes bytes) ∷ [])
-    read_done t level =
-        let u : View = t.view in
-        let h = t.holds.1 in
-        let lane_is = lane_u o first lane actions names front values a t.loads u t.looks in
-        at_next o first lane actions names front values a t.loads u t.looks new steps (reads_work place off len bytes u lane_is) (reads_undrawn place off len bytes u lane_is) said h.ready h.draws h.works level
-        told is_told (h.read.tells.call ∙ ap (λ (bs : List ℕ). u.call ++ record { operation = operation.Read place off len; reply = Some (Bytes bs) } ∷ []) (sym h.seen))
-        (λ i outside.
-        h.read.keeps.words i (ap (λ k. is_in_area k i) lane_is ∙ outside)
-        ∙ (words_u o first lane actions names front values a t.loads u t.looks i outside
-        ∙ sym (words_more names front said (slice_index o.words) i ∙ ap (λ (x : ScriptOp). words_by names x (words_after names front (slice_index o.words)) i) is)))
-        (values ++ (said.line, Bytes bytes) ∷ [])
-        (ap (λ (vs : Values). vs ++ (said.line, Bytes bytes) ∷ []) a.gave ∙ sym (gave_more names front said a.view.call told a.told))
-        (line_made (after_all u (steps u)) (free_behind t.loads u t.looks h))
-        (let same = ap (λ (rs : List Recorded). length (words_recorded rs)) h.read.logs.records in let stored = read_stores place off len bytes u in omega (arith, same, stored)) (λ pending. refl) (λ pending. refl)
+      free_behind : IsFree a.view w
+      free_behind =
+          let before = free_u o first lane blocks actions names front values a n u looks in
+          let kept : Keeps u w = all_undrawn_keep u (steps u) (reads_undrawn place off len bytes u lane_is) in
+          record {
+            led = led_then a.view u w before.led (ready_led u (steps u) ready draws (reads_free place off len bytes u) kept.heap);
+            undrawn = kept.entries ∙ before.undrawn;
+          }
 
-  pub read_cut : (rest : List ScriptLine) → HasLooked a.view (λ w. IsStoppedFor Sees new lane.records.items (operation.Read place off len) (record { id = place; off = off; len = len }) w) → IsCut o first new names (front ++ said ∷ rest) values
-  read_cut rest so =
-      let t = subst (λ (x : Operation). HasLooked a.view (λ w. IsStoppedFor Sees new lane.records.items x (record { id = place; off = off; len = len }) w)) read_is so in
-      cut_by o first lane actions names front values a t.loads t.view t.looks new said t.working (record { id = place; off = off; len = len }) rest t.holds
+      read_so : IsAtWorkWith o Sees new blocks w → w.call ≡ u.call ++ told_with (bytes_seen u place off len) ∷ [] → bytes ≡ bytes_seen u place off len → w.log.records ≡ u.log.records
+          → ((i : ℕ) → is_in_area u.lane i ≡ false → slice_index w.words i ≡ slice_index u.words i) → new.level ≡ 1 → new.locks ≡ lane.locks → IsAtLine o first new blocks actions names (front ++ said ∷ []) (values ++ (said.line, Bytes bytes) ∷ [])
+      read_so works call seen records keeps level locks =
+          at_next o first lane blocks actions names front values a n u looks new steps (reads_work place off len bytes u lane_is) (reads_undrawn place off len bytes u lane_is) said ready draws works level locks
+          (told_with bytes) is_told (call ∙ ap (λ (bs : List ℕ). u.call ++ told_with bs ∷ []) (sym seen))
+          (λ i under.
+          keeps i (under_outside o first lane blocks actions names front values a new said i under u.lane lane_is)
+          ∙ (words_u o first lane blocks actions names front values a n u looks i under
+          ∙ sym (words_more names front said (slice_index o.words) i ∙ ap (λ (x : ScriptOp). words_by names x (words_after names front (slice_index o.words)) i) is)))
+          (values ++ (said.line, Bytes bytes) ∷ [])
+          (ap (λ (vs : Values). vs ++ (said.line, Bytes bytes) ∷ []) a.gave ∙ sym (gave_more names front said a.view.call (told_with bytes) a.told))
+          (subst (λ (x : ScriptOp). IsLineMade names x a.view w) (sym is) free_behind)
+          (let same = ap (λ (rs : List Recorded). length (words_recorded rs)) records in let stored = read_stores place off len bytes u in omega (arith, same, stored)) (λ pending. refl) (λ pending. refl) (λ b. refl)
+
+    -- of an object that the call found
+    pub read_done : HasLooked a.view (λ w. KnowsRange w place off len false × HasReadRange o Sees new w place off len bytes × IsAtWorkWith o Sees new blocks (after_all w (steps w))) → new.level ≡ 1 → new.locks ≡ lane.locks
+        → IsAtLine o first new blocks actions names (front ++ said ∷ []) (values ++ (said.line, Bytes bytes) ∷ [])
+    read_done t level locks = let h = t.holds.1 in read_so t.loads t.view t.looks h.ready h.draws t.holds.2 h.read.tells.call h.seen h.read.logs.records h.read.keeps.words level locks
+
+    -- of one that it made
+    pub read_new_done : HasReadNew o Sees new blocks a.view place off len bytes → new.level ≡ 1 → new.locks ≡ lane.locks → IsAtLine o first new blocks actions names (front ++ said ∷ []) (values ++ (said.line, Bytes bytes) ∷ [])
+    read_new_done h level locks = read_so 0 a.view (looks_none a.view) h.ready h.draws h.works h.read.tells.call h.seen h.read.logs.records h.read.keeps.words level locks
+
+  pub read_cut : (rest : List ScriptLine) → HasLooked a.view (IsStoppedRefusing Sees new lane.records.items (operation.Read place off len) (record { id = place; off = off; len = len })) → IsCut o first new names (front ++ said ∷ rest) values
+  read_cut rest t = let s = t.holds in cut_giving_up o first lane blocks actions names front values a new said (operation.Read place off len) read_is s.refusal t.loads t.view t.looks t.working s.stopped rest

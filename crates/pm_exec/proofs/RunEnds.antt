@@ -8,7 +8,7 @@ use Rattle.std.proofs.lemmas.List.{length-map, map-append, take-append-le}
 use Rattle.pm_crash.proofs.AloneImages.{calls_meant, header_stays, size_stays}
 use Rattle.pm_crash.proofs.AtRest.{none_torn_at_rest}
 use Rattle.pm_crash.proofs.SeenAlone.{image_where_seen, works_where_seen}
-use Rattle.pm_crash.specs.Alone.{Begins, BeginsAlone, MeansCalls, Rests, WorksAlone, alone_views, kept_numbered, standing}
+use Rattle.pm_crash.specs.Alone.{Begins, BeginsAlone, MeansCalls, WorksAlone, alone_views, kept_numbered, standing}
 use Rattle.pm_header.specs.declared.header.Header.{Header}
 use Rattle.pm_image.specs.Blocks.{blocks}
 use Rattle.pm_image.specs.Contents.{offset_in}
@@ -19,6 +19,9 @@ use Rattle.pm_model.specs.History.{is_lost}
 use Rattle.pm_objects.specs.Pool.{offsets}
 use Rattle.pm_objects.specs.declared.history.Entry.{Entry}
 use Rattle.pm_objects.specs.declared.pool.PoolView.{PoolView}
+use Rattle.pm_transaction.proofs.LeftCommits.{drawn_meant, drawn_page, drawn_size}
+use Rattle.pm_transaction.specs.Published.{HasDrawn}
+use Rattle.pm_view.specs.Steps.{Step}
 use Rattle.pm_recover.proofs.Meaning.{page_stands}
 use Rattle.pm_recover.proofs.Sound.{header_if_meaning, sound_if_meaning}
 use Rattle.pm_recover.specs.Recovery.{IsRecovered}
@@ -38,14 +41,14 @@ use Rattle.pm_exec.specs.Histories.{closed_history}
 use Rattle.pm_exec.specs.Openings.{first_view, opening_of}
 use Rattle.pm_crash.specs.Leading.{Leads}
 use Rattle.pm_exec.specs.Course.{CallsMade}
-use Rattle.pm_exec.specs.Progress.{IsStart}
-use Rattle.pm_exec.specs.Running.{AreEntries, HasComeTo, HasRun}
+use Rattle.pm_exec.specs.Progress.{IsCutAtWork, IsCutPublishing, IsStart}
+use Rattle.pm_made.specs.Made.{BlockLists}
+use Rattle.pm_exec.specs.Running.{AreEntries, HasComeTo, HasRun, MayRun, MayStart}
 use Rattle.pm_exec.specs.Runs.{IsHistoryOf, LeavesReplay, MakesCalls}
 use Rattle.pm_exec.specs.Torn.{HasNoTornMatch}
 use Rattle.pm_exec.specs.declared.calls.Names.{Names}
 use Rattle.pm_exec.specs.declared.running.Halt.{Halt}
-use Rattle.pm_exec.proofs.Along.{same_along}
-use Rattle.pm_exec.proofs.EndedRuns.{IsCutAt, IsEnded, ended_run}
+use Rattle.pm_exec.proofs.EndedRuns.{HasRested, IsCutAt, IsEnded, ended_run}
 use Rattle.pm_exec.proofs.Opened.{begins_alone, means_so, shape_of, size_of, words_long}
 use Rattle.pm_exec.proofs.RisingCalls.{call_lines_rise}
 use Rattle.pm_exec.proofs.ShownHistories.{as_many, as_many_numbered, calls_are, numbers_count, shown_replay}
@@ -53,10 +56,10 @@ use Rattle.pm_exec.proofs.StoppedEnd.{within_stop}
 use Rattle.pm_exec.proofs.Untorn.{none_torn_where_stopped}
 
 -- before the first call none was answered
-pub run_begins : (pool : PoolView) (words : List ℕ) (stop : Option ℕ) (lane : Lane Solo) (names : Names) (history : List Entry) → history ≡ [] → IsStart (opening_of pool words) lane [] (first_view pool words stop)
-    → HasComeTo (opening_of pool words) (first_view pool words stop) lane [] names [] history
+begins_run : (pool : PoolView) (words : List ℕ) (stop : Option ℕ) (lane : Lane Solo) (blocks : BlockLists) (names : Names) (history : List Entry) → history ≡ [] → IsStart (opening_of pool words) lane blocks [] (first_view pool words stop)
+    → HasComeTo (opening_of pool words) (first_view pool words stop) lane blocks [] names [] history
 unfolding Leads CallsMade among
-run_begins pool words stop lane names history none is = record {
+begins_run pool words stop lane blocks names history none is = record {
   header = is.header;
   pool = is.pool;
   begins = is.begins;
@@ -73,9 +76,15 @@ run_begins pool words stop lane names history none is = record {
     rests = is.rests;
     idle = refl;
     has_none = is.has_none;
+    pages = is.pages;
     pending = is.pending;
   };
 }
+
+pub run_begins : (pool : PoolView) (words : List ℕ) (stop : Option ℕ) (lane : Lane Solo) (names : Names) (history : List Entry) → history ≡ [] → MayStart (opening_of pool words) (first_view pool words stop) lane
+    → MayRun (opening_of pool words) (first_view pool words stop) lane names history
+run_begins pool words stop lane names history none may =
+    record { of_shape = may.of_shape; begins = λ blocks pages. begins_run pool words stop lane blocks names history none (may.starts blocks pages) }
 
 -- the same of names and lines that are given otherwise
 pub run_of : (o : Opening) (first : View) (lane : Lane Solo) (history : List Entry) (halt : Halt) (names other : Names) (lines script : List ScriptLine) → names ≡ other → lines ≡ script
@@ -142,7 +151,7 @@ module _ (pool : PoolView) (words : List ℕ) (stop : Option ℕ) (script : List
     image_kept = image_where_seen lane.memory e.last keep left e.seen kept
 
     same : IsSameLane first e.last
-    same = same_lane-then first e.middle e.last e.called.same (same_along e.middle e.last e.link e.linked)
+    same = same_lane-then first e.middle e.last e.called.same e.same
 
     pub run_size : length left ≡ length words
     run_size = image_kept.size ∙ same.size
@@ -186,27 +195,60 @@ module _ (pool : PoolView) (words : List ℕ) (stop : Option ℕ) (script : List
         again : Begins here header pool e.middle
         again = e.called.again header pool (inl begins)
 
-        works : WorksAlone here header pool e.middle e.link e.last
-        works = works_where_seen here header pool lane.memory e.middle e.last e.link again e.linked e.seen
+        -- what is left means the pool to which the calls lead that it does not lose, with the header page and the length of the words before the last call
+        record IsLeft : Type 0 where
+          meant : MeansCalls left pool.lanes pool.zones pool (kept_numbered left e.last)
+          page : (i : ℕ) → i < 512 → slice_index left i ≡ slice_index e.middle.words i
+          size : length left ≡ length e.middle.words
 
-        torn : NoneTorn here (alone_views here e.last) left
-        torn = ⊎_elim (λ (rests : Rests e.last). none_torn_at_rest here e.last left rests)
-            (λ (c : IsCutAt o first lane names (call_lines script) e.middle e.last).
-            subst (λ (w : View). IsKeptImage keep w.words (w.changes ∷ []) left → NoneTorn here (alone_views here w) left) (sym c.is)
-            (λ cut_kept.
-            none_torn_where_stopped pool e.middle header pool lane c.lines c.values again c.cut
-            (λ front rest is. none c.answered c.behind c.lines front rest c.history e.middle c.are c.called.made is) keep left cut_kept)
-            image_kept)
+        -- of what a power failure leaves where the lane worked alone since then, up to its last view
+        module _ (steps : List Step) (leads : Leads e.middle steps e.last) (torn : NoneTorn here (alone_views here e.last) left) where
+          works : WorksAlone here header pool e.middle steps e.last
+          works = works_where_seen here header pool lane.memory e.middle e.last steps again leads e.seen
+
+          left_at_work : IsLeft
+          left_at_work = record {
+            meant = calls_meant here header pool e.middle e.last steps works keep left image_kept torn;
+            page = header_stays here header pool e.middle e.last steps works keep left image_kept;
+            size = size_stays here header pool e.middle e.last steps works keep left image_kept;
+          }
+
+        left_publishing : (n : ℕ) → HasDrawn here header pool n e.last → IsLeft
+        left_publishing n has = record {
+          meant = drawn_meant here header pool n e.last has keep left image_kept;
+          page = drawn_page here header pool n e.last has keep left image_kept;
+          size = drawn_size here header pool n e.last has keep left image_kept;
+        }
+
+        -- in the call that it made last
+        module _ (c : IsCutAt o first lane names (call_lines script) e.middle e.last) where
+          left_at_stop : IsLeft
+          left_at_stop = ⊎_elim
+              (λ (cut : IsCutAtWork here e.middle names c.lines c.values c.cut.view).
+              left_at_work cut.steps (subst (Leads e.middle cut.steps) (sym c.is) cut.leads)
+              (subst (λ (w : View). IsKeptImage keep w.words (w.changes ∷ []) left → NoneTorn here (alone_views here w) left) (sym c.is)
+              (λ cut_kept.
+              none_torn_where_stopped pool e.middle header pool lane.memory c.cut.view c.lines c.values again c.cut.seen cut
+              (λ front rest is. none c.answered c.behind c.lines front rest c.history e.middle c.are c.called.made is) keep left cut_kept)
+              image_kept))
+              (λ (cut : IsCutPublishing here e.middle names c.lines c.values c.cut.view).
+              left_publishing cut.flight.number (subst (HasDrawn here header pool cut.flight.number) (sym c.is) (cut.publishing header pool again).has))
+              c.cut.way
+
+        left_so : IsLeft
+        left_so = ⊎_elim
+            (λ (r : HasRested e.middle e.last). left_at_work r.steps r.leads (none_torn_at_rest here e.last left r.rests))
+            (λ (c : IsCutAt o first lane names (call_lines script) e.middle e.last). left_at_stop c)
             e.stands
 
         meant : MeansCalls left pool.lanes pool.zones pool (kept_numbered left e.last)
-        meant = calls_meant here header pool e.middle e.last e.link works keep left image_kept torn
+        meant = left_so.meant
 
         page : (i : ℕ) → i < 512 → slice_index left i ≡ slice_index words i
-        page i low = header_stays here header pool e.middle e.last e.link works keep left image_kept i low ∙ e.called.page header pool (inl begins) i low
+        page i low = left_so.page i low ∙ e.called.page header pool (inl begins) i low
 
         left_long : length left ≡ 512 + 1024 * pool.lanes + 33280 * pool.zones
-        left_long = size_stays here header pool e.middle e.last e.link works keep left image_kept ∙ e.called.same.size ∙ words_long before pool means words recovered
+        left_long = left_so.size ∙ e.called.same.size ∙ words_long before pool means words recovered
 
         last_long : length left ≡ 512 + 1024 * meant.last.lanes + 33280 * meant.last.zones
         last_long = size_of left meant.last meant.means

@@ -1,11 +1,12 @@
 -- A script's lines: a begin, changes, and a commit.
-use Rattle.std.proofs.Common.{false, ◌≡◌, ℕ, zero, suc, ◌+◌, ◌-◌, ◌<◌, ◌≤◌, All, List, [], ◌∷◌, ◌++◌, drop, get_or, length, take, Result, refl, sym, ap, ◌∙◌, subst, arith, length-append, append_assoc}
+use Rattle.std.proofs.Common.{false, ◌≡◌, inl, inr, ℕ, zero, suc, ◌+◌, ◌-◌, ◌<◌, ◌≤◌, All, List, [], ◌∷◌, ◌++◌, drop, get_or, length, take, Result, refl, sym, ap, ◌∙◌, subst, arith, length-append, append-nil, append_assoc}
 use Rattle.std.proofs.Math.ListN.{get_or-map}
 use Rattle.std.proofs.Math.Seq.{take-length}
 use Rattle.std.proofs.lemmas.List.{length-map, take-append-drop, take-append-le, take_more}
-use Rattle.std.proofs.lemmas.List.Elements.{All-get_or}
+use Rattle.std.proofs.lemmas.List.Elements.{All-append, All-cons, All-get_or, All-head, All-nil, All-tail}
 use Rattle.pm_memory.specs.Solo.{Solo}
-use Rattle.pm_script.specs.Scripts.{IsChange, IsTransaction, operations}
+use Rattle.pm_made.specs.Made.{BlockLists}
+use Rattle.pm_script.specs.Scripts.{IsChange, IsTransaction, KeepsApart, MakesOrFrees, Publishes, operations}
 use Rattle.pm_script.specs.declared.script.ScriptLine.{ScriptLine}
 use Rattle.pm_script.specs.declared.script.ScriptOp.{ScriptOp}
 use Rattle.pm_script.specs.declared.script.ScriptOp.TheVariants as op
@@ -13,7 +14,7 @@ use Rattle.pm_script.specs.declared.script.ScriptWant.{ScriptWant}
 use Rattle.pm_view.specs.View.{View}
 use Rattle.pm_world.specs.Opening.{Opening}
 use Rattle.pm_world.specs.declared.lane.Lane.{Lane}
-use Rattle.pm_exec.specs.Progress.{CameTo, IsAtLine, IsNotDone, Values}
+use Rattle.pm_exec.specs.Progress.{AllMayStand, CameTo, IsAtLine, IsNotDone, MayStand, Values}
 use Rattle.pm_exec.specs.declared.calls.Names.{Names}
 use Rattle.pm_exec.specs.declared.lines.NotDone.{NotDone}
 use Rattle.pm_pending.specs.declared.actions.SetAction.{SetAction}
@@ -27,6 +28,7 @@ pub record Parts (script : List ScriptLine) : Type 0 where
   pub wants : List ScriptWant
   pub begins : begin.operation ≡ op.Begin wants
   pub are : All IsChange (operations changes)
+  pub apart : KeepsApart (operations changes)
   pub commits : commit.operation ≡ op.Commit
 
 -- the last of some lines, and those before it
@@ -60,6 +62,7 @@ parts (x ∷ script) t =
       wants = t.0;
       begins = cc;
       are = subst (All IsChange) (sym e.same) t.3;
+      apart = subst KeepsApart (sym e.same) t.4;
       commits = e.commits;
     }
 
@@ -67,6 +70,63 @@ parts (x ∷ script) t =
 pub transaction_starts : (script : List ScriptLine) → IsTransaction (operations script) → starts_alone script ≡ false
 transaction_starts [] t = refl
 transaction_starts (x ∷ script) t = let begins : x.operation ≡ op.Begin t.0 = (let same = t.2 in cc) in ap stands_alone begins
+
+-- ---- which lines may stand behind which
+
+-- one that does not publish behind any, and any behind some that make and free no object
+unpublished_stands : (front : List ScriptLine) (x : ScriptOp) → ¬ Publishes x → MayStand front x
+unpublished_stands front op.Publish none = absurd (none tt)
+unpublished_stands front (op.Begin wants) none = tt
+unpublished_stands front (op.Add id off len) none = tt
+unpublished_stands front (op.Write id off bytes) none = tt
+unpublished_stands front (op.Read id off len) none = tt
+unpublished_stands front (op.Alloc letter size kind) none = tt
+unpublished_stands front (op.Free id) none = tt
+unpublished_stands front (op.Set id off value) none = tt
+unpublished_stands front op.Cancel none = tt
+unpublished_stands front op.Commit none = tt
+
+abbrev MakeAndFreeNone : List ScriptLine → Type 0
+MakeAndFreeNone lines = All (λ (line : ScriptLine). ¬ MakesOrFrees line.operation) lines
+
+heapless_stands : (front : List ScriptLine) (x : ScriptOp) → MakeAndFreeNone front → MayStand front x
+heapless_stands front op.Publish none = none
+heapless_stands front (op.Begin wants) none = tt
+heapless_stands front (op.Add id off len) none = tt
+heapless_stands front (op.Write id off bytes) none = tt
+heapless_stands front (op.Read id off len) none = tt
+heapless_stands front (op.Alloc letter size kind) none = tt
+heapless_stands front (op.Free id) none = tt
+heapless_stands front (op.Set id off value) none = tt
+heapless_stands front op.Cancel none = tt
+heapless_stands front op.Commit none = tt
+
+all_unpublished : (front lines : List ScriptLine) → All (λ (x : ScriptOp). ¬ Publishes x) (operations lines) → AllMayStand front lines
+all_unpublished front [] none = tt
+all_unpublished front (l ∷ lines) none =
+    let None = λ (x : ScriptOp). ¬ Publishes x in
+    (unpublished_stands front l.operation (All-head None l.operation (operations lines) none), all_unpublished (front ++ l ∷ []) lines (All-tail None l.operation (operations lines) none))
+
+all_heapless : (front lines : List ScriptLine) → MakeAndFreeNone front → All (λ (x : ScriptOp). ¬ MakesOrFrees x) (operations lines) → AllMayStand front lines
+all_heapless front [] before none = tt
+all_heapless front (l ∷ lines) before none =
+    let None = λ (x : ScriptOp). ¬ MakesOrFrees x in
+    let Line = λ (line : ScriptLine). ¬ MakesOrFrees line.operation in
+    let one : MakeAndFreeNone (l ∷ []) = All-cons Line l [] (All-head None l.operation (operations lines) none) (All-nil Line) in
+    (heapless_stands front l.operation before, all_heapless (front ++ l ∷ []) lines (All-append Line front (l ∷ []) before one) (All-tail None l.operation (operations lines) none))
+
+apart_stand : (begin : ScriptLine) (lines : List ScriptLine) → ¬ MakesOrFrees begin.operation → KeepsApart (operations lines) → AllMayStand (begin ∷ []) lines
+apart_stand begin lines makes_none (inl none) = all_unpublished (begin ∷ []) lines none
+apart_stand begin lines makes_none (inr none) =
+    let Line = λ (line : ScriptLine). ¬ MakesOrFrees line.operation in
+    all_heapless (begin ∷ []) lines (All-cons Line begin [] makes_none (All-nil Line)) none
+
+-- of some lines that may stand behind these each may behind those before it
+pub stands_at : (front lines : List ScriptLine) → AllMayStand front lines → (i : ℕ) (said : ScriptLine) → i < length lines → said ≡ get_or lines i said → MayStand (front ++ take i lines) said.operation
+stands_at front [] all i said low is = absurd (omega (arith, low))
+stands_at front (l ∷ lines) all zero said low is = subst (λ (ls : List ScriptLine). MayStand ls said.operation) (sym (append-nil front)) (subst (λ (s : ScriptLine). MayStand front s.operation) (sym is) all.0)
+stands_at front (l ∷ lines) all (suc i) said low is =
+    subst (λ (ls : List ScriptLine). MayStand ls said.operation) (append_assoc front (l ∷ []) (take i lines)) (stands_at (front ++ l ∷ []) lines all.1 i said (omega (arith, low)) is)
 
 module _ (script : List ScriptLine) (p : Parts script) where
   long : length script ≡ length p.changes + 2
@@ -89,28 +149,33 @@ module _ (script : List ScriptLine) (p : Parts script) where
   pub changes_are : All IsChange (operations (take (length script - 1 - 1) (drop 1 script)))
   changes_are = subst (λ (ls : List ScriptLine). All IsChange (operations ls)) (sym middle) p.are
 
+  -- the changes may stand behind the begin
+  pub changes_stand : AllMayStand (p.begin ∷ []) (take (length script - 1 - 1) (drop 1 script))
+  changes_stand = subst (AllMayStand (p.begin ∷ [])) (sym middle) (apart_stand p.begin p.changes (subst (λ (x : ScriptOp). ¬ MakesOrFrees x) (sym p.begins) (λ makes. makes)) p.apart)
+
   pub begins_there : (d : ScriptLine) → d ≡ get_or script 0 d → d.operation ≡ op.Begin p.wants
   begins_there d is = ap (λ (l : ScriptLine). l.operation) (is ∙ first_line d) ∙ p.begins
 
   module _ (o : Opening) (first : View) (actions : List SetAction) (names : Names) where
-    pub begun_not : (new : Lane Solo) (why : NotDone) (said : ScriptLine) → said ≡ get_or script 0 said → ((rest : List ScriptLine) → IsNotDone o first new actions names (said ∷ rest) [] why) → IsNotDone o first new actions names script [] why
-    begun_not new why said is so =
-        subst (λ (ls : List ScriptLine). IsNotDone o first new actions names ls [] why) (ap (λ (s : ScriptLine). s ∷ (p.changes ++ p.commit ∷ [])) (is ∙ first_line said) ∙ sym p.is) (so (p.changes ++ p.commit ∷ []))
+    pub begun_not : (new : Lane Solo) (now : BlockLists) (why : NotDone) (said : ScriptLine) → said ≡ get_or script 0 said → ((rest : List ScriptLine) → IsNotDone o first new now actions names (said ∷ rest) [] why) → IsNotDone o first new now actions names script [] why
+    begun_not new now why said is so =
+        subst (λ (ls : List ScriptLine). IsNotDone o first new now actions names ls [] why) (ap (λ (s : ScriptLine). s ∷ (p.changes ++ p.commit ∷ [])) (is ∙ first_line said) ∙ sym p.is) (so (p.changes ++ p.commit ∷ []))
 
-    pub begun_at : (mid : Lane Solo) (said : ScriptLine) → said ≡ get_or script 0 said → IsAtLine o first mid actions names (said ∷ []) [] → IsAtLine o first mid actions names (p.begin ∷ []) []
-    begun_at mid said is at = subst (λ (s : ScriptLine). IsAtLine o first mid actions names (s ∷ []) []) (is ∙ first_line said) at
+    pub begun_at : (mid : Lane Solo) (kept : BlockLists) (said : ScriptLine) → said ≡ get_or script 0 said → IsAtLine o first mid kept actions names (said ∷ []) [] → IsAtLine o first mid kept actions names (p.begin ∷ []) []
+    begun_at mid kept said is at = subst (λ (s : ScriptLine). IsAtLine o first mid kept actions names (s ∷ []) []) (is ∙ first_line said) at
 
-    pub changed_not : (left : List SetAction) (mid new : Lane Solo) (values : Values) (why : NotDone) → IsAtLine o first mid actions names (p.begin ∷ []) []
-        → ((front rest : List ScriptLine) → IsAtLine o first mid actions names front [] → IsNotDone o first new left names (front ++ take (length script - 1 - 1) (drop 1 script) ++ rest) values why) → IsNotDone o first new left names script values why
-    changed_not left mid new values why at so =
-        subst (λ (ls : List ScriptLine). IsNotDone o first new left names ls values why) (ap (λ (ls : List ScriptLine). ((p.begin ∷ []) ++ ls) ++ p.commit ∷ []) middle ∙ sym p.is)
-        (so (p.begin ∷ []) (p.commit ∷ []) at)
+    pub changed_not : (left : List SetAction) (mid new : Lane Solo) (kept now : BlockLists) (values : Values) (why : NotDone) → IsAtLine o first mid kept actions names (p.begin ∷ []) []
+        → ((front rest : List ScriptLine) → IsAtLine o first mid kept actions names front [] → AllMayStand front (take (length script - 1 - 1) (drop 1 script)) → IsNotDone o first new now left names (front ++ take (length script - 1 - 1) (drop 1 script) ++ rest) values why)
+        → IsNotDone o first new now left names script values why
+    changed_not left mid new kept now values why at so =
+        subst (λ (ls : List ScriptLine). IsNotDone o first new now left names ls values why) (ap (λ (ls : List ScriptLine). ((p.begin ∷ []) ++ ls) ++ p.commit ∷ []) middle ∙ sym p.is)
+        (so (p.begin ∷ []) (p.commit ∷ []) at changes_stand)
 
-    pub committed_or_not : {T : Type 0} (mid new : Lane Solo) (values : Values) (result : Result T NotDone) → IsAtLine o first mid actions names (p.begin ∷ take (length script - 1 - 1) (drop 1 script)) values
-        → ((front : List ScriptLine) (said : ScriptLine) → IsAtLine o first mid actions names front values → said.operation ≡ op.Commit → CameTo o first new actions names (front ++ said ∷ []) values result) → CameTo o first new actions names script values result
-    committed_or_not mid new values result at so =
-        subst (λ (ls : List ScriptLine). CameTo o first new actions names ls values result) (sym p.is)
-        (so (p.begin ∷ p.changes) p.commit (subst (λ (ls : List ScriptLine). IsAtLine o first mid actions names (p.begin ∷ ls) values) middle at) p.commits)
+    pub committed_or_not : {T : Type 0} (mid new : Lane Solo) (now : BlockLists) (values : Values) (result : Result T NotDone) → IsAtLine o first mid now actions names (p.begin ∷ take (length script - 1 - 1) (drop 1 script)) values
+        → ((front : List ScriptLine) (said : ScriptLine) → IsAtLine o first mid now actions names front values → said.operation ≡ op.Commit → CameTo o first new now actions names (front ++ said ∷ []) values result) → CameTo o first new now actions names script values result
+    committed_or_not mid new now values result at so =
+        subst (λ (ls : List ScriptLine). CameTo o first new now actions names ls values result) (sym p.is)
+        (so (p.begin ∷ p.changes) p.commit (subst (λ (ls : List ScriptLine). IsAtLine o first mid now actions names (p.begin ∷ ls) values) middle at) p.commits)
 
 -- the first of some lines, and one more
 pub lines_taken : (lines : List ScriptLine) (i : ℕ) (said : ScriptLine) → i < length lines → said ≡ get_or lines i said → take (i + 1) lines ≡ take i lines ++ said ∷ []

@@ -1,12 +1,13 @@
 -- A test for the records of the words that a script's lines make. Where none of them has a torn match, no record that passes it has one; and it passes
 -- each that a lane with those words may write.
-use Rattle.std.proofs.Common.{◌≡◌, ℕ, zero, suc, ◌+◌, ◌*◌, ◌<◌, ◌≤◌, Bool, true, eqb, leb, ◌&&◌, List, length, slice_index, refl, sym, ◌∙◌, ap, subst, arith, eq-eqb}
+use Rattle.std.proofs.Common.{IsTrue, ◌≡◌, ℕ, zero, suc, ◌+◌, ◌*◌, ◌<◌, ◌≤◌, Bool, true, eqb, leb, ◌&&◌, List, length, slice_index, refl, sym, ◌∙◌, ap, subst, arith, eq-eqb}
 use Rattle.std.specs.List.{list_all, range_with_len}
 use Rattle.std.proofs.lemmas.Bool.{and_from, and_parts, eqb-true, le-leb, leb-true}
 use Rattle.pm_objects.specs.declared.pool.PoolView.{PoolView}
 use Rattle.pm_image.specs.Logs.{undo_slot}
 use Rattle.pm_view.specs.Area.{area_word}
 use Rattle.pm_view.specs.Log.{Recorded}
+use Rattle.pm_view.specs.Rights.{is_written}
 use Rattle.pm_view.specs.View.{View}
 use Rattle.pm_world.specs.Opening.{Opening}
 use Rattle.pm_world.specs.Records.{spelled}
@@ -55,13 +56,13 @@ module _ (w : ℕ → ℕ) (lanes size : ℕ) (r : Recorded) where
         old = λ i low. eqb-true (slice_index r.old i) (w (r.word + i)) (subst (λ k. eqb (slice_index r.old k) (w (r.word + k)) ≡ true) (let e : 0 + i ≡ i = omega arith in e) (each (λ i. eqb (slice_index r.old i) (w (r.word + i))) 0 (length r.old) i u.1 low));
       }
 
--- a record that the lane may be writing passes, where behind the areas its words are these
-pub may_pass : (words : ℕ → ℕ) (lanes size : ℕ) (w : View) (r : Recorded) → w.lanes ≡ lanes → length w.words ≡ size → ((i : ℕ) → 512 + 1024 * lanes ≤ i → slice_index w.words i ≡ words i)
+-- a record that the lane may be writing passes, where behind the areas the words that it may write are these
+pub may_pass : (words : ℕ → ℕ) (lanes size : ℕ) (w : View) (r : Recorded) → w.lanes ≡ lanes → length w.words ≡ size → ((i : ℕ) → 512 + 1024 * lanes ≤ i → IsTrue (is_written w i) → slice_index w.words i ≡ words i)
     → MayRecord w r → is_record_of words lanes size r ≡ true
 may_pass words lanes size w r of_lanes of_size same may =
     let behind : 512 + 1024 * lanes ≤ r.word = subst (λ n. 512 + 1024 * n ≤ r.word) of_lanes may.behind in
     passes words lanes size r behind (let inside = may.inside in omega (arith, inside, of_size))
-    (λ i low. sym (may.present i low) ∙ same (r.word + i) (omega (arith, behind)))
+    (λ i low. sym (may.present i low) ∙ same (r.word + i) (omega (arith, behind)) (may.own i low))
 
 -- and what passes has no torn match over the view of lane 0, where no record of the words that the lines make has one
 pub no_match_at : (pool : PoolView) (front : List ScriptLine) (o : Opening) (b : View) → b.lane ≡ 0 → HasNoMatchAt pool front b

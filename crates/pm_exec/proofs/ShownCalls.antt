@@ -22,7 +22,7 @@ use Rattle.pm_objects.specs.declared.history.TxErr.TheVariants as error
 use Rattle.pm_objects.specs.declared.refusal.Refusal.{Refusal}
 use Rattle.pm_script.specs.declared.script.ScriptLine.{ScriptLine}
 use Rattle.pm_script.specs.declared.script.ScriptOp.{ScriptOp}
-use Rattle.pm_script.specs.declared.script.ScriptOp.TheVariants.{Begin, Add, Write, Read, Set, Publish, Cancel, Commit}
+use Rattle.pm_script.specs.declared.script.ScriptOp.TheVariants.{Begin, Add, Write, Read, Alloc, Free, Set, Publish, Cancel, Commit}
 use Rattle.pm_view.specs.View.{Told}
 use Rattle.pm_exec.specs.Calls.{call_of, numbers_of, operation_of, stands_alone, starts_alone}
 use Rattle.pm_exec.specs.Histories.{open_fate, settled_fate}
@@ -43,6 +43,8 @@ goes_on names (Begin wants) t is = subst (GoesOn names (Begin wants)) (sym is) (
 goes_on names (Add id off len) t is = subst (GoesOn names (Add id off len)) (sym is) (record { of_line = refl; error = λ rest. refl; line = λ line lines rest. refl })
 goes_on names (Write id off bytes) t is = subst (GoesOn names (Write id off bytes)) (sym is) (record { of_line = refl; error = λ rest. refl; line = λ line lines rest. refl })
 goes_on names (Read id off len) t is = subst (GoesOn names (Read id off len)) (sym is.1) (record { of_line = refl; error = λ rest. refl; line = λ line lines rest. refl })
+goes_on names (Alloc letter size kind) t is = subst (GoesOn names (Alloc letter size kind)) (sym is.1) (record { of_line = refl; error = λ rest. refl; line = λ line lines rest. refl })
+goes_on names (Free id) t is = subst (GoesOn names (Free id)) (sym is) (record { of_line = refl; error = λ rest. refl; line = λ line lines rest. refl })
 goes_on names (Set id off value) t (None, is) = subst (GoesOn names (Set id off value)) (sym is) (record { of_line = refl; error = λ rest. refl; line = λ line lines rest. refl })
 goes_on names (Set id off value) t (Some r, is) = subst (GoesOn names (Set id off value)) (sym is) (record { of_line = refl; error = λ rest. refl; line = λ line lines rest. refl })
 goes_on names Publish t is = subst (GoesOn names Publish) (sym is) (record { of_line = refl; error = λ rest. refl; line = λ line lines rest. refl })
@@ -55,6 +57,8 @@ outside_is names (Begin wants) = refl
 outside_is names (Add id off len) = refl
 outside_is names (Write id off bytes) = refl
 outside_is names (Read id off len) = refl
+outside_is names (Alloc letter size kind) = refl
+outside_is names (Free id) = refl
 outside_is names (Set id off value) = refl
 outside_is names Publish = refl
 outside_is names Cancel = refl

@@ -5,7 +5,7 @@ use Rattle.pm_header.specs.declared.header.Header.{Header}
 use Rattle.pm_objects.specs.declared.history.Value.{Value}
 use Rattle.pm_objects.specs.declared.pool.PoolView.{PoolView}
 use Rattle.pm_memory.specs.Keep.{IsKeptImage}
-use Rattle.pm_memory.specs.Solo.{Solo}
+use Rattle.pm_memory.specs.Solo.{Sees, Solo}
 use Rattle.pm_crash.proofs.AloneCourse.{begins_holds, begins_lane}
 use Rattle.pm_crash.proofs.CallWords.{behind_is_outside}
 use Rattle.pm_crash.proofs.SeenAlone.{works_where_seen}
@@ -16,7 +16,6 @@ use Rattle.pm_view.specs.Constants.{IsSameLane}
 use Rattle.pm_view.specs.View.{View}
 use Rattle.pm_world.specs.Crash.{NoneTorn}
 use Rattle.pm_world.specs.Opening.{Opening}
-use Rattle.pm_world.specs.declared.lane.Lane.{Lane}
 use Rattle.pm_exec.proofs.Along.{same_along}
 use Rattle.pm_exec.proofs.QuietSlots.{none_torn_where_quiet}
 use Rattle.pm_exec.proofs.ScriptRecords.{is_record_of, may_pass, no_match_at}
@@ -24,21 +23,18 @@ use Rattle.pm_exec.proofs.StoppedAdds.{words_in_add}
 use Rattle.pm_exec.proofs.UndrainedSlots.{quiet_at_work}
 use Rattle.pm_exec.specs.Calls.{names_of}
 use Rattle.pm_exec.specs.Openings.{opening_of}
-use Rattle.pm_exec.specs.Progress.{IsCalmBehind, IsCut, IsInAdd}
+use Rattle.pm_exec.specs.Progress.{IsCalmBehind, IsCutAtWork, IsInAdd}
 use Rattle.pm_exec.specs.Torn.{HasNoMatchAt, words_after}
 
--- `o` is the pool as it stood before the call
-module _ (pool : PoolView) (before : View) (header : Header) (held : PoolView) (lane : Lane Solo) (lines : List ScriptLine) (values : List (ℕ × Value))
-    (begins : Begins (opening_of pool before.words) header held before) (cut : IsCut (opening_of pool before.words) before lane (names_of pool) lines values) where
+-- `o` is the pool as it stood before the call, in which the lane came here by steps that it made at work
+module _ (pool : PoolView) (before : View) (header : Header) (held : PoolView) (memory : Solo) (w : View) (lines : List ScriptLine) (values : List (ℕ × Value))
+    (begins : Begins (opening_of pool before.words) header held before) (seen : Sees memory w) (cut : IsCutAtWork (opening_of pool before.words) before (names_of pool) lines values w) where
   abbrev o : Opening
   o = opening_of pool before.words
 
-  abbrev w : View
-  w = cut.view
-
-  -- up to the stop the lane works alone
+  -- up to there the lane works alone
   works : WorksAlone o header held before cut.steps w
-  works = works_where_seen o header held lane.memory before w cut.steps begins cut.leads cut.seen
+  works = works_where_seen o header held memory before w cut.steps begins cut.leads seen
 
   begins_lanes : before.lanes ≡ pool.lanes
   begins_lanes = ⊎_elim (λ (first : BeginsAlone o header held before). first.fresh.lane.lanes) (λ (again : BeginsAgain o header held before). again.rested.lane.lanes) begins
@@ -53,7 +49,7 @@ module _ (pool : PoolView) (before : View) (header : Header) (held : PoolView) (
       none_torn_alone o header held before w cut.steps keep left (is_record_of made pool.lanes (length before.words)) works kept cut.opening.grows
       (no_match_at pool a.front o before (begins_lane o header held before begins) none)
       (λ r. may_pass made pool.lanes (length before.words) w r (same.lanes ∙ begins_lanes) same.size
-      (λ i far. words_in_add o header held before w cut.steps (names_of pool) lines works a i (behind_is_outside 0 pool.lanes i (omega (arith, some)) far)))
+      (λ i far written. words_in_add o header held before w cut.steps (names_of pool) lines works a i (behind_is_outside 0 pool.lanes i (omega (arith, some)) far) written))
 
   -- anywhere else it writes no slot
   calm_behind : (left : List ℕ) → IsCalmBehind before w → NoneTorn o (alone_views o w) left

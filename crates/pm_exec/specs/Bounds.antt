@@ -1,19 +1,21 @@
 -- How many counted calls a run makes at most, by the text of its script: docs/FORMAT.md, "Sequences".
-use Rattle.std.specs.Prelude.{◌≡◌, ℕ, ◌+◌, ◌*◌, ◌≤◌, List, [], ◌∷◌, length}
+use Rattle.std.specs.Prelude.{◌≡◌, ℕ, zero, suc, ◌+◌, ◌*◌, ◌≤◌, List, length}
 use Rattle.std.specs.List.{sum_by}
-use Rattle.pm_crash.specs.Leading.{Leads}
 use Rattle.pm_crash.specs.OpenCall.{words_recorded}
+use Rattle.pm_crash.specs.Operations.{entries_so_far}
+use Rattle.pm_crash.specs.Walking.{Walks}
+use Rattle.pm_layout.specs.Sizes.{class_of}
+use Rattle.pm_objects.specs.Pool.{block_lines}
 use Rattle.pm_script.specs.declared.script.ScriptId.{ScriptId}
 use Rattle.pm_script.specs.declared.script.ScriptLine.{ScriptLine}
 use Rattle.pm_script.specs.declared.script.ScriptOp.{ScriptOp}
-use Rattle.pm_script.specs.declared.script.ScriptOp.TheVariants.{Begin, Add, Write, Read, Set, Publish, Cancel, Commit}
+use Rattle.pm_script.specs.declared.script.ScriptOp.TheVariants.{Begin, Add, Write, Read, Alloc, Free, Set, Publish, Cancel, Commit}
 use Rattle.pm_tx.specs.Sequences.{word_count}
 use Rattle.pm_view.specs.Counts.{drains_among, flushes_among, stores_among}
 use Rattle.pm_view.specs.Steps.{Step}
 use Rattle.pm_view.specs.View.{View}
 use Rattle.pm_exec.specs.Calls.{id_of, call_lines}
 use Rattle.pm_exec.specs.declared.calls.Names.{Names}
-use Rattle.pm_model.specs.Actions.{Action}
 
 -- how many words a range covers
 abbrev pub words_of_range : Names → ScriptId → ℕ → ℕ → ℕ
@@ -23,13 +25,20 @@ words_of_range names id off len = word_count ((id_of names id).off + off) len
 abbrev pub log_stores : ℕ
 log_stores = 194
 
+-- those that make an object of so many bytes: eight for each line of its block, and two where a run is made for it
+abbrev pub making_stores : ℕ → ℕ
+making_stores size = 8 * block_lines (class_of size) + 2
+
 -- how many stores a line is good for: for each word that it adds the eight of a record, and one that puts the word back if the transaction is
--- given up; and one for each word that it writes; and for a publish those of a full redo log, which its transaction performs once at most
+-- given up; one for each word that it writes; those that make an object; and for a publish, and for each line that makes or frees an object, those of a full
+-- redo log, which its transaction performs once at most
 abbrev pub most_stores : Names → ScriptOp → ℕ
 most_stores names (Begin wants) = 0
 most_stores names (Add id off len) = 9 * words_of_range names id off len
 most_stores names (Write id off bytes) = words_of_range names id off (length bytes)
 most_stores names (Read id off len) = 0
+most_stores names (Alloc letter size kind) = making_stores size + log_stores
+most_stores names (Free id) = log_stores
 most_stores names (Set id off value) = 0
 most_stores names Publish = log_stores
 most_stores names Cancel = 0
@@ -55,16 +64,20 @@ stores_of_script names script = stores_of_calls names (call_lines script)
 abbrev pub recorded_count : View → ℕ
 recorded_count v = length (words_recorded v.log.records)
 
--- the stores of the redo log that performs what a transaction published, if anything
-abbrev pub logs_of : List Action → ℕ
-logs_of [] = 0
-logs_of (a ∷ actions) = log_stores
+-- the stores of the redo log that performs so many entries besides the one that ends the generation, if any
+abbrev pub logs_of : ℕ → ℕ
+logs_of zero = 0
+logs_of (suc n) = log_stores
+
+-- those of the log that a transaction would perform by what it published, made and freed so far
+abbrev pub log_due : View → ℕ
+log_due v = logs_of (entries_so_far v)
 
 -- the lane came from the one view to the other with at most so many stores, and with at most as many flushes, and drains. The counted calls
 -- that it made are these three
 pub record IsBounded (v w : View) (most : ℕ) : Type 0 where
   pub steps : List Step
-  pub leads : Leads v steps w
+  pub walks : Walks v steps w
   pub stores : stores_among steps ≤ most
   pub flushes : flushes_among steps ≤ stores_among steps
   pub drains : drains_among steps ≤ stores_among steps

@@ -11,7 +11,7 @@ use Rattle.pm_script.specs.declared.script.ScriptId.{ScriptId}
 use Rattle.pm_script.specs.declared.script.ScriptId.TheVariants.{Root, At}
 use Rattle.pm_script.specs.declared.script.ScriptLine.{ScriptLine}
 use Rattle.pm_script.specs.declared.script.ScriptOp.{ScriptOp}
-use Rattle.pm_script.specs.declared.script.ScriptOp.TheVariants.{Begin, Add, Write, Read, Set, Publish, Cancel, Commit}
+use Rattle.pm_script.specs.declared.script.ScriptOp.TheVariants.{Begin, Add, Write, Read, Alloc, Free, Set, Publish, Cancel, Commit}
 use Rattle.pm_script.specs.declared.script.ScriptWant.{ScriptWant}
 use Rattle.pm_exec.specs.declared.calls.Names.{Names}
 use Rattle.pm_script.specs.Scripts.{IsTransaction}
@@ -42,6 +42,8 @@ operation_of names (Begin wants) = operation.Begin (map (want_of names) wants)
 operation_of names (Add id off len) = operation.AddRange (id_of names id) off len
 operation_of names (Write id off bytes) = operation.Write (id_of names id) off bytes
 operation_of names (Read id off len) = operation.Read (id_of names id) off len
+operation_of names (Alloc letter size kind) = operation.Alloc size kind
+operation_of names (Free id) = operation.Free (id_of names id)
 operation_of names (Set id off value) = operation.SetValue (id_of names id) off value
 operation_of names Publish = operation.Publish
 operation_of names Cancel = operation.Cancel
@@ -57,6 +59,7 @@ has_root (Begin wants) = list_any (λ (want : ScriptWant). is_root want.id) want
 has_root (Add id off len) = is_root id
 has_root (Write id off bytes) = is_root id
 has_root (Read id off len) = is_root id
+has_root (Free id) = is_root id
 has_root (Set id off value) = is_root id
 has_root op = false
 

@@ -1,5 +1,15 @@
 -- The memory calls that the lines of a script make, where one lane is alone, and where it stops: docs/FORMAT.md, "Sequences".
 use Rattle.std.specs.Prelude.{Any, ◌≡◌, ◌⊎◌, ℕ, ◌≤◌, true, List, [], ◌∷◌, ◌++◌, length, map, Option, None, Some, slice_index, ⊤}
+use Rattle.pm_alloc.specs.NewObjects.{GivesNoObject, HasNewObject}
+use Rattle.pm_blocks.specs.declared.making.NoBlock.TheVariants as no_block
+use Rattle.pm_crash.specs.CallBlocks.{blocks_in}
+use Rattle.pm_crash.specs.Operations.{IsMade}
+use Rattle.pm_epoch.specs.Allocating.{object_in_block, with_object_told}
+use Rattle.pm_image.specs.declared.block.Block.{Block}
+use Rattle.pm_made.specs.Entries.{entries_of}
+use Rattle.pm_made.specs.Made.{BlockLists, ListsBlocks}
+use Rattle.pm_memory.specs.declared.lane_mem.Stopped.{Stopped as HasStopped}
+use Rattle.pm_reclaim.specs.Reclaims.{Reclaims}
 use Rattle.pm_memory.specs.Runs.{Stops}
 use Rattle.pm_objects.specs.declared.history.Value.TheVariants.{Refused}
 use Rattle.pm_objects.specs.declared.history.Entry.{Entry}
@@ -7,9 +17,10 @@ use Rattle.pm_objects.specs.declared.history.TxErr.{TxErr}
 use Rattle.pm_objects.specs.declared.history.TxErr.TheVariants as error
 use Rattle.pm_objects.specs.declared.refusal.Refusal.{Refusal}
 use Rattle.pm_objects.specs.declared.refusal.Refusal.TheVariants as refusal
+use Rattle.pm_script.specs.declared.script.ScriptId.{ScriptId}
 use Rattle.pm_script.specs.declared.script.ScriptLine.{ScriptLine}
 use Rattle.pm_script.specs.declared.script.ScriptOp.{ScriptOp}
-use Rattle.pm_script.specs.declared.script.ScriptOp.TheVariants.{Begin, Add, Write, Read, Set, Publish, Cancel, Commit}
+use Rattle.pm_script.specs.declared.script.ScriptOp.TheVariants.{Begin, Add, Write, Read, Alloc, Free, Set, Publish, Cancel, Commit}
 use Rattle.pm_script.specs.declared.script.ScriptWant.{ScriptWant}
 use Rattle.pm_text.specs.declared.report.LaneEnd.{LaneEnd}
 use Rattle.pm_text.specs.declared.report.LaneEnd.TheVariants as end
@@ -22,7 +33,7 @@ use Rattle.pm_view.specs.Views.{after_all}
 use Rattle.pm_world.specs.Lanes.{span_of}
 use Rattle.pm_world.specs.Lawful.{generation_limit}
 use Rattle.pm_world.specs.Records.{generation_of}
-use Rattle.pm_world.specs.Sequences.{Sequence, by_view, nothing}
+use Rattle.pm_world.specs.Sequences.{Sequence, by_view}
 use Rattle.pm_world.specs.declared.lane.Span.{Span}
 use Rattle.pm_exec.specs.Calls.{id_of, numbers_of, operation_of, stands_alone, want_of}
 use Rattle.pm_exec.specs.Histories.{settled_fate}
@@ -54,28 +65,53 @@ published_entries v = map entry_of (published_in v)
 abbrev pub pending_entries : View → List Redo
 pending_entries v = map entry_of (pending_before v)
 
--- the memory calls of a line of a transaction that is done, where its call draws this number: a begin, a read, a set and a publish make no counted
--- calls
-abbrev pub line_calls : Names → ScriptOp → ℕ → Sequence
-line_calls names (Begin wants) n = nothing
-line_calls names (Add id off len) n = by_view (λ v. adds_range (spans_of v) (id_of names id) off len)
-line_calls names (Write id off bytes) n = writes_range (id_of names id) off bytes
-line_calls names (Read id off len) n = nothing
-line_calls names (Set id off value) n = nothing
-line_calls names Publish n = nothing
-line_calls names Cancel n = cancels
-line_calls names Commit n = by_view (λ v. commits (spans_of v) (published_entries v) n)
+-- the memory calls of an add of an object that the call found, and of a write
+abbrev pub add_calls : Names → ScriptId → ℕ → ℕ → Sequence
+add_calls names id off len = by_view (λ v. adds_range (spans_of v) (id_of names id) off len)
+
+abbrev pub write_calls : Names → ScriptId → ℕ → List ℕ → Sequence
+write_calls names id off bytes = writes_range (id_of names id) off bytes
+
+-- those of a commit by this number, where the call made and freed what these lists have: it performs the entries of what it published, and then those of the blocks
+abbrev pub commit_calls : BlockLists → ℕ → Sequence
+commit_calls blocks n = by_view (λ v. commits (spans_of v) (published_entries v ++ entries_of v.lanes blocks) n)
 
 -- the memory calls of a line that is refused so: what the transaction did is taken back, and the call draws this number
 abbrev pub refused_calls : Names → ScriptOp → Refusal → ℕ → Sequence
 refused_calls names op r n = by_view (λ v. gives_up (spans_of v) (operation_of names op) (Some (Refused r)) n)
 
--- the line was done
-pub record IsLineMade (names : Names) (op : ScriptOp) (v w : View) : Type 0 where
+-- behind free steps exactly these were made
+pub record IsMadeBy (steps : Sequence) (v w : View) : Type 0 where
   pub start : View
   pub free : IsFree v start
+  pub is : w ≡ after_all start (steps start)
+
+-- an object was made: its block was reserved as a free one is found, then it was filled, and told
+pub record IsObjectMade (size kind : ℕ) (v w : View) : Type 0 where
+  pub block : Block
+  pub view : View
+  pub made : HasNewObject (λ u. u ≡ view) v size kind block
+  pub told : w ≡ with_object_told view (object_in_block block size kind)
+
+-- the call was committed, with the entries of all that it made and freed
+pub record IsCommitMade (v w : View) : Type 0 where
+  pub blocks : BlockLists
+  pub lists : ListsBlocks blocks (blocks_in v)
   pub number : ℕ
-  pub is : w ≡ after_all start (line_calls names op number start)
+  pub made : IsMadeBy (commit_calls blocks number) v w
+
+-- the line was done: a begin, a read, a free, a set and a publish make no counted calls, nor does an add of an object that the call made
+abbrev pub IsLineMade : Names → ScriptOp → View → View → Type 0
+IsLineMade names (Begin wants) v w = IsFree v w
+IsLineMade names (Add id off len) v w = IsMadeBy (add_calls names id off len) v w ⊎ (IsMade v (id_of names id) × IsFree v w)
+IsLineMade names (Write id off bytes) v w = IsMadeBy (write_calls names id off bytes) v w
+IsLineMade names (Read id off len) v w = IsFree v w
+IsLineMade names (Alloc letter size kind) v w = IsObjectMade size kind v w
+IsLineMade names (Free id) v w = IsFree v w
+IsLineMade names (Set id off value) v w = IsFree v w
+IsLineMade names Publish v w = IsFree v w
+IsLineMade names Cancel v w = IsMadeBy cancels v w
+IsLineMade names Commit v w = IsCommitMade v w
 
 -- some lines were done, one after another
 unfoldable pub LinesMade : Names → List ScriptLine → View → View → Type 0
@@ -84,10 +120,8 @@ LinesMade names (line ∷ lines) v w = (m : View) × IsLineMade names line.opera
 
 -- the line was refused so, and its call given up
 pub record IsGivenUpMade (names : Names) (op : ScriptOp) (r : Refusal) (v w : View) : Type 0 where
-  pub start : View
-  pub free : IsFree v start
   pub number : ℕ
-  pub is : w ≡ after_all start (refused_calls names op r number start)
+  pub made : IsMadeBy (refused_calls names op r number) v w
 
 -- why a begin of a lane that is alone may be refused: it wants too many locks, or something for which the pool's words have no object. No lock is
 -- another lane's
@@ -117,11 +151,14 @@ AreMade names lines error.None v w = LinesMade names lines v w
 AreMade names lines (error.Refused r) v w = IsRefusedIn names lines r v w
 AreMade names lines e v w = ⊥
 
--- a transaction was answered with this error: its lines were made, and its locks given back
+-- a transaction was answered with this error: its lines were made, its locks given back, and then what it had reserved or freed of which no word says that it
+-- is taken
 pub record IsTransactionMade (names : Names) (lines : List ScriptLine) (e : TxErr) (v w : View) : Type 0 where
   pub over : View
   pub made : AreMade names lines e v over
-  pub closed : IsFree over w
+  pub unlocked : View
+  pub closed : IsFree over unlocked
+  pub reclaims : Reclaims unlocked w
 
 -- what is pending was published outside of a transaction: locks were taken, the entries logged and performed, and the locks given back
 pub record IsPublishMade (v w : View) : Type 0 where
@@ -176,6 +213,33 @@ CallsMade names calls history v w = ⊥
 abbrev pub IsFrontOf : Sequence → View → View → Type 0
 IsFrontOf steps v w = Stops (λ u. w ≡ u) v (steps v)
 
+-- behind free steps the first of these were made, and the next is due
+pub record IsStoppedBy (steps : Sequence) (v w : View) : Type 0 where
+  pub start : View
+  pub free : IsFree v start
+  pub stops : IsFrontOf steps start w
+
+-- so it is of a commit's
+pub record IsStoppedInCommit (v w : View) : Type 0 where
+  pub blocks : BlockLists
+  pub lists : ListsBlocks blocks (blocks_in v)
+  pub number : ℕ
+  pub stopped : IsStoppedBy (commit_calls blocks number) v w
+
+-- in the calls of the line a counted call is due; an object was being made
+abbrev pub IsLineStopped : Names → ScriptOp → View → View → Type 0
+IsLineStopped names (Add id off len) v w = IsStoppedBy (add_calls names id off len) v w
+IsLineStopped names (Write id off bytes) v w = IsStoppedBy (write_calls names id off bytes) v w
+IsLineStopped names (Alloc letter size kind) v w = (stop : HasStopped) × GivesNoObject (λ u. u ≡ w) v size kind (no_block.Stopped stop)
+IsLineStopped names Cancel v w = IsStoppedBy cancels v w
+IsLineStopped names Commit v w = IsStoppedInCommit v w
+IsLineStopped names op v w = ⊥
+
+-- so it is in those by which the call is given up, as the line is refused so
+pub record IsStoppedGivingUp (names : Names) (op : ScriptOp) (r : Refusal) (v w : View) : Type 0 where
+  pub number : ℕ
+  pub stopped : IsStoppedBy (refused_calls names op r number) v w
+
 -- some lines of a transaction were done, and in the next a counted call is due
 pub record IsStoppedInTransaction (names : Names) (lines : List ScriptLine) (v w : View) : Type 0 where
   pub front : List ScriptLine
@@ -184,10 +248,7 @@ pub record IsStoppedInTransaction (names : Names) (lines : List ScriptLine) (v w
   pub is : lines ≡ front ++ said ∷ rest
   pub middle : View
   pub made : LinesMade names front v middle
-  pub start : View
-  pub free : IsFree middle start
-  pub number : ℕ
-  pub stops : IsFrontOf (line_calls names said.operation number) start w ⊎ ((r : Refusal) × IsFrontOf (refused_calls names said.operation r number) start w)
+  pub stops : IsLineStopped names said.operation middle w ⊎ ((r : Refusal) × IsStoppedGivingUp names said.operation r middle w)
 
 -- what is pending was being published outside of a transaction, and a counted call is due
 pub record IsStoppedInPublish (lines : List ScriptLine) (v w : View) : Type 0 where

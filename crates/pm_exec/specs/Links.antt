@@ -1,9 +1,12 @@
 -- What an answered call keeps of its run, whatever steps it made: for the crate's own functions.
-use Rattle.std.specs.Prelude.{◌≡◌, ℕ, ◌<◌, [], slice_index}
-use Rattle.pm_crash.specs.Alone.{Begins, standing}
+use Rattle.std.specs.Prelude.{◌≡◌, ◌⊎◌, ℕ, ◌<◌, List, [], slice_index}
+use Rattle.pm_crash.specs.Alone.{Begins, WorksAlone, standing}
+use Rattle.pm_epoch.specs.Epochs.{HasEnded}
 use Rattle.pm_header.specs.declared.header.Header.{Header}
 use Rattle.pm_objects.specs.declared.pool.PoolView.{PoolView}
 use Rattle.pm_view.specs.Constants.{IsSameLane}
+use Rattle.pm_transaction.specs.AtWork.{IsNotMaking}
+use Rattle.pm_view.specs.Steps.{Step}
 use Rattle.pm_view.specs.View.{View}
 use Rattle.pm_world.specs.Opening.{Opening}
 use Rattle.pm_exec.specs.Bounds.{IsBounded}
@@ -15,3 +18,17 @@ pub record IsLink (o : Opening) (first view : View) (most : ℕ) : Type 0 where
   pub again : (header : Header) (pool : PoolView) → Begins o header pool first → Begins (standing o view) header pool view
   pub page : (header : Header) (pool : PoolView) → Begins o header pool first → (i : ℕ) → i < 512 → slice_index view.words i ≡ slice_index o.words i
   pub bound : first.changes ≡ [] → IsBounded first view most
+
+-- the lane works alone since the first view, and makes no object now
+pub record WorksOn (o : Opening) (header : Header) (pool : PoolView) (first view : View) : Type 0 where
+  pub steps : List Step
+  pub works : WorksAlone o header pool first steps view
+  pub quiet : IsNotMaking view
+
+-- From the first view, with the pool as it stands there, a call led the lane to where it is over, with at most so many stores, and its locks are to be given back
+-- still: it published its log with what it made and freed, or the lane works alone still, since it published none, or was given up.
+pub record HasPassed (o : Opening) (first view : View) (most : ℕ) : Type 0 where
+  pub same : IsSameLane first view
+  pub page : (header : Header) (pool : PoolView) → Begins o header pool first → (i : ℕ) → i < 512 → slice_index view.words i ≡ slice_index o.words i
+  pub bound : first.changes ≡ [] → IsBounded first view most
+  pub came : (header : Header) (pool : PoolView) → Begins o header pool first → HasEnded o header pool view ⊎ WorksOn o header pool first view

@@ -3,10 +3,12 @@ use Rattle.std.specs.Prelude.{◌≡◌, ◌⊎◌, ℕ, ◌+◌, ◌≤◌, fal
 use Rattle.std.specs.List.{AllZip}
 use Rattle.pm_crash.specs.Alone.{Begins, raises}
 use Rattle.pm_crash.specs.Leading.{Leads}
-use Rattle.pm_crash.specs.Pending.{pending_before, pending_in, published_in, told_of as model_told}
+use Rattle.pm_crash.specs.OpenCall.{IsUnderBlock}
+use Rattle.pm_crash.specs.Pending.{pending_before, pending_in, told_of as model_told}
 use Rattle.pm_epoch.specs.Epochs.{RestsBehindCall}
 use Rattle.pm_header.specs.declared.header.Header.{Header}
 use Rattle.pm_image.specs.Logs.{generation_word}
+use Rattle.pm_made.specs.Made.{BlockLists}
 use Rattle.pm_memory.specs.Solo.{Sees, Solo}
 use Rattle.pm_model.specs.Checks.{is_action}
 use Rattle.pm_model.specs.Names.{is_refusal}
@@ -17,25 +19,29 @@ use Rattle.pm_objects.specs.declared.history.Reply.{Reply}
 use Rattle.pm_objects.specs.declared.history.TxErr.{TxErr}
 use Rattle.pm_objects.specs.declared.history.TxErr.TheVariants as error
 use Rattle.pm_objects.specs.declared.history.Value.{Value}
-use Rattle.pm_objects.specs.declared.history.Value.TheVariants.{Bytes, Refused}
+use Rattle.pm_objects.specs.declared.history.Value.TheVariants.{Bytes, Offset, Refused}
 use Rattle.pm_objects.specs.declared.ids.Oid.{Oid}
 use Rattle.pm_objects.specs.declared.pool.PoolView.{PoolView}
 use Rattle.pm_objects.specs.declared.refusal.Refusal.{Refusal}
 use Rattle.pm_objects.specs.declared.refusal.Refusal.TheVariants as refusal
+use Rattle.pm_script.specs.Scripts.{MakesOrFrees}
 use Rattle.pm_script.specs.declared.script.ScriptLine.{ScriptLine}
 use Rattle.pm_script.specs.declared.script.ScriptOp.{ScriptOp}
-use Rattle.pm_script.specs.declared.script.ScriptOp.TheVariants.{Read, Set}
+use Rattle.pm_script.specs.declared.script.ScriptOp.TheVariants.{Alloc, Publish, Read, Set}
+use Rattle.pm_blocks.specs.NewRuns.{IsThere}
+use Rattle.pm_lock.specs.Finding.{FindsObjects}
 use Rattle.pm_lock.specs.Leading.{DrawEnded}
 use Rattle.pm_lock.specs.Resting.{IsAtRest, IsFresh}
-use Rattle.pm_tx.specs.AtWork.{IsAtWork}
+use Rattle.pm_transaction.specs.AtWork.{AreForPool, IsAtWorkWith, ReservesNoChunk}
+use Rattle.pm_transaction.specs.Published.{HasDrawn}
 use Rattle.pm_tx.specs.Ending.{IsAfterCall}
 use Rattle.pm_tx.specs.Generations.{IsOfOpening}
+use Rattle.pm_tx.specs.Learning.{Looks}
 use Rattle.pm_tx.specs.Ranges.{adds_range}
 use Rattle.pm_tx.specs.Stages.{is_work}
 use Rattle.pm_undo.specs.Working.{IsWorking}
-use Rattle.pm_view.specs.Area.{is_in_area}
 use Rattle.pm_view.specs.Counts.{IsAtStop, stores_among}
-use Rattle.pm_view.specs.Founds.{IsAlone}
+use Rattle.pm_view.specs.Constants.{IsSameLane}
 use Rattle.pm_view.specs.Log.{no_log}
 use Rattle.pm_view.specs.Log.{Phase}
 use Rattle.pm_view.specs.Log.Phase.{Applying, Clearing, Drawn, Idle, Retiring, Sealing}
@@ -47,10 +53,10 @@ use Rattle.pm_world.specs.Records.{generation_of}
 use Rattle.pm_world.specs.Sequences.{Ready}
 use Rattle.pm_world.specs.declared.lane.Lane.{Lane}
 use Rattle.pm_world.specs.declared.lane.Span.{Span}
-use Rattle.pm_exec.specs.Bounds.{logs_of, most_stores, recorded_count, stores_of_call, stores_of_lines}
+use Rattle.pm_exec.specs.Bounds.{IsBounded, log_due, most_stores, recorded_count, stores_of_call, stores_of_lines}
 use Rattle.pm_exec.specs.Calls.{id_of, numbers_of, operation_of, stands_alone, starts_alone}
 use Rattle.pm_exec.specs.Course.{AreMade, IsCallMade, IsFree, IsOneLine, IsOutsideMade, IsStoppedInCall, IsUsedUp, LinesMade, spans_of}
-use Rattle.pm_exec.specs.Links.{IsLink}
+use Rattle.pm_exec.specs.Links.{HasPassed, IsLink}
 use Rattle.pm_exec.specs.Quiet.{IsQuiet}
 use Rattle.pm_exec.specs.Torn.{words_after}
 use Rattle.pm_exec.specs.declared.calls.Names.{Names}
@@ -81,11 +87,12 @@ pub record IsPending (actions : List SetAction) (pending : List Action) : Type 0
   pub are : pending_of actions ≡ pending
   pub aligned : All (λ (a : SetAction). a.off % 8 ≡ 0) actions
 
--- the operation of a line was done: a read gave bytes, a set may give its refusal, which aborts nothing, and another gave nothing
+-- the operation of a line was done: a read gave bytes, an object that was made its offset, a set may give its refusal, which aborts nothing, and another gave nothing
 abbrev pub IsToldDone : Names → ScriptOp → Told → Type 0
 IsToldDone names (Set id off value) t =
     (r : Option Refusal) × (t ≡ record { operation = operation.SetValue (id_of names id) off value; reply = option_map Refused r })
 IsToldDone names (Read id off len) t = (bytes : List ℕ) × (t ≡ record { operation = operation.Read (id_of names id) off len; reply = Some (Bytes bytes) })
+IsToldDone names (Alloc letter size kind) t = (off : ℕ) × (t ≡ record { operation = operation.Alloc size kind; reply = Some (Offset off) })
 IsToldDone names op t = t ≡ done (operation_of names op)
 
 -- these lines were done
@@ -100,31 +107,32 @@ values_told lines told = values_of (numbers_of lines) (map model_told told)
 abbrev pub numbered : ℕ → List Told → Numbered
 numbered n told = record { number = n; call = told }
 
--- the lane has nothing of the heap: no zone's lock, nothing that it reserved and nothing that it freed
+-- the lane has no zone's lock, and reserved no chunk of the pool
 pub record HasNothing (v : View) : Type 0 where
   pub unlocked : v.zone_locks ≡ []
-  pub nothing_reserved : v.reserved ≡ []
-  pub nothing_freed : v.freed ≡ []
+  pub no_chunk : ReservesNoChunk v
 
--- the lane rests before a call, where it begins: o is the pool as it stands
-pub record IsStart (o : Opening) (lane : Lane Solo) (actions : List SetAction) (v : View) : Type 0 where
+-- the lane rests before a call, where it begins, with lists for its pool: o is the pool as it stands
+pub record IsStart (o : Opening) (lane : Lane Solo) (blocks : BlockLists) (actions : List SetAction) (v : View) : Type 0 where
   pub rests : IsAtRest Sees lane v
   pub header : Header
   pub pool : PoolView
   pub begins : Begins o header pool v
   pub has_none : HasNothing v
+  pub pages : AreForPool blocks v
   pub pending : IsPending actions (pending_before v)
 
--- from the view before the call steps led to one at which the lane is at work, with these lines done, which gave these values: outside of its
--- area the words are what the lines make of the pool's
-pub record IsAtLine (o : Opening) (first : View) (lane : Lane Solo) (actions : List SetAction) (names : Names) (front : List ScriptLine) (values : Values) : Type 0 where
+-- from where the lane began the call steps led to a view at which it is at work, with these lists of what it made and freed, and with these lines done, which gave
+-- these values: in the blocks that it found the words are what the lines make of the pool's
+pub record IsAtLine (o : Opening) (first : View) (lane : Lane Solo) (blocks : BlockLists) (actions : List SetAction) (names : Names) (front : List ScriptLine) (values : Values) : Type 0 where
+  pub header : Header
+  pub pool : PoolView
+  pub begins : Begins o header pool first
   pub view : View
   pub steps : List Step
   pub leads : Leads first steps view
   pub of_lane : view.lane ≡ 0
-  pub alone : IsAlone view
-  pub works : IsAtWork o Sees lane view
-  pub has_none : HasNothing view
+  pub works : IsAtWorkWith o Sees lane blocks view
   pub level : lane.level ≡ 1
   -- the first of them is none that stands alone
   pub opens : (line : ScriptLine) × (rest : List ScriptLine) × (front ≡ line ∷ rest) × (stands_alone line.operation ≡ false)
@@ -132,25 +140,43 @@ pub record IsAtLine (o : Opening) (first : View) (lane : Lane Solo) (actions : L
   pub gave : values ≡ values_told front view.call
   pub entries : view.entries ≡ first.entries
   pub generation : generation_of view ≡ generation_word o.words 0
-  pub words : (i : ℕ) → is_in_area 0 i ≡ false → slice_index view.words i ≡ words_after names front (slice_index o.words) i
+  pub words : (i : ℕ) → IsUnderBlock view i → slice_index view.words i ≡ words_after names front (slice_index o.words) i
   pub unraised : raises steps ≡ 0
   pub pending : IsPending actions (pending_in view)
   pub made : LinesMade names front first view
-  pub few : stores_among steps + recorded_count view + logs_of (published_in view) ≤ stores_of_lines names front
+  pub few : stores_among steps + recorded_count view + log_due view ≤ stores_of_lines names front
 
-abbrev pub IsLaneWith : Lane Solo → List SetAction → Names → Values → Type 0
-IsLaneWith lane actions names values = (o : Opening) × (first : View) × (front : List ScriptLine) × IsAtLine o first lane actions names front values
+-- so it is wherever it began, with some lines done that gave these values
+abbrev pub IsLaneWith : Lane Solo → BlockLists → List SetAction → Names → Values → Type 0
+IsLaneWith lane blocks actions names values = (o : Opening) × (first : View) × (front : List ScriptLine) × IsAtLine o first lane blocks actions names front values
 
-abbrev pub IsLaneAtLine : Lane Solo → List SetAction → Names → Type 0
-IsLaneAtLine lane actions names = (values : Values) × IsLaneWith lane actions names values
+abbrev pub IsLaneAtLine : Lane Solo → BlockLists → List SetAction → Names → Type 0
+IsLaneAtLine lane blocks actions names = (values : Values) × IsLaneWith lane blocks actions names values
+
+-- the operation may stand behind these lines: a publish behind none that make or free objects
+abbrev pub MayStand : List ScriptLine → ScriptOp → Type 0
+MayStand front Publish = All (λ (line : ScriptLine). ¬ MakesOrFrees line.operation) front
+MayStand front op = ⊤
+
+-- each of some lines may stand behind these and those of its own before it
+abbrev pub AllMayStand : List ScriptLine → List ScriptLine → Type 0
+AllMayStand front [] = ⊤
+AllMayStand front (line ∷ lines) = MayStand front line.operation × AllMayStand (front ++ line ∷ []) lines
+
+-- the lane is at work wherever it began, behind some lines behind which these may stand
+abbrev pub MayGoOn : Lane Solo → BlockLists → List SetAction → Names → Values → List ScriptLine → Type 0
+MayGoOn lane blocks actions names values lines = (o : Opening) × (first : View) × (front : List ScriptLine) × IsAtLine o first lane blocks actions names front values × AllMayStand front lines
 
 -- its call is over, came to these operations with their replies, and has drawn a number; its locks are held still
-pub record IsOver (first : View) (lane : Lane Solo) (actions : List SetAction) (names : Names) (lines : List ScriptLine) (told : List Told) (error : TxErr) : Type 0 where
+pub record IsOver (o : Opening) (first : View) (lane : Lane Solo) (blocks : BlockLists) (actions : List SetAction) (names : Names) (lines : List ScriptLine) (told : List Told) (error : TxErr) : Type 0 where
   pub view : View
-  pub steps : List Step
-  pub leads : Leads first steps view
+  pub header : Header
+  pub pool : PoolView
+  pub begins : Begins o header pool first
+  pub passed : HasPassed o first view (stores_of_call names lines)
   pub behind : IsAfterCall Sees lane view
-  pub has_none : HasNothing view
+  pub unlocked : view.zone_locks ≡ []
+  pub pages : AreForPool blocks view
   pub number : view.number ≡ Some lane.last
   pub entries : view.entries ≡ first.entries ++ numbered lane.last told ∷ []
   pub level : lane.level ≡ 1
@@ -158,7 +184,6 @@ pub record IsOver (first : View) (lane : Lane Solo) (actions : List SetAction) (
   pub fails : lane.error ≡ error
   pub pending : IsPending actions (pending_before view)
   pub made : AreMade names lines error first view
-  pub few : stores_among steps ≤ stores_of_call names lines
 
 -- the call has drawn no number
 pub record IsUndrawn (first v : View) : Type 0 where
@@ -176,13 +201,12 @@ IsFlyingBy raised Retiring = raised ≡ 1
 IsFlyingBy raised Idle = raised ≡ 1
 IsFlyingBy raised phase = ⊥
 
--- the call of these lines has drawn its number, behind so many stores of the generation, and is not over
-pub record IsInFlight (first : View) (names : Names) (lines : List ScriptLine) (values : Values) (raised : ℕ) (v : View) : Type 0 where
+-- the call of these lines has drawn its number, and is not over
+pub record IsInFlight (first : View) (names : Names) (lines : List ScriptLine) (values : Values) (v : View) : Type 0 where
   pub number : ℕ
   pub drawn : v.number ≡ Some number
   pub told : List Told
   pub entries : v.entries ≡ first.entries ++ numbered number told ∷ []
-  pub flies : IsFlyingBy raised v.log.phase
   pub done : AreToldDone names lines told
   pub gave : values ≡ values_told lines told
   pub begun : is_refusal (answer_of (map model_told told)) ≡ false
@@ -195,16 +219,21 @@ pub record IsCalmBehind (first w : View) : Type 0 where
   pub working : IsWorking view
   pub calm : IsQuiet view → IsQuiet w
 
--- some of the steps with which a range is recorded, behind the first of these lines
+-- some of the steps with which a range is recorded, behind the first of these lines and some looks
 pub record IsInAdd (o : Opening) (first : View) (names : Names) (lines : List ScriptLine) (w : View) : Type 0 where
   pub front : List ScriptLine
   pub rest : List ScriptLine
   pub is_all : lines ≡ front ++ rest
-  pub view : View
+  pub before : View
   pub steps : List Step
-  pub leads : Leads first steps view
+  pub leads : Leads first steps before
+  pub objects : FindsObjects before
+  pub there : All (IsThere before) before.locks
+  pub words : (i : ℕ) → IsUnderBlock before i → slice_index before.words i ≡ words_after names front (slice_index o.words) i
+  pub loads : ℕ
+  pub view : View
+  pub looks : Looks loads before view
   pub working : IsWorking view
-  pub words : (i : ℕ) → is_in_area 0 i ≡ false → slice_index view.words i ≡ words_after names front (slice_index o.words) i
   pub spans : List Span
   pub spans_are : spans ≡ spans_of view
   pub id : Oid
@@ -219,19 +248,40 @@ pub record IsInAdd (o : Opening) (first : View) (names : Names) (lines : List Sc
 abbrev pub IsUntorn : Opening → View → Names → List ScriptLine → View → Type 0
 IsUntorn o first names lines w = IsCalmBehind first w ⊎ IsInAdd o first names lines w
 
--- it came to its stop before its call of these lines was over: that has drawn no number, or came to all of them
+-- so it has, behind so many stores of its lane's generation, at a phase that follows from them
+pub record IsFlying (first : View) (names : Names) (lines : List ScriptLine) (values : Values) (raised : ℕ) (v : View) : Type 0 where
+  pub flight : IsInFlight first names lines values v
+  pub flies : IsFlyingBy raised v.log.phase
+
+-- The lane came here by steps that it makes at work: its call has drawn no number, or came to all of its lines. Where it writes a slot, it records a range of these
+-- lines.
+pub record IsCutAtWork (o : Opening) (first : View) (names : Names) (lines : List ScriptLine) (values : Values) (w : View) : Type 0 where
+  pub steps : List Step
+  pub leads : Leads first steps w
+  pub came : IsUndrawn first w ⊎ IsFlying first names lines values (raises steps) w
+  pub opening : IsOfOpening o w
+  pub untorn : IsUntorn o first names lines w
+
+-- its call drew its number with a log that has what it made and freed, where the generation was as the call began, and publishes the log
+pub record IsDrawnAlone (o : Opening) (header : Header) (pool : PoolView) (n : ℕ) (w : View) : Type 0 where
+  pub has : HasDrawn o header pool n w
+  pub generation : generation_of has.drawn ≡ generation_word o.words 0
+
+-- so it is wherever the lane began, and the call came to all of its lines
+pub record IsCutPublishing (o : Opening) (first : View) (names : Names) (lines : List ScriptLine) (values : Values) (w : View) : Type 0 where
+  pub flight : IsInFlight first names lines values w
+  pub publishing : (header : Header) (pool : PoolView) → Begins o header pool first → IsDrawnAlone o header pool flight.number w
+
+-- it came to its stop before its call of these lines was over
 pub record IsCut (o : Opening) (first : View) (lane : Lane Solo) (names : Names) (lines : List ScriptLine) (values : Values) : Type 0 where
   pub view : View
-  pub steps : List Step
-  pub leads : Leads first steps view
+  pub same : IsSameLane first view
+  pub bound : first.changes ≡ [] → IsBounded first view (stores_of_call names lines)
   pub seen : Sees lane.memory view
   pub drawn : lane.drawn ≡ view.number
-  pub came : IsUndrawn first view ⊎ IsInFlight first names lines values (raises steps) view
-  pub opening : IsOfOpening o view
-  pub untorn : IsUntorn o first names lines view
+  pub way : IsCutAtWork o first names lines values view ⊎ IsCutPublishing o first names lines values view
   pub at_stop : IsAtStop view
   pub stops : IsStoppedInCall names lines first view
-  pub few : stores_among steps ≤ stores_of_call names lines
 
 -- it did not begin its call
 pub record IsUnbegun (first : View) (lane : Lane Solo) : Type 0 where
@@ -256,10 +306,10 @@ pub record IsRefusedAt (names : Names) (lines : List ScriptLine) (line : ℕ) (r
   pub told_so : told ≡ before ++ refused (operation_of names said.operation) r ∷ []
 
 -- its call was given up at this line
-pub record IsGivenUpAt (first : View) (lane : Lane Solo) (actions : List SetAction) (names : Names) (lines : List ScriptLine) (values : Values) (line : ℕ) (r : Refusal) : Type 0 where
+pub record IsGivenUpAt (o : Opening) (first : View) (lane : Lane Solo) (blocks : BlockLists) (actions : List SetAction) (names : Names) (lines : List ScriptLine) (values : Values) (line : ℕ) (r : Refusal) : Type 0 where
   pub told : List Told
   pub at : IsRefusedAt names lines line r values told
-  pub over : IsOver first lane actions names lines told (error.Refused r)
+  pub over : IsOver o first lane blocks actions names lines told (error.Refused r)
 
 -- why a line is not done, by what it answers
 abbrev pub not_done : ℕ → Refusal → NotDone
@@ -268,23 +318,23 @@ not_done line refusal.Spent = Spent line
 not_done line r = GivenUp line r
 
 -- the call was not committed, for this reason
-abbrev pub IsNotDone : Opening → View → Lane Solo → List SetAction → Names → List ScriptLine → Values → NotDone → Type 0
-IsNotDone o first lane actions names lines values (GivenUp line r) = IsGivenUpAt first lane actions names lines values line r
-IsNotDone o first lane actions names lines values Stopped = IsCut o first lane names lines values
-IsNotDone o first lane actions names lines values (Spent line) = IsUnbegun first lane × (slice_index (numbers_of lines) 0 ≡ line)
-IsNotDone o first lane actions names lines values (Memory e) = ⊤
+abbrev pub IsNotDone : Opening → View → Lane Solo → BlockLists → List SetAction → Names → List ScriptLine → Values → NotDone → Type 0
+IsNotDone o first lane blocks actions names lines values (GivenUp line r) = IsGivenUpAt o first lane blocks actions names lines values line r
+IsNotDone o first lane blocks actions names lines values Stopped = IsCut o first lane names lines values
+IsNotDone o first lane blocks actions names lines values (Spent line) = IsUnbegun first lane × (slice_index (numbers_of lines) 0 ≡ line)
+IsNotDone o first lane blocks actions names lines values (Memory e) = ⊤
 
 -- all of its lines were done
-pub record IsCommitted (first : View) (lane : Lane Solo) (actions : List SetAction) (names : Names) (lines : List ScriptLine) (values : Values) : Type 0 where
+pub record IsCommitted (o : Opening) (first : View) (lane : Lane Solo) (blocks : BlockLists) (actions : List SetAction) (names : Names) (lines : List ScriptLine) (values : Values) : Type 0 where
   pub told : List Told
   pub done : AreToldDone names lines told
   pub gave : values ≡ values_told lines told
-  pub over : IsOver first lane actions names lines told error.None
+  pub over : IsOver o first lane blocks actions names lines told error.None
 
 -- the call was committed, or was not
-abbrev pub CameTo : {T : Type 0} → Opening → View → Lane Solo → List SetAction → Names → List ScriptLine → Values → Result T NotDone → Type 0
-CameTo o first lane actions names lines values (Ok answer) = IsCommitted first lane actions names lines values
-CameTo o first lane actions names lines values (Err why) = IsNotDone o first lane actions names lines values why
+abbrev pub CameTo : {T : Type 0} → Opening → View → Lane Solo → BlockLists → List SetAction → Names → List ScriptLine → Values → Result T NotDone → Type 0
+CameTo o first lane blocks actions names lines values (Ok answer) = IsCommitted o first lane blocks actions names lines values
+CameTo o first lane blocks actions names lines values (Err why) = IsNotDone o first lane blocks actions names lines values why
 
 -- how an answered transaction of these lines ended, with what it gave: all were done, or one was refused
 abbrev pub TransactionEnded : Names → List ScriptLine → TxErr → Reply → List Told → Type 0
@@ -306,12 +356,13 @@ HasEnded names lines (answer.Transaction e) reply told = TransactionEnded names 
 HasEnded names lines (answer.Outside r) reply told = OutsideEnded names lines r reply told
 
 -- the call was answered, a link of its run, and the lane rests again
-pub record IsAnswered (o : Opening) (first : View) (lane : Lane Solo) (actions : List SetAction) (names : Names) (lines : List ScriptLine) (number : ℕ) (a : CallAnswer) (reply : Reply) : Type 0 where
+pub record IsAnswered (o : Opening) (first : View) (lane : Lane Solo) (blocks : BlockLists) (actions : List SetAction) (names : Names) (lines : List ScriptLine) (number : ℕ) (a : CallAnswer) (reply : Reply) : Type 0 where
   pub view : View
   pub link : IsLink o first view (stores_of_call names lines)
   pub rests : IsAtRest Sees lane view
   pub idle : view.log ≡ no_log Idle
   pub has_none : HasNothing view
+  pub pages : AreForPool blocks view
   pub told : List Told
   pub entries : view.entries ≡ first.entries ++ numbered number told ∷ []
   pub so : HasEnded names lines a reply told
@@ -325,10 +376,10 @@ pub record IsHalted (o : Opening) (first : View) (lane : Lane Solo) (names : Nam
   pub numbered : number ≡ cut.view.number
 
 -- how a call of these lines ended
-abbrev pub HasCome : Opening → View → Lane Solo → List SetAction → Names → List ScriptLine → CallEnd → Type 0
-HasCome o first lane actions names lines (call_end.Answered number a reply) = IsAnswered o first lane actions names lines number a reply
-HasCome o first lane actions names lines (call_end.Halted number reply) = IsHalted o first lane names lines number reply
-HasCome o first lane actions names lines (call_end.Unbegun line) = IsUnbegun first lane × (slice_index (numbers_of lines) 0 ≡ line)
+abbrev pub HasCome : Opening → View → Lane Solo → BlockLists → List SetAction → Names → List ScriptLine → CallEnd → Type 0
+HasCome o first lane blocks actions names lines (call_end.Answered number a reply) = IsAnswered o first lane blocks actions names lines number a reply
+HasCome o first lane blocks actions names lines (call_end.Halted number reply) = IsHalted o first lane names lines number reply
+HasCome o first lane blocks actions names lines (call_end.Unbegun line) = IsUnbegun first lane × (slice_index (numbers_of lines) 0 ≡ line)
 
 -- a call outside of a transaction was answered: the lane rests again, and its entry is the last
 pub record IsActed (first : View) (lane : Lane Solo) (actions : List SetAction) (names : Names) (op : ScriptOp) (r : Option Refusal) : Type 0 where

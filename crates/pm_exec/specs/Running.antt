@@ -10,10 +10,13 @@ use Rattle.pm_objects.specs.declared.pool.PoolView.{PoolView}
 use Rattle.pm_script.specs.declared.script.ScriptLine.{ScriptLine}
 use Rattle.pm_text.specs.declared.report.LaneEnd.TheVariants as end
 use Rattle.pm_lock.specs.Resting.{IsAtRest}
+use Rattle.pm_made.specs.Made.{BlockLists}
+use Rattle.pm_transaction.specs.AtWork.{AreForPool}
 use Rattle.pm_view.specs.Constants.{IsSameLane}
 use Rattle.pm_view.specs.Log.{no_log}
 use Rattle.pm_view.specs.Log.Phase.{Idle}
 use Rattle.pm_view.specs.View.{Numbered, View}
+use Rattle.pm_world.specs.Lanes.{IsOfShape}
 use Rattle.pm_world.specs.Opening.{Opening}
 use Rattle.pm_world.specs.Records.{generation_of}
 use Rattle.pm_world.specs.declared.lane.Lane.{Lane}
@@ -21,7 +24,7 @@ use Rattle.pm_exec.specs.Bounds.{IsBounded, stores_of_calls}
 use Rattle.pm_exec.specs.Calls.{call_of, numbers_of}
 use Rattle.pm_exec.specs.Course.{CallsMade}
 use Rattle.pm_exec.specs.Histories.{settled_fate}
-use Rattle.pm_exec.specs.Progress.{HasNothing, IsPending, HasEnded, IsHalted, IsUnbegun}
+use Rattle.pm_exec.specs.Progress.{HasEnded, HasNothing, IsHalted, IsPending, IsStart, IsUnbegun}
 use Rattle.pm_exec.specs.declared.calls.Names.{Names}
 use Rattle.pm_exec.specs.declared.running.Halt.{Halt}
 use Rattle.pm_crash.specs.Pending.{pending_before}
@@ -53,20 +56,31 @@ pub record HasCalled (o : Opening) (first : View) (names : Names) (calls : List 
   pub bound : IsBounded first view (stores_of_calls names calls)
 
 -- and the lane rests behind them
-pub record HasAnswered (o : Opening) (first : View) (lane : Lane Solo) (actions : List SetAction) (names : Names) (calls : List (List ScriptLine)) (history : List Entry) : Type 0 where
+pub record HasAnswered (o : Opening) (first : View) (lane : Lane Solo) (blocks : BlockLists) (actions : List SetAction) (names : Names) (calls : List (List ScriptLine)) (history : List Entry) : Type 0 where
   pub view : View
   pub called : HasCalled o first names calls history view
   pub rests : IsAtRest Sees lane view
   pub idle : view.log ≡ no_log Idle
   pub has_none : HasNothing view
+  pub pages : AreForPool blocks view
   pub pending : IsPending actions (pending_before view)
 
 -- so it did from where it began
-pub record HasComeTo (o : Opening) (first : View) (lane : Lane Solo) (actions : List SetAction) (names : Names) (calls : List (List ScriptLine)) (history : List Entry) : Type 0 where
+pub record HasComeTo (o : Opening) (first : View) (lane : Lane Solo) (blocks : BlockLists) (actions : List SetAction) (names : Names) (calls : List (List ScriptLine)) (history : List Entry) : Type 0 where
   pub header : Header
   pub pool : PoolView
   pub begins : Begins o header pool first
-  pub answered : HasAnswered o first lane actions names calls history
+  pub answered : HasAnswered o first lane blocks actions names calls history
+
+-- a lane of the pool may begin a call, whatever lists it has for its pool: nothing is pending
+pub record MayStart (o : Opening) (first : View) (lane : Lane Solo) : Type 0 where
+  pub of_shape : IsOfShape first lane.shape
+  pub starts : (blocks : BlockLists) → AreForPool blocks first → IsStart o lane blocks [] first
+
+-- before the first call none was answered, and the lane may begin one, whatever lists it has for its pool
+pub record MayRun (o : Opening) (first : View) (lane : Lane Solo) (names : Names) (history : List Entry) : Type 0 where
+  pub of_shape : IsOfShape first lane.shape
+  pub begins : (blocks : BlockLists) → AreForPool blocks first → HasComeTo o first lane blocks [] names [] history
 
 -- the entry of a call that was not answered, as lost, if it drew a number
 abbrev pub open_entry : Names → List ScriptLine → Option ℕ → Reply → Option Entry
@@ -105,7 +119,8 @@ HasHalted o first lane names answered lines history halt = HasStopped o first la
 -- the lane was answered all calls
 pub record HasFinished (o : Opening) (first : View) (lane : Lane Solo) (names : Names) (calls : List (List ScriptLine)) (history : List Entry) (halt : Halt) : Type 0 where
   pub actions : List SetAction
-  pub answered : HasAnswered o first lane actions names calls history
+  pub blocks : BlockLists
+  pub answered : HasAnswered o first lane blocks actions names calls history
   pub is_open : halt.is_open ≡ None
   pub ends : halt.end ≡ end.Ended
 

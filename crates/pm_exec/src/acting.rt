@@ -1,6 +1,7 @@
 //! The calls of a script outside of a transaction, by lane 0.
 
 ghost use Rattle.std.specs.Prelude.{◌≡◌, true};
+ghost use Rattle.pm_made.specs.Made.{BlockLists};
 ghost use Rattle.pm_view.specs.View.{View};
 ghost use Rattle.pm_world.specs.Opening.{Opening};
 ghost use Rattle.pm_exec.specs.Calls.{stands_alone};
@@ -23,8 +24,8 @@ pub(crate) fn act_outside(
     operation: &ScriptOp,
 ) -> Result<(), Refusal>
     requires outside { stands_alone operation.now ≡ true }
-    requires first { (o : Opening) × ((first : View) × IsStart o lane.old actions.old.items first) }
-    ensures { (o : Opening) (first : View) → IsStart o lane.old actions.old.items first → ActedOutside o first lane.new actions.new.items names operation.now result }
+    requires first { (o : Opening) × ((first : View) × ((blocks : BlockLists) × IsStart o lane.old blocks actions.old.items first)) }
+    ensures { (o : Opening) (first : View) (blocks : BlockLists) → IsStart o lane.old blocks actions.old.items first → ActedOutside o first lane.new actions.new.items names operation.now result }
 {
     match operation {
         ScriptOp::Set { id, off, value } => {

@@ -94,6 +94,13 @@ fn operation_of(alloc: Global, names: Names, operation: &ScriptOp) -> Result<Ope
             off: *off,
             len: *len,
         }),
+        ScriptOp::Alloc { size, kind, .. } => Ok(Operation::Alloc {
+            size: *size,
+            kind: *kind,
+        }),
+        ScriptOp::Free { id } => Ok(Operation::Free {
+            id: id_of(names, *id),
+        }),
         ScriptOp::Set { id, off, value } => Ok(Operation::SetValue {
             id: id_of(names, *id),
             off: *off,
@@ -155,8 +162,9 @@ fn has_root(operation: &ScriptOp) -> bool
         ScriptOp::Add { id, .. } => is_root(*id),
         ScriptOp::Write { id, .. } => is_root(*id),
         ScriptOp::Read { id, .. } => is_root(*id),
+        ScriptOp::Free { id } => is_root(*id),
         ScriptOp::Set { id, .. } => is_root(*id),
-        ScriptOp::Publish | ScriptOp::Cancel | ScriptOp::Commit => false,
+        ScriptOp::Alloc { .. } | ScriptOp::Publish | ScriptOp::Cancel | ScriptOp::Commit => false,
     }
 }
 

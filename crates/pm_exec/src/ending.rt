@@ -1,6 +1,7 @@
 //! How a call of a run ends, and its entry in the history.
 
 ghost use Rattle.std.specs.Prelude.{◌≡◌, ◌∷◌, [], true, List, None, IfOk};
+ghost use Rattle.pm_made.specs.Made.{BlockLists};
 ghost use Rattle.pm_objects.specs.declared.history.TxErr.{TxErr};
 ghost use Rattle.pm_objects.specs.declared.history.TxErr.TheVariants as error;
 ghost use Rattle.pm_script.specs.Scripts.{IsTransaction, operations};
@@ -16,11 +17,12 @@ use crate::acting::act_outside;
 use crate::calls::{Names, stands_alone};
 use crate::lines::{NotDone, transact};
 use arrayvec::ArrayVec;
+use pm_made::CallBlocks;
 use pm_memory::SoloMem;
 use pm_objects::{Fate, Refusal, Reply, Sequence, TxErr, Value};
 use pm_pending::SetAction;
 use pm_script::ScriptLine;
-use pm_tx::end;
+use pm_transaction::end;
 use pm_world::Lane;
 use std::alloc::{AllocError, Global};
 
@@ -66,9 +68,9 @@ fn reply_of(values: Vec<(u64, Value)>, at: u64) -> Reply
 
 /// Answers the call, which is over, with this reply.
 fn answer(lane: &mut Lane<SoloMem>, reply: Reply) -> CallEnd
-    requires { (first : View) × ((names : Names) × ((lines : List ScriptLine) × ((told : List Told) × ((error : TxErr) × ((actions : List SetAction) × IsOver first lane.old actions names lines told error))))) }
-    ensures { (o : Opening) (first : View) (actions : List SetAction) (names : Names) (lines : List ScriptLine) (told : List Told) (error : TxErr) → IsOver first lane.old actions names lines told error
-        → TransactionEnded names lines error reply told → HasCome o first lane.new actions names lines result }
+    requires { (o : Opening) × ((first : View) × ((blocks : BlockLists) × ((names : Names) × ((lines : List ScriptLine) × ((told : List Told) × ((error : TxErr) × ((actions : List SetAction) × IsOver o first lane.old blocks actions names lines told error))))))) }
+    ensures { (o : Opening) (first : View) (blocks : BlockLists) (actions : List SetAction) (names : Names) (lines : List ScriptLine) (told : List Told) (error : TxErr) → IsOver o first lane.old blocks actions names lines told error
+        → TransactionEnded names lines error reply told → HasCome o first lane.new blocks actions names lines result }
 {
     let number = lane.last;
     let Ok(error) = end(lane) else { unreachable!() };
@@ -83,16 +85,17 @@ fn answer(lane: &mut Lane<SoloMem>, reply: Reply) -> CallEnd
 pub(crate) fn run_transaction(
     alloc: Global,
     lane: &mut Lane<SoloMem>,
+    blocks: &mut CallBlocks,
     actions: &mut ArrayVec<SetAction, 63>,
     names: Names,
     lines: &[ScriptLine],
 ) -> Result<CallEnd, AllocError>
     requires transaction { IsTransaction (operations lines.now) }
-    requires first { (o : Opening) × ((first : View) × IsStart o lane.old actions.old.items first) }
-    ensures { IfOk result (λ ended. (o : Opening) (first : View) → IsStart o lane.old actions.old.items first → HasCome o first lane.new actions.new.items names lines.now ended) }
+    requires first { (o : Opening) × ((first : View) × IsStart o lane.old blocks.old actions.old.items first) }
+    ensures { IfOk result (λ ended. (o : Opening) (first : View) → IsStart o lane.old blocks.old actions.old.items first → HasCome o first lane.new blocks.new actions.new.items names lines.now ended) }
 {
     let mut values = Vec::new(alloc);
-    match transact(alloc, lane, actions, names, lines, &mut values) {
+    match transact(alloc, lane, blocks, actions, names, lines, &mut values) {
         Ok(()) => Ok(answer(lane, reply_of(values, 0))),
         Err(NotDone::GivenUp { line, refusal: _ }) => Ok(answer(lane, reply_of(values, line))),
         Err(NotDone::Stopped) => Ok(CallEnd::Halted {
@@ -113,8 +116,8 @@ pub(crate) fn run_outside(
     said: &ScriptLine,
 ) -> CallEnd
     requires outside { stands_alone said.now.operation ≡ true }
-    requires first { (o : Opening) × ((first : View) × IsStart o lane.old actions.old.items first) }
-    ensures { (o : Opening) (first : View) → IsStart o lane.old actions.old.items first → HasCome o first lane.new actions.new.items names (said.now ∷ []) result }
+    requires first { (o : Opening) × ((first : View) × ((blocks : BlockLists) × IsStart o lane.old blocks actions.old.items first)) }
+    ensures { (o : Opening) (first : View) (blocks : BlockLists) → IsStart o lane.old blocks actions.old.items first → HasCome o first lane.new blocks actions.new.items names (said.now ∷ []) result }
 {
     let reply = reply_of(Vec::new(alloc), 0);
     match act_outside(lane, actions, names, &said.operation) {
@@ -140,19 +143,20 @@ pub(crate) fn run_outside(
 pub(crate) fn run_call(
     alloc: Global,
     lane: &mut Lane<SoloMem>,
+    blocks: &mut CallBlocks,
     actions: &mut ArrayVec<SetAction, 63>,
     names: Names,
     lines: &[ScriptLine],
 ) -> Result<CallEnd, AllocError>
     requires call { IsCall (operations lines.now) }
-    requires first { (o : Opening) × ((first : View) × IsStart o lane.old actions.old.items first) }
-    ensures { IfOk result (λ ended. (o : Opening) (first : View) → IsStart o lane.old actions.old.items first → HasCome o first lane.new actions.new.items names lines.now ended) }
+    requires first { (o : Opening) × ((first : View) × IsStart o lane.old blocks.old actions.old.items first) }
+    ensures { IfOk result (λ ended. (o : Opening) (first : View) → IsStart o lane.old blocks.old actions.old.items first → HasCome o first lane.new blocks.new actions.new.items names lines.now ended) }
 {
     let said = &lines[0];
     if stands_alone(&said.operation) {
         Ok(run_outside(alloc, lane, actions, names, said))
     } else {
-        run_transaction(alloc, lane, actions, names, lines)
+        run_transaction(alloc, lane, blocks, actions, names, lines)
     }
 }
 

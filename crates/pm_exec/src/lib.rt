@@ -2,8 +2,8 @@
 //!
 //! Promises whoever runs a script that the history tells of the script's calls, and that the image left means the pool which
 //! those of them make that are not lost, for every stop and every choice of what survives; and that no call is idle, so that the script
-//! bounds how many are made. It stands on `pm_recover` for the
-//! opening, on `pm_tx` for transactions over one lane's memory, on `pm_action` for the calls outside of any, and on `pm_crash` for what images mean;
+//! bounds how many are made. It stands on `pm_recover` for the opening, on `pm_transaction` and `pm_tx` for transactions over one lane's memory, which
+//! make and free objects too, on `pm_action` for the calls outside of any, and on `pm_crash` for what images mean;
 //! docs/MODEL.md, "A run".
 #![tactic(auto)]
 

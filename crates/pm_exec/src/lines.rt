@@ -1,6 +1,7 @@
 //! The work of a transaction's lines by lane 0.
 
-ghost use Rattle.std.specs.Prelude.{◌≡◌, true, List, [], ◌∷◌, ◌++◌, map, IfErr, OnOk, All, alloc_error};
+ghost use Rattle.std.specs.Prelude.{◌≡◌, ℕ, true, List, [], ◌∷◌, ◌++◌, map, IfErr, OnOk, All, alloc_error};
+ghost use Rattle.pm_made.specs.Made.{BlockLists};
 ghost use Rattle.pm_script.specs.Scripts.{IsChange, IsTransaction, operations};
 ghost use Rattle.pm_script.specs.declared.script.ScriptLine.{ScriptLine};
 ghost use Rattle.pm_script.specs.declared.script.ScriptOp.{ScriptOp};
@@ -9,16 +10,18 @@ ghost use Rattle.pm_script.specs.declared.script.ScriptWant.{ScriptWant};
 ghost use Rattle.pm_view.specs.View.{View};
 ghost use Rattle.pm_world.specs.Opening.{Opening};
 ghost use Rattle.pm_exec.specs.Calls.{id_of, stands_alone, want_of};
-ghost use Rattle.pm_exec.specs.Progress.{CameTo, IsAtLine, IsStart, IsLaneAtLine, IsLaneWith, IsNotDone, Values, not_done};
+ghost use Rattle.pm_exec.specs.Progress.{AllMayStand, CameTo, IsAtLine, IsStart, IsLaneAtLine, IsLaneWith, IsNotDone, MayGoOn, MayStand, Values, not_done};
 ghost use Rattle.pm_exec.specs.declared.lines.NotDone.TheVariants.{Memory};
 
 use crate::calls::{Names, action_of, id_of, wants_of};
 use arrayvec::ArrayVec;
+use pm_made::CallBlocks;
 use pm_memory::SoloMem;
 use pm_objects::{Refusal, Sequence, Value, Want};
 use pm_pending::SetAction;
 use pm_script::{ScriptId, ScriptLine, ScriptOp};
-use pm_tx::{add_range, begin, cancel_at_work, commit, publish, read, set_at_work, write};
+use pm_transaction::{add_range, alloc, begin, commit, free, read, write};
+use pm_tx::{cancel_at_work, publish, set_at_work};
 use pm_world::Lane;
 use std::alloc::{AllocError, AllocFailed, Global};
 
@@ -71,6 +74,7 @@ fn not_done(line: u64, why: Refusal) -> NotDone
 /// Records the range that this line names.
 fn add_at(
     lane: &mut Lane<SoloMem>,
+    blocks: &CallBlocks,
     names: Names,
     said: &ScriptLine,
     id: ScriptId,
@@ -78,13 +82,13 @@ fn add_at(
     len: u64,
 ) -> Result<(), NotDone>
     requires is_said { said.now.operation ≡ op.Add id off len }
-    requires at_work { (actions : List SetAction) × IsLaneAtLine lane.old actions names }
-    ensures done { OnOk result ((o : Opening) (first : View) (actions : List SetAction) (front : List ScriptLine) (values : Values) → IsAtLine o first lane.old actions names front values
-        → IsAtLine o first lane.new actions names (front ++ said.now ∷ []) values) }
-    ensures ends { IfErr result (λ why. (o : Opening) (first : View) (actions : List SetAction) (front rest : List ScriptLine) (values : Values) → IsAtLine o first lane.old actions names front values
-        → IsNotDone o first lane.new actions names (front ++ said.now ∷ rest) values why) }
+    requires at_work { (actions : List SetAction) × IsLaneAtLine lane.old blocks.now actions names }
+    ensures done { OnOk result ((o : Opening) (first : View) (actions : List SetAction) (front : List ScriptLine) (values : Values) → IsAtLine o first lane.old blocks.now actions names front values
+        → IsAtLine o first lane.new blocks.now actions names (front ++ said.now ∷ []) values) }
+    ensures ends { IfErr result (λ why. (o : Opening) (first : View) (actions : List SetAction) (front rest : List ScriptLine) (values : Values) → IsAtLine o first lane.old blocks.now actions names front values
+        → IsNotDone o first lane.new blocks.now actions names (front ++ said.now ∷ rest) values why) }
 {
-    match add_range(lane, id_of(names, id), off, len) {
+    match add_range(lane, blocks, id_of(names, id), off, len) {
         Ok(_) => Ok(()),
         Err(why) => Err(not_done(said.line, why)),
     }
@@ -93,6 +97,7 @@ fn add_at(
 /// Writes the bytes that this line names.
 fn write_at(
     lane: &mut Lane<SoloMem>,
+    blocks: &CallBlocks,
     names: Names,
     said: &ScriptLine,
     id: ScriptId,
@@ -100,13 +105,13 @@ fn write_at(
     bytes: &[u8],
 ) -> Result<(), NotDone>
     requires is_said { said.now.operation ≡ op.Write id off bytes.now }
-    requires at_work { (actions : List SetAction) × IsLaneAtLine lane.old actions names }
-    ensures done { OnOk result ((o : Opening) (first : View) (actions : List SetAction) (front : List ScriptLine) (values : Values) → IsAtLine o first lane.old actions names front values
-        → IsAtLine o first lane.new actions names (front ++ said.now ∷ []) values) }
-    ensures ends { IfErr result (λ why. (o : Opening) (first : View) (actions : List SetAction) (front rest : List ScriptLine) (values : Values) → IsAtLine o first lane.old actions names front values
-        → IsNotDone o first lane.new actions names (front ++ said.now ∷ rest) values why) }
+    requires at_work { (actions : List SetAction) × IsLaneAtLine lane.old blocks.now actions names }
+    ensures done { OnOk result ((o : Opening) (first : View) (actions : List SetAction) (front : List ScriptLine) (values : Values) → IsAtLine o first lane.old blocks.now actions names front values
+        → IsAtLine o first lane.new blocks.now actions names (front ++ said.now ∷ []) values) }
+    ensures ends { IfErr result (λ why. (o : Opening) (first : View) (actions : List SetAction) (front rest : List ScriptLine) (values : Values) → IsAtLine o first lane.old blocks.now actions names front values
+        → IsNotDone o first lane.new blocks.now actions names (front ++ said.now ∷ rest) values why) }
 {
-    match write(lane, id_of(names, id), off, bytes) {
+    match write(lane, blocks, id_of(names, id), off, bytes) {
         Ok(()) => Ok(()),
         Err(why) => Err(not_done(said.line, why)),
     }
@@ -116,26 +121,72 @@ fn write_at(
 fn read_at(
     alloc: Global,
     lane: &mut Lane<SoloMem>,
+    blocks: &CallBlocks,
     names: Names,
     said: &ScriptLine,
     range: (ScriptId, u64, u64),
     values: &mut Vec<(u64, Value)>,
 ) -> Result<(), NotDone>
     requires is_said { said.now.operation ≡ op.Read range.0 range.1 range.2 }
-    requires at_work { (actions : List SetAction) × IsLaneWith lane.old actions names values.old.items }
-    ensures done { OnOk result ((o : Opening) (first : View) (actions : List SetAction) (front : List ScriptLine) → IsAtLine o first lane.old actions names front values.old.items
-        → IsAtLine o first lane.new actions names (front ++ said.now ∷ []) values.new.items) }
-    ensures ends { IfErr result (λ why. (o : Opening) (first : View) (actions : List SetAction) (front rest : List ScriptLine) → IsAtLine o first lane.old actions names front values.old.items
-        → IsNotDone o first lane.new actions names (front ++ said.now ∷ rest) values.new.items why) }
+    requires at_work { (actions : List SetAction) × IsLaneWith lane.old blocks.now actions names values.old.items }
+    ensures done { OnOk result ((o : Opening) (first : View) (actions : List SetAction) (front : List ScriptLine) → IsAtLine o first lane.old blocks.now actions names front values.old.items
+        → IsAtLine o first lane.new blocks.now actions names (front ++ said.now ∷ []) values.new.items) }
+    ensures ends { IfErr result (λ why. (o : Opening) (first : View) (actions : List SetAction) (front rest : List ScriptLine) → IsAtLine o first lane.old blocks.now actions names front values.old.items
+        → IsNotDone o first lane.new blocks.now actions names (front ++ said.now ∷ rest) values.new.items why) }
 {
     let (id, off, len) = range;
     let mut bytes = vec![in alloc; 0; len as usize]?;
-    match read(lane, id_of(names, id), off, bytes.as_mut_slice()) {
+    match read(lane, blocks, id_of(names, id), off, bytes.as_mut_slice()) {
         Ok(()) => {
             let value = Value::Bytes(Sequence::from_vec(bytes));
             values.push((said.line, value))?;
             Ok(())
         }
+        Err(why) => Err(not_done(said.line, why)),
+    }
+}
+
+/// Makes an object of this size and type, and adds its offset to what the lines gave.
+fn make_at(
+    lane: &mut Lane<SoloMem>,
+    blocks: &mut CallBlocks,
+    said: &ScriptLine,
+    size: u64,
+    kind: u64,
+    values: &mut Vec<(u64, Value)>,
+) -> Result<(), NotDone>
+    requires at_work { (names : Names) × ((actions : List SetAction) × IsLaneWith lane.old blocks.old actions names values.old.items) }
+    ensures done { OnOk result ((o : Opening) (first : View) (actions : List SetAction) (names : Names) (front : List ScriptLine) (letter : ℕ) → IsAtLine o first lane.old blocks.old actions names front values.old.items
+        → said.now.operation ≡ op.Alloc letter size kind → IsAtLine o first lane.new blocks.new actions names (front ++ said.now ∷ []) values.new.items) }
+    ensures ends { IfErr result (λ why. (o : Opening) (first : View) (actions : List SetAction) (names : Names) (front rest : List ScriptLine) (letter : ℕ) → IsAtLine o first lane.old blocks.old actions names front values.old.items
+        → said.now.operation ≡ op.Alloc letter size kind → IsNotDone o first lane.new blocks.new actions names (front ++ said.now ∷ rest) values.new.items why) }
+{
+    match alloc(lane, blocks, size, kind) {
+        Ok(id) => {
+            values.push((said.line, Value::Offset(id.off)))?;
+            Ok(())
+        }
+        Err(why) => Err(not_done(said.line, why)),
+    }
+}
+
+/// Frees the object that this line names.
+fn free_at(
+    lane: &mut Lane<SoloMem>,
+    blocks: &mut CallBlocks,
+    names: Names,
+    said: &ScriptLine,
+    id: ScriptId,
+) -> Result<(), NotDone>
+    requires is_said { said.now.operation ≡ op.Free id }
+    requires at_work { (actions : List SetAction) × IsLaneAtLine lane.old blocks.old actions names }
+    ensures done { OnOk result ((o : Opening) (first : View) (actions : List SetAction) (front : List ScriptLine) (values : Values) → IsAtLine o first lane.old blocks.old actions names front values
+        → IsAtLine o first lane.new blocks.new actions names (front ++ said.now ∷ []) values) }
+    ensures ends { IfErr result (λ why. (o : Opening) (first : View) (actions : List SetAction) (front rest : List ScriptLine) (values : Values) → IsAtLine o first lane.old blocks.old actions names front values
+        → IsNotDone o first lane.new blocks.new actions names (front ++ said.now ∷ rest) values why) }
+{
+    match free(lane, blocks, id_of(names, id)) {
+        Ok(()) => Ok(()),
         Err(why) => Err(not_done(said.line, why)),
     }
 }
@@ -148,10 +199,10 @@ fn set_at(
     action: SetAction,
     values: &mut Vec<(u64, Value)>,
 ) -> Result<(), NotDone>
-    requires at_work { (names : Names) × IsLaneWith lane.old actions.old.items names values.old.items }
-    ensures done { OnOk result ((o : Opening) (first : View) (names : Names) (front : List ScriptLine) (id : ScriptId) → IsAtLine o first lane.old actions.old.items names front values.old.items
+    requires at_work { (blocks : BlockLists) × ((names : Names) × IsLaneWith lane.old blocks actions.old.items names values.old.items) }
+    ensures done { OnOk result ((o : Opening) (first : View) (blocks : BlockLists) (names : Names) (front : List ScriptLine) (id : ScriptId) → IsAtLine o first lane.old blocks actions.old.items names front values.old.items
         → said.now.operation ≡ op.Set id action.off action.value → action.id ≡ id_of names id
-        → IsAtLine o first lane.new actions.new.items names (front ++ said.now ∷ []) values.new.items) }
+        → IsAtLine o first lane.new blocks actions.new.items names (front ++ said.now ∷ []) values.new.items) }
     ensures ends { IfErr result (λ why. why ≡ Memory alloc_error) }
 {
     match set_at_work(lane, actions, action) {
@@ -163,18 +214,18 @@ fn set_at(
     }
 }
 
-/// Makes what is pending the transaction's.
+/// Makes what is pending the transaction's, which made and freed no object.
 fn publish_at(
     lane: &mut Lane<SoloMem>,
     actions: &mut ArrayVec<SetAction, 63>,
     said: &ScriptLine,
 ) -> Result<(), NotDone>
     requires is_said { said.now.operation ≡ op.Publish }
-    requires at_work { (names : Names) × IsLaneAtLine lane.old actions.old.items names }
-    ensures done { OnOk result ((o : Opening) (first : View) (names : Names) (front : List ScriptLine) (values : Values) → IsAtLine o first lane.old actions.old.items names front values
-        → IsAtLine o first lane.new actions.new.items names (front ++ said.now ∷ []) values) }
-    ensures ends { IfErr result (λ why. (o : Opening) (first : View) (names : Names) (front rest : List ScriptLine) (values : Values) → IsAtLine o first lane.old actions.old.items names front values
-        → IsNotDone o first lane.new actions.new.items names (front ++ said.now ∷ rest) values why) }
+    requires at_work { (blocks : BlockLists) × ((names : Names) × IsLaneAtLine lane.old blocks actions.old.items names) }
+    ensures done { OnOk result ((o : Opening) (first : View) (blocks : BlockLists) (names : Names) (front : List ScriptLine) (values : Values) → IsAtLine o first lane.old blocks actions.old.items names front values
+        → MayStand front op.Publish → IsAtLine o first lane.new blocks actions.new.items names (front ++ said.now ∷ []) values) }
+    ensures ends { IfErr result (λ why. (o : Opening) (first : View) (blocks : BlockLists) (names : Names) (front rest : List ScriptLine) (values : Values) → IsAtLine o first lane.old blocks actions.old.items names front values
+        → MayStand front op.Publish → IsNotDone o first lane.new blocks actions.new.items names (front ++ said.now ∷ rest) values why) }
 {
     match publish(lane, actions) {
         Ok(()) => Ok(()),
@@ -189,11 +240,11 @@ fn cancel_at(
     said: &ScriptLine,
 ) -> Result<(), NotDone>
     requires is_said { said.now.operation ≡ op.Cancel }
-    requires at_work { (names : Names) × IsLaneAtLine lane.old actions.old.items names }
-    ensures done { OnOk result ((o : Opening) (first : View) (names : Names) (front : List ScriptLine) (values : Values) → IsAtLine o first lane.old actions.old.items names front values
-        → IsAtLine o first lane.new actions.new.items names (front ++ said.now ∷ []) values) }
-    ensures ends { IfErr result (λ why. (o : Opening) (first : View) (names : Names) (front rest : List ScriptLine) (values : Values) → IsAtLine o first lane.old actions.old.items names front values
-        → IsNotDone o first lane.new actions.new.items names (front ++ said.now ∷ rest) values why) }
+    requires at_work { (blocks : BlockLists) × ((names : Names) × IsLaneAtLine lane.old blocks actions.old.items names) }
+    ensures done { OnOk result ((o : Opening) (first : View) (blocks : BlockLists) (names : Names) (front : List ScriptLine) (values : Values) → IsAtLine o first lane.old blocks actions.old.items names front values
+        → IsAtLine o first lane.new blocks actions.new.items names (front ++ said.now ∷ []) values) }
+    ensures ends { IfErr result (λ why. (o : Opening) (first : View) (blocks : BlockLists) (names : Names) (front rest : List ScriptLine) (values : Values) → IsAtLine o first lane.old blocks actions.old.items names front values
+        → IsNotDone o first lane.new blocks actions.new.items names (front ++ said.now ∷ rest) values why) }
 {
     match cancel_at_work(lane, actions) {
         Ok(()) => Ok(()),
@@ -210,11 +261,11 @@ fn act_at(
     values: &mut Vec<(u64, Value)>,
 ) -> Result<(), NotDone>
     requires is_action { stands_alone said.now.operation ≡ true }
-    requires at_work { IsLaneWith lane.old actions.old.items names values.old.items }
-    ensures done { OnOk result ((o : Opening) (first : View) (front : List ScriptLine) → IsAtLine o first lane.old actions.old.items names front values.old.items
-        → IsAtLine o first lane.new actions.new.items names (front ++ said.now ∷ []) values.new.items) }
-    ensures ends { IfErr result (λ why. (o : Opening) (first : View) (front rest : List ScriptLine) → IsAtLine o first lane.old actions.old.items names front values.old.items
-        → IsNotDone o first lane.new actions.new.items names (front ++ said.now ∷ rest) values.new.items why) }
+    requires at_work { (blocks : BlockLists) × IsLaneWith lane.old blocks actions.old.items names values.old.items }
+    ensures done { OnOk result ((o : Opening) (first : View) (blocks : BlockLists) (front : List ScriptLine) → IsAtLine o first lane.old blocks actions.old.items names front values.old.items
+        → MayStand front said.now.operation → IsAtLine o first lane.new blocks actions.new.items names (front ++ said.now ∷ []) values.new.items) }
+    ensures ends { IfErr result (λ why. (o : Opening) (first : View) (blocks : BlockLists) (front rest : List ScriptLine) → IsAtLine o first lane.old blocks actions.old.items names front values.old.items
+        → MayStand front said.now.operation → IsNotDone o first lane.new blocks actions.new.items names (front ++ said.now ∷ rest) values.new.items why) }
 {
     match &said.operation {
         ScriptOp::Set { id, off, value } => {
@@ -232,30 +283,37 @@ fn act_at(
     }
 }
 
-/// Makes the change of this line: records a range, writes bytes or reads some, or changes what is pending.
+/// Makes the change of this line: records a range, writes bytes or reads some, makes an object or frees one, or changes what is pending.
 fn change_at(
     alloc: Global,
     lane: &mut Lane<SoloMem>,
+    blocks: &mut CallBlocks,
     actions: &mut ArrayVec<SetAction, 63>,
     names: Names,
     said: &ScriptLine,
     values: &mut Vec<(u64, Value)>,
 ) -> Result<(), NotDone>
     requires is_change { IsChange said.now.operation }
-    requires at_work { IsLaneWith lane.old actions.old.items names values.old.items }
-    ensures done { OnOk result ((o : Opening) (first : View) (front : List ScriptLine) → IsAtLine o first lane.old actions.old.items names front values.old.items
-        → IsAtLine o first lane.new actions.new.items names (front ++ said.now ∷ []) values.new.items) }
-    ensures ends { IfErr result (λ why. (o : Opening) (first : View) (front rest : List ScriptLine) → IsAtLine o first lane.old actions.old.items names front values.old.items
-        → IsNotDone o first lane.new actions.new.items names (front ++ said.now ∷ rest) values.new.items why) }
+    requires at_work { IsLaneWith lane.old blocks.old actions.old.items names values.old.items }
+    ensures done { OnOk result ((o : Opening) (first : View) (front : List ScriptLine) → IsAtLine o first lane.old blocks.old actions.old.items names front values.old.items
+        → MayStand front said.now.operation → IsAtLine o first lane.new blocks.new actions.new.items names (front ++ said.now ∷ []) values.new.items) }
+    ensures ends { IfErr result (λ why. (o : Opening) (first : View) (front rest : List ScriptLine) → IsAtLine o first lane.old blocks.old actions.old.items names front values.old.items
+        → MayStand front said.now.operation → IsNotDone o first lane.new blocks.new actions.new.items names (front ++ said.now ∷ rest) values.new.items why) }
 {
     match &said.operation {
-        ScriptOp::Add { id, off, len } => add_at(lane, names, said, *id, *off, *len),
+        ScriptOp::Add { id, off, len } => add_at(lane, blocks, names, said, *id, *off, *len),
         ScriptOp::Write { id, off, bytes } => {
-            write_at(lane, names, said, *id, *off, bytes.as_slice())
+            write_at(lane, blocks, names, said, *id, *off, bytes.as_slice())
         }
         ScriptOp::Read { id, off, len } => {
-            read_at(alloc, lane, names, said, (*id, *off, *len), values)
+            read_at(alloc, lane, blocks, names, said, (*id, *off, *len), values)
         }
+        ScriptOp::Alloc {
+            letter: _,
+            size,
+            kind,
+        } => make_at(lane, blocks, said, *size, *kind, values),
+        ScriptOp::Free { id } => free_at(lane, blocks, names, said, *id),
         ScriptOp::Set { .. } | ScriptOp::Publish | ScriptOp::Cancel => {
             act_at(lane, actions, names, said, values)
         }
@@ -267,21 +325,22 @@ fn change_at(
 fn change_all(
     alloc: Global,
     lane: &mut Lane<SoloMem>,
+    blocks: &mut CallBlocks,
     actions: &mut ArrayVec<SetAction, 63>,
     names: Names,
     lines: &[ScriptLine],
     values: &mut Vec<(u64, Value)>,
 ) -> Result<(), NotDone>
     requires are_changes { All IsChange (operations lines.now) }
-    requires at_work { IsLaneWith lane.old actions.old.items names values.old.items }
-    ensures at_work { OnOk result (IsLaneWith lane.new actions.new.items names values.new.items) }
-    ensures done { OnOk result ((o : Opening) (first : View) (front : List ScriptLine) → IsAtLine o first lane.old actions.old.items names front values.old.items
-        → IsAtLine o first lane.new actions.new.items names (front ++ lines.now) values.new.items) }
-    ensures ends { IfErr result (λ why. (o : Opening) (first : View) (front rest : List ScriptLine) → IsAtLine o first lane.old actions.old.items names front values.old.items
-        → IsNotDone o first lane.new actions.new.items names (front ++ lines.now ++ rest) values.new.items why) }
+    requires at_work { MayGoOn lane.old blocks.old actions.old.items names values.old.items lines.now }
+    ensures at_work { OnOk result (IsLaneWith lane.new blocks.new actions.new.items names values.new.items) }
+    ensures done { OnOk result ((o : Opening) (first : View) (front : List ScriptLine) → IsAtLine o first lane.old blocks.old actions.old.items names front values.old.items
+        → AllMayStand front lines.now → IsAtLine o first lane.new blocks.new actions.new.items names (front ++ lines.now) values.new.items) }
+    ensures ends { IfErr result (λ why. (o : Opening) (first : View) (front rest : List ScriptLine) → IsAtLine o first lane.old blocks.old actions.old.items names front values.old.items
+        → AllMayStand front lines.now → IsNotDone o first lane.new blocks.new actions.new.items names (front ++ lines.now ++ rest) values.new.items why) }
 {
     for said in lines {
-        change_at(alloc, lane, actions, names, said, values)?;
+        change_at(alloc, lane, blocks, actions, names, said, values)?;
     }
     Ok(())
 }
@@ -289,17 +348,18 @@ fn change_all(
 /// Begins the transaction of this line, with the locks that it wants.
 fn begin_with(
     lane: &mut Lane<SoloMem>,
+    blocks: &mut CallBlocks,
     names: Names,
     said: &ScriptLine,
     wants: &[Want],
 ) -> Result<(), NotDone>
     requires begins { (asked : List ScriptWant) × ((said.now.operation ≡ op.Begin asked) × (wants.now ≡ map (want_of names) asked)) }
-    requires first { (o : Opening) × ((first : View) × ((actions : List SetAction) × IsStart o lane.old actions first)) }
-    ensures at_work { OnOk result ((o : Opening) (first : View) (actions : List SetAction) → IsStart o lane.old actions first → IsLaneWith lane.new actions names []) }
-    ensures done { OnOk result ((o : Opening) (first : View) (actions : List SetAction) → IsStart o lane.old actions first → IsAtLine o first lane.new actions names (said.now ∷ []) []) }
-    ensures ends { IfErr result (λ why. (o : Opening) (first : View) (actions : List SetAction) (rest : List ScriptLine) → IsStart o lane.old actions first → IsNotDone o first lane.new actions names (said.now ∷ rest) [] why) }
+    requires first { (o : Opening) × ((first : View) × ((actions : List SetAction) × IsStart o lane.old blocks.old actions first)) }
+    ensures at_work { OnOk result ((o : Opening) (first : View) (actions : List SetAction) → IsStart o lane.old blocks.old actions first → IsLaneWith lane.new blocks.new actions names []) }
+    ensures done { OnOk result ((o : Opening) (first : View) (actions : List SetAction) → IsStart o lane.old blocks.old actions first → IsAtLine o first lane.new blocks.new actions names (said.now ∷ []) []) }
+    ensures ends { IfErr result (λ why. (o : Opening) (first : View) (actions : List SetAction) (rest : List ScriptLine) → IsStart o lane.old blocks.old actions first → IsNotDone o first lane.new blocks.new actions names (said.now ∷ rest) [] why) }
 {
-    match begin(lane, wants) {
+    match begin(lane, blocks, wants) {
         Ok(()) => Ok(()),
         Err(why) => Err(not_done(said.line, why)),
     }
@@ -309,29 +369,30 @@ fn begin_with(
 fn begin_at(
     alloc: Global,
     lane: &mut Lane<SoloMem>,
+    blocks: &mut CallBlocks,
     names: Names,
     said: &ScriptLine,
 ) -> Result<(), NotDone>
     requires begins { (asked : List ScriptWant) × (said.now.operation ≡ op.Begin asked) }
-    requires first { (o : Opening) × ((first : View) × ((actions : List SetAction) × IsStart o lane.old actions first)) }
-    ensures at_work { OnOk result ((o : Opening) (first : View) (actions : List SetAction) → IsStart o lane.old actions first → IsLaneWith lane.new actions names []) }
-    ensures done { OnOk result ((o : Opening) (first : View) (actions : List SetAction) → IsStart o lane.old actions first → IsAtLine o first lane.new actions names (said.now ∷ []) []) }
-    ensures ends { IfErr result (λ why. (o : Opening) (first : View) (actions : List SetAction) (rest : List ScriptLine) → IsStart o lane.old actions first → IsNotDone o first lane.new actions names (said.now ∷ rest) [] why) }
+    requires first { (o : Opening) × ((first : View) × ((actions : List SetAction) × IsStart o lane.old blocks.old actions first)) }
+    ensures at_work { OnOk result ((o : Opening) (first : View) (actions : List SetAction) → IsStart o lane.old blocks.old actions first → IsLaneWith lane.new blocks.new actions names []) }
+    ensures done { OnOk result ((o : Opening) (first : View) (actions : List SetAction) → IsStart o lane.old blocks.old actions first → IsAtLine o first lane.new blocks.new actions names (said.now ∷ []) []) }
+    ensures ends { IfErr result (λ why. (o : Opening) (first : View) (actions : List SetAction) (rest : List ScriptLine) → IsStart o lane.old blocks.old actions first → IsNotDone o first lane.new blocks.new actions names (said.now ∷ rest) [] why) }
 {
     let ScriptOp::Begin { wants } = &said.operation else {
         unreachable!()
     };
     let wants = wants_of(alloc, names, wants.as_slice())?;
-    begin_with(lane, names, said, wants.as_slice())
+    begin_with(lane, blocks, names, said, wants.as_slice())
 }
 
 /// Commits the transaction.
-fn commit_all(lane: &mut Lane<SoloMem>, names: Names) -> Result<(), NotDone>
-    requires at_work { (actions : List SetAction) × IsLaneAtLine lane.old actions names }
-    ensures { (o : Opening) (first : View) (actions : List SetAction) (front : List ScriptLine) (values : Values) (said : ScriptLine) → IsAtLine o first lane.old actions names front values → said.operation ≡ op.Commit
-        → CameTo o first lane.new actions names (front ++ said ∷ []) values result }
+fn commit_all(lane: &mut Lane<SoloMem>, blocks: &CallBlocks, names: Names) -> Result<(), NotDone>
+    requires at_work { (actions : List SetAction) × IsLaneAtLine lane.old blocks.now actions names }
+    ensures { (o : Opening) (first : View) (actions : List SetAction) (front : List ScriptLine) (values : Values) (said : ScriptLine) → IsAtLine o first lane.old blocks.now actions names front values → said.operation ≡ op.Commit
+        → CameTo o first lane.new blocks.now actions names (front ++ said ∷ []) values result }
 {
-    match commit(lane) {
+    match commit(lane, blocks) {
         Ok(()) => Ok(()),
         Err(_) => Err(NotDone::Stopped),
     }
@@ -341,24 +402,26 @@ fn commit_all(lane: &mut Lane<SoloMem>, names: Names) -> Result<(), NotDone>
 pub(crate) fn transact(
     alloc: Global,
     lane: &mut Lane<SoloMem>,
+    blocks: &mut CallBlocks,
     actions: &mut ArrayVec<SetAction, 63>,
     names: Names,
     lines: &[ScriptLine],
     values: &mut Vec<(u64, Value)>,
 ) -> Result<(), NotDone>
     requires transaction { IsTransaction (operations lines.now) }
-    requires first { (o : Opening) × ((first : View) × IsStart o lane.old actions.old.items first) }
+    requires first { (o : Opening) × ((first : View) × IsStart o lane.old blocks.old actions.old.items first) }
     requires none { values.old.items ≡ [] }
-    ensures { (o : Opening) (first : View) → IsStart o lane.old actions.old.items first → CameTo o first lane.new actions.new.items names lines.now values.new.items result }
+    ensures { (o : Opening) (first : View) → IsStart o lane.old blocks.old actions.old.items first → CameTo o first lane.new blocks.new actions.new.items names lines.now values.new.items result }
 {
-    begin_at(alloc, lane, names, &lines[0])?;
+    begin_at(alloc, lane, blocks, names, &lines[0])?;
     change_all(
         alloc,
         lane,
+        blocks,
         actions,
         names,
         &lines[1..lines.len() - 1],
         values,
     )?;
-    commit_all(lane, names)
+    commit_all(lane, blocks, names)
 }

@@ -11,13 +11,13 @@ ghost use Rattle.pm_world.specs.Opening.{Opening};
 ghost use Rattle.pm_exec.specs.Calls.{IsCall, call_lines, call_of};
 ghost use Rattle.pm_exec.specs.declared.calls.Names.{Names};
 ghost use Rattle.pm_exec.specs.Openings.{first_view, opening_of};
-ghost use Rattle.pm_exec.specs.Progress.{IsStart};
-ghost use Rattle.pm_exec.specs.Running.{HasComeTo, HasHalted, HasRun, open_entry};
+ghost use Rattle.pm_exec.specs.Running.{HasComeTo, HasHalted, HasRun, MayRun, MayStart, open_entry};
 
 use crate::calls::{Names, call_of, first_call};
 use crate::ending::{CallEnd, run_call, settled_fate};
 use arrayvec::ArrayVec;
 use pm_layout::Shape;
+use pm_made::CallBlocks;
 use pm_memory::SoloMem;
 use pm_objects::{Call, Entry, Fate, PoolView, Reply};
 use pm_occupancy::occupancy_of;
@@ -60,21 +60,22 @@ fn open_entry(number: Option<u64>, call: Call, reply: Reply) -> Option<Entry>
 fn run_next(
     alloc: Global,
     lane: &mut Lane<SoloMem>,
+    blocks: &mut CallBlocks,
     actions: &mut ArrayVec<SetAction, 63>,
     names: Names,
     lines: &[ScriptLine],
     history: &mut Vec<Entry>,
 ) -> Result<Option<Halt>, AllocError>
     requires call { IsCall (operations lines.now) }
-    requires start { (o : Opening) × ((first : View) × ((calls : List (List ScriptLine)) × HasComeTo o first lane.old actions.old.items names calls history.old.items)) }
-    ensures answered { IfOk result (λ halted. IfNone halted ((o : Opening) (first : View) (calls : List (List ScriptLine)) → HasComeTo o first lane.old actions.old.items names calls history.old.items
-        → HasComeTo o first lane.new actions.new.items names (calls ++ lines.now ∷ []) history.new.items)) }
-    ensures halted { IfOk result (λ halted. IfSome halted (λ halt. (o : Opening) (first : View) (calls : List (List ScriptLine)) → HasComeTo o first lane.old actions.old.items names calls history.old.items
+    requires start { (o : Opening) × ((first : View) × ((calls : List (List ScriptLine)) × HasComeTo o first lane.old blocks.old actions.old.items names calls history.old.items)) }
+    ensures answered { IfOk result (λ halted. IfNone halted ((o : Opening) (first : View) (calls : List (List ScriptLine)) → HasComeTo o first lane.old blocks.old actions.old.items names calls history.old.items
+        → HasComeTo o first lane.new blocks.new actions.new.items names (calls ++ lines.now ∷ []) history.new.items)) }
+    ensures halted { IfOk result (λ halted. IfSome halted (λ halt. (o : Opening) (first : View) (calls : List (List ScriptLine)) → HasComeTo o first lane.old blocks.old actions.old.items names calls history.old.items
         → HasHalted o first lane.new names calls lines.now history.new.items halt)) }
 {
     let generation = lane.memory.word(GENERATION_WORD);
     let call = call_of(alloc, names, lines)?;
-    match run_call(alloc, lane, actions, names, lines)? {
+    match run_call(alloc, lane, blocks, actions, names, lines)? {
         CallEnd::Answered {
             number,
             answer,
@@ -112,15 +113,24 @@ pub(crate) fn run_all(
     history: &mut Vec<Entry>,
 ) -> Result<Halt, AllocError>
     requires calls { AreCalls (operations lines.now) }
-    requires start { (o : Opening) × ((first : View) × HasComeTo o first lane.old [] names [] history.old.items) }
-    ensures { IfOk result (λ halt. (o : Opening) (first : View) → HasComeTo o first lane.old [] names [] history.old.items
+    requires start { (o : Opening) × ((first : View) × MayRun o first lane.old names history.old.items) }
+    ensures { IfOk result (λ halt. (o : Opening) (first : View) → MayRun o first lane.old names history.old.items
         → HasRun o first lane.new names (call_lines lines.now) history.new.items halt) }
 {
+    let mut blocks = CallBlocks::new(alloc, lane.shape)?;
     let mut actions = ArrayVec::new();
     let mut rest = lines;
     while !rest.is_empty() {
         let (call, behind) = rest.split_at(first_call(rest));
-        if let Some(halt) = run_next(alloc, lane, &mut actions, names, call, history)? {
+        if let Some(halt) = run_next(
+            alloc,
+            lane,
+            &mut blocks,
+            &mut actions,
+            names,
+            call,
+            history,
+        )? {
             return Ok(halt);
         }
         rest = behind;
@@ -141,7 +151,7 @@ pub(crate) fn open_lane(
 ) -> Result<Lane<SoloMem>, AllocError>
     requires shape { IsShape pool.now.lanes pool.now.zones }
     requires begins { (header : Header) × BeginsAlone (opening_of pool.now image.now) header pool.now (first_view pool.now image.now stop) }
-    ensures { IfOk result (λ lane. IsStart (opening_of pool.now image.now) lane [] (first_view pool.now image.now stop)) }
+    ensures { IfOk result (MayStart (opening_of pool.now image.now) (first_view pool.now image.now stop)) }
 {
     let Ok(shape) = Shape::new(pool.lanes, pool.zones) else {
         unreachable!()

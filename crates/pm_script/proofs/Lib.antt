@@ -5,6 +5,7 @@ pub mod LaneCalls
 pub mod LinesInPlace
 pub mod NamedLanes
 pub mod Numerals
+pub mod OpenTransactions
 pub mod Readings
 pub mod RisingLines
 pub mod Statements

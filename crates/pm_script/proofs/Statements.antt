@@ -3,13 +3,13 @@ use Rattle.std.proofs.Common.{◌≡◌, ◌<◌, ℕ, Bool, true, false, cond, 
 use Rattle.std.specs.Option.{option_and_then, option_map, option_map_or}
 use Rattle.std.proofs.lemmas.Bool.{ltb-true}
 use Rattle.pm_script.specs.Numbers.{number_of}
-use Rattle.pm_script.specs.Operands.{bytes_of, id_of, size_of}
+use Rattle.pm_script.specs.Operands.{bytes_of, id_of, letter_of, size_of}
 use Rattle.pm_script.specs.Reading.{HasLane, form_why, keyword_said}
 use Rattle.pm_script.specs.Scripts.{statement_of}
 use Rattle.pm_script.specs.declared.fault.Why.{Why}
 use Rattle.pm_script.specs.declared.fault.Why.TheVariants.{Number, LaneNumber}
 use Rattle.pm_script.specs.declared.statement.Keyword.{Keyword}
-use Rattle.pm_script.specs.declared.statement.Keyword.TheVariants.{Lane, Begin, Add, Write, Read, Set, Publish, Cancel, Commit}
+use Rattle.pm_script.specs.declared.statement.Keyword.TheVariants.{Lane, Begin, Add, Write, Read, Alloc, Free, Set, Publish, Cancel, Commit}
 use Rattle.pm_script.specs.declared.statement.Statement.{Statement}
 use Rattle.pm_script.specs.declared.statement.Statement.TheVariants as says
 
@@ -58,6 +58,18 @@ keyword_is Read (id ∷ off ∷ len ∷ []) statement is =
     let c = found (size_of len) _ statement b.1 in
     sym (ap keyword_said (same_some c.1))
 keyword_is Read (id ∷ off ∷ len ∷ x ∷ more) statement is = cc
+keyword_is Alloc [] statement is = cc
+keyword_is Alloc (letter ∷ []) statement is = cc
+keyword_is Alloc (letter ∷ size ∷ []) statement is = cc
+keyword_is Alloc (letter ∷ size ∷ kind ∷ []) statement is =
+    let a = found (letter_of letter) _ statement is in
+    let b = found (number_of size) _ statement a.1 in
+    let c = found (number_of kind) _ statement b.1 in
+    sym (ap keyword_said (same_some c.1))
+keyword_is Alloc (letter ∷ size ∷ kind ∷ x ∷ more) statement is = cc
+keyword_is Free [] statement is = cc
+keyword_is Free (id ∷ []) statement is = sym (ap keyword_said (same_some (found (id_of id) _ statement is).1))
+keyword_is Free (id ∷ x ∷ more) statement is = cc
 keyword_is Set [] statement is = cc
 keyword_is Set (id ∷ []) statement is = cc
 keyword_is Set (id ∷ off ∷ []) statement is = cc
@@ -93,6 +105,8 @@ has_lane Begin operands (says.Lane lane) is fine = let e = keyword_is Begin oper
 has_lane Add operands (says.Lane lane) is fine = let e = keyword_is Add operands (says.Lane lane) is in cc
 has_lane Write operands (says.Lane lane) is fine = let e = keyword_is Write operands (says.Lane lane) is in cc
 has_lane Read operands (says.Lane lane) is fine = let e = keyword_is Read operands (says.Lane lane) is in cc
+has_lane Alloc operands (says.Lane lane) is fine = let e = keyword_is Alloc operands (says.Lane lane) is in cc
+has_lane Free operands (says.Lane lane) is fine = let e = keyword_is Free operands (says.Lane lane) is in cc
 has_lane Set operands (says.Lane lane) is fine = let e = keyword_is Set operands (says.Lane lane) is in cc
 has_lane Publish operands (says.Lane lane) is fine = let e = keyword_is Publish operands (says.Lane lane) is in cc
 has_lane Cancel operands (says.Lane lane) is fine = let e = keyword_is Cancel operands (says.Lane lane) is in cc

@@ -1,5 +1,5 @@
 -- The operands of a script's lines: docs/COMMANDS.md, "Scripts".
-use Rattle.std.specs.Prelude.{ℕ, ◌*◌, ◌&&◌, Bool, true, false, nat_eq, nat_le, if◌then◌else◌, List, drop, length, codes, is_some, option_and_then, option_map, Option, Some, None}
+use Rattle.std.specs.Prelude.{ℕ, ◌*◌, ◌-◌, ◌&&◌, Bool, true, false, nat_eq, nat_le, if◌then◌else◌, List, [], ◌∷◌, drop, length, codes, is_some, option_and_then, option_map, Option, Some, None}
 use Rattle.std.specs.List.{starts_with}
 use Rattle.std.specs.Result.{result_ok}
 use Rattle.std.specs.Str.{bytes_eq}
@@ -16,6 +16,11 @@ bytes_of word = if nat_le 1 (length word) && nat_le (length word) (2 * 4096) the
 -- the object that a word names: `root`, or an offset
 abbrev pub id_of : List ℕ → Option ScriptId
 id_of word = if bytes_eq word (codes "root") then Some Root else option_map At (number_of word)
+
+-- the letter that a word is, from 0 for `a` to 25 for `z`
+abbrev pub letter_of : List ℕ → Option ℕ
+letter_of (b ∷ []) = if nat_le 97 b && nat_le b 122 then Some (b - 97) else None
+letter_of word = None
 
 -- the object that a begin locks, for writing or not
 abbrev pub wanted : Bool → ScriptId → ScriptWant
@@ -44,6 +49,9 @@ is_hex word = is_some (bytes_of word)
 
 abbrev pub is_id : List ℕ → Bool
 is_id word = is_some (id_of word)
+
+abbrev pub is_letter : List ℕ → Bool
+is_letter word = is_some (letter_of word)
 
 abbrev pub is_want : List ℕ → Bool
 is_want word = is_some (want_of word)

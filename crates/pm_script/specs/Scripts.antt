@@ -1,10 +1,10 @@
 -- What a script is, and the first bad line of a text that is none: docs/COMMANDS.md, "Scripts".
-use Rattle.std.specs.Prelude.{◌≡◌, ℕ, ◌+◌, ◌≤◌, ◌⊎◌, ◌&&◌, ◌==◌, max, nat_lt, not, Bool, true, false, if◌then◌else◌, List, [], ◌∷◌, ◌++◌, map, filter, All, Contains, length, codes, is_some, option_and_then, option_map, Option, Some, None, Result, Err, alloc_error, ⊤}
-use Rattle.std.specs.List.{find, filter_map, list_all, list_any}
+use Rattle.std.specs.Prelude.{◌≡◌, ℕ, ◌+◌, ◌≤◌, ◌⊎◌, ◌&&◌, ◌||◌, ◌==◌, max, nat_lt, not, Bool, true, false, if◌then◌else◌, List, [], ◌∷◌, ◌++◌, map, filter, All, Contains, length, codes, is_some, option_and_then, option_map, Option, Some, None, Result, Err, alloc_error, ⊤}
+use Rattle.std.specs.List.{find, filter_map, list_all}
 use Rattle.std.specs.Option.{option_map_or}
 use Rattle.std.specs.Str.{bytes_eq}
 use Rattle.pm_script.specs.Numbers.{number_of}
-use Rattle.pm_script.specs.Operands.{bytes_of, id_of, want_of, size_of, is_number, is_size, is_hex, is_id, is_want}
+use Rattle.pm_script.specs.Operands.{bytes_of, id_of, letter_of, want_of, size_of, is_number, is_size, is_hex, is_id, is_letter, is_want}
 use Rattle.pm_script.specs.Words.{words, is_text, is_skipped}
 use Rattle.pm_script.specs.declared.context.OpenTransaction.{OpenTransaction}
 use Rattle.pm_script.specs.declared.fault.BadLine.{BadLine}
@@ -18,7 +18,7 @@ use Rattle.pm_script.specs.declared.script.ScriptOp.{ScriptOp}
 use Rattle.pm_script.specs.declared.script.ScriptWant.{ScriptWant}
 use Rattle.pm_script.specs.declared.script.ScriptOp.TheVariants as op
 use Rattle.pm_script.specs.declared.statement.Keyword.{Keyword}
-use Rattle.pm_script.specs.declared.statement.Keyword.TheVariants.{Lane, Begin, Add, Write, Read, Set, Publish, Cancel, Commit}
+use Rattle.pm_script.specs.declared.statement.Keyword.TheVariants.{Lane, Begin, Add, Write, Read, Alloc, Free, Set, Publish, Cancel, Commit}
 use Rattle.pm_script.specs.declared.statement.Statement.{Statement}
 use Rattle.pm_script.specs.declared.statement.Statement.TheVariants as says
 
@@ -37,6 +37,8 @@ keywords =
     ∷ (codes "add", Add)
     ∷ (codes "write", Write)
     ∷ (codes "read", Read)
+    ∷ (codes "alloc", Alloc)
+    ∷ (codes "free", Free)
     ∷ (codes "set", Set)
     ∷ (codes "publish", Publish)
     ∷ (codes "cancel", Cancel)
@@ -47,8 +49,8 @@ keywords =
 abbrev pub keyword_of : List ℕ → Option Keyword
 keyword_of word = option_map (λ known. known.1) (find (λ (known : List ℕ × Keyword). bytes_eq word known.0) keywords)
 
--- what the operands behind a first word say: `lane K`, `begin [ID or r:ID]..`, `add ID OFF LEN`, `write ID OFF HEX`, `read ID OFF LEN`, `set ID OFF VALUE`,
--- `publish`, `cancel`, `commit`
+-- what the operands behind a first word say: `lane K`, `begin [ID or r:ID]..`, `add ID OFF LEN`, `write ID OFF HEX`, `read ID OFF LEN`, `alloc x SIZE TYPE`,
+-- `free ID`, `set ID OFF VALUE`, `publish`, `cancel`, `commit`
 abbrev pub statement_of : Keyword → List (List ℕ) → Option Statement
 statement_of Lane (lane ∷ []) = option_map says.Lane (number_of lane)
 statement_of Begin wants = Some (says.Operation (op.Begin (filter_map want_of wants)))
@@ -67,6 +69,14 @@ statement_of Read (id ∷ off ∷ len ∷ []) = do
   off ← number_of off
   len ← size_of len
   Some (says.Operation (op.Read id off len))
+statement_of Alloc (letter ∷ size ∷ kind ∷ []) = do
+  letter ← letter_of letter
+  size ← number_of size
+  kind ← number_of kind
+  Some (says.Operation (op.Alloc letter size kind))
+statement_of Free (id ∷ []) = do
+  id ← id_of id
+  Some (says.Operation (op.Free id))
 statement_of Set (id ∷ off ∷ value ∷ []) = do
   id ← id_of id
   off ← number_of off
@@ -85,7 +95,7 @@ said (word ∷ operands) = option_and_then (λ keyword. statement_of keyword ope
 -- ---- where a line stands
 
 -- what the lines so far leave: the present lane, if a line named one; one more than the greatest lane that was named, and at least 1;
--- the transactions that are open, each with its lane and the line of its begin
+-- the transactions that are open, each with its lane, the line of its begin, and whether it publishes, and makes or frees objects, so far
 pub record Context : Type 0 where
   pub lane : Option ℕ
   pub lanes : ℕ
@@ -98,13 +108,32 @@ start = record { lane = None; lanes = 1; begun = [] }
 abbrev pub is_of_lane : ℕ → OpenTransaction → Bool
 is_of_lane lane transaction = transaction.lane == lane
 
+-- the open transaction of the present lane
+abbrev pub present_transaction : Context → Option OpenTransaction
+present_transaction context = option_and_then (λ lane. find (is_of_lane lane) context.begun) context.lane
+
 -- a transaction of the present lane is open
 abbrev pub is_inside : Context → Bool
-is_inside context = option_map_or (λ lane. list_any (is_of_lane lane) context.begun) context.lane false
+is_inside context = is_some (present_transaction context)
 
--- the open transactions behind an operation of the lane on line n: a begin opens one, and a commit closes it
+-- a transaction that begins
+abbrev pub opened : ℕ → ℕ → OpenTransaction
+opened lane n = record { lane = lane; line = n; publishes = false; makes_or_frees = false }
+
+-- an open transaction behind a publish of the lane
+abbrev pub behind_publish : ℕ → OpenTransaction → OpenTransaction
+behind_publish lane transaction = record transaction { publishes = transaction.publishes || is_of_lane lane transaction }
+
+-- an open transaction behind an alloc or a free of the lane
+abbrev pub behind_make_or_free : ℕ → OpenTransaction → OpenTransaction
+behind_make_or_free lane transaction = record transaction { makes_or_frees = transaction.makes_or_frees || is_of_lane lane transaction }
+
+-- the open transactions behind an operation of the lane on line n: a begin opens one, a commit closes it, and in between it may publish, or make or free objects
 abbrev pub begun_behind : ℕ → ℕ → ScriptOp → List OpenTransaction → List OpenTransaction
-begun_behind lane n (op.Begin wants) begun = begun ++ record { lane = lane; line = n } ∷ []
+begun_behind lane n (op.Begin wants) begun = begun ++ opened lane n ∷ []
+begun_behind lane n (op.Alloc letter size kind) begun = map (behind_make_or_free lane) begun
+begun_behind lane n (op.Free id) begun = map (behind_make_or_free lane) begun
+begun_behind lane n op.Publish begun = map (behind_publish lane) begun
 begun_behind lane n op.Commit begun = filter (λ transaction. not (is_of_lane lane transaction)) begun
 begun_behind lane n operation begun = begun
 
@@ -123,6 +152,8 @@ has_count Begin n = true
 has_count Add n = n == 3
 has_count Write n = n == 3
 has_count Read n = n == 3
+has_count Alloc n = n == 3
+has_count Free n = n == 1
 has_count Set n = n == 3
 has_count Publish n = n == 0
 has_count Cancel n = n == 0
@@ -134,6 +165,7 @@ has_numbers Lane (lane ∷ []) = is_number lane
 has_numbers Add (id ∷ off ∷ len ∷ []) = is_number off && is_number len
 has_numbers Write (id ∷ off ∷ hex ∷ []) = is_number off
 has_numbers Read (id ∷ off ∷ len ∷ []) = is_number off && is_size len
+has_numbers Alloc (letter ∷ size ∷ kind ∷ []) = is_number size && is_number kind
 has_numbers Set (id ∷ off ∷ value ∷ []) = is_number off && is_number value
 has_numbers keyword operands = true
 
@@ -142,12 +174,14 @@ abbrev pub has_hex : Keyword → List (List ℕ) → Bool
 has_hex Write (id ∷ off ∷ hex ∷ []) = is_hex hex
 has_hex keyword operands = true
 
--- each operand that is to name an object does
+-- each operand that is to name an object does, and one that is to be a letter is one
 abbrev pub has_ids : Keyword → List (List ℕ) → Bool
 has_ids Begin wants = list_all is_want wants
 has_ids Add (id ∷ operands) = is_id id
 has_ids Write (id ∷ operands) = is_id id
 has_ids Read (id ∷ operands) = is_id id
+has_ids Alloc (letter ∷ operands) = is_letter letter
+has_ids Free (id ∷ operands) = is_id id
 has_ids Set (id ∷ operands) = is_id id
 has_ids keyword operands = true
 
@@ -178,6 +212,21 @@ may_act context Publish = true
 may_act context Cancel = true
 may_act context keyword = is_inside context
 
+-- the present lane's transaction publishes
+abbrev pub is_publishing : Context → Bool
+is_publishing context = option_map_or (λ transaction. transaction.publishes) (present_transaction context) false
+
+-- the present lane's transaction makes or frees objects
+abbrev pub is_making_or_freeing : Context → Bool
+is_making_or_freeing context = option_map_or (λ transaction. transaction.makes_or_frees) (present_transaction context) false
+
+-- a publish stands in no transaction that makes or frees objects, and neither of these in one that publishes
+abbrev pub may_join : Context → Keyword → Bool
+may_join context Alloc = not (is_publishing context)
+may_join context Free = not (is_publishing context)
+may_join context Publish = not (is_making_or_freeing context)
+may_join context keyword = true
+
 -- the reason of the first test that failed
 abbrev pub first_failed : List (Bool × Why) → Option Why
 first_failed [] = None
@@ -195,7 +244,12 @@ form_tests keyword operands =
 
 -- the tests of a line in its place
 abbrev pub place_tests : Context → Keyword → List (Bool × Why)
-place_tests context keyword = (has_lane context keyword, NoLane) ∷ (may_begin context keyword, Inside) ∷ (may_act context keyword, Outside) ∷ []
+place_tests context keyword =
+    (has_lane context keyword, NoLane)
+    ∷ (may_begin context keyword, Inside)
+    ∷ (may_act context keyword, Outside)
+    ∷ (may_join context keyword, Word)
+    ∷ []
 
 -- why these words are a bad line: the first word is none of a script's, or a test fails
 abbrev pub why_of_words : Context → List (List ℕ) → Option Why
@@ -287,15 +341,32 @@ abbrev pub IsChange : ScriptOp → Type 0
 IsChange (op.Add id off len) = ⊤
 IsChange (op.Write id off bytes) = ⊤
 IsChange (op.Read id off len) = ⊤
+IsChange (op.Alloc letter size kind) = ⊤
+IsChange (op.Free id) = ⊤
 IsChange (op.Set id off value) = ⊤
 IsChange op.Publish = ⊤
 IsChange op.Cancel = ⊤
 IsChange (op.Begin wants) = ⊥
 IsChange op.Commit = ⊥
 
--- a begin, changes, and a commit
+-- the operation publishes
+abbrev pub Publishes : ScriptOp → Type 0
+Publishes op.Publish = ⊤
+Publishes operation = ⊥
+
+-- the operation makes or frees an object
+abbrev pub MakesOrFrees : ScriptOp → Type 0
+MakesOrFrees (op.Alloc letter size kind) = ⊤
+MakesOrFrees (op.Free id) = ⊤
+MakesOrFrees operation = ⊥
+
+-- none of the changes publishes, or none makes or frees an object
+abbrev pub KeepsApart : List ScriptOp → Type 0
+KeepsApart changes = All (λ change. ¬ Publishes change) changes ⊎ All (λ change. ¬ MakesOrFrees change) changes
+
+-- a begin, changes that are not of both these kinds, and a commit
 abbrev pub IsTransaction : List ScriptOp → Type 0
-IsTransaction ops = (wants : List ScriptWant) × (changes : List ScriptOp) × (ops ≡ op.Begin wants ∷ changes ++ op.Commit ∷ []) × All IsChange changes
+IsTransaction ops = (wants : List ScriptWant) × (changes : List ScriptOp) × (ops ≡ op.Begin wants ∷ changes ++ op.Commit ∷ []) × All IsChange changes × KeepsApart changes
 
 -- what may stand outside of a transaction
 abbrev pub IsOutside : ScriptOp → Type 0
@@ -306,6 +377,8 @@ IsOutside (op.Begin wants) = ⊥
 IsOutside (op.Add id off len) = ⊥
 IsOutside (op.Write id off bytes) = ⊥
 IsOutside (op.Read id off len) = ⊥
+IsOutside (op.Alloc letter size kind) = ⊥
+IsOutside (op.Free id) = ⊥
 IsOutside op.Commit = ⊥
 
 -- nothing; a transaction and then calls; or a call outside and then calls

@@ -1,6 +1,6 @@
-ghost use Rattle.std.specs.Prelude.{◌≡◌, ◌<◌, ℕ, [], None, Some, IfOk, IfErr, IfSome, IfNone, OnOk};
-ghost use Rattle.std.specs.List.{list_any};
-ghost use Rattle.pm_script.specs.Scripts.{start, context_behind, is_of_lane, IsFirstOpen};
+ghost use Rattle.std.specs.Prelude.{◌≡◌, ◌<◌, ℕ, [], map, None, Some, IfOk, IfErr, IfSome, IfNone, OnOk};
+ghost use Rattle.std.specs.List.{find};
+ghost use Rattle.pm_script.specs.Scripts.{start, behind_make_or_free, behind_publish, context_behind, is_of_lane, IsFirstOpen};
 ghost use Rattle.pm_script.specs.Reading.{keyword_said, place_why};
 ghost use Rattle.pm_script.specs.declared.statement.Statement.TheVariants as says;
 
@@ -15,6 +15,10 @@ pub struct OpenTransaction {
     pub lane: u64,
     /// The line of its begin.
     pub line: u64,
+    /// A line of it so far is a publish.
+    pub publishes: bool,
+    /// A line of it so far is an alloc or a free.
+    pub makes_or_frees: bool,
 }
 
 /// What the lines so far leave to the next one.
@@ -66,20 +70,29 @@ impl Context {
         ensures bad { IfErr result (λ why. place_why self.now (keyword_said (says.Operation operation.now)) ≡ Some why) }
     {
         let lane = self.lane.ok_or(Why::NoLane)?;
-        match (operation, self.is_open(lane)) {
-            (ScriptOp::Begin { .. }, true) => Err(Why::Inside),
-            (ScriptOp::Begin { .. }, false) | (_, true) => Ok(lane),
-            (ScriptOp::Set { .. } | ScriptOp::Publish | ScriptOp::Cancel, false) => Ok(lane),
-            (_, false) => Err(Why::Outside),
+        match self.transaction_of(lane) {
+            Some(open) => match operation {
+                ScriptOp::Begin { .. } => Err(Why::Inside),
+                ScriptOp::Publish if open.makes_or_frees => Err(Why::Word),
+                ScriptOp::Alloc { .. } | ScriptOp::Free { .. } if open.publishes => Err(Why::Word),
+                _ => Ok(lane),
+            },
+            None => match operation {
+                ScriptOp::Begin { .. } => Ok(lane),
+                ScriptOp::Set { .. } | ScriptOp::Publish | ScriptOp::Cancel => Ok(lane),
+                _ => Err(Why::Outside),
+            },
         }
     }
 
-    fn is_open(&self, lane: u64) -> bool
-        ensures { result ≡ list_any (is_of_lane lane) self.now.begun }
+    /// The lane's transaction, if one is open.
+    fn transaction_of(&self, lane: u64) -> Option<OpenTransaction>
+        ensures { result ≡ find (is_of_lane lane) self.now.begun }
     {
         self.begun
             .iter()
-            .any(|transaction| transaction.lane == lane)
+            .copied()
+            .find(|transaction| transaction.lane == lane)
     }
 
     /// The lines from here on are this lane's.
@@ -97,10 +110,35 @@ impl Context {
         ensures { OnOk result (self.new ≡ context_behind self.old line (Some (says.Operation operation.now))) }
     {
         match operation {
-            ScriptOp::Begin { .. } => self.begun.push(OpenTransaction { lane, line })?,
+            ScriptOp::Begin { .. } => self.begun.push(OpenTransaction {
+                lane,
+                line,
+                publishes: false,
+                makes_or_frees: false,
+            })?,
+            ScriptOp::Alloc { .. } | ScriptOp::Free { .. } => self.follow_make_or_free(lane),
+            ScriptOp::Publish => self.follow_publish(lane),
             ScriptOp::Commit => self.begun.retain(|transaction| transaction.lane != lane),
             _ => {}
         }
         Ok(())
+    }
+
+    /// Follows a publish of the lane, whose transaction has it, if one is open.
+    fn follow_publish(&mut self, lane: u64)
+        ensures { self.new ≡ record self.old { begun = map (behind_publish lane) self.old.begun } }
+    {
+        for transaction in self.begun.iter_mut() {
+            transaction.publishes |= transaction.lane == lane;
+        }
+    }
+
+    /// Follows an alloc or a free of the lane's transaction.
+    fn follow_make_or_free(&mut self, lane: u64)
+        ensures { self.new ≡ record self.old { begun = map (behind_make_or_free lane) self.old.begun } }
+    {
+        for transaction in self.begun.iter_mut() {
+            transaction.makes_or_frees |= transaction.lane == lane;
+        }
     }
 }

@@ -6,13 +6,14 @@ ghost use Rattle.pm_script.specs.declared.fault.ScriptFault.TheVariants.{Memory}
 use std::alloc::{AllocError, AllocFailed};
 use thiserror::Error;
 
-/// What is wrong with a line of a script, in the order in which one line is tried.
+/// What is wrong with a line of a script, in the order in which one line is tried; `Word` is also tried behind `Outside`.
 #[derive(Clone, Copy, Debug, PartialEq, Eq, Error)]
 pub enum Why {
     /// A byte is not one of 0x20 to 0x7E.
     #[error("Text")]
     Text,
-    /// The first word is none of a script's.
+    /// The first word is none of a script's. Not yet taken either, and tried last: a publish in a transaction that makes or
+    /// frees objects, and an alloc or a free in one that publishes.
     #[error("Word")]
     Word,
     /// The first word takes another number of operands.
@@ -24,7 +25,7 @@ pub enum Why {
     /// An operand is not 1 to 4,096 bytes of two hexadecimal digits each.
     #[error("Hex")]
     Hex,
-    /// An operand names no object.
+    /// An operand names no object, or is not the letter that it is to be.
     #[error("Letter")]
     Letter,
     /// A lane of 32 or more.
@@ -36,7 +37,7 @@ pub enum Why {
     /// A begin while a transaction of the lane is open.
     #[error("Inside")]
     Inside,
-    /// An add, a write, a read or a commit while no transaction of the lane is open.
+    /// An add, a write, a read, an alloc, a free or a commit while no transaction of the lane is open.
     #[error("Outside")]
     Outside,
     /// The transaction that the line begins is never closed.

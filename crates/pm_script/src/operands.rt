@@ -1,5 +1,5 @@
 ghost use Rattle.std.specs.Prelude.{◌≡◌, option_map, IfOk};
-ghost use Rattle.pm_script.specs.Operands.{bytes_of, id_of, want_of, wanted, size_of};
+ghost use Rattle.pm_script.specs.Operands.{bytes_of, id_of, letter_of, want_of, wanted, size_of};
 
 use crate::numbers::number;
 use crate::script::{ScriptId, ScriptWant};
@@ -18,6 +18,16 @@ pub fn id_of(word: &str) -> Option<ScriptId>
         Some(ScriptId::Root)
     } else {
         number(word).map(ScriptId::At)
+    }
+}
+
+/// The letter that a word is, from 0 for `a` to 25 for `z`.
+pub fn letter_of(word: &str) -> Option<u8>
+    ensures { result ≡ letter_of word.now }
+{
+    match word.as_bytes() {
+        [letter @ b'a'..=b'z'] => Some(letter - b'a'),
+        _ => None,
     }
 }
 

@@ -42,6 +42,17 @@ pub enum ScriptOp {
         off: u64,
         len: u64,
     },
+    /// Makes an object of so many bytes and of this type number. The letter is to stand for it: 0 for `a` to 25 for `z`. Nothing is known of the
+    /// size. pmemobj_tx_alloc(3).
+    Alloc {
+        letter: u8,
+        size: u64,
+        kind: u64,
+    },
+    /// Frees an object. pmemobj_tx_free(3).
+    Free {
+        id: ScriptId,
+    },
     /// Makes an action pending on the lane: eight bytes are to become this number. pmemobj_set_value(3).
     Set {
         id: ScriptId,

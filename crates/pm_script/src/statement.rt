@@ -6,7 +6,7 @@ ghost use Rattle.pm_script.specs.declared.statement.Keyword.TheVariants as word;
 
 use crate::fault::{LineFault, Why};
 use crate::numbers::number;
-use crate::operands::{bytes_of, id_of, size_of, want_of};
+use crate::operands::{bytes_of, id_of, letter_of, size_of, want_of};
 use crate::script::ScriptOp;
 use pm_objects::Sequence;
 use std::alloc::Global;
@@ -22,6 +22,8 @@ pub enum Keyword {
     Add,
     Write,
     Read,
+    Alloc,
+    Free,
     Set,
     Publish,
     Cancel,
@@ -49,6 +51,8 @@ pub fn statement_of(alloc: Global, words: &[&str]) -> Result<Statement, LineFaul
         Keyword::Add => add_of(operands),
         Keyword::Write => write_of(alloc, operands),
         Keyword::Read => read_of(operands),
+        Keyword::Alloc => alloc_of(operands),
+        Keyword::Free => free_of(operands),
         Keyword::Set => set_of(operands),
         Keyword::Publish => publish_of(operands),
         Keyword::Cancel => cancel_of(operands),
@@ -65,6 +69,8 @@ fn keyword_of(word: &str) -> Option<Keyword>
         "add" => Some(Keyword::Add),
         "write" => Some(Keyword::Write),
         "read" => Some(Keyword::Read),
+        "alloc" => Some(Keyword::Alloc),
+        "free" => Some(Keyword::Free),
         "set" => Some(Keyword::Set),
         "publish" => Some(Keyword::Publish),
         "cancel" => Some(Keyword::Cancel),
@@ -137,6 +143,30 @@ fn read_of(operands: &[&str]) -> Result<Statement, LineFault>
     let len = size_of(len).ok_or(Why::Number)?;
     let id = id_of(id).ok_or(Why::Letter)?;
     Ok(Statement::Operation(ScriptOp::Read { id, off, len }))
+}
+
+/// Reads `alloc x SIZE TYPE`.
+fn alloc_of(operands: &[&str]) -> Result<Statement, LineFault>
+    ensures { IsReadAs word.Alloc (texts operands.now) result }
+{
+    let [letter, size, kind] = operands else {
+        return Err(LineFault::Bad(Why::Count));
+    };
+    let size = number(size).ok_or(Why::Number)?;
+    let kind = number(kind).ok_or(Why::Number)?;
+    let letter = letter_of(letter).ok_or(Why::Letter)?;
+    Ok(Statement::Operation(ScriptOp::Alloc { letter, size, kind }))
+}
+
+/// Reads `free ID`.
+fn free_of(operands: &[&str]) -> Result<Statement, LineFault>
+    ensures { IsReadAs word.Free (texts operands.now) result }
+{
+    let [id] = operands else {
+        return Err(LineFault::Bad(Why::Count));
+    };
+    let id = id_of(id).ok_or(Why::Letter)?;
+    Ok(Statement::Operation(ScriptOp::Free { id }))
 }
 
 /// Reads `set ID OFF VALUE`.

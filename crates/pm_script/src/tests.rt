@@ -62,6 +62,14 @@ fn operation(alloc: Global, operation: &ScriptOp) -> Result<String, Fail> {
             let object = object(alloc, id)?;
             Ok(format!(in alloc; "read {object} {off} {len}")?)
         }
+        ScriptOp::Alloc { letter, size, kind } => {
+            let letter = char::from(b'a'.wrapping_add(*letter));
+            Ok(format!(in alloc; "alloc {letter} {size} {kind}")?)
+        }
+        ScriptOp::Free { id } => {
+            let object = object(alloc, id)?;
+            Ok(format!(in alloc; "free {object}")?)
+        }
         ScriptOp::Set { id, off, value } => {
             let object = object(alloc, id)?;
             Ok(format!(in alloc; "set {object} {off} {value}")?)
@@ -98,7 +106,7 @@ fn tells(rt: &impl Abort, alloc: Global, text: &str, wanted: &str) -> Result<(),
 }
 
 /// Texts that are scripts, and what they say.
-const SCRIPTS: [(&str, &str); 17] = [
+const SCRIPTS: [(&str, &str); 19] = [
     // nothing is said
     ("", "1 lanes;"),
     ("# nothing\n\n", "1 lanes;"),
@@ -157,6 +165,16 @@ const SCRIPTS: [(&str, &str); 17] = [
     (
         "lane 1\nbegin\nlane 0\nset root 3 0\nlane 1\ncommit\n",
         "2 lanes; 2 1 begin; 4 0 set root 3 0; 6 1 commit;",
+    ),
+    // objects that are made and freed, and a letter that comes again
+    (
+        "lane 0\nbegin root\nalloc a 64 7\nfree 16512\nset root 8 1\nalloc z 0 18446744073709551615\nfree root\nalloc a 007 0\ncancel\ncommit\n",
+        "1 lanes; 2 0 begin root; 3 0 alloc a 64 7; 4 0 free 16512; 5 0 set root 8 1; 6 0 alloc z 0 18446744073709551615; 7 0 free root; 8 0 alloc a 7 0; 9 0 cancel; 10 0 commit;",
+    ),
+    // one lane publishes while another makes an object, and later publishes too
+    (
+        "lane 0\nbegin\nalloc a 64 0\nlane 1\nbegin\npublish\nlane 0\nfree 16512\ncommit\npublish\nbegin\npublish\ncommit\nlane 1\npublish\ncommit\n",
+        "2 lanes; 2 0 begin; 3 0 alloc a 64 0; 5 1 begin; 6 1 publish; 8 0 free 16512; 9 0 commit; 10 0 publish; 11 0 begin; 12 0 publish; 13 0 commit; 15 1 publish; 16 1 commit;",
     ),
 ];
 
@@ -261,6 +279,46 @@ const BAD_ACTIONS: [(&str, &str); 11] = [
     ("lane 0\nbegin\ncancel\npublish", "2 Open"),
 ];
 
+/// Bad lines that make or free an object.
+const BAD_OBJECTS_MADE: [(&str, &str); 17] = [
+    ("lane 0\nbegin\nalloc a 64", "3 Count"),
+    ("lane 0\nbegin\nfree root 0", "3 Count"),
+    ("lane 0\nbegin\nalloc ab x 0", "3 Number"),
+    ("lane 0\nbegin\nalloc a 64 18446744073709551616", "3 Number"),
+    ("lane 0\nbegin\nalloc ab 64 0", "3 Letter"),
+    ("lane 0\nbegin\nalloc A 64 0", "3 Letter"),
+    ("lane 0\nbegin\nalloc ` 64 0", "3 Letter"),
+    ("lane 0\nbegin\nalloc { 64 0", "3 Letter"),
+    ("lane 0\nbegin\nalloc $a 64 0", "3 Letter"),
+    ("lane 0\nbegin\nalloc a 64 0\nfree $a", "4 Letter"),
+    ("lane 0\nbegin\nfree r:root", "3 Letter"),
+    ("alloc a 64 0\nlane 0", "1 NoLane"),
+    ("free root", "1 NoLane"),
+    ("lane 0\nalloc a 64 0", "2 Outside"),
+    ("lane 0\nfree root", "2 Outside"),
+    ("lane 0\nbegin\ncommit\nfree root", "4 Outside"),
+    ("lane 0\nbegin\nalloc a 64 0\nfree root", "2 Open"),
+];
+
+/// Transactions that publish, and make or free objects.
+const MIXED: [(&str, &str); 9] = [
+    ("lane 0\nbegin\nalloc a 64 0\npublish\ncommit", "4 Word"),
+    ("lane 0\nbegin\nfree root\ncancel\npublish", "5 Word"),
+    ("lane 0\nbegin\npublish\nalloc a 64 0", "4 Word"),
+    (
+        "lane 0\nbegin\nset root 8 1\npublish\ncancel\nfree root",
+        "6 Word",
+    ),
+    ("lane 0\nbegin\npublish\nalloc a x 0", "4 Number"),
+    ("lane 0\nbegin\npublish\nfree $a", "4 Letter"),
+    ("lane 0\nbegin\nalloc a 64 0\npublish 1", "4 Count"),
+    ("lane 0\nbegin\npublish\nlane 1\nfree root", "5 Outside"),
+    (
+        "lane 0\nbegin\nalloc a 64 0\nlane 1\nbegin\npublish\nlane 0\npublish",
+        "8 Word",
+    ),
+];
+
 /// Two reasons in one line.
 const TWO_REASONS: [(&str, &str); 11] = [
     ("frob\u{7f}", "1 Text"),
@@ -310,7 +368,7 @@ fn all_tell(rt: &impl Abort, alloc: Global, table: &[(&str, &str)]) -> Result<()
 
 #[test]
 fn bad_lines(rt: HostRuntime) -> Result<(), Fail> {
-    let tables: [&[(&str, &str)]; 12] = [
+    let tables: [&[(&str, &str)]; 14] = [
         &REASONS,
         &BAD_BYTES,
         &BAD_WORDS,
@@ -319,6 +377,8 @@ fn bad_lines(rt: HostRuntime) -> Result<(), Fail> {
         &BAD_DIGITS,
         &BAD_OBJECTS,
         &BAD_ACTIONS,
+        &BAD_OBJECTS_MADE,
+        &MIXED,
         &TWO_REASONS,
         &TWO_BAD_LINES,
         &PLACES,

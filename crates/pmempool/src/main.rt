@@ -29,6 +29,8 @@ mod heap_tests;
 #[cfg(test)]
 mod image_tests;
 #[cfg(test)]
+mod object_tests;
+#[cfg(test)]
 mod run_tests;
 #[cfg(test)]
 mod script_tests;

@@ -1,49 +1,69 @@
-use Rattle.std.proofs.Common.{inl, ◌≡◌, refl, ap, sym, ◌∙◌, subst, ◌++◌, ◌∷◌, [], false, ℕ, List, length, rules}
+use Rattle.std.proofs.Common.{⊎_elim, ◌≡◌, refl, ap, sym, ◌∙◌, subst, ◌++◌, ◌∷◌, [], false, ℕ, List, length, rules}
+use Rattle.pm_crash.specs.CallBlocks.{IsOldIn}
+use Rattle.pm_crash.specs.Operations.{IsMade}
 use Rattle.pm_memory.specs.Solo.{Sees, Solo}
 use Rattle.pm_objects.specs.declared.calls.Operation.TheVariants as operation
 use Rattle.pm_objects.specs.declared.history.Value.TheVariants.{Bytes}
-use Rattle.pm_tx.specs.Calls.{HasLooked, IsGivenUpFor, IsStoppedFor}
-use Rattle.pm_tx.specs.Ranges.{HasReadRange, KnowsRange}
+use Rattle.pm_transaction.specs.AnyRanges.{IsRefusedFor, IsStoppedRefusing}
+use Rattle.pm_transaction.specs.AtWork.{IsAtWorkWith}
+use Rattle.pm_transaction.specs.NewRanges.{HasReadNew}
+use Rattle.pm_tx.specs.Calls.{HasLooked}
+use Rattle.pm_tx.specs.Ranges.{HasReadRange, KnowsRange, reads_range}
+use Rattle.pm_view.specs.Views.{after_all}
 use Rattle.pm_world.specs.declared.lane.Lane.{Lane}
 use Rattle.pm_exec.specs.Progress.{IsAtLine, Values}
-use Rattle.pm_exec.proofs.HeapKept.{told_keeps, told_old}
 use Rattle.pm_exec.proofs.AddAndWrite.{ends_so, given_up, unrefused}
-use Rattle.pm_exec.proofs.ReadLine.{front_is, read_cut, read_done, read_is, read_not_spent}
+use Rattle.pm_exec.proofs.ReadLine.{front_is, read_cut, read_done, read_is, read_new_done, read_not_spent}
 use Rattle.pm_exec.proofs.lines.read_at.Goals as goal
 
 pub returns-in_ok-push-in-Ok-clause-done : goal.returns-in_ok-push-in-Ok-clause-done
 returns-in_ok-push-in-Ok-clause-done c o first actions front a =
     let old = c.args.lane.now in
     let new = c.read.new.lane in
+    let blocks = c.args.blocks.now in
     let values = c.args.values.now.items in
     let place = c.id_of.result in
+    let off = c.args.range.1 in
+    let len = c.args.range.2 in
+    let names = c.args.names in
     let bytes : List ℕ = c.read.new.into in
-    let long : length c.as_mut_slice.result.now ≡ c.args.range.2 = search rules in
+    let long : length c.as_mut_slice.result.now ≡ len = search rules in
     let count : c.in_ok-bytes.bytes.len ≡ length c.as_mut_slice.result.now = search rules in
     let filled : c.from_vec.result ≡ bytes = c.from_vec.ensures ∙ front_is c.in_ok-bytes.bytes.len bytes _ (count ∙ sym c.in-Ok.ensures.as_long) in
     let pushed : values ++ (c.args.said.now.line, Bytes bytes) ∷ [] ≡ c.push.new.self.items = sym (c.in_ok-push-in-Ok.ensures.items ∙ ap (λ (bs : List ℕ). values ++ (c.args.said.now.line, Bytes bs) ∷ []) filled) in
-    subst (λ (vs : Values). IsAtLine o first new actions c.args.names (front ++ c.args.said.now ∷ []) vs) pushed
-    (read_done o first old actions c.args.names front values a new c.args.said.now c.args.range.0 place c.id_of.ensures c.args.range.1 c.args.range.2 c.requires.is_said bytes
-    (subst (λ (n : ℕ). HasLooked a.view (λ w. KnowsRange w place c.args.range.1 n false × HasReadRange o Sees new w place c.args.range.1 n bytes)) long (c.in-Ok.ensures.done o a.view a.works (told_old c.args.names front a.view a.told c.id_of.result.off)))
-    (ap (λ (l : Lane Solo). l.level) c.in-Ok.ensures.lane ∙ a.level))
+    let e = c.in-Ok.ensures in
+    let level = ap (λ (l : Lane Solo). l.level) e.lane ∙ a.level in
+    let locks = ap (λ (l : Lane Solo). l.locks) e.lane in
+    subst (λ (vs : Values). IsAtLine o first new blocks actions names (front ++ c.args.said.now ∷ []) vs) pushed
+    (⊎_elim
+    (λ (is_old : IsOldIn a.view place.off).
+    read_done o first old blocks actions names front values a new c.args.said.now c.args.range.0 place c.id_of.ensures off len c.requires.is_said bytes
+    (subst (λ (n : ℕ). HasLooked a.view (λ w. KnowsRange w place off n false × HasReadRange o Sees new w place off n bytes × IsAtWorkWith o Sees new blocks (after_all w (reads_range place off n bytes w)))) long (e.found o a.view a.works is_old)) level locks)
+    (λ (made : IsMade a.view place).
+    read_new_done o first old blocks actions names front values a new c.args.said.now c.args.range.0 place c.id_of.ensures off len c.requires.is_said bytes
+    (subst (λ (n : ℕ). HasReadNew o Sees new blocks a.view place off n bytes) long (e.made o a.view a.works made)) level locks)
+    (e.either o a.view a.works))
 
 pub returns-in-Err-clause-ends : goal.returns-in-Err-clause-ends
 returns-in-Err-clause-ends c o first actions front rest a =
     let old = c.args.lane.now in
     let new = c.read.new.lane in
+    let blocks = c.args.blocks.now in
     let r = c.in-Err.why in
     let values = c.args.values.now.items in
     let place = c.id_of.result in
     let off = c.args.range.1 in
     let len = c.args.range.2 in
+    let names = c.args.names in
     let long : length c.as_mut_slice.result.now ≡ len = search rules in
-    let none = unrefused old a.works.unstopped a.level a.works.works in
+    let none = unrefused old a.works.work.unstopped a.level a.works.work.works in
     let is = c.requires.is_said in
+    let e = c.in-Err.ensures in
+    let same = read_is o first old blocks actions names front values a new c.args.said.now c.args.range.0 place c.id_of.ensures off len is in
     rw c.not_done.ensures
-    (ends_so o first old actions c.args.names front values a new c.args.said.now rest values r (read_not_spent r (c.in-Err.ensures.causes none)) refl
-    (λ goes. given_up o first old actions c.args.names front values a new c.args.said.now (operation.Read place off len) (read_is o first old actions c.args.names front values a new c.args.said.now c.args.range.0 place c.id_of.ensures off len is)
-    (record { id = place; off = off; len = len }) r
-    (subst (λ (n : ℕ). HasLooked a.view (λ w. IsGivenUpFor Sees new old.records.items (operation.Read place off n) (record { id = place; off = off; len = n }) r w)) long (c.in-Err.ensures.given_up none goes o a.view a.works (told_old c.args.names front a.view a.told c.id_of.result.off) (inl (told_keeps c.args.names front a.view a.told))))
-    (c.in-Err.ensures.given_up_lane none goes) (λ asked same. let clash = sym is ∙ same in cc) refl rest)
-    (λ stops. read_cut o first old actions c.args.names front values a new c.args.said.now c.args.range.0 place c.id_of.ensures off len is rest
-    (subst (λ (n : ℕ). HasLooked a.view (λ w. IsStoppedFor Sees new old.records.items (operation.Read place off n) (record { id = place; off = off; len = n }) w)) long (c.in-Err.ensures.stopped none stops o a.view a.works (told_old c.args.names front a.view a.told c.id_of.result.off) (inl (told_keeps c.args.names front a.view a.told))))))
+    (ends_so o first old blocks actions names front values a new c.args.said.now blocks rest values r (read_not_spent r (e.causes none)) refl
+    (λ goes.
+    let t = subst (λ (n : ℕ). HasLooked a.view (IsRefusedFor Sees new old.records.items (operation.Read place off n) (record { id = place; off = off; len = n }) r)) long (e.given_up none goes o a.view a.works) in
+    given_up o first old blocks actions names front values a new c.args.said.now (operation.Read place off len) same r t.loads t.view t.looks t.working t.holds.ended (e.given_up_lane none goes) (λ asked clashes. let clash = sym is ∙ clashes in cc) refl rest)
+    (λ stops. read_cut o first old blocks actions names front values a new c.args.said.now c.args.range.0 place c.id_of.ensures off len is rest
+    (subst (λ (n : ℕ). HasLooked a.view (IsStoppedRefusing Sees new old.records.items (operation.Read place off n) (record { id = place; off = off; len = n }))) long (e.stopped none stops o a.view a.works))))

@@ -7,28 +7,30 @@ use Rattle.pm_exec.proofs.AddAndWrite.{unrefused}
 use Rattle.pm_exec.proofs.lines.set_at.Goals as goal
 
 pub returns-in-Ok-clause-done : goal.returns-in-Ok-clause-done
-returns-in-Ok-clause-done c o first names front id a is id_is =
+returns-in-Ok-clause-done c o first blocks names front id a is id_is =
     let old = c.args.lane.now in
     let new = c.set_at_work.new.lane in
     let e = c.in-Ok.ensures in
-    let none = unrefused old a.works.unstopped a.level a.works.works in
-    let at = e.stays none o a.view a.works a.pending.are in
+    let none = unrefused old a.works.work.unstopped a.level a.works.work.works in
+    let at = e.stays none o a.view a.works.work a.pending.are in
     let level = ap (λ (l : Lane Solo). l.level) e.else_same ∙ a.level in
-    set_done o first old c.args.actions.now.items names front c.args.values.now.items a new c.args.said.now id c.args.action id_is is None c.set_at_work.new.actions.items at.0 level
-    (left_pending o first old c.args.actions.now.items names front c.args.values.now.items a new c.args.said.now id c.args.action id_is is None c.set_at_work.new.actions.items
+    let locks = ap (λ (l : Lane Solo). l.locks) e.else_same in
+    set_done o first old blocks c.args.actions.now.items names front c.args.values.now.items a new c.args.said.now id c.args.action id_is is None c.set_at_work.new.actions.items at.0 level locks
+    (left_pending o first old blocks c.args.actions.now.items names front c.args.values.now.items a new c.args.said.now id c.args.action id_is is None c.set_at_work.new.actions.items
     (e.answers none) (λ taken. e.done) (λ why clash. cc) at.1)
 
 pub returns-in_ok-push-in-Err-clause-done : goal.returns-in_ok-push-in-Err-clause-done
-returns-in_ok-push-in-Err-clause-done c o first names front id a is id_is =
+returns-in_ok-push-in-Err-clause-done c o first blocks names front id a is id_is =
     let old = c.args.lane.now in
     let new = c.set_at_work.new.lane in
     let why = c.in-Err.why in
     let e = c.in-Err.ensures in
-    let none = unrefused old a.works.unstopped a.level a.works.works in
-    let at = e.stays none o a.view a.works a.pending.are in
+    let none = unrefused old a.works.work.unstopped a.level a.works.work.works in
+    let at = e.stays none o a.view a.works.work a.pending.are in
     let level = ap (λ (l : Lane Solo). l.level) e.else_same ∙ a.level in
+    let locks = ap (λ (l : Lane Solo). l.locks) e.else_same in
     let left = c.set_at_work.new.actions.items in
-    subst (λ (vs : Values). IsAtLine o first new left names (front ++ c.args.said.now ∷ []) vs) (sym c.in_ok-push-in-Err.ensures.items)
-    (set_done o first old c.args.actions.now.items names front c.args.values.now.items a new c.args.said.now id c.args.action id_is is (Some why) left at.0 level
-    (left_pending o first old c.args.actions.now.items names front c.args.values.now.items a new c.args.said.now id c.args.action id_is is (Some why) left
+    subst (λ (vs : Values). IsAtLine o first new blocks left names (front ++ c.args.said.now ∷ []) vs) (sym c.in_ok-push-in-Err.ensures.items)
+    (set_done o first old blocks c.args.actions.now.items names front c.args.values.now.items a new c.args.said.now id c.args.action id_is is (Some why) left at.0 level locks
+    (left_pending o first old blocks c.args.actions.now.items names front c.args.values.now.items a new c.args.said.now id c.args.action id_is is (Some why) left
     (e.answers none) (λ clash. cc) (λ other same. search rules) at.1))

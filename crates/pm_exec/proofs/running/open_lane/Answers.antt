@@ -16,4 +16,4 @@ returns c =
     c.in_ok-occupancy.occupancy.runs.items c.in_ok-occupancy.occupancy.zones.items c.deref.ensures.value c.in-Ok.ensures.lanes c.in-Ok.ensures.zones c.in_ok-memory.ensures c.in_ok-occupancy.ensures.runs c.in_ok-occupancy.ensures.zones c.with_occupancy-memory.ensures in
     let sees = seen_first pool image c.in_ok-words.words.items c.args.stop c.with_occupancy-memory.result size (search rules) is in
     let s = c.new-lane.ensures.fits first sees refl (shaped_first pool image c.args.stop c.in-Ok.shape size c.in-Ok.ensures.lanes c.in-Ok.ensures.zones) refl refl refl in
-    is_start pool image c.args.stop made c.requires.begins s.0 s.1 c.new-lane.ensures.unharmed c.new-lane.ensures.unentered
+    record { of_shape = s.0.shape; starts = is_start pool image c.args.stop made c.requires.begins s.0 s.1 c.new-lane.ensures.unharmed c.new-lane.ensures.unentered }

@@ -1,4 +1,4 @@
-use Rattle.std.proofs.Common.{◌++◌, ◌∷◌, [], List, All, append_assoc, inl, inr, refl, sym, ap, ◌∙◌, subst}
+use Rattle.std.proofs.Common.{◌++◌, ◌∷◌, [], List, All, append_assoc, inl, inr, refl, sym, ap, ◌∙◌, subst, arith}
 use Rattle.std.proofs.lemmas.List.{append-nil}
 use Rattle.std.proofs.lemmas.List.Elements.{All-head, All-tail}
 use Rattle.pm_script.specs.declared.script.ScriptLine.{ScriptLine}
@@ -9,7 +9,15 @@ use Rattle.pm_exec.proofs.CallParts.{IsCallOf, are_calls, none_left, split_call}
 use Rattle.pm_exec.proofs.running.run_all.Goals as goal
 
 pub loop-rest-init : goal.loop-rest-init
-loop-rest-init c = (are_calls c.args.lines.now c.requires.calls, λ o first h. ([], refl, subst (λ (actions : List SetAction). HasComeTo o first c.args.lane.now actions c.args.names [] c.args.history.now.items) (sym c.new-actions.ensures) h))
+loop-rest-init c = (
+  are_calls c.args.lines.now c.requires.calls,
+  λ o first h. (
+    [],
+    refl,
+    subst (λ (actions : List SetAction). HasComeTo o first c.args.lane.now c.in_ok-blocks.blocks actions c.args.names [] c.args.history.now.items) (sym c.new-actions.ensures)
+        (h.begins c.in_ok-blocks.blocks (let pages = c.in_ok-blocks.ensures.pages in let lanes = h.of_shape.lanes in let zones = h.of_shape.zones in omega (arith, pages, lanes, zones))),
+  ),
+)
 
 pub run_next-requires-clause-call : goal.run_next-requires-clause-call
 run_next-requires-clause-call c =
@@ -59,7 +67,8 @@ returns c o first h =
     let all = t.1 ∙ ap (λ (calls : List (List ScriptLine)). t.0 ++ calls) none ∙ append-nil t.0 in
     inl (record {
       actions = c.loop-rest.actions.items;
-      answered = subst (λ (calls : List (List ScriptLine)). HasAnswered o first c.loop-rest.lane c.loop-rest.actions.items c.args.names calls c.loop-rest.history.items) (sym all) t.2.answered;
+      blocks = c.loop-rest.blocks;
+      answered = subst (λ (calls : List (List ScriptLine)). HasAnswered o first c.loop-rest.lane c.loop-rest.blocks c.loop-rest.actions.items c.args.names calls c.loop-rest.history.items) (sym all) t.2.answered;
       is_open = refl;
       ends = refl;
     })

@@ -1,0 +1,50 @@
+use Rattle.std.proofs.Common.{refl, ap, sym, ◌∙◌, ◌∷◌, ◌++◌, [], subst}
+use Rattle.pm_made.specs.Made.{BlockLists}
+use Rattle.pm_memory.specs.Solo.{Solo}
+use Rattle.pm_world.specs.declared.lane.Lane.{Lane}
+use Rattle.pm_exec.proofs.AddAndWrite.{ends_so, unrefused}
+use Rattle.pm_exec.proofs.AllocLine.{make_cut, make_done, make_given_up, make_not_spent, may_make}
+use Rattle.pm_exec.specs.Progress.{IsAtLine, IsGivenUpAt, Values}
+use Rattle.pm_exec.proofs.lines.make_at.Goals as goal
+
+pub alloc-requires : goal.alloc-requires
+alloc-requires c = record {
+  at_work = λ none.
+      let names = c.requires.at_work.0 in
+      let actions = c.requires.at_work.1.0 in
+      let s = c.requires.at_work.1.1 in
+      (s.0, (s.3.view, may_make s.0 s.1 c.args.lane.now c.args.blocks.now actions names s.2 c.args.values.now.items s.3));
+}
+
+pub returns-in_ok-push-in-Ok-clause-done : goal.returns-in_ok-push-in-Ok-clause-done
+returns-in_ok-push-in-Ok-clause-done c o first actions names front letter a is =
+    let old = c.args.lane.now in
+    let new = c.alloc.new.lane in
+    let blocks = c.args.blocks.now in
+    let values = c.args.values.now.items in
+    let e = c.in-Ok.ensures in
+    let level = ap (λ (l : Lane Solo). l.level) e.lane ∙ a.level in
+    let may = may_make o first old blocks actions names front values a in
+    subst (λ (vs : Values). IsAtLine o first new c.alloc.new.blocks actions names (front ++ c.args.said.now ∷ []) vs) (sym c.in_ok-push-in-Ok.ensures.items)
+    (make_done o first old blocks actions names front values a new c.args.said.now letter c.args.size c.args.kind is c.alloc.new.blocks c.in-Ok.id (e.done o a.view may) level)
+
+pub returns-in-Err-clause-ends : goal.returns-in-Err-clause-ends
+returns-in-Err-clause-ends c o first actions names front rest letter a is =
+    let old = c.args.lane.now in
+    let new = c.alloc.new.lane in
+    let blocks = c.args.blocks.now in
+    let now = c.alloc.new.blocks in
+    let said = c.args.said.now in
+    let values = c.args.values.now.items in
+    let r = c.in-Err.why in
+    let size = c.args.size in
+    let kind = c.args.kind in
+    let none = unrefused old a.works.work.unstopped a.level a.works.work.works in
+    let may = may_make o first old blocks actions names front values a in
+    let e = c.in-Err.ensures in
+    rw c.not_done.ensures
+    (ends_so o first old blocks actions names front values a new said now rest values r (make_not_spent r (e.causes none)) refl
+    (λ goes.
+    subst (λ (b : BlockLists). IsGivenUpAt o first new b actions names (front ++ said ∷ rest) values said.line r) (sym e.unlisted)
+    (make_given_up o first old blocks actions names front values a new said letter size kind is r (e.given_up none goes o a.view may) (e.given_up_lane none goes) rest))
+    (λ stops. make_cut o first old blocks actions names front values a new said letter size kind is rest (e.stopped none stops o a.view may)))
