@@ -1,5 +1,5 @@
 -- What a script is, and the first bad line of a text that is none: docs/COMMANDS.md, "Scripts".
-use Rattle.std.specs.Prelude.{◌≡◌, ℕ, ◌+◌, ◌≤◌, ◌⊎◌, ◌&&◌, ◌||◌, ◌==◌, max, nat_lt, not, Bool, true, false, if◌then◌else◌, List, [], ◌∷◌, ◌++◌, map, filter, All, Contains, length, codes, is_some, option_and_then, option_map, Option, Some, None, Result, Err, alloc_error, ⊤}
+use Rattle.std.specs.Prelude.{◌≡◌, ℕ, ◌+◌, ◌≤◌, ◌<◌, ◌⊎◌, ◌&&◌, ◌||◌, ◌==◌, max, nat_lt, not, Bool, true, false, if◌then◌else◌, List, [], ◌∷◌, ◌++◌, map, filter, All, Contains, length, codes, is_some, option_and_then, option_map, Option, Some, None, Result, Err, alloc_error, ⊤}
 use Rattle.std.specs.List.{find, filter_map, list_all}
 use Rattle.std.specs.Option.{option_map_or}
 use Rattle.std.specs.Str.{bytes_eq}
@@ -13,6 +13,8 @@ use Rattle.pm_script.specs.declared.fault.ScriptFault.TheVariants.{Bad, Memory}
 use Rattle.pm_script.specs.declared.fault.Why.{Why}
 use Rattle.pm_script.specs.declared.fault.Why.TheVariants.{Text, Word, Count, Number, Hex, Letter, LaneNumber, NoLane, Inside, Outside, Open}
 use Rattle.pm_script.specs.declared.script.Script.{Script}
+use Rattle.pm_script.specs.declared.script.ScriptId.{ScriptId}
+use Rattle.pm_script.specs.declared.script.ScriptId.TheVariants.{Bound}
 use Rattle.pm_script.specs.declared.script.ScriptLine.{ScriptLine}
 use Rattle.pm_script.specs.declared.script.ScriptOp.{ScriptOp}
 use Rattle.pm_script.specs.declared.script.ScriptWant.{ScriptWant}
@@ -389,6 +391,28 @@ pub data AreCalls : List ScriptOp → Type 0 where
 
 abbrev pub operations : List ScriptLine → List ScriptOp
 operations lines = map (λ (line : ScriptLine). line.operation) lines
+
+-- the ids that an operation has
+abbrev pub ids_of : ScriptOp → List ScriptId
+ids_of (op.Begin wants) = map (λ (want : ScriptWant). want.id) wants
+ids_of (op.Add id off len) = id ∷ []
+ids_of (op.Write id off bytes) = id ∷ []
+ids_of (op.Read id off len) = id ∷ []
+ids_of (op.Alloc letter size kind) = []
+ids_of (op.Free id) = id ∷ []
+ids_of (op.Set id off value) = id ∷ []
+ids_of op.Publish = []
+ids_of op.Cancel = []
+ids_of op.Commit = []
+
+-- a letter stands for what a line before line n gave
+abbrev pub IsBoundBefore : ℕ → ScriptId → Type 0
+IsBoundBefore n (Bound line) = line < n
+IsBoundBefore n id = ⊤
+
+-- so do all letters of a line
+abbrev pub NamesEarlierLines : ScriptLine → Type 0
+NamesEarlierLines line = All (IsBoundBefore line.line) (ids_of line.operation)
 
 -- the lines of a lane
 abbrev pub of_lane : ℕ → List ScriptLine → List ScriptLine

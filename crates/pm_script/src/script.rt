@@ -7,6 +7,8 @@ pub enum ScriptId {
     Root,
     /// The object at this offset in the pool, in bytes. Nothing is known of the offset.
     At(u64),
+    /// `$x`: what the line with this number gave, the last of the lane before this one that binds x; null where it gave nothing.
+    Bound(u64),
 }
 
 /// An object that a transaction locks.
