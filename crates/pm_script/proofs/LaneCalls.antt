@@ -5,7 +5,8 @@ use Rattle.std.specs.Option.{option_and_then, option_map_or, option_or}
 use Rattle.std.proofs.lemmas.Bool.{eqb-true}
 use Rattle.std.proofs.lemmas.List.Elements.{All-nil, All-cons}
 use Rattle.pm_script.specs.Reading.{keyword_said, place_why}
-use Rattle.pm_script.specs.Scripts.{AreCalls, Context, IsChange, IsOutside, IsScript, KeepsApart, MakesOrFrees, Publishes, begun_behind, context_behind, context_from, fault_of, line_of, line_said, lines_from, of_lane, opened, operations, said, start, why_of}
+use Rattle.pm_script.specs.Contexts.{Context, start}
+use Rattle.pm_script.specs.Scripts.{AreCalls, IsChange, IsOutside, IsScript, KeepsApart, MakesOrFrees, Publishes, begun_behind, context_behind, context_from, fault_of, line_of, line_said, lines_from, of_lane, opened, operations, said, why_of}
 use Rattle.pm_script.specs.Scripts.AreCalls.{none, transaction, outside}
 use Rattle.pm_script.specs.Words.{words}
 use Rattle.pm_script.specs.declared.context.OpenTransaction.{OpenTransaction}
@@ -158,7 +159,7 @@ rest_from : (lane : ℕ) (context : Context) (n : ℕ) (lines : List (List ℕ))
     → Rest (transaction_of lane context.begun) (operations (of_lane lane (filter_map line_of (lines_from context n lines))))
 rest_from lane context n [] good whole = subst (λ begun. Rest (transaction_of lane begun) []) (sym whole) none
 rest_from lane context n (text ∷ lines) good whole =
-    let statement = said (words text) in
+    let statement = said context (words text) in
     let next = context_behind context n statement in
     let fine = no_more (option_map (λ why. record { line = n; why = why }) (why_of context text)) (filter_map fault_of (lines_from next (n + 1) lines)) good in
     line_first lane context n (filter_map line_of (lines_from next (n + 1) lines)) statement (λ s is. in_place context text s (no_why _ (why_of context text) fine.0) is) (rest_from lane next (n + 1) lines fine.1 whole)

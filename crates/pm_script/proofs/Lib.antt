@@ -1,4 +1,5 @@
 pub mod Answering
+pub mod BoundLetters
 pub mod FailedTests
 pub mod Judging
 pub mod LaneCalls

@@ -3,7 +3,8 @@ use Rattle.std.proofs.Common.{◌≡◌, ℕ, ◌+◌, List, [], ◌∷◌, ◌+
 use Rattle.std.specs.List.{cons_option, filter_map}
 use Rattle.std.proofs.lemmas.List.Elements.{filter_map-append}
 use Rattle.pm_script.specs.Reading.{HasRead, Reads, next_line}
-use Rattle.pm_script.specs.Scripts.{Context, Line, context_after, context_behind, context_from, fault_of, left, line_of, lines_from, said, start, IsBadLine}
+use Rattle.pm_script.specs.Contexts.{Context, start}
+use Rattle.pm_script.specs.Scripts.{Line, context_after, context_behind, context_from, fault_of, left, line_of, lines_from, said, IsBadLine}
 use Rattle.pm_script.specs.Words.{words}
 use Rattle.pm_script.specs.declared.fault.BadLine.{BadLine}
 use Rattle.pm_script.specs.declared.reader.Reader.{Reader}
@@ -12,7 +13,7 @@ use Rattle.pm_script.specs.declared.reader.Reader.{Reader}
 pub lines_behind : (context : Context) (n : ℕ) (front back : List (List ℕ)) → lines_from context n (front ++ back) ≡ lines_from context n front ++ lines_from (context_from context n front) (n + length front) back
 lines_behind context n [] back = let here : n ≡ n + 0 = omega arith in ap (λ m. lines_from context m back) here
 lines_behind context n (text ∷ front) back =
-    let next = context_behind context n (said (words text)) in
+    let next = context_behind context n (said context (words text)) in
     let here : Line = record { number = n; context = context; text = text } in
     let counted : n + 1 + length front ≡ n + length (text ∷ front) = omega arith in
     ap (λ lines. here ∷ lines) (lines_behind next (n + 1) front back ∙ ap (λ m. lines_from next (n + 1) front ++ lines_from (context_from next (n + 1) front) m back) counted)
@@ -21,7 +22,7 @@ lines_behind context n (text ∷ front) back =
 pub left_behind : (context : Context) (n : ℕ) (front back : List (List ℕ)) → context_from context n (front ++ back) ≡ context_from (context_from context n front) (n + length front) back
 left_behind context n [] back = let here : n ≡ n + 0 = omega arith in ap (λ m. context_from context m back) here
 left_behind context n (text ∷ front) back =
-    let next = context_behind context n (said (words text)) in
+    let next = context_behind context n (said context (words text)) in
     let counted : n + 1 + length front ≡ n + length (text ∷ front) = omega arith in
     left_behind next (n + 1) front back ∙ ap (λ m. context_from (context_from next (n + 1) front) m back) counted
 
@@ -45,7 +46,7 @@ module _ (old : Reader) (front : List (List ℕ)) (n : ℕ) (counted : 1 + lengt
   pub has_read_more : (new : Reader) → Reads old new (next_line old n text) → HasRead new (front ++ text ∷ [])
   has_read_more new reads = record {
     good = found fault_of [] ∙ ap (λ ls. ls ++ cons_option (fault_of (next_line old n text)) []) has.good ∙ ap (λ b. cons_option b []) reads.good;
-    context = reads.context ∙ ap (λ c. context_behind c n (said (words text))) has.context ∙ ap (λ m. context_behind (left front) m (said (words text))) (sym counted) ∙ sym (left_behind start 1 front (text ∷ []));
+    context = reads.context ∙ ap (λ c. context_behind c n (said c (words text))) has.context ∙ ap (λ m. context_behind (left front) m (said (left front) (words text))) (sym counted) ∙ sym (left_behind start 1 front (text ∷ []));
     said = reads.said ∙ ap (λ ls. ls ++ option_to_list (line_of (next_line old n text))) has.said ∙ ap (λ ls. filter_map line_of (lines_from start 1 front) ++ ls) (sym (one_of (line_of (next_line old n text)))) ∙ sym (found line_of []);
   }
 

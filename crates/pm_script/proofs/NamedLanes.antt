@@ -3,7 +3,8 @@ use Rattle.std.proofs.Common.{◌≡◌, ℕ, ◌+◌, ◌<◌, ◌≤◌, max, 
 use Rattle.std.specs.List.{cons_option, filter_map}
 use Rattle.std.specs.Option.{IfSome, option_and_then}
 use Rattle.std.proofs.lemmas.List.Elements.{All-nil, All-cons}
-use Rattle.pm_script.specs.Scripts.{Context, IsScript, context_behind, context_from, left, line_of, line_said, lines_from, said, start}
+use Rattle.pm_script.specs.Contexts.{Context, start}
+use Rattle.pm_script.specs.Scripts.{IsScript, context_behind, context_from, left, line_of, line_said, lines_from, said}
 use Rattle.pm_script.specs.Words.{words}
 use Rattle.pm_script.specs.declared.script.Script.{Script}
 use Rattle.pm_script.specs.declared.script.ScriptLine.{ScriptLine}
@@ -28,8 +29,8 @@ grow context n (Some (says.Operation operation)) = omega arith
 grow_from : (context : Context) (n : ℕ) (lines : List (List ℕ)) → context.lanes ≤ (context_from context n lines).lanes
 grow_from context n [] = omega arith
 grow_from context n (text ∷ lines) =
-    let next = context_behind context n (said (words text)) in
-    let now = grow context n (said (words text)) in
+    let next = context_behind context n (said context (words text)) in
+    let now = grow context n (said context (words text)) in
     let later = grow_from next (n + 1) lines in
     omega (arith, now, later)
 
@@ -52,7 +53,7 @@ one_more count (Some line) others is all = All-cons (IsBelow count) line others 
 below_from : (context : Context) (n : ℕ) (lines : List (List ℕ)) → IsNamed context → All (IsBelow (context_from context n lines).lanes) (filter_map line_of (lines_from context n lines))
 below_from context n [] named = All-nil (IsBelow context.lanes)
 below_from context n (text ∷ lines) named =
-    let statement = said (words text) in
+    let statement = said context (words text) in
     let next = context_behind context n statement in
     let count = (context_from next (n + 1) lines).lanes in
     one_more count (option_and_then (line_said context n) statement) (filter_map line_of (lines_from next (n + 1) lines)) (below context n count statement named (grow_from context n (text ∷ lines))) (below_from next (n + 1) lines (named_behind context n statement named))

@@ -3,7 +3,8 @@ use Rattle.std.proofs.Common.{◌≡◌, ℕ, zero, suc, ◌+◌, ◌<◌, ◌�
 use Rattle.std.specs.List.{cons_option, filter_map}
 use Rattle.std.specs.Option.{IfSome, option_and_then}
 use Rattle.std.specs.List.Sorted.{IsStrictlyIncreasing}
-use Rattle.pm_script.specs.Scripts.{Context, IsScript, context_behind, line_of, line_said, lines_from, said, start}
+use Rattle.pm_script.specs.Contexts.{Context, start}
+use Rattle.pm_script.specs.Scripts.{IsScript, context_behind, line_of, line_said, lines_from, said}
 use Rattle.pm_script.specs.Words.{words}
 use Rattle.pm_script.specs.declared.script.Script.{Script}
 use Rattle.pm_script.specs.declared.script.ScriptLine.{ScriptLine}
@@ -40,8 +41,8 @@ numbered context n (Some (says.Operation operation)) = operation_numbered n oper
 rise_from : (context : Context) (n : ℕ) (lines : List (List ℕ)) → Rises n (numbers (filter_map line_of (lines_from context n lines)))
 rise_from context n [] = tt
 rise_from context n (text ∷ lines) =
-    let next = context_behind context n (said (words text)) in
-    one_more n (option_and_then (line_said context n) (said (words text))) (filter_map line_of (lines_from next (n + 1) lines)) (numbered context n (said (words text))) (rise_from next (n + 1) lines)
+    let next = context_behind context n (said context (words text)) in
+    one_more n (option_and_then (line_said context n) (said context (words text))) (filter_map line_of (lines_from next (n + 1) lines)) (numbered context n (said context (words text))) (rise_from next (n + 1) lines)
 
 at_least : (n : ℕ) (xs : List ℕ) (k : ℕ) → Rises n xs → k + 1 < length xs → slice_index xs k < slice_index xs (k + 1)
 at_least n [] k rises low = absurd (omega (arith, low))

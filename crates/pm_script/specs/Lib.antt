@@ -1,3 +1,4 @@
+pub mod Contexts
 pub mod Numbers
 pub mod Operands
 pub mod Reading

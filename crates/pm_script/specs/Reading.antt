@@ -1,7 +1,8 @@
 -- A script while it is read, line by line: for the crate's own functions.
 use Rattle.std.specs.Prelude.{◌≡◌, ℕ, ◌<◌, List, [], ◌∷◌, ◌++◌, option_to_list, Option, Some, None, Result, Ok, Err, ⊤}
 use Rattle.std.specs.List.{filter_map}
-use Rattle.pm_script.specs.Scripts.{Context, Line, fault_of, context_after, context_behind, line_of, line_said, lines_from, start, faults, left, first_failed, form_tests, place_tests, keyword_of, statement_of}
+use Rattle.pm_script.specs.Contexts.{Context, start}
+use Rattle.pm_script.specs.Scripts.{Line, fault_of, context_after, context_behind, line_of, line_said, lines_from, faults, left, first_failed, form_tests, place_tests, keyword_of, statement_of}
 use Rattle.pm_script.specs.declared.fault.BadLine.{BadLine}
 use Rattle.pm_script.specs.declared.fault.LineFault.{LineFault}
 use Rattle.pm_script.specs.declared.fault.LineFault.TheVariants.{Bad, Memory}
@@ -16,29 +17,29 @@ use Rattle.pm_script.specs.declared.statement.Keyword.TheVariants.{Lane, Begin, 
 use Rattle.pm_script.specs.declared.statement.Statement.{Statement}
 use Rattle.pm_script.specs.declared.statement.Statement.TheVariants as says
 
--- why a line with these operands is bad by itself
-abbrev pub form_why : Keyword → List (List ℕ) → Option Why
-form_why keyword operands = first_failed (form_tests keyword operands)
+-- why a line is bad for these operands
+abbrev pub form_why : Context → Keyword → List (List ℕ) → Option Why
+form_why context keyword operands = first_failed (form_tests context keyword operands)
 
--- why such a line is bad in its place
+-- why it is bad in its place
 abbrev pub place_why : Context → Keyword → Option Why
 place_why context keyword = first_failed (place_tests context keyword)
 
 -- the operands were read as what they say, or their fault was found
-abbrev pub IsReadAs : Keyword → List (List ℕ) → Result Statement LineFault → Type 0
-IsReadAs keyword operands (Ok statement) = (statement_of keyword operands ≡ Some statement) × (form_why keyword operands ≡ None)
-IsReadAs keyword operands (Err (Bad why)) = form_why keyword operands ≡ Some why
-IsReadAs keyword operands (Err (Memory error)) = ⊤
+abbrev pub IsReadAs : Context → Keyword → List (List ℕ) → Result Statement LineFault → Type 0
+IsReadAs context keyword operands (Ok statement) = (statement_of context keyword operands ≡ Some statement) × (form_why context keyword operands ≡ None)
+IsReadAs context keyword operands (Err (Bad why)) = form_why context keyword operands ≡ Some why
+IsReadAs context keyword operands (Err (Memory error)) = ⊤
 
 -- the same behind a first word that asks for this, or is none of a script's
-abbrev pub AreReadBehind : Option Keyword → List (List ℕ) → Result Statement LineFault → Type 0
-AreReadBehind (Some keyword) operands result = IsReadAs keyword operands result
-AreReadBehind None operands result = result ≡ Err (Bad Word)
+abbrev pub AreReadBehind : Context → Option Keyword → List (List ℕ) → Result Statement LineFault → Type 0
+AreReadBehind context (Some keyword) operands result = IsReadAs context keyword operands result
+AreReadBehind context None operands result = result ≡ Err (Bad Word)
 
 -- the same of a line's words
-abbrev pub AreReadAs : List (List ℕ) → Result Statement LineFault → Type 0
-AreReadAs [] result = ⊥
-AreReadAs (word ∷ operands) result = AreReadBehind (keyword_of word) operands result
+abbrev pub AreReadAs : Context → List (List ℕ) → Result Statement LineFault → Type 0
+AreReadAs context [] result = ⊥
+AreReadAs context (word ∷ operands) result = AreReadBehind context (keyword_of word) operands result
 
 -- the first word of a line that says this
 abbrev pub keyword_said : Statement → Keyword

@@ -3,9 +3,11 @@ use Rattle.std.specs.Prelude.{◌≡◌, ℕ, ◌+◌, ◌≤◌, ◌<◌, ◌�
 use Rattle.std.specs.List.{find, filter_map, list_all}
 use Rattle.std.specs.Option.{option_map_or}
 use Rattle.std.specs.Str.{bytes_eq}
+use Rattle.pm_script.specs.Contexts.{Context, binds, start}
 use Rattle.pm_script.specs.Numbers.{number_of}
 use Rattle.pm_script.specs.Operands.{bytes_of, id_of, letter_of, want_of, size_of, is_number, is_size, is_hex, is_id, is_letter, is_want}
 use Rattle.pm_script.specs.Words.{words, is_text, is_skipped}
+use Rattle.pm_script.specs.declared.context.Binding.{Binding}
 use Rattle.pm_script.specs.declared.context.OpenTransaction.{OpenTransaction}
 use Rattle.pm_script.specs.declared.fault.BadLine.{BadLine}
 use Rattle.pm_script.specs.declared.fault.ScriptFault.{ScriptFault}
@@ -51,61 +53,50 @@ keywords =
 abbrev pub keyword_of : List ℕ → Option Keyword
 keyword_of word = option_map (λ known. known.1) (find (λ (known : List ℕ × Keyword). bytes_eq word known.0) keywords)
 
--- what the operands behind a first word say: `lane K`, `begin [ID or r:ID]..`, `add ID OFF LEN`, `write ID OFF HEX`, `read ID OFF LEN`, `alloc x SIZE TYPE`,
+-- what the operands behind a first word say in their place: `lane K`, `begin [ID or r:ID]..`, `add ID OFF LEN`, `write ID OFF HEX`, `read ID OFF LEN`, `alloc x SIZE TYPE`,
 -- `free ID`, `set ID OFF VALUE`, `publish`, `cancel`, `commit`
-abbrev pub statement_of : Keyword → List (List ℕ) → Option Statement
-statement_of Lane (lane ∷ []) = option_map says.Lane (number_of lane)
-statement_of Begin wants = Some (says.Operation (op.Begin (filter_map want_of wants)))
-statement_of Add (id ∷ off ∷ len ∷ []) = do
-  id ← id_of id
+abbrev pub statement_of : Context → Keyword → List (List ℕ) → Option Statement
+statement_of context Lane (lane ∷ []) = option_map says.Lane (number_of lane)
+statement_of context Begin wants = Some (says.Operation (op.Begin (filter_map (want_of context) wants)))
+statement_of context Add (id ∷ off ∷ len ∷ []) = do
+  id ← id_of context id
   off ← number_of off
   len ← number_of len
   Some (says.Operation (op.Add id off len))
-statement_of Write (id ∷ off ∷ hex ∷ []) = do
-  id ← id_of id
+statement_of context Write (id ∷ off ∷ hex ∷ []) = do
+  id ← id_of context id
   off ← number_of off
   bytes ← bytes_of hex
   Some (says.Operation (op.Write id off bytes))
-statement_of Read (id ∷ off ∷ len ∷ []) = do
-  id ← id_of id
+statement_of context Read (id ∷ off ∷ len ∷ []) = do
+  id ← id_of context id
   off ← number_of off
   len ← size_of len
   Some (says.Operation (op.Read id off len))
-statement_of Alloc (letter ∷ size ∷ kind ∷ []) = do
+statement_of context Alloc (letter ∷ size ∷ kind ∷ []) = do
   letter ← letter_of letter
   size ← number_of size
   kind ← number_of kind
   Some (says.Operation (op.Alloc letter size kind))
-statement_of Free (id ∷ []) = do
-  id ← id_of id
+statement_of context Free (id ∷ []) = do
+  id ← id_of context id
   Some (says.Operation (op.Free id))
-statement_of Set (id ∷ off ∷ value ∷ []) = do
-  id ← id_of id
+statement_of context Set (id ∷ off ∷ value ∷ []) = do
+  id ← id_of context id
   off ← number_of off
   value ← number_of value
   Some (says.Operation (op.Set id off value))
-statement_of Publish [] = Some (says.Operation op.Publish)
-statement_of Cancel [] = Some (says.Operation op.Cancel)
-statement_of Commit [] = Some (says.Operation op.Commit)
-statement_of keyword operands = None
+statement_of context Publish [] = Some (says.Operation op.Publish)
+statement_of context Cancel [] = Some (says.Operation op.Cancel)
+statement_of context Commit [] = Some (says.Operation op.Commit)
+statement_of context keyword operands = None
 
--- what a line says
-abbrev pub said : List (List ℕ) → Option Statement
-said [] = None
-said (word ∷ operands) = option_and_then (λ keyword. statement_of keyword operands) (keyword_of word)
+-- what a line says in its place
+abbrev pub said : Context → List (List ℕ) → Option Statement
+said context [] = None
+said context (word ∷ operands) = option_and_then (λ keyword. statement_of context keyword operands) (keyword_of word)
 
 -- ---- where a line stands
-
--- what the lines so far leave: the present lane, if a line named one; one more than the greatest lane that was named, and at least 1;
--- the transactions that are open, each with its lane, the line of its begin, and whether it publishes, and makes or frees objects, so far
-pub record Context : Type 0 where
-  pub lane : Option ℕ
-  pub lanes : ℕ
-  pub begun : List OpenTransaction
-
--- nothing was read
-abbrev pub start : Context
-start = record { lane = None; lanes = 1; begun = [] }
 
 abbrev pub is_of_lane : ℕ → OpenTransaction → Bool
 is_of_lane lane transaction = transaction.lane == lane
@@ -139,10 +130,22 @@ begun_behind lane n op.Publish begun = map (behind_publish lane) begun
 begun_behind lane n op.Commit begun = filter (λ transaction. not (is_of_lane lane transaction)) begun
 begun_behind lane n operation begun = begun
 
+-- the bindings behind one more, which takes the place of the lane's last one of the letter
+abbrev pub rebound : Binding → List Binding → List Binding
+rebound new bound = filter (λ old. not (binds new.lane new.letter old)) bound ++ new ∷ []
+
+-- the bindings behind an operation of the lane on line n: an alloc has one
+abbrev pub bound_behind : ℕ → ℕ → ScriptOp → List Binding → List Binding
+bound_behind lane n (op.Alloc letter size kind) bound = rebound (record { lane = lane; letter = letter; line = n }) bound
+bound_behind lane n operation bound = bound
+
 -- what a line n leaves that says this
 abbrev pub context_behind : Context → ℕ → Option Statement → Context
 context_behind context n (Some (says.Lane lane)) = record context { lane = Some lane; lanes = max context.lanes (lane + 1) }
-context_behind context n (Some (says.Operation operation)) = record context { begun = option_map_or (λ lane. begun_behind lane n operation context.begun) context.lane context.begun }
+context_behind context n (Some (says.Operation operation)) = record context {
+  begun = option_map_or (λ lane. begun_behind lane n operation context.begun) context.lane context.begun;
+  bound = option_map_or (λ lane. bound_behind lane n operation context.bound) context.lane context.bound;
+}
 context_behind context n None = context
 
 -- ---- why a line is bad
@@ -177,15 +180,15 @@ has_hex Write (id ∷ off ∷ hex ∷ []) = is_hex hex
 has_hex keyword operands = true
 
 -- each operand that is to name an object does, and one that is to be a letter is one
-abbrev pub has_ids : Keyword → List (List ℕ) → Bool
-has_ids Begin wants = list_all is_want wants
-has_ids Add (id ∷ operands) = is_id id
-has_ids Write (id ∷ operands) = is_id id
-has_ids Read (id ∷ operands) = is_id id
-has_ids Alloc (letter ∷ operands) = is_letter letter
-has_ids Free (id ∷ operands) = is_id id
-has_ids Set (id ∷ operands) = is_id id
-has_ids keyword operands = true
+abbrev pub has_ids : Context → Keyword → List (List ℕ) → Bool
+has_ids context Begin wants = list_all (is_want context) wants
+has_ids context Add (id ∷ operands) = is_id context id
+has_ids context Write (id ∷ operands) = is_id context id
+has_ids context Read (id ∷ operands) = is_id context id
+has_ids context Alloc (letter ∷ operands) = is_letter letter
+has_ids context Free (id ∷ operands) = is_id context id
+has_ids context Set (id ∷ operands) = is_id context id
+has_ids context keyword operands = true
 
 -- there are 32 lanes
 abbrev pub is_lane : List ℕ → Bool
@@ -234,13 +237,13 @@ abbrev pub first_failed : List (Bool × Why) → Option Why
 first_failed [] = None
 first_failed (test ∷ tests) = if test.0 then first_failed tests else Some test.1
 
--- the tests of a line by itself
-abbrev pub form_tests : Keyword → List (List ℕ) → List (Bool × Why)
-form_tests keyword operands =
+-- the tests of a line's operands
+abbrev pub form_tests : Context → Keyword → List (List ℕ) → List (Bool × Why)
+form_tests context keyword operands =
     (has_count keyword (length operands), Count)
     ∷ (has_numbers keyword operands, Number)
     ∷ (has_hex keyword operands, Hex)
-    ∷ (has_ids keyword operands, Letter)
+    ∷ (has_ids context keyword operands, Letter)
     ∷ (has_lane_number keyword operands, LaneNumber)
     ∷ []
 
@@ -256,7 +259,7 @@ place_tests context keyword =
 -- why these words are a bad line: the first word is none of a script's, or a test fails
 abbrev pub why_of_words : Context → List (List ℕ) → Option Why
 why_of_words context [] = None
-why_of_words context (word ∷ operands) = option_map_or (λ keyword. first_failed (form_tests keyword operands ++ place_tests context keyword)) (keyword_of word) (Some Word)
+why_of_words context (word ∷ operands) = option_map_or (λ keyword. first_failed (form_tests context keyword operands ++ place_tests context keyword)) (keyword_of word) (Some Word)
 
 -- why a line is bad: the first reason; a line that is skipped is bad for its bytes alone
 abbrev pub why_of : Context → List ℕ → Option Why
@@ -273,17 +276,17 @@ pub record Line : Type 0 where
 
 -- what a line leaves
 abbrev pub context_after : Line → Context
-context_after line = context_behind line.context line.number (said (words line.text))
+context_after line = context_behind line.context line.number (said line.context (words line.text))
 
 -- lines, the first of which has the number n and stands behind the context
 abbrev pub lines_from : Context → ℕ → List (List ℕ) → List Line
 lines_from context n [] = []
-lines_from context n (text ∷ texts) = record { number = n; context = context; text = text } ∷ lines_from (context_behind context n (said (words text))) (n + 1) texts
+lines_from context n (text ∷ texts) = record { number = n; context = context; text = text } ∷ lines_from (context_behind context n (said context (words text))) (n + 1) texts
 
 -- what the last of such lines leaves
 abbrev pub context_from : Context → ℕ → List (List ℕ) → Context
 context_from context n [] = context
-context_from context n (text ∷ texts) = context_from (context_behind context n (said (words text))) (n + 1) texts
+context_from context n (text ∷ texts) = context_from (context_behind context n (said context (words text))) (n + 1) texts
 
 -- a line's fault, if it is bad
 abbrev pub fault_of : Line → Option BadLine
@@ -306,7 +309,7 @@ line_said context n (says.Lane lane) = None
 
 -- the line of a script that a line is
 abbrev pub line_of : Line → Option ScriptLine
-line_of line = option_and_then (line_said line.context line.number) (said (words line.text))
+line_of line = option_and_then (line_said line.context line.number) (said line.context (words line.text))
 
 -- the lines of a text are this script: none is bad, each transaction is closed, and the operations are what the lines say, each with its line's number and lane
 pub record IsScript (lines : List (List ℕ)) (script : Script) : Type 0 where
@@ -413,6 +416,20 @@ IsBoundBefore n id = ⊤
 -- so do all letters of a line
 abbrev pub NamesEarlierLines : ScriptLine → Type 0
 NamesEarlierLines line = All (IsBoundBefore line.line) (ids_of line.operation)
+
+-- the operation binds a letter
+abbrev pub Binds : ScriptOp → Type 0
+Binds (op.Alloc letter size kind) = ⊤
+Binds operation = ⊥
+
+-- a letter stands for what one of these lines gave, which is of the lane and binds a letter
+abbrev pub HasBindingLine : List ScriptLine → ℕ → ScriptId → Type 0
+HasBindingLine lines lane (Bound n) = (line : ScriptLine) × Contains lines line × (line.line ≡ n) × (line.lane ≡ lane) × Binds line.operation
+HasBindingLine lines lane id = ⊤
+
+-- so do all letters of a line
+abbrev pub NamesBindingLines : List ScriptLine → ScriptLine → Type 0
+NamesBindingLines lines line = All (HasBindingLine lines line.lane) (ids_of line.operation)
 
 -- the lines of a lane
 abbrev pub of_lane : ℕ → List ScriptLine → List ScriptLine

@@ -1,6 +1,7 @@
 ghost use Rattle.std.specs.Prelude.{◌≡◌, ◌<◌, ℕ, [], map, None, Some, IfOk, IfErr, IfSome, IfNone, OnOk};
 ghost use Rattle.std.specs.List.{find};
-ghost use Rattle.pm_script.specs.Scripts.{start, behind_make_or_free, behind_publish, context_behind, is_of_lane, IsFirstOpen};
+ghost use Rattle.pm_script.specs.Contexts.{binds, bound_line, start};
+ghost use Rattle.pm_script.specs.Scripts.{behind_make_or_free, behind_publish, context_behind, is_of_lane, rebound, IsFirstOpen};
 ghost use Rattle.pm_script.specs.Reading.{keyword_said, place_why};
 ghost use Rattle.pm_script.specs.declared.statement.Statement.TheVariants as says;
 
@@ -21,20 +22,31 @@ pub struct OpenTransaction {
     pub makes_or_frees: bool,
 }
 
+/// A letter that stands on its lane for what a line gave.
+#[derive(Clone, Copy, Debug, PartialEq, Eq)]
+pub struct Binding {
+    pub lane: u64,
+    /// 0 for `a` to 25 for `z`.
+    pub letter: u8,
+    pub line: u64,
+}
+
 /// What the lines so far leave to the next one.
 #[derive(Drop)]
 pub struct Context {
     lane: Option<u64>,
     lanes: u64,
     begun: Vec<OpenTransaction>,
+    /// The last of each lane's letter, so 32 times 26 at most.
+    bound: Vec<Binding>,
 }
 
 impl Model for Context {
-    ghost use Rattle.pm_script.specs.Scripts as scripts;
+    ghost use Rattle.pm_script.specs.Contexts as contexts;
 
-    ghost Value = { scripts.Context };
+    ghost Value = { contexts.Context };
 
-    ghost view = { λ c. record { lane = c.lane; lanes = c.lanes; begun = c.begun.items } };
+    ghost view = { λ c. record { lane = c.lane; lanes = c.lanes; begun = c.begun.items; bound = c.bound.items } };
 }
 
 impl Context {
@@ -46,6 +58,7 @@ impl Context {
             lane: None,
             lanes: 1,
             begun: Vec::new(alloc),
+            bound: Vec::new(alloc),
         }
     }
 
@@ -62,6 +75,24 @@ impl Context {
         ensures none { IfNone result (self.now.begun ≡ []) }
     {
         self.begun.iter().map(|transaction| transaction.line).min()
+    }
+
+    /// The last line of the present lane that binds the letter.
+    pub fn bound_line(&self, letter: u8) -> Option<u64>
+        ensures { result ≡ bound_line self.now letter }
+    {
+        let binding = self.binding_of(self.lane?, letter)?;
+        Some(binding.line)
+    }
+
+    /// The lane's binding of the letter.
+    fn binding_of(&self, lane: u64, letter: u8) -> Option<Binding>
+        ensures { result ≡ find (binds lane letter) self.now.bound }
+    {
+        self.bound
+            .iter()
+            .copied()
+            .find(|binding| binding.lane == lane && binding.letter == letter)
     }
 
     /// The lane whose operation this is, or why it may not stand here.
@@ -116,7 +147,15 @@ impl Context {
                 publishes: false,
                 makes_or_frees: false,
             })?,
-            ScriptOp::Alloc { .. } | ScriptOp::Free { .. } => self.follow_make_or_free(lane),
+            ScriptOp::Alloc { letter, .. } => {
+                self.follow_make_or_free(lane);
+                self.bind(Binding {
+                    lane,
+                    letter: *letter,
+                    line,
+                })?;
+            }
+            ScriptOp::Free { .. } => self.follow_make_or_free(lane),
             ScriptOp::Publish => self.follow_publish(lane),
             ScriptOp::Commit => self.begun.retain(|transaction| transaction.lane != lane),
             _ => {}
@@ -140,5 +179,15 @@ impl Context {
         for transaction in self.begun.iter_mut() {
             transaction.makes_or_frees |= transaction.lane == lane;
         }
+    }
+
+    /// Adds a binding in place of the last one of its lane and letter.
+    fn bind(&mut self, new: Binding) -> Result<(), AllocError>
+        ensures { OnOk result (self.new ≡ record self.old { bound = rebound new self.old.bound }) }
+    {
+        self.bound
+            .retain(|old| !(old.lane == new.lane && old.letter == new.letter));
+        self.bound.push(new)?;
+        Ok(())
     }
 }

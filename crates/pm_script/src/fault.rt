@@ -25,7 +25,7 @@ pub enum Why {
     /// An operand is not 1 to 4,096 bytes of two hexadecimal digits each.
     #[error("Hex")]
     Hex,
-    /// An operand names no object, or is not the letter that it is to be.
+    /// An operand names no object, as by a letter that no line of the lane has bound, or is not the letter that it is to be.
     #[error("Letter")]
     Letter,
     /// A lane of 32 or more.

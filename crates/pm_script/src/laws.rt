@@ -1,6 +1,6 @@
 ghost use Rattle.std.specs.List.Sorted.{IsStrictlyIncreasing};
 ghost use Rattle.std.specs.Prelude.{map, All, ◌≡◌, ◌<◌, ℕ, List};
-ghost use Rattle.pm_script.specs.Scripts.{AreCalls, IsScript, IsBadLine, of_lane, operations};
+ghost use Rattle.pm_script.specs.Scripts.{AreCalls, IsScript, IsBadLine, NamesBindingLines, NamesEarlierLines, of_lane, operations};
 ghost use Rattle.pm_script.specs.Stops.{AreStops};
 ghost use Rattle.pm_script.specs.declared.fault.BadLine.{BadLine};
 ghost use Rattle.pm_script.specs.declared.script.Script.{Script};
@@ -29,4 +29,10 @@ pub fn a_lanes_lines_are_calls()
 pub fn one_lane_has_all_lines()
     ensures below { (lines : List (List ℕ)) (script : Script) → IsScript lines script → All (λ (line : ScriptLine). line.lane < script.lanes) script.lines }
     ensures one { (lines : List (List ℕ)) (script : Script) → IsScript lines script → script.lanes ≡ 1 → All (λ (line : ScriptLine). line.lane ≡ 0) script.lines }
+{}
+
+/// A law: each letter of a line stands for what an earlier line of its lane gave, which binds a letter. No code runs.
+pub fn letters_are_bound_before()
+    ensures before { (lines : List (List ℕ)) (script : Script) → IsScript lines script → All NamesEarlierLines script.lines }
+    ensures binds { (lines : List (List ℕ)) (script : Script) → IsScript lines script → All (NamesBindingLines script.lines) script.lines }
 {}

@@ -1,6 +1,10 @@
-ghost use Rattle.std.specs.Prelude.{◌≡◌, option_map, IfOk};
+ghost use Rattle.std.specs.Prelude.{◌≡◌, option_and_then, option_map, IfOk};
+ghost use Rattle.pm_script.specs.Contexts.{bound_line};
+ghost use Rattle.pm_script.specs.Numbers.{number_of};
 ghost use Rattle.pm_script.specs.Operands.{bytes_of, id_of, letter_of, want_of, wanted, size_of};
+ghost use Rattle.pm_script.specs.declared.script.ScriptId.TheVariants.{At, Bound};
 
+use crate::context::Context;
 use crate::numbers::number;
 use crate::script::{ScriptId, ScriptWant};
 use hex::FromHexError;
@@ -10,15 +14,32 @@ use std::alloc::{AllocError, Global};
 /// The most bytes that a line writes or reads.
 const MAX_BYTES: usize = 4096;
 
-/// The object that a word names: `root`, or the number of its offset.
-pub fn id_of(word: &str) -> Option<ScriptId>
-    ensures { result ≡ id_of word.now }
+/// The object that a word names in its place: `root`, the number of its offset, or `$` and a letter that the lane has bound.
+pub fn id_of(context: &Context, word: &str) -> Option<ScriptId>
+    ensures { result ≡ id_of context.now word.now }
 {
     if word == "root" {
-        Some(ScriptId::Root)
-    } else {
-        number(word).map(ScriptId::At)
+        return Some(ScriptId::Root);
     }
+    match word.strip_prefix("$") {
+        Some(letter) => bound_of(context, letter),
+        None => offset_of(word),
+    }
+}
+
+/// The object at the offset that a word writes.
+fn offset_of(word: &str) -> Option<ScriptId>
+    ensures { result ≡ option_map At (number_of word.now) }
+{
+    number(word).map(ScriptId::At)
+}
+
+/// What the letter that a word is stands for.
+fn bound_of(context: &Context, word: &str) -> Option<ScriptId>
+    ensures { result ≡ option_map Bound (option_and_then (bound_line context.now) (letter_of word.now)) }
+{
+    let letter = letter_of(word)?;
+    context.bound_line(letter).map(ScriptId::Bound)
 }
 
 /// The letter that a word is, from 0 for `a` to 25 for `z`.
@@ -32,20 +53,20 @@ pub fn letter_of(word: &str) -> Option<u8>
 }
 
 /// What a word of a begin wants: `r:ID` or `ID`.
-pub fn want_of(word: &str) -> Option<ScriptWant>
-    ensures { result ≡ want_of word.now }
+pub fn want_of(context: &Context, word: &str) -> Option<ScriptWant>
+    ensures { result ≡ want_of context.now word.now }
 {
     match word.strip_prefix("r:") {
-        Some(object) => wanted(object, false),
-        None => wanted(word, true),
+        Some(object) => wanted(context, object, false),
+        None => wanted(context, word, true),
     }
 }
 
-fn wanted(object: &str, write: bool) -> Option<ScriptWant>
-    ensures { result ≡ option_map (wanted write) (id_of object.now) }
+fn wanted(context: &Context, object: &str, write: bool) -> Option<ScriptWant>
+    ensures { result ≡ option_map (wanted write) (id_of context.now object.now) }
 {
     Some(ScriptWant {
-        id: id_of(object)?,
+        id: id_of(context, object)?,
         write,
     })
 }

@@ -40,7 +40,7 @@ impl Reader {
         if is_skipped(&words) {
             return Ok(());
         }
-        match statement_of(alloc, &words) {
+        match statement_of(alloc, &self.context, &words) {
             Ok(statement) => self.take(number, statement),
             Err(fault) => Err(fault.at(number)),
         }

@@ -1,9 +1,11 @@
 ghost use Rattle.std.specs.Prelude.{◌≡◌, ◌≢◌, []};
+ghost use Rattle.pm_script.specs.Contexts as contexts;
 ghost use Rattle.pm_script.specs.Reading.{AreReadAs, IsReadAs};
 ghost use Rattle.pm_script.specs.Scripts.{keyword_of};
 ghost use Rattle.pm_script.specs.Words.{texts};
 ghost use Rattle.pm_script.specs.declared.statement.Keyword.TheVariants as word;
 
+use crate::context::Context;
 use crate::fault::{LineFault, Why};
 use crate::numbers::number;
 use crate::operands::{bytes_of, id_of, letter_of, size_of, want_of};
@@ -38,22 +40,26 @@ pub enum Statement {
     Operation(ScriptOp),
 }
 
-/// What the words of a line say.
-pub fn statement_of(alloc: Global, words: &[&str]) -> Result<Statement, LineFault>
+/// What the words of a line say in its place.
+pub fn statement_of(
+    alloc: Global,
+    context: &Context,
+    words: &[&str],
+) -> Result<Statement, LineFault>
     requires { texts words.now ≢ [] }
-    ensures { AreReadAs (texts words.now) result }
+    ensures { AreReadAs context.now (texts words.now) result }
 {
     let keyword = keyword_of(words[0]).ok_or(Why::Word)?;
     let operands = &words[1..];
     match keyword {
         Keyword::Lane => lane_of(operands),
-        Keyword::Begin => begin_of(alloc, operands),
-        Keyword::Add => add_of(operands),
-        Keyword::Write => write_of(alloc, operands),
-        Keyword::Read => read_of(operands),
+        Keyword::Begin => begin_of(alloc, context, operands),
+        Keyword::Add => add_of(context, operands),
+        Keyword::Write => write_of(alloc, context, operands),
+        Keyword::Read => read_of(context, operands),
         Keyword::Alloc => alloc_of(operands),
-        Keyword::Free => free_of(operands),
-        Keyword::Set => set_of(operands),
+        Keyword::Free => free_of(context, operands),
+        Keyword::Set => set_of(context, operands),
         Keyword::Publish => publish_of(operands),
         Keyword::Cancel => cancel_of(operands),
         Keyword::Commit => commit_of(operands),
@@ -81,7 +87,7 @@ fn keyword_of(word: &str) -> Option<Keyword>
 
 /// Reads `lane K`.
 fn lane_of(operands: &[&str]) -> Result<Statement, LineFault>
-    ensures { IsReadAs word.Lane (texts operands.now) result }
+    ensures { (context : contexts.Context) → IsReadAs context word.Lane (texts operands.now) result }
 {
     let [lane] = operands else {
         return Err(LineFault::Bad(Why::Count));
@@ -94,12 +100,12 @@ fn lane_of(operands: &[&str]) -> Result<Statement, LineFault>
 }
 
 /// Reads `begin [ID or r:ID]..`.
-fn begin_of(alloc: Global, operands: &[&str]) -> Result<Statement, LineFault>
-    ensures { IsReadAs word.Begin (texts operands.now) result }
+fn begin_of(alloc: Global, context: &Context, operands: &[&str]) -> Result<Statement, LineFault>
+    ensures { IsReadAs context.now word.Begin (texts operands.now) result }
 {
     let mut wants = Vec::new(alloc);
     for operand in operands {
-        let want = want_of(operand).ok_or(Why::Letter)?;
+        let want = want_of(context, operand).ok_or(Why::Letter)?;
         wants.push(want)?;
     }
     let wants = Sequence::from_vec(wants);
@@ -107,47 +113,47 @@ fn begin_of(alloc: Global, operands: &[&str]) -> Result<Statement, LineFault>
 }
 
 /// Reads `add ID OFF LEN`.
-fn add_of(operands: &[&str]) -> Result<Statement, LineFault>
-    ensures { IsReadAs word.Add (texts operands.now) result }
+fn add_of(context: &Context, operands: &[&str]) -> Result<Statement, LineFault>
+    ensures { IsReadAs context.now word.Add (texts operands.now) result }
 {
     let [id, off, len] = operands else {
         return Err(LineFault::Bad(Why::Count));
     };
     let off = number(off).ok_or(Why::Number)?;
     let len = number(len).ok_or(Why::Number)?;
-    let id = id_of(id).ok_or(Why::Letter)?;
+    let id = id_of(context, id).ok_or(Why::Letter)?;
     Ok(Statement::Operation(ScriptOp::Add { id, off, len }))
 }
 
 /// Reads `write ID OFF HEX`.
-fn write_of(alloc: Global, operands: &[&str]) -> Result<Statement, LineFault>
-    ensures { IsReadAs word.Write (texts operands.now) result }
+fn write_of(alloc: Global, context: &Context, operands: &[&str]) -> Result<Statement, LineFault>
+    ensures { IsReadAs context.now word.Write (texts operands.now) result }
 {
     let [id, off, hex] = operands else {
         return Err(LineFault::Bad(Why::Count));
     };
     let off = number(off).ok_or(Why::Number)?;
     let bytes = bytes_of(alloc, hex)?.ok_or(Why::Hex)?;
-    let id = id_of(id).ok_or(Why::Letter)?;
+    let id = id_of(context, id).ok_or(Why::Letter)?;
     Ok(Statement::Operation(ScriptOp::Write { id, off, bytes }))
 }
 
 /// Reads `read ID OFF LEN`.
-fn read_of(operands: &[&str]) -> Result<Statement, LineFault>
-    ensures { IsReadAs word.Read (texts operands.now) result }
+fn read_of(context: &Context, operands: &[&str]) -> Result<Statement, LineFault>
+    ensures { IsReadAs context.now word.Read (texts operands.now) result }
 {
     let [id, off, len] = operands else {
         return Err(LineFault::Bad(Why::Count));
     };
     let off = number(off).ok_or(Why::Number)?;
     let len = size_of(len).ok_or(Why::Number)?;
-    let id = id_of(id).ok_or(Why::Letter)?;
+    let id = id_of(context, id).ok_or(Why::Letter)?;
     Ok(Statement::Operation(ScriptOp::Read { id, off, len }))
 }
 
 /// Reads `alloc x SIZE TYPE`.
 fn alloc_of(operands: &[&str]) -> Result<Statement, LineFault>
-    ensures { IsReadAs word.Alloc (texts operands.now) result }
+    ensures { (context : contexts.Context) → IsReadAs context word.Alloc (texts operands.now) result }
 {
     let [letter, size, kind] = operands else {
         return Err(LineFault::Bad(Why::Count));
@@ -159,32 +165,32 @@ fn alloc_of(operands: &[&str]) -> Result<Statement, LineFault>
 }
 
 /// Reads `free ID`.
-fn free_of(operands: &[&str]) -> Result<Statement, LineFault>
-    ensures { IsReadAs word.Free (texts operands.now) result }
+fn free_of(context: &Context, operands: &[&str]) -> Result<Statement, LineFault>
+    ensures { IsReadAs context.now word.Free (texts operands.now) result }
 {
     let [id] = operands else {
         return Err(LineFault::Bad(Why::Count));
     };
-    let id = id_of(id).ok_or(Why::Letter)?;
+    let id = id_of(context, id).ok_or(Why::Letter)?;
     Ok(Statement::Operation(ScriptOp::Free { id }))
 }
 
 /// Reads `set ID OFF VALUE`.
-fn set_of(operands: &[&str]) -> Result<Statement, LineFault>
-    ensures { IsReadAs word.Set (texts operands.now) result }
+fn set_of(context: &Context, operands: &[&str]) -> Result<Statement, LineFault>
+    ensures { IsReadAs context.now word.Set (texts operands.now) result }
 {
     let [id, off, value] = operands else {
         return Err(LineFault::Bad(Why::Count));
     };
     let off = number(off).ok_or(Why::Number)?;
     let value = number(value).ok_or(Why::Number)?;
-    let id = id_of(id).ok_or(Why::Letter)?;
+    let id = id_of(context, id).ok_or(Why::Letter)?;
     Ok(Statement::Operation(ScriptOp::Set { id, off, value }))
 }
 
 /// Reads `publish`.
 fn publish_of(operands: &[&str]) -> Result<Statement, LineFault>
-    ensures { IsReadAs word.Publish (texts operands.now) result }
+    ensures { (context : contexts.Context) → IsReadAs context word.Publish (texts operands.now) result }
 {
     if operands.is_empty() {
         Ok(Statement::Operation(ScriptOp::Publish))
@@ -195,7 +201,7 @@ fn publish_of(operands: &[&str]) -> Result<Statement, LineFault>
 
 /// Reads `cancel`.
 fn cancel_of(operands: &[&str]) -> Result<Statement, LineFault>
-    ensures { IsReadAs word.Cancel (texts operands.now) result }
+    ensures { (context : contexts.Context) → IsReadAs context word.Cancel (texts operands.now) result }
 {
     if operands.is_empty() {
         Ok(Statement::Operation(ScriptOp::Cancel))
@@ -206,7 +212,7 @@ fn cancel_of(operands: &[&str]) -> Result<Statement, LineFault>
 
 /// Reads `commit`.
 fn commit_of(operands: &[&str]) -> Result<Statement, LineFault>
-    ensures { IsReadAs word.Commit (texts operands.now) result }
+    ensures { (context : contexts.Context) → IsReadAs context word.Commit (texts operands.now) result }
 {
     if operands.is_empty() {
         Ok(Statement::Operation(ScriptOp::Commit))

@@ -34,6 +34,7 @@ fn object(alloc: Global, id: &ScriptId) -> Result<String, Fail> {
     match id {
         ScriptId::Root => Ok(format!(in alloc; "root")?),
         ScriptId::At(offset) => Ok(format!(in alloc; "{offset}")?),
+        ScriptId::Bound(line) => Ok(format!(in alloc; "${line}")?),
     }
 }
 
@@ -106,7 +107,7 @@ fn tells(rt: &impl Abort, alloc: Global, text: &str, wanted: &str) -> Result<(),
 }
 
 /// Texts that are scripts, and what they say.
-const SCRIPTS: [(&str, &str); 19] = [
+const SCRIPTS: [(&str, &str); 23] = [
     // nothing is said
     ("", "1 lanes;"),
     ("# nothing\n\n", "1 lanes;"),
@@ -170,6 +171,24 @@ const SCRIPTS: [(&str, &str); 19] = [
     (
         "lane 0\nbegin root\nalloc a 64 7\nfree 16512\nset root 8 1\nalloc z 0 18446744073709551615\nfree root\nalloc a 007 0\ncancel\ncommit\n",
         "1 lanes; 2 0 begin root; 3 0 alloc a 64 7; 4 0 free 16512; 5 0 set root 8 1; 6 0 alloc z 0 18446744073709551615; 7 0 free root; 8 0 alloc a 7 0; 9 0 cancel; 10 0 commit;",
+    ),
+    // letters, each in the place of an ID: `$` and the line that bound it last
+    (
+        "lane 0\nbegin\nalloc a 64 7\nadd $a 0 8\nwrite $a 0 ff\nread $a 0 8\nset $a 8 1\nfree $a\ncommit\nset $a 0 1\nbegin $a r:$a root\ncommit\n",
+        "1 lanes; 2 0 begin; 3 0 alloc a 64 7; 4 0 add $3 0 8; 5 0 write $3 0 ff; 6 0 read $3 0 8; 7 0 set $3 8 1; 8 0 free $3; 9 0 commit; 10 0 set $3 0 1; 11 0 begin $3 r:$3 root; 12 0 commit;",
+    ),
+    (
+        "lane 0\nbegin\nalloc a 64 0\nalloc z 64 0\nfree $a\nalloc a 64 0\nfree $z\nfree $a\nalloc a 8 0\ncommit\nbegin $a $z\ncommit",
+        "1 lanes; 2 0 begin; 3 0 alloc a 64 0; 4 0 alloc z 64 0; 5 0 free $3; 6 0 alloc a 64 0; 7 0 free $4; 8 0 free $6; 9 0 alloc a 8 0; 10 0 commit; 11 0 begin $9 $4; 12 0 commit;",
+    ),
+    // a lane has its own letters
+    (
+        "lane 0\nbegin\nalloc a 64 0\nlane 1\nbegin\nalloc a 64 0\nfree $a\ncommit\nlane 0\nfree $a\ncommit\n",
+        "2 lanes; 2 0 begin; 3 0 alloc a 64 0; 5 1 begin; 6 1 alloc a 64 0; 7 1 free $6; 8 1 commit; 10 0 free $3; 11 0 commit;",
+    ),
+    (
+        "lane 1\nbegin\nalloc b 64 0\nlane 0\nbegin\nalloc b 64 0\nlane 1\nalloc b 64 0\nlane 0\nfree $b\ncommit\nlane 1\nread $b 0 8\ncommit\n",
+        "2 lanes; 2 1 begin; 3 1 alloc b 64 0; 5 0 begin; 6 0 alloc b 64 0; 8 1 alloc b 64 0; 10 0 free $6; 11 0 commit; 13 1 read $8 0 8; 14 1 commit;",
     ),
     // one lane publishes while another makes an object, and later publishes too
     (
@@ -290,7 +309,7 @@ const BAD_OBJECTS_MADE: [(&str, &str); 17] = [
     ("lane 0\nbegin\nalloc ` 64 0", "3 Letter"),
     ("lane 0\nbegin\nalloc { 64 0", "3 Letter"),
     ("lane 0\nbegin\nalloc $a 64 0", "3 Letter"),
-    ("lane 0\nbegin\nalloc a 64 0\nfree $a", "4 Letter"),
+    ("lane 0\nbegin\nalloc a 64 0\nfree $b", "4 Letter"),
     ("lane 0\nbegin\nfree r:root", "3 Letter"),
     ("alloc a 64 0\nlane 0", "1 NoLane"),
     ("free root", "1 NoLane"),
@@ -298,6 +317,35 @@ const BAD_OBJECTS_MADE: [(&str, &str); 17] = [
     ("lane 0\nfree root", "2 Outside"),
     ("lane 0\nbegin\ncommit\nfree root", "4 Outside"),
     ("lane 0\nbegin\nalloc a 64 0\nfree root", "2 Open"),
+];
+
+/// Letters that no line of the lane has bound, and what is no letter.
+const UNBOUND: [(&str, &str); 13] = [
+    ("lane 0\nbegin\nfree $a\nalloc a 64 0", "3 Letter"),
+    (
+        "lane 0\nbegin\nalloc a 64 0\nlane 1\nbegin $a\ncommit",
+        "5 Letter",
+    ),
+    (
+        "lane 0\nbegin\nalloc a 64 0\ncommit\nlane 1\nset $a 0 1",
+        "6 Letter",
+    ),
+    ("lane 0\nbegin\nalloc a 64 0\nalloc $a 64 0", "4 Letter"),
+    ("lane 0\nbegin\nalloc a 64 0\nfree $", "4 Letter"),
+    ("lane 0\nbegin\nalloc a 64 0\nfree a", "4 Letter"),
+    ("lane 0\nbegin\nalloc a 64 0\nfree $A", "4 Letter"),
+    ("lane 0\nbegin\nalloc a 64 0\nfree $aa", "4 Letter"),
+    ("lane 0\nbegin\nalloc a 64 0\nfree $3", "4 Letter"),
+    ("lane 0\nbegin\nalloc a 64 0\nfree $$a", "4 Letter"),
+    ("lane 0\nbegin\nalloc a 64 0\nfree r:$a", "4 Letter"),
+    (
+        "lane 0\nbegin\nalloc a 64 0\ncommit\nbegin r:$b\ncommit",
+        "5 Letter",
+    ),
+    (
+        "lane 0\nbegin\nalloc a 64 0\ncommit\nadd $a 0 8",
+        "5 Outside",
+    ),
 ];
 
 /// Transactions that publish, and make or free objects.
@@ -368,7 +416,7 @@ fn all_tell(rt: &impl Abort, alloc: Global, table: &[(&str, &str)]) -> Result<()
 
 #[test]
 fn bad_lines(rt: HostRuntime) -> Result<(), Fail> {
-    let tables: [&[(&str, &str)]; 14] = [
+    let tables: [&[(&str, &str)]; 15] = [
         &REASONS,
         &BAD_BYTES,
         &BAD_WORDS,
@@ -378,6 +426,7 @@ fn bad_lines(rt: HostRuntime) -> Result<(), Fail> {
         &BAD_OBJECTS,
         &BAD_ACTIONS,
         &BAD_OBJECTS_MADE,
+        &UNBOUND,
         &MIXED,
         &TWO_REASONS,
         &TWO_BAD_LINES,
@@ -399,6 +448,7 @@ fn laws(_: HostRuntime) {
     the_lines_of_a_script_rise();
     a_lanes_lines_are_calls();
     one_lane_has_all_lines();
+    letters_are_bound_before();
 }
 
 /// Whether the operation is a begin with this want alone.

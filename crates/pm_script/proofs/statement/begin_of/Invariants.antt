@@ -7,4 +7,4 @@ use Rattle.pm_script.proofs.statement.begin_of.Given as goal
 -- the operands so far are what the wants say
 abbrev pub invariant-loop-operand : goal.invariant-loop-operand
 invariant-loop-operand l =
-    (l.wants.items ≡ filter_map want_of (take l.operand-index (texts l.operands))) × (list_all is_want (take l.operand-index (texts l.operands)) ≡ true)
+    (l.wants.items ≡ filter_map (want_of l.context) (take l.operand-index (texts l.operands))) × (list_all (is_want l.context) (take l.operand-index (texts l.operands)) ≡ true)

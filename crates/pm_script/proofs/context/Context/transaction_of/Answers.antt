@@ -4,7 +4,8 @@ use Rattle.std.specs.Option.{option_map}
 use Rattle.std.proofs.lemmas.Iterator.{YieldsList-from_slice}
 use Rattle.std.proofs.lemmas.Iterator.Consumers.{YieldsList-from_copied}
 use Rattle.std.proofs.lemmas.Iterator.Search.{find_from_yields_List}
-use Rattle.pm_script.specs.Scripts.{Context, is_of_lane}
+use Rattle.pm_script.specs.Contexts.{Context}
+use Rattle.pm_script.specs.Scripts.{is_of_lane}
 use Rattle.pm_script.specs.declared.context.OpenTransaction.{OpenTransaction}
 use Rattle.pm_script.proofs.context.Context.transaction_of.Goals as goal
 

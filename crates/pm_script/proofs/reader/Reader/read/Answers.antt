@@ -20,11 +20,11 @@ the_words c = c.in_ok-words.ensures ∙ ap words (is_good c).1
 kept : (c : After-statement_of) → is_skipped (words c.args.line.now) ≡ false
 kept c = ap is_skipped (sym (the_words c) ∙ ap texts (sym c.deref.ensures.value)) ∙ sym c.is_skipped.ensures ∙ c.if-is_skipped.false
 
-read : (c : After-statement_of) (result : Result Statement LineFault) → AreReadAs (texts c.deref-2.result.now) result → AreReadAs (words c.args.line.now) result
-read c result is = subst (λ line. AreReadAs line result) (ap texts c.deref-2.ensures.value ∙ the_words c) is
+read : (c : After-statement_of) (result : Result Statement LineFault) → AreReadAs c.args.self.now.context (texts c.deref-2.result.now) result → AreReadAs c.args.self.now.context (words c.args.line.now) result
+read c result is = subst (λ line. AreReadAs c.args.self.now.context line result) (ap texts c.deref-2.ensures.value ∙ the_words c) is
 
 pub take-requires : goal.take-requires
-take-requires c = words_lane (texts c.deref-2.result.now) c.in-Ok.statement c.in-Ok.ensures
+take-requires c = words_lane c.args.self.now.context (texts c.deref-2.result.now) c.in-Ok.statement c.in-Ok.ensures
 
 pub returns-in-Ok-clause-ok : goal.returns-in-Ok-clause-ok
 returns-in-Ok-clause-ok c =
