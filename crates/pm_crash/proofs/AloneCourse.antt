@@ -1,7 +1,7 @@
 -- The steps of a lane that is alone are a course of a world: its memory is what the lane's view says, and no other lane makes a step.
 use Rattle.std.proofs.Common.{◌≡◌, ◌≢◌, ⊎_elim, inl, inr, ℕ, ◌+◌, ◌/◌, ◌<◌, ◌≤◌, Bool, true, false, eqb, is_none, List, [], ◌∷◌, ◌++◌, length, slice_index, Option, Some, refl, sym, ◌∙◌, ap, subst, arith, append_assoc, le_refl, ne_eqb}
 use Rattle.std.specs.Option.{ForSome}
-use Rattle.std.specs.List.{All, Contains, list_any}
+use Rattle.std.specs.List.{Contains, list_any}
 use Rattle.std.proofs.lemmas.List.Elements.{All-contains_itself, All-weaker}
 use Rattle.std.proofs.lemmas.Bool.{and_from, and_parts, cases_eq, cond-false, false≢true}
 use Rattle.pm_header.specs.declared.header.Header.{Header}

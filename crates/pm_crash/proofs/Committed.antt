@@ -1,5 +1,5 @@
 -- A call that commits at the outermost level is a step of the model, and so is one that was given up.
-use Rattle.std.proofs.Common.{◌≡◌, ⊎_elim, inl, inr, ℕ, ◌*◌, ◌+◌, ◌/◌, ◌<◌, ◌≤◌, false, leb, List, [], ◌∷◌, ◌++◌, length, map, None, IsSome, refl, sym, ◌∙◌, ap, subst, arith}
+use Rattle.std.proofs.Common.{◌≡◌, ⊎_elim, inl, inr, ℕ, false, leb, List, [], ◌∷◌, ◌++◌, length, map, None, IsSome, refl, sym, ◌∙◌, ap, subst, arith}
 use Rattle.std.specs.List.{All, Contains, list_any}
 use Rattle.std.specs.List.Sorted.{IsStrictlyIncreasing}
 use Rattle.std.proofs.lemmas.List.Elements.{All-contains, All-nil, All-weaker}

@@ -13,8 +13,8 @@ use Rattle.pm_view.specs.Blocks.{is_huge, is_run, zone_page}
 use Rattle.pm_view.specs.Occupancy.{is_in_block, reaches}
 use Rattle.pm_crash.specs.HeapChanges.{CanChange, HasItsObject, HeapChange, MayChange}
 use Rattle.pm_crash.specs.HeapChanges.HeapChange.{AllocatesChunks, AllocatesInRun, FreesChunks, FreesInRun}
-use Rattle.pm_crash.specs.NewObjects.{AreFreeChunks, IsFreeInRun}
-use Rattle.pm_crash.proofs.ChangesApart.{free_still}
+use Rattle.pm_crash.specs.NewObjects.{AreFreeChunks}
+use Rattle.pm_crash.proofs.ChangesApart.{free_still, some_of_object}
 use Rattle.pm_crash.proofs.ChangesKept.{bitmap_outside, descriptor_same, root_outside}
 use Rattle.pm_crash.proofs.Classes.{lines_of_class}
 use Rattle.pm_crash.proofs.EmptyRuns.{class_of_run}
@@ -56,14 +56,15 @@ module _ (w v : ℕ → ℕ) (lanes zones : ℕ) (keeps : KeepsHeads w v lanes z
     is_clear = ap (λ (n : ℕ). bit_at n index) (bitmap_same c lines index may.in_zones may.inside may.is_run) ∙ may.is_clear;
   }
   may_kept (AllocatesChunks c chunks kind bytes) may =
-      let fits : c % 64 + chunks ≤ 64 = may.in_zone in
-      let in_zones : c < 64 * zones = may.in_zones in
-      record {
-        in_zones = may.in_zones;
-        in_zone = may.in_zone;
+      let free : AreFreeChunks w lanes zones c chunks = may.1 in
+      let fits : c % 64 + chunks ≤ 64 = free.in_zone in
+      let in_zones : c < 64 * zones = free.in_zones in
+      (may.0, record {
+        in_zones = free.in_zones;
+        in_zone = free.in_zone;
         are_free = λ k near.
             let low : c % 64 + k < 64 = omega (arith, fits, near) in
-            let before = may.are_free k near in
+            let before = free.are_free k near in
             let at : (j : ℕ) → j < 64 → v (512 * zone_page lanes (c / 64) + j) ≡ w (512 * zone_page lanes (c / 64) + j) =
             λ j small.
             let word : 512 * zone_page lanes (c / 64) + j ≡ descriptor_word lanes (64 * (c / 64) + j) = omega (arith, small) in
@@ -71,7 +72,7 @@ module _ (w v : ℕ → ℕ) (lanes zones : ℕ) (keeps : KeepsHeads w v lanes z
             free_still w v lanes (c / 64) (c % 64 + k) before
             (ap is_run (at (c % 64 + k) low) ∙ (or_parts (is_run (w (512 * zone_page lanes (c / 64) + (c % 64 + k)))) (list_any (reaches w lanes (c / 64) (c % 64 + k)) (range_with_len 0 (c % 64 + k + 1))) before).0)
             (λ j below none. ap (λ (d : ℕ). is_huge d && ltb (c % 64 + k) (j + d / 256)) (at j (omega (arith, below, low))) ∙ none);
-      }
+      })
   may_kept (FreesInRun c lines index) may = record {
     in_zones = may.in_zones;
     inside = may.inside;
@@ -88,13 +89,13 @@ module _ (w v : ℕ → ℕ) (lanes zones : ℕ) (keeps : KeepsHeads w v lanes z
 -- a change may be made where the blocks allow it and what is new stands in its block
 pub change_allowed : (w : ℕ → ℕ) (lanes zones : ℕ) (a : HeapChange) → MayChange w lanes zones a → HasItsObject w lanes a → CanChange w lanes zones a
 change_allowed w lanes zones (AllocatesInRun c lines index kind bytes) may has = (may, has)
-change_allowed w lanes zones (AllocatesChunks c chunks kind bytes) may has = (may, has)
+change_allowed w lanes zones (AllocatesChunks c chunks kind bytes) may has = (may.1, has)
 change_allowed w lanes zones (FreesInRun c lines index) may has = may
 change_allowed w lanes zones (FreesChunks c chunks) may has = may
 
 pub allows_change : (w : ℕ → ℕ) (lanes zones : ℕ) (a : HeapChange) → CanChange w lanes zones a → MayChange w lanes zones a
 allows_change w lanes zones (AllocatesInRun c lines index kind bytes) can = can.0
-allows_change w lanes zones (AllocatesChunks c chunks kind bytes) can = can.0
+allows_change w lanes zones (AllocatesChunks c chunks kind bytes) can = (some_of_object w lanes c chunks kind bytes can.1, can.0)
 allows_change w lanes zones (FreesInRun c lines index) can = can
 allows_change w lanes zones (FreesChunks c chunks) can = can
 

@@ -1,5 +1,5 @@
 -- What a call made, whether it has it or freed it again, stays so while the call goes on, and is listed with all that it allocated.
-use Rattle.std.proofs.Common.{◌≡◌, ◌⊎◌, ⊎_elim, inl, inr, ℕ, ◌||◌, Bool, true, false, cond, not, eq-eqb, List, [], ◌∷◌, ◌++◌, Option, Some, sym, ◌∙◌, ap, subst}
+use Rattle.std.proofs.Common.{◌≡◌, ◌⊎◌, ⊎_elim, inl, inr, ℕ, ◌||◌, Bool, true, false, cond, not, eq-eqb, List, [], ◌∷◌, ◌++◌, Option, Some, sym, ap, subst}
 use Rattle.std.specs.List.{All, Contains, filter, flat_map, list_any}
 use Rattle.std.proofs.lemmas.Bool.{cases_Bool, or_left, or_right}
 use Rattle.std.proofs.lemmas.List.Elements.{All-weaker, Contains-append_cases, Contains-append_left, Contains-append_right}
@@ -9,8 +9,6 @@ use Rattle.pm_objects.specs.declared.calls.Operation.{Operation}
 use Rattle.pm_objects.specs.declared.calls.Operation.TheVariants.{Abort, Alloc, Free}
 use Rattle.pm_objects.specs.declared.history.Value.{Value}
 use Rattle.pm_objects.specs.declared.history.Value.TheVariants.{Offset, Refused}
-use Rattle.pm_objects.specs.declared.refusal.Refusal.{Refusal}
-use Rattle.pm_model.specs.declared.stage.Stage.{Stage}
 use Rattle.pm_model.specs.declared.stage.Stage.TheVariants as stage
 use Rattle.pm_model.specs.Actions.{Action}
 use Rattle.pm_model.specs.Answers.{after_reply, changes_nothing}

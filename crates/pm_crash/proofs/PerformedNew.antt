@@ -1,5 +1,5 @@
 -- An object that a call made stands in its block still once the call's actions are performed, with what they set in it.
-use Rattle.std.proofs.Common.{◌≡◌, ◌≢◌, ◌⊎◌, ⊎_elim, inl, inr, ℕ, ◌+◌, ◌/◌, ◌%◌, ◌^◌, ◌<◌, ◌≤◌, false, eqb, eq-eqb, List, [], ◌∷◌, ◌++◌, length, slice_index, Some, None, IsSome, refl, sym, ◌∙◌, ap, subst, arith}
+use Rattle.std.proofs.Common.{◌≡◌, ◌≢◌, ◌⊎◌, ⊎_elim, inl, inr, ℕ, ◌+◌, ◌/◌, ◌%◌, ◌^◌, ◌<◌, ◌≤◌, eqb, eq-eqb, List, [], ◌∷◌, length, slice_index, Some, IsSome, refl, sym, ◌∙◌, ap, subst, arith}
 use Rattle.std.specs.List.{All, Contains, list_any}
 use Rattle.std.specs.Option.{option_map}
 use Rattle.std.proofs.lemmas.Bool.{cases_eq, cond-true, false≢true, or_parts}
@@ -7,7 +7,6 @@ use Rattle.std.proofs.lemmas.List.Elements.{All-head, All-tail, All-weaker, Cont
 use Rattle.std.proofs.lemmas.List.Folds.{list_any-from_Any}
 use Rattle.pm_header.specs.declared.header.Header.{Header}
 use Rattle.pm_objects.specs.Pool.{Objects, object_at}
-use Rattle.pm_objects.specs.declared.pool.Object.{Object}
 use Rattle.pm_objects.specs.declared.pool.PoolView.{PoolView}
 use Rattle.pm_image.specs.declared.block.Block.{Block}
 use Rattle.pm_image.specs.Contents.{bytes_in, offset_in}
@@ -20,6 +19,7 @@ use Rattle.pm_view.specs.View.{View}
 use Rattle.pm_world.specs.Entries.{set_word}
 use Rattle.pm_world.specs.History.{made_final}
 use Rattle.pm_crash.specs.CallBlocks.{IsMadeIn, NewObject, block_of, blocks_in, is_at, is_freed_in}
+use Rattle.pm_crash.specs.CallChanges.{bytes_published}
 use Rattle.pm_crash.specs.Held.{IsObjectAt}
 use Rattle.pm_crash.specs.HeapChanges.{AreDisjoint}
 use Rattle.pm_crash.specs.NewObjects.{unlinked, HasNewObject, IsWordOf}
@@ -93,8 +93,8 @@ module _ (block : Block) (kind : ℕ) (begins : block.place % 8 ≡ 0) where
 
 -- the object has so many bytes by the words with the actions performed, and so it stands in the copy
 pub record StandsBehind (v : View) (copy : PoolView) (n : NewObject) : Type 0 where
-  pub object : HasNewObject (performed (published_in v) (slice_index v.words)) (block_of n) n.kind (bytes_in (performed (published_in v) (slice_index v.words)) (block_of n))
-  pub stands : object_at (all_performed (published_in v) copy.objects) n.off ≡ Some (unlinked n.kind (bytes_in (performed (published_in v) (slice_index v.words)) (block_of n)))
+  pub object : HasNewObject (performed (published_in v) (slice_index v.words)) (block_of n) n.kind (bytes_published v n)
+  pub stands : object_at (all_performed (published_in v) copy.objects) n.off ≡ Some (unlinked n.kind (bytes_published v n))
 
 module _ (v : View) (w : ℕ → ℕ) (header : Header) (pool : PoolView) (to : CommitsTo v w header pool) (has : HasMade v) (n : NewObject) (made_it : Contains (blocks_in v).made n) where
   is : IsMadeIn v n

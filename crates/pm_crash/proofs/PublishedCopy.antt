@@ -1,24 +1,22 @@
 -- What a committed call publishes at once makes of the pool that its words hold its transaction's copy, with its actions performed.
-use Rattle.std.proofs.Common.{◌≡◌, ℕ, ◌||◌, Bool, true, false, List, [], ◌∷◌, ◌++◌, map, slice_index, None, Some, refl, sym, ◌∙◌, ap, subst}
+use Rattle.std.proofs.Common.{◌≡◌, ℕ, ◌||◌, Bool, true, false, List, [], ◌∷◌, ◌++◌, map, None, Some, refl, sym, ◌∙◌, ap, subst}
 use Rattle.std.specs.List.{AllZip, Contains, list_any}
 use Rattle.std.specs.List.Sorted.{IsStrictlyIncreasing}
 use Rattle.pm_header.specs.declared.header.Header.{Header}
 use Rattle.pm_objects.specs.Pool.{Objects, object_at, offsets}
 use Rattle.pm_objects.specs.declared.pool.Object.{Object}
 use Rattle.pm_objects.specs.declared.pool.PoolView.{PoolView}
-use Rattle.pm_image.specs.Contents.{bytes_in}
 use Rattle.pm_model.specs.Actions.{Action, all_performed, with_actions}
 use Rattle.pm_model.specs.NewObjects.{with_object, without_object}
 use Rattle.pm_model.proofs.Objects.{same_objects}
 use Rattle.pm_view.specs.View.{View}
-use Rattle.pm_crash.specs.CallBlocks.{NewObject, block_of, blocks_in, is_at, is_freed_in, is_new_in}
-use Rattle.pm_crash.specs.CallChanges.{AllocatesNew, ChangesOf, FreesAt}
+use Rattle.pm_crash.specs.CallBlocks.{NewObject, blocks_in, is_at, is_freed_in, is_new_in}
+use Rattle.pm_crash.specs.CallChanges.{bytes_published, AllocatesNew, ChangesOf, FreesAt}
 use Rattle.pm_crash.specs.HeapChanges.{HeapChange}
 use Rattle.pm_crash.specs.HeapChanges.HeapChange.{AllocatesChunks, AllocatesInRun, FreesChunks, FreesInRun}
 use Rattle.pm_crash.specs.NewObjects.{unlinked}
 use Rattle.pm_crash.specs.OpenCall.{CommitsTo, HasMade, IsChanged, call_words}
 use Rattle.pm_crash.specs.Pending.{published_in}
-use Rattle.pm_crash.specs.Performing.{performed}
 use Rattle.pm_crash.specs.Publishing.{all_pool_published, Published}
 use Rattle.pm_crash.specs.Publishing.Published.{Changes, Performs}
 use Rattle.pm_crash.proofs.ManyObjects.{HasNone, none_at, none_performed, performed_rise, same_performed, some_at, with_elsewhere, with_objects, with_rise, with_there, without_elsewhere, without_none, without_objects, without_rise, without_there}
@@ -59,7 +57,7 @@ frees_next lanes (change ∷ freed) (off ∷ offs) steps pool each =
 
 -- what the lane's words have of a new object once the call's actions are performed
 abbrev object_behind : View → NewObject → Object
-object_behind v n = unlinked n.kind (bytes_in (performed (published_in v) (slice_index v.words)) (block_of n))
+object_behind v n = unlinked n.kind (bytes_published v n)
 
 made_object : (v : View) (lanes : ℕ) (change : HeapChange) (n : NewObject) (steps : List Published) (pool : PoolView) → AllocatesNew v lanes change n
     → all_pool_published lanes (Changes change ∷ steps) pool ≡ all_pool_published lanes steps (holding (with_object n.off (object_behind v n) pool.objects) pool)

@@ -6,7 +6,7 @@ use Rattle.std.proofs.lemmas.Bool.{eqb-true}
 use Rattle.pm_header.specs.declared.header.Header.{Header}
 use Rattle.pm_objects.specs.declared.pool.PoolView.{PoolView}
 use Rattle.pm_layout.specs.declared.class.Class.TheVariants.{Lines}
-use Rattle.pm_image.specs.Blocks.{chunk_word, class_in, descriptor_word}
+use Rattle.pm_image.specs.Blocks.{class_in, descriptor_word}
 use Rattle.pm_view.specs.declared.occ.Occ.{Occ}
 use Rattle.pm_view.specs.declared.occ.Occ.TheVariants.{Run, Zone}
 use Rattle.pm_view.specs.Blocks.{is_run, zone_page}

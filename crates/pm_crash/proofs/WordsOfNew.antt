@@ -1,18 +1,18 @@
 -- Which words actions set: those in an object of a block are none of a block that lies apart.
-use Rattle.std.proofs.Common.{◌≡◌, ◌⊎◌, inl, inr, ℕ, ◌+◌, ◌-◌, ◌*◌, ◌/◌, ◌%◌, ◌<◌, ◌≤◌, None, arith}
+use Rattle.std.proofs.Common.{◌≡◌, inl, inr, ℕ, ◌+◌, ◌*◌, ◌%◌, ◌≤◌, None, arith}
 use Rattle.std.proofs.lemmas.Grind.{div_ceil_times}
 use Rattle.pm_layout.specs.Sizes.{class_of, lines_for}
 use Rattle.pm_objects.specs.Pool.{block_lines}
 use Rattle.pm_image.specs.declared.block.Block.{Block}
-use Rattle.pm_image.specs.Contents.{data_words, offset_in, size_in}
+use Rattle.pm_image.specs.Contents.{data_words, size_in}
 use Rattle.pm_image.specs.HeapFaults.{heap_fault}
 use Rattle.pm_image.proofs.FaultFree.{block_good}
 use Rattle.pm_image.proofs.HeapWords.{object_fits}
 use Rattle.pm_image.proofs.Rooms.{lines_needed}
-use Rattle.pm_model.specs.Actions.{Action, end_of, object_of}
+use Rattle.pm_model.specs.Actions.{Action}
 use Rattle.pm_model.specs.Actions.Action.{SetWord}
 use Rattle.pm_view.specs.View.{View}
-use Rattle.pm_crash.specs.CallBlocks.{NewObject, block_of}
+use Rattle.pm_crash.specs.CallBlocks.{block_of}
 use Rattle.pm_crash.specs.HeapChanges.{AreDisjoint}
 use Rattle.pm_crash.specs.NewObjects.{IsWordOf}
 use Rattle.pm_crash.specs.OpenCall.{LiesInNew}

@@ -48,10 +48,10 @@ CanChange w lanes zones (AllocatesChunks c chunks kind bytes) = AreFreeChunks w 
 CanChange w lanes zones (FreesInRun c lines index) = MayFreeInRun w lanes zones c lines index
 CanChange w lanes zones (FreesChunks c chunks) = MayFreeChunks w lanes zones c chunks
 
--- what it asks of the blocks alone
+-- what it asks of the blocks alone: one that is allocated has a chunk at least, or is one of a run
 abbrev pub MayChange : (ℕ → ℕ) → ℕ → ℕ → HeapChange → Type 0
 MayChange w lanes zones (AllocatesInRun c lines index kind bytes) = IsFreeInRun w lanes zones c lines index
-MayChange w lanes zones (AllocatesChunks c chunks kind bytes) = AreFreeChunks w lanes zones c chunks
+MayChange w lanes zones (AllocatesChunks c chunks kind bytes) = (1 ≤ chunks) × AreFreeChunks w lanes zones c chunks
 MayChange w lanes zones (FreesInRun c lines index) = MayFreeInRun w lanes zones c lines index
 MayChange w lanes zones (FreesChunks c chunks) = MayFreeChunks w lanes zones c chunks
 
