@@ -54,10 +54,11 @@ entries_wanted v = length (published_in v) + length (pending_in v) + 1
 abbrev pub entries_in : View → ℕ
 entries_in v = entries_wanted v + (length (blocks_in v).made + length (blocks_in v).freed)
 
--- what is set is a word of an object that the call made and has, which needs no lock; and one that passes such an object's end
+-- what is set is a word of an object that the call made and has, which needs no lock
 abbrev pub CanSetNew : View → Action → Type 0
 CanSetNew v (SetWord id off value) = HasNewRange v id off 8 × IsWord (SetWord id off value)
 
+-- or the action passes such an object's end
 abbrev pub PassesNewObject : View → Action → Type 0
 PassesNewObject v (SetWord id off value) = PassesNewEnd v id off 8
 
@@ -81,17 +82,19 @@ pub record PublishesIn (v next : View) : Type 0 where
   pub each : All (CanSetIn v) (pending_in v)
   pub room : entries_in v ≤ max_entries
 
--- the lane has not the object of the action for writing: its call made none there, and it holds no such lock; or it has it, whether it is gone or not; or it
--- has it and it is gone; or not gone
+-- the lane has not the object of the action for writing: its call made none there, and it holds no such lock
 abbrev pub LacksObjectOf : View → Action → Type 0
 LacksObjectOf v a = (object_of a).pool ≡ v.pool → has_at v (object_of a).off true ≡ false
 
+-- it has it, whether it is gone or not
 abbrev pub HasObjectOf : View → Action → Type 0
 HasObjectOf v a = ((object_of a).pool ≡ v.pool) × (has_at v (object_of a).off true ≡ true)
 
+-- it has it, and it is gone
 abbrev pub IsOnGone : View → Action → Type 0
 IsOnGone v a = IsGone v (object_of a) true
 
+-- it has it, and it is not gone
 abbrev pub IsOnLeft : View → Action → Type 0
 IsOnLeft v a = IsLeft v (object_of a) true
 

@@ -6,7 +6,6 @@ use Rattle.std.proofs.lemmas.List.Elements.{All-cons, All-nil}
 use Rattle.pm_header.specs.declared.header.Header.{Header}
 use Rattle.pm_image.specs.declared.block.Block.{Block}
 use Rattle.pm_image.specs.Blocks.{chunk_word, descriptor_word}
-use Rattle.pm_image.specs.Contents.{bytes_in}
 use Rattle.pm_image.specs.HeapFaults.{heap_fault}
 use Rattle.pm_image.proofs.Members.{first_member, later_member}
 use Rattle.pm_image.proofs.Rooms.{run_fits}
