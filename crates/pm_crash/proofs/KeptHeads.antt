@@ -58,21 +58,23 @@ module _ (w v : ℕ → ℕ) (lanes zones : ℕ) (keeps : KeepsHeads w v lanes z
   may_kept (AllocatesChunks c chunks kind bytes) may =
       let free : AreFreeChunks w lanes zones c chunks = may.1 in
       let fits : c % 64 + chunks ≤ 64 = free.in_zone in
-      let in_zones : c < 64 * zones = free.in_zones in
-      (may.0, record {
-        in_zones = free.in_zones;
-        in_zone = free.in_zone;
-        are_free = λ k near.
-            let low : c % 64 + k < 64 = omega (arith, fits, near) in
-            let before = free.are_free k near in
-            let at : (j : ℕ) → j < 64 → v (512 * zone_page lanes (c / 64) + j) ≡ w (512 * zone_page lanes (c / 64) + j) =
-            λ j small.
-            let word : 512 * zone_page lanes (c / 64) + j ≡ descriptor_word lanes (64 * (c / 64) + j) = omega (arith, small) in
-            ap v word ∙ (keeps.descriptors (64 * (c / 64) + j) (omega (arith, small, in_zones)) ∙ ap w (sym word)) in
-            free_still w v lanes (c / 64) (c % 64 + k) before
-            (ap is_run (at (c % 64 + k) low) ∙ (or_parts (is_run (w (512 * zone_page lanes (c / 64) + (c % 64 + k)))) (list_any (reaches w lanes (c / 64) (c % 64 + k)) (range_with_len 0 (c % 64 + k + 1))) before).0)
-            (λ j below none. ap (λ (d : ℕ). is_huge d && ltb (c % 64 + k) (j + d / 256)) (at j (omega (arith, below, low))) ∙ none);
-      })
+      let in_zones : c < 64 * zones = free.in_zones in (
+        may.0,
+        record {
+          in_zones = free.in_zones;
+          in_zone = free.in_zone;
+          are_free = λ k near.
+              let low : c % 64 + k < 64 = omega (arith, fits, near) in
+              let before = free.are_free k near in
+              let at : (j : ℕ) → j < 64 → v (512 * zone_page lanes (c / 64) + j) ≡ w (512 * zone_page lanes (c / 64) + j) =
+              λ j small.
+              let word : 512 * zone_page lanes (c / 64) + j ≡ descriptor_word lanes (64 * (c / 64) + j) = omega (arith, small) in
+              ap v word ∙ (keeps.descriptors (64 * (c / 64) + j) (omega (arith, small, in_zones)) ∙ ap w (sym word)) in
+              free_still w v lanes (c / 64) (c % 64 + k) before
+              (ap is_run (at (c % 64 + k) low) ∙ (or_parts (is_run (w (512 * zone_page lanes (c / 64) + (c % 64 + k)))) (list_any (reaches w lanes (c / 64) (c % 64 + k)) (range_with_len 0 (c % 64 + k + 1))) before).0)
+              (λ j below none. ap (λ (d : ℕ). is_huge d && ltb (c % 64 + k) (j + d / 256)) (at j (omega (arith, below, low))) ∙ none);
+        },
+      )
   may_kept (FreesInRun c lines index) may = record {
     in_zones = may.in_zones;
     inside = may.inside;
