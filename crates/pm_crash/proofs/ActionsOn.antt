@@ -1,10 +1,10 @@
 -- The calls on pending actions in a transaction: a set-value, a cancel and a publish go on as the model's transaction does, and a refused publish gives up.
-use Rattle.std.proofs.Common.{◌≡◌, ◌≢◌, ℕ, ◌+◌, ◌<◌, ◌≤◌, ◌%◌, ◌||◌, Bool, cond, true, false, not, eqb, leb, ltb, List, [], ◌∷◌, ◌++◌, get_or, length, map, Option, Some, None, refl, sym, ◌∙◌, ap, subst, arith}
-use Rattle.std.specs.List.{All, list_any}
+use Rattle.std.proofs.Common.{◌≡◌, ◌≢◌, ℕ, ◌+◌, ◌<◌, ◌≤◌, ◌%◌, ◌||◌, ⊎_elim, inl, inr, Bool, cond, true, false, not, eqb, leb, ltb, List, [], ◌++◌, length, map, Option, Some, None, refl, sym, ◌∙◌, ap, subst, arith}
+use Rattle.std.specs.List.{All, Any, list_any}
 use Rattle.std.specs.Option.{option_map}
-use Rattle.std.proofs.lemmas.Bool.{le-ltb, lt-ltb, or_from}
+use Rattle.std.proofs.lemmas.Bool.{and_left, and_right, cases_eq, le-ltb, lt-ltb, ne_eqb, or_from, or_left, or_parts, or_right}
 use Rattle.std.proofs.lemmas.List.{append-nil, length-map}
-use Rattle.std.proofs.lemmas.List.Elements.{All-head, All-nil, All-tail, All-weaker}
+use Rattle.std.proofs.lemmas.List.Elements.{All-nil, All-weaker, Contains-append_left}
 use Rattle.std.proofs.lemmas.List.Folds.{list_any_none, list_any-from_Any}
 use Rattle.pm_header.specs.declared.header.Header.{Header}
 use Rattle.pm_objects.specs.declared.calls.Operation.{Operation}
@@ -20,27 +20,31 @@ use Rattle.pm_image.specs.Blocks.{blocks}
 use Rattle.pm_image.specs.Contents.{size_in}
 use Rattle.pm_model.specs.declared.stage.Stage.TheVariants as stage
 use Rattle.pm_model.specs.Actions.{Action, max_actions, max_entries, object_of, passes_object}
-use Rattle.pm_model.specs.Transaction.{Transaction, entries_of, is_gone, is_new}
+use Rattle.pm_model.specs.Actions.Action.{SetWord}
+use Rattle.pm_model.specs.Transaction.{Transaction, entries_of, holds_object, is_gone, is_locked}
+use Rattle.pm_model.specs.Bytes.{bytes_of}
 use Rattle.pm_model.specs.Checks.{first_refusal, is_unlocked_action, names_gone}
 use Rattle.pm_model.specs.Answers.{Answers, after_reply}
 use Rattle.pm_model.proofs.Alike.{after_refused}
 use Rattle.pm_view.specs.Log.{Recorded}
 use Rattle.pm_view.specs.View.{View}
-use Rattle.pm_crash.specs.CallBlocks.{CallBlocks, IsOldIn, KeepsBlocks, NewObject, TellsOfRoot, allocated_by, blocks_behind, blocks_in, is_new_in, no_blocks}
+use Rattle.pm_crash.specs.CallBlocks.{CallBlocks, IsOldIn, KeepsBlocks, NewObject, TellsOfRoot, allocated_by, blocks_behind, blocks_in, is_at, is_freed_in, is_gone_in, is_made_in, is_new_in, no_blocks}
 use Rattle.pm_crash.specs.Held.{HoldsPool}
 use Rattle.pm_crash.specs.Locks.{AreSameLocks}
-use Rattle.pm_crash.specs.OnActions.{AreOld, CanSet, ChangesPending, IsPendingAnswer, IsPublishReason, IsPublishReasonIn, MovesActions, PublishesIn, RefusesPublish, entries_in, entries_wanted, set_refusal}
-use Rattle.pm_crash.specs.OpenCall.{IsBefore, call_words, ComesTo, IsChanged, IsGivenUp, IsOpen, IsUnderWay, TracksBlocks, WasAborted, locks_of, words_recorded}
-use Rattle.pm_crash.specs.Operations.{IsHeld, KeepsLog, KeepsWords, TakesBack, Tells}
+use Rattle.pm_crash.specs.OnActions.{CanSet, CanSetIn, ChangesPending, HasObjectOf, IsOnGone, IsOnLeft, IsOnOld, IsPendingAnswer, IsPublishReason, IsPublishReasonIn, LacksObjectOf, MovesActions, PassesIn, PublishesIn, RefusesPublish, entries_in, entries_wanted, set_refusal}
+use Rattle.pm_crash.specs.OpenCall.{IsBefore, call_words, ComesTo, HasMade, IsChanged, IsGivenUp, IsPerformable, IsOpen, IsUnderWay, TracksBlocks, WasAborted, locks_of, words_recorded}
+use Rattle.pm_crash.specs.Operations.{has_at, IsHeld, IsLeft, IsMade, KeepsLog, KeepsWords, TakesBack, Tells}
 use Rattle.pm_crash.specs.Pending.{pending_behind, pending_in, published_by, published_in}
-use Rattle.pm_crash.specs.Performing.{CanPerform}
-use Rattle.pm_crash.proofs.CallWords.{call_works, held_is_locked, locks_kept, object_under, same_pool}
-use Rattle.pm_crash.proofs.CallBlocks.{keeps_on, old_of_none, tracks_gone, tracks_new}
+use Rattle.pm_crash.proofs.CallWords.{call_works, locked_member, locks_kept, object_under, same_pool}
+use Rattle.pm_crash.proofs.CallBlocks.{all_tracks_gone, any_map, keeps_on, old_of_none, tracks_new}
 use Rattle.pm_crash.proofs.Continued.{answers_value, known_new, leaves_told, left_changed, left_new, left_tracks, still_under_way, told_has, tracks_more, LeavesBlocks}
-use Rattle.pm_crash.proofs.GivenUp.{aborts_call, gives_up, lock_is_missing, refused_answers, IsRefusedFor}
+use Rattle.pm_crash.proofs.FreeChecks.{had_is_held}
+use Rattle.pm_crash.proofs.GivenUp.{aborts_call, gives_up, refused_answers, IsRefusedFor}
 use Rattle.pm_crash.proofs.KeptWords.{goes_back, keeps_known, same_call_words, same_found}
-use Rattle.pm_crash.proofs.NamedObjects.{all_perform, none_passes_end, one_passes_end, set_is_held, FindsObjects}
-use Rattle.pm_crash.proofs.Passing.{fails_lock, first_of_six, six_checks, unhindered, Works}
+use Rattle.pm_crash.proofs.NamedObjects.{is_outside, set_is_held, set_is_inside, set_performs, FindsObjects}
+use Rattle.pm_crash.proofs.NewRanges.{new_long}
+use Rattle.pm_crash.proofs.NewStay.{new_there}
+use Rattle.pm_crash.proofs.Passing.{fails_gone, fails_lock, first_of_six, six_checks, unhindered, WantsNone, Works}
 
 -- ---- operations that move actions, and do nothing else
 
@@ -56,7 +60,7 @@ record Moves (op : Operation) (reply : Option Value) (tx : Transaction) : Type 0
 moves_on : (v next : View) (op : Operation) (reply : Option Value) (level : ℕ) → IsUnderWay v level stage.Work error.None → Tells v next op reply → KeepsLog v next → KeepsWords v next
     → ((b : CallBlocks) → blocks_behind op reply b ≡ b)
     → ((w : ℕ → ℕ) (header : Header) (pool : PoolView) → v.pool ≡ header.id → IsBefore v w → (c : ComesTo v w header pool level stage.Work error.None)
-    → Moves op reply c.tx × All (CanPerform w v.lanes v.zones) (published_by op reply c.tx.actions))
+    → Moves op reply c.tx × All (IsPerformable v w) (published_by op reply c.tx.actions))
     → IsUnderWay next level stage.Work error.None
 moves_on v next op reply level under_way tells logs keeps none moves =
     let leaves : LeavesBlocks v next = leaves_told v next op reply tells.call (none (blocks_in v)) (known_new v next (keeps_known v next keeps) under_way.has.each) in
@@ -134,21 +138,24 @@ change_goes_on v next (SetValue id off value) reply level some under_way changes
     (λ w header pool same_id before c. (
       set_moves c.tx id off value reply (call_works v w header pool level some under_way c)
           (changes.answer ∙ ap (λ (actions : List Action). option_map Refused (set_refusal off actions)) (sym c.actions)),
-      All-nil (CanPerform w v.lanes v.zones),
+      All-nil (IsPerformable v w),
     ))
 change_goes_on v next Cancel reply level some under_way changes =
     moves_on v next Cancel reply level under_way changes.tells changes.logs changes.words
     (λ b. ap (λ (r : Option Value). blocks_behind Cancel r b) changes.answer)
     (λ w header pool same_id before c. (
       subst (λ (x : Option Value). Moves Cancel x c.tx) (sym changes.answer) (cancel_moves c.tx (call_works v w header pool level some under_way c)),
-      All-nil (CanPerform w v.lanes v.zones),
+      All-nil (IsPerformable v w),
     ))
 change_goes_on v next op reply level some under_way changes = absurd changes.answer
 
 -- ---- a publish
 
--- the transaction of the open call has the actions that are pending and those published, and finds the objects that the lane holds, none of which it
--- made or freed
+asks_none : WantsNone Publish
+asks_none = record { no_wants = refl; no_begin = refl; no_alloc = refl; no_free = refl }
+
+-- the transaction of the open call has the actions that are pending and those published; it finds the objects that the lane holds and did not free, and has those
+-- that its call made
 record Publishes (v : View) (w : ℕ → ℕ) (tx : Transaction) : Type 0 where
   works : Works tx
   of_pool : tx.pool.id ≡ v.pool
@@ -156,123 +163,187 @@ record Publishes (v : View) (w : ℕ → ℕ) (tx : Transaction) : Type 0 where
   actions : tx.actions ≡ pending_in v
   moved : tx.moved ≡ published_in v
   tracks : TracksBlocks tx (blocks_in v)
-  found : All (λ (a : Action). is_new_in v (object_of a).off ≡ false) (pending_in v)
+  finds : FindsObjects v w tx (IsOldIn v)
+  news : (id : Oid) → (made : IsMade v id) → length (bytes_of tx.pool.objects id.off) ≡ made.new.size
 
-publishes_open : (v : View) (w : ℕ → ℕ) (header : Header) (pool : PoolView) (level : ℕ) → 1 ≤ level → IsUnderWay v level stage.Work error.None → v.pool ≡ header.id
-    → (c : ComesTo v w header pool level stage.Work error.None) → All (λ (a : Action). is_new_in v (object_of a).off ≡ false) (pending_in v) → Publishes v w c.tx
-publishes_open v w header pool level some under_way same_id c found = record {
+publishes_open : (v : View) (w : ℕ → ℕ) (header : Header) (pool : PoolView) (level : ℕ) → 1 ≤ level → IsUnderWay v level stage.Work error.None → v.pool ≡ header.id → IsBefore v w
+    → (c : ComesTo v w header pool level stage.Work error.None) → Publishes v w c.tx
+publishes_open v w header pool level some under_way same_id before c = record {
   works = call_works v w header pool level some under_way c;
   of_pool = same_pool v w header c.base c.tx c.holds c.changed same_id;
   locks = c.locks;
   actions = c.actions;
   moved = c.moved;
   tracks = c.tracks;
-  found = found;
+  finds = record { under = λ id write old held known. object_under v w header pool level id write under_way before c held known old; sizes = c.sizes_stay };
+  news = λ id made. new_long v w header pool level under_way c id made;
 }
 
-finds_old : (v : View) (w : ℕ → ℕ) (header : Header) (pool : PoolView) (level : ℕ) → IsUnderWay v level stage.Work error.None → IsBefore v w
-    → (c : ComesTo v w header pool level stage.Work error.None) → FindsObjects v w c.tx (IsOldIn v)
-finds_old v w header pool level under_way before c = record { under = λ id write old held known. object_under v w header pool level id write under_way before c held known old; sizes = c.sizes_stay }
+-- ---- what the lane has of the objects
 
--- none of these is gone
-kept_actions : (v : View) (w : ℕ → ℕ) (tx : Transaction) → Publishes v w tx → AreOld v (pending_in v) → names_gone tx Publish ≡ false
-kept_actions v w tx of old = ap (λ (actions : List Action). list_any (is_gone tx) (map (λ (a : Action). (object_of a).off) actions)) of.actions ∙ go (pending_in v) old where
-  go : (actions : List Action) → AreOld v actions → list_any (is_gone tx) (map (λ (a : Action). (object_of a).off) actions) ≡ false
-  go [] old = refl
-  go (a ∷ actions) old =
-      let here : IsOldIn v (object_of a).off = All-head (λ (x : Action). IsOldIn v (object_of x).off) a actions old in
-      or_from (is_gone tx (object_of a).off) (list_any (is_gone tx) (map (λ (x : Action). (object_of x).off) actions)) (tracks_gone v tx of.tracks (object_of a).off here.found here.kept)
-      (go actions (All-tail (λ (x : Action). IsOldIn v (object_of x).off) a actions old))
+held_is_had : (v : View) (id : Oid) → IsHeld v id true → has_at v id.off true ≡ true
+held_is_had v id held = or_right (is_new_in v id.off) (is_locked (locks_of v) id.off true) (locked_member v.locks held.lock id.off true held.held (sym held.place) held.allows)
 
--- the first refusal of a publish, by the checks of locks, ends and room
-three_checks : (tx : Transaction) → Works tx → names_gone tx Publish ≡ false
-    → first_refusal unhindered tx Publish
-    ≡ first_of_six false (list_any (is_unlocked_action tx) tx.actions || false || false) (list_any (passes_object tx.pool.objects) tx.actions || false) false false (ltb max_entries (entries_of tx + length tx.actions + 1))
-three_checks tx works kept = six_checks tx Publish works (record { no_wants = refl; no_begin = refl; no_alloc = refl; no_free = refl }) kept
+old_is_left : (v : View) (off : ℕ) → IsOldIn v off → is_gone_in v off ≡ false
+old_is_left v off old = or_from (is_freed_in v off) (list_any (is_at off) (blocks_in v).dropped) old.kept (or_parts (is_made_in v off) (list_any (is_at off) (blocks_in v).dropped) old.found).1
 
--- what these find of the actions that are pending
-locks_found : (v : View) (w : ℕ → ℕ) (tx : Transaction) → Publishes v w tx → All (λ (a : Action). IsHeld v (object_of a) true) (pending_in v) → list_any (is_unlocked_action tx) tx.actions ≡ false
-locks_found v w tx of each =
-    ap (list_any (is_unlocked_action tx)) of.actions
-    ∙ list_any_none (is_unlocked_action tx) (pending_in v)
-    (All-weaker (λ (a : Action). IsHeld v (object_of a) true) (λ (a : Action). is_unlocked_action tx a ≡ false) (λ a held. held_is_locked v (object_of a) true tx held of.locks of.of_pool) (pending_in v) each)
+made_is_left : (v : View) (id : Oid) → HasMade v → IsMade v id → IsLeft v id true
+made_is_left v id has made = record {
+  of_pool = made.of_pool;
+  has = or_left (is_new_in v id.off) (is_locked (locks_of v) id.off true)
+      (ap (is_new_in v) made.place ∙ new_there v made.new (Contains-append_left (blocks_in v).made (blocks_in v).dropped made.new made.has));
+  left = ap (is_gone_in v) made.place ∙ has.kept made.new made.has;
+}
 
-all_held : (v : View) → All (CanSet v) (pending_in v) → All (λ (a : Action). IsHeld v (object_of a) true) (pending_in v)
-all_held v each = All-weaker (CanSet v) (λ (a : Action). IsHeld v (object_of a) true) (set_is_held v) (pending_in v) each
+-- what can be set is of an object that it has, and that is not gone
+set_is_left : (v : View) → HasMade v → (a : Action) → CanSetIn v a → IsOnLeft v a
+set_is_left v has a (inl can) =
+    let held : IsHeld v (object_of a) true = set_is_held v a can.0 in
+    record { of_pool = held.of_pool; has = held_is_had v (object_of a) held; left = old_is_left v (object_of a).off can.1 }
+set_is_left v has (SetWord id off value) (inr can) = made_is_left v id has can.0.made
 
-ends_found : (v : View) (w : ℕ → ℕ) (tx : Transaction) → Publishes v w tx → FindsObjects v w tx (IsOldIn v) → AreOld v (pending_in v) → All (CanSet v) (pending_in v) → list_any (passes_object tx.pool.objects) tx.actions ≡ false
-ends_found v w tx of finds old each = ap (list_any (passes_object tx.pool.objects)) of.actions ∙ none_passes_end v w tx (IsOldIn v) finds (pending_in v) old each
+all_left : (v : View) → HasMade v → All (CanSetIn v) (pending_in v) → All (IsOnLeft v) (pending_in v)
+all_left v has each = All-weaker (CanSetIn v) (IsOnLeft v) (set_is_left v has) (pending_in v) each
 
--- so many entries the model's transaction has, with those for what it made and freed
-entries_found : (v : View) (w : ℕ → ℕ) (tx : Transaction) → Publishes v w tx → entries_of tx + length tx.actions + 1 ≡ entries_in v
-entries_found v w tx of =
-    let moved : length tx.moved ≡ length (published_in v) = ap (λ (actions : List Action). length actions) of.moved in
-    let pending : length tx.actions ≡ length (pending_in v) = ap (λ (actions : List Action). length actions) of.actions in
-    let made : length tx.made ≡ length (blocks_in v).made = ap (λ (offs : List ℕ). length offs) of.tracks.made ∙ length-map (blocks_in v).made (λ (n : NewObject). n.off) in
-    let freed : length tx.freed ≡ length (blocks_in v).freed = ap (λ (offs : List ℕ). length offs) of.tracks.freed in
-    omega arith
+all_had : (v : View) → All (IsOnLeft v) (pending_in v) → All (HasObjectOf v) (pending_in v)
+all_had v each = All-weaker (IsOnLeft v) (HasObjectOf v) (λ a left. (left.of_pool, left.has)) (pending_in v) each
 
-publish_passes : (v : View) (w : ℕ → ℕ) (tx : Transaction) → Publishes v w tx → FindsObjects v w tx (IsOldIn v) → AreOld v (pending_in v) → All (CanSet v) (pending_in v) → entries_in v ≤ max_entries → first_refusal unhindered tx Publish ≡ None
-unfolding first_of_six
-publish_passes v w tx of finds old each room =
-    three_checks tx of.works (kept_actions v w tx of old)
-    ∙ (λ j. first_of_six false (locks_found v w tx of (all_held v each) j || false || false) (ends_found v w tx of finds old each j || false) false false ((ap (ltb max_entries) (entries_found v w tx of) ∙ le-ltb max_entries (entries_in v) room) j))
+-- ---- what the checks find of the actions that are pending
 
--- what the objects are that is found of old ones
-found_old : (v : View) → AreOld v (pending_in v) → All (λ (a : Action). is_new_in v (object_of a).off ≡ false) (pending_in v)
-found_old v old = All-weaker (λ (a : Action). IsOldIn v (object_of a).off) (λ (a : Action). is_new_in v (object_of a).off ≡ false) (λ a is. is.found) (pending_in v) old
+module _ (v : View) (w : ℕ → ℕ) (tx : Transaction) (of : Publishes v w tx) where
+  -- their locks
+  locks_found : All (HasObjectOf v) (pending_in v) → list_any (is_unlocked_action tx) tx.actions ≡ false
+  locks_found each =
+      ap (list_any (is_unlocked_action tx)) of.actions
+      ∙ list_any_none (is_unlocked_action tx) (pending_in v)
+      (All-weaker (HasObjectOf v) (λ (a : Action). is_unlocked_action tx a ≡ false) (λ a has. had_is_held v tx (object_of a) true of.of_pool of.locks of.tracks has.0 has.1) (pending_in v) each)
 
--- each object that it publishes something of the call found, and did not free
-pub publish_goes_on : (v next : View) (level : ℕ) → 1 ≤ level → IsUnderWay v level stage.Work error.None → PublishesIn v next → AreOld v (pending_in v) → IsUnderWay next level stage.Work error.None
-publish_goes_on v next level some under_way publishes old =
+  lacking_is_unlocked : (a : Action) → LacksObjectOf v a → is_unlocked_action tx a ≡ true
+  lacking_is_unlocked a lacks =
+      let id : Oid = object_of a in
+      ap not (⊎_elim
+      (λ (same : id.pool ≡ tx.pool.id). and_right (eqb id.pool tx.pool.id) (holds_object tx id.off true) ((λ j. tracks_new v tx of.tracks id.off j || of.locks.same id.off true j) ∙ lacks (same ∙ of.of_pool)))
+      (λ (other : id.pool ≢ tx.pool.id). and_left (eqb id.pool tx.pool.id) (holds_object tx id.off true) (ne_eqb id.pool tx.pool.id other))
+      (cases_eq id.pool tx.pool.id))
+
+  -- which of them are gone
+  named : list_any (is_gone tx) (map (λ (a : Action). (object_of a).off) (pending_in v)) ≡ list_any (λ (a : Action). is_gone tx (object_of a).off) (pending_in v)
+  named = any_map (is_gone tx) (λ (a : Action). (object_of a).off) (pending_in v)
+
+  gone_found : names_gone tx Publish ≡ list_any (λ (a : Action). is_gone tx (object_of a).off) (pending_in v)
+  gone_found = ap (λ (actions : List Action). list_any (is_gone tx) (map (λ (a : Action). (object_of a).off) actions)) of.actions ∙ named
+
+  none_gone : All (IsOnLeft v) (pending_in v) → names_gone tx Publish ≡ false
+  none_gone each =
+      gone_found
+      ∙ list_any_none (λ (a : Action). is_gone tx (object_of a).off) (pending_in v)
+      (All-weaker (IsOnLeft v) (λ (a : Action). is_gone tx (object_of a).off ≡ false) (λ a left. all_tracks_gone v tx of.tracks (object_of a).off ∙ left.left) (pending_in v) each)
+
+  one_gone : Any (IsOnGone v) (pending_in v) → names_gone tx Publish ≡ true
+  one_gone (k, a, inside, at, gone) =
+      gone_found
+      ∙ list_any-from_Any (λ (x : Action). is_gone tx (object_of x).off) (pending_in v) (k, a, inside, at, all_tracks_gone v tx of.tracks (object_of a).off ∙ gone.gone)
+
+  -- their ends
+  inside_end : (a : Action) → CanSetIn v a → passes_object tx.pool.objects a ≡ false
+  inside_end a (inl can) = set_is_inside v w tx (IsOldIn v) of.finds a can.1 can.0
+  inside_end (SetWord id off value) (inr can) =
+      let long = of.news id can.0.made in let inside = can.0.inside in
+      le-ltb (length (bytes_of tx.pool.objects id.off)) (off + 8) (omega (arith, long, inside))
+
+  past_end : (a : Action) → PassesIn v a → passes_object tx.pool.objects a ≡ true
+  past_end a (inl passes) = is_outside v w tx (IsOldIn v) of.finds a passes.1 passes.0
+  past_end (SetWord id off value) (inr passes) =
+      let long = of.news id passes.made in let outside = passes.outside in
+      lt-ltb (length (bytes_of tx.pool.objects id.off)) (off + 8) (omega (arith, long, outside))
+
+  ends_found : All (CanSetIn v) (pending_in v) → list_any (passes_object tx.pool.objects) tx.actions ≡ false
+  ends_found each =
+      ap (list_any (passes_object tx.pool.objects)) of.actions
+      ∙ list_any_none (passes_object tx.pool.objects) (pending_in v) (All-weaker (CanSetIn v) (λ (a : Action). passes_object tx.pool.objects a ≡ false) inside_end (pending_in v) each)
+
+  one_past : Any (PassesIn v) (pending_in v) → list_any (passes_object tx.pool.objects) tx.actions ≡ true
+  one_past (k, a, inside, at, passes) =
+      ap (list_any (passes_object tx.pool.objects)) of.actions ∙ list_any-from_Any (passes_object tx.pool.objects) (pending_in v) (k, a, inside, at, past_end a passes)
+
+  -- so many entries the model's transaction has, with those for what it made and freed
+  entries_found : entries_of tx + length tx.actions + 1 ≡ entries_in v
+  entries_found =
+      let moved : length tx.moved ≡ length (published_in v) = ap (λ (actions : List Action). length actions) of.moved in
+      let pending : length tx.actions ≡ length (pending_in v) = ap (λ (actions : List Action). length actions) of.actions in
+      let made : length tx.made ≡ length (blocks_in v).made = ap (λ (offs : List ℕ). length offs) of.tracks.made ∙ length-map (blocks_in v).made (λ (n : NewObject). n.off) in
+      let freed : length tx.freed ≡ length (blocks_in v).freed = ap (λ (offs : List ℕ). length offs) of.tracks.freed in
+      omega (arith, moved, pending, made, freed)
+
+  -- the first refusal, by the checks of locks, ends and room
+  three_checks : names_gone tx Publish ≡ false
+      → first_refusal unhindered tx Publish
+      ≡ first_of_six false (list_any (is_unlocked_action tx) tx.actions || false || false) (list_any (passes_object tx.pool.objects) tx.actions || false) false false (ltb max_entries (entries_of tx + length tx.actions + 1))
+  three_checks kept = six_checks tx Publish of.works asks_none kept
+
+  publish_passes : HasMade v → All (CanSetIn v) (pending_in v) → entries_in v ≤ max_entries → first_refusal unhindered tx Publish ≡ None
+  unfolding first_of_six
+  publish_passes has each room =
+      let left : All (IsOnLeft v) (pending_in v) = all_left v has each in
+      three_checks (none_gone left)
+      ∙ (λ j. first_of_six false (locks_found (all_had v left) j || false || false) (ends_found each j || false) false false ((ap (ltb max_entries) entries_found ∙ le-ltb max_entries (entries_in v) room) j))
+
+  -- what can be set can be performed
+  performs_one : HasMade v → (a : Action) → CanSetIn v a → IsPerformable v w a
+  performs_one has a (inl can) = inl (set_performs v w tx (IsOldIn v) of.finds a can.1 can.0)
+  performs_one has (SetWord id off value) (inr can) =
+      let made : IsMade v id = can.0.made in
+      inr (record {
+        new = made.new;
+        is_new = Contains-append_left (blocks_in v).made (blocks_in v).dropped made.new made.has;
+        begins = sym made.place;
+        behind = (has.each made.new made.has).behind;
+        inside = can.0.inside;
+        whole = can.1;
+      })
+
+  -- a publish is refused for the first reason that the lane has
+  publish_refused : (r : Refusal) → HasMade v → IsPublishReasonIn v r → IsRefusedFor tx Publish r
+  unfolding first_of_six
+  publish_refused refusal.NotLocked has (k, a, inside, at, lacks) =
+      let unlocked : list_any (is_unlocked_action tx) tx.actions ≡ true =
+      ap (list_any (is_unlocked_action tx)) of.actions ∙ list_any-from_Any (is_unlocked_action tx) (pending_in v) (k, a, inside, at, lacking_is_unlocked a lacks) in
+      record { refused_first = fails_lock tx Publish of.works asks_none refl (ap (λ (b : Bool). b || false || false) unlocked); traced = refl }
+  publish_refused refusal.NoObject has reason = record {
+    refused_first = fails_gone tx Publish of.works asks_none refl (ap (λ (b : Bool). b || false || false) (locks_found reason.0)) (one_gone reason.1);
+    traced = refl;
+  }
+  publish_refused refusal.OutOfRange has reason = record {
+    refused_first =
+        three_checks (none_gone reason.0)
+        ∙ (λ j. first_of_six false (locks_found (all_had v reason.0) j || false || false) (one_past reason.1 j || false) false false (ltb max_entries (entries_of tx + length tx.actions + 1)));
+    traced = refl;
+  }
+  publish_refused refusal.ActionsFull has reason =
+      let left : All (IsOnLeft v) (pending_in v) = all_left v has reason.0 in
+      record {
+        refused_first =
+            three_checks (none_gone left)
+            ∙ (λ j. first_of_six false (locks_found (all_had v left) j || false || false) (ends_found reason.0 j || false) false false ((ap (ltb max_entries) entries_found ∙ lt-ltb max_entries (entries_in v) reason.1) j));
+        traced = refl;
+      }
+  publish_refused r has reason = absurd reason
+
+pub publish_goes_on : (v next : View) (level : ℕ) → 1 ≤ level → IsUnderWay v level stage.Work error.None → PublishesIn v next → IsUnderWay next level stage.Work error.None
+publish_goes_on v next level some under_way publishes =
     moves_on v next Publish None level under_way publishes.tells publishes.logs publishes.words (λ b. refl)
     (λ w header pool same_id before c.
-    let of : Publishes v w c.tx = publishes_open v w header pool level some under_way same_id c (found_old v old) in
-    let finds : FindsObjects v w c.tx (IsOldIn v) = finds_old v w header pool level under_way before c in (
-      record { answers = answers_value c.tx Publish None refl (record { no_wants = refl; no_begin = refl; no_alloc = refl; no_free = refl }) (publish_passes v w c.tx of finds old publishes.each publishes.room) refl; leaves = refl },
-      subst (All (CanPerform w v.lanes v.zones)) (sym c.actions) (all_perform v w c.tx (IsOldIn v) finds (pending_in v) old publishes.each),
+    let of : Publishes v w c.tx = publishes_open v w header pool level some under_way same_id before c in (
+      record { answers = answers_value c.tx Publish None refl asks_none (publish_passes v w c.tx of under_way.has publishes.each publishes.room) refl; leaves = refl },
+      subst (All (IsPerformable v w)) (sym c.actions) (All-weaker (CanSetIn v) (IsPerformable v w) (performs_one v w c.tx of under_way.has) (pending_in v) publishes.each),
     ))
 
--- a publish is refused for the first reason that the lane has: unless that is a lock, the call freed none of the objects
-publish_refused : (v : View) (w : ℕ → ℕ) (tx : Transaction) (r : Refusal) → Publishes v w tx → FindsObjects v w tx (IsOldIn v) → (r ≢ refusal.NotLocked → AreOld v (pending_in v)) → IsPublishReasonIn v r → IsRefusedFor tx Publish r
-unfolding first_of_six
-publish_refused v w tx refusal.NotLocked of finds unless (k, a, inside, at, unheld) =
-    let found : is_new tx (object_of a).off ≡ false = tracks_new v tx of.tracks (object_of a).off ∙ subst (λ (x : Action). is_new_in v (object_of x).off ≡ false) at (of.found k a inside) in
-    let unlocked : list_any (is_unlocked_action tx) tx.actions ≡ true =
-    ap (list_any (is_unlocked_action tx)) of.actions
-    ∙ list_any-from_Any (is_unlocked_action tx) (pending_in v) (k, a, inside, at, lock_is_missing v tx (object_of a) true of.of_pool of.locks (λ same. found) unheld) in
-    record {
-      refused_first =
-          fails_lock tx Publish of.works (record { no_wants = refl; no_begin = refl; no_alloc = refl; no_free = refl }) refl
-          (ap (λ (b : Bool). b || false || false) unlocked);
-      traced = refl;
-    }
-publish_refused v w tx refusal.OutOfRange of finds unless reason =
-    let old : AreOld v (pending_in v) = unless (λ same. absurd cc) in
-    let past : list_any (passes_object tx.pool.objects) tx.actions ≡ true =
-    ap (list_any (passes_object tx.pool.objects)) of.actions ∙ one_passes_end v w tx (IsOldIn v) finds (pending_in v) old reason.1 in
-    record {
-      refused_first =
-          three_checks tx of.works (kept_actions v w tx of old)
-          ∙ (λ j. first_of_six false (locks_found v w tx of reason.0 j || false || false) (past j || false) false false (ltb max_entries (entries_of tx + length tx.actions + 1)));
-      traced = refl;
-    }
-publish_refused v w tx refusal.ActionsFull of finds unless reason =
-    let old : AreOld v (pending_in v) = unless (λ same. absurd cc) in
-    record {
-      refused_first =
-          three_checks tx of.works (kept_actions v w tx of old)
-          ∙ (λ j. first_of_six false (locks_found v w tx of (all_held v reason.0) j || false || false) (ends_found v w tx of finds old reason.0 j || false) false false ((ap (ltb max_entries) (entries_found v w tx of) ∙ lt-ltb max_entries (entries_in v) reason.1) j));
-      traced = refl;
-    }
-publish_refused v w tx r of finds unless reason = absurd reason
-
 pub refused_publish_aborts : (v next : View) (r : Refusal) (level : ℕ) → 1 ≤ level → IsUnderWay v level stage.Work error.None → IsPublishReasonIn v r → Tells v next Publish (Some (Refused r)) → TakesBack v next
-    → All (λ (a : Action). is_new_in v (object_of a).off ≡ false) (pending_in v) → (r ≢ refusal.NotLocked → AreOld v (pending_in v)) → WasAborted next (error.Refused r)
-refused_publish_aborts v next r level some under_way reason tells back found unless =
+    → WasAborted next (error.Refused r)
+refused_publish_aborts v next r level some under_way reason tells back =
     aborts_call v next Publish (Some (Refused r)) level (error.Refused r) under_way tells.keeps (same_found v next tells.locks) (λ actions. refl) tells.call back
     (λ w header pool same_id before c.
-    let is : IsRefusedFor c.tx Publish r = publish_refused v w c.tx r (publishes_open v w header pool level some under_way same_id c found) (finds_old v w header pool level under_way before c) unless reason in
+    let is : IsRefusedFor c.tx Publish r = publish_refused v w c.tx (publishes_open v w header pool level some under_way same_id before c) r under_way.has reason in
     (refused_answers c.tx Publish r refl is, after_refused Publish (Some (Refused r)) c.tx r (record { traced = is.traced; told = refl })))
 
 -- ---- calls that allocated and freed nothing
@@ -302,8 +373,11 @@ change_keeps_open v next op reply level some is_open changes = record {
 }
 
 -- none of the objects that are pending is new or freed, and no entry is of one
-all_old : (v : View) → KeepsBlocks v → (actions : List Action) → AreOld v actions
-all_old v keeps actions k d inside = old_of_none v keeps (object_of (get_or actions k d)).off
+on_old : (v : View) → KeepsBlocks v → (a : Action) → IsOnOld v a
+on_old v keeps a = old_of_none v keeps (object_of a).off
+
+set_in : (v : View) → KeepsBlocks v → (actions : List Action) → All (CanSet v) actions → All (CanSetIn v) actions
+set_in v keeps actions each = All-weaker (CanSet v) (CanSetIn v) (λ a can. inl (can, on_old v keeps a)) actions each
 
 no_entry_more : (v : View) → KeepsBlocks v → entries_in v ≡ entries_wanted v
 no_entry_more v keeps =
@@ -315,19 +389,28 @@ pub publish_keeps_open : (v next : View) (level : ℕ) → 1 ≤ level → IsOpe
 publish_keeps_open v next level some is_open moves = record {
   under_way =
       publish_goes_on v next level some is_open.under_way
-      (record { tells = moves.tells; logs = moves.logs; words = moves.words; each = moves.each; room = subst (λ (n : ℕ). n ≤ max_entries) (sym (no_entry_more v is_open.keeps)) moves.room })
-      (all_old v is_open.keeps (pending_in v));
+      (record {
+        tells = moves.tells;
+        logs = moves.logs;
+        words = moves.words;
+        each = set_in v is_open.keeps (pending_in v) moves.each;
+        room = subst (λ (n : ℕ). n ≤ max_entries) (sym (no_entry_more v is_open.keeps)) moves.room;
+      });
   keeps = keeps_on v next Publish None moves.tells.call refl refl (λ root. tt) is_open.keeps;
 }
 
 reason_in : (v : View) (r : Refusal) → KeepsBlocks v → IsPublishReason v r → IsPublishReasonIn v r
-reason_in v refusal.NotLocked keeps reason = reason
-reason_in v refusal.OutOfRange keeps reason = reason
-reason_in v refusal.ActionsFull keeps reason = (reason.0, subst (λ (n : ℕ). max_entries < n) (sym (no_entry_more v keeps)) reason.1)
+reason_in v refusal.NotLocked keeps (k, a, inside, at, unheld) =
+    (k, a, inside, at, λ same. or_from (is_new_in v (object_of a).off) (is_locked (locks_of v) (object_of a).off true) (on_old v keeps a).found (unheld same))
+reason_in v refusal.OutOfRange keeps reason = (
+  All-weaker (λ (a : Action). IsHeld v (object_of a) true) (IsOnLeft v)
+      (λ a held. record { of_pool = held.of_pool; has = held_is_had v (object_of a) held; left = old_is_left v (object_of a).off (on_old v keeps a) }) (pending_in v) reason.0,
+  (let past = reason.1 in (past.0, past.1, past.2, past.3, inl (past.4, on_old v keeps past.1))),
+)
+reason_in v refusal.ActionsFull keeps reason = (set_in v keeps (pending_in v) reason.0, subst (λ (n : ℕ). max_entries < n) (sym (no_entry_more v keeps)) reason.1)
 reason_in v r keeps reason = absurd reason
 
 pub refused_publish_gives_up : (v next : View) (r : Refusal) (level : ℕ) → 1 ≤ level → IsOpen v level stage.Work error.None → RefusesPublish v next r → IsGivenUp next (error.Refused r)
 refused_publish_gives_up v next r level some is_open refuses =
     gives_up v next Publish (Some (Refused r)) refl (λ root. tt) refuses.tells.call is_open.keeps (error.Refused r)
-    (refused_publish_aborts v next r level some is_open.under_way (reason_in v r is_open.keeps refuses.reason) refuses.tells refuses.takes_back
-    (found_old v (all_old v is_open.keeps (pending_in v))) (λ other. all_old v is_open.keeps (pending_in v)))
+    (refused_publish_aborts v next r level some is_open.under_way (reason_in v r is_open.keeps refuses.reason) refuses.tells refuses.takes_back)

@@ -19,7 +19,7 @@ use Rattle.pm_world.specs.Records.{covers, is_recorded}
 use Rattle.pm_crash.specs.CallBlocks.{IsOldIn, blocks_in}
 use Rattle.pm_crash.specs.Held.{HoldsPool}
 use Rattle.pm_crash.specs.Locks.{AreSameLocks}
-use Rattle.pm_crash.specs.OpenCall.{IsBefore, IsChanged, IsOpen, IsUnderWay, TracksBlocks, call_words, locks_of, words_recorded}
+use Rattle.pm_crash.specs.OpenCall.{IsBefore, IsChanged, IsOpen, IsUnderWay, TracksBlocks, call_words, locks_of, words_recorded, IsPerformable}
 use Rattle.pm_crash.specs.Operations.{AddsRange, IsPresent}
 use Rattle.pm_crash.proofs.CallBlocks.{keeps_on, old_of_none, tracks_new}
 use Rattle.pm_crash.proofs.CallWords.{call_works, covered_is_outside, held_is_locked, locks_kept, object_under, one_is_kept, other_call_word, recorded_call_word, same_pool, IsObjectOf}
@@ -28,7 +28,6 @@ use Rattle.pm_crash.proofs.KeptWords.{found_back, keeps_known, lies_further, sam
 use Rattle.pm_crash.proofs.NewRecords.{new_is_covered, number_of_new, recorded_member, slot_added, slot_kept, words_of_all, words_of_new}
 use Rattle.pm_crash.proofs.Passing.{passes_all, AsksNoLock, Works}
 use Rattle.std.proofs.lemmas.List.Elements.{All-nil}
-use Rattle.pm_crash.specs.Performing.{CanPerform}
 
 -- a word is recorded after where it was before, or is new
 recorded_after : (v next : View) (id : Oid) (off len i : ℕ) → (adds : AddsRange v next id off len) → is_recorded next.log.records i ≡ (is_recorded v.log.records i || is_recorded adds.added i)
@@ -156,7 +155,7 @@ add_goes_on v next id off len level some under_way adds old =
       fails = ap (λ (x : Transaction). x.error) leads;
       actions = ap (λ (x : Transaction). x.actions) leads;
       moved = ap (λ (x : Transaction). x.moved) leads ∙ sym (append-nil c.tx.moved);
-      performable = All-nil (CanPerform w v.lanes v.zones);
+      performable = All-nil (IsPerformable v w);
       blocks_stay = ap (λ (f : ℕ → ℕ). blocks f v.lanes v.zones) same;
       sizes_stay = λ block there. ap (λ (f : ℕ → ℕ). size_in f block) same;
     })

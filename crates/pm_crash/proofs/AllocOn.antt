@@ -38,9 +38,8 @@ use Rattle.pm_view.specs.View.{View, Lock}
 use Rattle.pm_crash.specs.CallBlocks.{CallBlocks, IsMadeIn, MayPrecede, NewObject, allocated_in, block_of, blocks_in, is_at, is_freed_in, is_gone_in, is_made_in, is_new_in, object_made, with_made}
 use Rattle.pm_crash.specs.Held.{HoldsPool, object_of}
 use Rattle.pm_crash.specs.HeapChanges.{AreDisjoint}
-use Rattle.pm_crash.specs.OpenCall.{ComesTo, HasMade, IsChanged, IsUnderWay, LieApart, TracksBlocks, block_at_line, call_words, place_and_size, words_recorded}
+use Rattle.pm_crash.specs.OpenCall.{ComesTo, HasMade, IsChanged, IsUnderWay, LieApart, TracksBlocks, block_at_line, call_words, place_and_size, words_recorded, IsPerformable}
 use Rattle.pm_crash.specs.Operations.{AllocatesObject, entries_so_far}
-use Rattle.pm_crash.specs.Performing.{CanPerform}
 use Rattle.pm_crash.proofs.CallBlocks.{SameNew, allocated_once_more, blocks_once_more, made_stays, object_stays}
 use Rattle.pm_crash.proofs.CallWords.{as_many_entries, call_works, locks_kept, same_lanes, same_zones}
 use Rattle.pm_crash.proofs.Continued.{known_new, still_under_way, two_same, Continues, GoesBack}
@@ -188,6 +187,12 @@ module _ (v next : View) (n : NewObject) (level : ℕ) (some_level : 1 ≤ level
         (made_cases m there);
     once = subst (λ (b : CallBlocks). AreOnce b.made) (sym blocks_now) (once_more (blocks_in v).made n under_way.has.once not_made_there);
     apart_new = apart_new;
+    apart_gone = λ m k there gone.
+        let dropped : Contains (blocks_in v).dropped k = subst (λ (b : CallBlocks). Contains b.dropped k) blocks_now gone in
+        ⊎_elim
+        (λ (before : Contains (blocks_in v).made m). under_way.has.apart_gone m k before dropped)
+        (λ (same : m ≡ n). subst (λ (x : NewObject). AreDisjoint (block_of x) (block_of k)) (sym same) (alloc.apart_made k (Contains-append_right (blocks_in v).made (blocks_in v).dropped k dropped)))
+        (made_cases m there);
     apart_found = apart;
   }
 
@@ -352,7 +357,7 @@ module _ (v next : View) (n : NewObject) (level : ℕ) (some_level : 1 ≤ level
           fails = refl;
           actions = refl;
           moved = sym (append-nil c.tx.moved);
-          performable = All-nil (CanPerform w v.lanes v.zones);
+          performable = All-nil (IsPerformable v w);
           blocks_stay = ap (λ (f : ℕ → ℕ). blocks f v.lanes v.zones) same;
           sizes_stay = λ block there. ap (λ (f : ℕ → ℕ). size_in f block) same;
         }

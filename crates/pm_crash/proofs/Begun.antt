@@ -34,9 +34,8 @@ use Rattle.pm_crash.proofs.SameLocks.{turned_locks}
 use Rattle.pm_crash.specs.CallBlocks.{CallBlocks, KeepsBlocks, allocated_by, blocks_told, is_at, is_new_in, no_blocks}
 use Rattle.pm_crash.specs.Held.{HoldsPool}
 use Rattle.pm_crash.specs.Locks.{AreSameLocks}
-use Rattle.pm_crash.specs.OpenCall.{HasMade, IsBefore, IsChanged, IsOpen, IsUnderWay, RunsTo, TracksBlocks, block_at_line, call_words, words_recorded, lock_of, locks_of}
+use Rattle.pm_crash.specs.OpenCall.{HasMade, IsBefore, IsChanged, IsOpen, IsUnderWay, RunsTo, TracksBlocks, block_at_line, call_words, words_recorded, lock_of, locks_of, IsPerformable}
 use Rattle.pm_crash.specs.Pending.{pending_before, told_of}
-use Rattle.pm_crash.specs.Performing.{CanPerform}
 use Rattle.pm_crash.specs.Operations.{BeginsCall, IsHeld, IsWantHeld}
 use Rattle.pm_crash.proofs.ManyObjects.{AreOnce}
 use Rattle.pm_crash.proofs.ObjectsOfBlocks.{object_is_there, objects_rise}
@@ -157,6 +156,7 @@ has_none v keeps = record {
   kept = λ n there. none_made v keeps n there;
   once = subst (λ (b : CallBlocks). AreOnce b.made) (sym keeps.blocks) none_once;
   apart_new = λ n m there too differ. none_made v keeps n there;
+  apart_gone = λ n m there gone. none_made v keeps n there;
   apart_found = λ n l lines there held found. none_made v keeps n there;
 }
 
@@ -193,7 +193,7 @@ begin_under_way v wants begins = record {
         fails = refl;
         actions = sym (pending_first v (record { operation = Begin wants; reply = None }) begins.call);
         moved = sym (published_first v (record { operation = Begin wants; reply = None }) begins.call);
-        performable = subst (All (CanPerform w v.lanes v.zones)) (sym (published_first v (record { operation = Begin wants; reply = None }) begins.call)) (All-nil (CanPerform w v.lanes v.zones));
+        performable = subst (All (IsPerformable v w)) (sym (published_first v (record { operation = Begin wants; reply = None }) begins.call)) (All-nil (IsPerformable v w));
         blocks_stay = ap (λ (f : ℕ → ℕ). blocks f v.lanes v.zones) same;
         sizes_stay = λ block there. ap (λ (f : ℕ → ℕ). size_in f block) same;
       };

@@ -88,7 +88,7 @@ covered_is_outside v id write off len i lane chunks held there =
     under_is_outside v held.lock held.lines i lane chunks held.held held.block (omega arith)
 
 -- the lock that the lane holds is the transaction's
-locked_member : (locks : List Lock) (l : Lock) (off : ℕ) (write : Bool) → Contains locks l → 64 * l.line + 64 ≡ off → (l.write || not write) ≡ true → is_locked (map lock_of locks) off write ≡ true
+pub locked_member : (locks : List Lock) (l : Lock) (off : ℕ) (write : Bool) → Contains locks l → 64 * l.line + 64 ≡ off → (l.write || not write) ≡ true → is_locked (map lock_of locks) off write ≡ true
 locked_member [] l off write there place allows = absurd (no_member l there)
 locked_member (k ∷ locks) l off write there place allows = ⊎_elim
     (λ (here : k ≡ l). or_left (eqb (64 * k.line + 64) off && (k.write || not write)) (is_locked (map lock_of locks) off write)

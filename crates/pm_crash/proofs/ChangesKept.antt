@@ -23,7 +23,7 @@ use Rattle.pm_crash.proofs.OneChange.{chunks_block_words, object_stays}
 descriptor_outside : (w : ℕ → ℕ) (lanes i zone k : ℕ) → k < 64 → i ≡ 512 * zone_page lanes zone + k → is_in_block w lanes i ≡ false
 descriptor_outside w lanes i zone k low is = false_from_ne_true (is_in_block w lanes i) (λ inside. let chunk = (in_taken_chunk w lanes i inside).0 in omega arith)
 
-root_outside : (w : ℕ → ℕ) (lanes : ℕ) → is_in_block w lanes 64 ≡ false
+pub root_outside : (w : ℕ → ℕ) (lanes : ℕ) → is_in_block w lanes 64 ≡ false
 root_outside w lanes = false_from_ne_true (is_in_block w lanes 64) (λ inside. let chunk = (in_taken_chunk w lanes 64 inside).0 in omega arith)
 
 module _ (w : ℕ → ℕ) (lanes c lines : ℕ) (is : w (descriptor_word lanes c) ≡ descriptor_of (Lines lines)) where

@@ -1,42 +1,53 @@
 -- A call that commits at the outermost level is a step of the model, and so is one that was given up.
-use Rattle.std.proofs.Common.{◌≡◌, inl, ℕ, leb, List, [], ◌∷◌, ◌++◌, length, map, None, refl, sym, ◌∙◌, ap, subst, arith}
+use Rattle.std.proofs.Common.{◌≡◌, ⊎_elim, inl, inr, ℕ, false, leb, List, [], ◌∷◌, ◌++◌, length, map, None, IsSome, refl, sym, ◌∙◌, ap, subst, arith}
 use Rattle.std.specs.List.{All, Contains, list_any}
 use Rattle.std.specs.List.Sorted.{IsStrictlyIncreasing}
-use Rattle.std.proofs.lemmas.List.Elements.{All-weaker}
-use Rattle.std.proofs.lemmas.Bool.{cond-true, le-leb}
+use Rattle.std.proofs.lemmas.List.Elements.{All-contains, All-nil, All-weaker}
+use Rattle.std.proofs.lemmas.Bool.{cond-true, false_from_ne_true, false≢true, le-leb}
 use Rattle.std.proofs.lemmas.List.{append-nil, length-append}
 use Rattle.pm_header.specs.declared.header.Header.{Header}
-use Rattle.pm_objects.specs.Pool.{offsets}
+use Rattle.pm_objects.specs.Pool.{object_at, offsets}
 use Rattle.pm_objects.specs.declared.history.TxErr.{TxErr}
 use Rattle.pm_objects.specs.declared.pool.PoolView.{PoolView}
 use Rattle.pm_image.specs.declared.block.Block.{Block}
+use Rattle.pm_image.specs.Blocks.{blocks, descriptor_word}
+use Rattle.pm_image.specs.HeapFaults.{heap_fault}
+use Rattle.pm_image.specs.Reads.{Reads}
 use Rattle.pm_objects.specs.declared.calls.Operation.TheVariants.{Commit}
 use Rattle.pm_objects.specs.declared.history.TxErr.TheVariants as error
 use Rattle.pm_model.specs.declared.stage.Stage.TheVariants as stage
 use Rattle.pm_model.specs.declared.stage.Stage.{Stage}
 use Rattle.pm_model.specs.Actions.{Action, with_actions}
 use Rattle.pm_model.specs.Transaction.{Transaction, resting, committed, ended_inner, is_working}
-use Rattle.pm_model.specs.Answers.{Told as Answered, Answers, after_reply}
+use Rattle.pm_model.specs.Answers.{Told as Answered, Answers, IsBeside, after_reply}
 use Rattle.pm_model.specs.Bytes.{is_among}
 use Rattle.pm_model.proofs.Objects.{same_objects}
 use Rattle.pm_model.specs.Step.{RunsFrom, State, with_pending}
 use Rattle.pm_view.specs.View.{View}
 use Rattle.pm_world.specs.History.{made_final}
-use Rattle.pm_world.specs.Records.{pool_entries}
-use Rattle.pm_crash.specs.CallBlocks.{CallBlocks, KeepsBlocks, MayPrecede, blocks_in, is_at}
-use Rattle.pm_crash.specs.Held.{HoldsPool}
-use Rattle.pm_crash.specs.OpenCall.{CommitsTo, ComesTo, IsBefore, IsChanged, IsCommitted, IsOpen, IsUnderWay, IsWholeCall, MakesItsStep, RunsTo, Turns, call_words}
+use Rattle.pm_world.specs.Records.{is_recorded, pool_entries}
+use Rattle.pm_crash.specs.CallBlocks.{CallBlocks, KeepsBlocks, MayPrecede, NewObject, allocated_in, block_of, blocks_in, is_at}
+use Rattle.pm_crash.specs.Held.{HoldsPool, IsObjectAt}
+use Rattle.pm_crash.specs.HeapChanges.{AreDisjoint}
+use Rattle.pm_crash.specs.NewObjects.{IsWordOf}
+use Rattle.pm_crash.specs.OpenCall.{block_at_line, CommitsTo, ComesTo, IsBefore, IsChanged, IsCommitted, IsOpen, IsPerformable, IsUnderBlock, IsUnderWay, IsWholeCall, LeavesFree, LiesInNew, MakesItsStep, RecordsUnder, RunsTo, Turns, call_words}
 use Rattle.pm_crash.specs.Operations.{CommitsCall, KeepsWords, Tells}
 use Rattle.pm_crash.specs.Pending.{pending_before, pending_in, published_in, told_in}
-use Rattle.pm_crash.specs.Performing.{CanPerform, entry_for, performed}
+use Rattle.pm_crash.specs.Performing.{CanPerform, IsUnseen, entry_for, performed}
 use Rattle.pm_crash.proofs.CallBlocks.{any_may_precede, keeps_on, may_before}
-use Rattle.pm_crash.proofs.CallWords.{call_works}
-use Rattle.pm_crash.proofs.Continued.{answers_done, known_new, leaves_told, left_changed, left_new, told_has, told_once_more, two_same, LeavesBlocks}
+use Rattle.pm_crash.proofs.Apart.{good_chunk, in_its_zone, IsInZone}
+use Rattle.pm_crash.proofs.CallWords.{call_works, other_call_word}
+use Rattle.pm_crash.proofs.Continued.{answers_done, known_new, leaves_told, left_changed, left_new, told_has, told_listed, told_once_more, two_same, LeavesBlocks}
 use Rattle.pm_crash.proofs.KeptWords.{before_back, keeps_known, outside_kept, same_call_words, same_found}
-use Rattle.pm_crash.proofs.ObjectsOfBlocks.{objects_rise}
+use Rattle.pm_crash.proofs.KeptHeads.{reads_back}
+use Rattle.pm_crash.proofs.NewStay.{lies_still, new_is_listed, new_there, news_in}
+use Rattle.pm_crash.proofs.NewWrites.{room_apart}
+use Rattle.pm_crash.proofs.ObjectsOfBlocks.{object_is_there, objects_rise}
 use Rattle.pm_crash.proofs.Passing.{AsksNoLock, Works, passes_all}
 use Rattle.pm_crash.proofs.PendingOn.{pending_once_more, published_once_more, same_before}
-use Rattle.pm_crash.proofs.Performed.{Performs, performs}
+use Rattle.pm_crash.proofs.PublishedInTurn.{actions_hold, MayPerform}
+use Rattle.pm_crash.proofs.Standing.{block_stands, Stands}
+use Rattle.pm_crash.proofs.WordsOfNew.{new_word}
 use Rattle.pm_crash.proofs.Runs.{runs_once_more, runs_some}
 
 pub some_told : (told : List Answered) (t : Answered) → told ++ t ∷ [] ≡ [] → ⊥
@@ -47,15 +58,26 @@ commits : (tx : Transaction) → tx.level ≡ 1 → after_reply Commit None tx �
 commits tx level = cond-true (leb tx.level 1) (resting (with_actions tx.moved tx.pool) tx.actions) (ended_inner (committed tx)) (le-leb tx.level 1 (omega arith))
 
 -- what could be performed of the words before the call can be of those that it stored
-performable_still : (v : View) (w : ℕ → ℕ) (header : Header) (pool : PoolView) (level : ℕ) (at_stage : Stage) (e : TxErr) → ComesTo v w header pool level at_stage e
+can_of_stored : (v : View) (w : ℕ → ℕ) (header : Header) (pool : PoolView) (level : ℕ) (at_stage : Stage) (e : TxErr) → ComesTo v w header pool level at_stage e
     → (a : Action) → CanPerform w v.lanes v.zones a → CanPerform (call_words v w) v.lanes v.zones a
-performable_still v w header pool level at_stage e c a can = record {
+can_of_stored v w header pool level at_stage e c a can = record {
   block = can.block;
   is_there = subst (λ (bs : List Block). Contains bs can.block) (sym c.blocks_stay) can.is_there;
   begins = can.begins;
   inside = (let size = c.sizes_stay can.block can.is_there in let inside = can.inside in omega (arith, size, inside));
   whole = can.whole;
 }
+
+-- no descriptor is recorded, since what is recorded lies in blocks
+descriptor_unrecorded : (v : View) (w : ℕ → ℕ) → heap_fault w v.lanes v.zones ≡ None → RecordsUnder v → IsBefore v w → (k : ℕ) → is_recorded v.log.records (descriptor_word v.lanes k) ≡ false
+descriptor_unrecorded v w none under before k = false_from_ne_true (is_recorded v.log.records (descriptor_word v.lanes k)) (λ recorded.
+    let is : IsUnderBlock v (descriptor_word v.lanes k) = under (descriptor_word v.lanes k) recorded in
+    let block : Block = block_at_line is.lock.line is.lines in
+    let there : Contains (blocks w v.lanes v.zones) block = before.found is.lock is.lines is.held is.found in
+    let stands : Stands w v.lanes v.zones block = block_stands w v.lanes v.zones block there in
+    let zone : IsInZone v.lanes stands.chunk block = in_its_zone w v.lanes stands.chunk block (good_chunk w v.lanes v.zones stands.chunk none stands.in_zones) stands.is in
+    let begins = zone.begins in let ends = zone.ends in let from = is.from in let to = is.to in
+    omega (arith, begins, ends, from, to))
 
 -- a call that commits, and did nothing else, turns the pool so
 module _ (v next : View) (under_way : IsUnderWay v 1 stage.Work error.None) (tells : Tells v next Commit None) (records : next.log.records ≡ v.log.records) (keeps : KeepsWords v next)
@@ -98,10 +120,29 @@ module _ (v next : View) (under_way : IsUnderWay v 1 stage.Work error.None) (tel
   same_published : published_in next ≡ published_in v
   same_published = published_once_more v next Commit None tells.keeps.entries tells.call ∙ append-nil (published_in v)
 
-  can_still : (a : Action) → CanPerform w v.lanes v.zones a → CanPerform (call_words next w) next.lanes next.zones a
-  can_still a can =
-      two_same (λ (n m : ℕ). CanPerform (call_words next w) n m a) v.lanes next.lanes v.zones next.zones (sym tells.keeps.lanes) (sym tells.keeps.zones)
-      (subst (λ (f : ℕ → ℕ). CanPerform f v.lanes v.zones a) (sym same_words) (performable_still v w header pool 1 stage.Work error.None c a can))
+  can_still : (a : Action) → IsPerformable v w a → IsPerformable next (call_words next w) a
+  can_still a (inl can) = inl
+      (two_same (λ (n m : ℕ). CanPerform (call_words next w) n m a) v.lanes next.lanes v.zones next.zones (sym tells.keeps.lanes) (sym tells.keeps.zones)
+      (subst (λ (f : ℕ → ℕ). CanPerform f v.lanes v.zones a) (sym same_words) (can_of_stored v w header pool 1 stage.Work error.None c a can)))
+  can_still a (inr lies) = inr (lies_still v next a (λ n there. subst (λ (b : CallBlocks). Contains (news_in b) n) (sym leaves.blocks) there) lies)
+
+  -- the blocks are those before the call, so what it made lies apart from them
+  blocks_before : blocks (call_words next w) next.lanes next.zones ≡ blocks w next.lanes next.zones
+  blocks_before =
+      two_same (λ (n m : ℕ). blocks (call_words next w) n m ≡ blocks w n m) v.lanes next.lanes v.zones next.zones (sym tells.keeps.lanes) (sym tells.keeps.zones)
+      (ap (λ (f : ℕ → ℕ). blocks f v.lanes v.zones) same_words ∙ c.blocks_stay)
+
+  apart_made : (n : NewObject) (block : Block) → Contains (blocks_in next).made n → Contains (blocks (call_words next w) next.lanes next.zones) block → AreDisjoint (block_of n) block
+  apart_made n block there is_there =
+      let listed : Contains (allocated_in next) n = told_listed v next Commit None tells.call n (under_way.has.listed n (subst (λ (b : CallBlocks). Contains b.made n) leaves.blocks there)) in
+      room_apart w next.lanes next.zones header pool n block holds (All-contains (λ (m : NewObject). All (IsBeside m.size m.off) pool.objects) (allocated_in next) n may.room listed)
+      (subst (λ (bs : List Block). Contains bs block) blocks_before is_there)
+
+  reads_before : (i : ℕ) → Reads (call_words next w) next.lanes next.zones i → Reads w next.lanes next.zones i
+  reads_before i =
+      two_same (λ (n m : ℕ). Reads (call_words next w) n m i → Reads w n m i) v.lanes next.lanes v.zones next.zones (sym tells.keeps.lanes) (sym tells.keeps.zones)
+      (subst (λ (f : ℕ → ℕ). Reads f v.lanes v.zones i → Reads w v.lanes v.zones i) (sym same_words)
+      (reads_back w (call_words v w) v.lanes v.zones i (λ k inside. other_call_word v w (descriptor_word v.lanes k) (descriptor_unrecorded v w old_holds.no_fault under_way.under old_before k)) c.blocks_stay c.sizes_stay))
 
   turns : Turns next pool last_pool
   turns actions own = inl (record {
@@ -122,7 +163,9 @@ module _ (v next : View) (under_way : IsUnderWay v 1 stage.Work error.None) (tel
         (subst (λ (f : ℕ → ℕ). HoldsPool f v.lanes v.zones header c.base) (sym same_words) c.holds);
     changed = left_changed v next c.base c.tx.pool leaves c.changed;
     unfound = λ o new. c.unfound o (sym (left_new v next o leaves) ∙ new);
-    performable = subst (All (CanPerform (call_words next w) next.lanes next.zones)) (sym same_published) (All-weaker (CanPerform w v.lanes v.zones) (CanPerform (call_words next w) next.lanes next.zones) can_still (published_in v) c.performable);
+    performable = subst (All (IsPerformable next (call_words next w))) (sym same_published) (All-weaker (IsPerformable v w) (IsPerformable next (call_words next w)) can_still (published_in v) c.performable);
+    apart = apart_made;
+    reads = reads_before;
     turns = subst (λ (actions : List Action). Turns next pool (with_actions actions c.tx.pool)) (sym same_published) turns;
   }
 
@@ -145,20 +188,38 @@ unchanged_pool v base pool rising none_made none_freed changed =
     (ap (λ (freed : List ℕ). is_among freed off) none_freed)) in
     changed.fixed ∙ (λ j. let p : PoolView = record base { objects = same j } in p)
 
+-- an action in what the call made is on no object of the words that it stored, where what it made is free by those before
+unseen_new : (v : View) (w : ℕ → ℕ) (header : Header) (pool : PoolView) (to : CommitsTo v w header pool) → All (LeavesFree v w) (allocated_in v) → (a : Action) → LiesInNew v a → IsUnseen (call_words v w) v.lanes v.zones a
+unseen_new v w header pool to free a lies =
+    let n : NewObject = lies.new in
+    let left : LeavesFree v w n = All-contains (LeavesFree v w) (allocated_in v) n free (new_is_listed v n lies.is_new) in
+    let word : IsWordOf (block_of n) (entry_for a).word = new_word v a lies in
+    record {
+      in_chunk = left.in_chunks (entry_for a).word word;
+      unread = λ read. left.unread (entry_for a).word word (to.reads (entry_for a).word read);
+      none_there = λ block there at.
+          let stands : IsObjectAt (call_words v w) v.lanes v.zones to.base.objects block = object_is_there (call_words v w) v.lanes v.zones header to.base block to.holds there in
+          let found : IsSome (object_at to.base.objects n.off) = subst (λ (o : ℕ). IsSome (object_at to.base.objects o)) (at ∙ sym lies.begins) (subst IsSome (sym stands.found) refl) in
+          false≢true (subst IsSome (to.unfound n.off (new_there v n lies.is_new)) found);
+      whole = lies.whole;
+    }
+
 -- so such a call makes its step once it is committed, with an entry for each action that it published
 pub commit_makes_its_step : (v : View) → IsCommitted v → (blocks_in v).made ≡ [] → (blocks_in v).freed ≡ [] → pool_entries v ≡ map entry_for (published_in v) → MakesItsStep v
 commit_makes_its_step v committed none_made none_freed entries = record {
   outside = committed.outside;
-  makes = λ w header pool holds id before may.
+  makes = λ w header pool holds id before may free.
       let to : CommitsTo v w header pool = committed.comes w header pool holds id before may in
-      let performs_all : Performs (call_words v w) v.lanes v.zones header to.base (published_in v) = performs (call_words v w) v.lanes v.zones header to.base (published_in v) to.holds to.performable in
+      let performs_all : HoldsPool (performed (published_in v) (call_words v w)) v.lanes v.zones header (with_actions (published_in v) to.base) =
+      actions_hold (call_words v w) v.lanes v.zones header to.base (published_in v) to.holds
+      (All-weaker (IsPerformable v (call_words v w)) (MayPerform (call_words v w) v.lanes v.zones) (λ a is. ⊎_elim (λ (can : CanPerform (call_words v w) v.lanes v.zones a). inl can) (λ (lies : LiesInNew v a). inr (unseen_new v w header pool to free a lies)) is) (published_in v) to.performable) in
       let same : to.copy ≡ to.base = unchanged_pool v to.base to.copy (objects_rise (call_words v w) v.lanes v.zones header to.base to.holds) none_made none_freed to.changed in
       let last_pool : PoolView = with_actions (published_in v) to.copy in
       record {
         next = last_pool;
         holds =
             subst (λ (f : ℕ → ℕ). HoldsPool f v.lanes v.zones header last_pool) (λ j i. made_final (sym entries j) i (call_words v w i))
-            (subst (λ (p : PoolView). HoldsPool (performed (published_in v) (call_words v w)) v.lanes v.zones header (with_actions (published_in v) p)) (sym same) performs_all.holds);
+            (subst (λ (p : PoolView). HoldsPool (performed (published_in v) (call_words v w)) v.lanes v.zones header (with_actions (published_in v) p)) (sym same) performs_all);
         steps = to.turns;
       };
 }
@@ -167,7 +228,7 @@ commit_makes_its_step v committed none_made none_freed entries = record {
 pub commit_is_whole : (v next : View) → IsOpen v 1 stage.Work error.None → CommitsCall v next → IsWholeCall next
 commit_is_whole v next is_open commits_call = record {
   outside = committed.outside;
-  makes = λ w header pool holds id before. its.makes w header pool holds id before (any_may_precede next keeps pool);
+  makes = λ w header pool holds id before. its.makes w header pool holds id before (any_may_precede next keeps pool) (subst (All (LeavesFree next w)) (sym keeps.allocated) (All-nil (LeavesFree next w)));
 } where
   tells : Tells v next Commit None
   tells = commits_call.tells

@@ -29,11 +29,11 @@ use Rattle.pm_world.specs.Records.{is_recorded}
 use Rattle.pm_crash.specs.CallBlocks.{CallBlocks, IsMadeIn, MayPrecede, NewObject, allocated_by, allocated_in, blocks_behind, blocks_in, is_at, is_new_in}
 use Rattle.pm_crash.specs.Locks.{AreSameLocks}
 use Rattle.pm_crash.specs.Held.{HoldsPool}
-use Rattle.pm_crash.specs.OpenCall.{IsBefore, call_words, ComesTo, IsChanged, HasMade, IsUnderWay, LieApart, RecordsUnder, RunsTo, TracksBlocks, locks_of, place_and_size, words_recorded}
+use Rattle.pm_crash.specs.OpenCall.{IsBefore, call_words, ComesTo, IsChanged, HasMade, IsPerformable, IsUnderWay, LieApart, RecordsUnder, RunsTo, TracksBlocks, locks_of, place_and_size, words_recorded}
 use Rattle.pm_crash.specs.Operations.{KeepsKnown, KeepsLane, Tells}
 use Rattle.pm_crash.proofs.Passing.{unhindered, wants_none, AsksNoLock, WantsNone}
 use Rattle.pm_crash.specs.Pending.{pending_before, pending_behind, pending_in, published_by, published_in, told_in, told_of}
-use Rattle.pm_crash.specs.Performing.{CanPerform}
+use Rattle.pm_crash.proofs.NewStay.{news_in, news_stay, performable_still}
 use Rattle.pm_crash.proofs.PendingOn.{pending_once_more, published_once_more, same_before}
 use Rattle.pm_crash.proofs.Runs.{runs_once_more}
 use Rattle.pm_crash.proofs.CallBlocks.{SameNew, allocated_once_more, blocks_once_more, changed_stays, made_stays, may_before}
@@ -90,7 +90,7 @@ pub record Continues (v next : View) (w : ℕ → ℕ) (header : Header) (op : O
   pub fails : (after_reply op reply tx).error ≡ tx.error
   pub actions : (after_reply op reply tx).actions ≡ pending_behind op reply tx.actions
   pub moved : (after_reply op reply tx).moved ≡ tx.moved ++ published_by op reply tx.actions
-  pub performable : All (CanPerform w v.lanes v.zones) (published_by op reply tx.actions)
+  pub performable : All (IsPerformable v w) (published_by op reply tx.actions)
   pub blocks_stay : blocks (call_words next w) v.lanes v.zones ≡ blocks (call_words v w) v.lanes v.zones
   pub sizes_stay : (block : Block) → Contains (blocks w v.lanes v.zones) block → size_in (call_words next w) block ≡ size_in (call_words v w) block
 
@@ -123,6 +123,7 @@ left_has v next leaves lane listed apart has = record {
   kept = λ n there. ap (λ (b : CallBlocks). is_among b.freed n.off || list_any (is_at n.off) b.dropped) leaves.blocks ∙ has.kept n (before n there);
   once = subst (λ (b : CallBlocks). IsDistinct nat_eq (map (λ (n : NewObject). n.off) b.made)) (sym leaves.blocks) has.once;
   apart_new = λ n m there too differ. has.apart_new n m (before n there) (before m too) differ;
+  apart_gone = λ n m there gone. has.apart_gone n m (before n there) (subst (λ (b : CallBlocks). Contains b.dropped m) leaves.blocks gone);
   apart_found = apart;
 } where
   before : (n : NewObject) → Contains (blocks_in next).made n → Contains (blocks_in v).made n
@@ -144,15 +145,17 @@ pub leaves_told : (v next : View) (op : Operation) (reply : Option Value) → ne
     → ((n : NewObject) → Contains (blocks_in v).made n → SameNew v next n) → LeavesBlocks v next
 leaves_told v next op reply call none same = record { blocks = blocks_once_more v next op reply call ∙ none; same = same }
 
--- what was published before the operation, and by it, lies in objects of the pool
+-- what was published before the operation, and by it, lies in objects of the pool or in what the call made
 performed_on : {level : ℕ} {header : Header} {pool : PoolView} (v next : View) (op : Operation) (reply : Option Value) (w : ℕ → ℕ) → KeepsLane v next
-    → next.call ≡ v.call ++ record { operation = op; reply = reply } ∷ [] → (c : ComesTo v w header pool level stage.Work error.None) → All (CanPerform w v.lanes v.zones) (published_by op reply c.tx.actions)
-    → All (CanPerform w next.lanes next.zones) (published_in next)
-performed_on v next op reply w lane call c more =
-    two_same (λ (lanes zones : ℕ). All (CanPerform w lanes zones) (published_in next)) v.lanes next.lanes v.zones next.zones (sym lane.lanes) (sym lane.zones)
-    (subst (All (CanPerform w v.lanes v.zones)) (sym (published_once_more v next op reply lane.entries call))
-    (All-append (CanPerform w v.lanes v.zones) (published_in v) (published_by op reply (pending_in v)) c.performable
-    (subst (λ (actions : List Action). All (CanPerform w v.lanes v.zones) (published_by op reply actions)) c.actions more)))
+    → next.call ≡ v.call ++ record { operation = op; reply = reply } ∷ [] → (c : ComesTo v w header pool level stage.Work error.None) → (after_reply op reply c.tx).stage ≡ c.tx.stage
+    → All (IsPerformable v w) (published_by op reply c.tx.actions) → All (IsPerformable next w) (published_in next)
+performed_on v next op reply w lane call c works more =
+    let now : List Action = published_in v ++ published_by op reply (pending_in v) in
+    subst (All (IsPerformable next w)) (sym (published_once_more v next op reply lane.entries call))
+    (performable_still v next w now lane.lanes lane.zones
+    (λ n there. subst (λ (b : CallBlocks). Contains (news_in b) n) (sym (blocks_once_more v next op reply call)) (news_stay op reply (blocks_in v) c.tx n (ap is_working (works ∙ c.stands)) there))
+    (All-append (IsPerformable v w) (published_in v) (published_by op reply (pending_in v)) c.performable
+    (subst (λ (actions : List Action). All (IsPerformable v w) (published_by op reply actions)) c.actions more)))
 
 pub next_comes : (v next : View) (level to : ℕ) (op : Operation) (reply : Option Value) (w : ℕ → ℕ) (header : Header) (pool : PoolView) → KeepsLane v next
     → next.call ≡ v.call ++ record { operation = op; reply = reply } ∷ [] → (c : ComesTo v w header pool level stage.Work error.None) → Continues v next w header op reply to c.tx → ComesTo next w header pool to stage.Work error.None
@@ -177,7 +180,7 @@ next_comes v next level to op reply w header pool lane call c on =
       fails = on.fails ∙ c.fails;
       actions = on.actions ∙ ap (pending_behind op reply) c.actions ∙ sym (pending_once_more v next op reply lane.entries call);
       moved = on.moved ∙ (λ j. c.moved j ++ published_by op reply (c.actions j)) ∙ sym (published_once_more v next op reply lane.entries call);
-      performable = performed_on v next op reply w lane call c on.performable;
+      performable = performed_on v next op reply w lane call c on.stands on.performable;
       blocks_stay =
           two_same (λ (lanes zones : ℕ). blocks (call_words next w) lanes zones ≡ blocks w lanes zones) v.lanes next.lanes v.zones next.zones (sym lane.lanes) (sym lane.zones)
           (on.blocks_stay ∙ c.blocks_stay);

@@ -4,7 +4,7 @@ use Rattle.std.proofs.Common.{◌≡◌, ◌≢◌, ⊎_elim, ℕ, ◌+◌, ◌�
 use Rattle.std.specs.List.{Contains, filter, list_any}
 use Rattle.std.proofs.lemmas.Bool.{and_left, and_right, cases_Bool, cases_eq, cond-false, cond-true, eq-eqb, eqb-true, false≢true, le-ltb, ne_eqb, or_left, or_parts, or_right}
 use Rattle.std.proofs.lemmas.List.{append-nil, map-append}
-use Rattle.std.proofs.lemmas.List.Elements.{All-nil}
+use Rattle.std.proofs.lemmas.List.Elements.{All-nil, Contains-push_cases}
 use Rattle.std.proofs.lemmas.List.Folds.{list_any-append, list_any-from_Any}
 use Rattle.std.proofs.lemmas.Map.Views.{any-filter_same}
 use Rattle.std.proofs.Math.Bool.{or-false}
@@ -29,12 +29,12 @@ use Rattle.pm_model.proofs.Made.{among_else, among_more}
 use Rattle.pm_model.proofs.ObjectsByOffset.{fewer_elsewhere, fewer_rise, fewer_there}
 use Rattle.pm_view.specs.Log.{Recorded}
 use Rattle.pm_view.specs.View.{View, Lock}
-use Rattle.pm_crash.specs.CallBlocks.{CallBlocks, IsMadeIn, IsSameIn, MayPrecede, NewObject, blocks_in, is_at, is_freed_in, is_gone_in, is_made_in, is_new_in, object_made}
+use Rattle.pm_crash.specs.CallBlocks.{CallBlocks, IsMadeIn, IsSameIn, MayPrecede, NewObject, block_of, blocks_in, is_at, is_freed_in, is_gone_in, is_made_in, is_new_in, object_made}
 use Rattle.pm_crash.specs.Held.{HoldsPool}
+use Rattle.pm_crash.specs.HeapChanges.{AreDisjoint}
 use Rattle.pm_crash.specs.Locks.{AreSameLocks}
-use Rattle.pm_crash.specs.OpenCall.{ComesTo, HasMade, IsChanged, IsUnderWay, TracksBlocks, call_words, locks_of, place_and_size, words_recorded}
+use Rattle.pm_crash.specs.OpenCall.{ComesTo, HasMade, IsChanged, IsUnderWay, TracksBlocks, call_words, locks_of, place_and_size, words_recorded, IsPerformable}
 use Rattle.pm_crash.specs.Operations.{FreesFound, FreesMade, KeepsKnown, KeepsLog, Tells, entries_so_far}
-use Rattle.pm_crash.specs.Performing.{CanPerform}
 use Rattle.pm_crash.proofs.CallBlocks.{SameNew, blocks_once_more, made_stays, not_made, object_stays, tells_of_root, tracks_gone}
 use Rattle.pm_crash.proofs.CallWords.{as_many_entries, call_works, held_is_locked, locks_kept, same_pool}
 use Rattle.pm_crash.proofs.Continued.{known_new, still_under_way, told_listed, Continues}
@@ -85,7 +85,7 @@ module _ (v next : View) (id : Oid) (level : ℕ) (under_way : IsUnderWay v leve
         fails = ap (λ (x : Transaction). x.error) leads;
         actions = ap (λ (x : Transaction). x.actions) leads;
         moved = ap (λ (x : Transaction). x.moved) leads ∙ sym (append-nil c.tx.moved);
-        performable = All-nil (CanPerform w v.lanes v.zones);
+        performable = All-nil (IsPerformable v w);
         blocks_stay = ap (λ (f : ℕ → ℕ). blocks f v.lanes v.zones) same;
         sizes_stay = λ block there. ap (λ (f : ℕ → ℕ). size_in f block) same;
       }
@@ -118,6 +118,7 @@ module _ (v next : View) (id : Oid) (level : ℕ) (some_level : 1 ≤ level) (un
         ∙ ap (λ (b : Bool). b || list_any (is_at n.off) (blocks_in v).dropped) (among_else (blocks_in v).freed id.off n.off (differs_from_new v n id.off before frees.old.found)) ∙ under_way.has.kept n before;
     once = subst (λ (b : CallBlocks). AreOnce b.made) (sym blocks_now) under_way.has.once;
     apart_new = λ n m there too. under_way.has.apart_new n m (made_before n there) (made_before m too);
+    apart_gone = λ n m there gone. under_way.has.apart_gone n m (made_before n there) (subst (λ (b : CallBlocks). Contains b.dropped m) blocks_now gone);
     apart_found = λ n l lines there held. under_way.has.apart_found n l lines (made_before n there) (subst (λ (ls : List Lock). Contains ls l) frees.tells.locks held);
   }
 
@@ -237,6 +238,10 @@ module _ (v next : View) (id : Oid) (level : ℕ) (some_level : 1 ≤ level) (un
     kept = λ m there. (λ j. freed_as_before m.off j || dropped_as_before m.off (left m there).1 j) ∙ under_way.has.kept m (left m there).0;
     once = subst (λ (b : CallBlocks). AreOnce b.made) (sym blocks_without) (once_kept others (blocks_in v).made under_way.has.once);
     apart_new = λ m k there too. under_way.has.apart_new m k (left m there).0 (left k too).0;
+    apart_gone = λ m k there gone. ⊎_elim
+        (λ (before : Contains (blocks_in v).dropped k). under_way.has.apart_gone m k (left m there).0 before)
+        (λ (now : n ≡ k). subst (λ (x : NewObject). AreDisjoint (block_of m) (block_of x)) now (under_way.has.apart_new m n (left m there).0 frees.made.has (not_there m.off (left m there).1)))
+        (Contains-push_cases (blocks_in v).dropped n k (subst (λ (b : CallBlocks). Contains b.dropped k) blocks_without gone));
     apart_found = λ m l lines there held. under_way.has.apart_found m l lines (left m there).0 (subst (λ (ls : List Lock). Contains ls l) frees.tells.locks held);
   }
 

@@ -22,7 +22,7 @@ use Rattle.pm_crash.proofs.FreeChecks.{had_is_held}
 use Rattle.pm_crash.proofs.GivenUp.{aborts_call, end_check, lock_check, ranged_asks, ranged_known, ranged_named, refused_answers, IsRefusedFor}
 use Rattle.pm_crash.proofs.KeptWords.{same_found}
 use Rattle.pm_crash.proofs.NewRanges.{new_is_held, new_is_kept, new_long}
-use Rattle.pm_crash.proofs.Passing.{fails_end, fails_gone}
+use Rattle.pm_crash.proofs.Passing.{fails_end, fails_gone, wants_none}
 
 -- what a refused operation on a range answers, and leaves
 ranged_aborts : (tx : Transaction) (op : Operation) (range : Range) (r : Refusal) → range_of op ≡ Some range → IsRefusedFor tx op r
@@ -41,7 +41,7 @@ gone_range_aborts v next op range level some under_way refuses =
     let gone : names_gone c.tx op ≡ true = ap (list_any (is_gone c.tx)) (ranged_named c.tx op range refuses.is_range)
     ∙ or_left (is_gone c.tx range.id.off) false (all_tracks_gone v c.tx c.tracks range.id.off ∙ refuses.gone.gone) in
     let asks = ranged_asks op range refuses.is_range in
-    let is : IsRefusedFor c.tx op refusal.NoObject = record { refused_first = fails_gone c.tx op (call_works v w header pool level some under_way c) asks locked gone; traced = refl } in
+    let is : IsRefusedFor c.tx op refusal.NoObject = record { refused_first = fails_gone c.tx op (call_works v w header pool level some under_way c) (wants_none op asks) asks.aligned locked gone; traced = refl } in
     ranged_aborts c.tx op range refusal.NoObject refuses.is_range is)
 
 pub new_range_aborts : (v next : View) (op : Operation) (range : Range) (level : ℕ) → 1 ≤ level → IsUnderWay v level stage.Work error.None → RefusesNewRange v next op range

@@ -32,7 +32,7 @@ use Rattle.pm_crash.proofs.SameLocks.{joined_locks, turned_locks, wanted_alike}
 use Rattle.pm_crash.specs.CallBlocks.{IsMadeIn, IsOldIn, KeepsBlocks, NewObject, blocks_in}
 use Rattle.pm_crash.specs.Locks.{AreSameLocks}
 use Rattle.pm_crash.specs.Held.{HoldsPool}
-use Rattle.pm_crash.specs.OpenCall.{IsBefore, ComesTo, IsChanged, IsOpen, IsUnderWay, LieApart, TracksBlocks, block_at_line, call_words, lock_of, locks_of, words_recorded}
+use Rattle.pm_crash.specs.OpenCall.{IsBefore, ComesTo, IsChanged, IsOpen, IsUnderWay, LieApart, TracksBlocks, block_at_line, call_words, lock_of, locks_of, words_recorded, IsPerformable}
 use Rattle.pm_crash.specs.Operations.{BeginsLevel, IsHeld, IsWantHeld, KeepsLog, KeepsWords, Tells}
 use Rattle.pm_crash.proofs.Begun.{all_pass, none_fails}
 use Rattle.pm_crash.proofs.CallWords.{call_works, locks_kept, same_lanes, same_pool, same_zones}
@@ -41,7 +41,6 @@ use Rattle.pm_crash.proofs.Continued.{answers_done, known_new, leaves_told, left
 use Rattle.pm_crash.proofs.KeptWords.{before_back, goes_back, keeps_known, outside_kept, same_call_words, same_found, under_kept}
 use Rattle.pm_crash.proofs.ObjectsOfBlocks.{object_is_there}
 use Rattle.pm_crash.proofs.Passing.{no_tx, no_work, not_busy, not_missing, not_spent, passes_all, unhindered, AsksNoLock, Works}
-use Rattle.pm_crash.specs.Performing.{CanPerform}
 
 -- an inner commit leaves one level less, and changes nothing else
 commits_inner : (tx : Transaction) (level : ℕ) → 1 ≤ level → tx.level ≡ level + 1 → after_reply Commit None tx ≡ ended_inner (committed tx)
@@ -76,7 +75,7 @@ inner_commit_goes_on v next level some under_way tells logs keeps =
       fails = ap (λ (x : Transaction). x.error) ends;
       actions = ap (λ (x : Transaction). x.actions) ends;
       moved = ap (λ (x : Transaction). x.moved) ends ∙ sym (append-nil c.tx.moved);
-      performable = All-nil (CanPerform w v.lanes v.zones);
+      performable = All-nil (IsPerformable v w);
       blocks_stay = ap (λ (f : ℕ → ℕ). blocks f v.lanes v.zones) same;
       sizes_stay = λ block there. ap (λ (f : ℕ → ℕ). size_in f block) same;
     })
@@ -181,7 +180,7 @@ further_continues v next wants level some shallow under_way begins old w header 
       fails = refl;
       actions = refl;
       moved = sym (append-nil c.tx.moved);
-      performable = All-nil (CanPerform w v.lanes v.zones);
+      performable = All-nil (IsPerformable v w);
       blocks_stay = ap (λ (f : ℕ → ℕ). blocks f v.lanes v.zones) same;
       sizes_stay = λ block there. ap (λ (f : ℕ → ℕ). size_in f block) same;
     }

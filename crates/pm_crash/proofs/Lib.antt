@@ -17,6 +17,9 @@ pub mod HeapWordsAlone
 pub mod HeldAlike
 pub mod Passing
 pub mod CallBlocks
+pub mod NewStay
+pub mod WordsOfNew
+pub mod PerformedNew
 pub mod Runs
 pub mod PendingOn
 pub mod CallWords
@@ -57,6 +60,7 @@ pub mod DrawnWords
 pub mod OneCourse
 pub mod BlocksApart
 pub mod BlockPlaces
+pub mod UnreadBlocks
 pub mod ReservedBlocks
 pub mod RoomForReserved
 pub mod KeptEntries
@@ -108,6 +112,9 @@ pub mod ChangesApart
 pub mod ChangesBehind
 pub mod MayChange
 pub mod ChangesKept
+pub mod KeptHeads
+pub mod ActionsInBlocks
+pub mod Unseen
 pub mod PublishedInTurn
 pub mod ManyObjects
 pub mod PublishedCopy

@@ -14,8 +14,7 @@ use Rattle.pm_model.specs.Bytes.{is_among, put_object, with_bytes}
 use Rattle.pm_model.specs.NewObjects.{with_object, without_object}
 use Rattle.pm_model.proofs.Objects.{object_at-put, offsets-put}
 use Rattle.pm_model.proofs.ObjectsByOffset.{fewer_elsewhere, fewer_rise, fewer_there, more_elsewhere, more_rise, more_there}
-use Rattle.pm_view.specs.View.{View}
-use Rattle.pm_crash.specs.CallBlocks.{NewObject, is_at, object_made}
+use Rattle.pm_crash.specs.CallBlocks.{NewObject, is_at}
 
 -- ---- after actions
 
@@ -94,11 +93,11 @@ unfolding without_objects
 without_rise [] objects rising = rising
 without_rise (off ∷ offs) objects rising = without_rise offs (without_object off objects) (fewer_rise objects off rising)
 
--- ---- with new ones, as the lane's words have them
+-- ---- with new ones, each as this gives it
 
-unfoldable pub with_objects : View → List NewObject → Objects → Objects
-with_objects v [] objects = objects
-with_objects v (n ∷ news) objects = with_objects v news (with_object n.off (object_made v n) objects)
+unfoldable pub with_objects : (NewObject → Object) → List NewObject → Objects → Objects
+with_objects by [] objects = objects
+with_objects by (n ∷ news) objects = with_objects by news (with_object n.off (by n) objects)
 
 -- no two of them are at one offset
 abbrev pub AreOnce : List NewObject → Type 0
@@ -137,36 +136,36 @@ unfolding IsDistinct
 others_apart n news once = (not_at n.off news once.0, once.1)
 
 -- so nothing stands where the others come to, with the first there already
-none_still : (v : View) (n : NewObject) (news : List NewObject) (objects : Objects) → AreOnce (n ∷ news) → HasNone objects (n ∷ news) → HasNone (with_object n.off (object_made v n) objects) news
-none_still v n news objects once none m there =
-    more_elsewhere objects n.off m.off (object_made v n) (none_at n.off news m (others_apart n news once).0 there)
+none_still : (by : NewObject → Object) (n : NewObject) (news : List NewObject) (objects : Objects) → AreOnce (n ∷ news) → HasNone objects (n ∷ news) → HasNone (with_object n.off (by n) objects) news
+none_still by n news objects once none m there =
+    more_elsewhere objects n.off m.off (by n) (none_at n.off news m (others_apart n news once).0 there)
     ∙ none m (later_member n news m there)
 
-pub with_elsewhere : (v : View) (news : List NewObject) (objects : Objects) (off : ℕ) → list_any (is_at off) news ≡ false → object_at (with_objects v news objects) off ≡ object_at objects off
+pub with_elsewhere : (by : NewObject → Object) (news : List NewObject) (objects : Objects) (off : ℕ) → list_any (is_at off) news ≡ false → object_at (with_objects by news objects) off ≡ object_at objects off
 unfolding with_objects
-with_elsewhere v [] objects off other = refl
-with_elsewhere v (n ∷ news) objects off other =
+with_elsewhere by [] objects off other = refl
+with_elsewhere by (n ∷ news) objects off other =
     let parts = or_parts (eqb n.off off) (list_any (is_at off) news) other in
-    with_elsewhere v news (with_object n.off (object_made v n) objects) off parts.1
-    ∙ more_elsewhere objects n.off off (object_made v n) (λ same. eqb-false n.off off parts.0 (sym same))
+    with_elsewhere by news (with_object n.off (by n) objects) off parts.1
+    ∙ more_elsewhere objects n.off off (by n) (λ same. eqb-false n.off off parts.0 (sym same))
 
-pub with_there : (v : View) (news : List NewObject) (objects : Objects) (n : NewObject) → AreOnce news → HasNone objects news → Contains news n
-    → object_at (with_objects v news objects) n.off ≡ Some (object_made v n)
+pub with_there : (by : NewObject → Object) (news : List NewObject) (objects : Objects) (n : NewObject) → AreOnce news → HasNone objects news → Contains news n
+    → object_at (with_objects by news objects) n.off ≡ Some (by n)
 unfolding with_objects
-with_there v [] objects n once none there = absurd (no_member n there)
-with_there v (m ∷ news) objects n once none there =
-    let more : Objects = with_object m.off (object_made v m) objects in
+with_there by [] objects n once none there = absurd (no_member n there)
+with_there by (m ∷ news) objects n once none there =
+    let more : Objects = with_object m.off (by m) objects in
     let apart = others_apart m news once in
     ⊎_elim
-    (λ (here : m ≡ n). subst (λ (x : NewObject). object_at (with_objects v news more) x.off ≡ Some (object_made v x)) here
-    (with_elsewhere v news more m.off apart.0 ∙ more_there objects m.off (object_made v m) (none m (first_member m news))))
-    (λ (later : Contains news n). with_there v news more n apart.1 (none_still v m news objects once none) later)
+    (λ (here : m ≡ n). subst (λ (x : NewObject). object_at (with_objects by news more) x.off ≡ Some (by x)) here
+    (with_elsewhere by news more m.off apart.0 ∙ more_there objects m.off (by m) (none m (first_member m news))))
+    (λ (later : Contains news n). with_there by news more n apart.1 (none_still by m news objects once none) later)
     (member_cases m news n there)
 
-pub with_rise : (v : View) (news : List NewObject) (objects : Objects) → AreOnce news → HasNone objects news → IsStrictlyIncreasing (offsets objects)
-    → IsStrictlyIncreasing (offsets (with_objects v news objects))
+pub with_rise : (by : NewObject → Object) (news : List NewObject) (objects : Objects) → AreOnce news → HasNone objects news → IsStrictlyIncreasing (offsets objects)
+    → IsStrictlyIncreasing (offsets (with_objects by news objects))
 unfolding with_objects
-with_rise v [] objects once none rising = rising
-with_rise v (n ∷ news) objects once none rising =
-    with_rise v news (with_object n.off (object_made v n) objects) (others_apart n news once).1 (none_still v n news objects once none)
-    (more_rise objects n.off (object_made v n) rising (none n (first_member n news)))
+with_rise by [] objects once none rising = rising
+with_rise by (n ∷ news) objects once none rising =
+    with_rise by news (with_object n.off (by n) objects) (others_apart n news once).1 (none_still by n news objects once none)
+    (more_rise objects n.off (by n) rising (none n (first_member n news)))

@@ -28,7 +28,7 @@ module _ (v : View) (w : ℕ → ℕ) (tx : Transaction) (These : ℕ → Type 0
   IsThese a = These (object_of a).off
 
   -- what can be set passes no end
-  set_is_inside : (a : Action) → IsThese a → CanSet v a → passes_object tx.pool.objects a ≡ false
+  pub set_is_inside : (a : Action) → IsThese a → CanSet v a → passes_object tx.pool.objects a ≡ false
   set_is_inside (SetWord id off value) of can =
       let has : HasRange v id off 8 true = can.0 in
       let long = (finds.under id true of has.object has.size_known).long in
@@ -40,7 +40,7 @@ module _ (v : View) (w : ℕ → ℕ) (tx : Transaction) (These : ℕ → Type 0
       list_any_none (passes_object tx.pool.objects) actions (λ k d inside. set_is_inside (get_or actions k d) (of k d inside) (each k d inside))
 
   -- what passes an end as the lane knows it does
-  is_outside : (a : Action) → IsThese a → PassesObject v a → passes_object tx.pool.objects a ≡ true
+  pub is_outside : (a : Action) → IsThese a → PassesObject v a → passes_object tx.pool.objects a ≡ true
   is_outside (SetWord id off value) of passes =
       let ends : PassesEnd v id off 8 true = passes in
       let long = (finds.under id true of ends.object ends.size_known).long in
@@ -52,7 +52,7 @@ module _ (v : View) (w : ℕ → ℕ) (tx : Transaction) (These : ℕ → Type 0
       list_any-from_Any (passes_object tx.pool.objects) actions (k, a, inside, at, is_outside a (subst IsThese at (of k a inside)) passes)
 
   -- what can be set can be performed
-  set_performs : (a : Action) → IsThese a → CanSet v a → CanPerform w v.lanes v.zones a
+  pub set_performs : (a : Action) → IsThese a → CanSet v a → CanPerform w v.lanes v.zones a
   set_performs (SetWord id off value) of can =
       let has : HasRange v id off 8 true = can.0 in
       let object : IsObjectOf v w tx id has.object.lock.line = finds.under id true of has.object has.size_known in

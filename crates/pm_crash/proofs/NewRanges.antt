@@ -28,9 +28,8 @@ use Rattle.pm_view.specs.View.{View}
 use Rattle.pm_crash.specs.CallBlocks.{IsMadeIn, NewObject, block_of, blocks_in, is_at, is_made_in}
 use Rattle.pm_crash.specs.Held.{HoldsPool}
 use Rattle.pm_crash.specs.Locks.{AreSameLocks}
-use Rattle.pm_crash.specs.OpenCall.{ComesTo, IsChanged, IsUnderWay, TracksBlocks, call_words, locks_of, words_recorded}
+use Rattle.pm_crash.specs.OpenCall.{ComesTo, IsChanged, IsUnderWay, TracksBlocks, call_words, locks_of, words_recorded, IsPerformable}
 use Rattle.pm_crash.specs.Operations.{AddsNewRange, IsMade, ReadsNewBytes, bytes_seen}
-use Rattle.pm_crash.specs.Performing.{CanPerform}
 use Rattle.pm_crash.proofs.CallBlocks.{all_tracks_gone, tracks_new}
 use Rattle.pm_crash.proofs.CallWords.{call_works, locks_kept, same_pool}
 use Rattle.pm_crash.proofs.Continued.{answers_done, known_new, leaves_told, left_changed, left_new, left_tracks, still_under_way, told_has, LeavesBlocks}
@@ -117,7 +116,7 @@ new_read_goes_on v next id off len level some under_way reads =
       fails = refl;
       actions = refl;
       moved = sym (append-nil c.tx.moved);
-      performable = All-nil (CanPerform w v.lanes v.zones);
+      performable = All-nil (IsPerformable v w);
       blocks_stay = ap (λ (f : ℕ → ℕ). blocks f v.lanes v.zones) same;
       sizes_stay = λ block there. ap (λ (f : ℕ → ℕ). size_in f block) same;
     })
@@ -161,7 +160,7 @@ new_add_goes_on v next id off len level some under_way adds =
       fails = ap (λ (x : Transaction). x.error) leads;
       actions = ap (λ (x : Transaction). x.actions) leads;
       moved = ap (λ (x : Transaction). x.moved) leads ∙ sym (append-nil c.tx.moved);
-      performable = All-nil (CanPerform w v.lanes v.zones);
+      performable = All-nil (IsPerformable v w);
       blocks_stay = ap (λ (f : ℕ → ℕ). blocks f v.lanes v.zones) same;
       sizes_stay = λ block there. ap (λ (f : ℕ → ℕ). size_in f block) same;
     })

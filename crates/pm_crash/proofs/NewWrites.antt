@@ -35,9 +35,8 @@ use Rattle.pm_crash.specs.CallBlocks.{CallBlocks, IsMadeIn, NewObject, allocated
 use Rattle.pm_crash.specs.Held.{HoldsPool, object_of}
 use Rattle.pm_crash.specs.HeapChanges.{AreDisjoint}
 use Rattle.pm_crash.specs.NewObjects.{HasNewObject, fresh_word}
-use Rattle.pm_crash.specs.OpenCall.{HasMade, IsChanged, IsUnderBlock, IsUnderWay, TracksBlocks, block_at_line, call_words, words_recorded}
+use Rattle.pm_crash.specs.OpenCall.{HasMade, IsChanged, IsUnderBlock, IsUnderWay, TracksBlocks, block_at_line, call_words, words_recorded, IsPerformable}
 use Rattle.pm_crash.specs.Operations.{IsMade, WritesNewBytes}
-use Rattle.pm_crash.specs.Performing.{CanPerform}
 use Rattle.pm_crash.specs.Writes.{IsWritten, words_written}
 use Rattle.pm_crash.proofs.AllocOn.{found_has}
 use Rattle.pm_crash.proofs.Apart.{size_of_block}
@@ -193,6 +192,7 @@ module _ (v next : View) (id : Oid) (off level : ℕ) (bytes : List ℕ) (some_l
     kept = λ m there. ap (λ (b : CallBlocks). is_among b.freed m.off || list_any (is_at m.off) b.dropped) blocks_now ∙ under_way.has.kept m (made_before m there);
     once = subst (λ (b : CallBlocks). AreOnce b.made) (sym blocks_now) under_way.has.once;
     apart_new = λ m k there too. under_way.has.apart_new m k (made_before m there) (made_before k too);
+    apart_gone = λ m k there gone. under_way.has.apart_gone m k (made_before m there) (subst (λ (b : CallBlocks). Contains b.dropped k) blocks_now gone);
     apart_found = λ m l lines there held. under_way.has.apart_found m l lines (made_before m there) (subst (λ (ls : List Lock). Contains ls l) writes.tells.locks held);
   }
 
@@ -298,7 +298,7 @@ new_write_goes_on v next id off level bytes some under_way writes =
       fails = refl;
       actions = refl;
       moved = sym (append-nil c.tx.moved);
-      performable = All-nil (CanPerform w v.lanes v.zones);
+      performable = All-nil (IsPerformable v w);
       blocks_stay = ap (λ (f : ℕ → ℕ). blocks f v.lanes v.zones) same;
       sizes_stay = λ block there. ap (λ (f : ℕ → ℕ). size_in f block) same;
     })

@@ -163,17 +163,16 @@ fails_lock tx op works wants aligned fails =
     ∷ [])))
 
 -- where the lock is held, an object that is gone is
-pub fails_gone : (tx : Transaction) (op : Operation) → Works tx → AsksNoLock op → is_not_locked tx op ≡ false → names_gone tx op ≡ true → first_refusal unhindered tx op ≡ Some refusal.NoObject
+pub fails_gone : (tx : Transaction) (op : Operation) → Works tx → WantsNone op → is_unaligned op ≡ false → is_not_locked tx op ≡ false → names_gone tx op ≡ true → first_refusal unhindered tx op ≡ Some refusal.NoObject
 unfolding first_refusal
-fails_gone tx op works asks locked gone =
-    let wants : WantsNone op = wants_none op asks in
+fails_gone tx op works wants aligned locked gone =
     (λ j. option_map (λ (check : Refusal × Bool). check.0) (find (λ (check : Refusal × Bool). check.1)
     ((refusal.NotWork, no_work tx works j)
     ∷ (refusal.NoTx, no_tx tx op works j)
     ∷ (refusal.Spent, not_spent tx j)
     ∷ (refusal.Deep, not_deep tx op wants j)
     ∷ (refusal.LocksFull, few_locks tx op works wants j)
-    ∷ (refusal.Unaligned, asks.aligned j)
+    ∷ (refusal.Unaligned, aligned j)
     ∷ (refusal.BadSize, makes_none op wants.no_alloc j)
     ∷ (refusal.NotLocked, locked j)
     ∷ (refusal.NoObject, has_places tx op wants j)

@@ -1,29 +1,27 @@
 -- What a committed call publishes at once makes of the pool that its words hold its transaction's copy, with its actions performed.
-use Rattle.std.proofs.Common.{◌≡◌, ◌≢◌, ℕ, ◌||◌, Bool, true, false, List, [], ◌∷◌, ◌++◌, map, None, IsSome, refl, sym, ◌∙◌, ap, subst}
+use Rattle.std.proofs.Common.{◌≡◌, ℕ, ◌||◌, Bool, true, false, List, [], ◌∷◌, ◌++◌, map, None, Some, refl, sym, ◌∙◌, ap, subst}
 use Rattle.std.specs.List.{AllZip, Contains, list_any}
-use Rattle.std.proofs.lemmas.Bool.{false≢true}
-use Rattle.std.proofs.lemmas.List.Elements.{All-contains}
 use Rattle.std.specs.List.Sorted.{IsStrictlyIncreasing}
 use Rattle.pm_header.specs.declared.header.Header.{Header}
 use Rattle.pm_objects.specs.Pool.{Objects, object_at, offsets}
+use Rattle.pm_objects.specs.declared.pool.Object.{Object}
 use Rattle.pm_objects.specs.declared.pool.PoolView.{PoolView}
-use Rattle.pm_model.specs.Actions.{Action, all_performed, object_of, with_actions}
+use Rattle.pm_model.specs.Actions.{Action, all_performed, with_actions}
 use Rattle.pm_model.specs.NewObjects.{with_object, without_object}
 use Rattle.pm_model.proofs.Objects.{same_objects}
 use Rattle.pm_view.specs.View.{View}
-use Rattle.pm_crash.specs.CallBlocks.{NewObject, blocks_in, is_at, is_freed_in, is_new_in, object_made}
-use Rattle.pm_crash.specs.CallChanges.{AllocatesNew, ChangesOf, FreesAt}
-use Rattle.pm_crash.specs.Held.{IsObjectAt}
+use Rattle.pm_crash.specs.CallBlocks.{NewObject, blocks_in, is_at, is_freed_in, is_new_in}
+use Rattle.pm_crash.specs.CallChanges.{bytes_published, AllocatesNew, ChangesOf, FreesAt}
 use Rattle.pm_crash.specs.HeapChanges.{HeapChange}
 use Rattle.pm_crash.specs.HeapChanges.HeapChange.{AllocatesChunks, AllocatesInRun, FreesChunks, FreesInRun}
 use Rattle.pm_crash.specs.NewObjects.{unlinked}
-use Rattle.pm_crash.specs.OpenCall.{CommitsTo, IsChanged, call_words}
+use Rattle.pm_crash.specs.OpenCall.{CommitsTo, HasMade, IsChanged, call_words}
 use Rattle.pm_crash.specs.Pending.{published_in}
-use Rattle.pm_crash.specs.Performing.{CanPerform}
 use Rattle.pm_crash.specs.Publishing.{all_pool_published, Published}
 use Rattle.pm_crash.specs.Publishing.Published.{Changes, Performs}
-use Rattle.pm_crash.proofs.ManyObjects.{HasNone, none_at, none_performed, performed_rise, same_performed, some_at, untouched, with_elsewhere, with_objects, with_rise, with_there, without_elsewhere, without_none, without_objects, without_rise, without_there}
-use Rattle.pm_crash.proofs.ObjectsOfBlocks.{object_is_there, objects_rise}
+use Rattle.pm_crash.proofs.ManyObjects.{HasNone, none_at, none_performed, performed_rise, same_performed, some_at, with_elsewhere, with_objects, with_rise, with_there, without_elsewhere, without_none, without_objects, without_rise, without_there}
+use Rattle.pm_crash.proofs.ObjectsOfBlocks.{objects_rise}
+use Rattle.pm_crash.proofs.PerformedNew.{stands_behind}
 
 -- ---- what each part of it makes of a pool's objects
 
@@ -57,8 +55,12 @@ frees_next lanes (change ∷ freed) (off ∷ offs) steps pool each =
     freed_object lanes change off (map Changes freed ++ steps) pool each.0
     ∙ frees_next lanes freed offs steps (holding (without_object off pool.objects) pool) each.1
 
+-- what the lane's words have of a new object once the call's actions are performed
+abbrev object_behind : View → NewObject → Object
+object_behind v n = unlinked n.kind (bytes_published v n)
+
 made_object : (v : View) (lanes : ℕ) (change : HeapChange) (n : NewObject) (steps : List Published) (pool : PoolView) → AllocatesNew v lanes change n
-    → all_pool_published lanes (Changes change ∷ steps) pool ≡ all_pool_published lanes steps (holding (with_object n.off (object_made v n) pool.objects) pool)
+    → all_pool_published lanes (Changes change ∷ steps) pool ≡ all_pool_published lanes steps (holding (with_object n.off (object_behind v n) pool.objects) pool)
 unfolding all_pool_published
 made_object v lanes (AllocatesInRun c lines index kind bytes) n steps pool of =
     (λ j. all_pool_published lanes steps (holding (with_object (of.begins j) (unlinked (of.of_kind j) (of.holds j)) pool.objects) pool))
@@ -69,14 +71,14 @@ made_object v lanes (FreesChunks c chunks) n steps pool of = absurd of
 
 -- and then what is new
 new_last : (v : View) (lanes : ℕ) (made : List HeapChange) (news : List NewObject) (pool : PoolView) → AllZip (AllocatesNew v lanes) made news
-    → all_pool_published lanes (map Changes made) pool ≡ holding (with_objects v news pool.objects) pool
+    → all_pool_published lanes (map Changes made) pool ≡ holding (with_objects (object_behind v) news pool.objects) pool
 unfolding all_pool_published with_objects
 new_last v lanes [] [] pool each = refl
 new_last v lanes [] (n ∷ news) pool each = absurd each
 new_last v lanes (change ∷ made) [] pool each = absurd each
 new_last v lanes (change ∷ made) (n ∷ news) pool each =
     made_object v lanes change n (map Changes made) pool each.0
-    ∙ new_last v lanes made news (holding (with_object n.off (object_made v n) pool.objects) pool) each.1
+    ∙ new_last v lanes made news (holding (with_object n.off (object_behind v n) pool.objects) pool) each.1
 
 changes_apart : (freed made : List HeapChange) → map Changes (freed ++ made) ≡ map Changes freed ++ map Changes made
 changes_apart [] made = refl
@@ -85,7 +87,7 @@ changes_apart (change ∷ freed) made = ap (λ (steps : List Published). Changes
 -- ---- the pool that is published and the copy are one
 
 module _ (v : View) (base copy : PoolView) (changes : List HeapChange) (rising : IsStrictlyIncreasing (offsets base.objects)) (changed : IsChanged v base copy)
-    (unfound : (off : ℕ) → is_new_in v off ≡ true → object_at base.objects off ≡ None) (on_found : (a : Action) → Contains (published_in v) a → IsSome (object_at base.objects (object_of a).off))
+    (unfound : (off : ℕ) → is_new_in v off ≡ true → object_at base.objects off ≡ None) (stands : (n : NewObject) → Contains (blocks_in v).made n → object_at (all_performed (published_in v) copy.objects) n.off ≡ Some (object_behind v n))
     (of : ChangesOf v v.lanes changes) where
   abbrev actions : List Action
   actions = published_in v
@@ -101,7 +103,7 @@ module _ (v : View) (base copy : PoolView) (changes : List HeapChange) (rising :
   left = without_objects (blocks_in v).freed acted
 
   abbrev all : Objects
-  all = with_objects v news left
+  all = with_objects (object_behind v) news left
 
   published_parts : all_pool_published v.lanes (map Performs actions ++ map Changes changes) base ≡ holding all base
   published_parts =
@@ -126,12 +128,6 @@ module _ (v : View) (base copy : PoolView) (changes : List HeapChange) (rising :
   none_for_new : HasNone left news
   none_for_new n there = none_left n.off (unfound n.off (new_by_made n.off (made_is_at n there)))
 
-  -- an action is on an object that was found, so on no new one
-  no_action_on : (off : ℕ) → object_at base.objects off ≡ None → (a : Action) → Contains actions a → (object_of a).off ≢ off
-  no_action_on off none a there same =
-      let found : IsSome (object_at base.objects off) = subst (λ (n : ℕ). IsSome (object_at base.objects n)) same (on_found a there) in
-      false≢true (subst IsSome none found)
-
   abbrev copied : Objects
   copied = all_performed actions copy.objects
 
@@ -139,10 +135,8 @@ module _ (v : View) (base copy : PoolView) (changes : List HeapChange) (rising :
   at_new off made =
       let found = some_at off news made in
       let n : NewObject = found.0 in
-      let none : object_at base.objects n.off ≡ None = unfound n.off (new_by_made n.off (made_is_at n found.1.0)) in
       subst (λ (o : ℕ). object_at all o ≡ object_at copied o) found.1.1
-      (with_there v news left n of.once none_for_new found.1.0
-      ∙ sym (untouched actions copy.objects n.off (no_action_on n.off none) ∙ changed.new n found.1.0))
+      (with_there (object_behind v) news left n of.once none_for_new found.1.0 ∙ sym (stands n found.1.0))
 
   -- at any other offset, by whether the call freed the object there
   at_old : (off : ℕ) (freed : Bool) → list_any (is_at off) news ≡ false → is_freed_in v off ≡ freed → object_at left off ≡ object_at copied off
@@ -153,11 +147,11 @@ module _ (v : View) (base copy : PoolView) (changes : List HeapChange) (rising :
   same_at off = go (list_any (is_at off) news) refl where
     go : (t : Bool) → list_any (is_at off) news ≡ t → object_at all off ≡ object_at copied off
     go true made = at_new off made
-    go false other = with_elsewhere v news left off other ∙ at_old off (is_freed_in v off) other refl
+    go false other = with_elsewhere (object_behind v) news left off other ∙ at_old off (is_freed_in v off) other refl
 
   same_all : all ≡ copied
   same_all = same_objects all copied
-      (with_rise v news left of.once none_for_new (without_rise (blocks_in v).freed acted (performed_rise actions base.objects rising)))
+      (with_rise (object_behind v) news left of.once none_for_new (without_rise (blocks_in v).freed acted (performed_rise actions base.objects rising)))
       (performed_rise actions copy.objects changed.rising) same_at
 
   pub publishes_copy : all_pool_published v.lanes (map Performs actions ++ map Changes changes) base ≡ with_actions actions copy
@@ -166,13 +160,9 @@ module _ (v : View) (base copy : PoolView) (changes : List HeapChange) (rising :
       ∙ (λ j. holding (same_all j) base)
       ∙ sym (ap (holding copied) changed.fixed)
 
--- so it is with what a committed call came to: an action that may be performed is on an object of a block that its words have
-pub committed_is_published : (v : View) (w : ℕ → ℕ) (header : Header) (pool : PoolView) (to : CommitsTo v w header pool) (changes : List HeapChange) → ChangesOf v v.lanes changes
+-- so it is with what a committed call came to
+pub committed_is_published : (v : View) (w : ℕ → ℕ) (header : Header) (pool : PoolView) (to : CommitsTo v w header pool) (changes : List HeapChange) → HasMade v → ChangesOf v v.lanes changes
     → all_pool_published v.lanes (map Performs (published_in v) ++ map Changes changes) to.base ≡ with_actions (published_in v) to.copy
-committed_is_published v w header pool to changes of =
-    publishes_copy v to.base to.copy changes (objects_rise (call_words v w) v.lanes v.zones header to.base to.holds) to.changed to.unfound on_found of where
-      on_found : (a : Action) → Contains (published_in v) a → IsSome (object_at to.base.objects (object_of a).off)
-      on_found a there =
-          let can : CanPerform (call_words v w) v.lanes v.zones a = All-contains (CanPerform (call_words v w) v.lanes v.zones) (published_in v) a to.performable there in
-          let stands : IsObjectAt (call_words v w) v.lanes v.zones to.base.objects can.block = object_is_there (call_words v w) v.lanes v.zones header to.base can.block to.holds can.is_there in
-          subst (λ (n : ℕ). IsSome (object_at to.base.objects n)) can.begins (subst IsSome (sym stands.found) refl)
+committed_is_published v w header pool to changes has of =
+    publishes_copy v to.base to.copy changes (objects_rise (call_words v w) v.lanes v.zones header to.base to.holds) to.changed to.unfound
+    (λ n there. (stands_behind v w header pool to has n there).stands) of

@@ -1,115 +1,119 @@
 -- Actions and changes of the heap are made one after another, each by its entry.
-use Rattle.std.proofs.Common.{◌≡◌, ◌≢◌, ⊎_elim, inl, inr, ℕ, ◌+◌, ◌/◌, ◌<◌, ◌≤◌, false, List, [], ◌∷◌, get_or, None, refl, sym, ◌∙◌, ap, subst, arith}
-use Rattle.std.specs.List.{All, Contains}
-use Rattle.std.proofs.lemmas.Bool.{cases_lt, false≢true}
+use Rattle.std.proofs.Common.{◌≡◌, ◌⊎◌, inl, inr, ℕ, ◌<◌, List, [], ◌∷◌, get_or, length, refl, sym, ◌∙◌, ap, subst}
+use Rattle.std.specs.List.{All}
 use Rattle.std.proofs.lemmas.List.Elements.{All-head, All-tail}
 use Rattle.pm_header.specs.declared.header.Header.{Header}
 use Rattle.pm_objects.specs.declared.pool.PoolView.{PoolView}
-use Rattle.pm_image.specs.declared.block.Block.{Block}
 use Rattle.pm_image.specs.Blocks.{blocks}
-use Rattle.pm_image.specs.Contents.{data_words, offset_in, size_in}
-use Rattle.pm_image.specs.HeapFaults.{heap_fault}
-use Rattle.pm_image.specs.Reads.{ReadsBlock}
-use Rattle.pm_model.specs.Actions.{end_of, object_of, Action}
-use Rattle.pm_view.specs.Occupancy.{is_in_block}
+use Rattle.pm_model.specs.Actions.{Action, all_performed, with_actions}
 use Rattle.pm_world.specs.History.{made_final}
 use Rattle.pm_crash.specs.Held.{HoldsPool}
-use Rattle.pm_crash.specs.HeapChanges.{block_changed, changed, CanChange, HeapChange}
-use Rattle.pm_crash.specs.HeapChanges.HeapChange.{AllocatesChunks, AllocatesInRun, FreesChunks, FreesInRun}
-use Rattle.pm_crash.specs.NewObjects.{block_of_chunks, block_of_run}
-use Rattle.pm_crash.specs.Performing.{CanPerform}
-use Rattle.pm_crash.specs.Publishing.{all_blocks_published, all_pool_published, blocks_published, pool_published, published, AreInOrder, CanPublish, MayFollow, Published}
+use Rattle.pm_crash.specs.HeapChanges.{changed, CanChange, HeapChange}
+use Rattle.pm_crash.specs.Performing.{performed, CanPerform, IsUnseen}
+use Rattle.pm_crash.specs.Publishing.{actions_in, all_blocks_published, all_pool_published, blocks_published, pool_published, published, AreInOrder, CanPublish, HasItsOwn, HaveTheirObjects, MayFollow, Published}
 use Rattle.pm_crash.specs.Publishing.Published.{Changes, Performs}
-use Rattle.pm_crash.specs.Writes.{KeepsOthers}
-use Rattle.pm_crash.proofs.ChangedPools.{grown_sizes, shrunk_sizes}
 use Rattle.pm_crash.proofs.ChangesBehind.{can_still as change_still}
-use Rattle.pm_crash.proofs.ChangesKept.{can_kept}
-use Rattle.pm_crash.proofs.FreeWords.{read_in_block}
-use Rattle.pm_crash.proofs.FreedBlocks.{chunks_shrink, run_shrinks}
-use Rattle.pm_crash.proofs.MadeObjects.{chunks_grow, run_grows}
-use Rattle.pm_crash.proofs.OneChange.{allocated_chunks, allocated_in_run, blocks_one as change_blocks, freed_chunks, freed_in_run, holds_one as change_holds}
-use Rattle.pm_crash.proofs.Performed.{blocks_one as action_blocks, can_still as action_still, holds_one as action_holds, keeps_others, made}
-use Rattle.pm_crash.proofs.RisingBlocks.{with_keeps, without_keeps}
+use Rattle.pm_crash.proofs.KeptHeads.{allows_change, change_allowed, has_object, may_kept, KeepsHeads}
+use Rattle.pm_crash.proofs.OneChange.{blocks_one as change_blocks, holds_one as change_holds}
+use Rattle.pm_crash.proofs.Performed.{blocks_one as action_blocks, can_still as action_still, holds_one as action_holds, made}
+use Rattle.pm_crash.proofs.Unseen.{perform_behind_unseen, performed_heads, unseen_behind_performed, unseen_behind_unseen, unseen_blocks, unseen_heads, unseen_holds}
 
-module _ (w : ℕ → ℕ) (lanes zones : ℕ) (none : heap_fault w lanes zones ≡ None) where
-  -- a block that is not the one changed is there still, with the same size
-  record StaysWith (u : ℕ → ℕ) (block : Block) : Type 0 where
-    is_there : Contains (blocks u lanes zones) block
-    size : size_in u block ≡ size_in w block
+-- an action is on an object of the pool, or changes nothing of it
+abbrev pub MayPerform : (ℕ → ℕ) → ℕ → ℕ → Action → Type 0
+MayPerform w lanes zones a = CanPerform w lanes zones a ⊎ IsUnseen w lanes zones a
 
-  stays : (a : HeapChange) (block : Block) → CanChange w lanes zones a → Contains (blocks w lanes zones) block → offset_in block ≢ offset_in (block_changed lanes a) → StaysWith (changed lanes a w) block
-  stays (AllocatesInRun c lines index kind bytes) block can there differ =
-      let a : HeapChange = AllocatesInRun c lines index kind bytes in
-      let u : ℕ → ℕ = changed lanes a w in
-      record {
-        is_there = subst (λ (bs : List Block). Contains bs block) (sym (change_blocks w lanes zones none a can)) (with_keeps (block_of_run lanes c lines index) block (blocks w lanes zones) there);
-        size = grown_sizes w u lanes zones (block_of_run lanes c lines index) (run_grows w u lanes zones c lines index kind bytes none (allocated_in_run w lanes zones none c lines index kind bytes can)) block there;
-      }
-  stays (AllocatesChunks c chunks kind bytes) block can there differ =
-      let a : HeapChange = AllocatesChunks c chunks kind bytes in
-      let u : ℕ → ℕ = changed lanes a w in
-      record {
-        is_there = subst (λ (bs : List Block). Contains bs block) (sym (change_blocks w lanes zones none a can)) (with_keeps (block_of_chunks lanes c chunks) block (blocks w lanes zones) there);
-        size = grown_sizes w u lanes zones (block_of_chunks lanes c chunks) (chunks_grow w u lanes zones c chunks kind bytes none (allocated_chunks w lanes zones none c chunks kind bytes can)) block there;
-      }
-  stays (FreesInRun c lines index) block can there differ =
-      let a : HeapChange = FreesInRun c lines index in
-      let u : ℕ → ℕ = changed lanes a w in
-      let still : Contains (blocks u lanes zones) block =
-      subst (λ (bs : List Block). Contains bs block) (sym (change_blocks w lanes zones none a can)) (without_keeps (block_of_run lanes c lines index).place block (blocks w lanes zones) there (λ same. differ (omega arith))) in
-      record { is_there = still; size = shrunk_sizes w u lanes zones (block_of_run lanes c lines index) (run_shrinks w u lanes zones c lines index none (freed_in_run w lanes zones none c lines index can)) block still }
-  stays (FreesChunks c chunks) block can there differ =
-      let a : HeapChange = FreesChunks c chunks in
-      let u : ℕ → ℕ = changed lanes a w in
-      let still : Contains (blocks u lanes zones) block =
-      subst (λ (bs : List Block). Contains bs block) (sym (change_blocks w lanes zones none a can)) (without_keeps (block_of_chunks lanes c chunks).place block (blocks w lanes zones) there (λ same. differ (omega arith))) in
-      record { is_there = still; size = shrunk_sizes w u lanes zones (block_of_chunks lanes c chunks) (chunks_shrink w u lanes zones c chunks none (freed_chunks w lanes zones none c chunks can)) block still }
+-- what each may do as its turn comes
+abbrev pub CanCome : (ℕ → ℕ) → ℕ → ℕ → Published → Type 0
+CanCome w lanes zones (Performs a) = CanPerform w lanes zones a ⊎ IsUnseen w lanes zones a
+CanCome w lanes zones (Changes change) = CanChange w lanes zones change
 
-  -- so an action on its object can be performed still
-  perform_still : (a : HeapChange) (other : Action) → CanChange w lanes zones a → (object_of other).off ≢ offset_in (block_changed lanes a) → CanPerform w lanes zones other → CanPerform (changed lanes a w) lanes zones other
-  perform_still a other can differ of =
-      let stay : StaysWith (changed lanes a w) of.block = stays a of.block can of.is_there (λ same. differ (sym of.begins ∙ same)) in
-      record {
-        block = of.block;
-        is_there = stay.is_there;
-        begins = of.begins;
-        inside = subst (λ (n : ℕ). end_of other ≤ n) (sym stay.size) of.inside;
-        whole = of.whole;
-      }
+-- behind a change there are no more actions
+no_actions : (lanes : ℕ) (change : HeapChange) (steps : List Published) → All (MayFollow lanes (Changes change)) steps → actions_in steps ≡ []
+no_actions lanes change [] follow = refl
+no_actions lanes change (Performs a ∷ steps) follow = absurd (All-head (MayFollow lanes (Changes change)) (Performs a) steps follow)
+no_actions lanes change (Changes other ∷ steps) follow = no_actions lanes change steps (All-tail (MayFollow lanes (Changes change)) (Changes other) steps follow)
+
+none_performed_stays : (w : ℕ → ℕ) → performed [] w ≡ w
+unfolding made_final
+none_performed_stays w = refl
+
+first_performed : (a : Action) (actions : List Action) (w : ℕ → ℕ) → performed (a ∷ actions) w ≡ performed actions (made a w)
+unfolding made_final
+first_performed a actions w = refl
 
 module _ (w : ℕ → ℕ) (lanes zones : ℕ) (header : Header) (pool : PoolView) (holds : HoldsPool w lanes zones header pool) where
-  -- an action changes words of its object's block alone
-  pub outside_stays : (a : Action) → CanPerform w lanes zones a → (i : ℕ) → is_in_block w lanes i ≡ false → made a w i ≡ w i
-  outside_stays a can i outside =
-      let keeps : KeepsOthers w (made a w) can.block = keeps_others w lanes zones header pool holds a can in
-      let from : ℕ = can.block.place / 8 + 8 in
-      let to : ℕ = can.block.place / 8 + 8 + data_words (size_in w can.block) in
-      ⊎_elim
-      (λ (before : i < from). keeps.same i (inl before))
-      (λ (begun : from ≤ i). ⊎_elim
-      (λ (inside : i < to).
-      let read : ReadsBlock w can.block i = record { from = omega arith; to = omega arith } in
-      absurd (false≢true (sym outside ∙ read_in_block w lanes zones i can.block holds.no_fault can.is_there read)))
-      (λ (behind : to ≤ i). keeps.same i (inr behind))
-      (cases_lt i to))
-      (cases_lt i from)
+  pub action_heads : (a : Action) → CanPerform w lanes zones a ⊎ IsUnseen w lanes zones a → KeepsHeads w (made a w) lanes zones
+  action_heads a (inl can) = performed_heads w lanes zones header pool holds a can
+  action_heads a (inr unseen) = unseen_heads w lanes zones header pool holds a unseen
 
-  pub step_holds : (s : Published) → CanPublish w lanes zones s → HoldsPool (published lanes (s ∷ []) w) lanes zones header (pool_published lanes s pool)
-  step_holds (Performs a) can = action_holds w lanes zones header pool holds a can
+  pub step_holds : (s : Published) → CanCome w lanes zones s → HoldsPool (published lanes (s ∷ []) w) lanes zones header (pool_published lanes s pool)
+  step_holds (Performs a) (inl can) = action_holds w lanes zones header pool holds a can
+  step_holds (Performs a) (inr unseen) = unseen_holds w lanes zones header pool holds a unseen
   step_holds (Changes change) can = change_holds w lanes zones header pool change holds can
 
-  pub step_blocks : (s : Published) → CanPublish w lanes zones s → blocks (published lanes (s ∷ []) w) lanes zones ≡ blocks_published lanes s (blocks w lanes zones)
-  step_blocks (Performs a) can = action_blocks w lanes zones header pool holds a can
+  pub step_blocks : (s : Published) → CanCome w lanes zones s → blocks (published lanes (s ∷ []) w) lanes zones ≡ blocks_published lanes s (blocks w lanes zones)
+  step_blocks (Performs a) (inl can) = action_blocks w lanes zones header pool holds a can
+  step_blocks (Performs a) (inr unseen) = unseen_blocks w lanes zones header pool holds a unseen
   step_blocks (Changes change) can = change_blocks w lanes zones holds.no_fault change can
 
-  step_still : (s other : Published) → CanPublish w lanes zones s → MayFollow lanes s other → CanPublish w lanes zones other → CanPublish (published lanes (s ∷ []) w) lanes zones other
-  step_still (Performs a) (Performs other) can may of = action_still w lanes zones header pool holds a other can of
-  step_still (Performs a) (Changes other) can may of = can_kept w (made a w) lanes zones (outside_stays a can) other of
-  step_still (Changes change) (Performs other) can may of = perform_still w lanes zones holds.no_fault change other can may of
-  step_still (Changes change) (Changes other) can may of = change_still w lanes zones holds.no_fault change other can may of
+  -- what can be published still can, behind an action
+  behind_action : (a : Action) (other : Published) → CanPerform w lanes zones a ⊎ IsUnseen w lanes zones a → CanPublish w lanes zones other → CanPublish (made a w) lanes zones other
+  behind_action a (Performs other) (inl can) (inl of) = inl (action_still w lanes zones header pool holds a other can of)
+  behind_action a (Performs other) (inl can) (inr of) = inr (unseen_behind_performed w lanes zones header pool holds a other can of)
+  behind_action a (Performs other) (inr unseen) (inl of) = inl (perform_behind_unseen w lanes zones header pool holds a unseen other of)
+  behind_action a (Performs other) (inr unseen) (inr of) = inr (unseen_behind_unseen w lanes zones header pool holds a unseen other of)
+  behind_action a (Changes other) can of = may_kept w (made a w) lanes zones (action_heads a can) other of
 
-  pub all_still : (s : Published) (steps : List Published) → CanPublish w lanes zones s → All (MayFollow lanes s) steps → All (CanPublish w lanes zones) steps → All (CanPublish (published lanes (s ∷ []) w) lanes zones) steps
-  all_still s steps can may all = λ k d inside. step_still s (get_or steps k d) can (may k d inside) (all k d inside)
+  -- and behind a change, where nothing but changes comes, with what stands in new blocks
+  record Comes (u : ℕ → ℕ) (s : Published) : Type 0 where
+    can : CanPublish u lanes zones s
+    has : HasItsOwn u lanes s
+
+  behind_change : (change : HeapChange) (other : Published) → CanChange w lanes zones change → MayFollow lanes (Changes change) other → CanPublish w lanes zones other → HasItsOwn w lanes other
+      → Comes (changed lanes change w) other
+  behind_change change (Performs a) can may of has = absurd may
+  behind_change change (Changes other) can may of has =
+      let still : CanChange (changed lanes change w) lanes zones other = change_still w lanes zones holds.no_fault change other can may (change_allowed w lanes zones other of has) in
+      record { can = allows_change (changed lanes change w) lanes zones other still; has = has_object (changed lanes change w) lanes zones other still }
+
+  -- the first may come now, and so may the others behind it
+  pub record InTurn (s : Published) (steps : List Published) : Type 0 where
+    pub first : CanCome w lanes zones s
+    pub can : All (CanPublish (published lanes (s ∷ []) w) lanes zones) steps
+    pub have : HaveTheirObjects (published lanes (s ∷ []) w) lanes steps
+
+  pub in_turn : (s : Published) (steps : List Published) → All (CanPublish w lanes zones) (s ∷ steps) → All (MayFollow lanes s) steps → HaveTheirObjects w lanes (s ∷ steps) → InTurn s steps
+  in_turn (Performs a) steps all may have =
+      let first : CanPerform w lanes zones a ⊎ IsUnseen w lanes zones a = All-head (CanPublish w lanes zones) (Performs a) steps all in
+      let rest : All (CanPublish w lanes zones) steps = All-tail (CanPublish w lanes zones) (Performs a) steps all in
+      record {
+        first = first;
+        can = λ k d inside. behind_action a (get_or steps k d) first (rest k d inside);
+        have = subst (λ (u : ℕ → ℕ). All (HasItsOwn u lanes) steps) (first_performed a (actions_in steps) w) (All-tail (HasItsOwn (performed (a ∷ actions_in steps) w) lanes) (Performs a) steps have);
+      }
+  in_turn (Changes change) steps all may have =
+      let none : actions_in steps ≡ [] = no_actions lanes change steps may in
+      let stands : All (HasItsOwn w lanes) (Changes change ∷ steps) = subst (λ (u : ℕ → ℕ). All (HasItsOwn u lanes) (Changes change ∷ steps)) (ap (λ (actions : List Action). performed actions w) none ∙ none_performed_stays w) have in
+      let u : ℕ → ℕ = changed lanes change w in
+      let first : CanChange w lanes zones change = change_allowed w lanes zones change (All-head (CanPublish w lanes zones) (Changes change) steps all) (All-head (HasItsOwn w lanes) (Changes change) steps stands) in
+      let rest : All (CanPublish w lanes zones) steps = All-tail (CanPublish w lanes zones) (Changes change) steps all in
+      let own : All (HasItsOwn w lanes) steps = All-tail (HasItsOwn w lanes) (Changes change) steps stands in
+      let each : (k : ℕ) (d : Published) → k < length steps → Comes u (get_or steps k d) = λ k d inside. behind_change change (get_or steps k d) first (may k d inside) (rest k d inside) (own k d inside) in
+      record {
+        first = first;
+        can = λ k d inside. (each k d inside).can;
+        have = subst (λ (x : ℕ → ℕ). All (HasItsOwn x lanes) steps) (sym (ap (λ (actions : List Action). performed actions u) none ∙ none_performed_stays u)) (λ k d inside. (each k d inside).has);
+      }
+
+-- actions alone
+pub actions_hold : (w : ℕ → ℕ) (lanes zones : ℕ) (header : Header) (pool : PoolView) (actions : List Action) → HoldsPool w lanes zones header pool → All (MayPerform w lanes zones) actions
+    → HoldsPool (performed actions w) lanes zones header (with_actions actions pool)
+unfolding all_performed made_final
+actions_hold w lanes zones header pool [] holds may = holds
+actions_hold w lanes zones header pool (a ∷ actions) holds may =
+    let first : MayPerform w lanes zones a = All-head (MayPerform w lanes zones) a actions may in
+    actions_hold (made a w) lanes zones header (with_actions (a ∷ []) pool) actions (step_holds w lanes zones header pool holds (Performs a) first)
+    (λ k d inside. behind_action w lanes zones header pool holds a (Performs (get_or actions k d)) first (All-tail (MayPerform w lanes zones) a actions may k d inside))
 
 -- a list of them
 pub record ArePublished (w : ℕ → ℕ) (lanes zones : ℕ) (header : Header) (pool : PoolView) (steps : List Published) : Type 0 where
@@ -117,16 +121,15 @@ pub record ArePublished (w : ℕ → ℕ) (lanes zones : ℕ) (header : Header) 
   pub blocks_are : blocks (published lanes steps w) lanes zones ≡ all_blocks_published lanes steps (blocks w lanes zones)
 
 pub all_are_published : (w : ℕ → ℕ) (lanes zones : ℕ) (header : Header) (pool : PoolView) (steps : List Published) → HoldsPool w lanes zones header pool → All (CanPublish w lanes zones) steps → AreInOrder lanes steps
-    → ArePublished w lanes zones header pool steps
+    → HaveTheirObjects w lanes steps → ArePublished w lanes zones header pool steps
 unfolding all_pool_published all_blocks_published made_final
-all_are_published w lanes zones header pool [] holds can order = record { holds = holds; blocks_are = refl }
-all_are_published w lanes zones header pool (s ∷ steps) holds can order =
+all_are_published w lanes zones header pool [] holds can order have = record { holds = holds; blocks_are = refl }
+all_are_published w lanes zones header pool (s ∷ steps) holds can order have =
     let u : ℕ → ℕ = published lanes (s ∷ []) w in
-    let first : CanPublish w lanes zones s = All-head (CanPublish w lanes zones) s steps can in
+    let turn : InTurn w lanes zones header pool holds s steps = in_turn w lanes zones header pool holds s steps can order.0 have in
     let rest : ArePublished u lanes zones header (pool_published lanes s pool) steps =
-    all_are_published u lanes zones header (pool_published lanes s pool) steps (step_holds w lanes zones header pool holds s first)
-    (all_still w lanes zones header pool holds s steps first order.0 (All-tail (CanPublish w lanes zones) s steps can)) order.1 in
+    all_are_published u lanes zones header (pool_published lanes s pool) steps (step_holds w lanes zones header pool holds s turn.first) turn.can order.1 turn.have in
     record {
       holds = rest.holds;
-      blocks_are = rest.blocks_are ∙ ap (all_blocks_published lanes steps) (step_blocks w lanes zones header pool holds s first);
+      blocks_are = rest.blocks_are ∙ ap (all_blocks_published lanes steps) (step_blocks w lanes zones header pool holds s turn.first);
     }

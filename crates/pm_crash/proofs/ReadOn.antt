@@ -23,7 +23,7 @@ use Rattle.pm_view.specs.Log.{Recorded}
 use Rattle.pm_crash.proofs.CallWords.{locks_kept}
 use Rattle.pm_crash.specs.CallBlocks.{IsOldIn}
 use Rattle.pm_crash.specs.Held.{HoldsPool}
-use Rattle.pm_crash.specs.OpenCall.{IsBefore, call_words, ComesTo, IsOpen, IsUnderWay, LiesInBlock, words_recorded}
+use Rattle.pm_crash.specs.OpenCall.{IsBefore, call_words, ComesTo, IsOpen, IsUnderWay, LiesInBlock, words_recorded, IsPerformable}
 use Rattle.pm_crash.specs.Operations.{ReadsBytes, bytes_seen}
 use Rattle.pm_crash.proofs.CallWords.{call_works, covered_is_outside, held_is_locked, known_call_word, object_under, one_is_kept, same_pool, IsObjectOf}
 use Rattle.pm_crash.proofs.CallBlocks.{keeps_on, old_of_none}
@@ -34,7 +34,6 @@ use Rattle.pm_crash.proofs.ObjectBytes.{range_is_read}
 use Rattle.pm_crash.proofs.Passing.{passes_all, AsksNoLock, Works}
 use Rattle.std.proofs.lemmas.List.Elements.{All-nil}
 use Rattle.std.proofs.lemmas.List.{append-nil}
-use Rattle.pm_crash.specs.Performing.{CanPerform}
 
 -- so many bytes are in their words
 in_words : (size : ℕ) → size ≤ 8 * data_words size
@@ -105,7 +104,7 @@ read_goes_on v next id off len level some under_way reads old =
       fails = refl;
       actions = refl;
       moved = sym (append-nil c.tx.moved);
-      performable = All-nil (CanPerform w v.lanes v.zones);
+      performable = All-nil (IsPerformable v w);
       blocks_stay = ap (λ (f : ℕ → ℕ). blocks f v.lanes v.zones) same;
       sizes_stay = λ block there. ap (λ (f : ℕ → ℕ). size_in f block) same;
     })

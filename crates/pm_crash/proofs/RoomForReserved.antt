@@ -1,21 +1,25 @@
 -- What a lane that is alone reserved overlaps no block of its words, and none of a pool that words hold which tell of blocks what the opening's do. So such a pool
 -- may be the one before its call, where the lane's words and what it reserved bear out what that told.
-use Rattle.std.proofs.Common.{◌≡◌, inl, inr, ℕ, ◌+◌, ◌*◌, ◌/◌, ◌%◌, ◌<◌, ◌≤◌, Bool, true, false, cond, eqb, not, All, Contains, List, length, slice_index, None, Some, refl, sym, ap, ◌∙◌, subst, arith}
-use Rattle.std.proofs.lemmas.List.Elements.{All-contains_itself, All-map, All-weaker}
+use Rattle.std.proofs.Common.{◌≡◌, ◌≢◌, ◌⊎◌, inl, inr, eq-eqb, ℕ, ◌+◌, ◌*◌, ◌/◌, ◌%◌, ◌<◌, ◌≤◌, Bool, true, false, cond, eqb, not, All, Contains, List, length, slice_index, None, Some, refl, sym, ap, ◌∙◌, subst, arith}
+use Rattle.std.specs.List.{list_any, range_with_len}
+use Rattle.std.proofs.lemmas.Bool.{or_left}
+use Rattle.std.proofs.lemmas.List.Elements.{All-contains, All-contains_itself, All-map, All-weaker}
 use Rattle.pm_header.specs.declared.header.Header.{Header}
 use Rattle.pm_layout.specs.Sizes.{class_of, lines_for}
+use Rattle.pm_layout.specs.declared.class.Class.TheVariants.{Lines}
 use Rattle.pm_objects.specs.Pool.{block_end, block_lines}
 use Rattle.pm_objects.specs.declared.pool.PoolView.{PoolView}
 use Rattle.pm_image.specs.declared.block.Block.{Block}
-use Rattle.pm_image.specs.Blocks.{blocks, chunk_word, descriptor_word}
+use Rattle.pm_image.specs.Blocks.{blocks, chunk_word, class_in, descriptor_word}
 use Rattle.pm_image.specs.Contents.{bytes_in, object_in, objects_in, offset_in, size_in}
 use Rattle.pm_image.specs.HeapFaults.{heap_fault}
+use Rattle.pm_image.specs.Reads.{Reads}
 use Rattle.pm_image.proofs.Pools.{GoodSize, length-bytes_in}
 use Rattle.pm_image.proofs.Rooms.{lines_needed}
 use Rattle.pm_model.specs.Answers.{IsBeside}
-use Rattle.pm_view.specs.Blocks.{is_run, bitmap_word}
+use Rattle.pm_view.specs.Blocks.{is_run, bitmap_word, zone_page}
 use Rattle.pm_view.specs.Blocks.{descriptor_word as lane_descriptor}
-use Rattle.pm_view.specs.Occupancy.{is_chunk_taken}
+use Rattle.pm_view.specs.Occupancy.{is_chunk_taken, reaches}
 use Rattle.pm_view.specs.View.{View}
 use Rattle.pm_view.specs.Views.{reserves}
 use Rattle.pm_world.specs.Fits.{LaneFits}
@@ -28,7 +32,11 @@ use Rattle.pm_world.proofs.Living.{TellsOf}
 use Rattle.pm_crash.specs.CallBlocks.{AgreesOnRoot, HasRoomFor, MayPrecede, NewObject, allocated_in, block_of}
 use Rattle.pm_crash.specs.HeapChanges.{AreDisjoint, run_at}
 use Rattle.pm_crash.specs.Held.{HoldsPool}
-use Rattle.pm_crash.specs.NewObjects.{block_of_chunks, block_of_run}
+use Rattle.pm_crash.specs.NewObjects.{block_of_chunks, block_of_run, IsChunkWord}
+use Rattle.pm_crash.specs.OpenCall.{LeavesFree}
+use Rattle.pm_crash.proofs.Classes.{lines_of_class}
+use Rattle.pm_crash.proofs.Continued.{two_same}
+use Rattle.pm_crash.proofs.UnreadBlocks.{free_in_chunk, free_unread, AreChunks, IsOneOfRun}
 use Rattle.pm_crash.proofs.Apart.{size_of_block}
 use Rattle.pm_crash.proofs.FoundBlocks.{IsPageOf, page_of_chunk}
 use Rattle.pm_crash.proofs.LivingWords.{free_by_page, taken_same}
@@ -125,10 +133,13 @@ module _ (o : Opening) (mem : Memory) (views : Views) (log : List Entry) (decide
       abbrev bs : List Block
       bs = blocks w o.lanes o.zones
 
+      apart_each : (n : NewObject) → IsReservedFor v n → (b : Block) → Contains bs b → AreDisjoint (block_of n) b
+      apart_each n reserved b there = lies_apart n b reserved (lies_still w (slice_index v.words) o.lanes o.zones b same_taken (each_lies w o.lanes o.zones holds.no_fault b there))
+
       beside_each : (n : NewObject) → IsReservedFor v n → (b : Block) → Contains bs b → IsBeside n.size n.off (offset_in b, object_in w (length bs) b)
       beside_each n reserved b there =
           beside_block w (length bs) n b (size_of_block w o.lanes o.zones b holds.no_fault there)
-          (lies_apart n b reserved (lies_still w (slice_index v.words) o.lanes o.zones b same_taken (each_lies w o.lanes o.zones holds.no_fault b there)))
+          (apart_each n reserved b there)
 
       beside_all : (n : NewObject) → IsReservedFor v n → All (IsBeside n.size n.off) pool.objects
       unfolding objects_in
@@ -145,3 +156,48 @@ module _ (o : Opening) (mem : Memory) (views : Views) (log : List Entry) (decide
       may_precede same_root borne_out =
           let root : pool.root ≡ root_in (slice_index v.words) = ap (λ (p : PoolView). p.root) holds.is_pool ∙ ap (λ n. cond (eqb n 0) None (Some n)) (tells.root ∙ sym same_root) in
           record { room = room (allocated_in v) borne_out.reserved; root = subst (AgreesOnRoot v) (sym root) borne_out.root }
+
+      -- what it reserved is free by them: a chunk of it that they took would have a descriptor
+      plain_chunk : (zone chunk lines : ℕ) → zone < o.zones → chunk < 64 → slice_index v.words (descriptor_word o.lanes (64 * zone + chunk)) ≡ 0 → class_in (w (descriptor_word o.lanes (64 * zone + chunk))) ≢ Some (Lines lines)
+      plain_chunk zone chunk lines in_pool low none run =
+          let c : ℕ = 64 * zone + chunk in
+          let one : w (descriptor_word o.lanes c) % 256 ≡ 1 = (lines_of_class (w (descriptor_word o.lanes c)) lines run).0 in
+          let word : 512 * zone_page o.lanes (c / 64) + c % 64 ≡ descriptor_word o.lanes c = omega arith in
+          let is : is_run (w (512 * zone_page o.lanes (c / 64) + c % 64)) ≡ true = ap (λ (i : ℕ). is_run (w i)) word ∙ eq-eqb (w (descriptor_word o.lanes c) % 256) 1 one in
+          let taken : is_chunk_taken w o.lanes (c / 64) (c % 64) ≡ true =
+          or_left (is_run (w (512 * zone_page o.lanes (c / 64) + c % 64))) (list_any (reaches w o.lanes (c / 64) (c % 64)) (range_with_len 0 (c % 64 + 1))) is in
+          let zero : w (descriptor_word o.lanes c) ≡ 0 = sym (same_descriptor c (omega (arith, in_pool, low)) taken) ∙ none in
+          omega (arith, one, zero)
+
+      place_of : (n : NewObject) → IsReservedFor v n → IsOneOfRun o.lanes o.zones (block_of n) ⊎ AreChunks w o.lanes o.zones (block_of n)
+      place_of n (inl run) =
+          let lanes = fits.lane.lanes in let zones = fits.lane.zones in let in_pool = run.in_pool in
+          let free = block_free o mem views log decided k world inside sees run.chunk run.lines run.index (omega (arith, in_pool, zones)) run.low
+          (ap (λ m. slice_index v.words (descriptor_word m run.chunk)) (sym lanes) ∙ run.described) (ap (λ m. reserves v (run_at m run.chunk) run.index) (sym lanes) ∙ run.reserved) in
+          inl (record { chunk = run.chunk; lines = run.lines; index = run.index; in_zones = omega (arith, in_pool, zones); inside = free.inside; is = run.is_block ∙ ap (λ m. block_of_run m run.chunk run.lines run.index) lanes })
+      place_of n (inr has) =
+          let lanes = fits.lane.lanes in let zones = fits.lane.zones in let in_pool = has.in_pool in let whole = has.fits in
+          let in_zones : has.zone < o.zones = omega (arith, in_pool, zones) in
+          inr (record {
+            zone = has.zone;
+            first = has.first;
+            count = has.count;
+            in_zones = in_zones;
+            low = has.low;
+            fits = has.fits;
+            is = has.is_block ∙ ap (λ m. block_of_chunks m (64 * has.zone + has.first) has.count) lanes;
+            plain = λ j lines near.
+                plain_chunk has.zone (has.first + j) lines in_zones (omega (arith, near, whole))
+                (ap (λ m. slice_index v.words (descriptor_word m (64 * has.zone + (has.first + j)))) (sym lanes) ∙ (has.unused j near).undescribed);
+          })
+
+      pub leaves_free : IsBorneOut v → (n : NewObject) → Contains (allocated_in v) n → LeavesFree v w n
+      leaves_free borne_out n there =
+          let lanes = fits.lane.lanes in let zones = fits.lane.zones in
+          let reserved : IsReservedFor v n = All-contains (IsReservedFor v) (allocated_in v) n borne_out.reserved there in
+          record {
+            in_chunks = λ i word. two_same (λ (a b : ℕ). IsChunkWord a b i) o.lanes v.lanes o.zones v.zones (sym lanes) (sym zones)
+                (free_in_chunk w o.lanes o.zones (block_of n) (place_of n reserved) holds.no_fault (apart_each n reserved) i word);
+            unread = λ i word. two_same (λ (a b : ℕ). ¬ Reads w a b i) o.lanes v.lanes o.zones v.zones (sym lanes) (sym zones)
+                (free_unread w o.lanes o.zones (block_of n) (place_of n reserved) holds.no_fault (apart_each n reserved) i word);
+          }

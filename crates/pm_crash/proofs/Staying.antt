@@ -16,14 +16,14 @@ use Rattle.pm_view.specs.Log.{Recorded}
 use Rattle.pm_view.specs.View.{View, Lock}
 use Rattle.pm_world.specs.Records.{is_recorded}
 use Rattle.pm_crash.proofs.CallWords.{locks_kept, same_made_words}
-use Rattle.pm_crash.specs.CallBlocks.{IsMadeIn, NewObject, blocks_in}
+use Rattle.pm_crash.specs.CallBlocks.{CallBlocks, IsMadeIn, NewObject, blocks_in}
 use Rattle.pm_crash.specs.Held.{HoldsPool}
-use Rattle.pm_crash.specs.OpenCall.{IsBefore, ComesTo, ComesToNothing, IsGivenUp, IsOpen, IsUnderWay, IsWholeCall, RecordsUnder, MakesStep, WasAborted, call_words, made_words, words_recorded}
+use Rattle.pm_crash.specs.OpenCall.{IsBefore, ComesTo, ComesToNothing, IsGivenUp, IsOpen, IsUnderWay, IsWholeCall, RecordsUnder, MakesStep, WasAborted, call_words, made_words, words_recorded, IsPerformable}
 use Rattle.pm_crash.specs.Pending.{act_of, pending_in, published_in, told_in, told_of}
-use Rattle.pm_crash.specs.Performing.{CanPerform}
 use Rattle.pm_crash.specs.Operations.{KeepsKnown, KeepsLog, KeepsWords, TakesBack, TellsNothing}
 use Rattle.pm_crash.proofs.CallBlocks.{keeps_still, may_same, same_allocated, same_blocks}
 use Rattle.pm_crash.proofs.Continued.{known_new, left_apart, left_changed, left_has, left_new, left_tracks, runs_told, two_same, LeavesBlocks}
+use Rattle.pm_crash.proofs.NewStay.{news_in, performable_still}
 use Rattle.pm_crash.proofs.PendingOn.{pending_same, published_same, same_before}
 use Rattle.pm_crash.proofs.GivenUp.{outside_taken_back, taken_back, under_taken_back}
 use Rattle.pm_crash.proofs.KeptWords.{keeps_known, known_back, outside_kept, same_known_words, same_found, under_kept}
@@ -80,8 +80,8 @@ comes_still v next level at_stage e w header pool quiet logs leaves same c =
       actions = c.actions ∙ sym (pending_same v next quiet.keeps.entries quiet.call);
       moved = c.moved ∙ sym (published_same v next quiet.keeps.entries quiet.call);
       performable =
-          two_same (λ (n m : ℕ). All (CanPerform w n m) (published_in next)) v.lanes next.lanes v.zones next.zones (sym quiet.keeps.lanes) (sym quiet.keeps.zones)
-          (subst (All (CanPerform w v.lanes v.zones)) (sym (published_same v next quiet.keeps.entries quiet.call)) c.performable);
+          performable_still v next w (published_in next) quiet.keeps.lanes quiet.keeps.zones (λ n there. subst (λ (b : CallBlocks). Contains (news_in b) n) (sym leaves.blocks) there)
+          (subst (All (IsPerformable v w)) (sym (published_same v next quiet.keeps.entries quiet.call)) c.performable);
       blocks_stay =
           two_same (λ (n m : ℕ). blocks (call_words next w) n m ≡ blocks w n m) v.lanes next.lanes v.zones next.zones (sym quiet.keeps.lanes) (sym quiet.keeps.zones)
           (ap (λ (f : ℕ → ℕ). blocks f v.lanes v.zones) same ∙ c.blocks_stay);

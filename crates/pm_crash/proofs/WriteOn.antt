@@ -26,7 +26,7 @@ use Rattle.pm_view.specs.View.{View}
 use Rattle.pm_world.specs.Records.{is_recorded}
 use Rattle.pm_crash.specs.CallBlocks.{CallBlocks, IsMadeIn, IsOldIn, NewObject, block_of, blocks_in, is_at, is_freed_in, is_new_in}
 use Rattle.pm_crash.specs.Held.{HoldsPool}
-use Rattle.pm_crash.specs.OpenCall.{IsChanged, IsOpen, IsUnderBlock, IsUnderWay, call_words, words_recorded}
+use Rattle.pm_crash.specs.OpenCall.{IsChanged, IsOpen, IsUnderBlock, IsUnderWay, call_words, words_recorded, IsPerformable}
 use Rattle.pm_crash.specs.Operations.{WritesBytes}
 use Rattle.pm_crash.specs.Writes.{IsWritten, KeepsOthers, WritesObject, words_written, written_word}
 use Rattle.pm_crash.proofs.Apart.{heads_kept}
@@ -41,7 +41,6 @@ use Rattle.pm_crash.proofs.RecordedWords.{among_recorded}
 use Rattle.pm_crash.proofs.Written.{write_keeps_others, written_pool}
 use Rattle.std.proofs.lemmas.List.Elements.{All-nil}
 use Rattle.std.proofs.lemmas.List.{append-nil}
-use Rattle.pm_crash.specs.Performing.{CanPerform}
 
 -- the words of the call after the write are those before it with the bytes written
 made_written : (v next : View) (id : Oid) (off : ℕ) (bytes : List ℕ) (w : ℕ → ℕ) → ((i : ℕ) → is_recorded v.log.records i ≡ true → is_in_area v.lane i ≡ false) → WritesBytes v next id off bytes → IsWritten (call_words v w) (call_words next w) (id.off + off) bytes
@@ -175,7 +174,7 @@ write_goes_on v next id off level bytes some under_way writes old =
       fails = refl;
       actions = refl;
       moved = sym (append-nil c.tx.moved);
-      performable = All-nil (CanPerform w v.lanes v.zones);
+      performable = All-nil (IsPerformable v w);
       blocks_stay = blocks_same words (call_words next w) v.lanes v.zones (heads_kept words (call_words next w) v.lanes v.zones block c.holds.no_fault object.is_there keeps);
       sizes_stay = λ other there.
           sizes_kept words (call_words next w) v.lanes v.zones block other c.holds.no_fault object.is_there keeps (subst (λ (bs : List Block). Contains bs other) (sym c.blocks_stay) there);

@@ -8,12 +8,18 @@ use Rattle.pm_crash.specs.CallBlocks.{NewObject, block_of, blocks_in}
 use Rattle.pm_crash.specs.HeapChanges.{HeapChange}
 use Rattle.pm_crash.specs.HeapChanges.HeapChange.{AllocatesChunks, AllocatesInRun, FreesChunks, FreesInRun}
 use Rattle.pm_crash.specs.NewObjects.{block_of_chunks, block_of_run}
+use Rattle.pm_crash.specs.Pending.{published_in}
+use Rattle.pm_crash.specs.Performing.{performed}
 
--- a block, a type and bytes are those of an object that the call made: its bytes are as the lane's words have them, since the commit alone publishes it
+-- the bytes that a new object is published with: those of its block by the lane's words, with the call's actions performed
+abbrev pub bytes_published : View → NewObject → List ℕ
+bytes_published v n = bytes_in (performed (published_in v) (slice_index v.words)) (block_of n)
+
+-- a block, a type and bytes are those of an object that the call made
 pub record IsOfNew (v : View) (block : Block) (kind : ℕ) (bytes : List ℕ) (n : NewObject) : Type 0 where
   pub begins : offset_in block ≡ n.off
   pub of_kind : kind ≡ n.kind
-  pub holds : bytes ≡ bytes_in (slice_index v.words) (block_of n)
+  pub holds : bytes ≡ bytes_published v n
 
 -- the change allocates that object's block, for it
 abbrev pub AllocatesNew : View → ℕ → HeapChange → NewObject → Type 0

@@ -48,6 +48,19 @@ CanChange w lanes zones (AllocatesChunks c chunks kind bytes) = AreFreeChunks w 
 CanChange w lanes zones (FreesInRun c lines index) = MayFreeInRun w lanes zones c lines index
 CanChange w lanes zones (FreesChunks c chunks) = MayFreeChunks w lanes zones c chunks
 
+-- what it asks of the blocks alone: one that is allocated has a chunk at least, or is one of a run
+abbrev pub MayChange : (ℕ → ℕ) → ℕ → ℕ → HeapChange → Type 0
+MayChange w lanes zones (AllocatesInRun c lines index kind bytes) = IsFreeInRun w lanes zones c lines index
+MayChange w lanes zones (AllocatesChunks c chunks kind bytes) = (1 ≤ chunks) × AreFreeChunks w lanes zones c chunks
+MayChange w lanes zones (FreesInRun c lines index) = MayFreeInRun w lanes zones c lines index
+MayChange w lanes zones (FreesChunks c chunks) = MayFreeChunks w lanes zones c chunks
+
+-- and of what stands in a block that it allocates
+abbrev pub HasItsObject : (ℕ → ℕ) → ℕ → HeapChange → Type 0
+HasItsObject w lanes (AllocatesInRun c lines index kind bytes) = HasNewObject w (block_of_run lanes c lines index) kind bytes
+HasItsObject w lanes (AllocatesChunks c chunks kind bytes) = HasNewObject w (block_of_chunks lanes c chunks) kind bytes
+HasItsObject w lanes change = Unit {0}
+
 -- what it makes of a pool, and of the pool's blocks
 abbrev pub pool_changed : ℕ → HeapChange → PoolView → PoolView
 pool_changed lanes (AllocatesInRun c lines index kind bytes) pool = pool_with (offset_in (block_of_run lanes c lines index)) (unlinked kind bytes) pool

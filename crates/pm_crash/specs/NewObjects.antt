@@ -91,6 +91,13 @@ pub record MakesObjectOfNewRun (w v : ℕ → ℕ) (lanes zones c lines index ki
   pub object : HasNewObject v (block_of_run lanes c lines index) kind bytes
   pub others : (i : ℕ) → Reads w lanes zones i → i ≢ descriptor_word lanes c → v i ≡ w i
 
+-- the word is one of a chunk's
+pub record IsChunkWord (lanes zones i : ℕ) : Type 0 where
+  pub chunk : ℕ
+  pub in_zones : chunk < 64 * zones
+  pub from : chunk_word lanes chunk ≤ i
+  pub to : i < chunk_word lanes chunk + 512
+
 -- the word is one of the block's
 pub record IsWordOf (block : Block) (i : ℕ) : Type 0 where
   pub from : block.place / 8 ≤ i

@@ -1,5 +1,5 @@
 -- What a lane's view shows of a call on pending actions, inside of a transaction and outside.
-use Rattle.std.specs.Prelude.{◌≡◌, ℕ, ◌+◌, ◌%◌, ◌==◌, ◌<◌, ◌≤◌, not, nat_le, true, All, if◌then◌else◌, List, [], ◌∷◌, length, map, option_map, Option, Some, None}
+use Rattle.std.specs.Prelude.{◌≡◌, ◌⊎◌, ℕ, ◌+◌, ◌%◌, ◌==◌, ◌<◌, ◌≤◌, not, nat_le, false, true, All, if◌then◌else◌, List, [], ◌∷◌, length, map, option_map, Option, Some, None}
 use Rattle.std.specs.List.{Any}
 use Rattle.pm_objects.specs.declared.calls.Operation.{Operation}
 use Rattle.pm_objects.specs.declared.calls.Operation.TheVariants.{SetValue, Publish, Cancel}
@@ -12,7 +12,7 @@ use Rattle.pm_model.specs.Actions.Action.{SetWord}
 use Rattle.pm_view.specs.View.{View}
 use Rattle.pm_world.specs.Records.{pool_entries}
 use Rattle.pm_crash.specs.CallBlocks.{IsOldIn, blocks_in}
-use Rattle.pm_crash.specs.Operations.{HasRange, IsHeld, IsNotHeld, KeepsLog, KeepsWords, PassesEnd, TakesBack, TakesWanted, Tells}
+use Rattle.pm_crash.specs.Operations.{has_at, HasNewRange, HasRange, IsGone, IsHeld, IsLeft, IsNotHeld, KeepsLog, KeepsWords, PassesEnd, PassesNewEnd, TakesBack, TakesWanted, Tells}
 use Rattle.pm_crash.specs.Pending.{pending_before, pending_in, published_in}
 use Rattle.pm_crash.specs.Performing.{IsWord, entry_for}
 
@@ -54,23 +54,56 @@ entries_wanted v = length (published_in v) + length (pending_in v) + 1
 abbrev pub entries_in : View → ℕ
 entries_in v = entries_wanted v + (length (blocks_in v).made + length (blocks_in v).freed)
 
--- what is pending can be published in a call that may have made and freed objects, the lane told so, and did nothing else
+-- what is set is a word of an object that the call made and has, which needs no lock
+abbrev pub CanSetNew : View → Action → Type 0
+CanSetNew v (SetWord id off value) = HasNewRange v id off 8 × IsWord (SetWord id off value)
+
+-- or the action passes such an object's end
+abbrev pub PassesNewObject : View → Action → Type 0
+PassesNewObject v (SetWord id off value) = PassesNewEnd v id off 8
+
+-- the call found the object of the action, and did not free it
+abbrev pub IsOnOld : View → Action → Type 0
+IsOnOld v a = IsOldIn v (object_of a).off
+
+-- what can be set in a call that may have made and freed objects: a word of an object that it found and did not free, or of one that it made and has
+abbrev pub CanSetIn : View → Action → Type 0
+CanSetIn v a = (CanSet v a × IsOnOld v a) ⊎ CanSetNew v a
+
+-- and what passes the end of such an object
+abbrev pub PassesIn : View → Action → Type 0
+PassesIn v a = (PassesObject v a × IsOnOld v a) ⊎ PassesNewObject v a
+
+-- what is pending can be published in such a call, the lane told so, and did nothing else
 pub record PublishesIn (v next : View) : Type 0 where
   pub tells : Tells v next Publish None
   pub logs : KeepsLog v next
   pub words : KeepsWords v next
-  pub each : All (CanSet v) (pending_in v)
+  pub each : All (CanSetIn v) (pending_in v)
   pub room : entries_in v ≤ max_entries
 
--- each object that such actions are on the call found, and did not free
-abbrev pub AreOld : View → List Action → Type 0
-AreOld v actions = All (λ (a : Action). IsOldIn v (object_of a).off) actions
+-- the lane has not the object of the action for writing: its call made none there, and it holds no such lock
+abbrev pub LacksObjectOf : View → Action → Type 0
+LacksObjectOf v a = (object_of a).pool ≡ v.pool → has_at v (object_of a).off true ≡ false
+
+-- it has it, whether it is gone or not
+abbrev pub HasObjectOf : View → Action → Type 0
+HasObjectOf v a = ((object_of a).pool ≡ v.pool) × (has_at v (object_of a).off true ≡ true)
+
+-- it has it, and it is gone
+abbrev pub IsOnGone : View → Action → Type 0
+IsOnGone v a = IsGone v (object_of a) true
+
+-- it has it, and it is not gone
+abbrev pub IsOnLeft : View → Action → Type 0
+IsOnLeft v a = IsLeft v (object_of a) true
 
 -- why such a publish is refused: the first of these that holds of all that is pending
 abbrev pub IsPublishReasonIn : View → Refusal → Type 0
-IsPublishReasonIn v refusal.NotLocked = Any (λ (a : Action). IsNotHeld v (object_of a) true) (pending_in v)
-IsPublishReasonIn v refusal.OutOfRange = All (λ (a : Action). IsHeld v (object_of a) true) (pending_in v) × Any (PassesObject v) (pending_in v)
-IsPublishReasonIn v refusal.ActionsFull = All (CanSet v) (pending_in v) × (max_entries < entries_in v)
+IsPublishReasonIn v refusal.NotLocked = Any (LacksObjectOf v) (pending_in v)
+IsPublishReasonIn v refusal.NoObject = All (HasObjectOf v) (pending_in v) × Any (IsOnGone v) (pending_in v)
+IsPublishReasonIn v refusal.OutOfRange = All (IsOnLeft v) (pending_in v) × Any (PassesIn v) (pending_in v)
+IsPublishReasonIn v refusal.ActionsFull = All (CanSetIn v) (pending_in v) × (max_entries < entries_in v)
 IsPublishReasonIn v r = ⊥
 
 -- what is pending can be published, the lane told so, and did nothing else

@@ -1,5 +1,5 @@
 -- A lane's open call, by its view alone: the words that it makes, and what the plain model's transaction has come to.
-use Rattle.std.specs.Prelude.{◌≡◌, ◌≢◌, ℕ, ◌+◌, ◌*◌, ◌/◌, ◌<◌, ◌≤◌, true, false, if◌then◌else◌, List, [], ◌∷◌, map, length, nat_eq, slice_index, flat_map, All, Contains, None, Some}
+use Rattle.std.specs.Prelude.{◌≡◌, ◌≢◌, ◌⊎◌, ℕ, ◌+◌, ◌*◌, ◌/◌, ◌<◌, ◌≤◌, true, false, if◌then◌else◌, List, [], ◌∷◌, ◌++◌, map, length, nat_eq, slice_index, flat_map, All, Contains, None, Some}
 use Rattle.std.specs.List.{range_with_len, IsDistinct}
 use Rattle.std.specs.List.Sorted.{IsStrictlyIncreasing}
 use Rattle.pm_header.specs.declared.header.Header.{Header}
@@ -11,11 +11,12 @@ use Rattle.pm_objects.specs.declared.pool.PoolView.{PoolView}
 use Rattle.pm_image.specs.declared.block.Block.{Block}
 use Rattle.pm_image.specs.Blocks.{blocks}
 use Rattle.pm_image.specs.Contents.{size_in}
+use Rattle.pm_image.specs.Reads.{Reads}
 use Rattle.pm_model.specs.declared.stage.Stage.{Stage}
 use Rattle.pm_model.specs.declared.stage.Stage.TheVariants as stage
 use Rattle.pm_model.specs.Transaction.{Transaction, Lock as Locked, resting, is_working}
 use Rattle.pm_model.specs.Answers.{Told as Answered, Answers, after}
-use Rattle.pm_model.specs.Actions.{Action, with_actions}
+use Rattle.pm_model.specs.Actions.{Action, end_of, object_of, with_actions}
 use Rattle.pm_model.specs.Step.{Step, with_pending}
 use Rattle.pm_view.specs.Area.{is_in_area}
 use Rattle.pm_view.specs.Blocks.{is_chunk}
@@ -27,8 +28,9 @@ use Rattle.pm_crash.specs.CallBlocks.{CallBlocks, IsMadeIn, KeepsBlocks, MayPrec
 use Rattle.pm_crash.specs.HeapChanges.{AreDisjoint}
 use Rattle.pm_crash.specs.Locks.{AreSameLocks}
 use Rattle.pm_crash.specs.Held.{HoldsPool}
+use Rattle.pm_crash.specs.NewObjects.{IsChunkWord, IsWordOf}
 use Rattle.pm_crash.specs.Pending.{act_of, pending_before, pending_in, published_in, told_in}
-use Rattle.pm_crash.specs.Performing.{CanPerform}
+use Rattle.pm_crash.specs.Performing.{CanPerform, IsWord}
 
 -- the lock of a line is that of the object whose block begins there
 abbrev pub lock_of : Lock → Locked
@@ -120,10 +122,23 @@ pub record TracksBlocks (tx : Transaction) (b : CallBlocks) : Type 0 where
   pub dropped : map place_and_size tx.dropped ≡ map (λ (n : NewObject). (n.off, n.size)) b.dropped
   pub freed : tx.freed ≡ b.freed
 
+-- the action lies in an object that the open call made, whether it has it still or freed it again
+pub record LiesInNew (v : View) (a : Action) : Type 0 where
+  pub new : NewObject
+  pub is_new : Contains ((blocks_in v).made ++ (blocks_in v).dropped) new
+  pub begins : new.off ≡ (object_of a).off
+  pub behind : 64 ≤ new.off
+  pub inside : end_of a ≤ new.size
+  pub whole : IsWord a
+
+-- an action that the open call published lies in a block of these words, or in what the call made, and so in none of theirs
+abbrev pub IsPerformable : View → (ℕ → ℕ) → Action → Type 0
+IsPerformable v w a = CanPerform w v.lanes v.zones a ⊎ LiesInNew v a
+
 -- what the open call came to, from words that hold a pool: the model's transaction, with the locks and the records that the lane has, and its pending
 -- actions. The words made so far hold a pool, and the transaction's copy is that one with what the call made and freed: a new object stands in no
 -- allocated block, and a freed one is there, until the call is published. The words have the blocks that they had, of their sizes, and each action
--- that the call published lies in one of them
+-- that the call published lies in one of them, or in a new object
 pub record ComesTo (v : View) (w : ℕ → ℕ) (header : Header) (pool : PoolView) (level : ℕ) (at_stage : Stage) (error : TxErr) : Type 0 where
   pub tx : Transaction
   pub runs : RunsTo pool (pending_before v) (told_in v) tx
@@ -141,7 +156,7 @@ pub record ComesTo (v : View) (w : ℕ → ℕ) (header : Header) (pool : PoolVi
   pub fails : tx.error ≡ error
   pub actions : tx.actions ≡ pending_in v
   pub moved : tx.moved ≡ published_in v
-  pub performable : All (CanPerform w v.lanes v.zones) (published_in v)
+  pub performable : All (IsPerformable v w) (published_in v)
   pub blocks_stay : blocks (call_words v w) v.lanes v.zones ≡ blocks w v.lanes v.zones
   pub sizes_stay : (block : Block) → Contains (blocks w v.lanes v.zones) block → size_in (call_words v w) block ≡ size_in w block
 
@@ -150,13 +165,14 @@ abbrev pub LieApart : View → Type 0
 LieApart v = (n : NewObject) (l : Lock) (lines : ℕ) → Contains (blocks_in v).made n → Contains v.locks l → l.block ≡ Some lines → AreDisjoint (block_of n) (block_at_line l.line lines)
 
 -- What the call made and has stands in the lane's words, once at an offset. It is listed with all that it allocated, and not gone; and its block lies apart from
--- those of what else it made, and of what it found.
+-- those of what else it made, whether it has that or freed it again, and of what it found.
 pub record HasMade (v : View) : Type 0 where
   pub each : (n : NewObject) → Contains (blocks_in v).made n → IsMadeIn v n
   pub listed : (n : NewObject) → Contains (blocks_in v).made n → Contains (allocated_in v) n
   pub kept : (n : NewObject) → Contains (blocks_in v).made n → is_gone_in v n.off ≡ false
   pub once : IsDistinct nat_eq (map (λ (n : NewObject). n.off) (blocks_in v).made)
   pub apart_new : (n m : NewObject) → Contains (blocks_in v).made n → Contains (blocks_in v).made m → n.off ≢ m.off → AreDisjoint (block_of n) (block_of m)
+  pub apart_gone : (n m : NewObject) → Contains (blocks_in v).made n → Contains (blocks_in v).dropped m → AreDisjoint (block_of n) (block_of m)
   pub apart_found : LieApart v
 
 -- The lane has a call under way at this level, in this stage and with this error, whatever pool the words before it hold, if that may be the one before
@@ -201,14 +217,16 @@ pub record IsGivenUp (v : View) (error : TxErr) : Type 0 where
   pub any_pool : (pool : PoolView) → MayPrecede pool v
 
 -- The committed call turns the pool before it into its transaction's copy with what it published performed. The words that it stored hold a pool, and the
--- copy is that one with what the call made and freed
+-- copy is that one with what the call made and freed. What it made lies apart from their blocks, and their meaning reads no word that it did not read before
 pub record CommitsTo (v : View) (w : ℕ → ℕ) (header : Header) (pool : PoolView) : Type 0 where
   pub base : PoolView
   pub copy : PoolView
   pub holds : HoldsPool (call_words v w) v.lanes v.zones header base
   pub changed : IsChanged v base copy
   pub unfound : (off : ℕ) → is_new_in v off ≡ true → object_at base.objects off ≡ None
-  pub performable : All (CanPerform (call_words v w) v.lanes v.zones) (published_in v)
+  pub performable : All (IsPerformable v (call_words v w)) (published_in v)
+  pub apart : (n : NewObject) (block : Block) → Contains (blocks_in v).made n → Contains (blocks (call_words v w) v.lanes v.zones) block → AreDisjoint (block_of n) block
+  pub reads : (i : ℕ) → Reads (call_words v w) v.lanes v.zones i → Reads w v.lanes v.zones i
   pub turns : Turns v pool (with_actions (published_in v) copy)
 
 -- the lane's call is committed, whatever pool the words before it hold, if that may be the one before what it allocated and freed; it has in its words what it made
@@ -230,8 +248,14 @@ pub record IsWholeCall (v : View) : Type 0 where
   pub makes : (w : ℕ → ℕ) (header : Header) (pool : PoolView) → HoldsPool w v.lanes v.zones header pool → v.pool ≡ header.id → IsBefore v w
       → MakesStep v w header pool
 
--- the lane's call is a step of the plain model from each pool that may be the one before what it allocated and freed. It recorded no word of its own area
+-- what the call allocated is free by the words: it lies in chunks, and their meaning reads no word of it
+pub record LeavesFree (v : View) (w : ℕ → ℕ) (n : NewObject) : Type 0 where
+  pub in_chunks : (i : ℕ) → IsWordOf (block_of n) i → IsChunkWord v.lanes v.zones i
+  pub unread : (i : ℕ) → IsWordOf (block_of n) i → ¬ Reads w v.lanes v.zones i
+
+-- the lane's call is a step of the plain model from each pool that may be the one before what it allocated and freed, in words by which all of that is free. It
+-- recorded no word of its own area
 pub record MakesItsStep (v : View) : Type 0 where
   pub outside : (i : ℕ) → is_recorded v.log.records i ≡ true → is_in_area v.lane i ≡ false
   pub makes : (w : ℕ → ℕ) (header : Header) (pool : PoolView) → HoldsPool w v.lanes v.zones header pool → v.pool ≡ header.id → IsBefore v w → MayPrecede pool v
-      → MakesStep v w header pool
+      → All (LeavesFree v w) (allocated_in v) → MakesStep v w header pool

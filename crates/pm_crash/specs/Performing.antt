@@ -1,13 +1,15 @@
 -- Actions as the redo entries that perform them.
-use Rattle.std.specs.Prelude.{◌≡◌, ℕ, ◌+◌, ◌/◌, ◌%◌, ◌^◌, ◌<◌, ◌≤◌, List, map, Contains}
+use Rattle.std.specs.Prelude.{◌≡◌, ◌≢◌, ℕ, ◌+◌, ◌/◌, ◌%◌, ◌^◌, ◌<◌, ◌≤◌, List, map, Contains}
 use Rattle.pm_image.specs.declared.block.Block.{Block}
 use Rattle.pm_image.specs.Blocks.{blocks}
 use Rattle.pm_image.specs.Contents.{offset_in, size_in}
+use Rattle.pm_image.specs.Reads.{Reads}
 use Rattle.pm_model.specs.Actions.{Action, end_of, object_of}
 use Rattle.pm_model.specs.Actions.Action.{SetWord}
 use Rattle.pm_view.specs.Log.{Final}
 use Rattle.pm_world.specs.Entries.{set_word}
 use Rattle.pm_world.specs.History.{made_final}
+use Rattle.pm_crash.specs.NewObjects.{IsChunkWord}
 
 -- the word that an action sets, and what it becomes
 abbrev pub entry_for : Action → Final
@@ -23,6 +25,14 @@ pub record CanPerform (w : ℕ → ℕ) (lanes zones : ℕ) (a : Action) : Type 
   pub is_there : Contains (blocks w lanes zones) block
   pub begins : offset_in block ≡ (object_of a).off
   pub inside : end_of a ≤ size_in w block
+  pub whole : IsWord a
+
+-- the action is on no object of the pool that the words hold: it sets a word of a chunk that their meaning does not read, and no block of theirs begins where
+-- its object would
+pub record IsUnseen (w : ℕ → ℕ) (lanes zones : ℕ) (a : Action) : Type 0 where
+  pub in_chunk : IsChunkWord lanes zones (entry_for a).word
+  pub unread : ¬ Reads w lanes zones (entry_for a).word
+  pub none_there : (block : Block) → Contains (blocks w lanes zones) block → offset_in block ≢ (object_of a).off
   pub whole : IsWord a
 
 -- the words with the actions' entries applied, in their order

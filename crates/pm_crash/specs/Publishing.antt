@@ -1,13 +1,12 @@
 -- All that is published at once: words that are set, blocks that are allocated for new objects, and blocks that are freed, with an entry each.
-use Rattle.std.specs.Prelude.{◌≢◌, ℕ, List, [], ◌∷◌, map, All}
+use Rattle.std.specs.Prelude.{◌⊎◌, ℕ, List, [], ◌∷◌, map, All}
 use Rattle.pm_objects.specs.declared.pool.PoolView.{PoolView}
 use Rattle.pm_image.specs.declared.block.Block.{Block}
-use Rattle.pm_image.specs.Contents.{offset_in}
-use Rattle.pm_model.specs.Actions.{object_of, with_actions, Action}
+use Rattle.pm_model.specs.Actions.{with_actions, Action}
 use Rattle.pm_view.specs.Log.{Final}
 use Rattle.pm_world.specs.History.{made_final}
-use Rattle.pm_crash.specs.HeapChanges.{block_changed, blocks_changed, entry_of, pool_changed, AreDisjoint, CanChange, HeapChange}
-use Rattle.pm_crash.specs.Performing.{entry_for, CanPerform}
+use Rattle.pm_crash.specs.HeapChanges.{block_changed, blocks_changed, entry_of, pool_changed, AreDisjoint, HasItsObject, HeapChange, MayChange}
+use Rattle.pm_crash.specs.Performing.{entry_for, performed, CanPerform, IsUnseen}
 
 pub data Published : Type 0 where
   -- a pending action on an object
@@ -23,10 +22,25 @@ entry_published lanes (Changes change) = entry_of lanes change
 abbrev pub published : ℕ → List Published → (ℕ → ℕ) → ℕ → ℕ
 published lanes steps w i = made_final (map (entry_published lanes) steps) i (w i)
 
--- what each asks of the words before them all
+-- what each asks of the words before them all: an action may be on an object that the pool does not have, and changes nothing of it then
 abbrev pub CanPublish : (ℕ → ℕ) → ℕ → ℕ → Published → Type 0
-CanPublish w lanes zones (Performs a) = CanPerform w lanes zones a
-CanPublish w lanes zones (Changes change) = CanChange w lanes zones change
+CanPublish w lanes zones (Performs a) = CanPerform w lanes zones a ⊎ IsUnseen w lanes zones a
+CanPublish w lanes zones (Changes change) = MayChange w lanes zones change
+
+-- the actions among them, in their order
+abbrev pub actions_in : List Published → List Action
+actions_in [] = []
+actions_in (Performs a ∷ steps) = a ∷ actions_in steps
+actions_in (Changes change ∷ steps) = actions_in steps
+
+-- in a block that this allocates its object stands
+abbrev pub HasItsOwn : (ℕ → ℕ) → ℕ → Published → Type 0
+HasItsOwn w lanes (Performs a) = Unit {0}
+HasItsOwn w lanes (Changes change) = HasItsObject w lanes change
+
+-- so it is of each of these once their actions are performed, which write new objects too
+abbrev pub HaveTheirObjects : (ℕ → ℕ) → ℕ → List Published → Type 0
+HaveTheirObjects w lanes steps = All (HasItsOwn (performed (actions_in steps) w) lanes) steps
 
 -- what each makes of a pool, and of its blocks
 abbrev pub pool_published : ℕ → Published → PoolView → PoolView
@@ -46,10 +60,10 @@ unfoldable pub all_blocks_published : ℕ → List Published → List Block → 
 all_blocks_published lanes [] bs = bs
 all_blocks_published lanes (s ∷ steps) bs = all_blocks_published lanes steps (blocks_published lanes s bs)
 
--- the second may come behind the first: no two change one block, nor blocks that overlap, and no action is on an object whose block was changed
+-- the second may come behind the first: actions come before changes, and no two change one block, nor blocks that overlap
 abbrev pub MayFollow : ℕ → Published → Published → Type 0
 MayFollow lanes (Performs a) s = Unit {0}
-MayFollow lanes (Changes change) (Performs a) = (object_of a).off ≢ offset_in (block_changed lanes change)
+MayFollow lanes (Changes change) (Performs a) = ⊥
 MayFollow lanes (Changes change) (Changes other) = AreDisjoint (block_changed lanes change) (block_changed lanes other)
 
 -- each may come behind all those before

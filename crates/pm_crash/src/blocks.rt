@@ -18,7 +18,7 @@ ghost use Rattle.pm_model.specs.Bytes.{put_bytes};
 ghost use Rattle.pm_model.specs.NewObjects.{pool_with, pool_without};
 ghost use Rattle.pm_crash.specs.NewObjects.{block_of_chunks, block_of_run, unlinked, with_block, without_block, AreFreeChunks, FreesChunksBlock, FreesRunBlock, HasNewObject, IsFreeInRun, IsFreshBlock, MakesChunksObject, MakesObjectOfNewRun, MakesRunObject};
 ghost use Rattle.pm_crash.specs.Writes.{IsWritten};
-ghost use Rattle.pm_crash.specs.Publishing.{all_blocks_published, all_pool_published, published, AreInOrder, CanPublish, Published};
+ghost use Rattle.pm_crash.specs.Publishing.{all_blocks_published, all_pool_published, published, AreInOrder, CanPublish, HaveTheirObjects, Published};
 
 /// A law: a block that was filled for an object of some type and size has a new object of that type and of so many zeros. No code runs.
 pub fn a_filled_block_has_a_new_object()
@@ -107,15 +107,15 @@ pub fn freed_chunks_hold_none()
         → size_in v other ≡ size_in w other }
 {}
 
-/// A law: an entry each makes all that is published, in its order: actions on objects, blocks that are allocated for new objects, and blocks
-/// that are freed. Each may be made from the words before them all; no two are of one block, nor of blocks that overlap, and no action is on an
-/// object whose block was changed before it. The pool and its blocks are then those with all of it. No code runs.
+/// A law: an entry each makes all that is published, in its order: actions, and then blocks that are allocated for new objects, and blocks that
+/// are freed. Each may be made from the words before them all, and no two are of one block, nor of blocks that overlap. An action may write a new
+/// object, which stands in its block once the actions are performed. The pool and its blocks are then those with all of it. No code runs.
 pub fn entries_publish_all_at_once()
     ensures pool { (w : ℕ → ℕ) (lanes zones : ℕ) (header : Header) (pool : PoolView) (steps : List Published)
-        → HoldsPool w lanes zones header pool → All (CanPublish w lanes zones) steps → AreInOrder lanes steps
+        → HoldsPool w lanes zones header pool → All (CanPublish w lanes zones) steps → AreInOrder lanes steps → HaveTheirObjects w lanes steps
         → HoldsPool (published lanes steps w) lanes zones header (all_pool_published lanes steps pool) }
     ensures blocks { (w : ℕ → ℕ) (lanes zones : ℕ) (header : Header) (pool : PoolView) (steps : List Published)
-        → HoldsPool w lanes zones header pool → All (CanPublish w lanes zones) steps → AreInOrder lanes steps
+        → HoldsPool w lanes zones header pool → All (CanPublish w lanes zones) steps → AreInOrder lanes steps → HaveTheirObjects w lanes steps
         → blocks (published lanes steps w) lanes zones ≡ all_blocks_published lanes steps (blocks w lanes zones) }
 {}
 

@@ -23,7 +23,7 @@ ghost use Rattle.pm_crash.specs.CallChanges.{ChangesOf};
 ghost use Rattle.pm_crash.specs.HeapChanges.{HeapChange};
 ghost use Rattle.pm_crash.specs.Held.{HoldsPool};
 ghost use Rattle.pm_crash.specs.Locks.{AreSameLocks};
-ghost use Rattle.pm_crash.specs.OpenCall.{CommitsTo, IsBefore, IsGivenUp, IsOpen, IsWholeCall, RunsTo, Turns, lock_wanted, made_words};
+ghost use Rattle.pm_crash.specs.OpenCall.{CommitsTo, HasMade, IsBefore, IsGivenUp, IsOpen, IsWholeCall, RunsTo, Turns, lock_wanted, made_words};
 ghost use Rattle.pm_crash.specs.Pending.{published_in};
 ghost use Rattle.pm_crash.specs.Publishing.{all_pool_published, Published};
 ghost use Rattle.pm_crash.specs.Publishing.Published.{Changes, Performs};
@@ -152,6 +152,6 @@ pub fn wants_may_change_places()
 /// words hold its transaction's copy with those actions performed. No code runs.
 pub fn a_committed_pool_is_published()
     ensures { (v : View) (w : ℕ → ℕ) (header : Header) (pool : PoolView) (changes : List HeapChange) (to : CommitsTo v w header pool)
-        → ChangesOf v v.lanes changes
+        → HasMade v → ChangesOf v v.lanes changes
         → all_pool_published v.lanes (map Performs (published_in v) ++ map Changes changes) to.base ≡ with_actions (published_in v) to.copy }
 {}

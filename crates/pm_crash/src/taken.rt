@@ -7,7 +7,7 @@ ghost use Rattle.pm_view.specs.Occupancy.{is_taken};
 ghost use Rattle.pm_world.specs.Heap.{IsOcc};
 ghost use Rattle.pm_crash.specs.Held.{HoldsPool};
 ghost use Rattle.pm_crash.specs.NewObjects.{FreesChunksBlock, FreesRunBlock, MakesChunksObject, MakesRunObject};
-ghost use Rattle.pm_crash.specs.Publishing.{AreInOrder, CanPublish, Published, published};
+ghost use Rattle.pm_crash.specs.Publishing.{AreInOrder, CanPublish, HaveTheirObjects, Published, published};
 ghost use Rattle.pm_crash.specs.Taken.{IsBlockBit, IsChunkBit, TakenBehindAll, TakesLess, TakesMore};
 
 /// A law: what the pool's words say is taken follows the blocks. Where a block of a run, or whole chunks, become a new object's, their bits of
@@ -27,7 +27,7 @@ pub fn what_is_taken_follows_the_blocks()
         → heap_fault w lanes zones ≡ None → FreesChunksBlock w v lanes zones c chunks
         → TakesLess w v lanes zones (IsChunkBit c chunks) }
     ensures all { (w : ℕ → ℕ) (lanes zones : ℕ) (header : Header) (pool : PoolView) (steps : List Published) (at : Occ) (bit : ℕ)
-        → HoldsPool w lanes zones header pool → All (CanPublish w lanes zones) steps → AreInOrder lanes steps
+        → HoldsPool w lanes zones header pool → All (CanPublish w lanes zones) steps → AreInOrder lanes steps → HaveTheirObjects w lanes steps
         → IsOcc lanes zones at → bit < 64
         → (is_taken (published lanes steps w) lanes at bit ≡ true) ↔ TakenBehindAll lanes steps at bit (is_taken w lanes at bit ≡ true) }
 {}

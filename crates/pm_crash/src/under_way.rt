@@ -1,4 +1,4 @@
-ghost use Rattle.std.specs.Prelude.{◌≡◌, ◌≢◌, ℕ, ◌+◌, ◌<◌, ◌≤◌, Contains, List, [], All, map, None, Some, Option, false, true};
+ghost use Rattle.std.specs.Prelude.{◌≡◌, ◌≢◌, ℕ, ◌+◌, ◌<◌, ◌≤◌, Contains, List, [], map, None, Some, Option, false, true};
 ghost use Rattle.pm_header.specs.declared.header.Header.{Header};
 ghost use Rattle.pm_objects.specs.declared.calls.Operation.{Operation};
 ghost use Rattle.pm_objects.specs.declared.calls.Operation.TheVariants.{Abort, Commit, Free, Publish};
@@ -11,7 +11,6 @@ ghost use Rattle.pm_objects.specs.declared.ids.Oid.{Oid};
 ghost use Rattle.pm_objects.specs.declared.pool.PoolView.{PoolView};
 ghost use Rattle.pm_objects.specs.declared.refusal.Refusal.{Refusal};
 ghost use Rattle.pm_objects.specs.declared.refusal.Refusal.TheVariants as refusal;
-ghost use Rattle.pm_model.specs.Actions.{Action, object_of};
 ghost use Rattle.pm_model.specs.Answers.{error_for};
 ghost use Rattle.pm_model.specs.Checks.{Range};
 ghost use Rattle.pm_model.specs.declared.stage.Stage.{Stage};
@@ -20,15 +19,15 @@ ghost use Rattle.pm_view.specs.View.{View};
 ghost use Rattle.pm_world.specs.Records.{pool_entries};
 ghost use Rattle.pm_crash.specs.CallBlocks.{IsOldIn, IsSameIn, MayPrecede, NewObject, blocks_in, is_freed_in, is_gone_in, is_new_in};
 ghost use Rattle.pm_crash.specs.Held.{HoldsPool};
-ghost use Rattle.pm_crash.specs.OnActions.{AreOld, ChangesPending, IsPublishReasonIn, PublishesIn};
+ghost use Rattle.pm_crash.specs.OnActions.{ChangesPending, IsPublishReasonIn, PublishesIn};
 ghost use Rattle.pm_crash.specs.OpenCall.{IsBefore, IsCommitted, IsUnderWay, LieApart, MakesItsStep, Turns, WasAborted};
 ghost use Rattle.pm_crash.specs.Operations.{AddsNewRange, AddsRange, AllocatesObject, BeginsCall, BeginsLevel, FreesFound, FreesMade, KeepsKnown, KeepsLog, KeepsWords, ReadsBytes, ReadsNewBytes, Refuses, RefusesAlloc, RefusesFree, RefusesGone, RefusesLevel, RefusesNewRange, TakesBack, Tells, TellsNothing, WritesBytes, WritesNewBytes};
-ghost use Rattle.pm_crash.specs.Pending.{pending_in, published_in};
+ghost use Rattle.pm_crash.specs.Pending.{published_in};
 ghost use Rattle.pm_crash.specs.Performing.{entry_for};
 
 /// A law: a call under way, which may have made and freed objects, goes on with each operation on what it found and did not free, as the plain
 /// model's transaction does: ranges recorded, written and read, further levels begun and ended, actions asked for and published. What it
-/// makes lies apart from what a further level finds. No code runs.
+/// publishes may be on objects that it made, too; what it makes lies apart from what a further level finds. No code runs.
 pub fn a_call_under_way_goes_on()
     ensures begins { (v : View) (wants : List Want) → BeginsCall v wants → IsUnderWay v 1 stage.Work error.None }
     ensures records { (v next : View) (id : Oid) (off len level : ℕ) → 1 ≤ level
@@ -45,7 +44,7 @@ pub fn a_call_under_way_goes_on()
     ensures pending { (v next : View) (op : Operation) (reply : Option Value) (level : ℕ) → 1 ≤ level
         → IsUnderWay v level stage.Work error.None → ChangesPending v next op reply → IsUnderWay next level stage.Work error.None }
     ensures publishes { (v next : View) (level : ℕ) → 1 ≤ level
-        → IsUnderWay v level stage.Work error.None → PublishesIn v next → AreOld v (pending_in v) → IsUnderWay next level stage.Work error.None }
+        → IsUnderWay v level stage.Work error.None → PublishesIn v next → IsUnderWay next level stage.Work error.None }
     ensures quietly { (v next : View) (level : ℕ) (at_stage : Stage) (e : TxErr) → IsUnderWay v level at_stage e
         → TellsNothing v next → KeepsLog v next → KeepsKnown v next → IsUnderWay next level at_stage e }
 {}
@@ -76,8 +75,7 @@ pub fn a_call_under_way_frees_objects()
 
 /// A law: where an operation of a call under way is refused for the first reason that the lane has, or an abort is asked for, the call is aborted
 /// as the plain model's, and stays so while it is taken back. A range is of an object that the call did not make, nor free unless its lock is
-/// missing; or of one that is gone, which the call has; or it passes the end of one that it made. Each action that is published is on an object
-/// that the call did not make, nor free unless its lock is missing. No code runs.
+/// missing; or of one that is gone, which the call has; or it passes the end of one that it made. No code runs.
 pub fn a_call_under_way_is_aborted()
     ensures by_range { (v next : View) (op : Operation) (range : Range) (r : Refusal) (level : ℕ) → 1 ≤ level
         → IsUnderWay v level stage.Work error.None → Refuses v next op range r
@@ -91,7 +89,6 @@ pub fn a_call_under_way_is_aborted()
         → ((want : Want) → Contains wants want → IsOldIn v want.id.off) → WasAborted next (error.Refused r) }
     ensures by_publish { (v next : View) (r : Refusal) (level : ℕ) → 1 ≤ level
         → IsUnderWay v level stage.Work error.None → IsPublishReasonIn v r → Tells v next Publish (Some (Refused r)) → TakesBack v next
-        → All (λ (a : Action). is_new_in v (object_of a).off ≡ false) (pending_in v) → (r ≢ refusal.NotLocked → AreOld v (pending_in v))
         → WasAborted next (error.Refused r) }
     ensures by_alloc { (v next : View) (size kind : ℕ) (r : Refusal) (level : ℕ) → 1 ≤ level
         → IsUnderWay v level stage.Work error.None → RefusesAlloc v next size kind r → WasAborted next (error.Refused r) }

@@ -1,5 +1,5 @@
 -- A call that draws its number in a world, with an entry for each thing that it may publish, may publish them.
-use Rattle.std.proofs.Common.{◌≡◌, ◌≢◌, ℕ, ◌+◌, ◌*◌, ◌^◌, ◌<◌, ◌&&◌, Bool, true, eqb, All, List, [], ◌∷◌, ◌++◌, None, inr, length, map, slice_index, sym, ap, ◌∙◌, subst, arith}
+use Rattle.std.proofs.Common.{◌≡◌, ◌≢◌, ℕ, ◌+◌, ◌*◌, ◌^◌, ◌<◌, ◌&&◌, Bool, true, eqb, All, List, [], ◌∷◌, ◌++◌, None, inr, length, map, slice_index, sym, ap, ◌∙◌, subst, arith, inl}
 use Rattle.std.proofs.Math.Pow.{pow-lt}
 use Rattle.std.proofs.lemmas.Bool.{and_parts, eqb-true, false≢true}
 use Rattle.std.proofs.lemmas.List.Elements.{All-append, All-contains, All-cons, All-map, All-nil, All-weaker}
@@ -38,11 +38,12 @@ record IsSmall (w : ℕ → ℕ) (f : Final) : Type 0 where
   word : f.ors ≡ true → w f.word < 2 ^ 64
 
 small_entry : (w : ℕ → ℕ) (lanes zones : ℕ) → heap_fault w lanes zones ≡ None → (s : Published) → CanPublish w lanes zones s → IsSmall w (entry_published lanes s)
-small_entry w lanes zones none (Performs (SetWord id off value)) can = record { bits = can.whole.1; word = λ or. absurd (false≢true or) }
+small_entry w lanes zones none (Performs (SetWord id off value)) (inl can) = record { bits = can.whole.1; word = λ or. absurd (false≢true or) }
+small_entry w lanes zones none (Performs (SetWord id off value)) (inr unseen) = record { bits = unseen.whole.1; word = λ or. absurd (false≢true or) }
 small_entry w lanes zones none (Changes (AllocatesInRun c lines index kind bytes)) can =
-    let low : index < 64 = index_small lines index can.0.inside in
-    record { bits = pow-lt {i = index} {j = 64} low; word = λ or. run_bitmap_fits w lanes zones c lines index none can.0.in_zones can.0.inside can.0.is_run }
-small_entry w lanes zones none (Changes (AllocatesChunks c chunks kind bytes)) can = let fits = can.0.in_zone in record { bits = omega (arith, fits); word = λ or. absurd (false≢true or) }
+    let low : index < 64 = index_small lines index can.inside in
+    record { bits = pow-lt {i = index} {j = 64} low; word = λ or. run_bitmap_fits w lanes zones c lines index none can.in_zones can.inside can.is_run }
+small_entry w lanes zones none (Changes (AllocatesChunks c chunks kind bytes)) can = let fits = can.1.in_zone in record { bits = omega (arith, fits); word = λ or. absurd (false≢true or) }
 small_entry w lanes zones none (Changes (FreesInRun c lines index)) can = record { bits = omega arith; word = λ or. absurd (false≢true or) }
 small_entry w lanes zones none (Changes (FreesChunks c chunks)) can = record { bits = omega arith; word = λ or. absurd (false≢true or) }
 
@@ -89,5 +90,5 @@ may_publish o mem views log decided k n header before now all world inside rest 
     let long = fits.lane.size in let size = world.sound.size in let lanes = fits.lane.lanes in let zones = fits.lane.zones in omega (arith, long, size, lanes, zones) in
     record {
       seal = leads_to_seal o mem views log decided k n world inside rest sees may (whole_log v header now all has.holds has.can has.entries size has.below);
-      has = record { entries = ap (λ (l : Log). l.entries) (ap (λ p. log_drawn p v.log) may.is_open) ∙ has.entries; below = has.below; was = has.was; holds = has.holds; can = has.can; ordered = has.ordered };
+      has = record { entries = ap (λ (l : Log). l.entries) (ap (λ p. log_drawn p v.log) may.is_open) ∙ has.entries; below = has.below; was = has.was; holds = has.holds; can = has.can; objects = has.objects; ordered = has.ordered };
     }

@@ -1,10 +1,10 @@
 -- A committed call whose log has what it publishes may publish that: each thing may be published on the pool that its words hold, behind those before it.
-use Rattle.std.proofs.Common.{◌≡◌, ◌≢◌, ⊎_elim, inl, inr, ℕ, ◌+◌, ◌*◌, ◌/◌, ◌≤◌, false, All, List, [], ◌∷◌, ◌++◌, length, map, slice_index, None, Some, refl, sym, ap, ◌∙◌, subst, arith, eq-eqb}
+use Rattle.std.proofs.Common.{◌≡◌, ◌≢◌, ⊎_elim, inl, inr, ℕ, ◌+◌, ◌*◌, ◌/◌, ◌≤◌, false, All, List, [], ◌∷◌, ◌++◌, length, map, slice_index, None, Some, refl, sym, ap, ◌∙◌, subst, arith, eq-eqb, ◌⊎◌, IsSome}
 use Rattle.std.specs.Prelude.{nat_eq}
 use Rattle.std.specs.List.{AllByRecursion, AllZip, Contains, IsDistinct}
 use Rattle.std.specs.Int.{bit_at}
 use Rattle.std.proofs.lemmas.Bool.{cases_eq, false≢true}
-use Rattle.std.proofs.lemmas.List.Elements.{All-append, All-cons, All-contains_itself, All-head, All-map, All-nil, All-tail, All-weaker}
+use Rattle.std.proofs.lemmas.List.Elements.{All-append, All-cons, All-contains_itself, All-head, All-map, All-nil, All-tail, All-weaker, All-contains}
 use Rattle.pm_header.specs.declared.header.Header.{Header}
 use Rattle.pm_layout.specs.Sizes.{descriptor_of}
 use Rattle.pm_layout.specs.declared.class.Class.TheVariants.{Chunks, Lines}
@@ -20,32 +20,40 @@ use Rattle.pm_view.specs.Views.{reserves}
 use Rattle.pm_world.specs.Fits.{LaneFits}
 use Rattle.pm_world.specs.History.{Flies, settled}
 use Rattle.pm_world.specs.Opening.{Opening}
-use Rattle.pm_crash.specs.CallBlocks.{IsMadeIn, NewObject, block_of, blocks_in}
-use Rattle.pm_crash.specs.CallChanges.{AllocatesNew, ChangesOf, FreesAt}
+use Rattle.pm_crash.specs.CallBlocks.{IsMadeIn, NewObject, block_of, blocks_in, allocated_in}
+use Rattle.pm_crash.specs.CallChanges.{AllocatesNew, ChangesOf, FreesAt, bytes_published}
 use Rattle.pm_crash.specs.Held.{HoldsImage, HoldsPool, IsBlockOf, IsObjectAt, object_of}
-use Rattle.pm_crash.specs.HeapChanges.{AreDisjoint, CanChange, Frees, HeapChange, MayBeFreed, block_changed, run_at}
+use Rattle.pm_crash.specs.HeapChanges.{AreDisjoint, CanChange, Frees, HeapChange, MayBeFreed, block_changed, run_at, HasItsObject, MayChange}
 use Rattle.pm_crash.specs.HeapChanges.HeapChange.{AllocatesChunks, AllocatesInRun, FreesChunks, FreesInRun}
-use Rattle.pm_crash.specs.NewObjects.{AreFreeChunks, HasNewObject, IsFreeInRun, block_of_chunks, block_of_run}
-use Rattle.pm_crash.specs.OpenCall.{HasMade, call_words}
+use Rattle.pm_crash.specs.NewObjects.{AreFreeChunks, HasNewObject, IsFreeInRun, block_of_chunks, block_of_run, IsWordOf}
+use Rattle.pm_crash.specs.OpenCall.{HasMade, call_words, IsPerformable, LiesInNew}
 use Rattle.pm_crash.specs.Pending.{published_in}
-use Rattle.pm_crash.specs.Performing.{CanPerform}
-use Rattle.pm_crash.specs.Publishing.{AreInOrder, CanPublish, MayFollow, Published}
+use Rattle.pm_crash.specs.Performing.{CanPerform, performed, entry_for, IsUnseen}
+use Rattle.pm_crash.specs.Publishing.{AreInOrder, CanPublish, MayFollow, Published, actions_in, HasItsOwn, HaveTheirObjects}
 use Rattle.pm_crash.specs.Publishing.Published.{Changes, Performs}
 use Rattle.pm_crash.proofs.AloneCourse.{StandsAlone}
 use Rattle.pm_crash.proofs.AloneMemory.{memory_of}
 use Rattle.pm_crash.proofs.Apart.{apart, good_chunk, lines_of_block, rising}
-use Rattle.pm_crash.proofs.Classes.{whole_by_byte}
+use Rattle.pm_crash.proofs.Classes.{whole_by_byte, lines_of_class}
 use Rattle.pm_crash.proofs.Continued.{two_same}
 use Rattle.pm_crash.proofs.EmptyRuns.{class_of_run}
 use Rattle.pm_crash.proofs.ObjectsOfBlocks.{block_is_there, object_is_there}
 use Rattle.pm_crash.proofs.Standing.{standing_is_block}
 use Rattle.pm_epoch.specs.Epochs.{AllocatesInItsRun, AllocatesIts, AllocatesItsChunks, FreesIts, HasEnteredCall, HasEntriesFor, HoldsCommitted}
-use Rattle.pm_crash.specs.Reserved.{IsReservedFor, IsUnusedChunk}
+use Rattle.pm_crash.specs.Reserved.{IsReservedFor, IsUnusedChunk, IsBorneOut}
 use Rattle.pm_epoch.proofs.OwnAllocations.{parts}
 use Rattle.pm_crash.proofs.BlocksApart.{InRun, run_chunks, runs_apart, whole_in}
 use Rattle.pm_crash.proofs.ReservedBlocks.{found_freed}
 use Rattle.pm_crash.proofs.BorneOut.{free_chunks, free_run, overlaps_none}
 use Rattle.pm_epoch.proofs.StandingPools.{own_fits}
+use Rattle.pm_crash.proofs.ChangesApart.{some_of_object}
+use Rattle.pm_crash.proofs.KeptHeads.{allows_change}
+use Rattle.pm_crash.proofs.NewStay.{new_is_listed, new_there}
+use Rattle.pm_crash.proofs.PerformedNew.{stands_behind}
+use Rattle.pm_crash.proofs.UnreadBlocks.{free_in_chunk, free_unread, AreChunks, IsOneOfRun}
+use Rattle.pm_crash.proofs.WordsOfNew.{new_word}
+use Rattle.std.proofs.lemmas.List.{map-append}
+use Rattle.pm_objects.specs.Pool.{object_at}
 
 -- ---- an action that may be performed on a pool may be by other words that hold it
 
@@ -57,6 +65,16 @@ can_alike w v lanes zones header pool a holds holds_too can =
     let bytes : bytes_in w can.block ≡ bytes_in v now.block = ap (λ (object : Object). object.bytes) now.is_object in
     let size : size_in w can.block ≡ size_in v now.block = sym was.size ∙ (ap (λ (xs : List ℕ). length xs) bytes ∙ there.size) in
     record { block = now.block; is_there = now.is_there; begins = sym now.is_offset ∙ can.begins; inside = subst (λ n. end_of a ≤ n) size can.inside; whole = can.whole }
+
+-- ---- of actions with changes behind them, the actions
+
+no_actions : (changes : List HeapChange) → actions_in (map Changes changes) ≡ []
+no_actions [] = refl
+no_actions (change ∷ changes) = no_actions changes
+
+actions_of : (actions : List Action) (changes : List HeapChange) → actions_in (map Performs actions ++ map Changes changes) ≡ actions
+actions_of [] changes = no_actions changes
+actions_of (a ∷ actions) changes = ap (λ (more : List Action). a ∷ more) (actions_of actions changes)
 
 -- ---- a block that may be freed is there
 
@@ -127,7 +145,7 @@ module _ (w : ℕ → ℕ) (lanes zones : ℕ) (none : heap_fault w lanes zones 
   set_in_run (AllocatesInRun d many i kind bytes) c lines index can frees mine = absurd frees
   set_in_run (AllocatesChunks d chunks kind bytes) c lines index can frees mine = absurd frees
 
-module _ (o : Opening) (header : Header) (pool : PoolView) (u : View) (s : StandsAlone o header pool u) (held : HoldsCommitted o u header pool) (has : HasMade u) (all : List Published) (entered : HasEnteredCall u all) where
+module _ (o : Opening) (header : Header) (pool : PoolView) (u : View) (s : StandsAlone o header pool u) (held : HoldsCommitted o u header pool) (has : HasMade u) (borne_out : IsBorneOut u) (all : List Published) (entered : HasEnteredCall u all) where
   abbrev w : ℕ → ℕ
   w = slice_index u.words
 
@@ -146,26 +164,40 @@ module _ (o : Opening) (header : Header) (pool : PoolView) (u : View) (s : Stand
   abbrev Can : HeapChange → Type 0
   Can change = CanChange w u.lanes u.zones change
 
+  abbrev May : HeapChange → Type 0
+  May change = MayChange w u.lanes u.zones change
+
   -- ---- what the call made may be allocated
 
-  can_in_run : (change : HeapChange) (n : NewObject) → IsMadeIn u n → (t : AllocatesInItsRun u change n) → Can change
-  can_in_run change n made t =
+  may_in_run : (change : HeapChange) (n : NewObject) → (t : AllocatesInItsRun u change n) → May change
+  may_in_run change n t =
       let r = t.reserved in let lanes = fits.lane.lanes in let zones = fits.lane.zones in let in_pool = r.in_pool in
       let free : IsFreeInRun w u.lanes u.zones r.chunk r.lines r.index = two_same (λ (a c : ℕ). IsFreeInRun w a c r.chunk r.lines r.index) o.lanes u.lanes o.zones u.zones (sym lanes) (sym zones)
       (free_run o header pool u s r.chunk r.lines r.index (omega (arith, in_pool, zones)) r.low
       (ap (λ m. w (descriptor_word m r.chunk)) (sym lanes) ∙ r.described) (ap (λ m. reserves u (run_at m r.chunk) r.index) (sym lanes) ∙ r.reserved)) in
-      subst Can (sym t.is) (free, subst (λ (b : Block). HasNewObject w b n.kind (bytes_in w (block_of n))) r.is_block made.object)
+      subst May (sym t.is) free
 
-  can_chunks : (change : HeapChange) (n : NewObject) → IsMadeIn u n → (t : AllocatesItsChunks u change n) → Can change
-  can_chunks change n made t =
+  may_chunks : (change : HeapChange) (n : NewObject) → IsMadeIn u n → (t : AllocatesItsChunks u change n) → May change
+  may_chunks change n made t =
       let r = t.reserved in let lanes = fits.lane.lanes in let zones = fits.lane.zones in let in_pool = r.in_pool in
       let free : AreFreeChunks w u.lanes u.zones (64 * r.zone + r.first) r.count = two_same (λ (a c : ℕ). AreFreeChunks w a c (64 * r.zone + r.first) r.count) o.lanes u.lanes o.zones u.zones (sym lanes) (sym zones)
       (free_chunks o header pool u s r.zone r.first r.count (omega (arith, in_pool, zones)) r.low r.fits (λ j near. subst (λ m. IsUnusedChunk m u r.zone (r.first + j)) lanes (r.unused j near))) in
-      subst Can (sym t.is) (free, subst (λ (b : Block). HasNewObject w b n.kind (bytes_in w (block_of n))) r.is_block made.object)
+      subst May (sym t.is)
+      (some_of_object w u.lanes (64 * r.zone + r.first) r.count n.kind (bytes_in w (block_of n)) (subst (λ (b : Block). HasNewObject w b n.kind (bytes_in w (block_of n))) r.is_block made.object), free)
 
-  can_make : (change : HeapChange) (n : NewObject) → IsMadeIn u n → AllocatesIts u change n → Can change
-  can_make change n made (inl t) = can_in_run change n made t
-  can_make change n made (inr t) = can_chunks change n made t
+  may_make : (change : HeapChange) (n : NewObject) → IsMadeIn u n → AllocatesIts u change n → May change
+  may_make change n made (inl t) = may_in_run change n t
+  may_make change n made (inr t) = may_chunks change n made t
+
+  -- and stands in its block once the actions are performed
+  abbrev w₁ : ℕ → ℕ
+  w₁ = performed (published_in u) w
+
+  object_of_change : (change : HeapChange) (n : NewObject) → Contains news n → AllocatesIts u change n → HasItsObject w₁ u.lanes change
+  object_of_change change n there (inl t) =
+      subst (HasItsObject w₁ u.lanes) (sym t.is) (subst (λ (b : Block). HasNewObject w₁ b n.kind (bytes_published u n)) t.reserved.is_block (stands_behind u held.words header held.held.before held.to has n there).object)
+  object_of_change change n there (inr t) =
+      subst (HasItsObject w₁ u.lanes) (sym t.is) (subst (λ (b : Block). HasNewObject w₁ b n.kind (bytes_published u n)) t.reserved.is_block (stands_behind u held.words header held.held.before held.to has n there).object)
 
   -- each is of its object
   is_of : (change : HeapChange) (n : NewObject) → IsMadeIn u n → AllocatesIts u change n → AllocatesNew u u.lanes change n
@@ -234,11 +266,17 @@ module _ (o : Opening) (header : Header) (pool : PoolView) (u : View) (s : Stand
   abbrev AreMade : List NewObject → Type 0
   AreMade ns = All (Contains news) ns
 
-  all_can_make : (made : List HeapChange) (ns : List NewObject) → AllZip (AllocatesIts u) made ns → AreMade ns → All Can made
-  all_can_make [] ns each there = All-nil Can
-  all_can_make (change ∷ made) [] each there = absurd each
-  all_can_make (change ∷ made) (n ∷ ns) each there =
-      All-cons Can change made (can_make change n (has.each n (All-head (Contains news) n ns there)) each.0) (all_can_make made ns each.1 (All-tail (Contains news) n ns there))
+  all_may_make : (made : List HeapChange) (ns : List NewObject) → AllZip (AllocatesIts u) made ns → AreMade ns → All May made
+  all_may_make [] ns each there = All-nil May
+  all_may_make (change ∷ made) [] each there = absurd each
+  all_may_make (change ∷ made) (n ∷ ns) each there =
+      All-cons May change made (may_make change n (has.each n (All-head (Contains news) n ns there)) each.0) (all_may_make made ns each.1 (All-tail (Contains news) n ns there))
+
+  all_objects : (made : List HeapChange) (ns : List NewObject) → AllZip (AllocatesIts u) made ns → AreMade ns → All (HasItsObject w₁ u.lanes) made
+  all_objects [] ns each there = All-nil (HasItsObject w₁ u.lanes)
+  all_objects (change ∷ made) [] each there = absurd each
+  all_objects (change ∷ made) (n ∷ ns) each there =
+      All-cons (HasItsObject w₁ u.lanes) change made (object_of_change change n (All-head (Contains news) n ns there) each.0) (all_objects made ns each.1 (All-tail (Contains news) n ns there))
 
   all_of : (made : List HeapChange) (ns : List NewObject) → AllZip (AllocatesIts u) made ns → AreMade ns → AllZip (AllocatesNew u u.lanes) made ns
   all_of [] [] each there = each
@@ -321,13 +359,86 @@ module _ (o : Opening) (header : Header) (pool : PoolView) (u : View) (s : Stand
   abbrev CanDo : Published → Type 0
   CanDo step = CanPublish w u.lanes u.zones step
 
+  -- an action in what the call made is on no object of the words: that is reserved
+  place_of : (n : NewObject) → IsReservedFor u n → IsOneOfRun u.lanes u.zones (block_of n) ⊎ AreChunks w u.lanes u.zones (block_of n)
+  place_of n (inl run) =
+      let lanes = fits.lane.lanes in let zones = fits.lane.zones in let in_pool = run.in_pool in
+      let free = free_run o header pool u s run.chunk run.lines run.index (omega (arith, in_pool, zones)) run.low
+      (ap (λ m. w (descriptor_word m run.chunk)) (sym lanes) ∙ run.described) (ap (λ m. reserves u (run_at m run.chunk) run.index) (sym lanes) ∙ run.reserved) in
+      inl (record { chunk = run.chunk; lines = run.lines; index = run.index; in_zones = run.in_pool; inside = free.inside; is = run.is_block })
+  place_of n (inr row) = inr (record {
+    zone = row.zone;
+    first = row.first;
+    count = row.count;
+    in_zones = row.in_pool;
+    low = row.low;
+    fits = row.fits;
+    is = row.is_block;
+    plain = λ j lines near run.
+        let zero = (row.unused j near).undescribed in
+        let one = (lines_of_class (w (descriptor_word u.lanes (64 * row.zone + (row.first + j)))) lines run).0 in
+        omega (arith, zero, one);
+  })
+
+  unseen_new : (a : Action) → LiesInNew u a → IsUnseen w u.lanes u.zones a
+  unseen_new a lies =
+      let n : NewObject = lies.new in
+      let reserved : IsReservedFor u n = All-contains (IsReservedFor u) (allocated_in u) n borne_out.reserved (new_is_listed u n lies.is_new) in
+      let apart : (b : Block) → Contains (blocks w u.lanes u.zones) b → AreDisjoint (block_of n) b =
+      λ b there. overlaps_none o header pool u s held.holds.no_fault n b reserved (two_same (λ (x y : ℕ). Contains (blocks w x y) b) u.lanes o.lanes u.zones o.zones fits.lane.lanes fits.lane.zones there) in
+      let word : IsWordOf (block_of n) (entry_for a).word = new_word u a lies in
+      record {
+        in_chunk = free_in_chunk w u.lanes u.zones (block_of n) (place_of n reserved) holds.no_fault apart (entry_for a).word word;
+        unread = free_unread w u.lanes u.zones (block_of n) (place_of n reserved) holds.no_fault apart (entry_for a).word word;
+        none_there = λ b there at.
+            let stands : IsObjectAt w u.lanes u.zones base.objects b = object_is_there w u.lanes u.zones header base b holds there in
+            let found : IsSome (object_at base.objects n.off) = subst (λ (x : ℕ). IsSome (object_at base.objects x)) (at ∙ sym lies.begins) (subst IsSome (sym stands.found) refl) in
+            false≢true (subst IsSome (held.to.unfound n.off (new_there u n lies.is_new)) found);
+        whole = lies.whole;
+      }
+
+  may_perform : (a : Action) → IsPerformable u (call_words u held.words) a → CanDo (Performs a)
+  may_perform a (inl can) = inl (can_alike (call_words u held.words) w u.lanes u.zones header base a held.to.holds holds can)
+  may_perform a (inr lies) = inr (unseen_new a lies)
+
   can_perform : All CanDo (map Performs (published_in u))
-  can_perform = All-map CanDo Performs (published_in u)
-      (All-weaker (CanPerform (call_words u held.words) u.lanes u.zones) (CanPerform w u.lanes u.zones) (λ a can. can_alike (call_words u held.words) w u.lanes u.zones header base a held.to.holds holds can) (published_in u) held.to.performable)
+  can_perform = All-map CanDo Performs (published_in u) (All-weaker (IsPerformable u (call_words u held.words)) (λ (a : Action). CanDo (Performs a)) may_perform (published_in u) held.to.performable)
 
   can_change : All CanDo (map Changes entered.freed ++ map Changes entered.made)
-  can_change = All-append CanDo (map Changes entered.freed) (map Changes entered.made) (All-map CanDo Changes entered.freed may_free)
-      (All-map CanDo Changes entered.made (all_can_make entered.made news entered.allocates made_there))
+  can_change = All-append CanDo (map Changes entered.freed) (map Changes entered.made)
+      (All-map CanDo Changes entered.freed (All-weaker Can May (λ change can. allows_change w u.lanes u.zones change can) entered.freed may_free))
+      (All-map CanDo Changes entered.made (all_may_make entered.made news entered.allocates made_there))
+
+  -- ---- what is new stands in its block
+
+  abbrev Own : Published → Type 0
+  Own step = HasItsOwn w₁ u.lanes step
+
+  performs_own : (actions : List Action) → All Own (map Performs actions)
+  performs_own [] = All-nil Own
+  performs_own (a ∷ actions) = All-cons Own (Performs a) (map Performs actions) tt (performs_own actions)
+
+  frees_none : (change : HeapChange) (off : ℕ) → FreesIts u change off → HasItsObject w₁ u.lanes change
+  frees_none change off (inl t) = subst (HasItsObject w₁ u.lanes) (sym t.is) tt
+  frees_none change off (inr t) = subst (HasItsObject w₁ u.lanes) (sym t.is) tt
+
+  all_free_none : (freed : List HeapChange) (offs : List ℕ) → AllZip (FreesIts u) freed offs → All (HasItsObject w₁ u.lanes) freed
+  all_free_none [] offs each = All-nil (HasItsObject w₁ u.lanes)
+  all_free_none (change ∷ freed) [] each = absurd each
+  all_free_none (change ∷ freed) (off ∷ offs) each = All-cons (HasItsObject w₁ u.lanes) change freed (frees_none change off each.0) (all_free_none freed offs each.1)
+
+  own : All Own (map Performs (published_in u) ++ (map Changes entered.freed ++ map Changes entered.made))
+  own = All-append Own (map Performs (published_in u)) (map Changes entered.freed ++ map Changes entered.made) (performs_own (published_in u))
+      (All-append Own (map Changes entered.freed) (map Changes entered.made)
+      (All-map Own Changes entered.freed (all_free_none entered.freed (blocks_in u).freed entered.frees))
+      (All-map Own Changes entered.made (all_objects entered.made news entered.allocates made_there)))
+
+  acts : actions_in (map Performs (published_in u) ++ (map Changes entered.freed ++ map Changes entered.made)) ≡ published_in u
+  acts = ap actions_in (ap (λ (steps : List Published). map Performs (published_in u) ++ steps) (sym (map-append Changes entered.freed entered.made))) ∙ actions_of (published_in u) (entered.freed ++ entered.made)
+
+  objects : HaveTheirObjects w u.lanes all
+  objects = subst (HaveTheirObjects w u.lanes) (sym (parts u all entered))
+      (subst (λ (actions : List Action). All (HasItsOwn (performed actions w) u.lanes) (map Performs (published_in u) ++ (map Changes entered.freed ++ map Changes entered.made))) (sym acts) own)
 
   pub has_entries : HasEntriesFor u header held.held.before base all
   has_entries = record {
@@ -336,5 +447,6 @@ module _ (o : Opening) (header : Header) (pool : PoolView) (u : View) (s : Stand
     was = two_same (λ (a c : ℕ). HoldsImage u.words a c header held.held.before) o.lanes u.lanes o.zones u.zones (sym fits.lane.lanes) (sym fits.lane.zones) held.held.holds;
     holds = holds;
     can = subst (All CanDo) (sym (parts u all entered)) (All-append CanDo (map Performs (published_in u)) (map Changes entered.freed ++ map Changes entered.made) can_perform can_change);
+    objects = objects;
     ordered = subst (AreInOrder u.lanes) (sym (parts u all entered)) (actions_ordered (published_in u) (map Changes entered.freed ++ map Changes entered.made) (freed_ordered entered.freed (blocks_in u).freed frees may_free entered.once_freed));
   }

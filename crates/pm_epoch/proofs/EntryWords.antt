@@ -1,5 +1,5 @@
 -- Which words the entries are of that publish something: an action's word tells of no block, and no entry is of the descriptor of a run.
-use Rattle.std.proofs.Common.{◌≡◌, ◌≢◌, ℕ, ◌+◌, ◌*◌, ◌/◌, ◌%◌, ◌<◌, ◌≤◌, ◌&&◌, true, false, eqb, leb, None, sym, ap, ◌∙◌, subst, arith, ne_eqb}
+use Rattle.std.proofs.Common.{◌≡◌, ◌≢◌, ℕ, ◌+◌, ◌*◌, ◌/◌, ◌%◌, ◌<◌, ◌≤◌, ◌&&◌, true, false, eqb, leb, None, sym, ap, ◌∙◌, subst, arith, ne_eqb, ◌⊎◌, inl, inr}
 use Rattle.std.specs.List.{list_any, range_with_len}
 use Rattle.std.proofs.lemmas.Bool.{and_parts, eqb-true, false_from_ne_true, false≢true, leb-true, or_parts}
 use Rattle.pm_image.specs.Blocks.{chunk_word, descriptor_word}
@@ -17,11 +17,10 @@ use Rattle.pm_world.specs.Opening.{IsChunk}
 use Rattle.pm_world.proofs.Differences.{with_all_bits}
 use Rattle.pm_world.proofs.HeapWords.{Described, described}
 use Rattle.pm_crash.specs.HeapChanges.HeapChange.{AllocatesChunks, AllocatesInRun, FreesChunks, FreesInRun}
-use Rattle.pm_crash.specs.Performing.{CanPerform, entry_for}
+use Rattle.pm_crash.specs.Performing.{CanPerform, entry_for, IsUnseen}
 use Rattle.pm_crash.specs.Publishing.{CanPublish, Published, entry_published}
 use Rattle.pm_crash.specs.Publishing.Published.{Changes, Performs}
 use Rattle.pm_crash.proofs.Apart.{IsBehindHeader, IsInZone, good_chunk, in_its_zone, no_bitmap}
-use Rattle.pm_crash.proofs.ChangesApart.{some_of_object}
 use Rattle.pm_crash.proofs.ObjectBytes.{begins_word}
 use Rattle.pm_crash.proofs.Standing.{Stands, block_stands}
 use Rattle.pm_crash.proofs.TakenChanges.{PageChunk, chunk_in, page_chunk, run_class}
@@ -74,18 +73,52 @@ module _ (w : ℕ → ℕ) (lanes zones : ℕ) (none : heap_fault w lanes zones 
               (subst (IsBehindHeader can.block) here behind));
         }
 
+  -- so it is of one on an object that the pool does not have
+  unseen_tells_none : (a : Action) → IsUnseen w lanes zones a → TellsOfNone (entry_for a).word
+  unseen_tells_none a unseen =
+      let i : ℕ = (entry_for a).word in
+      let at = unseen.in_chunk in let from = at.from in let to = at.to in let inside = at.in_zones in
+      record {
+        plain = false_from_ne_true (describes lanes i) (λ e. let d : Described lanes i = described lanes i e in let first = d.first in omega (arith, first, from, to));
+        no_bitmap = false_from_ne_true (is_chunk lanes (i / 512) && eqb (i % 512) 0 && is_run (w (lane_descriptor lanes (i / 512)))) (λ e.
+            let run = and_parts (is_chunk lanes (i / 512) && eqb (i % 512) 0) (is_run (w (lane_descriptor lanes (i / 512)))) e in
+            let whole = and_parts (is_chunk lanes (i / 512)) (eqb (i % 512) 0) run.0 in
+            let chunk = and_parts (leb (zone_page lanes 0) (i / 512)) (leb 1 (chunk_of lanes (i / 512))) whole.0 in
+            let first = eqb-true (i % 512) 0 whole.1 in
+            let page : PageChunk lanes zones (i / 512) (chunk_in lanes (i / 512)) = page_chunk lanes zones (i / 512) (leb-true (zone_page lanes 0) (i / 512) chunk.0, leb-true 1 (chunk_of lanes (i / 512)) chunk.1) (omega (arith, to, inside)) in
+            let k : ℕ = chunk_in lanes (i / 512) in
+            let bitmap = page.of.bitmap in
+            let here : i ≡ chunk_word lanes k = omega (arith, bitmap, first) in
+            unseen.unread (inr (inr (inl (record {
+              chunk = k;
+              lines = w (descriptor_word lanes k) / 256;
+              in_range = page.in_zones;
+              is_run = run_class w w lanes zones none k page.in_zones (ap (λ u. is_run (w u)) (sym page.of.descriptor) ∙ run.1);
+              is_word = here;
+            })))));
+      }
+
+  pub tells_none : (a : Action) → CanPerform w lanes zones a ⊎ IsUnseen w lanes zones a → TellsOfNone (entry_for a).word
+  tells_none a (inl can) = action_tells_none a can
+  tells_none a (inr unseen) = unseen_tells_none a unseen
+
+  -- the word lies in a chunk of some zone
+  in_zone : (a : Action) → CanPerform w lanes zones a ⊎ IsUnseen w lanes zones a → (c : ℕ) × (chunk_word lanes c ≤ (entry_for a).word) × ((entry_for a).word < 33792 + 1024 * lanes + 33280 * (c / 64))
+  in_zone a (inl can) = let t = in_chunk a can in ((stands a can).chunk, t.0, t.1)
+  in_zone a (inr unseen) = let at = unseen.in_chunk in let to = at.to in (at.chunk, at.from, omega (arith, to))
+
   -- an entry of a descriptor is of that of a free chunk, or of a block of whole chunks
   pub run_untouched : (s : Published) (page : ℕ) → CanPublish w lanes zones s → IsChunk lanes page → is_run (w (lane_descriptor lanes page)) ≡ true → (entry_published lanes s).word ≢ lane_descriptor lanes page
   run_untouched (Performs a) page can chunk run same =
       let low = chunk.0 in let some = chunk.1 in
-      let in_it = in_chunk a can in let from = in_it.0 in let to = in_it.1 in
+      let in_it = in_zone a can in let from = in_it.1 in let to = in_it.2 in
       omega (arith, low, some, from, to, same)
   run_untouched (Changes (AllocatesInRun c lines index kind bytes)) page can chunk run same = let low = chunk.0 in let some = chunk.1 in omega (arith, low, some, same)
   run_untouched (Changes (FreesInRun c lines index)) page can chunk run same = let low = chunk.0 in let some = chunk.1 in omega (arith, low, some, same)
   run_untouched (Changes (AllocatesChunks c chunks kind bytes)) page can chunk run same =
       let first : 512 * zone_page lanes (c / 64) + (c % 64 + 0) ≡ descriptor_word lanes c = omega arith in
       let reached = list_any (reaches w lanes (c / 64) (c % 64 + 0)) (range_with_len 0 (c % 64 + 0 + 1)) in
-      false≢true (sym (or_parts (is_run (w (512 * zone_page lanes (c / 64) + (c % 64 + 0)))) reached (can.0.are_free 0 (some_of_object w lanes c chunks kind bytes can.1))).0 ∙ (ap (λ u. is_run (w u)) (first ∙ same) ∙ run))
+      false≢true (sym (or_parts (is_run (w (512 * zone_page lanes (c / 64) + (c % 64 + 0)))) reached (can.1.are_free 0 can.0)).0 ∙ (ap (λ u. is_run (w u)) (first ∙ same) ∙ run))
   run_untouched (Changes (FreesChunks c chunks)) page can chunk run same =
       let is : w (descriptor_word lanes c) ≡ 2 + 256 * chunks = can.is_first in
       let one = eqb-true (w (lane_descriptor lanes page) % 256) 1 run in
@@ -96,7 +129,7 @@ module _ (w : ℕ → ℕ) (lanes zones : ℕ) (none : heap_fault w lanes zones 
       → is_run (with_bits (entry_published lanes s).mask (entry_published lanes s).bits x) ≡ false
   no_run_made (Performs a) page x can chunk same =
       let low = chunk.0 in let some = chunk.1 in
-      let in_it = in_chunk a can in let from = in_it.0 in let to = in_it.1 in
+      let in_it = in_zone a can in let from = in_it.1 in let to = in_it.2 in
       absurd (omega (arith, low, some, from, to, same))
   no_run_made (Changes (AllocatesInRun c lines index kind bytes)) page x can chunk same = let low = chunk.0 in let some = chunk.1 in absurd (omega (arith, low, some, same))
   no_run_made (Changes (FreesInRun c lines index)) page x can chunk same = let low = chunk.0 in let some = chunk.1 in absurd (omega (arith, low, some, same))

@@ -1,5 +1,5 @@
 -- What the entry of each thing that a lane alone publishes allocates and frees in the lane's view: a change of the heap its bits, an action none.
-use Rattle.std.proofs.Common.{◌≡◌, ◌≢◌, ⊎_elim, inl, inr, ℕ, ◌+◌, ◌-◌, ◌*◌, ◌/◌, ◌%◌, ◌^◌, ◌<◌, ◌≤◌, ◌&&◌, true, false, not, eqb, leb, ltb, All, List, [], ◌∷◌, None, slice_index, refl, sym, ap, ◌∙◌, subst, arith, eq-eqb, ne_eqb, pow_pos}
+use Rattle.std.proofs.Common.{◌≡◌, ◌≢◌, ⊎_elim, inl, inr, ℕ, ◌+◌, ◌-◌, ◌*◌, ◌/◌, ◌%◌, ◌^◌, ◌<◌, ◌≤◌, ◌&&◌, true, false, not, eqb, leb, ltb, List, [], ◌∷◌, None, slice_index, refl, sym, ap, ◌∙◌, subst, arith, eq-eqb, ne_eqb, pow_pos}
 use Rattle.std.specs.Int.{bit_at, bit_not, w64}
 use Rattle.std.proofs.Math.Pow.{pow-lt}
 use Rattle.std.proofs.lemmas.Bool.{and_from, and_parts, cases_Bool, false_from_ne_true, false≢true, ltb-true, or_from}
@@ -38,7 +38,7 @@ use Rattle.pm_crash.proofs.BitMore.{index_small}
 use Rattle.pm_crash.proofs.Classes.{whole_by_byte}
 use Rattle.pm_crash.proofs.FoundBlocks.{IsPageOf, page_of_chunk}
 use Rattle.pm_epoch.proofs.EntryBits.{HaveBits, block_bits, chunks_allocate, chunks_free, no_bits, none_telling, row_bits, row_described, run_allocates, run_frees}
-use Rattle.pm_epoch.proofs.EntryWords.{action_tells_none}
+use Rattle.pm_epoch.proofs.EntryWords.{tells_none}
 
 -- the bits that this makes taken, and those that it makes free
 abbrev pub MakesTaken : ℕ → Published → Occ → ℕ → Type 0
@@ -169,14 +169,14 @@ module _ (o : Opening) (mem : Memory) (before : ℕ → ℕ) (flies : ℕ → Li
 
   pub handed : (s : Published) → CanPublish w v.lanes v.zones s → IsHanded v s
   handed (Performs a) can =
-      let tells = action_tells_none w v.lanes v.zones none a can in
+      let tells = tells_none w v.lanes v.zones none a can in
       let nothing = none_telling v (entry_published v.lanes (Performs a)) tells.plain tells.no_bitmap in
       record { allocates = no_bits (allocated_by v (entry_published v.lanes (Performs a))) nothing.0; frees = no_bits (freed_by v (entry_published v.lanes (Performs a))) nothing.1; places = none_of_pool (freed_by v (entry_published v.lanes (Performs a))) nothing.1 }
   handed (Changes (AllocatesInRun c lines index kind bytes)) can =
       let f : Final = entry_of v.lanes (AllocatesInRun c lines index kind bytes) in
-      let run = run_described c lines can.0.is_run in
+      let run = run_described c lines can.is_run in
       let told = run_allocates v f (bitmap_of_heap f c refl run) (bitmap_plain c) (bitmap_is c run) refl in
-      record { allocates = block_bits v.lanes c index (2 ^ index) (allocated_by v f) (index_small lines index can.0.inside) refl told.0; frees = no_bits (freed_by v f) told.1; places = none_of_pool (freed_by v f) told.1 }
+      record { allocates = block_bits v.lanes c index (2 ^ index) (allocated_by v f) (index_small lines index can.inside) refl told.0; frees = no_bits (freed_by v f) told.1; places = none_of_pool (freed_by v f) told.1 }
   handed (Changes (FreesInRun c lines index)) can =
       let f : Final = entry_of v.lanes (FreesInRun c lines index) in
       let run = run_described c lines can.is_run in
@@ -186,7 +186,7 @@ module _ (o : Opening) (mem : Memory) (before : ℕ → ℕ) (flies : ℕ → Li
   handed (Changes (AllocatesChunks c chunks kind bytes)) can =
       let f : Final = entry_of v.lanes (AllocatesChunks c chunks kind bytes) in
       let told = chunks_allocate v f (descriptor_of_heap f c refl) (descriptor_describes c) (eq-eqb ((2 + 256 * chunks) % 256) 2 (omega arith)) (ne_eqb (2 + 256 * chunks) 0 (λ zero. omega (arith, zero))) in
-      record { allocates = row_bits v.lanes c chunks (2 + 256 * chunks) (allocated_by v f) can.0.in_zone (omega arith) told.0; frees = no_bits (freed_by v f) told.1; places = none_of_pool (freed_by v f) told.1 }
+      record { allocates = row_bits v.lanes c chunks (2 + 256 * chunks) (allocated_by v f) can.1.in_zone (omega arith) told.0; frees = no_bits (freed_by v f) told.1; places = none_of_pool (freed_by v f) told.1 }
   handed (Changes (FreesChunks c chunks)) can =
       let f : Final = entry_of v.lanes (FreesChunks c chunks) in
       let is : w (descriptor_word v.lanes c) ≡ 2 + 256 * chunks = can.is_first in

@@ -23,7 +23,7 @@ use Rattle.pm_world.specs.History.{Flies, settled}
 use Rattle.pm_world.specs.Opening.{Opening}
 use Rattle.pm_world.specs.Records.{generation_of}
 use Rattle.pm_crash.specs.Alone.{WorksAlone}
-use Rattle.pm_crash.specs.HeapChanges.{CanChange, HeapChange, changed}
+use Rattle.pm_crash.specs.HeapChanges.{HeapChange, changed, MayChange}
 use Rattle.pm_crash.specs.HeapChanges.HeapChange.{AllocatesChunks, AllocatesInRun, FreesChunks, FreesInRun}
 use Rattle.pm_crash.specs.Publishing.{CanPublish, Published, entry_published}
 use Rattle.pm_crash.specs.Publishing.Published.{Changes, Performs}
@@ -122,7 +122,7 @@ module _ (v : View) (last : Final) (aside : is_of_heap v last ≡ false) where
 -- ---- what is freed was taken
 
 module _ (w : ℕ → ℕ) (lanes zones : ℕ) (no_fault : heap_fault w lanes zones ≡ None) where
-  frees_taken : (change : HeapChange) (at : Occ) (bit : ℕ) → CanChange w lanes zones change → IsOcc lanes zones at → bit < 64 → FreesBit lanes change at bit → is_taken w lanes at bit ≡ true
+  frees_taken : (change : HeapChange) (at : Occ) (bit : ℕ) → MayChange w lanes zones change → IsOcc lanes zones at → bit < 64 → FreesBit lanes change at bit → is_taken w lanes at bit ≡ true
   frees_taken (AllocatesInRun c lines index kind bytes) at bit can of low frees = absurd frees
   frees_taken (AllocatesChunks c chunks kind bytes) at bit can of low frees = absurd frees
   frees_taken (FreesInRun c lines index) at bit can of low frees =

@@ -53,7 +53,7 @@ drawn_entries u n draws = ap (λ (l : Log). l.entries) (ap (λ p. log_drawn p u.
 
 pub has_before : (u : View) (n : ℕ) (header : Header) (before made : PoolView) (all : List Published) → Allowed u (Draw n) → MayPublish (after u (Draw n)) header before made all → HasEntriesFor u header before made all
 has_before u n header before made all draws may =
-    record { entries = sym (drawn_entries u n draws) ∙ may.has.entries; below = may.has.below; was = may.has.was; holds = may.has.holds; can = may.has.can; ordered = may.has.ordered }
+    record { entries = sym (drawn_entries u n draws) ∙ may.has.entries; below = may.has.below; was = may.has.was; holds = may.has.holds; can = may.has.can; objects = may.has.objects; ordered = may.has.ordered }
 
 -- ---- from the draw on, where each run that it has blocks of is one by its words
 

@@ -3,14 +3,12 @@ use Rattle.std.proofs.Common.{◌≡◌, inl, inr, ℕ, ◌+◌, ◌-◌, ◌*�
 use Rattle.std.specs.List.{AllZip}
 use Rattle.std.proofs.lemmas.List.{map-append}
 use Rattle.pm_image.specs.Blocks.{chunk_word}
-use Rattle.pm_image.specs.Contents.{bytes_in}
-use Rattle.std.specs.Prelude.{slice_index}
 use Rattle.pm_model.specs.Actions.{Action}
 use Rattle.pm_view.specs.declared.occ.Occ.{Occ}
 use Rattle.pm_view.specs.declared.occ.Occ.TheVariants.{Run, Zone}
 use Rattle.pm_view.specs.View.{View}
 use Rattle.pm_view.specs.Views.{reserves}
-use Rattle.pm_crash.specs.CallBlocks.{NewObject, block_of, blocks_in}
+use Rattle.pm_crash.specs.CallBlocks.{NewObject, blocks_in}
 use Rattle.pm_crash.specs.HeapChanges.{HeapChange}
 use Rattle.pm_crash.specs.HeapChanges.HeapChange.{AllocatesChunks, AllocatesInRun}
 use Rattle.pm_crash.specs.Pending.{published_in}
@@ -18,18 +16,19 @@ use Rattle.pm_crash.specs.Publishing.{Published}
 use Rattle.pm_crash.specs.Publishing.Published.{Changes, Performs}
 use Rattle.pm_crash.specs.Taken.{AllocatesBit}
 use Rattle.pm_epoch.specs.Epochs.{AllocatesIts, AllocatesOwn, FreesIts, HasEnteredCall, SomeAllocates}
+use Rattle.pm_crash.specs.CallChanges.{bytes_published}
 
 module _ (u : View) where
   -- each bit that a change allocates for an object of the call is of what the lane reserved
   each_own : (change : HeapChange) (n : NewObject) → AllocatesIts u change n → (at : Occ) (bit : ℕ) → AllocatesBit u.lanes change at bit → reserves u at bit ≡ true
   each_own change n (inl t) at bit is =
       let r = t.reserved in
-      let of : AllocatesBit u.lanes (AllocatesInRun r.chunk r.lines r.index n.kind (bytes_in (slice_index u.words) (block_of n))) at bit = subst (λ (c : HeapChange). AllocatesBit u.lanes c at bit) t.is is in
+      let of : AllocatesBit u.lanes (AllocatesInRun r.chunk r.lines r.index n.kind (bytes_published u n)) at bit = subst (λ (c : HeapChange). AllocatesBit u.lanes c at bit) t.is is in
       let word : 8 * chunk_word u.lanes r.chunk ≡ 4096 * (2 + 2 * u.lanes + 65 * (r.chunk / 64) + r.chunk % 64) = omega arith in
       (λ j. reserves u (of.0 j) (of.1 j)) ∙ (ap (λ place. reserves u (Run place) r.index) word ∙ r.reserved)
   each_own change n (inr t) at bit is =
       let r = t.reserved in let low = r.low in
-      let of : AllocatesBit u.lanes (AllocatesChunks (64 * r.zone + r.first) r.count n.kind (bytes_in (slice_index u.words) (block_of n))) at bit = subst (λ (c : HeapChange). AllocatesBit u.lanes c at bit) t.is is in
+      let of : AllocatesBit u.lanes (AllocatesChunks (64 * r.zone + r.first) r.count n.kind (bytes_published u n)) at bit = subst (λ (c : HeapChange). AllocatesBit u.lanes c at bit) t.is is in
       let from = of.1.0 in let to = of.1.1 in
       let zone : (64 * r.zone + r.first) / 64 ≡ r.zone = omega (arith, low) in
       let number : bit ≡ r.first + (bit - r.first) = omega (arith, low, from) in

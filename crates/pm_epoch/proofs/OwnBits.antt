@@ -5,13 +5,12 @@ use Rattle.pm_image.specs.Blocks.{chunk_word}
 use Rattle.pm_image.specs.HeapFaults.{heap_fault}
 use Rattle.pm_model.specs.Actions.{Action}
 use Rattle.pm_view.specs.declared.occ.Occ.TheVariants.{Run, Zone}
-use Rattle.pm_crash.specs.HeapChanges.{AreDisjoint, CanChange, HeapChange, block_changed}
+use Rattle.pm_crash.specs.HeapChanges.{AreDisjoint, HeapChange, block_changed, MayChange}
 use Rattle.pm_crash.specs.HeapChanges.HeapChange.{AllocatesChunks, AllocatesInRun, FreesChunks, FreesInRun}
 use Rattle.pm_crash.specs.NewObjects.{block_of_chunks, block_of_run}
 use Rattle.pm_crash.specs.Publishing.{AreInOrder, MayFollow}
 use Rattle.pm_crash.specs.Publishing.Published.{Changes, Performs}
 use Rattle.pm_crash.proofs.BlocksApart.{InChunks, InRun, chunks_apart, free_in, run_chunks, runs_apart, whole_in}
-use Rattle.pm_crash.proofs.ChangesApart.{some_of_object}
 use Rattle.pm_epoch.specs.Epochs.{AreOfOwnBits, ChangesBit, HasNoBitOf}
 
 module _ (w : ℕ → ℕ) (lanes zones : ℕ) where
@@ -23,9 +22,9 @@ module _ (w : ℕ → ℕ) (lanes zones : ℕ) where
       AtRun : (c lines index : ℕ) → InRun w lanes zones c lines index → block_changed lanes a ≡ block_of_run lanes c lines index → ChangesBit lanes a (Run (8 * chunk_word lanes c)) index → Place a
       AtChunks : (c chunks : ℕ) → InChunks w lanes zones c chunks → block_changed lanes a ≡ block_of_chunks lanes c chunks → ((bit : ℕ) → c % 64 ≤ bit → bit < c % 64 + chunks → ChangesBit lanes a (Zone (c / 64)) bit) → Place a
 
-    place_of : (a : HeapChange) → CanChange w lanes zones a → Place a
-    place_of (AllocatesInRun c lines index kind bytes) can = AtRun c lines index (record { inside = can.0.inside; described = can.0.is_run }) refl (inl (refl, refl))
-    place_of (AllocatesChunks c chunks kind bytes) can = AtChunks c chunks (free_in w lanes zones c chunks (some_of_object w lanes c chunks kind bytes can.1) can.0) refl (λ bit from to. inl (refl, (from, to)))
+    place_of : (a : HeapChange) → MayChange w lanes zones a → Place a
+    place_of (AllocatesInRun c lines index kind bytes) can = AtRun c lines index (record { inside = can.inside; described = can.is_run }) refl (inl (refl, refl))
+    place_of (AllocatesChunks c chunks kind bytes) can = AtChunks c chunks (free_in w lanes zones c chunks can.0 can.1) refl (λ bit from to. inl (refl, (from, to)))
     place_of (FreesInRun c lines index) can = AtRun c lines index (record { inside = can.inside; described = can.is_run }) refl (inr (refl, refl))
     place_of (FreesChunks c chunks) can = AtChunks c chunks (whole_in w lanes zones none c chunks can.in_zones can.is_first) refl (λ bit from to. inr (refl, (from, to)))
 
@@ -47,12 +46,12 @@ module _ (w : ℕ → ℕ) (lanes zones : ℕ) where
 
     -- ---- lists
 
-    all_follow : (a : HeapChange) (others : List HeapChange) → CanChange w lanes zones a → All (CanChange w lanes zones) others → All (HasNoBitOf lanes a) others → All (λ b. MayFollow lanes (Changes a) (Changes b)) others
+    all_follow : (a : HeapChange) (others : List HeapChange) → MayChange w lanes zones a → All (MayChange w lanes zones) others → All (HasNoBitOf lanes a) others → All (λ b. MayFollow lanes (Changes a) (Changes b)) others
     all_follow a [] can all own n d low = absurd (omega (arith, low))
     all_follow a (b ∷ others) can all own zero d low = places_apart a b (own 0 d low) (place_of a can) (place_of b (all 0 d low))
     all_follow a (b ∷ others) can all own (suc n) d low = all_follow a others can (λ k e near. all (suc k) e (omega (arith, near))) (λ k e near. own (suc k) e (omega (arith, near))) n d (omega (arith, low))
 
-    changes_in_order : (changes : List HeapChange) → All (CanChange w lanes zones) changes → AreOfOwnBits lanes changes → AreInOrder lanes (map Changes changes)
+    changes_in_order : (changes : List HeapChange) → All (MayChange w lanes zones) changes → AreOfOwnBits lanes changes → AreInOrder lanes (map Changes changes)
     changes_in_order [] can own = tt
     changes_in_order (a ∷ changes) can own = (
       All-map (MayFollow lanes (Changes a)) Changes changes (all_follow a changes (can 0 a (omega arith)) (λ k e near. can (suc k) e (omega (arith, near))) own.0),
@@ -60,6 +59,6 @@ module _ (w : ℕ → ℕ) (lanes zones : ℕ) where
     )
 
     -- actions come first
-    pub in_order : (actions : List Action) (changes : List HeapChange) → All (CanChange w lanes zones) changes → AreOfOwnBits lanes changes → AreInOrder lanes (map Performs actions ++ map Changes changes)
+    pub in_order : (actions : List Action) (changes : List HeapChange) → All (MayChange w lanes zones) changes → AreOfOwnBits lanes changes → AreInOrder lanes (map Performs actions ++ map Changes changes)
     in_order [] changes can own = changes_in_order changes can own
     in_order (x ∷ actions) changes can own = ((λ k e near. tt), in_order actions changes can own)

@@ -93,7 +93,7 @@ module _ (b : View) (header : Header) (before now : PoolView) (all : List Publis
 
   holds_all : (v : ℕ → ℕ) → ((i : ℕ) → IsHeapWord b.lanes b.zones i → v i ≡ published b.lanes all (slice_index b.words) i) → HoldsAll v
   holds_all v same =
-      let t = all_are_published (slice_index b.words) b.lanes b.zones header now all may.has.holds may.has.can may.has.ordered in
+      let t = all_are_published (slice_index b.words) b.lanes b.zones header now all may.has.holds may.has.can may.has.ordered may.has.objects in
       record {
         pool = held_by_heap (published b.lanes all (slice_index b.words)) v b.lanes b.zones header (all_pool_published b.lanes all now) t.holds same;
         are = blocks_by_heap (published b.lanes all (slice_index b.words)) v b.lanes b.zones t.holds.no_fault same ∙ t.blocks_are;
@@ -130,11 +130,11 @@ module _ (b : View) (header : Header) (before now : PoolView) (all : List Publis
 
     taken_now : (at : Occ) (bit : ℕ) → IsOcc b.lanes b.zones at → bit < 64 → (is_taken u b.lanes at bit ≡ true) ↔ TakenBehindAll b.lanes all at bit (is_taken (slice_index b.words) b.lanes at bit ≡ true)
     taken_now at bit of low =
-        let t = all_take (slice_index b.words) b.lanes b.zones header now all at bit may.has.holds may.has.can may.has.ordered of low in
+        let t = all_take (slice_index b.words) b.lanes b.zones header now all at bit may.has.holds may.has.can may.has.ordered may.has.objects of low in
         let same = taken_alike (published b.lanes all (slice_index b.words)) u b.lanes b.zones holds_published as_published at bit of low in
         (λ taken. t.0 (same.0 taken), λ behind. same.1 (t.1 behind)) where
           holds_published : heap_fault (published b.lanes all (slice_index b.words)) b.lanes b.zones ≡ None
-          holds_published = (all_are_published (slice_index b.words) b.lanes b.zones header now all may.has.holds may.has.can may.has.ordered).holds.no_fault
+          holds_published = (all_are_published (slice_index b.words) b.lanes b.zones header now all may.has.holds may.has.can may.has.ordered may.has.objects).holds.no_fault
 
 pub blocks_left : (b w : View) (header : Header) (before now : PoolView) (all : List Published) (steps : List Step) (keep : ℕ) (image : List ℕ) → MayPublish b header before now all → LeavesSealed b steps w keep image → has_nothing image b ≡ false
     → blocks (recovered_at image b.lanes) b.lanes b.zones ≡ all_blocks_published b.lanes all (blocks (slice_index b.words) b.lanes b.zones)

@@ -102,7 +102,7 @@ module _ (o : Opening) (header : Header) (pool : PoolView) (u : View) (n : ℕ) 
   base = held.to.base
 
   pub has : HasEntriesFor u header before base all
-  has = has_entries o header pool u stands held call.committed.has all call.entered
+  has = has_entries o header pool u stands held call.committed.has call.borne_out all call.entered
 
   abbrev last : PoolView
   last = with_actions (published_in u) held.to.copy
@@ -114,7 +114,7 @@ module _ (o : Opening) (header : Header) (pool : PoolView) (u : View) (n : ℕ) 
   published_last =
       ap (λ (lanes : ℕ). all_pool_published lanes all base) (sym fits.lane.lanes)
       ∙ (ap (λ (steps : List Published). all_pool_published u.lanes steps base) call.entered.are
-      ∙ committed_is_published u held.words header before held.to changes (of_call o header pool u stands held call.committed.has all call.entered))
+      ∙ committed_is_published u held.words header before held.to changes call.committed.has (of_call o header pool u stands held call.committed.has call.borne_out all call.entered))
 
   pub led : Replays (opened pool) (acts_alone w.entries) (state_alone (all_pool_published o.lanes all base) w.entries)
   led = subst (λ (es : List Numbered). Replays (opened pool) (acts_alone es) (state_alone (all_pool_published o.lanes all base) es)) (sym entries)

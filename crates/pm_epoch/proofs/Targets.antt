@@ -1,5 +1,5 @@
 -- The entries of what may be published are of words of the zones, which an image's entries may change.
-use Rattle.std.proofs.Common.{◌≡◌, IsTrue, ℕ, ◌+◌, ◌-◌, ◌*◌, ◌/◌, ◌%◌, ◌<◌, ◌≤◌, ◌&&◌, ◌||◌, eqb, leb, ltb, None, arith}
+use Rattle.std.proofs.Common.{◌≡◌, IsTrue, ℕ, ◌+◌, ◌-◌, ◌*◌, ◌/◌, ◌%◌, ◌<◌, ◌≤◌, ◌&&◌, ◌||◌, eqb, leb, ltb, None, arith, inl, inr}
 use Rattle.std.proofs.lemmas.Bool.{and_from, le-leb, lt-ltb, or_left, or_right}
 use Rattle.pm_image.specs.Blocks.{chunk_word, descriptor_word}
 use Rattle.pm_image.specs.Contents.{data_words, size_in}
@@ -14,6 +14,7 @@ use Rattle.pm_crash.specs.Publishing.Published.{Changes, Performs}
 use Rattle.pm_crash.proofs.Apart.{IsInZone, good_chunk, in_its_zone}
 use Rattle.pm_crash.proofs.ObjectBytes.{begins_word}
 use Rattle.pm_crash.proofs.Standing.{Stands, block_stands}
+use Rattle.pm_crash.specs.Performing.{entry_for}
 
 -- a word of the zones, of which an image may have an entry
 pub record IsTarget (lanes zones w : ℕ) : Type 0 where
@@ -53,7 +54,10 @@ chunk_target lanes zones c w inside from to =
 
 -- so is the word of what may be published
 pub published_target : (w : ℕ → ℕ) (lanes zones : ℕ) → heap_fault w lanes zones ≡ None → (s : Published) → CanPublish w lanes zones s → IsTarget lanes zones (entry_published lanes s).word
-published_target w lanes zones none (Performs (SetWord id off value)) can =
+published_target w lanes zones none (Performs a) (inr unseen) =
+    let at = unseen.in_chunk in let from = at.from in let to = at.to in
+    chunk_target lanes zones at.chunk (entry_for a).word at.in_zones from (omega (arith, to))
+published_target w lanes zones none (Performs (SetWord id off value)) (inl can) =
     let stands : Stands w lanes zones can.block = block_stands w lanes zones can.block can.is_there in
     let zone : IsInZone lanes stands.chunk can.block = in_its_zone w lanes stands.chunk can.block (good_chunk w lanes zones stands.chunk none stands.in_zones) stands.is in
     let fits : 8 + data_words (size_in w can.block) ≤ 8 * can.block.lines = object_fits w can.block (block_good w lanes zones can.block none can.is_there) in
@@ -61,7 +65,7 @@ published_target w lanes zones none (Performs (SetWord id off value)) can =
     let from = zone.begins in let to = zone.ends in
     let begins = can.begins in let inside = can.inside in
     chunk_target lanes zones stands.chunk ((id.off + off) / 8) stands.in_zones (omega (arith, from, begins)) (omega (arith, to, fits, word, begins, inside))
-published_target w lanes zones none (Changes (AllocatesInRun c lines index kind bytes)) can = chunk_target lanes zones c (chunk_word lanes c) can.0.in_zones (omega arith) (omega arith)
-published_target w lanes zones none (Changes (AllocatesChunks c chunks kind bytes)) can = descriptor_target lanes zones c can.0.in_zones
+published_target w lanes zones none (Changes (AllocatesInRun c lines index kind bytes)) can = chunk_target lanes zones c (chunk_word lanes c) can.in_zones (omega arith) (omega arith)
+published_target w lanes zones none (Changes (AllocatesChunks c chunks kind bytes)) can = descriptor_target lanes zones c can.1.in_zones
 published_target w lanes zones none (Changes (FreesInRun c lines index)) can = chunk_target lanes zones c (chunk_word lanes c) can.in_zones (omega arith) (omega arith)
 published_target w lanes zones none (Changes (FreesChunks c chunks)) can = descriptor_target lanes zones c can.in_zones

@@ -7,7 +7,7 @@ use Rattle.pm_layout.specs.declared.shape.Shape.{Shape}
 use Rattle.pm_header.specs.declared.header.Header.{Header}
 use Rattle.pm_objects.specs.declared.pool.PoolView.{PoolView}
 use Rattle.pm_image.specs.Blocks.{descriptor_word}
-use Rattle.pm_image.specs.Contents.{bytes_in, offset_in}
+use Rattle.pm_image.specs.Contents.{offset_in}
 use Rattle.pm_view.specs.declared.occ.Occ.{Occ}
 use Rattle.pm_view.specs.Held.{is_held}
 use Rattle.pm_view.specs.View.{Lock, Taken, View}
@@ -29,7 +29,8 @@ use Rattle.pm_world.specs.Fits.{IsLane}
 use Rattle.pm_world.specs.Opens.{IsClean}
 use Rattle.std.specs.Option.{ForSome}
 use Rattle.pm_crash.specs.Alone.{WorksAlone, standing}
-use Rattle.pm_crash.specs.CallBlocks.{NewObject, block_of, blocks_in}
+use Rattle.pm_crash.specs.CallBlocks.{NewObject, blocks_in}
+use Rattle.pm_crash.specs.CallChanges.{bytes_published}
 use Rattle.pm_crash.specs.HeapChanges.{HeapChange}
 use Rattle.pm_crash.specs.HeapChanges.HeapChange.{AllocatesChunks, AllocatesInRun, FreesChunks, FreesInRun}
 use Rattle.pm_crash.specs.NewObjects.{block_of_chunks, block_of_run}
@@ -38,7 +39,7 @@ use Rattle.pm_reclaim.specs.KnownTaken.{IsKept, KnowsTaken}
 use Rattle.pm_reclaim.specs.Reclaims.{AreOfPool}
 use Rattle.pm_crash.specs.Reserved.{IsBorneOut, IsReservedInChunks, IsReservedInRun}
 use Rattle.pm_crash.specs.Publishing.Published.{Changes, Performs}
-use Rattle.pm_crash.specs.Publishing.{AreInOrder, CanPublish, Published, entry_published}
+use Rattle.pm_crash.specs.Publishing.{AreInOrder, CanPublish, HaveTheirObjects, Published, entry_published}
 use Rattle.pm_crash.specs.Taken.{AllocatesBit, FreesBit, TakenBehindAll}
 use Rattle.pm_sealed.specs.Sealed.{MaySeal, Publishes}
 use Rattle.pm_world.specs.Opening.{IsChunk, Opening}
@@ -52,13 +53,15 @@ use Rattle.pm_view.specs.Log.{Final, no_log}
 use Rattle.pm_view.specs.Log.Phase.{Idle}
 
 -- The lane's log has an entry for each of these, in their order, and behind them the one that ends its generation. An image of its words holds the pool before
--- the call, and as they stand they hold the pool that the call made so far, on which each of these may be published.
+-- the call, and as they stand they hold the pool that the call made so far, on which each of these may be published: what is new stands in its block once the
+-- actions among them are performed.
 pub record HasEntriesFor (v : View) (header : Header) (before now : PoolView) (all : List Published) : Type 0 where
   pub entries : v.log.entries ≡ map (entry_published v.lanes) all ++ ends_with v (generation_of v + 1) ∷ []
   pub below : generation_of v < generation_limit
   pub was : HoldsImage v.words v.lanes v.zones header before
   pub holds : HoldsPool (slice_index v.words) v.lanes v.zones header now
   pub can : All (CanPublish (slice_index v.words) v.lanes v.zones) all
+  pub objects : HaveTheirObjects (slice_index v.words) v.lanes all
   pub ordered : AreInOrder v.lanes all
 
 -- the lane may publish these: it may seal a log that has an entry for each
@@ -66,15 +69,15 @@ pub record MayPublish (b : View) (header : Header) (before now : PoolView) (all 
   pub seal : MaySeal b
   pub has : HasEntriesFor b header before now all
 
--- The change allocates the object's block in the run where the lane reserved it, for its type and the bytes that it has by the lane's words.
+-- The change allocates the object's block in the run where the lane reserved it, for its type and the bytes that it is published with.
 pub record AllocatesInItsRun (v : View) (change : HeapChange) (n : NewObject) : Type 0 where
   pub reserved : IsReservedInRun v n
-  pub is : change ≡ AllocatesInRun reserved.chunk reserved.lines reserved.index n.kind (bytes_in (slice_index v.words) (block_of n))
+  pub is : change ≡ AllocatesInRun reserved.chunk reserved.lines reserved.index n.kind (bytes_published v n)
 
 -- so it does with the chunks that the lane reserved for it
 pub record AllocatesItsChunks (v : View) (change : HeapChange) (n : NewObject) : Type 0 where
   pub reserved : IsReservedInChunks v n
-  pub is : change ≡ AllocatesChunks (64 * reserved.zone + reserved.first) reserved.count n.kind (bytes_in (slice_index v.words) (block_of n))
+  pub is : change ≡ AllocatesChunks (64 * reserved.zone + reserved.first) reserved.count n.kind (bytes_published v n)
 
 abbrev pub AllocatesIts : View → HeapChange → NewObject → Type 0
 AllocatesIts v change n = AllocatesInItsRun v change n ⊎ AllocatesItsChunks v change n

@@ -40,7 +40,7 @@ ghost use Rattle.pm_world.specs.Memory.{Memory, occ_at};
 ghost use Rattle.pm_world.specs.Memory.Location.{PoolWord};
 ghost use Rattle.pm_world.specs.Opening.{Opening};
 ghost use Rattle.pm_world.specs.World.{Views, World};
-ghost use Rattle.pm_crash.specs.HeapChanges.{AreDisjoint, CanChange, HeapChange, MayBeFreed, run_at};
+ghost use Rattle.pm_crash.specs.HeapChanges.{AreDisjoint, HeapChange, MayBeFreed, MayChange, run_at};
 ghost use Rattle.pm_crash.specs.NewObjects.{AreFreeChunks, IsFreeInRun, IsFreshBlock};
 ghost use Rattle.pm_crash.specs.Held.{HoldsImage, HoldsPool};
 ghost use Rattle.pm_crash.specs.Publishing.Published.{Changes, Performs};
@@ -160,7 +160,7 @@ pub fn what_a_call_freed_is_locked()
 /// any actions. No code runs.
 pub fn changes_of_own_bits_are_in_order()
     ensures { (w : ℕ → ℕ) (lanes zones : ℕ) (actions : List Action) (changes : List HeapChange)
-        → heap_fault w lanes zones ≡ None → All (CanChange w lanes zones) changes → AreOfOwnBits lanes changes
+        → heap_fault w lanes zones ≡ None → All (MayChange w lanes zones) changes → AreOfOwnBits lanes changes
         → AreInOrder lanes (map Performs actions ++ map Changes changes) }
 {}
 
@@ -300,11 +300,11 @@ pub fn a_published_call_has_ended()
         → HasEnded o header pool w }
 {}
 
-/// A law: where a lane works alone, its call is committed, and its log has what the call publishes, it has an entry for each thing that may be published, in
-/// this order, on the pool that its words hold, which the call stored. No code runs.
+/// A law: where a lane works alone, its call is committed, what the lane has bears out what that told of the heap, and its log has what the call publishes, it
+/// has an entry for each thing that may be published, in this order, on the pool that its words hold, which the call stored. No code runs.
 pub fn a_committed_call_may_publish_what_it_entered()
     ensures { (o : Opening) (header : Header) (pool : PoolView) (start u : View) (steps : List Step) (all : List Published)
-        → WorksAlone o header pool start steps u → IsCommitted u → (held : HoldsCommitted o u header pool) → HasEnteredCall u all
+        → WorksAlone o header pool start steps u → IsCommitted u → IsBorneOut u → (held : HoldsCommitted o u header pool) → HasEnteredCall u all
         → HasEntriesFor u header held.held.before held.to.base all }
 {}
 

@@ -6,7 +6,6 @@ use Rattle.std.proofs.lemmas.List.Elements.{All-cons, All-nil}
 use Rattle.pm_header.specs.declared.header.Header.{Header}
 use Rattle.pm_image.specs.declared.block.Block.{Block}
 use Rattle.pm_image.specs.Blocks.{chunk_word, descriptor_word}
-use Rattle.pm_image.specs.Contents.{bytes_in}
 use Rattle.pm_image.specs.HeapFaults.{heap_fault}
 use Rattle.pm_image.proofs.Members.{first_member, later_member}
 use Rattle.pm_image.proofs.Rooms.{run_fits}
@@ -27,6 +26,7 @@ use Rattle.pm_crash.proofs.AloneCourse.{StandsAlone}
 use Rattle.pm_crash.proofs.AloneMemory.{memory_of}
 use Rattle.pm_crash.proofs.BlockPlaces.{Lies, InARun, OfChunks}
 use Rattle.pm_crash.proofs.Continued.{two_same}
+use Rattle.pm_crash.specs.CallChanges.{bytes_published}
 use Rattle.pm_crash.specs.HeapChanges.{HeapChange, entry_of}
 use Rattle.pm_crash.specs.HeapChanges.HeapChange.{AllocatesChunks, AllocatesInRun, FreesChunks, FreesInRun}
 use Rattle.pm_crash.specs.NewObjects.{block_of_chunks, block_of_run}
@@ -146,7 +146,7 @@ module _ (o : Opening) (header : Header) (pool : PoolView) (v : View) (s : Stand
         let lines_are : (block_made m).lines ≡ run.lines = ap (λ (b : Block). b.lines) run.is_block in
         let e = making_in_run v.lanes c run.lines run.index m low run.is_block in
         record {
-          change = AllocatesInRun c run.lines run.index m.kind (bytes_in w (block_made m));
+          change = AllocatesInRun c run.lines run.index m.kind (bytes_published v (new_of m));
           allocates = inl (record { reserved = run; is = refl });
           in_pool = inl (record {
             chunk = c;
@@ -155,7 +155,7 @@ module _ (o : Opening) (header : Header) (pool : PoolView) (v : View) (s : Stand
             inside = subst (λ n. run.index < blocks_of n) (sym lines_are) low;
             is_block = subst (λ n. block_of_run v.lanes c n run.index ≡ block_made m) (sym lines_are) (sym run.is_block);
           });
-          final = ap final_of e ∙ makes_in_run v.lanes c run.lines run.index m.kind (bytes_in w (block_made m));
+          final = ap final_of e ∙ makes_in_run v.lanes c run.lines run.index m.kind (bytes_published v (new_of m));
           enters = subst (EntersHeap v) (sym e) (may_be_entered v (entry_at_word (chunk_word v.lanes c) Or (2 ^ run.index)) (chunk_word v.lanes c) alone refl (bit_fits run.lines run.index low) (at_bitmap c run.lines run.index run.in_pool low run.described));
         }
 
@@ -169,10 +169,10 @@ module _ (o : Opening) (header : Header) (pool : PoolView) (v : View) (s : Stand
         let zero : w (descriptor_word v.lanes c) ≡ 0 = ap (λ k. w (descriptor_word v.lanes k)) (sym number) ∙ (has.unused 0 some).undescribed in
         let e = making_chunks v.lanes c has.count m (few_lines m.size) some has.is_block in
         record {
-          change = AllocatesChunks c has.count m.kind (bytes_in w (block_made m));
+          change = AllocatesChunks c has.count m.kind (bytes_published v (new_of m));
           allocates = inr (record { reserved = has; is = refl });
           in_pool = inr (record { chunk = c; chunks = has.count; in_pool = in_pool; some = some; is_block = sym has.is_block });
-          final = ap final_of e ∙ makes_chunks v.lanes c has.count m.kind (bytes_in w (block_made m));
+          final = ap final_of e ∙ makes_chunks v.lanes c has.count m.kind (bytes_published v (new_of m));
           enters = subst (EntersHeap v) (sym e) (may_be_entered v (entry_at_word (descriptor_word v.lanes c) Set (descriptor_of (Chunks has.count))) (descriptor_word v.lanes c) alone refl (omega (arith, within)) (at_descriptor c in_pool (omega (arith, zero))));
         }
 
