@@ -295,7 +295,7 @@ module _ (o : Opening) (first : View) (lane : Lane Solo) (blocks : BlockLists) (
     pub publish_over : (r : Refusal) → HasLooked v (IsPublishGivenUp Sees new lane.records.items r)
         → new ≡ record lane { memory = new.memory; records = new.records; entries = new.entries; stage = stage.OnAbort; error = error.Refused r; drawn = Some new.last; last = new.last }
         → (rest : List ScriptLine) → IsGivenUpAt o first new blocks actions names (front ++ said ∷ rest) values said.line r
-    publish_over r t fields rest = given_up o first lane blocks actions names front values a new said operation.Publish publish_is r t.loads t.view t.looks t.working t.holds.ended fields no_begin refl rest
+    publish_over r t fields rest = given_up o first lane blocks actions names front values a new said operation.Publish publish_is r t.loads t.view t.looks t.working t.holds.ended fields no_begin refl tt rest
 
     pub publish_cut : (rest : List ScriptLine) → HasLooked v (IsPublishStopped Sees new lane.records.items) → IsCut o first new names (front ++ said ∷ rest) values
-    publish_cut rest t = cut_giving_up o first lane blocks actions names front values a new said operation.Publish publish_is t.holds.refusal t.loads t.view t.looks t.working t.holds.stopped rest
+    publish_cut rest t = cut_giving_up o first lane blocks actions names front values a new said operation.Publish publish_is t.holds.refusal t.loads t.view t.looks t.working tt t.holds.stopped rest

@@ -64,7 +64,7 @@ use Rattle.pm_exec.proofs.FewStores.{added_count}
 use Rattle.pm_exec.specs.Calls.{id_of, operation_of}
 use Rattle.pm_script.specs.declared.script.ScriptId.{ScriptId}
 use Rattle.pm_script.specs.declared.script.ScriptLine.{ScriptLine}
-use Rattle.pm_exec.specs.Course.{IsFree, IsGivenUpMade, IsLineMade, IsLineStopped, IsRefusalMade, add_calls, spans_of, write_calls}
+use Rattle.pm_exec.specs.Course.{CameToGiveUp, IsFree, IsGivenUpMade, IsLineMade, IsLineStopped, IsRefusalMade, add_calls, spans_of, write_calls}
 use Rattle.pm_exec.specs.Progress.{IsAtLine, IsCut, IsGivenUpAt, IsNotDone, IsToldDone, Values, done, not_done}
 use Rattle.pm_exec.specs.declared.calls.Names.{Names}
 use Rattle.pm_exec.proofs.LineLists.{gave_nothing, words_more}
@@ -120,17 +120,17 @@ module _ (o : Opening) (first : View) (lane : Lane Solo) (blocks : BlockLists) (
 
   -- what is given up for a line, behind some looks
   pub given_up : (x : Operation) → x ≡ operation_of names said.operation → (r : Refusal) (n : ℕ) (u : View) → Looks n a.view u → IsWorking u → IsEndedBy Sees new u (gives_up lane.records.items x (Some (Refused r)) new.last) x (Some (Refused r)) → IsGivenUpBy r
-      → ((asked : List ScriptWant) → said.operation ≡ op.Begin asked → ⊥) → is_action x ≡ false → (rest : List ScriptLine) → IsGivenUpAt o first new blocks actions names (front ++ said ∷ rest) values said.line r
-  given_up x x_is r n u looks working ended fields other gives rest =
-      over_ended o first lane blocks actions names front values a n u looks new said working r
+      → ((asked : List ScriptWant) → said.operation ≡ op.Begin asked → ⊥) → is_action x ≡ false → CameToGiveUp x r a.view u → (rest : List ScriptLine) → IsGivenUpAt o first new blocks actions names (front ++ said ∷ rest) values said.line r
+  given_up x x_is r n u looks working ended fields other gives came rest =
+      over_ended o first lane blocks actions names front values a n u looks new said working r (subst (λ (y : Operation). CameToGiveUp y r a.view u) x_is came)
       (subst (λ (y : Operation). IsEndedBy Sees new u (gives_up lane.records.items y (Some (Refused r)) new.last) y (Some (Refused r))) x_is ended) (ap is_action (sym x_is) ∙ gives)
       (ap (λ (l : Lane Solo). l.level) fields ∙ a.level) (ap (λ (l : Lane Solo). l.stage) fields) (ap (λ (l : Lane Solo). l.error) fields) (given_up_so names said.operation r a.view other) rest
 
   -- the lane stopped as it gave the call up
-  pub cut_giving_up : (x : Operation) → x ≡ operation_of names said.operation → (r : Refusal) (n : ℕ) (u : View) → Looks n a.view u → IsWorking u → IsStoppedIn Sees new u (gives_up lane.records.items x (Some (Refused r)) new.last) x (Some (Refused r))
+  pub cut_giving_up : (x : Operation) → x ≡ operation_of names said.operation → (r : Refusal) (n : ℕ) (u : View) → Looks n a.view u → IsWorking u → CameToGiveUp x r a.view u → IsStoppedIn Sees new u (gives_up lane.records.items x (Some (Refused r)) new.last) x (Some (Refused r))
       → (rest : List ScriptLine) → IsCut o first new names (front ++ said ∷ rest) values
-  cut_giving_up x x_is r n u looks working stopped rest =
-      cut_ended o first lane blocks actions names front values a n u looks new said working rest r
+  cut_giving_up x x_is r n u looks working came stopped rest =
+      cut_ended o first lane blocks actions names front values a n u looks new said working rest r (subst (λ (y : Operation). CameToGiveUp y r a.view u) x_is came)
       (subst (λ (y : Operation). IsStoppedIn Sees new u (gives_up lane.records.items y (Some (Refused r)) new.last) y (Some (Refused r))) x_is stopped)
 
   -- a word of a block that it found lies outside of its area
@@ -249,7 +249,7 @@ module _ (o : Opening) (first : View) (lane : Lane Solo) (blocks : BlockLists) (
         }))
         (add_calls names id off len) (adds_here n u t.looks) (λ m by. subst (λ (x : ScriptOp). IsLineStopped names x a.view m) (sym is) by)
         (let stored = add_stored u in let good = add_good in omega (arith, stored, good)))
-        (λ (s : IsStoppedRefusing Sees new spans (operation.AddRange place off len) (record { id = place; off = off; len = len }) u). cut_giving_up (operation.AddRange place off len) add_is s.refusal n u t.looks t.working s.stopped rest)
+        (λ (s : IsStoppedRefusing Sees new spans (operation.AddRange place off len) (record { id = place; off = off; len = len }) u). cut_giving_up (operation.AddRange place off len) add_is s.refusal n u t.looks t.working tt s.stopped rest)
         t.holds
 
   module _ (id : ScriptId) (target : Oid) (target_is : target ≡ id_of names id) (off : ℕ) (bytes : List ℕ) (is : said.operation ≡ op.Write id off bytes) where
@@ -345,7 +345,7 @@ module _ (o : Opening) (first : View) (lane : Lane Solo) (blocks : BlockLists) (
         (inl (calm_behind o first lane blocks actions names front values a n u t.looks (after_all u (take stopped.stops.made (steps u))) t.working (λ quiet. quiet_in_write u target off bytes stopped.stops.made quiet outside)))
         (write_calls names id off bytes) (writes_here u) (λ m by. subst (λ (x : ScriptOp). IsLineStopped names x a.view m) (sym is) by)
         (let stored = write_stored u in omega (arith, stored)))
-        (λ (s : IsStoppedRefusing Sees new lane.records.items (operation.Write target off bytes) (record { id = target; off = off; len = length bytes }) u). cut_giving_up (operation.Write target off bytes) write_is s.refusal n u t.looks t.working s.stopped rest)
+        (λ (s : IsStoppedRefusing Sees new lane.records.items (operation.Write target off bytes) (record { id = target; off = off; len = length bytes }) u). cut_giving_up (operation.Write target off bytes) write_is s.refusal n u t.looks t.working tt s.stopped rest)
         t.holds
 
 -- no line is refused as spent

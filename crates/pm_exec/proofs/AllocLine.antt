@@ -75,7 +75,7 @@ use Rattle.pm_exec.proofs.LooksAlone.{looks_none}
 use Rattle.pm_exec.proofs.PendingLists.{still_pending}
 use Rattle.pm_exec.specs.Bounds.{log_due, log_stores, making_stores, most_stores, recorded_count, stores_of_call, stores_of_lines}
 use Rattle.pm_exec.specs.Calls.{operation_of}
-use Rattle.pm_exec.specs.Course.{IsLineMade, IsLineStopped}
+use Rattle.pm_exec.specs.Course.{CameToGiveUp, IsLineMade, IsLineStopped}
 use Rattle.pm_exec.specs.Progress.{AreToldDone, IsAtLine, IsCut, IsGivenUpAt, IsToldDone, Values, values_told}
 use Rattle.pm_exec.specs.Quiet.{IsQuiet, MakesNone}
 use Rattle.pm_exec.specs.Torn.{words_after, words_by}
@@ -278,7 +278,7 @@ module _ (o : Opening) (first : View) (lane : Lane Solo) (blocks : BlockLists) (
         → (rest : List ScriptLine) → IsGivenUpAt o first new blocks actions names (front ++ said ∷ rest) values said.line r
     make_given_up r g fields rest =
         let t = went r g.view g.came in
-        over_there o first lane blocks actions names front values a g.view t.0 new said t.1 r
+        over_there o first lane blocks actions names front values a g.view t.0 new said t.1 r (subst (λ (y : Operation). CameToGiveUp y r a.view g.view) make_is g.came)
         (subst (λ (y : Operation). IsEndedBy Sees new g.view (gives_up lane.records.items y (Some (Refused r)) new.last) y (Some (Refused r))) make_is g.ended) (ap is_action (sym make_is))
         (ap (λ (l : Lane Solo). l.level) fields ∙ a.level) (ap (λ (l : Lane Solo). l.stage) fields) (ap (λ (l : Lane Solo). l.error) fields)
         (given_up_so names said.operation r a.view (λ asked clashes. let clash = sym is ∙ clashes in cc)) rest
@@ -287,5 +287,5 @@ module _ (o : Opening) (first : View) (lane : Lane Solo) (blocks : BlockLists) (
     make_cut rest (inl s) = make_stopped rest s
     make_cut rest (inr s) =
         let t = went s.refusal s.view s.came in
-        cut_there o first lane blocks actions names front values a s.view t.0 new said t.1 rest s.refusal
+        cut_there o first lane blocks actions names front values a s.view t.0 new said t.1 rest s.refusal (subst (λ (y : Operation). CameToGiveUp y s.refusal a.view s.view) make_is s.came)
         (subst (λ (y : Operation). IsStoppedIn Sees new s.view (gives_up lane.records.items y (Some (Refused s.refusal)) new.last) y (Some (Refused s.refusal))) make_is s.stopped)

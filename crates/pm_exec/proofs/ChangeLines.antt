@@ -18,7 +18,6 @@ use Rattle.pm_view.specs.Steps.Step.{Draw, Tell}
 use Rattle.pm_world.specs.Records.{is_recorded}
 use Rattle.pm_memory.specs.Runs.{Stops}
 use Rattle.pm_memory.specs.Solo.{Sees, Solo}
-use Rattle.pm_model.specs.Checks.{Range}
 use Rattle.pm_crash.specs.OpenCall.{words_recorded}
 use Rattle.pm_objects.specs.declared.calls.Operation.{Operation}
 use Rattle.pm_objects.specs.declared.history.TxErr.TheVariants as error
@@ -38,7 +37,6 @@ use Rattle.pm_tx.proofs.StepKinds.{Each, each_first}
 use Rattle.pm_tx.proofs.LineStores.{give_up_few}
 use Rattle.pm_tx.proofs.StoreCounts.{stores_append, stores_counted, stores_first}
 use Rattle.pm_tx.proofs.Unraised.{IsWork, all_work_raises}
-use Rattle.pm_tx.specs.Calls.{IsGivenUpFor, IsStoppedFor}
 use Rattle.pm_tx.specs.Ending.{IsEndedBy, IsStoppedIn, IsTakenBack}
 use Rattle.pm_tx.specs.Generations.{is_ending}
 use Rattle.pm_tx.specs.Learning.{Looks}
@@ -63,7 +61,7 @@ use Rattle.pm_exec.specs.Bounds.{most_stores, recorded_count, stores_of_call, st
 use Rattle.pm_exec.proofs.FewStores.{bounded, lines_more, lines_within, spans_count}
 use Rattle.pm_exec.specs.Calls.{operation_of}
 use Rattle.pm_exec.specs.Progress.{IsAtLine, IsCalmBehind, IsCut, IsGivenUpAt, AreToldDone, IsToldDone, IsUntorn, Values, numbered, refused, values_told}
-use Rattle.pm_exec.specs.Course.{IsFree, IsFrontOf, IsGivenUpMade, IsLineMade, IsLineStopped, IsRefusalMade, IsStoppedBy, refused_calls, spans_of}
+use Rattle.pm_exec.specs.Course.{CameToGiveUp, IsFree, IsFrontOf, IsGivenUpMade, IsLineMade, IsLineStopped, IsRefusalMade, IsStoppedBy, refused_calls, spans_of}
 use Rattle.pm_exec.specs.declared.calls.Names.{Names}
 use Rattle.pm_exec.proofs.LineLists.{made_more, told_more}
 use Rattle.pm_tx.proofs.Leading.{looks_lead as looks_led}
@@ -211,9 +209,9 @@ module _ (o : Opening) (first : View) (lane : Lane Solo) (blocks : BlockLists) (
             root = here 64 (root_outside u.lane) (root_unrecorded o Sees lane a.view work);
           }) heap.zone_locks a.works.not_making
 
-      pub over_there : (r : Refusal) → IsEndedBy Sees new u (gives_up lane.records.items (operation_of names said.operation) (Some (Refused r)) new.last) (operation_of names said.operation) (Some (Refused r)) → is_action (operation_of names said.operation) ≡ false → new.level ≡ 1 → new.stage ≡ stage.OnAbort → new.error ≡ error.Refused r
+      pub over_there : (r : Refusal) → CameToGiveUp (operation_of names said.operation) r a.view u → IsEndedBy Sees new u (gives_up lane.records.items (operation_of names said.operation) (Some (Refused r)) new.last) (operation_of names said.operation) (Some (Refused r)) → is_action (operation_of names said.operation) ≡ false → new.level ≡ 1 → new.stage ≡ stage.OnAbort → new.error ≡ error.Refused r
           → ((w : View) → IsGivenUpMade names said.operation r a.view w → IsRefusalMade names said.operation r a.view w) → (rest : List ScriptLine) → IsGivenUpAt o first new blocks actions names (front ++ said ∷ rest) values said.line r
-      over_there r e gives level at fails refusal_made rest =
+      over_there r came e gives level at fails refusal_made rest =
           let steps : Sequence = gives_up lane.records.items (operation_of names said.operation) (Some (Refused r)) new.last in
           let w : View = after_all u (steps u) in
           let on = ended_leads Sees new u steps (operation_of names said.operation) (Some (Refused r)) e in
@@ -249,15 +247,16 @@ module _ (o : Opening) (first : View) (lane : Lane Solo) (blocks : BlockLists) (
                 refused = refusal_made w (record {
                   number = new.last;
                   made = record { start = u; free = free_there; is = ap (after_all u) (gives_up_here names said.operation r new.last u lane.records.items spans_there) };
+                  came = came;
                 });
               };
             };
           }
 
       -- or the lane stopped while it gave the call up
-      pub cut_there : (rest : List ScriptLine) (r : Refusal) → IsStoppedIn Sees new u (gives_up lane.records.items (operation_of names said.operation) (Some (Refused r)) new.last) (operation_of names said.operation) (Some (Refused r))
+      pub cut_there : (rest : List ScriptLine) (r : Refusal) → CameToGiveUp (operation_of names said.operation) r a.view u → IsStoppedIn Sees new u (gives_up lane.records.items (operation_of names said.operation) (Some (Refused r)) new.last) (operation_of names said.operation) (Some (Refused r))
           → IsCut o first new names (front ++ said ∷ rest) values
-      cut_there rest r stopped =
+      cut_there rest r came stopped =
           let reply : Option Value = Some (Refused r) in
           let steps : Sequence = gives_up lane.records.items (operation_of names said.operation) reply new.last in
           let k : ℕ = stopped.stops.made in
@@ -297,6 +296,7 @@ module _ (o : Opening) (first : View) (lane : Lane Solo) (blocks : BlockLists) (
                     free = free_there;
                     stops = front_of (Sees new.memory) u (steps u) (refused_calls names said.operation r new.last) (gives_up_here names said.operation r new.last u lane.records.items spans_there) stopped.stops;
                   };
+                  came = came;
                 },
               );
             });
@@ -460,18 +460,11 @@ module _ (o : Opening) (first : View) (lane : Lane Solo) (blocks : BlockLists) (
 
     -- the call is given up for it
     module _ (new : Lane Solo) (said : ScriptLine) (working : IsWorking u) where
-      pub over_ended : (r : Refusal) → IsEndedBy Sees new u (gives_up lane.records.items (operation_of names said.operation) (Some (Refused r)) new.last) (operation_of names said.operation) (Some (Refused r)) → is_action (operation_of names said.operation) ≡ false → new.level ≡ 1 → new.stage ≡ stage.OnAbort → new.error ≡ error.Refused r
+      pub over_ended : (r : Refusal) → CameToGiveUp (operation_of names said.operation) r a.view u → IsEndedBy Sees new u (gives_up lane.records.items (operation_of names said.operation) (Some (Refused r)) new.last) (operation_of names said.operation) (Some (Refused r)) → is_action (operation_of names said.operation) ≡ false → new.level ≡ 1 → new.stage ≡ stage.OnAbort → new.error ≡ error.Refused r
           → ((w : View) → IsGivenUpMade names said.operation r a.view w → IsRefusalMade names said.operation r a.view w) → (rest : List ScriptLine) → IsGivenUpAt o first new blocks actions names (front ++ said ∷ rest) values said.line r
       over_ended = over_there u looks_go new said working
 
-      pub over_by : (range : Range) (r : Refusal) → IsGivenUpFor Sees new lane.records.items (operation_of names said.operation) range r u → is_action (operation_of names said.operation) ≡ false → new.level ≡ 1 → new.stage ≡ stage.OnAbort → new.error ≡ error.Refused r
-          → ((w : View) → IsGivenUpMade names said.operation r a.view w → IsRefusalMade names said.operation r a.view w) → (rest : List ScriptLine) → IsGivenUpAt o first new blocks actions names (front ++ said ∷ rest) values said.line r
-      over_by range r g = over_ended r g.ended
-
       -- or the lane stopped while it gave the call up
-      pub cut_ended : (rest : List ScriptLine) (r : Refusal) → IsStoppedIn Sees new u (gives_up lane.records.items (operation_of names said.operation) (Some (Refused r)) new.last) (operation_of names said.operation) (Some (Refused r))
+      pub cut_ended : (rest : List ScriptLine) (r : Refusal) → CameToGiveUp (operation_of names said.operation) r a.view u → IsStoppedIn Sees new u (gives_up lane.records.items (operation_of names said.operation) (Some (Refused r)) new.last) (operation_of names said.operation) (Some (Refused r))
           → IsCut o first new names (front ++ said ∷ rest) values
       cut_ended = cut_there u looks_go new said working
-
-      pub cut_by : (range : Range) (rest : List ScriptLine) → IsStoppedFor Sees new lane.records.items (operation_of names said.operation) range u → IsCut o first new names (front ++ said ∷ rest) values
-      cut_by range rest s = cut_ended rest s.refusal s.stopped

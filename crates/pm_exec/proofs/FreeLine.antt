@@ -94,4 +94,4 @@ module _ (o : Opening) (first : View) (lane : Lane Solo) (blocks : BlockLists) (
       (omega (arith, stored, same, log, good))
 
   pub free_cut : (rest : List ScriptLine) → HasLooked a.view (IsFreeStopped Sees new lane.records.items place) → IsCut o first new names (front ++ said ∷ rest) values
-  free_cut rest t = cut_giving_up o first lane blocks actions names front values a new said (operation.Free place) free_is t.holds.refusal t.loads t.view t.looks t.working t.holds.stopped rest
+  free_cut rest t = cut_giving_up o first lane blocks actions names front values a new said (operation.Free place) free_is t.holds.refusal t.loads t.view t.looks t.working tt t.holds.stopped rest

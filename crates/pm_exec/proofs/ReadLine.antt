@@ -131,4 +131,4 @@ module _ (o : Opening) (first : View) (lane : Lane Solo) (blocks : BlockLists) (
     read_new_done h level locks = read_so 0 a.view (looks_none a.view) h.ready h.draws h.works h.read.tells.call h.seen h.read.logs.records h.read.keeps.words level locks
 
   pub read_cut : (rest : List ScriptLine) → HasLooked a.view (IsStoppedRefusing Sees new lane.records.items (operation.Read place off len) (record { id = place; off = off; len = len })) → IsCut o first new names (front ++ said ∷ rest) values
-  read_cut rest t = let s = t.holds in cut_giving_up o first lane blocks actions names front values a new said (operation.Read place off len) read_is s.refusal t.loads t.view t.looks t.working s.stopped rest
+  read_cut rest t = let s = t.holds in cut_giving_up o first lane blocks actions names front values a new said (operation.Read place off len) read_is s.refusal t.loads t.view t.looks t.working tt s.stopped rest

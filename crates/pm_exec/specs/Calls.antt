@@ -8,7 +8,7 @@ use Rattle.pm_objects.specs.declared.calls.Want.{Want}
 use Rattle.pm_objects.specs.declared.ids.Oid.{Oid}
 use Rattle.pm_objects.specs.declared.pool.PoolView.{PoolView}
 use Rattle.pm_script.specs.declared.script.ScriptId.{ScriptId}
-use Rattle.pm_script.specs.declared.script.ScriptId.TheVariants.{Root, At}
+use Rattle.pm_script.specs.declared.script.ScriptId.TheVariants.{Root, At, Bound}
 use Rattle.pm_script.specs.declared.script.ScriptLine.{ScriptLine}
 use Rattle.pm_script.specs.declared.script.ScriptOp.{ScriptOp}
 use Rattle.pm_script.specs.declared.script.ScriptOp.TheVariants.{Begin, Add, Write, Read, Alloc, Free, Set, Publish, Cancel, Commit}
@@ -32,6 +32,7 @@ names_of pool = record { pool = pool.id; root = root_of pool }
 abbrev pub id_of : Names → ScriptId → Oid
 id_of names Root = names.root
 id_of names (At off) = record { pool = names.pool; off = off }
+id_of names (Bound line) = record { pool = 0; off = 0 }
 
 abbrev pub want_of : Names → ScriptWant → Want
 want_of names want = record { id = id_of names want.id; write = want.write }
@@ -52,6 +53,7 @@ operation_of names Commit = operation.Commit
 abbrev pub is_root : ScriptId → Bool
 is_root Root = true
 is_root (At off) = false
+is_root (Bound line) = false
 
 -- the line has the word `root`
 abbrev pub has_root : ScriptOp → Bool

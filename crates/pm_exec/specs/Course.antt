@@ -42,9 +42,11 @@ use Rattle.pm_crash.specs.OnActions.{set_refusal}
 use Rattle.pm_crash.specs.Pending.{pending_before, published_in}
 use Rattle.pm_action.specs.Holding.{Overruns}
 use Rattle.pm_model.specs.Actions.{Action, wants_for}
+use Rattle.pm_objects.specs.declared.calls.Operation.{Operation}
 use Rattle.pm_objects.specs.declared.calls.Operation.TheVariants as operation
 use Rattle.pm_pending.specs.Pending.{entry_of}
 use Rattle.pm_record.specs.declared.redo.Redo.{Redo}
+use Rattle.pm_transaction.specs.Allocating.{CameToRefuse}
 use Rattle.pm_tx.specs.Actions.{cancels}
 use Rattle.pm_exec.specs.declared.ending.CallAnswer.{CallAnswer}
 use Rattle.pm_exec.specs.declared.ending.CallAnswer.TheVariants as answer
@@ -118,10 +120,16 @@ unfoldable pub LinesMade : Names → List ScriptLine → View → View → Type 
 LinesMade names [] v w = w ≡ v
 LinesMade names (line ∷ lines) v w = (m : View) × IsLineMade names line.operation v m × LinesMade names lines m w
 
+-- how the lane came to where it gives up the call for an operation that is refused so: of an `alloc`, that it found no block where there is `NoSpace`
+abbrev pub CameToGiveUp : Operation → Refusal → View → View → Type 0
+CameToGiveUp (operation.Alloc size kind) r v w = CameToRefuse v size r w
+CameToGiveUp op r v w = ⊤
+
 -- the line was refused so, and its call given up
 pub record IsGivenUpMade (names : Names) (op : ScriptOp) (r : Refusal) (v w : View) : Type 0 where
   pub number : ℕ
   pub made : IsMadeBy (refused_calls names op r number) v w
+  pub came : CameToGiveUp (operation_of names op) r v made.start
 
 -- why a begin of a lane that is alone may be refused: it wants too many locks, or something for which the pool's words have no object. No lock is
 -- another lane's
@@ -239,6 +247,7 @@ IsLineStopped names op v w = ⊥
 pub record IsStoppedGivingUp (names : Names) (op : ScriptOp) (r : Refusal) (v w : View) : Type 0 where
   pub number : ℕ
   pub stopped : IsStoppedBy (refused_calls names op r number) v w
+  pub came : CameToGiveUp (operation_of names op) r v stopped.start
 
 -- some lines of a transaction were done, and in the next a counted call is due
 pub record IsStoppedInTransaction (names : Names) (lines : List ScriptLine) (v w : View) : Type 0 where

@@ -42,6 +42,7 @@ pub(crate) fn id_of(names: Names, id: ScriptId) -> Oid
             pool: names.pool,
             off,
         },
+        ScriptId::Bound(_) => Oid::NULL,
     }
 }
 
@@ -150,6 +151,7 @@ fn is_root(id: ScriptId) -> bool
     match id {
         ScriptId::Root => true,
         ScriptId::At(_) => false,
+        ScriptId::Bound(_) => false,
     }
 }
 

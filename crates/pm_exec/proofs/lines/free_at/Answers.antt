@@ -36,5 +36,5 @@ returns-in-Err-clause-ends c o first actions front rest values a =
     (λ goes.
     let t = e.given_up none goes o a.view a.works in
     subst (λ (b : BlockLists). IsGivenUpAt o first new b actions names (front ++ said ∷ rest) values said.line r) (sym e.unlisted)
-    (given_up o first old blocks actions names front values a new said (operation.Free place) same r t.loads t.view t.looks t.working t.holds.ended (e.given_up_lane none goes) (λ asked clashes. let clash = sym is ∙ clashes in cc) refl rest))
+    (given_up o first old blocks actions names front values a new said (operation.Free place) same r t.loads t.view t.looks t.working t.holds.ended (e.given_up_lane none goes) (λ asked clashes. let clash = sym is ∙ clashes in cc) refl tt rest))
     (λ stops. free_cut o first old blocks actions names front values a new said c.args.id place c.id_of.ensures is rest (e.stopped none stops o a.view a.works)))

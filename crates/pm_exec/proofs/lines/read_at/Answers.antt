@@ -64,6 +64,6 @@ returns-in-Err-clause-ends c o first actions front rest a =
     (ends_so o first old blocks actions names front values a new c.args.said.now blocks rest values r (read_not_spent r (e.causes none)) refl
     (λ goes.
     let t = subst (λ (n : ℕ). HasLooked a.view (IsRefusedFor Sees new old.records.items (operation.Read place off n) (record { id = place; off = off; len = n }) r)) long (e.given_up none goes o a.view a.works) in
-    given_up o first old blocks actions names front values a new c.args.said.now (operation.Read place off len) same r t.loads t.view t.looks t.working t.holds.ended (e.given_up_lane none goes) (λ asked clashes. let clash = sym is ∙ clashes in cc) refl rest)
+    given_up o first old blocks actions names front values a new c.args.said.now (operation.Read place off len) same r t.loads t.view t.looks t.working t.holds.ended (e.given_up_lane none goes) (λ asked clashes. let clash = sym is ∙ clashes in cc) refl tt rest)
     (λ stops. read_cut o first old blocks actions names front values a new c.args.said.now c.args.range.0 place c.id_of.ensures off len is rest
     (subst (λ (n : ℕ). HasLooked a.view (IsStoppedRefusing Sees new old.records.items (operation.Read place off n) (record { id = place; off = off; len = n }))) long (e.stopped none stops o a.view a.works))))

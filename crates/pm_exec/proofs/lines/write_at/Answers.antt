@@ -40,5 +40,5 @@ returns-in-Err-clause-ends c o first actions front rest values a =
     (ends_so o first old blocks actions names front values a new c.args.said.now blocks rest values r (not_spent r refusal.NotAdded (λ same. cc) (e.causes none)) refl
     (λ goes.
     let t = e.given_up none goes o a.view a.works in
-    given_up o first old blocks actions names front values a new c.args.said.now (operation.Write place c.args.off c.args.bytes.now) same r t.loads t.view t.looks t.working t.holds.ended (e.given_up_lane none goes) (λ asked clashes. let clash = sym is ∙ clashes in cc) refl rest)
+    given_up o first old blocks actions names front values a new c.args.said.now (operation.Write place c.args.off c.args.bytes.now) same r t.loads t.view t.looks t.working t.holds.ended (e.given_up_lane none goes) (λ asked clashes. let clash = sym is ∙ clashes in cc) refl tt rest)
     (λ stops. write_cut o first old blocks actions names front values a new c.args.said.now c.args.id place c.id_of.ensures c.args.off c.args.bytes.now is rest (e.stopped none stops o a.view a.works)))
