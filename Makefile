@@ -43,7 +43,7 @@ demo: build
 	  build/pmempool exec $(POOL) --script build/demo-set.script --out build/demo-set-$$stop-$$keep.pool --layout demo --stops 0:$$stop --keep $$keep; \
 	  build/pmempool dump build/demo-set-$$stop-$$keep.pool; \
 	done; done
-	@printf 'lane 0\nbegin\nalloc a 100 7\nwrite 20608 0 cafe\ncommit\nbegin 20608\nfree 20608\nalloc b 8 9\ncommit\n' > build/demo-objects.script
+	@printf 'lane 0\nbegin\nalloc a 100 7\nwrite $$a 0 cafe\ncommit\nbegin $$a\nfree $$a\nalloc b 8 9\ncommit\n' > build/demo-objects.script
 	cat build/demo-objects.script
 	@for stop in 43 44 46 80; do for keep in 0 1; do \
 	  echo "build/pmempool exec $(POOL) .. --stops 0:$$stop --keep $$keep"; \

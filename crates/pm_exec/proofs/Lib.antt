@@ -28,6 +28,8 @@ pub mod ActionLines
 pub mod OutsideLine
 pub mod AddAndWrite
 pub mod FreeLine
+pub mod GivenCalls
+pub mod GivenLetters
 pub mod AllocLine
 pub mod CommitLine
 pub mod ScriptParts
@@ -39,6 +41,7 @@ pub mod Untorn
 pub mod StoppedEnd
 pub mod LineLists
 pub mod ReadLine
+pub mod ResolvedLines
 pub mod RisingCalls
 pub mod ShownHistories
 pub mod EndedRuns

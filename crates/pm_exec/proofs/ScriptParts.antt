@@ -1,23 +1,15 @@
 -- A script's lines: a begin, changes, and a commit.
-use Rattle.std.proofs.Common.{false, ◌≡◌, inl, inr, ℕ, zero, suc, ◌+◌, ◌-◌, ◌<◌, ◌≤◌, All, List, [], ◌∷◌, ◌++◌, drop, get_or, length, take, Result, refl, sym, ap, ◌∙◌, subst, arith, length-append, append-nil, append_assoc}
+use Rattle.std.proofs.Common.{false, ◌≡◌, inl, inr, ℕ, zero, suc, ◌+◌, ◌-◌, ◌<◌, ◌≤◌, All, List, [], ◌∷◌, ◌++◌, drop, get_or, length, take, refl, sym, ap, ◌∙◌, subst, arith, length-append, append-nil, append_assoc}
 use Rattle.std.proofs.Math.ListN.{get_or-map}
 use Rattle.std.proofs.Math.Seq.{take-length}
-use Rattle.std.proofs.lemmas.List.{length-map, take-append-drop, take-append-le, take_more}
+use Rattle.std.proofs.lemmas.List.{length-map, take-append-le, take_more}
 use Rattle.std.proofs.lemmas.List.Elements.{All-append, All-cons, All-get_or, All-head, All-nil, All-tail}
-use Rattle.pm_memory.specs.Solo.{Solo}
-use Rattle.pm_made.specs.Made.{BlockLists}
 use Rattle.pm_script.specs.Scripts.{IsChange, IsTransaction, KeepsApart, MakesOrFrees, Publishes, operations}
 use Rattle.pm_script.specs.declared.script.ScriptLine.{ScriptLine}
 use Rattle.pm_script.specs.declared.script.ScriptOp.{ScriptOp}
 use Rattle.pm_script.specs.declared.script.ScriptOp.TheVariants as op
 use Rattle.pm_script.specs.declared.script.ScriptWant.{ScriptWant}
-use Rattle.pm_view.specs.View.{View}
-use Rattle.pm_world.specs.Opening.{Opening}
-use Rattle.pm_world.specs.declared.lane.Lane.{Lane}
-use Rattle.pm_exec.specs.Progress.{AllMayStand, CameTo, IsAtLine, IsNotDone, MayStand, Values}
-use Rattle.pm_exec.specs.declared.calls.Names.{Names}
-use Rattle.pm_exec.specs.declared.lines.NotDone.{NotDone}
-use Rattle.pm_pending.specs.declared.actions.SetAction.{SetAction}
+use Rattle.pm_exec.specs.Progress.{AllMayStand, MayStand}
 use Rattle.pm_exec.specs.Calls.{stands_alone, starts_alone}
 
 pub record Parts (script : List ScriptLine) : Type 0 where
@@ -149,48 +141,16 @@ module _ (script : List ScriptLine) (p : Parts script) where
   pub changes_are : All IsChange (operations (take (length script - 1 - 1) (drop 1 script)))
   changes_are = subst (λ (ls : List ScriptLine). All IsChange (operations ls)) (sym middle) p.are
 
-  -- the changes may stand behind the begin
-  pub changes_stand : AllMayStand (p.begin ∷ []) (take (length script - 1 - 1) (drop 1 script))
-  changes_stand = subst (AllMayStand (p.begin ∷ [])) (sym middle) (apart_stand p.begin p.changes (subst (λ (x : ScriptOp). ¬ MakesOrFrees x) (sym p.begins) (λ makes. makes)) p.apart)
+  -- the changes may stand behind a begin
+  pub changes_stand : (begin : ScriptLine) (wants : List ScriptWant) → begin.operation ≡ op.Begin wants → AllMayStand (begin ∷ []) (take (length script - 1 - 1) (drop 1 script))
+  changes_stand begin wants begins = subst (AllMayStand (begin ∷ [])) (sym middle) (apart_stand begin p.changes (subst (λ (x : ScriptOp). ¬ MakesOrFrees x) (sym begins) (λ makes. makes)) p.apart)
 
   pub begins_there : (d : ScriptLine) → d ≡ get_or script 0 d → d.operation ≡ op.Begin p.wants
   begins_there d is = ap (λ (l : ScriptLine). l.operation) (is ∙ first_line d) ∙ p.begins
 
-  module _ (o : Opening) (first : View) (actions : List SetAction) (names : Names) where
-    pub begun_not : (new : Lane Solo) (now : BlockLists) (why : NotDone) (said : ScriptLine) → said ≡ get_or script 0 said → ((rest : List ScriptLine) → IsNotDone o first new now actions names (said ∷ rest) [] why) → IsNotDone o first new now actions names script [] why
-    begun_not new now why said is so =
-        subst (λ (ls : List ScriptLine). IsNotDone o first new now actions names ls [] why) (ap (λ (s : ScriptLine). s ∷ (p.changes ++ p.commit ∷ [])) (is ∙ first_line said) ∙ sym p.is) (so (p.changes ++ p.commit ∷ []))
-
-    pub begun_at : (mid : Lane Solo) (kept : BlockLists) (said : ScriptLine) → said ≡ get_or script 0 said → IsAtLine o first mid kept actions names (said ∷ []) [] → IsAtLine o first mid kept actions names (p.begin ∷ []) []
-    begun_at mid kept said is at = subst (λ (s : ScriptLine). IsAtLine o first mid kept actions names (s ∷ []) []) (is ∙ first_line said) at
-
-    pub changed_not : (left : List SetAction) (mid new : Lane Solo) (kept now : BlockLists) (values : Values) (why : NotDone) → IsAtLine o first mid kept actions names (p.begin ∷ []) []
-        → ((front rest : List ScriptLine) → IsAtLine o first mid kept actions names front [] → AllMayStand front (take (length script - 1 - 1) (drop 1 script)) → IsNotDone o first new now left names (front ++ take (length script - 1 - 1) (drop 1 script) ++ rest) values why)
-        → IsNotDone o first new now left names script values why
-    changed_not left mid new kept now values why at so =
-        subst (λ (ls : List ScriptLine). IsNotDone o first new now left names ls values why) (ap (λ (ls : List ScriptLine). ((p.begin ∷ []) ++ ls) ++ p.commit ∷ []) middle ∙ sym p.is)
-        (so (p.begin ∷ []) (p.commit ∷ []) at changes_stand)
-
-    pub committed_or_not : {T : Type 0} (mid new : Lane Solo) (now : BlockLists) (values : Values) (result : Result T NotDone) → IsAtLine o first mid now actions names (p.begin ∷ take (length script - 1 - 1) (drop 1 script)) values
-        → ((front : List ScriptLine) (said : ScriptLine) → IsAtLine o first mid now actions names front values → said.operation ≡ op.Commit → CameTo o first new now actions names (front ++ said ∷ []) values result) → CameTo o first new now actions names script values result
-    committed_or_not mid new now values result at so =
-        subst (λ (ls : List ScriptLine). CameTo o first new now actions names ls values result) (sym p.is)
-        (so (p.begin ∷ p.changes) p.commit (subst (λ (ls : List ScriptLine). IsAtLine o first mid now actions names (p.begin ∷ ls) values) middle at) p.commits)
-
 -- the first of some lines, and one more
 pub lines_taken : (lines : List ScriptLine) (i : ℕ) (said : ScriptLine) → i < length lines → said ≡ get_or lines i said → take (i + 1) lines ≡ take i lines ++ said ∷ []
 lines_taken lines i said low is = take_more lines i said low ∙ ap (λ (s : ScriptLine). take i lines ++ s ∷ []) (sym is)
-
--- a line stands between those before it and those behind
-pub between : (lines front rest : List ScriptLine) (i : ℕ) (said : ScriptLine) → i < length lines → said ≡ get_or lines i said → (front ++ take i lines) ++ said ∷ (drop (i + 1) lines ++ rest) ≡ front ++ lines ++ rest
-between lines front rest i said low is =
-    let before : List ScriptLine = take i lines in
-    let behind : List ScriptLine = drop (i + 1) lines in
-    let all : (before ++ said ∷ []) ++ behind ≡ lines =
-    ap (λ (ls : List ScriptLine). ls ++ behind) (sym (take_more lines i said low ∙ ap (λ (s : ScriptLine). before ++ s ∷ []) (sym is))) ∙ take-append-drop (i + 1) lines in
-    append_assoc front before (said ∷ (behind ++ rest))
-    ∙ ap (λ (ls : List ScriptLine). front ++ ls) (sym (append_assoc before (said ∷ []) (behind ++ rest)) ∙ (sym (append_assoc (before ++ said ∷ []) behind rest) ∙ ap (λ (ls : List ScriptLine). ls ++ rest) all))
-    ∙ sym (append_assoc front lines rest)
 
 -- a line of some changes is one
 pub change_at_index : (lines : List ScriptLine) → All IsChange (operations lines) → (i : ℕ) (said : ScriptLine) → i < length lines → said ≡ get_or lines i said → IsChange said.operation

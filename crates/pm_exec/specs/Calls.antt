@@ -29,6 +29,7 @@ root_of pool = id_at pool.id pool.root
 abbrev pub names_of : PoolView → Names
 names_of pool = record { pool = pool.id; root = root_of pool }
 
+-- a letter that stands for nothing is the null id
 abbrev pub id_of : Names → ScriptId → Oid
 id_of names Root = names.root
 id_of names (At off) = record { pool = names.pool; off = off }

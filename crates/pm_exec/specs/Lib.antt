@@ -1,6 +1,7 @@
 pub mod Bounds
 pub mod Calls
 pub mod Course
+pub mod Letters
 pub mod Links
 pub mod Histories
 pub mod Opening

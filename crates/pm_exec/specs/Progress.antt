@@ -375,6 +375,12 @@ pub record IsHalted (o : Opening) (first : View) (lane : Lane Solo) (names : Nam
   pub unanswered : reply.at ≡ 0
   pub numbered : number ≡ cut.view.number
 
+-- what the lines of a call gave that ended so
+abbrev pub values_given : CallEnd → Values
+values_given (call_end.Answered number a reply) = reply.values
+values_given (call_end.Halted number reply) = reply.values
+values_given (call_end.Unbegun line) = []
+
 -- how a call of these lines ended
 abbrev pub HasCome : Opening → View → Lane Solo → BlockLists → List SetAction → Names → List ScriptLine → CallEnd → Type 0
 HasCome o first lane blocks actions names lines (call_end.Answered number a reply) = IsAnswered o first lane blocks actions names lines number a reply

@@ -2,8 +2,10 @@
 
 ghost use Rattle.std.specs.Prelude.{◌≡◌, ◌≤◌, ◌<◌, ◌++◌, ◌∷◌, [], length, map, take, drop, IfOk};
 ghost use Rattle.pm_objects.specs.declared.calls.Operation.TheVariants as operation;
+ghost use Rattle.pm_exec.specs.Letters.{resolved};
 ghost use Rattle.pm_exec.specs.Calls.{call_of, has_root, id_of, is_commit, is_root, names_of, operation_of, root_in, call_lines, stands_alone, want_of};
 
+use crate::letters::resolved_line;
 use pm_objects::{Call, Oid, Operation, PoolView, Sequence, Want};
 use pm_pending::SetAction;
 use pm_script::{ScriptId, ScriptLine, ScriptOp, ScriptWant};
@@ -32,7 +34,7 @@ pub(crate) fn names_of(pool: &PoolView) -> Names
     }
 }
 
-/// The object that a script names so.
+/// The object that a script names so; null for a letter that stands for nothing.
 pub(crate) fn id_of(names: Names, id: ScriptId) -> Oid
     ensures { result ≡ id_of names id }
 {
@@ -129,16 +131,18 @@ fn write_of(alloc: Global, id: Oid, off: u64, bytes: &[u8]) -> Result<Operation,
     Ok(Operation::Write { id, off, bytes })
 }
 
-/// The operations that the lines say.
+/// The operations that the lines say, with these offsets in their letters' places.
 fn operations_of(
     alloc: Global,
     names: Names,
+    given: &[(u64, u64)],
     lines: &[ScriptLine],
 ) -> Result<Vec<Operation>, AllocError>
-    ensures { IfOk result (λ all. all.items ≡ map (λ line. operation_of names line.operation) lines.now) }
+    ensures { IfOk result (λ all. all.items ≡ map (λ line. operation_of names line.operation) (resolved given.now lines.now)) }
 {
     let mut operations = Vec::new(alloc);
     for line in lines {
+        let line = resolved_line(alloc, given, &[], line)?;
         let operation = operation_of(alloc, names, &line.operation)?;
         operations.push(operation)?;
     }
@@ -150,8 +154,7 @@ fn is_root(id: ScriptId) -> bool
 {
     match id {
         ScriptId::Root => true,
-        ScriptId::At(_) => false,
-        ScriptId::Bound(_) => false,
+        ScriptId::At(_) | ScriptId::Bound(_) => false,
     }
 }
 
@@ -181,12 +184,17 @@ fn root_in(names: Names, lines: &[ScriptLine]) -> Option<u64>
     }
 }
 
-/// The call of lane 0 that the lines are.
-pub(crate) fn call_of(alloc: Global, names: Names, lines: &[ScriptLine]) -> Result<Call, AllocError>
+/// The call of lane 0 that the lines are, with these offsets in their letters' places.
+pub(crate) fn call_of(
+    alloc: Global,
+    names: Names,
+    given: &[(u64, u64)],
+    lines: &[ScriptLine],
+) -> Result<Call, AllocError>
     requires { 1 ≤ length lines.now }
-    ensures { IfOk result (λ call. call ≡ call_of names lines.now) }
+    ensures { IfOk result (λ call. call ≡ call_of names (resolved given.now lines.now)) }
 {
-    let operations = operations_of(alloc, names, lines)?;
+    let operations = operations_of(alloc, names, given, lines)?;
     Ok(Call {
         lane: 0,
         first: lines[0].line,

@@ -1,6 +1,6 @@
 //! How a call of a run ends, and its entry in the history.
 
-ghost use Rattle.std.specs.Prelude.{◌≡◌, ◌∷◌, [], true, List, None, IfOk};
+ghost use Rattle.std.specs.Prelude.{◌≡◌, ◌∷◌, ◌++◌, [], true, List, None, IfOk};
 ghost use Rattle.pm_made.specs.Made.{BlockLists};
 ghost use Rattle.pm_objects.specs.declared.history.TxErr.{TxErr};
 ghost use Rattle.pm_objects.specs.declared.history.TxErr.TheVariants as error;
@@ -11,10 +11,12 @@ ghost use Rattle.pm_view.specs.View.{Told, View};
 ghost use Rattle.pm_world.specs.Opening.{Opening};
 ghost use Rattle.pm_exec.specs.Histories.{open_fate, settled_fate};
 ghost use Rattle.pm_exec.specs.Calls.{IsCall, stands_alone};
-ghost use Rattle.pm_exec.specs.Progress.{HasCome, IsOver, IsStart, TransactionEnded};
+ghost use Rattle.pm_exec.specs.Letters.{AreInOrder, KeepsLetters, offsets_in, resolved};
+ghost use Rattle.pm_exec.specs.Progress.{HasCome, IsOver, IsStart, TransactionEnded, values_given};
 
 use crate::acting::act_outside;
 use crate::calls::{Names, stands_alone};
+use crate::letters::resolved_line;
 use crate::lines::{NotDone, transact};
 use arrayvec::ArrayVec;
 use pm_made::CallBlocks;
@@ -69,8 +71,9 @@ fn reply_of(values: Vec<(u64, Value)>, at: u64) -> Reply
 /// Answers the call, which is over, with this reply.
 fn answer(lane: &mut Lane<SoloMem>, reply: Reply) -> CallEnd
     requires { (o : Opening) × ((first : View) × ((blocks : BlockLists) × ((names : Names) × ((lines : List ScriptLine) × ((told : List Told) × ((error : TxErr) × ((actions : List SetAction) × IsOver o first lane.old blocks actions names lines told error))))))) }
-    ensures { (o : Opening) (first : View) (blocks : BlockLists) (actions : List SetAction) (names : Names) (lines : List ScriptLine) (told : List Told) (error : TxErr) → IsOver o first lane.old blocks actions names lines told error
+    ensures made { (o : Opening) (first : View) (blocks : BlockLists) (actions : List SetAction) (names : Names) (lines : List ScriptLine) (told : List Told) (error : TxErr) → IsOver o first lane.old blocks actions names lines told error
         → TransactionEnded names lines error reply told → HasCome o first lane.new blocks actions names lines result }
+    ensures gives { values_given result ≡ reply.values }
 {
     let number = lane.last;
     let Ok(error) = end(lane) else { unreachable!() };
@@ -88,14 +91,27 @@ pub(crate) fn run_transaction(
     blocks: &mut CallBlocks,
     actions: &mut ArrayVec<SetAction, 63>,
     names: Names,
+    given: &[(u64, u64)],
     lines: &[ScriptLine],
 ) -> Result<CallEnd, AllocError>
     requires transaction { IsTransaction (operations lines.now) }
+    requires ordered { AreInOrder lines.now }
     requires first { (o : Opening) × ((first : View) × IsStart o lane.old blocks.old actions.old.items first) }
-    ensures { IfOk result (λ ended. (o : Opening) (first : View) → IsStart o lane.old blocks.old actions.old.items first → HasCome o first lane.new blocks.new actions.new.items names lines.now ended) }
+    ensures made { IfOk result (λ ended. (o : Opening) (first : View) → IsStart o lane.old blocks.old actions.old.items first
+        → HasCome o first lane.new blocks.new actions.new.items names (resolved (given.now ++ offsets_in (values_given ended)) lines.now) ended) }
+    ensures letters { IfOk result (λ ended. KeepsLetters lines.now [] (values_given ended)) }
 {
     let mut values = Vec::new(alloc);
-    match transact(alloc, lane, blocks, actions, names, lines, &mut values) {
+    match transact(
+        alloc,
+        lane,
+        blocks,
+        actions,
+        names,
+        given,
+        lines,
+        &mut values,
+    ) {
         Ok(()) => Ok(answer(lane, reply_of(values, 0))),
         Err(NotDone::GivenUp { line, refusal: _ }) => Ok(answer(lane, reply_of(values, line))),
         Err(NotDone::Stopped) => Ok(CallEnd::Halted {
@@ -117,7 +133,8 @@ pub(crate) fn run_outside(
 ) -> CallEnd
     requires outside { stands_alone said.now.operation ≡ true }
     requires first { (o : Opening) × ((first : View) × ((blocks : BlockLists) × IsStart o lane.old blocks actions.old.items first)) }
-    ensures { (o : Opening) (first : View) (blocks : BlockLists) → IsStart o lane.old blocks actions.old.items first → HasCome o first lane.new blocks actions.new.items names (said.now ∷ []) result }
+    ensures made { (o : Opening) (first : View) (blocks : BlockLists) → IsStart o lane.old blocks actions.old.items first → HasCome o first lane.new blocks actions.new.items names (said.now ∷ []) result }
+    ensures gives { values_given result ≡ [] }
 {
     let reply = reply_of(Vec::new(alloc), 0);
     match act_outside(lane, actions, names, &said.operation) {
@@ -139,24 +156,30 @@ pub(crate) fn run_outside(
     }
 }
 
-/// Makes the call of these lines, and answers it, or tells why it was not.
+/// Makes the call of these lines, and answers it, or tells why it was not. Their letters stand for the offsets that were given before, or by the
+/// lines before them.
 pub(crate) fn run_call(
     alloc: Global,
     lane: &mut Lane<SoloMem>,
     blocks: &mut CallBlocks,
     actions: &mut ArrayVec<SetAction, 63>,
     names: Names,
+    given: &[(u64, u64)],
     lines: &[ScriptLine],
 ) -> Result<CallEnd, AllocError>
     requires call { IsCall (operations lines.now) }
+    requires ordered { AreInOrder lines.now }
     requires first { (o : Opening) × ((first : View) × IsStart o lane.old blocks.old actions.old.items first) }
-    ensures { IfOk result (λ ended. (o : Opening) (first : View) → IsStart o lane.old blocks.old actions.old.items first → HasCome o first lane.new blocks.new actions.new.items names lines.now ended) }
+    ensures made { IfOk result (λ ended. (o : Opening) (first : View) → IsStart o lane.old blocks.old actions.old.items first
+        → HasCome o first lane.new blocks.new actions.new.items names (resolved (given.now ++ offsets_in (values_given ended)) lines.now) ended) }
+    ensures letters { IfOk result (λ ended. KeepsLetters lines.now [] (values_given ended)) }
 {
     let said = &lines[0];
     if stands_alone(&said.operation) {
-        Ok(run_outside(alloc, lane, actions, names, said))
+        let said = resolved_line(alloc, given, &[], said)?;
+        Ok(run_outside(alloc, lane, actions, names, &said))
     } else {
-        run_transaction(alloc, lane, blocks, actions, names, lines)
+        run_transaction(alloc, lane, blocks, actions, names, given, lines)
     }
 }
 

@@ -1,11 +1,12 @@
-ghost use Rattle.std.specs.Prelude.{◌≡◌, ◌<◌, ◌≤◌, ◌==◌, ◌&&◌, not, ℕ, List, IfErr, IfOk, OnOk, length, slice_index};
+ghost use Rattle.std.specs.Prelude.{◌≡◌, ◌<◌, ◌≤◌, ◌==◌, ◌&&◌, not, ℕ, All, List, IfErr, IfOk, OnOk, length, slice_index};
 ghost use Rattle.std.specs.List.Sorted.{IsStrictlyIncreasing};
 ghost use Rattle.pm_image.specs.Means.{IsMeaning};
 ghost use Rattle.pm_objects.specs.declared.pool.PoolView.{PoolView};
 ghost use Rattle.pm_recover.specs.Recovery.{IsRecovered};
-ghost use Rattle.pm_script.specs.Scripts.{AreCalls, operations};
+ghost use Rattle.pm_script.specs.Scripts.{AreCalls, NamesEarlierLines, operations};
 ghost use Rattle.pm_exec.specs.Calls.{numbers_of};
 ghost use Rattle.pm_exec.specs.Histories.{closed_history};
+ghost use Rattle.pm_exec.specs.Letters.{AreGiven, resolved};
 ghost use Rattle.pm_exec.specs.Opening.{IsOpenCause, IsOpened};
 ghost use Rattle.pm_exec.specs.Runs.{IsHistoryOf, LeavesReplay, MakesCalls, MakesCallsOf};
 ghost use Rattle.pm_exec.specs.Torn.{HasNoTornMatch};
@@ -21,7 +22,7 @@ use pm_script::Script;
 use std::alloc::{AllocError, Global};
 
 /// Opens the pool of an image, as recovery leaves it, and runs a script on it: lane 0 makes counted calls up to its stop number, if it has one,
-/// and of what is then undrained so much survives as `keep` says. An error is the first of the image's fault, another layout name than was
+/// and of what is then undrained so much survives as `keep` says. A letter of the script stands for the offset that its line gave. An error is the first of the image's fault, another layout name than was
 /// asked for, and more lanes than the one that runs, or want of memory.
 pub fn exec(
     alloc: Global,
@@ -33,16 +34,19 @@ pub fn exec(
 ) -> Result<Outcome, OpenFault>
     requires calls { script.now.lanes ≡ 1 → AreCalls (operations script.now.lines) }
     requires rising { IsStrictlyIncreasing (numbers_of script.now.lines) }
+    requires bound { All NamesEarlierLines script.now.lines }
     requires some { 1 ≤ script.now.lanes }
     ensures opened { IfOk result (λ out. IsOpened image layout.now script.now.lanes) }
     ensures cause { IfErr result (IsOpenCause image layout.now script.now.lanes) }
     ensures size { IfOk result (λ out. length out.words.items ≡ length image) }
-    ensures history { IfOk result (λ out. (pool : PoolView) → IsMeaning image pool → IsHistoryOf pool script.now.lines stop out.history.items out.end) }
-    ensures made { IfOk result (λ out. (pool : PoolView) → IsMeaning image pool → MakesCallsOf image pool script.now.lines stop keep out.history.items out.end out.words.items) }
+    ensures given { IfOk result (λ out. AreGiven out.history.items out.end out.given.items) }
+    ensures history { IfOk result (λ out. (pool : PoolView) → IsMeaning image pool → IsHistoryOf pool (resolved out.given.items script.now.lines) stop out.history.items out.end) }
+    ensures made { IfOk result (λ out. (pool : PoolView) → IsMeaning image pool
+        → MakesCallsOf image pool (resolved out.given.items script.now.lines) stop keep out.history.items out.end out.words.items) }
 
     // Taken for granted: no torn record's sum matches by chance.
     ensures replay { IfOk result (λ out. (pool : PoolView) → IsMeaning image pool
-        → ((words : List ℕ) → IsRecovered image words pool.lanes → HasNoTornMatch words pool script.now.lines stop)
+        → ((words : List ℕ) → IsRecovered image words pool.lanes → HasNoTornMatch words pool (resolved out.given.items script.now.lines) stop)
         → LeavesReplay image pool out.history.items out.words.items) }
 {
     let mut image = image;
@@ -62,17 +66,27 @@ fn run(
 ) -> Result<Outcome, AllocError>
     requires calls { AreCalls (operations script.now.lines) }
     requires rising { IsStrictlyIncreasing (numbers_of script.now.lines) }
+    requires bound { All NamesEarlierLines script.now.lines }
     requires recovered { (before : List ℕ) × (IsMeaning before pool.now × IsRecovered before image.now pool.now.lanes) }
     ensures size { IfOk result (λ out. length out.words.items ≡ length image.now) }
-    ensures history { IfOk result (λ out. IsHistoryOf pool.now script.now.lines stop out.history.items out.end) }
-    ensures made { IfOk result (λ out. MakesCalls image.now pool.now script.now.lines stop keep out.history.items out.end out.words.items) }
+    ensures given { IfOk result (λ out. AreGiven out.history.items out.end out.given.items) }
+    ensures history { IfOk result (λ out. IsHistoryOf pool.now (resolved out.given.items script.now.lines) stop out.history.items out.end) }
+    ensures made { IfOk result (λ out. MakesCalls image.now pool.now (resolved out.given.items script.now.lines) stop keep out.history.items out.end out.words.items) }
     ensures replay { IfOk result (λ out. (before : List ℕ) → IsMeaning before pool.now → IsRecovered before image.now pool.now.lanes
-        → HasNoTornMatch image.now pool.now script.now.lines stop → LeavesReplay before pool.now out.history.items out.words.items) }
+        → HasNoTornMatch image.now pool.now (resolved out.given.items script.now.lines) stop → LeavesReplay before pool.now out.history.items out.words.items) }
 {
     let mut history = Vec::new(alloc);
+    let mut given = Vec::new(alloc);
     let mut lane = open_lane(alloc, image, pool, stop)?;
     let lines = script.lines.as_slice();
-    let halt = run_all(alloc, &mut lane, names_of(pool), lines, &mut history)?;
+    let halt = run_all(
+        alloc,
+        &mut lane,
+        names_of(pool),
+        &mut given,
+        lines,
+        &mut history,
+    )?;
     let words = lane.memory.survive(alloc, keep)?;
     let end = halt.end;
     let decided = is_decided(words.as_slice(), halt.generation);
@@ -80,6 +94,7 @@ fn run(
     Ok(Outcome {
         words,
         history,
+        given,
         end,
     })
 }

@@ -12,6 +12,7 @@ mod bounds;
 mod calls;
 mod ending;
 mod executing;
+mod letters;
 mod lines;
 mod opening;
 mod outcome;

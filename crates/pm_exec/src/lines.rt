@@ -10,10 +10,12 @@ ghost use Rattle.pm_script.specs.declared.script.ScriptWant.{ScriptWant};
 ghost use Rattle.pm_view.specs.View.{View};
 ghost use Rattle.pm_world.specs.Opening.{Opening};
 ghost use Rattle.pm_exec.specs.Calls.{id_of, stands_alone, want_of};
+ghost use Rattle.pm_exec.specs.Letters.{AreInOrder, LettersKept, offsets_in, resolved};
 ghost use Rattle.pm_exec.specs.Progress.{AllMayStand, CameTo, IsAtLine, IsStart, IsLaneAtLine, IsLaneWith, IsNotDone, MayGoOn, MayStand, Values, not_done};
 ghost use Rattle.pm_exec.specs.declared.lines.NotDone.TheVariants.{Memory};
 
 use crate::calls::{Names, action_of, id_of, wants_of};
+use crate::letters::resolved_line;
 use arrayvec::ArrayVec;
 use pm_made::CallBlocks;
 use pm_memory::SoloMem;
@@ -133,6 +135,7 @@ fn read_at(
         → IsAtLine o first lane.new blocks.now actions names (front ++ said.now ∷ []) values.new.items) }
     ensures ends { IfErr result (λ why. (o : Opening) (first : View) (actions : List SetAction) (front rest : List ScriptLine) → IsAtLine o first lane.old blocks.now actions names front values.old.items
         → IsNotDone o first lane.new blocks.now actions names (front ++ said.now ∷ rest) values.new.items why) }
+    ensures letters { LettersKept (said.now ∷ []) values.old.items values.new.items result }
 {
     let (id, off, len) = range;
     let mut bytes = vec![in alloc; 0; len as usize]?;
@@ -160,6 +163,7 @@ fn make_at(
         → said.now.operation ≡ op.Alloc letter size kind → IsAtLine o first lane.new blocks.new actions names (front ++ said.now ∷ []) values.new.items) }
     ensures ends { IfErr result (λ why. (o : Opening) (first : View) (actions : List SetAction) (names : Names) (front rest : List ScriptLine) (letter : ℕ) → IsAtLine o first lane.old blocks.old actions names front values.old.items
         → said.now.operation ≡ op.Alloc letter size kind → IsNotDone o first lane.new blocks.new actions names (front ++ said.now ∷ rest) values.new.items why) }
+    ensures letters { LettersKept (said.now ∷ []) values.old.items values.new.items result }
 {
     match alloc(lane, blocks, size, kind) {
         Ok(id) => {
@@ -204,6 +208,7 @@ fn set_at(
         → said.now.operation ≡ op.Set id action.off action.value → action.id ≡ id_of names id
         → IsAtLine o first lane.new blocks actions.new.items names (front ++ said.now ∷ []) values.new.items) }
     ensures ends { IfErr result (λ why. why ≡ Memory alloc_error) }
+    ensures letters { LettersKept (said.now ∷ []) values.old.items values.new.items result }
 {
     match set_at_work(lane, actions, action) {
         Ok(()) => Ok(()),
@@ -266,6 +271,7 @@ fn act_at(
         → MayStand front said.now.operation → IsAtLine o first lane.new blocks actions.new.items names (front ++ said.now ∷ []) values.new.items) }
     ensures ends { IfErr result (λ why. (o : Opening) (first : View) (blocks : BlockLists) (front rest : List ScriptLine) → IsAtLine o first lane.old blocks actions.old.items names front values.old.items
         → MayStand front said.now.operation → IsNotDone o first lane.new blocks actions.new.items names (front ++ said.now ∷ rest) values.new.items why) }
+    ensures letters { LettersKept (said.now ∷ []) values.old.items values.new.items result }
 {
     match &said.operation {
         ScriptOp::Set { id, off, value } => {
@@ -299,6 +305,7 @@ fn change_at(
         → MayStand front said.now.operation → IsAtLine o first lane.new blocks.new actions.new.items names (front ++ said.now ∷ []) values.new.items) }
     ensures ends { IfErr result (λ why. (o : Opening) (first : View) (front rest : List ScriptLine) → IsAtLine o first lane.old blocks.old actions.old.items names front values.old.items
         → MayStand front said.now.operation → IsNotDone o first lane.new blocks.new actions.new.items names (front ++ said.now ∷ rest) values.new.items why) }
+    ensures letters { LettersKept (said.now ∷ []) values.old.items values.new.items result }
 {
     match &said.operation {
         ScriptOp::Add { id, off, len } => add_at(lane, blocks, names, said, *id, *off, *len),
@@ -321,26 +328,31 @@ fn change_at(
     }
 }
 
-/// Makes the changes of these lines, up to the first that is not done.
+/// Makes the changes of these lines, up to the first that is not done. The letters of each stand for the offsets that were given before, or by the
+/// lines before it.
 fn change_all(
     alloc: Global,
     lane: &mut Lane<SoloMem>,
     blocks: &mut CallBlocks,
     actions: &mut ArrayVec<SetAction, 63>,
     names: Names,
+    given: &[(u64, u64)],
     lines: &[ScriptLine],
     values: &mut Vec<(u64, Value)>,
 ) -> Result<(), NotDone>
     requires are_changes { All IsChange (operations lines.now) }
+    requires ordered { AreInOrder lines.now }
     requires at_work { MayGoOn lane.old blocks.old actions.old.items names values.old.items lines.now }
     ensures at_work { OnOk result (IsLaneWith lane.new blocks.new actions.new.items names values.new.items) }
     ensures done { OnOk result ((o : Opening) (first : View) (front : List ScriptLine) → IsAtLine o first lane.old blocks.old actions.old.items names front values.old.items
-        → AllMayStand front lines.now → IsAtLine o first lane.new blocks.new actions.new.items names (front ++ lines.now) values.new.items) }
+        → AllMayStand front lines.now → IsAtLine o first lane.new blocks.new actions.new.items names (front ++ resolved (given.now ++ offsets_in values.new.items) lines.now) values.new.items) }
     ensures ends { IfErr result (λ why. (o : Opening) (first : View) (front rest : List ScriptLine) → IsAtLine o first lane.old blocks.old actions.old.items names front values.old.items
-        → AllMayStand front lines.now → IsNotDone o first lane.new blocks.new actions.new.items names (front ++ lines.now ++ rest) values.new.items why) }
+        → AllMayStand front lines.now → IsNotDone o first lane.new blocks.new actions.new.items names (front ++ resolved (given.now ++ offsets_in values.new.items) lines.now ++ rest) values.new.items why) }
+    ensures letters { LettersKept lines.now values.old.items values.new.items result }
 {
     for said in lines {
-        change_at(alloc, lane, blocks, actions, names, said, values)?;
+        let said = resolved_line(alloc, given, values.as_slice(), said)?;
+        change_at(alloc, lane, blocks, actions, names, &said, values)?;
     }
     Ok(())
 }
@@ -398,28 +410,35 @@ fn commit_all(lane: &mut Lane<SoloMem>, blocks: &CallBlocks, names: Names) -> Re
     }
 }
 
-/// Makes the transaction of these lines, up to the first that is not done; what they gave is added to the values.
+/// Makes the transaction of these lines, up to the first that is not done; what they gave is added to the values. Their letters stand for the
+/// offsets that were given before, or by the lines before them.
 pub(crate) fn transact(
     alloc: Global,
     lane: &mut Lane<SoloMem>,
     blocks: &mut CallBlocks,
     actions: &mut ArrayVec<SetAction, 63>,
     names: Names,
+    given: &[(u64, u64)],
     lines: &[ScriptLine],
     values: &mut Vec<(u64, Value)>,
 ) -> Result<(), NotDone>
     requires transaction { IsTransaction (operations lines.now) }
+    requires ordered { AreInOrder lines.now }
     requires first { (o : Opening) × ((first : View) × IsStart o lane.old blocks.old actions.old.items first) }
     requires none { values.old.items ≡ [] }
-    ensures { (o : Opening) (first : View) → IsStart o lane.old blocks.old actions.old.items first → CameTo o first lane.new blocks.new actions.new.items names lines.now values.new.items result }
+    ensures made { (o : Opening) (first : View) → IsStart o lane.old blocks.old actions.old.items first
+        → CameTo o first lane.new blocks.new actions.new.items names (resolved (given.now ++ offsets_in values.new.items) lines.now) values.new.items result }
+    ensures letters { LettersKept lines.now [] values.new.items result }
 {
-    begin_at(alloc, lane, blocks, names, &lines[0])?;
+    let begin = resolved_line(alloc, given, values.as_slice(), &lines[0])?;
+    begin_at(alloc, lane, blocks, names, &begin)?;
     change_all(
         alloc,
         lane,
         blocks,
         actions,
         names,
+        given,
         &lines[1..lines.len() - 1],
         values,
     )?;

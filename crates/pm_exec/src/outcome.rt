@@ -13,6 +13,9 @@ pub struct Outcome {
     pub words: Vec<u64>,
     /// The calls that drew a number, in rising number.
     pub history: Vec<Entry>,
+    /// The offsets that lines gave, each with its line's number, in the order in which they did: what their letters stand for. The history has
+    /// them too, but for those of a call that drew no number.
+    pub given: Vec<(u64, u64)>,
     /// How lane 0 ended.
     pub end: LaneEnd,
 }

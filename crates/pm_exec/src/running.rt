@@ -1,6 +1,6 @@
 //! The run of a script's calls by lane 0, one after another.
 
-ghost use Rattle.std.specs.Prelude.{◌≡◌, ◌++◌, ◌∷◌, [], List, IfOk, IfSome, IfNone};
+ghost use Rattle.std.specs.Prelude.{◌≡◌, ◌++◌, ◌∷◌, [], List, IfOk, IfSome, IfNone, OnOk};
 ghost use Rattle.pm_crash.specs.Alone.{BeginsAlone};
 ghost use Rattle.pm_header.specs.declared.header.Header.{Header};
 ghost use Rattle.pm_layout.specs.Layout.{IsShape};
@@ -9,12 +9,14 @@ ghost use Rattle.pm_script.specs.declared.script.ScriptLine.{ScriptLine};
 ghost use Rattle.pm_view.specs.View.{View};
 ghost use Rattle.pm_world.specs.Opening.{Opening};
 ghost use Rattle.pm_exec.specs.Calls.{IsCall, call_lines, call_of};
+ghost use Rattle.pm_exec.specs.Letters.{AreGivenBy, AreGivenTo, AreInOrder, AreTold, KeepsGiven, offsets_of, resolved};
 ghost use Rattle.pm_exec.specs.declared.calls.Names.{Names};
 ghost use Rattle.pm_exec.specs.Openings.{first_view, opening_of};
 ghost use Rattle.pm_exec.specs.Running.{HasComeTo, HasHalted, HasRun, MayRun, MayStart, open_entry};
 
 use crate::calls::{Names, call_of, first_call};
 use crate::ending::{CallEnd, run_call, settled_fate};
+use crate::letters::give;
 use arrayvec::ArrayVec;
 use pm_layout::Shape;
 use pm_made::CallBlocks;
@@ -56,31 +58,37 @@ fn open_entry(number: Option<u64>, call: Call, reply: Reply) -> Option<Entry>
     })
 }
 
-/// Makes the call of these lines; once it is answered it is added to the history.
+/// Makes the call of these lines; once it is answered it is added to the history. The offsets that its lines gave are added to those that were given.
 fn run_next(
     alloc: Global,
     lane: &mut Lane<SoloMem>,
     blocks: &mut CallBlocks,
     actions: &mut ArrayVec<SetAction, 63>,
     names: Names,
+    given: &mut Vec<(u64, u64)>,
     lines: &[ScriptLine],
     history: &mut Vec<Entry>,
 ) -> Result<Option<Halt>, AllocError>
     requires call { IsCall (operations lines.now) }
+    requires ordered { AreInOrder lines.now }
     requires start { (o : Opening) × ((first : View) × ((calls : List (List ScriptLine)) × HasComeTo o first lane.old blocks.old actions.old.items names calls history.old.items)) }
     ensures answered { IfOk result (λ halted. IfNone halted ((o : Opening) (first : View) (calls : List (List ScriptLine)) → HasComeTo o first lane.old blocks.old actions.old.items names calls history.old.items
-        → HasComeTo o first lane.new blocks.new actions.new.items names (calls ++ lines.now ∷ []) history.new.items)) }
+        → HasComeTo o first lane.new blocks.new actions.new.items names (calls ++ resolved given.new.items lines.now ∷ []) history.new.items)) }
     ensures halted { IfOk result (λ halted. IfSome halted (λ halt. (o : Opening) (first : View) (calls : List (List ScriptLine)) → HasComeTo o first lane.old blocks.old actions.old.items names calls history.old.items
-        → HasHalted o first lane.new names calls lines.now history.new.items halt)) }
+        → HasHalted o first lane.new names calls (resolved given.new.items lines.now) history.new.items halt)) }
+    ensures kept { IfOk result (λ halted. IfSome halted (λ halt. history.new.items ≡ history.old.items)) }
+    ensures letters { OnOk result (KeepsGiven lines.now given.old.items given.new.items) }
+    ensures gave { IfOk result (λ halted. given.old.items ≡ offsets_of history.old.items → AreGivenBy history.new.items halted given.new.items) }
 {
     let generation = lane.memory.word(GENERATION_WORD);
-    let call = call_of(alloc, names, lines)?;
-    match run_call(alloc, lane, blocks, actions, names, lines)? {
+    match run_call(alloc, lane, blocks, actions, names, given.as_slice(), lines)? {
         CallEnd::Answered {
             number,
             answer,
             reply,
         } => {
+            give(given, reply.values.as_slice())?;
+            let call = call_of(alloc, names, given.as_slice(), lines)?;
             let fate = settled_fate(answer);
             history.push(Entry {
                 number,
@@ -90,11 +98,15 @@ fn run_next(
             })?;
             Ok(None)
         }
-        CallEnd::Halted { number, reply } => Ok(Some(Halt {
-            end: LaneEnd::Stopped(lane.calls()),
-            is_open: open_entry(number, call, reply),
-            generation,
-        })),
+        CallEnd::Halted { number, reply } => {
+            give(given, reply.values.as_slice())?;
+            let call = call_of(alloc, names, given.as_slice(), lines)?;
+            Ok(Some(Halt {
+                end: LaneEnd::Stopped(lane.calls()),
+                is_open: open_entry(number, call, reply),
+                generation,
+            }))
+        }
         CallEnd::Unbegun { line } => Ok(Some(Halt {
             end: LaneEnd::Spent(line),
             is_open: None,
@@ -104,18 +116,23 @@ fn run_next(
 }
 
 /// Makes the calls of these lines, one after another, up to the one in which the lane comes to its end; those that were answered are added to
-/// the history.
+/// the history, and the offsets that lines gave to those that were given.
 pub(crate) fn run_all(
     alloc: Global,
     lane: &mut Lane<SoloMem>,
     names: Names,
+    given: &mut Vec<(u64, u64)>,
     lines: &[ScriptLine],
     history: &mut Vec<Entry>,
 ) -> Result<Halt, AllocError>
     requires calls { AreCalls (operations lines.now) }
+    requires ordered { AreInOrder lines.now }
+    requires none { given.old.items ≡ [] }
     requires start { (o : Opening) × ((first : View) × MayRun o first lane.old names history.old.items) }
-    ensures { IfOk result (λ halt. (o : Opening) (first : View) → MayRun o first lane.old names history.old.items
-        → HasRun o first lane.new names (call_lines lines.now) history.new.items halt) }
+    ensures made { IfOk result (λ halt. (o : Opening) (first : View) → MayRun o first lane.old names history.old.items
+        → HasRun o first lane.new names (call_lines (resolved given.new.items lines.now)) history.new.items halt) }
+    ensures gave { IfOk result (λ halt. AreGivenTo history.new.items halt given.new.items) }
+    ensures told { OnOk result (AreTold history.new.items given.new.items) }
 {
     let mut blocks = CallBlocks::new(alloc, lane.shape)?;
     let mut actions = ArrayVec::new();
@@ -128,6 +145,7 @@ pub(crate) fn run_all(
             &mut blocks,
             &mut actions,
             names,
+            given,
             call,
             history,
         )? {

@@ -1,9 +1,10 @@
 -- A script of one lane is of transactions, and calls outside of them, one after another.
 use Rattle.std.proofs.Common.{◌≡◌, ℕ, ◌==◌, All, Bool, true, List, [], ◌∷◌, refl, ◌∙◌, ap, subst, if◌then◌else◌}
-use Rattle.std.proofs.lemmas.List.Elements.{All-head, All-tail}
-use Rattle.pm_script.specs.Scripts.{AreCalls, IsScript, of_lane, operations}
+use Rattle.std.proofs.lemmas.List.Elements.{All-head, All-tail, All-weaker}
+use Rattle.pm_script.specs.Scripts.{AreCalls, IsScript, NamesEarlierLines, of_lane, operations}
 use Rattle.pm_script.specs.declared.script.Script.{Script}
 use Rattle.pm_script.specs.declared.script.ScriptLine.{ScriptLine}
+use Rattle.pm_script.proofs.BoundLetters.{NamesLines, letters_named}
 use Rattle.pm_script.proofs.LaneCalls.{lane_calls}
 use Rattle.pm_script.proofs.NamedLanes.{one_lane}
 
@@ -19,3 +20,7 @@ all_of_lane (line ∷ lines) all =
 pub calls_of_one_lane : (lines : List (List ℕ)) (script : Script) → IsScript lines script → script.lanes ≡ 1 → AreCalls (operations script.lines)
 calls_of_one_lane lines script is one =
     subst (λ (said : List ScriptLine). AreCalls (operations said)) (all_of_lane script.lines (one_lane lines script is one)) (lane_calls lines script is 0)
+
+-- and each letter of its lines stands for what an earlier line gave
+pub letters_before : (lines : List (List ℕ)) (script : Script) → IsScript lines script → All NamesEarlierLines script.lines
+letters_before lines script is = All-weaker (NamesLines script.lines) NamesEarlierLines (λ line names. names.0) script.lines (letters_named lines script is)

@@ -1,10 +1,10 @@
 -- What a status says of what was printed.
 use Rattle.std.proofs.Common.{◌≡◌, ◌⊎◌, ℕ, List, Option, inl, inr, sym, ◌∙◌, ap, subst}
-use Rattle.pm_shelf.specs.Outside.{Held, gained}
+use Rattle.pm_shelf.specs.Outside.{Adds, Held, gained}
 use Rattle.pmempool.specs.Lines.{failure_line, failure_status, no_memory_line, other_layout_line, write_fault_line}
 use Rattle.pmempool.specs.Answers.{MayPrint, IsBadScript, IsDone, IsDumped, IsExecuted, IsOfAnotherLayout, IsOfTooManyLanes, IsRefused, IsShownFaulty, IsNotRead, IsNotWritten, IsNotPrinted, IsCutShort, IsNoMemory, DidCommand, DidFail}
 use Rattle.pmempool.specs.Answers.MayPrint.{created_it, dumped_it, ran_it, refused_it, faulty_it, other_layout, fewer_lanes, bad_script, no_command, not_read, too_long, not_written, no_memory}
-use Rattle.pmempool.specs.Executed.{IsExecCause}
+use Rattle.pmempool.specs.Executed.{IsExecCause, IsRunOf}
 use Rattle.pmempool.specs.Saying.{Said}
 use Rattle.pmempool.specs.Words.{Exec, IsExec}
 use Rattle.pmempool.specs.declared.failure.Failure.{Failure}
@@ -24,6 +24,10 @@ exec_failed words held after shelf shelf_after e is (TooLong name) cause = (inr 
 exec_failed words held after shelf shelf_after e is (BadScript bad) cause = (e, is, cause.0, cause.1)
 exec_failed words held after shelf shelf_after e is (NotWritten name) cause = (inr (e, is, cause.0), cause.1)
 exec_failed words held after shelf shelf_after e is NoMemory cause = tt
+
+-- an `exec` that was done, with the report of its run
+pub exec_done : (words : List (List ℕ)) (held after : Option Held) (e : Exec) → IsExec words e → (text : List ℕ) → ((written : List ℕ) × Adds held after e.out written × IsRunOf held e written text) → DidCommand words held after text
+exec_done words held after e is text ran = inr (inr (record { asked = e; written = ran.0; command = is; added = ran.1; run = ran.2 }))
 
 -- what a command that was done may print
 may_done : (words : List (List ℕ)) (held after : Option Held) (text : List ℕ) → DidCommand words held after text → MayPrint words held after text

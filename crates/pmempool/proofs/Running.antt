@@ -5,6 +5,7 @@ use Rattle.pm_words.specs.Words.{bytes_of, words_of}
 use Rattle.pm_exec.specs.declared.outcome.OpenFault.{OpenFault}
 use Rattle.pm_exec.specs.declared.outcome.OpenFault.TheVariants as opening
 use Rattle.pm_exec.specs.Opening.{HasFewerLanes, IsOfOtherLayout, IsOpenCause, IsOpened}
+use Rattle.pm_exec.specs.Letters.{AreGiven, Offsets, resolved}
 use Rattle.pm_exec.specs.Runs.{IsHistoryOf, LeavesReplay, MakesCallsOf}
 use Rattle.pm_exec.specs.Torn.{HasNoTornMatch}
 use Rattle.pm_image.specs.Means.{IsImageFault, IsMeaning}
@@ -14,6 +15,7 @@ use Rattle.pm_recover.specs.Recovery.{IsRecovered}
 use Rattle.pm_script.specs.Scripts.{IsScript}
 use Rattle.pm_script.specs.Words.{lines}
 use Rattle.pm_script.specs.declared.script.Script.{Script}
+use Rattle.pm_script.specs.declared.script.ScriptLine.{ScriptLine}
 use Rattle.pm_text.specs.Report.{report_text}
 use Rattle.pm_text.specs.declared.report.LaneEnd.{LaneEnd}
 use Rattle.pmempool.specs.Executed.{IsRunFault, IsRunOver, open_failure}
@@ -35,17 +37,18 @@ not_opened source script_text e image script asked (opening.Lanes wanted kept) i
 not_opened source script_text e image script asked (opening.Memory error) in_words is is_script same cause = tt
 
 -- what is taken for granted of torn records, of the words of a pool
-abbrev HasNoTorn : List ℕ → PoolView → Script → Option ℕ → Type 0
-HasNoTorn image pool script stop = (words : List ℕ) → IsRecovered image words pool.lanes → HasNoTornMatch words pool script.lines stop
+abbrev HasNoTorn : List ℕ → PoolView → List ScriptLine → Option ℕ → Type 0
+HasNoTorn image pool lines stop = (words : List ℕ) → IsRecovered image words pool.lanes → HasNoTornMatch words pool lines stop
 
 -- a run of an image is one of the files
-pub has_run : (source script_text : List ℕ) (e : Exec) (image written : List ℕ) (script : Script) (history : List Entry) (end : LaneEnd) (bytes text : List ℕ)
+pub has_run : (source script_text : List ℕ) (e : Exec) (image written : List ℕ) (script : Script) (history : List Entry) (end : LaneEnd) (given : Offsets) (bytes text : List ℕ)
     → length source % 8 ≡ 0 → image ≡ words_of source → IsScript (lines script_text) script → IsOpened image e.layout script.lanes
-    → ((pool : PoolView) → IsMeaning image pool → IsHistoryOf pool script.lines e.stop history end)
-    → ((pool : PoolView) → IsMeaning image pool → MakesCallsOf image pool script.lines e.stop e.keep history end written)
-    → ((pool : PoolView) → IsMeaning image pool → HasNoTorn image pool script e.stop → LeavesReplay image pool history written)
+    → AreGiven history end given
+    → ((pool : PoolView) → IsMeaning image pool → IsHistoryOf pool (resolved given script.lines) e.stop history end)
+    → ((pool : PoolView) → IsMeaning image pool → MakesCallsOf image pool (resolved given script.lines) e.stop e.keep history end written)
+    → ((pool : PoolView) → IsMeaning image pool → HasNoTorn image pool (resolved given script.lines) e.stop → LeavesReplay image pool history written)
     → bytes ≡ bytes_of written → text ≡ report_text history (end ∷ []) → IsRunOver source script_text e bytes text
-has_run source script_text e image written script history end bytes text in_words is is_script opened calls made replay is_image is_report = record {
+has_run source script_text e image written script history end given bytes text in_words is is_script opened are_given calls made replay is_image is_report = record {
   in_words = in_words;
   script = script;
   is_script = is_script;
@@ -55,7 +58,9 @@ has_run source script_text e image written script history end bytes text in_word
   history = history;
   end = end;
   is_report = is_report;
-  calls = subst (λ (ws : List ℕ). (pool : PoolView) → IsMeaning ws pool → IsHistoryOf pool script.lines e.stop history end) is calls;
-  made = subst (λ (ws : List ℕ). (pool : PoolView) → IsMeaning ws pool → MakesCallsOf ws pool script.lines e.stop e.keep history end written) is made;
-  replay = subst (λ (ws : List ℕ). (pool : PoolView) → IsMeaning ws pool → HasNoTorn ws pool script e.stop → LeavesReplay ws pool history written) is replay;
+  given = given;
+  are_given = are_given;
+  calls = subst (λ (ws : List ℕ). (pool : PoolView) → IsMeaning ws pool → IsHistoryOf pool (resolved given script.lines) e.stop history end) is calls;
+  made = subst (λ (ws : List ℕ). (pool : PoolView) → IsMeaning ws pool → MakesCallsOf ws pool (resolved given script.lines) e.stop e.keep history end written) is made;
+  replay = subst (λ (ws : List ℕ). (pool : PoolView) → IsMeaning ws pool → HasNoTorn ws pool (resolved given script.lines) e.stop → LeavesReplay ws pool history written) is replay;
 }

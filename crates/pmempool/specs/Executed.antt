@@ -15,6 +15,7 @@ use Rattle.pm_text.specs.declared.report.LaneEnd.{LaneEnd}
 use Rattle.std.specs.Borrow.{Bor}
 use Rattle.pm_exec.specs.declared.outcome.OpenFault.{OpenFault}
 use Rattle.pm_exec.specs.declared.outcome.OpenFault.TheVariants as opening
+use Rattle.pm_exec.specs.Letters.{AreGiven, Offsets, resolved}
 use Rattle.pm_exec.specs.Opening.{HasFewerLanes, IsOfOtherLayout, IsOpened}
 use Rattle.pm_exec.specs.Runs.{IsHistoryOf, LeavesReplay, MakesCallsOf}
 use Rattle.pm_exec.specs.Torn.{HasNoTornMatch}
@@ -31,7 +32,7 @@ script_limit = 1048576
 -- a script's run on the pool of these bytes leaves these bytes and this text: the report of a history of the script's calls. Lane 0 made the
 -- memory calls of the script's lines, one after another, up to its end, and what is left is the image that the keep number chooses of what was
 -- undrained there. It stands for what was read after those of the calls that are not lost, one whole call after another. Taken for granted
--- there: no torn record's sum matches by chance
+-- there: no torn record's sum matches by chance. A letter of the script stands for the offset that its line gave
 pub record IsRunOver (source script_text : List ℕ) (e : Exec) (written text : List ℕ) : Type 0 where
   pub in_words : length source % 8 ≡ 0
   pub script : Script
@@ -42,10 +43,12 @@ pub record IsRunOver (source script_text : List ℕ) (e : Exec) (written text : 
   pub history : List Entry
   pub end : LaneEnd
   pub is_report : text ≡ report_text history (end ∷ [])
-  pub calls : (pool : PoolView) → IsMeaning (words_of source) pool → IsHistoryOf pool script.lines e.stop history end
-  pub made : (pool : PoolView) → IsMeaning (words_of source) pool → MakesCallsOf (words_of source) pool script.lines e.stop e.keep history end image
+  pub given : Offsets
+  pub are_given : AreGiven history end given
+  pub calls : (pool : PoolView) → IsMeaning (words_of source) pool → IsHistoryOf pool (resolved given script.lines) e.stop history end
+  pub made : (pool : PoolView) → IsMeaning (words_of source) pool → MakesCallsOf (words_of source) pool (resolved given script.lines) e.stop e.keep history end image
   pub replay : (pool : PoolView) → IsMeaning (words_of source) pool
-      → ((words : List ℕ) → IsRecovered (words_of source) words pool.lanes → HasNoTornMatch words pool script.lines e.stop)
+      → ((words : List ℕ) → IsRecovered (words_of source) words pool.lanes → HasNoTornMatch words pool (resolved given script.lines) e.stop)
       → LeavesReplay (words_of source) pool history image
 
 -- so it does with what the shelf holds under the names of the pool and the script

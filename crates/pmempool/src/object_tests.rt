@@ -74,7 +74,19 @@ fn many_objects(rt: HostRuntime) -> Result<(), Fail> {
 }
 
 /// Scripts, each with its report and the dump of the pool left.
-const SCRIPTS: [(&str, &str, &str); 9] = [
+const SCRIPTS: [(&str, &str, &str); 11] = [
+    // a letter stands for what the last line before gave that names it
+    (
+        "lane 0\nbegin\nalloc a 64 1\nalloc a 64 2\nfree $a\ncommit\nbegin r:16640\nread $a 0 1\ncommit\n",
+        "1 lane 0 lines 2-6 done 3=16640 4=16768\n2 lane 0 lines 7-9 aborted NotLocked at 8\n",
+        BEFORE,
+    ),
+    // it is null where that line was refused or passed over, and what an aborted transaction made is no object
+    (
+        "lane 0\nbegin\nalloc a 64 1\nalloc b 64 1\nalloc b 0 1\nalloc c 64 1\ncommit\nbegin $a\ncommit\nbegin $b\ncommit\nbegin r:$c\ncommit\nbegin\nread $b 0 1\ncommit\n",
+        "1 lane 0 lines 2-7 aborted BadSize at 5 3=16640 4=16768\n2 lane 0 lines 8-9 aborted NoObject at 8\n3 lane 0 lines 10-11 aborted NoObject at 10\n4 lane 0 lines 12-13 aborted NoObject at 12\n5 lane 0 lines 14-16 aborted NotLocked at 15\n",
+        UNCHANGED,
+    ),
     // what an abort gives back is free again
     (
         "lane 0\nbegin\nalloc a 200000 1\nalloc b 70000 1\ncommit\nbegin\nalloc b 70000 1\ncommit\n",
@@ -83,19 +95,19 @@ const SCRIPTS: [(&str, &str, &str); 9] = [
     ),
     // an object that is made, written, read and freed at once
     (
-        "lane 0\nbegin\nalloc a 64 1\nadd 16640 0 8\nwrite 16640 0 0102030405060708\nread 16640 0 9\nfree 16640\ncommit\n",
+        "lane 0\nbegin\nalloc a 64 1\nadd $a 0 8\nwrite $a 0 0102030405060708\nread 16640 0 9\nfree $a\ncommit\n",
         "1 lane 0 lines 2-8 done 3=16640 6=010203040506070800\n",
         UNCHANGED,
     ),
     // and is gone then
     (
-        "lane 0\nbegin\nalloc a 64 1\nfree 16640\nread 16640 0 8\ncommit\n",
+        "lane 0\nbegin\nalloc a 64 1\nfree $a\nread $a 0 8\ncommit\n",
         "1 lane 0 lines 2-6 aborted NoObject at 5 3=16640\n",
         UNCHANGED,
     ),
     // one that is written as it is made, read and written by the next call, and freed by the one behind that; the next in its block has zeros
     (
-        "lane 0\nbegin\nalloc a 100 7\nwrite 20608 0 ff\ncommit\nbegin 20608\nread 20608 0 2\nadd 20608 99 1\nwrite 20608 99 ee\ncommit\nbegin 20608\nfree 20608\ncommit\nbegin\nalloc b 100 8\nread 20608 0 1\nread 20608 99 1\ncommit\n",
+        "lane 0\nbegin\nalloc a 100 7\nwrite $a 0 ff\ncommit\nbegin $a\nread $a 0 2\nadd $a 99 1\nwrite $a 99 ee\ncommit\nbegin 20608\nfree $a\ncommit\nbegin\nalloc b 100 8\nread $b 0 1\nread $a 99 1\ncommit\n",
         "1 lane 0 lines 2-5 done 3=20608\n2 lane 0 lines 6-10 done 7=ff00\n3 lane 0 lines 11-13 done\n4 lane 0 lines 14-18 done 15=20608 16=00 17=00\n",
         "root 16512\nobject 16512 type 0 size 64\nobject 20608 type 8 size 100\n",
     ),

@@ -10,6 +10,6 @@ end-requires c = record {
       (over.view, may_end t.0 t.1.0 c.args.lane.now c.args.lane.now r.0 r.1.1.1.1.1.0 r.1.0 r.1.1.0 r.1.1.1.0 r.1.1.1.1.0 over);
 }
 
-pub returns : goal.returns
-returns c o first blocks actions names lines told error over so =
+pub returns-clause-made : goal.returns-clause-made
+returns-clause-made c o first blocks actions names lines told error over so =
     answered o first c.args.lane.now c.end.new.lane blocks actions names lines told error over (c.in-Ok.ensures.ended over.view (may_end o first c.args.lane.now c.end.new.lane blocks actions names lines told error over) over.level) c.in-Ok.error c.args.reply c.in-Ok.ensures.error so

@@ -1,10 +1,12 @@
-use Rattle.std.proofs.Common.{refl, ap, sym, ◌∙◌, ◌∷◌, ◌++◌, [], subst}
+use Rattle.std.proofs.Common.{Err, refl, ap, sym, ◌∙◌, ◌∷◌, ◌++◌, [], subst}
 use Rattle.pm_made.specs.Made.{BlockLists}
 use Rattle.pm_memory.specs.Solo.{Solo}
 use Rattle.pm_world.specs.declared.lane.Lane.{Lane}
 use Rattle.pm_exec.proofs.AddAndWrite.{ends_so, unrefused}
 use Rattle.pm_exec.proofs.AllocLine.{make_cut, make_done, make_given_up, make_not_spent, may_make}
 use Rattle.pm_exec.specs.Progress.{IsAtLine, IsGivenUpAt, Values}
+use Rattle.pm_exec.specs.Letters.{KeepsLetters}
+use Rattle.pm_exec.proofs.GivenLetters.{kept_as_they_are, letters_one}
 use Rattle.pm_exec.proofs.lines.make_at.Goals as goal
 
 pub alloc-requires : goal.alloc-requires
@@ -48,3 +50,10 @@ returns-in-Err-clause-ends c o first actions names front rest letter a is =
     subst (λ (b : BlockLists). IsGivenUpAt o first new b actions names (front ++ said ∷ rest) values said.line r) (sym e.unlisted)
     (make_given_up o first old blocks actions names front values a new said letter size kind is r (e.given_up none goes o a.view may) (e.given_up_lane none goes) rest))
     (λ stops. make_cut o first old blocks actions names front values a new said letter size kind is rest (e.stopped none stops o a.view may)))
+
+pub returns-in_ok-push-in-Ok-clause-letters : goal.returns-in_ok-push-in-Ok-clause-letters
+returns-in_ok-push-in-Ok-clause-letters c =
+    subst (λ (vs : Values). KeepsLetters (c.args.said.now ∷ []) c.args.values.now.items vs) (sym c.in_ok-push-in-Ok.ensures.items) (letters_one c.args.said.now c.args.values.now.items _)
+
+pub returns-in-Err-clause-letters : goal.returns-in-Err-clause-letters
+returns-in-Err-clause-letters c = kept_as_they_are {T = Unit {0}} (c.args.said.now ∷ []) c.args.values.now.items (Err c.not_done.result)

@@ -1,4 +1,4 @@
-use Rattle.std.proofs.Common.{⊎_elim, ◌≡◌, refl, ap, sym, ◌∙◌, subst, ◌++◌, ◌∷◌, [], false, ℕ, List, length, rules}
+use Rattle.std.proofs.Common.{Err, ⊎_elim, ◌≡◌, refl, ap, sym, ◌∙◌, subst, ◌++◌, ◌∷◌, [], false, ℕ, List, length, rules}
 use Rattle.pm_crash.specs.CallBlocks.{IsOldIn}
 use Rattle.pm_crash.specs.Operations.{IsMade}
 use Rattle.pm_memory.specs.Solo.{Sees, Solo}
@@ -14,6 +14,8 @@ use Rattle.pm_world.specs.declared.lane.Lane.{Lane}
 use Rattle.pm_exec.specs.Progress.{IsAtLine, Values}
 use Rattle.pm_exec.proofs.AddAndWrite.{ends_so, given_up, unrefused}
 use Rattle.pm_exec.proofs.ReadLine.{front_is, read_cut, read_done, read_is, read_new_done, read_not_spent}
+use Rattle.pm_exec.specs.Letters.{KeepsLetters}
+use Rattle.pm_exec.proofs.GivenLetters.{kept_as_they_are, letters_one}
 use Rattle.pm_exec.proofs.lines.read_at.Goals as goal
 
 pub returns-in_ok-push-in-Ok-clause-done : goal.returns-in_ok-push-in-Ok-clause-done
@@ -67,3 +69,10 @@ returns-in-Err-clause-ends c o first actions front rest a =
     given_up o first old blocks actions names front values a new c.args.said.now (operation.Read place off len) same r t.loads t.view t.looks t.working t.holds.ended (e.given_up_lane none goes) (λ asked clashes. let clash = sym is ∙ clashes in cc) refl tt rest)
     (λ stops. read_cut o first old blocks actions names front values a new c.args.said.now c.args.range.0 place c.id_of.ensures off len is rest
     (subst (λ (n : ℕ). HasLooked a.view (IsStoppedRefusing Sees new old.records.items (operation.Read place off n) (record { id = place; off = off; len = n }))) long (e.stopped none stops o a.view a.works))))
+
+pub returns-in_ok-push-in-Ok-clause-letters : goal.returns-in_ok-push-in-Ok-clause-letters
+returns-in_ok-push-in-Ok-clause-letters c =
+    subst (λ (vs : Values). KeepsLetters (c.args.said.now ∷ []) c.args.values.now.items vs) (sym c.in_ok-push-in-Ok.ensures.items) (letters_one c.args.said.now c.args.values.now.items _)
+
+pub returns-in-Err-clause-letters : goal.returns-in-Err-clause-letters
+returns-in-Err-clause-letters c = kept_as_they_are {T = Unit {0}} (c.args.said.now ∷ []) c.args.values.now.items (Err c.not_done.result)

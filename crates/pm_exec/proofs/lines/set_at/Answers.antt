@@ -4,6 +4,8 @@ use Rattle.pm_world.specs.declared.lane.Lane.{Lane}
 use Rattle.pm_exec.specs.Progress.{IsAtLine, Values}
 use Rattle.pm_exec.proofs.ActionLines.{left_pending, set_done}
 use Rattle.pm_exec.proofs.AddAndWrite.{unrefused}
+use Rattle.pm_exec.specs.Letters.{KeepsLetters}
+use Rattle.pm_exec.proofs.GivenLetters.{letters_one, letters_same}
 use Rattle.pm_exec.proofs.lines.set_at.Goals as goal
 
 pub returns-in-Ok-clause-done : goal.returns-in-Ok-clause-done
@@ -34,3 +36,10 @@ returns-in_ok-push-in-Err-clause-done c o first blocks names front id a is id_is
     (set_done o first old blocks c.args.actions.now.items names front c.args.values.now.items a new c.args.said.now id c.args.action id_is is (Some why) left at.0 level locks
     (left_pending o first old blocks c.args.actions.now.items names front c.args.values.now.items a new c.args.said.now id c.args.action id_is is (Some why) left
     (e.answers none) (λ clash. cc) (λ other same. search rules) at.1))
+
+pub returns-in_ok-push-in-Err-clause-letters : goal.returns-in_ok-push-in-Err-clause-letters
+returns-in_ok-push-in-Err-clause-letters c =
+    subst (λ (vs : Values). KeepsLetters (c.args.said.now ∷ []) c.args.values.now.items vs) (sym c.in_ok-push-in-Err.ensures.items) (letters_one c.args.said.now c.args.values.now.items _)
+
+pub returns-in-Ok-clause-letters : goal.returns-in-Ok-clause-letters
+returns-in-Ok-clause-letters c = letters_same (c.args.said.now ∷ []) c.args.values.now.items

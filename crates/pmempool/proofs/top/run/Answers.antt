@@ -1,11 +1,11 @@
 use Rattle.std.proofs.Common.{◌≡◌, subst}
-use Rattle.std.proofs.lemmas.Result.{IfErr-weaker}
+use Rattle.std.proofs.lemmas.Result.{IfErr-weaker, IfOk-weaker}
 use Rattle.pmempool.specs.Asked.{IsCommand, asked_run}
 use Rattle.pmempool.specs.Words.{IsExec, texts}
 use Rattle.pmempool.specs.declared.options.Command.TheVariants as command
 use Rattle.pmempool.proofs.NewNames.{adds_that_run}
 use Rattle.pmempool.proofs.OneCommand.{is_a_command}
-use Rattle.pmempool.proofs.Printing.{exec_failed}
+use Rattle.pmempool.proofs.Printing.{exec_done, exec_failed}
 use Rattle.pmempool.proofs.top.run.Goals as goal
 
 pub returns-in-Ok-run_create-clause-no_name : goal.returns-in-Ok-run_create-clause-no_name
@@ -36,3 +36,10 @@ returns-in-Some-Exec-clause-failed g c =
     let exec : c.in-Some-Exec.field-0 ≡ command.Exec c.in-Some-Exec.exec = rw c.in-Some-Exec.is at c.in-Some-Exec.field-0-is in
     let is : IsExec (texts c.args.words.now) (asked_run c.in-Some-Exec.exec) = subst (IsCommand (texts c.args.words.now)) exec some in
     IfErr-weaker _ _ _ (exec_failed _ _ _ _ _ _ is) c.run_exec.ensures.cause
+
+pub returns-in-Some-Exec-clause-did : goal.returns-in-Some-Exec-clause-did
+returns-in-Some-Exec-clause-did g c =
+    let some : IsCommand (texts c.args.words.now) c.in-Some-Exec.field-0 = rw c.in-Some-Exec.is at c.in-Ok.ensures.some in
+    let exec : c.in-Some-Exec.field-0 ≡ command.Exec c.in-Some-Exec.exec = rw c.in-Some-Exec.is at c.in-Some-Exec.field-0-is in
+    let is : IsExec (texts c.args.words.now) (asked_run c.in-Some-Exec.exec) = subst (IsCommand (texts c.args.words.now)) exec some in
+    IfOk-weaker c.run_exec.result _ _ (λ text ran. exec_done _ _ _ _ is text.items ran) c.run_exec.ensures.ran
