@@ -318,7 +318,9 @@ module _ (o : Opening) (mem : Memory) (views : Views) (log : List Entry) (decide
 
       by_phase : (phase : Phase) → (views k).log.phase ≡ phase → SealIs (views k) (seal_word image k) phase → ((c : Change) → Contains (views k).changes c → ChangeFits (views k) c phase)
           → GenerationIs (views k) (seal_word image k) (generation image k) phase
-      by_phase Idle is seal fits = kept seal (λ t. fits t.change t.there)
+      by_phase Idle is seal fits = kept seal (λ t.
+          let of_word = t.of_word in let lane = at in
+          let behind = (reserved_word o mem views log decided x k t.change.word inside (fits t.change t.there).may.reserved).behind in omega arith)
       by_phase (Open slot pair) is seal fits = kept seal (λ t.
           let of_word = t.of_word in let lane = at in
           ⊎_elim (λ part. let s = slot_part (views k).lane t.change.word part in let low = s.low in omega arith)

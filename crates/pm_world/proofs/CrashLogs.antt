@@ -16,11 +16,14 @@ use Rattle.pm_view.specs.View.{View}
 use Rattle.pm_image.specs.Logs.{slot_line}
 use Rattle.pm_world.specs.Entries.{AreWhole, ends_with, is_entered, is_redoing, is_redone}
 use Rattle.pm_world.specs.Fits.{OpenChange, RetiringChange, SealChange, AppliedChange, PhaseFits, RecordedWordFits, RecordFits, ReservedChange}
+use Rattle.pm_world.specs.Lawful.{FilledChange}
 use Rattle.pm_world.specs.Records.{IsRecordAt, generation_of, records_generation, covers, is_recorded, is_drained_slot, is_logged_from, is_logged}
 use Rattle.pm_view.specs.Bits.{all_bits}
+use Rattle.pm_world.proofs.Filled.{filled_reserved}
 
 -- what an undrained change is, by how far the call has come
 abbrev pub ChangeFits : View → Change → Phase → Type 0
+ChangeFits v c Idle = FilledChange v c
 ChangeFits v c (Open slot pair) = OpenChange v c
 ChangeFits v c Sealing = SealChange v 0 c
 ChangeFits v c (Applying applied) = AppliedChange v applied c × AreWhole v (records_generation (Applying applied) v)
@@ -32,7 +35,7 @@ nothing_there : {X : Type 0} (xs : List X) (x : X) → xs ≡ [] → Contains xs
 nothing_there {X = X} xs x none there = let e : length xs ≡ 0 = ap length none in let inside = there.1 in omega arith
 
 pub change_fits : (flies : ℕ → List Final → Type 0) (v : View) (c : Change) (phase : Phase) → PhaseFits flies v phase → Contains v.changes c → ChangeFits v c phase
-change_fits flies v c Idle fits there = nothing_there v.changes c fits.drained there
+change_fits flies v c Idle fits there = All-contains (FilledChange v) v.changes c fits.changes there
 change_fits flies v c (Open slot pair) fits there = All-contains (OpenChange v) v.changes c fits.changes there
 change_fits flies v c Drawn fits there = nothing_there v.changes c fits.drained there
 change_fits flies v c Sealing fits there = All-contains (SealChange v 0) v.changes c fits.changes there
@@ -155,7 +158,7 @@ redone_from : (v : View) (applied w : ℕ) → v.log.phase ≡ Applying applied 
 redone_from v applied w is e = and_from (is_redoing v.log.phase) (is_entered v.log.entries w) (ap is_redoing is) e
 
 pub change_lies : (v : View) (c : Change) (phase : Phase) → v.log.phase ≡ phase → ChangeFits v c phase → ChangeLies v c
-change_lies v c Idle is fits = absurd fits
+change_lies v c Idle is fits = record { of = inr (inr (filled_reserved v c fits, fits.whole)) }
 change_lies v c (Open slot pair) is fits = record {
   of = ⊎_elim (λ (part : part_of v.lane c.word ≡ SlotWord). inl (part_inside v.lane c.word SlotWord part (λ e. absurd cc)))
       (λ (other : (part_of v.lane c.word ≡ EntryWord) ⊎ ((is_logged v c.word ≡ true) ⊎ ReservedChange v c)).

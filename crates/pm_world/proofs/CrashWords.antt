@@ -130,7 +130,7 @@ module _ (o : Opening) (mem : Memory) (views : Views) (log : List Entry) (decide
 
   -- a change in the lane's own area is of a whole word
   area_whole : (k : ℕ) (c : Change) (phase : Phase) → k < o.lanes → c.word < area_word k + 1024 → ChangeFits (views k) c phase → c.mask ≡ all_bits
-  area_whole k c Idle inside high fits = absurd fits
+  area_whole k c Idle inside high fits = fits.whole
   area_whole k c (Open slot pair) inside high fits = fits.whole
   area_whole k c Drawn inside high fits = absurd fits
   area_whole k c Sealing inside high fits = fits.whole
@@ -215,7 +215,9 @@ module _ (o : Opening) (mem : Memory) (views : Views) (log : List Entry) (decide
 
     -- by how far the lane's call has come, which seal the image has where a change of it was taken back
     seal_before : (k : ℕ) (phase : Phase) → k < o.lanes → (t : OwnTakenBack (views k) image (area_word k + 1)) → ChangeFits (views k) t.change phase → SealIs (views k) (seal_word image k) phase
-    seal_before k Idle inside t fits = absurd fits
+    seal_before k Idle inside t fits =
+        let is = t.of_word in let at = lane_is k inside in
+        let behind = (reserved_word k t.change.word inside fits.may.reserved).behind in absurd (omega arith)
     seal_before k (Open slot pair) inside t fits =
         let is = t.of_word in let at = lane_is k inside in
         absurd (⊎_elim (λ (part : part_of (views k).lane t.change.word ≡ SlotWord). let s = slot_part (views k).lane t.change.word part in let low = s.low in omega arith)

@@ -16,6 +16,7 @@ use Rattle.pm_world.specs.Entries.{HasNone, ends_with, is_entered, is_in_log, is
 use Rattle.pm_world.specs.Fits.{AppliedChange, EndFits, EntriesFit, LaneFits, LogFits, PhaseFits, SealingFits, RedoneWord}
 use Rattle.pm_world.specs.History.{Entry, Flies, settled, is_final, made_final}
 use Rattle.pm_world.specs.Laws.{with_view}
+use Rattle.pm_world.specs.Lawful.{FilledChange}
 use Rattle.pm_world.specs.Memory.{Memory, IsSame}
 use Rattle.pm_world.specs.Memory.Location.{PoolWord, CommitCounter}
 use Rattle.pm_world.specs.Opening.{IsLivingWord, Opening}
@@ -138,7 +139,7 @@ module _ (o : Opening) (old : Memory) (views : Views) (log : List Entry) (decide
       let flying : flight v ≡ Some m = ap (λ p. flight_in p v.number) retiring ∙ drawn in
       let none : v.log.entries ≡ [] = subst (λ p. HasNone p v) retiring mine.entries.none in
       decided_world m fl flying (no_log Idle)
-      (emptied_fits o old views log decided world k inside v is new same may (settled o log (λ n. decided n || eqb m n)) (Flies log (λ n. decided n || eqb m n) k) Idle (retired_stale o old views log decided world k inside v is new same may retiring) (ap (λ p. seal_in p v) retiring) refl refl refl refl (record { no_records = refl; drained = refl }))
+      (emptied_fits o old views log decided world k inside v is new same may (settled o log (λ n. decided n || eqb m n)) (Flies log (λ n. decided n || eqb m n) k) Idle (retired_stale o old views log decided world k inside v is new same may retiring) (ap (λ p. seal_in p v) retiring) refl refl refl refl (record { no_records = refl; changes = All-nil (FilledChange (record v { changes = []; calls = v.calls + 1; log = no_log Idle })) }))
       (λ w heap un others. words_then m fl flying (no_log Idle) w (ap is_redoing retiring) heap (ap (λ fs. is_final (filter (λ (f : Final). not (is_in_area v.lane f.word)) fs) w) none) others)
 
   module _ (sealing : v.log.phase ≡ Sealing) where

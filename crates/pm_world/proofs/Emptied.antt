@@ -19,6 +19,7 @@ use Rattle.pm_world.specs.Entries.{HasNone, applied_in, is_entered, is_in_log, i
 use Rattle.pm_world.specs.Fits.{EndFits, EntriesFit, LaneFits, LogFits, OpenChange, PhaseFits, RedoneWord, ShowsHold}
 use Rattle.pm_world.specs.History.{Entry, Flies, settled, made_final}
 use Rattle.pm_world.specs.Laws.{with_view}
+use Rattle.pm_world.specs.Lawful.{FilledChange}
 use Rattle.pm_world.specs.Memory.{Memory, IsSame}
 use Rattle.pm_world.specs.Memory.Location.{PoolWord, LockWord, CommitCounter, StopWord}
 use Rattle.pm_world.specs.Opening.{IsLivingWord, Opening}
@@ -157,7 +158,7 @@ module _ (o : Opening) (old : Memory) (views : Views) (log : List Entry) (decide
       let v' : View = drained_to (no_log Idle) in
       let fits = subst (PhaseFits (Flies log decided k) v) clearing mine.phase in
       empties Idle
-      (emptied_fits (settled o log decided) (Flies log decided k) Idle (cleared_stale clearing) (ap (λ p. seal_in p v) clearing) refl refl refl refl (record { no_records = refl; drained = refl }))
+      (emptied_fits (settled o log decided) (Flies log decided k) Idle (cleared_stale clearing) (ap (λ p. seal_in p v) clearing) refl refl refl refl (record { no_records = refl; changes = All-nil (FilledChange (drained_to (no_log Idle))) }))
       (λ w heap others. ⊎_elim (λ (listed : is_entered v.log.entries w ≡ true). applied_word clearing w heap listed)
       (λ (other : is_entered v.log.entries w ≡ false).
       world.each_word w heap (unlogged_before o old views log decided world k inside v is v' w (or_from (is_logged v w) (is_redone v w) (ap (λ records. is_logged_from v 0 records w) fits.no_records) (and_right (is_redoing v.log.phase) (is_entered v.log.entries w) other)) others))

@@ -15,6 +15,7 @@ pub mod Differences
 pub mod Draws
 pub mod Emptied
 pub mod Exclusion
+pub mod Filled
 pub mod Frame
 pub mod Going
 pub mod Heaps

@@ -28,6 +28,7 @@ use Rattle.pm_view.specs.Occupancy.{describes_free, is_chunk_taken, is_taken}
 use Rattle.pm_layout.specs.Sizes.{blocks_of}
 use Rattle.pm_view.specs.declared.occ.Occ.TheVariants.{Run, Zone}
 use Rattle.pm_world.specs.Memory.Location.{PoolWord}
+use Rattle.pm_world.proofs.Filled.{none_filled}
 use Rattle.pm_world.proofs.HeapWords.{free_in, free_no_run, no_bitmap, no_chunk_page, page_in, page_in_chunk, page_in_word, taken_before, taken_bitmap, taken_still}
 use Rattle.pm_world.proofs.Reserved.{describing_chunk, reserved_low, reserved_of_pool}
 
@@ -163,11 +164,11 @@ module _ (o : Opening) (mem : Memory) (words : (w : ℕ) → mem (PoolWord w) �
     log = rested_log settled;
     entries = rested_entries;
     redone = λ w again. absurd (false≢true (sym (ap (λ p. is_redoing p && is_entered v.log.entries w) phase_is) ∙ again));
-    phase = subst (PhaseFits flies v) (sym phase_is) (let idle : IdleFits v = record { no_records = records_none; drained = rested.drained } in idle);
+    phase = subst (PhaseFits flies v) (sym phase_is) (let idle : IdleFits v = record { no_records = records_none; changes = rested.changes } in idle);
     blocks = rested_blocks;
     first_generation = let is = generation_is in let first = clean.first_generation in omega arith;
     last_generation = subst (λ g. g ≤ 2 ^ 62) (sym generation_is) clean.last_generation;
-    room = let none : length v.changes ≡ 0 = ap length rested.drained in omega arith;
+    room = rested.room;
     within = rested.within;
   }
 
@@ -240,7 +241,8 @@ fresh_rests o k v fresh = record {
   lane = fresh.lane;
   words = fresh.words;
   held = λ w known. absurd (nothing_there v.known w fresh.nothing_known known);
-  drained = fresh.nothing_changed;
+  changes = none_filled v fresh.nothing_changed;
+  room = let none : length v.changes ≡ 0 = ap length fresh.nothing_changed in omega arith;
   idle = fresh.idle;
   no_locks = fresh.no_locks;
   of_pool = All-same (λ (t : Taken). IsOcc o.lanes o.zones t.at) v.reserved [] fresh.nothing_reserved (All-nil (λ (t : Taken). IsOcc o.lanes o.zones t.at));

@@ -12,7 +12,7 @@ use Rattle.pm_view.specs.View.{View, Told}
 use Rattle.pm_world.specs.Fits.{LaneFits, LogFits, PhaseFits, EndFits, OpenChange, RetiringChange, SealChange, AppliedChange, ReservedChange}
 use Rattle.pm_world.specs.History.{Entry, Flies, settled}
 use Rattle.pm_world.specs.Laws.{with_view}
-use Rattle.pm_world.specs.Lawful.{generation_limit}
+use Rattle.pm_world.specs.Lawful.{FilledChange, OnlyFilled, generation_limit}
 use Rattle.pm_world.specs.Memory.{Memory, IsSame}
 use Rattle.pm_world.specs.Memory.Location.{CommitCounter, PoolWord}
 use Rattle.pm_world.specs.Opening.{Opening}
@@ -62,6 +62,7 @@ ends_again flies v changes calls seen call actions (Some n) ends = ends
 pub record Leaves (v v' : View) (changes : List Change) : Type 0 where
   pub slots : (slot : ℕ) → is_drained_slot v slot ≡ true → is_drained_slot v' slot ≡ true
   pub none : v.changes ≡ [] → changes ≡ []
+  pub filled : OnlyFilled v → All (FilledChange v') changes
   pub open_ : All (OpenChange v) v.changes → All (OpenChange v') changes
   pub retiring : All (RetiringChange v) v.changes → All (RetiringChange v') changes
   pub sealed : (old : ℕ) → All (SealChange v old) v.changes → All (SealChange v' old) changes
@@ -71,7 +72,7 @@ pub record Leaves (v v' : View) (changes : List Change) : Type 0 where
 phase_again : (flies : ℕ → List Final → Type 0) (v : View) (changes : List Change) (calls : ℕ) (seen : List Step) (call : List Told) (actions : List Told)
     → Leaves v (coursed v changes calls v.log seen call v.number v.entries actions) changes
     → (phase : Phase) → PhaseFits flies v phase → PhaseFits flies (coursed v changes calls v.log seen call v.number v.entries actions) phase
-phase_again flies v changes calls seen call actions leaves Idle fits = record { no_records = fits.no_records; drained = leaves.none fits.drained }
+phase_again flies v changes calls seen call actions leaves Idle fits = record { no_records = fits.no_records; changes = leaves.filled fits.changes }
 phase_again flies v changes calls seen call actions leaves (Open slot pair) fits =
     record { undrawn = fits.undrawn; short = fits.short; stands = fits.stands; short_pair = fits.short_pair; in_pairs = fits.in_pairs; pair_stands = fits.pair_stands; changes = leaves.open_ fits.changes }
 phase_again flies v changes calls seen call actions leaves Drawn fits = record { number = fits.number; drawn = fits.drawn; flying = fits.flying; drained = leaves.none fits.drained }

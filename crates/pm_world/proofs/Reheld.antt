@@ -14,10 +14,12 @@ use Rattle.pm_world.specs.Fits.{AppliedChange, EndFits, LaneFits, LogFits, LockF
 use Rattle.pm_world.specs.Heap.{BlocksFit, Heap, heap_words}
 use Rattle.pm_world.specs.History.{Entry, Flies, settled}
 use Rattle.pm_world.specs.Laws.{with_view}
+use Rattle.pm_world.specs.Lawful.{FilledChange, OnlyFilled}
 use Rattle.pm_world.specs.Memory.{Location, Memory}
 use Rattle.pm_world.specs.Memory.Location.{CommitCounter, LockWord, PoolWord, StopWord}
 use Rattle.pm_world.specs.Opening.{Opening}
 use Rattle.pm_world.specs.World.{Views, World, may_draw}
+use Rattle.pm_world.proofs.Filled.{filled_again}
 use Rattle.pm_world.proofs.Frame.{HeapFits, heap_kept, lane_kept}
 use Rattle.pm_world.proofs.Locations.{IsPlain, plain_counter, plain_lock, plain_pool, plain_stop}
 use Rattle.pm_world.proofs.Pairs.{entries_again, in_log_before, or_written, redone_again, redone_kept}
@@ -44,6 +46,10 @@ module _ (v : View) (known run_words zone_words : List ℕ) (reserved freed : Li
   open_reheld still all =
       All-weaker (Contains v.changes) (OpenChange v') (λ c there. open_again v v' c refl (λ w logged. logged) (λ of. record { reserved = still c there of.reserved; plain = of.plain }) (All-contains (OpenChange v) v.changes c all there)) v.changes (All-contains_itself v.changes)
 
+  filled_reheld : KeepsChanges → OnlyFilled v → All (FilledChange v') v.changes
+  filled_reheld still all =
+      All-weaker (Contains v.changes) (FilledChange v') (λ c there. filled_again v v' c (still c there) (λ silent. silent) (All-contains (FilledChange v) v.changes c all there)) v.changes (All-contains_itself v.changes)
+
   sealed_reheld : (old : ℕ) → All (SealChange v old) v.changes → All (SealChange v' old) v.changes
   sealed_reheld old all = All-weaker (SealChange v old) (SealChange v' old) (λ c of. record { whole = of.whole; of = of.of; before = of.before }) v.changes all
 
@@ -56,7 +62,7 @@ module _ (v : View) (known run_words zone_words : List ℕ) (reserved freed : Li
   KeepsOrs = (w : ℕ) → is_or_entered v.log.entries w ≡ true → Contains v.known w → Contains known w
 
   phase_reheld : KeepsChanges → (flies : ℕ → List Final → Type 0) (phase : Phase) → ((IsGrowing phase → ⊥) → KeepsOrs) → PhaseFits flies v phase → PhaseFits flies v' phase
-  phase_reheld still flies Idle ors fits = record { no_records = fits.no_records; drained = fits.drained }
+  phase_reheld still flies Idle ors fits = record { no_records = fits.no_records; changes = filled_reheld still fits.changes }
   phase_reheld still flies (Open slot pair) ors fits =
       record { undrawn = fits.undrawn; short = fits.short; stands = fits.stands; short_pair = fits.short_pair; in_pairs = fits.in_pairs; pair_stands = fits.pair_stands; changes = open_reheld still fits.changes }
   phase_reheld still flies Drawn ors fits = record { number = fits.number; drawn = fits.drawn; flying = fits.flying; drained = fits.drained }

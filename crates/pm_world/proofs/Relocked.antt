@@ -14,12 +14,13 @@ use Rattle.pm_world.specs.Entries.{is_entered, is_redoing}
 use Rattle.pm_world.specs.Fits.{ShowsHold, LockFits, LaneFits, EntriesFit, LogFits, PhaseFits, OpenChange}
 use Rattle.pm_world.specs.History.{Entry, Flies, settled}
 use Rattle.pm_world.specs.Laws.{with_view}
-use Rattle.pm_world.specs.Lawful.{IsEarly}
+use Rattle.pm_world.specs.Lawful.{FilledChange, IsEarly}
 use Rattle.pm_world.specs.Memory.{Memory, IsSameBut}
 use Rattle.pm_world.specs.Memory.Location.{PoolWord, LockWord, CommitCounter, StopWord}
 use Rattle.pm_world.specs.Opening.{Opening}
 use Rattle.pm_world.specs.Records.{IsRecordAt, generation_of, records_generation}
 use Rattle.pm_world.specs.World.{Views, World, IsHold, may_draw}
+use Rattle.pm_world.proofs.Filled.{filled_again}
 use Rattle.pm_world.proofs.Frame.{HeapFits, heap_kept, lane_kept}
 use Rattle.pm_world.proofs.Locations.{plain_lock, pool-lock, counter-lock, stop-lock, other_lock}
 use Rattle.pm_world.proofs.Recoursed.{used_again, open_again}
@@ -49,7 +50,7 @@ module _ (v : View) (locks : List Lock) (known : List ℕ) (seen : List Step) wh
   open_relocked all = All-weaker (OpenChange v) (OpenChange v') (λ c of. open_again v v' c refl (λ w logged. logged) (λ own. record { reserved = own.reserved; plain = own.plain }) of) v.changes all
 
   phase_relocked : (flies : ℕ → List Final → Type 0) (phase : Phase) → IsEarly phase → PhaseFits flies v phase → PhaseFits flies v' phase
-  phase_relocked flies Idle early fits = record { no_records = fits.no_records; drained = fits.drained }
+  phase_relocked flies Idle early fits = record { no_records = fits.no_records; changes = All-weaker (FilledChange v) (FilledChange v') (λ c of. filled_again v v' c (λ own. own) (λ silent. silent) of) v.changes fits.changes }
   phase_relocked flies (Open slot pair) early fits =
       record { undrawn = fits.undrawn; short = fits.short; stands = fits.stands; short_pair = fits.short_pair; in_pairs = fits.in_pairs; pair_stands = fits.pair_stands; changes = open_relocked fits.changes }
   phase_relocked flies Drawn early fits = absurd early

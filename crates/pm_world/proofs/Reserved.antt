@@ -39,7 +39,7 @@ held_by_parts core core' own own' first second e =
     ⊎_elim (λ (one : core ≡ true). or_left core' own' (first one)) (λ (two : own ≡ true). or_right core' own' (second two)) (or_cases core own e)
 
 -- by its page the word is a chunk's, behind the lanes' areas
-behind_page : (lanes page : ℕ) → is_chunk lanes page ≡ true → 1 + 2 * lanes ≤ page
+pub behind_page : (lanes page : ℕ) → is_chunk lanes page ≡ true → 1 + 2 * lanes ≤ page
 behind_page lanes page e = let low = leb-true (zone_page lanes 0) page (and_parts (leb (zone_page lanes 0) page) (leb 1 (chunk_of lanes page)) e).0 in omega arith
 
 -- a word of a chunk that is in no allocated block and no run's bitmap is idle

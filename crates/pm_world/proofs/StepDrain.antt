@@ -17,11 +17,13 @@ use Rattle.pm_world.specs.Course.{flight_in, is_number, is_decided_by_drain}
 use Rattle.pm_world.specs.Fits.{AppliedChange, OpenChange, RetiringChange, SealChange, LaneFits, PhaseFits}
 use Rattle.pm_world.specs.History.{Entry, Flies, settled}
 use Rattle.pm_world.specs.Laws.{Keeps, with_view}
+use Rattle.pm_world.specs.Lawful.{FilledChange}
 use Rattle.pm_world.specs.Memory.{Memory, IsSame}
 use Rattle.pm_world.specs.Opening.{Opening}
 use Rattle.pm_world.specs.Records.{is_drained_slot, is_logged}
 use Rattle.pm_world.specs.Solo.{some_undrained}
 use Rattle.pm_world.specs.World.{Views, World}
+use Rattle.pm_world.proofs.Filled.{filled_again}
 use Rattle.pm_world.proofs.Decided.{decides, seals}
 use Rattle.pm_world.proofs.Emptied.{clears, gives_up}
 use Rattle.pm_world.proofs.Recoursed.{Leaves, logged_more, open_again, recoursed}
@@ -66,6 +68,7 @@ module _ (o : Opening) (old : Memory) (views : Views) (log : List Entry) (decide
       let leaves : Leaves v v' (drained v.changes) = record {
         slots = slots_drained v;
         none = λ empty. ap drained empty;
+        filled = λ all. All-filter (λ c. not c.flushed) (FilledChange v') v.changes (All-weaker (FilledChange v) (FilledChange v') (λ c of. filled_again v v' c (λ own. own) (λ silent. silent) of) v.changes all);
         open_ = λ all. All-filter (λ c. not c.flushed) (OpenChange v') v.changes (All-weaker (OpenChange v) (OpenChange v')
             (λ c of. open_again v v' c refl logged (λ own. record { reserved = own.reserved; plain = own.plain }) of) v.changes all);
         retiring = λ all. All-filter (λ c. not c.flushed) (RetiringChange v') v.changes (All-weaker (RetiringChange v) (RetiringChange v') (λ c of. record { whole = of.whole; of = of.of; before = of.before }) v.changes all);
@@ -84,7 +87,9 @@ module _ (o : Opening) (old : Memory) (views : Views) (log : List Entry) (decide
 
   drain_all : 0 < length v.changes → drained v.changes ≡ [] → (phase : Phase) → v.log.phase ≡ phase → (number : Option ℕ) → v.number ≡ number
       → World o new (with_view views k (record v { changes = []; calls = v.calls + 1; log = log_drained phase (is_some number) v.log })) log (λ n. decided n || is_number (flight_in phase number) n)
-  drain_all some empty Idle e number f = absurd (not_empty some (subst (PhaseFits (Flies log decided k) v) e mine.phase).drained)
+  drain_all some empty Idle e number f =
+      redecided (record v { changes = []; calls = v.calls + 1; log = v.log }) decided (λ n. decided n || false) (λ n. sym (or_false (decided n)))
+      (subst (λ changes. World o new (with_view views k (record v { changes = changes; calls = v.calls + 1; log = v.log })) log decided) empty plain)
   drain_all some empty (Open slot pair) e number f =
       redecided (record v { changes = []; calls = v.calls + 1; log = v.log }) decided (λ n. decided n || false) (λ n. sym (or_false (decided n)))
       (subst (λ changes. World o new (with_view views k (record v { changes = changes; calls = v.calls + 1; log = v.log })) log decided) empty plain)

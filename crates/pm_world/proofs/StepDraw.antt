@@ -18,7 +18,7 @@ use Rattle.pm_world.specs.Entries.{HasNone, is_redoing, seal_in}
 use Rattle.pm_world.specs.Fits.{LaneFits, LogFits, PhaseFits, ShowsHold}
 use Rattle.pm_world.specs.History.{Entry, Flies, settled, is_final, AreNumbered, entries_by}
 use Rattle.pm_world.specs.Laws.{with_view, DrawsPlainly, KeepsFrom}
-use Rattle.pm_world.specs.Lawful.{MayDraw, generation_limit}
+use Rattle.pm_world.specs.Lawful.{FilledChange, MayDraw, generation_limit}
 use Rattle.pm_world.specs.Memory.{Memory, Becomes}
 use Rattle.pm_world.specs.Memory.Location.{PoolWord, LockWord, CommitCounter, StopWord}
 use Rattle.pm_world.specs.Opening.{Opening, Guards}
@@ -31,6 +31,7 @@ use Rattle.pm_world.proofs.Apart.{outside_behind}
 use Rattle.pm_world.proofs.Differences.{difference-words, difference-unentered, pool_entries-final}
 use Rattle.pm_world.proofs.Draws.{draws_fewer}
 use Rattle.pm_world.proofs.Exclusion.{writes_under, one_writer}
+use Rattle.pm_world.proofs.Filled.{all_drained, filled_again, only_filled}
 use Rattle.pm_world.proofs.Frame.{coursed, in_phase, lane_kept, log_again, coursed_fits, view_here, view_all}
 use Rattle.pm_world.proofs.Locations.{plain_counter, pool-counter, lock-counter, stop-counter}
 use Rattle.pm_world.proofs.Longer.{replayed-skip, empty-other, numbered-more, entries_by-more}
@@ -208,15 +209,22 @@ module _ (o : Opening) (old : Memory) (views : Views) (log : List Entry) (decide
       false_from_ne_true (is_empty (difference_of v)) (λ empty. false≢true (sym (empty-other (difference_of v) f.word empty)
       ∙ (difference-words v f.word ∙ or_right (is_recorded v.log.records f.word) (is_final (pool_entries v) f.word) (pool_entries-final v f.word out ∙ listed))))
 
-  to_decide : is_empty (difference_of v) ≡ false → World o new (with_view views k (view' Drawn)) log' decided'
-  to_decide some = draws_to Drawn (λ u. refl) (λ u. refl) refl tt refl (record { number = n; drawn = refl; flying = this_flies some; drained = may.drained }) (λ _. refl)
+  -- what the lane filled may be undrained
+  still_filled : (phase : Phase) → All (FilledChange (view' phase)) v.changes
+  still_filled phase = All-weaker (FilledChange v) (FilledChange (view' phase)) (λ c of. filled_again v (view' phase) c (λ own. own) (λ silent. silent) of) v.changes (only_filled v may.drained)
+
+  none_of_some : {X : Type 0} (x : X) (rest xs : List X) → xs ≡ [] → xs ≡ x ∷ rest → ⊥
+  none_of_some {X = X} x rest xs none some = let e : length xs ≡ 0 = ap length none in let f : length xs ≡ length (x ∷ rest) = ap length some in omega arith
+
+  to_decide : v.changes ≡ [] → is_empty (difference_of v) ≡ false → World o new (with_view views k (view' Drawn)) log' decided'
+  to_decide nothing some = draws_to Drawn (λ u. refl) (λ u. refl) refl tt refl (record { number = n; drawn = refl; flying = this_flies some; drained = nothing }) (λ _. refl)
 
   draws_with : (records : List Recorded) (entries : List Final) → v.log.records ≡ records → v.log.entries ≡ entries → World o new (with_view views k (view' (phase_drawn records entries))) log' decided'
-  draws_with [] [] e f = draws_to Idle (λ u. refl) (λ u. refl) refl f refl (record { no_records = e; drained = may.drained })
+  draws_with [] [] e f = draws_to Idle (λ u. refl) (λ u. refl) refl f refl (record { no_records = e; changes = still_filled Idle })
       (λ some. absurd (false≢true (sym some ∙ (ap is_empty (difference-unentered v f) ∙ ap (λ rs. is_empty (flat_map (finals_of v.words) rs)) e))))
-  draws_with [] (g ∷ entries) e f = to_decide (⊎_elim (λ (none : v.log.entries ≡ []). let both : length v.log.entries ≡ length (g ∷ entries) = ap length f in let empty : length v.log.entries ≡ 0 = ap length none in absurd (omega arith)) (λ some. ⊎_elim some_entries (λ (heap : IsTrue (changes_heap v)). absurd (false≢true (sym plain ∙ heap))) some) may.entered)
+  draws_with [] (g ∷ entries) e f = to_decide (all_drained v may.drained (λ none_recorded none. none_of_some g entries v.log.entries none f)) (⊎_elim (λ (none : v.log.entries ≡ []). absurd (none_of_some g entries v.log.entries none f)) (λ some. ⊎_elim some_entries (λ (heap : IsTrue (changes_heap v)). absurd (false≢true (sym plain ∙ heap))) some) may.entered)
   draws_with (r ∷ records) entries e f =
-      to_decide (ap (λ rs. is_empty (flat_map (finals_of v.words) rs ++ pool_entries v)) e
+      to_decide (all_drained v may.drained (λ none unentered. none_of_some r records v.log.records none e)) (ap (λ rs. is_empty (flat_map (finals_of v.words) rs ++ pool_entries v)) e
       ∙ some_finals v.words r.word (length r.old) (flat_map (finals_of v.words) records) (pool_entries v) (open_log.each 0 r (ap (λ rs. slice_get rs 0) e)).some)
 
   drawn_log : log_drawn v.log.phase v.log ≡ in_phase (phase_drawn v.log.records v.log.entries) v.log

@@ -13,7 +13,9 @@ use Rattle.pm_image.specs.Logs.{slot_line}
 use Rattle.pm_world.specs.Entries.{is_entered}
 use Rattle.pm_world.specs.Fits.{OpenChange, RetiringChange, SealChange, AppliedChange, IsOfEntries, ReservedChange}
 use Rattle.pm_world.specs.Laws.{Keeps}
+use Rattle.pm_world.specs.Lawful.{FilledChange}
 use Rattle.pm_world.specs.Records.{is_drained_slot, is_logged, generation_of}
+use Rattle.pm_world.proofs.Filled.{filled_again}
 use Rattle.pm_world.proofs.Recoursed.{Leaves, logged_more, open_again, recoursed}
 use Rattle.pm_world.proofs.Worlds.{room_kept}
 
@@ -45,6 +47,10 @@ open_marked : (v v' : View) (c : Change) → v'.lane ≡ v.lane → ((w : ℕ) �
 open_marked v v' c lane logged kept of true = flushed_open v' c (open_again v v' c lane logged kept of)
 open_marked v v' c lane logged kept of false = open_again v v' c lane logged kept of
 
+filled_marked : (v : View) (c : Change) → FilledChange v c → (b : Bool) → FilledChange v (cond b (record c { flushed = true }) c)
+filled_marked v c of true = record { whole = of.whole; may = of.may }
+filled_marked v c of false = of
+
 retiring_marked : (v v' : View) (c : Change) → v'.lane ≡ v.lane → generation_of v' ≡ generation_of v → RetiringChange v c → (b : Bool) → RetiringChange v' (cond b (record c { flushed = true }) c)
 retiring_marked v v' c lane generation of true = record { whole = of.whole; of = of.of ∙ ap area_word (sym lane); before = of.before ∙ sym generation }
 retiring_marked v v' c lane generation of false = record { whole = of.whole; of = of.of ∙ ap area_word (sym lane); before = of.before ∙ sym generation }
@@ -71,6 +77,7 @@ flushes line o old new views log decided k v world inside is lawful same =
     let leaves : Leaves v v' (flushed line v.changes) = record {
       slots = slots_marked line (v.calls + 1) v;
       none = λ empty. ap (map (mark line)) empty;
+      filled = λ all. All-map (FilledChange v') (mark line) v.changes (All-weaker (FilledChange v) (λ c. FilledChange v' (mark line c)) (λ c of. filled_marked v' c (filled_again v v' c (λ own. own) (λ silent. silent) of) (is_in_line line c)) v.changes all);
       open_ = λ all. All-map (OpenChange v') (mark line) v.changes (All-weaker (OpenChange v) (λ c. OpenChange v' (mark line c)) (λ c of. open_marked v v' c refl (logged_marked line (v.calls + 1) v) (λ own. record { reserved = own.reserved; plain = own.plain }) of (is_in_line line c)) v.changes all);
       retiring = λ all. All-map (RetiringChange v') (mark line) v.changes (All-weaker (RetiringChange v) (λ c. RetiringChange v' (mark line c)) (λ c of. retiring_marked v v' c refl refl of (is_in_line line c)) v.changes all);
       sealed = λ before all. All-map (SealChange v' before) (mark line) v.changes (All-weaker (SealChange v before) (λ c. SealChange v' before (mark line c)) (λ c of. sealed_marked v v' before c refl of (is_in_line line c)) v.changes all);

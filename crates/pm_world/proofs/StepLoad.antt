@@ -23,7 +23,7 @@ use Rattle.pm_world.specs.Entries.{AreWhole, entry_word, is_entered, is_redoing,
 use Rattle.pm_world.specs.Fits.{EntriesFit, ShowsHold, LockFits, LaneFits, LogFits, PhaseFits, EndFits, RedoneWord, OpenChange, RetiringChange, SealChange, AppliedChange, IsDescriptorSeen, ReservedChange}
 use Rattle.pm_world.specs.History.{Entry, Flies, settled}
 use Rattle.pm_world.specs.Laws.{Keeps, with_view}
-use Rattle.pm_world.specs.Lawful.{generation_limit}
+use Rattle.pm_world.specs.Lawful.{FilledChange, generation_limit}
 use Rattle.pm_world.specs.Memory.{Memory, IsSame}
 use Rattle.pm_world.specs.Memory.Location.{PoolWord, LockWord, CommitCounter, StopWord}
 use Rattle.pm_world.specs.Opening.{Opening, IsChunk, IsPoolChunk, is_free_chunk}
@@ -33,6 +33,7 @@ use Rattle.pm_world.proofs.Apart.{outside_behind}
 use Rattle.pm_world.proofs.Plain.{plain_still, redoing_still}
 use Rattle.pm_world.proofs.Chunks.{told_by_bitmap, block_same, under_found, written_found, found_block, opening_word, chunk_here, no_block_here, no_block_outside, told_word}
 use Rattle.pm_world.proofs.Exclusion.{writes_under}
+use Rattle.pm_world.proofs.Filled.{filled_again}
 use Rattle.pm_world.proofs.Frame.{HeapFits, heap_kept, lane_kept}
 use Rattle.pm_world.proofs.Pairs.{entries_again, redone_again, redone_kept, whole_again, entered_written}
 use Rattle.pm_world.proofs.Recoursed.{open_again, used_again}
@@ -217,15 +218,18 @@ module _ (o : Opening) (old : Memory) (views : Views) (log : List Entry) (decide
   reserved_now : (u : ℕ) → is_reserved v u ≡ true → is_reserved v' u ≡ true
   reserved_now u = reserved_again o v v' u mine.lane.lanes refl refl (λ place bit has. described_still (Run place) bit has)
 
+  -- a word of what the lane reserved that tells of no block tells of none still
+  silent_still : (u : ℕ) → is_reserved v u ≡ true → tells_nothing v.lanes v.words u ≡ true → tells_nothing v'.lanes v'.words u ≡ true
+  silent_still u own tells =
+      let chunk : IsChunk o.lanes (u / 512) = chunk_here o.lanes (u / 512) (ap (λ n. is_chunk n (u / 512)) (sym mine.lane.lanes) ∙ (and_parts (is_chunk v.lanes (u / 512)) _ tells).0) in
+      ap (λ z. is_chunk v.lanes (u / 512) && not (eqb (u % 512) 0 && is_run z))
+      (subst (λ n. slice_index words' (descriptor_word n (u / 512)) ≡ slice_index v.words (descriptor_word n (u / 512))) (sym mine.lane.lanes)
+      (reserved_described o old v u mine.lane.lanes mine.blocks own chunk (λ d. slice_index words' d ≡ slice_index v.words d) described_still)) ∙ tells
+
   change_still : (d : Change) → ReservedChange v d → ReservedChange v' d
   change_still d of = record {
     reserved = reserved_now d.word of.reserved;
-    plain = ⊎_elim (λ (tells : tells_nothing v.lanes v.words d.word ≡ true).
-        let chunk : IsChunk o.lanes (d.word / 512) = chunk_here o.lanes (d.word / 512) (ap (λ n. is_chunk n (d.word / 512)) (sym mine.lane.lanes) ∙ (and_parts (is_chunk v.lanes (d.word / 512)) _ tells).0) in
-        inl (ap (λ z. is_chunk v.lanes (d.word / 512) && not (eqb (d.word % 512) 0 && is_run z))
-        (subst (λ n. slice_index words' (descriptor_word n (d.word / 512)) ≡ slice_index v.words (descriptor_word n (d.word / 512))) (sym mine.lane.lanes)
-        (reserved_described o old v d.word mine.lane.lanes mine.blocks of.reserved chunk (λ u. slice_index words' u ≡ slice_index v.words u) described_still)) ∙ tells))
-        (λ found. inr found) of.plain;
+    plain = ⊎_elim (λ (tells : tells_nothing v.lanes v.words d.word ≡ true). inl (silent_still d.word of.reserved tells)) (λ found. inr found) of.plain;
   }
 
   core_now : (u : ℕ) → is_held v u ≡ true → is_held v' u ≡ true
@@ -298,7 +302,7 @@ module _ (o : Opening) (old : Memory) (views : Views) (log : List Entry) (decide
   sealed_now before all = All-weaker (SealChange v before) (SealChange v' before) (λ c of. record { whole = of.whole; of = of.of; before = of.before }) v.changes all
 
   phase_now : (phase : Phase) → v.log.phase ≡ phase → PhaseFits (Flies log decided k) v phase → PhaseFits (Flies log decided k) v' phase
-  phase_now Idle e fits = record { no_records = fits.no_records; drained = fits.drained }
+  phase_now Idle e fits = record { no_records = fits.no_records; changes = All-weaker (FilledChange v) (FilledChange v') (λ c of. filled_again v v' c (reserved_now c.word) (silent_still c.word of.may.reserved) of) v.changes fits.changes }
   phase_now (Open slot pair) e fits = record {
     undrawn = fits.undrawn;
     short = fits.short;

@@ -4,7 +4,7 @@ use Rattle.std.specs.List.{list_any}
 use Rattle.std.proofs.lemmas.Option.{none-some}
 use Rattle.std.proofs.lemmas.Bool.{cases_lt, le-ltb, and_parts, and_from, or_cases, or_from, ltb-true, false≢true}
 use Rattle.std.proofs.lemmas.List.Folds.{list_any-append}
-use Rattle.std.proofs.lemmas.List.Elements.{All-nil, All-same, All-weaker}
+use Rattle.std.proofs.lemmas.List.Elements.{All-weaker}
 use Rattle.pm_objects.specs.declared.calls.Operation.{Operation}
 use Rattle.pm_objects.specs.declared.history.Value.{Value}
 use Rattle.pm_view.specs.Log.{Phase, no_log}
@@ -18,12 +18,13 @@ use Rattle.pm_world.specs.Entries.{is_redoing, is_redone, seal_in}
 use Rattle.pm_world.specs.Fits.{OpenChange, LaneFits, LogFits, PhaseFits}
 use Rattle.pm_world.specs.History.{Entry, Flies, settled}
 use Rattle.pm_world.specs.Laws.{Keeps, with_view}
-use Rattle.pm_world.specs.Lawful.{generation_limit}
+use Rattle.pm_world.specs.Lawful.{FilledChange, generation_limit}
 use Rattle.pm_world.specs.Memory.{Memory, IsSame}
 use Rattle.pm_world.specs.Memory.Location.{CommitCounter, PoolWord}
 use Rattle.pm_world.specs.Opening.{Opening}
 use Rattle.pm_world.specs.Records.{generation_of, records_generation, used_slots, is_logged_from, is_logged}
 use Rattle.pm_world.specs.World.{Views, World, is_low, may_draw, may_draw_count}
+use Rattle.pm_world.proofs.Filled.{filled_again, filled_reserved}
 use Rattle.pm_world.proofs.Draws.{draws_at_most}
 use Rattle.pm_world.proofs.Frame.{coursed_fits}
 use Rattle.pm_world.proofs.Numbers.{own_below}
@@ -49,6 +50,7 @@ module _ (o : Opening) (old : Memory) (views : Views) (log : List Entry) (decide
       let leaves : Leaves v v' v.changes = record {
         slots = λ slot e. e;
         none = λ empty. empty;
+        filled = λ all. All-weaker (FilledChange v) (FilledChange v') (λ c of. filled_again v v' c (λ own. own) (λ silent. silent) of) v.changes all;
         open_ = λ all. All-weaker (OpenChange v) (OpenChange v') (λ c of. open_again v v' c refl (λ w logged. logged) (λ own. record { reserved = own.reserved; plain = own.plain }) of) v.changes all;
         retiring = λ all n d low. let c = all n d low in record { whole = c.whole; of = c.of; before = c.before };
         sealed = λ before all n d low. let c = all n d low in record { whole = c.whole; of = c.of; before = c.before };
@@ -99,7 +101,7 @@ module _ (o : Opening) (old : Memory) (views : Views) (log : List Entry) (decide
         short_pair = omega arith;
         in_pairs = omega arith;
         pair_stands = λ i low. absurd (omega arith);
-        changes = All-same (OpenChange v') v.changes [] idle_fits.drained (All-nil (OpenChange v'));
+        changes = All-weaker (FilledChange v) (OpenChange v') (λ c of. record { whole = of.whole; of = inr (inr (inr (filled_reserved v' c (filled_again v v' c (λ own. own) (λ silent. silent) of)))) }) v.changes idle_fits.changes;
       })
       mine.room mine.within)
       (λ w un. or_from (is_logged v w) (is_redone v w) (ap (λ records. is_logged_from v 0 records w) idle_fits.no_records) (none_redone v w (ap is_redoing idle))) refl

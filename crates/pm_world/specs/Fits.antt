@@ -20,7 +20,7 @@ use Rattle.pm_memory.specs.LockWords.{writer_bit}
 use Rattle.pm_world.specs.Entries.{AgreeBeside, AreWhole, EntryStands, HasNone, IsEntryAt, applied_in, entry_word, is_bit_entered, is_entered, is_redone, seal_in, KnowsOrs, is_or_entered}
 use Rattle.pm_world.specs.Heap.{BlocksFit, heap_words}
 use Rattle.pm_world.specs.History.{made_final}
-use Rattle.pm_world.specs.Lawful.{generation_limit}
+use Rattle.pm_world.specs.Lawful.{OnlyFilled, generation_limit}
 use Rattle.pm_world.specs.Memory.{Memory}
 use Rattle.pm_world.specs.Memory.Location.{PoolWord, LockWord}
 use Rattle.pm_world.specs.Opening.{Opening, IsChunk}
@@ -88,10 +88,10 @@ pub record RedoneWord (mem : Memory) (settled : ℕ → ℕ) (v : View) (w : ℕ
   pub again : (x : ℕ) → AgreeBeside v.log.entries w x (settled w) → made_final v.log.entries w x ≡ settled w
   pub rest : made_final (drop (applied_in v.log.phase v) v.log.entries) w (mem (PoolWord w)) ≡ settled w
 
--- nothing is open
+-- nothing is open; a lane at rest may have words undrained that it filled
 pub record IdleFits (v : View) : Type 0 where
   pub no_records : v.log.records ≡ []
-  pub drained : v.changes ≡ []
+  pub changes : OnlyFilled v
 
 -- a change in a block that the lane reserved: of a word that tells of no block, or of a chunk's descriptor, which was 0
 pub record ReservedChange (v : View) (c : Change) : Type 0 where

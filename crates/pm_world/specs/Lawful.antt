@@ -10,6 +10,7 @@ use Rattle.pm_view.specs.declared.change.Change.{Change}
 use Rattle.pm_view.specs.declared.occ.Occ.{Occ}
 use Rattle.pm_view.specs.declared.occ.Occ.TheVariants.{Run, Zone}
 use Rattle.pm_view.specs.Area.{Part, part_of}
+use Rattle.pm_view.specs.Bits.{all_bits}
 use Rattle.pm_view.specs.Area.Part.{GenerationWord, SealWord, EntryWord, SlotWord, OtherWord}
 use Rattle.pm_view.specs.Blocks.{bitmap_word, covers, descriptor_word, is_run, tells_nothing, zone_of}
 use Rattle.pm_view.specs.Founds.{IsAlone}
@@ -73,6 +74,15 @@ pub record MayWrite (v : View) (w : ℕ) : Type 0 where
 pub record MayFill (v : View) (w : ℕ) : Type 0 where
   pub reserved : IsTrue (is_reserved v w)
   pub plain : IsTrue (tells_nothing v.lanes v.words w)
+
+-- an undrained change of all of a word that the lane may fill; no meaning reads the word
+pub record FilledChange (v : View) (c : Change) : Type 0 where
+  pub whole : c.mask ≡ all_bits
+  pub may : MayFill v c.word
+
+-- nothing is undrained but such words
+abbrev pub OnlyFilled : View → Type 0
+OnlyFilled v = All (FilledChange v) v.changes
 
 -- A chunk that the lane reserved may become a run of some class: its descriptor is 0 so far, and its bitmap is 0 and persistent.
 pub record MayDescribe (v : View) (w x : ℕ) : Type 0 where
@@ -196,11 +206,15 @@ pub record MayGive (v : View) (line : ℕ) : Type 0 where
   pub held : is_holder v.locks line ≡ true
   pub fits : All (λ (l : Lock). l.line ≡ line → GiveFits v l v.log.phase) v.locks
 
--- the call draws its one number, having seen a number below the limit, with nothing undrained and no record in the making
+-- nothing is undrained, or, of a call that has no record and no entry, nothing but words that the lane may fill
+abbrev pub HasDrained : View → Type 0
+HasDrained v = (v.changes ≡ []) ⊎ ((v.log.records ≡ []) × (v.log.entries ≡ []) × OnlyFilled v)
+
+-- the call draws its one number, having seen a number below the limit, with no record in the making
 pub record MayDraw (v : View) : Type 0 where
   pub is_open : v.log.phase ≡ Open [] []
   pub first : v.number ≡ None
-  pub drained : v.changes ≡ []
+  pub drained : HasDrained v
   pub found : ℕ
   pub seen : Contains v.seen (NumberSeen found)
   pub below : found < generation_limit

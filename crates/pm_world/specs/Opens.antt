@@ -5,7 +5,7 @@ use Rattle.std.specs.Option.{ForSome}
 use Rattle.pm_record.specs.Undo.{undo_of}
 use Rattle.pm_record.specs.declared.undo.Undo.{Undo}
 use Rattle.pm_view.specs.declared.occ.Occ.{Occ}
-use Rattle.pm_view.specs.Counts.{IsAtStop}
+use Rattle.pm_view.specs.Counts.{IsAtStop, max_changes}
 use Rattle.pm_view.specs.Held.{is_held}
 use Rattle.pm_view.specs.Occupancy.{is_taken}
 use Rattle.pm_view.specs.Log.{no_log}
@@ -16,7 +16,7 @@ use Rattle.pm_image.specs.Logs.{generation_word, seal_word, undo_slot}
 use Rattle.pm_world.specs.Fits.{IsLane}
 use Rattle.pm_world.specs.Heap.{Heap, IsOcc}
 use Rattle.pm_world.specs.History.{AreNumbered, Entry, entries_by}
-use Rattle.pm_world.specs.Lawful.{generation_limit}
+use Rattle.pm_world.specs.Lawful.{OnlyFilled, generation_limit}
 use Rattle.pm_world.specs.Memory.{Memory, occ_at}
 use Rattle.pm_world.specs.Memory.Location.{PoolWord, LockWord, ZoneLock, CommitCounter, StopWord}
 use Rattle.pm_world.specs.Opening.{Opening, IsSound}
@@ -57,12 +57,14 @@ pub record IsOpened (o : Opening) (mem : Memory) : Type 0 where
 
 -- ---- between calls
 
--- The view of lane k between two calls: its log is empty and nothing is undrained, it holds no lock, and what it reserved is free; what it knows it holds.
+-- The view of lane k between two calls: its log is empty and nothing is undrained but words that it filled, it holds no lock, and what it reserved is free;
+-- what it knows it holds.
 pub record IsRested (o : Opening) (k : ℕ) (v : View) : Type 0 where
   pub lane : IsLane o k v
   pub words : v.words ≡ o.words
   pub held : (w : ℕ) → Contains v.known w → IsTrue (is_held v w)
-  pub drained : v.changes ≡ []
+  pub changes : OnlyFilled v
+  pub room : length v.changes ≤ max_changes
   pub idle : v.log ≡ no_log Idle
   pub no_locks : v.locks ≡ []
   pub of_pool : All (λ (t : Taken). IsOcc o.lanes o.zones t.at) v.reserved

@@ -11,9 +11,9 @@ pub fn recovered_words_open_a_world()
     ensures { OpeningLaw }
 {}
 
-/// A law: between calls a world begins anew, from the words as they stand: where no lock is held, nothing is undrained, each log is clean, and
-/// the bits are set of what the words say is taken or some lane reserved, these words are as good as recovered ones, with the calls so far
-/// as a history that is over. No code runs.
+/// A law: between calls a world begins anew, from the words as they stand: where no lock is held, nothing is undrained but words that lanes filled,
+/// each log is clean, and the bits are set of what the words say is taken or some lane reserved, these words are as good as recovered ones, with
+/// the calls so far as a history that is over. No code runs.
 pub fn words_between_calls_open_a_world()
     ensures { BetweenCallsLaw }
 {}
