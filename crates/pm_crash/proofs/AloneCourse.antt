@@ -23,7 +23,8 @@ use Rattle.pm_view.proofs.SameLane.{same_lane-after}
 use Rattle.pm_memory.specs.Solo.{AreNumbered, lock_word}
 use Rattle.pm_world.specs.History.{Entry}
 use Rattle.pm_world.specs.Laws.{with_view}
-use Rattle.pm_world.specs.Lawful.{Allowed, IsLawful}
+use Rattle.pm_world.specs.Lawful.{Allowed, IsLawful, OnlyFilled}
+use Rattle.pm_world.specs.Records.{is_drained_slot}
 use Rattle.pm_world.specs.Heap.{IsOcc}
 use Rattle.pm_world.specs.Memory.{occ_at}
 use Rattle.pm_world.specs.Memory.Location.{PoolWord}
@@ -33,6 +34,7 @@ use Rattle.pm_world.specs.Opens.{IsFresh, IsClean}
 use Rattle.pm_world.specs.World.{Views, is_low}
 use Rattle.pm_crash.specs.Held.{HoldsImage, HoldsPool}
 use Rattle.pm_crash.proofs.BeginsAgain.{again, begins_between, over_decided, over_log}
+use Rattle.pm_world.proofs.Filled.{filled_slot, none_filled}
 use Rattle.pm_world.proofs.Chunks.{chunk_is}
 use Rattle.pm_world.proofs.Frame.{view_else, view_here}
 use Rattle.pm_world.proofs.StepSeen.{not_low_more, told}
@@ -140,14 +142,24 @@ begins_lane o header pool v = ⊎_elim (λ (first : BeginsAlone o header pool v)
 pub begins_idle : (o : Opening) (header : Header) (pool : PoolView) (v : View) → Begins o header pool v → v.log ≡ no_log Idle
 begins_idle o header pool v = ⊎_elim (λ (first : BeginsAlone o header pool v). first.fresh.idle) (λ (again : BeginsAgain o header pool v). again.rested.idle)
 
-pub begins_drained : (o : Opening) (header : Header) (pool : PoolView) (v : View) → Begins o header pool v → v.changes ≡ []
-begins_drained o header pool v = ⊎_elim (λ (first : BeginsAlone o header pool v). first.fresh.nothing_changed) (λ (again : BeginsAgain o header pool v). again.rested.drained)
+pub begins_lanes : (o : Opening) (header : Header) (pool : PoolView) (v : View) → Begins o header pool v → v.lanes ≡ o.lanes
+begins_lanes o header pool v = ⊎_elim (λ (first : BeginsAlone o header pool v). first.fresh.lane.lanes) (λ (again : BeginsAgain o header pool v). again.rested.lane.lanes)
+
+pub begins_filled : (o : Opening) (header : Header) (pool : PoolView) (v : View) → Begins o header pool v → OnlyFilled v
+begins_filled o header pool v = ⊎_elim (λ (first : BeginsAlone o header pool v). none_filled v first.fresh.nothing_changed) (λ (again : BeginsAgain o header pool v). again.rested.changes)
 
 pub begins_clean : (o : Opening) (header : Header) (pool : PoolView) (v : View) → Begins o header pool v → (j : ℕ) → j < o.lanes → IsClean o j
 begins_clean o header pool v = ⊎_elim (λ (first : BeginsAlone o header pool v). first.clean) (λ (again : BeginsAgain o header pool v). again.clean)
 
 pub begins_holds : (o : Opening) (header : Header) (pool : PoolView) (v : View) → Begins o header pool v → (now : PoolView) × HoldsImage o.words o.lanes o.zones header now
 begins_holds o header pool v = ⊎_elim (λ (first : BeginsAlone o header pool v). (pool, first.holds)) (λ (again : BeginsAgain o header pool v). (again.now, again.holds))
+
+-- no slot of the lane's log has an undrained word
+pub begins_slots : (o : Opening) (header : Header) (pool : PoolView) (v : View) → Begins o header pool v → (slot : ℕ) → slot < 64 → is_drained_slot v slot ≡ true
+begins_slots o header pool v begins slot low =
+    let some = (begins_holds o header pool v begins).1.has_header.has_shape.shape.lanes_from in
+    let lane = begins_lane o header pool v begins in let lanes = begins_lanes o header pool v begins in
+    filled_slot v slot (omega (arith, some, lane, lanes)) low (begins_filled o header pool v begins)
 
 -- the lane is at this view of a world that it alone made steps in
 pub record StandsAlone (o : Opening) (header : Header) (pool : PoolView) (v : View) : Type 0 where

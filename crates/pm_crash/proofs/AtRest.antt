@@ -12,7 +12,6 @@ use Rattle.pm_world.specs.Course.{is_number}
 use Rattle.pm_world.specs.Crash.{IsBeingWritten, NoneTorn, is_deciding_in, loses}
 use Rattle.pm_world.specs.Opening.{Opening}
 use Rattle.pm_world.specs.Records.{is_drained_slot, used_slots}
-use Rattle.pm_world.proofs.CrashLaw.{all_drained}
 use Rattle.pm_crash.specs.Alone.{MeansCalls, Rests, WorksAlone, alone_views, kept_numbered}
 use Rattle.pm_crash.proofs.AloneImages.{calls_meant, ended_stays}
 use Rattle.pm_crash.proofs.Begun.{all_pass}
@@ -25,14 +24,14 @@ rest_uses b rests = ⊎_elim
     (λ (fresh : b.log ≡ no_log (Open [] [])). ap (λ (l : Log). used_slots l.phase b) fresh)
     rests.empty
 
-rest_writes_none : (b : View) (slot : ℕ) → Rests b → IsBeingWritten b slot → ⊥
-rest_writes_none b slot rests being = ⊎_elim
-    (λ (undrained : is_drained_slot b slot ≡ false). false≢true (sym undrained ∙ all_drained b slot rests.drained))
+rest_writes_none : (b : View) (slot : ℕ) → Rests b → slot < 64 → IsBeingWritten b slot → ⊥
+rest_writes_none b slot rests within being = ⊎_elim
+    (λ (undrained : is_drained_slot b slot ≡ false). false≢true (sym undrained ∙ rests.drained slot within))
     (λ (used : (length b.log.records ≤ slot) × (slot < used_slots b.log.phase b)). let all = rest_uses b rests in let from = used.0 in let to = used.1 in omega (arith, all, from, to))
     being
 
 pub none_torn_at_rest : (o : Opening) (b : View) (image : List ℕ) → Rests b → NoneTorn o (alone_views o b) image
-none_torn_at_rest o b image rests = none_torn_by_lane o b image (λ slot u within being valid. absurd (rest_writes_none b slot rests being))
+none_torn_at_rest o b image rests = none_torn_by_lane o b image (λ slot u within being valid. absurd (rest_writes_none b slot rests within being))
 
 rest_loses_none : (image : List ℕ) (b : View) (n : ℕ) → Rests b → loses image b n ≡ false
 rest_loses_none image b n rests = ⊎_elim

@@ -24,6 +24,7 @@ use Rattle.pm_world.specs.Memory.{occ_at}
 use Rattle.pm_world.specs.Opening.{Opening}
 use Rattle.pm_world.specs.Opens.{IsRested}
 use Rattle.pm_world.specs.World.{may_draw, may_draw_count}
+use Rattle.pm_world.proofs.Filled.{none_filled}
 use Rattle.pm_world.proofs.Numbers.{number_upto}
 use Rattle.pm_crash.specs.Alone.{BeginsAgain, alone_views, idle_view}
 use Rattle.pm_crash.specs.OneLane.{BeginsBetween, Moment}
@@ -95,7 +96,8 @@ idle_rested o j = record {
   lane = record { lanes = refl; zones = refl; lane = refl; size = refl };
   words = refl;
   held = λ w there. absurd (let inside = there.1 in omega (arith, inside));
-  drained = refl;
+  changes = none_filled (idle_view o j) refl;
+  room = omega arith;
   idle = refl;
   no_locks = refl;
   of_pool = All-nil (λ (t : Taken). IsOcc o.lanes o.zones t.at);

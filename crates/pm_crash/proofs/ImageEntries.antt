@@ -116,7 +116,9 @@ module _ (o : Opening) (mem : Memory) (views : Views) (log : List Entry) (decide
 
   before : (j : ℕ) → (inside : j < o.lanes) → (t : OwnTakenBack (views j) image (area_word j)) → (phase : Phase) → PhaseFits (Flies log decided j) (views j) phase → ChangeFits (views j) t.change phase
       → WordIs (views j) (generation_word image j) phase
-  before j inside t Idle fit change = absurd change
+  before j inside t Idle fit change =
+      let is = t.of_word in let at = lane_is o mem views log decided x j inside in
+      let behind = (reserved_word o mem views log decided x j t.change.word inside change.may.reserved).behind in absurd (omega arith)
   before j inside t (Open slot pair) fit change =
       let is = t.of_word in let at = lane_is o mem views log decided x j inside in
       ⊎_elim (λ (part : part_of (views j).lane t.change.word ≡ SlotWord). let s = slot_part (views j).lane t.change.word part in let low = s.low in absurd (omega arith))

@@ -32,6 +32,7 @@ use Rattle.pm_world.specs.Memory.Location.{PoolWord}
 use Rattle.pm_world.specs.Opening.{Opening}
 use Rattle.pm_world.specs.Records.{IsRecordAt, covers, generation_of, is_drained_slot, records_generation, spelled, used_slots}
 use Rattle.pm_world.specs.World.{Views, World}
+use Rattle.pm_world.proofs.Filled.{filled_behind, filled_slot}
 use Rattle.pm_world.proofs.CrashEntries.{HasSealed, generation_is}
 use Rattle.pm_world.proofs.CrashLogs.{ChangeFits, GenerationIs, change_fits, drained_slot, recorded_from, recorded_word}
 use Rattle.pm_world.proofs.CrashSpellings.{covers_back, undo_from, undo_of-spelled, valid_parts}
@@ -65,22 +66,18 @@ used_upto v Clearing = omega arith
 used_upto v Retiring = omega arith
 
 -- a slot of a change is that of a record, or the next one
-undrained_upto : (flies : ℕ → List Final → Type 0) (v : View) (c : Change) (slot : ℕ) (phase : Phase) → (HasSealed phase → is_drained_slot v slot ≡ true) → PhaseFits flies v phase → ChangeFits v c phase → InRange (generation_of v) v phase → Contains v.changes c → slot < 64
+undrained_upto : (flies : ℕ → List Final → Type 0) (v : View) (c : Change) (slot : ℕ) (phase : Phase) → v.lane < v.lanes → (HasSealed phase → is_drained_slot v slot ≡ true) → PhaseFits flies v phase → ChangeFits v c phase → InRange (generation_of v) v phase → Contains v.changes c → slot < 64
     → c.word / 8 ≡ slot_line v.lane slot → slot ≤ length v.log.records
-undrained_upto flies v c slot Idle drained fits change range there within line = absurd change
-undrained_upto flies v c slot (Open words pair) drained fits change range there within line =
+undrained_upto flies v c slot Idle inside drained fits change range there within line = let behind = filled_behind v c change in absurd (omega (arith, behind, line, within, inside))
+undrained_upto flies v c slot (Open words pair) inside drained fits change range there within line =
     let short = fits.short in
     let bound = range.1 c there (record { low = omega (arith, line); high = omega (arith, line, within) }) in
     omega (arith, short, bound, line)
-undrained_upto flies v c slot Drawn drained fits change range there within line = absurd change
-undrained_upto flies v c slot Sealing drained fits change range there within line = absurd (drained_slot v slot c (drained tt) there line)
-undrained_upto flies v c slot (Applying applied) drained fits change range there within line = absurd (drained_slot v slot c (drained tt) there line)
-undrained_upto flies v c slot Clearing drained fits change range there within line = absurd (drained_slot v slot c (drained tt) there line)
-undrained_upto flies v c slot Retiring drained fits change range there within line = let of = change.of in absurd (omega (arith, of, line))
-
--- nothing of a slot is undrained where nothing is
-all_drained : (v : View) (slot : ℕ) → v.changes ≡ [] → is_drained_slot v slot ≡ true
-all_drained v slot nothing = ap (λ changes. not (list_any (is_in_line (slot_line v.lane slot)) changes)) nothing
+undrained_upto flies v c slot Drawn inside drained fits change range there within line = absurd change
+undrained_upto flies v c slot Sealing inside drained fits change range there within line = absurd (drained_slot v slot c (drained tt) there line)
+undrained_upto flies v c slot (Applying applied) inside drained fits change range there within line = absurd (drained_slot v slot c (drained tt) there line)
+undrained_upto flies v c slot Clearing inside drained fits change range there within line = absurd (drained_slot v slot c (drained tt) there line)
+undrained_upto flies v c slot Retiring inside drained fits change range there within line = let of = change.of in absurd (omega (arith, of, line))
 
 no_record : (v : View) (slot : ℕ) (r : Recorded) → v.log.records ≡ [] → IsRecordAt v slot r → ⊥
 no_record v slot r none at = none-some r (sym (ap (λ records. slice_get records slot) none) ∙ at)
@@ -103,23 +100,26 @@ unwritten_drained v words slot un slots low = no_slot_change v slot (λ c there 
     omega arith)
 
 -- the generation of a record that the log has can be raised
-raisable : (flies : ℕ → List Final → Type 0) (v : View) (slot : ℕ) (r : Recorded) (phase : Phase) → v.log.phase ≡ phase → (HasSealed phase → is_drained_slot v slot ≡ true) → PhaseFits flies v phase → InRange (generation_of v) v phase → generation_of v ≤ generation_limit → slot < 64 → Stored v slot r
+raisable : (flies : ℕ → List Final → Type 0) (v : View) (slot : ℕ) (r : Recorded) (phase : Phase) → v.lane < v.lanes → v.log.phase ≡ phase → (HasSealed phase → is_drained_slot v slot ≡ true) → PhaseFits flies v phase → InRange (generation_of v) v phase → generation_of v ≤ generation_limit → slot < 64 → Stored v slot r
     → records_generation phase v < 4611686018427387904
-raisable flies v slot r Idle is drained fits range last low stored = absurd (no_slot v slot r fits.no_records (all_drained v slot fits.drained) (ap (λ p. used_slots p v) is) stored)
-raisable flies v slot r (Open words pair) is drained fits range last low stored = ⊎_elim
+raisable flies v slot r Idle inside is drained fits range last low stored = absurd (no_slot v slot r fits.no_records (filled_slot v slot inside low fits.changes) (ap (λ p. used_slots p v) is) stored)
+raisable flies v slot r (Open words pair) inside is drained fits range last low stored = ⊎_elim
     (λ (below : generation_of v < generation_limit). omega (arith, below))
     (λ (un : IsUnwritten v words). absurd (no_slot v slot r un.no_records (unwritten_drained v words slot un range.1 low) (ap (λ p. used_slots p v) is ∙ ap (λ (ws : List ℕ). used_slots (Open ws pair) v) un.no_slot) stored))
     range.0
-raisable flies v slot r Drawn is drained fits range last low stored = omega (arith, range)
-raisable flies v slot r Sealing is drained fits range last low stored = let below = fits.below in omega (arith, below)
-raisable flies v slot r (Applying applied) is drained fits range last low stored = absurd (no_slot v slot r fits.no_records (drained tt) (ap (λ p. used_slots p v) is) stored)
-raisable flies v slot r Clearing is drained fits range last low stored = absurd (no_slot v slot r fits.no_records (drained tt) (ap (λ p. used_slots p v) is) stored)
-raisable flies v slot r Retiring is drained fits range last low stored = omega (arith, range, last)
+raisable flies v slot r Drawn inside is drained fits range last low stored = omega (arith, range)
+raisable flies v slot r Sealing inside is drained fits range last low stored = let below = fits.below in omega (arith, below)
+raisable flies v slot r (Applying applied) inside is drained fits range last low stored = absurd (no_slot v slot r fits.no_records (drained tt) (ap (λ p. used_slots p v) is) stored)
+raisable flies v slot r Clearing inside is drained fits range last low stored = absurd (no_slot v slot r fits.no_records (drained tt) (ap (λ p. used_slots p v) is) stored)
+raisable flies v slot r Retiring inside is drained fits range last low stored = omega (arith, range, last)
 
 module _ (o : Opening) (mem : Memory) (views : Views) (log : List Entry) (decided : ℕ → Bool) (x : World o mem views log decided) (image : List ℕ) (survives : Survives o mem views image) (whole : NoneTorn o views image)
     (ranges : (j : ℕ) → j < o.lanes → InRange (mem (PoolWord (area_word j))) (views j) (views j).log.phase) (none : heap_fault (slice_index o.words) o.lanes o.zones ≡ None) where
   fits : (j : ℕ) → j < o.lanes → LaneFits o mem (settled o log decided) (Flies log decided j) j (views j)
   fits j inside = x.each_lane j inside
+
+  lane_low : (j : ℕ) → j < o.lanes → (views j).lane < (views j).lanes
+  lane_low j inside = let lane = (fits j inside).lane.lane in let lanes = (fits j inside).lane.lanes in omega (arith, inside, lane, lanes)
 
   range_of : (j : ℕ) → j < o.lanes → InRange (generation_of (views j)) (views j) (views j).log.phase
   range_of j inside = subst (λ (g : ℕ). InRange g (views j) (views j).log.phase) (course.generation_is o mem views log decided x j inside) (ranges j inside)
@@ -220,7 +220,7 @@ module _ (o : Opening) (mem : Memory) (views : Views) (log : List Entry) (decide
         let there : Contains v.changes c = (t.0, t.2, t.3) in
         let line : c.word / 8 ≡ slot_line v.lane slot = eqb-true (c.word / 8) (slot_line v.lane slot) t.4 in
         written_valid past
-        (undrained_upto (Flies log decided j) v c slot v.log.phase (sealed_drained j slot inside within) (fits j inside).phase (change_fits (Flies log decided j) v c v.log.phase (fits j inside).phase there) (range_of j inside) there within line)
+        (undrained_upto (Flies log decided j) v c slot v.log.phase (lane_low j inside) (sealed_drained j slot inside within) (fits j inside).phase (change_fits (Flies log decided j) v c v.log.phase (fits j inside).phase there) (range_of j inside) there within line)
         (inl undrained) where
           not_false : (b : Bool) → not b ≡ false → b ≡ true
           not_false true e = refl
@@ -252,7 +252,7 @@ module _ (o : Opening) (mem : Memory) (views : Views) (log : List Entry) (decide
         let n : ℕ = length r.old in
         let some = valid_slot.some in
         let most = valid_slot.most in
-        let low = raisable (Flies log decided j) v slot r v.log.phase refl (sealed_drained j slot inside within) (fits j inside).phase (range_of j inside) (fits j inside).last_generation within valid_slot.stored in
+        let low = raisable (Flies log decided j) v slot r v.log.phase (lane_low j inside) refl (sealed_drained j slot inside within) (fits j inside).phase (range_of j inside) (fits j inside).last_generation within valid_slot.stored in
         let g : ℕ = records_generation v.log.phase v in
         let place : 8 * r.word / 8 ≡ r.word = omega arith in
         and_from (leb 1 n && leb n 4 && eqb (8 * r.word % 8) 0 && list_all (λ k. in_chunk o.lanes o.zones (8 * r.word / 8 + k)) (range_with_len 0 n)) (not (eqb g 4611686018427387904))

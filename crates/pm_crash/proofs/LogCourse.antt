@@ -4,7 +4,7 @@ use Rattle.std.proofs.Common.{◌≡◌, ◌≢◌, ◌⊎◌, ⊎_elim, inl, in
 use Rattle.std.specs.List.{Contains}
 use Rattle.std.proofs.lemmas.Bool.{and_from, false≢true, le-leb, lt-ltb}
 use Rattle.std.proofs.lemmas.List.{length-append}
-use Rattle.std.proofs.lemmas.List.Elements.{Contains-append_cases}
+use Rattle.std.proofs.lemmas.List.Elements.{All-contains, Contains-append_cases}
 use Rattle.pm_record.specs.declared.redo.Op.TheVariants as op
 use Rattle.pm_image.proofs.Members.{member_kept, member_made, no_member, only_member}
 use Rattle.pm_record.specs.declared.redo.Op.{Op}
@@ -23,7 +23,7 @@ use Rattle.pm_view.specs.Views.{after, begun, changed, log_after_drain}
 use Rattle.pm_world.specs.Entries.{ends_with, set_word}
 use Rattle.pm_world.specs.Fits.{LaneFits, OpenFits, PhaseFits, SealingFits}
 use Rattle.pm_world.specs.History.{Entry, Flies, settled}
-use Rattle.pm_world.specs.Lawful.{MayWrite, IsLawful, IsNextEntry, StoreFits, generation_limit, MayChange}
+use Rattle.pm_world.specs.Lawful.{FilledChange, MayWrite, IsLawful, IsNextEntry, StoreFits, generation_limit, MayChange}
 use Rattle.pm_world.specs.Memory.{Memory}
 use Rattle.pm_world.specs.Memory.Location.{PoolWord}
 use Rattle.pm_world.specs.Moves.{Moves}
@@ -33,6 +33,7 @@ use Rattle.pm_world.specs.World.{Views, World}
 use Rattle.pm_world.proofs.CrashLogs.{InSlots, logged_recorded}
 use Rattle.pm_world.proofs.CrashWords.{behind_areas, reserved_word}
 use Rattle.pm_world.proofs.Exclusion.{writes_under}
+use Rattle.pm_world.proofs.Filled.{filled_behind}
 use Rattle.pm_world.proofs.Locations.{other_occ, other_zone_lock, plain_pool, other_pool, pool-counter, pool-lock, pool-stop}
 use Rattle.pm_world.proofs.Parts.{generation_part, seal_part}
 use Rattle.pm_world.proofs.StepChange.{changes_next, changes_written}
@@ -319,7 +320,13 @@ module _ (o : Opening) (mem : Memory) (views : Views) (log : List Entry) (decide
     drain_range (c ∷ left) among same range = carried g g' v (emptied (c ∷ left) v.log) v.log.phase same refl refl refl among range
 
     begun_range : (n : ℕ) (p : Phase) → v.log.phase ≡ p → PhaseFits (Flies log decided k) v p → g' ≡ g → InRange g v p → InRange g' (begun p v) (begun p v).log.phase
-    begun_range n Idle is may same range = (inr (record { no_records = refl; no_entries = refl; no_slot = refl }), λ c there slots. absurd (no_member c (subst (λ (cs : List Change). Contains cs c) may.drained there)))
+    begun_range n Idle is may same range = (
+      inr (record { no_records = refl; no_entries = refl; no_slot = refl }),
+      λ c there slots.
+          let behind = filled_behind v c (All-contains (FilledChange v) v.changes c may.changes there) in
+          let high = slots.high in let lane = fits.lane.lane in let lanes = fits.lane.lanes in
+          absurd (omega (arith, behind, high, lane, lanes, inside)),
+    )
     begun_range n (Open slot pair) is may same range = subst (InRange g' v) (sym is) (carried g g' v v (Open slot pair) same refl refl refl (all_of v.changes) range)
     begun_range n Drawn is may same range = subst (InRange g' v) (sym is) (carried g g' v v Drawn same refl refl refl (all_of v.changes) range)
     begun_range n Sealing is may same range = subst (InRange g' v) (sym is) tt

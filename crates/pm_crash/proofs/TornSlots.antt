@@ -1,6 +1,6 @@
 -- A slot that is being written while the power fails and is valid in the image holds a whole record, where no torn record matches by chance.
 use Rattle.std.proofs.Common.{◌≡◌, ◌≢◌, ◌⊎◌, ⊎_elim, inl, inr, ℕ, zero, suc, ◌+◌, ◌-◌, ◌*◌, ◌/◌, ◌<◌, ◌≤◌, Bool, true, false, not, eqb, leb, ltb, IsTrue, List, [], ◌∷◌, ◌++◌, length, take, drop, slice_get, slice_index, slice_range, Some, refl, sym, ◌∙◌, ap, subst, arith, eq-eqb}
-use Rattle.std.specs.List.{Contains, list_all, list_any, range_with_len}
+use Rattle.std.specs.List.{list_all, list_any, range_with_len}
 use Rattle.std.specs.Option.{ForSome}
 use Rattle.std.proofs.lemmas.Bool.{cases_eq, cases_lt, and_from, eqb-true, false≢true, le-leb, lt-ltb, ne_eqb, not_from_false, or_from}
 use Rattle.std.proofs.lemmas.List.{ext_get_or, get_or-drop, get_or-take, length-drop, length-take}
@@ -12,7 +12,6 @@ use Rattle.pm_objects.specs.declared.pool.PoolView.{PoolView}
 use Rattle.pm_record.specs.Undo.{is_record, undo_in, undo_of}
 use Rattle.pm_record.specs.declared.undo.Undo.{Undo}
 use Rattle.pm_image.specs.Logs.{generation, generation_word, seal_word, slot_line, undo_slot}
-use Rattle.pm_image.proofs.Members.{no_member}
 use Rattle.pm_image.specs.Steps.{valid_record}
 use Rattle.pm_view.specs.declared.change.Change.{Change}
 use Rattle.pm_view.specs.Area.{area_word}
@@ -37,16 +36,17 @@ use Rattle.pm_world.specs.Opening.{IsLivingWord, Opening}
 use Rattle.pm_world.specs.Records.{IsRecordAt, covers, generation_of, is_drained_slot, is_logged, records_generation, slot_word, spelled, used_slots}
 use Rattle.pm_world.proofs.CrashEntries.{generation_is}
 use Rattle.pm_world.proofs.CrashLaw.{all_drained, retiring_drained, seal_drained}
-use Rattle.pm_world.proofs.CrashLogs.{GenerationIs, entered_front, not_logged, whole_word}
+use Rattle.pm_world.proofs.CrashLogs.{GenerationIs, drained_slot, entered_front, not_logged, whole_word}
 use Rattle.pm_world.proofs.CrashSpellings.{valid_parts}
 use Rattle.pm_world.proofs.CrashWords.{OwnTakenBack, area_left}
 use Rattle.pm_world.proofs.Exclusion.{writes_under}
+use Rattle.pm_world.proofs.Filled.{filled_slot}
 use Rattle.pm_world.proofs.Living.{guarded_lives}
 use Rattle.pm_world.proofs.Pairs.{none_redone}
 use Rattle.pm_world.proofs.StoreSlot.{length-spelled}
 use Rattle.pm_crash.specs.Alone.{GrowsFirst, HasNoTornMatch, MayRecord, Rests, WorksAlone, alone_views, idle_view, is_of_words, standing}
 use Rattle.pm_crash.specs.Leading.{Leads}
-use Rattle.pm_crash.proofs.AloneCourse.{StandsAlone, alone_else, due_along, grows_along, number_along, stands_after, stands_at, begins_alone, begins_drained, begins_idle, begins_words}
+use Rattle.pm_crash.proofs.AloneCourse.{StandsAlone, alone_else, due_along, grows_along, number_along, stands_after, stands_at, begins_alone, begins_idle, begins_slots, begins_words}
 use Rattle.pm_crash.proofs.AloneImages.{kept_survives, own_fits}
 use Rattle.pm_crash.proofs.AloneMemory.{memory_of}
 use Rattle.pm_crash.proofs.FirstLog.{FirstLog, Making, Since, Unwritten, first_after}
@@ -60,14 +60,16 @@ record StandsFirst (o origin : Opening) (header : Header) (pool : PoolView) (w :
   first : FirstLog origin w w.log.phase
 
 -- where the lane rests nothing of a log is written since
-rested : (o : Opening) (b : View) (end : ℕ) → b.lane ≡ 0 → b.changes ≡ [] → Since (standing o b) b end
-rested o b end lane none =
+rested : (o : Opening) (b : View) (end : ℕ) → b.lane ≡ 0 → ((slot : ℕ) → slot < 64 → is_drained_slot b slot ≡ true) → Since (standing o b) b end
+rested o b end lane drained =
     let is : generation_of b ≡ generation_word b.words 0 = ap (λ (n : ℕ). slice_index b.words (area_word n)) lane in
     record {
       least = omega (arith, is);
       first = λ now. record {
         beyond = λ i from high. refl;
-        olds = λ c there slots. absurd (no_member c (subst (λ (cs : List Change). Contains cs c) none there));
+        olds = λ c there slots.
+            let low = slots.low in let high = slots.high in
+            absurd (drained_slot b (c.word / 8 - 81) c (drained (c.word / 8 - 81) (omega (arith, low, high))) there (omega (arith, low, lane)));
       };
     }
 
@@ -369,7 +371,7 @@ module _ (o : Opening) (header : Header) (pool : PoolView) (w : View) (s : Stand
 
     whole_in : (test : Recorded → Bool) → HasNoTornMatch origin test → ((r : Recorded) → MayRecord w r → test r ≡ true) → (u : Undo) → valid_record image 0 slot ≡ Some u
         → (phase : Phase) → w.log.phase ≡ phase → PhaseFits (Flies s.log s.decided 0) w phase → FirstLog origin w phase → GrowsFirst origin w phase → IsBeingWritten w slot → IsWhole w image slot
-    whole_in test none passes u valid Idle is fit first grows being = none_here Idle is refl (all_drained w slot fit.drained) being
+    whole_in test none passes u valid Idle is fit first grows being = none_here Idle is refl (filled_slot w slot (let some = s.goes.in_lanes in let lane = fits.lane.lane in let lanes = fits.lane.lanes in omega (arith, some, lane, lanes)) within fit.changes) being
     whole_in test none passes u valid (Open making pair) is fit first grows being =
         let here : IsInLog making = open_here making pair is fit.short being in
         ⊎_elim
@@ -412,7 +414,7 @@ pub none_torn_alone : (o : Opening) (header : Header) (pool : PoolView) (v w : V
 unfolding Leads
 none_torn_alone o header pool v w steps keep image test works is grows none passes =
     let same : standing o v ≡ o = ap (λ (words : List ℕ). let p : Opening = record o { words = words } in p) (begins_words o header pool v works.begins) in
-    none_torn_behind o header pool v v w [] steps keep image test works refl (record { empty = inl (begins_idle o header pool v works.begins); drained = begins_drained o header pool v works.begins }) is
+    none_torn_behind o header pool v v w [] steps keep image test works refl (record { empty = inl (begins_idle o header pool v works.begins); drained = begins_slots o header pool v works.begins }) is
     (subst (λ (p : Opening). GrowsFirst p w w.log.phase) (sym same) grows) (subst (λ (p : Opening). HasNoTornMatch p test) (sym same) none) passes
 
 -- a record that the lane may be writing has its words

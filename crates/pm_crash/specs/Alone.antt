@@ -25,7 +25,7 @@ use Rattle.pm_memory.specs.Solo.{AreNumbered}
 use Rattle.pm_world.specs.Crash.{loses}
 use Rattle.pm_world.specs.Opening.{Opening}
 use Rattle.pm_world.specs.Opens.{IsClean, IsFresh, IsRested}
-use Rattle.pm_world.specs.Records.{generation_of, spelled}
+use Rattle.pm_world.specs.Records.{generation_of, is_drained_slot, spelled}
 use Rattle.pm_world.specs.World.{Views, may_draw}
 use Rattle.pm_crash.specs.Held.{HoldsImage}
 use Rattle.pm_crash.specs.Leading.{Leads}
@@ -47,7 +47,7 @@ pub record BeginsAlone (o : Opening) (header : Header) (pool : PoolView) (v : Vi
   pub alone : IsAlone v
 
 -- The lane begins again between two of its calls, over the words as they stand then. An image of these holds a pool, to which its calls so far lead from this
--- one; each log is clean, and it has nothing open, undrained or locked. Its picture of the occupancy words has what the words say is taken, and what it
+-- one; each log is clean, and it has nothing open or locked, and nothing undrained but words that it filled. Its picture of the occupancy words has what the words say is taken, and what it
 -- reserved. Its numbers are its own, and not spent.
 pub record BeginsAgain (o : Opening) (header : Header) (pool : PoolView) (v : View) : Type 0 where
   pub now : PoolView
@@ -89,10 +89,10 @@ alone_views o w j = if j == 0 then w else idle_view o j
 abbrev pub standing : Opening → View → Opening
 standing o b = record o { words = b.words }
 
--- the lane rests: its log is empty, with no call open or one that may record, and nothing is undrained
+-- the lane rests: its log is empty, with no call open or one that may record, and no slot of it has an undrained word
 pub record Rests (b : View) : Type 0 where
   pub empty : (b.log ≡ no_log Idle) ⊎ (b.log ≡ no_log (Open [] []))
-  pub drained : b.changes ≡ []
+  pub drained : (slot : ℕ) → slot < 64 → is_drained_slot b slot ≡ true
 
 -- a call that has drawn its number is decided by no seal so far: its next generation is to be stored, or is stored and not drained
 abbrev pub IsUnsealed : Phase → Type 0

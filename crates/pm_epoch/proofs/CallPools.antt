@@ -140,8 +140,8 @@ module _ (o : Opening) (header : Header) (pool : PoolView) (w : View) (s : Stand
   -- where nothing is undrained
   module _ (drained : w.changes ≡ []) where
     -- no slot of it is being written
-    writes_none : (slot : ℕ) → IsBeingWritten w slot → ⊥
-    writes_none slot = ⊎_elim
+    writes_none : (slot : ℕ) → slot < 64 → IsBeingWritten w slot → ⊥
+    writes_none slot within = ⊎_elim
         (λ (undrained : is_drained_slot w slot ≡ false). false≢true (sym undrained ∙ all_drained w slot drained))
         (λ (used : (length w.log.records ≤ slot) × (slot < used_slots w.log.phase w)). let all : used_slots w.log.phase w ≡ length w.log.records = ap (λ p. used_slots p w) is_open in let from = used.0 in let to = used.1 in omega (arith, all, from, to))
 

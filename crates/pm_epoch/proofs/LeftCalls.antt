@@ -34,7 +34,7 @@ use Rattle.pm_sealed.proofs.LeftImages.{loses_nothing_of, same_size}
 use Rattle.pm_sealed.proofs.NoFaults.{beside}
 use Rattle.pm_epoch.specs.Epochs.{HasEnded, IsPublishing, MayPublish}
 use Rattle.pm_epoch.proofs.PublishedImages.{all_left, means, nothing_left, unentered_front}
-use Rattle.pm_epoch.proofs.PublishingCalls.{alone, base, before, entries, fits, heap, held, led, may, newest}
+use Rattle.pm_epoch.proofs.PublishingCalls.{alone, base, before, drawn_drained, entries, fits, heap, held, led, may, newest}
 
 -- an image that holds a pool to which some calls lead means them
 means_calls : (image : List ℕ) (lanes zones : ℕ) (header : Header) (pool last : PoolView) (calls : List Numbered) → HoldsImage image lanes zones header last
@@ -120,7 +120,7 @@ module _ (o : Opening) (header : Header) (pool : PoolView) (u : View) (n : ℕ) 
   -- ---- its length, and the header page
 
   at_draw : IsKeptImage 1 u.words (u.changes ∷ []) u.words
-  at_draw = subst (λ (cs : List Change). IsKeptImage 1 u.words (cs ∷ []) u.words) (sym call.draws.drained) (record { size = refl; each = λ i low. refl })
+  at_draw = subst (λ (cs : List Change). IsKeptImage 1 u.words (cs ∷ []) u.words) (sym (drawn_drained o header pool u n all w call)) (record { size = refl; each = λ i low. refl })
 
   pub same_length : length image ≡ length o.words
   same_length = same_size b w call.log_steps keep image leaves ∙ size_stays o header pool call.start u call.steps call.works 1 u.words at_draw

@@ -1,6 +1,6 @@
 -- What a lane alone has and may do as it publishes its committed call: its number is the newest, its calls lead to the pool with all that is published, and it may
 -- publish that.
-use Rattle.std.proofs.Common.{◌≡◌, ⊎_elim, ℕ, suc, zero, ◌+◌, ◌<◌, ◌≤◌, true, List, [], ◌∷◌, ◌++◌, length, length-append, slice_index, cond, is_none, sym, ap, ◌∙◌, subst, arith}
+use Rattle.std.proofs.Common.{◌≡◌, ⊎_elim, ℕ, suc, zero, ◌+◌, ◌<◌, ◌≤◌, true, List, [], ◌∷◌, ◌++◌, length, map, length-append, slice_index, cond, is_none, sym, ap, ◌∙◌, subst, arith}
 use Rattle.std.specs.List.{list_any}
 use Rattle.std.proofs.lemmas.Bool.{and_from, cases_lt, cond-true, lt-ltb}
 use Rattle.pm_header.specs.declared.header.Header.{Header}
@@ -12,17 +12,20 @@ use Rattle.pm_view.specs.Steps.Step.{Draw, NumberSeen}
 use Rattle.pm_view.specs.Constants.{IsSameLane}
 use Rattle.pm_view.specs.View.{Numbered, View}
 use Rattle.pm_view.specs.Views.{after}
+use Rattle.pm_world.specs.Entries.{ends_with}
 use Rattle.pm_world.specs.Fits.{LaneFits}
 use Rattle.pm_world.specs.History.{Flies, settled}
 use Rattle.pm_world.specs.Lawful.{Allowed, generation_limit}
 use Rattle.pm_world.specs.Opening.{Opening}
+use Rattle.pm_world.specs.Records.{generation_of}
 use Rattle.pm_world.specs.World.{Views, is_low, may_draw, may_draw_count}
 use Rattle.pm_model.specs.Actions.{with_actions}
 use Rattle.pm_model.specs.History.{opened}
 use Rattle.pm_model.specs.Names.{Replays}
 use Rattle.pm_crash.specs.Pending.{acts_alone, published_in, state_alone}
 use Rattle.pm_crash.specs.HeapChanges.{HeapChange}
-use Rattle.pm_crash.specs.Publishing.{Published, all_pool_published}
+use Rattle.pm_crash.specs.Publishing.{Published, all_pool_published, entry_published}
+use Rattle.pm_world.proofs.Filled.{all_drained}
 use Rattle.pm_crash.proofs.AloneCourse.{StandsAlone, begins_alone, stands_at}
 use Rattle.pm_crash.proofs.AloneMemory.{memory_of}
 use Rattle.pm_crash.proofs.OnTheWay.{alone_on_the_way}
@@ -91,8 +94,15 @@ module _ (o : Opening) (header : Header) (pool : PoolView) (u : View) (n : ℕ) 
 
   -- ---- to what its calls lead
 
+  -- it has entries, so nothing was undrained as it drew
+  pub drawn_drained : u.changes ≡ []
+  drawn_drained = all_drained u call.draws.drained (λ records none.
+      let empty = ap length none in
+      let some = ap length call.entered.entries ∙ length-append (map (entry_published u.lanes) all) (ends_with u (generation_of u + 1) ∷ []) in
+      absurd (omega (arith, empty, some)))
+
   pub held : HoldsCommitted o u header pool
-  held = holds_committed o header pool u stands call.draws.is_open call.draws.drained call.start call.works.begins call.borne_out call.committed
+  held = holds_committed o header pool u stands call.draws.is_open drawn_drained call.start call.works.begins call.borne_out call.committed
 
   -- the pool before it, and the one that it publishes all on, which the call stored
   abbrev pub before : PoolView

@@ -15,7 +15,7 @@ use Rattle.pm_world.specs.Opening.{Opening}
 use Rattle.pm_world.specs.Opens.{IsClean, IsRested}
 use Rattle.pm_world.specs.Records.{is_drained_slot, used_slots}
 use Rattle.pm_world.specs.World.{is_low}
-use Rattle.pm_world.proofs.CrashLaw.{all_drained}
+use Rattle.pm_world.proofs.Filled.{filled_slot}
 use Rattle.pm_sealed.proofs.IdleLanes.{idle_clean}
 use Rattle.pm_crash.specs.Alone.{BeginsAgain, WorksAlone, standing}
 use Rattle.pm_crash.proofs.AloneCourse.{StandsAlone, begins_alone, stands_at}
@@ -38,9 +38,9 @@ module _ (o : Opening) (header : Header) (pool : PoolView) (v w : View) (steps :
   idle = ap (λ (l : Log). l.phase) rests.idle
 
   -- no slot of it is being written, and no call of it is lost
-  writes_none : (slot : ℕ) → IsBeingWritten w slot → ⊥
-  writes_none slot = ⊎_elim
-      (λ (undrained : is_drained_slot w slot ≡ false). false≢true (sym undrained ∙ all_drained w slot rests.drained))
+  writes_none : (slot : ℕ) → slot < 64 → IsBeingWritten w slot → ⊥
+  writes_none slot within = ⊎_elim
+      (λ (undrained : is_drained_slot w slot ≡ false). false≢true (sym undrained ∙ filled_slot w slot (let some = stands.goes.in_lanes in let lane = fits.lane.lane in let lanes = fits.lane.lanes in omega (arith, some, lane, lanes)) within rests.changes))
       (λ (used : (length w.log.records ≤ slot) × (slot < used_slots w.log.phase w)). let all : used_slots w.log.phase w ≡ length w.log.records = ap (λ p. used_slots p w) idle in let from = used.0 in let to = used.1 in omega (arith, all, from, to))
 
   loses_none : (n : ℕ) → loses w.words w n ≡ false
@@ -63,7 +63,8 @@ module _ (o : Opening) (header : Header) (pool : PoolView) (v w : View) (steps :
     lane = record { lanes = fits.lane.lanes; zones = fits.lane.zones; lane = fits.lane.lane; size = refl };
     words = refl;
     held = fits.picture.held;
-    drained = rests.drained;
+    changes = rests.changes;
+    room = fits.room;
     idle = rests.idle;
     no_locks = rests.free;
     of_pool = fits.blocks.of_pool;

@@ -55,7 +55,7 @@ reached o header pool w s = reached_all o 0 header pool (now o header pool w s) 
 
 -- ---- where no slot of the lane is being written, and no call of it is lost
 
-module _ (o : Opening) (header : Header) (pool : PoolView) (w : View) (s : StandsAlone o header pool w) (quiet : (slot : ℕ) → IsBeingWritten w slot → ⊥) (kept_own : (n : ℕ) → loses w.words w n ≡ false) where
+module _ (o : Opening) (header : Header) (pool : PoolView) (w : View) (s : StandsAlone o header pool w) (quiet : (slot : ℕ) → slot < 64 → IsBeingWritten w slot → ⊥) (kept_own : (n : ℕ) → loses w.words w n ≡ false) where
   -- nothing is taken back of its words
   survives : Survives o (memory_of w) s.views w.words
   survives = record {
@@ -64,7 +64,7 @@ module _ (o : Opening) (header : Header) (pool : PoolView) (w : View) (s : Stand
   }
 
   untorn : NoneTorn o s.views w.words
-  untorn = none_torn o header pool w s w.words (none_torn_by_lane o w w.words (λ slot u within being valid. absurd (quiet slot being)))
+  untorn = none_torn o header pool w s w.words (none_torn_by_lane o w w.words (λ slot u within being valid. absurd (quiet slot within being)))
 
   -- so none is lost of any lane
   kept_each : (n : ℕ) → is_kept o s.views w.words n ≡ true

@@ -20,7 +20,7 @@ use Rattle.std.specs.Int.{bit_at}
 use Rattle.std.specs.List.{AllZip, IsDistinct, list_any}
 use Rattle.pm_world.specs.Entries.{ends_with, is_entered}
 use Rattle.pm_world.specs.Heap.{IsOcc, has_taken}
-use Rattle.pm_world.specs.Lawful.{Allowed, generation_limit}
+use Rattle.pm_world.specs.Lawful.{Allowed, OnlyFilled, generation_limit}
 use Rattle.pm_world.specs.Lanes.{IsOfShape}
 use Rattle.pm_world.specs.Records.{generation_of}
 use Rattle.pm_undo.specs.Working.{IsWorking}
@@ -180,10 +180,10 @@ pub record HoldsCommitted (o : Opening) (u : View) (header : Header) (pool : Poo
 
 -- ---- between its calls
 
--- The lane rests behind a call: its log is empty, with nothing undrained and nothing locked, and no chunk that it reserved is a run.
+-- The lane rests behind a call: its log is empty, with nothing undrained but words that it filled and nothing locked, and no chunk that it reserved is a run.
 pub record RestsBehindCall (w : View) : Type 0 where
   pub idle : w.log ≡ no_log Idle
-  pub drained : w.changes ≡ []
+  pub changes : OnlyFilled w
   pub free : w.locks ≡ []
   pub unlocked : w.zone_locks ≡ []
   pub no_run : ReservesNoRun w.lanes w

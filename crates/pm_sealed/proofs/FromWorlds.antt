@@ -23,6 +23,7 @@ use Rattle.pm_world.specs.Records.{IsRecordAt, generation_of, records_generation
 use Rattle.pm_world.specs.World.{Views, World}
 use Rattle.pm_sealed.proofs.IdleLanes.{idle_clean}
 use Rattle.pm_world.proofs.CrashSpellings.{undo_from, undo_of-spelled}
+use Rattle.pm_world.proofs.Filled.{all_drained}
 use Rattle.pm_sealed.specs.Sealed.{HasWholeLog, IsOfPool, MaySeal, SealingLaw, pool_seen}
 
 module _ (o : Opening) (mem : Memory) (views : Views) (log : List Entry) (decided : ℕ → Bool) (k n : ℕ) (world : World o mem views log decided) (inside : k < o.lanes)
@@ -50,10 +51,13 @@ module _ (o : Opening) (mem : Memory) (views : Views) (log : List Entry) (decide
   drawn_log : b.log ≡ record v.log { phase = phase_drawn v.log.records v.log.entries }
   drawn_log = ap (λ p. log_drawn p v.log) may.is_open
 
+  long : length v.log.entries ≡ length whole.front + 1
+  long = ap length whole.ends ∙ length-append whole.front (ends_with v (generation_of v + 1) ∷ [])
+
   drawn : b.log.phase ≡ Drawn
   drawn =
       ap (λ (l : Log). l.phase) drawn_log
-      ∙ some_entries v.log.records v.log.entries (let long = ap (λ (fs : List Final). length fs) whole.ends ∙ length-append whole.front (ends_with v (generation_of v + 1) ∷ []) in omega (arith, long))
+      ∙ some_entries v.log.records v.log.entries (let some = long in omega (arith, some))
 
   entries_same : b.log.entries ≡ v.log.entries
   entries_same = ap (λ (l : Log). l.entries) drawn_log
@@ -87,7 +91,7 @@ module _ (o : Opening) (mem : Memory) (views : Views) (log : List Entry) (decide
     in_lanes = let lanes = mine.lane.lanes in let lane = mine.lane.lane in omega (arith, lanes, lane, inside);
     size = size;
     drawn = drawn;
-    drained = may.drained;
+    drained = all_drained v may.drained (λ records none. let size_none = ap length none in let some = long in absurd (omega (arith, size_none, some)));
     few = subst (λ fs. length fs ≤ 64) (sym entries_same) mine.entries.most;
     front = whole.front;
     ends = entries_same ∙ whole.ends;
