@@ -1,19 +1,19 @@
 -- What an operation that is done has passed, and on what its answer depends.
-use Rattle.std.proofs.Common.{◌≡◌, ⊎_elim, ℕ, ◌+◌, List, [], ◌∷◌, length, Option, Some, None, Bool, true, false, cond, eqb, ltb, ◌&&◌, ◌||◌, refl, sym, ◌∙◌, ap}
+use Rattle.std.proofs.Common.{◌≡◌, ⊎_elim, ℕ, ◌+◌, List, [], ◌∷◌, length, Option, Some, None, Bool, true, false, cond, eqb, ltb, ◌&&◌, ◌||◌, refl, sym, ◌∙◌, ap, arith}
 use Rattle.std.specs.List.{find, list_any}
 use Rattle.std.specs.Option.{option_map, option_map_or}
-use Rattle.std.proofs.lemmas.Bool.{cases_Bool, false≢true, not-false, and_parts, or_parts}
+use Rattle.std.proofs.lemmas.Bool.{cases_Bool, false≢true, not-false, and_parts, eqb-true, or_parts}
 use Rattle.pm_objects.specs.Pool.{Objects, object_at}
 use Rattle.pm_objects.specs.declared.calls.Operation.{Operation}
-use Rattle.pm_objects.specs.declared.calls.Operation.TheVariants.{Free}
+use Rattle.pm_objects.specs.declared.calls.Operation.TheVariants.{Free, Publish}
 use Rattle.pm_objects.specs.declared.ids.Oid.{Oid}
 use Rattle.pm_objects.specs.declared.pool.Object.{Object}
 use Rattle.pm_objects.specs.declared.refusal.Refusal.{Refusal}
 use Rattle.pm_objects.specs.declared.refusal.Refusal.TheVariants as refusal
-use Rattle.pm_model.specs.Transaction.{Transaction, holds_object}
-use Rattle.pm_model.specs.Actions.{Action, end_of, object_of, passes_object}
+use Rattle.pm_model.specs.Transaction.{Transaction, all_made, all_released, entries_of, given_over, holds_object, published}
+use Rattle.pm_model.specs.Actions.{Action, Pending, Reservation, end_of, is_plain, object_of, passes_object}
 use Rattle.pm_model.specs.Bytes.{bytes_of}
-use Rattle.pm_model.specs.Checks.{Seen, Range, range_of, needs_write, finds_no_work, finds_no_tx, is_spent, is_too_deep, passes_locks, is_lock_missing, is_publish, is_unaligned, is_bad_size, is_not_held, is_unlocked_action, publishes_unlocked, frees_unlocked, names_gone, is_free, frees_root, frees_listed, finds_no_space, publishes_past_end, passes_actions, is_not_locked, wants_no_place, is_busy, is_missing, passes_end_of, passes_end, is_not_added, passes_log, checks, first_refusal}
+use Rattle.pm_model.specs.Checks.{Seen, Range, range_of, needs_write, finds_no_work, finds_no_tx, is_spent, is_too_deep, passes_locks, is_lock_missing, is_publish, is_unaligned, is_bad_size, is_not_held, is_unlocked_action, publishes_unlocked, frees_unlocked, names_gone, is_free, frees_root, frees_listed, finds_no_space, publishes_past_end, passes_actions, is_not_locked, wants_no_place, is_busy, is_missing, passes_end_of, passes_end, is_not_added, passes_log, checks, first_refusal, is_listed, is_root, lacks_reservation, puts_past_end}
 use Rattle.pm_model.proofs.Locking.{holds_to_read}
 
 -- the transaction over other objects, of a pool with another root
@@ -23,9 +23,9 @@ over tx objects before root = record tx {
   before = record tx.before { objects = before; root = root };
 }
 
--- the rows of the checks, for any answers of those on locks, on frees and on the object's end
-rows : Seen → Transaction → Operation → Bool → Bool → Bool → Bool → List (Refusal × Bool)
-rows seen tx op not_locked of_root listed past_end =
+-- the rows of the checks, for any answers of those on locks, on frees, on the object's end and on the room for entries
+rows : Seen → Transaction → Operation → Bool → Bool → Bool → Bool → Bool → List (Refusal × Bool)
+rows seen tx op not_locked of_root listed past_end full =
     (refusal.NotWork, finds_no_work tx)
     ∷ (refusal.NoTx, finds_no_tx tx op)
     ∷ (refusal.Spent, is_spent seen tx)
@@ -33,6 +33,7 @@ rows seen tx op not_locked of_root listed past_end =
     ∷ (refusal.LocksFull, passes_locks tx op)
     ∷ (refusal.Unaligned, is_unaligned op)
     ∷ (refusal.BadSize, is_bad_size op)
+    ∷ (refusal.NotReserved, lacks_reservation tx.pool tx.actions op)
     ∷ (refusal.NotLocked, not_locked)
     ∷ (refusal.NoObject, wants_no_place tx op)
     ∷ (refusal.Busy, is_busy seen tx op)
@@ -43,7 +44,7 @@ rows seen tx op not_locked of_root listed past_end =
     ∷ (refusal.OutOfRange, past_end)
     ∷ (refusal.NotAdded, is_not_added tx op)
     ∷ (refusal.LogFull, passes_log tx op)
-    ∷ (refusal.ActionsFull, passes_actions tx op)
+    ∷ (refusal.ActionsFull, full)
     ∷ (refusal.NoSpace, finds_no_space seen op)
     ∷ []
 
@@ -51,20 +52,49 @@ first_row : List (Refusal × Bool) → Option Refusal
 first_row checks = option_map (λ check. check.0) (find (λ check. check.1) checks)
 
 -- an object's end is looked at only under its lock
-end_under_lock : (seen : Seen) (tx : Transaction) (op : Operation) (not_locked of_root listed one other : Bool) → (not_locked ≡ false → one ≡ other)
-    → first_row (rows seen tx op not_locked of_root listed one) ≡ first_row (rows seen tx op not_locked of_root listed other)
+end_under_lock : (seen : Seen) (tx : Transaction) (op : Operation) (not_locked of_root listed one other full : Bool) → (not_locked ≡ false → one ≡ other)
+    → first_row (rows seen tx op not_locked of_root listed one full) ≡ first_row (rows seen tx op not_locked of_root listed other full)
 unfolding rows first_row
-end_under_lock seen tx op true of_root listed one other same = refl
-end_under_lock seen tx op false of_root listed one other same = ap (λ (b : Bool). first_row (rows seen tx op false of_root listed b)) (same refl)
+end_under_lock seen tx op true of_root listed one other full same = refl
+end_under_lock seen tx op false of_root listed one other full same = ap (λ (b : Bool). first_row (rows seen tx op false of_root listed b full)) (same refl)
 
--- an operation that is no free frees nothing
-pub frees_no_root : (tx : Transaction) (op : Operation) → is_free op ≡ false → frees_root tx op ≡ false
-frees_no_root tx (Free id) other = absurd (false≢true (sym other))
-frees_no_root tx op other = refl
+-- nothing is to be freed or reserved
+pub record IsPlain (p : Pending) : Type 0 where
+  pub frees : p.frees ≡ []
+  pub reserved : p.reserved ≡ []
 
-pub frees_none_listed : (tx : Transaction) (op : Operation) → is_free op ≡ false → frees_listed tx op ≡ false
-frees_none_listed tx (Free id) other = absurd (false≢true (sym other))
-frees_none_listed tx op other = refl
+pub plain_from : (p : Pending) → is_plain p ≡ true → IsPlain p
+plain_from p plain =
+    let parts = and_parts (eqb (length p.frees) 0) (eqb (length p.reserved) 0) plain in
+    record { frees = none p.frees (eqb-true (length p.frees) 0 parts.0); reserved = none p.reserved (eqb-true (length p.reserved) 0 parts.1) } where
+      none : {A : Type 0} (xs : List A) → length xs ≡ 0 → xs ≡ []
+      none [] empty = refl
+      none (x ∷ xs) empty = absurd (omega (arith, empty))
+
+-- an operation that is no free frees nothing, where nothing is to be freed
+pub frees_no_root : (tx : Transaction) (op : Operation) → is_free op ≡ false → IsPlain tx.actions → frees_root tx op ≡ false
+frees_no_root tx (Free id) other plain = absurd (false≢true (sym other))
+frees_no_root tx Publish other plain = ap (list_any (is_root tx.pool)) plain.frees
+frees_no_root tx op other plain = refl
+
+pub frees_none_listed : (tx : Transaction) (op : Operation) → is_free op ≡ false → IsPlain tx.actions → frees_listed tx op ≡ false
+frees_none_listed tx (Free id) other plain = absurd (false≢true (sym other))
+frees_none_listed tx Publish other plain = ap (list_any (λ (id : Oid). is_listed tx.pool.objects id.off)) plain.frees
+frees_none_listed tx op other plain = refl
+
+-- what is published is given over then, and no more
+none_made : (ids : List Oid) (rs : List Reservation) (tx : Transaction) → ids ≡ [] → rs ≡ [] → all_made rs (all_released ids tx) ≡ tx
+none_made ids rs tx no_ids no_rs = (λ j. all_made (no_rs j) (all_released (no_ids j) tx))
+
+pub published_plain : (tx : Transaction) → IsPlain tx.actions → published tx ≡ given_over tx
+published_plain tx plain = none_made tx.actions.frees tx.actions.reserved (given_over tx) plain.frees plain.reserved
+
+-- and its entries are as many over other objects
+same_room : (tx : Transaction) (op : Operation) (objects before : Objects) (root : Option ℕ) → IsPlain tx.actions → passes_actions (over tx objects before root) op ≡ passes_actions tx op
+same_room tx Publish objects before root plain =
+    ap (λ (t : Transaction). ltb 64 (entries_of t + 1)) (published_plain (over tx objects before root) (record { frees = plain.frees; reserved = plain.reserved }))
+    ∙ sym (ap (λ (t : Transaction). ltb 64 (entries_of t + 1)) (published_plain tx plain))
+same_room tx op objects before root plain = refl
 
 pub frees_none_unlocked : (tx : Transaction) (op : Operation) → is_free op ≡ false → frees_unlocked tx op ≡ false
 frees_none_unlocked tx (Free id) other = absurd (false≢true (sym other))
@@ -109,27 +139,30 @@ same_ends tx objects (a ∷ actions) same held =
     (λ i. one i || rest i)
 
 same_published : (tx : Transaction) (objects before : Objects) (root : Option ℕ) (publishes : Bool) → ((off : ℕ) → holds_object tx off false ≡ true → object_at objects off ≡ object_at tx.pool.objects off)
-    → (publishes && list_any (is_unlocked_action tx) tx.actions) ≡ false → (publishes && list_any (passes_object objects) tx.actions) ≡ (publishes && list_any (passes_object tx.pool.objects) tx.actions)
-same_published tx objects before root true same held = same_ends tx objects tx.actions same held
+    → (publishes && (list_any (is_not_held tx true) tx.actions.frees || list_any (is_unlocked_action tx) tx.actions.sets)) ≡ false
+    → (publishes && list_any (passes_object objects) tx.actions.sets) ≡ (publishes && list_any (passes_object tx.pool.objects) tx.actions.sets)
+same_published tx objects before root true same held =
+    same_ends tx objects tx.actions.sets same (or_parts (list_any (is_not_held tx true) tx.actions.frees) (list_any (is_unlocked_action tx) tx.actions.sets) held).1
 same_published tx objects before root false same held = refl
 
 -- objects that are the same wherever one is held have the same first refusal
-pub same_refusal : (seen : Seen) (tx : Transaction) (op : Operation) (objects before : Objects) (root : Option ℕ) → is_free op ≡ false
+pub same_refusal : (seen : Seen) (tx : Transaction) (op : Operation) (objects before : Objects) (root : Option ℕ) → is_free op ≡ false → IsPlain tx.actions
     → ((off : ℕ) → holds_object tx off false ≡ true → object_at objects off ≡ object_at tx.pool.objects off)
     → first_refusal seen (over tx objects before root) op ≡ first_refusal seen tx op
 unfolding first_refusal first_row rows
-same_refusal seen tx op objects before root no_free same =
+same_refusal seen tx op objects before root no_free plain same =
     let other_tx : Transaction = over tx objects before root in
+    let other_plain : IsPlain other_tx.actions = record { frees = plain.frees; reserved = plain.reserved } in
     (λ i. first_row (rows seen tx op (is_not_locked tx op)
-    ((frees_no_root other_tx op no_free ∙ sym (frees_no_root tx op no_free)) i)
-    ((frees_none_listed other_tx op no_free ∙ sym (frees_none_listed tx op no_free)) i) (passes_end other_tx op)))
-    ∙ end_under_lock seen tx op (is_not_locked tx op) (frees_root tx op) (frees_listed tx op) (passes_end other_tx op) (passes_end tx op)
+    ((frees_no_root other_tx op no_free other_plain ∙ sym (frees_no_root tx op no_free plain)) i)
+    ((frees_none_listed other_tx op no_free other_plain ∙ sym (frees_none_listed tx op no_free plain)) i) (passes_end other_tx op) (same_room tx op objects before root plain i)))
+    ∙ end_under_lock seen tx op (is_not_locked tx op) (frees_root tx op) (frees_listed tx op) (passes_end other_tx op) (passes_end tx op) (passes_actions tx op)
     (λ held.
     let both = or_parts (publishes_unlocked tx op || frees_unlocked tx op) (option_map_or (is_lock_missing tx (needs_write op)) (range_of op) false) held in
     let one : publishes_past_end (over tx objects before root) op ≡ publishes_past_end tx op = same_published tx objects before root (is_publish op) same (or_parts (publishes_unlocked tx op) (frees_unlocked tx op) both.0).0 in
     let other : option_map_or (passes_end_of (over tx objects before root)) (range_of op) false ≡ option_map_or (passes_end_of tx) (range_of op) false =
     same_end tx objects before root (needs_write op) (range_of op) same both.1 in
-    (λ i. one i || other i))
+    (λ i. puts_past_end tx.actions op || (one i || other i)))
 
 -- none of them passes the test
 unfoldable pub NonePasses : {A : Type 0} → (A → Bool) → List A → Type 0
@@ -155,7 +188,7 @@ passed_lock seen tx op none =
     let found : Option (Refusal × Bool) = find (λ (check : Refusal × Bool). check.1) (checks seen tx op) in
     let passed : NonePasses (λ (check : Refusal × Bool). check.1) (checks seen tx op) =
     none_passes (λ (check : Refusal × Bool). check.1) (checks seen tx op) (unmapped (λ (check : Refusal × Bool). check.0) found none) in
-    passed.1.1.1.1.1.1.1.0
+    passed.1.1.1.1.1.1.1.1.0
 
 pub passed_end : (seen : Seen) (tx : Transaction) (op : Operation) → first_refusal seen tx op ≡ None → passes_end tx op ≡ false
 unfolding first_refusal NonePasses
@@ -163,7 +196,7 @@ passed_end seen tx op none =
     let found : Option (Refusal × Bool) = find (λ (check : Refusal × Bool). check.1) (checks seen tx op) in
     let passed : NonePasses (λ (check : Refusal × Bool). check.1) (checks seen tx op) =
     none_passes (λ (check : Refusal × Bool). check.1) (checks seen tx op) (unmapped (λ (check : Refusal × Bool). check.0) found none) in
-    passed.1.1.1.1.1.1.1.1.1.1.1.1.1.1.0
+    passed.1.1.1.1.1.1.1.1.1.1.1.1.1.1.1.0
 
 -- an operation that is not refused misses no object
 pub passed_missing : (seen : Seen) (tx : Transaction) (op : Operation) → first_refusal seen tx op ≡ None → is_missing seen tx op ≡ false
@@ -172,7 +205,7 @@ passed_missing seen tx op none =
     let found : Option (Refusal × Bool) = find (λ (check : Refusal × Bool). check.1) (checks seen tx op) in
     let passed : NonePasses (λ (check : Refusal × Bool). check.1) (checks seen tx op) =
     none_passes (λ (check : Refusal × Bool). check.1) (checks seen tx op) (unmapped (λ (check : Refusal × Bool). check.0) found none) in
-    passed.1.1.1.1.1.1.1.1.1.1.0
+    passed.1.1.1.1.1.1.1.1.1.1.1.0
 
 -- an object that is made has a size
 pub passed_size : (seen : Seen) (tx : Transaction) (op : Operation) → first_refusal seen tx op ≡ None → is_bad_size op ≡ false
@@ -190,7 +223,7 @@ passed_root seen tx op none =
     let found : Option (Refusal × Bool) = find (λ (check : Refusal × Bool). check.1) (checks seen tx op) in
     let passed : NonePasses (λ (check : Refusal × Bool). check.1) (checks seen tx op) =
     none_passes (λ (check : Refusal × Bool). check.1) (checks seen tx op) (unmapped (λ (check : Refusal × Bool). check.0) found none) in
-    passed.1.1.1.1.1.1.1.1.1.1.1.1.0
+    passed.1.1.1.1.1.1.1.1.1.1.1.1.1.0
 
 pub passed_list : (seen : Seen) (tx : Transaction) (op : Operation) → first_refusal seen tx op ≡ None → frees_listed tx op ≡ false
 unfolding first_refusal NonePasses
@@ -198,4 +231,4 @@ passed_list seen tx op none =
     let found : Option (Refusal × Bool) = find (λ (check : Refusal × Bool). check.1) (checks seen tx op) in
     let passed : NonePasses (λ (check : Refusal × Bool). check.1) (checks seen tx op) =
     none_passes (λ (check : Refusal × Bool). check.1) (checks seen tx op) (unmapped (λ (check : Refusal × Bool). check.0) found none) in
-    passed.1.1.1.1.1.1.1.1.1.1.1.1.1.0
+    passed.1.1.1.1.1.1.1.1.1.1.1.1.1.1.0

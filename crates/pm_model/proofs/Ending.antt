@@ -3,20 +3,21 @@ use Rattle.std.proofs.Common.{◌≡◌, ◌≢◌, ⊎_elim, ◌⊎◌, inl, in
 use Rattle.std.specs.List.{filter}
 use Rattle.std.proofs.lemmas.Bool.{false≢true}
 use Rattle.pm_objects.specs.declared.calls.Operation.{Operation}
-use Rattle.pm_objects.specs.declared.calls.Operation.TheVariants.{Begin, AddRange, Write, Free, SetValue, Publish, Cancel, Commit, Abort}
+use Rattle.pm_objects.specs.declared.calls.Operation.TheVariants.{Begin, AddRange, Write, Free, Reserve, WriteReserved, DeferFree, SetValue, Publish, Cancel, Commit, Abort}
 use Rattle.pm_objects.specs.declared.history.TxErr.{TxErr}
 use Rattle.pm_objects.specs.declared.history.TxErr.TheVariants as error
 use Rattle.pm_objects.specs.declared.history.Value.{Value}
 use Rattle.pm_objects.specs.declared.history.Value.TheVariants.{Refused}
+use Rattle.pm_objects.specs.declared.ids.Oid.{Oid}
 use Rattle.pm_objects.specs.declared.pool.PoolView.{PoolView}
 use Rattle.pm_objects.specs.declared.refusal.Refusal.{Refusal}
-use Rattle.pm_model.specs.Actions.{Action, with_actions}
+use Rattle.pm_model.specs.Actions.{Pending, Reservation, object_reserved, with_actions}
 use Rattle.pm_model.specs.Outside.{Outside, after_outside, stands_outside}
-use Rattle.pm_model.specs.Transaction.{Transaction, resting, aborted, ended_inner, committed, is_new}
+use Rattle.pm_model.specs.Transaction.{Transaction, resting, aborted, all_made, all_released, ended_inner, committed, given_over, is_new, made_at, published, released}
 use Rattle.pm_model.specs.Bytes.{is_among, new_words, records_of}
 use Rattle.pm_model.specs.NewObjects.{pool_without}
 use Rattle.pm_model.specs.Checks.{Range, is_action, first_refusal, words_in}
-use Rattle.pm_model.specs.Answers.{IsDone, IsRefused, IsValue, Told, after, after_reply, allocated, error_for, performed}
+use Rattle.pm_model.specs.Answers.{IsDone, IsRefused, IsValue, Told, after, after_reply, allocated, error_for, performed, reserved}
 use Rattle.pm_model.specs.Step.{State, Act, RunsOn, RunsFrom, Step, TransactionStep}
 use Rattle.pm_model.specs.Names.{is_refusal}
 use Rattle.pm_model.specs.Shown.{error_by, error_of, is_abort}
@@ -46,6 +47,9 @@ refused_error : (op : Operation) (reply : Option Value) (rest : TxErr) (r : Refu
 refused_error op reply rest r is = ap (λ (o : Option Value). error_by op o rest) is.told
 
 no_abort : (op : Operation) → IsTrue (stands_outside op) → is_abort op ≡ false
+no_abort (Reserve size kind) stands = refl
+no_abort (WriteReserved id off bytes) stands = refl
+no_abort (DeferFree id) stands = refl
 no_abort (SetValue id off value) stands = refl
 no_abort Publish stands = refl
 no_abort Cancel stands = refl
@@ -83,6 +87,20 @@ module _ (pool : PoolView) where
   released_whole off tx true whole = record { unharmed = whole.unharmed; before = whole.before }
   released_whole off tx false whole = record { unharmed = whole.unharmed; before = whole.before }
 
+  -- all that is freed and made as it is published
+  all_released_whole : (ids : List Oid) (tx : Transaction) → IsWhole pool tx → IsWhole pool (all_released ids tx)
+  all_released_whole [] tx whole = whole
+  all_released_whole (id ∷ ids) tx whole = all_released_whole ids (released id.off tx) (released_whole id.off tx (is_among tx.made id.off) whole)
+
+  all_made_whole : (rs : List Reservation) (tx : Transaction) → IsWhole pool tx → IsWhole pool (all_made rs tx)
+  all_made_whole [] tx whole = whole
+  all_made_whole (r ∷ rs) tx whole = all_made_whole rs (made_at r.off (object_reserved r) tx) (record { unharmed = whole.unharmed; before = whole.before })
+
+  published_whole : (tx : Transaction) → IsWhole pool tx → IsWhole pool (published tx)
+  published_whole tx whole =
+      all_made_whole tx.actions.reserved (all_released tx.actions.frees (given_over tx))
+      (all_released_whole tx.actions.frees (given_over tx) (record { unharmed = whole.unharmed; before = whole.before }))
+
   goes_on : (op : Operation) (reply : Option Value) (told : List Told) (tx last : Transaction) → IsWhole pool tx → is_refusal reply ≡ false
       → ((next : Transaction) → IsWhole pool next → RunsOn next told last → EndsWith pool (error_of told) last)
       → RunsOn (performed op tx) told last → EndsWith pool (error_by op reply (error_of told)) last
@@ -102,12 +120,18 @@ module _ (pool : PoolView) where
   goes_on (Free id) reply told tx last whole plain rest runs =
       subst (λ (e : TxErr). EndsWith pool e last) (sym (plain_error (Free id) reply (error_of told) plain refl))
       (rest (performed (Free id) tx) (released_whole id.off tx (is_among tx.made id.off) whole) runs)
+  goes_on (WriteReserved id off bytes) reply told tx last whole plain rest runs =
+      subst (λ (e : TxErr). EndsWith pool e last) (sym (plain_error (WriteReserved id off bytes) reply (error_of told) plain refl))
+      (rest (performed (WriteReserved id off bytes) tx) (record { unharmed = whole.unharmed; before = whole.before }) runs)
+  goes_on (DeferFree id) reply told tx last whole plain rest runs =
+      subst (λ (e : TxErr). EndsWith pool e last) (sym (plain_error (DeferFree id) reply (error_of told) plain refl))
+      (rest (performed (DeferFree id) tx) (record { unharmed = whole.unharmed; before = whole.before }) runs)
   goes_on (SetValue id off value) reply told tx last whole plain rest runs =
       subst (λ (e : TxErr). EndsWith pool e last) (sym (plain_error (SetValue id off value) reply (error_of told) plain refl))
       (rest (performed (SetValue id off value) tx) (record { unharmed = whole.unharmed; before = whole.before }) runs)
   goes_on Publish reply told tx last whole plain rest runs =
       subst (λ (e : TxErr). EndsWith pool e last) (sym (plain_error Publish reply (error_of told) plain refl))
-      (rest (performed Publish tx) (record { unharmed = whole.unharmed; before = whole.before }) runs)
+      (rest (performed Publish tx) (published_whole tx whole) runs)
   goes_on Cancel reply told tx last whole plain rest runs =
       subst (λ (e : TxErr). EndsWith pool e last) (sym (plain_error Cancel reply (error_of told) plain refl))
       (rest (performed Cancel tx) (record { unharmed = whole.unharmed; before = whole.before }) runs)
@@ -125,6 +149,9 @@ module _ (pool : PoolView) where
       (λ size kind off is place runs.
       subst (λ (e : TxErr). EndsWith pool e last) (sym (plain_error op reply (error_of told) plain (ap is_abort is)))
       (rest (allocated off size kind tx) (record { unharmed = whole.unharmed; before = whole.before }) runs))
+      (λ size kind off is place runs.
+      subst (λ (e : TxErr). EndsWith pool e last) (sym (plain_error op reply (error_of told) plain (ap is_abort is)))
+      (rest (reserved off size kind tx) (record { unharmed = whole.unharmed; before = whole.before }) runs))
 
   ends_by : (t : Told) (told : List Told) (tx last : Transaction) → IsWhole pool tx → (fr : Option Refusal) → MatchOption fr (IsDone tx t.operation t.reply) (λ r. IsRefused r t.reply)
       → ((next : Transaction) → IsWhole pool next → RunsOn next told last → EndsWith pool (error_of told) last) → RunsOn (after t tx) told last → EndsWith pool (error_of (t ∷ told)) last
@@ -144,7 +171,7 @@ module _ (pool : PoolView) where
       ends_by t told tx last whole (first_refusal runs.1.seen tx t.operation) runs.1.answer (λ next still rest. runs_on_end told next last still rest) runs.2
 
 -- the end of a transaction
-pub runs_end : (pool : PoolView) (actions : List Action) (told : List Told) (last : Transaction) → RunsFrom (resting pool actions) told last → EndsWith pool (error_of told) last
+pub runs_end : (pool : PoolView) (actions : Pending) (told : List Told) (last : Transaction) → RunsFrom (resting pool actions) told last → EndsWith pool (error_of told) last
 unfolding RunsFrom
 runs_end pool actions [] last runs = absurd runs
 runs_end pool actions (t ∷ told) last runs =

@@ -1,23 +1,24 @@
 -- A call reads and changes its parts alone, and a state is known name by name.
 use Rattle.std.proofs.Common.{◌≡◌, inl, inr, ℕ, List, [], ◌∷◌, ◌++◌, Option, Bool, true, false, cond, eqb, not, ◌&&◌, ◌||◌, refl, sym, ◌∙◌, ap, subst}
-use Rattle.std.specs.List.{list_any}
+use Rattle.std.specs.List.{list_all, list_any}
 use Rattle.std.specs.List.Sorted.{IsStrictlyIncreasing}
-use Rattle.std.proofs.lemmas.Bool.{false≢true, eq-eqb, or_left, or_right}
+use Rattle.std.proofs.lemmas.Bool.{and_parts, false≢true, eq-eqb, or_left, or_right}
 use Rattle.std.proofs.lemmas.List.Folds.{list_any-append}
 use Rattle.pm_objects.specs.Pool.{object_at}
 use Rattle.pm_objects.specs.declared.calls.Want.{Want}
 use Rattle.pm_objects.specs.declared.pool.Object.{Object}
 use Rattle.pm_objects.specs.declared.pool.PoolView.{PoolView}
-use Rattle.pm_model.specs.Actions.{Action}
-use Rattle.pm_model.specs.Outside.{AnswersOutside, Outside, after_outside, wants_outside}
+use Rattle.pm_model.specs.Actions.{Pending, is_plain}
+use Rattle.pm_model.specs.Outside.{AnswersOutside, Outside, after_outside, stands_outside, wants_outside}
 use Rattle.pm_model.specs.Transaction.{Transaction, resting}
 use Rattle.pm_model.specs.Answers.{Told, after, Answers}
 use Rattle.pm_model.specs.Step.{State, Act, RunsOn, RunsFrom, Step, TransactionStep, OutsideStep, with_pending}
-use Rattle.pm_model.specs.Names.{Name, content, IsMap, is_missed, is_wanted, keeps_blocks, named_by, wants_taken, locks, writes, touches, IsFramedCall}
+use Rattle.pm_model.specs.Names.{Name, changes_blocks, content, IsMap, is_missed, is_wanted, keeps_blocks, named_by, wants_taken, locks, writes, touches, IsFramedCall}
 use Rattle.pm_model.specs.Names.Name.{Fixed, RootOffset, ObjectAt, ActionsOf}
 use Rattle.pm_model.specs.Names.Content.{FixedIs, RootIs, ObjectIs, ActionsAre}
 use Rattle.pm_model.proofs.Objects.{same_objects}
 use Rattle.pm_model.proofs.Locking.{is_wanted_to_read}
+use Rattle.pm_model.proofs.Asked.{IsPlain, plain_from}
 use Rattle.pm_model.proofs.Alike.{Alike, KeepBlocks, TakesWithin, keep_first, keep_rest, runs_alike, step_alike, takes_rest}
 use Rattle.pm_model.proofs.Kept.{IsChangedIn, run_keeps}
 use Rattle.pm_model.proofs.OutsideCalls.{answers_there, left_actions, left_alike, outside_changed}
@@ -40,17 +41,24 @@ named_locked act off write w =
     let asks : Want → Bool = λ want. eqb want.id.off off && (want.write || not write) in
     list_any-append asks (named_by act.actions act.told) (wants_taken act.told) ∙ or_left (list_any asks (named_by act.actions act.told)) (list_any asks (wants_taken act.told)) w
 
+-- a call that keeps every block found nothing to be freed or reserved, and no operation of it asked for a block
+plain_of : (act : Act) → keeps_blocks act ≡ true → IsPlain act.actions
+plain_of act keep = plain_from act.actions (and_parts (is_plain act.actions) (list_all (λ (t : Told). not (changes_blocks t.operation t.reply)) act.told) keep).0
+
+told_of : (act : Act) → keeps_blocks act ≡ true → KeepBlocks act.told
+told_of act keep = (and_parts (is_plain act.actions) (list_all (λ (t : Told). not (changes_blocks t.operation t.reply)) act.told) keep).1
+
 -- a call changes the objects alone that it locks for writing
 pub call_changed : (act : Act) (s t : State) → keeps_blocks act ≡ true → Step s act t → IsChangedIn (λ off. locks act off true) s.pool t.pool
 call_changed act s t keep (inl step) =
     subst (IsChangedIn (λ off. locks act off true) s.pool) (sym (ap (λ (v : State). v.pool) step.leaves.leaves))
-    (run_keeps (λ off. locks act off true) s.pool act.actions act.told step.last keep (λ off w. taken_locked act off true w) step.runs)
-call_changed act s t keep (inr step) = outside_changed act s t step
+    (run_keeps (λ off. locks act off true) s.pool act.actions act.told step.last (plain_of act keep) (told_of act keep) (λ off w. taken_locked act off true w) step.runs)
+call_changed act s t keep (inr step) = outside_changed act s t (plain_of act keep) step
 
-other_lane : (actions : ℕ → List Action) (lane k : ℕ) (pending : List Action) → eqb k lane ≡ false → with_pending actions lane pending k ≡ actions k
+other_lane : (actions : ℕ → Pending) (lane k : ℕ) (pending : Pending) → eqb k lane ≡ false → with_pending actions lane pending k ≡ actions k
 other_lane actions lane k pending other = ap (λ (b : Bool). cond b pending (actions k)) other
 
-own_lane : (actions : ℕ → List Action) (lane k : ℕ) (pending : List Action) → eqb k lane ≡ true → with_pending actions lane pending k ≡ pending
+own_lane : (actions : ℕ → Pending) (lane k : ℕ) (pending : Pending) → eqb k lane ≡ true → with_pending actions lane pending k ≡ pending
 own_lane actions lane k pending same = ap (λ (b : Bool). cond b pending (actions k)) same
 
 -- the pending actions of other lanes stay
@@ -77,15 +85,15 @@ same_fixed p q same =
 same_object : (one other : Option Object) → ObjectIs one ≡ ObjectIs other → one ≡ other
 same_object one other same = cc
 
-same_actions : (one other : List Action) → ActionsAre one ≡ ActionsAre other → one ≡ other
+same_actions : (one other : Pending) → ActionsAre one ≡ ActionsAre other → one ≡ other
 same_actions one other same = cc
 
-runs_from : (T : ℕ → Bool) (actions : List Action) (told : List Told) (pool other : PoolView) (last : Transaction) → KeepBlocks told → TakesWithin T false told → other ≡ record pool { objects = other.objects; root = other.root }
+runs_from : (T : ℕ → Bool) (actions : Pending) (told : List Told) (pool other : PoolView) (last : Transaction) → IsPlain actions → KeepBlocks told → TakesWithin T false told → other ≡ record pool { objects = other.objects; root = other.root }
     → ((off : ℕ) → T off ≡ true → object_at other.objects off ≡ object_at pool.objects off) → RunsFrom (resting pool actions) told last
     → (end : Transaction) × RunsFrom (resting other actions) told end × Alike T other.root last end
 unfolding RunsFrom
-runs_from T actions [] pool other last keep within fixed same runs = absurd runs
-runs_from T actions (t ∷ told) pool other last keep within fixed same runs =
+runs_from T actions [] pool other last plain keep within fixed same runs = absurd runs
+runs_from T actions (t ∷ told) pool other last plain keep within fixed same runs =
     let start : Alike T other.root (resting pool actions) (resting other actions) = record {
       objects = other.objects;
       before = other.objects;
@@ -93,6 +101,7 @@ runs_from T actions (t ∷ told) pool other last keep within fixed same runs =
       now = same;
       at_start = same;
       held = λ off h. absurd (false≢true h);
+      plain = plain;
     } in
     let next : Answers (resting other actions) t.operation t.reply × Alike T other.root (after t (resting pool actions)) (after t (resting other actions)) =
     step_alike T other.root t told (resting pool actions) (resting other actions) (keep_first t told keep) within start runs.0 in
@@ -134,7 +143,7 @@ pub local : (act : Act) (s t other : State) → keeps_blocks act ≡ true → St
 local act s t other keep (inl step) same =
     let T : ℕ → Bool = λ off. locks act off false in
     let run : (end : Transaction) × RunsFrom (resting other.pool act.actions) act.told end × Alike T other.pool.root step.last end =
-    runs_from T act.actions act.told s.pool other.pool step.last keep (λ off w. taken_locked act off false w) (same_fixed s.pool other.pool (same Fixed refl))
+    runs_from T act.actions act.told s.pool other.pool step.last (plain_of act keep) (told_of act keep) (λ off w. taken_locked act off false w) (same_fixed s.pool other.pool (same Fixed refl))
     (λ off touch. same_object (object_at other.pool.objects off) (object_at s.pool.objects off) (same (ObjectAt off) touch)) step.runs in
     let next : State = record { pool = run.0.pool; actions = with_pending other.actions act.lane run.0.actions } in
     (next, inl (record { last = run.0; runs = run.1; leaves = record { pending = same_pending act s other same step.leaves.pending; leaves = refl } }), same_written act s t other step other.pool.root run.0 run.2)
@@ -144,7 +153,10 @@ local act s t other keep (inr step) same =
     let named : is_missed step.reply ≡ false → (off : ℕ) → is_wanted (wants_outside step.operation act.actions) off false ≡ true → object_at other.pool.objects off ≡ object_at s.pool.objects off = λ found off w.
     same_object (object_at other.pool.objects off) (object_at s.pool.objects off) (same (ObjectAt off) (named_locked act off false
     (ap (λ told. is_wanted (named_by act.actions told) off false) step.alone ∙ (ap (λ (b : Bool). is_wanted (cond b [] (wants_outside step.operation act.actions)) off false) found ∙ w)))) in
-    let answers = answers_there step.operation step.reply s.pool other.pool.objects other.pool.root act.actions named step.answers in
+    let plain : IsPlain act.actions = plain_of act keep in
+    let stands : stands_outside step.operation ≡ true = step.answers.known in
+    let keeps : changes_blocks step.operation step.reply ≡ false = keep_first (record { operation = step.operation; reply = step.reply }) [] (subst KeepBlocks step.alone (told_of act keep)) in
+    let answers = answers_there step.operation step.reply s.pool other.pool.objects other.pool.root act.actions plain stands keeps named step.answers in
     let left : Outside = after_outside step.operation step.reply (record { pool = other.pool; actions = act.actions }) in
     let left_there : left ≡ after_outside step.operation step.reply there = ap (λ (p : PoolView). after_outside step.operation step.reply (record { pool = p; actions = act.actions })) fixed in
     let next : State = record { pool = left.pool; actions = with_pending other.actions act.lane left.actions } in (
@@ -158,9 +170,9 @@ local act s t other keep (inr step) same =
       }),
       same_left act s t other step left
           (λ off touch. ap (λ (o : Outside). object_at o.pool.objects off) left_there
-          ∙ left_alike step.operation step.reply s.pool other.pool.objects other.pool.root act.actions named step.reply off
+          ∙ left_alike step.operation step.reply s.pool other.pool.objects other.pool.root act.actions plain stands keeps named step.reply off
           (same_object (object_at other.pool.objects off) (object_at s.pool.objects off) (same (ObjectAt off) touch)))
-          (ap (λ (o : Outside). o.actions) left_there ∙ left_actions step.operation step.reply s.pool other.pool.objects other.pool.root act.actions named step.reply),
+          (ap (λ (o : Outside). o.actions) left_there ∙ left_actions step.operation step.reply s.pool other.pool.objects other.pool.root act.actions plain stands keeps named step.reply),
     )
 
 pub framed : (act : Act) → keeps_blocks act ≡ true → IsFramedCall act

@@ -7,23 +7,23 @@ use Rattle.std.proofs.lemmas.List.Elements.{All-append, All-cons, All-head, All-
 use Rattle.std.proofs.lemmas.List.FromFn.{length-map-range_with_len}
 use Rattle.pm_objects.specs.Pool.{Objects, offsets, object_at, all_members}
 use Rattle.pm_objects.specs.declared.calls.Operation.{Operation}
-use Rattle.pm_objects.specs.declared.calls.Operation.TheVariants.{Begin, AddRange, Write, Free, SetValue, Publish, Cancel, Commit, Abort}
+use Rattle.pm_objects.specs.declared.calls.Operation.TheVariants.{Begin, AddRange, Write, Free, WriteReserved, DeferFree, SetValue, Publish, Cancel, Commit, Abort}
 use Rattle.pm_objects.specs.declared.history.TxErr.{TxErr}
 use Rattle.pm_objects.specs.declared.history.TxErr.TheVariants as error
 use Rattle.pm_objects.specs.declared.pool.Object.{Object}
 use Rattle.pm_objects.specs.declared.pool.PoolView.{PoolView}
-use Rattle.pm_model.specs.Actions.{Action, all_performed, end_of, number_bytes, object_of, passes_object, with_actions}
+use Rattle.pm_model.specs.Actions.{Action, Pending, all_performed, end_of, number_bytes, object_of, passes_object, with_actions}
 use Rattle.pm_model.specs.Actions.Action.{SetWord}
 use Rattle.pm_model.specs.Transaction.{Transaction, resting, aborted, ended_inner, committed, is_locked, is_new, holds_object}
 use Rattle.pm_model.specs.Bytes.{put_object, with_bytes, bytes_of, new_words, records_of}
-use Rattle.pm_model.specs.Checks.{Range, wants_of, words_in, is_free, is_not_locked, is_unlocked_action, passes_end}
+use Rattle.pm_model.specs.Checks.{Range, wants_of, words_in, is_defer, is_free, is_not_held, is_not_locked, is_unlocked_action, passes_end}
 use Rattle.pm_model.specs.Answers.{Told, error_for, performed, after, Answers}
 use Rattle.pm_model.specs.Step.{RunsFrom}
 use Rattle.pm_model.specs.Names.{changes_blocks, is_refusal, is_wanted}
 use Rattle.pm_model.proofs.Objects.{object_at-put, offsets-put, size_of, sizes-put, members-put}
 use Rattle.pm_model.proofs.Locking.{held_from}
-use Rattle.pm_model.proofs.Asked.{action_held, held_object, passed_lock, passed_end}
-use Rattle.pm_model.proofs.Alike.{KeepBlocks, TakesWithin, after_value, done_is_plain, keep_first, keep_rest, no_alloc, no_free, takes_first, takes_rest}
+use Rattle.pm_model.proofs.Asked.{IsPlain, action_held, held_object, passed_lock, passed_end, published_plain}
+use Rattle.pm_model.proofs.Alike.{KeepBlocks, TakesWithin, after_value, done_is_plain, keep_first, keep_rest, no_alloc, no_defer, no_free, plain_performed, takes_first, takes_rest}
 use Rattle.pm_model.proofs.Running.{after_cases, runs_keep}
 
 -- a pool is the other but for its objects, which have the same offsets, sizes and lists and are the same outside W
@@ -61,12 +61,13 @@ pub record Keeps (W : ℕ → Bool) (from : PoolView) (tx : Transaction) : Type 
   pub at_start : IsChangedIn W from tx.before
   pub held : (off : ℕ) → holds_object tx off true ≡ true → W off ≡ true
   pub moved : All (MayPerform W from) tx.moved
+  pub plain : IsPlain tx.actions
 
 pub unchanged : (W : ℕ → Bool) (pool : PoolView) → IsChangedIn W pool pool
 unchanged W pool = record { else = refl; outside = λ off none. refl; places = refl; sizes = refl; members = refl }
 
-pub keeps_at_rest : (W : ℕ → Bool) (pool : PoolView) (actions : List Action) → Keeps W pool (resting pool actions)
-keeps_at_rest W pool actions = record { now = unchanged W pool; at_start = unchanged W pool; held = λ off h. absurd (false≢true h); moved = All-nil (MayPerform W pool) }
+pub keeps_at_rest : (W : ℕ → Bool) (pool : PoolView) (actions : Pending) → IsPlain actions → Keeps W pool (resting pool actions)
+keeps_at_rest W pool actions plain = record { plain = plain; now = unchanged W pool; at_start = unchanged W pool; held = λ off h. absurd (false≢true h); moved = All-nil (MayPerform W pool) }
 
 -- new bytes inside an object of W
 put_changed : (W : ℕ → Bool) (from pool : PoolView) → IsChangedIn W from pool → (off at : ℕ) (bytes : List ℕ) → W off ≡ true → at + length bytes ≤ length (bytes_of pool.objects off)
@@ -115,13 +116,14 @@ module _ (W : ℕ → Bool) (from : PoolView) (tx : Transaction) (keeps : Keeps 
     at_start = keeps.at_start;
     held = λ off h. keeps.held off (or_right (is_new tx off) (is_locked tx.locks off true) h);
     moved = All-nil (MayPerform W from);
+    plain = keeps.plain;
   }
 
   end_keeps : (outermost : Bool) → Keeps W from (cond outermost (resting (with_actions tx.moved tx.pool) tx.actions) (ended_inner (committed tx)))
   end_keeps true =
       let changed = actions_changed W from tx.moved tx.pool keeps.now keeps.moved in
-      record { now = changed; at_start = changed; held = λ off h. absurd (false≢true h); moved = All-nil (MayPerform W from) }
-  end_keeps false = record { now = keeps.now; at_start = keeps.at_start; held = keeps.held; moved = keeps.moved }
+      record { now = changed; at_start = changed; held = λ off h. absurd (false≢true h); moved = All-nil (MayPerform W from); plain = keeps.plain }
+  end_keeps false = record { now = keeps.now; at_start = keeps.at_start; held = keeps.held; moved = keeps.moved; plain = keeps.plain }
 
   put_keeps : (off at : ℕ) (bytes : List ℕ) → W off ≡ true → at + length bytes ≤ length (bytes_of tx.pool.objects off) → IsChangedIn W from (record tx.pool { objects = put_object off at bytes tx.pool.objects })
   put_keeps off at bytes inside fits = put_changed W from tx.pool keeps.now off at bytes inside fits
@@ -130,35 +132,41 @@ module _ (W : ℕ → Bool) (from : PoolView) (tx : Transaction) (keeps : Keeps 
   recorded_keeps : (range : Range) (new : Bool)
       → Keeps W from (cond new tx (record tx { recorded = tx.recorded ++ new_words tx.recorded (words_in range); records = tx.records + length (records_of (new_words tx.recorded (words_in range))) }))
   recorded_keeps range true = keeps
-  recorded_keeps range false = record { now = keeps.now; at_start = keeps.at_start; held = keeps.held; moved = keeps.moved }
+  recorded_keeps range false = record { now = keeps.now; at_start = keeps.at_start; held = keeps.held; moved = keeps.moved; plain = keeps.plain }
 
-  performed_keeps : (op : Operation) → is_free op ≡ false → is_not_locked tx op ≡ false → passes_end tx op ≡ false → ((off : ℕ) → is_wanted (wants_of op) off true ≡ true → W off ≡ true) → Keeps W from (performed op tx)
-  performed_keeps (Begin wants) no_free locked ends within = record {
+  performed_keeps : (op : Operation) → is_free op ≡ false → is_defer op ≡ false → is_not_locked tx op ≡ false → passes_end tx op ≡ false → ((off : ℕ) → is_wanted (wants_of op) off true ≡ true → W off ≡ true) → Keeps W from (performed op tx)
+  performed_keeps (Begin wants) no_free no_defer locked ends within = record {
     now = keeps.now;
     at_start = keeps.at_start;
     held = λ off h. ⊎_elim (λ (w : is_wanted wants off true ≡ true). within off w) (λ (old : holds_object tx off true ≡ true). keeps.held off old) (held_from wants tx off true h);
     moved = keeps.moved;
+    plain = keeps.plain;
   }
-  performed_keeps (AddRange id off len) no_free locked ends within = recorded_keeps (record { id = id; off = off; len = len }) (is_new tx id.off)
-  performed_keeps (Write id off bytes) no_free locked ends within =
+  performed_keeps (AddRange id off len) no_free no_defer locked ends within = recorded_keeps (record { id = id; off = off; len = len }) (is_new tx id.off)
+  performed_keeps (Write id off bytes) no_free no_defer locked ends within =
       let lock : holds_object tx id.off true ≡ true = held_object tx true id locked in
-      record { now = put_keeps id.off off bytes (keeps.held id.off lock) (ltb-false (length (bytes_of tx.pool.objects id.off)) (off + length bytes) ends); at_start = keeps.at_start; held = keeps.held; moved = keeps.moved }
-  performed_keeps (SetValue id off value) no_free locked ends within = record { now = keeps.now; at_start = keeps.at_start; held = keeps.held; moved = keeps.moved }
-  performed_keeps Publish no_free locked ends within =
-      let l : list_any (is_unlocked_action tx) tx.actions ≡ false =
-      (or_parts (list_any (is_unlocked_action tx) tx.actions) false (or_parts (list_any (is_unlocked_action tx) tx.actions || false) false locked).0).0 in
-      let e : list_any (passes_object tx.pool.objects) tx.actions ≡ false = (or_parts (list_any (passes_object tx.pool.objects) tx.actions) false ends).0 in
-      record {
+      record { now = put_keeps id.off off bytes (keeps.held id.off lock) (ltb-false (length (bytes_of tx.pool.objects id.off)) (off + length bytes) ends); at_start = keeps.at_start; held = keeps.held; moved = keeps.moved; plain = keeps.plain }
+  performed_keeps (SetValue id off value) no_free no_defer locked ends within = record { now = keeps.now; at_start = keeps.at_start; held = keeps.held; moved = keeps.moved; plain = record { frees = keeps.plain.frees; reserved = keeps.plain.reserved } }
+  performed_keeps Publish no_free no_defer locked ends within =
+      let freed : Bool = list_any (is_not_held tx true) tx.actions.frees in
+      let set : Bool = list_any (is_unlocked_action tx) tx.actions.sets in
+      let l : set ≡ false = (or_parts freed set (or_parts (freed || set) false (or_parts ((freed || set) || false) false locked).0).0).1 in
+      let e : list_any (passes_object tx.pool.objects) tx.actions.sets ≡ false = (or_parts (list_any (passes_object tx.pool.objects) tx.actions.sets) false ends).0 in
+      subst (Keeps W from) (sym (published_plain tx keeps.plain)) (record {
         now = keeps.now;
         at_start = keeps.at_start;
         held = keeps.held;
-        moved = All-append (MayPerform W from) tx.moved tx.actions keeps.moved (published_within W from tx keeps.now keeps.held tx.actions l e);
-      }
-  performed_keeps Cancel no_free locked ends within = record { now = keeps.now; at_start = keeps.at_start; held = keeps.held; moved = keeps.moved }
-  performed_keeps (Free id) no_free locked ends within = absurd (false≢true (sym no_free))
-  performed_keeps Commit no_free locked ends within = end_keeps (leb tx.level 1)
-  performed_keeps (Abort errnum) no_free locked ends within = abort_keeps (error_for errnum)
-  performed_keeps op no_free locked ends within = keeps
+        moved = All-append (MayPerform W from) tx.moved tx.actions.sets keeps.moved (published_within W from tx keeps.now keeps.held tx.actions.sets l e);
+        plain = record { frees = refl; reserved = refl };
+      })
+  performed_keeps Cancel no_free no_defer locked ends within = record { now = keeps.now; at_start = keeps.at_start; held = keeps.held; moved = keeps.moved; plain = record { frees = refl; reserved = refl } }
+  performed_keeps (WriteReserved id off bytes) no_free no_defer locked ends within =
+      record { now = keeps.now; at_start = keeps.at_start; held = keeps.held; moved = keeps.moved; plain = plain_performed tx (WriteReserved id off bytes) refl refl keeps.plain }
+  performed_keeps (DeferFree id) no_free no_defer locked ends within = absurd (false≢true (sym no_defer))
+  performed_keeps (Free id) no_free no_defer locked ends within = absurd (false≢true (sym no_free))
+  performed_keeps Commit no_free no_defer locked ends within = end_keeps (leb tx.level 1)
+  performed_keeps (Abort errnum) no_free no_defer locked ends within = abort_keeps (error_for errnum)
+  performed_keeps op no_free no_defer locked ends within = keeps
 
 abbrev StillKeeps : (W : ℕ → Bool) → PoolView → List Told → Transaction → Type 0
 StillKeeps W from told tx = KeepBlocks told × TakesWithin W true told × Keeps W from tx
@@ -173,13 +181,13 @@ after_keeps W from t told tx answers holds =
           (λ seen none done.
           let plain : is_refusal t.reply ≡ false = done_is_plain tx t.operation t.reply done.value in
           subst (Keeps W from) (sym (after_value t.operation t.reply tx (no_alloc t.operation t.reply keeps plain) plain))
-          (performed_keeps W from tx holds.2 t.operation (no_free t.operation t.reply keeps) (passed_lock seen tx t.operation none) (passed_end seen tx t.operation none)
+          (performed_keeps W from tx holds.2 t.operation (no_free t.operation t.reply keeps) (no_defer t.operation t.reply keeps plain) (passed_lock seen tx t.operation none) (passed_end seen tx t.operation none)
           (takes_first W true t told holds.1 plain)))
           (λ r. abort_keeps W from tx holds.2 (error.Refused r)),
     )
 
 -- the pool at the end is the one at the start, but for objects in W
-pub run_keeps : (W : ℕ → Bool) (from : PoolView) (actions : List Action) (told : List Told) (last : Transaction) → KeepBlocks told → TakesWithin W true told → RunsFrom (resting from actions) told last
+pub run_keeps : (W : ℕ → Bool) (from : PoolView) (actions : Pending) (told : List Told) (last : Transaction) → IsPlain actions → KeepBlocks told → TakesWithin W true told → RunsFrom (resting from actions) told last
     → IsChangedIn W from last.pool
-run_keeps W from actions told last keep within runs =
-    (runs_keep (StillKeeps W from) (after_keeps W from) told (resting from actions) last runs (keep, within, keeps_at_rest W from actions)).2.now
+run_keeps W from actions told last plain keep within runs =
+    (runs_keep (StillKeeps W from) (after_keeps W from) told (resting from actions) last runs (keep, within, keeps_at_rest W from actions plain)).2.now

@@ -7,8 +7,8 @@ use Rattle.std.proofs.lemmas.List.Folds.{list_any-append}
 use Rattle.pm_objects.specs.Pool.{Objects, object_at, offsets}
 use Rattle.pm_model.specs.Bytes.{is_among}
 use Rattle.pm_model.specs.NewObjects.{new_object, pool_without}
-use Rattle.pm_model.specs.Transaction.{Transaction, is_dropped, is_gone, is_new}
-use Rattle.pm_model.specs.Answers.{allocated, released}
+use Rattle.pm_model.specs.Transaction.{Transaction, is_dropped, is_gone, is_new, released}
+use Rattle.pm_model.specs.Answers.{allocated}
 use Rattle.pm_model.proofs.Objects.{present}
 use Rattle.pm_model.proofs.ObjectsByOffset.{fewer_elsewhere, fewer_there, more_elsewhere, more_there}
 

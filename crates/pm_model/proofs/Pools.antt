@@ -1,29 +1,29 @@
 -- A call leaves a pool a pool.
-use Rattle.std.proofs.Common.{◌≡◌, ◌≢◌, ◌⊎◌, ⊎_elim, inl, inr, ℕ, zero, suc, ◌+◌, ◌-◌, ◌*◌, ◌<◌, ◌≤◌, All, List, [], ◌∷◌, ◌++◌, length, map, get_or, Option, Some, None, Bool, true, false, cond, eqb, leb, ltb, ◌||◌, refl, sym, ◌∙◌, ap, subst, arith}
+use Rattle.std.proofs.Common.{◌≡◌, ◌≢◌, ◌⊎◌, ⊎_elim, inl, inr, ℕ, zero, suc, ◌+◌, ◌-◌, ◌*◌, ◌<◌, ◌≤◌, All, List, [], ◌∷◌, ◌++◌, length, map, get_or, Option, Some, None, MatchOption, Bool, true, false, cond, eqb, leb, ltb, ◌||◌, refl, sym, ◌∙◌, ap, subst, arith}
 use Rattle.std.specs.Prelude.{IsSome, nat_eq}
 use Rattle.std.specs.List.{list_any, IsDistinct}
 use Rattle.std.specs.Option.{is_some, option_map, option_map_or}
 use Rattle.std.specs.List.Sorted.{IsStrictlyIncreasing}
 use Rattle.std.proofs.lemmas.Bool.{cases_eq, eqb-false, false≢true, ltb-false, or_parts}
-use Rattle.std.proofs.lemmas.List.{get_or-map, length-map}
+use Rattle.std.proofs.lemmas.List.{get_or-map, length-map, length-replicate}
 use Rattle.std.proofs.lemmas.List.Elements.{All-append, All-cons, All-head, All-nil, All-tail, All-weaker}
 use Rattle.pm_layout.specs.Sizes.{class_of}
 use Rattle.pm_objects.specs.Pool.{Objects, offsets, object_at, block_lines, block_end, all_members, IsPool}
 use Rattle.pm_objects.specs.declared.calls.Operation.{Operation}
-use Rattle.pm_objects.specs.declared.calls.Operation.TheVariants.{Begin, AddRange, Write, Free, SetValue, Publish, Cancel, Commit, Abort}
+use Rattle.pm_objects.specs.declared.calls.Operation.TheVariants.{Begin, AddRange, Write, Free, WriteReserved, DeferFree, SetValue, Publish, Cancel, Commit, Abort}
 use Rattle.pm_objects.specs.declared.history.TxErr.{TxErr}
 use Rattle.pm_objects.specs.declared.history.TxErr.TheVariants as error
 use Rattle.pm_objects.specs.declared.pool.Object.{Object}
 use Rattle.pm_objects.specs.declared.pool.PoolView.{PoolView}
-use Rattle.pm_model.specs.Actions.{Action, all_performed, end_of, number_bytes, object_of, passes_object, performed_on, with_actions}
+use Rattle.pm_model.specs.Actions.{Action, Pending, Reservation, all_performed, object_reserved, end_of, number_bytes, object_of, passes_object, performed_on, with_actions}
 use Rattle.pm_model.specs.Actions.Action.{SetWord}
-use Rattle.pm_model.specs.Transaction.{Transaction, aborted, committed, ended_inner, is_dropped, is_new, resting}
+use Rattle.pm_model.specs.Transaction.{Transaction, aborted, all_made, all_released, committed, ended_inner, given_over, is_dropped, is_new, made_at, published, released, resting}
 use Rattle.pm_model.specs.Bytes.{bytes_of, is_among, new_words, put_object, records_of, with_bytes}
-use Rattle.pm_model.specs.NewObjects.{new_object, pool_without, with_object}
-use Rattle.pm_model.specs.Checks.{Range, frees_listed, frees_root, is_bad_size, is_listed, passes_end, words_in}
-use Rattle.pm_model.specs.Answers.{Answers, IsBeside, IsNewPlace, Told, after, allocated, error_for, performed, released, written}
+use Rattle.pm_model.specs.NewObjects.{new_object, pool_without, with_object, without_object}
+use Rattle.pm_model.specs.Checks.{Range, frees_listed, frees_root, is_bad_size, is_listed, is_root, passes_end, words_in}
+use Rattle.pm_model.specs.Answers.{Answers, IsBeside, IsNewPlace, MayStand, StandsOnceDone, Told, after, allocated, error_for, performed, reserved, written}
+use Rattle.pm_model.specs.Outside.{IsDoneOutside, IsRefusedOutside, Outside, after_outside, all_done, as_resting, done_outside, refusal_outside}
 use Rattle.pm_model.specs.Step.{State, Act, RunsFrom, Step}
-use Rattle.pm_model.specs.Names.{locks}
 use Rattle.pm_model.proofs.Objects.{members-put, object_at-put, offsets-put, present, size_of, sizes-put}
 use Rattle.pm_model.proofs.ObjectsByOffset.{more_elsewhere}
 use Rattle.pm_model.proofs.Asked.{passed_end, passed_list, passed_root, passed_size, same_passes}
@@ -31,9 +31,12 @@ use Rattle.pm_model.proofs.Alike.{done_cases}
 use Rattle.pm_model.proofs.Running.{after_cases, runs_keep}
 use Rattle.pm_model.proofs.Blocks.{All-parts, none_beside}
 use Rattle.pm_model.proofs.Made.{among_else, among_more, among_without, dropped_now, dropped_stays, freed_alone, freed_pool, freed_there, released_by}
-use Rattle.pm_model.proofs.PoolsMade.{if_some, pool_freed, pool_made}
-use Rattle.pm_model.proofs.Kept.{IsChangedIn, eight_bytes, same_size}
-use Rattle.pm_model.proofs.OutsideCalls.{outside_changed}
+use Rattle.pm_model.proofs.PoolsMade.{if_some, pool_freed, pool_made, unlisted_without}
+use Rattle.pm_model.proofs.Kept.{eight_bytes, same_size}
+use Rattle.pm_model.proofs.OutsideCalls.{HasPassed, after_done, passed_outside}
+use Rattle.pm_objects.specs.declared.history.Value.{Value}
+use Rattle.pm_objects.specs.declared.ids.Oid.{Oid}
+use Rattle.pm_objects.specs.declared.refusal.Refusal.{Refusal}
 
 some_from : {A : Type 0} (o p : Option A) → is_some o ≡ is_some p → IsSome p → IsSome o
 some_from o p same is = same ∙ is
@@ -198,17 +201,18 @@ module _ (tx : Transaction) (sound : IsSound tx) where
   }
 
   -- a new object is at no offset at which one was
-  allocated_sound : (size kind off : ℕ) → 1 ≤ size → size ≤ 262080 → IsNewPlace tx size off → IsSound (allocated off size kind tx)
-  allocated_sound size kind off some most place =
+  made_sound : (off : ℕ) (object : Object) → 1 ≤ length object.bytes → length object.bytes ≤ 262080 → object.members ≡ [] → IsNewPlace tx (length object.bytes) off → IsSound (made_at off object tx)
+  made_sound off object some most no_members place =
+      let size : ℕ = length object.bytes in
       let parts = All-parts (IsBeside size off) (tx.before.objects ++ tx.pool.objects) tx.dropped place.apart in
       let pools = All-parts (IsBeside size off) tx.before.objects tx.pool.objects parts.0 in
       let none_before : object_at tx.before.objects off ≡ None = none_beside size off tx.before.objects pools.0 in
       let none_now : object_at tx.pool.objects off ≡ None = none_beside size off tx.pool.objects pools.1 in
       let none_dropped : is_dropped tx off ≡ false = sym (present tx.dropped off) ∙ ap is_some (none_beside size off tx.dropped parts.1) in
-      let elsewhere : (x : ℕ) → x ≢ off → object_at (with_object off (new_object kind size) tx.pool.objects) x ≡ object_at tx.pool.objects x =
-      λ x else. more_elsewhere tx.pool.objects off x (new_object kind size) else in
+      let elsewhere : (x : ℕ) → x ≢ off → object_at (with_object off object tx.pool.objects) x ≡ object_at tx.pool.objects x =
+      λ x else. more_elsewhere tx.pool.objects off x object else in
       record {
-        now = pool_made tx.pool off size kind some most pools.1 sound.now;
+        now = pool_made tx.pool off object some most no_members pools.1 sound.now;
         at_start = sound.at_start;
         found = λ x there. ⊎_elim
             (λ (same : x ≡ off). inr (ap (is_among (tx.made ++ off ∷ [])) same ∙ among_more tx.made off))
@@ -217,11 +221,11 @@ module _ (tx : Transaction) (sound : IsSound tx) where
             (λ (made : is_among tx.made x ≡ true). inr (among_else tx.made off x else ∙ made))
             (sound.found x (subst (λ (o : Option Object). IsSome o) (elsewhere x else) there)))
             (cases_eq x off);
-        moved = All-weaker (IsToPerform tx) (IsToPerform (allocated off size kind tx))
+        moved = All-weaker (IsToPerform tx) (IsToPerform (made_at off object tx))
             (λ a is. ⊎_elim
             (λ (within : passes_object tx.pool.objects a ≡ false).
             let there : IsSome (object_at tx.pool.objects (object_of a).off) = has_object tx.pool.objects a within in
-            inl (same_passes (with_object off (new_object kind size) tx.pool.objects) tx.pool.objects a
+            inl (same_passes (with_object off object tx.pool.objects) tx.pool.objects a
             (elsewhere (object_of a).off (λ same. false≢true (ap is_some (sym none_now ∙ ap (object_at tx.pool.objects) (sym same)) ∙ there))) ∙ within))
             (λ (gone : (object_at tx.pool.objects (object_of a).off ≡ None) × WasThere tx (object_of a).off).
             let else : (object_of a).off ≢ off = λ same. ⊎_elim
@@ -232,6 +236,11 @@ module _ (tx : Transaction) (sound : IsSound tx) where
             is)
             tx.moved sound.moved;
       }
+
+  allocated_sound : (size kind off : ℕ) → 1 ≤ size → size ≤ 262080 → IsNewPlace tx size off → IsSound (allocated off size kind tx)
+  allocated_sound size kind off some most place =
+      let long : length (new_object kind size).bytes ≡ size = length-replicate size 0 in
+      made_sound off (new_object kind size) (omega (arith, long, some)) (omega (arith, long, most)) refl (subst (λ (n : ℕ). IsNewPlace tx n off) (sym long) place)
 
   -- what a free leaves: the object was there before, or is dropped
   was_there : (off : ℕ) → IsSome (object_at tx.pool.objects off) → WasThere (released off tx) off
@@ -303,19 +312,62 @@ module _ (tx : Transaction) (sound : IsSound tx) where
       let e = or_parts (passes_object tx.pool.objects a) (list_any (passes_object tx.pool.objects) actions) ends in
       All-cons (IsToPerform tx) a actions (inl e.0) (published_ends actions e.1)
 
-  performed_sound : (op : Operation) → passes_end tx op ≡ false → frees_root tx op ≡ false → frees_listed tx op ≡ false → IsSound (performed op tx)
-  performed_sound (Begin wants) ends root list = record { now = sound.now; at_start = sound.at_start; found = sound.found; moved = sound.moved }
-  performed_sound (AddRange id off len) ends root list = recorded_sound (record { id = id; off = off; len = len }) (is_new tx id.off)
-  performed_sound (Write id off bytes) ends root list = written_sound id.off off bytes (ltb-false (length (bytes_of tx.pool.objects id.off)) (off + length bytes) ends)
-  performed_sound (Free id) ends root list = released_sound id.off root list
-  performed_sound (SetValue id off value) ends root list = record { now = sound.now; at_start = sound.at_start; found = sound.found; moved = sound.moved }
-  performed_sound Publish ends root list =
-      let e : list_any (passes_object tx.pool.objects) tx.actions ≡ false = (or_parts (list_any (passes_object tx.pool.objects) tx.actions) false ends).0 in
-      record { now = sound.now; at_start = sound.at_start; found = sound.found; moved = All-append (IsToPerform tx) tx.moved tx.actions sound.moved (published_ends tx.actions e) }
-  performed_sound Cancel ends root list = record { now = sound.now; at_start = sound.at_start; found = sound.found; moved = sound.moved }
-  performed_sound Commit ends root list = end_sound (leb tx.level 1)
-  performed_sound (Abort errnum) ends root list = abort_sound (error_for errnum)
-  performed_sound op ends root list = sound
+  -- what is pending is given over
+  given_sound : list_any (passes_object tx.pool.objects) tx.actions.sets ≡ false → IsSound (given_over tx)
+  given_sound ends = record {
+    now = sound.now;
+    at_start = sound.at_start;
+    found = sound.found;
+    moved = All-weaker (IsToPerform tx) (IsToPerform (given_over tx)) (λ a is. is) (tx.moved ++ tx.actions.sets)
+        (All-append (IsToPerform tx) tx.moved tx.actions.sets sound.moved (published_ends tx.actions.sets ends));
+  }
+
+  -- an object that is not the root or in a list stays so where another that has no members is freed
+  still_unlisted : (off x : ℕ) → is_listed tx.pool.objects off ≡ false → is_listed tx.pool.objects x ≡ false → is_listed (without_object off tx.pool.objects) x ≡ false
+  still_unlisted off x unlisted other = unlisted_without tx.pool.objects off x sound.now.rising unlisted other
+
+-- objects are freed, one after another
+all_released_sound : (ids : List Oid) (tx : Transaction) → IsSound tx → list_any (is_root tx.pool) ids ≡ false → list_any (λ (id : Oid). is_listed tx.pool.objects id.off) ids ≡ false → IsSound (all_released ids tx)
+all_released_sound [] tx sound root list = sound
+all_released_sound (id ∷ ids) tx sound root list =
+    let roots = or_parts (is_root tx.pool id) (list_any (is_root tx.pool) ids) root in
+    let lists = or_parts (is_listed tx.pool.objects id.off) (list_any (λ (other : Oid). is_listed tx.pool.objects other.off) ids) list in
+    let pool : (released id.off tx).pool ≡ pool_without id.off tx.pool = freed_pool tx id.off (is_among tx.made id.off) in
+    all_released_sound ids (released id.off tx) (released_sound tx sound id.off roots.0 lists.0)
+    (subst (λ (p : PoolView). list_any (is_root p) ids ≡ false) (sym pool) roots.1)
+    (subst (λ (p : PoolView). list_any (λ (other : Oid). is_listed p.objects other.off) ids ≡ false) (sym pool) (still ids lists.1)) where
+      still : (ids : List Oid) → list_any (λ (other : Oid). is_listed tx.pool.objects other.off) ids ≡ false → list_any (λ (other : Oid). is_listed (without_object id.off tx.pool.objects) other.off) ids ≡ false
+      still [] none = refl
+      still (other ∷ others) none =
+          let first = or_parts (is_listed tx.pool.objects id.off) (list_any (λ (o : Oid). is_listed tx.pool.objects o.off) ids) list in
+          let t = or_parts (is_listed tx.pool.objects other.off) (list_any (λ (o : Oid). is_listed tx.pool.objects o.off) others) none in
+          (λ j. still_unlisted tx sound id.off other.off first.0 t.0 j || still others t.1 j)
+
+-- and what is reserved comes to be
+all_made_sound : (rs : List Reservation) (tx : Transaction) → IsSound tx → MayStand rs tx → IsSound (all_made rs tx)
+all_made_sound [] tx sound stands = sound
+all_made_sound (r ∷ rs) tx sound stands = all_made_sound rs (made_at r.off (object_reserved r) tx) (made_sound tx sound r.off (object_reserved r) stands.0 stands.1 refl stands.2) stands.3
+
+published_sound : (tx : Transaction) → IsSound tx → list_any (passes_object tx.pool.objects) tx.actions.sets ≡ false → frees_root tx Publish ≡ false → frees_listed tx Publish ≡ false → StandsOnceDone tx Publish
+    → IsSound (published tx)
+published_sound tx sound ends root list stands =
+    all_made_sound tx.actions.reserved (all_released tx.actions.frees (given_over tx))
+    (all_released_sound tx.actions.frees (given_over tx) (given_sound tx sound ends) root list) stands
+
+module _ (tx : Transaction) (sound : IsSound tx) where
+  performed_sound : (op : Operation) → passes_end tx op ≡ false → frees_root tx op ≡ false → frees_listed tx op ≡ false → StandsOnceDone tx op → IsSound (performed op tx)
+  performed_sound (Begin wants) ends root list stands = record { now = sound.now; at_start = sound.at_start; found = sound.found; moved = sound.moved }
+  performed_sound (AddRange id off len) ends root list stands = recorded_sound tx sound (record { id = id; off = off; len = len }) (is_new tx id.off)
+  performed_sound (Write id off bytes) ends root list stands = written_sound tx sound id.off off bytes (ltb-false (length (bytes_of tx.pool.objects id.off)) (off + length bytes) ends)
+  performed_sound (Free id) ends root list stands = released_sound tx sound id.off root list
+  performed_sound (WriteReserved id off bytes) ends root list stands = record { now = sound.now; at_start = sound.at_start; found = sound.found; moved = sound.moved }
+  performed_sound (DeferFree id) ends root list stands = record { now = sound.now; at_start = sound.at_start; found = sound.found; moved = sound.moved }
+  performed_sound (SetValue id off value) ends root list stands = record { now = sound.now; at_start = sound.at_start; found = sound.found; moved = sound.moved }
+  performed_sound Publish ends root list stands = published_sound tx sound (or_parts (list_any (passes_object tx.pool.objects) tx.actions.sets) false ends).0 root list stands
+  performed_sound Cancel ends root list stands = record { now = sound.now; at_start = sound.at_start; found = sound.found; moved = sound.moved }
+  performed_sound Commit ends root list stands = end_sound tx sound (leb tx.level 1)
+  performed_sound (Abort errnum) ends root list stands = abort_sound tx sound (error_for errnum)
+  performed_sound op ends root list stands = sound
 
 -- the size of an object that is made
 good_size : (size : ℕ) → (eqb size 0 || ltb 262080 size) ≡ false → (1 ≤ size) × (size ≤ 262080)
@@ -332,20 +384,38 @@ after_sound : (t : Told) (told : List Told) (tx : Transaction) → Answers tx t.
 after_sound t told tx answers sound =
     after_cases IsSound t tx answers sound
     (λ seen none done. done_cases IsSound t.operation t.reply tx done.value
-    (λ other. performed_sound tx sound t.operation (passed_end seen tx t.operation none) (passed_root seen tx t.operation none) (passed_list seen tx t.operation none))
+    (λ other. performed_sound tx sound t.operation (passed_end seen tx t.operation none) (passed_root seen tx t.operation none) (passed_list seen tx t.operation none) done.stands)
     (λ size kind off is place.
     let good = good_size size (ap is_bad_size (sym is) ∙ passed_size seen tx t.operation none) in
-    allocated_sound tx sound size kind off good.0 good.1 place))
+    allocated_sound tx sound size kind off good.0 good.1 place)
+    (λ size kind off is place. record { now = sound.now; at_start = sound.at_start; found = sound.found; moved = sound.moved }))
     (λ r. abort_sound tx sound (error.Refused r))
 
-run_sound : (pool : PoolView) (actions : List Action) (told : List Told) (last : Transaction) → RunsFrom (resting pool actions) told last → IsPool pool → IsPool last.pool
+run_sound : (pool : PoolView) (actions : Pending) (told : List Told) (last : Transaction) → RunsFrom (resting pool actions) told last → IsPool pool → IsPool last.pool
 run_sound pool actions told last runs is =
     (runs_keep (λ rest. IsSound) after_sound told (resting pool actions) last runs
     (record { now = is; at_start = is; found = λ off there. inl there; moved = All-nil (IsToPerform (resting pool actions)) })).now
+
+-- what is published outside of a transaction leaves a pool a pool, as a transaction of its own would
+published_pool : (s : Outside) → IsPool s.pool → list_any (passes_object s.pool.objects) s.actions.sets ≡ false → frees_root (as_resting s) Publish ≡ false → frees_listed (as_resting s) Publish ≡ false
+    → StandsOnceDone (as_resting s) Publish → IsPool (all_done (published (as_resting s)))
+published_pool s is ends root list stands =
+    (end_sound (published (as_resting s))
+    (published_sound (as_resting s) (record { now = is; at_start = is; found = λ off there. inl there; moved = All-nil (IsToPerform (as_resting s)) }) ends root list stands) true).now
+
+done_pool : (s : Outside) (op : Operation) → IsPool s.pool → HasPassed s op → StandsOnceDone (as_resting s) op → IsPool (done_outside op s).pool
+done_pool s Publish is passed stands = published_pool s is passed.end passed.root passed.list stands
+done_pool s op is passed stands = is
+
+left_pool : (s : Outside) (op : Operation) (reply : Option Value) → IsPool s.pool → (fr : Option Refusal) → (fr ≡ None → HasPassed s op) → MatchOption fr (IsDoneOutside s op reply) (λ r. IsRefusedOutside r reply)
+    → IsPool (after_outside op reply s).pool
+left_pool s op reply is None passed done = subst IsPool (sym (after_done s op reply done.value)) (done_pool s op is (passed refl) done.stands)
+left_pool s op reply is (Some r) passed refused = subst (λ (x : Option Value). IsPool (after_outside op x s).pool) (sym refused.told) is
 
 -- a call leaves a pool a pool
 pub keeps_pool : (act : Act) (s t : State) → Step s act t → IsPool s.pool → IsPool t.pool
 keeps_pool act s t (inl step) is = subst IsPool (sym (ap (λ (v : State). v.pool) step.leaves.leaves)) (run_sound s.pool act.actions act.told step.last step.runs is)
 keeps_pool act s t (inr step) is =
-    let changed : IsChangedIn (λ off. locks act off true) s.pool t.pool = outside_changed act s t step in
-    subst IsPool (sym changed.else) (still_pool s.pool t.pool.objects changed.places changed.sizes changed.members is)
+    subst IsPool (sym (ap (λ (v : State). v.pool) step.leaves.leaves))
+    (left_pool (record { pool = s.pool; actions = act.actions }) step.operation step.reply is (refusal_outside step.answers.seen (record { pool = s.pool; actions = act.actions }) step.operation)
+    (λ none. passed_outside step.answers.seen (record { pool = s.pool; actions = act.actions }) step.operation none) step.answers.answer)

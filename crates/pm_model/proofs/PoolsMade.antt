@@ -1,11 +1,10 @@
 -- A pool with a new object that is apart from all is a pool, and without one that is not the root, in no list and has no members.
-use Rattle.std.proofs.Common.{◌≡◌, ◌≢◌, ⊎_elim, ℕ, ◌≤◌, All, Bool, true, false, not, cond, eqb, leb, ltb, List, [], ◌∷◌, ◌++◌, get_or, length, Option, Some, None, refl, sym, ◌∙◌, ap, subst, arith}
+use Rattle.std.proofs.Common.{◌≡◌, ◌≢◌, ⊎_elim, ℕ, ◌≤◌, All, Bool, true, false, not, cond, eqb, leb, ltb, ◌||◌, List, [], ◌∷◌, ◌++◌, get_or, length, Option, Some, None, refl, sym, ◌∙◌, ap, subst, arith}
 use Rattle.std.specs.Prelude.{IfSome, IsSome, nat_eq}
 use Rattle.std.specs.List.{IsDistinct}
 use Rattle.std.specs.List.Sorted.{IsStrictlyIncreasing}
 use Rattle.std.specs.Option.{is_some, option_map_or}
 use Rattle.std.proofs.lemmas.Bool.{cases_eq, eq-eqb, eqb-true, false≢true, leb-false, or_parts}
-use Rattle.std.proofs.lemmas.List.{length-replicate}
 use Rattle.std.proofs.lemmas.List.Elements.{All-cons, All-filter, All-head, All-nil, All-tail}
 use Rattle.std.proofs.lemmas.List.Folds.{list_any_at}
 use Rattle.pm_objects.specs.Pool.{IsPool, Objects, all_members, object_at, offsets}
@@ -14,10 +13,10 @@ use Rattle.pm_objects.specs.declared.pool.PoolView.{PoolView}
 use Rattle.pm_model.specs.Answers.{IsBeside}
 use Rattle.pm_model.specs.Bytes.{is_among}
 use Rattle.pm_model.specs.Checks.{is_listed}
-use Rattle.pm_model.specs.NewObjects.{new_object, pool_with, pool_without, with_object, without_object}
+use Rattle.pm_model.specs.NewObjects.{pool_with, pool_without, with_object, without_object}
 use Rattle.pm_model.proofs.Blocks.{apart_from_lie, lie_from_apart, lie_with, lie_without, none_beside}
 use Rattle.pm_model.proofs.Objects.{absent, rising_tail}
-use Rattle.pm_model.proofs.ObjectsByOffset.{fewer_elsewhere, fewer_rise, more_elsewhere, more_rise}
+use Rattle.pm_model.proofs.ObjectsByOffset.{fewer_elsewhere, fewer_rise, fewer_there, more_elsewhere, more_rise}
 
 pub if_some : (root : Option ℕ) (P Q : ℕ → Type 0) → ((off : ℕ) → P off → Q off) → IfSome root P → IfSome root Q
 if_some None P Q implies holds = holds
@@ -64,6 +63,18 @@ members_without off (e ∷ es) rising none = go (eqb e.0 off) refl none (members
       rest (ap has_members gone) ∙ ap (λ (members : List ℕ). members ++ all_members es) (sym (no_members e.1.members first))
   go false is later rest = ap (λ (members : List ℕ). e.1.members ++ members) (rest later)
 
+-- an object that is in no list and has no members stays so where another such object is freed
+pub unlisted_without : (objects : Objects) (off x : ℕ) → IsStrictlyIncreasing (offsets objects) → is_listed objects off ≡ false → is_listed objects x ≡ false → is_listed (without_object off objects) x ≡ false
+unlisted_without objects off x rising unlisted other =
+    let freed = or_parts (is_among (all_members objects) off) (has_members (object_at objects off)) unlisted in
+    let kept = or_parts (is_among (all_members objects) x) (has_members (object_at objects x)) other in
+    let among : is_among (all_members (without_object off objects)) x ≡ false = ap (λ (members : List ℕ). is_among members x) (members_without off objects rising freed.1) ∙ kept.0 in
+    let lone : has_members (object_at (without_object off objects) x) ≡ false = ⊎_elim
+    (λ (same : x ≡ off). ap has_members (ap (object_at (without_object off objects)) same ∙ fewer_there objects off))
+    (λ (else : x ≢ off). ap has_members (fewer_elsewhere objects off x else) ∙ kept.1)
+    (cases_eq x off) in
+    (λ j. among j || lone j)
+
 -- an object that is there stays so
 there_with : (objects : Objects) (off : ℕ) (object : Object) → object_at objects off ≡ None → (x : ℕ) → IsSome (object_at objects x) → IsSome (object_at (with_object off object objects) x)
 there_with objects off object none x there = ⊎_elim
@@ -74,14 +85,12 @@ there_with objects off object none x there = ⊎_elim
 there_without : (objects : Objects) (off x : ℕ) → x ≢ off → IsSome (object_at objects x) → IsSome (object_at (without_object off objects) x)
 there_without objects off x else there = subst (λ (o : Option Object). IsSome o) (sym (fewer_elsewhere objects off x else)) there
 
--- a pool with a new object
-pub pool_made : (pool : PoolView) (off size kind : ℕ) → 1 ≤ size → size ≤ 262080 → All (IsBeside size off) pool.objects → IsPool pool → IsPool (pool_with off (new_object kind size) pool)
-pool_made pool off size kind some most beside is =
-    let object : Object = new_object kind size in
-    let long : length object.bytes ≡ size = length-replicate size 0 in
-    let none : object_at pool.objects off ≡ None = none_beside size off pool.objects beside in
-    let apart : All (IsBeside (length object.bytes) off) pool.objects = subst (λ (n : ℕ). All (IsBeside n off) pool.objects) (sym long) beside in
-    let members : all_members (with_object off object pool.objects) ≡ all_members pool.objects = members_with off object pool.objects refl in
+-- a pool with a new object, which has no members
+pub pool_made : (pool : PoolView) (off : ℕ) (object : Object) → 1 ≤ length object.bytes → length object.bytes ≤ 262080 → object.members ≡ [] → All (IsBeside (length object.bytes) off) pool.objects → IsPool pool
+    → IsPool (pool_with off object pool)
+pool_made pool off object some most no_members apart is =
+    let none : object_at pool.objects off ≡ None = none_beside (length object.bytes) off pool.objects apart in
+    let members : all_members (with_object off object pool.objects) ≡ all_members pool.objects = members_with off object pool.objects no_members in
     let there : (x : ℕ) → IsSome (object_at pool.objects x) → IsSome (object_at (with_object off object pool.objects) x) = there_with pool.objects off object none in
     record {
       has_id = is.has_id;
@@ -90,7 +99,7 @@ pool_made pool off size kind some most beside is =
       name_bytes = is.name_bytes;
       shape = is.shape;
       rising = more_rise pool.objects off object is.rising none;
-      sizes = all_with (λ entry. (1 ≤ length entry.1.bytes) × (length entry.1.bytes ≤ 262080)) off object pool.objects (omega arith, omega arith) is.sizes;
+      sizes = all_with (λ entry. (1 ≤ length entry.1.bytes) × (length entry.1.bytes ≤ 262080)) off object pool.objects (some, most) is.sizes;
       apart = apart_from_lie 0 (with_object off object pool.objects) (lie_with 0 off object pool.objects (omega arith) apart (lie_from_apart pool.objects is.apart));
       members_there = subst (λ (offs : List ℕ). All (λ x. IsSome (object_at (with_object off object pool.objects) x)) offs) (sym members)
           (λ k d inside. there (get_or (all_members pool.objects) k d) (is.members_there k d inside));

@@ -4,10 +4,10 @@ use Rattle.std.specs.List.{filter}
 use Rattle.std.proofs.lemmas.Bool.{false≢true}
 use Rattle.std.proofs.lemmas.List.Elements.{All-head, All-tail}
 use Rattle.pm_objects.specs.declared.calls.Operation.{Operation}
-use Rattle.pm_objects.specs.declared.calls.Operation.TheVariants.{SetValue, Publish, Cancel}
+use Rattle.pm_objects.specs.declared.calls.Operation.TheVariants.{Reserve, WriteReserved, DeferFree, SetValue, Publish, Cancel}
 use Rattle.pm_objects.specs.declared.history.Value.{Value}
 use Rattle.pm_objects.specs.declared.pool.PoolView.{PoolView}
-use Rattle.pm_model.specs.Actions.{Action}
+use Rattle.pm_model.specs.Actions.{Pending}
 use Rattle.pm_model.specs.Answers.{IsDone, IsRefused, Told}
 use Rattle.pm_model.specs.Checks.{Seen, first_refusal}
 use Rattle.pm_model.specs.Outside.{Outside, after_outside, stands_outside}
@@ -69,9 +69,12 @@ leave_out left_out calls s u all is may replays =
     (rest.0, replays_so (filter (λ a. not (left_out a)) calls) s rest.0 rest.1, rest.2)
 
 -- what stands outside begins no transaction
-begins_none : (seen : Seen) (pool : PoolView) (actions : List Action) (op : Operation) (reply : Option Value) → stands_outside op ≡ true
+begins_none : (seen : Seen) (pool : PoolView) (actions : Pending) (op : Operation) (reply : Option Value) → stands_outside op ≡ true
     → MatchOption (first_refusal seen (resting pool actions) op) (IsDone (resting pool actions) op reply) (λ r. IsRefused r reply) → ⊥
 unfolding first_refusal
+begins_none seen pool actions (Reserve size kind) reply stands answer = false≢true (sym answer.traced)
+begins_none seen pool actions (WriteReserved id off bytes) reply stands answer = false≢true (sym answer.traced)
+begins_none seen pool actions (DeferFree id) reply stands answer = false≢true (sym answer.traced)
 begins_none seen pool actions (SetValue id off value) reply stands answer = false≢true (sym answer.traced)
 begins_none seen pool actions Publish reply stands answer = false≢true (sym answer.traced)
 begins_none seen pool actions Cancel reply stands answer = false≢true (sym answer.traced)

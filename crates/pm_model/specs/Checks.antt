@@ -4,15 +4,16 @@ use Rattle.std.specs.List.{list_any, list_all}
 use Rattle.std.specs.Option.{option_map, option_map_or}
 use Rattle.pm_objects.specs.Pool.{Objects, object_at, all_members}
 use Rattle.pm_objects.specs.declared.calls.Operation.{Operation}
-use Rattle.pm_objects.specs.declared.calls.Operation.TheVariants.{Begin, AddRange, Write, Read, Alloc, Free, SetValue, Publish, Cancel}
+use Rattle.pm_objects.specs.declared.calls.Operation.TheVariants.{Begin, AddRange, Write, Read, Alloc, Free, Reserve, WriteReserved, DeferFree, SetValue, Publish, Cancel}
 use Rattle.pm_objects.specs.declared.calls.Want.{Want}
 use Rattle.pm_objects.specs.declared.ids.Oid.{Oid}
 use Rattle.pm_objects.specs.declared.pool.Object.{Object}
+use Rattle.pm_objects.specs.declared.pool.PoolView.{PoolView}
 use Rattle.pm_objects.specs.declared.refusal.Refusal.{Refusal}
 use Rattle.pm_objects.specs.declared.refusal.Refusal.TheVariants as refusal
-use Rattle.pm_model.specs.Actions.{Action, max_actions, max_entries, object_of, passes_object}
+use Rattle.pm_model.specs.Actions.{Action, Pending, bytes_reserved, is_reserved, max_actions, max_entries, object_of, offsets_named, passes_object, pending_count}
 use Rattle.pm_model.specs.Places.{has_place}
-use Rattle.pm_model.specs.Transaction.{Transaction, is_working, is_new, is_gone, holds_object, entries_of, locked_all}
+use Rattle.pm_model.specs.Transaction.{Transaction, is_working, is_new, is_gone, holds_object, entries_of, locked_all, published}
 use Rattle.pm_model.specs.Bytes.{bytes_of, covered_words, is_among, new_words, records_of}
 
 -- what a lane saw beside the pool, of words that it shares with other lanes
@@ -70,8 +71,23 @@ abbrev pub is_free : Operation → Bool
 is_free (Free id) = true
 is_free op = false
 
+abbrev pub is_reserve : Operation → Bool
+is_reserve (Reserve size kind) = true
+is_reserve op = false
+
+-- an operation that looks for a block for a new object
+abbrev pub seeks_block : Operation → Bool
+seeks_block op = is_alloc op || is_reserve op
+
+abbrev pub is_defer : Operation → Bool
+is_defer (DeferFree id) = true
+is_defer op = false
+
 -- an operation on the pending actions alone: refused, it does not abort the transaction
 abbrev pub is_action : Operation → Bool
+is_action (Reserve size kind) = true
+is_action (WriteReserved id off bytes) = true
+is_action (DeferFree id) = true
 is_action (SetValue id off value) = true
 is_action Cancel = true
 is_action op = false
@@ -109,7 +125,13 @@ is_unaligned op = false
 -- BadSize: the object would have no byte, or more than a zone's chunks have room for
 abbrev pub is_bad_size : Operation → Bool
 is_bad_size (Alloc size kind) = size == 0 || nat_lt 262080 size
+is_bad_size (Reserve size kind) = size == 0 || nat_lt 262080 size
 is_bad_size op = false
+
+-- NotReserved: nothing is reserved where bytes would be written
+abbrev pub lacks_reservation : PoolView → Pending → Operation → Bool
+lacks_reservation pool p (WriteReserved id off bytes) = not (id.pool == pool.id && is_reserved p id.off)
+lacks_reservation pool p op = false
 
 -- NotLocked: the lock that the access needs is not held. None is held of an id that has no place
 abbrev pub is_not_held : Transaction → Bool → Oid → Bool
@@ -123,7 +145,7 @@ abbrev pub is_unlocked_action : Transaction → Action → Bool
 is_unlocked_action tx a = is_not_held tx true (object_of a)
 
 abbrev pub publishes_unlocked : Transaction → Operation → Bool
-publishes_unlocked tx op = is_publish op && list_any (is_unlocked_action tx) tx.actions
+publishes_unlocked tx op = is_publish op && (list_any (is_not_held tx true) tx.actions.frees || list_any (is_unlocked_action tx) tx.actions.sets)
 
 -- an object is freed that is not held for writing
 abbrev pub frees_unlocked : Transaction → Operation → Bool
@@ -154,17 +176,24 @@ is_missing seen tx op = takes_first_lock tx op && seen.missing
 -- the objects that an operation is about, by their offsets: what is wanted, published or freed, or has the range
 abbrev pub objects_named : Transaction → Operation → List ℕ
 objects_named tx (Begin wants) = map (λ (want : Want). want.id.off) wants
-objects_named tx Publish = map (λ (a : Action). (object_of a).off) tx.actions
+objects_named tx Publish = offsets_named tx.actions
 objects_named tx (Free id) = id.off ∷ []
 objects_named tx op = option_map_or (λ (range : Range). range.id.off ∷ []) (range_of op) []
 
--- NoObject: an object that it is about was freed in the transaction
+-- NoObject: an object that it is about was freed in the transaction, or is to be freed by an action that was asked for before
+abbrev pub publishes_late : Pending → Operation → Bool
+publishes_late p op = is_publish op && p.late
+
 abbrev pub names_gone : Transaction → Operation → Bool
-names_gone tx op = list_any (is_gone tx) (objects_named tx op)
+names_gone tx op = publishes_late tx.actions op || list_any (is_gone tx) (objects_named tx op)
 
 -- RootKept: the root would be freed
+abbrev pub is_root : PoolView → Oid → Bool
+is_root pool id = option_map_or (λ root. root == id.off) pool.root false
+
 abbrev pub frees_root : Transaction → Operation → Bool
-frees_root tx (Free id) = option_map_or (λ root. root == id.off) tx.pool.root false
+frees_root tx (Free id) = is_root tx.pool id
+frees_root tx Publish = list_any (is_root tx.pool) tx.actions.frees
 frees_root tx op = false
 
 -- Listed: an object would be freed that is a member of a list, or has members
@@ -174,6 +203,7 @@ is_listed objects off =
 
 abbrev pub frees_listed : Transaction → Operation → Bool
 frees_listed tx (Free id) = is_listed tx.pool.objects id.off
+frees_listed tx Publish = list_any (λ (id : Oid). is_listed tx.pool.objects id.off) tx.actions.frees
 frees_listed tx op = false
 
 -- OutOfRange: the range passes the object's end
@@ -181,10 +211,15 @@ abbrev pub passes_end_of : Transaction → Range → Bool
 passes_end_of tx range = nat_lt (length (bytes_of tx.pool.objects range.id.off)) (range.off + range.len)
 
 abbrev pub publishes_past_end : Transaction → Operation → Bool
-publishes_past_end tx op = is_publish op && list_any (passes_object tx.pool.objects) tx.actions
+publishes_past_end tx op = is_publish op && list_any (passes_object tx.pool.objects) tx.actions.sets
+
+-- or that of what is reserved
+abbrev pub puts_past_end : Pending → Operation → Bool
+puts_past_end p (WriteReserved id off bytes) = nat_lt (length (bytes_reserved p id.off)) (off + length bytes)
+puts_past_end p op = false
 
 abbrev pub passes_end : Transaction → Operation → Bool
-passes_end tx op = publishes_past_end tx op || option_map_or (passes_end_of tx) (range_of op) false
+passes_end tx op = puts_past_end tx.actions op || (publishes_past_end tx op || option_map_or (passes_end_of tx) (range_of op) false)
 
 -- NotAdded: a word to be written is not recorded. Those of a new object need no record
 abbrev pub has_unrecorded : Transaction → Range → Bool
@@ -203,15 +238,17 @@ passes_log tx op = is_record op && option_map_or (overfills tx) (range_of op) fa
 -- ActionsFull: one more action would be pending than may be, or the transaction would have more entries than its log holds. An object that it
 -- made takes its entry back where it is freed
 abbrev pub passes_actions : Transaction → Operation → Bool
-passes_actions tx (SetValue id off value) = nat_le max_actions (length tx.actions)
-passes_actions tx Publish = nat_lt max_entries (entries_of tx + length tx.actions + 1)
+passes_actions tx (Reserve size kind) = nat_le max_actions (pending_count tx.actions)
+passes_actions tx (DeferFree id) = nat_le max_actions (pending_count tx.actions)
+passes_actions tx (SetValue id off value) = nat_le max_actions (pending_count tx.actions)
+passes_actions tx Publish = nat_lt max_entries (entries_of (published tx) + 1)
 passes_actions tx (Alloc size kind) = nat_lt max_entries (entries_of tx + 2)
 passes_actions tx (Free id) = not (is_among tx.made id.off) && nat_lt max_entries (entries_of tx + 2)
 passes_actions tx op = false
 
 -- NoSpace: no block is free for the object
 abbrev pub finds_no_space : Seen → Operation → Bool
-finds_no_space seen op = is_alloc op && seen.full
+finds_no_space seen op = seeks_block op && seen.full
 
 -- the checks in their order. Those of calls that are not here yet come with them, each at its place. A lane that was stopped answers
 -- Stopped before them all
@@ -224,6 +261,7 @@ checks seen tx op =
     ∷ (refusal.LocksFull, passes_locks tx op)
     ∷ (refusal.Unaligned, is_unaligned op)
     ∷ (refusal.BadSize, is_bad_size op)
+    ∷ (refusal.NotReserved, lacks_reservation tx.pool tx.actions op)
     ∷ (refusal.NotLocked, is_not_locked tx op)
     ∷ (refusal.NoObject, wants_no_place tx op)
     ∷ (refusal.Busy, is_busy seen tx op)

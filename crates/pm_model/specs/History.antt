@@ -6,13 +6,14 @@ use Rattle.pm_objects.specs.declared.history.Entry.{Entry}
 use Rattle.pm_objects.specs.declared.history.Fate.{Fate}
 use Rattle.pm_objects.specs.declared.history.Fate.TheVariants as fate
 use Rattle.pm_objects.specs.declared.pool.PoolView.{PoolView}
+use Rattle.pm_model.specs.Actions.{none_pending}
 use Rattle.pm_model.specs.Step.{State, Act}
 use Rattle.pm_model.specs.Names.{Replays}
 use Rattle.pm_model.specs.Shown.{IsEntry}
 
--- a pool as it is opened: no lane has pending actions
+-- a pool as it is opened: no lane has anything pending
 abbrev pub opened : PoolView → State
-opened pool = record { pool = pool; actions = λ lane. [] }
+opened pool = record { pool = pool; actions = λ lane. none_pending }
 
 -- the pool after these entries, one whole call after another
 pub record ReplaysEntries (pool : PoolView) (entries : List Entry) (last : PoolView) : Type 0 where

@@ -9,8 +9,8 @@ use Rattle.pm_objects.specs.declared.history.Value.{Value}
 use Rattle.pm_objects.specs.declared.history.Value.TheVariants.{Refused}
 use Rattle.pm_objects.specs.declared.pool.Object.{Object}
 use Rattle.pm_objects.specs.declared.refusal.Refusal.TheVariants as refusal
-use Rattle.pm_model.specs.Actions.{Action}
-use Rattle.pm_model.specs.Checks.{wants_of, is_alloc, is_free}
+use Rattle.pm_model.specs.Actions.{Pending, is_plain}
+use Rattle.pm_model.specs.Checks.{wants_of, is_defer, is_free, seeks_block}
 use Rattle.pm_model.specs.Outside.{wants_outside}
 use Rattle.pm_model.specs.Answers.{Told}
 use Rattle.pm_model.specs.Step.{State, Act, Step}
@@ -23,14 +23,14 @@ pub data Name : Type 0 where
   RootOffset : Name
   -- what stands at an offset
   ObjectAt : ℕ → Name
-  -- a lane's pending actions
+  -- what a lane has pending
   ActionsOf : ℕ → Name
 
 pub data Content : Type 0 where
   FixedIs : ℕ → List ℕ → ℕ → ℕ → Content
   RootIs : Option ℕ → Content
   ObjectIs : Option Object → Content
-  ActionsAre : List Action → Content
+  ActionsAre : Pending → Content
 
 -- what a state has under a name
 abbrev pub content : State → Name → Content
@@ -47,14 +47,17 @@ abbrev pub is_refusal : Option Value → Bool
 is_refusal (Some (Refused r)) = true
 is_refusal reply = false
 
--- the operation with this reply allocated, or is a free: it asks whether blocks overlap, or whether an object is the root or in a list, which
--- no name tells
-abbrev pub changes_blocks : Operation → Option Value → Bool
-changes_blocks op reply = is_free op || (is_alloc op && not (is_refusal reply))
+-- an operation that makes or reserves an object, or asks for one to be freed
+abbrev pub asks_for_blocks : Operation → Bool
+asks_for_blocks op = seeks_block op || is_defer op
 
--- no operation of the call allocated or is a free. One may be an allocation that was refused
+-- the operation with this reply did so, or is a free: it asks whether blocks overlap, or whether an object is the root or in a list, which no name tells
+abbrev pub changes_blocks : Operation → Option Value → Bool
+changes_blocks op reply = is_free op || (asks_for_blocks op && not (is_refusal reply))
+
+-- no operation of the call did, and nothing is to be freed or reserved as it begins. One may be an allocation that was refused
 abbrev pub keeps_blocks : Act → Bool
-keeps_blocks act = list_all (λ (t : Told). not (changes_blocks t.operation t.reply)) act.told
+keeps_blocks act = is_plain act.actions && list_all (λ (t : Told). not (changes_blocks t.operation t.reply)) act.told
 
 -- so each of these calls
 abbrev pub AllKeepBlocks : List Act → Type 0
@@ -75,7 +78,7 @@ is_missed (Some (Refused refusal.NoObject)) = true
 is_missed reply = false
 
 -- what it locks where it is one operation outside of a transaction, and finds it there
-abbrev pub named_by : List Action → List Told → List Want
+abbrev pub named_by : Pending → List Told → List Want
 named_by actions [] = []
 named_by actions (t ∷ told) = if is_missed t.reply then [] else wants_outside t.operation actions
 
@@ -83,7 +86,7 @@ named_by actions (t ∷ told) = if is_missed t.reply then [] else wants_outside 
 abbrev pub locks : Act → ℕ → Bool → Bool
 locks act off write = is_wanted (named_by act.actions act.told ++ wants_taken act.told) off write
 
--- the call's written part: its lane's pending actions, and what it locks for writing
+-- the call's written part: what its lane has pending, and what it locks for writing
 abbrev pub writes : Act → Name → Bool
 writes act (ObjectAt off) = locks act off true
 writes act (ActionsOf lane) = lane == act.lane

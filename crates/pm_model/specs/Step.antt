@@ -3,24 +3,24 @@ use Rattle.std.specs.Prelude.{◌≡◌, ◌⊎◌, ℕ, ◌==◌, true, false, 
 use Rattle.pm_objects.specs.declared.calls.Operation.{Operation}
 use Rattle.pm_objects.specs.declared.history.Value.{Value}
 use Rattle.pm_objects.specs.declared.pool.PoolView.{PoolView}
-use Rattle.pm_model.specs.Actions.{Action}
+use Rattle.pm_model.specs.Actions.{Pending}
 use Rattle.pm_model.specs.Outside.{AnswersOutside, Outside, after_outside}
 use Rattle.pm_model.specs.Transaction.{Transaction, at_rest, resting, is_working}
 use Rattle.pm_model.specs.Answers.{Told, Answers, after}
 
--- a pool, and for each lane its pending actions
+-- a pool, and for each lane what it has pending
 pub record State : Type 0 where
   pub pool : PoolView
-  pub actions : ℕ → List Action
+  pub actions : ℕ → Pending
 
--- a call as it ran: its lane, the actions that were pending as it began, and the operations that were run with their replies
+-- a call as it ran: its lane, what was pending as it began, and the operations that were run with their replies
 pub record Act : Type 0 where
   pub lane : ℕ
-  pub actions : List Action
+  pub actions : Pending
   pub told : List Told
 
--- the pending actions with other ones of a lane
-abbrev pub with_pending : (ℕ → List Action) → ℕ → List Action → ℕ → List Action
+-- what is pending, with another lane's in its place
+abbrev pub with_pending : (ℕ → Pending) → ℕ → Pending → ℕ → Pending
 with_pending actions lane pending k = if k == lane then pending else actions k
 
 -- the transaction goes on with these operations to its end, where it is committed or aborted
@@ -37,7 +37,7 @@ RunsFrom tx (t ∷ told) last = Answers tx t.operation t.reply × RunsOn (after 
 abbrev pub Runs : PoolView → List Told → Transaction → Type 0
 Runs pool told last = RunsFrom (at_rest pool) told last
 
--- the call found these actions pending, and leaves this
+-- the call found this pending, and leaves this
 pub record Leaves (s : State) (act : Act) (left : Outside) (next : State) : Type 0 where
   pub pending : s.actions act.lane ≡ act.actions
   pub leaves : next ≡ record { pool = left.pool; actions = with_pending s.actions act.lane left.actions }

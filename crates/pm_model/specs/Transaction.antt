@@ -1,13 +1,16 @@
 -- A transaction as it runs: pmemobj_tx_begin(3). It works on a copy of the pool, which the outermost commit makes the pool.
-use Rattle.std.specs.Prelude.{ℕ, ◌+◌, ◌-◌, ◌==◌, ◌&&◌, ◌||◌, not, nat_le, Bool, true, false, if◌then◌else◌, List, [], ◌∷◌, length, filter}
+use Rattle.std.specs.Prelude.{ℕ, ◌+◌, ◌-◌, ◌==◌, ◌&&◌, ◌||◌, not, nat_le, Bool, true, false, if◌then◌else◌, List, [], ◌∷◌, ◌++◌, length, filter}
 use Rattle.std.specs.List.{list_any}
 use Rattle.pm_objects.specs.Pool.{Objects, offsets}
 use Rattle.pm_objects.specs.declared.calls.Want.{Want}
 use Rattle.pm_objects.specs.declared.history.TxErr.{TxErr}
 use Rattle.pm_objects.specs.declared.history.TxErr.TheVariants as error
 use Rattle.pm_objects.specs.declared.pool.PoolView.{PoolView}
-use Rattle.pm_model.specs.Actions.{Action, with_actions}
+use Rattle.pm_model.specs.Actions.{Action, Pending, Reservation, none_pending, object_reserved, with_actions}
 use Rattle.pm_model.specs.Bytes.{is_among}
+use Rattle.pm_model.specs.NewObjects.{pool_with, pool_without}
+use Rattle.pm_objects.specs.declared.ids.Oid.{Oid}
+use Rattle.pm_objects.specs.declared.pool.Object.{Object}
 use Rattle.pm_model.specs.declared.stage.Stage.{Stage}
 use Rattle.pm_model.specs.declared.stage.Stage.TheVariants as stage
 
@@ -28,8 +31,8 @@ pub record Transaction : Type 0 where
   -- the words that were recorded, by their numbers in the pool, and in how many records
   pub recorded : List ℕ
   pub records : ℕ
-  -- the lane's pending actions, and those that were published in the transaction: they take effect when it is committed
-  pub actions : List Action
+  -- what the lane has pending, and the words that were published in the transaction: they are set when it is committed
+  pub actions : Pending
   pub moved : List Action
   -- the offsets of the objects that it made, in the order of their calls
   pub made : List ℕ
@@ -39,14 +42,14 @@ pub record Transaction : Type 0 where
   pub freed : List ℕ
   pub error : TxErr
 
--- no transaction is open, and these actions are pending
-abbrev pub resting : PoolView → List Action → Transaction
+-- no transaction is open, and this is pending
+abbrev pub resting : PoolView → Pending → Transaction
 resting pool actions =
     record { before = pool; pool = pool; level = 0; stage = stage.None; locks = []; recorded = []; records = 0; actions = actions; moved = []; made = []; dropped = []; freed = []; error = error.None }
 
--- and none
+-- and nothing
 abbrev pub at_rest : PoolView → Transaction
-at_rest pool = resting pool []
+at_rest pool = resting pool none_pending
 
 abbrev pub is_working : Stage → Bool
 is_working stage.Work = true
@@ -95,6 +98,33 @@ wants_of_old tx wants = filter (λ (want : Want). not (is_new tx want.id.off)) w
 -- the entries of its redo log, but for that of its generation: one for each action that was published, and for each object made or freed
 abbrev pub entries_of : Transaction → ℕ
 entries_of tx = length tx.moved + length tx.made + length tx.freed
+
+-- an object comes to be at the offset, new
+abbrev pub made_at : ℕ → Object → Transaction → Transaction
+made_at off object tx = record tx { pool = pool_with off object tx.pool; made = tx.made ++ off ∷ [] }
+
+-- the object at the offset is freed: one that was made here is dropped
+abbrev pub released : ℕ → Transaction → Transaction
+released off tx =
+    if is_among tx.made off
+    then record tx { pool = pool_without off tx.pool; made = filter (λ other. not (other == off)) tx.made; dropped = tx.dropped ++ filter (λ entry. entry.0 == off) tx.pool.objects }
+    else record tx { pool = pool_without off tx.pool; freed = tx.freed ++ off ∷ [] }
+
+-- objects are freed, and what is reserved comes to be, one after another
+abbrev pub all_released : List Oid → Transaction → Transaction
+all_released [] tx = tx
+all_released (id ∷ ids) tx = all_released ids (released id.off tx)
+
+abbrev pub all_made : List Reservation → Transaction → Transaction
+all_made [] tx = tx
+all_made (r ∷ rs) tx = all_made rs (made_at r.off (object_reserved r) tx)
+
+-- What is pending is published: the objects that are to be freed are, those that are reserved come to be, and the words that are to be set wait for the commit
+abbrev pub given_over : Transaction → Transaction
+given_over tx = record tx { moved = tx.moved ++ tx.actions.sets; actions = none_pending }
+
+abbrev pub published : Transaction → Transaction
+published tx = all_made tx.actions.reserved (all_released tx.actions.frees (given_over tx))
 
 -- one level more, with the locks that it wants
 abbrev pub begun : List Want → Transaction → Transaction

@@ -9,9 +9,9 @@ ghost use Rattle.pm_objects.specs.declared.pool.Object.{Object};
 ghost use Rattle.pm_objects.specs.declared.refusal.Refusal.{Refusal};
 ghost use Rattle.pm_model.specs.Places.{can_begin, CanBegin};
 ghost use Rattle.pm_model.specs.NewObjects.{with_object, without_object};
-ghost use Rattle.pm_model.specs.Transaction.{Transaction, is_gone, is_new};
-ghost use Rattle.pm_model.specs.Checks.{is_alloc};
-ghost use Rattle.pm_model.specs.Answers.{allocated, changes_nothing, is_known, released, Answers, IsNewPlace};
+ghost use Rattle.pm_model.specs.Transaction.{Transaction, is_gone, is_new, released};
+ghost use Rattle.pm_model.specs.Checks.{seeks_block};
+ghost use Rattle.pm_model.specs.Answers.{allocated, changes_nothing, is_known, Answers, IsNewPlace, StandsOnceDone};
 ghost use Rattle.pm_model.specs.Step.{State, Act, Step, TransactionStep};
 ghost use Rattle.pm_model.specs.Framed.{MayBeLeftOut, IsUnwritten};
 ghost use Rattle.pm_model.specs.Names.{Name, content, IsMap, keeps_blocks, AllKeepBlocks, writes, touches, IsFramedCall, Apart, ApartFromAll, Replays};
@@ -78,10 +78,10 @@ pub fn aborted_calls_change_nothing()
     ensures unchanged { (act : Act) (s t : State) → Step s act t → error_of act.told ≢ error.None → t.pool ≡ s.pool }
 {}
 
-/// A law: what a lane answers that runs alone is an answer, where its refusal is one that leaves a trace. An allocation answers with any place
-/// where its object may stand, or is so refused. No code runs.
+/// A law: what a lane answers that runs alone is an answer, where its refusal is one that leaves a trace, and what is reserved may stand once it is
+/// published. An allocation and a reservation answer with any place where the object may stand, or are so refused. No code runs.
 pub fn answers_alone_are_answers()
-    ensures answers { (spent full : Bool) (tx : Transaction) (op : Operation) → IsTrue (is_known op) → is_alloc op ≡ false
+    ensures answers { (spent full : Bool) (tx : Transaction) (op : Operation) → IsTrue (is_known op) → seeks_block op ≡ false → StandsOnceDone tx op
         → MatchOption (refusal_alone spent full tx op) (Unit {0}) (λ r. changes_nothing r ≡ false)
         → Answers tx op (answer_alone spent full tx op) }
     ensures offset { (spent full : Bool) (tx : Transaction) (size kind off : ℕ)
@@ -90,6 +90,12 @@ pub fn answers_alone_are_answers()
     ensures refused { (spent full : Bool) (tx : Transaction) (size kind : ℕ) (r : Refusal)
         → refusal_alone spent full tx (operation.Alloc size kind) ≡ Some r → changes_nothing r ≡ false
         → Answers tx (operation.Alloc size kind) (Some (Refused r)) }
+    ensures place { (spent full : Bool) (tx : Transaction) (size kind off : ℕ)
+        → refusal_alone spent full tx (operation.Reserve size kind) ≡ None → IsNewPlace tx size off
+        → Answers tx (operation.Reserve size kind) (Some (Offset off)) }
+    ensures unreserved { (spent full : Bool) (tx : Transaction) (size kind : ℕ) (r : Refusal)
+        → refusal_alone spent full tx (operation.Reserve size kind) ≡ Some r → changes_nothing r ≡ false
+        → Answers tx (operation.Reserve size kind) (Some (Refused r)) }
 {}
 
 /// A law: a block can begin before an offset exactly where whole chunks or a block of a run can. No code runs.

@@ -1,4 +1,4 @@
-use Rattle.pm_model.proofs.Aloneness.{answers_alone, offset_alone, refused_alone}
+use Rattle.pm_model.proofs.Aloneness.{answers_alone, offset_alone, place_alone, refused_alone, unreserved_alone}
 use Rattle.pm_model.proofs.laws.answers_alone_are_answers.Goals as goal
 
 pub returns-clause-answers : goal.returns-clause-answers
@@ -9,3 +9,9 @@ returns-clause-offset c = offset_alone
 
 pub returns-clause-refused : goal.returns-clause-refused
 returns-clause-refused c = refused_alone
+
+pub returns-clause-place : goal.returns-clause-place
+returns-clause-place c = place_alone
+
+pub returns-clause-unreserved : goal.returns-clause-unreserved
+returns-clause-unreserved c = unreserved_alone
