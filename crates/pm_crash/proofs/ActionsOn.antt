@@ -3,7 +3,7 @@ use Rattle.std.proofs.Common.{◌≡◌, ◌≢◌, ℕ, ◌+◌, ◌<◌, ◌�
 use Rattle.std.specs.List.{All, Any, list_any}
 use Rattle.std.specs.Option.{option_map}
 use Rattle.std.proofs.lemmas.Bool.{and_left, and_right, cases_eq, le-ltb, lt-ltb, ne_eqb, or_from, or_left, or_parts, or_right}
-use Rattle.std.proofs.lemmas.List.{append-nil, length-map}
+use Rattle.std.proofs.lemmas.List.{append-nil, length-append, length-map}
 use Rattle.std.proofs.lemmas.List.Elements.{All-nil, All-weaker, Contains-append_left}
 use Rattle.std.proofs.lemmas.List.Folds.{list_any_none, list_any-from_Any}
 use Rattle.pm_header.specs.declared.header.Header.{Header}
@@ -19,13 +19,14 @@ use Rattle.pm_objects.specs.declared.refusal.Refusal.TheVariants as refusal
 use Rattle.pm_image.specs.Blocks.{blocks}
 use Rattle.pm_image.specs.Contents.{size_in}
 use Rattle.pm_model.specs.declared.stage.Stage.TheVariants as stage
-use Rattle.pm_model.specs.Actions.{Action, max_actions, max_entries, object_of, passes_object}
+use Rattle.pm_model.specs.Actions.{Action, Pending, max_actions, max_entries, none_pending, object_of, offsets_named, only_sets, passes_object, pending_count}
 use Rattle.pm_model.specs.Actions.Action.{SetWord}
-use Rattle.pm_model.specs.Transaction.{Transaction, entries_of, holds_object, is_gone, is_locked}
+use Rattle.pm_model.specs.Transaction.{Transaction, entries_of, given_over, holds_object, is_gone, is_locked, published}
 use Rattle.pm_model.specs.Bytes.{bytes_of}
-use Rattle.pm_model.specs.Checks.{first_refusal, is_unlocked_action, names_gone}
+use Rattle.pm_model.specs.Checks.{first_refusal, is_not_held, is_unlocked_action, names_gone}
 use Rattle.pm_model.specs.Answers.{Answers, after_reply}
 use Rattle.pm_model.proofs.Alike.{after_refused}
+use Rattle.pm_model.proofs.Asked.{published_plain}
 use Rattle.pm_view.specs.Log.{Recorded}
 use Rattle.pm_view.specs.View.{View}
 use Rattle.pm_crash.specs.CallBlocks.{CallBlocks, IsOldIn, KeepsBlocks, NewObject, TellsOfRoot, allocated_by, blocks_behind, blocks_in, is_at, is_freed_in, is_gone_in, is_made_in, is_new_in, no_blocks}
@@ -44,13 +45,13 @@ use Rattle.pm_crash.proofs.KeptWords.{goes_back, keeps_known, same_call_words, s
 use Rattle.pm_crash.proofs.NamedObjects.{is_outside, set_is_held, set_is_inside, set_performs, FindsObjects}
 use Rattle.pm_crash.proofs.NewRanges.{new_long}
 use Rattle.pm_crash.proofs.NewStay.{new_there}
-use Rattle.pm_crash.proofs.Passing.{fails_gone, fails_lock, first_of_six, six_checks, unhindered, WantsNone, Works}
+use Rattle.pm_crash.proofs.Passing.{fails_gone, fails_lock, first_of_six, is_plain_too, six_checks, unhindered, WantsNone, Works}
 
 -- ---- operations that move actions, and do nothing else
 
 -- a transaction with its actions as the operation leaves them
 abbrev moved_on : Operation → Option Value → Transaction → Transaction
-moved_on op reply tx = record tx { actions = pending_behind op reply tx.actions; moved = tx.moved ++ published_by op reply tx.actions }
+moved_on op reply tx = record tx { actions = only_sets (pending_behind op reply tx.actions.sets); moved = tx.moved ++ published_by op reply tx.actions.sets }
 
 -- the model's transaction answers so, and goes on by that alone
 record Moves (op : Operation) (reply : Option Value) (tx : Transaction) : Type 0 where
@@ -60,7 +61,7 @@ record Moves (op : Operation) (reply : Option Value) (tx : Transaction) : Type 0
 moves_on : (v next : View) (op : Operation) (reply : Option Value) (level : ℕ) → IsUnderWay v level stage.Work error.None → Tells v next op reply → KeepsLog v next → KeepsWords v next
     → ((b : CallBlocks) → blocks_behind op reply b ≡ b)
     → ((w : ℕ → ℕ) (header : Header) (pool : PoolView) → v.pool ≡ header.id → IsBefore v w → (c : ComesTo v w header pool level stage.Work error.None)
-    → Moves op reply c.tx × All (IsPerformable v w) (published_by op reply c.tx.actions))
+    → Moves op reply c.tx × All (IsPerformable v w) (published_by op reply c.tx.actions.sets))
     → IsUnderWay next level stage.Work error.None
 moves_on v next op reply level under_way tells logs keeps none moves =
     let leaves : LeavesBlocks v next = leaves_told v next op reply tells.call (none (blocks_in v)) (known_new v next (keeps_known v next keeps) under_way.has.each) in
@@ -85,7 +86,7 @@ moves_on v next op reply level under_way tells logs keeps none moves =
       levels = ap (λ (x : Transaction). x.level) moved ∙ c.levels;
       stands = ap (λ (x : Transaction). x.stage) moved;
       fails = ap (λ (x : Transaction). x.error) moved;
-      actions = ap (λ (x : Transaction). x.actions) moved;
+      actions = λ sets is. ap (λ (x : Transaction). x.actions) moved ∙ ap (λ (p : Pending). only_sets (pending_behind op reply p.sets)) is;
       moved = ap (λ (x : Transaction). x.moved) moved;
       performable = how.1;
       blocks_stay = ap (λ (f : ℕ → ℕ). blocks f v.lanes v.zones) same;
@@ -95,32 +96,42 @@ moves_on v next op reply level under_way tells logs keeps none moves =
 -- ---- on the pending actions alone
 
 -- an operation that publishes nothing leaves what was published
-moves_none : (tx : Transaction) (actions : List Action) → record tx { actions = actions } ≡ record tx { actions = actions; moved = tx.moved ++ [] }
+moves_none : (tx : Transaction) (actions : Pending) → record tx { actions = actions } ≡ record tx { actions = actions; moved = tx.moved ++ [] }
 moves_none tx actions = (λ j. let x : Transaction = record tx { actions = actions; moved = sym (append-nil tx.moved) j } in x)
 
+-- set-values are all that it has pending
+settled : (tx : Transaction) → Works tx → tx ≡ record tx { actions = only_sets tx.actions.sets }
+settled tx works = (λ j. let x : Transaction = record tx { actions = works.sets j } in x)
+
+stays_so : (tx : Transaction) → Works tx → tx ≡ record tx { actions = only_sets tx.actions.sets; moved = tx.moved ++ [] }
+stays_so tx works = settled tx works ∙ moves_none tx (only_sets tx.actions.sets)
+
 -- a set-value is refused by the two checks on it
-set_moves : (tx : Transaction) (id : Oid) (off value : ℕ) (reply : Option Value) → Works tx → reply ≡ option_map Refused (set_refusal off tx.actions) → Moves (SetValue id off value) reply tx
+set_moves : (tx : Transaction) (id : Oid) (off value : ℕ) (reply : Option Value) → Works tx → reply ≡ option_map Refused (set_refusal off tx.actions.sets) → Moves (SetValue id off value) reply tx
 unfolding first_of_six
 set_moves tx id off value reply works told =
-    by_tests (not (eqb (off % 8) 0)) (leb max_actions (length tx.actions)) (six_checks tx op works (record { no_wants = refl; no_begin = refl; no_alloc = refl; no_free = refl }) refl) told where
+    by_tests (not (eqb (off % 8) 0)) (leb max_actions (length tx.actions.sets)) (six_checks tx op works (record { no_wants = refl; no_begin = refl; no_alloc = refl; no_free = refl; no_put = refl }) refl ∙ ap (λ (p : Pending). first_of_six (not (eqb (off % 8) 0)) false false false false (leb max_actions (pending_count p))) works.sets ∙ ap (λ (n : ℕ). first_of_six (not (eqb (off % 8) 0)) false false false false (leb max_actions n)) counted) told where
       op : Operation
       op = SetValue id off value
+
+      counted : pending_count (only_sets tx.actions.sets) ≡ length tx.actions.sets
+      counted = omega arith
 
       by_tests : (unaligned full : Bool) → first_refusal unhindered tx op ≡ first_of_six unaligned false false false false full
           → reply ≡ option_map Refused (cond unaligned (Some refusal.Unaligned) (cond full (Some refusal.ActionsFull) None)) → Moves op reply tx
       by_tests true full first told = subst (λ (x : Option Value). Moves op x tx) (sym told)
-          (record { answers = refused_answers tx op refusal.Unaligned refl (record { refused_first = first; traced = refl }); leaves = moves_none tx tx.actions })
+          (record { answers = refused_answers tx op refusal.Unaligned refl (record { refused_first = first; traced = refl }); leaves = stays_so tx works })
       by_tests false true first told = subst (λ (x : Option Value). Moves op x tx) (sym told)
-          (record { answers = refused_answers tx op refusal.ActionsFull refl (record { refused_first = first; traced = refl }); leaves = moves_none tx tx.actions })
+          (record { answers = refused_answers tx op refusal.ActionsFull refl (record { refused_first = first; traced = refl }); leaves = stays_so tx works })
       by_tests false false first told = subst (λ (x : Option Value). Moves op x tx) (sym told)
-          (record { answers = answers_value tx op None refl (record { no_wants = refl; no_begin = refl; no_alloc = refl; no_free = refl }) first refl; leaves = moves_none tx (pending_behind op None tx.actions) })
+          (record { answers = answers_value tx op None refl works (record { no_wants = refl; no_begin = refl; no_alloc = refl; no_free = refl; no_put = refl }) first refl; leaves = ap (after_reply op None) (settled tx works) ∙ moves_none tx (only_sets (pending_behind op None tx.actions.sets)) })
 
 -- a cancel is not refused
 cancel_moves : (tx : Transaction) → Works tx → Moves Cancel None tx
 unfolding first_of_six
 cancel_moves tx works = record {
-  answers = answers_value tx Cancel None refl (record { no_wants = refl; no_begin = refl; no_alloc = refl; no_free = refl }) (six_checks tx Cancel works (record { no_wants = refl; no_begin = refl; no_alloc = refl; no_free = refl }) refl) refl;
-  leaves = moves_none tx [];
+  answers = answers_value tx Cancel None refl works (record { no_wants = refl; no_begin = refl; no_alloc = refl; no_free = refl; no_put = refl }) (six_checks tx Cancel works (record { no_wants = refl; no_begin = refl; no_alloc = refl; no_free = refl; no_put = refl }) refl) refl;
+  leaves = moves_none tx none_pending;
 }
 
 -- a refused set-value leaves the call's blocks too
@@ -137,7 +148,7 @@ change_goes_on v next (SetValue id off value) reply level some under_way changes
     (λ b. ap (λ (r : Option Value). blocks_behind (SetValue id off value) r b) changes.answer ∙ set_leaves id off value (pending_in v) b)
     (λ w header pool same_id before c. (
       set_moves c.tx id off value reply (call_works v w header pool level some under_way c)
-          (changes.answer ∙ ap (λ (actions : List Action). option_map Refused (set_refusal off actions)) (sym c.actions)),
+          (changes.answer ∙ ap (λ (p : Pending). option_map Refused (set_refusal off p.sets)) (sym c.actions)),
       All-nil (IsPerformable v w),
     ))
 change_goes_on v next Cancel reply level some under_way changes =
@@ -152,7 +163,7 @@ change_goes_on v next op reply level some under_way changes = absurd changes.ans
 -- ---- a publish
 
 asks_none : WantsNone Publish
-asks_none = record { no_wants = refl; no_begin = refl; no_alloc = refl; no_free = refl }
+asks_none = record { no_wants = refl; no_begin = refl; no_alloc = refl; no_free = refl; no_put = refl }
 
 -- the transaction of the open call has the actions that are pending and those published; it finds the objects that the lane holds and did not free, and has those
 -- that its call made
@@ -160,7 +171,7 @@ record Publishes (v : View) (w : ℕ → ℕ) (tx : Transaction) : Type 0 where
   works : Works tx
   of_pool : tx.pool.id ≡ v.pool
   locks : AreSameLocks tx.locks (locks_of v)
-  actions : tx.actions ≡ pending_in v
+  actions : tx.actions ≡ only_sets (pending_in v)
   moved : tx.moved ≡ published_in v
   tracks : TracksBlocks tx (blocks_in v)
   finds : FindsObjects v w tx (IsOldIn v)
@@ -210,11 +221,15 @@ all_had v each = All-weaker (IsOnLeft v) (HasObjectOf v) (λ a left. (left.of_po
 
 -- ---- what the checks find of the actions that are pending
 
+-- an object of them is not held for writing
+abbrev any_unlocked : Transaction → Pending → Bool
+any_unlocked tx p = list_any (is_not_held tx true) p.frees || list_any (is_unlocked_action tx) p.sets
+
 module _ (v : View) (w : ℕ → ℕ) (tx : Transaction) (of : Publishes v w tx) where
   -- their locks
-  locks_found : All (HasObjectOf v) (pending_in v) → list_any (is_unlocked_action tx) tx.actions ≡ false
+  locks_found : All (HasObjectOf v) (pending_in v) → any_unlocked tx tx.actions ≡ false
   locks_found each =
-      ap (list_any (is_unlocked_action tx)) of.actions
+      ap (any_unlocked tx) of.actions
       ∙ list_any_none (is_unlocked_action tx) (pending_in v)
       (All-weaker (HasObjectOf v) (λ (a : Action). is_unlocked_action tx a ≡ false) (λ a has. had_is_held v tx (object_of a) true of.of_pool of.locks of.tracks has.0 has.1) (pending_in v) each)
 
@@ -231,7 +246,7 @@ module _ (v : View) (w : ℕ → ℕ) (tx : Transaction) (of : Publishes v w tx)
   named = any_map (is_gone tx) (λ (a : Action). (object_of a).off) (pending_in v)
 
   gone_found : names_gone tx Publish ≡ list_any (λ (a : Action). is_gone tx (object_of a).off) (pending_in v)
-  gone_found = ap (λ (actions : List Action). list_any (is_gone tx) (map (λ (a : Action). (object_of a).off) actions)) of.actions ∙ named
+  gone_found = ap (λ (p : Pending). p.late || list_any (is_gone tx) (offsets_named p)) of.actions ∙ named
 
   none_gone : All (IsOnLeft v) (pending_in v) → names_gone tx Publish ≡ false
   none_gone each =
@@ -257,28 +272,30 @@ module _ (v : View) (w : ℕ → ℕ) (tx : Transaction) (of : Publishes v w tx)
       let long = of.news id passes.made in let outside = passes.outside in
       lt-ltb (length (bytes_of tx.pool.objects id.off)) (off + 8) (omega (arith, long, outside))
 
-  ends_found : All (CanSetIn v) (pending_in v) → list_any (passes_object tx.pool.objects) tx.actions ≡ false
+  ends_found : All (CanSetIn v) (pending_in v) → list_any (passes_object tx.pool.objects) tx.actions.sets ≡ false
   ends_found each =
-      ap (list_any (passes_object tx.pool.objects)) of.actions
+      ap (λ (p : Pending). list_any (passes_object tx.pool.objects) p.sets) of.actions
       ∙ list_any_none (passes_object tx.pool.objects) (pending_in v) (All-weaker (CanSetIn v) (λ (a : Action). passes_object tx.pool.objects a ≡ false) inside_end (pending_in v) each)
 
-  one_past : Any (PassesIn v) (pending_in v) → list_any (passes_object tx.pool.objects) tx.actions ≡ true
+  one_past : Any (PassesIn v) (pending_in v) → list_any (passes_object tx.pool.objects) tx.actions.sets ≡ true
   one_past (k, a, inside, at, passes) =
-      ap (list_any (passes_object tx.pool.objects)) of.actions ∙ list_any-from_Any (passes_object tx.pool.objects) (pending_in v) (k, a, inside, at, past_end a passes)
+      ap (λ (p : Pending). list_any (passes_object tx.pool.objects) p.sets) of.actions ∙ list_any-from_Any (passes_object tx.pool.objects) (pending_in v) (k, a, inside, at, past_end a passes)
 
   -- so many entries the model's transaction has, with those for what it made and freed
-  entries_found : entries_of tx + length tx.actions + 1 ≡ entries_in v
+  entries_found : entries_of (published tx) + 1 ≡ entries_in v
   entries_found =
       let moved : length tx.moved ≡ length (published_in v) = ap (λ (actions : List Action). length actions) of.moved in
-      let pending : length tx.actions ≡ length (pending_in v) = ap (λ (actions : List Action). length actions) of.actions in
+      let pending : length tx.actions.sets ≡ length (pending_in v) = ap (λ (p : Pending). length p.sets) of.actions in
+      let all : length (tx.moved ++ tx.actions.sets) ≡ length tx.moved + length tx.actions.sets = length-append tx.moved tx.actions.sets in
+      let given : entries_of (published tx) ≡ entries_of (given_over tx) = ap entries_of (published_plain tx (is_plain_too tx of.works)) in
       let made : length tx.made ≡ length (blocks_in v).made = ap (λ (offs : List ℕ). length offs) of.tracks.made ∙ length-map (blocks_in v).made (λ (n : NewObject). n.off) in
       let freed : length tx.freed ≡ length (blocks_in v).freed = ap (λ (offs : List ℕ). length offs) of.tracks.freed in
-      omega (arith, moved, pending, made, freed)
+      omega (arith, moved, pending, all, given, made, freed)
 
   -- the first refusal, by the checks of locks, ends and room
   three_checks : names_gone tx Publish ≡ false
       → first_refusal unhindered tx Publish
-      ≡ first_of_six false (list_any (is_unlocked_action tx) tx.actions || false || false) (list_any (passes_object tx.pool.objects) tx.actions || false) false false (ltb max_entries (entries_of tx + length tx.actions + 1))
+      ≡ first_of_six false (any_unlocked tx tx.actions || false || false) (list_any (passes_object tx.pool.objects) tx.actions.sets || false) false false (ltb max_entries (entries_of (published tx) + 1))
   three_checks kept = six_checks tx Publish of.works asks_none kept
 
   publish_passes : HasMade v → All (CanSetIn v) (pending_in v) → entries_in v ≤ max_entries → first_refusal unhindered tx Publish ≡ None
@@ -306,8 +323,8 @@ module _ (v : View) (w : ℕ → ℕ) (tx : Transaction) (of : Publishes v w tx)
   publish_refused : (r : Refusal) → HasMade v → IsPublishReasonIn v r → IsRefusedFor tx Publish r
   unfolding first_of_six
   publish_refused refusal.NotLocked has (k, a, inside, at, lacks) =
-      let unlocked : list_any (is_unlocked_action tx) tx.actions ≡ true =
-      ap (list_any (is_unlocked_action tx)) of.actions ∙ list_any-from_Any (is_unlocked_action tx) (pending_in v) (k, a, inside, at, lacking_is_unlocked a lacks) in
+      let unlocked : any_unlocked tx tx.actions ≡ true =
+      ap (any_unlocked tx) of.actions ∙ list_any-from_Any (is_unlocked_action tx) (pending_in v) (k, a, inside, at, lacking_is_unlocked a lacks) in
       record { refused_first = fails_lock tx Publish of.works asks_none refl (ap (λ (b : Bool). b || false || false) unlocked); traced = refl }
   publish_refused refusal.NoObject has reason = record {
     refused_first = fails_gone tx Publish of.works asks_none refl (ap (λ (b : Bool). b || false || false) (locks_found reason.0)) (one_gone reason.1);
@@ -316,7 +333,7 @@ module _ (v : View) (w : ℕ → ℕ) (tx : Transaction) (of : Publishes v w tx)
   publish_refused refusal.OutOfRange has reason = record {
     refused_first =
         three_checks (none_gone reason.0)
-        ∙ (λ j. first_of_six false (locks_found (all_had v reason.0) j || false || false) (one_past reason.1 j || false) false false (ltb max_entries (entries_of tx + length tx.actions + 1)));
+        ∙ (λ j. first_of_six false (locks_found (all_had v reason.0) j || false || false) (one_past reason.1 j || false) false false (ltb max_entries (entries_of (published tx) + 1)));
     traced = refl;
   }
   publish_refused refusal.ActionsFull has reason =
@@ -334,8 +351,8 @@ publish_goes_on v next level some under_way publishes =
     moves_on v next Publish None level under_way publishes.tells publishes.logs publishes.words (λ b. refl)
     (λ w header pool same_id before c.
     let of : Publishes v w c.tx = publishes_open v w header pool level some under_way same_id before c in (
-      record { answers = answers_value c.tx Publish None refl asks_none (publish_passes v w c.tx of under_way.has publishes.each publishes.room) refl; leaves = refl },
-      subst (All (IsPerformable v w)) (sym c.actions) (All-weaker (CanSetIn v) (IsPerformable v w) (performs_one v w c.tx of under_way.has) (pending_in v) publishes.each),
+      record { answers = answers_value c.tx Publish None refl of.works asks_none (publish_passes v w c.tx of under_way.has publishes.each publishes.room) refl; leaves = published_plain c.tx (is_plain_too c.tx of.works) },
+      subst (All (IsPerformable v w)) (ap (λ (p : Pending). p.sets) (sym c.actions)) (All-weaker (CanSetIn v) (IsPerformable v w) (performs_one v w c.tx of under_way.has) (pending_in v) publishes.each),
     ))
 
 pub refused_publish_aborts : (v next : View) (r : Refusal) (level : ℕ) → 1 ≤ level → IsUnderWay v level stage.Work error.None → IsPublishReasonIn v r → Tells v next Publish (Some (Refused r)) → TakesBack v next

@@ -3,7 +3,7 @@ use Rattle.std.proofs.Common.{◌≡◌, ⊎_elim, inr, ℕ, ◌≤◌, ◌%◌,
 use Rattle.std.specs.Prelude.{IsSome}
 use Rattle.std.specs.List.{find, list_any}
 use Rattle.std.specs.Option.{option_map}
-use Rattle.std.proofs.lemmas.Bool.{and_from, and_right, cases_Bool, le-leb}
+use Rattle.std.proofs.lemmas.Bool.{and_from, and_right, cases_Bool, false≢true, le-leb}
 use Rattle.std.proofs.lemmas.List.{length-map}
 use Rattle.std.proofs.lemmas.List.Elements.{All-nil, Contains-get_or}
 use Rattle.pm_header.specs.declared.header.Header.{Header}
@@ -19,10 +19,11 @@ use Rattle.pm_objects.specs.declared.refusal.Refusal.{Refusal}
 use Rattle.pm_objects.specs.declared.refusal.Refusal.TheVariants as refusal
 use Rattle.pm_image.specs.Blocks.{blocks}
 use Rattle.pm_image.specs.Contents.{size_in}
-use Rattle.pm_model.specs.Actions.{Action, max_actions, object_of, passes_object, wants_for, with_actions}
+use Rattle.pm_model.specs.Actions.{Action, max_actions, object_of, none_pending, only_sets, passes_object, pending_count, wants_for, with_actions}
 use Rattle.pm_model.specs.Answers.{changes_nothing}
 use Rattle.pm_model.specs.Checks.{Seen, is_unaligned}
-use Rattle.pm_model.specs.Outside.{AnswersOutside, AreNamed, IsDoneOutside, IsRefusedOutside, Outside, after_outside, has_no_room, names_missing, names_no_place, names_past_end, refusal_outside, stands_outside}
+use Rattle.pm_model.specs.Answers.{StandsOnceDone}
+use Rattle.pm_model.specs.Outside.{AnswersOutside, AreNamed, IsDoneOutside, IsValueOutside, as_resting, IsRefusedOutside, Outside, after_outside, has_no_room, names_missing, names_no_place, names_past_end, refusal_outside, stands_outside}
 use Rattle.pm_model.specs.Places.{has_place}
 use Rattle.pm_model.specs.Step.{State, with_pending}
 use Rattle.pm_model.specs.Transaction.{resting}
@@ -43,15 +44,19 @@ use Rattle.pm_crash.proofs.Performed.{Performs, performs}
 
 -- ---- a call of one operation
 
+-- what a call begins from where these set-values are all that is pending
+abbrev outside_with : PoolView → List Action → Outside
+outside_with pool actions = record { pool = pool; actions = only_sets actions }
+
 -- what the lane's call begins from
 abbrev outside_of : View → PoolView → Outside
-outside_of v pool = record { pool = pool; actions = pending_before v }
+outside_of v pool = outside_with pool (pending_before v)
 
 -- the model answers so, and the words that the call makes hold what it leaves
 record GoesOutside (v : View) (w : ℕ → ℕ) (header : Header) (pool : PoolView) (op : Operation) (reply : Option Value) : Type 0 where
   answers : AnswersOutside (outside_of v pool) op reply
   holds : HoldsPool (made_words v w) v.lanes v.zones header (after_outside op reply (outside_of v pool)).pool
-  leaves : (after_outside op reply (outside_of v pool)).actions ≡ pending_behind op reply (pending_before v)
+  leaves : (after_outside op reply (outside_of v pool)).actions ≡ only_sets (pending_behind op reply (pending_before v))
 
 goes_whole : (v : View) (op : Operation) (reply : Option Value) → v.call ≡ record { operation = op; reply = reply } ∷ [] → v.log.records ≡ []
     → ((w : ℕ → ℕ) (header : Header) (pool : PoolView) → HoldsPool w v.lanes v.zones header pool → v.pool ≡ header.id → IsBefore v w → GoesOutside v w header pool op reply)
@@ -71,7 +76,7 @@ goes_whole v op reply call no_records goes = record {
           answers = how.answers;
           leaves = record {
             pending = own;
-            leaves = (λ j. let s : State = record { pool = next; actions = with_pending actions v.lane ((pending_first v (record { operation = op; reply = reply }) call ∙ sym how.leaves) j) } in s);
+            leaves = (λ j. let s : State = record { pool = next; actions = with_pending actions v.lane ((ap only_sets (pending_first v (record { operation = op; reply = reply }) call) ∙ sym how.leaves) j) } in s);
           };
         });
       };
@@ -86,18 +91,28 @@ first_outside unaligned no_place missing past_end full = option_map (λ (check :
 abbrev found_missing : Bool → Seen
 found_missing missing = record { spent = false; busy = false; missing = missing; full = false }
 
-five_checks : (missing : Bool) (s : Outside) (op : Operation)
-    → refusal_outside (found_missing missing) s op ≡ first_outside (is_unaligned op) (names_no_place s op) (names_missing (found_missing missing) s op) (names_past_end s op) (has_no_room s op)
+-- the calls on set-values
+abbrev is_on_sets : Operation → Bool
+is_on_sets (SetValue id off value) = true
+is_on_sets Publish = true
+is_on_sets Cancel = true
+is_on_sets op = false
+
+five_checks : (missing : Bool) (pool : PoolView) (actions : List Action) (op : Operation) → is_on_sets op ≡ true → let s : Outside = outside_with pool actions in
+    (refusal_outside (found_missing missing) s op ≡ first_outside (is_unaligned op) (names_no_place s op) (names_missing (found_missing missing) s op) (names_past_end s op) (has_no_room s op))
 unfolding refusal_outside first_outside
-five_checks missing s op = refl
+five_checks missing pool actions (SetValue id off value) is = refl
+five_checks missing pool actions Publish is = refl
+five_checks missing pool actions Cancel is = refl
+five_checks missing pool actions op is = absurd (false≢true is)
 
 -- it answers what it has come to
-answers_outside : (s : Outside) (op : Operation) (reply : Option Value) (missing : Bool) → stands_outside op ≡ true → AreNamed s op → refusal_outside (found_missing missing) s op ≡ None → reply ≡ None
-    → AnswersOutside s op reply
-answers_outside s op reply missing known named none value = record {
+answers_outside : (s : Outside) (op : Operation) (reply : Option Value) (missing : Bool) → stands_outside op ≡ true → AreNamed s op → StandsOnceDone (as_resting s) op
+    → refusal_outside (found_missing missing) s op ≡ None → IsValueOutside s op reply → AnswersOutside s op reply
+answers_outside s op reply missing known named stands none value = record {
   known = known;
   seen = found_missing missing;
-  answer = subst (λ (fr : Option Refusal). MatchOption fr (IsDoneOutside s op reply) (λ r. IsRefusedOutside r reply)) (sym none) (record { there = named; value = value });
+  answer = subst (λ (fr : Option Refusal). MatchOption fr (IsDoneOutside s op reply) (λ r. IsRefusedOutside r reply)) (sym none) (record { there = named; stands = stands; value = value });
 }
 
 refused_outside : (s : Outside) (op : Operation) (missing : Bool) (r : Refusal) → stands_outside op ≡ true → refusal_outside (found_missing missing) s op ≡ Some r → changes_nothing r ≡ false
@@ -112,40 +127,46 @@ refused_outside s op missing r known first traced = record {
 -- ---- on the pending actions alone
 
 -- the model answers so, and leaves the pool and what is pending
-record ChangesAlone (s : Outside) (op : Operation) (reply : Option Value) : Type 0 where
-  answers : AnswersOutside s op reply
-  leaves : after_outside op reply s ≡ record s { actions = pending_behind op reply s.actions }
+record ChangesAlone (pool : PoolView) (actions : List Action) (op : Operation) (reply : Option Value) : Type 0 where
+  answers : AnswersOutside (outside_with pool actions) op reply
+  leaves : after_outside op reply (outside_with pool actions) ≡ outside_with pool (pending_behind op reply actions)
 
 -- a set-value is refused by the two checks on it
-set_changes : (s : Outside) (id : Oid) (off value : ℕ) (reply : Option Value) → reply ≡ option_map Refused (set_refusal off s.actions) → ChangesAlone s (SetValue id off value) reply
+set_changes : (pool : PoolView) (actions : List Action) (id : Oid) (off value : ℕ) (reply : Option Value) → reply ≡ option_map Refused (set_refusal off actions) → ChangesAlone pool actions (SetValue id off value) reply
 unfolding first_outside
-set_changes s id off value reply told = by_tests (not (eqb (off % 8) 0)) (leb max_actions (length s.actions)) (five_checks false s op) told where
+set_changes pool actions id off value reply told = by_tests (not (eqb (off % 8) 0)) (leb max_actions (length actions)) (five_checks false pool actions op refl ∙ ap (λ (n : ℕ). first_outside (not (eqb (off % 8) 0)) false false false (leb max_actions n)) counted) told where
   op : Operation
   op = SetValue id off value
 
+  s : Outside
+  s = outside_with pool actions
+
+  counted : pending_count (only_sets actions) ≡ length actions
+  counted = omega arith
+
   by_tests : (unaligned full : Bool) → refusal_outside (found_missing false) s op ≡ first_outside unaligned false false false full
-      → reply ≡ option_map Refused (cond unaligned (Some refusal.Unaligned) (cond full (Some refusal.ActionsFull) None)) → ChangesAlone s op reply
-  by_tests true full first told = subst (ChangesAlone s op) (sym told) (record { answers = refused_outside s op false refusal.Unaligned refl first refl; leaves = refl })
-  by_tests false true first told = subst (ChangesAlone s op) (sym told) (record { answers = refused_outside s op false refusal.ActionsFull refl first refl; leaves = refl })
-  by_tests false false first told = subst (ChangesAlone s op) (sym told)
-      (record { answers = answers_outside s op None false refl (All-nil (λ (want : Want). IsSome (object_at s.pool.objects want.id.off))) first refl; leaves = refl })
+      → reply ≡ option_map Refused (cond unaligned (Some refusal.Unaligned) (cond full (Some refusal.ActionsFull) None)) → ChangesAlone pool actions op reply
+  by_tests true full first told = subst (ChangesAlone pool actions op) (sym told) (record { answers = refused_outside s op false refusal.Unaligned refl first refl; leaves = refl })
+  by_tests false true first told = subst (ChangesAlone pool actions op) (sym told) (record { answers = refused_outside s op false refusal.ActionsFull refl first refl; leaves = refl })
+  by_tests false false first told = subst (ChangesAlone pool actions op) (sym told)
+      (record { answers = answers_outside s op None false refl (All-nil (λ (want : Want). IsSome (object_at pool.objects want.id.off))) tt first refl; leaves = refl })
 
 -- a cancel is not refused
-cancel_changes : (s : Outside) → ChangesAlone s Cancel None
+cancel_changes : (pool : PoolView) (actions : List Action) → ChangesAlone pool actions Cancel None
 unfolding first_outside
-cancel_changes s = record {
-  answers = answers_outside s Cancel None false refl (All-nil (λ (want : Want). IsSome (object_at s.pool.objects want.id.off))) (five_checks false s Cancel) refl;
+cancel_changes pool actions = record {
+  answers = answers_outside (outside_with pool actions) Cancel None false refl (All-nil (λ (want : Want). IsSome (object_at pool.objects want.id.off))) tt (five_checks false pool actions Cancel refl) refl;
   leaves = refl;
 }
 
 -- so it is a step, where the lane recorded and entered nothing
 changes_whole : (v : View) (op : Operation) (reply : Option Value) → v.call ≡ record { operation = op; reply = reply } ∷ [] → v.log.records ≡ [] → v.log.entries ≡ []
-    → ((w : ℕ → ℕ) (header : Header) (pool : PoolView) → HoldsPool w v.lanes v.zones header pool → v.pool ≡ header.id → IsBefore v w → ChangesAlone (outside_of v pool) op reply)
+    → ((w : ℕ → ℕ) (header : Header) (pool : PoolView) → HoldsPool w v.lanes v.zones header pool → v.pool ≡ header.id → IsBefore v w → ChangesAlone pool (pending_before v) op reply)
     → IsWholeCall v
 changes_whole v op reply call no_records no_entries changes =
     goes_whole v op reply call no_records
     (λ w header pool holds id before.
-    let how : ChangesAlone (outside_of v pool) op reply = changes w header pool holds id before in
+    let how : ChangesAlone pool (pending_before v) op reply = changes w header pool holds id before in
     let same : made_words v w ≡ w = made_unentered v no_entries w ∙ no_call_words v no_records w in
     record {
       answers = how.answers;
@@ -156,21 +177,21 @@ changes_whole v op reply call no_records no_entries changes =
 
 pub change_is_step : (v : View) (op : Operation) (reply : Option Value) → ChangesPendingOutside v op reply → IsWholeCall v
 change_is_step v (SetValue id off value) reply changes =
-    changes_whole v (SetValue id off value) reply changes.call changes.no_records changes.no_entries (λ w header pool holds same_id before. set_changes (outside_of v pool) id off value reply changes.answer)
+    changes_whole v (SetValue id off value) reply changes.call changes.no_records changes.no_entries (λ w header pool holds same_id before. set_changes pool (pending_before v) id off value reply changes.answer)
 change_is_step v Cancel reply changes =
-    changes_whole v Cancel reply changes.call changes.no_records changes.no_entries (λ w header pool holds same_id before. subst (ChangesAlone (outside_of v pool) Cancel) (sym changes.answer) (cancel_changes (outside_of v pool)))
+    changes_whole v Cancel reply changes.call changes.no_records changes.no_entries (λ w header pool holds same_id before. subst (ChangesAlone pool (pending_before v) Cancel) (sym changes.answer) (cancel_changes pool (pending_before v)))
 change_is_step v op reply changes = absurd changes.answer
 
 -- ---- a publish
 
 module _ (v : View) (w : ℕ → ℕ) (header : Header) (pool : PoolView) (no_records : v.log.records ≡ []) (named : HoldsNamed v) (holds : HoldsPool w v.lanes v.zones header pool) (before : IsBefore v w) where
   -- the lane finds each object that it holds among the pool's
-  finds_named : FindsObjects v w (resting pool []) (λ off. Unit {0})
+  finds_named : FindsObjects v w (resting pool none_pending) (λ off. Unit {0})
   finds_named =
       let same : call_words v w ≡ w = no_call_words v no_records w in
       record {
         under = λ id write of held size_known.
-            object_found v w header pool (resting pool []) id write named.in_lanes named.takes.chunks before (subst (λ (f : ℕ → ℕ). HoldsPool f v.lanes v.zones header pool) (sym same) holds)
+            object_found v w header pool (resting pool none_pending) id write named.in_lanes named.takes.chunks before (subst (λ (f : ℕ → ℕ). HoldsPool f v.lanes v.zones header pool) (sym same) holds)
             (ap (λ (f : ℕ → ℕ). blocks f v.lanes v.zones) same) held size_known refl;
         sizes = λ block there. ap (λ (f : ℕ → ℕ). size_in f block) same;
       }
@@ -188,7 +209,7 @@ module _ (v : View) (w : ℕ → ℕ) (header : Header) (pool : PoolView) (no_re
   -- so a publish is refused at most for an end that is passed
   by_ends : (past : Bool) → v.pool ≡ header.id → list_any (passes_object pool.objects) (pending_before v) ≡ past → refusal_outside (found_missing false) (outside_of v pool) Publish ≡ first_outside false false false past false
   by_ends past id ends =
-      five_checks false (outside_of v pool) Publish
+      five_checks false pool (pending_before v) Publish refl
       ∙ (λ j. first_outside false (named_have_places id j) (and_right (leb 1 (length (wants_for (pending_before v)))) false refl j) (ends j) false)
 
 pub publish_is_step : (v : View) → PublishesOutside v → IsWholeCall v
@@ -197,13 +218,13 @@ publish_is_step v publishes =
     goes_whole v Publish None publishes.call publishes.no_records
     (λ w header pool holds id before.
     let actions : List Action = pending_before v in
-    let finds : FindsObjects v w (resting pool []) (λ off. Unit {0}) = finds_named v w header pool publishes.no_records publishes.holds holds before in
+    let finds : FindsObjects v w (resting pool none_pending) (λ off. Unit {0}) = finds_named v w header pool publishes.no_records publishes.holds holds before in
     let passes : refusal_outside (found_missing false) (outside_of v pool) Publish ≡ None =
-    by_ends v w header pool publishes.no_records publishes.holds holds before false id (none_passes_end v w (resting pool []) (λ off. Unit {0}) finds actions (λ k d inside. tt) publishes.each) in
+    by_ends v w header pool publishes.no_records publishes.holds holds before false id (none_passes_end v w (resting pool none_pending) (λ off. Unit {0}) finds actions (λ k d inside. tt) publishes.each) in
     let same : made_words v w ≡ performed actions w = (λ j i. made_final (publishes.entries j) i (no_call_words v publishes.no_records w j i)) in
-    let performs_all : Performs w v.lanes v.zones header pool actions = performs w v.lanes v.zones header pool actions holds (all_perform v w (resting pool []) (λ off. Unit {0}) finds actions (λ k d inside. tt) publishes.each) in
+    let performs_all : Performs w v.lanes v.zones header pool actions = performs w v.lanes v.zones header pool actions holds (all_perform v w (resting pool none_pending) (λ off. Unit {0}) finds actions (λ k d inside. tt) publishes.each) in
     record {
-      answers = answers_outside (outside_of v pool) Publish None false refl (named_are_there v w header pool publishes.no_records publishes.holds holds before) passes refl;
+      answers = answers_outside (outside_of v pool) Publish None false refl (named_are_there v w header pool publishes.no_records publishes.holds holds before) tt passes refl;
       holds = subst (λ (f : ℕ → ℕ). HoldsPool f v.lanes v.zones header (with_actions actions pool)) (sym same) performs_all.holds;
       leaves = refl;
     })
@@ -211,27 +232,29 @@ publish_is_step v publishes =
 -- ---- a publish that is refused
 
 -- where an action is pending, an object may be missing: one has no place, or is not there
-missing_answers : (s : Outside) → 1 ≤ length s.actions → AnswersOutside s Publish (Some (Refused refusal.NoObject))
+missing_answers : (pool : PoolView) (actions : List Action) → 1 ≤ length actions → AnswersOutside (outside_with pool actions) Publish (Some (Refused refusal.NoObject))
 unfolding first_outside
-missing_answers s some = ⊎_elim
+missing_answers pool actions some = ⊎_elim
     (λ (lacks : names_no_place s Publish ≡ true).
     refused_outside s Publish false refusal.NoObject refl
-    (five_checks false s Publish ∙ (λ j. first_outside false (lacks j) (names_missing (found_missing false) s Publish) (names_past_end s Publish) false)) refl)
+    (five_checks false pool actions Publish refl ∙ (λ j. first_outside false (lacks j) (names_missing (found_missing false) s Publish) (names_past_end s Publish) false)) refl)
     (λ (placed : names_no_place s Publish ≡ false).
-    let long = length-map s.actions (λ (a : Action). let want : Want = record { id = object_of a; write = true } in want) in
-    let named : names_missing (found_missing true) s Publish ≡ true = and_from (leb 1 (length (wants_for s.actions))) true (le-leb 1 (length (wants_for s.actions)) (omega (arith, long, some))) refl in
+    let long = length-map actions (λ (a : Action). let want : Want = record { id = object_of a; write = true } in want) in
+    let named : names_missing (found_missing true) s Publish ≡ true = and_from (leb 1 (length (wants_for actions))) true (le-leb 1 (length (wants_for actions)) (omega (arith, long, some))) refl in
     refused_outside s Publish true refusal.NoObject refl
-    (five_checks true s Publish ∙ (λ j. first_outside false (placed j) (named j) (names_past_end s Publish) false)) refl)
-    (cases_Bool (names_no_place s Publish))
+    (five_checks true pool actions Publish refl ∙ (λ j. first_outside false (placed j) (named j) (names_past_end s Publish) false)) refl)
+    (cases_Bool (names_no_place s Publish)) where
+      s : Outside
+      s = outside_with pool actions
 
 outside_refused : (v : View) (r : Refusal) (w : ℕ → ℕ) (header : Header) (pool : PoolView) → v.log.records ≡ [] → IsOutsideReason v r → HoldsPool w v.lanes v.zones header pool → v.pool ≡ header.id → IsBefore v w
     → AnswersOutside (outside_of v pool) Publish (Some (Refused r))
 unfolding first_outside
-outside_refused v refusal.NoObject w header pool no_records reason holds id before = missing_answers (outside_of v pool) reason
+outside_refused v refusal.NoObject w header pool no_records reason holds id before = missing_answers pool (pending_before v) reason
 outside_refused v refusal.OutOfRange w header pool no_records reason holds id before =
-    let finds : FindsObjects v w (resting pool []) (λ off. Unit {0}) = finds_named v w header pool no_records reason.0 holds before in
+    let finds : FindsObjects v w (resting pool none_pending) (λ off. Unit {0}) = finds_named v w header pool no_records reason.0 holds before in
     refused_outside (outside_of v pool) Publish false refusal.OutOfRange refl
-    (by_ends v w header pool no_records reason.0 holds before true id (one_passes_end v w (resting pool []) (λ off. Unit {0}) finds (pending_before v) (λ k d inside. tt) reason.1)) refl
+    (by_ends v w header pool no_records reason.0 holds before true id (one_passes_end v w (resting pool none_pending) (λ off. Unit {0}) finds (pending_before v) (λ k d inside. tt) reason.1)) refl
 outside_refused v r w header pool no_records reason holds id before = absurd reason
 
 pub refused_publish_is_step : (v : View) (r : Refusal) → RefusesOutside v r → IsWholeCall v

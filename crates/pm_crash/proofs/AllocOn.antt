@@ -23,8 +23,8 @@ use Rattle.pm_image.specs.Contents.{bytes_in, offset_in, size_in}
 use Rattle.pm_image.specs.declared.block.Block.{Block}
 use Rattle.pm_image.proofs.Members.{first_member, later_member}
 use Rattle.pm_model.specs.declared.stage.Stage.TheVariants as stage
-use Rattle.pm_model.specs.Actions.{max_entries}
-use Rattle.pm_model.specs.Answers.{Answers, IsBeside, IsDone, IsNewPlace, IsRefused, after_reply}
+use Rattle.pm_model.specs.Actions.{Pending, max_entries}
+use Rattle.pm_model.specs.Answers.{Answers, IsBeside, IsBesideReserved, IsDone, IsNewPlace, IsRefused, after_reply}
 use Rattle.pm_model.specs.Bytes.{is_among}
 use Rattle.pm_model.specs.Checks.{first_refusal}
 use Rattle.pm_model.specs.NewObjects.{new_object, with_object}
@@ -249,6 +249,7 @@ module _ (v next : View) (n : NewObject) (level : ℕ) (some_level : 1 ≤ level
       apart = All-append (IsBeside n.size n.off) (c.tx.before.objects ++ c.tx.pool.objects) c.tx.dropped
           (All-append (IsBeside n.size n.off) c.tx.before.objects c.tx.pool.objects (subst (λ (p : PoolView). All (IsBeside n.size n.off) p.objects) (sym c.before) beside_before) beside_all)
           beside_dropped;
+      unreserved = subst (λ (p : Pending). All (IsBesideReserved n.size n.off) p.reserved) (sym c.actions) (All-nil (IsBesideReserved n.size n.off));
     }
 
     none_there : object_at c.tx.pool.objects n.off ≡ None
@@ -292,7 +293,7 @@ module _ (v next : View) (n : NewObject) (level : ℕ) (some_level : 1 ≤ level
     answers : Answers c.tx (Alloc n.size n.kind) (Some (Offset n.off))
     answers =
         let op = Alloc n.size n.kind in
-        let done : IsDone c.tx (Alloc n.size n.kind) (Some (Offset n.off)) = record { there = λ k d inside. absurd (omega (arith, inside)); value = (n.off, new_place, refl) } in
+        let done : IsDone c.tx (Alloc n.size n.kind) (Some (Offset n.off)) = record { there = λ k d inside. absurd (omega (arith, inside)); stands = tt; value = (n.off, new_place, refl) } in
         record {
           known = refl;
           seen = unhindered;
@@ -355,7 +356,7 @@ module _ (v next : View) (n : NewObject) (level : ℕ) (some_level : 1 ≤ level
           levels = c.levels;
           stands = refl;
           fails = refl;
-          actions = refl;
+          actions = λ sets is. is;
           moved = sym (append-nil c.tx.moved);
           performable = All-nil (IsPerformable v w);
           blocks_stay = ap (λ (f : ℕ → ℕ). blocks f v.lanes v.zones) same;

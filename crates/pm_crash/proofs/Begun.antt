@@ -21,7 +21,7 @@ use Rattle.pm_image.specs.Blocks.{blocks}
 use Rattle.pm_image.specs.Contents.{size_in}
 use Rattle.pm_image.proofs.Members.{first_member, later_member}
 use Rattle.pm_model.specs.declared.stage.Stage.TheVariants as stage
-use Rattle.pm_model.specs.Actions.{Action}
+use Rattle.pm_model.specs.Actions.{Pending, only_sets}
 use Rattle.pm_model.specs.Bytes.{is_among}
 use Rattle.pm_model.specs.Places.{can_begin, has_place}
 use Rattle.pm_model.specs.Transaction.{Transaction, locked_all, resting}
@@ -56,7 +56,7 @@ none_fails p (x ∷ xs) passes =
     or_from (not (p x)) (list_any (λ y. not (p y)) xs) (ap not (passes x (first_member x xs))) (none_fails p xs (λ y there. passes y (later_member x xs y there)))
 
 -- the checks of a begin where no transaction is open
-begin_passes : (pool : PoolView) (actions : List Action) (wants : List Want) → ((want : Want) → Contains wants want → has_place pool want.id ≡ true) → length (locked_all wants []) ≤ 64
+begin_passes : (pool : PoolView) (actions : Pending) (wants : List Want) → ((want : Want) → Contains wants want → has_place pool want.id ≡ true) → length (locked_all wants []) ≤ 64
     → first_refusal unhindered (resting pool actions) (Begin wants) ≡ None
 unfolding first_refusal
 begin_passes pool actions wants places few =
@@ -99,7 +99,7 @@ wanted_is_there v w header pool want holds before wanted =
     let object = object_is_there w v.lanes v.zones header pool (block_at_line held.lock.line held.lines) holds (before.found held.lock held.lines held.held held.block) in
     subst (λ (o : Option Object). IsSome o) (sym (ap (object_at pool.objects) held.place ∙ object.found)) refl
 
-begin_answers : (v : View) (wants : List Want) (w : ℕ → ℕ) (header : Header) (pool : PoolView) (actions : List Action) → BeginsCall v wants → HoldsPool w v.lanes v.zones header pool → v.pool ≡ header.id → IsBefore v w
+begin_answers : (v : View) (wants : List Want) (w : ℕ → ℕ) (header : Header) (pool : PoolView) (actions : Pending) → BeginsCall v wants → HoldsPool w v.lanes v.zones header pool → v.pool ≡ header.id → IsBefore v w
     → Answers (resting pool actions) (Begin wants) None
 begin_answers v wants w header pool actions begins holds id before =
     let long : length (locked_all wants []) ≡ length v.locks = sym begins.takes.locks.count ∙ length-map v.locks lock_of in
@@ -108,6 +108,7 @@ begin_answers v wants w header pool actions begins holds id before =
     begin_passes pool actions wants (λ want there. wanted_has_place v w header pool want holds id (begins.takes.wanted want there)) (omega arith) in
     let done : IsDone (resting pool actions) (Begin wants) None = record {
       there = λ k d inside first. wanted_is_there v w header pool (get_or wants k d) holds before (begins.takes.wanted (get_or wants k d) (Contains-get_or wants k d inside));
+      stands = tt;
       value = refl;
     } in
     record {
@@ -171,12 +172,12 @@ begin_under_way v wants begins = record {
   has = has_none v (begin_keeps v wants begins);
   comes = λ w header pool holds id before room.
       let told : Answered = record { operation = Begin wants; reply = None } in
-      let tx : Transaction = after told (resting pool (pending_before v)) in
+      let tx : Transaction = after told (resting pool (only_sets (pending_before v))) in
       let same : call_words v w ≡ w = no_call_words v begins.no_records w in
       let keeps : KeepsBlocks v = begin_keeps v wants begins in
       record {
         tx = tx;
-        runs = subst (λ (ts : List Answered). RunsTo pool (pending_before v) ts tx) (sym (ap (map told_of) begins.call)) (runs_first told pool (pending_before v) (begin_answers v wants w header pool (pending_before v) begins holds id before));
+        runs = subst (λ (ts : List Answered). RunsTo pool (only_sets (pending_before v)) ts tx) (sym (ap (map told_of) begins.call)) (runs_first told pool (only_sets (pending_before v)) (begin_answers v wants w header pool (only_sets (pending_before v)) begins holds id before));
         base = pool;
         holds = subst (λ (f : ℕ → ℕ). HoldsPool f v.lanes v.zones header pool) (sym same) holds;
         changed = changed_none v pool (objects_rise w v.lanes v.zones header pool holds) keeps;
@@ -191,7 +192,7 @@ begin_under_way v wants begins = record {
         levels = refl;
         stands = refl;
         fails = refl;
-        actions = sym (pending_first v (record { operation = Begin wants; reply = None }) begins.call);
+        actions = ap only_sets (sym (pending_first v (record { operation = Begin wants; reply = None }) begins.call));
         moved = sym (published_first v (record { operation = Begin wants; reply = None }) begins.call);
         performable = subst (All (IsPerformable v w)) (sym (published_first v (record { operation = Begin wants; reply = None }) begins.call)) (All-nil (IsPerformable v w));
         blocks_stay = ap (λ (f : ℕ → ℕ). blocks f v.lanes v.zones) same;

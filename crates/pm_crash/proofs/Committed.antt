@@ -17,7 +17,7 @@ use Rattle.pm_objects.specs.declared.calls.Operation.TheVariants.{Commit}
 use Rattle.pm_objects.specs.declared.history.TxErr.TheVariants as error
 use Rattle.pm_model.specs.declared.stage.Stage.TheVariants as stage
 use Rattle.pm_model.specs.declared.stage.Stage.{Stage}
-use Rattle.pm_model.specs.Actions.{Action, with_actions}
+use Rattle.pm_model.specs.Actions.{Action, only_sets, with_actions}
 use Rattle.pm_model.specs.Transaction.{Transaction, resting, committed, ended_inner, is_working}
 use Rattle.pm_model.specs.Answers.{Told as Answered, Answers, IsBeside, after_reply}
 use Rattle.pm_model.specs.Bytes.{is_among}
@@ -97,19 +97,19 @@ module _ (v next : View) (under_way : IsUnderWay v 1 stage.Work error.None) (tel
   abbrev last_pool : PoolView
   last_pool = with_actions (published_in v) c.tx.pool
 
-  rests : last ≡ resting last_pool (pending_in v)
+  rests : last ≡ resting last_pool (only_sets (pending_in v))
   rests = commits c.tx c.levels ∙ (λ j. resting (with_actions (c.moved j) c.tx.pool) (c.actions j))
 
-  ran : RunsFrom (resting pool (pending_before next)) (told_in next) last
+  ran : RunsFrom (resting pool (only_sets (pending_before next))) (told_in next) last
   ran =
       let works : Works c.tx = call_works v w header pool 1 (omega arith) under_way c in
-      let asks : AsksNoLock Commit = record { no_wants = refl; no_begin = refl; no_alloc = refl; no_free = refl; aligned = refl; no_more = λ tx. refl; no_action = refl } in
-      let answers : Answers c.tx Commit None = answers_done c.tx Commit None refl asks (passes_all c.tx Commit works asks refl refl refl refl refl) refl in
+      let asks : AsksNoLock Commit = record { no_wants = refl; no_begin = refl; no_alloc = refl; no_free = refl; no_put = refl; aligned = refl; no_more = λ tx. refl; no_action = refl } in
+      let answers : Answers c.tx Commit None = answers_done c.tx Commit None refl works asks (passes_all c.tx Commit works asks refl refl refl refl refl) refl in
       let told : List Answered = told_in v ++ record { operation = Commit; reply = None } ∷ [] in
-      let goes : RunsTo pool (pending_before v) told last = runs_once_more (told_in v) (record { operation = Commit; reply = None }) pool (pending_before v) c.tx c.runs (ap is_working c.stands) answers in
-      let runs : RunsFrom (resting pool (pending_before v)) told last = runs_some told pool (pending_before v) last goes (ap (λ (x : Transaction). is_working x.stage) rests) (some_told (told_in v) (record { operation = Commit; reply = None })) in
-      subst (λ (ts : List Answered). RunsFrom (resting pool (pending_before next)) ts last) (sym (told_once_more v next Commit None tells.call))
-      (subst (λ (actions : List Action). RunsFrom (resting pool actions) told last) (sym (same_before v next tells.keeps.entries)) runs)
+      let goes : RunsTo pool (only_sets (pending_before v)) told last = runs_once_more (told_in v) (record { operation = Commit; reply = None }) pool (only_sets (pending_before v)) c.tx c.runs (ap is_working c.stands) answers in
+      let runs : RunsFrom (resting pool (only_sets (pending_before v))) told last = runs_some told pool (only_sets (pending_before v)) last goes (ap (λ (x : Transaction). is_working x.stage) rests) (some_told (told_in v) (record { operation = Commit; reply = None })) in
+      subst (λ (ts : List Answered). RunsFrom (resting pool (only_sets (pending_before next))) ts last) (sym (told_once_more v next Commit None tells.call))
+      (subst (λ (actions : List Action). RunsFrom (resting pool (only_sets actions)) told last) (sym (same_before v next tells.keeps.entries)) runs)
 
   leaves : LeavesBlocks v next
   leaves = leaves_told v next Commit None tells.call refl (known_new v next (keeps_known v next keeps) under_way.has.each)
@@ -150,7 +150,7 @@ module _ (v next : View) (under_way : IsUnderWay v 1 stage.Work error.None) (tel
     runs = ran;
     leaves = record {
       pending = own;
-      leaves = (λ j. let s : State = record { pool = sym (ap (λ (x : Transaction). x.pool) rests) j; actions = with_pending actions next.lane ((pending_once_more v next Commit None tells.keeps.entries tells.call ∙ sym (ap (λ (x : Transaction). x.actions) rests)) j) } in s);
+      leaves = (λ j. let s : State = record { pool = sym (ap (λ (x : Transaction). x.pool) rests) j; actions = with_pending actions next.lane ((ap only_sets (pending_once_more v next Commit None tells.keeps.entries tells.call) ∙ sym (ap (λ (x : Transaction). x.actions) rests)) j) } in s);
     };
   })
 

@@ -16,12 +16,12 @@ use Rattle.pm_image.specs.declared.block.Block.{Block}
 use Rattle.pm_image.specs.Blocks.{blocks}
 use Rattle.pm_image.specs.Contents.{size_in}
 use Rattle.pm_model.specs.declared.stage.Stage.TheVariants as stage
-use Rattle.pm_model.specs.Actions.{Action}
+use Rattle.pm_model.specs.Actions.{Action, Pending, only_sets}
 use Rattle.pm_model.specs.Bytes.{is_among}
 use Rattle.pm_model.specs.Transaction.{Transaction, holds_object, is_working}
 use Rattle.pm_model.specs.Checks.{first_refusal}
 use Rattle.pm_model.specs.Answers.{Told as Answered, Answers, IsDone, IsRefused, after_reply, is_known, value_of}
-use Rattle.pm_model.proofs.Alike.{value_known}
+use Rattle.pm_model.proofs.Alike.{stands_plain, value_known}
 use Rattle.pm_view.specs.Area.{is_in_area}
 use Rattle.pm_view.specs.Blocks.{is_chunk}
 use Rattle.pm_view.specs.View.{View, Lock}
@@ -31,7 +31,7 @@ use Rattle.pm_crash.specs.Locks.{AreSameLocks}
 use Rattle.pm_crash.specs.Held.{HoldsPool}
 use Rattle.pm_crash.specs.OpenCall.{IsBefore, call_words, ComesTo, IsChanged, HasMade, IsPerformable, IsUnderWay, LieApart, RecordsUnder, RunsTo, TracksBlocks, locks_of, place_and_size, words_recorded}
 use Rattle.pm_crash.specs.Operations.{KeepsKnown, KeepsLane, Tells}
-use Rattle.pm_crash.proofs.Passing.{unhindered, wants_none, AsksNoLock, WantsNone}
+use Rattle.pm_crash.proofs.Passing.{is_plain_too, unhindered, wants_none, AsksNoLock, WantsNone, Works}
 use Rattle.pm_crash.specs.Pending.{pending_before, pending_behind, pending_in, published_by, published_in, told_in, told_of}
 use Rattle.pm_crash.proofs.NewStay.{news_in, news_stay, performable_still}
 use Rattle.pm_crash.proofs.PendingOn.{pending_once_more, published_once_more, same_before}
@@ -39,13 +39,14 @@ use Rattle.pm_crash.proofs.Runs.{runs_once_more}
 use Rattle.pm_crash.proofs.CallBlocks.{SameNew, allocated_once_more, blocks_once_more, changed_stays, made_stays, may_before}
 
 -- an operation that asks for no lock, makes no object, and is not refused, answers its value
-pub answers_value : (tx : Transaction) (op : Operation) (reply : Option Value) → IsTrue (is_known op) → WantsNone op → first_refusal unhindered tx op ≡ None → reply ≡ value_of tx op
+pub answers_value : (tx : Transaction) (op : Operation) (reply : Option Value) → IsTrue (is_known op) → Works tx → WantsNone op → first_refusal unhindered tx op ≡ None → reply ≡ value_of tx op
     → Answers tx op reply
-answers_value tx op reply known asks none value =
+answers_value tx op reply known works asks none value =
     let done : IsDone tx op reply = record {
       there =
           subst (λ (wants : List Want). All (λ (want : Want). holds_object tx want.id.off false ≡ false → IsSome (object_at tx.pool.objects want.id.off)) wants) (sym asks.no_wants)
           (All-nil (λ (want : Want). holds_object tx want.id.off false ≡ false → IsSome (object_at tx.pool.objects want.id.off)));
+      stands = stands_plain tx op (is_plain_too tx works);
       value = value_known tx op reply asks.no_alloc value;
     } in
     record {
@@ -54,9 +55,9 @@ answers_value tx op reply known asks none value =
       answer = subst (λ (fr : Option Refusal). MatchOption fr (IsDone tx op reply) (λ r. IsRefused r reply)) (sym none) done;
     }
 
-pub answers_done : (tx : Transaction) (op : Operation) (reply : Option Value) → IsTrue (is_known op) → AsksNoLock op → first_refusal unhindered tx op ≡ None → reply ≡ value_of tx op
+pub answers_done : (tx : Transaction) (op : Operation) (reply : Option Value) → IsTrue (is_known op) → Works tx → AsksNoLock op → first_refusal unhindered tx op ≡ None → reply ≡ value_of tx op
     → Answers tx op reply
-answers_done tx op reply known asks = answers_value tx op reply known (wants_none op asks)
+answers_done tx op reply known works asks = answers_value tx op reply known works (wants_none op asks)
 
 pub two_same : (P : ℕ → ℕ → Type 0) (a b c d : ℕ) → a ≡ b → c ≡ d → P a c → P b d
 two_same P a b c d e f holds = subst (λ (n : ℕ). P n d) e (subst (P a) f holds)
@@ -67,11 +68,11 @@ pub told_once_more : (v next : View) (op : Operation) (reply : Option Value) →
 told_once_more v next op reply call = ap (map told_of) call ∙ map-append told_of v.call (record { operation = op; reply = reply } ∷ [])
 
 -- what ran to a transaction, for a view that has these operations and the same calls before
-pub runs_told : {told : List Answered} (v next : View) (pool : PoolView) (tx : Transaction) → next.entries ≡ v.entries → told_in next ≡ told → RunsTo pool (pending_before v) told tx
-    → RunsTo pool (pending_before next) (told_in next) tx
+pub runs_told : {told : List Answered} (v next : View) (pool : PoolView) (tx : Transaction) → next.entries ≡ v.entries → told_in next ≡ told → RunsTo pool (only_sets (pending_before v)) told tx
+    → RunsTo pool (only_sets (pending_before next)) (told_in next) tx
 runs_told {told = before} v next pool tx entries told runs =
-    subst (λ (ts : List Answered). RunsTo pool (pending_before next) ts tx) (sym told)
-    (subst (λ (actions : List Action). RunsTo pool actions before tx) (sym (same_before v next entries)) runs)
+    subst (λ (ts : List Answered). RunsTo pool (only_sets (pending_before next)) ts tx) (sym told)
+    (subst (λ (actions : List Action). RunsTo pool (only_sets actions) before tx) (sym (same_before v next entries)) runs)
 
 -- the model's transaction goes on by the operation, with the words that the lane made
 pub record Continues (v next : View) (w : ℕ → ℕ) (header : Header) (op : Operation) (reply : Option Value) (to : ℕ) (tx : Transaction) : Type 0 where
@@ -88,9 +89,9 @@ pub record Continues (v next : View) (w : ℕ → ℕ) (header : Header) (op : O
   pub levels : (after_reply op reply tx).level ≡ to
   pub stands : (after_reply op reply tx).stage ≡ tx.stage
   pub fails : (after_reply op reply tx).error ≡ tx.error
-  pub actions : (after_reply op reply tx).actions ≡ pending_behind op reply tx.actions
-  pub moved : (after_reply op reply tx).moved ≡ tx.moved ++ published_by op reply tx.actions
-  pub performable : All (IsPerformable v w) (published_by op reply tx.actions)
+  pub actions : (sets : List Action) → tx.actions ≡ only_sets sets → (after_reply op reply tx).actions ≡ only_sets (pending_behind op reply sets)
+  pub moved : (after_reply op reply tx).moved ≡ tx.moved ++ published_by op reply tx.actions.sets
+  pub performable : All (IsPerformable v w) (published_by op reply tx.actions.sets)
   pub blocks_stay : blocks (call_words next w) v.lanes v.zones ≡ blocks (call_words v w) v.lanes v.zones
   pub sizes_stay : (block : Block) → Contains (blocks w v.lanes v.zones) block → size_in (call_words next w) block ≡ size_in (call_words v w) block
 
@@ -148,14 +149,14 @@ leaves_told v next op reply call none same = record { blocks = blocks_once_more 
 -- what was published before the operation, and by it, lies in objects of the pool or in what the call made
 performed_on : {level : ℕ} {header : Header} {pool : PoolView} (v next : View) (op : Operation) (reply : Option Value) (w : ℕ → ℕ) → KeepsLane v next
     → next.call ≡ v.call ++ record { operation = op; reply = reply } ∷ [] → (c : ComesTo v w header pool level stage.Work error.None) → (after_reply op reply c.tx).stage ≡ c.tx.stage
-    → All (IsPerformable v w) (published_by op reply c.tx.actions) → All (IsPerformable next w) (published_in next)
+    → All (IsPerformable v w) (published_by op reply c.tx.actions.sets) → All (IsPerformable next w) (published_in next)
 performed_on v next op reply w lane call c works more =
     let now : List Action = published_in v ++ published_by op reply (pending_in v) in
     subst (All (IsPerformable next w)) (sym (published_once_more v next op reply lane.entries call))
     (performable_still v next w now lane.lanes lane.zones
     (λ n there. subst (λ (b : CallBlocks). Contains (news_in b) n) (sym (blocks_once_more v next op reply call)) (news_stay op reply (blocks_in v) c.tx n (ap is_working (works ∙ c.stands)) there))
     (All-append (IsPerformable v w) (published_in v) (published_by op reply (pending_in v)) c.performable
-    (subst (λ (actions : List Action). All (IsPerformable v w) (published_by op reply actions)) c.actions more)))
+    (subst (λ (actions : List Action). All (IsPerformable v w) (published_by op reply actions)) (ap (λ (p : Pending). p.sets) c.actions) more)))
 
 pub next_comes : (v next : View) (level to : ℕ) (op : Operation) (reply : Option Value) (w : ℕ → ℕ) (header : Header) (pool : PoolView) → KeepsLane v next
     → next.call ≡ v.call ++ record { operation = op; reply = reply } ∷ [] → (c : ComesTo v w header pool level stage.Work error.None) → Continues v next w header op reply to c.tx → ComesTo next w header pool to stage.Work error.None
@@ -165,7 +166,7 @@ next_comes v next level to op reply w header pool lane call c on =
       tx = tx;
       runs =
           runs_told v next pool tx lane.entries (told_once_more v next op reply call)
-          (runs_once_more (told_in v) (record { operation = op; reply = reply }) pool (pending_before v) c.tx c.runs (ap is_working c.stands) on.answers);
+          (runs_once_more (told_in v) (record { operation = op; reply = reply }) pool (only_sets (pending_before v)) c.tx c.runs (ap is_working c.stands) on.answers);
       base = on.base;
       holds = two_same (λ (lanes zones : ℕ). HoldsPool (call_words next w) lanes zones header on.base) v.lanes next.lanes v.zones next.zones (sym lane.lanes) (sym lane.zones) on.holds;
       changed = on.changed;
@@ -178,8 +179,8 @@ next_comes v next level to op reply w header pool lane call c on =
       levels = on.levels;
       stands = on.stands ∙ c.stands;
       fails = on.fails ∙ c.fails;
-      actions = on.actions ∙ ap (pending_behind op reply) c.actions ∙ sym (pending_once_more v next op reply lane.entries call);
-      moved = on.moved ∙ (λ j. c.moved j ++ published_by op reply (c.actions j)) ∙ sym (published_once_more v next op reply lane.entries call);
+      actions = on.actions (pending_in v) c.actions ∙ ap only_sets (sym (pending_once_more v next op reply lane.entries call));
+      moved = on.moved ∙ (λ j. c.moved j ++ published_by op reply (c.actions j).sets) ∙ sym (published_once_more v next op reply lane.entries call);
       performable = performed_on v next op reply w lane call c on.stands on.performable;
       blocks_stay =
           two_same (λ (lanes zones : ℕ). blocks (call_words next w) lanes zones ≡ blocks w lanes zones) v.lanes next.lanes v.zones next.zones (sym lane.lanes) (sym lane.zones)

@@ -49,7 +49,7 @@ use Rattle.pm_crash.proofs.WriteOn.{differs_from_new}
 -- a free that is not refused is done
 free_answers : (tx : Transaction) (id : Oid) → first_refusal unhindered tx (Free id) ≡ None → Answers tx (Free id) None
 free_answers tx id passes =
-    let done : IsDone tx (Free id) None = record { there = λ k d inside. absurd (omega (arith, inside)); value = refl } in
+    let done : IsDone tx (Free id) None = record { there = λ k d inside. absurd (omega (arith, inside)); stands = tt; value = refl } in
     record {
       known = refl;
       seen = unhindered;
@@ -83,7 +83,7 @@ module _ (v next : View) (id : Oid) (level : ℕ) (under_way : IsUnderWay v leve
         levels = ap (λ (x : Transaction). x.level) leads ∙ c.levels;
         stands = ap (λ (x : Transaction). x.stage) leads;
         fails = ap (λ (x : Transaction). x.error) leads;
-        actions = ap (λ (x : Transaction). x.actions) leads;
+        actions = λ sets is. ap (λ (x : Transaction). x.actions) leads ∙ is;
         moved = ap (λ (x : Transaction). x.moved) leads ∙ sym (append-nil c.tx.moved);
         performable = All-nil (IsPerformable v w);
         blocks_stay = ap (λ (f : ℕ → ℕ). blocks f v.lanes v.zones) same;

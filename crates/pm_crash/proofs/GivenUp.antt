@@ -18,8 +18,8 @@ use Rattle.pm_image.proofs.Members.{member_cases, no_member}
 use Rattle.pm_model.specs.declared.stage.Stage.TheVariants as stage
 use Rattle.pm_model.specs.Transaction.{Transaction, aborted, holds_object, is_gone, is_locked, is_new, is_working, resting}
 use Rattle.pm_model.specs.Bytes.{bytes_of, is_among, new_words, records_of}
-use Rattle.pm_model.specs.Actions.{Action, passes_object}
-use Rattle.pm_model.specs.Checks.{Range, range_of, is_publish, is_unlocked_action, frees_unlocked, is_record, is_write, needs_write, is_lock_missing, is_not_held, is_not_locked, names_gone, objects_named, passes_end_of, passes_end, has_unrecorded, is_not_added, overfills, passes_log, first_refusal, words_in}
+use Rattle.pm_model.specs.Actions.{Action, Pending, only_sets, passes_object}
+use Rattle.pm_model.specs.Checks.{Range, range_of, is_publish, is_unlocked_action, frees_unlocked, is_record, is_write, needs_write, is_lock_missing, is_not_held, is_not_locked, names_gone, objects_named, passes_end_of, passes_end, publishes_past_end, has_unrecorded, is_not_added, overfills, passes_log, first_refusal, words_in}
 use Rattle.pm_model.specs.Answers.{Told as Answered, Answers, IsDone, IsRefused, after_reply, changes_nothing, error_for, is_known}
 use Rattle.pm_model.specs.Step.{RunsFrom, State, with_pending}
 use Rattle.pm_model.proofs.Alike.{after_refused}
@@ -39,7 +39,7 @@ use Rattle.pm_crash.proofs.CallWords.{call_works, held_is_locked, object_under, 
 use Rattle.pm_crash.proofs.CallBlocks.{any_may_still, may_before, old_of_none, tracks_new}
 use Rattle.pm_crash.proofs.Continued.{answers_done, runs_told, told_once_more, two_same}
 use Rattle.pm_crash.proofs.KeptWords.{found_back, lies_further, lies_under, same_found, under_kept}
-use Rattle.pm_crash.proofs.Passing.{fails_added, fails_end, fails_lock, fails_room, passes_all, unhindered, wants_none, AsksNoLock, Works}
+use Rattle.pm_crash.proofs.Passing.{fails_added, fails_end, fails_lock, fails_room, none_gone_named, passes_all, puts_none, unhindered, wants_none, AsksNoLock, Works}
 use Rattle.pm_crash.proofs.RecordedWords.{among_recorded}
 use Rattle.pm_crash.proofs.Runs.{runs_once_more, runs_to_end}
 use Rattle.pm_crash.proofs.PendingOn.{pending_once_more}
@@ -87,9 +87,9 @@ outside_taken_back v next lane back outside i is = ⊎_elim
 
 -- the operations on ranges ask for no lock, and are known
 pub ranged_asks : (op : Operation) (range : Range) → range_of op ≡ Some range → AsksNoLock op
-ranged_asks (AddRange id off len) range is = record { no_wants = refl; no_begin = refl; no_alloc = refl; no_free = refl; aligned = refl; no_more = λ tx. refl; no_action = refl }
-ranged_asks (Write id off bytes) range is = record { no_wants = refl; no_begin = refl; no_alloc = refl; no_free = refl; aligned = refl; no_more = λ tx. refl; no_action = refl }
-ranged_asks (Read id off len) range is = record { no_wants = refl; no_begin = refl; no_alloc = refl; no_free = refl; aligned = refl; no_more = λ tx. refl; no_action = refl }
+ranged_asks (AddRange id off len) range is = record { no_wants = refl; no_begin = refl; no_alloc = refl; no_free = refl; no_put = refl; aligned = refl; no_more = λ tx. refl; no_action = refl }
+ranged_asks (Write id off bytes) range is = record { no_wants = refl; no_begin = refl; no_alloc = refl; no_free = refl; no_put = refl; aligned = refl; no_more = λ tx. refl; no_action = refl }
+ranged_asks (Read id off len) range is = record { no_wants = refl; no_begin = refl; no_alloc = refl; no_free = refl; no_put = refl; aligned = refl; no_more = λ tx. refl; no_action = refl }
 ranged_asks op range is = absurd cc
 
 pub ranged_known : (op : Operation) (range : Range) → range_of op ≡ Some range → is_known op ≡ true
@@ -110,12 +110,13 @@ record_is_no_write op is = refl
 
 -- the checks of an operation on a range
 pub lock_check : (tx : Transaction) (op : Operation) (range : Range) → range_of op ≡ Some range → is_not_locked tx op ≡ is_lock_missing tx (needs_write op) range
-lock_check tx op range is = ap (λ (b : Bool). (b && list_any (is_unlocked_action tx) tx.actions) || frees_unlocked tx op || option_map_or (is_lock_missing tx (needs_write op)) (range_of op) false) (ranged_publishes_none op range is)
+lock_check tx op range is = ap (λ (b : Bool). (b && (list_any (is_not_held tx true) tx.actions.frees || list_any (is_unlocked_action tx) tx.actions.sets)) || frees_unlocked tx op || option_map_or (is_lock_missing tx (needs_write op)) (range_of op) false) (ranged_publishes_none op range is)
     ∙ ap (λ (b : Bool). b || option_map_or (is_lock_missing tx (needs_write op)) (range_of op) false) (frees_none_unlocked tx op (ranged_asks op range is).no_free)
     ∙ ap (λ (r : Option Range). option_map_or (is_lock_missing tx (needs_write op)) r false) is
 
 pub end_check : (tx : Transaction) (op : Operation) (range : Range) → range_of op ≡ Some range → passes_end tx op ≡ passes_end_of tx range
-end_check tx op range is = ap (λ (b : Bool). (b && list_any (passes_object tx.pool.objects) tx.actions) || option_map_or (passes_end_of tx) (range_of op) false) (ranged_publishes_none op range is)
+end_check tx op range is = ap (λ (b : Bool). b || (publishes_past_end tx op || option_map_or (passes_end_of tx) (range_of op) false)) (puts_none tx.actions op (ranged_asks op range is).no_put)
+    ∙ ap (λ (b : Bool). (b && list_any (passes_object tx.pool.objects) tx.actions.sets) || option_map_or (passes_end_of tx) (range_of op) false) (ranged_publishes_none op range is)
     ∙ ap (λ (r : Option Range). option_map_or (passes_end_of tx) r false) is
 
 added_check : (tx : Transaction) (op : Operation) (range : Range) → range_of op ≡ Some range → is_not_added tx op ≡ (is_write op && has_unrecorded tx range)
@@ -156,7 +157,8 @@ asked_lock v w header op range tx asked held = lock_check tx op range asked.is_r
 
 asked_kept : (v : View) (w : ℕ → ℕ) (header : Header) (op : Operation) (range : Range) (tx : Transaction) → Asked v w header op range tx → range.id.pool ≡ v.pool → is_freed_in v range.id.off ≡ false
     → names_gone tx op ≡ false
-asked_kept v w header op range tx asked same kept = ap (list_any (is_gone tx)) (ranged_named tx op range asked.is_range) ∙ one_is_kept v tx asked.tracks range.id.off (record { found = asked.found same; kept = kept })
+asked_kept v w header op range tx asked same kept =
+    none_gone_named tx op asked.works (ap (list_any (is_gone tx)) (ranged_named tx op range asked.is_range) ∙ one_is_kept v tx asked.tracks range.id.off (record { found = asked.found same; kept = kept }))
 
 asked_end : (v : View) (w : ℕ → ℕ) (header : Header) (op : Operation) (range : Range) (tx : Transaction) → Asked v w header op range tx → HasRange v range.id range.off range.len (needs_write op)
     → is_freed_in v range.id.off ≡ false → passes_end tx op ≡ false
@@ -245,10 +247,10 @@ comes_to_nothing v next op reply level e w header pool entries kept call c answe
       tx = last;
       runs =
           runs_told v next pool last entries (told_once_more v next op reply call)
-          (runs_once_more (told_in v) (record { operation = op; reply = reply }) pool (pending_before v) c.tx c.runs (ap is_working c.stands) answers);
+          (runs_once_more (told_in v) (record { operation = op; reply = reply }) pool (only_sets (pending_before v)) c.tx c.runs (ap is_working c.stands) answers);
       stands = ap (λ (x : Transaction). x.stage) aborts;
       fails = ap (λ (x : Transaction). x.error) aborts;
-      actions = ap (λ (x : Transaction). x.actions) aborts ∙ c.actions ∙ sym (pending_once_more v next op reply entries call ∙ kept (pending_in v));
+      actions = ap (λ (x : Transaction). x.actions) aborts ∙ c.actions ∙ ap only_sets (sym (pending_once_more v next op reply entries call ∙ kept (pending_in v)));
       unchanged = ap (λ (x : Transaction). x.pool) aborts ∙ c.before;
     }
 
@@ -305,13 +307,13 @@ pub abort_aborts : (v next : View) (errnum level : ℕ) → 1 ≤ level → IsUn
 abort_aborts v next errnum level some under_way tells back =
     aborts_call v next (Abort errnum) None level (error_for errnum) under_way tells.keeps (same_found v next tells.locks) (λ actions. refl) tells.call back
     (λ w header pool same_id before c.
-    let asks : AsksNoLock (Abort errnum) = record { no_wants = refl; no_begin = refl; no_alloc = refl; no_free = refl; aligned = refl; no_more = λ tx. refl; no_action = refl } in (
-      answers_done c.tx (Abort errnum) None refl asks (passes_all c.tx (Abort errnum) (call_works v w header pool level some under_way c) asks refl refl refl refl refl) refl,
+    let asks : AsksNoLock (Abort errnum) = record { no_wants = refl; no_begin = refl; no_alloc = refl; no_free = refl; no_put = refl; aligned = refl; no_more = λ tx. refl; no_action = refl } in (
+      answers_done c.tx (Abort errnum) None refl (call_works v w header pool level some under_way c) asks (passes_all c.tx (Abort errnum) (call_works v w header pool level some under_way c) asks refl refl refl refl refl) refl,
       refl,
     ))
 
 -- what was given up has run, and is a step that changes nothing
-aborted_runs : (told : List Answered) (pool : PoolView) (actions : List Action) (last : Transaction) → RunsTo pool actions told last → last.stage ≡ stage.OnAbort → RunsFrom (resting pool actions) told last
+aborted_runs : (told : List Answered) (pool : PoolView) (actions : Pending) (last : Transaction) → RunsTo pool actions told last → last.stage ≡ stage.OnAbort → RunsFrom (resting pool actions) told last
 unfolding RunsTo
 aborted_runs [] pool actions last runs stands =
     let rests : last ≡ resting pool actions = runs in
@@ -325,7 +327,7 @@ aborted_changes_nothing v e was_aborted w header pool holds id before room = λ 
     let c : ComesToNothing v pool e = was_aborted.comes w header pool holds id before room in
     inl (record {
       last = c.tx;
-      runs = aborted_runs (told_in v) pool (pending_before v) c.tx c.runs c.stands;
+      runs = aborted_runs (told_in v) pool (only_sets (pending_before v)) c.tx c.runs c.stands;
       leaves = record { pending = own; leaves = (λ i. let s : State = record { pool = sym c.unchanged i; actions = with_pending actions v.lane (sym c.actions i) } in s) };
     })
 

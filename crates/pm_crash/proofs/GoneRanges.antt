@@ -1,7 +1,7 @@
 -- A range of an object that is gone is refused, and one that passes the end of an object which the call made.
 use Rattle.std.proofs.Common.{◌≡◌, ℕ, ◌+◌, ◌<◌, ◌≤◌, Bool, true, false, cond, length, Some, refl, ◌∙◌, ap, arith}
 use Rattle.std.specs.List.{list_any}
-use Rattle.std.proofs.lemmas.Bool.{lt-ltb, or_left}
+use Rattle.std.proofs.lemmas.Bool.{lt-ltb, or_left, or_right}
 use Rattle.pm_objects.specs.declared.calls.Operation.{Operation}
 use Rattle.pm_objects.specs.declared.history.TxErr.TheVariants as error
 use Rattle.pm_objects.specs.declared.history.Value.TheVariants.{Refused}
@@ -10,7 +10,7 @@ use Rattle.pm_objects.specs.declared.refusal.Refusal.TheVariants as refusal
 use Rattle.pm_model.specs.declared.stage.Stage.TheVariants as stage
 use Rattle.pm_model.specs.Answers.{Answers, after_reply}
 use Rattle.pm_model.specs.Bytes.{bytes_of}
-use Rattle.pm_model.specs.Checks.{Range, is_not_locked, names_gone, needs_write, passes_end, range_of}
+use Rattle.pm_model.specs.Checks.{Range, is_not_locked, names_gone, needs_write, objects_named, publishes_late, passes_end, range_of}
 use Rattle.pm_model.specs.Transaction.{Transaction, aborted, is_gone}
 use Rattle.pm_model.proofs.Alike.{after_refused}
 use Rattle.pm_view.specs.View.{View}
@@ -22,7 +22,7 @@ use Rattle.pm_crash.proofs.FreeChecks.{had_is_held}
 use Rattle.pm_crash.proofs.GivenUp.{aborts_call, end_check, lock_check, ranged_asks, ranged_known, ranged_named, refused_answers, IsRefusedFor}
 use Rattle.pm_crash.proofs.KeptWords.{same_found}
 use Rattle.pm_crash.proofs.NewRanges.{new_is_held, new_is_kept, new_long}
-use Rattle.pm_crash.proofs.Passing.{fails_end, fails_gone, wants_none}
+use Rattle.pm_crash.proofs.Passing.{fails_end, fails_gone, none_gone_named, wants_none}
 
 -- what a refused operation on a range answers, and leaves
 ranged_aborts : (tx : Transaction) (op : Operation) (range : Range) (r : Refusal) → range_of op ≡ Some range → IsRefusedFor tx op r
@@ -38,8 +38,9 @@ gone_range_aborts v next op range level some under_way refuses =
     (λ w header pool same_id before c.
     let locked : is_not_locked c.tx op ≡ false = lock_check c.tx op range refuses.is_range
     ∙ had_is_held v c.tx range.id (needs_write op) (same_pool v w header c.base c.tx c.holds c.changed same_id) c.locks c.tracks refuses.gone.of_pool refuses.gone.has in
-    let gone : names_gone c.tx op ≡ true = ap (list_any (is_gone c.tx)) (ranged_named c.tx op range refuses.is_range)
-    ∙ or_left (is_gone c.tx range.id.off) false (all_tracks_gone v c.tx c.tracks range.id.off ∙ refuses.gone.gone) in
+    let gone : names_gone c.tx op ≡ true = or_right (publishes_late c.tx.actions op) (list_any (is_gone c.tx) (objects_named c.tx op))
+    (ap (list_any (is_gone c.tx)) (ranged_named c.tx op range refuses.is_range)
+    ∙ or_left (is_gone c.tx range.id.off) false (all_tracks_gone v c.tx c.tracks range.id.off ∙ refuses.gone.gone)) in
     let asks = ranged_asks op range refuses.is_range in
     let is : IsRefusedFor c.tx op refusal.NoObject = record { refused_first = fails_gone c.tx op (call_works v w header pool level some under_way c) (wants_none op asks) asks.aligned locked gone; traced = refl } in
     ranged_aborts c.tx op range refusal.NoObject refuses.is_range is)
@@ -52,7 +53,8 @@ new_range_aborts v next op range level some under_way refuses =
     let made = refuses.past.made in
     let outside : made.new.size < range.off + range.len = refuses.past.outside in
     let long : length (bytes_of c.tx.pool.objects range.id.off) ≡ made.new.size = new_long v w header pool level under_way c range.id made in
-    let kept : names_gone c.tx op ≡ false = ap (list_any (is_gone c.tx)) (ranged_named c.tx op range refuses.is_range) ∙ new_is_kept v w header pool level under_way c range.id made in
+    let kept : names_gone c.tx op ≡ false =
+    none_gone_named c.tx op (call_works v w header pool level some under_way c) (ap (list_any (is_gone c.tx)) (ranged_named c.tx op range refuses.is_range) ∙ new_is_kept v w header pool level under_way c range.id made) in
     let locked : is_not_locked c.tx op ≡ false = lock_check c.tx op range refuses.is_range ∙ new_is_held v w header pool level under_way c range.id made (needs_write op) same_id in
     let ends : passes_end c.tx op ≡ true = end_check c.tx op range refuses.is_range ∙ lt-ltb (length (bytes_of c.tx.pool.objects range.id.off)) (range.off + range.len) (omega (arith, outside, long)) in
     let is : IsRefusedFor c.tx op refusal.OutOfRange = record {

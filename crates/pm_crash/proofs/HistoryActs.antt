@@ -5,6 +5,7 @@ use Rattle.std.proofs.lemmas.Bool.{cases_Bool, cases_eq, cond-false, cond-true}
 use Rattle.std.proofs.lemmas.List.{append_assoc, append-nil}
 use Rattle.pm_objects.specs.declared.pool.PoolView.{PoolView}
 use Rattle.pm_image.proofs.Members.{first_member, later_member}
+use Rattle.pm_model.specs.Actions.{Action, Pending, only_sets}
 use Rattle.pm_model.specs.History.{opened}
 use Rattle.pm_model.specs.Names.{Replays}
 use Rattle.pm_model.specs.Step.{Act, State, Step, with_pending}
@@ -24,7 +25,7 @@ acts_further done (d ∷ entries) e =
     ∙ ap (λ (behind : List Entry). act_behind done d ∷ acts_behind (done ++ d ∷ []) entries ++ act_behind behind e ∷ []) (append_assoc done (d ∷ []) entries)
 
 -- what is pending for each lane behind one entry more
-pending_further : (log : List Entry) (e : Entry) (k : ℕ) → pending_after (log ++ e ∷ []) k ≡ with_pending (pending_after log) e.lane (pending_told (pending_after log e.lane) e.call) k
+pending_further : (log : List Entry) (e : Entry) (k : ℕ) → pending_after (log ++ e ∷ []) k ≡ cond (eqb k e.lane) (pending_told (pending_after log e.lane) e.call) (pending_after log k)
 pending_further log e k =
     let d : Numbered = record { number = e.number; call = e.call } in
     let more = entries_by-more k log e in
@@ -39,9 +40,18 @@ pending_further log e k =
     ∙ sym (cond-false (eqb k e.lane) (pending_told (pending_after log e.lane) e.call) (pending_after log k) (ne_eqb k e.lane other)))
     (cases_eq k e.lane)
 
+-- in the model's terms
+wrapped : (b : Bool) (one other : List Action) → only_sets (cond b one other) ≡ cond b (only_sets one) (only_sets other)
+wrapped true one other = refl
+wrapped false one other = refl
+
+model_further : (log : List Entry) (e : Entry) (k : ℕ)
+    → only_sets (pending_after (log ++ e ∷ []) k) ≡ with_pending (λ lane. only_sets (pending_after log lane)) e.lane (only_sets (pending_told (pending_after log e.lane) e.call)) k
+model_further log e k = ap only_sets (pending_further log e k) ∙ wrapped (eqb k e.lane) (pending_told (pending_after log e.lane) e.call) (pending_after log k)
+
 pub state_further : (pool : PoolView) (log : List Entry) (e : Entry)
-    → state_after pool (log ++ e ∷ []) ≡ record { pool = pool; actions = with_pending (pending_after log) e.lane (pending_told (pending_after log e.lane) e.call) }
-state_further pool log e = (λ j. let s : State = record { pool = pool; actions = λ k. pending_further log e k j } in s)
+    → state_after pool (log ++ e ∷ []) ≡ record { pool = pool; actions = with_pending (λ lane. only_sets (pending_after log lane)) e.lane (only_sets (pending_told (pending_after log e.lane) e.call)) }
+state_further pool log e = (λ j. let s : State = record { pool = pool; actions = λ k. model_further log e k j } in s)
 
 -- before the first call nothing is pending
 pub state_first : (pool : PoolView) → opened pool ≡ state_after pool []
@@ -58,12 +68,12 @@ pub turns_history : (v : View) (n : ℕ) (pool next : PoolView) (log : List Entr
     → Step (state_after pool log) (act_of v) (state_after next (log ++ entry_of v n ∷ []))
 turns_history v n pool next log own turns =
     subst (λ (s : State). Step (state_after pool log) (act_of v) s)
-    ((λ j. let s : State = record { pool = next; actions = with_pending (pending_after log) v.lane (pending_told (sym own j) v.call) } in s) ∙ sym (state_further next log (entry_of v n)))
-    (turns (pending_after log) own)
+    ((λ j. let s : State = record { pool = next; actions = with_pending (λ lane. only_sets (pending_after log lane)) v.lane (only_sets (pending_told (sym own j) v.call)) } in s) ∙ sym (state_further next log (entry_of v n)))
+    (turns (λ lane. only_sets (pending_after log lane)) (ap only_sets own))
 
 -- the entry's call is the open one
 pub act_drawn : (v : View) (n : ℕ) (log : List Entry) → pending_after log v.lane ≡ pending_before v → act_behind log (entry_of v n) ≡ act_of v
-act_drawn v n log own = (λ j. let act : Act = record { lane = v.lane; actions = own j; told = told_in v } in act)
+act_drawn v n log own = (λ j. let act : Act = record { lane = v.lane; actions = only_sets (own j); told = told_in v } in act)
 
 -- a lane's entries are all there where each of them passes the test
 pub own_entries_pass : (k : ℕ) (keep : ℕ → Bool) (log : List Entry) → ((e : Entry) → Contains log e → e.lane ≡ k → keep e.number ≡ true)
@@ -100,7 +110,7 @@ alone_by log alone k = ⊎_elim
     (cases_eq k 0)
 
 pub state_of_one : (pool : PoolView) (log : List Entry) → ((e : Entry) → Contains log e → e.lane ≡ 0) → state_after pool log ≡ state_alone pool (entries_by 0 log)
-state_of_one pool log alone = (λ j. let s : State = record { pool = pool; actions = λ k. alone_by log alone k j } in s)
+state_of_one pool log alone = (λ j. let s : State = record { pool = pool; actions = λ k. only_sets (alone_by log alone k j) } in s)
 
 acts_of_one : (done entries : List Entry) → ((e : Entry) → Contains entries e → e.lane ≡ 0)
     → acts_behind done entries ≡ acts_alone_behind (entries_by 0 done) (entries_by 0 entries)
@@ -109,7 +119,7 @@ acts_of_one done [] alone = refl
 acts_of_one done (e ∷ entries) alone =
     let d : Numbered = record { number = e.number; call = e.call } in
     let is : e.lane ≡ 0 = alone e (first_member e entries) in
-    let here : act_behind done e ≡ act_alone (entries_by 0 done) d = (λ j. let act : Act = record { lane = is j; actions = pending_after done (is j); told = map told_of e.call } in act) in
+    let here : act_behind done e ≡ act_alone (entries_by 0 done) d = (λ j. let act : Act = record { lane = is j; actions = only_sets (pending_after done (is j)); told = map told_of e.call } in act) in
     let longer : entries_by 0 (done ++ e ∷ []) ≡ entries_by 0 done ++ d ∷ [] =
     entries_by-more 0 done e ∙ ap (λ (b : Bool). entries_by 0 done ++ cond b (d ∷ []) []) (eq-eqb e.lane 0 is) in
     let rest = acts_of_one (done ++ e ∷ []) entries (λ x there. alone x (later_member e entries x there)) in

@@ -58,9 +58,9 @@ inner_commit_goes_on v next level some under_way tells logs keeps =
     let levels : c.tx.level ≡ level + 1 = c.levels in
     let ends : after_reply Commit None c.tx ≡ ended_inner (committed c.tx) = commits_inner c.tx level some levels in
     let works : Works c.tx = call_works v w header pool (level + 1) (omega arith) under_way c in
-    let asks : AsksNoLock Commit = record { no_wants = refl; no_begin = refl; no_alloc = refl; no_free = refl; aligned = refl; no_more = λ tx. refl; no_action = refl } in
+    let asks : AsksNoLock Commit = record { no_wants = refl; no_begin = refl; no_alloc = refl; no_free = refl; no_put = refl; aligned = refl; no_more = λ tx. refl; no_action = refl } in
     record {
-      answers = answers_done c.tx Commit None refl asks (passes_all c.tx Commit works asks refl refl refl refl refl) refl;
+      answers = answers_done c.tx Commit None refl works asks (passes_all c.tx Commit works asks refl refl refl refl refl) refl;
       base = c.base;
       holds = subst (λ (f : ℕ → ℕ). HoldsPool f v.lanes v.zones header c.base) (sym same) c.holds;
       changed = subst (λ (x : Transaction). IsChanged next c.base x.pool) (sym ends) (left_changed v next c.base c.tx.pool leaves c.changed);
@@ -73,7 +73,7 @@ inner_commit_goes_on v next level some under_way tells logs keeps =
       levels = ap (λ (x : Transaction). x.level) ends ∙ omega arith;
       stands = ap (λ (x : Transaction). x.stage) ends ∙ ap (λ (e : TxErr). cond (is_unharmed e) stage.Work stage.OnAbort) c.fails ∙ sym c.stands;
       fails = ap (λ (x : Transaction). x.error) ends;
-      actions = ap (λ (x : Transaction). x.actions) ends;
+      actions = λ sets is. ap (λ (x : Transaction). x.actions) ends ∙ is;
       moved = ap (λ (x : Transaction). x.moved) ends ∙ sym (append-nil c.tx.moved);
       performable = All-nil (IsPerformable v w);
       blocks_stay = ap (λ (f : ℕ → ℕ). blocks f v.lanes v.zones) same;
@@ -156,6 +156,7 @@ further_continues v next wants level some shallow under_way begins old w header 
     further_passes v c.tx wants works c.tracks (omega arith) (λ want inside. (there want inside).place) old (omega arith) in
     let done : IsDone c.tx (Begin wants) None = record {
       there = λ k d inside first. (there (get_or wants k d) (Contains-get_or wants k d inside)).there;
+      stands = tt;
       value = refl;
     } in
     let same : call_words next w ≡ call_words v w = same_call_words v next begins.logs.records begins.words under_way.outside w in
@@ -178,7 +179,7 @@ further_continues v next wants level some shallow under_way begins old w header 
       levels = omega arith;
       stands = sym c.stands;
       fails = refl;
-      actions = refl;
+      actions = λ sets is. is;
       moved = sym (append-nil c.tx.moved);
       performable = All-nil (IsPerformable v w);
       blocks_stay = ap (λ (f : ℕ → ℕ). blocks f v.lanes v.zones) same;

@@ -95,10 +95,10 @@ new_read_goes_on v next id off len level some under_way reads =
     let inside : off + len ≤ made.new.size = reads.range.inside in
     let long = new_long v w header pool level under_way c id made in
     let same : call_words next w ≡ call_words v w = same_call_words v next reads.logs.records reads.keeps under_way.outside w in
-    let asks : AsksNoLock (Read id off len) = record { no_wants = refl; no_begin = refl; no_alloc = refl; no_free = refl; aligned = refl; no_more = λ tx. refl; no_action = refl } in
+    let asks : AsksNoLock (Read id off len) = record { no_wants = refl; no_begin = refl; no_alloc = refl; no_free = refl; no_put = refl; aligned = refl; no_more = λ tx. refl; no_action = refl } in
     record {
       answers =
-          answers_done c.tx (Read id off len) (Some (Bytes bytes)) refl asks
+          answers_done c.tx (Read id off len) (Some (Bytes bytes)) refl works asks
           (passes_all c.tx (Read id off len) works asks (new_is_kept v w header pool level under_way c id made) (new_is_held v w header pool level under_way c id made false same_id)
           (le-ltb (length (bytes_of c.tx.pool.objects id.off)) (off + len) (omega (arith, long, inside))) refl refl)
           (ap (λ (bs : List ℕ). Some (Bytes bs)) (new_is_read v w header pool level under_way c id made off len inside));
@@ -114,7 +114,7 @@ new_read_goes_on v next id off len level some under_way reads =
       levels = c.levels;
       stands = refl;
       fails = refl;
-      actions = refl;
+      actions = λ sets is. is;
       moved = sym (append-nil c.tx.moved);
       performable = All-nil (IsPerformable v w);
       blocks_stay = ap (λ (f : ℕ → ℕ). blocks f v.lanes v.zones) same;
@@ -138,10 +138,10 @@ new_add_goes_on v next id off len level some under_way adds =
     let more : Transaction = record c.tx { recorded = c.tx.recorded ++ new_words c.tx.recorded words; records = c.tx.records + length (records_of (new_words c.tx.recorded words)) } in
     let leads : after_reply (AddRange id off len) None c.tx ≡ c.tx = cond-true (is_new c.tx id.off) c.tx more new in
     let same : call_words next w ≡ call_words v w = same_call_words v next adds.logs.records adds.keeps under_way.outside w in
-    let asks : AsksNoLock (AddRange id off len) = record { no_wants = refl; no_begin = refl; no_alloc = refl; no_free = refl; aligned = refl; no_more = λ tx. refl; no_action = refl } in
+    let asks : AsksNoLock (AddRange id off len) = record { no_wants = refl; no_begin = refl; no_alloc = refl; no_free = refl; no_put = refl; aligned = refl; no_more = λ tx. refl; no_action = refl } in
     record {
       answers =
-          answers_done c.tx (AddRange id off len) None refl asks
+          answers_done c.tx (AddRange id off len) None refl works asks
           (passes_all c.tx (AddRange id off len) works asks (new_is_kept v w header pool level under_way c id made) (new_is_held v w header pool level under_way c id made true same_id)
           (le-ltb (length (bytes_of c.tx.pool.objects id.off)) (off + len) (omega (arith, long, inside))) refl
           (and_left (not (is_new c.tx id.off)) (ltb 64 (c.tx.records + length (records_of (new_words c.tx.recorded words)))) (ap not new)))
@@ -158,7 +158,7 @@ new_add_goes_on v next id off len level some under_way adds =
       levels = ap (λ (x : Transaction). x.level) leads ∙ c.levels;
       stands = ap (λ (x : Transaction). x.stage) leads;
       fails = ap (λ (x : Transaction). x.error) leads;
-      actions = ap (λ (x : Transaction). x.actions) leads;
+      actions = λ sets is. ap (λ (x : Transaction). x.actions) leads ∙ is;
       moved = ap (λ (x : Transaction). x.moved) leads ∙ sym (append-nil c.tx.moved);
       performable = All-nil (IsPerformable v w);
       blocks_stay = ap (λ (f : ℕ → ℕ). blocks f v.lanes v.zones) same;

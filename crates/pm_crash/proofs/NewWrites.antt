@@ -276,10 +276,10 @@ new_write_goes_on v next id off level bytes some under_way writes =
     let long = new_long v w header pool level under_way c id it in
     let same : call_words next w ≡ call_words v w = (λ j i. same_word v next id off level bytes some under_way writes w i j) in
     let blocks_same : blocks_in next ≡ blocks_in v = blocks_now v next id off level bytes some under_way writes in
-    let asks : AsksNoLock (Write id off bytes) = record { no_wants = refl; no_begin = refl; no_alloc = refl; no_free = refl; aligned = refl; no_more = λ tx. refl; no_action = refl } in
+    let asks : AsksNoLock (Write id off bytes) = record { no_wants = refl; no_begin = refl; no_alloc = refl; no_free = refl; no_put = refl; aligned = refl; no_more = λ tx. refl; no_action = refl } in
     record {
       answers =
-          answers_done c.tx (Write id off bytes) None refl asks
+          answers_done c.tx (Write id off bytes) None refl works asks
           (passes_all c.tx (Write id off bytes) works asks (new_is_kept v w header pool level under_way c id it) (new_is_held v w header pool level under_way c id it true same_id)
           (le-ltb (length (bytes_of c.tx.pool.objects id.off)) (off + length bytes) (omega (arith, long, inside)))
           (and_left (not (is_new c.tx id.off)) (not (list_all (is_among c.tx.recorded) (covered_words (id.off + off) (length bytes)))) (ap not (new_to_it v w header pool level under_way c id it))) refl)
@@ -296,7 +296,7 @@ new_write_goes_on v next id off level bytes some under_way writes =
       levels = c.levels;
       stands = refl;
       fails = refl;
-      actions = refl;
+      actions = λ sets is. is;
       moved = sym (append-nil c.tx.moved);
       performable = All-nil (IsPerformable v w);
       blocks_stay = ap (λ (f : ℕ → ℕ). blocks f v.lanes v.zones) same;

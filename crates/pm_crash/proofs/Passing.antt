@@ -4,44 +4,77 @@ use Rattle.std.specs.List.{Contains, find, filter, list_any}
 use Rattle.std.specs.Option.{option_map}
 use Rattle.std.proofs.lemmas.Bool.{and_left, and_right, false≢true, ne_eqb, or_from, le-ltb}
 use Rattle.pm_objects.specs.declared.calls.Operation.{Operation}
-use Rattle.pm_objects.specs.declared.calls.Operation.TheVariants.{Alloc}
+use Rattle.pm_objects.specs.declared.calls.Operation.TheVariants.{Alloc, Reserve, WriteReserved}
 use Rattle.pm_objects.specs.declared.calls.Want.{Want}
+use Rattle.pm_objects.specs.declared.pool.PoolView.{PoolView}
 use Rattle.pm_objects.specs.declared.refusal.Refusal.{Refusal}
 use Rattle.pm_objects.specs.declared.refusal.Refusal.TheVariants as refusal
 use Rattle.pm_model.specs.declared.stage.Stage.{Stage}
 use Rattle.pm_model.specs.declared.stage.Stage.TheVariants as stage
 use Rattle.pm_model.specs.Places.{has_place}
 use Rattle.pm_image.proofs.Members.{first_member, later_member}
+use Rattle.pm_model.specs.Actions.{Action, Pending, only_sets}
 use Rattle.pm_model.specs.Transaction.{Transaction, is_gone, is_new, is_working, locked_all}
-use Rattle.pm_model.specs.Checks.{Seen, wants_of, is_alloc, is_free, is_begin, is_action, names_gone, frees_root, frees_listed, is_bad_size, is_unaligned, finds_no_space, passes_actions, finds_no_work, finds_no_tx, is_spent, is_too_deep, passes_locks, is_not_locked, wants_no_place, takes_lock, is_busy, takes_first_lock, is_missing, passes_end, is_not_added, passes_log, first_refusal}
-use Rattle.pm_model.proofs.Asked.{frees_no_root, frees_none_listed}
+use Rattle.pm_model.specs.Checks.{Seen, wants_of, seeks_block, is_free, is_publish, is_begin, lacks_reservation, puts_past_end, publishes_late, objects_named, is_action, names_gone, frees_root, frees_listed, is_bad_size, is_unaligned, finds_no_space, passes_actions, finds_no_work, finds_no_tx, is_spent, is_too_deep, passes_locks, is_not_locked, wants_no_place, takes_lock, is_busy, takes_first_lock, is_missing, passes_end, is_not_added, passes_log, first_refusal}
+use Rattle.pm_model.proofs.Asked.{IsPlain, frees_no_root, frees_none_listed}
 
 -- what a lane saw that nothing hindered
 abbrev pub unhindered : Seen
 unhindered = record { spent = false; busy = false; missing = false; full = false }
 
--- the transaction works, with 64 locks at most
+-- the transaction works, with 64 locks at most, and set-values are all that is pending
 pub record Works (tx : Transaction) : Type 0 where
   pub level : 1 ≤ tx.level
   pub working : tx.stage ≡ stage.Work
   pub few : length tx.locks ≤ 64
+  pub sets : tx.actions ≡ only_sets tx.actions.sets
 
--- the operation asks for no lock, and makes and frees no object
+-- bytes are written into what is reserved
+abbrev pub is_put : Operation → Bool
+is_put (WriteReserved id off bytes) = true
+is_put op = false
+
+-- the operation asks for no lock, and makes, reserves and frees no object
 pub record WantsNone (op : Operation) : Type 0 where
   pub no_wants : wants_of op ≡ []
   pub no_begin : is_begin op ≡ false
-  pub no_alloc : is_alloc op ≡ false
+  pub no_alloc : seeks_block op ≡ false
   pub no_free : is_free op ≡ false
+  pub no_put : is_put op ≡ false
 
 -- and is about no pending action
 pub record AsksNoLock (op : Operation) : Type 0 where
   pub no_wants : wants_of op ≡ []
   pub no_begin : is_begin op ≡ false
-  pub no_alloc : is_alloc op ≡ false
+  pub no_alloc : seeks_block op ≡ false
   pub no_free : is_free op ≡ false
+  pub no_put : is_put op ≡ false
   pub aligned : is_unaligned op ≡ false
   pub no_more : (tx : Transaction) → passes_actions tx op ≡ false
   pub no_action : is_action op ≡ false
+
+-- what is pending is plain then
+pub set_alone : (p : Pending) (actions : List Action) → p ≡ only_sets actions → p ≡ only_sets p.sets
+set_alone p actions is = is ∙ ap (λ (q : Pending). only_sets q.sets) (sym is)
+
+pub is_plain_too : (tx : Transaction) → Works tx → IsPlain tx.actions
+is_plain_too tx works = record { frees = ap (λ (p : Pending). p.frees) works.sets; reserved = ap (λ (p : Pending). p.reserved) works.sets }
+
+pub not_late : (tx : Transaction) (op : Operation) → Works tx → publishes_late tx.actions op ≡ false
+not_late tx op works = and_right (is_publish op) tx.actions.late (ap (λ (p : Pending). p.late) works.sets)
+
+-- no object that it names is gone, if none is by its offset
+pub none_gone_named : (tx : Transaction) (op : Operation) → Works tx → list_any (is_gone tx) (objects_named tx op) ≡ false → names_gone tx op ≡ false
+none_gone_named tx op works none = or_from (publishes_late tx.actions op) (list_any (is_gone tx) (objects_named tx op)) (not_late tx op works) none
+
+-- an operation that writes nothing into what is reserved lacks no reservation, and passes the end of none
+lacks_none : (pool : PoolView) (p : Pending) (op : Operation) → is_put op ≡ false → lacks_reservation pool p op ≡ false
+lacks_none pool p (WriteReserved id off bytes) other = absurd (false≢true (sym other))
+lacks_none pool p op other = refl
+
+pub puts_none : (p : Pending) (op : Operation) → is_put op ≡ false → puts_past_end p op ≡ false
+puts_none p (WriteReserved id off bytes) other = absurd (false≢true (sym other))
+puts_none p op other = refl
 
 pub no_work : (tx : Transaction) → Works tx → finds_no_work tx ≡ false
 no_work tx works = and_right (leb 1 tx.level) (not (is_working tx.stage)) (ap (λ (s : Stage). not (is_working s)) works.working)
@@ -78,13 +111,14 @@ pub none_named : (tx : Transaction) (offs : List ℕ) → ((off : ℕ) → Conta
 none_named tx [] none = refl
 none_named tx (off ∷ offs) none = or_from (is_gone tx off) (list_any (is_gone tx) offs) (none off (first_member off offs)) (none_named tx offs (λ other there. none other (later_member off offs other there)))
 
--- an operation that makes no object has no bad size
-makes_none : (op : Operation) → is_alloc op ≡ false → is_bad_size op ≡ false
+-- an operation that makes and reserves no object has no bad size
+makes_none : (op : Operation) → seeks_block op ≡ false → is_bad_size op ≡ false
 makes_none (Alloc size kind) other = absurd (false≢true (sym other))
+makes_none (Reserve size kind) other = absurd (false≢true (sym other))
 makes_none op other = refl
 
 not_full : (op : Operation) → finds_no_space unhindered op ≡ false
-not_full op = and_right (is_alloc op) false refl
+not_full op = and_right (seeks_block op) false refl
 
 -- the first refusal, by what the checks of places, locks, ends, words, room and pending actions say
 unfoldable pub first_of_six : Bool → Bool → Bool → Bool → Bool → Bool → Option Refusal
@@ -103,13 +137,14 @@ six_checks tx op works wants kept =
     ∷ (refusal.LocksFull, few_locks tx op works wants j)
     ∷ (refusal.Unaligned, is_unaligned op)
     ∷ (refusal.BadSize, makes_none op wants.no_alloc j)
+    ∷ (refusal.NotReserved, lacks_none tx.pool tx.actions op wants.no_put j)
     ∷ (refusal.NotLocked, is_not_locked tx op)
     ∷ (refusal.NoObject, has_places tx op wants j)
     ∷ (refusal.Busy, not_busy tx op j)
     ∷ (refusal.NoObject, not_missing tx op j)
     ∷ (refusal.NoObject, kept j)
-    ∷ (refusal.RootKept, frees_no_root tx op wants.no_free j)
-    ∷ (refusal.Listed, frees_none_listed tx op wants.no_free j)
+    ∷ (refusal.RootKept, frees_no_root tx op wants.no_free (is_plain_too tx works) j)
+    ∷ (refusal.Listed, frees_none_listed tx op wants.no_free (is_plain_too tx works) j)
     ∷ (refusal.OutOfRange, passes_end tx op)
     ∷ (refusal.NotAdded, is_not_added tx op)
     ∷ (refusal.LogFull, passes_log tx op)
@@ -118,7 +153,7 @@ six_checks tx op works wants kept =
     ∷ [])))
 
 pub wants_none : (op : Operation) → AsksNoLock op → WantsNone op
-wants_none op asks = record { no_wants = asks.no_wants; no_begin = asks.no_begin; no_alloc = asks.no_alloc; no_free = asks.no_free }
+wants_none op asks = record { no_wants = asks.no_wants; no_begin = asks.no_begin; no_alloc = asks.no_alloc; no_free = asks.no_free; no_put = asks.no_put }
 
 -- about no pending action, by four of them
 first_of_four : Bool → Bool → Bool → Bool → Option Refusal
@@ -148,6 +183,7 @@ fails_lock tx op works wants aligned fails =
     ∷ (refusal.LocksFull, few_locks tx op works wants j)
     ∷ (refusal.Unaligned, aligned j)
     ∷ (refusal.BadSize, makes_none op wants.no_alloc j)
+    ∷ (refusal.NotReserved, lacks_none tx.pool tx.actions op wants.no_put j)
     ∷ (refusal.NotLocked, fails j)
     ∷ (refusal.NoObject, wants_no_place tx op)
     ∷ (refusal.Busy, is_busy unhindered tx op)
@@ -174,6 +210,7 @@ fails_gone tx op works wants aligned locked gone =
     ∷ (refusal.LocksFull, few_locks tx op works wants j)
     ∷ (refusal.Unaligned, aligned j)
     ∷ (refusal.BadSize, makes_none op wants.no_alloc j)
+    ∷ (refusal.NotReserved, lacks_none tx.pool tx.actions op wants.no_put j)
     ∷ (refusal.NotLocked, locked j)
     ∷ (refusal.NoObject, has_places tx op wants j)
     ∷ (refusal.Busy, not_busy tx op j)

@@ -81,9 +81,9 @@ read_goes_on v next id off len level some under_way reads old =
     let inside : off + len ≤ slice_index v.words (8 * held.lock.line + 1) = reads.range.inside in
     let long : length (bytes_of c.tx.pool.objects id.off) ≡ slice_index v.words (8 * held.lock.line + 1) = object.long in
     let same : call_words next w ≡ call_words v w = same_call_words v next reads.logs.records reads.keeps under_way.outside w in
-    let asks : AsksNoLock (Read id off len) = record { no_wants = refl; no_begin = refl; no_alloc = refl; no_free = refl; aligned = refl; no_more = λ tx. refl; no_action = refl } in
+    let asks : AsksNoLock (Read id off len) = record { no_wants = refl; no_begin = refl; no_alloc = refl; no_free = refl; no_put = refl; aligned = refl; no_more = λ tx. refl; no_action = refl } in
     let answers : Answers c.tx (Read id off len) (Some (Bytes bytes)) =
-    answers_done c.tx (Read id off len) (Some (Bytes bytes)) refl asks
+    answers_done c.tx (Read id off len) (Some (Bytes bytes)) refl works asks
     (passes_all c.tx (Read id off len) works asks (one_is_kept v c.tx c.tracks id.off old)
     (held_is_locked v id false c.tx held c.locks (same_pool v w header c.base c.tx c.holds c.changed same_id))
     (le-ltb (length (bytes_of c.tx.pool.objects id.off)) (off + len) (omega arith)) refl refl)
@@ -102,7 +102,7 @@ read_goes_on v next id off len level some under_way reads old =
       levels = c.levels;
       stands = refl;
       fails = refl;
-      actions = refl;
+      actions = λ sets is. is;
       moved = sym (append-nil c.tx.moved);
       performable = All-nil (IsPerformable v w);
       blocks_stay = ap (λ (f : ℕ → ℕ). blocks f v.lanes v.zones) same;

@@ -10,6 +10,7 @@ use Rattle.pm_objects.specs.declared.history.Value.TheVariants.{Refused}
 use Rattle.pm_objects.specs.declared.pool.PoolView.{PoolView}
 use Rattle.pm_objects.specs.declared.refusal.Refusal.{Refusal}
 use Rattle.pm_objects.specs.declared.refusal.Refusal.TheVariants as refusal
+use Rattle.pm_model.specs.Actions.{only_sets}
 use Rattle.pm_model.specs.declared.stage.Stage.TheVariants as stage
 use Rattle.pm_model.specs.Places.{can_begin, has_place}
 use Rattle.pm_model.specs.Transaction.{Transaction, Lock as Locked, aborted, holds_object, is_locked, is_new, locked_all, resting}
@@ -182,7 +183,7 @@ call_aborted v wants r refuses = record {
   under = λ i is. absurd (let clash : false ≡ true = sym (ap (λ (records : List Recorded). is_recorded records i) refuses.no_records) ∙ is in cc);
   comes = λ w header pool holds id before room.
       let told : Answered = record { operation = Begin wants; reply = Some (Refused r) } in
-      let rest : Transaction = resting pool (pending_before v) in
+      let rest : Transaction = resting pool (only_sets (pending_before v)) in
       let at : IsAt v 0 [] wants rest = record {
         works = refl;
         levels = refl;
@@ -197,10 +198,10 @@ call_aborted v wants r refuses = record {
       let aborts : last ≡ aborted (error.Refused r) rest = begin_refused_aborts rest wants r is in
       record {
         tx = last;
-        runs = subst (λ (ts : List Answered). RunsTo pool (pending_before v) ts last) (sym (ap (map told_of) refuses.call)) (runs_first told pool (pending_before v) (begin_refused_answers rest wants r is));
+        runs = subst (λ (ts : List Answered). RunsTo pool (only_sets (pending_before v)) ts last) (sym (ap (map told_of) refuses.call)) (runs_first told pool (only_sets (pending_before v)) (begin_refused_answers rest wants r is));
         stands = ap (λ (x : Transaction). x.stage) aborts;
         fails = ap (λ (x : Transaction). x.error) aborts;
-        actions = ap (λ (x : Transaction). x.actions) aborts ∙ sym (pending_first v (record { operation = Begin wants; reply = Some (Refused r) }) refuses.call);
+        actions = ap (λ (x : Transaction). x.actions) aborts ∙ ap only_sets (sym (pending_first v (record { operation = Begin wants; reply = Some (Refused r) }) refuses.call));
         unchanged = ap (λ (x : Transaction). x.pool) aborts;
       };
 }

@@ -8,7 +8,7 @@ use Rattle.pm_image.specs.declared.block.Block.{Block}
 use Rattle.pm_image.specs.Blocks.{blocks}
 use Rattle.pm_image.specs.Contents.{size_in}
 use Rattle.pm_model.specs.declared.stage.Stage.{Stage}
-use Rattle.pm_model.specs.Actions.{Action}
+use Rattle.pm_model.specs.Actions.{Pending, only_sets}
 use Rattle.pm_model.specs.Step.{Act, State, Step, with_pending}
 use Rattle.pm_view.specs.Area.{is_in_area}
 use Rattle.pm_view.specs.Blocks.{is_chunk}
@@ -32,15 +32,15 @@ same_told : (v next : View) → TellsNothing v next → told_in next ≡ told_in
 same_told v next quiet = ap (map told_of) quiet.call
 
 same_act : (v next : View) → TellsNothing v next → act_of next ≡ act_of v
-same_act v next quiet = (λ j. record { lane = quiet.keeps.lane j; actions = same_before v next quiet.keeps.entries j; told = same_told v next quiet j })
+same_act v next quiet = (λ j. record { lane = quiet.keeps.lane j; actions = only_sets (same_before v next quiet.keeps.entries j); told = same_told v next quiet j })
 
 -- the step that it makes is the same
-turned : (v next : View) → TellsNothing v next → (pool last : PoolView) (actions : ℕ → List Action) → Step (record { pool = pool; actions = actions }) (act_of v) (record { pool = last; actions = with_pending actions v.lane (pending_in v) })
-    → Step (record { pool = pool; actions = actions }) (act_of next) (record { pool = last; actions = with_pending actions next.lane (pending_in next) })
+turned : (v next : View) → TellsNothing v next → (pool last : PoolView) (actions : ℕ → Pending) → Step (record { pool = pool; actions = actions }) (act_of v) (record { pool = last; actions = with_pending actions v.lane (only_sets (pending_in v)) })
+    → Step (record { pool = pool; actions = actions }) (act_of next) (record { pool = last; actions = with_pending actions next.lane (only_sets (pending_in next)) })
 turned v next quiet pool last actions step =
-    let left : State = record { pool = last; actions = with_pending actions v.lane (pending_in v) } in
+    let left : State = record { pool = last; actions = with_pending actions v.lane (only_sets (pending_in v)) } in
     subst (λ (s : State). Step (record { pool = pool; actions = actions }) (act_of next) s)
-    (λ j. let s : State = record { pool = last; actions = with_pending actions (sym quiet.keeps.lane j) (sym (pending_same v next quiet.keeps.entries quiet.call) j) } in s)
+    (λ j. let s : State = record { pool = last; actions = with_pending actions (sym quiet.keeps.lane j) (only_sets (sym (pending_same v next quiet.keeps.entries quiet.call) j)) } in s)
     (subst (λ (act : Act). Step (record { pool = pool; actions = actions }) act left) (sym (same_act v next quiet)) step)
 
 quiet_back : (v next : View) → TellsNothing v next → KeepsLog v next → KeepsKnown v next → (w : ℕ → ℕ) → IsBefore next w → IsBefore v w
@@ -77,7 +77,7 @@ comes_still v next level at_stage e w header pool quiet logs leaves same c =
       levels = c.levels;
       stands = c.stands;
       fails = c.fails;
-      actions = c.actions ∙ sym (pending_same v next quiet.keeps.entries quiet.call);
+      actions = c.actions ∙ ap only_sets (sym (pending_same v next quiet.keeps.entries quiet.call));
       moved = c.moved ∙ sym (published_same v next quiet.keeps.entries quiet.call);
       performable =
           performable_still v next w (published_in next) quiet.keeps.lanes quiet.keeps.zones (λ n there. subst (λ (b : CallBlocks). Contains (news_in b) n) (sym leaves.blocks) there)
@@ -126,7 +126,7 @@ whole_learns v next whole quiet logs words = record {
         next = made.next;
         holds = quiet_made v next (made_words v w) (made_words next w) header made.next quiet
             (same_made_words v next quiet.keeps.lane logs.entries w (same_known_words v next logs.records words whole.outside w)) made.holds;
-        steps = λ actions own. turned v next quiet pool made.next actions (made.steps actions (ap actions (sym quiet.keeps.lane) ∙ own ∙ same_before v next quiet.keeps.entries));
+        steps = λ actions own. turned v next quiet pool made.next actions (made.steps actions (ap actions (sym quiet.keeps.lane) ∙ own ∙ ap only_sets (same_before v next quiet.keeps.entries)));
       };
 }
 
@@ -150,7 +150,7 @@ still_aborted v next e was_aborted quiet outside under back = record {
         runs = runs_told v next pool c.tx quiet.keeps.entries (same_told v next quiet) c.runs;
         stands = c.stands;
         fails = c.fails;
-        actions = c.actions ∙ sym (pending_same v next quiet.keeps.entries quiet.call);
+        actions = c.actions ∙ ap only_sets (sym (pending_same v next quiet.keeps.entries quiet.call));
         unchanged = c.unchanged;
       };
 }

@@ -148,10 +148,10 @@ write_goes_on v next id off level bytes some under_way writes old =
     let keeps : KeepsOthers words (call_words next w) block = write_keeps_others words (call_words next w) v.lanes v.zones off block bytes write in
     let among : (i : ℕ) → Contains (covered_words (id.off + off) (length bytes)) i → is_among c.tx.recorded i ≡ true =
     λ i there. ap (λ (ws : List ℕ). is_among ws i) c.recorded ∙ among_recorded v.log.records i ∙ writes.added i there in
-    let asks : AsksNoLock (Write id off bytes) = record { no_wants = refl; no_begin = refl; no_alloc = refl; no_free = refl; aligned = refl; no_more = λ tx. refl; no_action = refl } in
+    let asks : AsksNoLock (Write id off bytes) = record { no_wants = refl; no_begin = refl; no_alloc = refl; no_free = refl; no_put = refl; aligned = refl; no_more = λ tx. refl; no_action = refl } in
     record {
       answers =
-          answers_done c.tx (Write id off bytes) None refl asks
+          answers_done c.tx (Write id off bytes) None refl works asks
           (passes_all c.tx (Write id off bytes) works asks (one_is_kept v c.tx c.tracks id.off old)
           (held_is_locked v id true c.tx held c.locks (same_pool v w header c.base c.tx c.holds c.changed same_id))
           (le-ltb (length (bytes_of c.tx.pool.objects id.off)) (off + length bytes) (omega arith))
@@ -172,7 +172,7 @@ write_goes_on v next id off level bytes some under_way writes old =
       levels = c.levels;
       stands = refl;
       fails = refl;
-      actions = refl;
+      actions = λ sets is. is;
       moved = sym (append-nil c.tx.moved);
       performable = All-nil (IsPerformable v w);
       blocks_stay = blocks_same words (call_words next w) v.lanes v.zones (heads_kept words (call_words next w) v.lanes v.zones block c.holds.no_fault object.is_there keeps);

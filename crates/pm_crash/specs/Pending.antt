@@ -1,12 +1,12 @@
 -- A lane's pending actions, as its calls leave them: what was asked for by set-values is pending until it is published or given up
--- (pmemobj_set_value(3), pmemobj_publish(3), pmemobj_cancel(3)).
+-- (pmemobj_set_value(3), pmemobj_publish(3), pmemobj_cancel(3)). No call of a lane reserves or defers a free yet, so set-values are all that the model has pending.
 use Rattle.std.specs.Prelude.{ℕ, if◌then◌else◌, ◌==◌, List, [], ◌∷◌, ◌++◌, map, Option, Some, None}
 use Rattle.pm_objects.specs.declared.calls.Operation.{Operation}
 use Rattle.pm_objects.specs.declared.calls.Operation.TheVariants.{SetValue, Publish, Cancel}
 use Rattle.pm_objects.specs.declared.history.Value.{Value}
 use Rattle.pm_objects.specs.declared.history.Value.TheVariants.{Refused}
 use Rattle.pm_objects.specs.declared.pool.PoolView.{PoolView}
-use Rattle.pm_model.specs.Actions.{Action}
+use Rattle.pm_model.specs.Actions.{Action, only_sets}
 use Rattle.pm_model.specs.Actions.Action.{SetWord}
 use Rattle.pm_model.specs.Answers.{Told as Answered}
 use Rattle.pm_model.specs.Step.{Act, State}
@@ -62,7 +62,7 @@ abbrev pub told_in : View → List Answered
 told_in v = map told_of v.call
 
 abbrev pub act_of : View → Act
-act_of v = record { lane = v.lane; actions = pending_before v; told = told_in v }
+act_of v = record { lane = v.lane; actions = only_sets (pending_before v); told = told_in v }
 
 -- ---- the calls of a history
 
@@ -72,7 +72,7 @@ pending_after log lane = pending_from [] (entries_by lane log)
 
 -- the call of an entry behind these as the model's
 abbrev pub act_behind : List Entry → Entry → Act
-act_behind log e = record { lane = e.lane; actions = pending_after log e.lane; told = map told_of e.call }
+act_behind log e = record { lane = e.lane; actions = only_sets (pending_after log e.lane); told = map told_of e.call }
 
 -- the calls of entries behind these
 unfoldable pub acts_behind : List Entry → List Entry → List Act
@@ -85,13 +85,13 @@ acts_of entries = acts_behind [] entries
 
 -- a pool, with what each lane has pending behind these entries
 abbrev pub state_after : PoolView → List Entry → State
-state_after pool log = record { pool = pool; actions = pending_after log }
+state_after pool log = record { pool = pool; actions = λ lane. only_sets (pending_after log lane) }
 
 -- ---- the calls of lane 0, where it is alone
 
 -- its call behind these as the model's
 abbrev pub act_alone : List Numbered → Numbered → Act
-act_alone calls e = record { lane = 0; actions = pending_from [] calls; told = map told_of e.call }
+act_alone calls e = record { lane = 0; actions = only_sets (pending_from [] calls); told = map told_of e.call }
 
 -- its calls behind these
 unfoldable pub acts_alone_behind : List Numbered → List Numbered → List Act
@@ -104,4 +104,4 @@ acts_alone entries = acts_alone_behind [] entries
 
 -- a pool, with what the lane has pending behind these calls
 abbrev pub state_alone : PoolView → List Numbered → State
-state_alone pool calls = record { pool = pool; actions = λ lane. if lane == 0 then pending_from [] calls else [] }
+state_alone pool calls = record { pool = pool; actions = λ lane. only_sets (if lane == 0 then pending_from [] calls else []) }

@@ -14,7 +14,7 @@ ghost use Rattle.pm_model.specs.declared.stage.Stage.TheVariants as stage;
 ghost use Rattle.pm_model.specs.Transaction.{Lock, Transaction, is_working, locked_all, resting};
 ghost use Rattle.pm_model.specs.Checks.{Range};
 ghost use Rattle.pm_model.specs.Answers.{Told as Answered, error_for};
-ghost use Rattle.pm_model.specs.Actions.{Action, with_actions};
+ghost use Rattle.pm_model.specs.Actions.{Action, Pending, with_actions};
 ghost use Rattle.pm_model.specs.Step.{RunsFrom};
 ghost use Rattle.pm_view.specs.View.{View};
 ghost use Rattle.pm_world.specs.History.{made_final};
@@ -54,7 +54,7 @@ pub fn a_read_tells_the_bytes()
 
 /// A law: what a transaction came to by some operations, where it works no longer, is where they run to. No code runs.
 pub fn a_transaction_that_rests_has_run()
-    ensures { (pool : PoolView) (actions : List Action) (told : List Answered) (last : Transaction) → RunsTo pool actions told last
+    ensures { (pool : PoolView) (actions : Pending) (told : List Answered) (last : Transaction) → RunsTo pool actions told last
         → is_working last.stage ≡ false → told ≢ [] → RunsFrom (resting pool actions) told last }
 {}
 
