@@ -20,6 +20,7 @@ use Rattle.pm_world.specs.Heap.{IsOcc, has_taken}
 use Rattle.pm_world.specs.Lawful.{Allowed}
 use Rattle.pm_world.specs.Opening.{Opening}
 use Rattle.pm_world.specs.World.{is_low}
+use Rattle.pm_world.proofs.Filled.{none_filled}
 use Rattle.pm_world.proofs.Reserved.{occ_same}
 use Rattle.pm_world.proofs.StepGive.{filter-passed}
 use Rattle.pm_world.proofs.Vacated.{vacated_all, vacated_small}
@@ -138,7 +139,8 @@ module _ (o : Opening) (header : Header) (pool : PoolView) (v : View) (ended : H
       lane = ended.lane;
       words = refl;
       held = ended.held;
-      drained = ended.drained;
+      changes = none_filled v ended.drained;
+      room = let none : length v.changes ≡ 0 = ap length ended.drained in omega (arith, none);
       idle = ended.idle;
       no_locks = no_locks;
       of_pool = ended.of_pool;

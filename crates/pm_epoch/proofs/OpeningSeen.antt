@@ -1,5 +1,5 @@
 -- What a lane that works alone finds of blocks is as at the opening of its world.
-use Rattle.std.proofs.Common.{◌≡◌, ℕ, ◌<◌, All, Some, inl, refl, arith}
+use Rattle.std.proofs.Common.{◌≡◌, Some, inl, refl, arith}
 use Rattle.std.specs.Option.{IfSome}
 use Rattle.std.proofs.lemmas.List.Elements.{All-weaker}
 use Rattle.pm_header.specs.declared.header.Header.{Header}

@@ -75,7 +75,7 @@ module _ (v m : View) (working : IsWorking v) (no_entries : v.log.entries ≡ []
   may_draw = record {
     is_open = ap (λ (l : Log). l.phase) log ∙ working.is_open;
     first = call.number ∙ working.undrawn;
-    drained = gone;
+    drained = inl gone;
     found = may.found;
     seen = call.seen (NumberSeen may.found) may.seen;
     below = may.below;

@@ -67,7 +67,7 @@ module _ (v m : View) (working : IsWorking v) (may : MayCome v) (back : IsTakenB
   may_draw = record {
     is_open = ap (λ (log : Log). log.phase) back.log;
     first = back.call.number ∙ working.undrawn;
-    drained = back.drained;
+    drained = inl back.drained;
     found = may.found;
     seen = back.call.seen (NumberSeen may.found) may.seen;
     below = may.below;

@@ -118,7 +118,7 @@ module _ (v : View) (entries : List Redo) (may : MayPublish v entries) where
     may_draw = record {
       is_open = written.1.is_open;
       first = written.1.call.number ∙ may.ready.entering.undrawn;
-      drained = written.1.drained;
+      drained = inl written.1.drained;
       found = may.may_come.found;
       seen = written.1.call.seen (NumberSeen may.may_come.found) may.may_come.seen;
       below = may.may_come.below;
