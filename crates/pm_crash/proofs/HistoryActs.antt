@@ -41,7 +41,7 @@ pending_further log e k =
     (cases_eq k e.lane)
 
 -- in the model's terms
-wrapped : (b : Bool) (one other : List Action) → only_sets (cond b one other) ≡ cond b (only_sets one) (only_sets other)
+pub wrapped : (b : Bool) (one other : List Action) → only_sets (cond b one other) ≡ cond b (only_sets one) (only_sets other)
 wrapped true one other = refl
 wrapped false one other = refl
 
