@@ -16,6 +16,7 @@ use Rattle.pm_view.specs.Log.Phase.{Idle}
 use Rattle.pm_view.specs.Steps.{Step}
 use Rattle.pm_view.specs.View.{View}
 use Rattle.pm_world.specs.Opening.{Opening}
+use Rattle.pm_world.proofs.Filled.{none_filled}
 use Rattle.pm_world.specs.declared.lane.Lane.{Lane}
 use Rattle.pm_exec.proofs.HeapStill.{makes_none}
 use Rattle.pm_exec.specs.Progress.{HasNothing}
@@ -28,7 +29,7 @@ module _ (o : Opening) (header : Header) (pool : PoolView) (lane : Lane Solo) (v
   pub rests_behind : IsAtRest Sees lane w → w.log ≡ no_log Idle → HasNothing w → (n : ℕ) → w.number ≡ Some n → RestsBehindCall w
   rests_behind rests idle none n numbered = record {
     idle = idle;
-    drained = rests.drained;
+    changes = none_filled w rests.drained;
     free = rests.free;
     unlocked = none.unlocked;
     no_run = none_run o header pool v w steps works (makes_none w none);

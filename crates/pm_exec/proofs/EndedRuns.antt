@@ -38,6 +38,7 @@ use Rattle.pm_text.specs.declared.report.LaneEnd.TheVariants as end
 use Rattle.pm_view.specs.Steps.{Step}
 use Rattle.pm_view.specs.View.{Numbered, View}
 use Rattle.pm_world.specs.Opening.{Opening}
+use Rattle.pm_world.proofs.CrashLaw.{all_drained}
 use Rattle.pm_world.specs.declared.lane.Lane.{Lane}
 use Rattle.pm_exec.specs.Calls.{call_of}
 use Rattle.pm_exec.specs.Course.{ComesToEnd}
@@ -171,7 +172,7 @@ module _ (o : Opening) (first : View) (names : Names) (all : List (List ScriptLi
       let view : View = f.answered.view in
       let called = f.answered.called in
       let nothing : all ≡ all ++ [] = sym (append-nil all) in
-      let rests : Rests view = record { empty = inl f.answered.idle; drained = f.answered.rests.drained } in
+      let rests : Rests view = record { empty = inl f.answered.idle; drained = λ slot low. all_drained view slot f.answered.rests.drained } in
       let many = as_many_calls all [] nothing history view.entries called.are in
       subst (λ (x : Option Entry). IsEnded o first lane names all decided halt.generation (closed_history history x decided) halt.end) (sym f.is_open)
       (subst (IsEnded o first lane names all decided halt.generation history) (sym f.ends) (record {
@@ -216,7 +217,7 @@ module _ (o : Opening) (first : View) (names : Names) (all : List (List ScriptLi
     ended_spent s =
         let view : View = s.unbegun.view in
         let called = s.called in
-        let rests : Rests view = record { empty = ⊎_elim (λ (idle : view.log ≡ no_log Idle). inl idle) (λ begun. inr begun.0) s.unbegun.fresh; drained = s.unbegun.drained } in
+        let rests : Rests view = record { empty = ⊎_elim (λ (idle : view.log ≡ no_log Idle). inl idle) (λ begun. inr begun.0) s.unbegun.fresh; drained = λ slot low. all_drained view slot s.unbegun.drained } in
         let many = as_many_calls answered (lines ∷ behind) are history s.before.entries called.are in
         subst (λ (x : Option Entry). IsEnded o first lane names all decided halt.generation (closed_history history x decided) halt.end) (sym s.is_open)
         (subst (IsEnded o first lane names all decided halt.generation history) (sym s.ends) (record {

@@ -1,6 +1,6 @@
 -- What a lane that begins alone has undrained of its slots, along its steps: words of the log's records and of the one in the making, and none
 -- where the log may not grow. So at work, with its records drained, it is quiet.
-use Rattle.std.proofs.Common.{◌≡◌, ⊎_elim, ℕ, ◌+◌, ◌-◌, ◌*◌, ◌/◌, ◌<◌, ◌≤◌, Bool, true, false, not, cond, List, [], ◌∷◌, ◌++◌, length, slice_index, refl, sym, ◌∙◌, ap, subst, arith, length-append, eq-eqb}
+use Rattle.std.proofs.Common.{◌≡◌, ◌⊎◌, ⊎_elim, ℕ, ◌+◌, ◌-◌, ◌*◌, ◌/◌, ◌<◌, ◌≤◌, Bool, true, false, not, cond, List, [], ◌∷◌, ◌++◌, length, slice_index, refl, sym, ◌∙◌, ap, subst, arith, length-append, eq-eqb}
 use Rattle.std.specs.List.{Contains, list_any}
 use Rattle.std.proofs.lemmas.Bool.{false≢true}
 use Rattle.std.proofs.lemmas.List.Folds.{list_any-from_Any}
@@ -20,9 +20,9 @@ use Rattle.pm_view.specs.Steps.{Step}
 use Rattle.pm_view.specs.Steps.Step.{Load, Store, Or, And, Flush, Drain, TakeWrite, TakeRead, Raise, Give, ZoneTry, ZoneGive, Occupied, Occupy, Vacate, Draw, NumberSeen, StopSeen, SetStop, Tell}
 use Rattle.pm_view.specs.View.{View}
 use Rattle.pm_view.specs.Views.{after, begun, changed, log_after_drain}
-use Rattle.pm_world.specs.Lawful.{Allowed, EndsGeneration, StoreFits, MayChange}
-use Rattle.pm_crash.proofs.AloneCourse.{begins_drained, begins_lane}
-use Rattle.pm_world.proofs.CrashLogs.{InSlots}
+use Rattle.pm_world.specs.Lawful.{Allowed, EndsGeneration, MayDraw, OnlyFilled, StoreFits, MayChange}
+use Rattle.pm_crash.proofs.AloneCourse.{begins_lane, begins_slots}
+use Rattle.pm_world.proofs.CrashLogs.{InSlots, drained_slot}
 use Rattle.pm_world.specs.Opening.{Opening}
 use Rattle.pm_undo.specs.Working.{IsWorking}
 use Rattle.pm_undo.proofs.Areas.{slot_part}
@@ -174,6 +174,16 @@ bits_first v op w bits c word may first =
     subst (λ (p : Phase). AreFirst v.lane (slot_words (log_changed p v.log).phase (log_changed p v.log)) (v.changes ++ c ∷ [])) (sym t.phase)
     (one_more v.lane 0 v.changes c (subst (λ (p : Phase). AreFirst v.lane (slot_words p v.log) v.changes) t.phase first) (λ slots. absurd (slot_not_other v.lane w t.outside (subst (InSlots v.lane) word slots))))
 
+-- a draw: with a record nothing is undrained, and without one no slot word is
+draw_first : (v : View) (count : ℕ) → MayDraw v → HasFirst v → AreFirst v.lane count v.changes
+draw_first v count may first = ⊎_elim
+    (λ (none : v.changes ≡ []). empty_first v.lane count v.changes none)
+    (λ (bare : (v.log.records ≡ []) × (v.log.entries ≡ []) × OnlyFilled v).
+    let words : slot_words v.log.phase v.log ≡ 8 * length v.log.records + 0 = ap (λ (p : Phase). slot_words p v.log) may.is_open in
+    let records : length v.log.records ≡ 0 = ap length bare.0 in
+    λ c there slots. let low = first c there slots in omega (arith, low, words, records))
+    may.drained
+
 first_after : (v : View) (s : Step) → Allowed v s → HasFirst v → HasFirst (after v s)
 first_after v (Load w x) may first = first
 first_after v (Store w x) may first = store_first v w x v.log.phase (part_of v.lane w) refl refl may.fits first
@@ -190,7 +200,7 @@ first_after v (ZoneGive zone) may first = first
 first_after v (Occupied at found) may first = first
 first_after v (Occupy at bits won) may first = first
 first_after v (Vacate at bits) may first = first
-first_after v (Draw n) may first = empty_first v.lane (slot_words (log_drawn v.log.phase v.log).phase (log_drawn v.log.phase v.log)) v.changes may.drained
+first_after v (Draw n) may first = draw_first v (slot_words (log_drawn v.log.phase v.log).phase (log_drawn v.log.phase v.log)) may first
 first_after v (NumberSeen n) may first = begun_first v v.log.phase refl first
 first_after v (StopSeen set) may first = first
 first_after v SetStop may first = first
@@ -209,8 +219,13 @@ module _ (o : Opening) (header : Header) (pool : PoolView) (v : View) (steps : L
   pub alone_lane : w.lane ≡ 0
   alone_lane = lane_along v w steps leads (begins_lane o header pool v begins)
 
+  begins_first : HasFirst v
+  begins_first c there slots =
+      let low = slots.low in let high = slots.high in let lane = begins_lane o header pool v begins in
+      absurd (drained_slot v (c.word / 8 - 81) c (begins_slots o header pool v begins (c.word / 8 - 81) (omega (arith, low, high, lane))) there (omega (arith, low, lane)))
+
   pub alone_first : HasFirst w
-  alone_first = first_along v steps w leads (empty_first v.lane (slot_words v.log.phase v.log) v.changes (begins_drained o header pool v begins))
+  alone_first = first_along v steps w leads begins_first
 
   -- at work it is quiet
   pub quiet_at_work : IsWorking w → IsQuiet w

@@ -23,6 +23,7 @@ use Rattle.pm_world.specs.Opening.{Opening}
 use Rattle.pm_world.specs.Sequences.{Ready, counted, in_turn, nothing, one}
 use Rattle.pm_world.specs.declared.lane.HeldLock.{HeldLock}
 use Rattle.pm_world.specs.declared.lane.Lane.{Lane}
+use Rattle.pm_world.proofs.Filled.{none_filled}
 use Rattle.pm_world.proofs.Reserved.{reserved_low, reserved_of_pool}
 use Rattle.pm_world.proofs.Sequencing.{ready_left, ready_right}
 use Rattle.pm_world.specs.Heap.{heap_words}
@@ -144,7 +145,7 @@ module _ {M : Type 0} (o : Opening) (header : Header) (pool : PoolView) (at : M 
       rests_w : RestsBehindCall w
       rests_w = record {
         idle = ap (λ (z : View). z.log) ended.reclaims.same ∙ (ap (λ (z : View). z.log) ended.given ∙ idle);
-        drained = ended.rests.drained;
+        changes = none_filled w ended.rests.drained;
         free = ended.rests.free;
         unlocked = ap (λ (z : View). z.zone_locks) ended.reclaims.same ∙ (ap (λ (z : View). z.zone_locks) ended.given ∙ unlocked);
         no_run = no_run;
