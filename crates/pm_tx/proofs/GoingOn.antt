@@ -104,7 +104,7 @@ heap_on v w lane locks same e is = record {
   unlocked = ap (λ (held : List Lock). list_any (λ (l : Lock). l.write && is_some l.block && is_under (e.place / 8) l) held) locks ∙ is.unlocked;
   outside = ap (λ (k : ℕ). is_in_area k (e.place / 8)) lane.lane ∙ is.outside;
   inside = (let low = is.inside in let size = lane.size in omega (arith, low, size));
-  small = subst (λ n. n < 2 ^ 64) (sym (same (e.place / 8) is.outside)) is.small;
+  small = subst (λ n. (e.op ≡ Set) ⊎ (n < 2 ^ 64)) (sym (same (e.place / 8) is.outside)) is.small;
 }
 
 -- so the lane may enter what it might before, where it knows the words still that it locked for writing
