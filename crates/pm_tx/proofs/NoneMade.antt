@@ -40,12 +40,12 @@ none_freed off (m ∷ made) dropped left gone = ⊎_elim
     (cases_Bool (is_at off m))
 
 none_before : (op : Operation) (reply : Option Value) (b : CallBlocks) → LeavesMade op reply → HasNone (blocks_behind op reply b) → HasNone b
-none_before op (Some (Refused r)) b leaves = by (is_action op || changes_nothing r) leaves where
+none_before op (Some (Refused r)) b leaves none = by (is_action op || changes_nothing r) leaves none where
   by : (stays : Bool) → stays ≡ true → HasNone (cond stays b no_blocks) → HasNone b
   by true stays none = none
   by false stays none = absurd cc
 none_before (Alloc size kind) (Some (Offset off)) b leaves none = absurd (let one = (no_front b.made (record { off = off; kind = kind; size = size } ∷ []) none.0).1 in let many = ap length one in omega (arith, many))
-none_before (Free id) reply b leaves = by (list_any (is_at id.off) b.made) where
+none_before (Free id) reply b leaves none = by (list_any (is_at id.off) b.made) none where
   by : (made : Bool) → HasNone (cond made (record b { made = filter (λ n. not (is_at id.off n)) b.made; dropped = b.dropped ++ filter (is_at id.off) b.made }) (record b { freed = b.freed ++ id.off ∷ [] })) → HasNone b
   by true none = none_freed id.off b.made b.dropped none.0 none.1
   by false none = none
