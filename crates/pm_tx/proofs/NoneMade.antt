@@ -1,5 +1,5 @@
 -- A call that made no object behind an operation made none before it.
-use Rattle.std.proofs.Common.{◌≡◌, ℕ, ◌||◌, ⊎_elim, not, Bool, true, false, cond, List, [], ◌∷◌, ◌++◌, length, length-append, Option, Some, refl, ap, subst, arith}
+use Rattle.std.proofs.Common.{◌≡◌, ℕ, ◌||◌, ⊎_elim, not, Bool, true, false, cond, List, [], ◌∷◌, ◌++◌, length, Option, Some, refl, ap, subst, arith}
 use Rattle.std.specs.List.{Contains, filter, list_any}
 use Rattle.std.proofs.lemmas.Bool.{cases_Bool}
 use Rattle.pm_image.proofs.Members.{first_member, no_member}

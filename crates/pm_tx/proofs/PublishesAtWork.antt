@@ -159,12 +159,17 @@ module _ {M : Type 0} (o : Opening) (at : M → View → Type 0) where
 
 -- ---- what a publish lists
 
+-- the entries of the list are those of what the plain model has pending
+pub redo_listed : (actions : List SetAction) → map redo_for actions ≡ map entry_of (pending_of actions)
+redo_listed [] = refl
+redo_listed (a ∷ actions) = ap (λ (es : List Redo). redo_for a ∷ es) (redo_listed actions)
+
+pub word_covered : (place : ℕ) → place % 8 ≡ 0 → Contains (covered_words place 8) (place / 8)
+word_covered place even = subst (Contains (covered_words place 8)) (let e : place / 8 + 0 ≡ place / 8 = omega arith in e) (counted_covered place 8 0 (omega arith))
+
 -- the entry of a word that the lane may set is of the pool
 module _ {M : Type 0} (o : Opening) (at : M → View → Type 0) (lane : Lane M) (v : View) (work : IsAtWork o at lane v) where
-  word_covered : (place : ℕ) → place % 8 ≡ 0 → Contains (covered_words place 8) (place / 8)
-  word_covered place even = subst (Contains (covered_words place 8)) (let e : place / 8 + 0 ≡ place / 8 = omega arith in e) (counted_covered place 8 0 (omega arith))
-
-  entry_of_pool : (a : Action) → CanSet v a → IsOfPool v (entry_of a)
+  pub entry_of_pool : (a : Action) → CanSet v a → IsOfPool v (entry_of a)
   entry_of_pool (SetWord id off value) can =
       let range = can.0 in
       let object = range.object in
@@ -195,7 +200,7 @@ module _ {M : Type 0} (o : Opening) (at : M → View → Type 0) (lane : Lane M)
             let holds : p l ≡ true = and_from (l.write && is_some l.block) (is_under w l) (and_from l.write (is_some l.block) writes found) under in
             list_any_at p v.locks held.0 l held.1 (ap p held.2 ∙ holds)
 
-  place_is_low : (a : Action) → CanSet v a → (entry_of a).place < 2 ^ 64
+  pub place_is_low : (a : Action) → CanSet v a → (entry_of a).place < 2 ^ 64
   place_is_low (SetWord id off value) can = let low = range_is_low v work.objects id off 8 true can.0 o work.sound work.opening work.zones in omega (arith, low)
 
   module _ (actions : List SetAction) (each : All (SetsWord v) actions) where
@@ -216,10 +221,6 @@ module _ {M : Type 0} (o : Opening) (at : M → View → Type 0) (lane : Lane M)
 
     abbrev told : View
     told = after v (Tell Publish None)
-
-    redo_listed : (actions : List SetAction) → map redo_for actions ≡ map entry_of (pending_of actions)
-    redo_listed [] = refl
-    redo_listed (a ∷ actions) = ap (λ (es : List Redo). redo_for a ∷ es) (redo_listed actions)
 
     moves : MovesActions v told
     moves =
