@@ -1,5 +1,5 @@
 -- A line that makes an action pending, gives up what is pending, or publishes it, from a lane at work.
-use Rattle.std.proofs.Common.{◌≡◌, ◌≢◌, ◌⊎◌, inl, inr, ℕ, zero, suc, ◌+◌, ◌%◌, ◌≤◌, All, Bool, true, false, not, cond, eqb, leb, List, [], ◌∷◌, ◌++◌, length, slice_index, take, Option, None, Some, refl, sym, ap, ◌∙◌, subst, arith, append-nil}
+use Rattle.std.proofs.Common.{◌≡◌, ◌≢◌, ◌⊎◌, inl, ℕ, ◌+◌, ◌%◌, All, Bool, true, false, not, cond, eqb, leb, List, [], ◌∷◌, ◌++◌, length, slice_index, take, Option, None, Some, refl, sym, ap, ◌∙◌, subst, arith, append-nil}
 use Rattle.std.specs.Option.{option_map}
 use Rattle.std.proofs.lemmas.Bool.{eqb-true}
 use Rattle.std.proofs.lemmas.List.Elements.{All-append, All-cons, All-nil}
@@ -32,10 +32,9 @@ use Rattle.pm_lock.proofs.Leads.{led_none, led_then, ready_led}
 use Rattle.pm_lock.specs.Leading.{DrawEnded, IsLed, KeepsHeap}
 use Rattle.pm_made.specs.Made.{BlockLists}
 use Rattle.pm_transaction.proofs.ActionsWithLists.{canceled_with_lists, set_with_lists}
-use Rattle.pm_transaction.proofs.GoingWith.{Keeps, keeps_told, kept_of, looks_keep, with_lists}
 use Rattle.pm_transaction.specs.AtWork.{IsAtWorkWith}
-use Rattle.pm_tx.proofs.BorneOut.{HasSameHeads}
-use Rattle.pm_tx.specs.Actions.{HasCanceled, HasPublished, IsPublishGivenUp, IsPublishStopped, cancels}
+use Rattle.pm_transaction.specs.Publishing.{HasPublishedWith, IsPublishGivenUp, IsPublishStopped}
+use Rattle.pm_tx.specs.Actions.{HasCanceled, cancels}
 use Rattle.pm_tx.specs.AtWork.{IsAtWork}
 use Rattle.pm_tx.specs.Ending.{IsStoppedIn}
 use Rattle.pm_tx.specs.Learning.{Looks}
@@ -55,7 +54,7 @@ use Rattle.pm_world.specs.Opening.{Opening}
 use Rattle.pm_world.specs.Sequences.{Ready, Sequence, in_turn, one, settles}
 use Rattle.pm_world.specs.Lawful.{MayTell}
 use Rattle.pm_world.specs.declared.lane.Lane.{Lane}
-use Rattle.pm_exec.specs.Bounds.{log_due, log_stores, logs_of, most_stores, recorded_count}
+use Rattle.pm_exec.specs.Bounds.{log_due, logs_of, most_stores, recorded_count}
 use Rattle.pm_exec.specs.Calls.{id_of, operation_of}
 use Rattle.pm_exec.specs.Course.{IsLineMade, IsLineStopped}
 use Rattle.pm_exec.specs.Progress.{IsAtLine, IsCut, IsGivenUpAt, IsPending, IsToldDone, Values, done, values_told}
@@ -63,6 +62,7 @@ use Rattle.pm_exec.specs.Torn.{words_after, words_by}
 use Rattle.pm_exec.specs.declared.calls.Names.{Names}
 use Rattle.pm_exec.proofs.ChangeLines.{at_next_with, calm_behind, cut_in, free_u, lane_u, words_u}
 use Rattle.pm_exec.proofs.AddAndWrite.{cut_giving_up, given_up, not_spent, tells_uncounted}
+use Rattle.pm_exec.proofs.FreeLine.{one_log}
 use Rattle.pm_exec.proofs.LooksAlone.{looks_none}
 use Rattle.pm_exec.proofs.LineLists.{gave_more, gave_nothing, words_more}
 use Rattle.pm_exec.proofs.CommitFront.{settled_log}
@@ -86,9 +86,8 @@ set_taken off actions taken = at (eqb (off % 8) 0) refl taken where
   at false is taken = absurd cc
 
 -- no publish is refused as spent
-pub publish_not_spent : (r : Refusal) → (r ≡ refusal.NotLocked) ⊎ (r ≡ refusal.OutOfRange) ⊎ (r ≡ refusal.ActionsFull) ⊎ (r ≡ refusal.Stopped) → r ≢ refusal.Spent
-publish_not_spent r (inl is) = not_spent r refusal.ActionsFull (λ same. cc) (inl is)
-publish_not_spent r (inr is) = not_spent r refusal.ActionsFull (λ same. cc) (inr (inr is))
+pub publish_not_spent : (r : Refusal) → (r ≡ refusal.NotLocked) ⊎ (r ≡ refusal.NoObject) ⊎ (r ≡ refusal.OutOfRange) ⊎ (r ≡ refusal.ActionsFull) ⊎ (r ≡ refusal.Stopped) → r ≢ refusal.Spent
+publish_not_spent r = not_spent r refusal.ActionsFull (λ same. cc)
 
 -- one telling, of a call that is open
 module _ (operation : Operation) (reply : Option Value) where
@@ -252,28 +251,17 @@ module _ (o : Opening) (first : View) (lane : Lane Solo) (blocks : BlockLists) (
     no_begin : (asked : List ScriptWant) → said.operation ≡ op.Begin asked → ⊥
     no_begin asked begins = let clash = sym is ∙ begins in cc
 
-    log_few : (n : ℕ) → logs_of n ≤ log_stores
-    log_few zero = omega arith
-    log_few (suc n) = omega arith
-
-    -- told behind some looks, the lists are kept
+    -- told behind some looks
     module _ (n : ℕ) (u : View) (looks : Looks n v u) where
       abbrev here : View
       here = after u (Tell operation.Publish None)
-
-      published_with_lists : new.locks ≡ lane.locks → IsAtWork o Sees new here → IsAtWorkWith o Sees new blocks here
-      published_with_lists locks work =
-          let heads : HasSameHeads u here = record { lanes = refl; zones = refl; reserved = refl; described = λ c in_pool. refl; root = refl } in
-          let keeps : Keeps new.locks.items blocks u = looks_keep new.locks.items blocks n v u looks (subst (λ ls. Keeps ls.items blocks v) (sym locks) (kept_of o Sees lane blocks v a.works)) in
-          with_lists o Sees new blocks here work
-          (keeps_told u here heads new.locks.items blocks keeps refl refl (blocks_once_more u here operation.Publish None refl) operation.Publish None refl refl (λ root. tt))
 
       publish_made : MayTell u.log.phase → IsLineMade names said.operation v here
       publish_made open_ =
           let behind = free_u o first lane blocks actions names front values a n u looks in
           subst (λ (x : ScriptOp). IsLineMade names x v here) (sym is) (record { led = led_then v u here behind.led (tell_led operation.Publish None u open_); undrawn = behind.undrawn })
 
-    pub publish_done : HasLooked v (HasPublished o Sees new) → new.level ≡ 1 → new.locks ≡ lane.locks → IsAtLine o first new blocks [] names (front ++ said ∷ []) values
+    pub publish_done : HasLooked v (HasPublishedWith o Sees new blocks) → new.level ≡ 1 → new.locks ≡ lane.locks → IsAtLine o first new blocks [] names (front ++ said ∷ []) values
     publish_done t level locks =
         let n = t.loads in
         let u : View = t.view in
@@ -282,10 +270,10 @@ module _ (o : Opening) (first : View) (lane : Lane Solo) (blocks : BlockLists) (
         let r = tell_ready operation.Publish None u open_ in
         let same = told_view operation.Publish None u in
         let stored = tell_stores operation.Publish None u in
-        let few = log_few (entries_so_far (after u (Tell operation.Publish None))) in
+        let few = one_log (entries_so_far (after u (Tell operation.Publish None))) in
         at_next_with o first lane blocks actions names front values a n u t.looks new (tells operation.Publish None) (only_one IsWork (Tell operation.Publish None) tt u lane_is)
         (only_one IsUndrawn (Tell operation.Publish None) tt u lane_is) said blocks [] r.0 r.1
-        (subst (IsAtWorkWith o Sees new blocks) (sym same) (published_with_lists n u t.looks locks t.holds.works)) level locks (done operation.Publish) (subst (λ (x : ScriptOp). IsToldDone names x (done operation.Publish)) (sym is) refl) (ap (λ (w : View). w.call) same)
+        (subst (IsAtWorkWith o Sees new blocks) (sym same) t.holds.works) level locks (done operation.Publish) (subst (λ (x : ScriptOp). IsToldDone names x (done operation.Publish)) (sym is) refl) (ap (λ (w : View). w.call) same)
         (λ i under. ap (λ (w : View). slice_index w.words i) same ∙ words_u o first lane blocks actions names front values a n u t.looks i under ∙ sym (words_more names front said (slice_index o.words) i ∙ ap (λ (x : ScriptOp). words_by names x (words_after names front (slice_index o.words)) i) is))
         values (gave_nothing names front said v.call (done operation.Publish) values a.told refl a.gave)
         (subst (λ (w : View). IsLineMade names said.operation v w) (sym same) (publish_made n u t.looks open_))

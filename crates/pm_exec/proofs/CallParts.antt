@@ -97,7 +97,7 @@ all_calls ops (transaction one others t rest) lines are =
     let so : operations lines ≡ Begin t.0 ∷ t.1 ++ Commit ∷ others = are ∙ ap (λ (o : List ScriptOp). o ++ others) t.2 ∙ append_assoc (Begin t.0 ∷ t.1) (Commit ∷ []) others in
     let first : IsFirstOf (Begin t.0 ∷ t.1) others lines = first_of (Begin t.0 ∷ t.1) others lines so (All-cons IsNoCommit (Begin t.0) t.1 refl (All-weaker IsChange IsNoCommit no_commit t.1 t.3)) in
     subst (All IsCallOf) (sym (transaction_first t.0 t.1 others lines so first))
-    (All-cons IsCallOf first.first (call_lines first.rest) (inl (t.0, t.1, first.first_is, t.3, t.4)) (all_calls others rest first.rest first.rest_is))
+    (All-cons IsCallOf first.first (call_lines first.rest) (inl (t.0, t.1, first.first_is, t.3)) (all_calls others rest first.rest first.rest_is))
 all_calls ops (outside one others alone rest) [] are = absurd (let e : [] ≡ one ∷ others = are in cc)
 all_calls ops (outside one others alone rest) (line ∷ lines) are =
     let said : line.operation ≡ one = cc in

@@ -2,7 +2,7 @@
 use Rattle.std.proofs.Common.{◌≡◌, ◌⊎◌, ⊎_elim, inl, inr, ℕ, zero, suc, ◌+◌, ◌<◌, ◌≤◌, All, false, List, [], ◌∷◌, ◌++◌, length, length-append, map, take, Option, None, Some, refl, sym, ap, ◌∙◌, subst, arith}
 use Rattle.std.specs.Option.{ForSome}
 use Rattle.std.proofs.lemmas.List.{length-map}
-use Rattle.std.proofs.lemmas.List.Elements.{All-append, All-weaker}
+use Rattle.std.proofs.lemmas.List.Elements.{All-append, All-nil, All-weaker}
 use Rattle.std.proofs.lemmas.Bool.{false≢true}
 use Rattle.std.proofs.lemmas.Option.{none-some, same_Some}
 use Rattle.pm_crash.proofs.BusyCalls.{walks_of}
@@ -13,7 +13,7 @@ use Rattle.pm_crash.specs.Alone.{Begins, raises}
 use Rattle.pm_crash.specs.CallBlocks.{blocks_in}
 use Rattle.pm_crash.specs.Leading.{Leads}
 use Rattle.pm_crash.specs.Operations.{entries_so_far}
-use Rattle.pm_crash.specs.Pending.{pending_before, told_of as model_told}
+use Rattle.pm_crash.specs.Pending.{pending_before, published_in, told_of as model_told}
 use Rattle.pm_crash.specs.Walking.{Walks}
 use Rattle.pm_epoch.proofs.PublishingCalls.{heap as heap_kept}
 use Rattle.pm_header.specs.declared.header.Header.{Header}
@@ -25,10 +25,12 @@ use Rattle.pm_made.specs.Entries.{entries_of}
 use Rattle.pm_made.specs.Made.{BlockLists, new_of}
 use Rattle.pm_made.specs.declared.objects.Freed.{Freed}
 use Rattle.pm_memory.specs.Solo.{Sees, Solo}
+use Rattle.pm_model.specs.Actions.{Action}
 use Rattle.pm_model.specs.Names.{is_refusal}
 use Rattle.pm_model.specs.Shown.{answer_of}
 use Rattle.pm_objects.specs.declared.calls.Operation.TheVariants.{Commit}
 use Rattle.pm_objects.specs.declared.pool.PoolView.{PoolView}
+use Rattle.pm_pending.specs.Pending.{entry_of}
 use Rattle.pm_pending.specs.declared.actions.SetAction.{SetAction}
 use Rattle.pm_record.specs.declared.redo.Redo.{Redo}
 use Rattle.pm_redo.specs.Entering.{EntersHeap, IsOfPool, MayEnter}
@@ -178,7 +180,7 @@ module _ (o : Opening) (first : View) (lane : Lane Solo) (blocks : BlockLists) (
       let many_made = length-map blocks.made new_of in let many_freed = length-map blocks.freed (λ (f : Freed). f.off) in
       omega (arith, all_of, count, made, freed, many_made, many_freed)
 
-  -- where there is no entry it made and freed nothing
+  -- where there is no entry it published, made and freed nothing
   no_block : own ≡ [] → PublishesNoBlock v
   no_block none =
       let count = ap length own_are in let all_of = entries_count v blocks in let zero_own = ap length none in
@@ -188,6 +190,7 @@ module _ (o : Opening) (first : View) (lane : Lane Solo) (blocks : BlockLists) (
         empty_is (blocks_in v).made (omega (arith, count, all_of, zero_own, made, many_made)),
         empty_is (blocks_in v).freed (omega (arith, count, all_of, zero_own, freed, many_freed)),
         a.works.borne_out,
+        subst (All (λ (act : Action). IsOfPool v (entry_of act))) (sym (empty_is (published_in v) (omega (arith, count, all_of, zero_own)))) (All-nil (λ (act : Action). IsOfPool v (entry_of act))),
       )
 
   listed_alone : own ≡ [] → lane.entries.items ≡ own
@@ -206,7 +209,7 @@ module _ (o : Opening) (first : View) (lane : Lane Solo) (blocks : BlockLists) (
         let both = stores_append a.steps more in let before = a.few in let within = lines_within names front [] said in omega (arith, both, before, within, few)
 
     may_enter : All (MayEnter v) own
-    may_enter = All-append (MayEnter v) lane.entries.items (entries_of v.lanes blocks) (All-weaker (IsOfPool v) (MayEnter v) (λ e of. inl of) lane.entries.items a.works.work.published.of_pool)
+    may_enter = All-append (MayEnter v) lane.entries.items (entries_of v.lanes blocks) a.works.work.published.may_enter
         (All-weaker (EntersHeap v) (MayEnter v) (λ e heap. inr heap) (entries_of v.lanes blocks) may.enters)
 
     can_publish : CanPublish v own

@@ -1,5 +1,5 @@
 -- What letters stand for stays, whatever is given by later lines; and lines with their letters resolved are of the same calls.
-use Rattle.std.proofs.Common.{◌≡◌, inl, inr, ℕ, zero, suc, ◌+◌, ◌-◌, ◌<◌, ◌≤◌, ◌||◌, Bool, true, false, cond, All, List, [], ◌∷◌, ◌++◌, map, length, take, drop, get_or, slice_index, Option, None, Some, Result, Ok, Err, refl, sym, ap, ◌∙◌, subst, arith, append-nil, append_assoc}
+use Rattle.std.proofs.Common.{◌≡◌, ℕ, zero, suc, ◌+◌, ◌-◌, ◌<◌, ◌≤◌, ◌||◌, Bool, true, false, cond, All, List, [], ◌∷◌, ◌++◌, map, length, take, drop, get_or, slice_index, Option, None, Some, Result, Ok, Err, refl, sym, ap, ◌∙◌, subst, arith, append-nil, append_assoc}
 use Rattle.std.specs.List.{filter_map, find, list_any}
 use Rattle.std.specs.List.Sorted.{IsStrictlyIncreasing}
 use Rattle.std.specs.Option.{option_map, option_map_or, option_or}
@@ -12,7 +12,7 @@ use Rattle.pm_objects.specs.declared.history.Entry.{Entry}
 use Rattle.pm_objects.specs.declared.history.Reply.{Reply}
 use Rattle.pm_objects.specs.declared.history.Value.{Value}
 use Rattle.pm_objects.specs.declared.history.Value.TheVariants.{Bytes, Members, Number, Offset, Refused}
-use Rattle.pm_script.specs.Scripts.{AreCalls, IsBoundBefore, IsChange, IsOutside, IsTransaction, KeepsApart, MakesOrFrees, NamesEarlierLines, Publishes, ids_of, operations}
+use Rattle.pm_script.specs.Scripts.{AreCalls, IsBoundBefore, IsChange, IsOutside, IsTransaction, NamesEarlierLines, ids_of, operations}
 use Rattle.pm_script.specs.Scripts.AreCalls.{none, outside, transaction}
 use Rattle.pm_script.specs.declared.script.ScriptId.{ScriptId}
 use Rattle.pm_script.specs.declared.script.ScriptId.TheVariants.{At, Bound, Root}
@@ -289,37 +289,9 @@ change_resolved given op.Publish change = change
 change_resolved given op.Cancel change = change
 change_resolved given op.Commit change = change
 
-unpublished_resolved : (given : Offsets) (x : ScriptOp) → ¬ Publishes x → ¬ Publishes (resolved_op given x)
-unpublished_resolved given (op.Begin wants) lacks = lacks
-unpublished_resolved given (op.Add id off len) lacks = lacks
-unpublished_resolved given (op.Write id off bytes) lacks = lacks
-unpublished_resolved given (op.Read id off len) lacks = lacks
-unpublished_resolved given (op.Alloc letter size kind) lacks = lacks
-unpublished_resolved given (op.Free id) lacks = lacks
-unpublished_resolved given (op.Set id off value) lacks = lacks
-unpublished_resolved given op.Publish lacks = lacks
-unpublished_resolved given op.Cancel lacks = lacks
-unpublished_resolved given op.Commit lacks = lacks
-
-pub heapless_resolved : (given : Offsets) (x : ScriptOp) → ¬ MakesOrFrees x → ¬ MakesOrFrees (resolved_op given x)
-heapless_resolved given (op.Begin wants) lacks = lacks
-heapless_resolved given (op.Add id off len) lacks = lacks
-heapless_resolved given (op.Write id off bytes) lacks = lacks
-heapless_resolved given (op.Read id off len) lacks = lacks
-heapless_resolved given (op.Alloc letter size kind) lacks = lacks
-heapless_resolved given (op.Free id) lacks = lacks
-heapless_resolved given (op.Set id off value) lacks = lacks
-heapless_resolved given op.Publish lacks = lacks
-heapless_resolved given op.Cancel lacks = lacks
-heapless_resolved given op.Commit lacks = lacks
-
 pub all_resolved : (given : Offsets) (P : ScriptOp → Type 0) → ((x : ScriptOp) → P x → P (resolved_op given x)) → (ops : List ScriptOp) → All P ops → All P (map (resolved_op given) ops)
 all_resolved given P keeps [] all = All-nil P
 all_resolved given P keeps (x ∷ ops) all = All-cons P (resolved_op given x) (map (resolved_op given) ops) (keeps x (All-head P x ops all)) (all_resolved given P keeps ops (All-tail P x ops all))
-
-pub apart_resolved : (given : Offsets) (changes : List ScriptOp) → KeepsApart changes → KeepsApart (map (resolved_op given) changes)
-apart_resolved given changes (inl all) = inl (all_resolved given (λ x. ¬ Publishes x) (unpublished_resolved given) changes all)
-apart_resolved given changes (inr all) = inr (all_resolved given (λ x. ¬ MakesOrFrees x) (heapless_resolved given) changes all)
 
 transaction_so : (given : Offsets) (ops : List ScriptOp) → IsTransaction ops → IsTransaction (map (resolved_op given) ops)
 transaction_so given ops t = (
@@ -327,7 +299,6 @@ transaction_so given ops t = (
   map (resolved_op given) t.1,
   ap (map (resolved_op given)) t.2 ∙ ap (λ (xs : List ScriptOp). op.Begin (map (resolved_want given) t.0) ∷ xs) (map-append (resolved_op given) t.1 (op.Commit ∷ [])),
   all_resolved given IsChange (change_resolved given) t.1 t.3,
-  apart_resolved given t.1 t.4,
 )
 
 pub transaction_resolved : (given : Offsets) (lines : List ScriptLine) → IsTransaction (operations lines) → IsTransaction (operations (resolved given lines))

@@ -19,7 +19,6 @@ pub mod Links
 pub mod CallsInTurn
 pub mod PendingLists
 pub mod Begun
-pub mod HeapKept
 pub mod HeapStill
 pub mod IdleNumbers
 pub mod LooksAlone

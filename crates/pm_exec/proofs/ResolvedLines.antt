@@ -5,48 +5,18 @@ use Rattle.std.proofs.lemmas.List.Elements.{All-cons, All-get_or, All-head, All-
 use Rattle.pm_made.specs.Made.{BlockLists}
 use Rattle.pm_memory.specs.Solo.{Solo}
 use Rattle.pm_pending.specs.declared.actions.SetAction.{SetAction}
-use Rattle.pm_script.specs.Scripts.{IsChange, KeepsApart, MakesOrFrees, operations}
+use Rattle.pm_script.specs.Scripts.{IsChange, operations}
 use Rattle.pm_script.specs.declared.script.ScriptLine.{ScriptLine}
-use Rattle.pm_script.specs.declared.script.ScriptOp.{ScriptOp}
-use Rattle.pm_script.specs.declared.script.ScriptOp.TheVariants as op
 use Rattle.pm_view.specs.View.{View}
 use Rattle.pm_world.specs.Opening.{Opening}
 use Rattle.pm_world.specs.declared.lane.Lane.{Lane}
 use Rattle.pm_exec.specs.Letters.{AreInOrder, KeepsLetters, LettersKept, Offsets, offsets_in, resolved, resolved_line, resolved_op, resolved_want}
-use Rattle.pm_exec.specs.Progress.{IsNotDone, MayStand, Values}
+use Rattle.pm_exec.specs.Progress.{IsNotDone, Values}
 use Rattle.pm_exec.specs.declared.calls.Names.{Names}
 use Rattle.pm_exec.specs.declared.lines.NotDone.{NotDone}
 use Rattle.pm_exec.specs.declared.lines.NotDone.TheVariants.{GivenUp, Memory, Spent, Stopped}
-use Rattle.pm_exec.proofs.GivenLetters.{StandsBefore, all_drop, all_stay, all_take, apart_resolved, all_resolved, change_resolved, heapless_resolved, letters_of, operations_resolved, stand_before}
+use Rattle.pm_exec.proofs.GivenLetters.{StandsBefore, all_drop, all_stay, all_take, all_resolved, change_resolved, letters_of, operations_resolved, stand_before}
 use Rattle.pm_exec.proofs.ScriptParts.{Parts, first_line, lines_taken, middle}
-
-abbrev HeaplessLines : List ScriptLine → Type 0
-HeaplessLines lines = All (λ (l : ScriptLine). ¬ MakesOrFrees l.operation) lines
-
-heapless_lines : (given : Offsets) (lines : List ScriptLine) → HeaplessLines lines → HeaplessLines (resolved given lines)
-heapless_lines given [] none = All-nil (λ (l : ScriptLine). ¬ MakesOrFrees l.operation)
-heapless_lines given (l ∷ lines) none =
-    let None = λ (x : ScriptLine). ¬ MakesOrFrees x.operation in
-    All-cons None (resolved_line given l) (resolved given lines) (heapless_resolved given l.operation (All-head None l lines none)) (heapless_lines given lines (All-tail None l lines none))
-
-heapless_front : (given : Offsets) (front lines : List ScriptLine) → HeaplessLines (front ++ lines) → HeaplessLines (front ++ resolved given lines)
-heapless_front given [] lines none = heapless_lines given lines none
-heapless_front given (l ∷ front) lines none =
-    let None = λ (x : ScriptLine). ¬ MakesOrFrees x.operation in
-    All-cons None l (front ++ resolved given lines) (All-head None l (front ++ lines) none) (heapless_front given front lines (All-tail None l (front ++ lines) none))
-
--- what may stand behind some lines may behind these with their letters resolved
-pub stands_resolved : (given : Offsets) (front lines : List ScriptLine) (x : ScriptOp) → MayStand (front ++ lines) x → MayStand (front ++ resolved given lines) (resolved_op given x)
-stands_resolved given front lines op.Publish may = heapless_front given front lines may
-stands_resolved given front lines (op.Begin wants) may = tt
-stands_resolved given front lines (op.Add id off len) may = tt
-stands_resolved given front lines (op.Write id off bytes) may = tt
-stands_resolved given front lines (op.Read id off len) may = tt
-stands_resolved given front lines (op.Alloc letter size kind) may = tt
-stands_resolved given front lines (op.Free id) may = tt
-stands_resolved given front lines (op.Set id off value) may = tt
-stands_resolved given front lines op.Cancel may = tt
-stands_resolved given front lines op.Commit may = tt
 
 -- an answer that is not for want of memory has its fact where letters are kept
 pub unless_memory : (lines : List ScriptLine) (a b : Values) (o : Opening) (first : View) (lane : Lane Solo) (blocks : BlockLists) (actions : List SetAction) (names : Names) (ls : List ScriptLine) (values : Values) (why : NotDone)
@@ -120,7 +90,6 @@ parts_resolved given script p = record {
   wants = map (resolved_want given) p.wants;
   begins = ap (resolved_op given) p.begins;
   are = subst (All IsChange) (sym (operations_resolved given p.changes)) (all_resolved given IsChange (change_resolved given) (operations p.changes) p.are);
-  apart = subst KeepsApart (sym (operations_resolved given p.changes)) (apart_resolved given (operations p.changes) p.apart);
   commits = ap (resolved_op given) p.commits;
 }
 

@@ -24,10 +24,9 @@ use Rattle.pm_objects.specs.declared.ids.Oid.{Oid}
 use Rattle.pm_objects.specs.declared.pool.PoolView.{PoolView}
 use Rattle.pm_objects.specs.declared.refusal.Refusal.{Refusal}
 use Rattle.pm_objects.specs.declared.refusal.Refusal.TheVariants as refusal
-use Rattle.pm_script.specs.Scripts.{MakesOrFrees}
 use Rattle.pm_script.specs.declared.script.ScriptLine.{ScriptLine}
 use Rattle.pm_script.specs.declared.script.ScriptOp.{ScriptOp}
-use Rattle.pm_script.specs.declared.script.ScriptOp.TheVariants.{Alloc, Publish, Read, Set}
+use Rattle.pm_script.specs.declared.script.ScriptOp.TheVariants.{Alloc, Read, Set}
 use Rattle.pm_blocks.specs.NewRuns.{IsThere}
 use Rattle.pm_lock.specs.Finding.{FindsObjects}
 use Rattle.pm_lock.specs.Leading.{DrawEnded}
@@ -152,20 +151,6 @@ IsLaneWith lane blocks actions names values = (o : Opening) × (first : View) ×
 
 abbrev pub IsLaneAtLine : Lane Solo → BlockLists → List SetAction → Names → Type 0
 IsLaneAtLine lane blocks actions names = (values : Values) × IsLaneWith lane blocks actions names values
-
--- the operation may stand behind these lines: a publish behind none that make or free objects
-abbrev pub MayStand : List ScriptLine → ScriptOp → Type 0
-MayStand front Publish = All (λ (line : ScriptLine). ¬ MakesOrFrees line.operation) front
-MayStand front op = ⊤
-
--- each of some lines may stand behind these and those of its own before it
-abbrev pub AllMayStand : List ScriptLine → List ScriptLine → Type 0
-AllMayStand front [] = ⊤
-AllMayStand front (line ∷ lines) = MayStand front line.operation × AllMayStand (front ++ line ∷ []) lines
-
--- the lane is at work wherever it began, behind some lines behind which these may stand
-abbrev pub MayGoOn : Lane Solo → BlockLists → List SetAction → Names → Values → List ScriptLine → Type 0
-MayGoOn lane blocks actions names values lines = (o : Opening) × (first : View) × (front : List ScriptLine) × IsAtLine o first lane blocks actions names front values × AllMayStand front lines
 
 -- its call is over, came to these operations with their replies, and has drawn a number; its locks are held still
 pub record IsOver (o : Opening) (first : View) (lane : Lane Solo) (blocks : BlockLists) (actions : List SetAction) (names : Names) (lines : List ScriptLine) (told : List Told) (error : TxErr) : Type 0 where

@@ -11,7 +11,7 @@ ghost use Rattle.pm_view.specs.View.{View};
 ghost use Rattle.pm_world.specs.Opening.{Opening};
 ghost use Rattle.pm_exec.specs.Calls.{id_of, stands_alone, want_of};
 ghost use Rattle.pm_exec.specs.Letters.{AreInOrder, LettersKept, offsets_in, resolved};
-ghost use Rattle.pm_exec.specs.Progress.{AllMayStand, CameTo, IsAtLine, IsStart, IsLaneAtLine, IsLaneWith, IsNotDone, MayGoOn, MayStand, Values, not_done};
+ghost use Rattle.pm_exec.specs.Progress.{CameTo, IsAtLine, IsStart, IsLaneAtLine, IsLaneWith, IsNotDone, Values, not_done};
 ghost use Rattle.pm_exec.specs.declared.lines.NotDone.TheVariants.{Memory};
 
 use crate::calls::{Names, action_of, id_of, wants_of};
@@ -22,8 +22,8 @@ use pm_memory::SoloMem;
 use pm_objects::{Refusal, Sequence, Value, Want};
 use pm_pending::SetAction;
 use pm_script::{ScriptId, ScriptLine, ScriptOp};
-use pm_transaction::{add_range, alloc, begin, commit, free, read, write};
-use pm_tx::{cancel_at_work, publish, set_at_work};
+use pm_transaction::{add_range, alloc, begin, commit, free, publish, read, write};
+use pm_tx::{cancel_at_work, set_at_work};
 use pm_world::Lane;
 use std::alloc::{AllocError, AllocFailed, Global};
 
@@ -219,20 +219,21 @@ fn set_at(
     }
 }
 
-/// Makes what is pending the transaction's, which made and freed no object.
+/// Makes what is pending the transaction's.
 fn publish_at(
     lane: &mut Lane<SoloMem>,
+    blocks: &CallBlocks,
     actions: &mut ArrayVec<SetAction, 63>,
     said: &ScriptLine,
 ) -> Result<(), NotDone>
     requires is_said { said.now.operation ≡ op.Publish }
-    requires at_work { (blocks : BlockLists) × ((names : Names) × IsLaneAtLine lane.old blocks actions.old.items names) }
-    ensures done { OnOk result ((o : Opening) (first : View) (blocks : BlockLists) (names : Names) (front : List ScriptLine) (values : Values) → IsAtLine o first lane.old blocks actions.old.items names front values
-        → MayStand front op.Publish → IsAtLine o first lane.new blocks actions.new.items names (front ++ said.now ∷ []) values) }
-    ensures ends { IfErr result (λ why. (o : Opening) (first : View) (blocks : BlockLists) (names : Names) (front rest : List ScriptLine) (values : Values) → IsAtLine o first lane.old blocks actions.old.items names front values
-        → MayStand front op.Publish → IsNotDone o first lane.new blocks actions.new.items names (front ++ said.now ∷ rest) values why) }
+    requires at_work { (names : Names) × IsLaneAtLine lane.old blocks.now actions.old.items names }
+    ensures done { OnOk result ((o : Opening) (first : View) (names : Names) (front : List ScriptLine) (values : Values) → IsAtLine o first lane.old blocks.now actions.old.items names front values
+        → IsAtLine o first lane.new blocks.now actions.new.items names (front ++ said.now ∷ []) values) }
+    ensures ends { IfErr result (λ why. (o : Opening) (first : View) (names : Names) (front rest : List ScriptLine) (values : Values) → IsAtLine o first lane.old blocks.now actions.old.items names front values
+        → IsNotDone o first lane.new blocks.now actions.new.items names (front ++ said.now ∷ rest) values why) }
 {
-    match publish(lane, actions) {
+    match publish(lane, blocks, actions) {
         Ok(()) => Ok(()),
         Err(why) => Err(not_done(said.line, why)),
     }
@@ -260,17 +261,18 @@ fn cancel_at(
 /// Makes the change of this line to what is pending.
 fn act_at(
     lane: &mut Lane<SoloMem>,
+    blocks: &CallBlocks,
     actions: &mut ArrayVec<SetAction, 63>,
     names: Names,
     said: &ScriptLine,
     values: &mut Vec<(u64, Value)>,
 ) -> Result<(), NotDone>
     requires is_action { stands_alone said.now.operation ≡ true }
-    requires at_work { (blocks : BlockLists) × IsLaneWith lane.old blocks actions.old.items names values.old.items }
-    ensures done { OnOk result ((o : Opening) (first : View) (blocks : BlockLists) (front : List ScriptLine) → IsAtLine o first lane.old blocks actions.old.items names front values.old.items
-        → MayStand front said.now.operation → IsAtLine o first lane.new blocks actions.new.items names (front ++ said.now ∷ []) values.new.items) }
-    ensures ends { IfErr result (λ why. (o : Opening) (first : View) (blocks : BlockLists) (front rest : List ScriptLine) → IsAtLine o first lane.old blocks actions.old.items names front values.old.items
-        → MayStand front said.now.operation → IsNotDone o first lane.new blocks actions.new.items names (front ++ said.now ∷ rest) values.new.items why) }
+    requires at_work { IsLaneWith lane.old blocks.now actions.old.items names values.old.items }
+    ensures done { OnOk result ((o : Opening) (first : View) (front : List ScriptLine) → IsAtLine o first lane.old blocks.now actions.old.items names front values.old.items
+        → IsAtLine o first lane.new blocks.now actions.new.items names (front ++ said.now ∷ []) values.new.items) }
+    ensures ends { IfErr result (λ why. (o : Opening) (first : View) (front rest : List ScriptLine) → IsAtLine o first lane.old blocks.now actions.old.items names front values.old.items
+        → IsNotDone o first lane.new blocks.now actions.new.items names (front ++ said.now ∷ rest) values.new.items why) }
     ensures letters { LettersKept (said.now ∷ []) values.old.items values.new.items result }
 {
     match &said.operation {
@@ -283,7 +285,7 @@ fn act_at(
                 values,
             )
         }
-        ScriptOp::Publish => publish_at(lane, actions, said),
+        ScriptOp::Publish => publish_at(lane, blocks, actions, said),
         ScriptOp::Cancel => cancel_at(lane, actions, said),
         _ => unreachable!(),
     }
@@ -302,9 +304,9 @@ fn change_at(
     requires is_change { IsChange said.now.operation }
     requires at_work { IsLaneWith lane.old blocks.old actions.old.items names values.old.items }
     ensures done { OnOk result ((o : Opening) (first : View) (front : List ScriptLine) → IsAtLine o first lane.old blocks.old actions.old.items names front values.old.items
-        → MayStand front said.now.operation → IsAtLine o first lane.new blocks.new actions.new.items names (front ++ said.now ∷ []) values.new.items) }
+        → IsAtLine o first lane.new blocks.new actions.new.items names (front ++ said.now ∷ []) values.new.items) }
     ensures ends { IfErr result (λ why. (o : Opening) (first : View) (front rest : List ScriptLine) → IsAtLine o first lane.old blocks.old actions.old.items names front values.old.items
-        → MayStand front said.now.operation → IsNotDone o first lane.new blocks.new actions.new.items names (front ++ said.now ∷ rest) values.new.items why) }
+        → IsNotDone o first lane.new blocks.new actions.new.items names (front ++ said.now ∷ rest) values.new.items why) }
     ensures letters { LettersKept (said.now ∷ []) values.old.items values.new.items result }
 {
     match &said.operation {
@@ -322,7 +324,7 @@ fn change_at(
         } => make_at(lane, blocks, said, *size, *kind, values),
         ScriptOp::Free { id } => free_at(lane, blocks, names, said, *id),
         ScriptOp::Set { .. } | ScriptOp::Publish | ScriptOp::Cancel => {
-            act_at(lane, actions, names, said, values)
+            act_at(lane, blocks, actions, names, said, values)
         }
         ScriptOp::Begin { .. } | ScriptOp::Commit => unreachable!(),
     }
@@ -342,12 +344,12 @@ fn change_all(
 ) -> Result<(), NotDone>
     requires are_changes { All IsChange (operations lines.now) }
     requires ordered { AreInOrder lines.now }
-    requires at_work { MayGoOn lane.old blocks.old actions.old.items names values.old.items lines.now }
+    requires at_work { IsLaneWith lane.old blocks.old actions.old.items names values.old.items }
     ensures at_work { OnOk result (IsLaneWith lane.new blocks.new actions.new.items names values.new.items) }
     ensures done { OnOk result ((o : Opening) (first : View) (front : List ScriptLine) → IsAtLine o first lane.old blocks.old actions.old.items names front values.old.items
-        → AllMayStand front lines.now → IsAtLine o first lane.new blocks.new actions.new.items names (front ++ resolved (given.now ++ offsets_in values.new.items) lines.now) values.new.items) }
+        → IsAtLine o first lane.new blocks.new actions.new.items names (front ++ resolved (given.now ++ offsets_in values.new.items) lines.now) values.new.items) }
     ensures ends { IfErr result (λ why. (o : Opening) (first : View) (front rest : List ScriptLine) → IsAtLine o first lane.old blocks.old actions.old.items names front values.old.items
-        → AllMayStand front lines.now → IsNotDone o first lane.new blocks.new actions.new.items names (front ++ resolved (given.now ++ offsets_in values.new.items) lines.now ++ rest) values.new.items why) }
+        → IsNotDone o first lane.new blocks.new actions.new.items names (front ++ resolved (given.now ++ offsets_in values.new.items) lines.now ++ rest) values.new.items why) }
     ensures letters { LettersKept lines.now values.old.items values.new.items result }
 {
     for said in lines {

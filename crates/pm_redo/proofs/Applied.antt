@@ -130,7 +130,7 @@ module _ (v : View) (place : HasPlace v) (entries : List Redo) (are : AreEntered
         (λ (may : MayEnter v e). (
           may,
           ⊎_elim (λ (o : IsOfPool v e). ⊎_elim (λ (sets : e.op ≡ Set). absurd (other (sym is ∙ sets))) (λ (known : IsKnownWord v w). inl known) o.known)
-              (λ (h : EntersHeap v e). inr (record { alone = h.alone; heap = heap_entered v entries are k (omega (arith, low, count)) e at h; small = h.small })) may,
+              (λ (h : EntersHeap v e). inr (record { alone = h.alone; heap = heap_entered v entries are k (omega (arith, low, count)) e at h; small = ⊎_elim (λ (sets : e.op ≡ Set). absurd (other (sym is ∙ sets))) (λ (low_ : slice_index v.words w < 2 ^ 64). low_) h.small })) may,
         ))
         (λ (same : e ≡ ending v). absurd (other (sym is ∙ ap (λ (x : Redo). x.op) same))) which
 

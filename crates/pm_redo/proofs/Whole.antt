@@ -133,7 +133,7 @@ heap_kept v w e call same h = record {
   unlocked = same_written v w call (e.place / 8) ∙ h.unlocked;
   outside = ap (λ j. is_in_area j (e.place / 8)) call.lane.lane ∙ h.outside;
   inside = let size = call.lane.size in let inside = h.inside in omega (arith, size, inside);
-  small = subst (λ n. n < 2 ^ 64) (sym (same (e.place / 8) h.outside)) h.small;
+  small = subst (λ n. (e.op ≡ Set) ⊎ (n < 2 ^ 64)) (sym (same (e.place / 8) h.outside)) h.small;
 }
 
 pub may_enter_kept : (v w : View) (e : Redo) → IsSameCall v w → KeepsOutside v w → MayEnter v e → MayEnter w e

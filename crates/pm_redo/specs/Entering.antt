@@ -65,14 +65,15 @@ pub record IsOfPool (v : View) (e : Redo) : Type 0 where
   pub inside : e.place / 8 < length v.words
   pub known : KnowsWord v e
 
--- an entry by which a lane that is alone allocates or frees a block: of a word of the pool outside of its area, one of 64 bits, that it has not locked
+-- an entry by which a lane that is alone changes the heap, as it allocates or frees a block, or sets a word of an object that its call made: of a word of the
+-- pool outside of its area that it has not locked. Where the entry does not set the word, which needs nothing of the one before, that has 64 bits
 pub record EntersHeap (v : View) (e : Redo) : Type 0 where
   pub entry : IsOfWord e
   pub alone : IsAlone v
   pub unlocked : is_written v (e.place / 8) ≡ false
   pub outside : is_in_area v.lane (e.place / 8) ≡ false
   pub inside : e.place / 8 < length v.words
-  pub small : slice_index v.words (e.place / 8) < 2 ^ 64
+  pub small : (e.op ≡ Set) ⊎ (slice_index v.words (e.place / 8) < 2 ^ 64)
 
 -- the lane may enter it
 abbrev pub MayEnter : View → Redo → Type 0

@@ -1,17 +1,17 @@
 -- The operations on a lane's lines are transactions, and calls outside of them, one after another.
-use Rattle.std.proofs.Common.{◌≡◌, ◌==◌, ℕ, ◌+◌, Bool, true, false, not, cond, All, List, [], ◌∷◌, ◌++◌, Option, Some, None, inl, inr, is_some, option_map, refl, sym, ap, ◌∙◌, subst, append_assoc}
+use Rattle.std.proofs.Common.{◌≡◌, ◌==◌, ℕ, ◌+◌, Bool, true, false, not, cond, All, List, [], ◌∷◌, ◌++◌, Option, Some, None, is_some, option_map, refl, sym, ap, ◌∙◌, subst, append_assoc}
 use Rattle.std.specs.List.{cons_option, filter_map}
 use Rattle.std.specs.Option.{option_and_then, option_map_or, option_or}
 use Rattle.std.proofs.lemmas.Bool.{eqb-true}
 use Rattle.std.proofs.lemmas.List.Elements.{All-nil, All-cons}
 use Rattle.pm_script.specs.Reading.{keyword_said, place_why}
 use Rattle.pm_script.specs.Contexts.{Context, start}
-use Rattle.pm_script.specs.Scripts.{AreCalls, IsChange, IsOutside, IsScript, KeepsApart, MakesOrFrees, Publishes, begun_behind, context_behind, context_from, fault_of, line_of, line_said, lines_from, of_lane, opened, operations, said, why_of}
+use Rattle.pm_script.specs.Scripts.{AreCalls, IsChange, IsOutside, IsScript, begun_behind, context_behind, context_from, fault_of, line_of, line_said, lines_from, of_lane, opened, operations, said, why_of}
 use Rattle.pm_script.specs.Scripts.AreCalls.{none, transaction, outside}
 use Rattle.pm_script.specs.Words.{words}
 use Rattle.pm_script.specs.declared.context.OpenTransaction.{OpenTransaction}
 use Rattle.pm_script.specs.declared.fault.Why.{Why}
-use Rattle.pm_script.specs.declared.fault.Why.TheVariants.{Word, Inside, Outside}
+use Rattle.pm_script.specs.declared.fault.Why.TheVariants.{Inside, Outside}
 use Rattle.pm_script.specs.declared.script.Script.{Script}
 use Rattle.pm_script.specs.declared.script.ScriptLine.{ScriptLine}
 use Rattle.pm_script.specs.declared.script.ScriptOp.{ScriptOp}
@@ -20,85 +20,41 @@ use Rattle.pm_script.specs.declared.script.ScriptWant.{ScriptWant}
 use Rattle.pm_script.specs.declared.statement.Statement.{Statement}
 use Rattle.pm_script.specs.declared.statement.Statement.TheVariants as says
 use Rattle.pm_script.proofs.Judging.{in_place}
-use Rattle.pm_script.proofs.OpenTransactions.{making, other_behind, own_behind, publishing, transaction_behind, transaction_of}
+use Rattle.pm_script.proofs.OpenTransactions.{other_behind, own_behind, transaction_behind, transaction_of}
 
 -- ---- operations
 
--- what may follow in a transaction: changes that are not of both kinds, and not of one where it has the other
-record MayFollow (transaction : OpenTransaction) (changes : List ScriptOp) : Type 0 where
-  apart : KeepsApart changes
-  publishes : transaction.publishes ≡ true → All (λ change. ¬ MakesOrFrees change) changes
-  makes_or_frees : transaction.makes_or_frees ≡ true → All (λ change. ¬ Publishes change) changes
-
 -- the rest of a lane's operations, where a transaction is open or not
 abbrev Rest : Option OpenTransaction → List ScriptOp → Type 0
-Rest (Some t) ops = (changes : List ScriptOp) × (others : List ScriptOp) × (ops ≡ changes ++ Commit ∷ others) × All IsChange changes × MayFollow t changes × AreCalls others
+Rest (Some t) ops = (changes : List ScriptOp) × (others : List ScriptOp) × (ops ≡ changes ++ Commit ∷ others) × All IsChange changes × AreCalls others
 Rest None ops = AreCalls ops
 
-apart_more : (x : ScriptOp) (changes : List ScriptOp) → ¬ Publishes x → ¬ MakesOrFrees x → KeepsApart changes → KeepsApart (x ∷ changes)
-apart_more x changes not_publish not_make (inl all) = inl (All-cons (λ change. ¬ Publishes change) x changes not_publish all)
-apart_more x changes not_publish not_make (inr all) = inr (All-cons (λ change. ¬ MakesOrFrees change) x changes not_make all)
-
-module _ (t : OpenTransaction) (x : ScriptOp) (changes : List ScriptOp) where
-  -- a change of neither kind
-  neither : ¬ Publishes x → ¬ MakesOrFrees x → MayFollow t changes → MayFollow t (x ∷ changes)
-  neither not_publish not_make may = record {
-    apart = apart_more x changes not_publish not_make may.apart;
-    publishes = λ is. All-cons (λ change. ¬ MakesOrFrees change) x changes not_make (may.publishes is);
-    makes_or_frees = λ is. All-cons (λ change. ¬ Publishes change) x changes not_publish (may.makes_or_frees is);
-  }
-
-  published : t.makes_or_frees ≡ false → ¬ MakesOrFrees x → MayFollow (publishing t) changes → MayFollow t (x ∷ changes)
-  published other not_make may =
-      let all = All-cons (λ change. ¬ MakesOrFrees change) x changes not_make (may.publishes refl) in
-      record { apart = inr all; publishes = λ is. all; makes_or_frees = λ is. cc }
-
-  made_or_freed : t.publishes ≡ false → ¬ Publishes x → MayFollow (making t) changes → MayFollow t (x ∷ changes)
-  made_or_freed other not_publish may =
-      let all = All-cons (λ change. ¬ Publishes change) x changes not_publish (may.makes_or_frees refl) in
-      record { apart = inl all; publishes = λ is. cc; makes_or_frees = λ is. all }
-
--- one change more, behind which others may follow
-change_first : (t after : OpenTransaction) (x : ScriptOp) (ops : List ScriptOp) → IsChange x → ((changes : List ScriptOp) → MayFollow after changes → MayFollow t (x ∷ changes)) → Rest (Some after) ops → Rest (Some t) (x ∷ ops)
-change_first t after x ops change may rest = (x ∷ rest.0, rest.1, ap (λ l. x ∷ l) rest.2, All-cons IsChange x rest.0 change rest.3, may rest.0 rest.4, rest.5)
+-- one change more
+change_first : (t : OpenTransaction) (x : ScriptOp) (ops : List ScriptOp) → IsChange x → Rest (Some t) ops → Rest (Some t) (x ∷ ops)
+change_first t x ops change rest = (x ∷ rest.0, rest.1, ap (λ l. x ∷ l) rest.2, All-cons IsChange x rest.0 change rest.3, rest.4)
 
 begin_first : (t : OpenTransaction) (wants : List ScriptWant) (ops : List ScriptOp) → Rest (Some t) ops → Rest None (Begin wants ∷ ops)
 begin_first t wants ops rest =
     let one = Begin wants ∷ rest.0 ++ Commit ∷ [] in
-    subst AreCalls (ap (λ l. Begin wants ∷ l) (append_assoc rest.0 (Commit ∷ []) rest.1 ∙ sym rest.2)) (transaction one rest.1 (wants, rest.0, refl, rest.3, rest.4.apart) rest.5)
+    subst AreCalls (ap (λ l. Begin wants ∷ l) (append_assoc rest.0 (Commit ∷ []) rest.1 ∙ sym rest.2)) (transaction one rest.1 (wants, rest.0, refl, rest.3) rest.4)
 
 commit_first : (t : OpenTransaction) (ops : List ScriptOp) → Rest None ops → Rest (Some t) (Commit ∷ ops)
-commit_first t ops rest =
-    let may : MayFollow t [] = record { apart = inl (All-nil (λ change. ¬ Publishes change)); publishes = λ is. All-nil (λ change. ¬ MakesOrFrees change); makes_or_frees = λ is. All-nil (λ change. ¬ Publishes change) } in
-    ([], ops, refl, All-nil IsChange, may, rest)
+commit_first t ops rest = ([], ops, refl, All-nil IsChange, rest)
 
 -- ---- in place
 
-test_failed : (b : Bool) (why : Why) → cond (not b) None (Some why) ≡ None → b ≡ false
-test_failed false why fine = refl
-test_failed true why fine = cc
-
 module _ (x : ScriptOp) (ops : List ScriptOp) where
   -- what stands in a transaction alone
-  change : (current : Option OpenTransaction) → IsChange x → ¬ Publishes x → ¬ MakesOrFrees x → cond (is_some current) None (Some Outside) ≡ None → Rest current ops → Rest current (x ∷ ops)
-  change (Some t) is not_publish not_make fine rest = change_first t t x ops is (λ changes. neither t x changes not_publish not_make) rest
-  change None is not_publish not_make fine rest = cc
-
-  make_or_free : (current : Option OpenTransaction) → IsChange x → ¬ Publishes x → cond (is_some current) (cond (not (option_map_or (λ (t : OpenTransaction). t.publishes) current false)) None (Some Word)) (Some Outside) ≡ None
-      → Rest (option_map making current) ops → Rest current (x ∷ ops)
-  make_or_free (Some t) is not_publish fine rest = change_first t (making t) x ops is (λ changes. made_or_freed t x changes (test_failed t.publishes Word fine) not_publish) rest
-  make_or_free None is not_publish fine rest = cc
+  change : (current : Option OpenTransaction) → IsChange x → cond (is_some current) None (Some Outside) ≡ None → Rest current ops → Rest current (x ∷ ops)
+  change (Some t) is fine rest = change_first t x ops is rest
+  change None is fine rest = cc
 
   -- what may stand inside and outside may stand anywhere
-  call : (current : Option OpenTransaction) → IsChange x → ¬ Publishes x → ¬ MakesOrFrees x → IsOutside x → Rest current ops → Rest current (x ∷ ops)
-  call (Some t) is not_publish not_make out rest = change_first t t x ops is (λ changes. neither t x changes not_publish not_make) rest
-  call None is not_publish not_make out rest = outside x ops out rest
+  call : (current : Option OpenTransaction) → IsChange x → IsOutside x → Rest current ops → Rest current (x ∷ ops)
+  call (Some t) is out rest = change_first t x ops is rest
+  call None is out rest = outside x ops out rest
 
 module _ (ops : List ScriptOp) where
-  publish : (current : Option OpenTransaction) → cond (not (option_map_or (λ (t : OpenTransaction). t.makes_or_frees) current false)) None (Some Word) ≡ None → Rest (option_map publishing current) ops → Rest current (Publish ∷ ops)
-  publish (Some t) fine rest = change_first t (publishing t) Publish ops tt (λ changes. published t Publish changes (test_failed t.makes_or_frees Word fine) (λ no. no)) rest
-  publish None fine rest = outside Publish ops tt rest
-
   begin : (current : Option OpenTransaction) (t : OpenTransaction) (wants : List ScriptWant) → cond (not (is_some current)) None (Some Inside) ≡ None → Rest (option_or current (Some t)) ops → Rest current (Begin wants ∷ ops)
   begin (Some other) t wants fine rest = cc
   begin None t wants fine rest = begin_first t wants ops rest
@@ -113,14 +69,14 @@ module _ (context : Context) (lane n : ℕ) (present : context.lane ≡ Some lan
   own x ops fine rest = behind x (sym (ap (λ l. place_why (record context { lane = l }) (keyword_said (says.Operation x))) present) ∙ fine) (subst (λ current. Rest current ops) (own_behind lane n x context.begun) rest) where
     behind : (x : ScriptOp) → place_why (record context { lane = Some lane }) (keyword_said (says.Operation x)) ≡ None → Rest (transaction_behind lane n x (transaction_of lane context.begun)) ops → Rest (transaction_of lane context.begun) (x ∷ ops)
     behind (Begin wants) fine rest = begin ops (transaction_of lane context.begun) (opened lane n) wants fine rest
-    behind (Add id off len) fine rest = change (Add id off len) ops (transaction_of lane context.begun) tt (λ no. no) (λ no. no) fine rest
-    behind (Write id off bytes) fine rest = change (Write id off bytes) ops (transaction_of lane context.begun) tt (λ no. no) (λ no. no) fine rest
-    behind (Read id off len) fine rest = change (Read id off len) ops (transaction_of lane context.begun) tt (λ no. no) (λ no. no) fine rest
-    behind (Alloc letter size kind) fine rest = make_or_free (Alloc letter size kind) ops (transaction_of lane context.begun) tt (λ no. no) fine rest
-    behind (Free id) fine rest = make_or_free (Free id) ops (transaction_of lane context.begun) tt (λ no. no) fine rest
-    behind (Set id off value) fine rest = call (Set id off value) ops (transaction_of lane context.begun) tt (λ no. no) (λ no. no) tt rest
-    behind Publish fine rest = publish ops (transaction_of lane context.begun) fine rest
-    behind Cancel fine rest = call Cancel ops (transaction_of lane context.begun) tt (λ no. no) (λ no. no) tt rest
+    behind (Add id off len) fine rest = change (Add id off len) ops (transaction_of lane context.begun) tt fine rest
+    behind (Write id off bytes) fine rest = change (Write id off bytes) ops (transaction_of lane context.begun) tt fine rest
+    behind (Read id off len) fine rest = change (Read id off len) ops (transaction_of lane context.begun) tt fine rest
+    behind (Alloc letter size kind) fine rest = change (Alloc letter size kind) ops (transaction_of lane context.begun) tt fine rest
+    behind (Free id) fine rest = change (Free id) ops (transaction_of lane context.begun) tt fine rest
+    behind (Set id off value) fine rest = call (Set id off value) ops (transaction_of lane context.begun) tt tt rest
+    behind Publish fine rest = call Publish ops (transaction_of lane context.begun) tt tt rest
+    behind Cancel fine rest = call Cancel ops (transaction_of lane context.begun) tt tt rest
     behind Commit fine rest = commit ops (transaction_of lane context.begun) fine rest
 
 -- ---- lines

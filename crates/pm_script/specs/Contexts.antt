@@ -5,7 +5,7 @@ use Rattle.pm_script.specs.declared.context.Binding.{Binding}
 use Rattle.pm_script.specs.declared.context.OpenTransaction.{OpenTransaction}
 
 -- what the lines so far leave: the present lane, if a line named one; one more than the greatest lane that was named, and at least 1;
--- the transactions that are open, each with its lane, the line of its begin, and whether it publishes, and makes or frees objects, so far;
+-- the transactions that are open, each with its lane and the line of its begin;
 -- the last binding of each letter by each lane, with its line, in the order of lines
 pub record Context : Type 0 where
   pub lane : Option ℕ

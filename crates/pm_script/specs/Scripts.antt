@@ -1,5 +1,5 @@
 -- What a script is, and the first bad line of a text that is none: docs/COMMANDS.md, "Scripts".
-use Rattle.std.specs.Prelude.{◌≡◌, ℕ, ◌+◌, ◌≤◌, ◌<◌, ◌⊎◌, ◌&&◌, ◌||◌, ◌==◌, max, nat_lt, not, Bool, true, false, if◌then◌else◌, List, [], ◌∷◌, ◌++◌, map, filter, All, Contains, length, codes, is_some, option_and_then, option_map, Option, Some, None, Result, Err, alloc_error, ⊤}
+use Rattle.std.specs.Prelude.{◌≡◌, ℕ, ◌+◌, ◌≤◌, ◌<◌, ◌⊎◌, ◌&&◌, ◌==◌, max, nat_lt, not, Bool, true, false, if◌then◌else◌, List, [], ◌∷◌, ◌++◌, map, filter, All, Contains, length, codes, is_some, option_and_then, option_map, Option, Some, None, Result, Err, alloc_error, ⊤}
 use Rattle.std.specs.List.{find, filter_map, list_all}
 use Rattle.std.specs.Option.{option_map_or}
 use Rattle.std.specs.Str.{bytes_eq}
@@ -111,22 +111,11 @@ is_inside context = is_some (present_transaction context)
 
 -- a transaction that begins
 abbrev pub opened : ℕ → ℕ → OpenTransaction
-opened lane n = record { lane = lane; line = n; publishes = false; makes_or_frees = false }
+opened lane n = record { lane = lane; line = n }
 
--- an open transaction behind a publish of the lane
-abbrev pub behind_publish : ℕ → OpenTransaction → OpenTransaction
-behind_publish lane transaction = record transaction { publishes = transaction.publishes || is_of_lane lane transaction }
-
--- an open transaction behind an alloc or a free of the lane
-abbrev pub behind_make_or_free : ℕ → OpenTransaction → OpenTransaction
-behind_make_or_free lane transaction = record transaction { makes_or_frees = transaction.makes_or_frees || is_of_lane lane transaction }
-
--- the open transactions behind an operation of the lane on line n: a begin opens one, a commit closes it, and in between it may publish, or make or free objects
+-- the open transactions behind an operation of the lane on line n: a begin opens one, and a commit closes it
 abbrev pub begun_behind : ℕ → ℕ → ScriptOp → List OpenTransaction → List OpenTransaction
 begun_behind lane n (op.Begin wants) begun = begun ++ opened lane n ∷ []
-begun_behind lane n (op.Alloc letter size kind) begun = map (behind_make_or_free lane) begun
-begun_behind lane n (op.Free id) begun = map (behind_make_or_free lane) begun
-begun_behind lane n op.Publish begun = map (behind_publish lane) begun
 begun_behind lane n op.Commit begun = filter (λ transaction. not (is_of_lane lane transaction)) begun
 begun_behind lane n operation begun = begun
 
@@ -217,21 +206,6 @@ may_act context Publish = true
 may_act context Cancel = true
 may_act context keyword = is_inside context
 
--- the present lane's transaction publishes
-abbrev pub is_publishing : Context → Bool
-is_publishing context = option_map_or (λ transaction. transaction.publishes) (present_transaction context) false
-
--- the present lane's transaction makes or frees objects
-abbrev pub is_making_or_freeing : Context → Bool
-is_making_or_freeing context = option_map_or (λ transaction. transaction.makes_or_frees) (present_transaction context) false
-
--- a publish stands in no transaction that makes or frees objects, and neither of these in one that publishes
-abbrev pub may_join : Context → Keyword → Bool
-may_join context Alloc = not (is_publishing context)
-may_join context Free = not (is_publishing context)
-may_join context Publish = not (is_making_or_freeing context)
-may_join context keyword = true
-
 -- the reason of the first test that failed
 abbrev pub first_failed : List (Bool × Why) → Option Why
 first_failed [] = None
@@ -253,7 +227,6 @@ place_tests context keyword =
     (has_lane context keyword, NoLane)
     ∷ (may_begin context keyword, Inside)
     ∷ (may_act context keyword, Outside)
-    ∷ (may_join context keyword, Word)
     ∷ []
 
 -- why these words are a bad line: the first word is none of a script's, or a test fails
@@ -354,24 +327,9 @@ IsChange op.Cancel = ⊤
 IsChange (op.Begin wants) = ⊥
 IsChange op.Commit = ⊥
 
--- the operation publishes
-abbrev pub Publishes : ScriptOp → Type 0
-Publishes op.Publish = ⊤
-Publishes operation = ⊥
-
--- the operation makes or frees an object
-abbrev pub MakesOrFrees : ScriptOp → Type 0
-MakesOrFrees (op.Alloc letter size kind) = ⊤
-MakesOrFrees (op.Free id) = ⊤
-MakesOrFrees operation = ⊥
-
--- none of the changes publishes, or none makes or frees an object
-abbrev pub KeepsApart : List ScriptOp → Type 0
-KeepsApart changes = All (λ change. ¬ Publishes change) changes ⊎ All (λ change. ¬ MakesOrFrees change) changes
-
--- a begin, changes that are not of both these kinds, and a commit
+-- a begin, changes, and a commit
 abbrev pub IsTransaction : List ScriptOp → Type 0
-IsTransaction ops = (wants : List ScriptWant) × (changes : List ScriptOp) × (ops ≡ op.Begin wants ∷ changes ++ op.Commit ∷ []) × All IsChange changes × KeepsApart changes
+IsTransaction ops = (wants : List ScriptWant) × (changes : List ScriptOp) × (ops ≡ op.Begin wants ∷ changes ++ op.Commit ∷ []) × All IsChange changes
 
 -- what may stand outside of a transaction
 abbrev pub IsOutside : ScriptOp → Type 0

@@ -1,7 +1,7 @@
 ghost use Rattle.std.specs.Prelude.{◌≡◌, ◌<◌, ℕ, [], map, None, Some, IfOk, IfErr, IfSome, IfNone, OnOk};
 ghost use Rattle.std.specs.List.{find};
 ghost use Rattle.pm_script.specs.Contexts.{binds, bound_line, start};
-ghost use Rattle.pm_script.specs.Scripts.{behind_make_or_free, behind_publish, context_behind, is_of_lane, rebound, IsFirstOpen};
+ghost use Rattle.pm_script.specs.Scripts.{context_behind, is_of_lane, rebound, IsFirstOpen};
 ghost use Rattle.pm_script.specs.Reading.{keyword_said, place_why};
 ghost use Rattle.pm_script.specs.declared.statement.Statement.TheVariants as says;
 
@@ -16,10 +16,6 @@ pub struct OpenTransaction {
     pub lane: u64,
     /// The line of its begin.
     pub line: u64,
-    /// A line of it so far is a publish.
-    pub publishes: bool,
-    /// A line of it so far is an alloc or a free.
-    pub makes_or_frees: bool,
 }
 
 /// A letter that stands on its lane for what a line gave.
@@ -102,10 +98,8 @@ impl Context {
     {
         let lane = self.lane.ok_or(Why::NoLane)?;
         match self.transaction_of(lane) {
-            Some(open) => match operation {
+            Some(_) => match operation {
                 ScriptOp::Begin { .. } => Err(Why::Inside),
-                ScriptOp::Publish if open.makes_or_frees => Err(Why::Word),
-                ScriptOp::Alloc { .. } | ScriptOp::Free { .. } if open.publishes => Err(Why::Word),
                 _ => Ok(lane),
             },
             None => match operation {
@@ -141,44 +135,16 @@ impl Context {
         ensures { OnOk result (self.new ≡ context_behind self.old line (Some (says.Operation operation.now))) }
     {
         match operation {
-            ScriptOp::Begin { .. } => self.begun.push(OpenTransaction {
+            ScriptOp::Begin { .. } => self.begun.push(OpenTransaction { lane, line })?,
+            ScriptOp::Alloc { letter, .. } => self.bind(Binding {
                 lane,
+                letter: *letter,
                 line,
-                publishes: false,
-                makes_or_frees: false,
             })?,
-            ScriptOp::Alloc { letter, .. } => {
-                self.follow_make_or_free(lane);
-                self.bind(Binding {
-                    lane,
-                    letter: *letter,
-                    line,
-                })?;
-            }
-            ScriptOp::Free { .. } => self.follow_make_or_free(lane),
-            ScriptOp::Publish => self.follow_publish(lane),
             ScriptOp::Commit => self.begun.retain(|transaction| transaction.lane != lane),
             _ => {}
         }
         Ok(())
-    }
-
-    /// Follows a publish of the lane, whose transaction has it, if one is open.
-    fn follow_publish(&mut self, lane: u64)
-        ensures { self.new ≡ record self.old { begun = map (behind_publish lane) self.old.begun } }
-    {
-        for transaction in self.begun.iter_mut() {
-            transaction.publishes |= transaction.lane == lane;
-        }
-    }
-
-    /// Follows an alloc or a free of the lane's transaction.
-    fn follow_make_or_free(&mut self, lane: u64)
-        ensures { self.new ≡ record self.old { begun = map (behind_make_or_free lane) self.old.begun } }
-    {
-        for transaction in self.begun.iter_mut() {
-            transaction.makes_or_frees |= transaction.lane == lane;
-        }
     }
 
     /// Adds a binding in place of the last one of its lane and letter.

@@ -6,14 +6,13 @@ ghost use Rattle.pm_script.specs.declared.fault.ScriptFault.TheVariants.{Memory}
 use std::alloc::{AllocError, AllocFailed};
 use thiserror::Error;
 
-/// What is wrong with a line of a script, in the order in which one line is tried; `Word` is also tried behind `Outside`.
+/// What is wrong with a line of a script, in the order in which one line is tried.
 #[derive(Clone, Copy, Debug, PartialEq, Eq, Error)]
 pub enum Why {
     /// A byte is not one of 0x20 to 0x7E.
     #[error("Text")]
     Text,
-    /// The first word is none of a script's. Not yet taken either, and tried last: a publish in a transaction that makes or
-    /// frees objects, and an alloc or a free in one that publishes.
+    /// The first word is none of a script's.
     #[error("Word")]
     Word,
     /// The first word takes another number of operands.

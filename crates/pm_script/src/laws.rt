@@ -19,8 +19,7 @@ pub fn the_lines_of_a_script_rise()
     ensures { (lines : List (List ℕ)) (script : Script) → IsScript lines script → IsStrictlyIncreasing (map (λ (line : ScriptLine). line.line) script.lines) }
 {}
 
-/// A law: the operations on a lane's lines are transactions, of which none both publishes and makes or frees objects, and calls outside of them, one after
-/// another. No code runs.
+/// A law: the operations on a lane's lines are transactions, and calls outside of them, one after another. No code runs.
 pub fn a_lanes_lines_are_calls()
     ensures { (lines : List (List ℕ)) (script : Script) → IsScript lines script → (lane : ℕ) → AreCalls (operations (of_lane lane script.lines)) }
 {}

@@ -107,7 +107,7 @@ fn tells(rt: &impl Abort, alloc: Global, text: &str, wanted: &str) -> Result<(),
 }
 
 /// Texts that are scripts, and what they say.
-const SCRIPTS: [(&str, &str); 23] = [
+const SCRIPTS: [(&str, &str); 28] = [
     // nothing is said
     ("", "1 lanes;"),
     ("# nothing\n\n", "1 lanes;"),
@@ -189,6 +189,27 @@ const SCRIPTS: [(&str, &str); 23] = [
     (
         "lane 1\nbegin\nalloc b 64 0\nlane 0\nbegin\nalloc b 64 0\nlane 1\nalloc b 64 0\nlane 0\nfree $b\ncommit\nlane 1\nread $b 0 8\ncommit\n",
         "2 lanes; 2 1 begin; 3 1 alloc b 64 0; 5 0 begin; 6 0 alloc b 64 0; 8 1 alloc b 64 0; 10 0 free $6; 11 0 commit; 13 1 read $8 0 8; 14 1 commit;",
+    ),
+    // a transaction publishes, and makes or frees objects, in any order
+    (
+        "lane 0\nbegin\nalloc a 64 0\npublish\ncommit",
+        "1 lanes; 2 0 begin; 3 0 alloc a 64 0; 4 0 publish; 5 0 commit;",
+    ),
+    (
+        "lane 0\nbegin\nfree root\ncancel\npublish\ncommit",
+        "1 lanes; 2 0 begin; 3 0 free root; 4 0 cancel; 5 0 publish; 6 0 commit;",
+    ),
+    (
+        "lane 0\nbegin\npublish\nalloc a 64 0\nset $a 0 42\npublish\nfree $a\ncommit",
+        "1 lanes; 2 0 begin; 3 0 publish; 4 0 alloc a 64 0; 5 0 set $4 0 42; 6 0 publish; 7 0 free $4; 8 0 commit;",
+    ),
+    (
+        "lane 0\nbegin\nset root 8 1\npublish\ncancel\nfree root\ncommit",
+        "1 lanes; 2 0 begin; 3 0 set root 8 1; 4 0 publish; 5 0 cancel; 6 0 free root; 7 0 commit;",
+    ),
+    (
+        "lane 0\nbegin\nalloc a 64 0\nlane 1\nbegin\npublish\nlane 0\npublish\ncommit\nlane 1\ncommit",
+        "2 lanes; 2 0 begin; 3 0 alloc a 64 0; 5 1 begin; 6 1 publish; 8 0 publish; 9 0 commit; 11 1 commit;",
     ),
     // one lane publishes while another makes an object, and later publishes too
     (
@@ -348,23 +369,14 @@ const UNBOUND: [(&str, &str); 13] = [
     ),
 ];
 
-/// Transactions that publish, and make or free objects.
-const MIXED: [(&str, &str); 9] = [
-    ("lane 0\nbegin\nalloc a 64 0\npublish\ncommit", "4 Word"),
-    ("lane 0\nbegin\nfree root\ncancel\npublish", "5 Word"),
-    ("lane 0\nbegin\npublish\nalloc a 64 0", "4 Word"),
-    (
-        "lane 0\nbegin\nset root 8 1\npublish\ncancel\nfree root",
-        "6 Word",
-    ),
+/// Bad lines of transactions that publish, and make or free objects.
+const MIXED: [(&str, &str); 6] = [
     ("lane 0\nbegin\npublish\nalloc a x 0", "4 Number"),
     ("lane 0\nbegin\npublish\nfree $a", "4 Letter"),
     ("lane 0\nbegin\nalloc a 64 0\npublish 1", "4 Count"),
     ("lane 0\nbegin\npublish\nlane 1\nfree root", "5 Outside"),
-    (
-        "lane 0\nbegin\nalloc a 64 0\nlane 1\nbegin\npublish\nlane 0\npublish",
-        "8 Word",
-    ),
+    ("lane 0\nbegin\nalloc a 64 0\npublish\nbegin", "5 Inside"),
+    ("lane 0\nbegin\npublish\nalloc a 64 0", "2 Open"),
 ];
 
 /// Two reasons in one line.

@@ -1,6 +1,5 @@
 -- Behind an operation that tells nothing of the heap, and makes no memory call or only settles, a lane has its lists still.
-use Rattle.std.proofs.Common.{◌≡◌, ℕ, List, [], ◌∷◌, ◌++◌, slice_index, Option, None, Some, option_map, refl, sym, ap, ◌∙◌, subst}
-use Rattle.std.specs.List.{All}
+use Rattle.std.proofs.Common.{◌≡◌, ℕ, List, [], ◌∷◌, slice_index, Option, None, Some, option_map, refl, sym, ap, subst}
 use Rattle.pm_image.specs.Blocks.{descriptor_word}
 use Rattle.pm_made.specs.Made.{BlockLists}
 use Rattle.pm_objects.specs.declared.calls.Operation.{Operation}

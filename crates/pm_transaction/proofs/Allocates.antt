@@ -1,5 +1,5 @@
 -- Where a lane that works alone made an object and told it, it is at work still, and may make another.
-use Rattle.std.proofs.Common.{◌≡◌, ◌⊎◌, inl, inr, ℕ, ◌+◌, ◌*◌, ◌/◌, ◌<◌, ◌≤◌, true, false, IsTrue, is_some, List, [], ◌∷◌, ◌++◌, Contains, map, length, slice_index, Some, refl, sym, ap, ◌∙◌, subst, arith, eqb}
+use Rattle.std.proofs.Common.{◌≡◌, ◌⊎◌, inl, inr, ℕ, ◌+◌, ◌*◌, ◌/◌, ◌≤◌, true, false, IsTrue, is_some, List, [], ◌∷◌, ◌++◌, Contains, map, length, slice_index, Some, sym, ap, ◌∙◌, subst, arith, eqb}
 use Rattle.std.specs.List.{All}
 use Rattle.std.specs.Option.{ForSome}
 use Rattle.std.proofs.lemmas.Bool.{and_parts, eqb-true, false_from_ne_true, leb-true}
@@ -11,10 +11,8 @@ use Rattle.pm_image.specs.declared.block.Block.{Block}
 use Rattle.pm_image.specs.Blocks.{descriptor_word}
 use Rattle.pm_model.specs.Actions.{max_entries}
 use Rattle.pm_objects.specs.declared.calls.Operation.TheVariants.{Alloc}
-use Rattle.pm_objects.specs.declared.history.TxErr.TheVariants as error
 use Rattle.pm_objects.specs.declared.history.Value.TheVariants.{Offset}
 use Rattle.pm_objects.specs.declared.pool.PoolView.{PoolView}
-use Rattle.pm_model.specs.declared.stage.Stage.TheVariants as model_stage
 use Rattle.pm_view.specs.Area.{is_in_area}
 use Rattle.pm_view.specs.Blocks.{chunk_of, zone_page}
 use Rattle.pm_view.specs.Log.{Log}
@@ -24,10 +22,8 @@ use Rattle.pm_view.specs.Views.{reserves}
 use Rattle.pm_world.proofs.Apart.{area_bounds}
 use Rattle.pm_world.specs.Lanes.{span_of}
 use Rattle.pm_world.specs.Opening.{Opening}
-use Rattle.pm_world.specs.declared.lane.HeldLock.{HeldLock}
 use Rattle.pm_world.specs.declared.lane.Lane.{Lane}
 use Rattle.pm_undo.specs.Spans.{IsSpan}
-use Rattle.pm_undo.specs.Working.{FindsOpening}
 use Rattle.pm_lock.specs.Finding.{FindsObject}
 use Rattle.pm_crash.proofs.CallBlocks.{blocks_once_more}
 use Rattle.pm_crash.proofs.PendingOn.{published_once_more}
@@ -49,6 +45,7 @@ use Rattle.pm_epoch.proofs.ToldObjects.{allocates, goes_on as told_goes_on}
 use Rattle.pm_epoch.specs.Allocating.{IsCallAlone, IsCallAloneStill, IsFoundAt, MakesObject, object_in_block, with_object_told}
 use Rattle.pm_tx.proofs.Objects.{is_found}
 use Rattle.pm_tx.proofs.GoingOn.{HasSameFields, KeepsObjects, goes_on}
+use Rattle.pm_tx.proofs.NoneMade.{made_none_before}
 use Rattle.pm_tx.specs.AtWork.{IsAtWork}
 use Rattle.pm_transaction.proofs.Owned.{under_its_lock}
 use Rattle.pm_transaction.specs.Allocating.{MayAllocate, made_in_block}
@@ -138,6 +135,7 @@ module _ {M : Type 0} (o : Opening) (at : M → View → Type 0) (lane : Lane M)
       still.alone.can.run.working
       (ap (λ (l : Log). l.entries) gains.still.log ∙ is.work.no_entries)
       (published_once_more v w (Alloc size kind) (Some (Offset n.off)) gains.still.entries is_allocated.tells.call ∙ append-nil (published_in v))
+      (made_none_before v w (Alloc size kind) (Some (Offset n.off)) is_allocated.tells.call tt)
       still.alone.under_way
 
   -- ---- its lists

@@ -32,6 +32,7 @@ use Rattle.pm_tx.proofs.AddsAtWork.{listed_is_known}
 use Rattle.pm_tx.proofs.BorneOut.{HasSameHeads, borne_still}
 use Rattle.pm_tx.proofs.GoingOn.{HasSameFields, goes_on, objects_kept}
 use Rattle.pm_tx.proofs.LearnsAtWork.{looks_once}
+use Rattle.pm_tx.proofs.NoneMade.{made_none_same}
 use Rattle.pm_tx.specs.AtWork.{IsAtWork}
 use Rattle.pm_tx.specs.Learning.{Finds, Looks}
 use Rattle.pm_transaction.proofs.GoingWith.{Keeps, kept_of, looks_keep}
@@ -73,6 +74,7 @@ module _ {M : Type 0} (o : Opening) (at : M → View → Type 0) (lane next : La
       goes_on o at lane next v looked work fields (objects_kept v looked call (λ k there. learned.same (8 * k.line + 1) (size_known k there))) seen
       (ap (λ rs. rs.items) records ∙ (work.seen.records ∙ ap (λ (l : Log). map span_of l.records) (sym learned.log))) (subst (λ rs. All IsSpan rs.items) (sym records) work.spans)
       (opening_learned v 64 x (root_is_plain v) o work.opening) learned.working (ap (λ (l : Log). l.entries) learned.log ∙ work.no_entries) (published_same v looked call.entries call.call)
+      (made_none_same v looked call.call)
       (goes_on_learning v looked lane.level _ _ work.under_way
       (record { keeps = record { lanes = call.lane.lanes; zones = call.lane.zones; pool = call.lane.pool; lane = call.lane.lane; entries = call.entries; known = call.remembers }; locks = call.locks; call = call.call })
       (record { records = ap (λ (l : Log). l.records) learned.log; entries = ap (λ (l : Log). l.entries) learned.log })

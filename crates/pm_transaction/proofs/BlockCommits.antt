@@ -1,5 +1,5 @@
 -- A lane at work with its lists commits what it published and its objects, whose entries it lists behind those of the published actions.
-use Rattle.std.proofs.Common.{◌≡◌, ◌⊎◌, ⊎_elim, inl, inr, ℕ, ◌+◌, ◌≤◌, true, All, List, [], ◌∷◌, ◌++◌, map, length, length-append, Ok, None, Option, Some, refl, sym, ap, ◌∙◌, subst, arith}
+use Rattle.std.proofs.Common.{◌≡◌, ◌⊎◌, ⊎_elim, inr, ℕ, ◌+◌, ◌≤◌, true, All, List, [], ◌∷◌, ◌++◌, map, length, length-append, Ok, None, Option, Some, refl, sym, ap, ◌∙◌, subst, arith}
 use Rattle.std.proofs.lemmas.List.{append-nil, length-map}
 use Rattle.std.proofs.lemmas.List.Elements.{All-append, All-weaker}
 use Rattle.pm_crash.proofs.CallBlocks.{blocks_once_more}
@@ -13,7 +13,7 @@ use Rattle.pm_made.specs.declared.objects.Made.{Made}
 use Rattle.pm_objects.specs.declared.calls.Operation.TheVariants.{Commit}
 use Rattle.pm_pending.specs.Pending.{entry_of}
 use Rattle.pm_record.specs.declared.redo.Redo.{Redo}
-use Rattle.pm_redo.specs.Entering.{EntersHeap, IsOfPool, MayEnter}
+use Rattle.pm_redo.specs.Entering.{EntersHeap, MayEnter}
 use Rattle.pm_view.specs.Steps.Step.{Tell}
 use Rattle.pm_view.specs.View.{View}
 use Rattle.pm_view.specs.Views.{after}
@@ -25,7 +25,7 @@ use Rattle.pm_world.specs.declared.lane.Lane.{Lane}
 use Rattle.pm_world.specs.declared.lane.Span.{Span}
 use Rattle.pm_tx.proofs.CommitSteps.{behind_commit, commit_last, commit_lawful, deciding_of, stopped_among}
 use Rattle.pm_tx.proofs.Committed.{committed, stopped_committing}
-use Rattle.pm_tx.specs.AtWork.{IsAtWork}
+use Rattle.pm_tx.specs.AtWork.{IsAtWork, PublishesLocked}
 use Rattle.pm_tx.specs.Ending.{IsEndedBy, IsStoppedAmong, IsStoppedIn, MayCommitCall, PublishesNoBlock, StopsDrawn}
 use Rattle.pm_tx.specs.Generations.{CanPublish}
 use Rattle.pm_tx.specs.Sequences.{commits, logs_listed}
@@ -53,7 +53,7 @@ module _ {M : Type 0} (o : Opening) (at : M → View → Type 0) (lane : Lane M)
   no_entries no_block =
       let none : ((blocks_in v).made ≡ []) × ((blocks_in v).freed ≡ []) = ⊎_elim
       (λ (keeps : KeepsBlocks v). (ap (λ (b : CallBlocks). b.made) keeps.blocks, ap (λ (b : CallBlocks). b.freed) keeps.blocks))
-      (λ (borne : ((blocks_in v).made ≡ []) × ((blocks_in v).freed ≡ []) × IsBorneOut v). (borne.0, borne.1)) no_block in
+      (λ (borne : ((blocks_in v).made ≡ []) × ((blocks_in v).freed ≡ []) × IsBorneOut v × PublishesLocked v). (borne.0, borne.1)) no_block in
       let freed : blocks.freed ≡ [] = none_mapped (λ (f : Freed). f.off) blocks.freed (is.lists.freed ∙ none.1) in
       let made : blocks.made ≡ [] = none_mapped new_of blocks.made (is.lists.made ∙ none.0) in
       λ i. map (entry_freeing v.lanes) (freed i) ++ map (entry_making v.lanes) (made i)
@@ -81,7 +81,7 @@ module _ {M : Type 0} (o : Opening) (at : M → View → Type 0) (lane : Lane M)
           let made = length-map blocks.made (entry_making v.lanes) in
           let few = lists_few in omega (arith, all, both, freed, made, few));
       each = All-append (MayEnter v) lane.entries.items (entries_of v.lanes blocks)
-          (All-weaker (IsOfPool v) (MayEnter v) (λ e own. inl own) lane.entries.items is.work.published.of_pool)
+          is.work.published.may_enter
           (All-weaker (EntersHeap v) (MayEnter v) (λ e heap. inr heap) (entries_of v.lanes blocks) can.enters);
       may_come = is.work.may_come;
     }

@@ -1,8 +1,7 @@
 -- The views on the way of a commit that publishes entries: all is made persistent, the entries are logged, and the commit is told; then the number is drawn, and the log
 -- performed. To where the number is drawn the lane works alone, and its call is committed.
-use Rattle.std.proofs.Common.{◌≡◌, inl, inr, ℕ, ◌/◌, ◌<◌, ◌≤◌, ◌&&◌, true, false, All, Option, List, [], ◌∷◌, ◌++◌, length, length-append, map, slice_index, None, refl, sym, ap, ◌∙◌, subst, arith}
-use Rattle.std.specs.List.{list_any}
-use Rattle.std.specs.Option.{ForSome, is_some}
+use Rattle.std.proofs.Common.{◌≡◌, inr, ℕ, ◌<◌, ◌≤◌, false, All, Option, List, [], ◌∷◌, ◌++◌, length, length-append, map, slice_index, None, refl, sym, ap, ◌∙◌, subst, arith}
+use Rattle.std.specs.Option.{ForSome}
 use Rattle.std.proofs.lemmas.List.{length-map}
 use Rattle.std.proofs.lemmas.List.Elements.{All-append, All-cons, All-head, All-nil, All-tail, All-weaker}
 use Rattle.pm_header.specs.declared.header.Header.{Header}
@@ -14,20 +13,18 @@ use Rattle.pm_model.specs.Actions.{Action}
 use Rattle.pm_model.specs.Actions.Action.{SetWord}
 use Rattle.pm_model.specs.declared.stage.Stage.TheVariants as model_stage
 use Rattle.pm_pending.specs.Pending.{entry_of}
-use Rattle.pm_record.specs.declared.redo.Op.TheVariants.{Set}
 use Rattle.pm_record.specs.declared.redo.Redo.{Redo}
 use Rattle.pm_redo.proofs.Logged.{log_lawful}
 use Rattle.pm_redo.proofs.Performed.{perform_lawful}
 use Rattle.pm_redo.proofs.Whole.{heap_kept, may_enter_kept}
-use Rattle.pm_redo.specs.Entering.{AreEntered, EntersHeap, HasLogged, IsOfPool, IsPerformed, IsReadyToLog, IsReadyToPerform, MayEnter, ending, final_of}
+use Rattle.pm_redo.specs.Entering.{AreEntered, EntersHeap, HasLogged, IsPerformed, IsReadyToLog, IsReadyToPerform, MayEnter, ending, final_of}
 use Rattle.pm_redo.specs.Sequences.{ending_of, logs}
 use Rattle.pm_view.specs.Area.{area_word, is_in_area}
 use Rattle.pm_view.specs.Log.{Log, Phase, log_drawn}
 use Rattle.pm_view.specs.Log.Phase.{Drawn, Open}
 use Rattle.pm_view.specs.Steps.{Step}
 use Rattle.pm_view.specs.Steps.Step.{Draw, Tell}
-use Rattle.pm_view.specs.Held.{is_under}
-use Rattle.pm_view.specs.View.{Lock, Told, View}
+use Rattle.pm_view.specs.View.{Told, View}
 use Rattle.pm_view.specs.Views.{after, after_all}
 use Rattle.pm_world.specs.Lawful.{MayTell, generation_limit}
 use Rattle.pm_world.specs.Opening.{Opening}
@@ -53,6 +50,7 @@ use Rattle.pm_undo.proofs.Staying.{same_call-then, same_settled}
 use Rattle.pm_undo.proofs.Written.{settled_works}
 use Rattle.pm_undo.specs.Working.{IsSameCall, IsSettled}
 use Rattle.pm_tx.proofs.BorneOut.{HasSameHeads, borne_on, same_heads_outside}
+use Rattle.pm_tx.proofs.GoingOn.{sets_on}
 use Rattle.pm_tx.proofs.Published.{some_drawn}
 use Rattle.pm_tx.specs.Sequences.{performs_logged}
 use Rattle.pm_transaction.specs.AtWork.{IsAtWorkWith}
@@ -83,22 +81,14 @@ performed_view v entries n = after_all (number_view v entries n) (performs_logge
 abbrev pub steps_to_draw : View → List Redo → List Step
 steps_to_draw v entries = (settles v ++ logs entries (settled_view v)) ++ Tell Commit None ∷ []
 
--- what an entry that sets a word of the pool is of, and one of the heap, stays so as the number is drawn
-set_at : (v l : View) (e : Redo) (n : ℕ) → IsSameCall v l → e.op ≡ Set → IsOfPool v e → MayEnter (after (after l (Tell Commit None)) (Draw n)) e
-set_at v l e n call sets o = inl (record {
-  entry = o.entry;
-  own = subst (λ (locks : List Lock). list_any (λ (k : Lock). k.write && is_some k.block && is_under (e.place / 8) k) locks ≡ true) (sym call.locks) o.own;
-  outside = ap (λ j. is_in_area j (e.place / 8)) call.lane.lane ∙ o.outside;
-  inside = (let size = call.lane.size in let inside = o.inside in omega (arith, size, inside));
-  known = inl sets;
-})
-
-sets_at : (v l : View) (actions : List Action) (n : ℕ) → IsSameCall v l → All (IsOfPool v) (map entry_of actions) → All (MayEnter (after (after l (Tell Commit None)) (Draw n))) (map entry_of actions)
+-- what an entry that sets its word is of, and one of the heap, stays so as the number is drawn
+sets_at : (v l : View) (actions : List Action) (n : ℕ) → IsSameCall v l → All (MayEnter v) (map entry_of actions) → All (MayEnter (after (after l (Tell Commit None)) (Draw n))) (map entry_of actions)
 sets_at v l [] n call each = All-nil (MayEnter (after (after l (Tell Commit None)) (Draw n)))
 sets_at v l (SetWord id off value ∷ actions) n call each =
     All-cons (MayEnter (after (after l (Tell Commit None)) (Draw n))) (entry_of (SetWord id off value)) (map entry_of actions)
-    (set_at v l (entry_of (SetWord id off value)) n call refl (All-head (IsOfPool v) (entry_of (SetWord id off value)) (map entry_of actions) each))
-    (sets_at v l actions n call (All-tail (IsOfPool v) (entry_of (SetWord id off value)) (map entry_of actions) each))
+    (sets_on v (after (after l (Tell Commit None)) (Draw n)) (let s = call.lane in record { lanes = s.lanes; zones = s.zones; pool = s.pool; lane = s.lane; stop = s.stop; table = s.table; size = s.size }) call.locks
+    (entry_of (SetWord id off value)) refl (All-head (MayEnter v) (entry_of (SetWord id off value)) (map entry_of actions) each))
+    (sets_at v l actions n call (All-tail (MayEnter v) (entry_of (SetWord id off value)) (map entry_of actions) each))
 
 heap_at : (l : View) (e : Redo) (n : ℕ) → EntersHeap l e → MayEnter (after (after l (Tell Commit None)) (Draw n)) e
 heap_at l e n h = inr (record { entry = h.entry; alone = h.alone; unlocked = h.unlocked; outside = h.outside; inside = h.inside; small = h.small })
@@ -154,7 +144,7 @@ module _ {M : Type 0} (o : Opening) (at : M → View → Type 0) (lane : Lane M)
   }
 
   may_enter : All (MayEnter v) entries
-  may_enter = All-append (MayEnter v) lane.entries.items (entries_of v.lanes blocks) (All-weaker (IsOfPool v) (MayEnter v) (λ e of. inl of) lane.entries.items is.work.published.of_pool)
+  may_enter = All-append (MayEnter v) lane.entries.items (entries_of v.lanes blocks) is.work.published.may_enter
       (All-weaker (EntersHeap v) (MayEnter v) (λ e h. inr h) (entries_of v.lanes blocks) may.enters)
 
   written : Ready m (logs entries m) × HasLogged m entries l
@@ -245,7 +235,7 @@ module _ {M : Type 0} (o : Opening) (at : M → View → Type 0) (lane : Lane M)
 
     pub each_d : All (MayEnter d) entries
     each_d = All-append (MayEnter d) lane.entries.items (entries_of v.lanes blocks)
-        (subst (All (MayEnter d)) (sym is.work.published.listed) (sets_at v l (published_in v) n call_l (subst (All (IsOfPool v)) is.work.published.listed is.work.published.of_pool)))
+        (subst (All (MayEnter d)) (sym is.work.published.listed) (sets_at v l (published_in v) n call_l (subst (All (MayEnter v)) is.work.published.listed is.work.published.may_enter)))
         (All-weaker (EntersHeap v) (MayEnter d) (λ e h. heap_at l e n (heap_kept v l e call_l outside_l h)) (entries_of v.lanes blocks) may.enters)
 
     entered : AreEntered d (entries ++ ending d ∷ [])

@@ -1,15 +1,12 @@
 -- A lane that gave its locks back may reclaim what it has, and rests behind that.
-use Rattle.std.proofs.Common.{◌≡◌, inl, ℕ, List, [], map, length, Option, Some, ◌+◌, ◌*◌, ◌<◌, ◌≤◌, arith, refl, sym, ap, ◌∙◌, subst}
+use Rattle.std.proofs.Common.{◌≡◌, inl, ℕ, List, [], map, length, Option, Some, ◌<◌, arith, sym, ap, ◌∙◌, subst}
 use Rattle.std.specs.Option.{ForSome}
-use Rattle.pm_layout.specs.declared.shape.Shape.{Shape}
 use Rattle.pm_lock.specs.Locking.{gives}
-use Rattle.pm_lock.specs.Resting.{IsAtRest, IsFresh}
+use Rattle.pm_lock.specs.Resting.{IsAtRest}
 use Rattle.pm_reclaim.specs.KnownTaken.{KnowsTaken}
-use Rattle.pm_reclaim.specs.Reclaims.{HasNothingLeft, HasReclaimed, MayReclaim, Reclaims}
+use Rattle.pm_reclaim.specs.Reclaims.{HasNothingLeft, HasReclaimed, MayReclaim}
 use Rattle.pm_tx.specs.Ending.{IsClosedBy}
 use Rattle.pm_view.specs.Founds.{IsAlone}
-use Rattle.pm_view.specs.Log.{Log, no_log}
-use Rattle.pm_view.specs.Log.Phase.{Idle, Open}
 use Rattle.pm_view.specs.View.{View}
 use Rattle.pm_world.specs.Lanes.{last_number_of, span_of}
 use Rattle.pm_world.specs.declared.lane.HeldLock.{HeldLock}

@@ -1,5 +1,5 @@
 -- The words that a lane alone may enter to allocate or free a block: a chunk's descriptor, and the bitmap of a run, by its words.
-use Rattle.std.proofs.Common.{◌≡◌, ⊎_elim, inl, ℕ, ◌+◌, ◌-◌, ◌*◌, ◌/◌, ◌%◌, ◌^◌, ◌<◌, ◌≤◌, ◌&&◌, ◌||◌, true, false, not, eqb, leb, length, slice_index, None, refl, sym, ap, ◌∙◌, subst, arith}
+use Rattle.std.proofs.Common.{◌≡◌, ⊎_elim, inl, inr, ℕ, ◌+◌, ◌-◌, ◌*◌, ◌/◌, ◌%◌, ◌^◌, ◌<◌, ◌≤◌, ◌&&◌, ◌||◌, true, false, not, eqb, leb, length, slice_index, None, refl, sym, ap, ◌∙◌, subst, arith}
 use Rattle.std.specs.Int.{bit_at}
 use Rattle.std.proofs.lemmas.Bool.{and_parts, eq-eqb, false_from_ne_true, false≢true, leb-true, not-true, or_cases}
 use Rattle.pm_header.specs.declared.header.Header.{Header}
@@ -47,7 +47,7 @@ may_be_entered v e i alone place value word =
       unlocked = ap (is_written v) same ∙ word.unlocked;
       outside = ap (is_in_area v.lane) same ∙ word.outside;
       inside = (let inside = word.inside in omega (arith, same, inside));
-      small = subst (λ k. slice_index v.words k < 2 ^ 64) (sym same) word.small;
+      small = inr (subst (λ k. slice_index v.words k < 2 ^ 64) (sym same) word.small);
     }
 
 module _ (o : Opening) (header : Header) (pool : PoolView) (v : View) (s : StandsAlone o header pool v) where

@@ -38,6 +38,7 @@ use Rattle.pm_world.specs.Sequences.{Ready, one}
 use Rattle.pm_world.specs.declared.lane.Lane.{Lane}
 use Rattle.pm_tx.proofs.BorneOut.{HasSameHeads, heads_taken_back}
 use Rattle.pm_tx.proofs.GoingOn.{HasSameFields, goes_on}
+use Rattle.pm_tx.proofs.NoneMade.{made_none_before}
 use Rattle.pm_tx.specs.AtWork.{IsAtWork}
 use Rattle.pm_tx.specs.Ending.{GivesUpBy}
 use Rattle.pm_transaction.proofs.AtWork.{borne_told}
@@ -111,7 +112,7 @@ module _ {M : Type 0} (o : Opening) (at : M → View → Type 0) (lane : Lane M)
       (record { lane = same_lane-after v (Tell (Free id) None); locks = refl; number = refl; entries = refl; remembers = λ i there. there; seen = λ s there. there; sizes = λ l held. refl })
       seen (ap (λ rs. rs.items) records ∙ is.work.seen.records) (subst (λ rs. All IsSpan rs.items) (sym records) is.work.spans)
       (let f = is.work.opening in record { lane = f.lane; lanes = f.lanes; size = f.size; descriptors = f.descriptors; locks = f.locks })
-      (tell_works v (Free id) None is.work.working) is.work.no_entries (published_once_more v told (Free id) None refl refl ∙ append-nil (published_in v)) (still_under_way x can)
+      (tell_works v (Free id) None is.work.working) is.work.no_entries (published_once_more v told (Free id) None refl refl ∙ append-nil (published_in v)) (made_none_before v told (Free id) None refl tt) (still_under_way x can)
 
   heads_told : HasSameHeads v told
   heads_told = record { lanes = refl; zones = refl; reserved = refl; described = λ c in_pool. refl; root = refl }

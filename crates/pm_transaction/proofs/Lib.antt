@@ -44,3 +44,7 @@ pub mod MakingSteps
 pub mod MadeBySteps
 pub mod NoRoomFound
 pub mod StopsMaking
+pub mod PublishKept
+pub mod PublishChecks
+pub mod PublishEntries
+pub mod Publishes

@@ -1,5 +1,5 @@
 -- A lane that made an object and told it has allocated: the steps led there, and where it works alone it is at work still.
-use Rattle.std.proofs.Common.{◌≡◌, ℕ, ◌+◌, ◌≤◌, List, [], ◌∷◌, ◌++◌, refl, sym, ap, ◌∙◌, subst}
+use Rattle.std.proofs.Common.{◌≡◌, ℕ, ◌+◌, ◌≤◌, [], ◌∷◌, ◌++◌, refl, sym, ap, ◌∙◌}
 use Rattle.pm_image.specs.declared.block.Block.{Block}
 use Rattle.pm_layout.specs.Sizes.{class_of}
 use Rattle.pm_model.specs.Actions.{max_entries}

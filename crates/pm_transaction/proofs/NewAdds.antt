@@ -23,6 +23,7 @@ use Rattle.pm_crash.specs.Operations.{AddsNewRange, HasNewRange}
 use Rattle.pm_crash.specs.Pending.{published_in}
 use Rattle.pm_tx.proofs.BorneOut.{HasSameHeads}
 use Rattle.pm_tx.proofs.GoingOn.{HasSameFields, goes_on}
+use Rattle.pm_tx.proofs.NoneMade.{made_none_before}
 use Rattle.pm_tx.specs.AtWork.{IsAtWork}
 use Rattle.pm_transaction.proofs.GoingWith.{Keeps, keeps_told, kept_of, with_lists}
 use Rattle.pm_transaction.specs.AtWork.{IsAtWorkWith}
@@ -66,6 +67,7 @@ module _ {M : Type 0} (o : Opening) (at : M → View → Type 0) (lane : Lane M)
       seen (ap (λ rs. rs.items) records ∙ all.work.seen.records) (subst (λ rs. All IsSpan rs.items) (sym records) all.work.spans)
       (record { lane = t.lane; lanes = t.lanes; size = t.size; descriptors = t.descriptors; locks = t.locks }) (tell_works v (AddRange id off len) None all.work.working) all.work.no_entries
       (published_once_more v w (AddRange id off len) None refl refl ∙ append-nil (published_in v))
+      (made_none_before v w (AddRange id off len) None refl tt)
       (new_add_goes_on v w id off len lane.level all.work.level all.work.under_way added) in
       let keeps : Keeps next.locks.items blocks w =
       keeps_told v w heads next.locks.items blocks (subst (λ (ls : List HeldLock). Keeps ls blocks v) (ap (λ ls. ls.items) (sym fields.locks)) (kept_of o at lane blocks v all)) refl refl (blocks_once_more v w (AddRange id off len) None refl) (AddRange id off len) None refl refl (λ root. tt) in

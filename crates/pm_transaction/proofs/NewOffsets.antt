@@ -1,5 +1,5 @@
 -- Where a new object stands: behind its block's first line, in a page of the pool.
-use Rattle.std.proofs.Common.{◌≡◌, inl, inr, ℕ, ◌+◌, ◌*◌, ◌/◌, ◌%◌, ◌≤◌, ◌<◌, ◌^◌, ap, arith}
+use Rattle.std.proofs.Common.{◌≡◌, inl, inr, ℕ, ◌+◌, ◌*◌, ◌≤◌, ◌<◌, ◌^◌, ap, arith}
 use Rattle.pm_image.specs.declared.block.Block.{Block}
 use Rattle.pm_image.proofs.Rooms.{run_fits}
 use Rattle.pm_layout.specs.Sizes.{class_of}

@@ -1,23 +1,19 @@
 -- A lane that makes no object makes none behind what changes no descriptor and keeps what it has of the heap; and no chunk that it reserved is a run, by page or by number.
-use Rattle.std.proofs.Common.{◌≡◌, ⊎_elim, ℕ, ◌+◌, ◌-◌, ◌*◌, ◌/◌, ◌%◌, ◌<◌, ◌≤◌, ◌&&◌, true, false, List, [], slice_index, refl, sym, ap, ◌∙◌, subst, arith}
+use Rattle.std.proofs.Common.{◌≡◌, ℕ, ◌+◌, ◌-◌, ◌*◌, ◌/◌, ◌%◌, ◌<◌, true, [], slice_index, refl, sym, ap, ◌∙◌, arith}
 use Rattle.std.specs.List.{list_any}
-use Rattle.std.proofs.lemmas.Bool.{and_from, and_parts, cases_Bool, false_from_ne_true, false≢true}
-use Rattle.pm_header.specs.declared.header.Header.{Header}
+use Rattle.std.proofs.lemmas.Bool.{and_from, and_parts, false_from_ne_true, false≢true}
 use Rattle.pm_image.specs.Blocks.{descriptor_word}
 use Rattle.pm_layout.specs.declared.shape.Shape.{Shape}
-use Rattle.pm_objects.specs.declared.pool.PoolView.{PoolView}
 use Rattle.pm_view.specs.declared.occ.Occ.TheVariants.{Zone}
-use Rattle.pm_view.specs.Blocks.{chunk_of, is_run, zone_of, zone_page}
+use Rattle.pm_view.specs.Blocks.{chunk_of, is_run, zone_of}
 use Rattle.pm_view.specs.Blocks.{descriptor_word as lane_descriptor}
-use Rattle.pm_view.specs.Steps.{Step}
 use Rattle.pm_view.specs.View.{View}
-use Rattle.pm_view.specs.Views.{chunk_bit, has_bit, has_chunk, is_made, reserves, zone_at}
-use Rattle.pm_world.specs.Heap.{BlocksFit, IsOcc}
+use Rattle.pm_view.specs.Views.{has_bit, has_chunk, is_made, reserves}
+use Rattle.pm_world.specs.Heap.{BlocksFit}
 use Rattle.pm_world.specs.Opening.{IsChunk, Opening}
 use Rattle.pm_world.proofs.Reserved.{reserved_of_pool}
 use Rattle.pm_crash.proofs.FoundBlocks.{IsPageOf, page_of_chunk}
 use Rattle.pm_crash.proofs.NewRuns.{page_at}
-use Rattle.pm_crash.specs.Alone.{WorksAlone}
 use Rattle.pm_alloc.specs.NewObjects.{CanMakeObject}
 use Rattle.pm_epoch.proofs.FreeChunks.{no_run_reserved}
 use Rattle.pm_epoch.specs.Epochs.{ReservesNoRun}

@@ -1,12 +1,11 @@
 -- An object is refused, before any block was looked for or since none is free: the lane is at work still, and gives its call up.
-use Rattle.std.proofs.Common.{◌≡◌, ◌≢◌, ◌⊎◌, ⊎_elim, inl, inr, ℕ, ◌+◌, ◌*◌, ◌≤◌, List, [], ◌++◌, Contains, map, length, slice_index, Some, refl, sym, ap, ◌∙◌, subst, arith}
+use Rattle.std.proofs.Common.{◌≡◌, ◌≢◌, ◌⊎◌, ⊎_elim, inr, ℕ, ◌+◌, ◌*◌, List, [], map, length, slice_index, Some, refl, sym, ap, ◌∙◌, subst, arith}
 use Rattle.std.specs.List.{All}
 use Rattle.std.specs.Option.{IfSome}
 use Rattle.std.proofs.lemmas.List.{append-nil}
 use Rattle.pm_image.specs.Blocks.{descriptor_word}
 use Rattle.pm_layout.specs.declared.class.Class.{Class}
 use Rattle.pm_layout.specs.declared.class.Class.TheVariants.{Chunks, Lines}
-use Rattle.pm_model.specs.Actions.{max_entries}
 use Rattle.pm_model.specs.declared.stage.Stage.TheVariants as model_stage
 use Rattle.pm_objects.specs.declared.calls.Operation.TheVariants.{Alloc}
 use Rattle.pm_objects.specs.declared.history.TxErr.TheVariants as error
@@ -30,16 +29,16 @@ use Rattle.pm_crash.proofs.CallBlocks.{same_blocks}
 use Rattle.pm_crash.proofs.PendingOn.{published_same}
 use Rattle.pm_crash.proofs.RefusedAlloc.{refused_alloc_aborts}
 use Rattle.pm_crash.proofs.Staying.{goes_on_quietly}
-use Rattle.pm_crash.specs.CallBlocks.{CallBlocks, blocks_in}
+use Rattle.pm_crash.specs.CallBlocks.{CallBlocks}
 use Rattle.pm_crash.specs.OpenCall.{IsUnderWay}
 use Rattle.pm_crash.specs.Operations.{IsAllocReason, entries_so_far}
-use Rattle.pm_crash.specs.Pending.{published_in}
 use Rattle.pm_crash.specs.Reserved.{IsBorneOut}
 use Rattle.pm_epoch.proofs.GainedRooms.{IsCallStill, search_still}
 use Rattle.pm_made.specs.Made.{BlockLists}
 use Rattle.pm_model.specs.Actions.{Action}
 use Rattle.pm_tx.proofs.BorneOut.{HasSameHeads, borne_still, heads_taken_back}
 use Rattle.pm_tx.proofs.GoingOn.{HasSameFields, KeepsObjects, goes_on}
+use Rattle.pm_tx.proofs.NoneMade.{made_none_same}
 use Rattle.pm_tx.specs.AtWork.{IsAtWork}
 use Rattle.pm_tx.specs.Ending.{GivesUpBy}
 use Rattle.pm_transaction.proofs.Allocates.{all_found}
@@ -133,7 +132,7 @@ module _ {M : Type 0} (o : Opening) (at : M → View → Type 0) (lane : Lane M)
       (ap (λ rs. rs.items) records ∙ (is.work.seen.records ∙ ap (λ (l : Log). map span_of l.records) (sym still.log)))
       (subst (λ rs. All IsSpan rs.items) (sym records) is.work.spans)
       opening (works_still v x searched.kept left is.work.working) (ap (λ (l : Log). l.entries) still.log ∙ is.work.no_entries)
-      (published_same v x still.entries still.call) under_way_still
+      (published_same v x still.entries still.call) (made_none_same v x still.call) under_way_still
 
   heads : HasSameHeads v x
   heads = record { lanes = still.lanes; zones = still.zones; reserved = searched.reserved ∙ append-nil v.reserved; described = λ c in_pool. same_word (descriptor_word v.lanes c); root = same_word 64 }

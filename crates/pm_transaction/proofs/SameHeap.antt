@@ -1,5 +1,5 @@
 -- The sequences of ranges leave what a lane has of the heap as it was, from whatever view they are made.
-use Rattle.std.proofs.Common.{◌≡◌, ℕ, zero, suc, ◌+◌, ◌/◌, Bool, true, false, cond, eqb, ltb, List, [], ◌∷◌, map, length, slice_index, Some, None, refl, sym, subst}
+use Rattle.std.proofs.Common.{ℕ, zero, suc, ◌+◌, ◌/◌, Bool, true, false, cond, eqb, ltb, List, [], ◌∷◌, map, length, slice_index, Some, None, refl, sym, subst}
 use Rattle.pm_image.specs.Logs.{slot_line}
 use Rattle.pm_objects.specs.declared.calls.Operation.TheVariants.{AddRange, Read, Write}
 use Rattle.pm_objects.specs.declared.history.Value.TheVariants.{Bytes}

@@ -8,3 +8,4 @@ pub mod MakingSteps
 pub mod Ending
 pub mod Committing
 pub mod Published
+pub mod Publishing

@@ -7,6 +7,7 @@ use pm_layout::Shape;
 use pm_made::{CallBlocks, Made};
 use pm_memory::SoloMem;
 use pm_objects::{Oid, Refusal, TxErr};
+use pm_pending::SetAction;
 use pm_world::{Lane, Stage};
 use std::alloc::Global;
 use std::test::Fail;
@@ -75,7 +76,7 @@ fn fresh(alloc: Global) -> Result<Lane<SoloMem>, Fail>
     })
 }
 
-/// No range is for a lane with no transaction, and no object: nothing is read, and nothing listed. Nor is there anything to commit, or to end.
+/// No range is for a lane with no transaction, and no object: nothing is read, and nothing listed. Nor is there anything to publish, to commit, or to end.
 #[test]
 fn no_transaction(rt: HostRuntime) -> Result<(), Fail> {
     let mut lane = fresh(rt.alloc())?;
@@ -96,6 +97,17 @@ fn no_transaction(rt: HostRuntime) -> Result<(), Fail> {
     );
     assert_eq!(rt; alloc(&mut lane, &mut blocks, 64, 1), Err(Refusal::NoTx));
     assert_eq!(rt; blocks.count(), 0);
+    let mut actions = ArrayVec::new();
+    actions.push(SetAction {
+        id: id(16512),
+        off: 8,
+        value: 42,
+    });
+    assert_eq!(rt;
+        publish(&mut lane, &blocks, &mut actions),
+        Err(Refusal::NoTx)
+    );
+    assert_eq!(rt; actions.len(), 1);
     assert_eq!(rt; commit(&mut lane, &blocks), Err(Refusal::NoTx));
     assert_eq!(rt; end(&mut lane), Err(Refusal::NoTx));
     assert_eq!(rt; lane.level, 0);

@@ -41,6 +41,7 @@ use Rattle.pm_lock.specs.Leading.{DrawEnded}
 use Rattle.pm_tx.proofs.Fronts.{front_undrawn}
 use Rattle.pm_tx.proofs.GivenUp.{undrawn_lane}
 use Rattle.pm_tx.proofs.GoingOn.{HasSameFields, KeepsObjects, goes_on}
+use Rattle.pm_tx.proofs.NoneMade.{made_none_before, pending_leaves_made}
 use Rattle.pm_tx.specs.Actions.{HasCanceled, cancels}
 use Rattle.pm_tx.specs.AtWork.{IsAtWork}
 use Rattle.pm_tx.specs.Ending.{IsStoppedIn}
@@ -120,6 +121,7 @@ module _ (v m : View) (is : IsAsBefore v m) (op : Operation) (reply : Option Val
       (tell_works m op reply is.working)
       (ap (λ (l : Log). l.entries) is.log ∙ work.no_entries)
       (published_told ∙ (ap (λ (more : List Action). published_in v ++ more) none ∙ append-nil (published_in v)))
+      (made_none_before v told op reply tells.call (pending_leaves_made (pending_in v) op reply answer))
       (change_goes_on v told op reply lane.level work.level work.under_way (changes answer))
 
 -- ---- a set-value

@@ -43,6 +43,7 @@ use Rattle.pm_world.specs.declared.lane.Span.{Span}
 use Rattle.pm_lock.proofs.Drawless.{drawless}
 use Rattle.pm_lock.specs.Leading.{DrawEnded}
 use Rattle.pm_tx.proofs.GoingOn.{HasSameFields, KeepsObjects, goes_on}
+use Rattle.pm_tx.proofs.NoneMade.{made_none_before}
 use Rattle.pm_tx.proofs.Objects.{covered_block, covered_under, is_found, size_under}
 use Rattle.pm_tx.proofs.PlannedRecords.{extents_planned, planned_count, present_planned, spans_again}
 use Rattle.pm_memory.specs.Runs.{Stops}
@@ -180,6 +181,7 @@ module _ {M : Type 0} (o : Opening) (at : M → View → Type 0) (lane : Lane M)
           (tell_works u (AddRange id off len) None made.1.working)
           (made.1.entries ∙ work.no_entries)
           (published_once_more v w (AddRange id off len) None added.tells.keeps.entries added.tells.call ∙ append-nil (published_in v))
+          (made_none_before v w (AddRange id off len) None added.tells.call tt)
           (add_goes_on v w id off len lane.level work.level work.under_way added old) in
           record {
             ready = add_may_be_made;

@@ -1,6 +1,5 @@
 -- A call of a lane at work may be committed, and then it is over: what it drew is an ended call's, where it publishes no change of a block.
 use Rattle.std.proofs.Common.{◌≡◌, ◌⊎◌, ⊎_elim, ℕ, ◌+◌, ◌-◌, ◌<◌, ◌≤◌, inl, inr, true, All, List, [], ◌∷◌, map, length, slice_index, Err, None, Ok, OnErr, Result, Some, refl, sym, ap, ◌∙◌, subst, arith}
-use Rattle.std.proofs.lemmas.List.Elements.{All-weaker}
 use Rattle.pm_crash.proofs.CallBlocks.{blocks_once_more, keeps_still, same_blocks}
 use Rattle.pm_crash.proofs.Committed.{commit_is_told, commit_is_whole, commit_makes_its_step}
 use Rattle.pm_crash.proofs.Levels.{inner_commit_goes_on}
@@ -15,7 +14,7 @@ use Rattle.pm_model.specs.Actions.{Action}
 use Rattle.pm_model.specs.Actions.Action.{SetWord}
 use Rattle.pm_pending.specs.Pending.{entry_of}
 use Rattle.pm_record.specs.declared.redo.Redo.{Redo}
-use Rattle.pm_redo.specs.Entering.{IsOfPool, MayEnter, final_of}
+use Rattle.pm_redo.specs.Entering.{IsOfPool, final_of}
 use Rattle.pm_memory.specs.Runs.{Made}
 use Rattle.pm_model.specs.declared.stage.Stage.TheVariants as model_stage
 use Rattle.pm_objects.specs.declared.calls.Operation.TheVariants.{Commit}
@@ -37,7 +36,7 @@ use Rattle.pm_world.specs.declared.lane.Span.{Span}
 use Rattle.pm_world.specs.declared.lane.Stage.TheVariants as stage
 use Rattle.pm_world.proofs.Shapes.{IsOfSamePool}
 use Rattle.pm_lock.specs.Leading.{DrawEnded}
-use Rattle.pm_tx.specs.AtWork.{IsAtWork}
+use Rattle.pm_tx.specs.AtWork.{IsAtWork, PublishesLocked}
 use Rattle.pm_tx.specs.Ending.{IsEndedBy, IsStoppedIn, MayCommitCall, PublishesNoBlock, StopsDrawn}
 use Rattle.pm_tx.specs.Generations.{CanPublish}
 use Rattle.pm_tx.specs.Publishing.{IsWholeOnceLogged}
@@ -48,7 +47,8 @@ use Rattle.pm_tx.specs.Sequences.{commits, decides_all, logs_listed}
 use Rattle.pm_crash.proofs.PendingOn.{published_once_more, published_same}
 use Rattle.pm_crash.specs.Pending.{published_in}
 use Rattle.std.proofs.lemmas.List.{append-nil}
-use Rattle.pm_tx.proofs.GoingOn.{lists_on}
+use Rattle.pm_tx.proofs.GoingOn.{listed_locked, lists_on, locked_on}
+use Rattle.pm_tx.proofs.NoneMade.{keeps_made_none, made_none_before}
 use Rattle.pm_view.proofs.SameLane.{same_lane-after}
 
 -- what entries make final that stand for actions
@@ -60,7 +60,7 @@ finals_for (SetWord id off value ∷ actions) = ap (λ (fs : List Final). entry_
 whole_once_logged : (v : View) → IsUnderWay v 1 model_stage.Work error.None → PublishesNoBlock v → (entries : List Redo) → entries ≡ map entry_of (published_in v) → IsWholeOnceLogged v entries Commit
 whole_once_logged v under_way no_block entries listed next t = ⊎_elim
     (λ (keeps : KeepsBlocks v). inl (commit_is_whole v next (record { under_way = under_way; keeps = keeps }) (record { tells = t.tells; records = t.records; words = t.words; entries = logged })))
-    (λ (borne : ((blocks_in v).made ≡ []) × ((blocks_in v).freed ≡ []) × IsBorneOut v).
+    (λ (borne : ((blocks_in v).made ≡ []) × ((blocks_in v).freed ≡ []) × IsBorneOut v × PublishesLocked v).
     let blocks : blocks_in next ≡ blocks_in v = blocks_once_more v next Commit None t.tells.call in
     inr (
       commit_makes_its_step next (commit_is_told v next under_way t.tells t.records t.words) (ap (λ (b : CallBlocks). b.made) blocks ∙ borne.0) (ap (λ (b : CallBlocks). b.freed) blocks ∙ borne.1)
@@ -90,11 +90,12 @@ module _ (v m : View) (working : IsWorking v) (settled : IsSettled v m) where
   still_no_block inside no_block =
       let blocks : blocks_in m ≡ blocks_in v = same_blocks v m call.call in
       ⊎_elim (λ (keeps : KeepsBlocks v). inl (keeps_still v m call.call keeps))
-      (λ (borne : ((blocks_in v).made ≡ []) × ((blocks_in v).freed ≡ []) × IsBorneOut v).
+      (λ (borne : ((blocks_in v).made ≡ []) × ((blocks_in v).freed ≡ []) × IsBorneOut v × PublishesLocked v).
       inr (
         ap (λ (b : CallBlocks). b.made) blocks ∙ borne.0,
         ap (λ (b : CallBlocks). b.freed) blocks ∙ borne.1,
         borne_still v m (same_heads_outside v m inside call.lane.lanes call.lane.zones call.reserved (λ i outside. ap (λ (u : View). slice_index u.words i) settled)) call.call borne.2,
+        locked_on v m call.lane call.locks (published_same v m call.entries call.call) borne.3,
       ))
       no_block
 
@@ -120,7 +121,7 @@ module _ {M : Type 0} (at : M → View → Type 0) (lane : Lane M) (o : Opening)
   can_publish = record {
     unentered = is.no_entries;
     few = is.published.few;
-    each = All-weaker (IsOfPool v) (MayEnter v) (λ e o. inl o) lane.entries.items is.published.of_pool;
+    each = is.published.may_enter;
     may_come = is.may_come;
   }
 
@@ -130,6 +131,11 @@ module _ {M : Type 0} (at : M → View → Type 0) (lane : Lane M) (o : Opening)
   module _ (no_block : PublishesNoBlock v) (outer : lane.level ≡ 1) (n : ℕ) where
     at_one : IsUnderWay v 1 model_stage.Work error.None
     at_one = subst (λ level. IsUnderWay v level model_stage.Work error.None) outer is.under_way
+
+    -- what it lists is of words under locks
+    listed_own : All (IsOfPool v) lane.entries.items
+    listed_own = listed_locked lane v is.published
+        (⊎_elim (λ (keeps : KeepsBlocks v). is.published.locked (keeps_made_none v keeps)) (λ (borne : ((blocks_in v).made ≡ []) × ((blocks_in v).freed ≡ []) × IsBorneOut v × PublishesLocked v). borne.3) no_block)
 
     -- what it draws is an ended call's
     deciding_drawn : DrawEnded settled_view (decides_all records listed n settled_view)
@@ -141,7 +147,7 @@ module _ {M : Type 0} (at : M → View → Type 0) (lane : Lane M) (o : Opening)
       at_entries (e ∷ entries) are =
           let same = same_settled v settled_view (settle_lawful v).1 in
           some_drawn v settled_view is.working is.no_entries is.may_come (settle_lawful v).1 records e entries
-          (subst (λ (es : List Redo). length es ≤ 63) are is.published.few) (subst (All (IsOfPool v)) are is.published.of_pool)
+          (subst (λ (es : List Redo). length es ≤ 63) are is.published.few) (subst (All (IsOfPool v)) are listed_own)
           (whole_once_logged settled_view (still_under_way v settled_view is.working (settle_lawful v).1 at_one) (still_no_block v settled_view is.working (settle_lawful v).1 at_one.in_lanes no_block) (e ∷ entries)
           (sym are ∙ is.published.listed ∙ ap (map entry_of) (sym (published_same v settled_view same.entries same.call))))
           n
@@ -163,7 +169,8 @@ module _ {M : Type 0} (at : M → View → Type 0) (lane : Lane M) (o : Opening)
     opening = (let f = is.opening in record { lane = f.lane; lanes = f.lanes; size = f.size; descriptors = f.descriptors; locks = f.locks });
     working = tell_works v Commit None is.working;
     no_entries = is.no_entries;
-    published = lists_on lane (record lane { memory = memory; level = lane.level - 1; stage = stage.Work }) v (after v (Tell Commit None)) refl (same_lane-after v (Tell Commit None)) refl (published_once_more v (after v (Tell Commit None)) Commit None refl refl ∙ append-nil (published_in v)) is.published;
+    published = lists_on lane (record lane { memory = memory; level = lane.level - 1; stage = stage.Work }) v (after v (Tell Commit None)) refl (same_lane-after v (Tell Commit None)) refl (published_once_more v (after v (Tell Commit None)) Commit None refl refl ∙ append-nil (published_in v))
+        (made_none_before v (after v (Tell Commit None)) Commit None refl tt) is.published;
     under_way =
         inner_commit_goes_on v (after v (Tell Commit None)) (lane.level - 1) (omega (arith, inner)) (subst (λ level. IsUnderWay v level model_stage.Work error.None) (let e : lane.level ≡ lane.level - 1 + 1 = omega (arith, inner) in e) is.under_way)
         (record { keeps = record { lanes = refl; zones = refl; pool = refl; lane = refl; entries = refl; known = λ i there. there }; locks = refl; call = refl })

@@ -1,5 +1,5 @@
 -- A lane at work stays so by what keeps its locks, what it found under them, and its call.
-use Rattle.std.proofs.Common.{◌≡◌, refl, true, ℕ, ◌+◌, ◌*◌, All, Contains, [], map, slice_index, Some, sym, ap, ◌∙◌, subst, arith, ◌<◌, ◌≤◌, ◌/◌, ◌&&◌, List, is_some, length, get_or, ⊎_elim, inl, inr, ◌^◌}
+use Rattle.std.proofs.Common.{◌≡◌, refl, true, ℕ, ◌+◌, ◌*◌, All, Contains, [], map, slice_index, Some, sym, ap, ◌∙◌, subst, arith, ◌<◌, ◌≤◌, ◌/◌, ◌&&◌, ◌⊎◌, ◌++◌, List, is_some, length, get_or, ⊎_elim, inl, inr, ◌^◌}
 use Rattle.std.specs.Prelude.{nat_eq}
 use Rattle.std.specs.List.{IsDistinct}
 use Rattle.std.specs.Option.{ForSome}
@@ -18,14 +18,15 @@ use Rattle.pm_world.specs.declared.lane.Lane.{Lane}
 use Rattle.pm_world.proofs.Shapes.{shape_seen}
 use Rattle.pm_lock.specs.Finding.{FindsObject}
 use Rattle.pm_tx.specs.AtWork.{IsAtWork}
-use Rattle.std.proofs.lemmas.List.Elements.{All-nil, All-map}
+use Rattle.std.proofs.lemmas.List.{append-nil, map-append}
+use Rattle.std.proofs.lemmas.List.Elements.{All-append, All-nil, All-map, All-weaker}
 use Rattle.pm_crash.specs.Pending.{published_in}
 use Rattle.pm_model.specs.Actions.{Action}
 use Rattle.pm_pending.specs.Pending.{entry_of}
 use Rattle.pm_record.specs.declared.redo.Op.TheVariants.{Set}
 use Rattle.pm_redo.specs.Entering.{EntersHeap, IsOfPool, KnowsWord, MayEnter}
 use Rattle.pm_record.specs.declared.redo.Redo.{Redo}
-use Rattle.pm_tx.specs.AtWork.{ListsPublished}
+use Rattle.pm_tx.specs.AtWork.{ListsPublished, MakesNone, PublishesLocked}
 use Rattle.pm_view.specs.Area.{is_in_area}
 use Rattle.pm_view.specs.Rights.{is_written}
 use Rattle.std.specs.Prelude.{IsTrue}
@@ -96,15 +97,15 @@ pub knows_on : (v w : View) → ((u : ℕ) → Contains v.known u → Contains w
 knows_on v w remembers same e is =
     ⊎_elim inl (λ (t : IsKnownWord v (e.place / 8)). inr (record { known = remembers (e.place / 8) t.known; small = subst (λ n. n < 2 ^ 64) (sym (same (e.place / 8) is.outside)) t.small })) is.known
 
--- an entry of the heap stays one, which asks of its word what it was
-heap_on : (v w : View) → IsSameLane v w → w.locks ≡ v.locks → KeepsOutside v w → (e : Redo) → EntersHeap v e → EntersHeap w e
-heap_on v w lane locks same e is = record {
+-- an entry of the heap stays one, where it sets the word or that has 64 bits still
+heap_on : (v w : View) → IsSameLane v w → w.locks ≡ v.locks → (e : Redo) → EntersHeap v e → (e.op ≡ Set) ⊎ (slice_index w.words (e.place / 8) < 2 ^ 64) → EntersHeap w e
+heap_on v w lane locks e is small = record {
   entry = is.entry;
   alone = lane.table ∙ is.alone;
   unlocked = ap (λ (held : List Lock). list_any (λ (l : Lock). l.write && is_some l.block && is_under (e.place / 8) l) held) locks ∙ is.unlocked;
   outside = ap (λ (k : ℕ). is_in_area k (e.place / 8)) lane.lane ∙ is.outside;
   inside = (let low = is.inside in let size = lane.size in omega (arith, low, size));
-  small = subst (λ n. n < 2 ^ 64) (sym (same (e.place / 8) is.outside)) is.small;
+  small = small;
 }
 
 -- so the lane may enter what it might before, where it knows the words still that it locked for writing
@@ -112,8 +113,12 @@ pub enters_on : (v w : View) → IsSameLane v w → w.locks ≡ v.locks → ((u 
 enters_on v w lane locks remembers same e may = ⊎_elim
     (λ (is : IsOfPool v e).
     inl (of_pool_on v w lane locks e is (⊎_elim inl (λ (t : IsKnownWord v (e.place / 8)). inr (record { known = remembers (e.place / 8) is.own t.known; small = subst (λ n. n < 2 ^ 64) (sym (same (e.place / 8) is.outside)) t.small })) is.known)))
-    (λ (is : EntersHeap v e). inr (heap_on v w lane locks same e is))
+    (λ (is : EntersHeap v e). inr (heap_on v w lane locks e is (subst (λ n. (e.op ≡ Set) ⊎ (n < 2 ^ 64)) (sym (same (e.place / 8) is.outside)) is.small)))
     may
+
+-- and what sets its word, whatever that and the others are now
+pub sets_on : (v w : View) → IsSameLane v w → w.locks ≡ v.locks → (e : Redo) → e.op ≡ Set → MayEnter v e → MayEnter w e
+sets_on v w lane locks e sets may = ⊎_elim (λ (is : IsOfPool v e). inl (of_pool_on v w lane locks e is (inl sets))) (λ (is : EntersHeap v e). inr (heap_on v w lane locks e is (inl sets))) may
 
 -- an action sets its word
 sets_word : (a : Action) → (entry_of a).op ≡ Set
@@ -127,17 +132,46 @@ pub lists_none : {M : Type 0} (lane : Lane M) (v : View) → lane.entries.items 
 lists_none lane v none nothing = record {
   listed = none ∙ sym (ap (map entry_of) nothing);
   few = (let long = ap (λ (es : List Redo). length es) none in omega (arith, long));
-  of_pool = subst (All (IsOfPool v)) (sym none) (All-nil (IsOfPool v));
+  may_enter = subst (All (MayEnter v)) (sym none) (All-nil (MayEnter v));
+  locked = λ made_none. subst (All (λ (a : Action). IsOfPool v (entry_of a))) (sym nothing) (All-nil (λ (a : Action). IsOfPool v (entry_of a)));
 }
 
--- where the lane lists the same entries, and published the same
-pub lists_on : {M : Type 0} (lane next : Lane M) (v w : View) → next.entries ≡ lane.entries → IsSameLane v w → w.locks ≡ v.locks → published_in w ≡ published_in v
-    → ListsPublished lane v → ListsPublished next w
-lists_on lane next v w entries same locks published lists = record {
-  listed = ap (λ es. es.items) entries ∙ lists.listed ∙ sym (ap (map entry_of) published);
-  few = subst (λ es. length es.items ≤ 63) (sym entries) lists.few;
-  of_pool = subst (λ es. All (IsOfPool w) es.items) (sym entries) (λ n d low. of_pool_on v w same locks (get_or lane.entries.items n d) (lists.of_pool n d low) (inl (listed_set lane v lists n d low)));
+-- the words of actions that are under locks stay so
+own_on : (v w : View) → IsSameLane v w → w.locks ≡ v.locks → (actions : List Action) → All (λ (a : Action). IsOfPool v (entry_of a)) actions → All (λ (a : Action). IsOfPool w (entry_of a)) actions
+own_on v w same locks actions own =
+    All-weaker (λ (a : Action). IsOfPool v (entry_of a)) (λ (a : Action). IsOfPool w (entry_of a)) (λ a is. of_pool_on v w same locks (entry_of a) is (inl (sets_word a))) actions own
+
+pub locked_on : (v w : View) → IsSameLane v w → w.locks ≡ v.locks → published_in w ≡ published_in v → PublishesLocked v → PublishesLocked w
+locked_on v w same locks published own = subst (All (λ (a : Action). IsOfPool w (entry_of a))) (sym published) (own_on v w same locks (published_in v) own)
+
+-- so what is listed is of words under locks
+pub listed_locked : {M : Type 0} (lane : Lane M) (v : View) → ListsPublished lane v → PublishesLocked v → All (IsOfPool v) lane.entries.items
+listed_locked lane v lists own = subst (All (IsOfPool v)) (sym lists.listed) (All-map (IsOfPool v) entry_of (published_in v) own)
+
+-- where the lane lists the entries of some actions more that were published, which it may enter, and of words under locks where the call made no object
+pub lists_more : {M : Type 0} (lane next : Lane M) (v w : View) (actions : List Action) → next.entries.items ≡ lane.entries.items ++ map entry_of actions → length next.entries.items ≤ 63
+    → IsSameLane v w → w.locks ≡ v.locks → published_in w ≡ published_in v ++ actions → (MakesNone w → MakesNone v)
+    → All (λ (a : Action). MayEnter v (entry_of a)) actions → (MakesNone w → All (λ (a : Action). IsOfPool v (entry_of a)) actions) → ListsPublished lane v → ListsPublished next w
+lists_more lane next v w actions entries few same locks published before may own lists = record {
+  listed = entries ∙ ((λ j. lists.listed j ++ map entry_of actions) ∙ (sym (map-append entry_of (published_in v) actions) ∙ ap (map entry_of) (sym published)));
+  few = few;
+  may_enter =
+      subst (All (MayEnter w)) (sym entries)
+      (All-append (MayEnter w) lane.entries.items (map entry_of actions)
+      (λ n d low. sets_on v w same locks (get_or lane.entries.items n d) (listed_set lane v lists n d low) (lists.may_enter n d low))
+      (All-map (MayEnter w) entry_of actions (All-weaker (λ (a : Action). MayEnter v (entry_of a)) (λ (a : Action). MayEnter w (entry_of a)) (λ a is. sets_on v w same locks (entry_of a) (sets_word a) is) actions may)));
+  locked = λ none.
+      subst (All (λ (a : Action). IsOfPool w (entry_of a))) (sym published)
+      (own_on v w same locks (published_in v ++ actions) (All-append (λ (a : Action). IsOfPool v (entry_of a)) (published_in v) actions (lists.locked (before none)) (own none)));
 }
+
+-- where the lane lists the same entries, and published the same, and the call had made no object where it made none now
+pub lists_on : {M : Type 0} (lane next : Lane M) (v w : View) → next.entries ≡ lane.entries → IsSameLane v w → w.locks ≡ v.locks → published_in w ≡ published_in v
+    → (MakesNone w → MakesNone v) → ListsPublished lane v → ListsPublished next w
+lists_on lane next v w entries same locks published before lists =
+    lists_more lane next v w [] (ap (λ es. es.items) entries ∙ sym (append-nil lane.entries.items)) (subst (λ es. length es.items ≤ 63) (sym entries) lists.few)
+    same locks (published ∙ sym (append-nil (published_in v))) before
+    (All-nil (λ (a : Action). MayEnter v (entry_of a))) (λ none. All-nil (λ (a : Action). IsOfPool v (entry_of a))) lists
 
 -- and by what it lists of the entries of its call
 pub goes_on_listing : {M : Type 0} (o : Opening) (at : M → View → Type 0) (lane next : Lane M) (v w : View) → IsAtWork o at lane v → HasSameFields (record lane { entries = next.entries }) next → KeepsObjects v w
@@ -184,8 +218,8 @@ goes_on_listing o at lane next v w work fields keeps seen records spans opening 
 -- where it lists the same
 pub goes_on : {M : Type 0} (o : Opening) (at : M → View → Type 0) (lane next : Lane M) (v w : View) → IsAtWork o at lane v → HasSameFields lane next → KeepsObjects v w
     → at next.memory w → next.records.items ≡ map span_of w.log.records → All IsSpan next.records.items → FindsOpening o w → IsWorking w → w.log.entries ≡ [] → published_in w ≡ published_in v
-    → IsUnderWay w lane.level model_stage.Work error.None → IsAtWork o at next w
-goes_on o at lane next v w work fields keeps seen records spans opening working no_entries published under_way =
+    → (MakesNone w → MakesNone v) → IsUnderWay w lane.level model_stage.Work error.None → IsAtWork o at next w
+goes_on o at lane next v w work fields keeps seen records spans opening working no_entries published before under_way =
     let but_entries : HasSameFields (record lane { entries = next.entries }) next =
     record { pool = fields.pool; shape = fields.shape; locks = fields.locks; entries = refl; level = fields.level; stage = fields.stage; error = fields.error; drawn = fields.drawn; last = fields.last; stopped = fields.stopped } in
-    goes_on_listing o at lane next v w work but_entries keeps seen records spans opening working no_entries (lists_on lane next v w fields.entries keeps.lane keeps.locks published work.published) under_way
+    goes_on_listing o at lane next v w work but_entries keeps seen records spans opening working no_entries (lists_on lane next v w fields.entries keeps.lane keeps.locks published before work.published) under_way

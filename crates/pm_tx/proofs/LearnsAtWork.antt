@@ -31,6 +31,7 @@ use Rattle.pm_world.specs.declared.lane.Lane.{Lane}
 use Rattle.pm_view.proofs.SameLane.{same_lane, same_lane-then}
 use Rattle.pm_tx.proofs.AddsAtWork.{listed_is_known}
 use Rattle.pm_tx.proofs.GoingOn.{HasSameFields, KeepsObjects, goes_on, objects_kept}
+use Rattle.pm_tx.proofs.NoneMade.{made_none_same}
 use Rattle.pm_tx.proofs.Objects.{covered_under, is_found}
 use Rattle.pm_tx.specs.AtWork.{IsAtWork}
 use Rattle.pm_tx.specs.Learning.{Finds, HasChecked, Learns, Looks}
@@ -100,6 +101,7 @@ module _ {M : Type 0} (o : Opening) (lane : Lane M) (m : View) (work : IsAtWork 
       goes_on o Anywhere lane lane m (after m (Load word x)) work (same_fields lane) objects_learned tt
       (work.seen.records ∙ ap (λ (l : Log). map span_of l.records) (sym learned.log)) work.spans
       (opening_learned m word x plain.0 o work.opening) learned.working (ap (λ (l : Log). l.entries) learned.log ∙ work.no_entries) (published_same m (after m (Load word x)) call.entries call.call)
+      (made_none_same m (after m (Load word x)) call.call)
       (goes_on_learning m (after m (Load word x)) lane.level _ _ work.under_way
       (record { keeps = record { lanes = call.lane.lanes; zones = call.lane.zones; pool = call.lane.pool; lane = call.lane.lane; entries = call.entries; known = call.remembers }; locks = call.locks; call = call.call })
       (record { records = ap (λ (l : Log). l.records) learned.log; entries = ap (λ (l : Log). l.entries) learned.log })
@@ -198,7 +200,7 @@ looks_once v word x low finds = (v, word, x, refl, low, finds, refl)
 pub moved : {M : Type 0} (o : Opening) (at : M → View → Type 0) (lane next : Lane M) (w : View) → IsAtWork o Anywhere lane w → HasSameFields lane next → next.records ≡ lane.records → at next.memory w → IsAtWork o at next w
 moved o at lane next w work fields records seen =
     forget o Anywhere at next w
-    (goes_on o Anywhere lane next w w work fields (same_objects w) tt (ap (λ rs. rs.items) records ∙ work.seen.records) (subst (λ rs. All IsSpan rs.items) (sym records) work.spans) work.opening work.working work.no_entries refl work.under_way) seen
+    (goes_on o Anywhere lane next w w work fields (same_objects w) tt (ap (λ rs. rs.items) records ∙ work.seen.records) (subst (λ rs. All IsSpan rs.items) (sym records) work.spans) work.opening work.working work.no_entries refl (λ none. none) work.under_way) seen
 
 -- a check after a check
 pub checked_then : {M : Type 0} (o : Opening) (at : M → View → Type 0) (lane next : Lane M) (v : View) (P Q : View → Type 0) → (first : HasChecked o at lane v P) → HasChecked o at next first.view Q → HasChecked o at next v Q

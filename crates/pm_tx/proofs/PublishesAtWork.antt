@@ -3,8 +3,8 @@ use Rattle.std.proofs.Common.{◌≡◌, ℕ, ◌+◌, ◌*◌, ◌/◌, ◌%◌
 use Rattle.std.specs.List.{Any, list_any}
 use Rattle.std.specs.Option.{is_none}
 use Rattle.std.proofs.lemmas.Bool.{and_from}
-use Rattle.std.proofs.lemmas.List.{length-map, map-append}
-use Rattle.std.proofs.lemmas.List.Elements.{All-append, All-map, All-weaker}
+use Rattle.std.proofs.lemmas.List.{length-map}
+use Rattle.std.proofs.lemmas.List.Elements.{All-map, All-weaker}
 use Rattle.std.proofs.lemmas.List.Folds.{list_any_at}
 use Rattle.pm_crash.proofs.ActionsOn.{publish_keeps_open}
 use Rattle.pm_crash.specs.CallBlocks.{KeepsBlocks}
@@ -22,7 +22,7 @@ use Rattle.pm_objects.specs.declared.refusal.Refusal.TheVariants as refusal
 use Rattle.pm_pending.specs.Pending.{action_of, entry_of, pending_of, redo_for}
 use Rattle.pm_pending.specs.declared.actions.SetAction.{SetAction}
 use Rattle.pm_record.specs.declared.redo.Redo.{Redo}
-use Rattle.pm_redo.specs.Entering.{IsOfPool}
+use Rattle.pm_redo.specs.Entering.{IsOfPool, MayEnter}
 use Rattle.pm_undo.proofs.Begun.{tell_works}
 use Rattle.pm_undo.proofs.Lockings.{locked_is_plain}
 use Rattle.pm_undo.specs.Spans.{IsSpan}
@@ -35,7 +35,8 @@ use Rattle.pm_world.specs.Opening.{Opening}
 use Rattle.pm_world.specs.declared.lane.Lane.{Lane}
 use Rattle.pm_tx.proofs.ActionsAtWork.{as_before, log_kept, objects, opening_told, pending_told, published_told, tells, words_kept}
 use Rattle.pm_tx.proofs.EachAction.{all_further, some_at, some_mapped}
-use Rattle.pm_tx.proofs.GoingOn.{HasSameFields, KeepsObjects, goes_on_listing, knows_on, of_pool_on}
+use Rattle.pm_tx.proofs.GoingOn.{HasSameFields, KeepsObjects, goes_on_listing, lists_more}
+use Rattle.pm_tx.proofs.NoneMade.{made_none_before}
 use Rattle.pm_tx.proofs.HeldLocks.{object_held}
 use Rattle.pm_tx.proofs.LearnsAtWork.{checked_then, held_kept}
 use Rattle.pm_tx.proofs.LookedOn.{IsLookedOn, can_set_kept, looked_on, objects_looked}
@@ -158,12 +159,17 @@ module _ {M : Type 0} (o : Opening) (at : M → View → Type 0) where
 
 -- ---- what a publish lists
 
+-- the entries of the list are those of what the plain model has pending
+pub redo_listed : (actions : List SetAction) → map redo_for actions ≡ map entry_of (pending_of actions)
+redo_listed [] = refl
+redo_listed (a ∷ actions) = ap (λ (es : List Redo). redo_for a ∷ es) (redo_listed actions)
+
+pub word_covered : (place : ℕ) → place % 8 ≡ 0 → Contains (covered_words place 8) (place / 8)
+word_covered place even = subst (Contains (covered_words place 8)) (let e : place / 8 + 0 ≡ place / 8 = omega arith in e) (counted_covered place 8 0 (omega arith))
+
 -- the entry of a word that the lane may set is of the pool
 module _ {M : Type 0} (o : Opening) (at : M → View → Type 0) (lane : Lane M) (v : View) (work : IsAtWork o at lane v) where
-  word_covered : (place : ℕ) → place % 8 ≡ 0 → Contains (covered_words place 8) (place / 8)
-  word_covered place even = subst (Contains (covered_words place 8)) (let e : place / 8 + 0 ≡ place / 8 = omega arith in e) (counted_covered place 8 0 (omega arith))
-
-  entry_of_pool : (a : Action) → CanSet v a → IsOfPool v (entry_of a)
+  pub entry_of_pool : (a : Action) → CanSet v a → IsOfPool v (entry_of a)
   entry_of_pool (SetWord id off value) can =
       let range = can.0 in
       let object = range.object in
@@ -194,7 +200,7 @@ module _ {M : Type 0} (o : Opening) (at : M → View → Type 0) (lane : Lane M)
             let holds : p l ≡ true = and_from (l.write && is_some l.block) (is_under w l) (and_from l.write (is_some l.block) writes found) under in
             list_any_at p v.locks held.0 l held.1 (ap p held.2 ∙ holds)
 
-  place_is_low : (a : Action) → CanSet v a → (entry_of a).place < 2 ^ 64
+  pub place_is_low : (a : Action) → CanSet v a → (entry_of a).place < 2 ^ 64
   place_is_low (SetWord id off value) can = let low = range_is_low v work.objects id off 8 true can.0 o work.sound work.opening work.zones in omega (arith, low)
 
   module _ (actions : List SetAction) (each : All (SetsWord v) actions) where
@@ -216,10 +222,6 @@ module _ {M : Type 0} (o : Opening) (at : M → View → Type 0) (lane : Lane M)
     abbrev told : View
     told = after v (Tell Publish None)
 
-    redo_listed : (actions : List SetAction) → map redo_for actions ≡ map entry_of (pending_of actions)
-    redo_listed [] = refl
-    redo_listed (a ∷ actions) = ap (λ (es : List Redo). redo_for a ∷ es) (redo_listed actions)
-
     moves : MovesActions v told
     moves =
         let is = as_before v work.working in
@@ -231,15 +233,12 @@ module _ {M : Type 0} (o : Opening) (at : M → View → Type 0) (lane : Lane M)
         let is = as_before v work.working in
         let keeps : KeepsObjects v told = objects v v is Publish None in
         let new : map redo_for actions ≡ map entry_of (pending_in v) = redo_listed actions ∙ ap (map entry_of) pending in
-        let lists : ListsPublished next told = record {
-          listed = more ∙ ((λ j. work.published.listed j ++ new j) ∙ (sym (map-append entry_of (published_in v) (pending_in v)) ∙ ap (map entry_of) (sym (published_told v v is Publish None))));
-          few = (let e = ap length more in let n = length-append lane.entries.items (map redo_for actions) in let m = length-map actions redo_for in omega (arith, fit, e, n, m));
-          of_pool =
-              subst (All (IsOfPool told)) (sym (more ∙ ap (λ (es : List Redo). lane.entries.items ++ es) new))
-              (All-append (IsOfPool told) lane.entries.items (map entry_of (pending_in v))
-              (All-weaker (IsOfPool v) (IsOfPool told) (λ e is. of_pool_on v told keeps.lane keeps.locks e is (knows_on v told (λ u there. there) (λ u out. refl) e is)) lane.entries.items work.published.of_pool)
-              (All-map (IsOfPool told) entry_of (pending_in v) (All-weaker (CanSet v) (λ (a : Action). IsOfPool told (entry_of a)) (λ a set. let is_of = entry_of_pool a set in of_pool_on v told keeps.lane keeps.locks (entry_of a) is_of (knows_on v told (λ u there. there) (λ u out. refl) (entry_of a) is_of)) (pending_in v) each_pending)));
-        } in
+        let own : All (λ (a : Action). IsOfPool v (entry_of a)) (pending_in v) = All-weaker (CanSet v) (λ (a : Action). IsOfPool v (entry_of a)) entry_of_pool (pending_in v) each_pending in
+        let lists : ListsPublished next told =
+        lists_more lane next v told (pending_in v) (more ∙ ap (λ (es : List Redo). lane.entries.items ++ es) new)
+        (let e = ap length more in let n = length-append lane.entries.items (map redo_for actions) in let m = length-map actions redo_for in omega (arith, fit, e, n, m))
+        keeps.lane keeps.locks (published_told v v is Publish None) (made_none_before v told Publish None (tells v v is Publish None).call tt)
+        (All-weaker (λ (a : Action). IsOfPool v (entry_of a)) (λ (a : Action). MayEnter v (entry_of a)) (λ a of. inl of) (pending_in v) own) (λ none. own) work.published in
         record {
           works =
               goes_on_listing o at lane next v told work fields keeps seen (ap (λ rs. rs.items) records ∙ work.seen.records) (subst (λ rs. All IsSpan rs.items) (sym records) work.spans) (opening_told v v is Publish None o work.opening)

@@ -37,6 +37,7 @@ use Rattle.pm_world.specs.declared.lane.Lane.{Lane}
 use Rattle.pm_lock.proofs.Drawless.{drawless}
 use Rattle.pm_tx.proofs.AddsAtWork.{listed_is_known}
 use Rattle.pm_tx.proofs.GoingOn.{HasSameFields, goes_on}
+use Rattle.pm_tx.proofs.NoneMade.{made_none_before}
 use Rattle.pm_tx.proofs.Objects.{covered_under, is_found}
 use Rattle.pm_tx.proofs.WrittenBytes.{counted_covered}
 use Rattle.pm_tx.specs.AtWork.{IsAtWork}
@@ -162,6 +163,7 @@ module _ {M : Type 0} (o : Opening) (at : M → View → Type 0) (lane : Lane M)
         })
         seen (ap (λ rs. rs.items) records ∙ (work.seen.records ∙ ap (λ (l : Log). map span_of l.records) (sym made.1.log))) (subst (λ rs. All IsSpan rs.items) (sym records) work.spans)
         opening (tell_works u (Read id off len) (Some (Bytes bytes)) made.1.working) (ap (λ (l : Log). l.entries) made.1.log ∙ work.no_entries) (published_once_more v w (Read id off len) _ read.tells.keeps.entries read.tells.call ∙ append-nil (published_in v))
+        (made_none_before v w (Read id off len) (Some (Bytes (bytes_seen v id off len))) read.tells.call tt)
         (read_goes_on v w id off len lane.level work.level work.under_way read old) in
         record {
           ready = read_may_be_made;

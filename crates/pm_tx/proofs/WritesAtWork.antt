@@ -23,6 +23,7 @@ use Rattle.pm_world.specs.declared.lane.Lane.{Lane}
 use Rattle.pm_lock.proofs.Drawless.{drawless}
 use Rattle.pm_lock.specs.Leading.{DrawEnded}
 use Rattle.pm_tx.proofs.GoingOn.{HasSameFields, KeepsObjects, goes_on}
+use Rattle.pm_tx.proofs.NoneMade.{made_none_before}
 use Rattle.pm_tx.proofs.Objects.{covers_no_size}
 use Rattle.pm_tx.proofs.WrittenBytes.{HasWritten, all_written, counted_covered, writes_lawful}
 use Rattle.pm_memory.specs.Runs.{Stops}
@@ -111,6 +112,7 @@ module _ {M : Type 0} (o : Opening) (at : M → View → Type 0) (lane : Lane M)
       (tell_works (after_all v (writes (id.off + off) bytes v)) (Write id off bytes) None has.working)
       (ap (λ (l : Log). l.entries) has.log ∙ work.no_entries)
       (published_once_more v last (Write id off bytes) None written.tells.keeps.entries written.tells.call ∙ append-nil (published_in v))
+      (made_none_before v last (Write id off bytes) None written.tells.call tt)
       (write_goes_on v last id off lane.level bytes work.level work.under_way written old) in
       record {
         ready = write_may_be_made;

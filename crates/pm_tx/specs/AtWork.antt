@@ -1,12 +1,14 @@
 -- How a lane stands between two operations of a transaction: what its fields say, what its view has, and what its call came to.
 use Rattle.std.specs.Prelude.{◌≡◌, ◌≤◌, false, [], All, length, map}
+use Rattle.pm_crash.specs.CallBlocks.{blocks_in}
 use Rattle.pm_crash.specs.OpenCall.{IsUnderWay}
 use Rattle.pm_crash.specs.Pending.{published_in}
+use Rattle.pm_model.specs.Actions.{Action}
 use Rattle.pm_model.specs.declared.stage.Stage.TheVariants as model_stage
 use Rattle.pm_objects.specs.declared.history.TxErr.TheVariants as error
 use Rattle.pm_view.specs.View.{View}
 use Rattle.pm_pending.specs.Pending.{entry_of}
-use Rattle.pm_redo.specs.Entering.{IsOfPool}
+use Rattle.pm_redo.specs.Entering.{IsOfPool, MayEnter}
 use Rattle.pm_undo.specs.Spans.{IsSpan}
 use Rattle.pm_undo.specs.Working.{FindsOpening, IsWorking}
 use Rattle.pm_world.specs.Lanes.{IsSeenAs}
@@ -16,12 +18,22 @@ use Rattle.pm_world.specs.declared.lane.Stage.TheVariants as stage
 use Rattle.pm_lock.specs.Begun.{HoldsLines, MayCome}
 use Rattle.pm_lock.specs.Finding.{FindsObjects}
 
--- the entries that the lane lists are those of the actions that its call published, in their order, each of a word of the pool that it locked for
--- writing; and the one that ends its generation fits behind them
+-- the open call made no object, not even one that it freed again
+abbrev pub MakesNone : View → Type 0
+MakesNone v = ((blocks_in v).made ≡ []) × ((blocks_in v).dropped ≡ [])
+
+-- each action that the call published is of a word that the lane locked for writing
+abbrev pub PublishesLocked : View → Type 0
+PublishesLocked v = All (λ (a : Action). IsOfPool v (entry_of a)) (published_in v)
+
+-- the entries that the lane lists are those of the actions that its call published, in their order; the lane may enter each, and the one that ends its
+-- generation fits behind them. An action on an object that the call made itself, whose words are under no lock, is entered as a change of the heap: where
+-- the call made none, each is of a word that the lane locked
 pub record ListsPublished {M : Type 0} (lane : Lane M) (v : View) : Type 0 where
   pub listed : lane.entries.items ≡ map entry_of (published_in v)
   pub few : length lane.entries.items ≤ 63
-  pub of_pool : All (IsOfPool v) lane.entries.items
+  pub may_enter : All (MayEnter v) lane.entries.items
+  pub locked : MakesNone v → PublishesLocked v
 
 -- the lane has a transaction open, in work: its fields say so, its view may record and write, and its call came to what the plain model has, which may have
 -- made and freed objects

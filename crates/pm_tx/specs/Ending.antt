@@ -24,7 +24,7 @@ use Rattle.pm_world.specs.declared.lane.Span.{Span}
 use Rattle.pm_lock.specs.Begun.{HoldsLines}
 use Rattle.pm_lock.specs.Leading.{DrawEnded}
 use Rattle.pm_lock.specs.Resting.{HasPlace, IsAtRest}
-use Rattle.pm_tx.specs.AtWork.{IsAtWork}
+use Rattle.pm_tx.specs.AtWork.{IsAtWork, PublishesLocked}
 use Rattle.pm_tx.specs.Generations.{CanPublish}
 use Rattle.pm_tx.specs.Publishing.{MayPublish}
 use Rattle.pm_record.specs.declared.redo.Redo.{Redo}
@@ -88,10 +88,11 @@ EndsGivenUp v error = IsGivenUp v error ⊎ (WasAborted v error × IsBorneOut v)
 abbrev pub MayGiveUp : View → Type 0
 MayGiveUp v = KeepsBlocks v ⊎ (IsAlone v × IsBorneOut v)
 
--- It may be committed, with no change of a block to publish: it told nothing of the heap, or has nothing that it made and freed nothing that it found, and what
--- the lane has bears that out.
+-- It may be committed, with no change of a block to publish: it told nothing of the heap, or has nothing that it made and freed nothing that it found, what
+-- the lane has bears that out, and each action that it published is of a word under a lock. One on an object that the call made and freed again is not: that
+-- is entered as a change of the heap.
 abbrev pub PublishesNoBlock : View → Type 0
-PublishesNoBlock v = KeepsBlocks v ⊎ (((blocks_in v).made ≡ []) × ((blocks_in v).freed ≡ []) × IsBorneOut v)
+PublishesNoBlock v = KeepsBlocks v ⊎ (((blocks_in v).made ≡ []) × ((blocks_in v).freed ≡ []) × IsBorneOut v × PublishesLocked v)
 
 -- once it is taken back, with all that the lane reserved, and this operation is told, the call is given up with this error
 abbrev pub GivesUpBy : View → Operation → Option Value → TxErr → Type 0

@@ -3,15 +3,15 @@ use Rattle.std.proofs.lemmas.Result.{err_from_is_err_and}
 use Rattle.pm_script.specs.Scripts.{IsChange}
 use Rattle.pm_script.specs.declared.script.ScriptLine.{ScriptLine}
 use Rattle.pm_exec.specs.Letters.{offsets_in, resolved, resolved_line}
-use Rattle.pm_exec.specs.Progress.{IsAtLine, IsNotDone, MayStand, Values}
+use Rattle.pm_exec.specs.Progress.{IsAtLine, IsNotDone, Values}
 use Rattle.pm_exec.proofs.GivenLetters.{change_resolved, letters_same, letters_then}
-use Rattle.pm_exec.proofs.ResolvedLines.{letters_so, letters_wide, one_more, stands_resolved, unless_memory, up_to}
-use Rattle.pm_exec.proofs.ScriptParts.{change_at_index, stands_at, taken_all}
+use Rattle.pm_exec.proofs.ResolvedLines.{letters_so, letters_wide, one_more, unless_memory, up_to}
+use Rattle.pm_exec.proofs.ScriptParts.{change_at_index, taken_all}
 use Rattle.pm_exec.proofs.lines.change_all.Goals as goal
 
 pub loop-said-init : goal.loop-said-init
 loop-said-init c = (
-  λ o first front a stand. subst (λ (ls : List ScriptLine). IsAtLine o first c.args.lane.now c.args.blocks.now c.args.actions.now.items c.args.names ls c.args.values.now.items) (sym (append-nil front)) a,
+  λ o first front a. subst (λ (ls : List ScriptLine). IsAtLine o first c.args.lane.now c.args.blocks.now c.args.actions.now.items c.args.names ls c.args.values.now.items) (sym (append-nil front)) a,
   letters_same c.args.lines.now c.args.values.now.items,
 )
 
@@ -23,7 +23,7 @@ change_at-requires-clause-is_change c =
 pub change_at-requires-clause-at_work : goal.change_at-requires-clause-at_work
 change_at-requires-clause-at_work c =
     let r = c.requires.at_work in
-    (r.0, r.1, r.2 ++ resolved (c.args.given.now ++ offsets_in c.loop-said.values.items) (take c.loop-said.said-index c.args.lines.now), c.loop-said.invariant.0 r.0 r.1 r.2 r.3 r.4)
+    (r.0, r.1, r.2 ++ resolved (c.args.given.now ++ offsets_in c.loop-said.values.items) (take c.loop-said.said-index c.args.lines.now), c.loop-said.invariant.0 r.0 r.1 r.2 r.3)
 
 pub loop-said-preserved : goal.loop-said-preserved
 loop-said-preserved c =
@@ -38,21 +38,19 @@ loop-said-preserved c =
     let seen : c.as_slice.result.now ≡ a = search rules in
     let so : s ≡ resolved_line (given ++ offsets_in a) y = c.in_ok-said.ensures ∙ ap (λ (vs : Values). resolved_line (given ++ offsets_in vs) y) seen in
     let kept = c.in_ok-change_at.ensures.letters in (
-      λ o first front at stand.
+      λ o first front at.
           let before : List ScriptLine = resolved (given ++ offsets_in a) (take i lines) in
-          let may : MayStand (front ++ before) s.operation =
-          subst (MayStand (front ++ before)) (sym (ap (λ (l : ScriptLine). l.operation) so)) (stands_resolved (given ++ offsets_in a) front (take i lines) y.operation (stands_at front lines stand i y low c.said-item.is)) in
           subst (λ (ls : List ScriptLine). IsAtLine o first c.change_at.new.lane c.change_at.new.blocks c.change_at.new.actions.items c.args.names ls b)
           (append_assoc front before (s ∷ []) ∙ ap (λ (ls : List ScriptLine). front ++ ls) (one_more given lines c.requires.ordered i y low c.said-item.is a b s so kept))
-          (c.in_ok-change_at.ensures.done o first (front ++ before) (c.loop-said.invariant.0 o first front at stand) may),
+          (c.in_ok-change_at.ensures.done o first (front ++ before) (c.loop-said.invariant.0 o first front at)),
       letters_then lines c.args.values.now.items a b c.loop-said.invariant.1 (letters_wide given lines c.requires.ordered i y low c.said-item.is a b s so kept),
     )
 
 pub returns-clause-done : goal.returns-clause-done
-returns-clause-done c o first front a stand =
+returns-clause-done c o first front a =
     subst (λ (ls : List ScriptLine). IsAtLine o first c.loop-said.lane c.loop-said.blocks c.loop-said.actions.items c.args.names (front ++ resolved (c.args.given.now ++ offsets_in c.loop-said.values.items) ls) c.loop-said.values.items)
     (taken_all c.args.lines.now c.loop-said.said-index c.loop-said-test.false)
-    (c.loop-said.invariant.0 o first front a stand)
+    (c.loop-said.invariant.0 o first front a)
 
 pub returns-clause-letters : goal.returns-clause-letters
 returns-clause-letters c = c.loop-said.invariant.1
@@ -60,13 +58,13 @@ returns-clause-letters c = c.loop-said.invariant.1
 pub returns-clause-at_work : goal.returns-clause-at_work
 returns-clause-at_work c =
     let r = c.requires.at_work in
-    (r.0, r.1, r.2 ++ resolved (c.args.given.now ++ offsets_in c.loop-said.values.items) (take c.loop-said.said-index c.args.lines.now), c.loop-said.invariant.0 r.0 r.1 r.2 r.3 r.4)
+    (r.0, r.1, r.2 ++ resolved (c.args.given.now ++ offsets_in c.loop-said.values.items) (take c.loop-said.said-index c.args.lines.now), c.loop-said.invariant.0 r.0 r.1 r.2 r.3)
 
 pub returns-in_err-change_at-clause-ends : goal.returns-in_err-change_at-clause-ends
 returns-in_err-change_at-clause-ends c =
     let p = err_from_is_err_and c.from_residual-in_err-change_at.result c.from_residual-in_err-change_at.ensures.1 in
     rw (p.1, p.2)
-    (λ o first front rest at stand.
+    (λ o first front rest at.
     let low : c.loop-said.said-index < length c.args.lines.now = c.loop-said-test.true in
     let lines = c.args.lines.now in
     let i = c.loop-said.said-index in
@@ -78,15 +76,13 @@ returns-in_err-change_at-clause-ends c =
     let seen : c.as_slice.result.now ≡ a = search rules in
     let so : s ≡ resolved_line (given ++ offsets_in a) y = c.in_ok-said.ensures ∙ ap (λ (vs : Values). resolved_line (given ++ offsets_in vs) y) seen in
     let before : List ScriptLine = resolved (given ++ offsets_in a) (take i lines) in
-    let may : MayStand (front ++ before) s.operation =
-    subst (MayStand (front ++ before)) (sym (ap (λ (l : ScriptLine). l.operation) so)) (stands_resolved (given ++ offsets_in a) front (take i lines) y.operation (stands_at front lines stand i y low c.said-item.is)) in
     let new = c.change_at.new.lane in
     let blocks = c.change_at.new.blocks in
     let actions = c.change_at.new.actions.items in
     unless_memory (s ∷ []) a b o first new blocks actions c.args.names (front ++ resolved (given ++ offsets_in b) lines ++ rest) b c.in_err-change_at.field-0.0 c.in_err-change_at.ensures.letters
     (λ kept.
     subst (λ (ls : List ScriptLine). IsNotDone o first new blocks actions c.args.names ls b c.in_err-change_at.field-0.0) (up_to given lines c.requires.ordered i y low c.said-item.is a b s so kept front rest)
-    (c.in_err-change_at.ensures.ends o first (front ++ before) (resolved (given ++ offsets_in b) (drop (i + 1) lines) ++ rest) (c.loop-said.invariant.0 o first front at stand) may)))
+    (c.in_err-change_at.ensures.ends o first (front ++ before) (resolved (given ++ offsets_in b) (drop (i + 1) lines) ++ rest) (c.loop-said.invariant.0 o first front at))))
 
 pub returns-in_err-change_at-clause-letters : goal.returns-in_err-change_at-clause-letters
 returns-in_err-change_at-clause-letters c =

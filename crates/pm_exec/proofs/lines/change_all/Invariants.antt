@@ -3,11 +3,11 @@ use Rattle.pm_script.specs.declared.script.ScriptLine.{ScriptLine}
 use Rattle.pm_view.specs.View.{View}
 use Rattle.pm_world.specs.Opening.{Opening}
 use Rattle.pm_exec.specs.Letters.{KeepsLetters, offsets_in, resolved}
-use Rattle.pm_exec.specs.Progress.{AllMayStand, IsAtLine}
+use Rattle.pm_exec.specs.Progress.{IsAtLine}
 use Rattle.pm_exec.proofs.lines.change_all.Given as goal
 
 abbrev pub invariant-loop-said : goal.invariant-loop-said
 invariant-loop-said l =
-    ((o : Opening) (first : View) (front : List ScriptLine) → IsAtLine o first l.fn.lane l.fn.blocks l.fn.actions.items l.names front l.fn.values.items → AllMayStand front l.lines
+    ((o : Opening) (first : View) (front : List ScriptLine) → IsAtLine o first l.fn.lane l.fn.blocks l.fn.actions.items l.names front l.fn.values.items
     → IsAtLine o first l.lane l.blocks l.actions.items l.names (front ++ resolved (l.given ++ offsets_in l.values.items) (take l.said-index l.lines)) l.values.items)
     × KeepsLetters l.lines l.fn.values.items l.values.items

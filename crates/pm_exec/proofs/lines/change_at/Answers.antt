@@ -5,17 +5,11 @@ use Rattle.pm_exec.proofs.lines.change_at.Goals as goal
 
 pub returns-in-Alloc-clause-done : goal.returns-in-Alloc-clause-done
 returns-in-Alloc-clause-done c =
-    on_ok_weaker c.make_at.result (λ done o first front a stands. done o first c.args.actions.now.items c.args.names front c.in-Alloc.letter a c.in-Alloc.is) c.make_at.ensures.done
+    on_ok_weaker c.make_at.result (λ done o first front a. done o first c.args.actions.now.items c.args.names front c.in-Alloc.letter a c.in-Alloc.is) c.make_at.ensures.done
 
 pub returns-in-Alloc-clause-ends : goal.returns-in-Alloc-clause-ends
 returns-in-Alloc-clause-ends c =
-    IfErr-weaker c.make_at.result _ _ (λ why ends o first front rest a stands. ends o first c.args.actions.now.items c.args.names front rest c.in-Alloc.letter a c.in-Alloc.is) c.make_at.ensures.ends
-
-pub returns-in-Set-clause-done : goal.returns-in-Set-clause-done
-returns-in-Set-clause-done c = on_ok_weaker c.act_at.result (λ done o first front a stands. done o first c.args.blocks.now front a stands) c.act_at.ensures.done
-
-pub returns-in-Set-clause-ends : goal.returns-in-Set-clause-ends
-returns-in-Set-clause-ends c = IfErr-weaker c.act_at.result _ _ (λ why ends o first front rest a stands. ends o first c.args.blocks.now front rest a stands) c.act_at.ensures.ends
+    IfErr-weaker c.make_at.result _ _ (λ why ends o first front rest a. ends o first c.args.actions.now.items c.args.names front rest c.in-Alloc.letter a c.in-Alloc.is) c.make_at.ensures.ends
 
 pub returns-in-Add-clause-letters : goal.returns-in-Add-clause-letters
 returns-in-Add-clause-letters c = kept_as_they_are (c.args.said.now ∷ []) c.args.values.now.items c.add_at.result

@@ -5,7 +5,7 @@ use Rattle.pm_exec.specs.Letters.{KeepsLetters, LettersKept, Offsets, offsets_in
 use Rattle.pm_exec.specs.Progress.{CameTo, IsAtLine, IsNotDone, Values}
 use Rattle.pm_exec.proofs.GivenLetters.{kept_as_they_are, order_drop, order_take}
 use Rattle.pm_exec.proofs.ResolvedLines.{begun, letters_all, letters_any, letters_so, unless_memory, whole}
-use Rattle.pm_exec.proofs.ScriptParts.{begins_there, changes_are, changes_stand, first_line, parts, two}
+use Rattle.pm_exec.proofs.ScriptParts.{begins_there, changes_are, first_line, parts, two}
 use Rattle.pm_exec.proofs.lines.transact.Goals as goal
 
 pub begin_at-requires-clause-begins : goal.begin_at-requires-clause-begins
@@ -34,15 +34,12 @@ change_all-requires-clause-ordered c = order_take (length c.args.lines.now - 1 -
 pub change_all-requires-clause-at_work : goal.change_all-requires-clause-at_work
 change_all-requires-clause-at_work c =
     let f = c.requires.first in
-    let t = parts c.args.lines.now c.requires.transaction in
-    let g : Offsets = c.args.given.now ++ offsets_in c.as_slice.result.now in
     let begin = c.in_ok-begin.begin in
     let at = c.in_ok-begin_at.ensures.done f.0 f.1.0 c.args.actions.now.items f.1.1 in (
       f.0,
       f.1.0,
       begin ∷ [],
       subst (λ (vs : Values). IsAtLine f.0 f.1.0 c.begin_at.new.lane c.begin_at.new.blocks c.args.actions.now.items c.args.names (begin ∷ []) vs) (sym c.requires.none) at,
-      changes_stand c.args.lines.now t begin (map (resolved_want g) t.wants) (ap (λ (l : ScriptLine). l.operation) c.in_ok-begin.ensures ∙ ap (resolved_op g) (begins_there c.args.lines.now t c.index-lines-0.result c.index-lines-0.is)),
     )
 
 pub returns-in_err-begin_at-clause-made : goal.returns-in_err-begin_at-clause-made
@@ -81,13 +78,12 @@ returns-in_err-change_all-clause-made c o first is =
     let actions = c.change_all.new.actions.items in
     let why = c.in_err-change_all.field-0.0 in
     let at = subst (λ (vs : Values). IsAtLine o first c.begin_at.new.lane c.begin_at.new.blocks c.args.actions.now.items c.args.names (begin ∷ []) vs) (sym c.requires.none) (c.in_ok-begin_at.ensures.done o first c.args.actions.now.items is) in
-    let stand = changes_stand script t begin (map (resolved_want (given ++ offsets_in c.as_slice.result.now)) t.wants) (ap (λ (l : ScriptLine). l.operation) c.in_ok-begin.ensures ∙ ap (resolved_op (given ++ offsets_in c.as_slice.result.now)) (begins_there script t c.index-lines-0.result c.index-lines-0.is)) in
     rw (p.1, p.2)
     (unless_memory slice [] values o first new blocks actions c.args.names (resolved g script) values why
     (subst (λ (vs : Values). LettersKept {T = Unit {0}} slice vs values (Err why)) c.requires.none c.in_err-change_all.ensures.letters)
     (λ kept.
     subst (λ (ls : List ScriptLine). IsNotDone o first new blocks actions c.args.names ls values why) (whole given script c.requires.ordered t values begin so kept)
-    (c.in_err-change_all.ensures.ends o first (begin ∷ []) (resolved_line g t.commit ∷ []) at stand)))
+    (c.in_err-change_all.ensures.ends o first (begin ∷ []) (resolved_line g t.commit ∷ []) at)))
 
 pub returns-in_err-change_all-clause-letters : goal.returns-in_err-change_all-clause-letters
 returns-in_err-change_all-clause-letters c =
@@ -114,10 +110,9 @@ returns-clause-made c o first is =
     let seen : c.as_slice.result.now ≡ [] = search rules in
     let so = c.in_ok-begin.ensures ∙ (ap (λ (vs : Values). resolved_line (given ++ offsets_in vs) c.index-lines-0.result) seen ∙ ap (resolved_line (given ++ offsets_in [])) (c.index-lines-0.is ∙ first_line script t c.index-lines-0.result)) in
     let at = subst (λ (vs : Values). IsAtLine o first c.begin_at.new.lane c.begin_at.new.blocks c.args.actions.now.items c.args.names (begin ∷ []) vs) (sym c.requires.none) (c.in_ok-begin_at.ensures.done o first c.args.actions.now.items is) in
-    let stand = changes_stand script t begin (map (resolved_want (given ++ offsets_in c.as_slice.result.now)) t.wants) (ap (λ (l : ScriptLine). l.operation) c.in_ok-begin.ensures ∙ ap (resolved_op (given ++ offsets_in c.as_slice.result.now)) (begins_there script t c.index-lines-0.result c.index-lines-0.is)) in
     let kept = subst (λ (vs : Values). KeepsLetters slice vs values) c.requires.none c.in_ok-change_all.ensures.letters in
     subst (λ (ls : List ScriptLine). CameTo o first c.commit_all.new.lane c.change_all.new.blocks c.change_all.new.actions.items c.args.names ls values c.commit_all.result) (whole given script c.requires.ordered t values begin so kept)
-    (c.commit_all.ensures o first c.change_all.new.actions.items (begin ∷ resolved g slice) values (resolved_line g t.commit) (c.in_ok-change_all.ensures.done o first (begin ∷ []) at stand) (ap (resolved_op g) t.commits))
+    (c.commit_all.ensures o first c.change_all.new.actions.items (begin ∷ resolved g slice) values (resolved_line g t.commit) (c.in_ok-change_all.ensures.done o first (begin ∷ []) at) (ap (resolved_op g) t.commits))
 
 pub returns-clause-letters : goal.returns-clause-letters
 returns-clause-letters c =

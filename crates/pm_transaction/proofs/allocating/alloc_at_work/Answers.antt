@@ -1,4 +1,4 @@
-use Rattle.std.proofs.Common.{inr, refl, sym, subst}
+use Rattle.std.proofs.Common.{inr, sym, subst}
 use Rattle.pm_objects.specs.declared.refusal.Refusal.{Refusal}
 use Rattle.pm_transaction.proofs.RefusedAllocs.{came_at_once, not_a_stop, refusal_gives_up}
 use Rattle.pm_transaction.specs.Allocating.{IsAllocGivenUp}

@@ -1,17 +1,8 @@
-use Rattle.std.proofs.Common.{◌≡◌, ◌+◌, inl, inr, refl, sym, ap, ◌∙◌, subst, List, Some, rules}
-use Rattle.pm_image.specs.declared.block.Block.{Block}
+use Rattle.std.proofs.Common.{◌≡◌, inl, inr, sym, subst}
 use Rattle.pm_layout.specs.Sizes.{class_of}
-use Rattle.pm_objects.specs.declared.calls.Operation.TheVariants.{Alloc}
-use Rattle.pm_objects.specs.declared.history.Value.TheVariants.{Refused}
-use Rattle.pm_objects.specs.declared.ids.Oid.{Oid}
 use Rattle.pm_objects.specs.declared.refusal.Refusal.{Refusal}
 use Rattle.pm_objects.specs.declared.refusal.Refusal.TheVariants as refusal
-use Rattle.pm_view.specs.View.{View}
-use Rattle.pm_world.specs.declared.lane.Lane.{Lane}
-use Rattle.pm_world.specs.declared.lane.Span.{Span}
 use Rattle.pm_alloc.specs.NewObjects.{GivesNoObject}
-use Rattle.pm_tx.specs.Ending.{IsEndedBy, IsStoppedIn}
-use Rattle.pm_tx.specs.Sequences.{gives_up}
 use Rattle.pm_transaction.proofs.Made.{made_and_told}
 use Rattle.pm_transaction.proofs.NewOffsets.{new_fits, new_inside}
 use Rattle.pm_transaction.proofs.RefusedAllocs.{refused_for_room}

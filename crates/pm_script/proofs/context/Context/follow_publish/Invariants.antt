@@ -1,8 +1,0 @@
-use Rattle.std.proofs.Common.{◌≡◌, ◌++◌, drop, map, take}
-use Rattle.pm_script.specs.Scripts.{behind_publish}
-use Rattle.pm_script.proofs.context.Context.follow_publish.Given as goal
-
--- the transactions passed are followed
-abbrev pub invariant-loop-transaction : goal.invariant-loop-transaction
-invariant-loop-transaction l =
-    l.transaction-items ≡ map (behind_publish l.lane) (take l.transaction-index l.initial.transaction-items) ++ drop l.transaction-index l.initial.transaction-items

@@ -1,0 +1,34 @@
+-- A publish of pending actions in a transaction that may have made and freed objects (pmemobj_tx_publish(3)): what it leaves, done, refused or stopped.
+use Rattle.std.specs.Prelude.{◌≡◌, List, [], None, Some}
+use Rattle.pm_crash.specs.OnActions.{IsPublishReasonIn, PublishesIn}
+use Rattle.pm_crash.specs.Pending.{pending_in}
+use Rattle.pm_made.specs.Made.{BlockLists}
+use Rattle.pm_objects.specs.declared.calls.Operation.TheVariants.{Publish}
+use Rattle.pm_objects.specs.declared.history.Value.TheVariants.{Refused}
+use Rattle.pm_objects.specs.declared.refusal.Refusal.{Refusal}
+use Rattle.pm_tx.specs.Ending.{IsEndedBy, IsStoppedIn}
+use Rattle.pm_tx.specs.Sequences.{gives_up}
+use Rattle.pm_view.specs.Steps.Step.{Tell}
+use Rattle.pm_view.specs.View.{View}
+use Rattle.pm_view.specs.Views.{after}
+use Rattle.pm_world.specs.Opening.{Opening}
+use Rattle.pm_world.specs.declared.lane.Lane.{Lane}
+use Rattle.pm_world.specs.declared.lane.Span.{Span}
+use Rattle.pm_transaction.specs.AtWork.{IsAtWorkWith}
+
+-- from the view before, the lane told the publish, is at work still with these lists, and that is the plain model's: nothing is pending any more
+pub record HasPublishedWith {M : Type 0} (o : Opening) (at : M → View → Type 0) (lane : Lane M) (blocks : BlockLists) (v : View) : Type 0 where
+  pub works : IsAtWorkWith o at lane blocks (after v (Tell Publish None))
+  pub publishes : PublishesIn v (after v (Tell Publish None))
+  pub none : pending_in (after v (Tell Publish None)) ≡ []
+
+-- there was this reason to refuse the publish, and so the call with these records was given up by it
+pub record IsPublishGivenUp {M : Type 0} (at : M → View → Type 0) (lane : Lane M) (spans : List Span) (r : Refusal) (w : View) : Type 0 where
+  pub reason : IsPublishReasonIn w r
+  pub ended : IsEndedBy at lane w (gives_up spans Publish (Some (Refused r)) lane.last) Publish (Some (Refused r))
+
+-- the lane stopped while it gave the call up, for a reason to refuse the publish
+pub record IsPublishStopped {M : Type 0} (at : M → View → Type 0) (lane : Lane M) (spans : List Span) (w : View) : Type 0 where
+  pub refusal : Refusal
+  pub reason : IsPublishReasonIn w refusal
+  pub stopped : IsStoppedIn at lane w (gives_up spans Publish (Some (Refused refusal)) lane.last) Publish (Some (Refused refusal))
