@@ -10,7 +10,7 @@ use Rattle.pm_objects.specs.declared.history.Value.TheVariants.{Offset, Refused}
 use Rattle.pm_objects.specs.declared.ids.Oid.{Oid}
 use Rattle.pm_objects.specs.declared.pool.PoolView.{PoolView}
 use Rattle.pm_objects.specs.declared.refusal.Refusal.{Refusal}
-use Rattle.pm_model.specs.Actions.{Action}
+use Rattle.pm_model.specs.Actions.{Pending}
 use Rattle.pm_model.specs.Answers.{Answers, IsDone, IsRefused, after, changes_nothing}
 use Rattle.pm_model.specs.Checks.{first_refusal, is_action}
 use Rattle.pm_model.specs.Transaction.{Transaction, resting}
@@ -42,7 +42,7 @@ unfolding GoesOn
 goes_free [] tx now goes = All-nil HasFreeReply
 goes_free (t ∷ calls) tx now goes = All-cons HasFreeReply t calls (answered_free tx t.operation t.reply goes.1) (goes_free calls (after (told_of t) tx) now goes.2)
 
-runs_free : (calls : List Told) (pool : PoolView) (actions : List Action) (now : Transaction) → RunsTo pool actions (map told_of calls) now → All HasFreeReply calls
+runs_free : (calls : List Told) (pool : PoolView) (actions : Pending) (now : Transaction) → RunsTo pool actions (map told_of calls) now → All HasFreeReply calls
 unfolding RunsTo
 runs_free [] pool actions now runs = All-nil HasFreeReply
 runs_free (t ∷ calls) pool actions now runs =
@@ -86,7 +86,7 @@ module _ (root : Option ℕ) (off : ℕ) where
       (all_freed (blocks_behind t.operation t.reply b) calls (All-tail HasFreeReply t calls free) (All-tail (λ (t : Told). TellsOfRoot root t.operation t.reply) t calls agrees) there)
 
 -- what a call freed that the plain model runs is not the root on which the call agrees
-pub freed_is_no_root : (v : View) (root : Option ℕ) (pool : PoolView) (actions : List Action) (tx : Transaction) (off : ℕ) → RunsTo pool actions (told_in v) tx → AgreesOnRoot v root → Contains (blocks_in v).freed off → root ≢ Some off
+pub freed_is_no_root : (v : View) (root : Option ℕ) (pool : PoolView) (actions : Pending) (tx : Transaction) (off : ℕ) → RunsTo pool actions (told_in v) tx → AgreesOnRoot v root → Contains (blocks_in v).freed off → root ≢ Some off
 freed_is_no_root v root pool actions tx off runs agrees there = ⊎_elim
     (λ (never : Contains [] off). absurd (no_member off never))
     (λ (other : root ≢ Some off). other)
