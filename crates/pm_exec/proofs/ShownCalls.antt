@@ -5,7 +5,7 @@ use Rattle.std.specs.Option.{option_map}
 use Rattle.std.proofs.lemmas.Bool.{and_right}
 use Rattle.std.proofs.lemmas.List.{length-map}
 use Rattle.pm_crash.specs.Pending.{told_of as model_told}
-use Rattle.pm_model.specs.Actions.{Action}
+use Rattle.pm_model.specs.Actions.{Pending}
 use Rattle.pm_model.specs.Answers.{Told as Answered}
 use Rattle.pm_model.specs.Names.{is_refusal}
 use Rattle.pm_model.specs.Outside.{stands_outside}
@@ -113,7 +113,7 @@ module _ (names : Names) where
   told_inside lines [] passed inside said = refl
   told_inside lines (t ∷ told) passed inside said = ap begins_outside said ∙ (said_outside lines ∙ inside)
 
-  module _ (lines : List ScriptLine) (rising : IsStrictlyIncreasing (numbers_of lines)) (actions : List Action) where
+  module _ (lines : List ScriptLine) (rising : IsStrictlyIncreasing (numbers_of lines)) (actions : Pending) where
     abbrev act_told : List Told → Act
     act_told told = record { lane = 0; actions = actions; told = map model_told told }
 

@@ -20,18 +20,18 @@ use Rattle.pm_exec.specs.declared.calls.Names.{Names}
 use Rattle.pm_exec.proofs.RisingCalls.{AreRising}
 use Rattle.pm_exec.proofs.ShownCalls.{entry_answered}
 use Rattle.pm_crash.specs.Pending.{acts_alone, acts_alone_behind, pending_from, state_alone, told_of}
-use Rattle.pm_model.specs.Actions.{Action}
+use Rattle.pm_model.specs.Actions.{Pending, only_sets}
 use Rattle.pm_model.specs.Step.{Act}
 
 -- a call that the lane numbered, with these actions pending before it
-abbrev pub act_with : List Action → Numbered → Act
+abbrev pub act_with : Pending → Numbered → Act
 act_with actions n = record { lane = 0; actions = actions; told = map told_of n.call }
 
 -- the entry is that of the call of these lines, as the lane numbered it, whatever was pending
 pub record IsShownAs (names : Names) (lines : List ScriptLine) (e : Entry) (n : Numbered) : Type 0 where
   pub number : e.number ≡ n.number
   pub call : e.call ≡ call_of names lines
-  pub entry : (actions : List Action) → IsEntry e (act_with actions n)
+  pub entry : (actions : Pending) → IsEntry e (act_with actions n)
 
 abbrev pub AreShown : Names → List (List ScriptLine) → List Entry → List Numbered → Type 0
 AreShown names [] [] [] = Unit {0}
@@ -118,12 +118,12 @@ module _ (names : Names) where
 
     -- the first of them is lost in both, or kept in both
     kept_more : (done : List Numbered) (e : Entry) (n : Numbered) (history : List Entry) (entries : List Numbered) → ((d : List Numbered) → AllZip IsEntry history (acts_alone_behind d entries))
-        → ((actions : List Action) → IsEntry e (act_with actions n)) → (b c : Bool) → b ≡ c → AllZip IsEntry (cond (not b) (e ∷ history) history) (acts_alone_behind done (cond (not c) (n ∷ entries) entries))
+        → ((actions : Pending) → IsEntry e (act_with actions n)) → (b c : Bool) → b ≡ c → AllZip IsEntry (cond (not b) (e ∷ history) history) (acts_alone_behind done (cond (not c) (n ∷ entries) entries))
     unfolding acts_alone_behind
     kept_more done e n history entries rest is true true same = rest done
     kept_more done e n history entries rest is true false same = absurd (false≢true (sym same))
     kept_more done e n history entries rest is false true same = absurd (false≢true same)
-    kept_more done e n history entries rest is false false same = (is (pending_from [] done), rest (done ++ n ∷ []))
+    kept_more done e n history entries rest is false false same = (is (only_sets (pending_from [] done)), rest (done ++ n ∷ []))
 
     kept_shown : (calls : List (List ScriptLine)) (history : List Entry) (entries : List Numbered) → AreShown names calls history entries
         → All IsFatedSo history → (done : List Numbered) → AllZip IsEntry (without_lost history) (acts_alone_behind done (filter is_kept entries))
