@@ -28,7 +28,7 @@ use Rattle.pm_transaction.proofs.NewWords.{IsInBlock}
 use Rattle.pm_transaction.specs.AtWork.{IsAtWorkWith}
 
 -- a word under a lock is one of the block that was found there
-under_bounds : (l : Lock) (lines w : ℕ) → l.block ≡ Some lines → is_under w l ≡ true → (8 * l.line ≤ w) × (w < 8 * (l.line + lines))
+pub under_bounds : (l : Lock) (lines w : ℕ) → l.block ≡ Some lines → is_under w l ≡ true → (8 * l.line ≤ w) × (w < 8 * (l.line + lines))
 under_bounds l lines w block under =
     let whole = and_parts (leb (8 * l.line) w && ltb w (8 * (l.line + lines))) (is_guarded (w - 8 * l.line)) (sym (ap (λ (b : Option ℕ). is_under_found l.line b w) block) ∙ under) in
     let both = and_parts (leb (8 * l.line) w) (ltb w (8 * (l.line + lines))) whole.0 in
