@@ -31,6 +31,8 @@ mod image_tests;
 #[cfg(test)]
 mod object_tests;
 #[cfg(test)]
+mod publish_tests;
+#[cfg(test)]
 mod run_tests;
 #[cfg(test)]
 mod script_tests;

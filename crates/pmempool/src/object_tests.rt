@@ -7,10 +7,10 @@ use std::alloc::Global;
 use std::process::Abort;
 use std::test::Fail;
 
-const UNCHANGED: &str = "root 16512\nobject 16512 type 0 size 64\n";
+pub const UNCHANGED: &str = "root 16512\nobject 16512 type 0 size 64\n";
 
 /// The dump before and behind a transaction that frees one object and makes another.
-const BEFORE: &str = "root 16512\nobject 16512 type 0 size 64\nobject 16640 type 1 size 64\n";
+pub const BEFORE: &str = "root 16512\nobject 16512 type 0 size 64\nobject 16640 type 1 size 64\n";
 
 const BEHIND: &str = "root 16512\nobject 16512 type 0 size 64\nobject 16768 type 2 size 64\n";
 
@@ -25,11 +25,11 @@ fn makes(alloc: Global, count: u8) -> Result<String, Fail> {
     Ok(script)
 }
 
-/// The values of the first so many `alloc` lines of such a script: blocks of 128 bytes, one behind another, 31 in a run.
-fn made(alloc: Global, count: u8) -> Result<String, Fail> {
+/// The values of so many `alloc` lines from this line on, of objects of 64 bytes: blocks of 128 bytes, one behind another, 31 in a run.
+pub fn made(alloc: Global, first: u8, count: u8) -> Result<String, Fail> {
     let mut values = String::new(alloc);
     for i in 0..count {
-        let line = 3 + u64::from(i);
+        let line = u64::from(first) + u64::from(i);
         let block = 1 + u64::from(i);
         let offset = 16_512 + 4096 * (block / 31) + 128 * (block % 31);
         let value = format!(in alloc; " {line}={offset}")?;
@@ -65,7 +65,7 @@ fn many_objects(rt: HostRuntime) -> Result<(), Fail> {
         ),
     ];
     for (count, first, second) in table {
-        let values = made(alloc, if count < 64 { count } else { 63 })?;
+        let values = made(alloc, 3, if count < 64 { count } else { 63 })?;
         let report = format!(in alloc; "{first}{values}\n{second}")?;
         let mut shelf = shelf_with(alloc, POOL, &makes(alloc, count)?)?;
         reports(&rt, alloc, &mut shelf, "", &report)?;
