@@ -25,7 +25,7 @@ use Rattle.pm_model.specs.Names.{Replays}
 use Rattle.pm_crash.specs.Pending.{acts_alone, published_in, state_alone}
 use Rattle.pm_crash.specs.HeapChanges.{HeapChange}
 use Rattle.pm_crash.specs.Publishing.{Published, all_pool_published, entry_published}
-use Rattle.pm_world.proofs.Filled.{all_drained}
+use Rattle.pm_world.proofs.Filled.{logged_drained}
 use Rattle.pm_crash.proofs.AloneCourse.{StandsAlone, begins_alone, stands_at}
 use Rattle.pm_crash.proofs.AloneMemory.{memory_of}
 use Rattle.pm_crash.proofs.OnTheWay.{alone_on_the_way}
@@ -96,7 +96,7 @@ module _ (o : Opening) (header : Header) (pool : PoolView) (u : View) (n : ℕ) 
 
   -- it has entries, so nothing was undrained as it drew
   pub drawn_drained : u.changes ≡ []
-  drawn_drained = all_drained u call.draws.drained (λ records none.
+  drawn_drained = logged_drained u call.draws.drained (λ records none.
       let empty = ap length none in
       let some = ap length call.entered.entries ∙ length-append (map (entry_published u.lanes) all) (ends_with u (generation_of u + 1) ∷ []) in
       absurd (omega (arith, empty, some)))

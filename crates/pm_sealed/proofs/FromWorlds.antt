@@ -23,7 +23,7 @@ use Rattle.pm_world.specs.Records.{IsRecordAt, generation_of, records_generation
 use Rattle.pm_world.specs.World.{Views, World}
 use Rattle.pm_sealed.proofs.IdleLanes.{idle_clean}
 use Rattle.pm_world.proofs.CrashSpellings.{undo_from, undo_of-spelled}
-use Rattle.pm_world.proofs.Filled.{all_drained}
+use Rattle.pm_world.proofs.Filled.{logged_drained}
 use Rattle.pm_sealed.specs.Sealed.{HasWholeLog, IsOfPool, MaySeal, SealingLaw, pool_seen}
 
 module _ (o : Opening) (mem : Memory) (views : Views) (log : List Entry) (decided : ℕ → Bool) (k n : ℕ) (world : World o mem views log decided) (inside : k < o.lanes)
@@ -91,7 +91,7 @@ module _ (o : Opening) (mem : Memory) (views : Views) (log : List Entry) (decide
     in_lanes = let lanes = mine.lane.lanes in let lane = mine.lane.lane in omega (arith, lanes, lane, inside);
     size = size;
     drawn = drawn;
-    drained = all_drained v may.drained (λ records none. let size_none = ap length none in let some = long in absurd (omega (arith, size_none, some)));
+    drained = logged_drained v may.drained (λ records none. let size_none = ap length none in let some = long in absurd (omega (arith, size_none, some)));
     few = subst (λ fs. length fs ≤ 64) (sym entries_same) mine.entries.most;
     front = whole.front;
     ends = entries_same ∙ whole.ends;

@@ -42,5 +42,5 @@ pub only_filled : (v : View) → HasDrained v → OnlyFilled v
 only_filled v drained = ⊎_elim (λ (none : v.changes ≡ []). none_filled v none) (λ (bare : (v.log.records ≡ []) × (v.log.entries ≡ []) × OnlyFilled v). bare.2) drained
 
 -- a call that has a record or an entry has drained all
-pub all_drained : (v : View) → HasDrained v → (v.log.records ≡ [] → v.log.entries ≡ [] → ⊥) → v.changes ≡ []
-all_drained v drained some = ⊎_elim (λ (none : v.changes ≡ []). none) (λ (bare : (v.log.records ≡ []) × (v.log.entries ≡ []) × OnlyFilled v). absurd (some bare.0 bare.1)) drained
+pub logged_drained : (v : View) → HasDrained v → (v.log.records ≡ [] → v.log.entries ≡ [] → ⊥) → v.changes ≡ []
+logged_drained v drained some = ⊎_elim (λ (none : v.changes ≡ []). none) (λ (bare : (v.log.records ≡ []) × (v.log.entries ≡ []) × OnlyFilled v). absurd (some bare.0 bare.1)) drained

@@ -31,7 +31,7 @@ use Rattle.pm_world.proofs.Apart.{outside_behind}
 use Rattle.pm_world.proofs.Differences.{difference-words, difference-unentered, pool_entries-final}
 use Rattle.pm_world.proofs.Draws.{draws_fewer}
 use Rattle.pm_world.proofs.Exclusion.{writes_under, one_writer}
-use Rattle.pm_world.proofs.Filled.{all_drained, filled_again, only_filled}
+use Rattle.pm_world.proofs.Filled.{logged_drained, filled_again, only_filled}
 use Rattle.pm_world.proofs.Frame.{coursed, in_phase, lane_kept, log_again, coursed_fits, view_here, view_all}
 use Rattle.pm_world.proofs.Locations.{plain_counter, pool-counter, lock-counter, stop-counter}
 use Rattle.pm_world.proofs.Longer.{replayed-skip, empty-other, numbered-more, entries_by-more}
@@ -222,9 +222,9 @@ module _ (o : Opening) (old : Memory) (views : Views) (log : List Entry) (decide
   draws_with : (records : List Recorded) (entries : List Final) → v.log.records ≡ records → v.log.entries ≡ entries → World o new (with_view views k (view' (phase_drawn records entries))) log' decided'
   draws_with [] [] e f = draws_to Idle (λ u. refl) (λ u. refl) refl f refl (record { no_records = e; changes = still_filled Idle })
       (λ some. absurd (false≢true (sym some ∙ (ap is_empty (difference-unentered v f) ∙ ap (λ rs. is_empty (flat_map (finals_of v.words) rs)) e))))
-  draws_with [] (g ∷ entries) e f = to_decide (all_drained v may.drained (λ none_recorded none. none_of_some g entries v.log.entries none f)) (⊎_elim (λ (none : v.log.entries ≡ []). absurd (none_of_some g entries v.log.entries none f)) (λ some. ⊎_elim some_entries (λ (heap : IsTrue (changes_heap v)). absurd (false≢true (sym plain ∙ heap))) some) may.entered)
+  draws_with [] (g ∷ entries) e f = to_decide (logged_drained v may.drained (λ none_recorded none. none_of_some g entries v.log.entries none f)) (⊎_elim (λ (none : v.log.entries ≡ []). absurd (none_of_some g entries v.log.entries none f)) (λ some. ⊎_elim some_entries (λ (heap : IsTrue (changes_heap v)). absurd (false≢true (sym plain ∙ heap))) some) may.entered)
   draws_with (r ∷ records) entries e f =
-      to_decide (all_drained v may.drained (λ none unentered. none_of_some r records v.log.records none e)) (ap (λ rs. is_empty (flat_map (finals_of v.words) rs ++ pool_entries v)) e
+      to_decide (logged_drained v may.drained (λ none unentered. none_of_some r records v.log.records none e)) (ap (λ rs. is_empty (flat_map (finals_of v.words) rs ++ pool_entries v)) e
       ∙ some_finals v.words r.word (length r.old) (flat_map (finals_of v.words) records) (pool_entries v) (open_log.each 0 r (ap (λ rs. slice_get rs 0) e)).some)
 
   drawn_log : log_drawn v.log.phase v.log ≡ in_phase (phase_drawn v.log.records v.log.entries) v.log
