@@ -89,10 +89,14 @@ alone_views o w j = if j == 0 then w else idle_view o j
 abbrev pub standing : Opening → View → Opening
 standing o b = record o { words = b.words }
 
+-- no slot of its log has an undrained word
+abbrev pub HasDrainedSlots : View → Type 0
+HasDrainedSlots v = (slot : ℕ) → slot < 64 → is_drained_slot v slot ≡ true
+
 -- the lane rests: its log is empty, with no call open or one that may record, and no slot of it has an undrained word
 pub record Rests (b : View) : Type 0 where
   pub empty : (b.log ≡ no_log Idle) ⊎ (b.log ≡ no_log (Open [] []))
-  pub drained : (slot : ℕ) → slot < 64 → is_drained_slot b slot ≡ true
+  pub drained : HasDrainedSlots b
 
 -- a call that has drawn its number is decided by no seal so far: its next generation is to be stored, or is stored and not drained
 abbrev pub IsUnsealed : Phase → Type 0

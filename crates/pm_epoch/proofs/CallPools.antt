@@ -20,10 +20,9 @@ use Rattle.pm_world.specs.Entries.{is_in_log, is_redoing, is_redone}
 use Rattle.pm_world.proofs.CrashLogs.{unrecorded_unlogged}
 use Rattle.pm_world.proofs.Pairs.{none_redone}
 use Rattle.pm_world.proofs.Replays.{replayed-same}
-use Rattle.pm_world.proofs.CrashLaw.{all_drained}
 use Rattle.pm_world.proofs.Exclusion.{writes_under}
 use Rattle.pm_world.proofs.Slots.{word_recorded}
-use Rattle.pm_crash.specs.Alone.{Begins}
+use Rattle.pm_crash.specs.Alone.{Begins, HasDrainedSlots}
 use Rattle.pm_crash.specs.Held.{HoldsPool}
 use Rattle.pm_crash.specs.OpenCall.{ComesTo, CommitsTo, IsCommitted, IsUnderWay, call_words, IsBefore}
 use Rattle.pm_crash.proofs.AloneCourse.{StandsAlone, may_precede}
@@ -137,12 +136,12 @@ module _ (o : Opening) (header : Header) (pool : PoolView) (w : View) (s : Stand
   pub call_has_no_fault : (level : ℕ) (at_stage : Stage) (error : TxErr) → IsUnderWay w level at_stage error → IsBorneOut w → heap_fault (slice_index w.words) o.lanes o.zones ≡ None
   call_has_no_fault level at_stage error under_way borne_out = let comes = call_comes level at_stage error under_way borne_out in (stored_holds comes.base comes.holds).no_fault
 
-  -- where nothing is undrained
-  module _ (drained : w.changes ≡ []) where
+  -- where no slot of its log has an undrained word
+  module _ (drained : HasDrainedSlots w) where
     -- no slot of it is being written
     writes_none : (slot : ℕ) → slot < 64 → IsBeingWritten w slot → ⊥
     writes_none slot within = ⊎_elim
-        (λ (undrained : is_drained_slot w slot ≡ false). false≢true (sym undrained ∙ all_drained w slot drained))
+        (λ (undrained : is_drained_slot w slot ≡ false). false≢true (sym undrained ∙ drained slot within))
         (λ (used : (length w.log.records ≤ slot) × (slot < used_slots w.log.phase w)). let all : used_slots w.log.phase w ≡ length w.log.records = ap (λ p. used_slots p w) is_open in let from = used.0 in let to = used.1 in omega (arith, all, from, to))
 
     -- the pool before the call is no other

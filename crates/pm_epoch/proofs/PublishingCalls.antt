@@ -31,6 +31,7 @@ use Rattle.pm_crash.proofs.AloneMemory.{memory_of}
 use Rattle.pm_crash.proofs.OnTheWay.{alone_on_the_way}
 use Rattle.pm_crash.proofs.PublishedCopy.{committed_is_published}
 use Rattle.pm_epoch.specs.Epochs.{AllocatesOwn, HasEntriesFor, HasSameHeap, HoldsCommitted, IsPublishing, MayPublish}
+use Rattle.pm_world.proofs.CrashLaw.{all_drained}
 use Rattle.pm_epoch.proofs.CallPools.{holds_committed}
 use Rattle.pm_epoch.proofs.DrawnCalls.{may_publish}
 use Rattle.pm_epoch.proofs.EnteredCalls.{has_entries, of_call}
@@ -102,7 +103,7 @@ module _ (o : Opening) (header : Header) (pool : PoolView) (u : View) (n : ℕ) 
       absurd (omega (arith, empty, some)))
 
   pub held : HoldsCommitted o u header pool
-  held = holds_committed o header pool u stands call.draws.is_open drawn_drained call.start call.works.begins call.borne_out call.committed
+  held = holds_committed o header pool u stands call.draws.is_open (λ slot within. all_drained u slot drawn_drained) call.start call.works.begins call.borne_out call.committed
 
   -- the pool before it, and the one that it publishes all on, which the call stored
   abbrev pub before : PoolView

@@ -45,7 +45,7 @@ ghost use Rattle.pm_crash.specs.NewObjects.{AreFreeChunks, IsFreeInRun, IsFreshB
 ghost use Rattle.pm_crash.specs.Held.{HoldsImage, HoldsPool};
 ghost use Rattle.pm_crash.specs.Publishing.Published.{Changes, Performs};
 ghost use Rattle.pm_crash.specs.Publishing.{AreInOrder, Published, all_blocks_published, all_pool_published};
-ghost use Rattle.pm_crash.specs.Alone.{BeginsAgain, MeansCalls, WorksAlone, kept_numbered, standing};
+ghost use Rattle.pm_crash.specs.Alone.{BeginsAgain, HasDrainedSlots, MeansCalls, WorksAlone, kept_numbered, standing};
 ghost use Rattle.pm_crash.specs.CallBlocks.{MayPrecede, NewObject, TellsOfRoot, allocated_by, block_of, blocks_in, is_freed_in};
 ghost use Rattle.pm_crash.specs.OpenCall.{IsCommitted, IsUnderWay, Turns};
 ghost use Rattle.pm_crash.specs.Operations.{AllocatesObject, BeginsCall, FreesFound, IsMade, KeepsFound, Tells, entries_so_far};
@@ -205,15 +205,15 @@ pub fn a_published_pool_stands()
         → (is_taken (slice_index w.words) b.lanes at bit ≡ true) ↔ TakenBehindAll b.lanes all at bit (is_taken (slice_index b.words) b.lanes at bit ≡ true) }
 {}
 
-/// A law: where a lane works alone, with nothing undrained and no record or entry in the making, and its call has not drawn its number, its words as
-/// an image hold the pool to which its calls lead, one whole call after another; and as they stand they hold the pool that its open call stored, of which
+/// A law: where a lane works alone, with no undrained word of a slot and no record or entry in the making, and its call has not drawn its number, its words
+/// as an image hold the pool to which its calls lead, one whole call after another; and as they stand they hold the pool that its open call stored, of which
 /// the copy of the plain model's transaction is that with what the call made and freed, where what the lane has bears out what the call told of the heap.
 /// No code runs.
 pub fn a_lane_alone_holds_its_pools()
     ensures calls { (o : Opening) (header : Header) (pool : PoolView) (v w : View) (steps : List Step)
-        → WorksAlone o header pool v steps w → w.log.phase ≡ Open [] [] → w.changes ≡ [] → HoldsCalls o w header pool }
+        → WorksAlone o header pool v steps w → w.log.phase ≡ Open [] [] → HasDrainedSlots w → HoldsCalls o w header pool }
     ensures open_call { (o : Opening) (header : Header) (pool : PoolView) (v w : View) (steps : List Step) (level : ℕ) (at_stage : Stage) (error : TxErr)
-        → WorksAlone o header pool v steps w → w.log.phase ≡ Open [] [] → w.changes ≡ [] → IsUnderWay w level at_stage error → IsBorneOut w
+        → WorksAlone o header pool v steps w → w.log.phase ≡ Open [] [] → HasDrainedSlots w → IsUnderWay w level at_stage error → IsBorneOut w
         → HoldsOpenCall o w header pool level at_stage error }
 {}
 
@@ -224,20 +224,20 @@ pub fn a_reserved_block_overlaps_none()
         → AreDisjoint (block_of n) b }
 {}
 
-/// A law: where a lane works alone, with nothing undrained and no record or entry in the making, and what it has bears out what its call told of the
+/// A law: where a lane works alone, with no undrained word of a slot and no record or entry in the making, and what it has bears out what its call told of the
 /// heap so far, the pool before the call may precede it: it has room for what the call allocated, and its root is none that the call freed. No code runs.
 pub fn a_pool_may_precede_a_call_borne_out()
     ensures { (o : Opening) (header : Header) (pool : PoolView) (start v : View) (steps : List Step)
-        → WorksAlone o header pool start steps v → v.log.phase ≡ Open [] [] → v.changes ≡ [] → (held : HoldsCalls o v header pool) → IsBorneOut v
+        → WorksAlone o header pool start steps v → v.log.phase ≡ Open [] [] → HasDrainedSlots v → (held : HoldsCalls o v header pool) → IsBorneOut v
         → MayPrecede held.before v }
 {}
 
-/// A law: where a lane works alone, with nothing undrained and no record or entry in the making, its call is committed and what the lane has
+/// A law: where a lane works alone, with no undrained word of a slot and no record or entry in the making, its call is committed and what the lane has
 /// bears out what that told of the heap, the call turns the pool before it into its transaction's copy with what it published performed; and as they stand the
 /// words hold the pool that the call stored, of which the copy is that with what it made and freed. No code runs.
 pub fn a_committed_call_turns_its_pool()
     ensures { (o : Opening) (header : Header) (pool : PoolView) (start u : View) (steps : List Step)
-        → WorksAlone o header pool start steps u → u.log.phase ≡ Open [] [] → u.changes ≡ [] → IsCommitted u → IsBorneOut u → HoldsCommitted o u header pool }
+        → WorksAlone o header pool start steps u → u.log.phase ≡ Open [] [] → HasDrainedSlots u → IsCommitted u → IsBorneOut u → HoldsCommitted o u header pool }
 {}
 
 /// A law: where a lane works alone, and its call turns the pool to which its calls lead into another, they lead to that one with the call, whatever number

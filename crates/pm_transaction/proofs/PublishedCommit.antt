@@ -27,6 +27,7 @@ use Rattle.pm_crash.specs.Pending.{published_in}
 use Rattle.pm_crash.specs.Performing.{entry_for}
 use Rattle.pm_crash.specs.Publishing.{Published, entry_published}
 use Rattle.pm_crash.specs.Publishing.Published.{Changes, Performs}
+use Rattle.pm_world.proofs.CrashLaw.{all_drained}
 use Rattle.pm_epoch.proofs.CallPools.{holds_committed}
 use Rattle.pm_epoch.proofs.GainedObjects.{stood}
 use Rattle.pm_epoch.proofs.HeldApart.{opening_has_no_fault}
@@ -72,7 +73,7 @@ module _ {M : Type 0} (o : Opening) (at : M → View → Type 0) (lane : Lane M)
     s_u = stood o header pool start u (steps ++ steps_to_draw v entries) works_u
 
     no_fault_u : heap_fault (slice_index u.words) o.lanes o.zones ≡ None
-    no_fault_u = (holds_committed o header pool u s_u (open_l o at lane blocks header pool start v steps works is outer may) (drained_l o at lane blocks header pool start v steps works is outer may) start works.begins
+    no_fault_u = (holds_committed o header pool u s_u (open_l o at lane blocks header pool start v steps works is outer may) (λ slot within. all_drained u slot (drained_l o at lane blocks header pool start v steps works is outer may)) start works.begins
         (borne_out o at lane blocks header pool start v steps works is outer may) (committed o at lane blocks header pool start v steps works is outer may)).holds.no_fault
 
     alone_u : IsAlone u
