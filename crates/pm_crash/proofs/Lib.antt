@@ -50,6 +50,7 @@ pub mod NamedObjects
 pub mod ActionsOn
 pub mod ActionsOutside
 pub mod Staying
+pub mod StillReserved
 pub mod RisingWants
 pub mod HistoryActs
 pub mod LivingWords

@@ -19,7 +19,7 @@ use Rattle.pm_world.specs.declared.lane.Lane.{Lane}
 use Rattle.pm_crash.proofs.CallBlocks.{blocks_once_more, same_blocks}
 use Rattle.pm_crash.specs.CallBlocks.{TellsOfRoot, allocated_by, blocks_in}
 use Rattle.pm_undo.proofs.Settled.{settle_lawful}
-use Rattle.pm_tx.proofs.BorneOut.{HasSameHeads}
+use Rattle.pm_crash.proofs.StillReserved.{HasSameHeads}
 use Rattle.pm_tx.specs.Actions.{HasCanceled, cancels}
 use Rattle.pm_tx.specs.AtWork.{IsAtWork}
 use Rattle.pm_transaction.proofs.GoingWith.{Keeps, keeps_quiet, keeps_told, kept_of, with_lists}

@@ -29,7 +29,7 @@ use Rattle.pm_undo.proofs.Learned.{learns_at_work, opening_learned}
 use Rattle.pm_undo.specs.Spans.{IsSpan}
 use Rattle.pm_undo.specs.Working.{HasLearned, IsPlain}
 use Rattle.pm_tx.proofs.AddsAtWork.{listed_is_known}
-use Rattle.pm_tx.proofs.BorneOut.{HasSameHeads, borne_still}
+use Rattle.pm_crash.proofs.StillReserved.{HasSameHeads, borne_still}
 use Rattle.pm_tx.proofs.GoingOn.{HasSameFields, goes_on, objects_kept}
 use Rattle.pm_tx.proofs.LearnsAtWork.{looks_once}
 use Rattle.pm_tx.proofs.NoneMade.{made_none_same}

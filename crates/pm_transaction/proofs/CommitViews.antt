@@ -49,7 +49,8 @@ use Rattle.pm_undo.proofs.Settled.{settle_lawful}
 use Rattle.pm_undo.proofs.Staying.{same_call-then, same_settled}
 use Rattle.pm_undo.proofs.Written.{settled_works}
 use Rattle.pm_undo.specs.Working.{IsSameCall, IsSettled}
-use Rattle.pm_tx.proofs.BorneOut.{HasSameHeads, borne_on, same_heads_outside}
+use Rattle.pm_crash.proofs.StillReserved.{HasSameHeads, borne_on}
+use Rattle.pm_tx.proofs.BorneOut.{same_heads_outside}
 use Rattle.pm_tx.proofs.GoingOn.{sets_on}
 use Rattle.pm_tx.proofs.Published.{some_drawn}
 use Rattle.pm_tx.specs.Sequences.{performs_logged}

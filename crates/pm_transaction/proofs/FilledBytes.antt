@@ -34,7 +34,7 @@ use Rattle.pm_world.specs.Lawful.{MayFill, MayStore, StoreFits}
 use Rattle.pm_world.specs.Opening.{Opening}
 use Rattle.pm_world.specs.Sequences.{Ready, by_view, looks, stores, with_word}
 use Rattle.pm_world.specs.declared.lane.Lane.{Lane}
-use Rattle.pm_tx.proofs.BorneOut.{HasSameHeads}
+use Rattle.pm_crash.proofs.StillReserved.{HasSameHeads}
 use Rattle.pm_tx.proofs.WrittenBytes.{counted_covered, covered_counted}
 use Rattle.pm_tx.specs.Sequences.{word_count, writes, writes_word}
 use Rattle.pm_transaction.proofs.GoingWith.{lies_still}

@@ -26,7 +26,8 @@ use Rattle.pm_crash.proofs.Covered.{written_words}
 use Rattle.pm_crash.proofs.FoundBlocks.{IsPageOf, page_of_chunk}
 use Rattle.pm_crash.proofs.NewRuns.{page_at}
 use Rattle.pm_crash.specs.Operations.{AddsRange, ReadsBytes, WritesBytes}
-use Rattle.pm_tx.proofs.BorneOut.{HasSameHeads, same_heads_outside}
+use Rattle.pm_crash.proofs.StillReserved.{HasSameHeads}
+use Rattle.pm_tx.proofs.BorneOut.{same_heads_outside}
 use Rattle.pm_tx.specs.AtWork.{IsAtWork}
 use Rattle.pm_tx.specs.Ranges.{HasAddedRange, HasReadRange, HasWrittenRange, adds_range, reads_range, writes_range}
 use Rattle.pm_transaction.proofs.GoingWith.{Keeps, keeps_told, with_lists}

@@ -36,7 +36,8 @@ use Rattle.pm_world.specs.Lawful.{MayTell}
 use Rattle.pm_world.specs.Opening.{Opening}
 use Rattle.pm_world.specs.Sequences.{Ready, one}
 use Rattle.pm_world.specs.declared.lane.Lane.{Lane}
-use Rattle.pm_tx.proofs.BorneOut.{HasSameHeads, heads_taken_back}
+use Rattle.pm_crash.proofs.StillReserved.{HasSameHeads}
+use Rattle.pm_tx.proofs.BorneOut.{heads_taken_back}
 use Rattle.pm_tx.proofs.GoingOn.{HasSameFields, goes_on}
 use Rattle.pm_tx.proofs.NoneMade.{made_none_before}
 use Rattle.pm_tx.specs.AtWork.{IsAtWork}

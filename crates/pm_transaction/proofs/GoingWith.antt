@@ -22,7 +22,7 @@ use Rattle.pm_crash.specs.CallBlocks.{CallBlocks, IsOldIn, NewObject, TellsOfRoo
 use Rattle.pm_crash.specs.HeapChanges.{run_at}
 use Rattle.pm_crash.specs.NewObjects.{block_of_chunks, block_of_run}
 use Rattle.pm_crash.specs.Reserved.{IsBorneOut, IsReservedInChunks, IsReservedInRun}
-use Rattle.pm_tx.proofs.BorneOut.{HasSameHeads, borne_on, borne_still}
+use Rattle.pm_crash.proofs.StillReserved.{HasSameHeads, borne_on, borne_still}
 use Rattle.pm_tx.specs.AtWork.{IsAtWork}
 use Rattle.pm_tx.specs.Learning.{Looks}
 use Rattle.pm_transaction.proofs.NotMaking.{not_making_still}

@@ -21,7 +21,7 @@ use Rattle.pm_crash.proofs.NewRanges.{new_add_goes_on}
 use Rattle.pm_crash.proofs.PendingOn.{published_once_more}
 use Rattle.pm_crash.specs.Operations.{AddsNewRange, HasNewRange}
 use Rattle.pm_crash.specs.Pending.{published_in}
-use Rattle.pm_tx.proofs.BorneOut.{HasSameHeads}
+use Rattle.pm_crash.proofs.StillReserved.{HasSameHeads}
 use Rattle.pm_tx.proofs.GoingOn.{HasSameFields, goes_on}
 use Rattle.pm_tx.proofs.NoneMade.{made_none_before}
 use Rattle.pm_tx.specs.AtWork.{IsAtWork}

@@ -30,7 +30,7 @@ use Rattle.pm_crash.proofs.NewWrites.{new_write_goes_on}
 use Rattle.pm_crash.proofs.PendingOn.{published_once_more}
 use Rattle.pm_crash.specs.Operations.{HasNewRange, WritesNewBytes}
 use Rattle.pm_crash.specs.Pending.{published_in}
-use Rattle.pm_tx.proofs.BorneOut.{HasSameHeads}
+use Rattle.pm_crash.proofs.StillReserved.{HasSameHeads}
 use Rattle.pm_tx.proofs.Fronts.{front_undrawn}
 use Rattle.pm_tx.proofs.GoingOn.{HasSameFields, KeepsObjects, goes_on}
 use Rattle.pm_tx.proofs.NoneMade.{made_none_before}

@@ -17,7 +17,7 @@ use Rattle.pm_crash.proofs.NewRuns.{page_at}
 use Rattle.pm_alloc.specs.NewObjects.{CanMakeObject}
 use Rattle.pm_epoch.proofs.FreeChunks.{no_run_reserved}
 use Rattle.pm_epoch.specs.Epochs.{ReservesNoRun}
-use Rattle.pm_tx.proofs.BorneOut.{HasSameHeads}
+use Rattle.pm_crash.proofs.StillReserved.{HasSameHeads}
 use Rattle.pm_transaction.specs.AtWork.{IsNotMaking}
 
 pub not_making_still : (v w : View) → HasSameHeads v w → w.zone_locks ≡ v.zone_locks → IsNotMaking v → IsNotMaking w

@@ -36,7 +36,8 @@ use Rattle.pm_crash.specs.Reserved.{IsBorneOut}
 use Rattle.pm_epoch.proofs.GainedRooms.{IsCallStill, search_still}
 use Rattle.pm_made.specs.Made.{BlockLists}
 use Rattle.pm_model.specs.Actions.{Action}
-use Rattle.pm_tx.proofs.BorneOut.{HasSameHeads, borne_still, heads_taken_back}
+use Rattle.pm_crash.proofs.StillReserved.{HasSameHeads, borne_still}
+use Rattle.pm_tx.proofs.BorneOut.{heads_taken_back}
 use Rattle.pm_tx.proofs.GoingOn.{HasSameFields, KeepsObjects, goes_on}
 use Rattle.pm_tx.proofs.NoneMade.{made_none_same}
 use Rattle.pm_tx.specs.AtWork.{IsAtWork}

@@ -1,10 +1,7 @@
 -- What a lane has bears out what its call told of the heap, behind steps that tell nothing of it, and where the call is given up.
-use Rattle.std.proofs.Common.{◌≡◌, ⊎_elim, inl, inr, ℕ, zero, suc, ◌+◌, ◌-◌, ◌*◌, ◌/◌, ◌<◌, ◌&&◌, true, false, cond, eqb, leb, ltb, List, [], ◌∷◌, ◌++◌, Contains, slice_index, Option, Some, None, refl, sym, ◌∙◌, ap, subst, arith}
-use Rattle.std.specs.List.{All, list_any}
+use Rattle.std.proofs.Common.{◌≡◌, ⊎_elim, inl, inr, ℕ, zero, suc, ◌+◌, ◌-◌, ◌*◌, ◌/◌, ◌<◌, ◌&&◌, true, false, leb, ltb, List, [], Contains, slice_index, Option, Some, None, refl, sym, ◌∙◌, ap, subst, arith}
 use Rattle.std.specs.Option.{is_some}
 use Rattle.std.proofs.lemmas.Bool.{and_parts, false_from_ne_true, leb-true}
-use Rattle.std.proofs.lemmas.List.{append-nil}
-use Rattle.std.proofs.lemmas.List.Elements.{All-append, All-cons, All-nil, All-weaker}
 use Rattle.std.proofs.lemmas.List.Folds.{Any-from_list_any}
 use Rattle.pm_image.specs.Blocks.{descriptor_word}
 use Rattle.pm_model.specs.Answers.{error_for}
@@ -12,31 +9,27 @@ use Rattle.pm_objects.specs.declared.calls.Operation.{Operation}
 use Rattle.pm_objects.specs.declared.calls.Operation.TheVariants.{Abort}
 use Rattle.pm_objects.specs.declared.history.TxErr.{TxErr}
 use Rattle.pm_objects.specs.declared.history.Value.{Value}
-use Rattle.pm_view.specs.declared.occ.Occ.{Occ}
-use Rattle.pm_view.specs.declared.occ.Occ.TheVariants.{Zone}
 use Rattle.pm_view.specs.Area.{area_word, is_in_area}
 use Rattle.pm_view.specs.Blocks.{is_chunk, zone_page}
 use Rattle.pm_view.specs.Founds.{IsAlone}
 use Rattle.pm_view.specs.Held.{is_guarded, is_under, is_under_found}
 use Rattle.pm_view.specs.Steps.Step.{Load}
-use Rattle.pm_view.specs.View.{Lock, Told, View}
-use Rattle.pm_view.specs.Views.{after, has_bit, reserves}
+use Rattle.pm_view.specs.View.{Lock, View}
+use Rattle.pm_view.specs.Views.{after}
 use Rattle.pm_world.specs.Opening.{Opening}
 use Rattle.pm_world.specs.Records.{is_recorded}
 use Rattle.pm_world.specs.declared.lane.Lane.{Lane}
 use Rattle.pm_crash.proofs.AloneMemory.{load_words}
-use Rattle.pm_crash.proofs.CallBlocks.{allocated_once_more, same_allocated}
 use Rattle.pm_crash.proofs.CallWords.{behind_is_outside}
 use Rattle.pm_crash.proofs.FoundBlocks.{IsPageOf, page_of_chunk}
 use Rattle.pm_crash.proofs.GivenUp.{abort_aborts, gives_up}
 use Rattle.pm_crash.proofs.NewRuns.{page_at}
-use Rattle.pm_crash.specs.CallBlocks.{AgreesOnRoot, KeepsBlocks, NewObject, TellsOfRoot, allocated_by, allocated_in}
-use Rattle.pm_crash.specs.HeapChanges.{run_at}
-use Rattle.pm_crash.specs.NewObjects.{block_of_chunks, block_of_run}
+use Rattle.pm_crash.proofs.StillReserved.{HasSameHeads, borne_on, borne_still}
+use Rattle.pm_crash.specs.CallBlocks.{KeepsBlocks, TellsOfRoot, allocated_by}
 use Rattle.pm_crash.specs.HeldHistory.{IsEndedCall}
 use Rattle.pm_crash.specs.OpenCall.{IsWholeCall, MakesItsStep, WasAborted}
 use Rattle.pm_crash.specs.Operations.{TakesBack, Tells}
-use Rattle.pm_crash.specs.Reserved.{IsBorneOut, IsReservedFor, IsReservedInChunks, IsReservedInRun, root_in}
+use Rattle.pm_crash.specs.Reserved.{IsBorneOut}
 use Rattle.pm_lock.specs.Finding.{FindsObject}
 use Rattle.pm_undo.proofs.Kept.{is_of}
 use Rattle.pm_undo.proofs.Lockings.{locked_is_plain}
@@ -45,85 +38,6 @@ use Rattle.pm_tx.specs.AtWork.{IsAtWork}
 use Rattle.pm_tx.specs.Ending.{GivesUpBy, MayGiveUp}
 use Rattle.pm_tx.specs.Learning.{Looks}
 use Rattle.pm_tx.specs.Publishing.{EndsWhole}
-
--- the lane has reserved the same, and no word changed that describes a chunk, nor the root's
-pub record HasSameHeads (v next : View) : Type 0 where
-  pub lanes : next.lanes ≡ v.lanes
-  pub zones : next.zones ≡ v.zones
-  pub reserved : next.reserved ≡ v.reserved
-  pub described : (c : ℕ) → c < 64 * v.zones → slice_index next.words (descriptor_word v.lanes c) ≡ slice_index v.words (descriptor_word v.lanes c)
-  pub root : slice_index next.words 64 ≡ slice_index v.words 64
-
-module _ (v next : View) (same : HasSameHeads v next) where
-  reserves_still : (at : Occ) (bit : ℕ) → reserves next at bit ≡ reserves v at bit
-  reserves_still at bit = ap (list_any (has_bit at bit)) same.reserved
-
-  in_run_still : (n : NewObject) → IsReservedInRun v n → IsReservedInRun next n
-  in_run_still n run =
-      let in_pool = run.in_pool in let zones = same.zones in
-      record {
-        chunk = run.chunk;
-        lines = run.lines;
-        index = run.index;
-        in_pool = omega (arith, in_pool, zones);
-        low = run.low;
-        described = ap (λ (m : ℕ). slice_index next.words (descriptor_word m run.chunk)) same.lanes ∙ (same.described run.chunk run.in_pool ∙ run.described);
-        reserved = reserves_still (run_at next.lanes run.chunk) run.index ∙ (ap (λ (m : ℕ). reserves v (run_at m run.chunk) run.index) same.lanes ∙ run.reserved);
-        is_block = run.is_block ∙ ap (λ (m : ℕ). block_of_run m run.chunk run.lines run.index) (sym same.lanes);
-      }
-
-  in_chunks_still : (n : NewObject) → IsReservedInChunks v n → IsReservedInChunks next n
-  in_chunks_still n has =
-      let in_pool = has.in_pool in let zones = same.zones in let fits = has.fits in
-      record {
-        zone = has.zone;
-        first = has.first;
-        count = has.count;
-        in_pool = omega (arith, in_pool, zones);
-        low = has.low;
-        fits = has.fits;
-        unused = λ j near.
-            let t = has.unused j near in
-            let inside : 64 * has.zone + (has.first + j) < 64 * v.zones = omega (arith, in_pool, fits, near) in
-            record {
-              reserved = reserves_still (Zone has.zone) (has.first + j) ∙ t.reserved;
-              undescribed = ap (λ (m : ℕ). slice_index next.words (descriptor_word m (64 * has.zone + (has.first + j)))) same.lanes ∙ (same.described (64 * has.zone + (has.first + j)) inside ∙ t.undescribed);
-            };
-        is_block = has.is_block ∙ ap (λ (m : ℕ). block_of_chunks m (64 * has.zone + has.first) has.count) (sym same.lanes);
-      }
-
-  reserved_still : (n : NewObject) → IsReservedFor v n → IsReservedFor next n
-  reserved_still n (inl run) = inl (in_run_still n run)
-  reserved_still n (inr has) = inr (in_chunks_still n has)
-
-  same_root : root_in (slice_index next.words) ≡ root_in (slice_index v.words)
-  same_root = ap (λ (x : ℕ). cond (eqb x 0) None (Some x)) same.root
-
-  -- an operation with its reply agrees with a root
-  abbrev Agrees : Option ℕ → Told → Type 0
-  Agrees root t = TellsOfRoot root t.operation t.reply
-
-  -- behind an operation that allocates nothing and tells nothing of the root
-  pub borne_on : (op : Operation) (reply : Option Value) → next.call ≡ v.call ++ record { operation = op; reply = reply } ∷ [] → allocated_by op reply ≡ [] → ((root : Option ℕ) → TellsOfRoot root op reply)
-      → IsBorneOut v → IsBorneOut next
-  borne_on op reply call none no_root borne =
-      let root : Option ℕ = root_in (slice_index v.words) in
-      let t : Told = record { operation = op; reply = reply } in
-      record {
-        reserved =
-            subst (All (IsReservedFor next)) (sym (allocated_once_more v next op reply call ∙ ((λ j. allocated_in v ++ none j) ∙ append-nil (allocated_in v))))
-            (All-weaker (IsReservedFor v) (IsReservedFor next) reserved_still (allocated_in v) borne.reserved);
-        root =
-            subst (AgreesOnRoot next) (sym same_root)
-            (subst (All (Agrees root)) (sym call) (All-append (Agrees root) v.call (t ∷ []) borne.root (All-cons (Agrees root) t [] (no_root root) (All-nil (Agrees root)))));
-      }
-
-  -- and where nothing is told
-  pub borne_still : next.call ≡ v.call → IsBorneOut v → IsBorneOut next
-  borne_still call borne = record {
-    reserved = subst (All (IsReservedFor next)) (sym (same_allocated v next call)) (All-weaker (IsReservedFor v) (IsReservedFor next) reserved_still (allocated_in v) borne.reserved);
-    root = subst (AgreesOnRoot next) (sym same_root) (subst (All (Agrees (root_in (slice_index v.words)))) (sym call) borne.root);
-  }
 
 -- ---- words outside of the lane's area that stay
 

@@ -8,7 +8,8 @@ use Rattle.pm_crash.specs.OpenCall.{IsUnderWay}
 use Rattle.pm_crash.specs.Reserved.{IsBorneOut}
 use Rattle.pm_crash.specs.Performing.{entry_for}
 use Rattle.pm_crash.proofs.Staying.{goes_on_quietly}
-use Rattle.pm_tx.proofs.BorneOut.{borne_on, borne_still, same_heads_outside}
+use Rattle.pm_crash.proofs.StillReserved.{borne_on, borne_still}
+use Rattle.pm_tx.proofs.BorneOut.{same_heads_outside}
 use Rattle.pm_world.specs.Records.{pool_entries}
 use Rattle.pm_model.specs.Actions.{Action}
 use Rattle.pm_model.specs.Actions.Action.{SetWord}
