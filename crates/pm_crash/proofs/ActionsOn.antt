@@ -1,5 +1,5 @@
 -- The calls on pending actions in a transaction: a set-value, a cancel and a publish go on as the model's transaction does, and a refused publish gives up.
-use Rattle.std.proofs.Common.{◌≡◌, ◌≢◌, ℕ, ◌+◌, ◌<◌, ◌≤◌, ◌%◌, ◌||◌, ⊎_elim, inl, inr, Bool, cond, true, false, not, eqb, leb, ltb, List, [], ◌++◌, length, map, Option, Some, None, refl, sym, ◌∙◌, ap, subst, arith}
+use Rattle.std.proofs.Common.{◌≡◌, ◌≢◌, ℕ, ◌+◌, ◌≤◌, ◌%◌, ◌||◌, ⊎_elim, inl, inr, Bool, cond, true, false, not, eqb, leb, ltb, List, [], ◌++◌, length, map, Option, Some, None, refl, sym, ◌∙◌, ap, subst, arith}
 use Rattle.std.specs.List.{All, Any, list_any}
 use Rattle.std.specs.Option.{option_map}
 use Rattle.std.proofs.lemmas.Bool.{and_left, and_right, cases_eq, le-ltb, lt-ltb, ne_eqb, or_from, or_left, or_parts, or_right}
@@ -29,18 +29,18 @@ use Rattle.pm_model.proofs.Alike.{after_refused}
 use Rattle.pm_model.proofs.Asked.{published_plain}
 use Rattle.pm_view.specs.Log.{Recorded}
 use Rattle.pm_view.specs.View.{View}
-use Rattle.pm_crash.specs.CallBlocks.{CallBlocks, IsOldIn, KeepsBlocks, NewObject, TellsOfRoot, allocated_by, blocks_behind, blocks_in, is_at, is_freed_in, is_gone_in, is_made_in, is_new_in, no_blocks}
+use Rattle.pm_crash.specs.CallBlocks.{CallBlocks, IsOldIn, NewObject, TellsOfRoot, allocated_by, blocks_behind, blocks_in, is_at, is_freed_in, is_gone_in, is_made_in, is_new_in, no_blocks}
 use Rattle.pm_crash.specs.Held.{HoldsPool}
 use Rattle.pm_crash.specs.Locks.{AreSameLocks}
-use Rattle.pm_crash.specs.OnActions.{CanSet, CanSetIn, ChangesPending, HasObjectOf, IsOnGone, IsOnLeft, IsOnOld, IsPendingAnswer, IsPublishReason, IsPublishReasonIn, LacksObjectOf, MovesActions, PassesIn, PublishesIn, RefusesPublish, entries_in, entries_wanted, set_refusal}
-use Rattle.pm_crash.specs.OpenCall.{IsBefore, call_words, ComesTo, HasMade, IsChanged, IsGivenUp, IsPerformable, IsOpen, IsUnderWay, TracksBlocks, WasAborted, locks_of, words_recorded}
+use Rattle.pm_crash.specs.OnActions.{CanSetIn, ChangesPending, HasObjectOf, IsOnGone, IsOnLeft, IsPendingAnswer, IsPublishReasonIn, LacksObjectOf, PassesIn, PublishesIn, entries_in, set_refusal}
+use Rattle.pm_crash.specs.OpenCall.{IsBefore, call_words, ComesTo, HasMade, IsChanged, IsPerformable, IsOpen, IsUnderWay, TracksBlocks, WasAborted, locks_of, words_recorded}
 use Rattle.pm_crash.specs.Operations.{has_at, IsHeld, IsLeft, IsMade, KeepsLog, KeepsWords, TakesBack, Tells}
 use Rattle.pm_crash.specs.Pending.{pending_behind, pending_in, published_by, published_in}
 use Rattle.pm_crash.proofs.CallWords.{call_works, locked_member, locks_kept, object_under, same_pool}
-use Rattle.pm_crash.proofs.CallBlocks.{all_tracks_gone, any_map, keeps_on, old_of_none, tracks_new}
+use Rattle.pm_crash.proofs.CallBlocks.{all_tracks_gone, any_map, keeps_on, tracks_new}
 use Rattle.pm_crash.proofs.Continued.{answers_value, known_new, leaves_told, left_changed, left_new, left_tracks, still_under_way, told_has, tracks_more, LeavesBlocks}
 use Rattle.pm_crash.proofs.FreeChecks.{had_is_held}
-use Rattle.pm_crash.proofs.GivenUp.{aborts_call, gives_up, refused_answers, IsRefusedFor}
+use Rattle.pm_crash.proofs.GivenUp.{aborts_call, refused_answers, IsRefusedFor}
 use Rattle.pm_crash.proofs.KeptWords.{goes_back, keeps_known, same_call_words, same_found}
 use Rattle.pm_crash.proofs.NamedObjects.{is_outside, set_is_held, set_is_inside, set_performs, FindsObjects}
 use Rattle.pm_crash.proofs.NewRanges.{new_long}
@@ -388,46 +388,3 @@ change_keeps_open v next op reply level some is_open changes = record {
   under_way = change_goes_on v next op reply level some is_open.under_way changes;
   keeps = keeps_on v next op reply changes.tells.call (pending_leaves (pending_in v) op reply no_blocks changes.answer) (pending_allocates_none (pending_in v) op reply changes.answer) (pending_tells_no_root (pending_in v) op reply changes.answer) is_open.keeps;
 }
-
--- none of the objects that are pending is new or freed, and no entry is of one
-on_old : (v : View) → KeepsBlocks v → (a : Action) → IsOnOld v a
-on_old v keeps a = old_of_none v keeps (object_of a).off
-
-set_in : (v : View) → KeepsBlocks v → (actions : List Action) → All (CanSet v) actions → All (CanSetIn v) actions
-set_in v keeps actions each = All-weaker (CanSet v) (CanSetIn v) (λ a can. inl (can, on_old v keeps a)) actions each
-
-no_entry_more : (v : View) → KeepsBlocks v → entries_in v ≡ entries_wanted v
-no_entry_more v keeps =
-    let made : length (blocks_in v).made ≡ 0 = ap (λ (b : CallBlocks). length b.made) keeps.blocks in
-    let freed : length (blocks_in v).freed ≡ 0 = ap (λ (b : CallBlocks). length b.freed) keeps.blocks in
-    omega (arith, made, freed)
-
-pub publish_keeps_open : (v next : View) (level : ℕ) → 1 ≤ level → IsOpen v level stage.Work error.None → MovesActions v next → IsOpen next level stage.Work error.None
-publish_keeps_open v next level some is_open moves = record {
-  under_way =
-      publish_goes_on v next level some is_open.under_way
-      (record {
-        tells = moves.tells;
-        logs = moves.logs;
-        words = moves.words;
-        each = set_in v is_open.keeps (pending_in v) moves.each;
-        room = subst (λ (n : ℕ). n ≤ max_entries) (sym (no_entry_more v is_open.keeps)) moves.room;
-      });
-  keeps = keeps_on v next Publish None moves.tells.call refl refl (λ root. tt) is_open.keeps;
-}
-
-reason_in : (v : View) (r : Refusal) → KeepsBlocks v → IsPublishReason v r → IsPublishReasonIn v r
-reason_in v refusal.NotLocked keeps (k, a, inside, at, unheld) =
-    (k, a, inside, at, λ same. or_from (is_new_in v (object_of a).off) (is_locked (locks_of v) (object_of a).off true) (on_old v keeps a).found (unheld same))
-reason_in v refusal.OutOfRange keeps reason = (
-  All-weaker (λ (a : Action). IsHeld v (object_of a) true) (IsOnLeft v)
-      (λ a held. record { of_pool = held.of_pool; has = held_is_had v (object_of a) held; left = old_is_left v (object_of a).off (on_old v keeps a) }) (pending_in v) reason.0,
-  (let past = reason.1 in (past.0, past.1, past.2, past.3, inl (past.4, on_old v keeps past.1))),
-)
-reason_in v refusal.ActionsFull keeps reason = (set_in v keeps (pending_in v) reason.0, subst (λ (n : ℕ). max_entries < n) (sym (no_entry_more v keeps)) reason.1)
-reason_in v r keeps reason = absurd reason
-
-pub refused_publish_gives_up : (v next : View) (r : Refusal) (level : ℕ) → 1 ≤ level → IsOpen v level stage.Work error.None → RefusesPublish v next r → IsGivenUp next (error.Refused r)
-refused_publish_gives_up v next r level some is_open refuses =
-    gives_up v next Publish (Some (Refused r)) refl (λ root. tt) refuses.tells.call is_open.keeps (error.Refused r)
-    (refused_publish_aborts v next r level some is_open.under_way (reason_in v r is_open.keeps refuses.reason) refuses.tells refuses.takes_back)

@@ -12,7 +12,7 @@ use Rattle.pm_model.specs.Actions.Action.{SetWord}
 use Rattle.pm_view.specs.View.{View}
 use Rattle.pm_world.specs.Records.{pool_entries}
 use Rattle.pm_crash.specs.CallBlocks.{IsOldIn, blocks_in}
-use Rattle.pm_crash.specs.Operations.{has_at, HasNewRange, HasRange, IsGone, IsHeld, IsLeft, IsNotHeld, KeepsLog, KeepsWords, PassesEnd, PassesNewEnd, TakesBack, TakesWanted, Tells}
+use Rattle.pm_crash.specs.Operations.{has_at, HasNewRange, HasRange, IsGone, IsLeft, KeepsLog, KeepsWords, PassesEnd, PassesNewEnd, TakesWanted, Tells}
 use Rattle.pm_crash.specs.Pending.{pending_before, pending_in, published_in}
 use Rattle.pm_crash.specs.Performing.{IsWord, entry_for}
 
@@ -105,27 +105,6 @@ IsPublishReasonIn v refusal.NoObject = All (HasObjectOf v) (pending_in v) × Any
 IsPublishReasonIn v refusal.OutOfRange = All (IsOnLeft v) (pending_in v) × Any (PassesIn v) (pending_in v)
 IsPublishReasonIn v refusal.ActionsFull = All (CanSetIn v) (pending_in v) × (max_entries < entries_in v)
 IsPublishReasonIn v r = ⊥
-
--- what is pending can be published, the lane told so, and did nothing else
-pub record MovesActions (v next : View) : Type 0 where
-  pub tells : Tells v next Publish None
-  pub logs : KeepsLog v next
-  pub words : KeepsWords v next
-  pub each : All (CanSet v) (pending_in v)
-  pub room : entries_wanted v ≤ max_entries
-
--- why a publish in a transaction is refused: the first of these that holds of all that is pending
-abbrev pub IsPublishReason : View → Refusal → Type 0
-IsPublishReason v refusal.NotLocked = Any (λ (a : Action). IsNotHeld v (object_of a) true) (pending_in v)
-IsPublishReason v refusal.OutOfRange = All (λ (a : Action). IsHeld v (object_of a) true) (pending_in v) × Any (PassesObject v) (pending_in v)
-IsPublishReason v refusal.ActionsFull = All (CanSet v) (pending_in v) × (max_entries < entries_wanted v)
-IsPublishReason v r = ⊥
-
--- the lane refused a publish, took back what the call did, and told so
-pub record RefusesPublish (v next : View) (r : Refusal) : Type 0 where
-  pub reason : IsPublishReason v r
-  pub tells : Tells v next Publish (Some (Refused r))
-  pub takes_back : TakesBack v next
 
 -- ---- outside of a transaction
 

@@ -12,8 +12,8 @@ ghost use Rattle.pm_model.specs.declared.stage.Stage.TheVariants as stage;
 ghost use Rattle.pm_model.specs.Actions.{Action, with_actions};
 ghost use Rattle.pm_view.specs.View.{View};
 ghost use Rattle.pm_crash.specs.Held.{HoldsPool};
-ghost use Rattle.pm_crash.specs.OnActions.{ChangesPending, ChangesPendingOutside, MovesActions, PublishesOutside, RefusesOutside, RefusesPublish};
-ghost use Rattle.pm_crash.specs.OpenCall.{IsGivenUp, IsOpen, IsWholeCall};
+ghost use Rattle.pm_crash.specs.OnActions.{ChangesPending, ChangesPendingOutside, PublishesOutside, RefusesOutside};
+ghost use Rattle.pm_crash.specs.OpenCall.{IsOpen, IsWholeCall};
 ghost use Rattle.pm_crash.specs.Performing.{CanPerform, performed};
 
 /// A law: from words that hold a pool, the entries that stand for actions, each of which lies in an object of the pool, make words that
@@ -34,20 +34,6 @@ pub fn entries_perform_actions()
 pub fn a_call_on_actions_keeps_the_call()
     ensures { (v next : View) (op : Operation) (reply : Option Value) (level : ℕ) → 1 ≤ level
         → IsOpen v level stage.Work error.None → ChangesPending v next op reply → IsOpen next level stage.Work error.None }
-{}
-
-/// A law: a publish in a transaction makes the pending actions the transaction's, where each is of a word of an object that the lane holds for
-/// writing, and its log has room for all. No code runs.
-pub fn a_publish_moves_actions()
-    ensures { (v next : View) (level : ℕ) → 1 ≤ level
-        → IsOpen v level stage.Work error.None → MovesActions v next → IsOpen next level stage.Work error.None }
-{}
-
-/// A law: a publish that a lane refuses in a transaction for the first reason that it has is refused by the plain model so, and the call is given
-/// up. No code runs.
-pub fn a_refused_publish_gives_up()
-    ensures { (v next : View) (r : Refusal) (level : ℕ) → 1 ≤ level
-        → IsOpen v level stage.Work error.None → RefusesPublish v next r → IsGivenUp next (error.Refused r) }
 {}
 
 /// A law: a set-value or a cancel outside of a transaction, refused or not, is a step of the plain model. No code runs.

@@ -22,8 +22,7 @@ mod under_way;
 
 pub use actions::{
     a_call_on_actions_is_a_step, a_call_on_actions_keeps_the_call, a_publish_is_a_step,
-    a_publish_moves_actions, a_refused_publish_gives_up, a_refused_publish_is_a_step,
-    entries_perform_actions,
+    a_refused_publish_is_a_step, entries_perform_actions,
 };
 pub use alone::{
     a_call_in_flight_is_lost_by_its_generation, a_generation_rises_with_each_store_of_it,

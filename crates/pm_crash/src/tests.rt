@@ -61,8 +61,6 @@ fn laws(_rt: HostRuntime) {
     a_generation_rises_with_each_store_of_it();
     entries_perform_actions();
     a_call_on_actions_keeps_the_call();
-    a_publish_moves_actions();
-    a_refused_publish_gives_up();
     a_call_on_actions_is_a_step();
     a_publish_is_a_step();
     a_refused_publish_is_a_step();

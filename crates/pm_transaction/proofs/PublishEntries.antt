@@ -21,7 +21,7 @@ use Rattle.pm_view.specs.View.{Lock, View}
 use Rattle.pm_world.specs.Opening.{Opening}
 use Rattle.pm_world.specs.declared.lane.Lane.{Lane}
 use Rattle.pm_lock.specs.Finding.{FindsObject}
-use Rattle.pm_tx.proofs.PublishesAtWork.{entry_of_pool, place_is_low, word_covered}
+use Rattle.pm_tx.proofs.PendingEntries.{entry_of_pool, place_is_low, word_covered}
 use Rattle.pm_tx.specs.AtWork.{MakesNone}
 use Rattle.pm_transaction.proofs.NewRangeWords.{covered_in, covered_in_pool, covered_outside, even, new_range_is_low}
 use Rattle.pm_transaction.proofs.NewWords.{IsInBlock}

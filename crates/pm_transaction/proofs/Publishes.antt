@@ -31,7 +31,7 @@ use Rattle.pm_tx.proofs.ActionsAtWork.{as_before, log_kept, objects, opening_tol
 use Rattle.pm_tx.proofs.BorneOut.{gives_up_so}
 use Rattle.pm_tx.proofs.GoingOn.{HasSameFields, KeepsObjects, goes_on_listing, lists_more}
 use Rattle.pm_tx.proofs.NoneMade.{made_none_before}
-use Rattle.pm_tx.proofs.PublishesAtWork.{redo_listed}
+use Rattle.pm_tx.proofs.PendingEntries.{redo_listed}
 use Rattle.pm_tx.specs.AtWork.{IsAtWork, ListsPublished}
 use Rattle.pm_tx.specs.Calls.{HasLooked}
 use Rattle.pm_tx.specs.Ending.{GivesUpBy, IsEndedBy, IsStoppedIn}

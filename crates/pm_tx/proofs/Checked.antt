@@ -54,11 +54,7 @@ module _ {M : Type 0} (o : Opening) (at : M → View → Type 0) (mid : Lane M) 
   pub looked_so : (P Q : View → Type 0) → HasChecked o at mid v P → ((w : View) → IsAtWork o at mid w → P w → Q w) → HasLooked v Q
   looked_so P Q t so = record { loads = t.loads; view = t.view; looks = t.looks; working = t.works.working; holds = so t.view t.works t.holds }
 
-  -- so it is of a call that kept the blocks, and of an object that it found
-  pub looked_keeping : (P Q : View → Type 0) → HasChecked o at mid v P → KeepsBlocks v → ((w : View) → IsAtWork o at mid w → KeepsBlocks w → P w → Q w) → HasLooked v Q
-  looked_keeping P Q t keeps so = record { loads = t.loads; view = t.view; looks = t.looks; working = t.works.working; holds = so t.view t.works (keeps_still v t.view (looks_call t.loads v t.view t.looks) keeps) t.holds }
-
-  -- and of one that may be given up, at an object that it found
+  -- so it is of a call that may be given up, at an object that it found
   pub looked_giving_up : (P Q : View → Type 0) (off : ℕ) → HasChecked o at mid v P → IsOldIn v off → MayGiveUp v → ((w : View) → IsAtWork o at mid w → IsOldIn w off → MayGiveUp w → P w → Q w) → HasLooked v Q
   looked_giving_up P Q off t old may so =
       let call = looks_call t.loads v t.view t.looks in

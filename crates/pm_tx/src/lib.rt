@@ -1,6 +1,6 @@
 //! Transactions: pmemobj_tx_begin(3) and its kin, over any lawful memory of a lane.
 //!
-//! Promises the calls of an outermost transaction (`begin`, `add_range`, `write`, `read`, `set_at_work`, `cancel_at_work`, `publish`, `commit`,
+//! Promises the calls of an outermost transaction (`begin`, `add_range`, `write`, `read`, `set_at_work`, `cancel_at_work`, `commit`,
 //! `abort`, `end`). Each makes exactly the stated sequence of memory calls, or the first of them up to the lane's stop, and what it makes
 //! of the call is the plain model's: a refusal is the model's reason, takes back what was done and gives the transaction up. The parts
 //! stand beside them: checks (`check_range`, `check_words`, `check_write`), and the work (`do_add`, `do_write`, `do_read`, and `commit_call`, which also
@@ -22,7 +22,6 @@ mod laws;
 mod learning;
 mod pending;
 mod publishing;
-mod publishing_actions;
 mod reading;
 mod refusing;
 mod stages;
@@ -49,7 +48,6 @@ pub use laws::{a_call_may_be_committed, a_call_may_be_taken_back};
 pub use learning::learn;
 pub use pending::{cancel_at_work, set_at_work};
 pub use publishing::{a_log_may_be_published, publish_log};
-pub use publishing_actions::publish;
 pub use reading::{do_read, read};
 pub use refusing::{refuse, refuse_write};
 pub use stages::check_work;

@@ -4,7 +4,7 @@ use Rattle.pm_world.specs.declared.lane.Lane.{Lane}
 use Rattle.pm_pending.specs.Pending.{action_of}
 use Rattle.pm_tx.proofs.Checked.{looks_call}
 use Rattle.pm_tx.proofs.EachAction.{all_of_front}
-use Rattle.pm_tx.proofs.PublishesAtWork.{no_action}
+use Rattle.pm_tx.proofs.PendingEntries.{no_action}
 use Rattle.pm_transaction.proofs.PublishChecks.{SetsIn, objects_looked_at, passes_one, sets_further, unlooked}
 use Rattle.pm_transaction.proofs.PublishKept.{left_kept}
 use Rattle.pm_transaction.proofs.publishing.check_ends.Goals as goal

@@ -4,7 +4,7 @@ use Rattle.pm_crash.specs.CallBlocks.{is_at}
 use Rattle.pm_model.specs.Bytes.{is_among}
 use Rattle.pm_pending.specs.declared.actions.SetAction.{SetAction}
 use Rattle.pm_tx.proofs.EachAction.{all_further, all_of_front}
-use Rattle.pm_tx.proofs.PublishesAtWork.{no_action}
+use Rattle.pm_tx.proofs.PendingEntries.{no_action}
 use Rattle.pm_transaction.proofs.publishing.check_left.Goals as goal
 
 pub loop-action-preserved : goal.loop-action-preserved

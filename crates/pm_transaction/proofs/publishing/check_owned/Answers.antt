@@ -1,6 +1,6 @@
 use Rattle.std.proofs.Common.{◌≤◌, length, refl, rules}
 use Rattle.pm_tx.proofs.EachAction.{all_further, all_of_front, some_at}
-use Rattle.pm_tx.proofs.PublishesAtWork.{no_action}
+use Rattle.pm_tx.proofs.PendingEntries.{no_action}
 use Rattle.pm_transaction.proofs.PublishChecks.{HasIts, LacksIts}
 use Rattle.pm_transaction.proofs.publishing.check_owned.Goals as goal
 
