@@ -2,13 +2,13 @@
 use Rattle.std.proofs.Common.{◌≡◌, ◌≢◌, ℕ, ◌+◌, ◌≤◌, ◌%◌, ◌||◌, ⊎_elim, inl, inr, Bool, cond, true, false, not, eqb, leb, ltb, List, [], ◌++◌, length, map, Option, Some, None, refl, sym, ◌∙◌, ap, subst, arith}
 use Rattle.std.specs.List.{All, Any, list_any}
 use Rattle.std.specs.Option.{option_map}
-use Rattle.std.proofs.lemmas.Bool.{and_left, and_right, cases_eq, le-ltb, lt-ltb, ne_eqb, or_from, or_left, or_parts, or_right}
+use Rattle.std.proofs.lemmas.Bool.{and_left, and_right, cases_eq, false≢true, le-ltb, lt-ltb, ne_eqb, or_from, or_left, or_parts, or_right}
 use Rattle.std.proofs.lemmas.List.{append-nil, length-append, length-map}
 use Rattle.std.proofs.lemmas.List.Elements.{All-nil, All-weaker, Contains-append_left}
 use Rattle.std.proofs.lemmas.List.Folds.{list_any_none, list_any-from_Any}
 use Rattle.pm_header.specs.declared.header.Header.{Header}
 use Rattle.pm_objects.specs.declared.calls.Operation.{Operation}
-use Rattle.pm_objects.specs.declared.calls.Operation.TheVariants.{SetValue, Publish, Cancel}
+use Rattle.pm_objects.specs.declared.calls.Operation.TheVariants.{Cancel, DeferFree, Publish, SetValue}
 use Rattle.pm_objects.specs.declared.history.TxErr.TheVariants as error
 use Rattle.pm_objects.specs.declared.history.Value.{Value}
 use Rattle.pm_objects.specs.declared.history.Value.TheVariants.{Refused}
@@ -24,18 +24,18 @@ use Rattle.pm_model.specs.Actions.Action.{SetWord}
 use Rattle.pm_model.specs.Transaction.{Transaction, entries_of, given_over, holds_object, is_gone, is_locked, published}
 use Rattle.pm_model.specs.Bytes.{bytes_of}
 use Rattle.pm_model.specs.Checks.{first_refusal, is_not_held, is_unlocked_action, names_gone}
-use Rattle.pm_model.specs.Answers.{Answers, after_reply}
-use Rattle.pm_model.proofs.Alike.{after_refused}
-use Rattle.pm_model.proofs.Asked.{published_plain}
+use Rattle.pm_model.specs.Answers.{Answers, after_reply, changes_nothing, is_known, refused}
+use Rattle.pm_model.proofs.Alike.{after_refused, stands_plain}
+use Rattle.pm_model.proofs.Asked.{IsPlain, published_plain}
 use Rattle.pm_view.specs.Log.{Recorded}
 use Rattle.pm_view.specs.View.{View}
 use Rattle.pm_crash.specs.CallBlocks.{CallBlocks, IsOldIn, NewObject, TellsOfRoot, allocated_by, blocks_behind, blocks_in, is_at, is_freed_in, is_gone_in, is_made_in, is_new_in, no_blocks}
 use Rattle.pm_crash.specs.Held.{HoldsPool}
 use Rattle.pm_crash.specs.Locks.{AreSameLocks}
-use Rattle.pm_crash.specs.OnActions.{CanSetIn, ChangesPending, HasObjectOf, IsOnGone, IsOnLeft, IsPendingAnswer, IsPublishReasonIn, LacksObjectOf, PassesIn, PublishesIn, entries_in, set_refusal}
+use Rattle.pm_crash.specs.OnActions.{CanSetIn, ChangesPending, HasObjectOf, IsOnGone, IsOnLeft, IsPendingAnswer, IsPublishReasonIn, LacksObjectOf, PassesIn, PublishesIn, defer_refusal, entries_in, set_refusal}
 use Rattle.pm_crash.specs.OpenCall.{IsBefore, call_words, ComesTo, HasMade, IsChanged, IsPerformable, IsOpen, IsUnderWay, TracksBlocks, WasAborted, locks_of, words_recorded}
 use Rattle.pm_crash.specs.Operations.{has_at, IsHeld, IsLeft, IsMade, KeepsLog, KeepsWords, TakesBack, Tells}
-use Rattle.pm_crash.specs.Pending.{pending_behind, pending_in, published_by, published_in}
+use Rattle.pm_crash.specs.Pending.{pending_behind, pending_in, published_by, published_in, sets_in}
 use Rattle.pm_crash.proofs.CallWords.{call_works, locked_member, locks_kept, object_under, same_pool}
 use Rattle.pm_crash.proofs.CallBlocks.{all_tracks_gone, any_map, keeps_on, tracks_new}
 use Rattle.pm_crash.proofs.Continued.{answers_value, known_new, leaves_told, left_changed, left_new, left_tracks, still_under_way, told_has, tracks_more, LeavesBlocks}
@@ -45,13 +45,13 @@ use Rattle.pm_crash.proofs.KeptWords.{goes_back, keeps_known, same_call_words, s
 use Rattle.pm_crash.proofs.NamedObjects.{is_outside, set_is_held, set_is_inside, set_performs, FindsObjects}
 use Rattle.pm_crash.proofs.NewRanges.{new_long}
 use Rattle.pm_crash.proofs.NewStay.{new_there}
-use Rattle.pm_crash.proofs.Passing.{fails_gone, fails_lock, first_of_six, is_plain_too, six_checks, unhindered, WantsNone, Works}
+use Rattle.pm_crash.proofs.Passing.{fails_gone, fails_lock, first_of_six, frees_nothing, plain_frees_nothing, six_checks, unhindered, WantsNone, Works}
 
 -- ---- operations that move actions, and do nothing else
 
 -- a transaction with its actions as the operation leaves them
 abbrev moved_on : Operation → Option Value → Transaction → Transaction
-moved_on op reply tx = record tx { actions = only_sets (pending_behind op reply tx.actions.sets); moved = tx.moved ++ published_by op reply tx.actions.sets }
+moved_on op reply tx = record tx { actions = pending_behind op reply tx.actions; moved = tx.moved ++ published_by op reply tx.actions }
 
 -- the model's transaction answers so, and goes on by that alone
 record Moves (op : Operation) (reply : Option Value) (tx : Transaction) : Type 0 where
@@ -59,12 +59,12 @@ record Moves (op : Operation) (reply : Option Value) (tx : Transaction) : Type 0
   leaves : after_reply op reply tx ≡ moved_on op reply tx
 
 moves_on : (v next : View) (op : Operation) (reply : Option Value) (level : ℕ) → IsUnderWay v level stage.Work error.None → Tells v next op reply → KeepsLog v next → KeepsWords v next
-    → ((b : CallBlocks) → blocks_behind op reply b ≡ b)
+    → blocks_behind op reply (pending_in v) (blocks_in v) ≡ blocks_in v
     → ((w : ℕ → ℕ) (header : Header) (pool : PoolView) → v.pool ≡ header.id → IsBefore v w → (c : ComesTo v w header pool level stage.Work error.None)
-    → Moves op reply c.tx × All (IsPerformable v w) (published_by op reply c.tx.actions.sets))
+    → Moves op reply c.tx × All (IsPerformable v w) (published_by op reply c.tx.actions))
     → IsUnderWay next level stage.Work error.None
 moves_on v next op reply level under_way tells logs keeps none moves =
-    let leaves : LeavesBlocks v next = leaves_told v next op reply tells.call (none (blocks_in v)) (known_new v next (keeps_known v next keeps) under_way.has.each) in
+    let leaves : LeavesBlocks v next = leaves_told v next op reply tells.keeps.entries tells.call none (known_new v next (keeps_known v next keeps) under_way.has.each) in
     still_under_way v next level level op reply under_way tells
     (goes_back v next tells.keeps (same_found v next tells.locks) logs (λ i outside none. keeps.words i outside) under_way.outside under_way.under)
     (told_has v next leaves tells under_way.has)
@@ -86,7 +86,6 @@ moves_on v next op reply level under_way tells logs keeps none moves =
       levels = ap (λ (x : Transaction). x.level) moved ∙ c.levels;
       stands = ap (λ (x : Transaction). x.stage) moved;
       fails = ap (λ (x : Transaction). x.error) moved;
-      actions = λ sets is. ap (λ (x : Transaction). x.actions) moved ∙ ap (λ (p : Pending). only_sets (pending_behind op reply p.sets)) is;
       moved = ap (λ (x : Transaction). x.moved) moved;
       performable = how.1;
       blocks_stay = ap (λ (f : ℕ → ℕ). blocks f v.lanes v.zones) same;
@@ -99,66 +98,100 @@ moves_on v next op reply level under_way tells logs keeps none moves =
 moves_none : (tx : Transaction) (actions : Pending) → record tx { actions = actions } ≡ record tx { actions = actions; moved = tx.moved ++ [] }
 moves_none tx actions = (λ j. let x : Transaction = record tx { actions = actions; moved = sym (append-nil tx.moved) j } in x)
 
--- set-values are all that it has pending
-settled : (tx : Transaction) → Works tx → tx ≡ record tx { actions = only_sets tx.actions.sets }
-settled tx works = (λ j. let x : Transaction = record tx { actions = works.sets j } in x)
+-- the operations that change what is pending, and nothing else
+abbrev pub changes_pending : Operation → Bool
+changes_pending (SetValue id off value) = true
+changes_pending (DeferFree id) = true
+changes_pending Cancel = true
+changes_pending op = false
 
-stays_so : (tx : Transaction) → Works tx → tx ≡ record tx { actions = only_sets tx.actions.sets; moved = tx.moved ++ [] }
-stays_so tx works = settled tx works ∙ moves_none tx (only_sets tx.actions.sets)
+asks_nothing : (op : Operation) → changes_pending op ≡ true → WantsNone op
+asks_nothing (SetValue id off value) is = record { no_wants = refl; no_begin = refl; no_alloc = refl; no_free = refl; no_put = refl }
+asks_nothing (DeferFree id) is = record { no_wants = refl; no_begin = refl; no_alloc = refl; no_free = refl; no_put = refl }
+asks_nothing Cancel is = record { no_wants = refl; no_begin = refl; no_alloc = refl; no_free = refl; no_put = refl }
+asks_nothing op is = absurd (false≢true is)
+
+-- one that is refused leaves all as it was
+refused_moves : (op : Operation) (r : Refusal) (tx : Transaction) → is_known op ≡ true → refused op r tx ≡ moved_on op (Some (Refused r)) tx → changes_nothing r ≡ false → first_refusal unhindered tx op ≡ Some r → Moves op (Some (Refused r)) tx
+refused_moves op r tx known stays traced first = record { answers = refused_answers tx op r known (record { refused_first = first; traced = traced }); leaves = stays }
 
 -- a set-value is refused by the two checks on it
-set_moves : (tx : Transaction) (id : Oid) (off value : ℕ) (reply : Option Value) → Works tx → reply ≡ option_map Refused (set_refusal off tx.actions.sets) → Moves (SetValue id off value) reply tx
+set_moves : (tx : Transaction) (id : Oid) (off value : ℕ) (reply : Option Value) → Works tx → reply ≡ option_map Refused (set_refusal off tx.actions) → Moves (SetValue id off value) reply tx
 unfolding first_of_six
 set_moves tx id off value reply works told =
-    by_tests (not (eqb (off % 8) 0)) (leb max_actions (length tx.actions.sets)) (six_checks tx op works (record { no_wants = refl; no_begin = refl; no_alloc = refl; no_free = refl; no_put = refl }) refl ∙ ap (λ (p : Pending). first_of_six (not (eqb (off % 8) 0)) false false false false (leb max_actions (pending_count p))) works.sets ∙ ap (λ (n : ℕ). first_of_six (not (eqb (off % 8) 0)) false false false false (leb max_actions n)) counted) told where
+    by_tests (not (eqb (off % 8) 0)) (leb max_actions (pending_count tx.actions)) (six_checks tx op works (asks_nothing op refl) (frees_nothing tx op refl refl) refl) told where
       op : Operation
       op = SetValue id off value
 
-      counted : pending_count (only_sets tx.actions.sets) ≡ length tx.actions.sets
-      counted = omega arith
-
       by_tests : (unaligned full : Bool) → first_refusal unhindered tx op ≡ first_of_six unaligned false false false false full
           → reply ≡ option_map Refused (cond unaligned (Some refusal.Unaligned) (cond full (Some refusal.ActionsFull) None)) → Moves op reply tx
-      by_tests true full first told = subst (λ (x : Option Value). Moves op x tx) (sym told)
-          (record { answers = refused_answers tx op refusal.Unaligned refl (record { refused_first = first; traced = refl }); leaves = stays_so tx works })
-      by_tests false true first told = subst (λ (x : Option Value). Moves op x tx) (sym told)
-          (record { answers = refused_answers tx op refusal.ActionsFull refl (record { refused_first = first; traced = refl }); leaves = stays_so tx works })
+      by_tests true full first told = subst (λ (x : Option Value). Moves op x tx) (sym told) (refused_moves op refusal.Unaligned tx refl (moves_none tx tx.actions) refl first)
+      by_tests false true first told = subst (λ (x : Option Value). Moves op x tx) (sym told) (refused_moves op refusal.ActionsFull tx refl (moves_none tx tx.actions) refl first)
       by_tests false false first told = subst (λ (x : Option Value). Moves op x tx) (sym told)
-          (record { answers = answers_value tx op None refl works (record { no_wants = refl; no_begin = refl; no_alloc = refl; no_free = refl; no_put = refl }) first refl; leaves = ap (after_reply op None) (settled tx works) ∙ moves_none tx (only_sets (pending_behind op None tx.actions.sets)) })
+          (record { answers = answers_value tx op None refl (asks_nothing op refl) tt first refl; leaves = moves_none tx (pending_behind op None tx.actions) })
+
+-- and a free that is deferred by the one on it
+defer_moves : (tx : Transaction) (id : Oid) (reply : Option Value) → Works tx → reply ≡ option_map Refused (defer_refusal tx.actions) → Moves (DeferFree id) reply tx
+unfolding first_of_six
+defer_moves tx id reply works told =
+    by_test (leb max_actions (pending_count tx.actions)) (six_checks tx op works (asks_nothing op refl) (frees_nothing tx op refl refl) refl) told where
+      op : Operation
+      op = DeferFree id
+
+      by_test : (full : Bool) → first_refusal unhindered tx op ≡ first_of_six false false false false false full
+          → reply ≡ option_map Refused (cond full (Some refusal.ActionsFull) None) → Moves op reply tx
+      by_test true first told = subst (λ (x : Option Value). Moves op x tx) (sym told) (refused_moves op refusal.ActionsFull tx refl (moves_none tx tx.actions) refl first)
+      by_test false first told = subst (λ (x : Option Value). Moves op x tx) (sym told)
+          (record { answers = answers_value tx op None refl (asks_nothing op refl) tt first refl; leaves = moves_none tx (pending_behind op None tx.actions) })
 
 -- a cancel is not refused
 cancel_moves : (tx : Transaction) → Works tx → Moves Cancel None tx
 unfolding first_of_six
 cancel_moves tx works = record {
-  answers = answers_value tx Cancel None refl works (record { no_wants = refl; no_begin = refl; no_alloc = refl; no_free = refl; no_put = refl }) (six_checks tx Cancel works (record { no_wants = refl; no_begin = refl; no_alloc = refl; no_free = refl; no_put = refl }) refl) refl;
+  answers = answers_value tx Cancel None refl (asks_nothing Cancel refl) tt (six_checks tx Cancel works (asks_nothing Cancel refl) (frees_nothing tx Cancel refl refl) refl) refl;
   leaves = moves_none tx none_pending;
 }
 
--- a refused set-value leaves the call's blocks too
-set_leaves : (id : Oid) (off value : ℕ) (actions : List Action) (b : CallBlocks) → blocks_behind (SetValue id off value) (option_map Refused (set_refusal off actions)) b ≡ b
-set_leaves id off value actions b = by_tests (not (eqb (off % 8) 0)) (leb max_actions (length actions)) where
-  by_tests : (unaligned full : Bool) → blocks_behind (SetValue id off value) (option_map Refused (cond unaligned (Some refusal.Unaligned) (cond full (Some refusal.ActionsFull) None))) b ≡ b
+-- a call on the pending actions alone, refused or not, leaves the blocks
+set_leaves : (id : Oid) (off value : ℕ) (p q : Pending) (b : CallBlocks) → blocks_behind (SetValue id off value) (option_map Refused (set_refusal off p)) q b ≡ b
+set_leaves id off value p q b = by_tests (not (eqb (off % 8) 0)) (leb max_actions (pending_count p)) where
+  by_tests : (unaligned full : Bool) → blocks_behind (SetValue id off value) (option_map Refused (cond unaligned (Some refusal.Unaligned) (cond full (Some refusal.ActionsFull) None))) q b ≡ b
   by_tests true full = refl
   by_tests false true = refl
   by_tests false false = refl
 
+defer_leaves : (id : Oid) (p q : Pending) (b : CallBlocks) → blocks_behind (DeferFree id) (option_map Refused (defer_refusal p)) q b ≡ b
+defer_leaves id p q b = by_test (leb max_actions (pending_count p)) where
+  by_test : (full : Bool) → blocks_behind (DeferFree id) (option_map Refused (cond full (Some refusal.ActionsFull) None)) q b ≡ b
+  by_test true = refl
+  by_test false = refl
+
+pending_leaves : (p q : Pending) (op : Operation) (reply : Option Value) (b : CallBlocks) → IsPendingAnswer p op reply → blocks_behind op reply q b ≡ b
+pending_leaves p q (SetValue id off value) reply b answer = ap (λ (r : Option Value). blocks_behind (SetValue id off value) r q b) answer ∙ set_leaves id off value p q b
+pending_leaves p q (DeferFree id) reply b answer = ap (λ (r : Option Value). blocks_behind (DeferFree id) r q b) answer ∙ defer_leaves id p q b
+pending_leaves p q Cancel reply b answer = ap (λ (r : Option Value). blocks_behind Cancel r q b) answer
+pending_leaves p q op reply b answer = absurd answer
+
+pending_moves : (tx : Transaction) (op : Operation) (reply : Option Value) → Works tx → IsPendingAnswer tx.actions op reply → Moves op reply tx
+pending_moves tx (SetValue id off value) reply works answer = set_moves tx id off value reply works answer
+pending_moves tx (DeferFree id) reply works answer = defer_moves tx id reply works answer
+pending_moves tx Cancel reply works answer = subst (λ (x : Option Value). Moves Cancel x tx) (sym answer) (cancel_moves tx works)
+pending_moves tx op reply works answer = absurd answer
+
+-- it publishes nothing
+pending_publishes_none : (p q : Pending) (op : Operation) (reply : Option Value) → IsPendingAnswer p op reply → published_by op reply q ≡ []
+pending_publishes_none p q (SetValue id off value) reply answer = refl
+pending_publishes_none p q (DeferFree id) reply answer = refl
+pending_publishes_none p q Cancel reply answer = refl
+pending_publishes_none p q op reply answer = absurd answer
+
 pub change_goes_on : (v next : View) (op : Operation) (reply : Option Value) (level : ℕ) → 1 ≤ level → IsUnderWay v level stage.Work error.None → ChangesPending v next op reply → IsUnderWay next level stage.Work error.None
-change_goes_on v next (SetValue id off value) reply level some under_way changes =
-    moves_on v next (SetValue id off value) reply level under_way changes.tells changes.logs changes.words
-    (λ b. ap (λ (r : Option Value). blocks_behind (SetValue id off value) r b) changes.answer ∙ set_leaves id off value (pending_in v) b)
+change_goes_on v next op reply level some under_way changes =
+    moves_on v next op reply level under_way changes.tells changes.logs changes.words (pending_leaves (pending_in v) (pending_in v) op reply (blocks_in v) changes.answer)
     (λ w header pool same_id before c. (
-      set_moves c.tx id off value reply (call_works v w header pool level some under_way c)
-          (changes.answer ∙ ap (λ (p : Pending). option_map Refused (set_refusal off p.sets)) (sym c.actions)),
-      All-nil (IsPerformable v w),
+      pending_moves c.tx op reply (call_works v w header pool level some under_way c) (subst (λ (p : Pending). IsPendingAnswer p op reply) (sym c.actions) changes.answer),
+      subst (All (IsPerformable v w)) (sym (pending_publishes_none (pending_in v) c.tx.actions op reply changes.answer)) (All-nil (IsPerformable v w)),
     ))
-change_goes_on v next Cancel reply level some under_way changes =
-    moves_on v next Cancel reply level under_way changes.tells changes.logs changes.words
-    (λ b. ap (λ (r : Option Value). blocks_behind Cancel r b) changes.answer)
-    (λ w header pool same_id before c. (
-      subst (λ (x : Option Value). Moves Cancel x c.tx) (sym changes.answer) (cancel_moves c.tx (call_works v w header pool level some under_way c)),
-      All-nil (IsPerformable v w),
-    ))
-change_goes_on v next op reply level some under_way changes = absurd changes.answer
 
 -- ---- a publish
 
@@ -171,19 +204,19 @@ record Publishes (v : View) (w : ℕ → ℕ) (tx : Transaction) : Type 0 where
   works : Works tx
   of_pool : tx.pool.id ≡ v.pool
   locks : AreSameLocks tx.locks (locks_of v)
-  actions : tx.actions ≡ only_sets (pending_in v)
+  actions : tx.actions ≡ only_sets (sets_in v)
   moved : tx.moved ≡ published_in v
   tracks : TracksBlocks tx (blocks_in v)
   finds : FindsObjects v w tx (IsOldIn v)
   news : (id : Oid) → (made : IsMade v id) → length (bytes_of tx.pool.objects id.off) ≡ made.new.size
 
 publishes_open : (v : View) (w : ℕ → ℕ) (header : Header) (pool : PoolView) (level : ℕ) → 1 ≤ level → IsUnderWay v level stage.Work error.None → v.pool ≡ header.id → IsBefore v w
-    → (c : ComesTo v w header pool level stage.Work error.None) → Publishes v w c.tx
-publishes_open v w header pool level some under_way same_id before c = record {
+    → pending_in v ≡ only_sets (sets_in v) → (c : ComesTo v w header pool level stage.Work error.None) → Publishes v w c.tx
+publishes_open v w header pool level some under_way same_id before alone c = record {
   works = call_works v w header pool level some under_way c;
   of_pool = same_pool v w header c.base c.tx c.holds c.changed same_id;
   locks = c.locks;
-  actions = c.actions;
+  actions = c.actions ∙ alone;
   moved = c.moved;
   tracks = c.tracks;
   finds = record { under = λ id write old held known. object_under v w header pool level id write under_way before c held known old; sizes = c.sizes_stay };
@@ -213,11 +246,11 @@ set_is_left v has a (inl can) =
     record { of_pool = held.of_pool; has = held_is_had v (object_of a) held; left = old_is_left v (object_of a).off can.1 }
 set_is_left v has (SetWord id off value) (inr can) = made_is_left v id has can.0.made
 
-all_left : (v : View) → HasMade v → All (CanSetIn v) (pending_in v) → All (IsOnLeft v) (pending_in v)
-all_left v has each = All-weaker (CanSetIn v) (IsOnLeft v) (set_is_left v has) (pending_in v) each
+all_left : (v : View) → HasMade v → All (CanSetIn v) (sets_in v) → All (IsOnLeft v) (sets_in v)
+all_left v has each = All-weaker (CanSetIn v) (IsOnLeft v) (set_is_left v has) (sets_in v) each
 
-all_had : (v : View) → All (IsOnLeft v) (pending_in v) → All (HasObjectOf v) (pending_in v)
-all_had v each = All-weaker (IsOnLeft v) (HasObjectOf v) (λ a left. (left.of_pool, left.has)) (pending_in v) each
+all_had : (v : View) → All (IsOnLeft v) (sets_in v) → All (HasObjectOf v) (sets_in v)
+all_had v each = All-weaker (IsOnLeft v) (HasObjectOf v) (λ a left. (left.of_pool, left.has)) (sets_in v) each
 
 -- ---- what the checks find of the actions that are pending
 
@@ -226,12 +259,16 @@ abbrev any_unlocked : Transaction → Pending → Bool
 any_unlocked tx p = list_any (is_not_held tx true) p.frees || list_any (is_unlocked_action tx) p.sets
 
 module _ (v : View) (w : ℕ → ℕ) (tx : Transaction) (of : Publishes v w tx) where
+  -- nothing is to be freed or reserved
+  plain : IsPlain tx.actions
+  plain = record { frees = ap (λ (p : Pending). p.frees) of.actions; reserved = ap (λ (p : Pending). p.reserved) of.actions }
+
   -- their locks
-  locks_found : All (HasObjectOf v) (pending_in v) → any_unlocked tx tx.actions ≡ false
+  locks_found : All (HasObjectOf v) (sets_in v) → any_unlocked tx tx.actions ≡ false
   locks_found each =
       ap (any_unlocked tx) of.actions
-      ∙ list_any_none (is_unlocked_action tx) (pending_in v)
-      (All-weaker (HasObjectOf v) (λ (a : Action). is_unlocked_action tx a ≡ false) (λ a has. had_is_held v tx (object_of a) true of.of_pool of.locks of.tracks has.0 has.1) (pending_in v) each)
+      ∙ list_any_none (is_unlocked_action tx) (sets_in v)
+      (All-weaker (HasObjectOf v) (λ (a : Action). is_unlocked_action tx a ≡ false) (λ a has. had_is_held v tx (object_of a) true of.of_pool of.locks of.tracks has.0 has.1) (sets_in v) each)
 
   lacking_is_unlocked : (a : Action) → LacksObjectOf v a → is_unlocked_action tx a ≡ true
   lacking_is_unlocked a lacks =
@@ -242,22 +279,22 @@ module _ (v : View) (w : ℕ → ℕ) (tx : Transaction) (of : Publishes v w tx)
       (cases_eq id.pool tx.pool.id))
 
   -- which of them are gone
-  named : list_any (is_gone tx) (map (λ (a : Action). (object_of a).off) (pending_in v)) ≡ list_any (λ (a : Action). is_gone tx (object_of a).off) (pending_in v)
-  named = any_map (is_gone tx) (λ (a : Action). (object_of a).off) (pending_in v)
+  named : list_any (is_gone tx) (map (λ (a : Action). (object_of a).off) (sets_in v)) ≡ list_any (λ (a : Action). is_gone tx (object_of a).off) (sets_in v)
+  named = any_map (is_gone tx) (λ (a : Action). (object_of a).off) (sets_in v)
 
-  gone_found : names_gone tx Publish ≡ list_any (λ (a : Action). is_gone tx (object_of a).off) (pending_in v)
+  gone_found : names_gone tx Publish ≡ list_any (λ (a : Action). is_gone tx (object_of a).off) (sets_in v)
   gone_found = ap (λ (p : Pending). p.late || list_any (is_gone tx) (offsets_named p)) of.actions ∙ named
 
-  none_gone : All (IsOnLeft v) (pending_in v) → names_gone tx Publish ≡ false
+  none_gone : All (IsOnLeft v) (sets_in v) → names_gone tx Publish ≡ false
   none_gone each =
       gone_found
-      ∙ list_any_none (λ (a : Action). is_gone tx (object_of a).off) (pending_in v)
-      (All-weaker (IsOnLeft v) (λ (a : Action). is_gone tx (object_of a).off ≡ false) (λ a left. all_tracks_gone v tx of.tracks (object_of a).off ∙ left.left) (pending_in v) each)
+      ∙ list_any_none (λ (a : Action). is_gone tx (object_of a).off) (sets_in v)
+      (All-weaker (IsOnLeft v) (λ (a : Action). is_gone tx (object_of a).off ≡ false) (λ a left. all_tracks_gone v tx of.tracks (object_of a).off ∙ left.left) (sets_in v) each)
 
-  one_gone : Any (IsOnGone v) (pending_in v) → names_gone tx Publish ≡ true
+  one_gone : Any (IsOnGone v) (sets_in v) → names_gone tx Publish ≡ true
   one_gone (k, a, inside, at, gone) =
       gone_found
-      ∙ list_any-from_Any (λ (x : Action). is_gone tx (object_of x).off) (pending_in v) (k, a, inside, at, all_tracks_gone v tx of.tracks (object_of a).off ∙ gone.gone)
+      ∙ list_any-from_Any (λ (x : Action). is_gone tx (object_of x).off) (sets_in v) (k, a, inside, at, all_tracks_gone v tx of.tracks (object_of a).off ∙ gone.gone)
 
   -- their ends
   inside_end : (a : Action) → CanSetIn v a → passes_object tx.pool.objects a ≡ false
@@ -272,22 +309,22 @@ module _ (v : View) (w : ℕ → ℕ) (tx : Transaction) (of : Publishes v w tx)
       let long = of.news id passes.made in let outside = passes.outside in
       lt-ltb (length (bytes_of tx.pool.objects id.off)) (off + 8) (omega (arith, long, outside))
 
-  ends_found : All (CanSetIn v) (pending_in v) → list_any (passes_object tx.pool.objects) tx.actions.sets ≡ false
+  ends_found : All (CanSetIn v) (sets_in v) → list_any (passes_object tx.pool.objects) tx.actions.sets ≡ false
   ends_found each =
       ap (λ (p : Pending). list_any (passes_object tx.pool.objects) p.sets) of.actions
-      ∙ list_any_none (passes_object tx.pool.objects) (pending_in v) (All-weaker (CanSetIn v) (λ (a : Action). passes_object tx.pool.objects a ≡ false) inside_end (pending_in v) each)
+      ∙ list_any_none (passes_object tx.pool.objects) (sets_in v) (All-weaker (CanSetIn v) (λ (a : Action). passes_object tx.pool.objects a ≡ false) inside_end (sets_in v) each)
 
-  one_past : Any (PassesIn v) (pending_in v) → list_any (passes_object tx.pool.objects) tx.actions.sets ≡ true
+  one_past : Any (PassesIn v) (sets_in v) → list_any (passes_object tx.pool.objects) tx.actions.sets ≡ true
   one_past (k, a, inside, at, passes) =
-      ap (λ (p : Pending). list_any (passes_object tx.pool.objects) p.sets) of.actions ∙ list_any-from_Any (passes_object tx.pool.objects) (pending_in v) (k, a, inside, at, past_end a passes)
+      ap (λ (p : Pending). list_any (passes_object tx.pool.objects) p.sets) of.actions ∙ list_any-from_Any (passes_object tx.pool.objects) (sets_in v) (k, a, inside, at, past_end a passes)
 
   -- so many entries the model's transaction has, with those for what it made and freed
   entries_found : entries_of (published tx) + 1 ≡ entries_in v
   entries_found =
       let moved : length tx.moved ≡ length (published_in v) = ap (λ (actions : List Action). length actions) of.moved in
-      let pending : length tx.actions.sets ≡ length (pending_in v) = ap (λ (p : Pending). length p.sets) of.actions in
+      let pending : length tx.actions.sets ≡ length (sets_in v) = ap (λ (p : Pending). length p.sets) of.actions in
       let all : length (tx.moved ++ tx.actions.sets) ≡ length tx.moved + length tx.actions.sets = length-append tx.moved tx.actions.sets in
-      let given : entries_of (published tx) ≡ entries_of (given_over tx) = ap entries_of (published_plain tx (is_plain_too tx of.works)) in
+      let given : entries_of (published tx) ≡ entries_of (given_over tx) = ap entries_of (published_plain tx plain) in
       let made : length tx.made ≡ length (blocks_in v).made = ap (λ (offs : List ℕ). length offs) of.tracks.made ∙ length-map (blocks_in v).made (λ (n : NewObject). n.off) in
       let freed : length tx.freed ≡ length (blocks_in v).freed = ap (λ (offs : List ℕ). length offs) of.tracks.freed in
       omega (arith, moved, pending, all, given, made, freed)
@@ -296,12 +333,12 @@ module _ (v : View) (w : ℕ → ℕ) (tx : Transaction) (of : Publishes v w tx)
   three_checks : names_gone tx Publish ≡ false
       → first_refusal unhindered tx Publish
       ≡ first_of_six false (any_unlocked tx tx.actions || false || false) (list_any (passes_object tx.pool.objects) tx.actions.sets || false) false false (ltb max_entries (entries_of (published tx) + 1))
-  three_checks kept = six_checks tx Publish of.works asks_none kept
+  three_checks kept = six_checks tx Publish of.works asks_none (plain_frees_nothing tx Publish refl plain) kept
 
-  publish_passes : HasMade v → All (CanSetIn v) (pending_in v) → entries_in v ≤ max_entries → first_refusal unhindered tx Publish ≡ None
+  publish_passes : HasMade v → All (CanSetIn v) (sets_in v) → entries_in v ≤ max_entries → first_refusal unhindered tx Publish ≡ None
   unfolding first_of_six
   publish_passes has each room =
-      let left : All (IsOnLeft v) (pending_in v) = all_left v has each in
+      let left : All (IsOnLeft v) (sets_in v) = all_left v has each in
       three_checks (none_gone left)
       ∙ (λ j. first_of_six false (locks_found (all_had v left) j || false || false) (ends_found each j || false) false false ((ap (ltb max_entries) entries_found ∙ le-ltb max_entries (entries_in v) room) j))
 
@@ -324,7 +361,7 @@ module _ (v : View) (w : ℕ → ℕ) (tx : Transaction) (of : Publishes v w tx)
   unfolding first_of_six
   publish_refused refusal.NotLocked has (k, a, inside, at, lacks) =
       let unlocked : any_unlocked tx tx.actions ≡ true =
-      ap (any_unlocked tx) of.actions ∙ list_any-from_Any (is_unlocked_action tx) (pending_in v) (k, a, inside, at, lacking_is_unlocked a lacks) in
+      ap (any_unlocked tx) of.actions ∙ list_any-from_Any (is_unlocked_action tx) (sets_in v) (k, a, inside, at, lacking_is_unlocked a lacks) in
       record { refused_first = fails_lock tx Publish of.works asks_none refl (ap (λ (b : Bool). b || false || false) unlocked); traced = refl }
   publish_refused refusal.NoObject has reason = record {
     refused_first = fails_gone tx Publish of.works asks_none refl (ap (λ (b : Bool). b || false || false) (locks_found reason.0)) (one_gone reason.1);
@@ -337,7 +374,7 @@ module _ (v : View) (w : ℕ → ℕ) (tx : Transaction) (of : Publishes v w tx)
     traced = refl;
   }
   publish_refused refusal.ActionsFull has reason =
-      let left : All (IsOnLeft v) (pending_in v) = all_left v has reason.0 in
+      let left : All (IsOnLeft v) (sets_in v) = all_left v has reason.0 in
       record {
         refused_first =
             three_checks (none_gone left)
@@ -348,43 +385,42 @@ module _ (v : View) (w : ℕ → ℕ) (tx : Transaction) (of : Publishes v w tx)
 
 pub publish_goes_on : (v next : View) (level : ℕ) → 1 ≤ level → IsUnderWay v level stage.Work error.None → PublishesIn v next → IsUnderWay next level stage.Work error.None
 publish_goes_on v next level some under_way publishes =
-    moves_on v next Publish None level under_way publishes.tells publishes.logs publishes.words (λ b. refl)
+    moves_on v next Publish None level under_way publishes.tells publishes.logs publishes.words (ap (λ (p : Pending). blocks_behind Publish None p (blocks_in v)) publishes.alone)
     (λ w header pool same_id before c.
-    let of : Publishes v w c.tx = publishes_open v w header pool level some under_way same_id before c in (
-      record { answers = answers_value c.tx Publish None refl of.works asks_none (publish_passes v w c.tx of under_way.has publishes.each publishes.room) refl; leaves = published_plain c.tx (is_plain_too c.tx of.works) },
-      subst (All (IsPerformable v w)) (ap (λ (p : Pending). p.sets) (sym c.actions)) (All-weaker (CanSetIn v) (IsPerformable v w) (performs_one v w c.tx of under_way.has) (pending_in v) publishes.each),
+    let of : Publishes v w c.tx = publishes_open v w header pool level some under_way same_id before publishes.alone c in (
+      record {
+        answers = answers_value c.tx Publish None refl asks_none (stands_plain c.tx Publish (plain v w c.tx of)) (publish_passes v w c.tx of under_way.has publishes.each publishes.room) refl;
+        leaves = published_plain c.tx (plain v w c.tx of);
+      },
+      subst (All (IsPerformable v w)) (ap (λ (p : Pending). p.sets) (sym c.actions)) (All-weaker (CanSetIn v) (IsPerformable v w) (performs_one v w c.tx of under_way.has) (sets_in v) publishes.each),
     ))
 
-pub refused_publish_aborts : (v next : View) (r : Refusal) (level : ℕ) → 1 ≤ level → IsUnderWay v level stage.Work error.None → IsPublishReasonIn v r → Tells v next Publish (Some (Refused r)) → TakesBack v next
-    → WasAborted next (error.Refused r)
-refused_publish_aborts v next r level some under_way reason tells back =
-    aborts_call v next Publish (Some (Refused r)) level (error.Refused r) under_way tells.keeps (same_found v next tells.locks) (λ actions. refl) tells.call back
+pub refused_publish_aborts : (v next : View) (r : Refusal) (level : ℕ) → 1 ≤ level → IsUnderWay v level stage.Work error.None → pending_in v ≡ only_sets (sets_in v) → IsPublishReasonIn v r
+    → Tells v next Publish (Some (Refused r)) → TakesBack v next → WasAborted next (error.Refused r)
+refused_publish_aborts v next r level some under_way alone reason tells back =
+    aborts_call v next Publish (Some (Refused r)) level (error.Refused r) under_way tells.keeps (same_found v next tells.locks) (λ p. refl) tells.call back
     (λ w header pool same_id before c.
-    let is : IsRefusedFor c.tx Publish r = publish_refused v w c.tx (publishes_open v w header pool level some under_way same_id before c) r under_way.has reason in
+    let is : IsRefusedFor c.tx Publish r = publish_refused v w c.tx (publishes_open v w header pool level some under_way same_id before alone c) r under_way.has reason in
     (refused_answers c.tx Publish r refl is, after_refused Publish (Some (Refused r)) c.tx r (record { traced = is.traced; told = refl })))
 
 -- ---- calls that allocated and freed nothing
 
 -- a call on the pending actions alone allocates nothing
-pending_allocates_none : (actions : List Action) (op : Operation) (reply : Option Value) → IsPendingAnswer actions op reply → allocated_by op reply ≡ []
-pending_allocates_none actions (SetValue id off value) reply answer = refl
-pending_allocates_none actions Cancel reply answer = refl
-pending_allocates_none actions op reply answer = absurd answer
+pending_allocates_none : (p q : Pending) (op : Operation) (reply : Option Value) → IsPendingAnswer p op reply → allocated_by op reply q ≡ []
+pending_allocates_none p q (SetValue id off value) reply answer = refl
+pending_allocates_none p q (DeferFree id) reply answer = refl
+pending_allocates_none p q Cancel reply answer = refl
+pending_allocates_none p q op reply answer = absurd answer
 
--- tells nothing of the root
-pending_tells_no_root : (actions : List Action) (op : Operation) (reply : Option Value) → IsPendingAnswer actions op reply → (root : Option ℕ) → TellsOfRoot root op reply
-pending_tells_no_root actions (SetValue id off value) reply answer root = tt
-pending_tells_no_root actions Cancel reply answer root = tt
-pending_tells_no_root actions op reply answer root = absurd answer
-
--- and leaves the blocks
-pending_leaves : (actions : List Action) (op : Operation) (reply : Option Value) (b : CallBlocks) → IsPendingAnswer actions op reply → blocks_behind op reply b ≡ b
-pending_leaves actions (SetValue id off value) reply b answer = ap (λ (r : Option Value). blocks_behind (SetValue id off value) r b) answer ∙ set_leaves id off value actions b
-pending_leaves actions Cancel reply b answer = ap (λ (r : Option Value). blocks_behind Cancel r b) answer
-pending_leaves actions op reply b answer = absurd answer
+-- and tells nothing of the root
+pending_tells_no_root : (p q : Pending) (op : Operation) (reply : Option Value) → IsPendingAnswer p op reply → (root : Option ℕ) → TellsOfRoot root op reply q
+pending_tells_no_root p q (SetValue id off value) reply answer root = tt
+pending_tells_no_root p q (DeferFree id) reply answer root = tt
+pending_tells_no_root p q Cancel reply answer root = tt
+pending_tells_no_root p q op reply answer root = absurd answer
 
 pub change_keeps_open : (v next : View) (op : Operation) (reply : Option Value) (level : ℕ) → 1 ≤ level → IsOpen v level stage.Work error.None → ChangesPending v next op reply → IsOpen next level stage.Work error.None
 change_keeps_open v next op reply level some is_open changes = record {
   under_way = change_goes_on v next op reply level some is_open.under_way changes;
-  keeps = keeps_on v next op reply changes.tells.call (pending_leaves (pending_in v) op reply no_blocks changes.answer) (pending_allocates_none (pending_in v) op reply changes.answer) (pending_tells_no_root (pending_in v) op reply changes.answer) is_open.keeps;
+  keeps = keeps_on v next op reply changes.tells.keeps.entries changes.tells.call (pending_leaves (pending_in v) (pending_in v) op reply no_blocks changes.answer) (pending_allocates_none (pending_in v) (pending_in v) op reply changes.answer) (pending_tells_no_root (pending_in v) (pending_in v) op reply changes.answer) is_open.keeps;
 }

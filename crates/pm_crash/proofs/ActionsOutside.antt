@@ -9,7 +9,7 @@ use Rattle.std.proofs.lemmas.List.Elements.{All-nil, Contains-get_or}
 use Rattle.pm_header.specs.declared.header.Header.{Header}
 use Rattle.pm_objects.specs.Pool.{object_at}
 use Rattle.pm_objects.specs.declared.calls.Operation.{Operation}
-use Rattle.pm_objects.specs.declared.calls.Operation.TheVariants.{SetValue, Publish, Cancel}
+use Rattle.pm_objects.specs.declared.calls.Operation.TheVariants.{Cancel, DeferFree, Publish, SetValue}
 use Rattle.pm_objects.specs.declared.calls.Want.{Want}
 use Rattle.pm_objects.specs.declared.history.Value.{Value}
 use Rattle.pm_objects.specs.declared.history.Value.TheVariants.{Refused}
@@ -19,7 +19,7 @@ use Rattle.pm_objects.specs.declared.refusal.Refusal.{Refusal}
 use Rattle.pm_objects.specs.declared.refusal.Refusal.TheVariants as refusal
 use Rattle.pm_image.specs.Blocks.{blocks}
 use Rattle.pm_image.specs.Contents.{size_in}
-use Rattle.pm_model.specs.Actions.{Action, max_actions, object_of, none_pending, only_sets, passes_object, pending_count, wants_for, with_actions}
+use Rattle.pm_model.specs.Actions.{Action, Pending, max_actions, object_of, none_pending, only_sets, passes_object, pending_count, wants_for, with_actions}
 use Rattle.pm_model.specs.Answers.{changes_nothing}
 use Rattle.pm_model.specs.Checks.{Seen, is_unaligned}
 use Rattle.pm_model.specs.Answers.{StandsOnceDone}
@@ -32,10 +32,11 @@ use Rattle.pm_view.specs.View.{View}
 use Rattle.pm_world.specs.History.{made_final}
 use Rattle.pm_world.specs.Records.{is_recorded}
 use Rattle.pm_crash.specs.Held.{HoldsPool}
-use Rattle.pm_crash.specs.OnActions.{ChangesPendingOutside, HoldsNamed, IsOutsideReason, PublishesOutside, RefusesOutside, set_refusal}
+use Rattle.pm_crash.specs.OnActions.{ChangesPendingOutside, HoldsNamed, IsOutsideReason, PublishesOutside, RefusesOutside, defer_refusal, set_refusal}
 use Rattle.pm_crash.specs.OpenCall.{IsBefore, IsWholeCall, call_words, made_words}
-use Rattle.pm_crash.specs.Pending.{pending_before, pending_behind, told_of}
+use Rattle.pm_crash.specs.Pending.{pending_before, pending_behind, sets_before, told_of}
 use Rattle.pm_crash.specs.Performing.{performed}
+use Rattle.pm_crash.proofs.ActionsOn.{changes_pending}
 use Rattle.pm_crash.proofs.Begun.{no_call_words, none_fails, wanted_has_place, wanted_is_there}
 use Rattle.pm_crash.proofs.CallWords.{made_unentered, object_found}
 use Rattle.pm_crash.proofs.NamedObjects.{all_perform, none_passes_end, one_passes_end, FindsObjects}
@@ -44,19 +45,22 @@ use Rattle.pm_crash.proofs.Performed.{Performs, performs}
 
 -- ---- a call of one operation
 
--- what a call begins from where these set-values are all that is pending
-abbrev outside_with : PoolView → List Action → Outside
-outside_with pool actions = record { pool = pool; actions = only_sets actions }
+-- what a call begins from where this is pending
+abbrev outside_with : PoolView → Pending → Outside
+outside_with pool p = record { pool = pool; actions = p }
 
 -- what the lane's call begins from
 abbrev outside_of : View → PoolView → Outside
 outside_of v pool = outside_with pool (pending_before v)
 
--- the model answers so, and the words that the call makes hold what it leaves
-record GoesOutside (v : View) (w : ℕ → ℕ) (header : Header) (pool : PoolView) (op : Operation) (reply : Option Value) : Type 0 where
-  answers : AnswersOutside (outside_of v pool) op reply
-  holds : HoldsPool (made_words v w) v.lanes v.zones header (after_outside op reply (outside_of v pool)).pool
-  leaves : (after_outside op reply (outside_of v pool)).actions ≡ only_sets (pending_behind op reply (pending_before v))
+-- the model answers so where this is pending, and the words that the call makes hold what it leaves
+record GoesFrom (v : View) (w : ℕ → ℕ) (header : Header) (pool : PoolView) (p : Pending) (op : Operation) (reply : Option Value) : Type 0 where
+  answers : AnswersOutside (outside_with pool p) op reply
+  holds : HoldsPool (made_words v w) v.lanes v.zones header (after_outside op reply (outside_with pool p)).pool
+  leaves : (after_outside op reply (outside_with pool p)).actions ≡ pending_behind op reply p
+
+abbrev GoesOutside : View → (ℕ → ℕ) → Header → PoolView → Operation → Option Value → Type 0
+GoesOutside v w header pool op reply = GoesFrom v w header pool (pending_before v) op reply
 
 goes_whole : (v : View) (op : Operation) (reply : Option Value) → v.call ≡ record { operation = op; reply = reply } ∷ [] → v.log.records ≡ []
     → ((w : ℕ → ℕ) (header : Header) (pool : PoolView) → HoldsPool w v.lanes v.zones header pool → v.pool ≡ header.id → IsBefore v w → GoesOutside v w header pool op reply)
@@ -76,7 +80,7 @@ goes_whole v op reply call no_records goes = record {
           answers = how.answers;
           leaves = record {
             pending = own;
-            leaves = (λ j. let s : State = record { pool = next; actions = with_pending actions v.lane ((ap only_sets (pending_first v (record { operation = op; reply = reply }) call) ∙ sym how.leaves) j) } in s);
+            leaves = (λ j. let s : State = record { pool = next; actions = with_pending actions v.lane ((pending_first v (record { operation = op; reply = reply }) call ∙ sym how.leaves) j) } in s);
           };
         });
       };
@@ -91,20 +95,20 @@ first_outside unaligned no_place missing past_end full = option_map (λ (check :
 abbrev found_missing : Bool → Seen
 found_missing missing = record { spent = false; busy = false; missing = missing; full = false }
 
--- the calls on set-values
-abbrev is_on_sets : Operation → Bool
-is_on_sets (SetValue id off value) = true
-is_on_sets Publish = true
-is_on_sets Cancel = true
-is_on_sets op = false
-
-five_checks : (missing : Bool) (pool : PoolView) (actions : List Action) (op : Operation) → is_on_sets op ≡ true → let s : Outside = outside_with pool actions in
-    (refusal_outside (found_missing missing) s op ≡ first_outside (is_unaligned op) (names_no_place s op) (names_missing (found_missing missing) s op) (names_past_end s op) (has_no_room s op))
+-- of a call on the pending actions alone
+change_checks : (pool : PoolView) (p : Pending) (op : Operation) → changes_pending op ≡ true → let s : Outside = outside_with pool p in
+    (refusal_outside (found_missing false) s op ≡ first_outside (is_unaligned op) false false false (has_no_room s op))
 unfolding refusal_outside first_outside
-five_checks missing pool actions (SetValue id off value) is = refl
-five_checks missing pool actions Publish is = refl
-five_checks missing pool actions Cancel is = refl
-five_checks missing pool actions op is = absurd (false≢true is)
+change_checks pool p (SetValue id off value) is = refl
+change_checks pool p (DeferFree id) is = refl
+change_checks pool p Cancel is = refl
+change_checks pool p op is = absurd (false≢true is)
+
+-- of a publish of set-values
+publish_checks : (missing : Bool) (pool : PoolView) (actions : List Action) → let s : Outside = outside_with pool (only_sets actions) in
+    (refusal_outside (found_missing missing) s Publish ≡ first_outside false (names_no_place s Publish) (names_missing (found_missing missing) s Publish) (names_past_end s Publish) false)
+unfolding refusal_outside first_outside
+publish_checks missing pool actions = refl
 
 -- it answers what it has come to
 answers_outside : (s : Outside) (op : Operation) (reply : Option Value) (missing : Bool) → stands_outside op ≡ true → AreNamed s op → StandsOnceDone (as_resting s) op
@@ -127,35 +131,51 @@ refused_outside s op missing r known first traced = record {
 -- ---- on the pending actions alone
 
 -- the model answers so, and leaves the pool and what is pending
-record ChangesAlone (pool : PoolView) (actions : List Action) (op : Operation) (reply : Option Value) : Type 0 where
-  answers : AnswersOutside (outside_with pool actions) op reply
-  leaves : after_outside op reply (outside_with pool actions) ≡ outside_with pool (pending_behind op reply actions)
+record ChangesAlone (pool : PoolView) (p : Pending) (op : Operation) (reply : Option Value) : Type 0 where
+  answers : AnswersOutside (outside_with pool p) op reply
+  leaves : after_outside op reply (outside_with pool p) ≡ outside_with pool (pending_behind op reply p)
+
+none_named : (pool : PoolView) (p : Pending) (op : Operation) → changes_pending op ≡ true → AreNamed (outside_with pool p) op
+none_named pool p (SetValue id off value) is = All-nil (λ (want : Want). IsSome (object_at pool.objects want.id.off))
+none_named pool p (DeferFree id) is = All-nil (λ (want : Want). IsSome (object_at pool.objects want.id.off))
+none_named pool p Cancel is = All-nil (λ (want : Want). IsSome (object_at pool.objects want.id.off))
+none_named pool p op is = absurd (false≢true is)
 
 -- a set-value is refused by the two checks on it
-set_changes : (pool : PoolView) (actions : List Action) (id : Oid) (off value : ℕ) (reply : Option Value) → reply ≡ option_map Refused (set_refusal off actions) → ChangesAlone pool actions (SetValue id off value) reply
+set_changes : (pool : PoolView) (p : Pending) (id : Oid) (off value : ℕ) (reply : Option Value) → reply ≡ option_map Refused (set_refusal off p) → ChangesAlone pool p (SetValue id off value) reply
 unfolding first_outside
-set_changes pool actions id off value reply told = by_tests (not (eqb (off % 8) 0)) (leb max_actions (length actions)) (five_checks false pool actions op refl ∙ ap (λ (n : ℕ). first_outside (not (eqb (off % 8) 0)) false false false (leb max_actions n)) counted) told where
+set_changes pool p id off value reply told = by_tests (not (eqb (off % 8) 0)) (leb max_actions (pending_count p)) (change_checks pool p op refl) told where
   op : Operation
   op = SetValue id off value
 
   s : Outside
-  s = outside_with pool actions
-
-  counted : pending_count (only_sets actions) ≡ length actions
-  counted = omega arith
+  s = outside_with pool p
 
   by_tests : (unaligned full : Bool) → refusal_outside (found_missing false) s op ≡ first_outside unaligned false false false full
-      → reply ≡ option_map Refused (cond unaligned (Some refusal.Unaligned) (cond full (Some refusal.ActionsFull) None)) → ChangesAlone pool actions op reply
-  by_tests true full first told = subst (ChangesAlone pool actions op) (sym told) (record { answers = refused_outside s op false refusal.Unaligned refl first refl; leaves = refl })
-  by_tests false true first told = subst (ChangesAlone pool actions op) (sym told) (record { answers = refused_outside s op false refusal.ActionsFull refl first refl; leaves = refl })
-  by_tests false false first told = subst (ChangesAlone pool actions op) (sym told)
-      (record { answers = answers_outside s op None false refl (All-nil (λ (want : Want). IsSome (object_at pool.objects want.id.off))) tt first refl; leaves = refl })
+      → reply ≡ option_map Refused (cond unaligned (Some refusal.Unaligned) (cond full (Some refusal.ActionsFull) None)) → ChangesAlone pool p op reply
+  by_tests true full first told = subst (ChangesAlone pool p op) (sym told) (record { answers = refused_outside s op false refusal.Unaligned refl first refl; leaves = refl })
+  by_tests false true first told = subst (ChangesAlone pool p op) (sym told) (record { answers = refused_outside s op false refusal.ActionsFull refl first refl; leaves = refl })
+  by_tests false false first told = subst (ChangesAlone pool p op) (sym told) (record { answers = answers_outside s op None false refl (none_named pool p op refl) tt first refl; leaves = refl })
+
+-- and a free that is deferred by the one on it
+defer_changes : (pool : PoolView) (p : Pending) (id : Oid) (reply : Option Value) → reply ≡ option_map Refused (defer_refusal p) → ChangesAlone pool p (DeferFree id) reply
+unfolding first_outside
+defer_changes pool p id reply told = by_test (leb max_actions (pending_count p)) (change_checks pool p op refl) told where
+  op : Operation
+  op = DeferFree id
+
+  s : Outside
+  s = outside_with pool p
+
+  by_test : (full : Bool) → refusal_outside (found_missing false) s op ≡ first_outside false false false false full → reply ≡ option_map Refused (cond full (Some refusal.ActionsFull) None) → ChangesAlone pool p op reply
+  by_test true first told = subst (ChangesAlone pool p op) (sym told) (record { answers = refused_outside s op false refusal.ActionsFull refl first refl; leaves = refl })
+  by_test false first told = subst (ChangesAlone pool p op) (sym told) (record { answers = answers_outside s op None false refl (none_named pool p op refl) tt first refl; leaves = refl })
 
 -- a cancel is not refused
-cancel_changes : (pool : PoolView) (actions : List Action) → ChangesAlone pool actions Cancel None
+cancel_changes : (pool : PoolView) (p : Pending) → ChangesAlone pool p Cancel None
 unfolding first_outside
-cancel_changes pool actions = record {
-  answers = answers_outside (outside_with pool actions) Cancel None false refl (All-nil (λ (want : Want). IsSome (object_at pool.objects want.id.off))) tt (five_checks false pool actions Cancel refl) refl;
+cancel_changes pool p = record {
+  answers = answers_outside (outside_with pool p) Cancel None false refl (none_named pool p Cancel refl) tt (change_checks pool p Cancel refl) refl;
   leaves = refl;
 }
 
@@ -178,11 +198,17 @@ changes_whole v op reply call no_records no_entries changes =
 pub change_is_step : (v : View) (op : Operation) (reply : Option Value) → ChangesPendingOutside v op reply → IsWholeCall v
 change_is_step v (SetValue id off value) reply changes =
     changes_whole v (SetValue id off value) reply changes.call changes.no_records changes.no_entries (λ w header pool holds same_id before. set_changes pool (pending_before v) id off value reply changes.answer)
+change_is_step v (DeferFree id) reply changes =
+    changes_whole v (DeferFree id) reply changes.call changes.no_records changes.no_entries (λ w header pool holds same_id before. defer_changes pool (pending_before v) id reply changes.answer)
 change_is_step v Cancel reply changes =
     changes_whole v Cancel reply changes.call changes.no_records changes.no_entries (λ w header pool holds same_id before. subst (ChangesAlone pool (pending_before v) Cancel) (sym changes.answer) (cancel_changes pool (pending_before v)))
 change_is_step v op reply changes = absurd changes.answer
 
 -- ---- a publish
+
+-- what it begins from where set-values are all that is pending
+abbrev outside_sets : View → PoolView → Outside
+outside_sets v pool = outside_with pool (only_sets (sets_before v))
 
 module _ (v : View) (w : ℕ → ℕ) (header : Header) (pool : PoolView) (no_records : v.log.records ≡ []) (named : HoldsNamed v) (holds : HoldsPool w v.lanes v.zones header pool) (before : IsBefore v w) where
   -- the lane finds each object that it holds among the pool's
@@ -197,67 +223,69 @@ module _ (v : View) (w : ℕ → ℕ) (header : Header) (pool : PoolView) (no_re
       }
 
   -- what the actions name has a place, and is there
-  named_have_places : v.pool ≡ header.id → names_no_place (outside_of v pool) Publish ≡ false
+  named_have_places : v.pool ≡ header.id → names_no_place (outside_sets v pool) Publish ≡ false
   named_have_places id =
-      none_fails (λ (want : Want). has_place pool want.id) (wants_for (pending_before v)) (λ want there. wanted_has_place v w header pool want holds id (named.takes.wanted want there))
+      none_fails (λ (want : Want). has_place pool want.id) (wants_for (sets_before v)) (λ want there. wanted_has_place v w header pool want holds id (named.takes.wanted want there))
 
-  named_are_there : AreNamed (outside_of v pool) Publish
+  named_are_there : AreNamed (outside_sets v pool) Publish
   named_are_there k d inside =
-      let wants : List Want = wants_for (pending_before v) in
+      let wants : List Want = wants_for (sets_before v) in
       wanted_is_there v w header pool (get_or wants k d) holds before (named.takes.wanted (get_or wants k d) (Contains-get_or wants k d inside))
 
   -- so a publish is refused at most for an end that is passed
-  by_ends : (past : Bool) → v.pool ≡ header.id → list_any (passes_object pool.objects) (pending_before v) ≡ past → refusal_outside (found_missing false) (outside_of v pool) Publish ≡ first_outside false false false past false
+  by_ends : (past : Bool) → v.pool ≡ header.id → list_any (passes_object pool.objects) (sets_before v) ≡ past → refusal_outside (found_missing false) (outside_sets v pool) Publish ≡ first_outside false false false past false
   by_ends past id ends =
-      five_checks false pool (pending_before v) Publish refl
-      ∙ (λ j. first_outside false (named_have_places id j) (and_right (leb 1 (length (wants_for (pending_before v)))) false refl j) (ends j) false)
+      publish_checks false pool (sets_before v)
+      ∙ (λ j. first_outside false (named_have_places id j) (and_right (leb 1 (length (wants_for (sets_before v)))) false refl j) (ends j) false)
 
 pub publish_is_step : (v : View) → PublishesOutside v → IsWholeCall v
 unfolding first_outside
 publish_is_step v publishes =
     goes_whole v Publish None publishes.call publishes.no_records
     (λ w header pool holds id before.
-    let actions : List Action = pending_before v in
+    let actions : List Action = sets_before v in
     let finds : FindsObjects v w (resting pool none_pending) (λ off. Unit {0}) = finds_named v w header pool publishes.no_records publishes.holds holds before in
-    let passes : refusal_outside (found_missing false) (outside_of v pool) Publish ≡ None =
+    let passes : refusal_outside (found_missing false) (outside_sets v pool) Publish ≡ None =
     by_ends v w header pool publishes.no_records publishes.holds holds before false id (none_passes_end v w (resting pool none_pending) (λ off. Unit {0}) finds actions (λ k d inside. tt) publishes.each) in
     let same : made_words v w ≡ performed actions w = (λ j i. made_final (publishes.entries j) i (no_call_words v publishes.no_records w j i)) in
     let performs_all : Performs w v.lanes v.zones header pool actions = performs w v.lanes v.zones header pool actions holds (all_perform v w (resting pool none_pending) (λ off. Unit {0}) finds actions (λ k d inside. tt) publishes.each) in
-    record {
-      answers = answers_outside (outside_of v pool) Publish None false refl (named_are_there v w header pool publishes.no_records publishes.holds holds before) tt passes refl;
+    subst (λ (p : Pending). GoesFrom v w header pool p Publish None) (sym publishes.alone) (record {
+      answers = answers_outside (outside_sets v pool) Publish None false refl (named_are_there v w header pool publishes.no_records publishes.holds holds before) tt passes refl;
       holds = subst (λ (f : ℕ → ℕ). HoldsPool f v.lanes v.zones header (with_actions actions pool)) (sym same) performs_all.holds;
       leaves = refl;
-    })
+    }))
 
 -- ---- a publish that is refused
 
 -- where an action is pending, an object may be missing: one has no place, or is not there
-missing_answers : (pool : PoolView) (actions : List Action) → 1 ≤ length actions → AnswersOutside (outside_with pool actions) Publish (Some (Refused refusal.NoObject))
+missing_answers : (pool : PoolView) (actions : List Action) → 1 ≤ length actions → AnswersOutside (outside_with pool (only_sets actions)) Publish (Some (Refused refusal.NoObject))
 unfolding first_outside
 missing_answers pool actions some = ⊎_elim
     (λ (lacks : names_no_place s Publish ≡ true).
     refused_outside s Publish false refusal.NoObject refl
-    (five_checks false pool actions Publish refl ∙ (λ j. first_outside false (lacks j) (names_missing (found_missing false) s Publish) (names_past_end s Publish) false)) refl)
+    (publish_checks false pool actions ∙ (λ j. first_outside false (lacks j) (names_missing (found_missing false) s Publish) (names_past_end s Publish) false)) refl)
     (λ (placed : names_no_place s Publish ≡ false).
     let long = length-map actions (λ (a : Action). let want : Want = record { id = object_of a; write = true } in want) in
     let named : names_missing (found_missing true) s Publish ≡ true = and_from (leb 1 (length (wants_for actions))) true (le-leb 1 (length (wants_for actions)) (omega (arith, long, some))) refl in
     refused_outside s Publish true refusal.NoObject refl
-    (five_checks true pool actions Publish refl ∙ (λ j. first_outside false (placed j) (named j) (names_past_end s Publish) false)) refl)
+    (publish_checks true pool actions ∙ (λ j. first_outside false (placed j) (named j) (names_past_end s Publish) false)) refl)
     (cases_Bool (names_no_place s Publish)) where
       s : Outside
-      s = outside_with pool actions
+      s = outside_with pool (only_sets actions)
 
 outside_refused : (v : View) (r : Refusal) (w : ℕ → ℕ) (header : Header) (pool : PoolView) → v.log.records ≡ [] → IsOutsideReason v r → HoldsPool w v.lanes v.zones header pool → v.pool ≡ header.id → IsBefore v w
-    → AnswersOutside (outside_of v pool) Publish (Some (Refused r))
+    → AnswersOutside (outside_sets v pool) Publish (Some (Refused r))
 unfolding first_outside
-outside_refused v refusal.NoObject w header pool no_records reason holds id before = missing_answers pool (pending_before v) reason
+outside_refused v refusal.NoObject w header pool no_records reason holds id before = missing_answers pool (sets_before v) reason
 outside_refused v refusal.OutOfRange w header pool no_records reason holds id before =
     let finds : FindsObjects v w (resting pool none_pending) (λ off. Unit {0}) = finds_named v w header pool no_records reason.0 holds before in
-    refused_outside (outside_of v pool) Publish false refusal.OutOfRange refl
-    (by_ends v w header pool no_records reason.0 holds before true id (one_passes_end v w (resting pool none_pending) (λ off. Unit {0}) finds (pending_before v) (λ k d inside. tt) reason.1)) refl
+    refused_outside (outside_sets v pool) Publish false refusal.OutOfRange refl
+    (by_ends v w header pool no_records reason.0 holds before true id (one_passes_end v w (resting pool none_pending) (λ off. Unit {0}) finds (sets_before v) (λ k d inside. tt) reason.1)) refl
 outside_refused v r w header pool no_records reason holds id before = absurd reason
 
 pub refused_publish_is_step : (v : View) (r : Refusal) → RefusesOutside v r → IsWholeCall v
 refused_publish_is_step v r refuses =
     changes_whole v Publish (Some (Refused r)) refuses.call refuses.no_records refuses.no_entries
-    (λ w header pool holds id before. record { answers = outside_refused v r w header pool refuses.no_records refuses.reason holds id before; leaves = refl })
+    (λ w header pool holds id before.
+    subst (λ (p : Pending). ChangesAlone pool p Publish (Some (Refused r))) (sym refuses.alone)
+    (record { answers = outside_refused v r w header pool refuses.no_records refuses.reason holds id before; leaves = refl }))

@@ -97,7 +97,7 @@ add_goes_on v next id off len level some under_way adds old =
     let words : List ℕ = covered_words (id.off + off) len in
     let old_words : List ℕ = words_recorded v.log.records in
     let added : List Recorded = adds.added in
-    let leaves : LeavesBlocks v next = leaves_told v next (AddRange id off len) None adds.tells.call refl (known_new v next (keeps_known v next adds.keeps) under_way.has.each) in
+    let leaves : LeavesBlocks v next = leaves_told v next (AddRange id off len) None adds.tells.keeps.entries adds.tells.call refl (known_new v next (keeps_known v next adds.keeps) under_way.has.each) in
     still_under_way v next level level (AddRange id off len) None under_way adds.tells
     (record {
       outside = λ i is. ⊎_elim
@@ -126,10 +126,10 @@ add_goes_on v next id off len level some under_way adds old =
     let found : is_new c.tx id.off ≡ false = tracks_new v c.tx c.tracks id.off ∙ old.found in
     let more : Transaction = record c.tx { recorded = c.tx.recorded ++ new_words c.tx.recorded words; records = c.tx.records + length (records_of (new_words c.tx.recorded words)) } in
     let leads : after_reply (AddRange id off len) None c.tx ≡ more = cond-false (is_new c.tx id.off) c.tx more found in
-    let asks : AsksNoLock (AddRange id off len) = record { no_wants = refl; no_begin = refl; no_alloc = refl; no_free = refl; no_put = refl; aligned = refl; no_more = λ tx. refl; no_action = refl } in
+    let asks : AsksNoLock (AddRange id off len) = record { no_wants = refl; no_begin = refl; no_alloc = refl; no_free = refl; no_put = refl; no_publish = refl; aligned = refl; no_more = λ tx. refl; no_action = refl } in
     record {
       answers =
-          answers_done c.tx (AddRange id off len) None refl works asks
+          answers_done c.tx (AddRange id off len) None refl asks
           (passes_all c.tx (AddRange id off len) works asks (one_is_kept v c.tx c.tracks id.off old)
           (held_is_locked v id true c.tx held c.locks (same_pool v w header c.base c.tx c.holds c.changed same_id))
           (le-ltb (length (bytes_of c.tx.pool.objects id.off)) (off + len) (omega arith))
@@ -153,7 +153,6 @@ add_goes_on v next id off len level some under_way adds old =
       levels = ap (λ (x : Transaction). x.level) leads ∙ c.levels;
       stands = ap (λ (x : Transaction). x.stage) leads;
       fails = ap (λ (x : Transaction). x.error) leads;
-      actions = λ sets is. ap (λ (x : Transaction). x.actions) leads ∙ is;
       moved = ap (λ (x : Transaction). x.moved) leads ∙ sym (append-nil c.tx.moved);
       performable = All-nil (IsPerformable v w);
       blocks_stay = ap (λ (f : ℕ → ℕ). blocks f v.lanes v.zones) same;
@@ -164,5 +163,5 @@ add_goes_on v next id off len level some under_way adds old =
 pub add_keeps_open : (v next : View) (id : Oid) (off len level : ℕ) → 1 ≤ level → IsOpen v level stage.Work error.None → AddsRange v next id off len → IsOpen next level stage.Work error.None
 add_keeps_open v next id off len level some is_open adds = record {
   under_way = add_goes_on v next id off len level some is_open.under_way adds (old_of_none v is_open.keeps id.off);
-  keeps = keeps_on v next (AddRange id off len) None adds.tells.call refl refl (λ root. tt) is_open.keeps;
+  keeps = keeps_on v next (AddRange id off len) None adds.tells.keeps.entries adds.tells.call refl refl (λ root. tt) is_open.keeps;
 }

@@ -117,10 +117,10 @@ module _ (v next : View) (n : NewObject) (level : ℕ) (some_level : 1 ≤ level
   now = with_made n (blocks_in v)
 
   blocks_now : blocks_in next ≡ now
-  blocks_now = blocks_once_more v next (Alloc n.size n.kind) (Some (Offset n.off)) alloc.tells.call
+  blocks_now = blocks_once_more v next (Alloc n.size n.kind) (Some (Offset n.off)) alloc.tells.keeps.entries alloc.tells.call
 
   allocated_now : allocated_in next ≡ allocated_in v ++ n ∷ []
-  allocated_now = allocated_once_more v next (Alloc n.size n.kind) (Some (Offset n.off)) alloc.tells.call
+  allocated_now = allocated_once_more v next (Alloc n.size n.kind) (Some (Offset n.off)) alloc.tells.keeps.entries alloc.tells.call
 
   same_new : (m : NewObject) → Contains (blocks_in v).made m → SameNew v next m
   same_new = known_new v next alloc.keeps under_way.has.each
@@ -249,7 +249,7 @@ module _ (v next : View) (n : NewObject) (level : ℕ) (some_level : 1 ≤ level
       apart = All-append (IsBeside n.size n.off) (c.tx.before.objects ++ c.tx.pool.objects) c.tx.dropped
           (All-append (IsBeside n.size n.off) c.tx.before.objects c.tx.pool.objects (subst (λ (p : PoolView). All (IsBeside n.size n.off) p.objects) (sym c.before) beside_before) beside_all)
           beside_dropped;
-      unreserved = subst (λ (p : Pending). All (IsBesideReserved n.size n.off) p.reserved) (sym c.actions) (All-nil (IsBesideReserved n.size n.off));
+      unreserved = subst (λ (p : Pending). All (IsBesideReserved n.size n.off) p.reserved) (sym c.actions) alloc.unreserved;
     }
 
     none_there : object_at c.tx.pool.objects n.off ≡ None
@@ -356,7 +356,6 @@ module _ (v next : View) (n : NewObject) (level : ℕ) (some_level : 1 ≤ level
           levels = c.levels;
           stands = refl;
           fails = refl;
-          actions = λ sets is. is;
           moved = sym (append-nil c.tx.moved);
           performable = All-nil (IsPerformable v w);
           blocks_stay = ap (λ (f : ℕ → ℕ). blocks f v.lanes v.zones) same;

@@ -1,7 +1,7 @@
 -- A call that has begun with the locks that it wanted is the model's transaction at its first level.
 use Rattle.std.proofs.Common.{◌≡◌, ℕ, ◌≤◌, ◌||◌, Bool, true, false, not, eqb, ltb, cond, List, [], ◌∷◌, length, map, get_or, slice_index, Option, None, MatchOption, refl, sym, ◌∙◌, ap, subst, arith}
 use Rattle.std.specs.Prelude.{IsSome}
-use Rattle.std.specs.List.{All, Contains, IsDistinct, filter, find, flat_map, list_any}
+use Rattle.std.specs.List.{All, Contains, IsDistinct, filter, find, list_any}
 use Rattle.std.specs.List.Sorted.{IsStrictlyIncreasing}
 use Rattle.std.specs.Option.{option_map}
 use Rattle.std.proofs.lemmas.Bool.{and_from, and_right, cond-true, eq-eqb, false≢true, le-ltb, or_from}
@@ -21,7 +21,7 @@ use Rattle.pm_image.specs.Blocks.{blocks}
 use Rattle.pm_image.specs.Contents.{size_in}
 use Rattle.pm_image.proofs.Members.{first_member, later_member}
 use Rattle.pm_model.specs.declared.stage.Stage.TheVariants as stage
-use Rattle.pm_model.specs.Actions.{Pending, only_sets}
+use Rattle.pm_model.specs.Actions.{Pending}
 use Rattle.pm_model.specs.Bytes.{is_among}
 use Rattle.pm_model.specs.Places.{can_begin, has_place}
 use Rattle.pm_model.specs.Transaction.{Transaction, locked_all, resting}
@@ -31,7 +31,7 @@ use Rattle.pm_view.specs.Log.{Recorded}
 use Rattle.pm_view.specs.View.{Told, View}
 use Rattle.pm_world.specs.Records.{is_recorded}
 use Rattle.pm_crash.proofs.SameLocks.{turned_locks}
-use Rattle.pm_crash.specs.CallBlocks.{CallBlocks, KeepsBlocks, allocated_by, blocks_told, is_at, is_new_in, no_blocks}
+use Rattle.pm_crash.specs.CallBlocks.{CallBlocks, KeepsBlocks, allocated_told, blocks_told, is_at, is_new_in, no_blocks}
 use Rattle.pm_crash.specs.Held.{HoldsPool}
 use Rattle.pm_crash.specs.Locks.{AreSameLocks}
 use Rattle.pm_crash.specs.OpenCall.{HasMade, IsBefore, IsChanged, IsOpen, IsUnderWay, RunsTo, TracksBlocks, block_at_line, call_words, words_recorded, lock_of, locks_of, IsPerformable}
@@ -125,10 +125,10 @@ no_call_words v none w = (λ j i. at i j) where
 
 -- the call made and freed nothing
 begin_keeps : (v : View) (wants : List Want) → BeginsCall v wants → KeepsBlocks v
-unfolding blocks_told
+unfolding blocks_told allocated_told
 begin_keeps v wants begins = record {
-  blocks = ap (blocks_told no_blocks) begins.call;
-  allocated = ap (flat_map (λ (t : Told). allocated_by t.operation t.reply)) begins.call;
+  blocks = ap (blocks_told (pending_before v) no_blocks) begins.call;
+  allocated = ap (allocated_told (pending_before v)) begins.call;
   any_root = λ root. first_agrees v (Begin wants) None begins.call root tt;
 }
 
@@ -172,12 +172,12 @@ begin_under_way v wants begins = record {
   has = has_none v (begin_keeps v wants begins);
   comes = λ w header pool holds id before room.
       let told : Answered = record { operation = Begin wants; reply = None } in
-      let tx : Transaction = after told (resting pool (only_sets (pending_before v))) in
+      let tx : Transaction = after told (resting pool (pending_before v)) in
       let same : call_words v w ≡ w = no_call_words v begins.no_records w in
       let keeps : KeepsBlocks v = begin_keeps v wants begins in
       record {
         tx = tx;
-        runs = subst (λ (ts : List Answered). RunsTo pool (only_sets (pending_before v)) ts tx) (sym (ap (map told_of) begins.call)) (runs_first told pool (only_sets (pending_before v)) (begin_answers v wants w header pool (only_sets (pending_before v)) begins holds id before));
+        runs = subst (λ (ts : List Answered). RunsTo pool (pending_before v) ts tx) (sym (ap (map told_of) begins.call)) (runs_first told pool (pending_before v) (begin_answers v wants w header pool (pending_before v) begins holds id before));
         base = pool;
         holds = subst (λ (f : ℕ → ℕ). HoldsPool f v.lanes v.zones header pool) (sym same) holds;
         changed = changed_none v pool (objects_rise w v.lanes v.zones header pool holds) keeps;
@@ -192,7 +192,7 @@ begin_under_way v wants begins = record {
         levels = refl;
         stands = refl;
         fails = refl;
-        actions = ap only_sets (sym (pending_first v (record { operation = Begin wants; reply = None }) begins.call));
+        actions = sym (pending_first v (record { operation = Begin wants; reply = None }) begins.call);
         moved = sym (published_first v (record { operation = Begin wants; reply = None }) begins.call);
         performable = subst (All (IsPerformable v w)) (sym (published_first v (record { operation = Begin wants; reply = None }) begins.call)) (All-nil (IsPerformable v w));
         blocks_stay = ap (λ (f : ℕ → ℕ). blocks f v.lanes v.zones) same;

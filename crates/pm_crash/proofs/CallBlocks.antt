@@ -2,8 +2,8 @@
 use Rattle.std.proofs.Common.{◌≡◌, ℕ, ◌+◌, ◌*◌, ◌≤◌, ◌||◌, Bool, false, cond, eqb, List, [], ◌∷◌, ◌++◌, length, map, slice_index, Option, Some, refl, sym, ◌∙◌, ap, subst, arith}
 use Rattle.std.specs.List.{All, Contains, filter, flat_map, list_any}
 use Rattle.std.proofs.lemmas.Bool.{or_from, or_parts}
-use Rattle.std.proofs.lemmas.Grind.{div_ceil_times, flat_map-append}
-use Rattle.std.proofs.lemmas.List.{append-nil}
+use Rattle.std.proofs.lemmas.Grind.{div_ceil_times}
+use Rattle.std.proofs.lemmas.List.{append_assoc, append-nil}
 use Rattle.std.proofs.lemmas.List.Elements.{All-append, All-cons, All-head, All-nil}
 use Rattle.pm_layout.specs.Sizes.{class_of, lines_for}
 use Rattle.pm_objects.specs.Pool.{block_lines, offsets}
@@ -19,87 +19,114 @@ use Rattle.pm_image.proofs.Pools.{length-bytes_in}
 use Rattle.pm_image.proofs.Rooms.{lines_needed}
 use Rattle.pm_image.proofs.LocalContents.{contents_local, header_same}
 use Rattle.pm_model.proofs.Blocks.{All-parts}
+use Rattle.pm_model.specs.Actions.{Pending}
 use Rattle.pm_model.specs.Answers.{IsBeside}
 use Rattle.pm_model.specs.Bytes.{is_among}
 use Rattle.pm_model.specs.Transaction.{Transaction, is_gone, is_new}
 use Rattle.pm_view.specs.Area.{is_in_area}
 use Rattle.pm_view.specs.View.{Told, View}
-use Rattle.pm_crash.specs.CallBlocks.{AgreesOnRoot, CallBlocks, HasRoomFor, IsMadeIn, IsOldIn, KeepsBlocks, MayPrecede, NewObject, TellsOfRoot, allocated_by, allocated_in, block_of, blocks_behind, blocks_in, blocks_told, is_at, is_freed_in, is_gone_in, is_made_in, is_new_in, no_blocks, object_made}
+use Rattle.pm_crash.specs.CallBlocks.{AgreesOnRoot, AllTellOfRoot, CallBlocks, HasRoomFor, IsMadeIn, IsOldIn, KeepsBlocks, MayPrecede, NewObject, TellsOfRoot, allocated_by, allocated_in, allocated_told, block_of, blocks_behind, blocks_in, blocks_told, is_at, is_freed_in, is_gone_in, is_made_in, is_new_in, no_blocks, object_made}
 use Rattle.pm_crash.specs.NewObjects.{fresh_word, unlinked}
+use Rattle.pm_crash.specs.Pending.{pending_before, pending_behind, pending_in, pending_told}
+use Rattle.pm_crash.proofs.PendingOn.{same_before}
 use Rattle.pm_crash.specs.OpenCall.{IsChanged, TracksBlocks, place_and_size}
 
 -- ---- one operation more
 
-told_further : (b : CallBlocks) (told : List Told) (t : Told) → blocks_told b (told ++ t ∷ []) ≡ blocks_behind t.operation t.reply (blocks_told b told)
-unfolding blocks_told
-told_further b [] t = refl
-told_further b (u ∷ told) t = told_further (blocks_behind u.operation u.reply b) told t
+told_further : (p : Pending) (b : CallBlocks) (told : List Told) (t : Told) → blocks_told p b (told ++ t ∷ []) ≡ blocks_behind t.operation t.reply (pending_told p told) (blocks_told p b told)
+unfolding blocks_told pending_told
+told_further p b [] t = refl
+told_further p b (u ∷ told) t = told_further (pending_behind u.operation u.reply p) (blocks_behind u.operation u.reply p b) told t
 
-pub blocks_once_more : (v next : View) (op : Operation) (reply : Option Value) → next.call ≡ v.call ++ record { operation = op; reply = reply } ∷ []
-    → blocks_in next ≡ blocks_behind op reply (blocks_in v)
-blocks_once_more v next op reply call = ap (blocks_told no_blocks) call ∙ told_further no_blocks v.call (record { operation = op; reply = reply })
+pub blocks_once_more : (v next : View) (op : Operation) (reply : Option Value) → next.entries ≡ v.entries → next.call ≡ v.call ++ record { operation = op; reply = reply } ∷ []
+    → blocks_in next ≡ blocks_behind op reply (pending_in v) (blocks_in v)
+blocks_once_more v next op reply entries call =
+    (λ j. blocks_told (same_before v next entries j) no_blocks (call j)) ∙ told_further (pending_before v) no_blocks v.call (record { operation = op; reply = reply })
 
-pub allocated_once_more : (v next : View) (op : Operation) (reply : Option Value) → next.call ≡ v.call ++ record { operation = op; reply = reply } ∷ []
-    → allocated_in next ≡ allocated_in v ++ allocated_by op reply
-allocated_once_more v next op reply call =
-    let by : Told → List NewObject = λ t. allocated_by t.operation t.reply in
-    ap (flat_map by) call
-    ∙ flat_map-append by v.call (record { operation = op; reply = reply } ∷ [])
-    ∙ ap (λ (more : List NewObject). allocated_in v ++ more) (append-nil (allocated_by op reply))
+allocated_further : (p : Pending) (told : List Told) (t : Told) → allocated_told p (told ++ t ∷ []) ≡ allocated_told p told ++ allocated_by t.operation t.reply (pending_told p told)
+unfolding allocated_told pending_told
+allocated_further p [] t = append-nil (allocated_by t.operation t.reply p)
+allocated_further p (u ∷ told) t =
+    ap (λ (more : List NewObject). allocated_by u.operation u.reply p ++ more) (allocated_further (pending_behind u.operation u.reply p) told t)
+    ∙ sym (append_assoc (allocated_by u.operation u.reply p) (allocated_told (pending_behind u.operation u.reply p) told) (allocated_by t.operation t.reply (pending_told (pending_behind u.operation u.reply p) told)))
 
--- an operation with its reply agrees with a root
-abbrev Agrees : Option ℕ → Told → Type 0
-Agrees root t = TellsOfRoot root t.operation t.reply
+pub allocated_once_more : (v next : View) (op : Operation) (reply : Option Value) → next.entries ≡ v.entries → next.call ≡ v.call ++ record { operation = op; reply = reply } ∷ []
+    → allocated_in next ≡ allocated_in v ++ allocated_by op reply (pending_in v)
+allocated_once_more v next op reply entries call =
+    (λ j. allocated_told (same_before v next entries j) (call j)) ∙ allocated_further (pending_before v) v.call (record { operation = op; reply = reply })
+
+-- operations agree with a root where the first of them do, and the last
+pub agree_further : (root : Option ℕ) (p : Pending) (told : List Told) (t : Told) → AllTellOfRoot root p told → TellsOfRoot root t.operation t.reply (pending_told p told) → AllTellOfRoot root p (told ++ t ∷ [])
+unfolding AllTellOfRoot pending_told
+agree_further root p [] t before now = (now, tt)
+agree_further root p (u ∷ told) t before now = (before.0, agree_further root (pending_behind u.operation u.reply p) told t before.1 now)
+
+agree_parts : (root : Option ℕ) (p : Pending) (told : List Told) (t : Told) → AllTellOfRoot root p (told ++ t ∷ []) → AllTellOfRoot root p told × TellsOfRoot root t.operation t.reply (pending_told p told)
+unfolding AllTellOfRoot pending_told
+agree_parts root p [] t all = (tt, all.0)
+agree_parts root p (u ∷ told) t all =
+    let rest = agree_parts root (pending_behind u.operation u.reply p) told t all.1 in
+    ((all.0, rest.0), rest.1)
+
+-- those of one view as those of another
+pub agree_same : (root : Option ℕ) (v next : View) → next.entries ≡ v.entries → next.call ≡ v.call → AgreesOnRoot v root → AgreesOnRoot next root
+agree_same root v next entries call agrees = subst (AllTellOfRoot root (pending_before next)) (sym call) (subst (λ (p : Pending). AllTellOfRoot root p v.call) (sym (same_before v next entries)) agrees)
+
+parts_once_more : (root : Option ℕ) (v next : View) (op : Operation) (reply : Option Value) → next.entries ≡ v.entries → next.call ≡ v.call ++ record { operation = op; reply = reply } ∷ []
+    → AgreesOnRoot next root → AgreesOnRoot v root × TellsOfRoot root op reply (pending_in v)
+parts_once_more root v next op reply entries call agrees =
+    agree_parts root (pending_before v) v.call (record { operation = op; reply = reply })
+    (subst (λ (p : Pending). AllTellOfRoot root p (v.call ++ record { operation = op; reply = reply } ∷ [])) (same_before v next entries) (subst (AllTellOfRoot root (pending_before next)) call agrees))
 
 -- a pool that may be the one before the call once the operation is told might be before
-pub may_before : (v next : View) (op : Operation) (reply : Option Value) → next.call ≡ v.call ++ record { operation = op; reply = reply } ∷ [] → (pool : PoolView) → MayPrecede pool next → MayPrecede pool v
-may_before v next op reply call pool may = record {
-  room = (All-parts (λ (n : NewObject). All (IsBeside n.size n.off) pool.objects) (allocated_in v) (allocated_by op reply) (subst (HasRoomFor pool) (allocated_once_more v next op reply call) may.room)).0;
-  root = (All-parts (Agrees pool.root) v.call (record { operation = op; reply = reply } ∷ []) (subst (All (Agrees pool.root)) call may.root)).0;
+pub may_before : (v next : View) (op : Operation) (reply : Option Value) → next.entries ≡ v.entries → next.call ≡ v.call ++ record { operation = op; reply = reply } ∷ [] → (pool : PoolView) → MayPrecede pool next → MayPrecede pool v
+may_before v next op reply entries call pool may = record {
+  room = (All-parts (λ (n : NewObject). All (IsBeside n.size n.off) pool.objects) (allocated_in v) (allocated_by op reply (pending_in v)) (subst (HasRoomFor pool) (allocated_once_more v next op reply entries call) may.room)).0;
+  root = (parts_once_more pool.root v next op reply entries call may.root).0;
 }
 
 -- and the operation told agrees with its root
-pub tells_of_root : (v next : View) (op : Operation) (reply : Option Value) → next.call ≡ v.call ++ record { operation = op; reply = reply } ∷ [] → (pool : PoolView) → MayPrecede pool next
-    → TellsOfRoot pool.root op reply
-tells_of_root v next op reply call pool may =
-    let t : Told = record { operation = op; reply = reply } in
-    All-head (Agrees pool.root) t [] (All-parts (Agrees pool.root) v.call (t ∷ []) (subst (All (Agrees pool.root)) call may.root)).1
+pub tells_of_root : (v next : View) (op : Operation) (reply : Option Value) → next.entries ≡ v.entries → next.call ≡ v.call ++ record { operation = op; reply = reply } ∷ [] → (pool : PoolView) → MayPrecede pool next
+    → TellsOfRoot pool.root op reply (pending_in v)
+tells_of_root v next op reply entries call pool may = (parts_once_more pool.root v next op reply entries call may.root).1
 
 -- where nothing is told it is the same
-pub same_blocks : (v next : View) → next.call ≡ v.call → blocks_in next ≡ blocks_in v
-same_blocks v next call = ap (blocks_told no_blocks) call
+pub same_blocks : (v next : View) → next.entries ≡ v.entries → next.call ≡ v.call → blocks_in next ≡ blocks_in v
+same_blocks v next entries call = (λ j. blocks_told (same_before v next entries j) no_blocks (call j))
 
-pub same_allocated : (v next : View) → next.call ≡ v.call → allocated_in next ≡ allocated_in v
-same_allocated v next call = ap (flat_map (λ (t : Told). allocated_by t.operation t.reply)) call
+pub same_allocated : (v next : View) → next.entries ≡ v.entries → next.call ≡ v.call → allocated_in next ≡ allocated_in v
+same_allocated v next entries call = (λ j. allocated_told (same_before v next entries j) (call j))
 
 -- and so the call agrees with a root, of one operation or more
-pub first_agrees : (v : View) (op : Operation) (reply : Option Value) → v.call ≡ record { operation = op; reply = reply } ∷ [] → (root : Option ℕ) → TellsOfRoot root op reply → AgreesOnRoot v root
-first_agrees v op reply call root now = subst (All (Agrees root)) (sym call) (All-cons (Agrees root) (record { operation = op; reply = reply }) [] now (All-nil (Agrees root)))
+pub first_agrees : (v : View) (op : Operation) (reply : Option Value) → v.call ≡ record { operation = op; reply = reply } ∷ [] → (root : Option ℕ) → TellsOfRoot root op reply (pending_before v) → AgreesOnRoot v root
+unfolding AllTellOfRoot
+first_agrees v op reply call root now = subst (AllTellOfRoot root (pending_before v)) (sym call) (now, tt)
 
-agrees_once_more : (v next : View) (op : Operation) (reply : Option Value) → next.call ≡ v.call ++ record { operation = op; reply = reply } ∷ [] → (root : Option ℕ)
-    → AgreesOnRoot v root → TellsOfRoot root op reply → AgreesOnRoot next root
-agrees_once_more v next op reply call root before now =
-    let t : Told = record { operation = op; reply = reply } in
-    subst (All (Agrees root)) (sym call) (All-append (Agrees root) v.call (t ∷ []) before (All-cons (Agrees root) t [] now (All-nil (Agrees root))))
+pub agrees_once_more : (v next : View) (op : Operation) (reply : Option Value) → next.entries ≡ v.entries → next.call ≡ v.call ++ record { operation = op; reply = reply } ∷ [] → (root : Option ℕ)
+    → AgreesOnRoot v root → TellsOfRoot root op reply (pending_in v) → AgreesOnRoot next root
+agrees_once_more v next op reply entries call root before now =
+    subst (AllTellOfRoot root (pending_before next)) (sym call)
+    (subst (λ (p : Pending). AllTellOfRoot root p (v.call ++ record { operation = op; reply = reply } ∷ [])) (sym (same_before v next entries))
+    (agree_further root (pending_before v) v.call (record { operation = op; reply = reply }) before now))
 
 -- where nothing is told the same pools may be the one before
-pub may_same : (v next : View) → next.call ≡ v.call → (pool : PoolView) → MayPrecede pool v → MayPrecede pool next
-may_same v next call pool may = record { room = subst (HasRoomFor pool) (sym (same_allocated v next call)) may.room; root = subst (All (Agrees pool.root)) (sym call) may.root }
+pub may_same : (v next : View) → next.entries ≡ v.entries → next.call ≡ v.call → (pool : PoolView) → MayPrecede pool v → MayPrecede pool next
+may_same v next entries call pool may = record { room = subst (HasRoomFor pool) (sym (same_allocated v next entries call)) may.room; root = agree_same pool.root v next entries call may.root }
 
 -- a call that kept the blocks does behind an operation that keeps them
-pub keeps_on : (v next : View) (op : Operation) (reply : Option Value) → next.call ≡ v.call ++ record { operation = op; reply = reply } ∷ []
-    → blocks_behind op reply no_blocks ≡ no_blocks → allocated_by op reply ≡ [] → ((root : Option ℕ) → TellsOfRoot root op reply) → KeepsBlocks v → KeepsBlocks next
-keeps_on v next op reply call none none_more no_root keeps = record {
-  blocks = blocks_once_more v next op reply call ∙ ap (blocks_behind op reply) keeps.blocks ∙ none;
-  allocated = allocated_once_more v next op reply call ∙ (λ j. keeps.allocated j ++ none_more j);
-  any_root = λ root. agrees_once_more v next op reply call root (keeps.any_root root) (no_root root);
+pub keeps_on : (v next : View) (op : Operation) (reply : Option Value) → next.entries ≡ v.entries → next.call ≡ v.call ++ record { operation = op; reply = reply } ∷ []
+    → blocks_behind op reply (pending_in v) no_blocks ≡ no_blocks → allocated_by op reply (pending_in v) ≡ [] → ((root : Option ℕ) → TellsOfRoot root op reply (pending_in v)) → KeepsBlocks v → KeepsBlocks next
+keeps_on v next op reply entries call none none_more no_root keeps = record {
+  blocks = blocks_once_more v next op reply entries call ∙ ap (blocks_behind op reply (pending_in v)) keeps.blocks ∙ none;
+  allocated = allocated_once_more v next op reply entries call ∙ (λ j. keeps.allocated j ++ none_more j);
+  any_root = λ root. agrees_once_more v next op reply entries call root (keeps.any_root root) (no_root root);
 }
 
-pub keeps_still : (v next : View) → next.call ≡ v.call → KeepsBlocks v → KeepsBlocks next
-keeps_still v next call keeps = record {
-  blocks = same_blocks v next call ∙ keeps.blocks;
-  allocated = same_allocated v next call ∙ keeps.allocated;
-  any_root = λ root. subst (All (Agrees root)) (sym call) (keeps.any_root root);
+pub keeps_still : (v next : View) → next.entries ≡ v.entries → next.call ≡ v.call → KeepsBlocks v → KeepsBlocks next
+keeps_still v next entries call keeps = record {
+  blocks = same_blocks v next entries call ∙ keeps.blocks;
+  allocated = same_allocated v next entries call ∙ keeps.allocated;
+  any_root = λ root. agree_same root v next entries call (keeps.any_root root);
 }
 
 -- every pool has room for nothing, and so each may be the one before a call that kept the blocks
@@ -110,11 +137,11 @@ pub any_may_precede : (v : View) → KeepsBlocks v → (pool : PoolView) → May
 any_may_precede v keeps pool = record { room = room_for_none v pool keeps.allocated; root = keeps.any_root pool.root }
 
 -- so it is behind an operation that allocates nothing and tells nothing of the root
-pub any_may_still : (v next : View) (op : Operation) (reply : Option Value) → next.call ≡ v.call ++ record { operation = op; reply = reply } ∷ [] → allocated_by op reply ≡ []
-    → ((root : Option ℕ) → TellsOfRoot root op reply) → KeepsBlocks v → (pool : PoolView) → MayPrecede pool next
-any_may_still v next op reply call none no_root keeps pool = record {
-  room = room_for_none next pool (allocated_once_more v next op reply call ∙ (λ j. keeps.allocated j ++ none j));
-  root = agrees_once_more v next op reply call pool.root (keeps.any_root pool.root) (no_root pool.root);
+pub any_may_still : (v next : View) (op : Operation) (reply : Option Value) → next.entries ≡ v.entries → next.call ≡ v.call ++ record { operation = op; reply = reply } ∷ [] → allocated_by op reply (pending_in v) ≡ []
+    → ((root : Option ℕ) → TellsOfRoot root op reply (pending_in v)) → KeepsBlocks v → (pool : PoolView) → MayPrecede pool next
+any_may_still v next op reply entries call none no_root keeps pool = record {
+  room = room_for_none next pool (allocated_once_more v next op reply entries call ∙ (λ j. keeps.allocated j ++ none j));
+  root = agrees_once_more v next op reply entries call pool.root (keeps.any_root pool.root) (no_root pool.root);
 }
 
 -- ---- what the transaction tracks

@@ -35,7 +35,7 @@ use Rattle.pm_crash.proofs.Covered.{covered_has_byte}
 use Rattle.pm_crash.proofs.Apart.{lines_of_block}
 use Rattle.pm_crash.proofs.ObjectsOfBlocks.{object_is_there}
 use Rattle.pm_crash.proofs.CallBlocks.{not_made, tracks_gone}
-use Rattle.pm_crash.proofs.Passing.{Works, none_named, set_alone}
+use Rattle.pm_crash.proofs.Passing.{Works, none_named}
 
 pub recorded_call_word : (v : View) (w : ℕ → ℕ) (i : ℕ) → is_recorded v.log.records i ≡ true → call_words v w i ≡ slice_index v.words i
 recorded_call_word v w i is = cond-true (is_recorded v.log.records i) (slice_index v.words i) (w i) is
@@ -160,7 +160,7 @@ call_works v w header pool level some under_way c =
     let levels : c.tx.level ≡ level = c.levels in
     let long : length c.tx.locks ≡ length v.locks = c.locks.count ∙ length-map v.locks lock_of in
     let few : length v.locks ≤ 64 = under_way.few in
-    record { level = omega arith; working = c.stands; few = omega arith; sets = set_alone c.tx.actions (pending_in v) c.actions }
+    record { level = omega arith; working = c.stands; few = omega arith }
 
 -- none of these objects is gone
 pub none_is_gone : (v : View) (tx : Transaction) → TracksBlocks tx (blocks_in v) → (offs : List ℕ) → ((off : ℕ) → Contains offs off → IsOldIn v off) → list_any (is_gone tx) offs ≡ false

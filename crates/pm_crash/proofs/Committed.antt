@@ -17,7 +17,7 @@ use Rattle.pm_objects.specs.declared.calls.Operation.TheVariants.{Commit}
 use Rattle.pm_objects.specs.declared.history.TxErr.TheVariants as error
 use Rattle.pm_model.specs.declared.stage.Stage.TheVariants as stage
 use Rattle.pm_model.specs.declared.stage.Stage.{Stage}
-use Rattle.pm_model.specs.Actions.{Action, only_sets, with_actions}
+use Rattle.pm_model.specs.Actions.{Action, Pending, with_actions}
 use Rattle.pm_model.specs.Transaction.{Transaction, resting, committed, ended_inner, is_working}
 use Rattle.pm_model.specs.Answers.{Told as Answered, Answers, IsBeside, after_reply}
 use Rattle.pm_model.specs.Bytes.{is_among}
@@ -89,7 +89,7 @@ module _ (v next : View) (under_way : IsUnderWay v 1 stage.Work error.None) (tel
   old_holds = two_same (λ (n m : ℕ). HoldsPool w n m header pool) next.lanes v.lanes next.zones v.zones tells.keeps.lanes tells.keeps.zones holds
 
   abbrev c : ComesTo v w header pool 1 stage.Work error.None
-  c = under_way.comes w header pool old_holds (sym tells.keeps.pool ∙ id) old_before (may_before v next Commit None tells.call pool may)
+  c = under_way.comes w header pool old_holds (sym tells.keeps.pool ∙ id) old_before (may_before v next Commit None tells.keeps.entries tells.call pool may)
 
   abbrev last : Transaction
   last = after_reply Commit None c.tx
@@ -97,22 +97,22 @@ module _ (v next : View) (under_way : IsUnderWay v 1 stage.Work error.None) (tel
   abbrev last_pool : PoolView
   last_pool = with_actions (published_in v) c.tx.pool
 
-  rests : last ≡ resting last_pool (only_sets (pending_in v))
+  rests : last ≡ resting last_pool (pending_in v)
   rests = commits c.tx c.levels ∙ (λ j. resting (with_actions (c.moved j) c.tx.pool) (c.actions j))
 
-  ran : RunsFrom (resting pool (only_sets (pending_before next))) (told_in next) last
+  ran : RunsFrom (resting pool (pending_before next)) (told_in next) last
   ran =
       let works : Works c.tx = call_works v w header pool 1 (omega arith) under_way c in
-      let asks : AsksNoLock Commit = record { no_wants = refl; no_begin = refl; no_alloc = refl; no_free = refl; no_put = refl; aligned = refl; no_more = λ tx. refl; no_action = refl } in
-      let answers : Answers c.tx Commit None = answers_done c.tx Commit None refl works asks (passes_all c.tx Commit works asks refl refl refl refl refl) refl in
+      let asks : AsksNoLock Commit = record { no_wants = refl; no_begin = refl; no_alloc = refl; no_free = refl; no_put = refl; no_publish = refl; aligned = refl; no_more = λ tx. refl; no_action = refl } in
+      let answers : Answers c.tx Commit None = answers_done c.tx Commit None refl asks (passes_all c.tx Commit works asks refl refl refl refl refl) refl in
       let told : List Answered = told_in v ++ record { operation = Commit; reply = None } ∷ [] in
-      let goes : RunsTo pool (only_sets (pending_before v)) told last = runs_once_more (told_in v) (record { operation = Commit; reply = None }) pool (only_sets (pending_before v)) c.tx c.runs (ap is_working c.stands) answers in
-      let runs : RunsFrom (resting pool (only_sets (pending_before v))) told last = runs_some told pool (only_sets (pending_before v)) last goes (ap (λ (x : Transaction). is_working x.stage) rests) (some_told (told_in v) (record { operation = Commit; reply = None })) in
-      subst (λ (ts : List Answered). RunsFrom (resting pool (only_sets (pending_before next))) ts last) (sym (told_once_more v next Commit None tells.call))
-      (subst (λ (actions : List Action). RunsFrom (resting pool (only_sets actions)) told last) (sym (same_before v next tells.keeps.entries)) runs)
+      let goes : RunsTo pool (pending_before v) told last = runs_once_more (told_in v) (record { operation = Commit; reply = None }) pool (pending_before v) c.tx c.runs (ap is_working c.stands) answers in
+      let runs : RunsFrom (resting pool (pending_before v)) told last = runs_some told pool (pending_before v) last goes (ap (λ (x : Transaction). is_working x.stage) rests) (some_told (told_in v) (record { operation = Commit; reply = None })) in
+      subst (λ (ts : List Answered). RunsFrom (resting pool (pending_before next)) ts last) (sym (told_once_more v next Commit None tells.call))
+      (subst (λ (p : Pending). RunsFrom (resting pool p) told last) (sym (same_before v next tells.keeps.entries)) runs)
 
   leaves : LeavesBlocks v next
-  leaves = leaves_told v next Commit None tells.call refl (known_new v next (keeps_known v next keeps) under_way.has.each)
+  leaves = leaves_told v next Commit None tells.keeps.entries tells.call refl (known_new v next (keeps_known v next keeps) under_way.has.each)
 
   same_words : call_words next w ≡ call_words v w
   same_words = same_call_words v next records keeps under_way.outside w
@@ -134,7 +134,7 @@ module _ (v next : View) (under_way : IsUnderWay v 1 stage.Work error.None) (tel
 
   apart_made : (n : NewObject) (block : Block) → Contains (blocks_in next).made n → Contains (blocks (call_words next w) next.lanes next.zones) block → AreDisjoint (block_of n) block
   apart_made n block there is_there =
-      let listed : Contains (allocated_in next) n = told_listed v next Commit None tells.call n (under_way.has.listed n (subst (λ (b : CallBlocks). Contains b.made n) leaves.blocks there)) in
+      let listed : Contains (allocated_in next) n = told_listed v next Commit None tells.keeps.entries tells.call n (under_way.has.listed n (subst (λ (b : CallBlocks). Contains b.made n) leaves.blocks there)) in
       room_apart w next.lanes next.zones header pool n block holds (All-contains (λ (m : NewObject). All (IsBeside m.size m.off) pool.objects) (allocated_in next) n may.room listed)
       (subst (λ (bs : List Block). Contains bs block) blocks_before is_there)
 
@@ -150,7 +150,7 @@ module _ (v next : View) (under_way : IsUnderWay v 1 stage.Work error.None) (tel
     runs = ran;
     leaves = record {
       pending = own;
-      leaves = (λ j. let s : State = record { pool = sym (ap (λ (x : Transaction). x.pool) rests) j; actions = with_pending actions next.lane ((ap only_sets (pending_once_more v next Commit None tells.keeps.entries tells.call) ∙ sym (ap (λ (x : Transaction). x.actions) rests)) j) } in s);
+      leaves = (λ j. let s : State = record { pool = sym (ap (λ (x : Transaction). x.pool) rests) j; actions = with_pending actions next.lane ((pending_once_more v next Commit None tells.keeps.entries tells.call ∙ sym (ap (λ (x : Transaction). x.actions) rests)) j) } in s);
     };
   })
 
@@ -172,7 +172,7 @@ module _ (v next : View) (under_way : IsUnderWay v 1 stage.Work error.None) (tel
 -- so it is committed
 pub commit_is_told : (v next : View) → IsUnderWay v 1 stage.Work error.None → Tells v next Commit None → next.log.records ≡ v.log.records → KeepsWords v next → IsCommitted next
 commit_is_told v next under_way tells records keeps =
-    let leaves : LeavesBlocks v next = leaves_told v next Commit None tells.call refl (known_new v next (keeps_known v next keeps) under_way.has.each) in
+    let leaves : LeavesBlocks v next = leaves_told v next Commit None tells.keeps.entries tells.call refl (known_new v next (keeps_known v next keeps) under_way.has.each) in
     record {
       outside = outside_kept v next tells.keeps records under_way.outside;
       has = told_has v next leaves tells under_way.has;
@@ -234,7 +234,7 @@ commit_is_whole v next is_open commits_call = record {
   tells = commits_call.tells
 
   keeps : KeepsBlocks next
-  keeps = keeps_on v next Commit None tells.call refl refl (λ root. tt) is_open.keeps
+  keeps = keeps_on v next Commit None tells.keeps.entries tells.call refl refl (λ root. tt) is_open.keeps
 
   committed : IsCommitted next
   committed = commit_is_told v next is_open.under_way tells commits_call.records commits_call.words

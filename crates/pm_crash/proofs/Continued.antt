@@ -2,11 +2,13 @@
 use Rattle.std.proofs.Common.{◌≡◌, ℕ, ◌<◌, ◌≤◌, ◌/◌, ◌||◌, true, false, List, [], ◌∷◌, ◌++◌, length, map, Option, None, MatchOption, sym, ◌∙◌, ap, subst, arith}
 use Rattle.std.specs.Prelude.{IsTrue, IsSome, nat_eq}
 use Rattle.std.specs.List.{All, Contains, IsDistinct, list_any}
+use Rattle.std.proofs.lemmas.Bool.{false≢true}
 use Rattle.std.proofs.lemmas.List.{map-append}
 use Rattle.std.proofs.lemmas.List.Elements.{All-append, All-nil, Contains-append_left}
 use Rattle.pm_header.specs.declared.header.Header.{Header}
 use Rattle.pm_objects.specs.Pool.{object_at}
 use Rattle.pm_objects.specs.declared.calls.Operation.{Operation}
+use Rattle.pm_objects.specs.declared.calls.Operation.TheVariants.{Publish}
 use Rattle.pm_objects.specs.declared.calls.Want.{Want}
 use Rattle.pm_objects.specs.declared.history.TxErr.TheVariants as error
 use Rattle.pm_objects.specs.declared.history.Value.{Value}
@@ -16,12 +18,12 @@ use Rattle.pm_image.specs.declared.block.Block.{Block}
 use Rattle.pm_image.specs.Blocks.{blocks}
 use Rattle.pm_image.specs.Contents.{size_in}
 use Rattle.pm_model.specs.declared.stage.Stage.TheVariants as stage
-use Rattle.pm_model.specs.Actions.{Action, Pending, only_sets}
+use Rattle.pm_model.specs.Actions.{Action, Pending}
 use Rattle.pm_model.specs.Bytes.{is_among}
 use Rattle.pm_model.specs.Transaction.{Transaction, holds_object, is_working}
-use Rattle.pm_model.specs.Checks.{first_refusal}
-use Rattle.pm_model.specs.Answers.{Told as Answered, Answers, IsDone, IsRefused, after_reply, is_known, value_of}
-use Rattle.pm_model.proofs.Alike.{stands_plain, value_known}
+use Rattle.pm_model.specs.Checks.{first_refusal, is_publish}
+use Rattle.pm_model.specs.Answers.{Told as Answered, Answers, IsDone, IsRefused, StandsOnceDone, after_reply, is_known, value_of}
+use Rattle.pm_model.proofs.Alike.{value_known}
 use Rattle.pm_view.specs.Area.{is_in_area}
 use Rattle.pm_view.specs.Blocks.{is_chunk}
 use Rattle.pm_view.specs.View.{View, Lock}
@@ -31,22 +33,27 @@ use Rattle.pm_crash.specs.Locks.{AreSameLocks}
 use Rattle.pm_crash.specs.Held.{HoldsPool}
 use Rattle.pm_crash.specs.OpenCall.{IsBefore, call_words, ComesTo, IsChanged, HasMade, IsPerformable, IsUnderWay, LieApart, RecordsUnder, RunsTo, TracksBlocks, locks_of, place_and_size, words_recorded}
 use Rattle.pm_crash.specs.Operations.{KeepsKnown, KeepsLane, Tells}
-use Rattle.pm_crash.proofs.Passing.{is_plain_too, unhindered, wants_none, AsksNoLock, WantsNone, Works}
+use Rattle.pm_crash.proofs.Passing.{unhindered, wants_none, AsksNoLock, WantsNone, Works}
 use Rattle.pm_crash.specs.Pending.{pending_before, pending_behind, pending_in, published_by, published_in, told_in, told_of}
 use Rattle.pm_crash.proofs.NewStay.{news_in, news_stay, performable_still}
-use Rattle.pm_crash.proofs.PendingOn.{pending_once_more, published_once_more, same_before}
+use Rattle.pm_crash.proofs.PendingOn.{after_pending, pending_once_more, published_once_more, same_before}
 use Rattle.pm_crash.proofs.Runs.{runs_once_more}
 use Rattle.pm_crash.proofs.CallBlocks.{SameNew, allocated_once_more, blocks_once_more, changed_stays, made_stays, may_before}
 
+-- what is reserved has to stand for a publish alone
+stands_else : (tx : Transaction) (op : Operation) → is_publish op ≡ false → StandsOnceDone tx op
+stands_else tx Publish other = absurd (false≢true (sym other))
+stands_else tx op other = tt
+
 -- an operation that asks for no lock, makes no object, and is not refused, answers its value
-pub answers_value : (tx : Transaction) (op : Operation) (reply : Option Value) → IsTrue (is_known op) → Works tx → WantsNone op → first_refusal unhindered tx op ≡ None → reply ≡ value_of tx op
+pub answers_value : (tx : Transaction) (op : Operation) (reply : Option Value) → IsTrue (is_known op) → WantsNone op → StandsOnceDone tx op → first_refusal unhindered tx op ≡ None → reply ≡ value_of tx op
     → Answers tx op reply
-answers_value tx op reply known works asks none value =
+answers_value tx op reply known asks stands none value =
     let done : IsDone tx op reply = record {
       there =
           subst (λ (wants : List Want). All (λ (want : Want). holds_object tx want.id.off false ≡ false → IsSome (object_at tx.pool.objects want.id.off)) wants) (sym asks.no_wants)
           (All-nil (λ (want : Want). holds_object tx want.id.off false ≡ false → IsSome (object_at tx.pool.objects want.id.off)));
-      stands = stands_plain tx op (is_plain_too tx works);
+      stands = stands;
       value = value_known tx op reply asks.no_alloc value;
     } in
     record {
@@ -55,9 +62,9 @@ answers_value tx op reply known works asks none value =
       answer = subst (λ (fr : Option Refusal). MatchOption fr (IsDone tx op reply) (λ r. IsRefused r reply)) (sym none) done;
     }
 
-pub answers_done : (tx : Transaction) (op : Operation) (reply : Option Value) → IsTrue (is_known op) → Works tx → AsksNoLock op → first_refusal unhindered tx op ≡ None → reply ≡ value_of tx op
+pub answers_done : (tx : Transaction) (op : Operation) (reply : Option Value) → IsTrue (is_known op) → AsksNoLock op → first_refusal unhindered tx op ≡ None → reply ≡ value_of tx op
     → Answers tx op reply
-answers_done tx op reply known works asks = answers_value tx op reply known works (wants_none op asks)
+answers_done tx op reply known asks = answers_value tx op reply known (wants_none op asks) (stands_else tx op asks.no_publish)
 
 pub two_same : (P : ℕ → ℕ → Type 0) (a b c d : ℕ) → a ≡ b → c ≡ d → P a c → P b d
 two_same P a b c d e f holds = subst (λ (n : ℕ). P n d) e (subst (P a) f holds)
@@ -68,11 +75,11 @@ pub told_once_more : (v next : View) (op : Operation) (reply : Option Value) →
 told_once_more v next op reply call = ap (map told_of) call ∙ map-append told_of v.call (record { operation = op; reply = reply } ∷ [])
 
 -- what ran to a transaction, for a view that has these operations and the same calls before
-pub runs_told : {told : List Answered} (v next : View) (pool : PoolView) (tx : Transaction) → next.entries ≡ v.entries → told_in next ≡ told → RunsTo pool (only_sets (pending_before v)) told tx
-    → RunsTo pool (only_sets (pending_before next)) (told_in next) tx
+pub runs_told : {told : List Answered} (v next : View) (pool : PoolView) (tx : Transaction) → next.entries ≡ v.entries → told_in next ≡ told → RunsTo pool (pending_before v) told tx
+    → RunsTo pool (pending_before next) (told_in next) tx
 runs_told {told = before} v next pool tx entries told runs =
-    subst (λ (ts : List Answered). RunsTo pool (only_sets (pending_before next)) ts tx) (sym told)
-    (subst (λ (actions : List Action). RunsTo pool (only_sets actions) before tx) (sym (same_before v next entries)) runs)
+    subst (λ (ts : List Answered). RunsTo pool (pending_before next) ts tx) (sym told)
+    (subst (λ (p : Pending). RunsTo pool p before tx) (sym (same_before v next entries)) runs)
 
 -- the model's transaction goes on by the operation, with the words that the lane made
 pub record Continues (v next : View) (w : ℕ → ℕ) (header : Header) (op : Operation) (reply : Option Value) (to : ℕ) (tx : Transaction) : Type 0 where
@@ -89,9 +96,8 @@ pub record Continues (v next : View) (w : ℕ → ℕ) (header : Header) (op : O
   pub levels : (after_reply op reply tx).level ≡ to
   pub stands : (after_reply op reply tx).stage ≡ tx.stage
   pub fails : (after_reply op reply tx).error ≡ tx.error
-  pub actions : (sets : List Action) → tx.actions ≡ only_sets sets → (after_reply op reply tx).actions ≡ only_sets (pending_behind op reply sets)
-  pub moved : (after_reply op reply tx).moved ≡ tx.moved ++ published_by op reply tx.actions.sets
-  pub performable : All (IsPerformable v w) (published_by op reply tx.actions.sets)
+  pub moved : (after_reply op reply tx).moved ≡ tx.moved ++ published_by op reply tx.actions
+  pub performable : All (IsPerformable v w) (published_by op reply tx.actions)
   pub blocks_stay : blocks (call_words next w) v.lanes v.zones ≡ blocks (call_words v w) v.lanes v.zones
   pub sizes_stay : (block : Block) → Contains (blocks w v.lanes v.zones) block → size_in (call_words next w) block ≡ size_in (call_words v w) block
 
@@ -131,32 +137,32 @@ left_has v next leaves lane listed apart has = record {
   before n there = subst (λ (b : CallBlocks). Contains b.made n) leaves.blocks there
 
 -- what was allocated is, whatever is told
-pub told_listed : (v next : View) (op : Operation) (reply : Option Value) → next.call ≡ v.call ++ record { operation = op; reply = reply } ∷ [] → (n : NewObject) → Contains (allocated_in v) n → Contains (allocated_in next) n
-told_listed v next op reply call n there =
-    subst (λ (ns : List NewObject). Contains ns n) (sym (allocated_once_more v next op reply call)) (Contains-append_left (allocated_in v) (allocated_by op reply) n there)
+pub told_listed : (v next : View) (op : Operation) (reply : Option Value) → next.entries ≡ v.entries → next.call ≡ v.call ++ record { operation = op; reply = reply } ∷ [] → (n : NewObject) → Contains (allocated_in v) n → Contains (allocated_in next) n
+told_listed v next op reply entries call n there =
+    subst (λ (ns : List NewObject). Contains ns n) (sym (allocated_once_more v next op reply entries call)) (Contains-append_left (allocated_in v) (allocated_by op reply (pending_in v)) n there)
 
 pub told_has : {op : Operation} {reply : Option Value} (v next : View) → LeavesBlocks v next → Tells v next op reply → HasMade v → HasMade next
-told_has {op = op} {reply = reply} v next leaves tells has = left_has v next leaves tells.keeps (told_listed v next op reply tells.call) (left_apart v next leaves tells.locks has.apart_found) has
+told_has {op = op} {reply = reply} v next leaves tells has = left_has v next leaves tells.keeps (told_listed v next op reply tells.keeps.entries tells.call) (left_apart v next leaves tells.locks has.apart_found) has
 
 -- where no word changes but in the lane's area, or none that it knows, those of what it made stay
 pub known_new : (v next : View) → KeepsKnown v next → ((n : NewObject) → Contains (blocks_in v).made n → IsMadeIn v n) → (n : NewObject) → Contains (blocks_in v).made n → SameNew v next n
 known_new v next keeps makes n there i reads = let is : IsMadeIn v n = makes n there in keeps.known i (is.outside i reads) (is.known i reads)
 
-pub leaves_told : (v next : View) (op : Operation) (reply : Option Value) → next.call ≡ v.call ++ record { operation = op; reply = reply } ∷ [] → blocks_behind op reply (blocks_in v) ≡ blocks_in v
+pub leaves_told : (v next : View) (op : Operation) (reply : Option Value) → next.entries ≡ v.entries → next.call ≡ v.call ++ record { operation = op; reply = reply } ∷ [] → blocks_behind op reply (pending_in v) (blocks_in v) ≡ blocks_in v
     → ((n : NewObject) → Contains (blocks_in v).made n → SameNew v next n) → LeavesBlocks v next
-leaves_told v next op reply call none same = record { blocks = blocks_once_more v next op reply call ∙ none; same = same }
+leaves_told v next op reply entries call none same = record { blocks = blocks_once_more v next op reply entries call ∙ none; same = same }
 
 -- what was published before the operation, and by it, lies in objects of the pool or in what the call made
 performed_on : {level : ℕ} {header : Header} {pool : PoolView} (v next : View) (op : Operation) (reply : Option Value) (w : ℕ → ℕ) → KeepsLane v next
     → next.call ≡ v.call ++ record { operation = op; reply = reply } ∷ [] → (c : ComesTo v w header pool level stage.Work error.None) → (after_reply op reply c.tx).stage ≡ c.tx.stage
-    → All (IsPerformable v w) (published_by op reply c.tx.actions.sets) → All (IsPerformable next w) (published_in next)
+    → All (IsPerformable v w) (published_by op reply c.tx.actions) → All (IsPerformable next w) (published_in next)
 performed_on v next op reply w lane call c works more =
     let now : List Action = published_in v ++ published_by op reply (pending_in v) in
     subst (All (IsPerformable next w)) (sym (published_once_more v next op reply lane.entries call))
     (performable_still v next w now lane.lanes lane.zones
-    (λ n there. subst (λ (b : CallBlocks). Contains (news_in b) n) (sym (blocks_once_more v next op reply call)) (news_stay op reply (blocks_in v) c.tx n (ap is_working (works ∙ c.stands)) there))
+    (λ n there. subst (λ (b : CallBlocks). Contains (news_in b) n) (sym (blocks_once_more v next op reply lane.entries call)) (news_stay op reply (pending_in v) (blocks_in v) c.tx n (ap is_working (works ∙ c.stands)) there))
     (All-append (IsPerformable v w) (published_in v) (published_by op reply (pending_in v)) c.performable
-    (subst (λ (actions : List Action). All (IsPerformable v w) (published_by op reply actions)) (ap (λ (p : Pending). p.sets) c.actions) more)))
+    (subst (λ (p : Pending). All (IsPerformable v w) (published_by op reply p)) c.actions more)))
 
 pub next_comes : (v next : View) (level to : ℕ) (op : Operation) (reply : Option Value) (w : ℕ → ℕ) (header : Header) (pool : PoolView) → KeepsLane v next
     → next.call ≡ v.call ++ record { operation = op; reply = reply } ∷ [] → (c : ComesTo v w header pool level stage.Work error.None) → Continues v next w header op reply to c.tx → ComesTo next w header pool to stage.Work error.None
@@ -166,7 +172,7 @@ next_comes v next level to op reply w header pool lane call c on =
       tx = tx;
       runs =
           runs_told v next pool tx lane.entries (told_once_more v next op reply call)
-          (runs_once_more (told_in v) (record { operation = op; reply = reply }) pool (only_sets (pending_before v)) c.tx c.runs (ap is_working c.stands) on.answers);
+          (runs_once_more (told_in v) (record { operation = op; reply = reply }) pool (pending_before v) c.tx c.runs (ap is_working c.stands) on.answers);
       base = on.base;
       holds = two_same (λ (lanes zones : ℕ). HoldsPool (call_words next w) lanes zones header on.base) v.lanes next.lanes v.zones next.zones (sym lane.lanes) (sym lane.zones) on.holds;
       changed = on.changed;
@@ -179,8 +185,8 @@ next_comes v next level to op reply w header pool lane call c on =
       levels = on.levels;
       stands = on.stands ∙ c.stands;
       fails = on.fails ∙ c.fails;
-      actions = on.actions (pending_in v) c.actions ∙ ap only_sets (sym (pending_once_more v next op reply lane.entries call));
-      moved = on.moved ∙ (λ j. c.moved j ++ published_by op reply (c.actions j).sets) ∙ sym (published_once_more v next op reply lane.entries call);
+      actions = after_pending op reply c.tx ∙ ap (pending_behind op reply) c.actions ∙ sym (pending_once_more v next op reply lane.entries call);
+      moved = on.moved ∙ (λ j. c.moved j ++ published_by op reply (c.actions j)) ∙ sym (published_once_more v next op reply lane.entries call);
       performable = performed_on v next op reply w lane call c on.stands on.performable;
       blocks_stay =
           two_same (λ (lanes zones : ℕ). blocks (call_words next w) lanes zones ≡ blocks w lanes zones) v.lanes next.lanes v.zones next.zones (sym lane.lanes) (sym lane.zones)
@@ -218,7 +224,7 @@ still_under_way v next level to op reply under_way tells back has continues =
           let old_id : v.pool ≡ header.id = sym tells.keeps.pool ∙ id in
           let old_holds : HoldsPool w v.lanes v.zones header pool = two_same (λ (n m : ℕ). HoldsPool w n m header pool) next.lanes v.lanes next.zones v.zones tells.keeps.lanes tells.keeps.zones holds in
           let old_before : IsBefore v w = back.before w header pool old_holds room before in
-          let old_may : MayPrecede pool v = may_before v next op reply tells.call pool room in
+          let old_may : MayPrecede pool v = may_before v next op reply tells.keeps.entries tells.call pool room in
           let c : ComesTo v w header pool level stage.Work error.None = under_way.comes w header pool old_holds old_id old_before old_may in
           next_comes v next level to op reply w header pool tells.keeps tells.call c (continues w header pool old_holds old_id old_before before room c);
     }

@@ -5,6 +5,7 @@ use Rattle.std.proofs.lemmas.Option.{none-some}
 use Rattle.pm_header.specs.declared.header.Header.{Header}
 use Rattle.pm_objects.specs.declared.history.TxErr.{TxErr}
 use Rattle.pm_objects.specs.declared.pool.PoolView.{PoolView}
+use Rattle.pm_model.specs.Actions.{none_pending}
 use Rattle.pm_view.specs.View.{View}
 use Rattle.pm_world.specs.Course.{entry_of, flight}
 use Rattle.pm_world.specs.Entries.{is_redoing}
@@ -46,7 +47,7 @@ module _ (o : Opening) (mem : Memory) (views : Views) (log : List Entry) (decide
   pub own : pending_after (kept_log keep log) (views k).lane ≡ pending_before (views k)
   own =
       ap (pending_after (kept_log keep log)) (x.each_lane k inside).lane.lane
-      ∙ ap (pending_from []) (own_entries_pass k keep log (λ e there of. ⊎_elim
+      ∙ ap (pending_from none_pending) (own_entries_pass k keep log (λ e there of. ⊎_elim
       (λ (is_decided : decided e.number ≡ true). keeps e.number is_decided)
       (λ (undecided : decided e.number ≡ false). absurd (none-some e.number (sym idle ∙ (ap (λ (j : ℕ). flight (views j)) (sym of) ∙ (x.each_entry e there).in_flight undecided))))
       (cases_Bool (decided e.number))) ∙ x.own_entries k inside)

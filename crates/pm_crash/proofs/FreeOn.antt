@@ -83,7 +83,6 @@ module _ (v next : View) (id : Oid) (level : ℕ) (under_way : IsUnderWay v leve
         levels = ap (λ (x : Transaction). x.level) leads ∙ c.levels;
         stands = ap (λ (x : Transaction). x.stage) leads;
         fails = ap (λ (x : Transaction). x.error) leads;
-        actions = λ sets is. ap (λ (x : Transaction). x.actions) leads ∙ is;
         moved = ap (λ (x : Transaction). x.moved) leads ∙ sym (append-nil c.tx.moved);
         performable = All-nil (IsPerformable v w);
         blocks_stay = ap (λ (f : ℕ → ℕ). blocks f v.lanes v.zones) same;
@@ -99,7 +98,7 @@ module _ (v next : View) (id : Oid) (level : ℕ) (some_level : 1 ≤ level) (un
   blocks_now : blocks_in next ≡ now
   blocks_now =
       let b : CallBlocks = blocks_in v in
-      blocks_once_more v next (Free id) None frees.tells.call
+      blocks_once_more v next (Free id) None frees.tells.keeps.entries frees.tells.call
       ∙ cond-false (is_made_in v id.off) (record b { made = filter (λ n. not (is_at id.off n)) b.made; dropped = b.dropped ++ filter (is_at id.off) b.made }) now (not_made v id.off frees.old.found)
 
   made_before : (n : NewObject) → Contains (blocks_in next).made n → Contains (blocks_in v).made n
@@ -111,7 +110,7 @@ module _ (v next : View) (id : Oid) (level : ℕ) (some_level : 1 ≤ level) (un
   has : HasMade next
   has = record {
     each = λ n there. made_stays v next n frees.tells.keeps.lane frees.tells.keeps.known (same_new n (made_before n there)) (under_way.has.each n (made_before n there));
-    listed = λ n there. told_listed v next (Free id) None frees.tells.call n (under_way.has.listed n (made_before n there));
+    listed = λ n there. told_listed v next (Free id) None frees.tells.keeps.entries frees.tells.call n (under_way.has.listed n (made_before n there));
     kept = λ n there.
         let before : Contains (blocks_in v).made n = made_before n there in
         ap (λ (b : CallBlocks). is_among b.freed n.off || list_any (is_at n.off) b.dropped) blocks_now
@@ -159,7 +158,7 @@ module _ (v next : View) (id : Oid) (level : ℕ) (some_level : 1 ≤ level) (un
         free_passes c.tx id works
         (held_is_locked v id true c.tx frees.held c.locks (same_pool v w header c.base c.tx c.holds c.changed same_id))
         (tracks_gone v c.tx c.tracks id.off frees.old.found frees.old.kept)
-        (not_the_root v w header pool level under_way holds c id (tells_of_root v next (Free id) None frees.tells.call pool may))
+        (not_the_root v w header pool level under_way holds c id (tells_of_root v next (Free id) None frees.tells.keeps.entries frees.tells.call pool may))
         (unlisted v w header pool level under_way holds c id.off) room
 
     leads : after_reply (Free id) None c.tx ≡ freed_so c.tx id.off c.tx.made c.tx.dropped (c.tx.freed ++ id.off ∷ [])
@@ -201,7 +200,7 @@ module _ (v next : View) (id : Oid) (level : ℕ) (some_level : 1 ≤ level) (un
   blocks_without : blocks_in next ≡ without
   blocks_without =
       let b : CallBlocks = blocks_in v in
-      blocks_once_more v next (Free id) None frees.tells.call
+      blocks_once_more v next (Free id) None frees.tells.keeps.entries frees.tells.call
       ∙ cond-true (is_made_in v id.off) (record b { made = filter others b.made; dropped = b.dropped ++ filter (is_at id.off) b.made }) (record b { freed = b.freed ++ id.off ∷ [] }) is_made
       ∙ ap (λ (ns : List NewObject). record b { made = filter others b.made; dropped = b.dropped ++ ns }) (ap (λ (off : ℕ). filter (is_at off) b.made) frees.made.place ∙ alone_there b.made n under_way.has.once frees.made.has)
 
@@ -234,7 +233,7 @@ module _ (v next : View) (id : Oid) (level : ℕ) (some_level : 1 ≤ level) (un
   has_left : HasMade next
   has_left = record {
     each = λ m there. made_stays v next m frees.tells.keeps.lane frees.tells.keeps.known (stays m (left m there).0) (under_way.has.each m (left m there).0);
-    listed = λ m there. told_listed v next (Free id) None frees.tells.call m (under_way.has.listed m (left m there).0);
+    listed = λ m there. told_listed v next (Free id) None frees.tells.keeps.entries frees.tells.call m (under_way.has.listed m (left m there).0);
     kept = λ m there. (λ j. freed_as_before m.off j || dropped_as_before m.off (left m there).1 j) ∙ under_way.has.kept m (left m there).0;
     once = subst (λ (b : CallBlocks). AreOnce b.made) (sym blocks_without) (once_kept others (blocks_in v).made under_way.has.once);
     apart_new = λ m k there too. under_way.has.apart_new m k (left m there).0 (left k too).0;
@@ -275,7 +274,7 @@ module _ (v next : View) (id : Oid) (level : ℕ) (some_level : 1 ≤ level) (un
         free_passes c.tx id works
         (new_is_held v w header pool level under_way c id frees.made true same_id)
         (or_parts (is_gone c.tx id.off) false (new_is_kept v w header pool level under_way c id frees.made)).0
-        (not_the_root v w header pool level under_way holds c id (tells_of_root v next (Free id) None frees.tells.call pool may))
+        (not_the_root v w header pool level under_way holds c id (tells_of_root v next (Free id) None frees.tells.keeps.entries frees.tells.call pool may))
         (unlisted v w header pool level under_way holds c id.off)
         (and_left (not (is_among c.tx.made id.off)) (ltb max_entries (entries_of c.tx + 2)) (ap not made_before_it))
 
@@ -325,7 +324,7 @@ none_left off news made = any-filter_same (is_at off) (is_at off) true (λ n at.
 pub freed_is_gone : (v next : View) (id : Oid) → Tells v next (Free id) None → is_gone_in next id.off ≡ true
 freed_is_gone v next id tells =
     let b : CallBlocks = blocks_in v in
-    ap (λ (x : CallBlocks). is_among x.freed id.off || list_any (is_at id.off) x.dropped) (blocks_once_more v next (Free id) None tells.call)
+    ap (λ (x : CallBlocks). is_among x.freed id.off || list_any (is_at id.off) x.dropped) (blocks_once_more v next (Free id) None tells.keeps.entries tells.call)
     ∙ ⊎_elim
     (λ (made : is_made_in v id.off ≡ true).
     ap (λ (x : CallBlocks). is_among x.freed id.off || list_any (is_at id.off) x.dropped)
@@ -349,7 +348,7 @@ dropped_beside off other dropped news differ =
     ∙ ap (λ (b : Bool). list_any (is_at other) dropped || b) (none_of_others off other news differ) ∙ or-false (list_any (is_at other) dropped)
 
 pub others_are_same : (v next : View) (id : Oid) (off : ℕ) → Tells v next (Free id) None → off ≢ id.off → IsSameIn v next off
-others_are_same v next id off tells differ = go (is_made_in v id.off) (blocks_once_more v next (Free id) None tells.call) where
+others_are_same v next id off tells differ = go (is_made_in v id.off) (blocks_once_more v next (Free id) None tells.keeps.entries tells.call) where
   go : (made : Bool) → blocks_in next ≡ cond made (record (blocks_in v) { made = filter (λ n. not (is_at id.off n)) (blocks_in v).made; dropped = (blocks_in v).dropped ++ filter (is_at id.off) (blocks_in v).made })
       (record (blocks_in v) { freed = (blocks_in v).freed ++ id.off ∷ [] }) → IsSameIn v next off
   go true is = record {

@@ -18,7 +18,7 @@ use Rattle.pm_image.proofs.Members.{member_cases, no_member}
 use Rattle.pm_model.specs.declared.stage.Stage.TheVariants as stage
 use Rattle.pm_model.specs.Transaction.{Transaction, aborted, holds_object, is_gone, is_locked, is_new, is_working, resting}
 use Rattle.pm_model.specs.Bytes.{bytes_of, is_among, new_words, records_of}
-use Rattle.pm_model.specs.Actions.{Action, Pending, only_sets, passes_object}
+use Rattle.pm_model.specs.Actions.{Action, Pending, passes_object}
 use Rattle.pm_model.specs.Checks.{Range, range_of, is_publish, is_unlocked_action, frees_unlocked, is_record, is_write, needs_write, is_lock_missing, is_not_held, is_not_locked, names_gone, objects_named, passes_end_of, passes_end, publishes_past_end, has_unrecorded, is_not_added, overfills, passes_log, first_refusal, words_in}
 use Rattle.pm_model.specs.Answers.{Told as Answered, Answers, IsDone, IsRefused, after_reply, changes_nothing, error_for, is_known}
 use Rattle.pm_model.specs.Step.{RunsFrom, State, with_pending}
@@ -39,7 +39,7 @@ use Rattle.pm_crash.proofs.CallWords.{call_works, held_is_locked, object_under, 
 use Rattle.pm_crash.proofs.CallBlocks.{any_may_still, may_before, old_of_none, tracks_new}
 use Rattle.pm_crash.proofs.Continued.{answers_done, runs_told, told_once_more, two_same}
 use Rattle.pm_crash.proofs.KeptWords.{found_back, lies_further, lies_under, same_found, under_kept}
-use Rattle.pm_crash.proofs.Passing.{fails_added, fails_end, fails_lock, fails_room, none_gone_named, passes_all, puts_none, unhindered, wants_none, AsksNoLock, Works}
+use Rattle.pm_crash.proofs.Passing.{fails_added, fails_end, fails_lock, fails_room, none_gone_named, not_late, passes_all, puts_none, unhindered, wants_none, AsksNoLock, Works}
 use Rattle.pm_crash.proofs.RecordedWords.{among_recorded}
 use Rattle.pm_crash.proofs.Runs.{runs_once_more, runs_to_end}
 use Rattle.pm_crash.proofs.PendingOn.{pending_once_more}
@@ -87,9 +87,9 @@ outside_taken_back v next lane back outside i is = ⊎_elim
 
 -- the operations on ranges ask for no lock, and are known
 pub ranged_asks : (op : Operation) (range : Range) → range_of op ≡ Some range → AsksNoLock op
-ranged_asks (AddRange id off len) range is = record { no_wants = refl; no_begin = refl; no_alloc = refl; no_free = refl; no_put = refl; aligned = refl; no_more = λ tx. refl; no_action = refl }
-ranged_asks (Write id off bytes) range is = record { no_wants = refl; no_begin = refl; no_alloc = refl; no_free = refl; no_put = refl; aligned = refl; no_more = λ tx. refl; no_action = refl }
-ranged_asks (Read id off len) range is = record { no_wants = refl; no_begin = refl; no_alloc = refl; no_free = refl; no_put = refl; aligned = refl; no_more = λ tx. refl; no_action = refl }
+ranged_asks (AddRange id off len) range is = record { no_wants = refl; no_begin = refl; no_alloc = refl; no_free = refl; no_put = refl; no_publish = refl; aligned = refl; no_more = λ tx. refl; no_action = refl }
+ranged_asks (Write id off bytes) range is = record { no_wants = refl; no_begin = refl; no_alloc = refl; no_free = refl; no_put = refl; no_publish = refl; aligned = refl; no_more = λ tx. refl; no_action = refl }
+ranged_asks (Read id off len) range is = record { no_wants = refl; no_begin = refl; no_alloc = refl; no_free = refl; no_put = refl; no_publish = refl; aligned = refl; no_more = λ tx. refl; no_action = refl }
 ranged_asks op range is = absurd cc
 
 pub ranged_known : (op : Operation) (range : Range) → range_of op ≡ Some range → is_known op ≡ true
@@ -158,7 +158,7 @@ asked_lock v w header op range tx asked held = lock_check tx op range asked.is_r
 asked_kept : (v : View) (w : ℕ → ℕ) (header : Header) (op : Operation) (range : Range) (tx : Transaction) → Asked v w header op range tx → range.id.pool ≡ v.pool → is_freed_in v range.id.off ≡ false
     → names_gone tx op ≡ false
 asked_kept v w header op range tx asked same kept =
-    none_gone_named tx op asked.works (ap (list_any (is_gone tx)) (ranged_named tx op range asked.is_range) ∙ one_is_kept v tx asked.tracks range.id.off (record { found = asked.found same; kept = kept }))
+    none_gone_named tx op (not_late tx.actions op (ranged_asks op range asked.is_range).no_publish) (ap (list_any (is_gone tx)) (ranged_named tx op range asked.is_range) ∙ one_is_kept v tx asked.tracks range.id.off (record { found = asked.found same; kept = kept }))
 
 asked_end : (v : View) (w : ℕ → ℕ) (header : Header) (op : Operation) (range : Range) (tx : Transaction) → Asked v w header op range tx → HasRange v range.id range.off range.len (needs_write op)
     → is_freed_in v range.id.off ≡ false → passes_end tx op ≡ false
@@ -240,23 +240,23 @@ refused_answers tx op r known is = record {
 
 -- a call that was aborted came to nothing
 comes_to_nothing : (v next : View) (op : Operation) (reply : Option Value) (level : ℕ) (e : TxErr) (w : ℕ → ℕ) (header : Header) (pool : PoolView)
-    → next.entries ≡ v.entries → ((actions : List Action) → pending_behind op reply actions ≡ actions) → next.call ≡ v.call ++ record { operation = op; reply = reply } ∷ [] → (c : ComesTo v w header pool level stage.Work error.None) → Answers c.tx op reply → after_reply op reply c.tx ≡ aborted e c.tx → ComesToNothing next pool e
+    → next.entries ≡ v.entries → ((p : Pending) → pending_behind op reply p ≡ p) → next.call ≡ v.call ++ record { operation = op; reply = reply } ∷ [] → (c : ComesTo v w header pool level stage.Work error.None) → Answers c.tx op reply → after_reply op reply c.tx ≡ aborted e c.tx → ComesToNothing next pool e
 comes_to_nothing v next op reply level e w header pool entries kept call c answers aborts =
     let last : Transaction = after_reply op reply c.tx in
     record {
       tx = last;
       runs =
           runs_told v next pool last entries (told_once_more v next op reply call)
-          (runs_once_more (told_in v) (record { operation = op; reply = reply }) pool (only_sets (pending_before v)) c.tx c.runs (ap is_working c.stands) answers);
+          (runs_once_more (told_in v) (record { operation = op; reply = reply }) pool (pending_before v) c.tx c.runs (ap is_working c.stands) answers);
       stands = ap (λ (x : Transaction). x.stage) aborts;
       fails = ap (λ (x : Transaction). x.error) aborts;
-      actions = ap (λ (x : Transaction). x.actions) aborts ∙ c.actions ∙ ap only_sets (sym (pending_once_more v next op reply entries call ∙ kept (pending_in v)));
+      actions = ap (λ (x : Transaction). x.actions) aborts ∙ c.actions ∙ sym (pending_once_more v next op reply entries call ∙ kept (pending_in v));
       unchanged = ap (λ (x : Transaction). x.pool) aborts ∙ c.before;
     }
 
 -- so a call is aborted by such an operation, whatever pool may precede it
 pub aborts_from : (v next : View) (op : Operation) (reply : Option Value) (level : ℕ) (e : TxErr) → IsUnderWay v level stage.Work error.None → KeepsLane v next → KeepsFound v next
-    → ((actions : List Action) → pending_behind op reply actions ≡ actions) → next.call ≡ v.call ++ record { operation = op; reply = reply } ∷ [] → TakesBack v next
+    → ((p : Pending) → pending_behind op reply p ≡ p) → next.call ≡ v.call ++ record { operation = op; reply = reply } ∷ [] → TakesBack v next
     → ((w : ℕ → ℕ) (header : Header) (pool : PoolView) → HoldsPool w v.lanes v.zones header pool → v.pool ≡ header.id → IsBefore v w → MayPrecede pool next → (c : ComesTo v w header pool level stage.Work error.None)
     → Answers c.tx op reply × (after_reply op reply c.tx ≡ aborted e c.tx))
     → WasAborted next e
@@ -267,13 +267,13 @@ aborts_from v next op reply level e under_way lane finds kept call back aborts =
       let old_id : v.pool ≡ header.id = sym lane.pool ∙ id in
       let old_before : IsBefore v w = taken_back v next lane finds back under_way.outside under_way.under w before in
       let old_holds : HoldsPool w v.lanes v.zones header pool = two_same (λ (n m : ℕ). HoldsPool w n m header pool) next.lanes v.lanes next.zones v.zones lane.lanes lane.zones holds in
-      let c : ComesTo v w header pool level stage.Work error.None = under_way.comes w header pool old_holds old_id old_before (may_before v next op reply call pool room) in
+      let c : ComesTo v w header pool level stage.Work error.None = under_way.comes w header pool old_holds old_id old_before (may_before v next op reply lane.entries call pool room) in
       let how = aborts w header pool old_holds old_id old_before room c in
       comes_to_nothing v next op reply level e w header pool lane.entries kept call c how.0 how.1;
 }
 
 pub aborts_call : (v next : View) (op : Operation) (reply : Option Value) (level : ℕ) (e : TxErr) → IsUnderWay v level stage.Work error.None → KeepsLane v next → KeepsFound v next
-    → ((actions : List Action) → pending_behind op reply actions ≡ actions) → next.call ≡ v.call ++ record { operation = op; reply = reply } ∷ [] → TakesBack v next
+    → ((p : Pending) → pending_behind op reply p ≡ p) → next.call ≡ v.call ++ record { operation = op; reply = reply } ∷ [] → TakesBack v next
     → ((w : ℕ → ℕ) (header : Header) (pool : PoolView) → v.pool ≡ header.id → IsBefore v w → (c : ComesTo v w header pool level stage.Work error.None)
     → Answers c.tx op reply × (after_reply op reply c.tx ≡ aborted e c.tx))
     → WasAborted next e
@@ -307,8 +307,8 @@ pub abort_aborts : (v next : View) (errnum level : ℕ) → 1 ≤ level → IsUn
 abort_aborts v next errnum level some under_way tells back =
     aborts_call v next (Abort errnum) None level (error_for errnum) under_way tells.keeps (same_found v next tells.locks) (λ actions. refl) tells.call back
     (λ w header pool same_id before c.
-    let asks : AsksNoLock (Abort errnum) = record { no_wants = refl; no_begin = refl; no_alloc = refl; no_free = refl; no_put = refl; aligned = refl; no_more = λ tx. refl; no_action = refl } in (
-      answers_done c.tx (Abort errnum) None refl (call_works v w header pool level some under_way c) asks (passes_all c.tx (Abort errnum) (call_works v w header pool level some under_way c) asks refl refl refl refl refl) refl,
+    let asks : AsksNoLock (Abort errnum) = record { no_wants = refl; no_begin = refl; no_alloc = refl; no_free = refl; no_put = refl; no_publish = refl; aligned = refl; no_more = λ tx. refl; no_action = refl } in (
+      answers_done c.tx (Abort errnum) None refl asks (passes_all c.tx (Abort errnum) (call_works v w header pool level some under_way c) asks refl refl refl refl refl) refl,
       refl,
     ))
 
@@ -327,7 +327,7 @@ aborted_changes_nothing v e was_aborted w header pool holds id before room = λ 
     let c : ComesToNothing v pool e = was_aborted.comes w header pool holds id before room in
     inl (record {
       last = c.tx;
-      runs = aborted_runs (told_in v) pool (only_sets (pending_before v)) c.tx c.runs c.stands;
+      runs = aborted_runs (told_in v) pool (pending_before v) c.tx c.runs c.stands;
       leaves = record { pending = own; leaves = (λ i. let s : State = record { pool = sym c.unchanged i; actions = with_pending actions v.lane (sym c.actions i) } in s) };
     })
 
@@ -337,30 +337,30 @@ given_up_changes_nothing v e given_up w header pool holds id before = aborted_ch
 
 -- ---- calls that allocated and freed nothing
 
-pub gives_up : (v next : View) (op : Operation) (reply : Option Value) → allocated_by op reply ≡ [] → ((root : Option ℕ) → TellsOfRoot root op reply) → next.call ≡ v.call ++ record { operation = op; reply = reply } ∷ [] → KeepsBlocks v → (e : TxErr) → WasAborted next e → IsGivenUp next e
-gives_up v next op reply none no_root call keeps e was_aborted = record { aborted = was_aborted; any_pool = any_may_still v next op reply call none no_root keeps }
+pub gives_up : (v next : View) (op : Operation) (reply : Option Value) → allocated_by op reply (pending_in v) ≡ [] → ((root : Option ℕ) → TellsOfRoot root op reply (pending_in v)) → next.entries ≡ v.entries → next.call ≡ v.call ++ record { operation = op; reply = reply } ∷ [] → KeepsBlocks v → (e : TxErr) → WasAborted next e → IsGivenUp next e
+gives_up v next op reply none no_root entries call keeps e was_aborted = record { aborted = was_aborted; any_pool = any_may_still v next op reply entries call none no_root keeps }
 
 -- no refusal of a range allocates
-ranged_allocates_none : (op : Operation) (range : Range) (reply : Option Value) → range_of op ≡ Some range → allocated_by op reply ≡ []
-ranged_allocates_none (AddRange id off len) range reply is = refl
-ranged_allocates_none (Write id off bytes) range reply is = refl
-ranged_allocates_none (Read id off len) range reply is = refl
-ranged_allocates_none op range reply is = absurd cc
+ranged_allocates_none : (op : Operation) (range : Range) (reply : Option Value) (p : Pending) → range_of op ≡ Some range → allocated_by op reply p ≡ []
+ranged_allocates_none (AddRange id off len) range reply p is = refl
+ranged_allocates_none (Write id off bytes) range reply p is = refl
+ranged_allocates_none (Read id off len) range reply p is = refl
+ranged_allocates_none op range reply p is = absurd cc
 
 -- nor tells one of the root
-ranged_tells_no_root : (op : Operation) (range : Range) (reply : Option Value) → range_of op ≡ Some range → (root : Option ℕ) → TellsOfRoot root op reply
-ranged_tells_no_root (AddRange id off len) range reply is root = tt
-ranged_tells_no_root (Write id off bytes) range reply is root = tt
-ranged_tells_no_root (Read id off len) range reply is root = tt
-ranged_tells_no_root op range reply is root = absurd cc
+ranged_tells_no_root : (op : Operation) (range : Range) (reply : Option Value) (p : Pending) → range_of op ≡ Some range → (root : Option ℕ) → TellsOfRoot root op reply p
+ranged_tells_no_root (AddRange id off len) range reply p is root = tt
+ranged_tells_no_root (Write id off bytes) range reply p is root = tt
+ranged_tells_no_root (Read id off len) range reply p is root = tt
+ranged_tells_no_root op range reply p is root = absurd cc
 
 pub refusal_gives_up : (v next : View) (op : Operation) (range : Range) (r : Refusal) (level : ℕ) → 1 ≤ level → IsOpen v level stage.Work error.None → Refuses v next op range r
     → IsGivenUp next (error.Refused r)
 refusal_gives_up v next op range r level some is_open refuses =
     let old : IsOldIn v range.id.off = old_of_none v is_open.keeps range.id.off in
-    gives_up v next op (Some (Refused r)) (ranged_allocates_none op range (Some (Refused r)) refuses.is_range) (ranged_tells_no_root op range (Some (Refused r)) refuses.is_range) refuses.tells.call is_open.keeps (error.Refused r)
+    gives_up v next op (Some (Refused r)) (ranged_allocates_none op range (Some (Refused r)) (pending_in v) refuses.is_range) (ranged_tells_no_root op range (Some (Refused r)) (pending_in v) refuses.is_range) refuses.tells.keeps.entries refuses.tells.call is_open.keeps (error.Refused r)
     (refusal_aborts v next op range r level some is_open.under_way refuses (λ same. old.found) (λ other. old.kept))
 
 pub abort_gives_up : (v next : View) (errnum level : ℕ) → 1 ≤ level → IsOpen v level stage.Work error.None → Tells v next (Abort errnum) None → TakesBack v next → IsGivenUp next (error_for errnum)
 abort_gives_up v next errnum level some is_open tells back =
-    gives_up v next (Abort errnum) None refl (λ root. tt) tells.call is_open.keeps (error_for errnum) (abort_aborts v next errnum level some is_open.under_way tells back)
+    gives_up v next (Abort errnum) None refl (λ root. tt) tells.keeps.entries tells.call is_open.keeps (error_for errnum) (abort_aborts v next errnum level some is_open.under_way tells back)

@@ -22,7 +22,7 @@ use Rattle.pm_crash.proofs.FreeChecks.{had_is_held}
 use Rattle.pm_crash.proofs.GivenUp.{aborts_call, end_check, lock_check, ranged_asks, ranged_known, ranged_named, refused_answers, IsRefusedFor}
 use Rattle.pm_crash.proofs.KeptWords.{same_found}
 use Rattle.pm_crash.proofs.NewRanges.{new_is_held, new_is_kept, new_long}
-use Rattle.pm_crash.proofs.Passing.{fails_end, fails_gone, none_gone_named, wants_none}
+use Rattle.pm_crash.proofs.Passing.{fails_end, fails_gone, none_gone_named, not_late, wants_none}
 
 -- what a refused operation on a range answers, and leaves
 ranged_aborts : (tx : Transaction) (op : Operation) (range : Range) (r : Refusal) → range_of op ≡ Some range → IsRefusedFor tx op r
@@ -54,7 +54,7 @@ new_range_aborts v next op range level some under_way refuses =
     let outside : made.new.size < range.off + range.len = refuses.past.outside in
     let long : length (bytes_of c.tx.pool.objects range.id.off) ≡ made.new.size = new_long v w header pool level under_way c range.id made in
     let kept : names_gone c.tx op ≡ false =
-    none_gone_named c.tx op (call_works v w header pool level some under_way c) (ap (list_any (is_gone c.tx)) (ranged_named c.tx op range refuses.is_range) ∙ new_is_kept v w header pool level under_way c range.id made) in
+    none_gone_named c.tx op (not_late c.tx.actions op (ranged_asks op range refuses.is_range).no_publish) (ap (list_any (is_gone c.tx)) (ranged_named c.tx op range refuses.is_range) ∙ new_is_kept v w header pool level under_way c range.id made) in
     let locked : is_not_locked c.tx op ≡ false = lock_check c.tx op range refuses.is_range ∙ new_is_held v w header pool level under_way c range.id made (needs_write op) same_id in
     let ends : passes_end c.tx op ≡ true = end_check c.tx op range refuses.is_range ∙ lt-ltb (length (bytes_of c.tx.pool.objects range.id.off)) (range.off + range.len) (omega (arith, outside, long)) in
     let is : IsRefusedFor c.tx op refusal.OutOfRange = record {

@@ -5,7 +5,7 @@ use Rattle.std.proofs.lemmas.Bool.{cases_Bool, cases_eq, cond-false, cond-true}
 use Rattle.std.proofs.lemmas.List.{append_assoc, append-nil}
 use Rattle.pm_objects.specs.declared.pool.PoolView.{PoolView}
 use Rattle.pm_image.proofs.Members.{first_member, later_member}
-use Rattle.pm_model.specs.Actions.{Action, Pending, only_sets}
+use Rattle.pm_model.specs.Actions.{none_pending}
 use Rattle.pm_model.specs.History.{opened}
 use Rattle.pm_model.specs.Names.{Replays}
 use Rattle.pm_model.specs.Step.{Act, State, Step, with_pending}
@@ -31,27 +31,18 @@ pending_further log e k =
     let more = entries_by-more k log e in
     ⊎_elim
     (λ (own : k ≡ e.lane).
-    ap (pending_from []) (more ∙ ap (λ (b : Bool). entries_by k log ++ cond b (d ∷ []) []) (eq-eqb e.lane k (sym own)))
-    ∙ calls_further [] (entries_by k log) d
+    ap (pending_from none_pending) (more ∙ ap (λ (b : Bool). entries_by k log ++ cond b (d ∷ []) []) (eq-eqb e.lane k (sym own)))
+    ∙ calls_further none_pending (entries_by k log) d
     ∙ ap (λ (lane : ℕ). pending_told (pending_after log lane) e.call) own
     ∙ sym (cond-true (eqb k e.lane) (pending_told (pending_after log e.lane) e.call) (pending_after log k) (eq-eqb k e.lane own)))
     (λ (other : k ≢ e.lane).
-    ap (pending_from []) (more ∙ ap (λ (b : Bool). entries_by k log ++ cond b (d ∷ []) []) (ne_eqb e.lane k (λ same. other (sym same))) ∙ append-nil (entries_by k log))
+    ap (pending_from none_pending) (more ∙ ap (λ (b : Bool). entries_by k log ++ cond b (d ∷ []) []) (ne_eqb e.lane k (λ same. other (sym same))) ∙ append-nil (entries_by k log))
     ∙ sym (cond-false (eqb k e.lane) (pending_told (pending_after log e.lane) e.call) (pending_after log k) (ne_eqb k e.lane other)))
     (cases_eq k e.lane)
 
--- in the model's terms
-pub wrapped : (b : Bool) (one other : List Action) → only_sets (cond b one other) ≡ cond b (only_sets one) (only_sets other)
-wrapped true one other = refl
-wrapped false one other = refl
-
-model_further : (log : List Entry) (e : Entry) (k : ℕ)
-    → only_sets (pending_after (log ++ e ∷ []) k) ≡ with_pending (λ lane. only_sets (pending_after log lane)) e.lane (only_sets (pending_told (pending_after log e.lane) e.call)) k
-model_further log e k = ap only_sets (pending_further log e k) ∙ wrapped (eqb k e.lane) (pending_told (pending_after log e.lane) e.call) (pending_after log k)
-
 pub state_further : (pool : PoolView) (log : List Entry) (e : Entry)
-    → state_after pool (log ++ e ∷ []) ≡ record { pool = pool; actions = with_pending (λ lane. only_sets (pending_after log lane)) e.lane (only_sets (pending_told (pending_after log e.lane) e.call)) }
-state_further pool log e = (λ j. let s : State = record { pool = pool; actions = λ k. model_further log e k j } in s)
+    → state_after pool (log ++ e ∷ []) ≡ record { pool = pool; actions = with_pending (pending_after log) e.lane (pending_told (pending_after log e.lane) e.call) }
+state_further pool log e = (λ j. let s : State = record { pool = pool; actions = λ k. pending_further log e k j } in s)
 
 -- before the first call nothing is pending
 pub state_first : (pool : PoolView) → opened pool ≡ state_after pool []
@@ -68,12 +59,12 @@ pub turns_history : (v : View) (n : ℕ) (pool next : PoolView) (log : List Entr
     → Step (state_after pool log) (act_of v) (state_after next (log ++ entry_of v n ∷ []))
 turns_history v n pool next log own turns =
     subst (λ (s : State). Step (state_after pool log) (act_of v) s)
-    ((λ j. let s : State = record { pool = next; actions = with_pending (λ lane. only_sets (pending_after log lane)) v.lane (only_sets (pending_told (sym own j) v.call)) } in s) ∙ sym (state_further next log (entry_of v n)))
-    (turns (λ lane. only_sets (pending_after log lane)) (ap only_sets own))
+    ((λ j. let s : State = record { pool = next; actions = with_pending (pending_after log) v.lane (pending_told (sym own j) v.call) } in s) ∙ sym (state_further next log (entry_of v n)))
+    (turns (pending_after log) own)
 
 -- the entry's call is the open one
 pub act_drawn : (v : View) (n : ℕ) (log : List Entry) → pending_after log v.lane ≡ pending_before v → act_behind log (entry_of v n) ≡ act_of v
-act_drawn v n log own = (λ j. let act : Act = record { lane = v.lane; actions = only_sets (own j); told = told_in v } in act)
+act_drawn v n log own = (λ j. let act : Act = record { lane = v.lane; actions = own j; told = told_in v } in act)
 
 -- a lane's entries are all there where each of them passes the test
 pub own_entries_pass : (k : ℕ) (keep : ℕ → Bool) (log : List Entry) → ((e : Entry) → Contains log e → e.lane ≡ k → keep e.number ≡ true)
@@ -95,22 +86,22 @@ own_entries_pass k keep (e ∷ log) passes =
 
 -- ---- a lane that is alone
 
-none_elsewhere : (log : List Entry) (k : ℕ) → ((e : Entry) → Contains log e → e.lane ≡ 0) → k ≢ 0 → pending_after log k ≡ []
+none_elsewhere : (log : List Entry) (k : ℕ) → ((e : Entry) → Contains log e → e.lane ≡ 0) → k ≢ 0 → pending_after log k ≡ none_pending
 unfolding entries_by pending_from
 none_elsewhere [] k of other = refl
 none_elsewhere (e ∷ log) k of other =
     let d : Numbered = record { number = e.number; call = e.call } in
-    ap (pending_from []) (cond-false (eqb e.lane k) (d ∷ entries_by k log) (entries_by k log) (ne_eqb e.lane k (λ same. other (sym same ∙ of e (first_member e log)))))
+    ap (pending_from none_pending) (cond-false (eqb e.lane k) (d ∷ entries_by k log) (entries_by k log) (ne_eqb e.lane k (λ same. other (sym same ∙ of e (first_member e log)))))
     ∙ none_elsewhere log k (λ x there. of x (later_member e log x there)) other
 
-alone_by : (log : List Entry) → ((e : Entry) → Contains log e → e.lane ≡ 0) → (k : ℕ) → pending_after log k ≡ cond (eqb k 0) (pending_from [] (entries_by 0 log)) []
+alone_by : (log : List Entry) → ((e : Entry) → Contains log e → e.lane ≡ 0) → (k : ℕ) → pending_after log k ≡ cond (eqb k 0) (pending_from none_pending (entries_by 0 log)) none_pending
 alone_by log alone k = ⊎_elim
-    (λ (own : k ≡ 0). ap (pending_after log) own ∙ sym (cond-true (eqb k 0) (pending_from [] (entries_by 0 log)) [] (eq-eqb k 0 own)))
-    (λ (other : k ≢ 0). none_elsewhere log k alone other ∙ sym (cond-false (eqb k 0) (pending_from [] (entries_by 0 log)) [] (ne_eqb k 0 other)))
+    (λ (own : k ≡ 0). ap (pending_after log) own ∙ sym (cond-true (eqb k 0) (pending_from none_pending (entries_by 0 log)) none_pending (eq-eqb k 0 own)))
+    (λ (other : k ≢ 0). none_elsewhere log k alone other ∙ sym (cond-false (eqb k 0) (pending_from none_pending (entries_by 0 log)) none_pending (ne_eqb k 0 other)))
     (cases_eq k 0)
 
 pub state_of_one : (pool : PoolView) (log : List Entry) → ((e : Entry) → Contains log e → e.lane ≡ 0) → state_after pool log ≡ state_alone pool (entries_by 0 log)
-state_of_one pool log alone = (λ j. let s : State = record { pool = pool; actions = λ k. only_sets (alone_by log alone k j) } in s)
+state_of_one pool log alone = (λ j. let s : State = record { pool = pool; actions = λ k. alone_by log alone k j } in s)
 
 acts_of_one : (done entries : List Entry) → ((e : Entry) → Contains entries e → e.lane ≡ 0)
     → acts_behind done entries ≡ acts_alone_behind (entries_by 0 done) (entries_by 0 entries)
@@ -119,7 +110,7 @@ acts_of_one done [] alone = refl
 acts_of_one done (e ∷ entries) alone =
     let d : Numbered = record { number = e.number; call = e.call } in
     let is : e.lane ≡ 0 = alone e (first_member e entries) in
-    let here : act_behind done e ≡ act_alone (entries_by 0 done) d = (λ j. let act : Act = record { lane = is j; actions = only_sets (pending_after done (is j)); told = map told_of e.call } in act) in
+    let here : act_behind done e ≡ act_alone (entries_by 0 done) d = (λ j. let act : Act = record { lane = is j; actions = pending_after done (is j); told = map told_of e.call } in act) in
     let longer : entries_by 0 (done ++ e ∷ []) ≡ entries_by 0 done ++ d ∷ [] =
     entries_by-more 0 done e ∙ ap (λ (b : Bool). entries_by 0 done ++ cond b (d ∷ []) []) (eq-eqb e.lane 0 is) in
     let rest = acts_of_one (done ++ e ∷ []) entries (λ x there. alone x (later_member e entries x there)) in

@@ -49,7 +49,7 @@ commits_inner tx level some levels = cond-false (leb tx.level 1) (resting (with_
 pub inner_commit_goes_on : (v next : View) (level : ℕ) → 1 ≤ level → IsUnderWay v (level + 1) stage.Work error.None → Tells v next Commit None → KeepsLog v next → KeepsWords v next
     → IsUnderWay next level stage.Work error.None
 inner_commit_goes_on v next level some under_way tells logs keeps =
-    let leaves : LeavesBlocks v next = leaves_told v next Commit None tells.call refl (known_new v next (keeps_known v next keeps) under_way.has.each) in
+    let leaves : LeavesBlocks v next = leaves_told v next Commit None tells.keeps.entries tells.call refl (known_new v next (keeps_known v next keeps) under_way.has.each) in
     still_under_way v next (level + 1) level Commit None under_way tells
     (goes_back v next tells.keeps (same_found v next tells.locks) logs (λ i outside none. keeps.words i outside) under_way.outside under_way.under)
     (told_has v next leaves tells under_way.has)
@@ -58,9 +58,9 @@ inner_commit_goes_on v next level some under_way tells logs keeps =
     let levels : c.tx.level ≡ level + 1 = c.levels in
     let ends : after_reply Commit None c.tx ≡ ended_inner (committed c.tx) = commits_inner c.tx level some levels in
     let works : Works c.tx = call_works v w header pool (level + 1) (omega arith) under_way c in
-    let asks : AsksNoLock Commit = record { no_wants = refl; no_begin = refl; no_alloc = refl; no_free = refl; no_put = refl; aligned = refl; no_more = λ tx. refl; no_action = refl } in
+    let asks : AsksNoLock Commit = record { no_wants = refl; no_begin = refl; no_alloc = refl; no_free = refl; no_put = refl; no_publish = refl; aligned = refl; no_more = λ tx. refl; no_action = refl } in
     record {
-      answers = answers_done c.tx Commit None refl works asks (passes_all c.tx Commit works asks refl refl refl refl refl) refl;
+      answers = answers_done c.tx Commit None refl asks (passes_all c.tx Commit works asks refl refl refl refl refl) refl;
       base = c.base;
       holds = subst (λ (f : ℕ → ℕ). HoldsPool f v.lanes v.zones header c.base) (sym same) c.holds;
       changed = subst (λ (x : Transaction). IsChanged next c.base x.pool) (sym ends) (left_changed v next c.base c.tx.pool leaves c.changed);
@@ -73,7 +73,6 @@ inner_commit_goes_on v next level some under_way tells logs keeps =
       levels = ap (λ (x : Transaction). x.level) ends ∙ omega arith;
       stands = ap (λ (x : Transaction). x.stage) ends ∙ ap (λ (e : TxErr). cond (is_unharmed e) stage.Work stage.OnAbort) c.fails ∙ sym c.stands;
       fails = ap (λ (x : Transaction). x.error) ends;
-      actions = λ sets is. ap (λ (x : Transaction). x.actions) ends ∙ is;
       moved = ap (λ (x : Transaction). x.moved) ends ∙ sym (append-nil c.tx.moved);
       performable = All-nil (IsPerformable v w);
       blocks_stay = ap (λ (f : ℕ → ℕ). blocks f v.lanes v.zones) same;
@@ -134,7 +133,7 @@ want_is_there v next wants level w header pool want begins id before c old wante
 
 -- a begin leaves the call's blocks
 begin_leaves : (v next : View) (wants : List Want) → BeginsLevel v next wants → ((n : NewObject) → Contains (blocks_in v).made n → IsMadeIn v n) → LeavesBlocks v next
-begin_leaves v next wants begins makes = leaves_told v next (Begin wants) None begins.call refl (known_new v next (keeps_known v next begins.words) makes)
+begin_leaves v next wants begins makes = leaves_told v next (Begin wants) None begins.keeps.entries begins.call refl (known_new v next (keeps_known v next begins.words) makes)
 
 further_continues : (v next : View) (wants : List Want) (level : ℕ) → 1 ≤ level → level < 64 → IsUnderWay v level stage.Work error.None → BeginsLevel v next wants
     → ((want : Want) → Contains wants want → IsOldIn v want.id.off)
@@ -179,7 +178,6 @@ further_continues v next wants level some shallow under_way begins old w header 
       levels = omega arith;
       stands = sym c.stands;
       fails = refl;
-      actions = λ sets is. is;
       moved = sym (append-nil c.tx.moved);
       performable = All-nil (IsPerformable v w);
       blocks_stay = ap (λ (f : ℕ → ℕ). blocks f v.lanes v.zones) same;
@@ -201,12 +199,12 @@ further_begin_goes_on v next wants level some shallow under_way begins old apart
       outside = outside_kept v next begins.keeps begins.logs.records under_way.outside;
       under = under_kept v next begins.finds begins.logs.records under_way.under;
       unentered = begins.logs.entries ∙ under_way.unentered;
-      has = left_has v next (begin_leaves v next wants begins under_way.has.each) begins.keeps (told_listed v next (Begin wants) None begins.call) apart under_way.has;
+      has = left_has v next (begin_leaves v next wants begins under_way.has.each) begins.keeps (told_listed v next (Begin wants) None begins.keeps.entries begins.call) apart under_way.has;
       comes = λ w header pool holds id before room.
           let old_id : v.pool ≡ header.id = sym begins.keeps.pool ∙ id in
           let old_before : IsBefore v w = before_back v next begins.keeps begins.finds begins.logs.records (λ i outside none. begins.words.words i outside) w before in
           let old_holds : HoldsPool w v.lanes v.zones header pool = two_same (λ (n m : ℕ). HoldsPool w n m header pool) next.lanes v.lanes next.zones v.zones begins.keeps.lanes begins.keeps.zones holds in
-          let c : ComesTo v w header pool level stage.Work error.None = under_way.comes w header pool old_holds old_id old_before (may_before v next (Begin wants) None begins.call pool room) in
+          let c : ComesTo v w header pool level stage.Work error.None = under_way.comes w header pool old_holds old_id old_before (may_before v next (Begin wants) None begins.keeps.entries begins.call pool room) in
           next_comes v next level (level + 1) (Begin wants) None w header pool begins.keeps begins.call c (further_continues v next wants level some shallow under_way begins old w header pool old_id before c);
     }
 
@@ -215,13 +213,13 @@ pub inner_commit_keeps_open : (v next : View) (level : ℕ) → 1 ≤ level → 
     → IsOpen next level stage.Work error.None
 inner_commit_keeps_open v next level some is_open tells logs keeps = record {
   under_way = inner_commit_goes_on v next level some is_open.under_way tells logs keeps;
-  keeps = keeps_on v next Commit None tells.call refl refl (λ root. tt) is_open.keeps;
+  keeps = keeps_on v next Commit None tells.keeps.entries tells.call refl refl (λ root. tt) is_open.keeps;
 }
 
 pub further_begin_opens : (v next : View) (wants : List Want) (level : ℕ) → 1 ≤ level → level < 64 → IsOpen v level stage.Work error.None → BeginsLevel v next wants
     → IsOpen next (level + 1) stage.Work error.None
 further_begin_opens v next wants level some shallow is_open begins =
-    let keeps : KeepsBlocks next = keeps_on v next (Begin wants) None begins.call refl refl (λ root. tt) is_open.keeps in
+    let keeps : KeepsBlocks next = keeps_on v next (Begin wants) None begins.keeps.entries begins.call refl refl (λ root. tt) is_open.keeps in
     record {
       under_way =
           further_begin_goes_on v next wants level some shallow is_open.under_way begins (λ want there. old_of_none v is_open.keeps want.id.off) (λ n l lines there held found. none_made next keeps n there);

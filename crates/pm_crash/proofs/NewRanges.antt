@@ -85,7 +85,7 @@ module _ (v : View) (w : ℕ → ℕ) (header : Header) (pool : PoolView) (level
 pub new_read_goes_on : (v next : View) (id : Oid) (off len level : ℕ) → 1 ≤ level → IsUnderWay v level stage.Work error.None → ReadsNewBytes v next id off len → IsUnderWay next level stage.Work error.None
 new_read_goes_on v next id off len level some under_way reads =
     let bytes : List ℕ = bytes_seen v id off len in
-    let leaves : LeavesBlocks v next = leaves_told v next (Read id off len) (Some (Bytes bytes)) reads.tells.call refl (known_new v next (keeps_known v next reads.keeps) under_way.has.each) in
+    let leaves : LeavesBlocks v next = leaves_told v next (Read id off len) (Some (Bytes bytes)) reads.tells.keeps.entries reads.tells.call refl (known_new v next (keeps_known v next reads.keeps) under_way.has.each) in
     still_under_way v next level level (Read id off len) (Some (Bytes bytes)) under_way reads.tells
     (goes_back v next reads.tells.keeps (same_found v next reads.tells.locks) reads.logs (λ i outside none. reads.keeps.words i outside) under_way.outside under_way.under)
     (told_has v next leaves reads.tells under_way.has)
@@ -95,10 +95,10 @@ new_read_goes_on v next id off len level some under_way reads =
     let inside : off + len ≤ made.new.size = reads.range.inside in
     let long = new_long v w header pool level under_way c id made in
     let same : call_words next w ≡ call_words v w = same_call_words v next reads.logs.records reads.keeps under_way.outside w in
-    let asks : AsksNoLock (Read id off len) = record { no_wants = refl; no_begin = refl; no_alloc = refl; no_free = refl; no_put = refl; aligned = refl; no_more = λ tx. refl; no_action = refl } in
+    let asks : AsksNoLock (Read id off len) = record { no_wants = refl; no_begin = refl; no_alloc = refl; no_free = refl; no_put = refl; no_publish = refl; aligned = refl; no_more = λ tx. refl; no_action = refl } in
     record {
       answers =
-          answers_done c.tx (Read id off len) (Some (Bytes bytes)) refl works asks
+          answers_done c.tx (Read id off len) (Some (Bytes bytes)) refl asks
           (passes_all c.tx (Read id off len) works asks (new_is_kept v w header pool level under_way c id made) (new_is_held v w header pool level under_way c id made false same_id)
           (le-ltb (length (bytes_of c.tx.pool.objects id.off)) (off + len) (omega (arith, long, inside))) refl refl)
           (ap (λ (bs : List ℕ). Some (Bytes bs)) (new_is_read v w header pool level under_way c id made off len inside));
@@ -114,7 +114,6 @@ new_read_goes_on v next id off len level some under_way reads =
       levels = c.levels;
       stands = refl;
       fails = refl;
-      actions = λ sets is. is;
       moved = sym (append-nil c.tx.moved);
       performable = All-nil (IsPerformable v w);
       blocks_stay = ap (λ (f : ℕ → ℕ). blocks f v.lanes v.zones) same;
@@ -124,7 +123,7 @@ new_read_goes_on v next id off len level some under_way reads =
 -- it needs no record
 pub new_add_goes_on : (v next : View) (id : Oid) (off len level : ℕ) → 1 ≤ level → IsUnderWay v level stage.Work error.None → AddsNewRange v next id off len → IsUnderWay next level stage.Work error.None
 new_add_goes_on v next id off len level some under_way adds =
-    let leaves : LeavesBlocks v next = leaves_told v next (AddRange id off len) None adds.tells.call refl (known_new v next (keeps_known v next adds.keeps) under_way.has.each) in
+    let leaves : LeavesBlocks v next = leaves_told v next (AddRange id off len) None adds.tells.keeps.entries adds.tells.call refl (known_new v next (keeps_known v next adds.keeps) under_way.has.each) in
     still_under_way v next level level (AddRange id off len) None under_way adds.tells
     (goes_back v next adds.tells.keeps (same_found v next adds.tells.locks) adds.logs (λ i outside none. adds.keeps.words i outside) under_way.outside under_way.under)
     (told_has v next leaves adds.tells under_way.has)
@@ -138,10 +137,10 @@ new_add_goes_on v next id off len level some under_way adds =
     let more : Transaction = record c.tx { recorded = c.tx.recorded ++ new_words c.tx.recorded words; records = c.tx.records + length (records_of (new_words c.tx.recorded words)) } in
     let leads : after_reply (AddRange id off len) None c.tx ≡ c.tx = cond-true (is_new c.tx id.off) c.tx more new in
     let same : call_words next w ≡ call_words v w = same_call_words v next adds.logs.records adds.keeps under_way.outside w in
-    let asks : AsksNoLock (AddRange id off len) = record { no_wants = refl; no_begin = refl; no_alloc = refl; no_free = refl; no_put = refl; aligned = refl; no_more = λ tx. refl; no_action = refl } in
+    let asks : AsksNoLock (AddRange id off len) = record { no_wants = refl; no_begin = refl; no_alloc = refl; no_free = refl; no_put = refl; no_publish = refl; aligned = refl; no_more = λ tx. refl; no_action = refl } in
     record {
       answers =
-          answers_done c.tx (AddRange id off len) None refl works asks
+          answers_done c.tx (AddRange id off len) None refl asks
           (passes_all c.tx (AddRange id off len) works asks (new_is_kept v w header pool level under_way c id made) (new_is_held v w header pool level under_way c id made true same_id)
           (le-ltb (length (bytes_of c.tx.pool.objects id.off)) (off + len) (omega (arith, long, inside))) refl
           (and_left (not (is_new c.tx id.off)) (ltb 64 (c.tx.records + length (records_of (new_words c.tx.recorded words)))) (ap not new)))
@@ -158,7 +157,6 @@ new_add_goes_on v next id off len level some under_way adds =
       levels = ap (λ (x : Transaction). x.level) leads ∙ c.levels;
       stands = ap (λ (x : Transaction). x.stage) leads;
       fails = ap (λ (x : Transaction). x.error) leads;
-      actions = λ sets is. ap (λ (x : Transaction). x.actions) leads ∙ is;
       moved = ap (λ (x : Transaction). x.moved) leads ∙ sym (append-nil c.tx.moved);
       performable = All-nil (IsPerformable v w);
       blocks_stay = ap (λ (f : ℕ → ℕ). blocks f v.lanes v.zones) same;

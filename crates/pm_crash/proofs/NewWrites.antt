@@ -161,7 +161,7 @@ module _ (v next : View) (id : Oid) (off level : ℕ) (bytes : List ℕ) (some_l
       ⊎_elim (λ (before : n.off - 64 + 64 * block_lines (class_of n.size) ≤ b.place). omega (arith, before, from, high)) (λ (behind : b.place + 64 * b.lines ≤ n.off - 64). omega (arith, behind, to, low)) apart)
 
   blocks_now : blocks_in next ≡ blocks_in v
-  blocks_now = blocks_once_more v next (Write id off bytes) None writes.tells.call
+  blocks_now = blocks_once_more v next (Write id off bytes) None writes.tells.keeps.entries writes.tells.call
 
   made_before : (m : NewObject) → Contains (blocks_in next).made m → Contains (blocks_in v).made m
   made_before m there = subst (λ (b : CallBlocks). Contains b.made m) blocks_now there
@@ -188,7 +188,7 @@ module _ (v next : View) (id : Oid) (off level : ℕ) (bytes : List ℕ) (some_l
   has : HasMade next
   has = record {
     each = each;
-    listed = λ m there. told_listed v next (Write id off bytes) None writes.tells.call m (under_way.has.listed m (made_before m there));
+    listed = λ m there. told_listed v next (Write id off bytes) None writes.tells.keeps.entries writes.tells.call m (under_way.has.listed m (made_before m there));
     kept = λ m there. ap (λ (b : CallBlocks). is_among b.freed m.off || list_any (is_at m.off) b.dropped) blocks_now ∙ under_way.has.kept m (made_before m there);
     once = subst (λ (b : CallBlocks). AreOnce b.made) (sym blocks_now) under_way.has.once;
     apart_new = λ m k there too. under_way.has.apart_new m k (made_before m there) (made_before k too);
@@ -211,7 +211,7 @@ module _ (v next : View) (id : Oid) (off level : ℕ) (bytes : List ℕ) (some_l
       recorded = λ slot r i at inside. before.recorded slot r i (ap (λ (records : List Recorded). slice_get records slot) writes.logs.records ∙ at) inside;
       known = λ i known outside none lies.
           let from = lies.from in let to = lies.to in
-          let listed : Contains (allocated_in next) n = told_listed v next (Write id off bytes) None writes.tells.call n (under_way.has.listed n made.has) in
+          let listed : Contains (allocated_in next) n = told_listed v next (Write id off bytes) None writes.tells.keeps.entries writes.tells.call n (under_way.has.listed n made.has) in
           let apart : AreDisjoint (block_of n) lies.block = room_apart w v.lanes v.zones header pool n lies.block holds (All-contains (λ (m : NewObject). All (IsBeside m.size m.off) pool.objects) (allocated_in next) n may.room listed) lies.is_there in
           before.known i (writes.tells.keeps.known i known) (ap (λ (k : ℕ). is_in_area k i) writes.tells.keeps.lane ∙ outside) (ap (λ (records : List Recorded). is_recorded records i) writes.logs.records ∙ none) (lies_further v next writes.tells.keeps w i lies)
           ∙ apart_unwritten lies.block i apart from to outside;
@@ -276,10 +276,10 @@ new_write_goes_on v next id off level bytes some under_way writes =
     let long = new_long v w header pool level under_way c id it in
     let same : call_words next w ≡ call_words v w = (λ j i. same_word v next id off level bytes some under_way writes w i j) in
     let blocks_same : blocks_in next ≡ blocks_in v = blocks_now v next id off level bytes some under_way writes in
-    let asks : AsksNoLock (Write id off bytes) = record { no_wants = refl; no_begin = refl; no_alloc = refl; no_free = refl; no_put = refl; aligned = refl; no_more = λ tx. refl; no_action = refl } in
+    let asks : AsksNoLock (Write id off bytes) = record { no_wants = refl; no_begin = refl; no_alloc = refl; no_free = refl; no_put = refl; no_publish = refl; aligned = refl; no_more = λ tx. refl; no_action = refl } in
     record {
       answers =
-          answers_done c.tx (Write id off bytes) None refl works asks
+          answers_done c.tx (Write id off bytes) None refl asks
           (passes_all c.tx (Write id off bytes) works asks (new_is_kept v w header pool level under_way c id it) (new_is_held v w header pool level under_way c id it true same_id)
           (le-ltb (length (bytes_of c.tx.pool.objects id.off)) (off + length bytes) (omega (arith, long, inside)))
           (and_left (not (is_new c.tx id.off)) (not (list_all (is_among c.tx.recorded) (covered_words (id.off + off) (length bytes)))) (ap not (new_to_it v w header pool level under_way c id it))) refl)
@@ -296,7 +296,6 @@ new_write_goes_on v next id off level bytes some under_way writes =
       levels = c.levels;
       stands = refl;
       fails = refl;
-      actions = λ sets is. is;
       moved = sym (append-nil c.tx.moved);
       performable = All-nil (IsPerformable v w);
       blocks_stay = ap (λ (f : ℕ → ℕ). blocks f v.lanes v.zones) same;

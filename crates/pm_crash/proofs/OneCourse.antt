@@ -14,6 +14,7 @@ use Rattle.pm_view.specs.Area.{area_word, part_of}
 use Rattle.pm_view.specs.Changes.{drained}
 use Rattle.pm_view.specs.Log.{Phase, log_drained}
 use Rattle.pm_view.specs.Log.Phase.{Idle, Open, Drawn, Sealing, Applying, Clearing, Retiring}
+use Rattle.pm_model.specs.Actions.{none_pending}
 use Rattle.pm_model.specs.Step.{Act, Step as CallStep}
 use Rattle.pm_view.specs.Steps.{Step}
 use Rattle.pm_view.specs.Steps.Step.{Load, Store, Or, And, Flush, Drain, TakeWrite, TakeRead, Raise, Give, ZoneTry, ZoneGive, Occupied, Occupy, Vacate, Draw, NumberSeen, StopSeen, SetStop, Tell}
@@ -285,7 +286,7 @@ module _ (o : Opening) (k : ℕ) (header : Header) (pool : PoolView) (m : Moment
         let made : HoldsPool (made_words v words) o.lanes o.zones header step.next =
         two_same (λ (a b : ℕ). HoldsPool (made_words v words) a b header step.next) v.lanes o.lanes v.zones o.zones here.lanes here.zones step.holds in
         let own : pending_after m.log v.lane ≡ pending_before v =
-        ap (pending_after m.log) here.lane ∙ ap (pending_from []) (g.world.own_entries k g.in_lanes) in
+        ap (pending_after m.log) here.lane ∙ ap (pending_from none_pending) (g.world.own_entries k g.in_lanes) in
         holds_once_more (slice_index o.words) o.lanes o.zones header pool step.next m.log (entry_of v n) reached_all
         (subst (λ (act : Act). CallStep (state_after reached_all.last m.log) act (state_after step.next longer)) (sym (act_drawn v n m.log own)) (turns_history v n reached_all.last step.next m.log own step.steps))
         (held_by_heap (made_words v words) (λ i. made_final (difference_of v) i (words i)) o.lanes o.zones header step.next made (λ i heap. difference_makes_call v words i))

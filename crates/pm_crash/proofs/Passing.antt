@@ -4,7 +4,7 @@ use Rattle.std.specs.List.{Contains, find, filter, list_any}
 use Rattle.std.specs.Option.{option_map}
 use Rattle.std.proofs.lemmas.Bool.{and_left, and_right, false≢true, ne_eqb, or_from, le-ltb}
 use Rattle.pm_objects.specs.declared.calls.Operation.{Operation}
-use Rattle.pm_objects.specs.declared.calls.Operation.TheVariants.{Alloc, Reserve, WriteReserved}
+use Rattle.pm_objects.specs.declared.calls.Operation.TheVariants.{Alloc, Free, Publish, Reserve, WriteReserved}
 use Rattle.pm_objects.specs.declared.calls.Want.{Want}
 use Rattle.pm_objects.specs.declared.pool.PoolView.{PoolView}
 use Rattle.pm_objects.specs.declared.refusal.Refusal.{Refusal}
@@ -13,7 +13,7 @@ use Rattle.pm_model.specs.declared.stage.Stage.{Stage}
 use Rattle.pm_model.specs.declared.stage.Stage.TheVariants as stage
 use Rattle.pm_model.specs.Places.{has_place}
 use Rattle.pm_image.proofs.Members.{first_member, later_member}
-use Rattle.pm_model.specs.Actions.{Action, Pending, only_sets}
+use Rattle.pm_model.specs.Actions.{Pending, only_sets}
 use Rattle.pm_model.specs.Transaction.{Transaction, is_gone, is_new, is_working, locked_all}
 use Rattle.pm_model.specs.Checks.{Seen, wants_of, seeks_block, is_free, is_publish, is_begin, lacks_reservation, puts_past_end, publishes_late, objects_named, is_action, names_gone, frees_root, frees_listed, is_bad_size, is_unaligned, finds_no_space, passes_actions, finds_no_work, finds_no_tx, is_spent, is_too_deep, passes_locks, is_not_locked, wants_no_place, takes_lock, is_busy, takes_first_lock, is_missing, passes_end, is_not_added, passes_log, first_refusal}
 use Rattle.pm_model.proofs.Asked.{IsPlain, frees_no_root, frees_none_listed}
@@ -22,12 +22,11 @@ use Rattle.pm_model.proofs.Asked.{IsPlain, frees_no_root, frees_none_listed}
 abbrev pub unhindered : Seen
 unhindered = record { spent = false; busy = false; missing = false; full = false }
 
--- the transaction works, with 64 locks at most, and set-values are all that is pending
+-- the transaction works, with 64 locks at most
 pub record Works (tx : Transaction) : Type 0 where
   pub level : 1 ≤ tx.level
   pub working : tx.stage ≡ stage.Work
   pub few : length tx.locks ≤ 64
-  pub sets : tx.actions ≡ only_sets tx.actions.sets
 
 -- bytes are written into what is reserved
 abbrev pub is_put : Operation → Bool
@@ -49,23 +48,37 @@ pub record AsksNoLock (op : Operation) : Type 0 where
   pub no_alloc : seeks_block op ≡ false
   pub no_free : is_free op ≡ false
   pub no_put : is_put op ≡ false
+  pub no_publish : is_publish op ≡ false
   pub aligned : is_unaligned op ≡ false
   pub no_more : (tx : Transaction) → passes_actions tx op ≡ false
   pub no_action : is_action op ≡ false
 
--- what is pending is plain then
-pub set_alone : (p : Pending) (actions : List Action) → p ≡ only_sets actions → p ≡ only_sets p.sets
-set_alone p actions is = is ∙ ap (λ (q : Pending). only_sets q.sets) (sym is)
+-- the operation frees no root, and nothing that is in a list or has members
+pub record FreesNone (tx : Transaction) (op : Operation) : Type 0 where
+  pub no_root : frees_root tx op ≡ false
+  pub none_listed : frees_listed tx op ≡ false
 
-pub is_plain_too : (tx : Transaction) → Works tx → IsPlain tx.actions
-is_plain_too tx works = record { frees = ap (λ (p : Pending). p.frees) works.sets; reserved = ap (λ (p : Pending). p.reserved) works.sets }
+-- so it is of one that neither frees nor publishes
+pub frees_nothing : (tx : Transaction) (op : Operation) → is_free op ≡ false → is_publish op ≡ false → FreesNone tx op
+frees_nothing tx (Free id) other none = absurd (false≢true (sym other))
+frees_nothing tx Publish other none = absurd (false≢true (sym none))
+frees_nothing tx op other none = record { no_root = refl; none_listed = refl }
 
-pub not_late : (tx : Transaction) (op : Operation) → Works tx → publishes_late tx.actions op ≡ false
-not_late tx op works = and_right (is_publish op) tx.actions.late (ap (λ (p : Pending). p.late) works.sets)
+-- and of one that publishes where nothing is to be freed
+pub plain_frees_nothing : (tx : Transaction) (op : Operation) → is_free op ≡ false → IsPlain tx.actions → FreesNone tx op
+plain_frees_nothing tx op other plain = record { no_root = frees_no_root tx op other plain; none_listed = frees_none_listed tx op other plain }
+
+-- set-values are all that is pending, so it is plain, and not late
+pub only_plain : (p : Pending) → p ≡ only_sets p.sets → IsPlain p
+only_plain p alone = record { frees = ap (λ (q : Pending). q.frees) alone; reserved = ap (λ (q : Pending). q.reserved) alone }
+
+-- what is late is published by no other operation
+pub not_late : (p : Pending) (op : Operation) → is_publish op ≡ false → publishes_late p op ≡ false
+not_late p op other = and_left (is_publish op) p.late other
 
 -- no object that it names is gone, if none is by its offset
-pub none_gone_named : (tx : Transaction) (op : Operation) → Works tx → list_any (is_gone tx) (objects_named tx op) ≡ false → names_gone tx op ≡ false
-none_gone_named tx op works none = or_from (publishes_late tx.actions op) (list_any (is_gone tx) (objects_named tx op)) (not_late tx op works) none
+pub none_gone_named : (tx : Transaction) (op : Operation) → publishes_late tx.actions op ≡ false → list_any (is_gone tx) (objects_named tx op) ≡ false → names_gone tx op ≡ false
+none_gone_named tx op in_time none = or_from (publishes_late tx.actions op) (list_any (is_gone tx) (objects_named tx op)) in_time none
 
 -- an operation that writes nothing into what is reserved lacks no reservation, and passes the end of none
 lacks_none : (pool : PoolView) (p : Pending) (op : Operation) → is_put op ≡ false → lacks_reservation pool p op ≡ false
@@ -125,10 +138,10 @@ unfoldable pub first_of_six : Bool → Bool → Bool → Bool → Bool → Bool 
 first_of_six unaligned not_locked past_end not_added overfull actions_full = option_map (λ (check : Refusal × Bool). check.0) (find (λ (check : Refusal × Bool). check.1)
     ((refusal.Unaligned, unaligned) ∷ (refusal.NotLocked, not_locked) ∷ (refusal.OutOfRange, past_end) ∷ (refusal.NotAdded, not_added) ∷ (refusal.LogFull, overfull) ∷ (refusal.ActionsFull, actions_full) ∷ []))
 
-pub six_checks : (tx : Transaction) (op : Operation) → Works tx → WantsNone op → names_gone tx op ≡ false
+pub six_checks : (tx : Transaction) (op : Operation) → Works tx → WantsNone op → FreesNone tx op → names_gone tx op ≡ false
     → first_refusal unhindered tx op ≡ first_of_six (is_unaligned op) (is_not_locked tx op) (passes_end tx op) (is_not_added tx op) (passes_log tx op) (passes_actions tx op)
 unfolding first_refusal first_of_six
-six_checks tx op works wants kept =
+six_checks tx op works wants frees kept =
     (λ j. option_map (λ (check : Refusal × Bool). check.0) (find (λ (check : Refusal × Bool). check.1)
     ((refusal.NotWork, no_work tx works j)
     ∷ (refusal.NoTx, no_tx tx op works j)
@@ -143,8 +156,8 @@ six_checks tx op works wants kept =
     ∷ (refusal.Busy, not_busy tx op j)
     ∷ (refusal.NoObject, not_missing tx op j)
     ∷ (refusal.NoObject, kept j)
-    ∷ (refusal.RootKept, frees_no_root tx op wants.no_free (is_plain_too tx works) j)
-    ∷ (refusal.Listed, frees_none_listed tx op wants.no_free (is_plain_too tx works) j)
+    ∷ (refusal.RootKept, frees.no_root j)
+    ∷ (refusal.Listed, frees.none_listed j)
     ∷ (refusal.OutOfRange, passes_end tx op)
     ∷ (refusal.NotAdded, is_not_added tx op)
     ∷ (refusal.LogFull, passes_log tx op)
@@ -163,7 +176,7 @@ four_checks : (tx : Transaction) (op : Operation) → Works tx → AsksNoLock op
     → first_refusal unhindered tx op ≡ first_of_four (is_not_locked tx op) (passes_end tx op) (is_not_added tx op) (passes_log tx op)
 unfolding first_of_four
 four_checks tx op works asks kept =
-    six_checks tx op works (wants_none op asks) kept
+    six_checks tx op works (wants_none op asks) (frees_nothing tx op asks.no_free asks.no_publish) kept
     ∙ (λ j. first_of_six (asks.aligned j) (is_not_locked tx op) (passes_end tx op) (is_not_added tx op) (passes_log tx op) (asks.no_more tx j))
 
 pub passes_all : (tx : Transaction) (op : Operation) → Works tx → AsksNoLock op → names_gone tx op ≡ false → is_not_locked tx op ≡ false → passes_end tx op ≡ false → is_not_added tx op ≡ false → passes_log tx op ≡ false

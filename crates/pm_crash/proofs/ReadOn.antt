@@ -71,7 +71,7 @@ pub read_goes_on : (v next : View) (id : Oid) (off len level : ℕ) → 1 ≤ le
 read_goes_on v next id off len level some under_way reads old =
     let held = reads.range.object in
     let bytes : List ℕ = bytes_seen v id off len in
-    let leaves : LeavesBlocks v next = leaves_told v next (Read id off len) (Some (Bytes bytes)) reads.tells.call refl (known_new v next (keeps_known v next reads.keeps) under_way.has.each) in
+    let leaves : LeavesBlocks v next = leaves_told v next (Read id off len) (Some (Bytes bytes)) reads.tells.keeps.entries reads.tells.call refl (known_new v next (keeps_known v next reads.keeps) under_way.has.each) in
     still_under_way v next level level (Read id off len) (Some (Bytes bytes)) under_way reads.tells
     (goes_back v next reads.tells.keeps (same_found v next reads.tells.locks) reads.logs (λ i outside none. reads.keeps.words i outside) under_way.outside under_way.under)
     (told_has v next leaves reads.tells under_way.has)
@@ -81,9 +81,9 @@ read_goes_on v next id off len level some under_way reads old =
     let inside : off + len ≤ slice_index v.words (8 * held.lock.line + 1) = reads.range.inside in
     let long : length (bytes_of c.tx.pool.objects id.off) ≡ slice_index v.words (8 * held.lock.line + 1) = object.long in
     let same : call_words next w ≡ call_words v w = same_call_words v next reads.logs.records reads.keeps under_way.outside w in
-    let asks : AsksNoLock (Read id off len) = record { no_wants = refl; no_begin = refl; no_alloc = refl; no_free = refl; no_put = refl; aligned = refl; no_more = λ tx. refl; no_action = refl } in
+    let asks : AsksNoLock (Read id off len) = record { no_wants = refl; no_begin = refl; no_alloc = refl; no_free = refl; no_put = refl; no_publish = refl; aligned = refl; no_more = λ tx. refl; no_action = refl } in
     let answers : Answers c.tx (Read id off len) (Some (Bytes bytes)) =
-    answers_done c.tx (Read id off len) (Some (Bytes bytes)) refl works asks
+    answers_done c.tx (Read id off len) (Some (Bytes bytes)) refl asks
     (passes_all c.tx (Read id off len) works asks (one_is_kept v c.tx c.tracks id.off old)
     (held_is_locked v id false c.tx held c.locks (same_pool v w header c.base c.tx c.holds c.changed same_id))
     (le-ltb (length (bytes_of c.tx.pool.objects id.off)) (off + len) (omega arith)) refl refl)
@@ -102,7 +102,6 @@ read_goes_on v next id off len level some under_way reads old =
       levels = c.levels;
       stands = refl;
       fails = refl;
-      actions = λ sets is. is;
       moved = sym (append-nil c.tx.moved);
       performable = All-nil (IsPerformable v w);
       blocks_stay = ap (λ (f : ℕ → ℕ). blocks f v.lanes v.zones) same;
@@ -113,5 +112,5 @@ read_goes_on v next id off len level some under_way reads old =
 pub read_keeps_open : (v next : View) (id : Oid) (off len level : ℕ) → 1 ≤ level → IsOpen v level stage.Work error.None → ReadsBytes v next id off len → IsOpen next level stage.Work error.None
 read_keeps_open v next id off len level some is_open reads = record {
   under_way = read_goes_on v next id off len level some is_open.under_way reads (old_of_none v is_open.keeps id.off);
-  keeps = keeps_on v next (Read id off len) (Some (Bytes (bytes_seen v id off len))) reads.tells.call refl refl (λ root. tt) is_open.keeps;
+  keeps = keeps_on v next (Read id off len) (Some (Bytes (bytes_seen v id off len))) reads.tells.keeps.entries reads.tells.call refl refl (λ root. tt) is_open.keeps;
 }

@@ -1,6 +1,6 @@
 -- A begin that is refused, of a call or of a further level, is refused by the model for the same reason.
 use Rattle.std.proofs.Common.{◌≡◌, ⊎_elim, ℕ, ◌<◌, ◌≤◌, ◌&&◌, ◌||◌, Bool, true, false, not, eqb, leb, ltb, List, [], ◌∷◌, length, map, Option, Some, MatchOption, refl, sym, ◌∙◌, ap, subst, arith}
-use Rattle.std.specs.List.{Contains, filter, find, flat_map, list_any}
+use Rattle.std.specs.List.{Contains, filter, find, list_any}
 use Rattle.std.specs.Option.{option_map}
 use Rattle.std.proofs.lemmas.Bool.{and_from, and_right, cases_Bool, le-leb, le-ltb, lt-leb, lt-ltb}
 use Rattle.pm_objects.specs.declared.calls.Operation.TheVariants.{Begin}
@@ -10,7 +10,6 @@ use Rattle.pm_objects.specs.declared.history.Value.TheVariants.{Refused}
 use Rattle.pm_objects.specs.declared.pool.PoolView.{PoolView}
 use Rattle.pm_objects.specs.declared.refusal.Refusal.{Refusal}
 use Rattle.pm_objects.specs.declared.refusal.Refusal.TheVariants as refusal
-use Rattle.pm_model.specs.Actions.{only_sets}
 use Rattle.pm_model.specs.declared.stage.Stage.TheVariants as stage
 use Rattle.pm_model.specs.Places.{can_begin, has_place}
 use Rattle.pm_model.specs.Transaction.{Transaction, Lock as Locked, aborted, holds_object, is_locked, is_new, locked_all, resting}
@@ -21,7 +20,7 @@ use Rattle.pm_view.specs.Log.{Recorded}
 use Rattle.pm_view.specs.View.{Told, View}
 use Rattle.pm_world.specs.Records.{is_recorded}
 use Rattle.pm_crash.proofs.SameLocks.{same_locks, wanted_alike}
-use Rattle.pm_crash.specs.CallBlocks.{IsOldIn, allocated_by}
+use Rattle.pm_crash.specs.CallBlocks.{IsOldIn, allocated_told}
 use Rattle.pm_crash.specs.Locks.{AreSameLocks}
 use Rattle.pm_crash.specs.OpenCall.{IsGivenUp, IsOpen, IsUnderWay, RunsTo, WasAborted, locks_of}
 use Rattle.pm_crash.specs.Pending.{pending_before, told_of}
@@ -183,7 +182,7 @@ call_aborted v wants r refuses = record {
   under = λ i is. absurd (let clash : false ≡ true = sym (ap (λ (records : List Recorded). is_recorded records i) refuses.no_records) ∙ is in cc);
   comes = λ w header pool holds id before room.
       let told : Answered = record { operation = Begin wants; reply = Some (Refused r) } in
-      let rest : Transaction = resting pool (only_sets (pending_before v)) in
+      let rest : Transaction = resting pool (pending_before v) in
       let at : IsAt v 0 [] wants rest = record {
         works = refl;
         levels = refl;
@@ -198,19 +197,20 @@ call_aborted v wants r refuses = record {
       let aborts : last ≡ aborted (error.Refused r) rest = begin_refused_aborts rest wants r is in
       record {
         tx = last;
-        runs = subst (λ (ts : List Answered). RunsTo pool (only_sets (pending_before v)) ts last) (sym (ap (map told_of) refuses.call)) (runs_first told pool (only_sets (pending_before v)) (begin_refused_answers rest wants r is));
+        runs = subst (λ (ts : List Answered). RunsTo pool (pending_before v) ts last) (sym (ap (map told_of) refuses.call)) (runs_first told pool (pending_before v) (begin_refused_answers rest wants r is));
         stands = ap (λ (x : Transaction). x.stage) aborts;
         fails = ap (λ (x : Transaction). x.error) aborts;
-        actions = ap (λ (x : Transaction). x.actions) aborts ∙ ap only_sets (sym (pending_first v (record { operation = Begin wants; reply = Some (Refused r) }) refuses.call));
+        actions = ap (λ (x : Transaction). x.actions) aborts ∙ sym (pending_first v (record { operation = Begin wants; reply = Some (Refused r) }) refuses.call);
         unchanged = ap (λ (x : Transaction). x.pool) aborts;
       };
 }
 
 pub call_refused : (v : View) (wants : List Want) (r : Refusal) → RefusesCall v wants r → IsGivenUp v (error.Refused r)
+unfolding allocated_told
 call_refused v wants r refuses = record {
   aborted = call_aborted v wants r refuses;
   any_pool = λ pool. record {
-    room = room_for_none v pool (ap (flat_map (λ (t : Told). allocated_by t.operation t.reply)) refuses.call);
+    room = room_for_none v pool (ap (allocated_told (pending_before v)) refuses.call);
     root = first_agrees v (Begin wants) (Some (Refused r)) refuses.call pool.root tt;
   };
 }
@@ -237,5 +237,5 @@ level_aborted v next level wants r some under_way refuses old =
 pub level_refused : (v next : View) (level : ℕ) (wants : List Want) (r : Refusal) → 1 ≤ level → IsOpen v level stage.Work error.None → RefusesLevel v next level wants r
     → IsGivenUp next (error.Refused r)
 level_refused v next level wants r some is_open refuses =
-    gives_up v next (Begin wants) (Some (Refused r)) refl (λ root. tt) refuses.call is_open.keeps (error.Refused r)
+    gives_up v next (Begin wants) (Some (Refused r)) refl (λ root. tt) refuses.keeps.entries refuses.call is_open.keeps (error.Refused r)
     (level_aborted v next level wants r some is_open.under_way refuses (λ want there. old_of_none v is_open.keeps want.id.off))

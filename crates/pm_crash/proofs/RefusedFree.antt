@@ -17,6 +17,7 @@ use Rattle.pm_model.specs.Transaction.{entries_of, is_gone, is_locked}
 use Rattle.pm_model.proofs.Alike.{after_refused}
 use Rattle.pm_view.specs.View.{View}
 use Rattle.pm_crash.specs.CallBlocks.{TellsOfRoot, is_new_in}
+use Rattle.pm_crash.specs.Pending.{pending_in}
 use Rattle.pm_crash.specs.Held.{HoldsPool}
 use Rattle.pm_crash.specs.OpenCall.{ComesTo, IsUnderWay, WasAborted, locks_of}
 use Rattle.pm_crash.specs.Operations.{IsFreeReason, IsLeft, RefusesFree, entries_so_far}
@@ -41,7 +42,7 @@ module _ (v : View) (w : ℕ → ℕ) (header : Header) (pool : PoolView) (level
   left_there : IsLeft v id true → is_gone c.tx id.off ≡ false
   left_there is = all_tracks_gone v c.tx c.tracks id.off ∙ is.left
 
-  by_reason : (r : Refusal) → IsFreeReason v id r → TellsOfRoot pool.root (Free id) (Some (Refused r)) → IsRefusedFor c.tx (Free id) r
+  by_reason : (r : Refusal) → IsFreeReason v id r → TellsOfRoot pool.root (Free id) (Some (Refused r)) (pending_in v) → IsRefusedFor c.tx (Free id) r
   by_reason refusal.NotLocked reason tells = record {
     refused_first = free_unheld c.tx id works (lock_is_missing v c.tx id true of_pool c.locks
         (λ same. tracks_new v c.tx c.tracks id.off ∙ (or_parts (is_new_in v id.off) (is_locked (locks_of v) id.off true) (reason same)).0)
@@ -72,5 +73,5 @@ pub refused_free_aborts : (v next : View) (id : Oid) (r : Refusal) (level : ℕ)
 refused_free_aborts v next id r level some under_way refuses =
     aborts_from v next (Free id) (Some (Refused r)) level (error.Refused r) under_way refuses.tells.keeps (same_found v next refuses.tells.locks) (λ actions. refl) refuses.tells.call refuses.takes_back
     (λ w header pool holds same_id before may c.
-    let is : IsRefusedFor c.tx (Free id) r = by_reason v w header pool level id some under_way holds same_id c r refuses.reason (tells_of_root v next (Free id) (Some (Refused r)) refuses.tells.call pool may) in
+    let is : IsRefusedFor c.tx (Free id) r = by_reason v w header pool level id some under_way holds same_id c r refuses.reason (tells_of_root v next (Free id) (Some (Refused r)) refuses.tells.keeps.entries refuses.tells.call pool may) in
     (refused_answers c.tx (Free id) r refl is, after_refused (Free id) (Some (Refused r)) c.tx r (record { traced = is.traced; told = refl })))

@@ -8,7 +8,7 @@ use Rattle.pm_image.specs.declared.block.Block.{Block}
 use Rattle.pm_image.specs.Blocks.{blocks}
 use Rattle.pm_image.specs.Contents.{size_in}
 use Rattle.pm_model.specs.declared.stage.Stage.{Stage}
-use Rattle.pm_model.specs.Actions.{Pending, only_sets}
+use Rattle.pm_model.specs.Actions.{Pending}
 use Rattle.pm_model.specs.Step.{Act, State, Step, with_pending}
 use Rattle.pm_view.specs.Area.{is_in_area}
 use Rattle.pm_view.specs.Blocks.{is_chunk}
@@ -32,15 +32,15 @@ same_told : (v next : View) → TellsNothing v next → told_in next ≡ told_in
 same_told v next quiet = ap (map told_of) quiet.call
 
 same_act : (v next : View) → TellsNothing v next → act_of next ≡ act_of v
-same_act v next quiet = (λ j. record { lane = quiet.keeps.lane j; actions = only_sets (same_before v next quiet.keeps.entries j); told = same_told v next quiet j })
+same_act v next quiet = (λ j. record { lane = quiet.keeps.lane j; actions = same_before v next quiet.keeps.entries j; told = same_told v next quiet j })
 
 -- the step that it makes is the same
-turned : (v next : View) → TellsNothing v next → (pool last : PoolView) (actions : ℕ → Pending) → Step (record { pool = pool; actions = actions }) (act_of v) (record { pool = last; actions = with_pending actions v.lane (only_sets (pending_in v)) })
-    → Step (record { pool = pool; actions = actions }) (act_of next) (record { pool = last; actions = with_pending actions next.lane (only_sets (pending_in next)) })
+turned : (v next : View) → TellsNothing v next → (pool last : PoolView) (actions : ℕ → Pending) → Step (record { pool = pool; actions = actions }) (act_of v) (record { pool = last; actions = with_pending actions v.lane (pending_in v) })
+    → Step (record { pool = pool; actions = actions }) (act_of next) (record { pool = last; actions = with_pending actions next.lane (pending_in next) })
 turned v next quiet pool last actions step =
-    let left : State = record { pool = last; actions = with_pending actions v.lane (only_sets (pending_in v)) } in
+    let left : State = record { pool = last; actions = with_pending actions v.lane (pending_in v) } in
     subst (λ (s : State). Step (record { pool = pool; actions = actions }) (act_of next) s)
-    (λ j. let s : State = record { pool = last; actions = with_pending actions (sym quiet.keeps.lane j) (only_sets (sym (pending_same v next quiet.keeps.entries quiet.call) j)) } in s)
+    (λ j. let s : State = record { pool = last; actions = with_pending actions (sym quiet.keeps.lane j) (sym (pending_same v next quiet.keeps.entries quiet.call) j) } in s)
     (subst (λ (act : Act). Step (record { pool = pool; actions = actions }) act left) (sym (same_act v next quiet)) step)
 
 quiet_back : (v next : View) → TellsNothing v next → KeepsLog v next → KeepsKnown v next → (w : ℕ → ℕ) → IsBefore next w → IsBefore v w
@@ -57,7 +57,7 @@ quiet_made v next made made' header pool quiet same holds =
 
 -- nothing is told, so the blocks that it changed are the same
 quiet_leaves : (v next : View) → TellsNothing v next → KeepsKnown v next → ((n : NewObject) → Contains (blocks_in v).made n → IsMadeIn v n) → LeavesBlocks v next
-quiet_leaves v next quiet words makes = record { blocks = same_blocks v next quiet.call; same = known_new v next words makes }
+quiet_leaves v next quiet words makes = record { blocks = same_blocks v next quiet.keeps.entries quiet.call; same = known_new v next words makes }
 
 comes_still : (v next : View) (level : ℕ) (at_stage : Stage) (e : TxErr) (w : ℕ → ℕ) (header : Header) (pool : PoolView) → TellsNothing v next → KeepsLog v next → LeavesBlocks v next → call_words next w ≡ call_words v w
     → ComesTo v w header pool level at_stage e → ComesTo next w header pool level at_stage e
@@ -77,7 +77,7 @@ comes_still v next level at_stage e w header pool quiet logs leaves same c =
       levels = c.levels;
       stands = c.stands;
       fails = c.fails;
-      actions = c.actions ∙ ap only_sets (sym (pending_same v next quiet.keeps.entries quiet.call));
+      actions = c.actions ∙ sym (pending_same v next quiet.keeps.entries quiet.call);
       moved = c.moved ∙ sym (published_same v next quiet.keeps.entries quiet.call);
       performable =
           performable_still v next w (published_in next) quiet.keeps.lanes quiet.keeps.zones (λ n there. subst (λ (b : CallBlocks). Contains (news_in b) n) (sym leaves.blocks) there)
@@ -103,10 +103,10 @@ goes_on_learning v next level at_stage e under_way quiet logs words =
       outside = outside_kept v next quiet.keeps logs.records under_way.outside;
       under = under_kept v next (same_found v next quiet.locks) logs.records under_way.under;
       unentered = logs.entries ∙ under_way.unentered;
-      has = left_has v next leaves quiet.keeps (λ n there. subst (λ (ns : List NewObject). Contains ns n) (sym (same_allocated v next quiet.call)) there) (left_apart v next leaves quiet.locks under_way.has.apart_found) under_way.has;
+      has = left_has v next leaves quiet.keeps (λ n there. subst (λ (ns : List NewObject). Contains ns n) (sym (same_allocated v next quiet.keeps.entries quiet.call)) there) (left_apart v next leaves quiet.locks under_way.has.apart_found) under_way.has;
       comes = λ w header pool holds id before room.
           comes_still v next level at_stage e w header pool quiet logs leaves (same_known_words v next logs.records words under_way.outside w)
-          (under_way.comes w header pool (quiet_holds v next quiet w header pool holds) (sym quiet.keeps.pool ∙ id) (quiet_back v next quiet logs words w before) (may_same next v (sym quiet.call) pool room));
+          (under_way.comes w header pool (quiet_holds v next quiet w header pool holds) (sym quiet.keeps.pool ∙ id) (quiet_back v next quiet logs words w before) (may_same next v (sym quiet.keeps.entries) (sym quiet.call) pool room));
     }
 
 pub goes_on_quietly : (v next : View) (level : ℕ) (at_stage : Stage) (e : TxErr) → IsUnderWay v level at_stage e → TellsNothing v next → KeepsLog v next → KeepsWords v next → IsUnderWay next level at_stage e
@@ -114,7 +114,7 @@ goes_on_quietly v next level at_stage e under_way quiet logs words = goes_on_lea
 
 -- so it is of a call that allocated and freed nothing
 pub open_learns : (v next : View) (level : ℕ) (at_stage : Stage) (e : TxErr) → IsOpen v level at_stage e → TellsNothing v next → KeepsLog v next → KeepsKnown v next → IsOpen next level at_stage e
-open_learns v next level at_stage e is_open quiet logs words = record { under_way = goes_on_learning v next level at_stage e is_open.under_way quiet logs words; keeps = keeps_still v next quiet.call is_open.keeps }
+open_learns v next level at_stage e is_open quiet logs words = record { under_way = goes_on_learning v next level at_stage e is_open.under_way quiet logs words; keeps = keeps_still v next quiet.keeps.entries quiet.call is_open.keeps }
 
 pub whole_learns : (v next : View) → IsWholeCall v → TellsNothing v next → KeepsLog v next → KeepsKnown v next → IsWholeCall next
 whole_learns v next whole quiet logs words = record {
@@ -126,7 +126,7 @@ whole_learns v next whole quiet logs words = record {
         next = made.next;
         holds = quiet_made v next (made_words v w) (made_words next w) header made.next quiet
             (same_made_words v next quiet.keeps.lane logs.entries w (same_known_words v next logs.records words whole.outside w)) made.holds;
-        steps = λ actions own. turned v next quiet pool made.next actions (made.steps actions (ap actions (sym quiet.keeps.lane) ∙ own ∙ ap only_sets (same_before v next quiet.keeps.entries)));
+        steps = λ actions own. turned v next quiet pool made.next actions (made.steps actions (ap actions (sym quiet.keeps.lane) ∙ own ∙ same_before v next quiet.keeps.entries));
       };
 }
 
@@ -144,13 +144,13 @@ still_aborted v next e was_aborted quiet outside under back = record {
   under = under;
   comes = λ w header pool holds id before room.
       let c : ComesToNothing v pool e =
-      was_aborted.comes w header pool (quiet_holds v next quiet w header pool holds) (sym quiet.keeps.pool ∙ id) (back w before) (may_same next v (sym quiet.call) pool room) in
+      was_aborted.comes w header pool (quiet_holds v next quiet w header pool holds) (sym quiet.keeps.pool ∙ id) (back w before) (may_same next v (sym quiet.keeps.entries) (sym quiet.call) pool room) in
       record {
         tx = c.tx;
         runs = runs_told v next pool c.tx quiet.keeps.entries (same_told v next quiet) c.runs;
         stands = c.stands;
         fails = c.fails;
-        actions = c.actions ∙ ap only_sets (sym (pending_same v next quiet.keeps.entries quiet.call));
+        actions = c.actions ∙ sym (pending_same v next quiet.keeps.entries quiet.call);
         unchanged = c.unchanged;
       };
 }
@@ -166,7 +166,7 @@ aborted_learns v next e was_aborted quiet logs words = still_aborted v next e wa
 
 -- so does one that allocated nothing
 pub given_up_stays : (v next : View) (e : TxErr) → IsGivenUp v e → TellsNothing v next → TakesBack v next → IsGivenUp next e
-given_up_stays v next e given_up quiet back = record { aborted = aborted_stays v next e given_up.aborted quiet back; any_pool = λ pool. may_same v next quiet.call pool (given_up.any_pool pool) }
+given_up_stays v next e given_up quiet back = record { aborted = aborted_stays v next e given_up.aborted quiet back; any_pool = λ pool. may_same v next quiet.keeps.entries quiet.call pool (given_up.any_pool pool) }
 
 pub given_up_learns : (v next : View) (e : TxErr) → IsGivenUp v e → TellsNothing v next → KeepsLog v next → KeepsKnown v next → IsGivenUp next e
-given_up_learns v next e given_up quiet logs words = record { aborted = aborted_learns v next e given_up.aborted quiet logs words; any_pool = λ pool. may_same v next quiet.call pool (given_up.any_pool pool) }
+given_up_learns v next e given_up quiet logs words = record { aborted = aborted_learns v next e given_up.aborted quiet logs words; any_pool = λ pool. may_same v next quiet.keeps.entries quiet.call pool (given_up.any_pool pool) }

@@ -2,18 +2,19 @@
 use Rattle.std.proofs.Common.{◌≡◌, inl, inr, ℕ, ◌+◌, ◌*◌, ◌<◌, cond, eqb, List, [], ◌∷◌, ◌++◌, slice_index, Option, Some, None, sym, ◌∙◌, ap, subst, arith}
 use Rattle.std.specs.List.{All, list_any}
 use Rattle.std.proofs.lemmas.List.{append-nil}
-use Rattle.std.proofs.lemmas.List.Elements.{All-append, All-cons, All-nil, All-weaker}
+use Rattle.std.proofs.lemmas.List.Elements.{All-weaker}
 use Rattle.pm_image.specs.Blocks.{descriptor_word}
 use Rattle.pm_objects.specs.declared.calls.Operation.{Operation}
 use Rattle.pm_objects.specs.declared.history.Value.{Value}
 use Rattle.pm_view.specs.declared.occ.Occ.{Occ}
 use Rattle.pm_view.specs.declared.occ.Occ.TheVariants.{Zone}
-use Rattle.pm_view.specs.View.{Told, View}
+use Rattle.pm_view.specs.View.{View}
 use Rattle.pm_view.specs.Views.{has_bit, reserves}
-use Rattle.pm_crash.proofs.CallBlocks.{allocated_once_more, same_allocated}
+use Rattle.pm_crash.proofs.CallBlocks.{agree_same, agrees_once_more, allocated_once_more, same_allocated}
 use Rattle.pm_crash.specs.CallBlocks.{AgreesOnRoot, NewObject, TellsOfRoot, allocated_by, allocated_in}
 use Rattle.pm_crash.specs.HeapChanges.{run_at}
 use Rattle.pm_crash.specs.NewObjects.{block_of_chunks, block_of_run}
+use Rattle.pm_crash.specs.Pending.{pending_in}
 use Rattle.pm_crash.specs.Reserved.{IsBorneOut, IsReservedFor, IsReservedInChunks, IsReservedInRun, root_in}
 
 -- the lane has reserved the same, and no word changed that describes a chunk, nor the root's
@@ -69,33 +70,24 @@ module _ (v next : View) (same : HasSameHeads v next) where
   same_root : root_in (slice_index next.words) ≡ root_in (slice_index v.words)
   same_root = ap (λ (x : ℕ). cond (eqb x 0) None (Some x)) same.root
 
-  -- an operation with its reply agrees with a root
-  abbrev Agrees : Option ℕ → Told → Type 0
-  Agrees root t = TellsOfRoot root t.operation t.reply
-
   -- behind an operation that allocates nothing, and agrees with the root
-  pub borne_told : (op : Operation) (reply : Option Value) → next.call ≡ v.call ++ record { operation = op; reply = reply } ∷ [] → allocated_by op reply ≡ [] → TellsOfRoot (root_in (slice_index v.words)) op reply
-      → IsBorneOut v → IsBorneOut next
-  borne_told op reply call none agrees borne =
-      let root : Option ℕ = root_in (slice_index v.words) in
-      let t : Told = record { operation = op; reply = reply } in
-      record {
-        reserved =
-            subst (All (IsReservedFor next)) (sym (allocated_once_more v next op reply call ∙ ((λ j. allocated_in v ++ none j) ∙ append-nil (allocated_in v))))
-            (All-weaker (IsReservedFor v) (IsReservedFor next) reserved_still (allocated_in v) borne.reserved);
-        root =
-            subst (AgreesOnRoot next) (sym same_root)
-            (subst (All (Agrees root)) (sym call) (All-append (Agrees root) v.call (t ∷ []) borne.root (All-cons (Agrees root) t [] agrees (All-nil (Agrees root)))));
-      }
+  pub borne_told : (op : Operation) (reply : Option Value) → next.entries ≡ v.entries → next.call ≡ v.call ++ record { operation = op; reply = reply } ∷ [] → allocated_by op reply (pending_in v) ≡ []
+      → TellsOfRoot (root_in (slice_index v.words)) op reply (pending_in v) → IsBorneOut v → IsBorneOut next
+  borne_told op reply entries call none agrees borne = record {
+    reserved =
+        subst (All (IsReservedFor next)) (sym (allocated_once_more v next op reply entries call ∙ ((λ j. allocated_in v ++ none j) ∙ append-nil (allocated_in v))))
+        (All-weaker (IsReservedFor v) (IsReservedFor next) reserved_still (allocated_in v) borne.reserved);
+    root = subst (AgreesOnRoot next) (sym same_root) (agrees_once_more v next op reply entries call (root_in (slice_index v.words)) borne.root agrees);
+  }
 
   -- or tells nothing of it
-  pub borne_on : (op : Operation) (reply : Option Value) → next.call ≡ v.call ++ record { operation = op; reply = reply } ∷ [] → allocated_by op reply ≡ [] → ((root : Option ℕ) → TellsOfRoot root op reply)
-      → IsBorneOut v → IsBorneOut next
-  borne_on op reply call none no_root = borne_told op reply call none (no_root (root_in (slice_index v.words)))
+  pub borne_on : (op : Operation) (reply : Option Value) → next.entries ≡ v.entries → next.call ≡ v.call ++ record { operation = op; reply = reply } ∷ [] → allocated_by op reply (pending_in v) ≡ []
+      → ((root : Option ℕ) → TellsOfRoot root op reply (pending_in v)) → IsBorneOut v → IsBorneOut next
+  borne_on op reply entries call none no_root = borne_told op reply entries call none (no_root (root_in (slice_index v.words)))
 
   -- and where nothing is told
-  pub borne_still : next.call ≡ v.call → IsBorneOut v → IsBorneOut next
-  borne_still call borne = record {
-    reserved = subst (All (IsReservedFor next)) (sym (same_allocated v next call)) (All-weaker (IsReservedFor v) (IsReservedFor next) reserved_still (allocated_in v) borne.reserved);
-    root = subst (AgreesOnRoot next) (sym same_root) (subst (All (Agrees (root_in (slice_index v.words)))) (sym call) borne.root);
+  pub borne_still : next.entries ≡ v.entries → next.call ≡ v.call → IsBorneOut v → IsBorneOut next
+  borne_still entries call borne = record {
+    reserved = subst (All (IsReservedFor next)) (sym (same_allocated v next entries call)) (All-weaker (IsReservedFor v) (IsReservedFor next) reserved_still (allocated_in v) borne.reserved);
+    root = subst (AgreesOnRoot next) (sym same_root) (agree_same (root_in (slice_index v.words)) v next entries call borne.root);
   }

@@ -127,7 +127,7 @@ pub write_goes_on : (v next : View) (id : Oid) (off level : ℕ) (bytes : List �
     → IsUnderWay next level stage.Work error.None
 write_goes_on v next id off level bytes some under_way writes old =
     let held = writes.range.object in
-    let leaves : LeavesBlocks v next = leaves_told v next (Write id off bytes) None writes.tells.call refl (new_is_unwritten v next id off level bytes under_way writes) in
+    let leaves : LeavesBlocks v next = leaves_told v next (Write id off bytes) None writes.tells.keeps.entries writes.tells.call refl (new_is_unwritten v next id off level bytes under_way writes) in
     still_under_way v next level level (Write id off bytes) None under_way writes.tells
     (goes_back v next writes.tells.keeps (same_found v next writes.tells.locks) writes.logs (unwritten_stays v next id off bytes writes) under_way.outside under_way.under)
     (told_has v next leaves writes.tells under_way.has)
@@ -148,10 +148,10 @@ write_goes_on v next id off level bytes some under_way writes old =
     let keeps : KeepsOthers words (call_words next w) block = write_keeps_others words (call_words next w) v.lanes v.zones off block bytes write in
     let among : (i : ℕ) → Contains (covered_words (id.off + off) (length bytes)) i → is_among c.tx.recorded i ≡ true =
     λ i there. ap (λ (ws : List ℕ). is_among ws i) c.recorded ∙ among_recorded v.log.records i ∙ writes.added i there in
-    let asks : AsksNoLock (Write id off bytes) = record { no_wants = refl; no_begin = refl; no_alloc = refl; no_free = refl; no_put = refl; aligned = refl; no_more = λ tx. refl; no_action = refl } in
+    let asks : AsksNoLock (Write id off bytes) = record { no_wants = refl; no_begin = refl; no_alloc = refl; no_free = refl; no_put = refl; no_publish = refl; aligned = refl; no_more = λ tx. refl; no_action = refl } in
     record {
       answers =
-          answers_done c.tx (Write id off bytes) None refl works asks
+          answers_done c.tx (Write id off bytes) None refl asks
           (passes_all c.tx (Write id off bytes) works asks (one_is_kept v c.tx c.tracks id.off old)
           (held_is_locked v id true c.tx held c.locks (same_pool v w header c.base c.tx c.holds c.changed same_id))
           (le-ltb (length (bytes_of c.tx.pool.objects id.off)) (off + length bytes) (omega arith))
@@ -172,7 +172,6 @@ write_goes_on v next id off level bytes some under_way writes old =
       levels = c.levels;
       stands = refl;
       fails = refl;
-      actions = λ sets is. is;
       moved = sym (append-nil c.tx.moved);
       performable = All-nil (IsPerformable v w);
       blocks_stay = blocks_same words (call_words next w) v.lanes v.zones (heads_kept words (call_words next w) v.lanes v.zones block c.holds.no_fault object.is_there keeps);
@@ -185,5 +184,5 @@ pub write_keeps_open : (v next : View) (id : Oid) (off level : ℕ) (bytes : Lis
     → IsOpen next level stage.Work error.None
 write_keeps_open v next id off level bytes some is_open writes = record {
   under_way = write_goes_on v next id off level bytes some is_open.under_way writes (old_of_none v is_open.keeps id.off);
-  keeps = keeps_on v next (Write id off bytes) None writes.tells.call refl refl (λ root. tt) is_open.keeps;
+  keeps = keeps_on v next (Write id off bytes) None writes.tells.keeps.entries writes.tells.call refl refl (λ root. tt) is_open.keeps;
 }

@@ -1,25 +1,28 @@
 -- What a call allocated and freed so far, by the operations that it told: the lists that the plain model's transaction keeps (pmemobj_tx_alloc(3),
 -- pmemobj_tx_free(3)).
-use Rattle.std.specs.Prelude.{◌≡◌, ◌≢◌, ℕ, ◌-◌, ◌%◌, ◌==◌, ◌||◌, ◌≤◌, not, Bool, All, List, [], ◌∷◌, ◌++◌, filter, flat_map, length, slice_index, Contains, Option, None, Some, false, if◌then◌else◌}
-use Rattle.std.specs.List.{list_any}
+use Rattle.std.specs.Prelude.{◌≡◌, ◌≢◌, ℕ, ◌-◌, ◌%◌, ◌==◌, ◌||◌, ◌≤◌, not, Bool, All, List, [], ◌∷◌, ◌++◌, filter, length, map, slice_index, Contains, Option, None, Some, false, if◌then◌else◌}
+use Rattle.std.specs.List.{Any, list_any}
 use Rattle.pm_layout.specs.Sizes.{class_of}
 use Rattle.pm_objects.specs.Pool.{block_lines}
 use Rattle.pm_objects.specs.declared.calls.Operation.{Operation}
-use Rattle.pm_objects.specs.declared.calls.Operation.TheVariants.{Abort, Alloc, Free}
+use Rattle.pm_objects.specs.declared.calls.Operation.TheVariants.{Abort, Alloc, Free, Publish, Reserve}
 use Rattle.pm_objects.specs.declared.history.Value.{Value}
 use Rattle.pm_objects.specs.declared.history.Value.TheVariants.{Offset, Refused}
+use Rattle.pm_objects.specs.declared.ids.Oid.{Oid}
 use Rattle.pm_objects.specs.declared.pool.Object.{Object}
 use Rattle.pm_objects.specs.declared.pool.PoolView.{PoolView}
 use Rattle.pm_objects.specs.declared.refusal.Refusal.TheVariants as refusal
 use Rattle.pm_image.specs.declared.block.Block.{Block}
 use Rattle.pm_image.specs.Contents.{bytes_in}
 use Rattle.pm_image.specs.Reads.{ReadsBlock}
+use Rattle.pm_model.specs.Actions.{Pending, Reservation}
 use Rattle.pm_model.specs.Answers.{IsBeside, changes_nothing}
 use Rattle.pm_model.specs.Bytes.{is_among}
 use Rattle.pm_model.specs.Checks.{is_action}
 use Rattle.pm_view.specs.Area.{is_in_area}
 use Rattle.pm_view.specs.View.{Told, View}
 use Rattle.pm_crash.specs.NewObjects.{HasNewObject, unlinked}
+use Rattle.pm_crash.specs.Pending.{pending_before, pending_behind}
 
 -- an object that a call made: its offset, its type and its size in bytes
 pub record NewObject : Type 0 where
@@ -51,43 +54,78 @@ with_freed off b =
     then record b { made = filter (λ n. not (is_at off n)) b.made; dropped = b.dropped ++ filter (is_at off) b.made }
     else record b { freed = b.freed ++ off ∷ [] }
 
--- what an operation with its reply leaves of them: where it aborts the call, none
-abbrev pub blocks_behind : Operation → Option Value → CallBlocks → CallBlocks
-blocks_behind op (Some (Refused r)) b = if is_action op || changes_nothing r then b else no_blocks
-blocks_behind (Alloc size kind) (Some (Offset off)) b = with_made (record { off = off; kind = kind; size = size }) b
-blocks_behind (Free id) reply b = with_freed id.off b
-blocks_behind (Abort errnum) reply b = no_blocks
-blocks_behind op reply b = b
+-- objects are freed, and what is reserved comes to be, one after another
+abbrev pub with_all_freed : List Oid → CallBlocks → CallBlocks
+with_all_freed [] b = b
+with_all_freed (id ∷ ids) b = with_all_freed ids (with_freed id.off b)
+
+-- the new object that a reservation is to become
+abbrev pub reserved_object : Reservation → NewObject
+reserved_object r = record { off = r.off; kind = r.kind; size = length r.bytes }
+
+abbrev pub with_all_made : List Reservation → CallBlocks → CallBlocks
+with_all_made [] b = b
+with_all_made (r ∷ rs) b = with_all_made rs (with_made (reserved_object r) b)
+
+-- what an operation with its reply leaves of them, where this was pending: a publish frees what is to be freed, and makes what is reserved; and where an
+-- operation aborts the call, none are left
+abbrev pub blocks_behind : Operation → Option Value → Pending → CallBlocks → CallBlocks
+blocks_behind op (Some (Refused r)) p b = if is_action op || changes_nothing r then b else no_blocks
+blocks_behind (Alloc size kind) (Some (Offset off)) p b = with_made (record { off = off; kind = kind; size = size }) b
+blocks_behind (Free id) reply p b = with_freed id.off b
+blocks_behind Publish None p b = with_all_made p.reserved (with_all_freed p.frees b)
+blocks_behind (Abort errnum) reply p b = no_blocks
+blocks_behind op reply p b = b
 
 -- and operations one after another
-unfoldable pub blocks_told : CallBlocks → List Told → CallBlocks
-blocks_told b [] = b
-blocks_told b (t ∷ told) = blocks_told (blocks_behind t.operation t.reply b) told
+unfoldable pub blocks_told : Pending → CallBlocks → List Told → CallBlocks
+blocks_told p b [] = b
+blocks_told p b (t ∷ told) = blocks_told (pending_behind t.operation t.reply p) (blocks_behind t.operation t.reply p b) told
 
 -- those of the lane's open call
 abbrev pub blocks_in : View → CallBlocks
-blocks_in v = blocks_told no_blocks v.call
+blocks_in v = blocks_told (pending_before v) no_blocks v.call
 
--- the object that an operation with its reply made, if any
-abbrev pub allocated_by : Operation → Option Value → List NewObject
-allocated_by (Alloc size kind) (Some (Offset off)) = record { off = off; kind = kind; size = size } ∷ []
-allocated_by op reply = []
+-- the objects for which an operation with its reply needs room in the pool, where this was pending: what it allocates or reserves, and what it publishes
+abbrev pub allocated_by : Operation → Option Value → Pending → List NewObject
+allocated_by (Alloc size kind) (Some (Offset off)) p = record { off = off; kind = kind; size = size } ∷ []
+allocated_by (Reserve size kind) (Some (Offset off)) p = record { off = off; kind = kind; size = size } ∷ []
+allocated_by Publish None p = map reserved_object p.reserved
+allocated_by op reply p = []
 
--- all that the open call ever made, whether it freed it again or gave all up
+-- and operations one after another
+unfoldable pub allocated_told : Pending → List Told → List NewObject
+allocated_told p [] = []
+allocated_told p (t ∷ told) = allocated_by t.operation t.reply p ++ allocated_told (pending_behind t.operation t.reply p) told
+
+-- all that the open call ever made, whether it freed it again or gave all up, or reserved
 abbrev pub allocated_in : View → List NewObject
-allocated_in v = flat_map (λ (t : Told). allocated_by t.operation t.reply) v.call
+allocated_in v = allocated_told (pending_before v) v.call
 
--- What a free tells of the pool's root by its reply: one that is done is not of the root, nor is one that is refused for room, which is looked at behind
--- the root; and one that is refused for the root is (docs/MODEL.md, "The crash theorem").
-abbrev pub TellsOfRoot : Option ℕ → Operation → Option Value → Type 0
-TellsOfRoot root (Free id) None = root ≢ Some id.off
-TellsOfRoot root (Free id) (Some (Refused refusal.ActionsFull)) = root ≢ Some id.off
-TellsOfRoot root (Free id) (Some (Refused refusal.RootKept)) = root ≡ Some id.off
-TellsOfRoot root op reply = Unit {0}
+-- none of these is the root
+abbrev pub FreeNoRoot : Option ℕ → List Oid → Type 0
+FreeNoRoot root ids = All (λ (id : Oid). root ≢ Some id.off) ids
+
+-- What a free, and a publish of frees, tell of the pool's root by their reply: one that is done is not of the root, nor is one that is refused for room, or for
+-- the end of an object, which are looked at behind the root; and one that is refused for the root is (docs/MODEL.md, "The crash theorem").
+abbrev pub TellsOfRoot : Option ℕ → Operation → Option Value → Pending → Type 0
+TellsOfRoot root (Free id) None p = root ≢ Some id.off
+TellsOfRoot root (Free id) (Some (Refused refusal.ActionsFull)) p = root ≢ Some id.off
+TellsOfRoot root (Free id) (Some (Refused refusal.RootKept)) p = root ≡ Some id.off
+TellsOfRoot root Publish None p = FreeNoRoot root p.frees
+TellsOfRoot root Publish (Some (Refused refusal.OutOfRange)) p = FreeNoRoot root p.frees
+TellsOfRoot root Publish (Some (Refused refusal.ActionsFull)) p = FreeNoRoot root p.frees
+TellsOfRoot root Publish (Some (Refused refusal.RootKept)) p = Any (λ (id : Oid). root ≡ Some id.off) p.frees
+TellsOfRoot root op reply p = Unit {0}
+
+-- and operations one after another
+unfoldable pub AllTellOfRoot : Option ℕ → Pending → List Told → Type 0
+AllTellOfRoot root p [] = Unit {0}
+AllTellOfRoot root p (t ∷ told) = TellsOfRoot root t.operation t.reply p × AllTellOfRoot root (pending_behind t.operation t.reply p) told
 
 -- each operation of the open call, with its reply, agrees with this root
 abbrev pub AgreesOnRoot : View → Option ℕ → Type 0
-AgreesOnRoot v root = All (λ (t : Told). TellsOfRoot root t.operation t.reply) v.call
+AgreesOnRoot v root = AllTellOfRoot root (pending_before v) v.call
 
 -- the call allocated and freed nothing, and tells nothing of the root
 pub record KeepsBlocks (v : View) : Type 0 where

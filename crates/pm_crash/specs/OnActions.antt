@@ -2,32 +2,37 @@
 use Rattle.std.specs.Prelude.{◌≡◌, ◌⊎◌, ℕ, ◌+◌, ◌%◌, ◌==◌, ◌<◌, ◌≤◌, not, nat_le, false, true, All, if◌then◌else◌, List, [], ◌∷◌, length, map, option_map, Option, Some, None}
 use Rattle.std.specs.List.{Any}
 use Rattle.pm_objects.specs.declared.calls.Operation.{Operation}
-use Rattle.pm_objects.specs.declared.calls.Operation.TheVariants.{SetValue, Publish, Cancel}
+use Rattle.pm_objects.specs.declared.calls.Operation.TheVariants.{Cancel, DeferFree, Publish, SetValue}
 use Rattle.pm_objects.specs.declared.history.Value.{Value}
 use Rattle.pm_objects.specs.declared.history.Value.TheVariants.{Refused}
 use Rattle.pm_objects.specs.declared.refusal.Refusal.{Refusal}
 use Rattle.pm_objects.specs.declared.refusal.Refusal.TheVariants as refusal
-use Rattle.pm_model.specs.Actions.{Action, max_actions, max_entries, object_of, wants_for}
+use Rattle.pm_model.specs.Actions.{Action, Pending, max_actions, max_entries, object_of, only_sets, pending_count, wants_for}
 use Rattle.pm_model.specs.Actions.Action.{SetWord}
 use Rattle.pm_view.specs.View.{View}
 use Rattle.pm_world.specs.Records.{pool_entries}
 use Rattle.pm_crash.specs.CallBlocks.{IsOldIn, blocks_in}
 use Rattle.pm_crash.specs.Operations.{has_at, HasNewRange, HasRange, IsGone, IsLeft, KeepsLog, KeepsWords, PassesEnd, PassesNewEnd, TakesWanted, Tells}
-use Rattle.pm_crash.specs.Pending.{pending_before, pending_in, published_in}
+use Rattle.pm_crash.specs.Pending.{pending_before, pending_in, published_in, sets_before, sets_in}
 use Rattle.pm_crash.specs.Performing.{IsWord, entry_for}
 
 -- ---- what is asked of the actions alone
 
--- why a set-value at an offset is refused, if it is, where these actions are pending: it is at no multiple of eight bytes, or there is no
+-- why a set-value at an offset is refused, if it is, where this is pending: it is at no multiple of eight bytes, or there is no
 -- room for one more
-abbrev pub set_refusal : ℕ → List Action → Option Refusal
-set_refusal off actions = if not (off % 8 == 0) then Some refusal.Unaligned else if nat_le max_actions (length actions) then Some refusal.ActionsFull else None
+abbrev pub set_refusal : ℕ → Pending → Option Refusal
+set_refusal off p = if not (off % 8 == 0) then Some refusal.Unaligned else if nat_le max_actions (pending_count p) then Some refusal.ActionsFull else None
+
+-- and why a free that is deferred is: there is no room for one more
+abbrev pub defer_refusal : Pending → Option Refusal
+defer_refusal p = if nat_le max_actions (pending_count p) then Some refusal.ActionsFull else None
 
 -- what a call on the pending actions alone answers, whatever the pool
-abbrev pub IsPendingAnswer : List Action → Operation → Option Value → Type 0
-IsPendingAnswer actions (SetValue id off value) reply = reply ≡ option_map Refused (set_refusal off actions)
-IsPendingAnswer actions Cancel reply = reply ≡ None
-IsPendingAnswer actions op reply = ⊥
+abbrev pub IsPendingAnswer : Pending → Operation → Option Value → Type 0
+IsPendingAnswer p (SetValue id off value) reply = reply ≡ option_map Refused (set_refusal off p)
+IsPendingAnswer p (DeferFree id) reply = reply ≡ option_map Refused (defer_refusal p)
+IsPendingAnswer p Cancel reply = reply ≡ None
+IsPendingAnswer p op reply = ⊥
 
 -- ---- in a transaction
 
@@ -48,7 +53,7 @@ PassesObject v (SetWord id off value) = PassesEnd v id off 8 true
 
 -- so many entries the transaction would have with all that is pending, that of its lane's generation among them
 abbrev pub entries_wanted : View → ℕ
-entries_wanted v = length (published_in v) + length (pending_in v) + 1
+entries_wanted v = length (published_in v) + length (sets_in v) + 1
 
 -- and so many with those for what it made and freed
 abbrev pub entries_in : View → ℕ
@@ -79,7 +84,8 @@ pub record PublishesIn (v next : View) : Type 0 where
   pub tells : Tells v next Publish None
   pub logs : KeepsLog v next
   pub words : KeepsWords v next
-  pub each : All (CanSetIn v) (pending_in v)
+  pub alone : pending_in v ≡ only_sets (sets_in v)
+  pub each : All (CanSetIn v) (sets_in v)
   pub room : entries_in v ≤ max_entries
 
 -- the lane has not the object of the action for writing: its call made none there, and it holds no such lock
@@ -100,10 +106,10 @@ IsOnLeft v a = IsLeft v (object_of a) true
 
 -- why such a publish is refused: the first of these that holds of all that is pending
 abbrev pub IsPublishReasonIn : View → Refusal → Type 0
-IsPublishReasonIn v refusal.NotLocked = Any (LacksObjectOf v) (pending_in v)
-IsPublishReasonIn v refusal.NoObject = All (HasObjectOf v) (pending_in v) × Any (IsOnGone v) (pending_in v)
-IsPublishReasonIn v refusal.OutOfRange = All (IsOnLeft v) (pending_in v) × Any (PassesIn v) (pending_in v)
-IsPublishReasonIn v refusal.ActionsFull = All (CanSetIn v) (pending_in v) × (max_entries < entries_in v)
+IsPublishReasonIn v refusal.NotLocked = Any (LacksObjectOf v) (sets_in v)
+IsPublishReasonIn v refusal.NoObject = All (HasObjectOf v) (sets_in v) × Any (IsOnGone v) (sets_in v)
+IsPublishReasonIn v refusal.OutOfRange = All (IsOnLeft v) (sets_in v) × Any (PassesIn v) (sets_in v)
+IsPublishReasonIn v refusal.ActionsFull = All (CanSetIn v) (sets_in v) × (max_entries < entries_in v)
 IsPublishReasonIn v r = ⊥
 
 -- ---- outside of a transaction
@@ -118,20 +124,21 @@ pub record ChangesPendingOutside (v : View) (op : Operation) (reply : Option Val
 -- the lane holds the objects of all pending actions, and found each
 pub record HoldsNamed (v : View) : Type 0 where
   pub in_lanes : v.lane < v.lanes
-  pub takes : TakesWanted v [] (wants_for (pending_before v))
+  pub takes : TakesWanted v [] (wants_for (sets_before v))
 
 -- what is pending is published: the lane has an entry for each action, in their order
 pub record PublishesOutside (v : View) : Type 0 where
   pub call : v.call ≡ record { operation = Publish; reply = None } ∷ []
   pub no_records : v.log.records ≡ []
+  pub alone : pending_before v ≡ only_sets (sets_before v)
   pub holds : HoldsNamed v
-  pub each : All (CanSet v) (pending_before v)
-  pub entries : pool_entries v ≡ map entry_for (pending_before v)
+  pub each : All (CanSet v) (sets_before v)
+  pub entries : pool_entries v ≡ map entry_for (sets_before v)
 
 -- why a publish outside is refused: an object is missing, which the model allows wherever an action names one; or an action passes its end
 abbrev pub IsOutsideReason : View → Refusal → Type 0
-IsOutsideReason v refusal.NoObject = 1 ≤ length (pending_before v)
-IsOutsideReason v refusal.OutOfRange = HoldsNamed v × Any (PassesObject v) (pending_before v)
+IsOutsideReason v refusal.NoObject = 1 ≤ length (sets_before v)
+IsOutsideReason v refusal.OutOfRange = HoldsNamed v × Any (PassesObject v) (sets_before v)
 IsOutsideReason v r = ⊥
 
 -- the lane refused to publish what is pending, and told so
@@ -139,4 +146,5 @@ pub record RefusesOutside (v : View) (r : Refusal) : Type 0 where
   pub call : v.call ≡ record { operation = Publish; reply = Some (Refused r) } ∷ []
   pub no_records : v.log.records ≡ []
   pub no_entries : v.log.entries ≡ []
+  pub alone : pending_before v ≡ only_sets (sets_before v)
   pub reason : IsOutsideReason v r

@@ -16,7 +16,7 @@ use Rattle.pm_model.specs.declared.stage.Stage.{Stage}
 use Rattle.pm_model.specs.declared.stage.Stage.TheVariants as stage
 use Rattle.pm_model.specs.Transaction.{Transaction, Lock as Locked, resting, is_working}
 use Rattle.pm_model.specs.Answers.{Told as Answered, Answers, after}
-use Rattle.pm_model.specs.Actions.{Action, Pending, end_of, object_of, only_sets, with_actions}
+use Rattle.pm_model.specs.Actions.{Action, Pending, end_of, object_of, with_actions}
 use Rattle.pm_model.specs.Step.{Step, with_pending}
 use Rattle.pm_view.specs.Area.{is_in_area}
 use Rattle.pm_view.specs.Blocks.{is_chunk}
@@ -91,8 +91,8 @@ made_words v w i = made_final (pool_entries v) i (call_words v w i)
 
 -- the call turns the one pool into the other, as the plain model does, whatever is pending for other lanes
 abbrev pub Turns : View → PoolView → PoolView → Type 0
-Turns v pool next = (actions : ℕ → Pending) → actions v.lane ≡ only_sets (pending_before v)
-    → Step (record { pool = pool; actions = actions }) (act_of v) (record { pool = next; actions = with_pending actions v.lane (only_sets (pending_in v)) })
+Turns v pool next = (actions : ℕ → Pending) → actions v.lane ≡ pending_before v
+    → Step (record { pool = pool; actions = actions }) (act_of v) (record { pool = next; actions = with_pending actions v.lane (pending_in v) })
 
 -- the transaction comes from one state to another by these operations with their replies, in work before each
 unfoldable pub GoesOn : Transaction → List Answered → Transaction → Type 0
@@ -141,7 +141,7 @@ IsPerformable v w a = CanPerform w v.lanes v.zones a ⊎ LiesInNew v a
 -- that the call published lies in one of them, or in a new object
 pub record ComesTo (v : View) (w : ℕ → ℕ) (header : Header) (pool : PoolView) (level : ℕ) (at_stage : Stage) (error : TxErr) : Type 0 where
   pub tx : Transaction
-  pub runs : RunsTo pool (only_sets (pending_before v)) (told_in v) tx
+  pub runs : RunsTo pool (pending_before v) (told_in v) tx
   pub base : PoolView
   pub holds : HoldsPool (call_words v w) v.lanes v.zones header base
   pub changed : IsChanged v base tx.pool
@@ -154,7 +154,7 @@ pub record ComesTo (v : View) (w : ℕ → ℕ) (header : Header) (pool : PoolVi
   pub levels : tx.level ≡ level
   pub stands : tx.stage ≡ at_stage
   pub fails : tx.error ≡ error
-  pub actions : tx.actions ≡ only_sets (pending_in v)
+  pub actions : tx.actions ≡ pending_in v
   pub moved : tx.moved ≡ published_in v
   pub performable : All (IsPerformable v w) (published_in v)
   pub blocks_stay : blocks (call_words v w) v.lanes v.zones ≡ blocks w v.lanes v.zones
@@ -197,10 +197,10 @@ pub record IsOpen (v : View) (level : ℕ) (at_stage : Stage) (error : TxErr) : 
 -- what a call that was given up came to: the pool is as before it
 pub record ComesToNothing (v : View) (pool : PoolView) (error : TxErr) : Type 0 where
   pub tx : Transaction
-  pub runs : RunsTo pool (only_sets (pending_before v)) (told_in v) tx
+  pub runs : RunsTo pool (pending_before v) (told_in v) tx
   pub stands : tx.stage ≡ stage.OnAbort
   pub fails : tx.error ≡ error
-  pub actions : tx.actions ≡ only_sets (pending_in v)
+  pub actions : tx.actions ≡ pending_in v
   pub unchanged : tx.pool ≡ pool
 
 -- the lane's call was aborted with this error, whatever pool the words before it hold, if that may be the one before what it allocated and freed. It recorded words of

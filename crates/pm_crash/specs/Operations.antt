@@ -1,5 +1,5 @@
 -- What a lane's view shows of an operation of the open call: the view before, and the one after the operation is told with its reply.
-use Rattle.std.specs.Prelude.{◌≡◌, ◌⊎◌, ℕ, ◌+◌, ◌*◌, ◌/◌, ◌%◌, ◌<◌, ◌≤◌, ◌==◌, ◌&&◌, ◌||◌, Bool, true, false, not, IsTrue, List, [], ◌∷◌, ◌++◌, map, filter, length, slice_index, take, drop, Contains, Option, Some, None}
+use Rattle.std.specs.Prelude.{◌≡◌, ◌⊎◌, ℕ, ◌+◌, ◌*◌, ◌/◌, ◌%◌, ◌<◌, ◌≤◌, ◌==◌, ◌&&◌, ◌||◌, Bool, true, false, not, All, IsTrue, List, [], ◌∷◌, ◌++◌, map, filter, length, slice_index, take, drop, Contains, Option, Some, None}
 use Rattle.std.specs.List.{list_any}
 use Rattle.pm_layout.specs.Sizes.{class_of}
 use Rattle.pm_words.specs.Words.{bytes_of, AreBytes}
@@ -14,6 +14,7 @@ use Rattle.pm_objects.specs.declared.refusal.Refusal.TheVariants as refusal
 use Rattle.pm_model.specs.Bytes.{covered_words, new_words, records_of}
 use Rattle.pm_model.specs.Checks.{Range, range_of, is_record, is_write, needs_write}
 use Rattle.pm_model.specs.Actions.{max_entries}
+use Rattle.pm_model.specs.Answers.{IsBesideReserved}
 use Rattle.pm_model.specs.NewObjects.{new_object}
 use Rattle.pm_model.specs.Places.{CanHold, can_begin}
 use Rattle.pm_model.specs.Transaction.{Lock as Locked, is_locked, locked_all}
@@ -26,7 +27,7 @@ use Rattle.pm_crash.specs.CallBlocks.{IsMadeIn, IsOldIn, NewObject, block_of, bl
 use Rattle.pm_crash.specs.HeapChanges.{AreDisjoint}
 use Rattle.pm_crash.specs.Locks.{AreSameLocks}
 use Rattle.pm_crash.specs.OpenCall.{IsUnderBlock, block_at_line, locks_of, words_recorded}
-use Rattle.pm_crash.specs.Pending.{published_in}
+use Rattle.pm_crash.specs.Pending.{pending_in, published_in}
 use Rattle.pm_crash.specs.Performing.{entry_for}
 use Rattle.pm_crash.specs.Writes.{words_written}
 
@@ -281,6 +282,7 @@ pub record AllocatesObject (v next : View) (n : NewObject) : Type 0 where
   pub apart_found : (l : Lock) (lines : ℕ) → Contains v.locks l → l.block ≡ Some lines → AreDisjoint (block_of n) (block_at_line l.line lines)
   pub apart_made : (m : NewObject) → Contains ((blocks_in v).made ++ (blocks_in v).dropped) m → AreDisjoint (block_of n) (block_of m)
   pub unfreed : is_freed_in v n.off ≡ false
+  pub unreserved : All (IsBesideReserved n.size n.off) (pending_in v).reserved
   pub room : entries_so_far v + 2 ≤ max_entries
 
 -- the object is one that the call made and has

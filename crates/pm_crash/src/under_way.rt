@@ -11,6 +11,7 @@ ghost use Rattle.pm_objects.specs.declared.ids.Oid.{Oid};
 ghost use Rattle.pm_objects.specs.declared.pool.PoolView.{PoolView};
 ghost use Rattle.pm_objects.specs.declared.refusal.Refusal.{Refusal};
 ghost use Rattle.pm_objects.specs.declared.refusal.Refusal.TheVariants as refusal;
+ghost use Rattle.pm_model.specs.Actions.{only_sets};
 ghost use Rattle.pm_model.specs.Answers.{error_for};
 ghost use Rattle.pm_model.specs.Checks.{Range};
 ghost use Rattle.pm_model.specs.declared.stage.Stage.{Stage};
@@ -22,7 +23,7 @@ ghost use Rattle.pm_crash.specs.Held.{HoldsPool};
 ghost use Rattle.pm_crash.specs.OnActions.{ChangesPending, IsPublishReasonIn, PublishesIn};
 ghost use Rattle.pm_crash.specs.OpenCall.{IsBefore, IsCommitted, IsUnderWay, LieApart, MakesItsStep, Turns, WasAborted};
 ghost use Rattle.pm_crash.specs.Operations.{AddsNewRange, AddsRange, AllocatesObject, BeginsCall, BeginsLevel, FreesFound, FreesMade, KeepsKnown, KeepsLog, KeepsWords, ReadsBytes, ReadsNewBytes, Refuses, RefusesAlloc, RefusesFree, RefusesGone, RefusesLevel, RefusesNewRange, TakesBack, Tells, TellsNothing, WritesBytes, WritesNewBytes};
-ghost use Rattle.pm_crash.specs.Pending.{published_in};
+ghost use Rattle.pm_crash.specs.Pending.{pending_in, published_in, sets_in};
 ghost use Rattle.pm_crash.specs.Performing.{entry_for};
 
 /// A law: a call under way, which may have made and freed objects, goes on with each operation on what it found and did not free, as the plain
@@ -88,8 +89,8 @@ pub fn a_call_under_way_is_aborted()
         → IsUnderWay v level stage.Work error.None → RefusesLevel v next level wants r
         → ((want : Want) → Contains wants want → IsOldIn v want.id.off) → WasAborted next (error.Refused r) }
     ensures by_publish { (v next : View) (r : Refusal) (level : ℕ) → 1 ≤ level
-        → IsUnderWay v level stage.Work error.None → IsPublishReasonIn v r → Tells v next Publish (Some (Refused r)) → TakesBack v next
-        → WasAborted next (error.Refused r) }
+        → IsUnderWay v level stage.Work error.None → pending_in v ≡ only_sets (sets_in v) → IsPublishReasonIn v r
+        → Tells v next Publish (Some (Refused r)) → TakesBack v next → WasAborted next (error.Refused r) }
     ensures by_alloc { (v next : View) (size kind : ℕ) (r : Refusal) (level : ℕ) → 1 ≤ level
         → IsUnderWay v level stage.Work error.None → RefusesAlloc v next size kind r → WasAborted next (error.Refused r) }
     ensures by_free { (v next : View) (id : Oid) (r : Refusal) (level : ℕ) → 1 ≤ level
