@@ -16,6 +16,7 @@ use Rattle.pm_image.proofs.Members.{first_member, later_member}
 use Rattle.pm_model.specs.Actions.{Pending, only_sets}
 use Rattle.pm_model.specs.Transaction.{Transaction, is_gone, is_new, is_working, locked_all}
 use Rattle.pm_model.specs.Checks.{Seen, wants_of, seeks_block, is_free, is_publish, is_begin, lacks_reservation, puts_past_end, publishes_late, objects_named, is_action, names_gone, frees_root, frees_listed, is_bad_size, is_unaligned, finds_no_space, passes_actions, finds_no_work, finds_no_tx, is_spent, is_too_deep, passes_locks, is_not_locked, wants_no_place, takes_lock, is_busy, takes_first_lock, is_missing, passes_end, is_not_added, passes_log, first_refusal}
+use Rattle.pm_crash.specs.CallBlocks.{is_put}
 use Rattle.pm_model.proofs.Asked.{IsPlain, frees_no_root, frees_none_listed}
 
 -- what a lane saw that nothing hindered
@@ -27,11 +28,6 @@ pub record Works (tx : Transaction) : Type 0 where
   pub level : 1 ≤ tx.level
   pub working : tx.stage ≡ stage.Work
   pub few : length tx.locks ≤ 64
-
--- bytes are written into what is reserved
-abbrev pub is_put : Operation → Bool
-is_put (WriteReserved id off bytes) = true
-is_put op = false
 
 -- the operation asks for no lock, and makes, reserves and frees no object
 pub record WantsNone (op : Operation) : Type 0 where

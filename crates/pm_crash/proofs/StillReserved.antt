@@ -1,20 +1,26 @@
 -- What a lane reserved for objects it has for them still, and what it has bears out what its call told, where it reserved the same and no word changed that tells of it.
-use Rattle.std.proofs.Common.{◌≡◌, inl, inr, ℕ, ◌+◌, ◌*◌, ◌<◌, cond, eqb, List, [], ◌∷◌, ◌++◌, slice_index, Option, Some, None, sym, ◌∙◌, ap, subst, arith}
-use Rattle.std.specs.List.{All, list_any}
+use Rattle.std.proofs.Common.{◌≡◌, false, inl, inr, ℕ, ◌+◌, ◌*◌, ◌<◌, cond, eqb, List, [], ◌∷◌, ◌++◌, map, slice_index, Option, Some, None, sym, ◌∙◌, ap, subst, arith}
+use Rattle.std.specs.List.{All, Contains, list_any}
+use Rattle.std.proofs.lemmas.Bool.{false≢true}
 use Rattle.std.proofs.lemmas.List.{append-nil}
-use Rattle.std.proofs.lemmas.List.Elements.{All-weaker}
+use Rattle.std.proofs.lemmas.List.Elements.{All-contains, All-contains_itself, All-weaker}
 use Rattle.pm_image.specs.Blocks.{descriptor_word}
 use Rattle.pm_objects.specs.declared.calls.Operation.{Operation}
+use Rattle.pm_objects.specs.declared.calls.Operation.TheVariants.{Cancel, DeferFree, Publish, Reserve, SetValue, WriteReserved}
 use Rattle.pm_objects.specs.declared.history.Value.{Value}
+use Rattle.pm_objects.specs.declared.history.Value.TheVariants.{Offset, Refused}
+use Rattle.pm_image.proofs.Members.{no_member}
+use Rattle.pm_model.specs.Actions.{Pending}
 use Rattle.pm_view.specs.declared.occ.Occ.{Occ}
 use Rattle.pm_view.specs.declared.occ.Occ.TheVariants.{Zone}
 use Rattle.pm_view.specs.View.{View}
 use Rattle.pm_view.specs.Views.{has_bit, reserves}
 use Rattle.pm_crash.proofs.CallBlocks.{agree_same, agrees_once_more, allocated_once_more, same_allocated}
-use Rattle.pm_crash.specs.CallBlocks.{AgreesOnRoot, NewObject, TellsOfRoot, allocated_by, allocated_in}
+use Rattle.pm_crash.specs.CallBlocks.{AgreesOnRoot, LeavesReserved, NewObject, TellsOfRoot, allocated_in, reserved_in, reserved_object}
 use Rattle.pm_crash.specs.HeapChanges.{run_at}
 use Rattle.pm_crash.specs.NewObjects.{block_of_chunks, block_of_run}
-use Rattle.pm_crash.specs.Pending.{pending_in}
+use Rattle.pm_crash.specs.Pending.{pending_behind, pending_in}
+use Rattle.pm_crash.proofs.PendingOn.{pending_once_more, pending_same}
 use Rattle.pm_crash.specs.Reserved.{IsBorneOut, IsReservedFor, IsReservedInChunks, IsReservedInRun, root_in}
 
 -- the lane has reserved the same, and no word changed that describes a chunk, nor the root's
@@ -24,6 +30,18 @@ pub record HasSameHeads (v next : View) : Type 0 where
   pub reserved : next.reserved ≡ v.reserved
   pub described : (c : ℕ) → c < 64 * v.zones → slice_index next.words (descriptor_word v.lanes c) ≡ slice_index v.words (descriptor_word v.lanes c)
   pub root : slice_index next.words 64 ≡ slice_index v.words 64
+
+-- what is reserved behind an operation that leaves it was before
+reserved_behind : (op : Operation) (reply : Option Value) (p : Pending) → LeavesReserved op reply p → (n : NewObject) → Contains (map reserved_object (pending_behind op reply p).reserved) n
+    → Contains (map reserved_object p.reserved) n
+reserved_behind op (Some (Refused r)) p leaves n there = there
+reserved_behind (Reserve size kind) (Some (Offset off)) p leaves n there = let none = leaves.0 in absurd cc
+reserved_behind (WriteReserved id off bytes) reply p leaves n there = absurd (false≢true (sym leaves.1))
+reserved_behind (DeferFree id) reply p leaves n there = there
+reserved_behind (SetValue id off value) reply p leaves n there = there
+reserved_behind Publish reply p leaves n there = absurd (no_member n there)
+reserved_behind Cancel reply p leaves n there = absurd (no_member n there)
+reserved_behind op reply p leaves n there = there
 
 module _ (v next : View) (same : HasSameHeads v next) where
   reserves_still : (at : Occ) (bit : ℕ) → reserves next at bit ≡ reserves v at bit
@@ -71,17 +89,23 @@ module _ (v next : View) (same : HasSameHeads v next) where
   same_root = ap (λ (x : ℕ). cond (eqb x 0) None (Some x)) same.root
 
   -- behind an operation that allocates nothing, and agrees with the root
-  pub borne_told : (op : Operation) (reply : Option Value) → next.entries ≡ v.entries → next.call ≡ v.call ++ record { operation = op; reply = reply } ∷ [] → allocated_by op reply (pending_in v) ≡ []
+  pub borne_told : (op : Operation) (reply : Option Value) → next.entries ≡ v.entries → next.call ≡ v.call ++ record { operation = op; reply = reply } ∷ [] → LeavesReserved op reply (pending_in v)
       → TellsOfRoot (root_in (slice_index v.words)) op reply (pending_in v) → IsBorneOut v → IsBorneOut next
   borne_told op reply entries call none agrees borne = record {
     reserved =
-        subst (All (IsReservedFor next)) (sym (allocated_once_more v next op reply entries call ∙ ((λ j. allocated_in v ++ none j) ∙ append-nil (allocated_in v))))
+        subst (All (IsReservedFor next)) (sym (allocated_once_more v next op reply entries call ∙ ((λ j. allocated_in v ++ none.0 j) ∙ append-nil (allocated_in v))))
         (All-weaker (IsReservedFor v) (IsReservedFor next) reserved_still (allocated_in v) borne.reserved);
+    pending =
+        All-weaker (Contains (reserved_in next)) (IsReservedFor next)
+        (λ n there. reserved_still n
+        (All-contains (IsReservedFor v) (reserved_in v) n borne.pending
+        (reserved_behind op reply (pending_in v) none n (subst (λ (p : Pending). Contains (map reserved_object p.reserved) n) (pending_once_more v next op reply entries call) there))))
+        (reserved_in next) (All-contains_itself (reserved_in next));
     root = subst (AgreesOnRoot next) (sym same_root) (agrees_once_more v next op reply entries call (root_in (slice_index v.words)) borne.root agrees);
   }
 
   -- or tells nothing of it
-  pub borne_on : (op : Operation) (reply : Option Value) → next.entries ≡ v.entries → next.call ≡ v.call ++ record { operation = op; reply = reply } ∷ [] → allocated_by op reply (pending_in v) ≡ []
+  pub borne_on : (op : Operation) (reply : Option Value) → next.entries ≡ v.entries → next.call ≡ v.call ++ record { operation = op; reply = reply } ∷ [] → LeavesReserved op reply (pending_in v)
       → ((root : Option ℕ) → TellsOfRoot root op reply (pending_in v)) → IsBorneOut v → IsBorneOut next
   borne_on op reply entries call none no_root = borne_told op reply entries call none (no_root (root_in (slice_index v.words)))
 
@@ -89,5 +113,8 @@ module _ (v next : View) (same : HasSameHeads v next) where
   pub borne_still : next.entries ≡ v.entries → next.call ≡ v.call → IsBorneOut v → IsBorneOut next
   borne_still entries call borne = record {
     reserved = subst (All (IsReservedFor next)) (sym (same_allocated v next entries call)) (All-weaker (IsReservedFor v) (IsReservedFor next) reserved_still (allocated_in v) borne.reserved);
+    pending =
+        subst (λ (p : Pending). All (IsReservedFor next) (map reserved_object p.reserved)) (sym (pending_same v next entries call))
+        (All-weaker (IsReservedFor v) (IsReservedFor next) reserved_still (reserved_in v) borne.pending);
     root = subst (AgreesOnRoot next) (sym same_root) (agree_same (root_in (slice_index v.words)) v next entries call borne.root);
   }

@@ -1,11 +1,11 @@
 -- What a call allocated and freed so far, by the operations that it told: the lists that the plain model's transaction keeps (pmemobj_tx_alloc(3),
 -- pmemobj_tx_free(3)).
-use Rattle.std.specs.Prelude.{◌≡◌, ◌≢◌, ℕ, ◌-◌, ◌%◌, ◌==◌, ◌||◌, ◌≤◌, not, Bool, All, List, [], ◌∷◌, ◌++◌, filter, length, map, slice_index, Contains, Option, None, Some, false, if◌then◌else◌}
+use Rattle.std.specs.Prelude.{◌≡◌, ◌≢◌, ℕ, ◌-◌, ◌%◌, ◌==◌, ◌||◌, ◌≤◌, not, Bool, true, All, List, [], ◌∷◌, ◌++◌, filter, length, map, slice_index, Contains, Option, None, Some, false, if◌then◌else◌}
 use Rattle.std.specs.List.{Any, list_any}
 use Rattle.pm_layout.specs.Sizes.{class_of}
 use Rattle.pm_objects.specs.Pool.{block_lines}
 use Rattle.pm_objects.specs.declared.calls.Operation.{Operation}
-use Rattle.pm_objects.specs.declared.calls.Operation.TheVariants.{Abort, Alloc, Free, Publish, Reserve}
+use Rattle.pm_objects.specs.declared.calls.Operation.TheVariants.{Abort, Alloc, Free, Publish, Reserve, WriteReserved}
 use Rattle.pm_objects.specs.declared.history.Value.{Value}
 use Rattle.pm_objects.specs.declared.history.Value.TheVariants.{Offset, Refused}
 use Rattle.pm_objects.specs.declared.ids.Oid.{Oid}
@@ -22,7 +22,7 @@ use Rattle.pm_model.specs.Checks.{is_action}
 use Rattle.pm_view.specs.Area.{is_in_area}
 use Rattle.pm_view.specs.View.{Told, View}
 use Rattle.pm_crash.specs.NewObjects.{HasNewObject, unlinked}
-use Rattle.pm_crash.specs.Pending.{pending_before, pending_behind}
+use Rattle.pm_crash.specs.Pending.{pending_before, pending_behind, pending_in}
 
 -- an object that a call made: its offset, its type and its size in bytes
 pub record NewObject : Type 0 where
@@ -93,6 +93,15 @@ allocated_by (Reserve size kind) (Some (Offset off)) p = record { off = off; kin
 allocated_by Publish None p = map reserved_object p.reserved
 allocated_by op reply p = []
 
+-- bytes are written into what is reserved
+abbrev pub is_put : Operation → Bool
+is_put (WriteReserved id off bytes) = true
+is_put op = false
+
+-- the operation leaves what is reserved as it is, or gives it up: it needs room for no object, and writes no bytes into what is reserved
+abbrev pub LeavesReserved : Operation → Option Value → Pending → Type 0
+LeavesReserved op reply p = (allocated_by op reply p ≡ []) × (is_put op ≡ false)
+
 -- and operations one after another
 unfoldable pub allocated_told : Pending → List Told → List NewObject
 allocated_told p [] = []
@@ -101,6 +110,10 @@ allocated_told p (t ∷ told) = allocated_by t.operation t.reply p ++ allocated_
 -- all that the open call ever made, whether it freed it again or gave all up, or reserved
 abbrev pub allocated_in : View → List NewObject
 allocated_in v = allocated_told (pending_before v) v.call
+
+-- the objects that what is reserved is to become
+abbrev pub reserved_in : View → List NewObject
+reserved_in v = map reserved_object (pending_in v).reserved
 
 -- none of these is the root
 abbrev pub FreeNoRoot : Option ℕ → List Oid → Type 0

@@ -6,7 +6,7 @@ use Rattle.pm_image.specs.Blocks.{descriptor_word}
 use Rattle.pm_view.specs.declared.occ.Occ.TheVariants.{Zone}
 use Rattle.pm_view.specs.View.{View}
 use Rattle.pm_view.specs.Views.{reserves}
-use Rattle.pm_crash.specs.CallBlocks.{AgreesOnRoot, NewObject, allocated_in, block_of}
+use Rattle.pm_crash.specs.CallBlocks.{AgreesOnRoot, NewObject, allocated_in, block_of, reserved_in}
 use Rattle.pm_crash.specs.HeapChanges.{run_at}
 use Rattle.pm_crash.specs.NewObjects.{block_of_chunks, block_of_run}
 
@@ -45,8 +45,9 @@ IsReservedFor v n = IsReservedInRun v n ⊎ IsReservedInChunks v n
 abbrev pub root_in : (ℕ → ℕ) → Option ℕ
 root_in w = if w 64 == 0 then None else Some (w 64)
 
--- What the lane has bears out what its call told of the heap: what it allocated lies in blocks that the lane reserved, and each free agrees with the root that
--- its words have.
+-- What the lane has bears out what its call told of the heap: what it allocated lies in blocks that the lane reserved, and so does what is pending to be made;
+-- and each free agrees with the root that its words have.
 pub record IsBorneOut (v : View) : Type 0 where
   pub reserved : All (IsReservedFor v) (allocated_in v)
+  pub pending : All (IsReservedFor v) (reserved_in v)
   pub root : AgreesOnRoot v (root_in (slice_index v.words))
