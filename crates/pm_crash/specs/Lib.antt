@@ -14,6 +14,7 @@ pub mod OneLane
 pub mod Locks
 pub mod CallBlocks
 pub mod Reserved
+pub mod Reserving
 pub mod OpenCall
 pub mod Operations
 pub mod OnActions
