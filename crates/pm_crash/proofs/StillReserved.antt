@@ -3,14 +3,14 @@ use Rattle.std.proofs.Common.{◌≡◌, false, inl, inr, ℕ, ◌+◌, ◌*◌,
 use Rattle.std.specs.List.{All, Contains, list_any}
 use Rattle.std.proofs.lemmas.Bool.{false≢true}
 use Rattle.std.proofs.lemmas.List.{append-nil}
-use Rattle.std.proofs.lemmas.List.Elements.{All-contains, All-contains_itself, All-weaker}
+use Rattle.std.proofs.lemmas.List.Elements.{All-cons, All-contains, All-contains_itself, All-head, All-nil, All-tail, All-weaker}
 use Rattle.pm_image.specs.Blocks.{descriptor_word}
 use Rattle.pm_objects.specs.declared.calls.Operation.{Operation}
 use Rattle.pm_objects.specs.declared.calls.Operation.TheVariants.{Cancel, DeferFree, Publish, Reserve, SetValue, WriteReserved}
 use Rattle.pm_objects.specs.declared.history.Value.{Value}
 use Rattle.pm_objects.specs.declared.history.Value.TheVariants.{Offset, Refused}
 use Rattle.pm_image.proofs.Members.{no_member}
-use Rattle.pm_model.specs.Actions.{Pending}
+use Rattle.pm_model.specs.Actions.{Pending, Reservation}
 use Rattle.pm_view.specs.declared.occ.Occ.{Occ}
 use Rattle.pm_view.specs.declared.occ.Occ.TheVariants.{Zone}
 use Rattle.pm_view.specs.View.{View}
@@ -30,6 +30,12 @@ pub record HasSameHeads (v next : View) : Type 0 where
   pub reserved : next.reserved ≡ v.reserved
   pub described : (c : ℕ) → c < 64 * v.zones → slice_index next.words (descriptor_word v.lanes c) ≡ slice_index v.words (descriptor_word v.lanes c)
   pub root : slice_index next.words 64 ≡ slice_index v.words 64
+
+-- of each object that is reserved, and so of each reservation
+pub each_reserved : (P : NewObject → Type 0) (rs : List Reservation) → All P (map reserved_object rs) → All (λ (r : Reservation). P (reserved_object r)) rs
+each_reserved P [] each = All-nil (λ (r : Reservation). P (reserved_object r))
+each_reserved P (r ∷ rs) each =
+    All-cons (λ (s : Reservation). P (reserved_object s)) r rs (All-head P (reserved_object r) (map reserved_object rs) each) (each_reserved P rs (All-tail P (reserved_object r) (map reserved_object rs) each))
 
 -- what is reserved behind an operation that leaves it was before
 reserved_behind : (op : Operation) (reply : Option Value) (p : Pending) → LeavesReserved op reply p → (n : NewObject) → Contains (map reserved_object (pending_behind op reply p).reserved) n

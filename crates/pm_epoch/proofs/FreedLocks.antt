@@ -33,7 +33,7 @@ module _ (v next : View) (id : Oid) (frees : FreesFound v next id) (locked : Has
   freed_more =
       let b : CallBlocks = blocks_in v in
       let old : list_any (is_at id.off) b.made ≡ false = (or_parts (list_any (is_at id.off) b.made) (list_any (is_at id.off) b.dropped) frees.old.found).0 in
-      ap (λ (blocks : CallBlocks). blocks.freed) (blocks_once_more v next (Free id) None frees.tells.call ∙ cond-false (list_any (is_at id.off) b.made) _ (record b { freed = b.freed ++ id.off ∷ [] }) old)
+      ap (λ (blocks : CallBlocks). blocks.freed) (blocks_once_more v next (Free id) None frees.tells.keeps.entries frees.tells.call ∙ cond-false (list_any (is_at id.off) b.made) _ (record b { freed = b.freed ++ id.off ∷ [] }) old)
 
   now_freed : (off : ℕ) → eqb id.off off ≡ true → IsFoundAt next off
   now_freed off is = record {

@@ -33,7 +33,6 @@ pub mod HeldApart
 pub mod GainedRooms
 pub mod GainedRuns
 pub mod GainedObjects
-pub mod ListedObjects
 pub mod ApartObjects
 pub mod ToldViews
 pub mod ToldObjects

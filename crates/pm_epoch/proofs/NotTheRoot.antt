@@ -20,9 +20,9 @@ use Rattle.pm_crash.specs.Alone.{WorksAlone}
 use Rattle.pm_crash.specs.CallBlocks.{NewObject, allocated_in, block_of, blocks_in}
 use Rattle.pm_crash.specs.Operations.{IsMade}
 use Rattle.pm_crash.specs.Reserved.{IsBorneOut, IsReservedFor, root_in}
+use Rattle.pm_crash.proofs.NewStay.{new_is_listed}
 use Rattle.pm_epoch.proofs.GainedObjects.{stood}
 use Rattle.pm_epoch.proofs.HeldApart.{block_has_lines, opening_apart, opening_has_lines, opening_has_no_fault}
-use Rattle.pm_epoch.proofs.ListedObjects.{made_is_listed}
 use Rattle.pm_epoch.proofs.StayingBorneOut.{root_stands}
 
 -- where words without a fault have a root, a block begins 64 bytes before it
@@ -56,5 +56,5 @@ module _ (o : Opening) (header : Header) (pool : PoolView) (start v : View) (ste
 
   pub made_is_no_root : (id : Oid) → IsBorneOut v → IsMade v id → root_in (slice_index v.words) ≢ Some id.off
   made_is_no_root id borne_out made is =
-      let listed : Contains (allocated_in v) made.new = made_is_listed v made.new (Contains-append_left (blocks_in v).made (blocks_in v).dropped made.new made.has) in
+      let listed : Contains (allocated_in v) made.new = new_is_listed v made.new (Contains-append_left (blocks_in v).made (blocks_in v).dropped made.new made.has) in
       reserved_is_no_root made.new (All-contains (IsReservedFor v) (allocated_in v) made.new borne_out.reserved listed) (is ∙ ap (λ off. Some off) made.place)

@@ -3,14 +3,13 @@ use Rattle.std.proofs.Common.{◌≡◌, ◌≢◌, ⊎_elim, ℕ, cond, eqb, Li
 use Rattle.std.proofs.lemmas.Bool.{cases_eq, cond-false, cond-true}
 use Rattle.std.proofs.lemmas.List.{append_assoc, append-nil}
 use Rattle.pm_objects.specs.declared.pool.PoolView.{PoolView}
-use Rattle.pm_model.specs.Actions.{Action, Pending, only_sets}
+use Rattle.pm_model.specs.Actions.{Pending, none_pending}
 use Rattle.pm_model.specs.History.{opened}
 use Rattle.pm_model.specs.Names.{Replays}
 use Rattle.pm_model.specs.Step.{Act, State, Step, with_pending}
 use Rattle.pm_view.specs.View.{Numbered, View}
 use Rattle.pm_crash.specs.OpenCall.{Turns}
 use Rattle.pm_crash.specs.Pending.{act_alone, act_of, acts_alone, acts_alone_behind, pending_from, pending_in, state_alone, told_in}
-use Rattle.pm_crash.proofs.HistoryActs.{wrapped}
 use Rattle.pm_crash.proofs.PendingOn.{calls_further}
 
 acts_further : (done entries : List Numbered) (e : Numbered) → acts_alone_behind done (entries ++ e ∷ []) ≡ acts_alone_behind done entries ++ act_alone (done ++ entries) e ∷ []
@@ -30,34 +29,27 @@ module _ (v : View) (n : ℕ) (lane : v.lane ≡ 0) where
   e = record { number = n; call = v.call }
 
   -- what each lane has pending before it
-  abbrev pending : ℕ → List Action
-  pending k = cond (eqb k 0) (pending_from [] v.entries) []
+  abbrev pending : ℕ → Pending
+  pending k = cond (eqb k 0) (pending_from none_pending v.entries) none_pending
 
-  own : pending v.lane ≡ pending_from [] v.entries
-  own = cond-true (eqb v.lane 0) (pending_from [] v.entries) [] (eq-eqb v.lane 0 lane)
+  own : pending v.lane ≡ pending_from none_pending v.entries
+  own = cond-true (eqb v.lane 0) (pending_from none_pending v.entries) none_pending (eq-eqb v.lane 0 lane)
 
-  pending_further : (k : ℕ) → cond (eqb k v.lane) (pending_in v) (pending k) ≡ cond (eqb k 0) (pending_from [] (v.entries ++ e ∷ [])) []
+  pending_further : (k : ℕ) → cond (eqb k v.lane) (pending_in v) (pending k) ≡ cond (eqb k 0) (pending_from none_pending (v.entries ++ e ∷ [])) none_pending
   pending_further k = ⊎_elim
       (λ (same : k ≡ 0).
       cond-true (eqb k v.lane) (pending_in v) (pending k) (eq-eqb k v.lane (same ∙ sym lane))
-      ∙ (sym (calls_further [] v.entries e) ∙ sym (cond-true (eqb k 0) (pending_from [] (v.entries ++ e ∷ [])) [] (eq-eqb k 0 same))))
+      ∙ (sym (calls_further none_pending v.entries e) ∙ sym (cond-true (eqb k 0) (pending_from none_pending (v.entries ++ e ∷ [])) none_pending (eq-eqb k 0 same))))
       (λ (other : k ≢ 0).
       cond-false (eqb k v.lane) (pending_in v) (pending k) (ne_eqb k v.lane (λ same. other (same ∙ lane)))
-      ∙ (cond-false (eqb k 0) (pending_from [] v.entries) [] (ne_eqb k 0 other) ∙ sym (cond-false (eqb k 0) (pending_from [] (v.entries ++ e ∷ [])) [] (ne_eqb k 0 other))))
+      ∙ (cond-false (eqb k 0) (pending_from none_pending v.entries) none_pending (ne_eqb k 0 other) ∙ sym (cond-false (eqb k 0) (pending_from none_pending (v.entries ++ e ∷ [])) none_pending (ne_eqb k 0 other))))
       (cases_eq k 0)
 
-  -- in the model's terms
-  abbrev model_pending : ℕ → Pending
-  model_pending k = only_sets (pending k)
-
-  model_further : (k : ℕ) → with_pending model_pending v.lane (only_sets (pending_in v)) k ≡ only_sets (cond (eqb k 0) (pending_from [] (v.entries ++ e ∷ [])) [])
-  model_further k = sym (wrapped (eqb k v.lane) (pending_in v) (pending k)) ∙ ap only_sets (pending_further k)
-
-  state_further : (last : PoolView) → record { pool = last; actions = with_pending model_pending v.lane (only_sets (pending_in v)) } ≡ state_alone last (v.entries ++ e ∷ [])
-  state_further last = (λ j. let s : State = record { pool = last; actions = λ k. model_further k j } in s)
+  state_further : (last : PoolView) → record { pool = last; actions = with_pending pending v.lane (pending_in v) } ≡ state_alone last (v.entries ++ e ∷ [])
+  state_further last = (λ j. let s : State = record { pool = last; actions = λ k. pending_further k j } in s)
 
   act_drawn : act_of v ≡ act_alone v.entries e
-  act_drawn = (λ j. let act : Act = record { lane = lane j; actions = only_sets (pending_from [] v.entries); told = told_in v } in act)
+  act_drawn = (λ j. let act : Act = record { lane = lane j; actions = pending_from none_pending v.entries; told = told_in v } in act)
 
   pub replays_with_call : (pool before last : PoolView) → Replays (opened pool) (acts_alone v.entries) (state_alone before v.entries) → Turns v before last
       → Replays (opened pool) (acts_alone (v.entries ++ e ∷ [])) (state_alone last (v.entries ++ e ∷ []))
@@ -65,4 +57,4 @@ module _ (v : View) (n : ℕ) (lane : v.lane ≡ 0) where
       subst (λ (calls : List Act). Replays (opened pool) calls (state_alone last (v.entries ++ e ∷ []))) (sym (acts_further [] v.entries e))
       (step_more (acts_alone v.entries) (act_alone v.entries e) (opened pool) (state_alone before v.entries) (state_alone last (v.entries ++ e ∷ [])) replays
       (subst (λ (act : Act). Step (state_alone before v.entries) act (state_alone last (v.entries ++ e ∷ []))) act_drawn
-      (subst (Step (state_alone before v.entries) (act_of v)) (state_further last) (turns model_pending (ap only_sets own)))))
+      (subst (Step (state_alone before v.entries) (act_of v)) (state_further last) (turns pending own))))

@@ -46,10 +46,10 @@ ghost use Rattle.pm_crash.specs.Held.{HoldsImage, HoldsPool};
 ghost use Rattle.pm_crash.specs.Publishing.Published.{Changes, Performs};
 ghost use Rattle.pm_crash.specs.Publishing.{AreInOrder, Published, all_blocks_published, all_pool_published};
 ghost use Rattle.pm_crash.specs.Alone.{BeginsAgain, HasDrainedSlots, MeansCalls, WorksAlone, kept_numbered, standing};
-ghost use Rattle.pm_crash.specs.CallBlocks.{MayPrecede, NewObject, TellsOfRoot, allocated_by, block_of, blocks_in, is_freed_in};
+ghost use Rattle.pm_crash.specs.CallBlocks.{LeavesReserved, MayPrecede, NewObject, TellsOfRoot, block_of, blocks_in, is_freed_in, reserved_in};
 ghost use Rattle.pm_crash.specs.OpenCall.{IsCommitted, IsUnderWay, Turns};
 ghost use Rattle.pm_crash.specs.Operations.{AllocatesObject, BeginsCall, FreesFound, IsMade, KeepsFound, Tells, entries_so_far};
-ghost use Rattle.pm_crash.specs.Pending.{acts_alone, state_alone};
+ghost use Rattle.pm_crash.specs.Pending.{acts_alone, pending_in, state_alone};
 ghost use Rattle.pm_crash.specs.Reserved.{IsBorneOut, IsReservedFor, IsUnusedChunk, root_in};
 ghost use Rattle.pm_crash.specs.Taken.{TakenBehindAll};
 ghost use Rattle.pm_fresh.specs.Filled.{IsFilled};
@@ -135,10 +135,10 @@ pub fn a_lane_alone_may_tell_its_new_object()
 /// allocates nothing and, where it is a free, agrees with the root that the words have, if the lane has what it had reserved, and each chunk is described as it
 /// was. No code runs.
 pub fn a_call_stays_borne_out()
-    ensures begins { (v : View) (wants : List Want) → BeginsCall v wants → IsBorneOut v }
+    ensures begins { (v : View) (wants : List Want) → BeginsCall v wants → All (IsReservedFor v) (reserved_in v) → IsBorneOut v }
     ensures told { (o : Opening) (header : Header) (pool : PoolView) (start v w : View) (steps more : List Step) (op : Operation) (reply : Option Value)
-        → WorksAlone o header pool start steps v → WorksAlone o header pool start more w → Tells v w op reply → allocated_by op reply ≡ []
-        → TellsOfRoot (root_in (slice_index v.words)) op reply → w.reserved ≡ v.reserved → HasSameDescriptors v w → IsBorneOut v → IsBorneOut w }
+        → WorksAlone o header pool start steps v → WorksAlone o header pool start more w → Tells v w op reply → LeavesReserved op reply (pending_in v)
+        → TellsOfRoot (root_in (slice_index v.words)) op reply (pending_in v) → w.reserved ≡ v.reserved → HasSameDescriptors v w → IsBorneOut v → IsBorneOut w }
 {}
 
 /// A law: an object that the call of a lane alone made is not the pool's root, by the words, where what the lane has bears out what the call told. So a free of it

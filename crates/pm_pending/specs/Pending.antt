@@ -3,7 +3,7 @@ use Rattle.std.specs.Prelude.{◌+◌, false, List, map, Option, None, Some, Res
 use Rattle.pm_objects.specs.declared.refusal.Refusal.{Refusal}
 use Rattle.pm_record.specs.declared.redo.Op.TheVariants.{Set}
 use Rattle.pm_record.specs.declared.redo.Redo.{Redo}
-use Rattle.pm_model.specs.Actions.{Action}
+use Rattle.pm_model.specs.Actions.{Action, Pending, only_sets}
 use Rattle.pm_model.specs.Actions.Action.{SetWord}
 use Rattle.pm_model.specs.Checks.{Seen}
 use Rattle.pm_pending.specs.declared.actions.SetAction.{SetAction}
@@ -12,8 +12,12 @@ use Rattle.pm_pending.specs.declared.actions.SetAction.{SetAction}
 abbrev pub action_of : SetAction → Action
 action_of a = SetWord a.id a.off a.value
 
-abbrev pub pending_of : List SetAction → List Action
-pending_of actions = map action_of actions
+abbrev pub sets_of : List SetAction → List Action
+sets_of actions = map action_of actions
+
+-- what is pending where a list has all of it
+abbrev pub pending_of : List SetAction → Pending
+pending_of actions = only_sets (sets_of actions)
 
 -- the redo entry that performs an action of the model's: it sets the word that the action is of
 abbrev pub entry_of : Action → Redo

@@ -1,7 +1,6 @@
 ghost use Rattle.std.specs.Prelude.{◌≡◌, ◌+◌, ◌^◌, ◌<◌, ◌≤◌, ◌++◌, [], ◌∷◌, map, length, OnErr, OnOk, All};
 ghost use Rattle.pm_objects.specs.declared.calls.Operation.TheVariants.{SetValue};
 ghost use Rattle.pm_objects.specs.declared.pool.PoolView.{PoolView};
-ghost use Rattle.pm_model.specs.Actions.{only_sets};
 ghost use Rattle.pm_model.specs.Outside.{Outside, refusal_outside};
 ghost use Rattle.pm_crash.specs.OnActions.{set_refusal};
 ghost use Rattle.pm_pending.specs.declared.actions.SetAction.{SetAction};
@@ -45,7 +44,7 @@ impl SetAction {
 /// Makes the action pending, behind the others. `Unaligned` where its bytes don't begin at a multiple of eight, else `ActionsFull` where 63 are pending:
 /// the refusals of the plain model's call, whatever the pool; each leaves the list as it was. pmemobj_set_value(3).
 pub fn pend(actions: &mut ArrayVec<SetAction, 63>, action: SetAction) -> Result<(), Refusal>
-    ensures answers { (pool : PoolView) → refusal_outside unhindered (record { pool = pool; actions = only_sets (pending_of actions.old.items) }) (SetValue action.id action.off action.value) ≡ refusal_in result }
+    ensures answers { (pool : PoolView) → refusal_outside unhindered (record { pool = pool; actions = pending_of actions.old.items }) (SetValue action.id action.off action.value) ≡ refusal_in result }
     ensures reason { refusal_in result ≡ set_refusal action.off (pending_of actions.old.items) }
     ensures done { OnOk result (actions.new.items ≡ actions.old.items ++ action ∷ []) }
     ensures unchanged { OnErr result (actions.new ≡ actions.old) }
