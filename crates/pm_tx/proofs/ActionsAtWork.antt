@@ -10,7 +10,7 @@ use Rattle.pm_crash.specs.Operations.{KeepsLog, KeepsWords, Tells}
 use Rattle.pm_crash.specs.Pending.{pending_behind, pending_in, published_by, published_in}
 use Rattle.pm_memory.specs.Runs.{Stops}
 use Rattle.pm_memory.specs.declared.lane_mem.Stopped.{Stopped}
-use Rattle.pm_model.specs.Actions.{Action}
+use Rattle.pm_model.specs.Actions.{Action, Pending, only_sets, with_set}
 use Rattle.pm_objects.specs.declared.calls.Operation.{Operation}
 use Rattle.pm_objects.specs.declared.calls.Operation.TheVariants.{Cancel, SetValue}
 use Rattle.pm_objects.specs.declared.history.Value.{Value}
@@ -121,7 +121,7 @@ module _ (v m : View) (is : IsAsBefore v m) (op : Operation) (reply : Option Val
       (tell_works m op reply is.working)
       (ap (λ (l : Log). l.entries) is.log ∙ work.no_entries)
       (published_told ∙ (ap (λ (more : List Action). published_in v ++ more) none ∙ append-nil (published_in v)))
-      (made_none_before v told op reply tells.call (pending_leaves_made (pending_in v) op reply answer))
+      (made_none_before v told op reply tells.keeps.entries tells.call (pending_leaves_made (pending_in v) op reply answer))
       (change_goes_on v told op reply lane.level work.level work.under_way (changes answer))
 
 -- ---- a set-value
@@ -132,9 +132,9 @@ error_is_reason (Ok done) = refl
 error_is_reason (Err r) = refl
 
 -- the list is what is pending: with the action, or as it was
-pub set_is_pending : (result : Result (Unit {0}) Refusal) (old new : List SetAction) (a : SetAction) (pending : List Action) → pending_of old ≡ pending → OnOk result (new ≡ old ++ a ∷ []) → OnErr result (new ≡ old)
+pub set_is_pending : (result : Result (Unit {0}) Refusal) (old new : List SetAction) (a : SetAction) (pending : Pending) → pending_of old ≡ pending → OnOk result (new ≡ old ++ a ∷ []) → OnErr result (new ≡ old)
     → pending_of new ≡ pending_behind (SetValue a.id a.off a.value) (option_map Refused (refusal_in result)) pending
-set_is_pending (Ok done) old new a pending is more same = ap pending_of more ∙ (map-append action_of old (a ∷ []) ∙ ap (λ (actions : List Action). actions ++ action_of a ∷ []) is)
+set_is_pending (Ok done) old new a pending is more same = ap pending_of more ∙ (ap only_sets (map-append action_of old (a ∷ [])) ∙ ap (with_set (action_of a)) is)
 set_is_pending (Err r) old new a pending is more same = ap pending_of same ∙ is
 
 -- ---- a cancel

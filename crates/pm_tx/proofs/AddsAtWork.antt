@@ -181,7 +181,7 @@ module _ {M : Type 0} (o : Opening) (at : M → View → Type 0) (lane : Lane M)
           (tell_works u (AddRange id off len) None made.1.working)
           (made.1.entries ∙ work.no_entries)
           (published_once_more v w (AddRange id off len) None added.tells.keeps.entries added.tells.call ∙ append-nil (published_in v))
-          (made_none_before v w (AddRange id off len) None added.tells.call tt)
+          (made_none_before v w (AddRange id off len) None added.tells.keeps.entries added.tells.call tt)
           (add_goes_on v w id off len lane.level work.level work.under_way added old) in
           record {
             ready = add_may_be_made;

@@ -25,7 +25,8 @@ use Rattle.pm_crash.proofs.FoundBlocks.{IsPageOf, page_of_chunk}
 use Rattle.pm_crash.proofs.GivenUp.{abort_aborts, gives_up}
 use Rattle.pm_crash.proofs.NewRuns.{page_at}
 use Rattle.pm_crash.proofs.StillReserved.{HasSameHeads, borne_on, borne_still}
-use Rattle.pm_crash.specs.CallBlocks.{KeepsBlocks, TellsOfRoot, allocated_by}
+use Rattle.pm_crash.specs.CallBlocks.{KeepsBlocks, LeavesReserved, TellsOfRoot}
+use Rattle.pm_crash.specs.Pending.{pending_in}
 use Rattle.pm_crash.specs.HeldHistory.{IsEndedCall}
 use Rattle.pm_crash.specs.OpenCall.{IsWholeCall, MakesItsStep, WasAborted}
 use Rattle.pm_crash.specs.Operations.{TakesBack, Tells}
@@ -70,7 +71,7 @@ looks_borne (suc n) v w t alone borne =
     let before : IsAlone t.0 × IsBorneOut t.0 = looks_borne n v t.0 t.3 alone borne in
     let there : View = after t.0 (Load t.1 t.2) in
     subst (λ (u : View). IsAlone u × IsBorneOut u) (sym t.6)
-    (before.0, borne_still t.0 there (looks_same t.0 t.1 t.2 (t.5.1 before.0)) refl before.1)
+    (before.0, borne_still t.0 there (looks_same t.0 t.1 t.2 (t.5.1 before.0)) refl refl before.1)
 
 -- ---- a call that is whole
 
@@ -115,15 +116,15 @@ module _ {M : Type 0} (o : Opening) (at : M → View → Type 0) (lane : Lane M)
   }
 
   -- so it is given up, where the operation tells nothing of the heap and each view behind it is an aborted call's
-  pub gives_up_so : MayGiveUp v → (op : Operation) (reply : Option Value) (error : TxErr) → allocated_by op reply ≡ [] → ((root : Option ℕ) → TellsOfRoot root op reply)
+  pub gives_up_so : MayGiveUp v → (op : Operation) (reply : Option Value) (error : TxErr) → LeavesReserved op reply (pending_in v) → ((root : Option ℕ) → TellsOfRoot root op reply (pending_in v))
       → ((next : View) → Tells v next op reply → TakesBack v next → WasAborted next error) → GivesUpBy v op reply error
   gives_up_so may op reply error none no_root aborts next tells back reserved = ⊎_elim
-      (λ (keeps : KeepsBlocks v). inl (gives_up v next op reply none no_root tells.call keeps error (aborts next tells back)))
+      (λ (keeps : KeepsBlocks v). inl (gives_up v next op reply none.0 no_root tells.keeps.entries tells.call keeps error (aborts next tells back)))
       (λ (borne : IsAlone v × IsBorneOut v).
-      inr (aborts next tells back, borne_on v next (heads_taken_back next op reply tells back reserved) op reply tells.call none no_root borne.1))
+      inr (aborts next tells back, borne_on v next (heads_taken_back next op reply tells back reserved) op reply tells.keeps.entries tells.call none no_root borne.1))
       may
 
   -- an abort that is asked for gives up the call
   pub gives_up_by_abort : MayGiveUp v → (errnum : ℕ) (error : TxErr) → error ≡ error_for errnum → GivesUpBy v (Abort errnum) None error
   gives_up_by_abort may errnum error so =
-      gives_up_so may (Abort errnum) None error refl (λ root. tt) (λ next tells back. subst (WasAborted next) (sym so) (abort_aborts v next errnum lane.level work.level work.under_way tells back))
+      gives_up_so may (Abort errnum) None error (refl, refl) (λ root. tt) (λ next tells back. subst (WasAborted next) (sym so) (abort_aborts v next errnum lane.level work.level work.under_way tells back))

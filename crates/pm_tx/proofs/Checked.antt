@@ -35,9 +35,14 @@ unfolding Looks
 looks_call zero v w is = ap (λ (u : View). u.call) is
 looks_call (suc n) v w t = ap (λ (u : View). u.call) t.6 ∙ looks_call n v t.0 t.3
 
-old_still : (v w : View) → w.call ≡ v.call → (off : ℕ) → IsOldIn v off → IsOldIn w off
-old_still v w call off old =
-    let same = same_blocks v w call in
+pub looks_entries : (n : ℕ) (v w : View) → Looks n v w → w.entries ≡ v.entries
+unfolding Looks
+looks_entries zero v w is = ap (λ (u : View). u.entries) is
+looks_entries (suc n) v w t = ap (λ (u : View). u.entries) t.6 ∙ looks_entries n v t.0 t.3
+
+old_still : (v w : View) → w.entries ≡ v.entries → w.call ≡ v.call → (off : ℕ) → IsOldIn v off → IsOldIn w off
+old_still v w entries call off old =
+    let same = same_blocks v w entries call in
     record {
       found = ap (λ (b : CallBlocks). list_any (is_at off) b.made || list_any (is_at off) b.dropped) same ∙ old.found;
       kept = ap (λ (b : CallBlocks). is_among b.freed off) same ∙ old.kept;
@@ -45,7 +50,7 @@ old_still v w call off old =
 
 may_still : (n : ℕ) (v w : View) → Looks n v w → MayGiveUp v → MayGiveUp w
 may_still n v w looks may = ⊎_elim
-    (λ (keeps : KeepsBlocks v). inl (keeps_still v w (looks_call n v w looks) keeps))
+    (λ (keeps : KeepsBlocks v). inl (keeps_still v w (looks_entries n v w looks) (looks_call n v w looks) keeps))
     (λ (borne : IsAlone v × IsBorneOut v). inr (looks_borne n v w looks borne.0 borne.1))
     may
 
@@ -57,11 +62,12 @@ module _ {M : Type 0} (o : Opening) (at : M → View → Type 0) (mid : Lane M) 
   -- so it is of a call that may be given up, at an object that it found
   pub looked_giving_up : (P Q : View → Type 0) (off : ℕ) → HasChecked o at mid v P → IsOldIn v off → MayGiveUp v → ((w : View) → IsAtWork o at mid w → IsOldIn w off → MayGiveUp w → P w → Q w) → HasLooked v Q
   looked_giving_up P Q off t old may so =
+      let entries = looks_entries t.loads v t.view t.looks in
       let call = looks_call t.loads v t.view t.looks in
-      record { loads = t.loads; view = t.view; looks = t.looks; working = t.works.working; holds = so t.view t.works (old_still v t.view call off old) (may_still t.loads v t.view t.looks may) t.holds }
+      record { loads = t.loads; view = t.view; looks = t.looks; working = t.works.working; holds = so t.view t.works (old_still v t.view entries call off old) (may_still t.loads v t.view t.looks may) t.holds }
 
   pub looked_old : (P Q : View → Type 0) (off : ℕ) → HasChecked o at mid v P → IsOldIn v off → ((w : View) → IsAtWork o at mid w → IsOldIn w off → P w → Q w) → HasLooked v Q
-  looked_old P Q off t old so = record { loads = t.loads; view = t.view; looks = t.looks; working = t.works.working; holds = so t.view t.works (old_still v t.view (looks_call t.loads v t.view t.looks) off old) t.holds }
+  looked_old P Q off t old so = record { loads = t.loads; view = t.view; looks = t.looks; working = t.works.working; holds = so t.view t.works (old_still v t.view (looks_entries t.loads v t.view t.looks) (looks_call t.loads v t.view t.looks) off old) t.holds }
 
   module _ {T : Type 0} (op : Operation) (range : Range) (result : Result T Refusal) (r : Refusal) (is : result ≡ Err r) where
     abbrev Checks : (View → Type 0) → Type 0

@@ -62,11 +62,11 @@ whole_once_logged : (v : View) → IsUnderWay v 1 model_stage.Work error.None �
 whole_once_logged v under_way no_block entries listed next t = ⊎_elim
     (λ (keeps : KeepsBlocks v). inl (commit_is_whole v next (record { under_way = under_way; keeps = keeps }) (record { tells = t.tells; records = t.records; words = t.words; entries = logged })))
     (λ (borne : ((blocks_in v).made ≡ []) × ((blocks_in v).freed ≡ []) × IsBorneOut v × PublishesLocked v).
-    let blocks : blocks_in next ≡ blocks_in v = blocks_once_more v next Commit None t.tells.call in
+    let blocks : blocks_in next ≡ blocks_in v = blocks_once_more v next Commit None t.tells.keeps.entries t.tells.call in
     inr (
       commit_makes_its_step next (commit_is_told v next under_way t.tells t.records t.words) (ap (λ (b : CallBlocks). b.made) blocks ∙ borne.0) (ap (λ (b : CallBlocks). b.freed) blocks ∙ borne.1)
           (logged ∙ ap (map entry_for) (sym (published_once_more v next Commit None t.tells.keeps.entries t.tells.call ∙ append-nil (published_in v)))),
-      borne_on v next (same_heads_outside v next under_way.in_lanes t.tells.keeps.lanes t.tells.keeps.zones t.reserved t.words.words) Commit None t.tells.call refl (λ root. tt) borne.2,
+      borne_on v next (same_heads_outside v next under_way.in_lanes t.tells.keeps.lanes t.tells.keeps.zones t.reserved t.words.words) Commit None t.tells.keeps.entries t.tells.call (refl, refl) (λ root. tt) borne.2,
     ))
     no_block where
       logged : pool_entries next ≡ map entry_for (published_in v)
@@ -89,13 +89,13 @@ module _ (v m : View) (working : IsWorking v) (settled : IsSettled v m) where
 
   still_no_block : v.lane < v.lanes → PublishesNoBlock v → PublishesNoBlock m
   still_no_block inside no_block =
-      let blocks : blocks_in m ≡ blocks_in v = same_blocks v m call.call in
-      ⊎_elim (λ (keeps : KeepsBlocks v). inl (keeps_still v m call.call keeps))
+      let blocks : blocks_in m ≡ blocks_in v = same_blocks v m call.entries call.call in
+      ⊎_elim (λ (keeps : KeepsBlocks v). inl (keeps_still v m call.entries call.call keeps))
       (λ (borne : ((blocks_in v).made ≡ []) × ((blocks_in v).freed ≡ []) × IsBorneOut v × PublishesLocked v).
       inr (
         ap (λ (b : CallBlocks). b.made) blocks ∙ borne.0,
         ap (λ (b : CallBlocks). b.freed) blocks ∙ borne.1,
-        borne_still v m (same_heads_outside v m inside call.lane.lanes call.lane.zones call.reserved (λ i outside. ap (λ (u : View). slice_index u.words i) settled)) call.call borne.2,
+        borne_still v m (same_heads_outside v m inside call.lane.lanes call.lane.zones call.reserved (λ i outside. ap (λ (u : View). slice_index u.words i) settled)) call.entries call.call borne.2,
         locked_on v m call.lane call.locks (published_same v m call.entries call.call) borne.3,
       ))
       no_block
@@ -171,7 +171,7 @@ module _ {M : Type 0} (at : M → View → Type 0) (lane : Lane M) (o : Opening)
     working = tell_works v Commit None is.working;
     no_entries = is.no_entries;
     published = lists_on lane (record lane { memory = memory; level = lane.level - 1; stage = stage.Work }) v (after v (Tell Commit None)) refl (same_lane-after v (Tell Commit None)) refl (published_once_more v (after v (Tell Commit None)) Commit None refl refl ∙ append-nil (published_in v))
-        (made_none_before v (after v (Tell Commit None)) Commit None refl tt) is.published;
+        (made_none_before v (after v (Tell Commit None)) Commit None refl refl tt) is.published;
     under_way =
         inner_commit_goes_on v (after v (Tell Commit None)) (lane.level - 1) (omega (arith, inner)) (subst (λ level. IsUnderWay v level model_stage.Work error.None) (let e : lane.level ≡ lane.level - 1 + 1 = omega (arith, inner) in e) is.under_way)
         (record { keeps = record { lanes = refl; zones = refl; pool = refl; lane = refl; entries = refl; known = λ i there. there }; locks = refl; call = refl })

@@ -101,7 +101,7 @@ module _ {M : Type 0} (o : Opening) (lane : Lane M) (m : View) (work : IsAtWork 
       goes_on o Anywhere lane lane m (after m (Load word x)) work (same_fields lane) objects_learned tt
       (work.seen.records ∙ ap (λ (l : Log). map span_of l.records) (sym learned.log)) work.spans
       (opening_learned m word x plain.0 o work.opening) learned.working (ap (λ (l : Log). l.entries) learned.log ∙ work.no_entries) (published_same m (after m (Load word x)) call.entries call.call)
-      (made_none_same m (after m (Load word x)) call.call)
+      (made_none_same m (after m (Load word x)) call.entries call.call)
       (goes_on_learning m (after m (Load word x)) lane.level _ _ work.under_way
       (record { keeps = record { lanes = call.lane.lanes; zones = call.lane.zones; pool = call.lane.pool; lane = call.lane.lane; entries = call.entries; known = call.remembers }; locks = call.locks; call = call.call })
       (record { records = ap (λ (l : Log). l.records) learned.log; entries = ap (λ (l : Log). l.entries) learned.log })

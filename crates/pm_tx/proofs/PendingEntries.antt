@@ -6,7 +6,7 @@ use Rattle.pm_crash.specs.OnActions.{CanSet}
 use Rattle.pm_model.specs.Bytes.{covered_words}
 use Rattle.pm_model.specs.Actions.{Action}
 use Rattle.pm_model.specs.Actions.Action.{SetWord}
-use Rattle.pm_pending.specs.Pending.{entry_of, pending_of, redo_for}
+use Rattle.pm_pending.specs.Pending.{entry_of, redo_for, sets_of}
 use Rattle.pm_pending.specs.declared.actions.SetAction.{SetAction}
 use Rattle.pm_record.specs.declared.redo.Redo.{Redo}
 use Rattle.pm_redo.specs.Entering.{IsOfPool}
@@ -25,7 +25,7 @@ abbrev pub no_action : SetAction
 no_action = record { id = record { pool = 0; off = 0 }; off = 0; value = 0 }
 
 -- the entries of the list are those of what the plain model has pending
-pub redo_listed : (actions : List SetAction) → map redo_for actions ≡ map entry_of (pending_of actions)
+pub redo_listed : (actions : List SetAction) → map redo_for actions ≡ map entry_of (sets_of actions)
 redo_listed [] = refl
 redo_listed (a ∷ actions) = ap (λ (es : List Redo). redo_for a ∷ es) (redo_listed actions)
 

@@ -163,7 +163,7 @@ module _ {M : Type 0} (o : Opening) (at : M → View → Type 0) (lane : Lane M)
         })
         seen (ap (λ rs. rs.items) records ∙ (work.seen.records ∙ ap (λ (l : Log). map span_of l.records) (sym made.1.log))) (subst (λ rs. All IsSpan rs.items) (sym records) work.spans)
         opening (tell_works u (Read id off len) (Some (Bytes bytes)) made.1.working) (ap (λ (l : Log). l.entries) made.1.log ∙ work.no_entries) (published_once_more v w (Read id off len) _ read.tells.keeps.entries read.tells.call ∙ append-nil (published_in v))
-        (made_none_before v w (Read id off len) (Some (Bytes (bytes_seen v id off len))) read.tells.call tt)
+        (made_none_before v w (Read id off len) (Some (Bytes (bytes_seen v id off len))) read.tells.keeps.entries read.tells.call tt)
         (read_goes_on v w id off len lane.level work.level work.under_way read old) in
         record {
           ready = read_may_be_made;

@@ -1,11 +1,13 @@
 -- A call on a range that is refused gives up the open call, unless the lane stops before.
 use Rattle.std.proofs.Common.{◌≡◌, ◌≢◌, ◌⊎◌, ⊎_elim, inl, inr, ℕ, List, [], Option, None, Some, true, refl, sym, ◌∙◌, subst}
 use Rattle.pm_crash.proofs.GivenUp.{refusal_aborts}
-use Rattle.pm_crash.specs.CallBlocks.{IsOldIn, TellsOfRoot, allocated_by}
+use Rattle.pm_crash.specs.CallBlocks.{IsOldIn, LeavesReserved, TellsOfRoot}
 use Rattle.pm_objects.specs.declared.calls.Operation.TheVariants.{AddRange, Read, Write}
 use Rattle.pm_objects.specs.declared.history.Value.{Value}
 use Rattle.pm_tx.proofs.BorneOut.{gives_up_so}
 use Rattle.pm_crash.specs.Operations.{IsReason}
+use Rattle.pm_crash.specs.Pending.{pending_in}
+use Rattle.pm_model.specs.Actions.{Pending}
 use Rattle.pm_model.specs.Checks.{Range, range_of}
 use Rattle.pm_objects.specs.declared.calls.Operation.{Operation}
 use Rattle.pm_objects.specs.declared.history.TxErr.TheVariants as error
@@ -37,23 +39,23 @@ not_stopped r cause stopped =
     ⊎_elim (λ (e : r ≡ refusal.NotLocked). let clash : refusal.NotLocked ≡ refusal.Stopped = sym e ∙ stopped in absurd cc) (λ (e : r ≡ refusal.OutOfRange). let clash : refusal.OutOfRange ≡ refusal.Stopped = sym e ∙ stopped in absurd cc) cause
 
 -- no refusal of a range allocates, nor tells of the root
-ranged_allocates_none : (op : Operation) (range : Range) (reply : Option Value) → range_of op ≡ Some range → allocated_by op reply ≡ []
-ranged_allocates_none (AddRange id off len) range reply is = refl
-ranged_allocates_none (Write id off bytes) range reply is = refl
-ranged_allocates_none (Read id off len) range reply is = refl
-ranged_allocates_none op range reply is = absurd cc
+ranged_leaves_reserved : (op : Operation) (range : Range) (reply : Option Value) (p : Pending) → range_of op ≡ Some range → LeavesReserved op reply p
+ranged_leaves_reserved (AddRange id off len) range reply p is = (refl, refl)
+ranged_leaves_reserved (Write id off bytes) range reply p is = (refl, refl)
+ranged_leaves_reserved (Read id off len) range reply p is = (refl, refl)
+ranged_leaves_reserved op range reply p is = absurd cc
 
-ranged_tells_no_root : (op : Operation) (range : Range) (reply : Option Value) → range_of op ≡ Some range → (root : Option ℕ) → TellsOfRoot root op reply
-ranged_tells_no_root (AddRange id off len) range reply is root = tt
-ranged_tells_no_root (Write id off bytes) range reply is root = tt
-ranged_tells_no_root (Read id off len) range reply is root = tt
-ranged_tells_no_root op range reply is root = absurd cc
+ranged_tells_no_root : (op : Operation) (range : Range) (reply : Option Value) (p : Pending) → range_of op ≡ Some range → (root : Option ℕ) → TellsOfRoot root op reply p
+ranged_tells_no_root (AddRange id off len) range reply p is root = tt
+ranged_tells_no_root (Write id off bytes) range reply p is root = tt
+ranged_tells_no_root (Read id off len) range reply p is root = tt
+ranged_tells_no_root op range reply p is root = absurd cc
 
 -- a refusal for the operation's reason gives the call up
 pub gives_up_by_reason : {M : Type 0} (at : M → View → Type 0) (lane : Lane M) (o : Opening) (v : View) → IsAtWork o at lane v → (op : Operation) (range : Range) (r : Refusal) → IsOldIn v range.id.off → MayGiveUp v
     → range_of op ≡ Some range → IsReason v op range r → GivesUpBy v op (Some (Refused r)) (error.Refused r)
 gives_up_by_reason at lane o v is op range r found may of_range reason =
-    gives_up_so o at lane v is may op (Some (Refused r)) (error.Refused r) (ranged_allocates_none op range (Some (Refused r)) of_range) (ranged_tells_no_root op range (Some (Refused r)) of_range)
+    gives_up_so o at lane v is may op (Some (Refused r)) (error.Refused r) (ranged_leaves_reserved op range (Some (Refused r)) (pending_in v) of_range) (ranged_tells_no_root op range (Some (Refused r)) (pending_in v) of_range)
     (λ next tells back. refusal_aborts v next op range r lane.level is.level is.under_way (record { is_range = of_range; reason = reason; tells = tells; takes_back = back }) (λ same. found.found) (λ other. found.kept))
 
 module _ {M : Type 0} (at : M → View → Type 0) (old mid new : Lane M) (op : Operation) (range : Range) (of_range : range_of op ≡ Some range) (r answer : Refusal) where

@@ -112,7 +112,7 @@ module _ {M : Type 0} (o : Opening) (at : M → View → Type 0) (lane : Lane M)
       (tell_works (after_all v (writes (id.off + off) bytes v)) (Write id off bytes) None has.working)
       (ap (λ (l : Log). l.entries) has.log ∙ work.no_entries)
       (published_once_more v last (Write id off bytes) None written.tells.keeps.entries written.tells.call ∙ append-nil (published_in v))
-      (made_none_before v last (Write id off bytes) None written.tells.call tt)
+      (made_none_before v last (Write id off bytes) None written.tells.keeps.entries written.tells.call tt)
       (write_goes_on v last id off lane.level bytes work.level work.under_way written old) in
       record {
         ready = write_may_be_made;

@@ -1,6 +1,7 @@
 -- What a lane at work leaves where it gives up all that is pending: docs/FORMAT.md, "Sequences".
-use Rattle.std.specs.Prelude.{◌≡◌, [], None}
+use Rattle.std.specs.Prelude.{◌≡◌, None}
 use Rattle.pm_objects.specs.declared.calls.Operation.TheVariants.{Cancel}
+use Rattle.pm_model.specs.Actions.{none_pending}
 use Rattle.pm_crash.specs.Pending.{pending_in}
 use Rattle.pm_view.specs.Steps.Step.{Tell}
 use Rattle.pm_view.specs.View.{View}
@@ -20,4 +21,4 @@ pub record HasCanceled {M : Type 0} (o : Opening) (at : M → View → Type 0) (
   pub ready : Ready v (cancels v)
   pub draws : DrawEnded v (cancels v)
   pub works : IsAtWork o at lane (after_all v (cancels v))
-  pub none : pending_in (after_all v (cancels v)) ≡ []
+  pub none : pending_in (after_all v (cancels v)) ≡ none_pending
