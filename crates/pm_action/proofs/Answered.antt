@@ -5,13 +5,13 @@ use Rattle.std.specs.Prelude.{unwrap_or}
 use Rattle.pm_crash.proofs.ActionsOutside.{change_is_step}
 use Rattle.pm_crash.specs.OnActions.{IsPendingAnswer, set_refusal}
 use Rattle.pm_crash.specs.Pending.{pending_before, pending_behind}
-use Rattle.pm_model.specs.Actions.{Action, max_actions}
+use Rattle.pm_model.specs.Actions.{Pending, max_actions, pending_count}
 use Rattle.pm_objects.specs.declared.calls.Operation.{Operation}
 use Rattle.pm_objects.specs.declared.history.Value.{Value}
 use Rattle.pm_objects.specs.declared.history.Value.TheVariants.{Refused}
 use Rattle.pm_objects.specs.declared.refusal.Refusal.{Refusal}
 use Rattle.pm_objects.specs.declared.refusal.Refusal.TheVariants as refusal
-use Rattle.pm_pending.specs.Pending.{pending_of}
+use Rattle.pm_pending.specs.Pending.{pending_of, sets_of}
 use Rattle.pm_pending.specs.declared.actions.SetAction.{SetAction}
 use Rattle.pm_view.specs.Log.{Log}
 use Rattle.pm_view.specs.Steps.Step.{Tell}
@@ -39,10 +39,10 @@ two_reasons true full r is = inl (ap (λ (o : Option Refusal). unwrap_or o r) is
 two_reasons false true r is = inr (ap (λ (o : Option Refusal). unwrap_or o r) is)
 two_reasons false false r is = absurd (none-some r (sym is))
 
-set_reasons : (off : ℕ) (actions : List Action) (r : Refusal) → Some r ≡ set_refusal off actions → (r ≡ refusal.Unaligned) ⊎ (r ≡ refusal.ActionsFull)
-set_reasons off actions r is = two_reasons (not (eqb (off % 8) 0)) (leb max_actions (length actions)) r is
+set_reasons : (off : ℕ) (p : Pending) (r : Refusal) → Some r ≡ set_refusal off p → (r ≡ refusal.Unaligned) ⊎ (r ≡ refusal.ActionsFull)
+set_reasons off p r is = two_reasons (not (eqb (off % 8) 0)) (leb max_actions (pending_count p)) r is
 
-module _ (off : ℕ) (before : List Action) (r : Refusal) (is : Some r ≡ set_refusal off before) where
+module _ (off : ℕ) (before : Pending) (r : Refusal) (is : Some r ≡ set_refusal off before) where
   by_reason : (P : Refusal → Type 0) → P refusal.Unaligned → P refusal.ActionsFull → P r
   by_reason P unaligned full = ⊎_elim (λ (e : r ≡ refusal.Unaligned). subst P (sym e) unaligned) (λ (e : r ≡ refusal.ActionsFull). subst P (sym e) full) (set_reasons off before r is)
 
@@ -66,4 +66,4 @@ module _ {M : Type 0} (at : M → View → Type 0) (mid lane : Lane M) (v : View
       let u : View = after_all v (starts n v) in
       let now : pending_of before ≡ pending_before u = same ∙ sym (pending_started at mid v n started) in
       told_at_once_since at mid v n started lane actions op reply
-      (ends u actions started.begun (pending_answer_whole at mid u started.begun op reply (subst (λ (pending : List Action). IsPendingAnswer pending op reply) now answer)) (left ∙ ap (pending_behind op reply) now))
+      (ends u actions started.begun (pending_answer_whole at mid u started.begun op reply (subst (λ (pending : Pending). IsPendingAnswer pending op reply) now answer)) (left ∙ ap (pending_behind op reply) now))

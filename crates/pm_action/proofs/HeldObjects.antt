@@ -11,7 +11,7 @@ use Rattle.pm_model.specs.Actions.{wants_for}
 use Rattle.pm_model.specs.Places.{can_begin}
 use Rattle.pm_model.specs.Transaction.{Lock as Locked}
 use Rattle.pm_objects.specs.declared.calls.Want.{Want}
-use Rattle.pm_pending.specs.Pending.{action_of, pending_of}
+use Rattle.pm_pending.specs.Pending.{action_of, sets_of}
 use Rattle.pm_pending.specs.declared.actions.SetAction.{SetAction}
 use Rattle.pm_view.specs.Blocks.{is_chunk}
 use Rattle.pm_view.specs.View.{View, Lock}
@@ -84,13 +84,13 @@ module _ (pool : ℕ) (v : View) (wants : List Want) (plan : List HeldLock) (of_
         }
 
 -- so of actions, of which the wants are the objects
-pub each_held : (pool : ℕ) (v : View) (actions : List SetAction) (plan : List HeldLock) → v.pool ≡ pool → IsPlan pool v.lanes v.zones (wants_for (pending_of actions)) plan → locks_of v ≡ model_locks plan → FindsObjects v → HoldsLines v
+pub each_held : (pool : ℕ) (v : View) (actions : List SetAction) (plan : List HeldLock) → v.pool ≡ pool → IsPlan pool v.lanes v.zones (wants_for (sets_of actions)) plan → locks_of v ≡ model_locks plan → FindsObjects v → HoldsLines v
     → HoldsEach v actions
 each_held pool v actions plan of_pool is models objects lines k d low =
     let a : SetAction = get_or actions k d in
-    let wants : List Want = wants_for (pending_of actions) in
+    let wants : List Want = wants_for (sets_of actions) in
     let n = length-map actions action_of in
-    let m = length-map (pending_of actions) want_for in
-    let this : get_or wants k (want_for (action_of d)) ≡ want_for (action_of a) = get_or-map want_for (pending_of actions) k (action_of d) ∙ ap want_for (get_or-map action_of actions k d) in
+    let m = length-map (sets_of actions) want_for in
+    let this : get_or wants k (want_for (action_of d)) ≡ want_for (action_of a) = get_or-map want_for (sets_of actions) k (action_of d) ∙ ap want_for (get_or-map action_of actions k d) in
     object_held pool v wants plan of_pool is models objects lines (want_for (action_of a)) refl
     (subst (λ (want : Want). Contains wants want) this (Contains-get_or wants k (want_for (action_of d)) (omega (arith, low, n, m))))

@@ -10,14 +10,15 @@ use Rattle.pm_crash.specs.OpenCall.{lock_of as model_lock}
 use Rattle.pm_crash.specs.Operations.{IsHeld, TakesWanted}
 use Rattle.pm_crash.specs.Pending.{pending_before, pending_from}
 use Rattle.pm_crash.specs.Performing.{entry_for}
-use Rattle.pm_model.specs.Actions.{Action, wants_for}
+use Rattle.pm_model.specs.Actions.{Action, Pending, none_pending, wants_for}
+use Rattle.pm_crash.proofs.PendingOn.{sets_alone}
 use Rattle.pm_model.specs.Actions.Action.{SetWord}
 use Rattle.pm_model.specs.Transaction.{locked_all}
 use Rattle.pm_objects.specs.declared.calls.Operation.TheVariants.{Publish}
 use Rattle.pm_objects.specs.declared.history.Value.TheVariants.{Refused}
 use Rattle.pm_objects.specs.declared.refusal.Refusal.{Refusal}
 use Rattle.pm_objects.specs.declared.refusal.Refusal.TheVariants as refusal
-use Rattle.pm_pending.specs.Pending.{pending_of}
+use Rattle.pm_pending.specs.Pending.{pending_of, sets_of}
 use Rattle.pm_pending.specs.declared.actions.SetAction.{SetAction}
 use Rattle.pm_record.specs.declared.redo.Redo.{Redo}
 use Rattle.pm_view.proofs.SameLane.{same_lane-then}
@@ -52,29 +53,29 @@ use Rattle.pm_action.proofs.ToldOutside.{pending_behind_one}
 -- ---- since the call began
 
 -- a list of some actions is published so
-published_some : {M : Type 0} (at : M → View → Type 0) (lane : Lane M) (actions : List SetAction) (v : View) → 1 ≤ length actions → IsPublishedBy at lane (pending_of actions) v → IsPublished at lane actions v
+published_some : {M : Type 0} (at : M → View → Type 0) (lane : Lane M) (actions : List SetAction) (v : View) → 1 ≤ length actions → IsPublishedBy at lane (sets_of actions) v → IsPublished at lane actions v
 published_some at lane [] v some by = absurd (omega (arith, some))
 published_some at lane (a ∷ actions) v some by = by
 
-module _ {M : Type 0} (at : M → View → Type 0) (held : Lane M) (v : View) (stays : StaysSound at v) (items xs ys : List SetAction) (first : xs ≡ items) (second : ys ≡ items) (goes : GoesOnTo at held v (λ w. HoldsActions w (pending_of xs))) where
+module _ {M : Type 0} (at : M → View → Type 0) (held : Lane M) (v : View) (stays : StaysSound at v) (items xs ys : List SetAction) (first : xs ≡ items) (second : ys ≡ items) (goes : GoesOnTo at held v (λ w. HoldsActions w (sets_of xs))) where
   abbrev h : View
   h = goes.view
 
-  holds : HoldsActions h (pending_of items)
-  holds = subst (λ (zs : List SetAction). HoldsActions h (pending_of zs)) first goes.holds
+  holds : HoldsActions h (sets_of items)
+  holds = subst (λ (zs : List SetAction). HoldsActions h (sets_of zs)) first goes.holds
 
-  pub may_held : MayPublishHeld at held (pending_of items) h
+  pub may_held : MayPublishHeld at held (sets_of items) h
   may_held = record { begun = goes.begun; holds = holds; sound = stays held.memory h goes.led goes.begun.seen.memory }
 
   module _ (same : pending_of items ≡ pending_before v) where
     now : pending_of items ≡ pending_before h
-    now = same ∙ sym (ap (λ (entries : List Numbered). pending_from [] entries) goes.entries)
+    now = same ∙ sym (ap (λ (entries : List Numbered). pending_from none_pending entries) goes.entries)
 
     -- it stopped
-    pub stopped_since : (new : Lane M) → ((w : View) → MayPublishHeld at held (pending_of ys) w → pending_of ys ≡ pending_before w → IsStoppedIn at new w (publishes (entries_of (pending_of ys)) Publish new.last) Publish None) → (r : Refusal) → r ≡ refusal.Stopped
+    pub stopped_since : (new : Lane M) → ((w : View) → MayPublishHeld at held (sets_of ys) w → pending_of ys ≡ pending_before w → IsStoppedIn at new w (publishes (entries_of (sets_of ys)) Publish new.last) Publish None) → (r : Refusal) → r ≡ refusal.Stopped
         → 1 ≤ length items → length items ≤ 63 → PublishEnds {M = M} {T = Unit {0}} at new items v (Err r)
     stopped_since new stops r is some few =
-        let so = subst (λ (zs : List SetAction). (w : View) → MayPublishHeld at held (pending_of zs) w → pending_of zs ≡ pending_before w → IsStoppedIn at new w (publishes (entries_of (pending_of zs)) Publish new.last) Publish None) second stops in
+        let so = subst (λ (zs : List SetAction). (w : View) → MayPublishHeld at held (sets_of zs) w → pending_of zs ≡ pending_before w → IsStoppedIn at new w (publishes (entries_of (sets_of zs)) Publish new.last) Publish None) second stops in
         subst (λ q. PublishEnds {M = M} {T = Unit {0}} at new items v (Err q)) (sym is) (record {
           holding = h;
           led = goes.led;
@@ -82,18 +83,18 @@ module _ {M : Type 0} (at : M → View → Type 0) (held : Lane M) (v : View) (s
           undrawn = goes.entries;
           untold = goes.begun.untold;
           works = works at held h goes.begun;
-          may = may_publish at held (pending_of items) h may_held (pending_some at held items h may_held some) (pending_few at held items h may_held few);
-          own = own at held (pending_of items) h may_held;
+          may = may_publish at held (sets_of items) h may_held (pending_some at held items h may_held some) (pending_few at held items h may_held few);
+          own = own at held (sets_of items) h may_held;
           stopped = so h may_held now;
         })
 
-    module _ (mid new : Lane M) (ended : (w : View) → MayPublishHeld at held (pending_of ys) w → pending_of ys ≡ pending_before w → IsEndedBy at mid w (publishes (entries_of (pending_of ys)) Publish mid.last) Publish None) where
+    module _ (mid new : Lane M) (ended : (w : View) → MayPublishHeld at held (sets_of ys) w → pending_of ys ≡ pending_before w → IsEndedBy at mid w (publishes (entries_of (sets_of ys)) Publish mid.last) Publish None) where
       abbrev es : List Redo
-      es = entries_of (pending_of items)
+      es = entries_of (sets_of items)
 
       pub ended_there : IsEndedBy at mid h (publishes es Publish mid.last) Publish None
       ended_there =
-          subst (λ (zs : List SetAction). (w : View) → MayPublishHeld at held (pending_of zs) w → pending_of zs ≡ pending_before w → IsEndedBy at mid w (publishes (entries_of (pending_of zs)) Publish mid.last) Publish None) second ended h may_held now
+          subst (λ (zs : List SetAction). (w : View) → MayPublishHeld at held (sets_of zs) w → pending_of zs ≡ pending_before w → IsEndedBy at mid w (publishes (entries_of (sets_of zs)) Publish mid.last) Publish None) second ended h may_held now
 
       abbrev w : View
       w = after_all h (publishes es Publish mid.last h)
@@ -133,7 +134,7 @@ module _ {M : Type 0} (at : M → View → Type 0) (held : Lane M) (v : View) (s
 -- ---- since the lane was at rest
 
 module _ {M : Type 0} (at : M → View → Type 0) (new : Lane M) (v u : View) (led : IsLed v u) (entries : u.entries ≡ v.entries) (items : List SetAction) where
-  by_further : IsPublishedBy at new (pending_of items) u → IsPublishedBy at new (pending_of items) v
+  by_further : IsPublishedBy at new (sets_of items) u → IsPublishedBy at new (sets_of items) v
   by_further was = record {
     holding = was.holding;
     led = led_then v u was.holding led was.led;
@@ -152,7 +153,7 @@ module _ {M : Type 0} (at : M → View → Type 0) (new : Lane M) (v u : View) (
     pending = was.pending;
   }
 
-  stopped_further : IsStoppedPublishing at new (pending_of items) u → IsStoppedPublishing at new (pending_of items) v
+  stopped_further : IsStoppedPublishing at new (sets_of items) u → IsStoppedPublishing at new (sets_of items) v
   stopped_further was = record { holding = was.holding; led = led_then v u was.holding led was.led; holds = was.holds; undrawn = was.undrawn ∙ entries; untold = was.untold; works = was.works; may = was.may; own = was.own; stopped = was.stopped }
 
   none_further : HasFoundNone at new items u → HasFoundNone at new items v
@@ -173,7 +174,7 @@ module _ {M : Type 0} (at : M → View → Type 0) (new : Lane M) (v u : View) (
   done_further : (actions : List SetAction) → actions ≡ items → 1 ≤ length actions → IsPublished at new actions u → IsPublished at new actions v
   done_further [] are some was = absurd (omega (arith, some))
   done_further (a ∷ actions) are some was =
-      subst (λ (zs : List SetAction). IsPublishedBy at new (pending_of zs) v) (sym are) (by_further (subst (λ (zs : List SetAction). IsPublishedBy at new (pending_of zs) u) are was))
+      subst (λ (zs : List SetAction). IsPublishedBy at new (sets_of zs) v) (sym are) (by_further (subst (λ (zs : List SetAction). IsPublishedBy at new (sets_of zs) u) are was))
 
   err_further : (r : Refusal) → IsBegunPublishCause r → PublishEnds {M = M} {T = Unit {0}} at new items u (Err r) → PublishEnds {M = M} {T = Unit {0}} at new items v (Err r)
   err_further refusal.Stopped cause was = stopped_further was
@@ -188,12 +189,12 @@ module _ {M : Type 0} (at : M → View → Type 0) (new : Lane M) (v u : View) (
 
 -- and where the lane is alone, what was missing was so before
 pub missing_alone : {M : Type 0} (at : M → View → Type 0) (new : Lane M) (items : List SetAction) (v : View) (result : Result (Unit {0}) Refusal) → result ≡ Err refusal.NoObject → PublishEnds at new items v result → IsAlone v
-    → Any (LacksObject v) (wants_for (pending_of items))
+    → Any (LacksObject v) (wants_for (sets_of items))
 missing_alone {M} at new items v result is ends alone =
     let was : HasFoundNone at new items v = subst (λ (r : Result (Unit {0}) Refusal). PublishEnds at new items v r) is ends in
     let view : View = was.told.view in
     let same = was.told.same in
-    any_lacks_same view v (sym same.lanes) (sym same.zones) (sym same.pool) (sym (led_words v view was.told.led alone)) (wants_for (pending_of items)) was.lacking
+    any_lacks_same view v (sym same.lanes) (sym same.zones) (sym same.pool) (sym (led_words v view was.told.led alone)) (wants_for (sets_of items)) was.lacking
 
 -- by the words that it passes the end of its object then, it did so before where these were the words
 overran : (v w : View) → IsSameLane v w → w.words ≡ v.words → (a : Action) → PassesObject w a → Overruns v a
@@ -208,7 +209,7 @@ overran v w same words (SetWord id off value) passes =
 
 -- so an action passed its object's end before
 pub past_alone : {M : Type 0} (at : M → View → Type 0) (new : Lane M) (items : List SetAction) (v : View) (result : Result (Unit {0}) Refusal) → result ≡ Err refusal.OutOfRange → PublishEnds at new items v result → IsAlone v
-    → Any (Overruns v) (pending_of items)
+    → Any (Overruns v) (sets_of items)
 past_alone {M} at new items v result is ends alone =
     let was : HasFoundShort at new items v = subst (λ (r : Result (Unit {0}) Refusal). PublishEnds at new items v r) is ends in
     let some = was.holds.some in
@@ -221,15 +222,16 @@ no_elements [] none = refl
 no_elements (a ∷ items) none = absurd (omega (arith, none))
 
 -- is a whole call
-pub empty_whole : {M : Type 0} (at : M → View → Type 0) (lane : Lane M) (u : View) → IsBegun at lane u → lane.locks.items ≡ [] → pending_before u ≡ [] → IsWholeOnceTold u Publish None
+pub empty_whole : {M : Type 0} (at : M → View → Type 0) (lane : Lane M) (u : View) → IsBegun at lane u → lane.locks.items ≡ [] → pending_before u ≡ none_pending → IsWholeOnceTold u Publish None
 unfolding locked_all
 empty_whole {M} at lane u is free none =
     publish_is_step told (record {
       call = ap (λ (told : List Told). told ++ record { operation = Publish; reply = None } ∷ []) is.untold;
       no_records = ap (λ (log : Log). log.records) is.log;
-      holds = record { in_lanes = is.area.lane; takes = subst (λ (pending : List Action). TakesWanted told [] (wants_for pending)) (sym none) takes };
-      each = subst (All (CanSet told)) (sym none) (All-nil (CanSet told));
-      entries = ap (λ (log : Log). filter (λ (f : Final). not (is_in_area u.lane f.word)) log.entries) is.log ∙ sym (ap (map entry_for) none);
+      alone = sets_alone (pending_before told) [] (sym none);
+      holds = record { in_lanes = is.area.lane; takes = subst (λ (p : Pending). TakesWanted told [] (wants_for p.sets)) (sym none) takes };
+      each = subst (λ (p : Pending). All (CanSet told) p.sets) (sym none) (All-nil (CanSet told));
+      entries = ap (λ (log : Log). filter (λ (f : Final). not (is_in_area u.lane f.word)) log.entries) is.log ∙ sym (ap (λ (p : Pending). map entry_for p.sets) none);
     }) where
       told : View
       told = after u (Tell Publish None)

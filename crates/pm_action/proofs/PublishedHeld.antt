@@ -4,7 +4,7 @@ use Rattle.std.proofs.Math.ListN.{get_or-map}
 use Rattle.std.proofs.lemmas.List.{append_assoc, length-map}
 use Rattle.std.proofs.lemmas.List.Elements.{All-weaker}
 use Rattle.pm_crash.proofs.ActionsOutside.{publish_is_step}
-use Rattle.pm_crash.proofs.PendingOn.{same_before}
+use Rattle.pm_crash.proofs.PendingOn.{same_before, sets_alone}
 use Rattle.pm_crash.specs.Locks.{AreSameLocks}
 use Rattle.pm_crash.specs.OnActions.{CanSet}
 use Rattle.pm_crash.specs.OpenCall.{IsWholeCall, lock_of as model_lock}
@@ -12,13 +12,13 @@ use Rattle.pm_crash.specs.Operations.{IsHeld, TakesWanted}
 use Rattle.pm_crash.specs.Pending.{pending_before}
 use Rattle.pm_crash.specs.Performing.{entry_for}
 use Rattle.pm_memory.specs.Runs.{Stops}
-use Rattle.pm_model.specs.Actions.{Action, wants_for}
+use Rattle.pm_model.specs.Actions.{Action, Pending, only_sets, wants_for}
 use Rattle.pm_model.specs.Actions.Action.{SetWord}
 use Rattle.pm_model.specs.Places.{can_begin}
 use Rattle.pm_model.specs.Transaction.{locked_all}
 use Rattle.pm_objects.specs.declared.calls.Operation.TheVariants.{Publish}
 use Rattle.pm_objects.specs.declared.ids.Oid.{Oid}
-use Rattle.pm_pending.specs.Pending.{action_of, entry_of, pending_of, redo_for}
+use Rattle.pm_pending.specs.Pending.{action_of, entry_of, redo_for, sets_of}
 use Rattle.pm_pending.specs.declared.actions.SetAction.{SetAction}
 use Rattle.pm_record.specs.declared.redo.Redo.{Redo}
 use Rattle.pm_redo.specs.Entering.{IsOfPool, MayEnter}
@@ -72,7 +72,7 @@ module _ {M : Type 0} (at : M → View → Type 0) (lane : Lane M) (actions : Li
         may_come = is.may_come;
       }
 
-  module _ (same : actions ≡ pending_before v) (next : View) (t : TellsLogged v next (entries_of actions) Publish) where
+  module _ (same : only_sets actions ≡ pending_before v) (next : View) (t : TellsLogged v next (entries_of actions) Publish) where
     held_next : (id : Oid) (write : Bool) → IsHeld v id write → IsHeld next id write
     held_next id write h =
         record { lock = h.lock; lines = h.lines; held = subst (λ (ls : List Lock). Contains ls h.lock) (sym t.tells.locks) h.held; block = h.block; allows = h.allows; of_pool = h.of_pool ∙ sym t.tells.keeps.pool; place = h.place }
@@ -99,7 +99,7 @@ module _ {M : Type 0} (at : M → View → Type 0) (lane : Lane M) (actions : Li
         let inside = range.inside in
         (record { object = held_next id true h; size_known = t.tells.keeps.known _ range.size_known; inside = omega (arith, size, inside) }, word)
 
-    now : actions ≡ pending_before next
+    now : only_sets actions ≡ pending_before next
     now = same ∙ sym (same_before v next t.tells.keeps.entries)
 
     whole : IsWholeCall next
@@ -107,12 +107,13 @@ module _ {M : Type 0} (at : M → View → Type 0) (lane : Lane M) (actions : Li
         publish_is_step next (record {
           call = t.tells.call ∙ ap (λ (told : List Told). told ++ record { operation = Publish; reply = None } ∷ []) is.untold;
           no_records = t.records ∙ no_records at lane v is;
+          alone = sets_alone (pending_before next) actions now;
           holds = record {
             in_lanes = (let low = is.area.lane in let lane = t.tells.keeps.lane in let lanes = t.tells.keeps.lanes in omega (arith, low, lane, lanes));
-            takes = subst (λ (pending : List Action). TakesWanted next [] (wants_for pending)) now takes_next;
+            takes = subst (λ (p : Pending). TakesWanted next [] (wants_for p.sets)) now takes_next;
           };
-          each = subst (All (CanSet next)) now (All-weaker (CanSet v) (CanSet next) sets_next actions may.holds.each);
-          entries = t.logged ∙ finals_for actions ∙ ap (map entry_for) now;
+          each = subst (λ (p : Pending). All (CanSet next) p.sets) now (All-weaker (CanSet v) (CanSet next) sets_next actions may.holds.each);
+          entries = t.logged ∙ finals_for actions ∙ ap (λ (p : Pending). map entry_for p.sets) now;
         })
 
   module _ (some : 1 ≤ length actions) (few : length actions ≤ 63) (listed : Lane M) (lists : listed ≡ record lane { entries = listed.entries }) (are : listed.entries.items ≡ entries_of actions) (new : Lane M) where
@@ -142,7 +143,7 @@ module _ {M : Type 0} (at : M → View → Type 0) (lane : Lane M) (actions : Li
         after_over at lane new v w is.seen is.lines (made v seen_before lawful.0) lawful.1 (ap (λ (l : Lane M). l.locks.items) fields ∙ ap (λ (l : Lane M). l.locks.items) lists) none unlisted drawn pool
         (ap (λ (l : Lane M). l.stopped) fields ∙ (ap (λ (l : Lane M). l.stopped) lists ∙ is.unstopped)) (place_at_work v (works at lane v is))
 
-    module _ (same : actions ≡ pending_before v) where
+    module _ (same : only_sets actions ≡ pending_before v) where
       draws : DrawEnded v (publishes (entries_of actions) Publish n v)
       draws = publish_drawn v (entries_of actions) mays Publish n own (λ next t. inl (whole same next t))
 
@@ -193,29 +194,29 @@ module _ {M : Type 0} (at : M → View → Type 0) (lane : Lane M) (actions : Li
           ⊎_elim (λ (t : (new.drawn ≡ listed.drawn) × IsStopped (at listed.memory) (at new.memory) (logs (entries_of actions))). stopped_logging t.1 says t.0)
           (λ (t : (new.drawn ≡ Some n) × StopsPublished (at listed.memory) (at new.memory) (entries_of actions) Publish n). stopped_performing t.1 says t.0) so
 
-redos : (actions : List SetAction) → map redo_for actions ≡ entries_of (pending_of actions)
+redos : (actions : List SetAction) → map redo_for actions ≡ entries_of (sets_of actions)
 redos [] = refl
 redos (a ∷ actions) = ap (λ (es : List Redo). redo_for a ∷ es) (redos actions)
 
-module _ {M : Type 0} (at : M → View → Type 0) (lane : Lane M) (actions : List SetAction) (v : View) (may : MayPublishHeld at lane (pending_of actions) v) where
+module _ {M : Type 0} (at : M → View → Type 0) (lane : Lane M) (actions : List SetAction) (v : View) (may : MayPublishHeld at lane (sets_of actions) v) where
   -- the lane lists the entries of the actions, and no others
-  pub listed_so : (listed : List Redo) → listed ≡ lane.entries.items ++ map redo_for actions → listed ≡ entries_of (pending_of actions)
+  pub listed_so : (listed : List Redo) → listed ≡ lane.entries.items ++ map redo_for actions → listed ≡ entries_of (sets_of actions)
   listed_so listed is = is ∙ ap (λ (es : List Redo). es ++ map redo_for actions) may.begun.unlisted ∙ redos actions
 
-  pub pending_some : 1 ≤ length actions → 1 ≤ length (pending_of actions)
+  pub pending_some : 1 ≤ length actions → 1 ≤ length (sets_of actions)
   pending_some some = let n = length-map actions action_of in omega (arith, n, some)
 
-  pub pending_few : length actions ≤ 63 → length (pending_of actions) ≤ 63
+  pub pending_few : length actions ≤ 63 → length (sets_of actions) ≤ 63
   pending_few few = let n = length-map actions action_of in omega (arith, n, few)
 
   -- each is of a place of the pool
   pub places : All (λ (a : SetAction). a.id.off + a.off < 2 ^ 64) actions
   places k d low =
-      let all = all_of_pool v may.sound may.holds.objects (pending_of actions) may.holds.each in
+      let all = all_of_pool v may.sound may.holds.objects (sets_of actions) may.holds.each in
       let n = length-map actions action_of in
-      let m = length-map (pending_of actions) entry_of in
+      let m = length-map (sets_of actions) entry_of in
       let e : IsOfPool v (entry_of (action_of (get_or actions k d))) =
-      subst (IsOfPool v) (get_or-map entry_of (pending_of actions) k (action_of d) ∙ ap entry_of (get_or-map action_of actions k d)) (all k (entry_of (action_of d)) (omega (arith, n, m, low))) in
+      subst (IsOfPool v) (get_or-map entry_of (sets_of actions) k (action_of d) ∙ ap entry_of (get_or-map action_of actions k d)) (all k (entry_of (action_of d)) (omega (arith, n, m, low))) in
       let inside = e.inside in
       let size = may.begun.seen.shape.size in
       let lanes = lane.shape.lanes_to in

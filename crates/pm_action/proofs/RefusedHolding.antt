@@ -3,12 +3,12 @@ use Rattle.std.proofs.Common.{◌≡◌, ◌≢◌, ◌⊎◌, ⊎_elim, IsTrue,
 use Rattle.std.specs.List.{Any, filter, list_any}
 use Rattle.std.proofs.lemmas.List.{length-map}
 use Rattle.pm_crash.proofs.ActionsOutside.{refused_publish_is_step}
-use Rattle.pm_crash.proofs.PendingOn.{same_before}
+use Rattle.pm_crash.proofs.PendingOn.{same_before, sets_alone}
 use Rattle.pm_crash.proofs.SameLocks.{count_after, one_unless}
 use Rattle.pm_crash.specs.OnActions.{IsOutsideReason, PassesObject}
 use Rattle.pm_crash.specs.Operations.{IsHeld, TakesWanted}
 use Rattle.pm_crash.specs.Pending.{pending_before}
-use Rattle.pm_model.specs.Actions.{Action, wants_for}
+use Rattle.pm_model.specs.Actions.{Action, Pending, only_sets, wants_for}
 use Rattle.pm_model.specs.Actions.Action.{SetWord}
 use Rattle.pm_model.specs.Transaction.{Lock as Locked, is_locked, locked, locked_all}
 use Rattle.pm_objects.specs.declared.calls.Operation.TheVariants.{Publish}
@@ -17,7 +17,7 @@ use Rattle.pm_objects.specs.declared.history.Value.{Value}
 use Rattle.pm_objects.specs.declared.history.Value.TheVariants.{Refused}
 use Rattle.pm_objects.specs.declared.refusal.Refusal.{Refusal}
 use Rattle.pm_objects.specs.declared.refusal.Refusal.TheVariants as refusal
-use Rattle.pm_pending.specs.Pending.{action_of, pending_of}
+use Rattle.pm_pending.specs.Pending.{action_of, pending_of, sets_of}
 use Rattle.pm_pending.specs.declared.actions.SetAction.{SetAction}
 use Rattle.pm_view.specs.Log.{Log}
 use Rattle.pm_view.specs.Steps.Step.{Tell}
@@ -67,7 +67,7 @@ few_of_form pool lanes zones wants =
     omega (arith, a, b)
 
 -- so the one reason that they have no plan is an id without an object's form
-pub never_full : (pool lanes zones : ℕ) (actions : List SetAction) (wants : List Want) (r : Refusal) → wants ≡ wants_for (pending_of actions) → length actions ≤ 63 → (r ≡ refusal.LocksFull) ⊎ (r ≡ refusal.NoObject)
+pub never_full : (pool lanes zones : ℕ) (actions : List SetAction) (wants : List Want) (r : Refusal) → wants ≡ wants_for (sets_of actions) → length actions ≤ 63 → (r ≡ refusal.LocksFull) ⊎ (r ≡ refusal.NoObject)
     → (r ≡ refusal.LocksFull → 64 < length (locks_of_form pool lanes zones wants)) → r ≡ refusal.NoObject
 never_full pool lanes zones actions wants r are few cause full =
     ⊎_elim
@@ -75,7 +75,7 @@ never_full pool lanes zones actions wants r are few cause full =
     let many = full locks in
     let most = few_of_form pool lanes zones wants in
     let n = ap length are in
-    let m = length-map (pending_of actions) want_for in
+    let m = length-map (sets_of actions) want_for in
     let k = length-map actions action_of in
     absurd (omega (arith, many, most, n, m, k, few)))
     (λ (none : r ≡ refusal.NoObject). none) cause
@@ -83,11 +83,11 @@ never_full pool lanes zones actions wants r are few cause full =
 -- ---- what is sought, and why it is refused
 
 -- no lock was taken
-pub unplanned : {M : Type 0} (at : M → View → Type 0) (lane : Lane M) (actions : List SetAction) (v : View) (is : IsBegun at lane v) (wants : List Want) → wants ≡ wants_for (pending_of actions) → (r : Refusal) → r ≡ refusal.NoObject
-    → (r ≡ refusal.NoObject → IsTrue (list_any (λ (want : Want). not (has_form lane.pool lane.shape.lanes lane.shape.zones want)) wants)) → SeeksObjects {M = M} {T = Unit {0}} at lane (pending_of actions) v (Err r)
+pub unplanned : {M : Type 0} (at : M → View → Type 0) (lane : Lane M) (actions : List SetAction) (v : View) (is : IsBegun at lane v) (wants : List Want) → wants ≡ wants_for (sets_of actions) → (r : Refusal) → r ≡ refusal.NoObject
+    → (r ≡ refusal.NoObject → IsTrue (list_any (λ (want : Want). not (has_form lane.pool lane.shape.lanes lane.shape.zones want)) wants)) → SeeksObjects {M = M} {T = Unit {0}} at lane (sets_of actions) v (Err r)
 unplanned {M} at lane actions v is wants are r none lacks =
-    subst (λ q. SeeksObjects {M = M} {T = Unit {0}} at lane (pending_of actions) v (Err q)) (sym none) goes where
-      goes : GoesOnTo at lane v (λ w. IsHoldReason w (pending_of actions) refusal.NoObject)
+    subst (λ q. SeeksObjects {M = M} {T = Unit {0}} at lane (sets_of actions) v (Err q)) (sym none) goes where
+      goes : GoesOnTo at lane v (λ w. IsHoldReason w (sets_of actions) refusal.NoObject)
       goes = record {
         view = v;
         led = led_none v;
@@ -129,12 +129,12 @@ module _ (w : View) (reply : Option Value) where
         outside = past.outside;
       }
 
-  reason_told : (actions : List Action) (r : Refusal) → w.lane < w.lanes → actions ≡ pending_before w → IsHoldReason w actions r → IsOutsideReason told r
-  reason_told actions refusal.NoObject inside same reason = let n = ap length same in let low = reason.2 in let m = length-map actions want_for in omega (arith, n, m, low)
+  reason_told : (actions : List Action) (r : Refusal) → w.lane < w.lanes → only_sets actions ≡ pending_before w → IsHoldReason w actions r → IsOutsideReason told r
+  reason_told actions refusal.NoObject inside same reason = let n = ap (λ (p : Pending). length p.sets) same in let low = reason.2 in let m = length-map actions want_for in omega (arith, n, m, low)
   reason_told actions refusal.OutOfRange inside same reason =
       let some = reason.some in (
-        record { in_lanes = inside; takes = subst (λ (pending : List Action). TakesWanted told [] (wants_for pending)) same (wanted_told (wants_for actions) reason.takes) },
-        subst (λ (pending : List Action). Any (PassesObject told) pending) same (some.0, some.1, some.2, some.3, passes_told some.1 some.4),
+        record { in_lanes = inside; takes = subst (λ (p : Pending). TakesWanted told [] (wants_for p.sets)) same (wanted_told (wants_for actions) reason.takes) },
+        subst (λ (p : Pending). Any (PassesObject told) p.sets) same (some.0, some.1, some.2, some.3, passes_told some.1 some.4),
       )
   reason_told actions r inside same reason = absurd reason
 
@@ -144,7 +144,7 @@ module _ {M : Type 0} (at : M → View → Type 0) (mid new : Lane M) (actions :
       (w : View) (actions : List SetAction) → IsBegun at mid w → IsWholeOnceTold w Publish (Some (Refused r)) → IsLeftPending actions w Publish (Some (Refused r)) → IsToldAtOnce at new actions w Publish (Some (Refused r))
 
   -- the refusal is told, from the view at which there was the reason
-  told_there : (r : Refusal) → Ends r → (goes : GoesOnTo at mid v (λ w. IsHoldReason w (pending_of actions) r)) → IsToldAtOnce at new actions goes.view Publish (Some (Refused r))
+  told_there : (r : Refusal) → Ends r → (goes : GoesOnTo at mid v (λ w. IsHoldReason w (sets_of actions) r)) → IsToldAtOnce at new actions goes.view Publish (Some (Refused r))
   told_there r ends goes =
       let w : View = goes.view in
       let is : IsBegun at mid w = goes.begun in
@@ -154,26 +154,27 @@ module _ {M : Type 0} (at : M → View → Type 0) (mid new : Lane M) (actions :
         call = ap (λ (told : List Told). told ++ record { operation = Publish; reply = Some (Refused r) } ∷ []) is.untold;
         no_records = ap (λ (log : Log). log.records) is.log;
         no_entries = ap (λ (log : Log). log.entries) is.log;
-        reason = reason_told w (Some (Refused r)) (pending_of actions) r is.area.lane now goes.holds;
+        alone = sets_alone (pending_before w) (sets_of actions) now;
+        reason = reason_told w (Some (Refused r)) (sets_of actions) r is.area.lane now goes.holds;
       }))
       now
 
-  told_refused : (r : Refusal) → Ends r → GoesOnTo at mid v (λ w. IsHoldReason w (pending_of actions) r) → IsToldOutside at new actions v Publish (Some (Refused r))
+  told_refused : (r : Refusal) → Ends r → GoesOnTo at mid v (λ w. IsHoldReason w (sets_of actions) r) → IsToldOutside at new actions v Publish (Some (Refused r))
   told_refused r ends goes = told_further at new actions v goes.view Publish (Some (Refused r)) goes.led goes.entries (told_there r ends goes).told
 
-  found_none : Ends refusal.NoObject → GoesOnTo at mid v (λ w. IsHoldReason w (pending_of actions) refusal.NoObject) → HasFoundNone at new actions v
+  found_none : Ends refusal.NoObject → GoesOnTo at mid v (λ w. IsHoldReason w (sets_of actions) refusal.NoObject) → HasFoundNone at new actions v
   unfolding told_refused told_further
   found_none ends goes =
       let t = told_there refusal.NoObject ends goes in
       let lane = t.told.same in
-      record { told = told_refused refusal.NoObject ends goes; lacking = any_lacks_same goes.view t.told.view lane.lanes lane.zones lane.pool t.words (wants_for (pending_of actions)) goes.holds }
+      record { told = told_refused refusal.NoObject ends goes; lacking = any_lacks_same goes.view t.told.view lane.lanes lane.zones lane.pool t.words (wants_for (sets_of actions)) goes.holds }
 
-  found_short : Ends refusal.OutOfRange → GoesOnTo at mid v (λ w. IsHoldReason w (pending_of actions) refusal.OutOfRange) → HasFoundShort at new actions v
+  found_short : Ends refusal.OutOfRange → GoesOnTo at mid v (λ w. IsHoldReason w (sets_of actions) refusal.OutOfRange) → HasFoundShort at new actions v
   unfolding told_refused told_further
   found_short ends goes =
       record { told = told_refused refusal.OutOfRange ends goes; holding = goes.view; led = goes.led; undrawn = goes.entries; holds = goes.holds; words = (told_there refusal.OutOfRange ends goes).words }
 
-  pub refuses : (r : Refusal) → r ≢ refusal.Busy → IsHoldCause r → SeeksObjects {M = M} {T = Unit {0}} at mid (pending_of actions) v (Err r) → Ends r → RefusesToHold at new actions v r
+  pub refuses : (r : Refusal) → r ≢ refusal.Busy → IsHoldCause r → SeeksObjects {M = M} {T = Unit {0}} at mid (sets_of actions) v (Err r) → Ends r → RefusesToHold at new actions v r
   refuses refusal.Busy apart cause sought ends = absurd (apart refl)
   refuses refusal.NoObject apart cause sought ends = found_none ends sought
   refuses refusal.OutOfRange apart cause sought ends = found_short ends sought

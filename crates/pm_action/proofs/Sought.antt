@@ -7,7 +7,7 @@ use Rattle.pm_crash.specs.Operations.{TakesWanted}
 use Rattle.pm_model.specs.Actions.{wants_for}
 use Rattle.pm_objects.specs.declared.calls.Want.{Want}
 use Rattle.pm_objects.specs.declared.refusal.Refusal.TheVariants as refusal
-use Rattle.pm_pending.specs.Pending.{action_of, pending_of}
+use Rattle.pm_pending.specs.Pending.{action_of, sets_of}
 use Rattle.pm_pending.specs.declared.actions.SetAction.{SetAction}
 use Rattle.pm_view.specs.View.{View, Lock}
 use Rattle.pm_world.specs.Lanes.{lock_of}
@@ -26,10 +26,10 @@ use Rattle.pm_action.proofs.EachEnd.{Passes, Sets}
 use Rattle.pm_action.proofs.HeldObjects.{each_held, takes_all}
 use Rattle.pm_action.proofs.LookedAgain.{objects_again, only_looks, takes_again}
 
-module _ {M : Type 0} (at : M → View → Type 0) (old mid lane : Lane M) (actions : List SetAction) (plan : List HeldLock) (is : IsPlan old.pool old.shape.lanes old.shape.zones (wants_for (pending_of actions)) plan)
+module _ {M : Type 0} (at : M → View → Type 0) (old mid lane : Lane M) (actions : List SetAction) (plan : List HeldLock) (is : IsPlan old.pool old.shape.lanes old.shape.zones (wants_for (sets_of actions)) plan)
     (first : mid ≡ record old { memory = mid.memory; locks = mid.locks }) (second : lane ≡ record mid { memory = lane.memory; locks = lane.locks }) (v : View) (t : HasTaken at mid v (map lock_of (map unfound plan))) (all : Bool) (f : HasFound at lane t.view all) where
   abbrev wants : List Want
-  wants = wants_for (pending_of actions)
+  wants = wants_for (sets_of actions)
 
   abbrev w : View
   w = f.view
@@ -41,7 +41,7 @@ module _ {M : Type 0} (at : M → View → Type 0) (old mid lane : Lane M) (acti
   shape = ap (λ (l : Lane M). l.shape) second ∙ ap (λ (l : Lane M). l.shape) first
 
   -- under one of the locks there is no object
-  pub none_found : all ≡ false → GoesOnTo at lane v (λ u. IsHoldReason u (pending_of actions) refusal.NoObject)
+  pub none_found : all ≡ false → GoesOnTo at lane v (λ u. IsHoldReason u (sets_of actions) refusal.NoObject)
   none_found none = record {
     view = w;
     led = led at old mid lane wants plan is pool shape v t all f;
@@ -77,13 +77,13 @@ module _ {M : Type 0} (at : M → View → Type 0) (old mid lane : Lane M) (acti
       }
 
     -- an action passes the end of its object
-    pub past_end : (memory : M) → HasLookedAgain (at memory) w (λ u. Any (Passes u) actions) → GoesOnTo at (record lane { memory = memory }) v (λ u. IsHoldReason u (pending_of actions) refusal.OutOfRange)
-    past_end memory s = goes_on memory (λ u. Any (Passes u) actions) s (λ u. IsHoldReason u (pending_of actions) refusal.OutOfRange)
+    pub past_end : (memory : M) → HasLookedAgain (at memory) w (λ u. Any (Passes u) actions) → GoesOnTo at (record lane { memory = memory }) v (λ u. IsHoldReason u (sets_of actions) refusal.OutOfRange)
+    past_end memory s = goes_on memory (λ u. Any (Passes u) actions) s (λ u. IsHoldReason u (sets_of actions) refusal.OutOfRange)
         (record { takes = takes_again w s.view s.looks [] wants holds_wanted; objects = objects_again w s.view s.looks (f.objects found); some = some_mapped (PassesObject s.view) action_of actions s.holds })
 
     -- or none does
-    pub all_held : (memory : M) → HasLookedAgain (at memory) w (λ u. All (Sets u) actions) → GoesOnTo at (record lane { memory = memory }) v (λ u. HoldsActions u (pending_of actions))
-    all_held memory s = goes_on memory (λ u. All (Sets u) actions) s (λ u. HoldsActions u (pending_of actions)) (record {
+    pub all_held : (memory : M) → HasLookedAgain (at memory) w (λ u. All (Sets u) actions) → GoesOnTo at (record lane { memory = memory }) v (λ u. HoldsActions u (sets_of actions))
+    all_held memory s = goes_on memory (λ u. All (Sets u) actions) s (λ u. HoldsActions u (sets_of actions)) (record {
       takes = takes_again w s.view s.looks [] wants holds_wanted;
       objects = objects_again w s.view s.looks (f.objects found);
       each = All-map (CanSet s.view) action_of actions s.holds;

@@ -1,6 +1,7 @@
 -- A call that has begun ends by the one operation that it is.
 use Rattle.std.proofs.Common.{◌≡◌, inl, ℕ, List, [], ◌∷◌, ◌++◌, Option, Some, length, refl, sym, ap, ◌∙◌, arith}
 use Rattle.pm_crash.proofs.PendingOn.{calls_further}
+use Rattle.pm_model.specs.Actions.{none_pending}
 use Rattle.pm_crash.specs.Pending.{pending_before, pending_behind, pending_from, pending_told}
 use Rattle.pm_objects.specs.declared.calls.Operation.{Operation}
 use Rattle.pm_objects.specs.declared.history.TxErr.TheVariants as error
@@ -33,7 +34,7 @@ use Rattle.pm_action.specs.Outside.{IsLeftPending, IsToldAtOnce, IsWholeOnceTold
 pub pending_behind_one : (v : View) (n : ℕ) (op : Operation) (reply : Option Value) (w : View) → w.entries ≡ drawn_more v.entries n (record { operation = op; reply = reply } ∷ [])
     → pending_before w ≡ pending_behind op reply (pending_before v)
 unfolding pending_told
-pending_behind_one v n op reply w is = ap (pending_from []) is ∙ calls_further [] v.entries (record { number = n; call = record { operation = op; reply = reply } ∷ [] })
+pending_behind_one v n op reply w is = ap (pending_from none_pending) is ∙ calls_further none_pending v.entries (record { number = n; call = record { operation = op; reply = reply } ∷ [] })
 
 module _ {M : Type 0} (at : M → View → Type 0) (lane : Lane M) (v : View) (is : IsBegun at lane v) (op : Operation) (reply : Option Value) (drawn : Lane M) (fields : drawn ≡ record lane { memory = drawn.memory; drawn = Some drawn.last; last = drawn.last })
     (made : IsMade (at lane.memory) (at drawn.memory) (ends_call op reply drawn.last)) where

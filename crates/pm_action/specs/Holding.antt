@@ -10,7 +10,7 @@ use Rattle.pm_objects.specs.declared.history.Value.TheVariants.{Refused}
 use Rattle.pm_objects.specs.declared.ids.Oid.{Oid}
 use Rattle.pm_objects.specs.declared.refusal.Refusal.{Refusal}
 use Rattle.pm_objects.specs.declared.refusal.Refusal.TheVariants as refusal
-use Rattle.pm_pending.specs.Pending.{pending_of}
+use Rattle.pm_pending.specs.Pending.{sets_of}
 use Rattle.pm_pending.specs.declared.actions.SetAction.{SetAction}
 use Rattle.pm_view.specs.Blocks.{is_chunk}
 use Rattle.pm_view.specs.Steps.{Step}
@@ -95,7 +95,7 @@ SeeksObjects at lane actions v (Err r) = GoesOnTo at lane v (λ w. IsHoldReason 
 -- the publish was refused with NoObject, and told so, and by the words of the view then an action names no object
 pub record HasFoundNone {M : Type 0} (at : M → View → Type 0) (lane : Lane M) (actions : List SetAction) (v : View) : Type 0 where
   pub told : IsToldOutside at lane actions v Publish (Some (Refused refusal.NoObject))
-  pub lacking : Any (LacksObject told.view) (wants_for (pending_of actions))
+  pub lacking : Any (LacksObject told.view) (wants_for (sets_of actions))
 
 -- the publish was refused with OutOfRange, and told so: without a counted call or a draw it came to hold the objects of the actions, one of which passes
 -- its object's end, and looked at no word since
@@ -104,7 +104,7 @@ pub record HasFoundShort {M : Type 0} (at : M → View → Type 0) (lane : Lane 
   pub holding : View
   pub led : IsLed v holding
   pub undrawn : holding.entries ≡ v.entries
-  pub holds : HoldsShort holding (pending_of actions)
+  pub holds : HoldsShort holding (sets_of actions)
   pub words : told.view.words ≡ holding.words
 
 -- what a publish that is refused so leaves: the lane rests. Busy is not told

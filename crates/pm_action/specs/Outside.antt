@@ -3,7 +3,7 @@ use Rattle.std.specs.Prelude.{◌≡◌, ℕ, Bool, true, false, List, [], ◌�
 use Rattle.pm_crash.specs.OnActions.{set_refusal}
 use Rattle.pm_crash.specs.OpenCall.{IsWholeCall}
 use Rattle.pm_crash.specs.Pending.{pending_before, pending_behind}
-use Rattle.pm_model.specs.Actions.{Action}
+use Rattle.pm_model.specs.Actions.{Pending}
 use Rattle.pm_objects.specs.declared.calls.Operation.{Operation}
 use Rattle.pm_objects.specs.declared.history.Value.{Value}
 use Rattle.pm_objects.specs.declared.history.Value.TheVariants.{Refused}
@@ -54,11 +54,11 @@ IsAnsweredAtOnce at lane actions v op (Err refusal.Stopped) = ⊥
 IsAnsweredAtOnce at lane actions v op (Err refusal.Spent) = IsSpent at lane v
 IsAnsweredAtOnce at lane actions v op (Err r) = IsToldAtOnce at lane actions v op (Some (Refused r))
 
--- why a set-value at an offset fails, of a lane that had stopped or not, where these actions are pending
-abbrev pub IsSetCause : Bool → ℕ → List Action → Refusal → Type 0
-IsSetCause stopped off actions refusal.Stopped = stopped ≡ true
-IsSetCause stopped off actions refusal.Spent = stopped ≡ false
-IsSetCause stopped off actions r = (stopped ≡ false) × (set_refusal off actions ≡ Some r)
+-- why a set-value at an offset fails, of a lane that had stopped or not, where this is pending
+abbrev pub IsSetCause : Bool → ℕ → Pending → Refusal → Type 0
+IsSetCause stopped off p refusal.Stopped = stopped ≡ true
+IsSetCause stopped off p refusal.Spent = stopped ≡ false
+IsSetCause stopped off p r = (stopped ≡ false) × (set_refusal off p ≡ Some r)
 
 -- why a cancel does
 abbrev pub IsCancelCause : Bool → Refusal → Type 0

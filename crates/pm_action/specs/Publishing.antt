@@ -1,11 +1,11 @@
 -- What a publish outside of a transaction leaves: all that is pending takes effect at once, or the lane stopped in it.
 use Rattle.std.specs.Prelude.{◌≡◌, ◌≤◌, All, Bool, false, List, [], ◌∷◌, length, map, None, Result, Ok, Err}
 use Rattle.pm_crash.specs.Pending.{pending_before}
-use Rattle.pm_model.specs.Actions.{Action}
+use Rattle.pm_model.specs.Actions.{Action, none_pending}
 use Rattle.pm_objects.specs.declared.calls.Operation.TheVariants.{Publish}
 use Rattle.pm_objects.specs.declared.refusal.Refusal.{Refusal}
 use Rattle.pm_objects.specs.declared.refusal.Refusal.TheVariants as refusal
-use Rattle.pm_pending.specs.Pending.{entry_of, pending_of}
+use Rattle.pm_pending.specs.Pending.{entry_of, sets_of}
 use Rattle.pm_pending.specs.declared.actions.SetAction.{SetAction}
 use Rattle.pm_record.specs.declared.redo.Redo.{Redo}
 use Rattle.pm_redo.specs.Entering.{IsOfPool}
@@ -69,7 +69,7 @@ pub record IsPublishedBy {M : Type 0} (at : M → View → Type 0) (lane : Lane 
   pub entries : view.entries ≡ drawn_more v.entries lane.last (record { operation = Publish; reply = None } ∷ [])
   pub few : length actions ≤ 63
   pub drawn_there : view.entries ≡ (after_all holding (publishes (entries_of actions) Publish lane.last holding)).entries
-  pub pending : pending_before view ≡ []
+  pub pending : pending_before view ≡ none_pending
 
 -- it held them, so that each entry is of a word that it locked for writing, and the lane stopped as it published
 pub record IsStoppedPublishing {M : Type 0} (at : M → View → Type 0) (lane : Lane M) (actions : List Action) (v : View) : Type 0 where
@@ -86,12 +86,12 @@ pub record IsStoppedPublishing {M : Type 0} (at : M → View → Type 0) (lane :
 -- what a publish leaves that is done: of no actions it is told, and that is all
 abbrev pub IsPublished : {M : Type 0} → (M → View → Type 0) → Lane M → List SetAction → View → Type 0
 IsPublished at lane [] v = IsToldAtOnce at lane [] v Publish None
-IsPublished at lane (a ∷ actions) v = IsPublishedBy at lane (pending_of (a ∷ actions)) v
+IsPublished at lane (a ∷ actions) v = IsPublishedBy at lane (sets_of (a ∷ actions)) v
 
 -- what a publish of these actions that answers so leaves of a lane that was at rest
 abbrev pub PublishEnds : {M T : Type 0} → (M → View → Type 0) → Lane M → List SetAction → View → Result T Refusal → Type 0
 PublishEnds at lane actions v (Ok done) = IsPublished at lane actions v
-PublishEnds at lane actions v (Err refusal.Stopped) = IsStoppedPublishing at lane (pending_of actions) v
+PublishEnds at lane actions v (Err refusal.Stopped) = IsStoppedPublishing at lane (sets_of actions) v
 PublishEnds at lane actions v (Err refusal.Spent) = IsSpent at lane v
 PublishEnds at lane actions v (Err refusal.Busy) = IsBusy at lane v
 PublishEnds at lane actions v (Err refusal.NoObject) = HasFoundNone at lane actions v

@@ -4,7 +4,7 @@ ghost use Rattle.pm_crash.specs.OnActions.{CanSet, PassesObject};
 ghost use Rattle.pm_crash.specs.Pending.{pending_before};
 ghost use Rattle.pm_model.specs.Actions.{wants_for};
 ghost use Rattle.pm_objects.specs.declared.refusal.Refusal.TheVariants as refusal;
-ghost use Rattle.pm_pending.specs.Pending.{action_of, pending_of};
+ghost use Rattle.pm_pending.specs.Pending.{action_of, pending_of, sets_of};
 ghost use Rattle.pm_pending.specs.declared.actions.SetAction.{SetAction};
 ghost use Rattle.pm_view.specs.View.{View};
 ghost use Rattle.pm_lock.specs.Begun.{IsBegun, IsLaneBegun};
@@ -24,7 +24,7 @@ const LINE_WORDS: u64 = 8;
 /// What a publish of the actions wants, as the first so many of these: the object of each, for writing.
 fn wants_of(actions: &[SetAction]) -> [Want; MAX_ACTIONS]
     requires few { length actions.now ≤ 63 }
-    ensures { take (length actions.now) result ≡ wants_for (pending_of actions.now) }
+    ensures { take (length actions.now) result ≡ wants_for (sets_of actions.now) }
 {
     let mut wants = [Want {
         id: Oid::NULL,
@@ -75,9 +75,9 @@ fn seek_objects<M: LawfulMem>(
 ) -> Result<(), Refusal>
     requires begun { IsLaneBegun M.at lane.old }
     requires free { lane.old.locks.items ≡ [] }
-    requires plan { IsPlan lane.old.pool lane.old.shape.lanes lane.old.shape.zones (wants_for (pending_of actions.now)) plan.now }
+    requires plan { IsPlan lane.old.pool lane.old.shape.lanes lane.old.shape.zones (wants_for (sets_of actions.now)) plan.now }
     requires aligned { All (λ (a : SetAction). a.off % 8 ≡ 0) actions.now }
-    ensures sought { (v : View) → IsBegun M.at lane.old v → SeeksObjects M.at lane.new (pending_of actions.now) v result }
+    ensures sought { (v : View) → IsBegun M.at lane.old v → SeeksObjects M.at lane.new (sets_of actions.now) v result }
     ensures causes { IfErr result IsHoldCause }
     ensures lane { lane.new ≡ record lane.old { memory = lane.new.memory; locks = lane.new.locks } }
 {
@@ -100,7 +100,7 @@ fn seek_actions<M: LawfulMem>(lane: &mut Lane<M>, actions: &[SetAction]) -> Resu
     requires free { lane.old.locks.items ≡ [] }
     requires few { length actions.now ≤ 63 }
     requires aligned { All (λ (a : SetAction). a.off % 8 ≡ 0) actions.now }
-    ensures sought { (v : View) → IsBegun M.at lane.old v → SeeksObjects M.at lane.new (pending_of actions.now) v result }
+    ensures sought { (v : View) → IsBegun M.at lane.old v → SeeksObjects M.at lane.new (sets_of actions.now) v result }
     ensures causes { IfErr result IsHoldCause }
     ensures lane { lane.new ≡ record lane.old { memory = lane.new.memory; locks = lane.new.locks } }
 {
@@ -119,7 +119,7 @@ pub fn hold_actions<M: LawfulMem>(lane: &mut Lane<M>, actions: &[SetAction]) -> 
     requires free { lane.old.locks.items ≡ [] }
     requires few { length actions.now ≤ 63 }
     requires aligned { All (λ (a : SetAction). a.off % 8 ≡ 0) actions.now }
-    ensures held { OnOk result ((v : View) → IsBegun M.at lane.old v → GoesOnTo M.at lane.new v (λ w. HoldsActions w (pending_of actions.now))) }
+    ensures held { OnOk result ((v : View) → IsBegun M.at lane.old v → GoesOnTo M.at lane.new v (λ w. HoldsActions w (sets_of actions.now))) }
     ensures refused { IfErr result (λ r. (v : View) → IsBegun M.at lane.old v → pending_of actions.now ≡ pending_before v → RefusesToHold M.at lane.new actions.now v r) }
     ensures causes { IfErr result IsHoldCause }
     ensures lane { OnOk result (lane.new ≡ record lane.old { memory = lane.new.memory; locks = lane.new.locks }) }

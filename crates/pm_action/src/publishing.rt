@@ -3,7 +3,7 @@ ghost use Rattle.pm_crash.specs.Pending.{pending_before};
 ghost use Rattle.pm_model.specs.Actions.{wants_for};
 ghost use Rattle.pm_objects.specs.declared.calls.Operation.TheVariants as operation;
 ghost use Rattle.pm_objects.specs.declared.refusal.Refusal.TheVariants as refusal;
-ghost use Rattle.pm_pending.specs.Pending.{pending_of};
+ghost use Rattle.pm_pending.specs.Pending.{pending_of, sets_of};
 ghost use Rattle.pm_pending.specs.declared.actions.SetAction.{SetAction};
 ghost use Rattle.pm_view.specs.View.{View};
 ghost use Rattle.pm_lock.specs.Begun.{IsBegun};
@@ -26,17 +26,17 @@ use pm_world::{Lane, LawfulMem};
 
 /// Logs the actions, whose objects the lane holds, tells the publish and draws the call's number, and performs them; or says that the lane stopped.
 fn publish_held<M: LawfulMem>(lane: &mut Lane<M>, actions: &[SetAction]) -> Result<(), Refusal>
-    requires may { (v : View) × MayPublishHeld M.at lane.old (pending_of actions.now) v }
+    requires may { (v : View) × MayPublishHeld M.at lane.old (sets_of actions.now) v }
     requires some { 1 ≤ length actions.now }
     requires few { length actions.now ≤ 63 }
-    ensures ended { OnOk result ((v : View) → MayPublishHeld M.at lane.old (pending_of actions.now) v → pending_of actions.now ≡ pending_before v
-        → IsEndedBy M.at lane.new v (publishes (entries_of (pending_of actions.now)) operation.Publish lane.new.last) operation.Publish None) }
+    ensures ended { OnOk result ((v : View) → MayPublishHeld M.at lane.old (sets_of actions.now) v → pending_of actions.now ≡ pending_before v
+        → IsEndedBy M.at lane.new v (publishes (entries_of (sets_of actions.now)) operation.Publish lane.new.last) operation.Publish None) }
     ensures behind { OnOk result (IsLaneAfterCall M.at lane.new) }
     ensures none { OnOk result (lane.new.records.items ≡ []) }
     ensures unlisted { OnOk result (lane.new.entries.items ≡ []) }
     ensures lane { OnOk result (lane.new ≡ record lane.old { memory = lane.new.memory; records = lane.new.records; entries = lane.new.entries; drawn = Some lane.new.last; last = lane.new.last }) }
-    ensures stops { OnErr result ((v : View) → MayPublishHeld M.at lane.old (pending_of actions.now) v → pending_of actions.now ≡ pending_before v
-        → IsStoppedIn M.at lane.new v (publishes (entries_of (pending_of actions.now)) operation.Publish lane.new.last) operation.Publish None) }
+    ensures stops { OnErr result ((v : View) → MayPublishHeld M.at lane.old (sets_of actions.now) v → pending_of actions.now ≡ pending_before v
+        → IsStoppedIn M.at lane.new v (publishes (entries_of (sets_of actions.now)) operation.Publish lane.new.last) operation.Publish None) }
     ensures stopped { IfErr result (λ r. r ≡ refusal.Stopped) }
     ensures stopped_lane { OnErr result (lane.new ≡ record lane.old { memory = lane.new.memory; records = lane.new.records; entries = lane.new.entries; drawn = lane.new.drawn; last = lane.new.last; stopped = true }) }
 {
@@ -92,9 +92,9 @@ pub fn publish<M: LawfulMem>(
     ensures stopped { lane.old.stopped ≡ true → (result ≡ Err refusal.Stopped) × (lane.new ≡ lane.old) }
     ensures ends { (v : View) → IsAtRest M.at lane.old v → StaysSound M.at v → pending_of actions.old.items ≡ pending_before v → PublishEnds M.at lane.new actions.old.items v result }
     ensures missing { result ≡ Err refusal.NoObject → (v : View) → IsAtRest M.at lane.old v → StaysSound M.at v → pending_of actions.old.items ≡ pending_before v → IsAlone v
-        → Any (LacksObject v) (wants_for (pending_of actions.old.items)) }
+        → Any (LacksObject v) (wants_for (sets_of actions.old.items)) }
     ensures past_end { result ≡ Err refusal.OutOfRange → (v : View) → IsAtRest M.at lane.old v → StaysSound M.at v → pending_of actions.old.items ≡ pending_before v → IsAlone v
-        → Any (Overruns v) (pending_of actions.old.items) }
+        → Any (Overruns v) (sets_of actions.old.items) }
     ensures emptied { OnOk result (actions.new.items ≡ []) }
     ensures kept { OnErr result (actions.new ≡ actions.old) }
     ensures lane { lane.new.stopped ≡ false → lane.new ≡ record lane.old { memory = lane.new.memory; last = lane.new.last } }

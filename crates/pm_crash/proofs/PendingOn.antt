@@ -8,7 +8,7 @@ use Rattle.pm_objects.specs.declared.history.TxErr.TheVariants as error
 use Rattle.pm_objects.specs.declared.history.Value.{Value}
 use Rattle.pm_objects.specs.declared.history.Value.TheVariants.{Offset, Refused}
 use Rattle.pm_objects.specs.declared.ids.Oid.{Oid}
-use Rattle.pm_model.specs.Actions.{Action, Pending, Reservation, none_pending, object_reserved, with_actions}
+use Rattle.pm_model.specs.Actions.{Action, Pending, Reservation, none_pending, object_reserved, only_sets, with_actions}
 use Rattle.pm_model.specs.Answers.{after_reply, changes_nothing}
 use Rattle.pm_model.specs.Bytes.{is_among, new_words, records_of}
 use Rattle.pm_model.specs.Checks.{is_action, words_in}
@@ -16,6 +16,10 @@ use Rattle.pm_model.specs.NewObjects.{pool_without}
 use Rattle.pm_model.specs.Transaction.{Transaction, aborted, all_made, all_released, committed, ended_inner, given_over, is_new, made_at, released, resting}
 use Rattle.pm_view.specs.View.{Numbered, Told, View}
 use Rattle.pm_crash.specs.Pending.{pending_before, pending_behind, pending_from, pending_in, pending_told, published_by, published_in, published_told}
+
+-- where set-values are all that is pending
+pub sets_alone : (p : Pending) (actions : List Action) → only_sets actions ≡ p → p ≡ only_sets p.sets
+sets_alone p actions is = sym is ∙ ap (λ (q : Pending). only_sets q.sets) is
 
 told_further : (actions : Pending) (told : List Told) (t : Told) → pending_told actions (told ++ t ∷ []) ≡ pending_behind t.operation t.reply (pending_told actions told)
 unfolding pending_told

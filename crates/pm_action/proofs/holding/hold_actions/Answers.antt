@@ -1,6 +1,6 @@
 use Rattle.std.proofs.Common.{◌≡◌, ◌≢◌, Err, rules, subst}
 use Rattle.pm_objects.specs.declared.refusal.Refusal.TheVariants as refusal
-use Rattle.pm_pending.specs.Pending.{pending_of}
+use Rattle.pm_pending.specs.Pending.{sets_of}
 use Rattle.pm_action.specs.Holding.{SeeksObjects}
 use Rattle.pm_action.proofs.RefusedHolding.{busy_free, refuses}
 use Rattle.pm_action.proofs.holding.hold_actions.Goals as goal
@@ -14,4 +14,4 @@ pub returns-else-ne-clause-free : goal.returns-else-ne-clause-free
 returns-else-ne-clause-free g c =
     let busy : c.in-Err.refusal ≡ refusal.Busy = search rules in
     let is = c.requires.begun in
-    busy_free g.M.LaneMem.at c.seek_actions.new.lane is.0 (subst (λ r. SeeksObjects {T = Unit {0}} g.M.LaneMem.at c.seek_actions.new.lane (pending_of c.args.actions.now) is.0 (Err r)) busy (c.in-Err.ensures.sought is.0 is.1))
+    busy_free g.M.LaneMem.at c.seek_actions.new.lane is.0 (subst (λ r. SeeksObjects {T = Unit {0}} g.M.LaneMem.at c.seek_actions.new.lane (sets_of c.args.actions.now) is.0 (Err r)) busy (c.in-Err.ensures.sought is.0 is.1))

@@ -2,6 +2,7 @@ use Rattle.std.proofs.Common.{◌∙◌, None, Some, [], ◌∷◌, ap}
 use Rattle.std.specs.Option.{option_map}
 use Rattle.pm_objects.specs.declared.calls.Operation.TheVariants.{SetValue}
 use Rattle.pm_objects.specs.declared.history.Value.TheVariants.{Refused}
+use Rattle.pm_model.specs.Actions.{only_sets}
 use Rattle.pm_pending.specs.Pending.{action_of, pending_of}
 use Rattle.std.proofs.lemmas.List.{map-append}
 use Rattle.pm_action.proofs.Answered.{answered_since, refused_set}
@@ -12,7 +13,7 @@ pub returns-in-Ok-clause-made : goal.returns-in-Ok-clause-made
 returns-in-Ok-clause-made g c v rests same =
     answered_since g.M.LaneMem.at c.start.new.lane c.end_outside.new.lane v c.in_ok-start.field-0 (c.in_ok-start.ensures.begun v rests) c.args.actions.now.items c.pend.new.actions.items same
     (SetValue c.args.action.id c.args.action.off c.args.action.value) None c.end_outside.ensures.told (ap (option_map Refused) c.in-Ok.ensures.reason)
-    (ap pending_of c.in-Ok.ensures.done ∙ map-append action_of c.args.actions.now.items (c.args.action ∷ []))
+    (ap pending_of c.in-Ok.ensures.done ∙ ap only_sets (map-append action_of c.args.actions.now.items (c.args.action ∷ [])))
 
 pub returns-clause-made : goal.returns-clause-made
 returns-clause-made g c v rests same =
