@@ -17,7 +17,8 @@ use Rattle.pm_world.specs.Sequences.{in_turn, one, settles}
 use Rattle.pm_world.specs.declared.lane.HeldLock.{HeldLock}
 use Rattle.pm_world.specs.declared.lane.Lane.{Lane}
 use Rattle.pm_crash.proofs.CallBlocks.{blocks_once_more, same_blocks}
-use Rattle.pm_crash.specs.CallBlocks.{TellsOfRoot, allocated_by, blocks_in}
+use Rattle.pm_crash.specs.CallBlocks.{LeavesReserved, TellsOfRoot, blocks_in}
+use Rattle.pm_crash.specs.Pending.{pending_in}
 use Rattle.pm_undo.proofs.Settled.{settle_lawful}
 use Rattle.pm_crash.proofs.StillReserved.{HasSameHeads}
 use Rattle.pm_tx.specs.Actions.{HasCanceled, cancels}
@@ -25,26 +26,26 @@ use Rattle.pm_tx.specs.AtWork.{IsAtWork}
 use Rattle.pm_transaction.proofs.GoingWith.{Keeps, keeps_quiet, keeps_told, kept_of, with_lists}
 use Rattle.pm_transaction.specs.AtWork.{IsAtWorkWith}
 
-keeps_behind_tell : (locks : List HeldLock) (blocks : BlockLists) (v : View) → Keeps locks blocks v → (op : Operation) (reply : Option Value) → blocks_in (after v (Tell op reply)) ≡ blocks_in v → allocated_by op reply ≡ []
-    → ((root : Option ℕ) → TellsOfRoot root op reply) → Keeps locks blocks (after v (Tell op reply))
+keeps_behind_tell : (locks : List HeldLock) (blocks : BlockLists) (v : View) → Keeps locks blocks v → (op : Operation) (reply : Option Value) → blocks_in (after v (Tell op reply)) ≡ blocks_in v → LeavesReserved op reply (pending_in v)
+    → ((root : Option ℕ) → TellsOfRoot root op reply (pending_in v)) → Keeps locks blocks (after v (Tell op reply))
 keeps_behind_tell locks blocks v keeps op reply same none no_root =
     let told : View = after v (Tell op reply) in
     let heads : HasSameHeads v told = record { lanes = refl; zones = refl; reserved = refl; described = λ c in_pool. refl; root = refl } in
-    keeps_told v told heads locks blocks keeps refl refl same op reply refl none no_root
+    keeps_told v told heads locks blocks keeps refl refl same op reply refl refl none no_root
 
 module _ {M : Type 0} (o : Opening) (at : M → View → Type 0) (lane next : Lane M) (blocks : BlockLists) (v : View) (is : IsAtWorkWith o at lane blocks v) (locks : next.locks ≡ lane.locks) where
   keeps_as : Keeps next.locks.items blocks v
   keeps_as = subst (λ ls. Keeps ls.items blocks v) (sym locks) (kept_of o at lane blocks v is)
 
-  pub told_with_lists : (op : Operation) (reply : Option Value) → blocks_in (after v (Tell op reply)) ≡ blocks_in v → allocated_by op reply ≡ [] → ((root : Option ℕ) → TellsOfRoot root op reply)
+  pub told_with_lists : (op : Operation) (reply : Option Value) → blocks_in (after v (Tell op reply)) ≡ blocks_in v → LeavesReserved op reply (pending_in v) → ((root : Option ℕ) → TellsOfRoot root op reply (pending_in v))
       → IsAtWork o at next (after v (Tell op reply)) → IsAtWorkWith o at next blocks (after v (Tell op reply))
   told_with_lists op reply same none no_root work = with_lists o at next blocks (after v (Tell op reply)) work (keeps_behind_tell next.locks.items blocks v keeps_as op reply same none no_root)
 
   pub set_with_lists : (id : Oid) (off value : ℕ) (refused : Option Refusal) → IsAtWork o at next (after v (Tell (SetValue id off value) (option_map Refused refused)))
       → IsAtWorkWith o at next blocks (after v (Tell (SetValue id off value) (option_map Refused refused)))
-  set_with_lists id off value None work = told_with_lists (SetValue id off value) None (blocks_once_more v (after v (Tell (SetValue id off value) None)) (SetValue id off value) None refl) refl (λ root. tt) work
+  set_with_lists id off value None work = told_with_lists (SetValue id off value) None (blocks_once_more v (after v (Tell (SetValue id off value) None)) (SetValue id off value) None refl refl) (refl, refl) (λ root. tt) work
   set_with_lists id off value (Some r) work =
-      told_with_lists (SetValue id off value) (Some (Refused r)) (blocks_once_more v (after v (Tell (SetValue id off value) (Some (Refused r)))) (SetValue id off value) (Some (Refused r)) refl) refl (λ root. tt) work
+      told_with_lists (SetValue id off value) (Some (Refused r)) (blocks_once_more v (after v (Tell (SetValue id off value) (Some (Refused r)))) (SetValue id off value) (Some (Refused r)) refl refl) (refl, refl) (λ root. tt) work
 
   abbrev m : View
   m = after_all v (settles v)
@@ -54,6 +55,7 @@ module _ {M : Type 0} (o : Opening) (at : M → View → Type 0) (lane next : La
   keeps_settled =
       let settled = (settle_lawful v).1 in
       let words : (i : ℕ) → slice_index m.words i ≡ slice_index v.words i = λ i. ap (λ (u : View). slice_index u.words i) settled in
+      let entries = ap (λ (u : View). u.entries) settled in
       let call = ap (λ (u : View). u.call) settled in
       let heads : HasSameHeads v m = record {
         lanes = ap (λ (u : View). u.lanes) settled;
@@ -62,14 +64,14 @@ module _ {M : Type 0} (o : Opening) (at : M → View → Type 0) (lane next : La
         described = λ c in_pool. words (descriptor_word v.lanes c);
         root = words 64;
       } in
-      keeps_quiet v m heads next.locks.items blocks keeps_as (ap (λ (u : View). u.table) settled) (ap (λ (u : View). u.zone_locks) settled) (same_blocks v m call) call
+      keeps_quiet v m heads next.locks.items blocks keeps_as (ap (λ (u : View). u.table) settled) (ap (λ (u : View). u.zone_locks) settled) (same_blocks v m entries call) entries call
 
   pub canceled_with_lists : HasCanceled o at next v → IsAtWorkWith o at next blocks (after_all v (cancels v))
   unfolding cancels in_turn one after_all
   canceled_with_lists canceled =
       let both = after_all-append v (settles v) (Tell Cancel None ∷ []) in
       with_lists o at next blocks (after_all v (cancels v)) canceled.works
-      (subst (Keeps next.locks.items blocks) (sym both) (keeps_behind_tell next.locks.items blocks m keeps_settled Cancel None (same_told m) refl (λ root. tt)))
+      (subst (Keeps next.locks.items blocks) (sym both) (keeps_behind_tell next.locks.items blocks m keeps_settled Cancel None (same_told m) (refl, refl) (λ root. tt)))
     where
       same_told : (u : View) → blocks_in (after u (Tell Cancel None)) ≡ blocks_in u
-      same_told u = blocks_once_more u (after u (Tell Cancel None)) Cancel None refl
+      same_told u = blocks_once_more u (after u (Tell Cancel None)) Cancel None refl refl

@@ -135,13 +135,13 @@ module _ {M : Type 0} (o : Opening) (at : M → View → Type 0) (lane : Lane M)
       still.alone.can.run.working
       (ap (λ (l : Log). l.entries) gains.still.log ∙ is.work.no_entries)
       (published_once_more v w (Alloc size kind) (Some (Offset n.off)) gains.still.entries is_allocated.tells.call ∙ append-nil (published_in v))
-      (made_none_before v w (Alloc size kind) (Some (Offset n.off)) is_allocated.tells.call tt)
+      (made_none_before v w (Alloc size kind) (Some (Offset n.off)) gains.still.entries is_allocated.tells.call tt)
       still.alone.under_way
 
   -- ---- its lists
 
   lists_are : blocks_in w ≡ with_made n (blocks_in v)
-  lists_are = blocks_once_more v w (Alloc size kind) (Some (Offset n.off)) is_allocated.tells.call
+  lists_are = blocks_once_more v w (Alloc size kind) (Some (Offset n.off)) gains.still.entries is_allocated.tells.call
 
   lies_new : (own : IsReservedFor u n) → IsOfItsRun u n own → LiesInReserved w n
   lies_new (inl run) inside = inl (

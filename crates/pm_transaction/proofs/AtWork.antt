@@ -74,7 +74,7 @@ module _ {M : Type 0} (o : Opening) (at : M → View → Type 0) (lane next : La
       goes_on o at lane next v looked work fields (objects_kept v looked call (λ k there. learned.same (8 * k.line + 1) (size_known k there))) seen
       (ap (λ rs. rs.items) records ∙ (work.seen.records ∙ ap (λ (l : Log). map span_of l.records) (sym learned.log))) (subst (λ rs. All IsSpan rs.items) (sym records) work.spans)
       (opening_learned v 64 x (root_is_plain v) o work.opening) learned.working (ap (λ (l : Log). l.entries) learned.log ∙ work.no_entries) (published_same v looked call.entries call.call)
-      (made_none_same v looked call.call)
+      (made_none_same v looked call.entries call.call)
       (goes_on_learning v looked lane.level _ _ work.under_way
       (record { keeps = record { lanes = call.lane.lanes; zones = call.lane.zones; pool = call.lane.pool; lane = call.lane.lane; entries = call.entries; known = call.remembers }; locks = call.locks; call = call.call })
       (record { records = ap (λ (l : Log). l.records) learned.log; entries = ap (λ (l : Log). l.entries) learned.log })
@@ -105,36 +105,3 @@ module _ {M : Type 0} (o : Opening) (at : M → View → Type 0) (lane next : La
         };
         holds = ap (λ (ws : List ℕ). slice_index ws 64) (load_words v 64 x (finds.1 is.alone)) ∙ sym (finds.1 is.alone);
       }
-
--- ---- what the lane has bears out an operation more that allocates nothing, where its reply agrees with the root
-
--- whatever a view's call tells, what it reserved is the same
-reserved_so : (v : View) (call : List Told) (n : NewObject) → IsReservedFor (record v { call = call }) n → IsReservedFor v n
-reserved_so v call n (inl run) = inl (record { chunk = run.chunk; lines = run.lines; index = run.index; in_pool = run.in_pool; low = run.low; described = run.described; reserved = run.reserved; is_block = run.is_block })
-reserved_so v call n (inr has) = inr (record {
-  zone = has.zone;
-  first = has.first;
-  count = has.count;
-  in_pool = has.in_pool;
-  low = has.low;
-  fits = has.fits;
-  unused = λ j near. let t = has.unused j near in record { reserved = t.reserved; undescribed = t.undescribed };
-  is_block = has.is_block;
-})
-
-pub borne_told : (v next : View) → HasSameHeads v next → (op : Operation) (reply : Option Value) → next.call ≡ v.call ++ record { operation = op; reply = reply } ∷ [] → allocated_by op reply ≡ []
-    → TellsOfRoot (root_in (slice_index v.words)) op reply → IsBorneOut v → IsBorneOut next
-borne_told v next same op reply call none agrees borne =
-    let root : Option ℕ = root_in (slice_index next.words) in
-    let t : Told = record { operation = op; reply = reply } in
-    let before : View = record next { call = v.call } in
-    let still : IsBorneOut before = borne_still v before (record { lanes = same.lanes; zones = same.zones; reserved = same.reserved; described = same.described; root = same.root }) refl borne in
-    let same_root : root_in (slice_index v.words) ≡ root = sym (ap (λ (x : ℕ). cond (eqb x 0) None (Some x)) same.root) in
-    record {
-      reserved = subst (All (IsReservedFor next)) (sym (allocated_once_more v next op reply call ∙ ((λ j. allocated_in v ++ none j) ∙ append-nil (allocated_in v))))
-          (All-weaker (IsReservedFor before) (IsReservedFor next) (reserved_so next v.call) (allocated_in v) still.reserved);
-      root =
-          subst (All (λ (t : Told). TellsOfRoot root t.operation t.reply)) (sym call)
-          (All-append (λ (t : Told). TellsOfRoot root t.operation t.reply) v.call (t ∷ []) still.root
-          (All-cons (λ (t : Told). TellsOfRoot root t.operation t.reply) t [] (subst (λ (r : Option ℕ). TellsOfRoot r op reply) same_root agrees) (All-nil (λ (t : Told). TellsOfRoot root t.operation t.reply))));
-    }

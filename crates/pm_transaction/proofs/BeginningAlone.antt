@@ -1,5 +1,5 @@
 -- A lane alone that began a transaction where it may begin works alone there, and is at work with its lists.
-use Rattle.std.proofs.Common.{◌≡◌, ◌*◌, ◌<◌, ◌/◌, ◌%◌, ℕ, List, [], sym, ap, ◌∙◌, subst, arith}
+use Rattle.std.proofs.Common.{◌≡◌, ◌*◌, ◌<◌, ◌/◌, ◌%◌, ℕ, All, List, [], sym, ap, ◌∙◌, subst, arith}
 use Rattle.std.specs.List.{list_any}
 use Rattle.std.proofs.lemmas.Bool.{false≢true}
 use Rattle.pm_header.specs.declared.header.Header.{Header}
@@ -12,6 +12,8 @@ use Rattle.pm_world.specs.Opening.{Opening}
 use Rattle.pm_world.specs.declared.lane.Lane.{Lane}
 use Rattle.pm_crash.proofs.AloneCourse.{StandsAlone, begins_holds, stands_at}
 use Rattle.pm_crash.specs.Alone.{Begins, WorksAlone}
+use Rattle.pm_crash.specs.CallBlocks.{reserved_in}
+use Rattle.pm_crash.specs.Reserved.{IsReservedFor}
 use Rattle.pm_epoch.proofs.OpeningSeen.{finds_opening}
 use Rattle.pm_made.specs.Made.{BlockLists}
 use Rattle.pm_transaction.specs.AtWork.{AreForPool, IsAtWorkWith, IsNotMaking, ReservesNoChunk}
@@ -29,7 +31,7 @@ module _ {M : Type 0} (o : Opening) (header : Header) (pool : PoolView) (at : M 
   stands : StandsAlone o header pool w
   stands = stands_at o header pool v has.begun.led.steps w begins has.begun.led.leads counts.numbered counts.within
 
-  module _ (pages : AreForPool blocks v) (unlocked : v.zone_locks ≡ []) (none : ReservesNoChunk v) where
+  module _ (pages : AreForPool blocks v) (unlocked : v.zone_locks ≡ []) (none : ReservesNoChunk v) (pending : All (IsReservedFor w) (reserved_in w)) where
     quiet : IsNotMaking w
     quiet = record {
       unlocked = has.begun.led.heap.zone_locks ∙ unlocked;
@@ -41,4 +43,4 @@ module _ {M : Type 0} (o : Opening) (header : Header) (pool : PoolView) (at : M 
     pub begun_at_work : IsAtWorkWith o at lane blocks w
     begun_at_work =
         has.opens o stands.goes.world.sound (begins_holds o header pool v begins).1.has_header.has_shape.shape.zones_to (finds_opening o header pool w stands)
-        (let lanes = has.begun.same.lanes in let zones = has.begun.same.zones in omega (arith, pages, lanes, zones)) quiet
+        (let lanes = has.begun.same.lanes in let zones = has.begun.same.zones in omega (arith, pages, lanes, zones)) quiet pending

@@ -4,7 +4,8 @@ use Rattle.std.specs.List.{All, flat_map}
 use Rattle.std.proofs.lemmas.List.Elements.{All-nil}
 use Rattle.pm_image.proofs.Members.{no_member}
 use Rattle.pm_crash.proofs.CallBlocks.{first_agrees}
-use Rattle.pm_crash.specs.CallBlocks.{CallBlocks, allocated_by, allocated_in, blocks_in, blocks_told, no_blocks}
+use Rattle.pm_crash.specs.CallBlocks.{CallBlocks, allocated_in, allocated_told, blocks_in, blocks_told, no_blocks, reserved_in}
+use Rattle.pm_crash.specs.Pending.{pending_before}
 use Rattle.pm_crash.specs.Reserved.{IsBorneOut, IsReservedFor, root_in}
 use Rattle.pm_made.specs.Made.{BlockLists, ListsBlocks}
 use Rattle.pm_made.specs.declared.objects.Freed.{Freed}
@@ -24,30 +25,32 @@ none_freed locks [] none = All-nil (IsHeldFreed locks)
 none_freed locks (f ∷ freed) none = absurd cc
 
 module _ {M : Type 0} (at : M → View → Type 0) (lane : Lane M) (blocks : BlockLists) (v : View) (wants : List Want) (none : ListsBlocks blocks no_blocks) (alone : IsAlone v) where
-  begun_borne_out : (w : View) → w.call ≡ record { operation = Begin wants; reply = None } ∷ [] → IsBorneOut w
-  begun_borne_out w call =
-      let nothing : allocated_in w ≡ [] = ap (flat_map (λ (t : Told). allocated_by t.operation t.reply)) call in
+  begun_borne_out : (w : View) → w.call ≡ record { operation = Begin wants; reply = None } ∷ [] → All (IsReservedFor w) (reserved_in w) → IsBorneOut w
+  unfolding allocated_told
+  begun_borne_out w call pending =
+      let nothing : allocated_in w ≡ [] = ap (allocated_told (pending_before w)) call in
       record {
         reserved = subst (All (IsReservedFor w)) (sym nothing) (All-nil (IsReservedFor w));
+        pending = pending;
         root = first_agrees w (Begin wants) None call (root_in (slice_index w.words)) tt;
       }
 
   begun_none : (w : View) → w.call ≡ record { operation = Begin wants; reply = None } ∷ [] → blocks_in w ≡ no_blocks
   unfolding blocks_told
-  begun_none w call = ap (blocks_told no_blocks) call
+  begun_none w call = ap (blocks_told (pending_before w) no_blocks) call
 
   pub begun_with : HasBegun at lane v wants → HasBegunWith at lane blocks v wants
   begun_with begun =
       let same : blocks_in begun.view ≡ no_blocks = begun_none begun.view begun.call in
       record {
         begun = begun;
-        opens = λ o sound few finds pages quiet. record {
+        opens = λ o sound few finds pages quiet pending. record {
           work = begun.opens o sound few finds;
           lists = subst (ListsBlocks blocks) (sym same) none;
           pages = pages;
           alone = begun.same.table ∙ alone;
           not_making = quiet;
-          borne_out = begun_borne_out begun.view begun.call;
+          borne_out = begun_borne_out begun.view begun.call pending;
           freed_held = none_freed lane.locks.items blocks.freed none.freed;
           within = λ n there. absurd (no_member n (subst (λ (b : CallBlocks). Contains b.made n) same there));
         };

@@ -46,7 +46,7 @@ StopsEither at lane new spans entries =
 module _ {M : Type 0} (o : Opening) (at : M → View → Type 0) (lane : Lane M) (blocks : BlockLists) (v : View) (is : IsAtWorkWith o at lane blocks v) where
   -- the commit of an inner level leaves it what it has
   pub stays_with : (next : Lane M) → next.locks ≡ lane.locks → IsAtWork o at next (after v (Tell Commit None)) → IsAtWorkWith o at next blocks (after v (Tell Commit None))
-  stays_with next locks work = told_with_lists o at lane next blocks v is locks Commit None (blocks_once_more v (after v (Tell Commit None)) Commit None refl) refl (λ root. tt) work
+  stays_with next locks work = told_with_lists o at lane next blocks v is locks Commit None (blocks_once_more v (after v (Tell Commit None)) Commit None refl refl) (refl, refl) (λ root. tt) work
 
   -- where it publishes no change of a block it lists none
   no_entries : PublishesNoBlock v → entries_of v.lanes blocks ≡ []

@@ -1,6 +1,6 @@
 -- What a transaction of a lane that works alone freed lies under its locks, each object once, and is not the root; and its log has room for the entries of the blocks of
 -- all that it made and freed, which the lane may enter.
-use Rattle.std.proofs.Common.{◌≡◌, ◌≢◌, ℕ, ◌+◌, ◌≤◌, Contains, List, length, map, None, slice_index, ap, subst, arith}
+use Rattle.std.proofs.Common.{◌≡◌, ◌≢◌, ℕ, ◌+◌, ◌≤◌, Contains, List, [], length, map, None, slice_index, ap, subst, arith}
 use Rattle.std.specs.Prelude.{nat_eq}
 use Rattle.std.specs.List.{IsDistinct}
 use Rattle.std.proofs.lemmas.List.{length-map}
@@ -9,7 +9,7 @@ use Rattle.pm_header.specs.declared.header.Header.{Header}
 use Rattle.pm_image.specs.HeapFaults.{heap_fault}
 use Rattle.pm_objects.specs.declared.history.TxErr.TheVariants as error
 use Rattle.pm_objects.specs.declared.pool.PoolView.{PoolView}
-use Rattle.pm_model.specs.Actions.{only_sets}
+use Rattle.pm_model.specs.Actions.{none_pending}
 use Rattle.pm_model.specs.declared.stage.Stage.TheVariants as model_stage
 use Rattle.pm_redo.specs.Entering.{EntersHeap}
 use Rattle.pm_view.specs.Steps.{Step}
@@ -36,7 +36,7 @@ use Rattle.pm_made.specs.Made.{BlockLists, new_of}
 use Rattle.pm_transaction.proofs.BlockChanges.{FreesAll, MakesAll, frees_all, frees_so, makes_all, makes_so}
 use Rattle.pm_transaction.proofs.FreeReplies.{freed_is_no_root}
 use Rattle.pm_transaction.proofs.Frees.{root_there}
-use Rattle.pm_transaction.proofs.ModelEntries.{HasRoomLeft, runs_room, sets_named_once}
+use Rattle.pm_transaction.proofs.ModelEntries.{HasRoomLeft, runs_room, named_before, sets_named_once}
 use Rattle.pm_transaction.specs.AtWork.{HasBlock, IsAtWorkWith, IsHeldFreed, IsUnderLock, LiesInReserved}
 use Rattle.pm_transaction.specs.Committing.{MayPublishBlocks}
 
@@ -52,7 +52,7 @@ module _ {M : Type 0} (o : Opening) (at : M → View → Type 0) (lane : Lane M)
   no_fault = call_has_no_fault o header pool v s is.work.working.is_open lane.level model_stage.Work error.None is.work.under_way is.borne_out
 
   left : HasRoomLeft comes.tx
-  left = runs_room (told_in v) (reached o header pool v s).last (only_sets (pending_before v)) comes.tx (sets_named_once (pending_before v)) comes.runs
+  left = runs_room (told_in v) (reached o header pool v s).last (pending_before v) comes.tx (named_before none_pending v.entries (sets_named_once [])) comes.runs
 
   -- each is freed once
   pub freed_once : IsDistinct nat_eq (blocks_in v).freed
@@ -84,7 +84,7 @@ module _ {M : Type 0} (o : Opening) (at : M → View → Type 0) (lane : Lane M)
   freed_not_root f there same =
       let place = (freed_under f there).place in
       let listed : Contains (blocks_in v).freed f.off = subst (λ (offs : List ℕ). Contains offs f.off) is.lists.freed (made_member (λ (g : Freed). g.off) blocks.freed f there) in
-      freed_is_no_root v (root_in (slice_index v.words)) (reached o header pool v s).last (only_sets (pending_before v)) comes.tx f.off comes.runs is.borne_out.root listed
+      freed_is_no_root v (root_in (slice_index v.words)) (reached o header pool v s).last (pending_before v) comes.tx f.off comes.runs is.borne_out.root listed
       (root_there (slice_index v.words) f.off (omega (arith, place)) same)
 
   pub made_lies : (m : Made) → Contains blocks.made m → LiesInReserved v (new_of m)

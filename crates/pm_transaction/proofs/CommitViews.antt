@@ -194,7 +194,7 @@ module _ {M : Type 0} (o : Opening) (at : M → View → Type 0) (lane : Lane M)
   committed = commit_is_told v u under_way tells (written.1.records ∙ ap (λ (log : Log). log.records) log_m) (record { words = outside_l })
 
   pub borne_out : IsBorneOut u
-  borne_out = borne_on v u heads Commit None tells.call refl (λ root. tt) is.borne_out
+  borne_out = borne_on v u heads Commit None tells.keeps.entries tells.call (refl, refl) (λ root. tt) is.borne_out
 
   -- ---- to there it leads
 

@@ -41,7 +41,7 @@ module _ {M : Type 0} (o : Opening) (at : M → View → Type 0) (next : Lane M)
       let read : ReadsBytes v w id off len = has.read in
       let heads : HasSameHeads v w = same_heads_outside v w inside read.tells.keeps.lanes read.tells.keeps.zones (reads_leave id off len bytes v).reserved read.keeps.words in
       with_lists o at next blocks w has.works
-      (keeps_told v w heads next.locks.items blocks keeps (same_lane-after_all v (reads_range id off len bytes v)).table (reads_leave id off len bytes v).zone_locks (blocks_once_more v w (Read id off len) _ read.tells.call) (Read id off len) _ read.tells.call refl (λ root. tt))
+      (keeps_told v w heads next.locks.items blocks keeps (same_lane-after_all v (reads_range id off len bytes v)).table (reads_leave id off len bytes v).zone_locks (blocks_once_more v w (Read id off len) _ read.tells.keeps.entries read.tells.call) (Read id off len) _ read.tells.keeps.entries read.tells.call (refl, refl) (λ root. tt))
 
   pub added_with_lists : (len : ℕ) (spans : List Span) → HasAddedRange o at next v spans id off len → IsAtWorkWith o at next blocks (after_all v (adds_range spans id off len v))
   added_with_lists len spans has =
@@ -49,7 +49,7 @@ module _ {M : Type 0} (o : Opening) (at : M → View → Type 0) (next : Lane M)
       let added : AddsRange v w id off len = has.added in
       let heads : HasSameHeads v w = same_heads_outside v w inside added.tells.keeps.lanes added.tells.keeps.zones (adds_leave spans id off len v).reserved added.keeps.words in
       with_lists o at next blocks w has.works
-      (keeps_told v w heads next.locks.items blocks keeps (same_lane-after_all v (adds_range spans id off len v)).table (adds_leave spans id off len v).zone_locks (blocks_once_more v w (AddRange id off len) None added.tells.call) (AddRange id off len) None added.tells.call refl (λ root. tt))
+      (keeps_told v w heads next.locks.items blocks keeps (same_lane-after_all v (adds_range spans id off len v)).table (adds_leave spans id off len v).zone_locks (blocks_once_more v w (AddRange id off len) None added.tells.keeps.entries added.tells.call) (AddRange id off len) None added.tells.keeps.entries added.tells.call (refl, refl) (λ root. tt))
 
   module _ (bytes : List ℕ) (has : HasWrittenRange o at next v id off bytes) where
     abbrev w : View
@@ -100,4 +100,4 @@ module _ {M : Type 0} (o : Opening) (at : M → View → Type 0) (next : Lane M)
     pub written_with_lists : IsAtWorkWith o at next blocks (after_all v (writes_range id off bytes v))
     written_with_lists =
         with_lists o at next blocks w works
-        (keeps_told v w heads next.locks.items blocks keeps (same_lane-after_all v (writes_range id off bytes v)).table (writes_leave id off bytes v).zone_locks (blocks_once_more v w (Write id off bytes) None written.tells.call) (Write id off bytes) None written.tells.call refl (λ root. tt))
+        (keeps_told v w heads next.locks.items blocks keeps (same_lane-after_all v (writes_range id off bytes v)).table (writes_leave id off bytes v).zone_locks (blocks_once_more v w (Write id off bytes) None written.tells.keeps.entries written.tells.call) (Write id off bytes) None written.tells.keeps.entries written.tells.call (refl, refl) (λ root. tt))

@@ -4,20 +4,20 @@ use Rattle.std.specs.List.{All, filter, list_any}
 use Rattle.std.proofs.lemmas.List.Elements.{All-cons, All-head, All-nil, All-tail, Contains-append_cases}
 use Rattle.pm_image.proofs.Members.{no_member, only_member}
 use Rattle.pm_objects.specs.declared.calls.Operation.{Operation}
-use Rattle.pm_objects.specs.declared.calls.Operation.TheVariants.{Abort, Alloc, Free}
+use Rattle.pm_objects.specs.declared.calls.Operation.TheVariants.{Abort, Alloc, Free, Publish}
 use Rattle.pm_objects.specs.declared.history.Value.{Value}
 use Rattle.pm_objects.specs.declared.history.Value.TheVariants.{Offset, Refused}
 use Rattle.pm_objects.specs.declared.ids.Oid.{Oid}
 use Rattle.pm_objects.specs.declared.pool.PoolView.{PoolView}
 use Rattle.pm_objects.specs.declared.refusal.Refusal.{Refusal}
-use Rattle.pm_model.specs.Actions.{Pending}
+use Rattle.pm_model.specs.Actions.{Pending, Reservation}
 use Rattle.pm_model.specs.Answers.{Answers, IsDone, IsRefused, after, changes_nothing}
 use Rattle.pm_model.specs.Checks.{first_refusal, is_action}
 use Rattle.pm_model.specs.Transaction.{Transaction, resting}
 use Rattle.pm_view.specs.View.{Told, View}
-use Rattle.pm_crash.specs.CallBlocks.{AgreesOnRoot, CallBlocks, TellsOfRoot, blocks_behind, blocks_in, blocks_told, is_at, no_blocks, with_freed}
+use Rattle.pm_crash.specs.CallBlocks.{AgreesOnRoot, AllTellOfRoot, CallBlocks, FreeNoRoot, TellsOfRoot, blocks_behind, blocks_in, blocks_told, is_at, no_blocks, reserved_object, with_all_freed, with_all_made, with_freed, with_made}
 use Rattle.pm_crash.specs.OpenCall.{GoesOn, RunsTo}
-use Rattle.pm_crash.specs.Pending.{told_in, told_of}
+use Rattle.pm_crash.specs.Pending.{pending_before, pending_behind, told_in, told_of}
 
 -- a free answers nothing, or a refusal
 abbrev IsFreeReply : Operation → Option Value → Type 0
@@ -68,26 +68,37 @@ module _ (root : Option ℕ) (off : ℕ) where
   refused_before true b there = inl there
   refused_before false b there = absurd (no_member off there)
 
-  one_freed : (op : Operation) (reply : Option Value) (b : CallBlocks) → IsFreeReply op reply → TellsOfRoot root op reply → Contains (blocks_behind op reply b).freed off → Before b
-  one_freed op (Some (Refused r)) b free agrees there = refused_before (is_action op || changes_nothing r) b there
-  one_freed (Alloc size kind) (Some (Offset at)) b free agrees there = inl there
-  one_freed (Free id) None b free agrees there = one_more id.off b agrees there
-  one_freed (Free id) (Some value) b free agrees there = absurd free
-  one_freed (Abort errnum) reply b free agrees there = absurd (no_member off there)
-  one_freed op reply b free agrees there = inl there
-
-  all_freed : (b : CallBlocks) (calls : List Told) → All HasFreeReply calls → All (λ (t : Told). TellsOfRoot root t.operation t.reply) calls → Contains (blocks_told b calls).freed off → Before b
-  unfolding blocks_told
-  all_freed b [] free agrees there = inl there
-  all_freed b (t ∷ calls) free agrees there = ⊎_elim
-      (λ (now : Contains (blocks_behind t.operation t.reply b).freed off).
-      one_freed t.operation t.reply b (All-head HasFreeReply t calls free) (All-head (λ (t : Told). TellsOfRoot root t.operation t.reply) t calls agrees) now)
+  more_freed : (ids : List Oid) (b : CallBlocks) → FreeNoRoot root ids → Contains (with_all_freed ids b).freed off → Before b
+  more_freed [] b others there = inl there
+  more_freed (id ∷ ids) b others there = ⊎_elim
+      (λ (now : Contains (with_freed id.off b).freed off). one_more id.off b (All-head (λ (other : Oid). root ≢ Some other.off) id ids others) now)
       (λ (other : root ≢ Some off). inr other)
-      (all_freed (blocks_behind t.operation t.reply b) calls (All-tail HasFreeReply t calls free) (All-tail (λ (t : Told). TellsOfRoot root t.operation t.reply) t calls agrees) there)
+      (more_freed ids (with_freed id.off b) (All-tail (λ (other : Oid). root ≢ Some other.off) id ids others) there)
+
+  none_more : (rs : List Reservation) (b : CallBlocks) → Contains (with_all_made rs b).freed off → Contains b.freed off
+  none_more [] b there = there
+  none_more (r ∷ rs) b there = none_more rs (with_made (reserved_object r) b) there
+
+  one_freed : (op : Operation) (reply : Option Value) (p : Pending) (b : CallBlocks) → IsFreeReply op reply → TellsOfRoot root op reply p → Contains (blocks_behind op reply p b).freed off → Before b
+  one_freed op (Some (Refused r)) p b free agrees there = refused_before (is_action op || changes_nothing r) b there
+  one_freed (Alloc size kind) (Some (Offset at)) p b free agrees there = inl there
+  one_freed (Free id) None p b free agrees there = one_more id.off b agrees there
+  one_freed (Free id) (Some value) p b free agrees there = absurd free
+  one_freed Publish None p b free agrees there = more_freed p.frees b agrees (none_more p.reserved (with_all_freed p.frees b) there)
+  one_freed (Abort errnum) reply p b free agrees there = absurd (no_member off there)
+  one_freed op reply p b free agrees there = inl there
+
+  all_freed : (p : Pending) (b : CallBlocks) (calls : List Told) → All HasFreeReply calls → AllTellOfRoot root p calls → Contains (blocks_told p b calls).freed off → Before b
+  unfolding blocks_told AllTellOfRoot
+  all_freed p b [] free agrees there = inl there
+  all_freed p b (t ∷ calls) free agrees there = ⊎_elim
+      (λ (now : Contains (blocks_behind t.operation t.reply p b).freed off). one_freed t.operation t.reply p b (All-head HasFreeReply t calls free) agrees.0 now)
+      (λ (other : root ≢ Some off). inr other)
+      (all_freed (pending_behind t.operation t.reply p) (blocks_behind t.operation t.reply p b) calls (All-tail HasFreeReply t calls free) agrees.1 there)
 
 -- what a call freed that the plain model runs is not the root on which the call agrees
 pub freed_is_no_root : (v : View) (root : Option ℕ) (pool : PoolView) (actions : Pending) (tx : Transaction) (off : ℕ) → RunsTo pool actions (told_in v) tx → AgreesOnRoot v root → Contains (blocks_in v).freed off → root ≢ Some off
 freed_is_no_root v root pool actions tx off runs agrees there = ⊎_elim
     (λ (never : Contains [] off). absurd (no_member off never))
     (λ (other : root ≢ Some off). other)
-    (all_freed root off no_blocks v.call (runs_free v.call pool actions tx runs) agrees there)
+    (all_freed root off (pending_before v) no_blocks v.call (runs_free v.call pool actions tx runs) agrees there)

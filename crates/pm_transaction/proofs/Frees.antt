@@ -42,7 +42,7 @@ use Rattle.pm_tx.proofs.GoingOn.{HasSameFields, goes_on}
 use Rattle.pm_tx.proofs.NoneMade.{made_none_before}
 use Rattle.pm_tx.specs.AtWork.{IsAtWork}
 use Rattle.pm_tx.specs.Ending.{GivesUpBy}
-use Rattle.pm_transaction.proofs.AtWork.{borne_told}
+use Rattle.pm_crash.proofs.StillReserved.{borne_told}
 use Rattle.pm_made.proofs.CallLists.{made_is}
 use Rattle.pm_transaction.proofs.GoingWith.{lies_still}
 use Rattle.pm_transaction.proofs.Owned.{behind_owned, its_block, left_here, member_passes}
@@ -113,7 +113,7 @@ module _ {M : Type 0} (o : Opening) (at : M → View → Type 0) (lane : Lane M)
       (record { lane = same_lane-after v (Tell (Free id) None); locks = refl; number = refl; entries = refl; remembers = λ i there. there; seen = λ s there. there; sizes = λ l held. refl })
       seen (ap (λ rs. rs.items) records ∙ is.work.seen.records) (subst (λ rs. All IsSpan rs.items) (sym records) is.work.spans)
       (let f = is.work.opening in record { lane = f.lane; lanes = f.lanes; size = f.size; descriptors = f.descriptors; locks = f.locks })
-      (tell_works v (Free id) None is.work.working) is.work.no_entries (published_once_more v told (Free id) None refl refl ∙ append-nil (published_in v)) (made_none_before v told (Free id) None refl tt) (still_under_way x can)
+      (tell_works v (Free id) None is.work.working) is.work.no_entries (published_once_more v told (Free id) None refl refl ∙ append-nil (published_in v)) (made_none_before v told (Free id) None refl refl tt) (still_under_way x can)
 
   heads_told : HasSameHeads v told
   heads_told = record { lanes = refl; zones = refl; reserved = refl; described = λ c in_pool. refl; root = refl }
@@ -148,13 +148,13 @@ module _ {M : Type 0} (o : Opening) (at : M → View → Type 0) (lane : Lane M)
       draws = tell_draws;
       works = record {
         work = tell_at_work next fields records seen x can;
-        lists = subst (ListsBlocks now) (sym (blocks_once_more v told (Free id) None refl)) (of_call (blocks_in v) is.lists);
+        lists = subst (ListsBlocks now) (sym (blocks_once_more v told (Free id) None refl refl)) (of_call (blocks_in v) is.lists);
         pages = as_many ∙ is.pages;
         alone = is.alone;
         not_making = not_making_still v told heads_told refl is.not_making;
-        borne_out = borne_told v told heads_told (Free id) None refl refl (root_elsewhere (slice_index v.words) id.off can.not_root) is.borne_out;
+        borne_out = borne_told v told heads_told (Free id) None refl refl (refl, refl) (root_elsewhere (slice_index v.words) id.off can.not_root) is.borne_out;
         freed_held = subst (λ ls. All (IsHeldFreed ls.items) now.freed) (sym fields.locks) (listed_held lines held are);
-        within = λ n there. lies_still v told heads_told n (is.within n (made_before n (subst (λ (b : CallBlocks). Contains b.made n) (blocks_once_more v told (Free id) None refl) there)));
+        within = λ n there. lies_still v told heads_told n (is.within n (made_before n (subst (λ (b : CallBlocks). Contains b.made n) (blocks_once_more v told (Free id) None refl refl) there)));
       };
       frees = frees_so x can;
     }
@@ -195,7 +195,7 @@ module _ {M : Type 0} (o : Opening) (at : M → View → Type 0) (lane : Lane M)
   refusal_gives_up r why next its back reserved =
       inr (
         refused_free_aborts v next id r lane.level is.work.level is.work.under_way (record { reason = why.reason; tells = its; takes_back = back }),
-        borne_told v next (heads_taken_back o at lane v is.work next (Free id) (Some (Refused r)) its back reserved) (Free id) (Some (Refused r)) its.call refl why.root is.borne_out,
+        borne_told v next (heads_taken_back o at lane v is.work next (Free id) (Some (Refused r)) its back reserved) (Free id) (Some (Refused r)) its.keeps.entries its.call (refl, refl) why.root is.borne_out,
       )
 
 -- none of these refusals is that of a lane that stopped

@@ -18,7 +18,8 @@ use Rattle.pm_world.specs.declared.lane.HeldLock.{HeldLock}
 use Rattle.pm_world.specs.declared.lane.Lane.{Lane}
 use Rattle.pm_crash.proofs.AloneMemory.{load_words}
 use Rattle.pm_crash.proofs.CallBlocks.{same_blocks}
-use Rattle.pm_crash.specs.CallBlocks.{CallBlocks, IsOldIn, NewObject, TellsOfRoot, allocated_by, blocks_in, is_at}
+use Rattle.pm_crash.specs.Pending.{pending_in}
+use Rattle.pm_crash.specs.CallBlocks.{CallBlocks, IsOldIn, LeavesReserved, NewObject, TellsOfRoot, blocks_in, is_at}
 use Rattle.pm_crash.specs.HeapChanges.{run_at}
 use Rattle.pm_crash.specs.NewObjects.{block_of_chunks, block_of_run}
 use Rattle.pm_crash.specs.Reserved.{IsBorneOut, IsReservedInChunks, IsReservedInRun}
@@ -103,34 +104,34 @@ module _ (v w : View) (same : HasSameHeads v w) where
     pages_still = let pages = keeps.pages in let lanes = same.lanes in let zones = same.zones in omega (arith, pages, lanes, zones)
 
     -- behind an operation that tells nothing of the heap
-    pub keeps_told : (op : Operation) (reply : Option Value) → w.call ≡ v.call ++ record { operation = op; reply = reply } ∷ [] → allocated_by op reply ≡ [] → ((root : Option ℕ) → TellsOfRoot root op reply)
+    pub keeps_told : (op : Operation) (reply : Option Value) → w.entries ≡ v.entries → w.call ≡ v.call ++ record { operation = op; reply = reply } ∷ [] → LeavesReserved op reply (pending_in v) → ((root : Option ℕ) → TellsOfRoot root op reply (pending_in v))
         → Keeps locks blocks w
-    keeps_told op reply call none no_root = record {
+    keeps_told op reply entries call none no_root = record {
       lists = lists_still;
       pages = pages_still;
       alone = table ∙ keeps.alone;
       not_making = not_making_still v w same zones keeps.not_making;
-      borne_out = borne_on v w same op reply call none no_root keeps.borne_out;
+      borne_out = borne_on v w same op reply entries call none no_root keeps.borne_out;
       freed_held = keeps.freed_held;
       within = within_still;
     }
 
     -- and where nothing is told
-    pub keeps_quiet : w.call ≡ v.call → Keeps locks blocks w
-    keeps_quiet call = record {
+    pub keeps_quiet : w.entries ≡ v.entries → w.call ≡ v.call → Keeps locks blocks w
+    keeps_quiet entries call = record {
       lists = lists_still;
       pages = pages_still;
       alone = table ∙ keeps.alone;
       not_making = not_making_still v w same zones keeps.not_making;
-      borne_out = borne_still v w same call keeps.borne_out;
+      borne_out = borne_still v w same entries call keeps.borne_out;
       freed_held = keeps.freed_held;
       within = within_still;
     }
 
 -- what the call found it found still, where nothing is told
-pub old_still : (v w : View) → w.call ≡ v.call → (off : ℕ) → IsOldIn v off → IsOldIn w off
-old_still v w call off old =
-    let same : blocks_in w ≡ blocks_in v = same_blocks v w call in
+pub old_still : (v w : View) → w.entries ≡ v.entries → w.call ≡ v.call → (off : ℕ) → IsOldIn v off → IsOldIn w off
+old_still v w entries call off old =
+    let same : blocks_in w ≡ blocks_in v = same_blocks v w entries call in
     record {
       found = ap (λ (b : CallBlocks). list_any (is_at off) b.made || list_any (is_at off) b.dropped) same ∙ old.found;
       kept = ap (λ (b : CallBlocks). is_among b.freed off) same ∙ old.kept;
@@ -151,4 +152,4 @@ looks_keep locks blocks (suc n) v w t keeps =
     let before : Keeps locks blocks m = looks_keep locks blocks n v m t.3 keeps in
     let there : View = after m (Load t.1 t.2) in
     subst (Keeps locks blocks) (sym t.6)
-    (keeps_quiet m there (look_heads m t.1 t.2 (t.5.1 before.alone)) locks blocks before refl refl (same_blocks m there refl) refl)
+    (keeps_quiet m there (look_heads m t.1 t.2 (t.5.1 before.alone)) locks blocks before refl refl (same_blocks m there refl refl) refl refl)

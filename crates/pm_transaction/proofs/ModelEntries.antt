@@ -12,6 +12,9 @@ use Rattle.pm_objects.specs.declared.calls.Operation.TheVariants.{Abort, AddRang
 use Rattle.pm_objects.specs.declared.history.TxErr.{TxErr}
 use Rattle.pm_objects.specs.declared.history.TxErr.TheVariants as error
 use Rattle.pm_objects.specs.declared.history.Value.{Value}
+use Rattle.pm_objects.specs.declared.history.Value.TheVariants.{Offset, Refused}
+use Rattle.pm_view.specs.View.{Numbered, Told as Telling}
+use Rattle.pm_crash.specs.Pending.{pending_behind, pending_from, pending_told}
 use Rattle.pm_objects.specs.declared.ids.Oid.{Oid}
 use Rattle.pm_objects.specs.declared.pool.PoolView.{PoolView}
 use Rattle.pm_objects.specs.declared.refusal.Refusal.{Refusal}
@@ -145,6 +148,27 @@ freed_named p id named late =
     let parts = or_parts (is_to_be_freed p id.off) p.late late in
     subst (IsDistinct nat_eq) (sym (map-append (λ (other : Oid). other.off) p.frees (id ∷ [])))
     (once_more (places_of p.frees) id.off (named parts.1) (any_map (λ off. eqb off id.off) (λ (other : Oid). other.off) p.frees ∙ parts.0))
+
+-- so it is of what a lane has pending behind its calls
+named_behind : (op : Operation) (reply : Option Value) (p : Pending) → AreNamedOnce p → AreNamedOnce (pending_behind op reply p)
+named_behind op (Some (Refused r)) p named = named
+named_behind (Reserve size kind) (Some (Offset off)) p named = named
+named_behind (WriteReserved id off bytes) reply p named = named
+named_behind (DeferFree id) reply p named = freed_named p id named
+named_behind (SetValue id off value) reply p named = λ late. named (or_parts (is_to_be_freed p id.off) p.late late).1
+named_behind Publish reply p named = sets_named_once []
+named_behind Cancel reply p named = sets_named_once []
+named_behind op reply p named = named
+
+named_told : (p : Pending) (told : List Telling) → AreNamedOnce p → AreNamedOnce (pending_told p told)
+unfolding pending_told
+named_told p [] named = named
+named_told p (t ∷ told) named = named_told (pending_behind t.operation t.reply p) told (named_behind t.operation t.reply p named)
+
+pub named_before : (p : Pending) (calls : List Numbered) → AreNamedOnce p → AreNamedOnce (pending_from p calls)
+unfolding pending_from
+named_before p [] named = named
+named_before p (e ∷ calls) named = named_before (pending_told p e.call) calls (named_told p e.call named)
 
 rest_room : (pool : PoolView) (actions : Pending) → AreNamedOnce actions → HasRoomLeft (resting pool actions)
 unfolding IsDistinct

@@ -67,10 +67,10 @@ module _ {M : Type 0} (o : Opening) (at : M → View → Type 0) (lane : Lane M)
       seen (ap (λ rs. rs.items) records ∙ all.work.seen.records) (subst (λ rs. All IsSpan rs.items) (sym records) all.work.spans)
       (record { lane = t.lane; lanes = t.lanes; size = t.size; descriptors = t.descriptors; locks = t.locks }) (tell_works v (AddRange id off len) None all.work.working) all.work.no_entries
       (published_once_more v w (AddRange id off len) None refl refl ∙ append-nil (published_in v))
-      (made_none_before v w (AddRange id off len) None refl tt)
+      (made_none_before v w (AddRange id off len) None refl refl tt)
       (new_add_goes_on v w id off len lane.level all.work.level all.work.under_way added) in
       let keeps : Keeps next.locks.items blocks w =
-      keeps_told v w heads next.locks.items blocks (subst (λ (ls : List HeldLock). Keeps ls blocks v) (ap (λ ls. ls.items) (sym fields.locks)) (kept_of o at lane blocks v all)) refl refl (blocks_once_more v w (AddRange id off len) None refl) (AddRange id off len) None refl refl (λ root. tt) in
+      keeps_told v w heads next.locks.items blocks (subst (λ (ls : List HeldLock). Keeps ls blocks v) (ap (λ ls. ls.items) (sym fields.locks)) (kept_of o at lane blocks v all)) refl refl (blocks_once_more v w (AddRange id off len) None refl refl) (AddRange id off len) None refl refl (refl, refl) (λ root. tt) in
       record {
         ready = new_add_may_be_made;
         draws = drawless v (adds_new id off len v) add_few;

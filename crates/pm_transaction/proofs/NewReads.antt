@@ -134,10 +134,10 @@ module _ {M : Type 0} (o : Opening) (at : M → View → Type 0) (lane : Lane M)
         })
         seen (ap (λ rs. rs.items) records ∙ (all.work.seen.records ∙ ap (λ (l : Log). map span_of l.records) (sym made.1.log))) (subst (λ rs. All IsSpan rs.items) (sym records) all.work.spans)
         opening (tell_works u (Read id off len) (Some (Bytes bytes)) made.1.working) (ap (λ (l : Log). l.entries) made.1.log ∙ all.work.no_entries) (published_once_more v w (Read id off len) _ read.tells.keeps.entries read.tells.call ∙ append-nil (published_in v))
-        (made_none_before v w (Read id off len) (Some (Bytes (bytes_seen v id off len))) read.tells.call tt)
+        (made_none_before v w (Read id off len) (Some (Bytes (bytes_seen v id off len))) read.tells.keeps.entries read.tells.call tt)
         (new_read_goes_on v w id off len lane.level all.work.level all.work.under_way read) in
         let keeps : Keeps next.locks.items blocks w =
-        keeps_told v w heads next.locks.items blocks (subst (λ (ls : List HeldLock). Keeps ls blocks v) (ap (λ ls. ls.items) (sym fields.locks)) (kept_of o at lane blocks v all)) call.lane.table (ap (λ (z : View). z.zone_locks) (sym sequence.1) ∙ (reads_leave id off len bytes v).zone_locks) (blocks_once_more v w (Read id off len) _ read.tells.call) (Read id off len) _ read.tells.call refl (λ root. tt) in
+        keeps_told v w heads next.locks.items blocks (subst (λ (ls : List HeldLock). Keeps ls blocks v) (ap (λ ls. ls.items) (sym fields.locks)) (kept_of o at lane blocks v all)) call.lane.table (ap (λ (z : View). z.zone_locks) (sym sequence.1) ∙ (reads_leave id off len bytes v).zone_locks) (blocks_once_more v w (Read id off len) _ read.tells.keeps.entries read.tells.call) (Read id off len) _ read.tells.keeps.entries read.tells.call (refl, refl) (λ root. tt) in
         record {
           ready = new_read_may_be_made;
           draws = drawless v (reads_range id off len bytes v) read_few;

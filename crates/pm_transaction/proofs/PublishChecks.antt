@@ -5,25 +5,25 @@ use Rattle.std.specs.Result.{is_ok}
 use Rattle.std.proofs.lemmas.Bool.{false≢true, or_cases}
 use Rattle.std.proofs.lemmas.List.{length-map}
 use Rattle.std.proofs.lemmas.List.Elements.{All-map, All-weaker}
-use Rattle.pm_crash.proofs.PendingOn.{pending_same}
+use Rattle.pm_crash.proofs.PendingOn.{pending_same, sets_alone}
 use Rattle.pm_crash.specs.CallBlocks.{IsOldIn, blocks_in, is_gone_in, is_new_in}
 use Rattle.pm_crash.specs.OnActions.{CanSetIn, HasObjectOf, IsOnGone, IsOnLeft, IsPublishReasonIn, LacksObjectOf, PassesIn, PassesNewObject, entries_in}
 use Rattle.pm_crash.specs.OpenCall.{lock_of, locks_of}
 use Rattle.pm_crash.specs.Operations.{HasNewRange, HasRange, IsNotHeld, PassesEnd}
-use Rattle.pm_crash.specs.Pending.{pending_in}
+use Rattle.pm_crash.specs.Pending.{pending_in, sets_in}
 use Rattle.pm_made.specs.Made.{BlockLists}
-use Rattle.pm_model.specs.Actions.{max_entries}
+use Rattle.pm_model.specs.Actions.{Pending, max_entries, only_sets}
 use Rattle.pm_model.specs.Actions.Action.{SetWord}
 use Rattle.pm_model.specs.Transaction.{is_locked}
 use Rattle.pm_objects.specs.declared.ids.Oid.{Oid}
 use Rattle.pm_objects.specs.declared.refusal.Refusal.{Refusal}
 use Rattle.pm_objects.specs.declared.refusal.Refusal.TheVariants as refusal
-use Rattle.pm_pending.specs.Pending.{action_of, pending_of}
+use Rattle.pm_pending.specs.Pending.{action_of, pending_of, sets_of}
 use Rattle.pm_pending.specs.declared.actions.SetAction.{SetAction}
 use Rattle.pm_view.specs.View.{Lock, View}
 use Rattle.pm_world.specs.Opening.{Opening}
 use Rattle.pm_world.specs.declared.lane.Lane.{Lane}
-use Rattle.pm_tx.proofs.Checked.{looks_call}
+use Rattle.pm_tx.proofs.Checked.{looks_call, looks_entries}
 use Rattle.pm_tx.proofs.EachAction.{all_further, some_at, some_mapped}
 use Rattle.pm_tx.proofs.GoingOn.{KeepsObjects}
 use Rattle.pm_tx.proofs.LearnsAtWork.{looks_none, looks_then}
@@ -94,7 +94,7 @@ module _ {M : Type 0} (o : Opening) (at : M → View → Type 0) (lane next : La
     pub found_set : off % 8 ≡ 0 → value < 2 ^ 64 → IsOldIn v id.off → HasChecked o at next v (λ w. HasRange w id off 8 true) → HasLookedWith o at next blocks v (λ w. CanSetIn w (SetWord id off value))
     found_set even low old t =
         with_checked (λ w. CanSetIn w (SetWord id off value))
-        (record { loads = t.loads; view = t.view; looks = t.looks; works = t.works; holds = inl ((t.holds, (even, low)), old_still v t.view (looks_call t.loads v t.view t.looks) id.off old) })
+        (record { loads = t.loads; view = t.view; looks = t.looks; works = t.works; holds = inl ((t.holds, (even, low)), old_still v t.view (looks_entries t.loads v t.view t.looks) (looks_call t.loads v t.view t.looks) id.off old) })
 
     -- what is not gone, and was found, is locked
     held_still : IsOldIn v id.off → IsOnLeft v (SetWord id off value) → (w : View) → KeepsObjects v w → is_locked (locks_of w) id.off true ≡ true
@@ -114,7 +114,7 @@ module _ {M : Type 0} (o : Opening) (at : M → View → Type 0) (lane next : La
         (λ (e : r ≡ refusal.OutOfRange).
         let t = ends e in
         with_checked (λ w. PassesIn w (SetWord id off value))
-        (record { loads = t.loads; view = t.view; looks = t.looks; works = t.works; holds = inl (t.holds, old_still v t.view (looks_call t.loads v t.view t.looks) id.off old) }))
+        (record { loads = t.loads; view = t.view; looks = t.looks; works = t.works; holds = inl (t.holds, old_still v t.view (looks_entries t.loads v t.view t.looks) (looks_call t.loads v t.view t.looks) id.off old) }))
         cause
 
 module _ {M : Type 0} (o : Opening) (at : M → View → Type 0) (lane : Lane M) (blocks : BlockLists) (v : View) (all : IsAtWorkWith o at lane blocks v) where
@@ -148,6 +148,7 @@ module _ {M : Type 0} (o : Opening) (at : M → View → Type 0) (blocks : Block
     pub sets_further : HasLookedWith o at next blocks t.view (λ w. SetsIn w (get_or actions i d)) → HasLookedWith o at next blocks v (λ w. All (SetsIn w) (take (i + 1) actions))
     sets_further s =
         let keeps : KeepsObjects t.view s.view = objects_looked_at o at mid next blocks t.view t.works locks (λ w. SetsIn w (get_or actions i d)) s in
+        let entries = looks_entries s.loads t.view s.view s.looks in
         let call = looks_call s.loads t.view s.view s.looks in
         looked_then mid next v (λ w. All (SetsIn w) (take i actions)) (λ w. All (SetsIn w) (take (i + 1) actions)) t
         (record {
@@ -155,7 +156,7 @@ module _ {M : Type 0} (o : Opening) (at : M → View → Type 0) (blocks : Block
           view = s.view;
           looks = s.looks;
           works = s.works;
-          holds = all_further (SetsIn s.view) actions i d low (All-weaker (SetsIn t.view) (SetsIn s.view) (λ a. can_in_kept t.view s.view keeps call (action_of a)) (take i actions) t.holds) s.holds;
+          holds = all_further (SetsIn s.view) actions i d low (All-weaker (SetsIn t.view) (SetsIn s.view) (λ a. can_in_kept t.view s.view keeps entries call (action_of a)) (take i actions) t.holds) s.holds;
         })
 
     -- what was found of one action is found of some
@@ -168,31 +169,31 @@ module _ {M : Type 0} (o : Opening) (at : M → View → Type 0) (blocks : Block
 
 module _ (v : View) (actions : List SetAction) (pending : pending_of actions ≡ pending_in v) where
   pub lacks_reason : Any (LacksIts v) actions → IsPublishReasonIn v refusal.NotLocked
-  lacks_reason some = subst (Any (LacksObjectOf v)) pending (some_mapped (LacksObjectOf v) action_of actions some)
+  lacks_reason some = subst (λ (p : Pending). Any (LacksObjectOf v) p.sets) pending (some_mapped (LacksObjectOf v) action_of actions some)
 
   pub gone_reason : All (HasIts v) actions → Any (λ (a : SetAction). is_gone_in v a.id.off ≡ true) actions → IsPublishReasonIn v refusal.NoObject
   gone_reason has some = (
-    subst (All (HasObjectOf v)) pending (All-map (HasObjectOf v) action_of actions has),
-    subst (Any (IsOnGone v)) pending
+    subst (λ (p : Pending). All (HasObjectOf v) p.sets) pending (All-map (HasObjectOf v) action_of actions has),
+    subst (λ (p : Pending). Any (IsOnGone v) p.sets) pending
         (some_mapped (IsOnGone v) action_of actions
         (some_with (λ (a : SetAction). is_gone_in v a.id.off ≡ true) (HasIts v) (λ (a : SetAction). IsOnGone v (action_of a)) actions (λ a its gone. record { of_pool = its.0; has = its.1; gone = gone }) has some)),
   )
 
   pub past_reason : All (IsLeftFor v) actions → Any (PassesEndIn v) actions → IsPublishReasonIn v refusal.OutOfRange
   past_reason left some = (
-    subst (All (IsOnLeft v)) pending (All-map (IsOnLeft v) action_of actions left),
-    subst (Any (PassesIn v)) pending (some_mapped (PassesIn v) action_of actions some),
+    subst (λ (p : Pending). All (IsOnLeft v) p.sets) pending (All-map (IsOnLeft v) action_of actions left),
+    subst (λ (p : Pending). Any (PassesIn v) p.sets) pending (some_mapped (PassesIn v) action_of actions some),
   )
 
-  pub each_set : All (SetsIn v) actions → All (CanSetIn v) (pending_in v)
-  each_set each = subst (All (CanSetIn v)) pending (All-map (CanSetIn v) action_of actions each)
+  pub each_set : All (SetsIn v) actions → All (CanSetIn v) (sets_in v)
+  each_set each = subst (λ (p : Pending). All (CanSetIn v) p.sets) pending (All-map (CanSetIn v) action_of actions each)
 
   -- so many entries there would be
   pub entries_are : {M : Type 0} (o : Opening) (at : M → View → Type 0) (lane : Lane M) (blocks : BlockLists) → IsAtWorkWith o at lane blocks v → (count : ℕ) → count ≡ length (blocks_in v).freed + length (blocks_in v).made
       → entries_in v ≡ length lane.entries.items + length actions + 1 + count
   entries_are o at lane blocks all count is =
       let listed = as_many_listed o at lane blocks v all in
-      let same = ap length pending in
+      let same = ap (λ (p : Pending). length p.sets) pending in
       let many = length-map actions action_of in
       omega (arith, listed, same, many, is)
 
@@ -205,9 +206,14 @@ module _ {M : Type 0} (o : Opening) (at : M → View → Type 0) (lane next : La
   pub pending_still : (P : View → Type 0) (t : HasLookedWith o at next blocks v P) → pending_of actions ≡ pending_in t.view
   pending_still P t = let looks : IsLookedOn v t.view = looked_on t.loads v t.view t.looks in pending ∙ sym (pending_same v t.view looks.entries looks.call)
 
+  -- and so set-values are all that is pending there
+  pub alone_looked : (P : View → Type 0) (t : HasLookedWith o at next blocks v P) → pending_in t.view ≡ only_sets (sets_in t.view)
+  alone_looked P t = sets_alone (pending_in t.view) (sets_of actions) (pending_still P t)
+
   pub looked_past : All (IsLeftFor v) actions → HasLookedWith o at next blocks v (λ w. Any (PassesEndIn w) actions) → HasLookedWith o at next blocks v (λ w. IsPublishReasonIn w refusal.OutOfRange)
   looked_past left t =
       let keeps : KeepsObjects v t.view = objects_looked_at o at lane next blocks v all locks (λ w. Any (PassesEndIn w) actions) t in
+      let entries = looks_entries t.loads v t.view t.looks in
       let call = looks_call t.loads v t.view t.looks in
       record {
         loads = t.loads;
@@ -216,7 +222,7 @@ module _ {M : Type 0} (o : Opening) (at : M → View → Type 0) (lane next : La
         works = t.works;
         holds =
             past_reason t.view actions (pending_still (λ w. Any (PassesEndIn w) actions) t)
-            (All-weaker (IsLeftFor v) (IsLeftFor t.view) (λ a. left_kept v t.view keeps call (action_of a)) actions left) t.holds;
+            (All-weaker (IsLeftFor v) (IsLeftFor t.view) (λ a. left_kept v t.view keeps entries call (action_of a)) actions left) t.holds;
       }
 
   pub looked_full : HasLookedWith o at next blocks v (λ w. All (SetsIn w) actions) → ((w : View) → IsAtWorkWith o at next blocks w → pending_of actions ≡ pending_in w → max_entries < entries_in w)

@@ -16,9 +16,9 @@ use Rattle.pm_tx.proofs.GoingOn.{KeepsObjects}
 use Rattle.pm_tx.proofs.LookedOn.{can_set_kept}
 use Rattle.pm_transaction.proofs.GoingWith.{old_still}
 
-module _ (v w : View) (keeps : KeepsObjects v w) (call : w.call ≡ v.call) where
+module _ (v w : View) (keeps : KeepsObjects v w) (entries : w.entries ≡ v.entries) (call : w.call ≡ v.call) where
   same : blocks_in w ≡ blocks_in v
-  same = same_blocks v w call
+  same = same_blocks v w entries call
 
   abbrev made_kept : (id : Oid) → IsMade v id → IsMade w id
   made_kept id made = record {
@@ -30,7 +30,7 @@ module _ (v w : View) (keeps : KeepsObjects v w) (call : w.call ≡ v.call) wher
 
   -- what it may set it may set still
   pub can_in_kept : (a : Action) → CanSetIn v a → CanSetIn w a
-  can_in_kept (SetWord id off value) (inl t) = inl (can_set_kept v w keeps (SetWord id off value) t.0, old_still v w call id.off t.1)
+  can_in_kept (SetWord id off value) (inl t) = inl (can_set_kept v w keeps (SetWord id off value) t.0, old_still v w entries call id.off t.1)
   can_in_kept (SetWord id off value) (inr t) = inr (record { made = made_kept id t.0.made; inside = t.0.inside }, t.1)
 
   gone_same : (off : ℕ) → is_gone_in w off ≡ is_gone_in v off

@@ -97,7 +97,7 @@ module _ {M : Type 0} (o : Opening) (at : M → View → Type 0) (lane : Lane M)
     makes_u = makes_all u blocks.made (λ m there. makes_so o header pool u s_u alone_u (opening_has_no_fault o header pool start v steps works) no_fault_u m (lies_u m there))
 
     same_blocks : blocks_in u ≡ blocks_in v
-    same_blocks = blocks_once_more v u Commit None (tells o at lane blocks header pool start v steps works is outer may).call
+    same_blocks = let t = tells o at lane blocks header pool start v steps works is outer may in blocks_once_more v u Commit None t.keeps.entries t.call
 
     same_published : published_in u ≡ published_in v
     same_published = let t = tells o at lane blocks header pool start v steps works is outer may in published_once_more v u Commit None t.keeps.entries t.call ∙ append-nil (published_in v)

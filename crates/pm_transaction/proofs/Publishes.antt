@@ -1,19 +1,23 @@
 -- A publish of a lane at work: told, it leaves the lane at work with its lists; refused, it gives the call up.
-use Rattle.std.proofs.Common.{◌≡◌, ◌≢◌, ◌⊎◌, ⊎_elim, ◌+◌, ◌≤◌, All, List, ◌++◌, length, length-append, map, None, Some, refl, sym, ap, ◌∙◌, subst, arith}
+use Rattle.std.proofs.Common.{◌≡◌, ◌≢◌, ◌⊎◌, ⊎_elim, ℕ, ◌+◌, ◌≤◌, All, List, ◌++◌, length, length-append, map, Option, None, Some, refl, sym, ap, ◌∙◌, subst, arith}
 use Rattle.std.proofs.lemmas.List.{length-map}
+use Rattle.std.proofs.lemmas.List.Elements.{All-nil}
+use Rattle.pm_objects.specs.declared.ids.Oid.{Oid}
 use Rattle.std.proofs.lemmas.List.Elements.{All-weaker}
 use Rattle.pm_crash.proofs.ActionsOn.{publish_goes_on, refused_publish_aborts}
 use Rattle.pm_crash.proofs.CallBlocks.{blocks_once_more}
 use Rattle.pm_crash.specs.OnActions.{CanSetIn, IsPublishReasonIn, PublishesIn, entries_in}
-use Rattle.pm_crash.specs.Pending.{pending_in}
+use Rattle.pm_crash.proofs.PendingOn.{sets_alone}
+use Rattle.pm_crash.specs.CallBlocks.{TellsOfRoot, allocated_by, blocks_behind, blocks_in}
+use Rattle.pm_crash.specs.Pending.{pending_in, sets_in}
 use Rattle.pm_made.specs.Made.{BlockLists}
-use Rattle.pm_model.specs.Actions.{Action, max_entries}
+use Rattle.pm_model.specs.Actions.{Action, Pending, max_entries, only_sets}
 use Rattle.pm_objects.specs.declared.calls.Operation.TheVariants.{Publish}
 use Rattle.pm_objects.specs.declared.history.TxErr.TheVariants as error
 use Rattle.pm_objects.specs.declared.history.Value.TheVariants.{Refused}
 use Rattle.pm_objects.specs.declared.refusal.Refusal.{Refusal}
 use Rattle.pm_objects.specs.declared.refusal.Refusal.TheVariants as refusal
-use Rattle.pm_pending.specs.Pending.{entry_of, pending_of, redo_for}
+use Rattle.pm_pending.specs.Pending.{entry_of, pending_of, redo_for, sets_of}
 use Rattle.pm_pending.specs.declared.actions.SetAction.{SetAction}
 use Rattle.pm_record.specs.declared.redo.Redo.{Redo}
 use Rattle.pm_redo.specs.Entering.{IsOfPool, MayEnter}
@@ -43,6 +47,13 @@ use Rattle.pm_transaction.proofs.RangeRefusals.{may_give_up}
 use Rattle.pm_transaction.specs.AtWork.{HasLookedWith, IsAtWorkWith}
 use Rattle.pm_transaction.specs.Publishing.{HasPublishedWith, IsPublishGivenUp, IsPublishStopped}
 
+-- where set-values are all that is pending, a publish that is refused tells nothing of the root
+refused_tells_none : (v : View) (r : Refusal) (root : Option ℕ) → pending_in v ≡ only_sets (sets_in v) → IsPublishReasonIn v r → TellsOfRoot root Publish (Some (Refused r)) (pending_in v)
+refused_tells_none v refusal.RootKept root alone reason = absurd reason
+refused_tells_none v refusal.OutOfRange root alone reason = subst (TellsOfRoot root Publish (Some (Refused refusal.OutOfRange))) (sym alone) (All-nil (λ (id : Oid). root ≢ Some id.off))
+refused_tells_none v refusal.ActionsFull root alone reason = subst (TellsOfRoot root Publish (Some (Refused refusal.ActionsFull))) (sym alone) (All-nil (λ (id : Oid). root ≢ Some id.off))
+refused_tells_none v r root alone reason = tt
+
 -- ---- told
 
 module _ {M : Type 0} (o : Opening) (at : M → View → Type 0) (lane : Lane M) (blocks : BlockLists) (v : View) (all : IsAtWorkWith o at lane blocks v) where
@@ -53,26 +64,26 @@ module _ {M : Type 0} (o : Opening) (at : M → View → Type 0) (lane : Lane M)
   may_tell_publish = subst (λ (phase : Phase). MayTell phase) (sym all.work.working.is_open) tt
 
   module _ (actions : List SetAction) (pending : pending_of actions ≡ pending_in v) (each : All (SetsIn v) actions) (fit : length lane.entries.items + length actions ≤ 63) (room : entries_in v ≤ max_entries) where
-    each_pending : All (CanSetIn v) (pending_in v)
+    each_pending : All (CanSetIn v) (sets_in v)
     each_pending = each_set v actions pending each
 
     publishes : PublishesIn v told
     publishes =
         let is = as_before v all.work.working in
-        record { tells = tells v v is Publish None; logs = log_kept v v is Publish None; words = words_kept v v is Publish None; each = each_pending; room = room }
+        record { tells = tells v v is Publish None; logs = log_kept v v is Publish None; words = words_kept v v is Publish None; alone = sets_alone (pending_in v) (sets_of actions) pending; each = each_pending; room = room }
 
     module _ (next : Lane M) (fields : HasSameFields (record lane { entries = next.entries }) next) (records : next.records ≡ lane.records) (seen : at next.memory told) (more : next.entries.items ≡ lane.entries.items ++ map redo_for actions) where
       lists : ListsPublished next told
       lists =
           let is = as_before v all.work.working in
           let keeps : KeepsObjects v told = objects v v is Publish None in
-          let new : map redo_for actions ≡ map entry_of (pending_in v) = redo_listed actions ∙ ap (map entry_of) pending in
-          let before = made_none_before v told Publish None (tells v v is Publish None).call tt in
-          lists_more lane next v told (pending_in v) (more ∙ ap (λ (es : List Redo). lane.entries.items ++ es) new)
+          let new : map redo_for actions ≡ map entry_of (sets_in v) = redo_listed actions ∙ ap (λ (p : Pending). map entry_of p.sets) pending in
+          let before = made_none_before v told Publish None (tells v v is Publish None).keeps.entries (tells v v is Publish None).call tt in
+          lists_more lane next v told (sets_in v) (more ∙ ap (λ (es : List Redo). lane.entries.items ++ es) new)
           (let e = ap length more in let n = length-append lane.entries.items (map redo_for actions) in let m = length-map actions redo_for in omega (arith, fit, e, n, m))
           keeps.lane keeps.locks (published_told v v is Publish None) before
-          (All-weaker (CanSetIn v) (λ (a : Action). MayEnter v (entry_of a)) (enters_action o at lane blocks v all) (pending_in v) each_pending)
-          (λ none. All-weaker (CanSetIn v) (λ (a : Action). IsOfPool v (entry_of a)) (locked_action o at lane blocks v all (before none)) (pending_in v) each_pending) all.work.published
+          (All-weaker (CanSetIn v) (λ (a : Action). MayEnter v (entry_of a)) (enters_action o at lane blocks v all) (sets_in v) each_pending)
+          (λ none. All-weaker (CanSetIn v) (λ (a : Action). IsOfPool v (entry_of a)) (locked_action o at lane blocks v all (before none)) (sets_in v) each_pending) all.work.published
 
       works : IsAtWork o at next told
       works =
@@ -82,17 +93,17 @@ module _ {M : Type 0} (o : Opening) (at : M → View → Type 0) (lane : Lane M)
 
       pub has_published_with : HasPublishedWith o at next blocks v
       has_published_with = record {
-        works = told_with_lists o at lane next blocks v all fields.locks Publish None (blocks_once_more v told Publish None refl) refl (λ root. tt) works;
+        works = told_with_lists o at lane next blocks v all fields.locks Publish None (blocks_once_more v told Publish None refl refl ∙ ap (λ (p : Pending). blocks_behind Publish None p (blocks_in v)) (sym pending)) (ap (allocated_by Publish None) (sym pending), refl) (λ root. subst (TellsOfRoot root Publish None) pending (All-nil (λ (id : Oid). root ≢ Some id.off))) works;
         publishes = publishes;
         none = pending_told v v (as_before v all.work.working) Publish None;
       }
 
   -- ---- refused
 
-  pub publish_gives_up : (r : Refusal) → IsPublishReasonIn v r → GivesUpBy v Publish (Some (Refused r)) (error.Refused r)
-  publish_gives_up r reason =
-      gives_up_so o at lane v all.work (may_give_up o at lane blocks v all) Publish (Some (Refused r)) (error.Refused r) refl (λ root. tt)
-      (λ next told back. refused_publish_aborts v next r lane.level all.work.level all.work.under_way reason told back)
+  pub publish_gives_up : (r : Refusal) → pending_in v ≡ only_sets (sets_in v) → IsPublishReasonIn v r → GivesUpBy v Publish (Some (Refused r)) (error.Refused r)
+  publish_gives_up r alone reason =
+      gives_up_so o at lane v all.work (may_give_up o at lane blocks v all) Publish (Some (Refused r)) (error.Refused r) (refl, refl) (λ root. refused_tells_none v r root alone reason)
+      (λ next told back. refused_publish_aborts v next r lane.level all.work.level all.work.under_way alone reason told back)
 
 -- none of the reasons is a stop
 pub publish_is_no_stop : (r : Refusal) → (r ≡ refusal.NotLocked) ⊎ (r ≡ refusal.NoObject) ⊎ (r ≡ refusal.OutOfRange) ⊎ (r ≡ refusal.ActionsFull) → r ≢ refusal.Stopped
@@ -108,7 +119,7 @@ publish_is_no_stop r cause stopped = ⊎_elim
     cause
 
 -- from a view at which the checks found the reason
-module _ {M : Type 0} (o : Opening) (at : M → View → Type 0) (old mid new : Lane M) (blocks : BlockLists) (v : View) (r answer : Refusal) (finds : HasLookedWith o at mid blocks v (λ w. IsPublishReasonIn w r)) (kept : mid.records.items ≡ old.records.items) where
+module _ {M : Type 0} (o : Opening) (at : M → View → Type 0) (old mid new : Lane M) (blocks : BlockLists) (v : View) (r answer : Refusal) (finds : HasLookedWith o at mid blocks v (λ w. IsPublishReasonIn w r)) (alone : pending_in finds.view ≡ only_sets (sets_in finds.view)) (kept : mid.records.items ≡ old.records.items) where
   -- what giving up leaves of the records that there were
   abbrev Ends : List Span → View → Type 0
   Ends spans w = IsEndedBy at new w (gives_up spans Publish (Some (Refused r)) new.last) Publish (Some (Refused r))
@@ -117,7 +128,7 @@ module _ {M : Type 0} (o : Opening) (at : M → View → Type 0) (old mid new : 
   Stops spans w = IsStoppedIn at new w (gives_up spans Publish (Some (Refused r)) new.last) Publish (Some (Refused r))
 
   gives : GivesUpBy finds.view Publish (Some (Refused r)) (error.Refused r)
-  gives = publish_gives_up o at mid blocks finds.view finds.works r finds.holds
+  gives = publish_gives_up o at mid blocks finds.view finds.works r alone finds.holds
 
   pub publish_given_up : answer ≡ r → ((o : Opening) (w : View) → IsAtWork o at mid w → GivesUpBy w Publish (Some (Refused r)) (error.Refused r) → Ends mid.records.items w) → HasLooked v (IsPublishGivenUp at new old.records.items answer)
   publish_given_up is ends =

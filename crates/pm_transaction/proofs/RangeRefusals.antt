@@ -2,7 +2,9 @@
 use Rattle.std.proofs.Common.{◌≡◌, ◌≢◌, ⊎_elim, inl, inr, ℕ, List, [], Option, None, Some, refl, sym, subst}
 use Rattle.pm_crash.proofs.GivenUp.{refusal_aborts}
 use Rattle.pm_crash.proofs.GoneRanges.{gone_range_aborts, new_range_aborts}
-use Rattle.pm_crash.specs.CallBlocks.{IsOldIn, TellsOfRoot, allocated_by}
+use Rattle.pm_crash.specs.CallBlocks.{IsOldIn, LeavesReserved, TellsOfRoot}
+use Rattle.pm_crash.specs.Pending.{pending_in}
+use Rattle.pm_model.specs.Actions.{Pending}
 use Rattle.pm_crash.specs.OpenCall.{WasAborted}
 use Rattle.pm_crash.specs.Operations.{IsReason, TakesBack, Tells}
 use Rattle.pm_made.specs.Made.{BlockLists}
@@ -20,7 +22,7 @@ use Rattle.pm_world.specs.Sequences.{Sequence}
 use Rattle.pm_world.specs.declared.lane.Lane.{Lane}
 use Rattle.pm_world.specs.declared.lane.Span.{Span}
 use Rattle.pm_tx.proofs.BorneOut.{gives_up_so}
-use Rattle.pm_tx.proofs.Checked.{looks_call}
+use Rattle.pm_tx.proofs.Checked.{looks_call, looks_entries}
 use Rattle.pm_tx.proofs.LearnsAtWork.{looks_none}
 use Rattle.pm_tx.specs.AtWork.{IsAtWork}
 use Rattle.pm_tx.specs.Calls.{HasLooked, IsGivenUpFor, IsStoppedAt, IsStoppedFor}
@@ -31,17 +33,17 @@ use Rattle.pm_transaction.specs.AnyRanges.{IsRangeReason, IsRefusedFor, IsStoppe
 use Rattle.pm_transaction.specs.AtWork.{IsAtWorkWith}
 
 -- no refusal of a range allocates, nor tells of the root
-none_allocated : (op : Operation) (range : Range) (reply : Option Value) → range_of op ≡ Some range → allocated_by op reply ≡ []
-none_allocated (AddRange id off len) range reply is = refl
-none_allocated (Write id off bytes) range reply is = refl
-none_allocated (Read id off len) range reply is = refl
-none_allocated op range reply is = absurd cc
+none_allocated : (op : Operation) (range : Range) (reply : Option Value) (p : Pending) → range_of op ≡ Some range → LeavesReserved op reply p
+none_allocated (AddRange id off len) range reply p is = (refl, refl)
+none_allocated (Write id off bytes) range reply p is = (refl, refl)
+none_allocated (Read id off len) range reply p is = (refl, refl)
+none_allocated op range reply p is = absurd cc
 
-no_root_told : (op : Operation) (range : Range) (reply : Option Value) → range_of op ≡ Some range → (root : Option ℕ) → TellsOfRoot root op reply
-no_root_told (AddRange id off len) range reply is root = tt
-no_root_told (Write id off bytes) range reply is root = tt
-no_root_told (Read id off len) range reply is root = tt
-no_root_told op range reply is root = absurd cc
+no_root_told : (op : Operation) (range : Range) (reply : Option Value) (p : Pending) → range_of op ≡ Some range → (root : Option ℕ) → TellsOfRoot root op reply p
+no_root_told (AddRange id off len) range reply p is root = tt
+no_root_told (Write id off bytes) range reply p is root = tt
+no_root_told (Read id off len) range reply p is root = tt
+no_root_told op range reply p is root = absurd cc
 
 pub may_give_up : {M : Type 0} (o : Opening) (at : M → View → Type 0) (lane : Lane M) (blocks : BlockLists) (v : View) → IsAtWorkWith o at lane blocks v → MayGiveUp v
 may_give_up o at lane blocks v all = inr (all.alone, all.borne_out)
@@ -68,7 +70,7 @@ module _ {M : Type 0} (o : Opening) (at : M → View → Type 0) (lane : Lane M)
 
   pub gives_up_by_range : (r : Refusal) → IsRangeReason v op range r → GivesUpBy v op (Some (Refused r)) (error.Refused r)
   gives_up_by_range r reason =
-      gives_up_so o at lane v all.work (may_give_up o at lane blocks v all) op (Some (Refused r)) (error.Refused r) (none_allocated op range (Some (Refused r)) of_range) (no_root_told op range (Some (Refused r)) of_range) (aborts r reason)
+      gives_up_so o at lane v all.work (may_give_up o at lane blocks v all) op (Some (Refused r)) (error.Refused r) (none_allocated op range (Some (Refused r)) (pending_in v) of_range) (no_root_told op range (Some (Refused r)) (pending_in v) of_range) (aborts r reason)
 
 -- ---- refused before anything is looked at
 
@@ -107,7 +109,7 @@ module _ {M : Type 0} (at : M → View → Type 0) (new : Lane M) (spans : List 
     view = t.view;
     looks = t.looks;
     working = t.working;
-    holds = record { reason = inl (old_still v t.view (looks_call t.loads v t.view t.looks) range.id.off old, t.holds.reason); ended = t.holds.ended };
+    holds = record { reason = inl (old_still v t.view (looks_entries t.loads v t.view t.looks) (looks_call t.loads v t.view t.looks) range.id.off old, t.holds.reason); ended = t.holds.ended };
   }
 
   refusing : (w : View) → IsOldIn w range.id.off → IsStoppedFor at new spans op range w → IsStoppedRefusing at new spans op range w
@@ -119,7 +121,7 @@ module _ {M : Type 0} (at : M → View → Type 0) (new : Lane M) (spans : List 
     view = t.view;
     looks = t.looks;
     working = t.working;
-    holds = refusing t.view (old_still v t.view (looks_call t.loads v t.view t.looks) range.id.off old) t.holds;
+    holds = refusing t.view (old_still v t.view (looks_entries t.loads v t.view t.looks) (looks_call t.loads v t.view t.looks) range.id.off old) t.holds;
   }
 
   pub stopped_anywhere : (Can More : View → Type 0) (steps : Sequence) → ((w : View) → Can w → More w) → HasLooked v (λ w. IsStoppedAt at new spans op range Can steps w) → HasLooked v (IsStoppedAnywhere at new spans op range More steps)
@@ -130,7 +132,7 @@ module _ {M : Type 0} (at : M → View → Type 0) (new : Lane M) (spans : List 
     working = t.working;
     holds = ⊎_elim
         (λ (in_steps : Can t.view × IsStoppedIn at new t.view steps op None). inl (more t.view in_steps.0, in_steps.1))
-        (λ (refused : IsStoppedFor at new spans op range t.view). inr (refusing t.view (old_still v t.view (looks_call t.loads v t.view t.looks) range.id.off old) refused))
+        (λ (refused : IsStoppedFor at new spans op range t.view). inr (refusing t.view (old_still v t.view (looks_entries t.loads v t.view t.looks) (looks_call t.loads v t.view t.looks) range.id.off old) refused))
         t.holds;
   }
 

@@ -43,7 +43,7 @@ use Rattle.pm_tx.proofs.NoneMade.{made_none_same}
 use Rattle.pm_tx.specs.AtWork.{IsAtWork}
 use Rattle.pm_tx.specs.Ending.{GivesUpBy}
 use Rattle.pm_transaction.proofs.Allocates.{all_found}
-use Rattle.pm_transaction.proofs.AtWork.{borne_told}
+use Rattle.pm_crash.proofs.StillReserved.{borne_told}
 use Rattle.pm_transaction.specs.Allocating.{CameToRefuse, MayAllocate}
 use Rattle.pm_transaction.specs.AtWork.{IsAtWorkWith}
 
@@ -53,7 +53,7 @@ pub refusal_gives_up : {M : Type 0} (o : Opening) (at : M → View → Type 0) (
 refusal_gives_up o at lane v work borne size kind r why next its back reserved =
     inr (
       refused_alloc_aborts v next size kind r lane.level work.level work.under_way (record { reason = why; tells = its; takes_back = back }),
-      borne_told v next (heads_taken_back o at lane v work next (Alloc size kind) (Some (Refused r)) its back reserved) (Alloc size kind) (Some (Refused r)) its.call refl tt borne,
+      borne_told v next (heads_taken_back o at lane v work next (Alloc size kind) (Some (Refused r)) its back reserved) (Alloc size kind) (Some (Refused r)) its.keeps.entries its.call (refl, refl) tt borne,
     )
 
 -- ---- where no block is free
@@ -133,19 +133,19 @@ module _ {M : Type 0} (o : Opening) (at : M → View → Type 0) (lane : Lane M)
       (ap (λ rs. rs.items) records ∙ (is.work.seen.records ∙ ap (λ (l : Log). map span_of l.records) (sym still.log)))
       (subst (λ rs. All IsSpan rs.items) (sym records) is.work.spans)
       opening (works_still v x searched.kept left is.work.working) (ap (λ (l : Log). l.entries) still.log ∙ is.work.no_entries)
-      (published_same v x still.entries still.call) (made_none_same v x still.call) under_way_still
+      (published_same v x still.entries still.call) (made_none_same v x still.entries still.call) under_way_still
 
   heads : HasSameHeads v x
   heads = record { lanes = still.lanes; zones = still.zones; reserved = searched.reserved ∙ append-nil v.reserved; described = λ c in_pool. same_word (descriptor_word v.lanes c); root = same_word 64 }
 
   pub borne_behind : IsBorneOut x
-  borne_behind = borne_still v x heads still.call is.borne_out
+  borne_behind = borne_still v x heads still.entries still.call is.borne_out
 
   pub entries_behind : entries_so_far x ≡ entries_so_far v
   entries_behind =
       let published = ap (λ (actions : List Action). length actions) (published_same v x still.entries still.call) in
-      let made = ap (λ (b : CallBlocks). length b.made) (same_blocks v x still.call) in
-      let freed = ap (λ (b : CallBlocks). length b.freed) (same_blocks v x still.call) in
+      let made = ap (λ (b : CallBlocks). length b.made) (same_blocks v x still.entries still.call) in
+      let freed = ap (λ (b : CallBlocks). length b.freed) (same_blocks v x still.entries still.call) in
       omega (arith, published, made, freed)
 
 -- a size alone, or want of room in the log, is no want of space

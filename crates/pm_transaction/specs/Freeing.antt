@@ -2,6 +2,7 @@
 use Rattle.std.specs.Prelude.{◌≡◌, ◌≢◌, ◌⊎◌, ◌==◌, ◌&&◌, Bool, ℕ, ◌+◌, ◌≤◌, List, Some, None, slice_index}
 use Rattle.pm_crash.specs.CallBlocks.{IsOldIn, TellsOfRoot}
 use Rattle.pm_crash.specs.Operations.{FreesFound, FreesMade, IsFreeReason, IsMade, entries_so_far}
+use Rattle.pm_crash.specs.Pending.{pending_in}
 use Rattle.pm_crash.specs.Reserved.{root_in}
 use Rattle.pm_lock.specs.Leading.{DrawEnded}
 use Rattle.pm_made.specs.Made.{BlockLists}
@@ -59,7 +60,7 @@ pub record HasFreed {M : Type 0} (o : Opening) (at : M → View → Type 0) (lan
 -- there was this reason to refuse the free, to which the root agrees by the lane's words
 pub record IsFreeRefused (v : View) (id : Oid) (r : Refusal) : Type 0 where
   pub reason : IsFreeReason v id r
-  pub root : TellsOfRoot (root_in (slice_index v.words)) (Free id) (Some (Refused r))
+  pub root : TellsOfRoot (root_in (slice_index v.words)) (Free id) (Some (Refused r)) (pending_in v)
 
 -- and so the call with these records was given up by it
 pub record IsFreeGivenUp {M : Type 0} (at : M → View → Type 0) (lane : Lane M) (spans : List Span) (id : Oid) (r : Refusal) (v : View) : Type 0 where

@@ -1,7 +1,8 @@
 -- A publish of pending actions in a transaction that may have made and freed objects (pmemobj_tx_publish(3)): what it leaves, done, refused or stopped.
-use Rattle.std.specs.Prelude.{◌≡◌, List, [], None, Some}
+use Rattle.std.specs.Prelude.{◌≡◌, List, None, Some}
 use Rattle.pm_crash.specs.OnActions.{IsPublishReasonIn, PublishesIn}
 use Rattle.pm_crash.specs.Pending.{pending_in}
+use Rattle.pm_model.specs.Actions.{none_pending}
 use Rattle.pm_made.specs.Made.{BlockLists}
 use Rattle.pm_objects.specs.declared.calls.Operation.TheVariants.{Publish}
 use Rattle.pm_objects.specs.declared.history.Value.TheVariants.{Refused}
@@ -20,7 +21,7 @@ use Rattle.pm_transaction.specs.AtWork.{IsAtWorkWith}
 pub record HasPublishedWith {M : Type 0} (o : Opening) (at : M → View → Type 0) (lane : Lane M) (blocks : BlockLists) (v : View) : Type 0 where
   pub works : IsAtWorkWith o at lane blocks (after v (Tell Publish None))
   pub publishes : PublishesIn v (after v (Tell Publish None))
-  pub none : pending_in (after v (Tell Publish None)) ≡ []
+  pub none : pending_in (after v (Tell Publish None)) ≡ none_pending
 
 -- there was this reason to refuse the publish, and so the call with these records was given up by it
 pub record IsPublishGivenUp {M : Type 0} (at : M → View → Type 0) (lane : Lane M) (spans : List Span) (r : Refusal) (w : View) : Type 0 where

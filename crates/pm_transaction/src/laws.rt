@@ -1,6 +1,6 @@
 //! Laws of transactions that make and free objects, of a lane that works alone.
 
-ghost use Rattle.std.specs.Prelude.{◌≡◌, ◌==◌, ◌&&◌, ℕ, ◌<◌, List, [], ◌∷◌, length, slice_index, Option, Some, option_map, take};
+ghost use Rattle.std.specs.Prelude.{◌≡◌, ◌==◌, ◌&&◌, ℕ, ◌<◌, All, List, [], ◌∷◌, length, slice_index, Option, Some, option_map, take};
 ghost use Rattle.pm_header.specs.declared.header.Header.{Header};
 ghost use Rattle.pm_image.specs.Logs.{generation_word, seal_word};
 ghost use Rattle.pm_memory.specs.Keep.{IsKeptImage};
@@ -26,6 +26,8 @@ ghost use Rattle.pm_world.specs.declared.lane.HeldLock.{HeldLock};
 ghost use Rattle.pm_world.specs.declared.lane.Lane.{Lane};
 ghost use Rattle.pm_world.specs.declared.lane.Span.{Span};
 ghost use Rattle.pm_crash.specs.Alone.{Begins, BeginsAgain, MeansCalls, WorksAlone, kept_numbered, standing};
+ghost use Rattle.pm_crash.specs.CallBlocks.{reserved_in};
+ghost use Rattle.pm_crash.specs.Reserved.{IsReservedFor};
 ghost use Rattle.pm_epoch.specs.Epochs.{HasEnded};
 ghost use Rattle.pm_made.specs.Made.{BlockLists};
 ghost use Rattle.pm_tx.specs.Actions.{HasCanceled, cancels};
@@ -47,7 +49,8 @@ pub fn a_lane_alone_begins_at_work<M: LawfulMem>()
     ensures works { (o : Opening) (header : Header) (pool : PoolView) (v : View) (lane : Lane M) (blocks : BlockLists) (wants : List Want) → Begins o header pool v
         → (begun : HasBegunWith M.at lane blocks v wants) → HasOwnCounts begun.begun.view → WorksAlone o header pool v begun.begun.led.steps begun.begun.view }
     ensures at_work { (o : Opening) (header : Header) (pool : PoolView) (v : View) (lane : Lane M) (blocks : BlockLists) (wants : List Want) → Begins o header pool v
-        → AreForPool blocks v → v.zone_locks ≡ [] → ReservesNoChunk v → (begun : HasBegunWith M.at lane blocks v wants) → HasOwnCounts begun.begun.view → IsAtWorkWith o M.at lane blocks begun.begun.view }
+        → AreForPool blocks v → v.zone_locks ≡ [] → ReservesNoChunk v → (begun : HasBegunWith M.at lane blocks v wants) → HasOwnCounts begun.begun.view
+        → All (IsReservedFor begun.begun.view) (reserved_in begun.begun.view) → IsAtWorkWith o M.at lane blocks begun.begun.view }
 {}
 
 /// A law: a lane that works alone, and is at work in a transaction with its lists, may make an object there. No code runs.

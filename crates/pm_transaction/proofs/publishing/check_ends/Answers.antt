@@ -2,7 +2,7 @@ use Rattle.std.proofs.Common.{◌≡◌, ◌≤◌, get_or, length, ap, subst, r
 use Rattle.std.proofs.lemmas.List.Elements.{All-nil}
 use Rattle.pm_world.specs.declared.lane.Lane.{Lane}
 use Rattle.pm_pending.specs.Pending.{action_of}
-use Rattle.pm_tx.proofs.Checked.{looks_call}
+use Rattle.pm_tx.proofs.Checked.{looks_call, looks_entries}
 use Rattle.pm_tx.proofs.EachAction.{all_of_front}
 use Rattle.pm_tx.proofs.PendingEntries.{no_action}
 use Rattle.pm_transaction.proofs.PublishChecks.{SetsIn, objects_looked_at, passes_one, sets_further, unlooked}
@@ -22,7 +22,7 @@ returns-then-not-ends_in_object-clause-past g c o v all left =
     let i = c.loop-action.action-index in
     let t = c.loop-action.invariant.1 o v all in
     let keeps = objects_looked_at o at c.args.lane.now c.loop-action.lane c.args.blocks.now v all (ap (λ (lane : Lane g.row.M.Denot). lane.locks) c.loop-action.invariant.0) (λ w. All (SetsIn w) (take c.loop-action.action-index c.args.actions.now)) t in
-    let here = left_kept v t.view keeps (looks_call t.loads v t.view t.looks) (action_of (get_or c.args.actions.now c.loop-action.action-index no_action)) (left i no_action c.loop-action-test.true) in
+    let here = left_kept v t.view keeps (looks_entries t.loads v t.view t.looks) (looks_call t.loads v t.view t.looks) (action_of (get_or c.args.actions.now c.loop-action.action-index no_action)) (left i no_action c.loop-action-test.true) in
     passes_one o at c.args.blocks.now c.loop-action.lane c.ends_in_object.new.lane v actions i no_action (ap (λ (lane : Lane g.row.M.Denot). lane.locks) c.ends_in_object.ensures.else_same) c.loop-action-test.true t
     (c.if-not-ends_in_object.ensures.no_ refl o t.view t.works here)
 

@@ -1,7 +1,8 @@
 use Rattle.std.proofs.Common.{All, ap, ◌∙◌, subst}
+use Rattle.pm_crash.specs.OnActions.{IsPublishReasonIn}
 use Rattle.pm_pending.specs.Pending.{pending_of}
 use Rattle.pm_world.specs.declared.lane.Lane.{Lane}
-use Rattle.pm_transaction.proofs.PublishChecks.{SetsIn, pending_still}
+use Rattle.pm_transaction.proofs.PublishChecks.{SetsIn, alone_looked, pending_still}
 use Rattle.pm_transaction.proofs.Publishes.{publish_given_up, publish_is_no_stop, publish_stopped}
 use Rattle.pm_transaction.proofs.publishing.publish_at_work.Goals as goal
 
@@ -29,9 +30,13 @@ returns-in-Ok-clause-done g c o v all pending =
 pub returns-in-Err-clause-given_up : goal.returns-in-Err-clause-given_up
 returns-in-Err-clause-given_up g c stays o v all pending =
     publish_given_up o g.M.LaneMem.at c.args.lane.now c.check_publish.new.lane c.refuse.new.lane c.args.blocks.now v c.in-Err.why c.refuse.result (c.in-Err.ensures.refused o v all (ap pending_of c.as_slice.ensures.value ∙ pending))
+    (alone_looked o g.M.LaneMem.at c.args.lane.now c.check_publish.new.lane c.args.blocks.now v all (ap (λ (lane : Lane g.row.M.Denot). lane.locks) c.check_publish.ensures.else_same) c.args.actions.now.items pending
+    (λ w. IsPublishReasonIn w c.in-Err.why) (c.in-Err.ensures.refused o v all (ap pending_of c.as_slice.ensures.value ∙ pending)))
     (ap (λ (lane : Lane g.row.M.Denot). lane.records.items) c.check_publish.ensures.else_same) (c.refuse.ensures.answer stays) (c.refuse.ensures.ended stays)
 
 pub returns-in-Err-clause-stopped : goal.returns-in-Err-clause-stopped
 returns-in-Err-clause-stopped g c stopped o v all pending =
     publish_stopped o g.M.LaneMem.at c.args.lane.now c.check_publish.new.lane c.refuse.new.lane c.args.blocks.now v c.in-Err.why c.refuse.result (c.in-Err.ensures.refused o v all (ap pending_of c.as_slice.ensures.value ∙ pending))
+    (alone_looked o g.M.LaneMem.at c.args.lane.now c.check_publish.new.lane c.args.blocks.now v all (ap (λ (lane : Lane g.row.M.Denot). lane.locks) c.check_publish.ensures.else_same) c.args.actions.now.items pending
+    (λ w. IsPublishReasonIn w c.in-Err.why) (c.in-Err.ensures.refused o v all (ap pending_of c.as_slice.ensures.value ∙ pending)))
     (ap (λ (lane : Lane g.row.M.Denot). lane.records.items) c.check_publish.ensures.else_same) (c.refuse.ensures.stops (publish_is_no_stop c.in-Err.why c.in-Err.ensures.causes) stopped)
