@@ -1,6 +1,6 @@
 //! Pools with lanes sealed by hand, each with the text that docs/FORMAT.md's rules give it.
 use crate::image_tests::{DEMO, SHOWN, TWO_LANES, pool, put, record_at, shows_changed};
-use crate::run_tests::leaves;
+use crate::run_tests::{leaves, ran, told};
 use pm_shelf::{MapShelf, Shelf};
 use std::alloc::Global;
 use std::process::Abort;
@@ -335,5 +335,92 @@ fn runs(rt: HostRuntime) -> Result<(), Fail> {
     assert!(rt;
         left.get(4096..4112) == Some([3, 0, 0, 0, 0, 0, 0, 0, 0, 0, 0, 0, 0, 0, 0, 0].as_slice())
     );
+    Ok(())
+}
+
+/// A pool of two lanes whose root is a chunk of 504 words, the first; the second chunk becomes another object, of as many words.
+const TWO_CHUNKS: &str = "create p --lanes 2 --zones 1 --id 7 --layout demo --root 4032";
+
+const OBJECT: [(usize, u64); 3] = [(20_488, 258), (28_672, 5), (28_680, 4032)];
+
+/// The places of the two objects' data.
+const ROOT_DATA: usize = 24_640;
+
+const OBJECT_DATA: usize = 28_736;
+
+/// What an entry is and makes of a word: its operation and its value, the word before, and the word behind.
+const ENTRIES: [(u64, u64, u64, u64); 3] = [
+    (0, 0x0102_0304_0506_0708, u64::MAX, 0x0102_0304_0506_0708),
+    (1, 0x00f0, 0x0f0f, 0x0fff),
+    (2, 0x0ff0, 0x3c3c, 0x0c30),
+];
+
+/// The generations before and behind: lane 0's last entry sets its own, and lane 1's valid records end its own.
+const GENERATIONS: [(usize, u64, u64); 2] = [(AREA, 41, 42), (SECOND_AREA, 7, 8)];
+
+/// Seals lane 0 with 64 entries, 63 of words of the root and its generation's; in the other pool the words are as the entries make them.
+fn put_full_log(left: &mut [u8], recovered: &mut [u8]) {
+    for i in 0..63 {
+        let (operation, value, before, behind) = ENTRIES[i % 3];
+        let (word, entry) = (ROOT_DATA + 56 * i, AREA + 64 + 16 * i);
+        put_both(left, recovered, entry, word as u64 | operation);
+        put_both(left, recovered, entry + 8, value);
+        put(left, word, before);
+        put(recovered, word, behind);
+    }
+    put_both(left, recovered, AREA + 64 + 16 * 63, AREA as u64);
+    put_both(left, recovered, AREA + 72 + 16 * 63, 42);
+    put(left, AREA + 8, 64);
+}
+
+/// Gives lane 1 64 valid records, of one to four words of the other object, which were other numbers; in the other pool they are those again.
+fn put_full_records(left: &mut [u8], recovered: &mut [u8]) {
+    for i in 0..64 {
+        let (first, number) = (OBJECT_DATA + 56 * i, 1000 + 10 * i as u64);
+        let mut old = [0; 4];
+        for j in 0..5 {
+            put_both(left, recovered, first + 8 * j, 9);
+        }
+        for j in 0..i % 4 + 1 {
+            old[j] = number + j as u64;
+            put(recovered, first + 8 * j, old[j]);
+        }
+        let [a, b, c, d] = old;
+        let record = [7, first as u64, i as u64 % 4 + 1, a, b, c, d];
+        for (place, value) in record_at(SECOND_AREA + 1088 + 64 * i, record) {
+            put_both(left, recovered, place, value);
+        }
+    }
+}
+
+/// Makes the word at this place the same number in both pools.
+fn put_both(left: &mut [u8], recovered: &mut [u8], place: usize, value: u64) {
+    put(left, place, value);
+    put(recovered, place, value);
+}
+
+/// A pool with one lane's log full of entries and the other's of records, recovered: each entry's and each recorded word, the seal and both generations are
+/// as they are to be, and no byte else changes, so that each record is of a generation that is over; and the pool means what it meant.
+#[test]
+fn full_lanes_are_recovered(rt: HostRuntime) -> Result<(), Fail> {
+    let alloc = rt.alloc();
+    let mut left = pool(alloc, TWO_CHUNKS)?;
+    let mut recovered = left.to_vec(alloc)?;
+    for (place, value) in OBJECT {
+        put_both(&mut left, &mut recovered, place, value);
+    }
+    for (place, before, behind) in GENERATIONS {
+        put(&mut left, place, before);
+        put(&mut recovered, place, behind);
+    }
+    put_full_log(&mut left, &mut recovered);
+    put_full_records(&mut left, &mut recovered);
+    let mut shelf = MapShelf::new(alloc);
+    shelf.write("p", &left).ok().ok_or("a new name")?;
+    shelf.write("s", b"lane 0\n").ok().ok_or("a new name")?;
+    let (status, meant) = told(alloc, "dump p", &mut shelf)?;
+    let (_, means) = ran(alloc, "", &mut shelf)?;
+    assert!(rt; shelf.get("q") == Some(recovered.as_slice()));
+    assert!(rt; status == 0 && means == meant);
     Ok(())
 }
