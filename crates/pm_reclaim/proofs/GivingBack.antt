@@ -85,7 +85,7 @@ module _ (v : View) (at : Occ) (bits : ℕ) (knows : KnowsTaken v) (may : MayVac
   own_free : (bit : ℕ) → bit < 64 → bit_at bits bit ≡ 1 → is_taken (slice_index v.words) v.lanes at bit ≡ false
   own_free bit low set = knows.apart at bit of_pool low (own bit set)
 
-  left_is : (other : Occ) (bit : ℕ) → reserves w other bit ≡ list_any (has_bit other bit) (without_taken at bits v.reserved)
+  pub left_is : (other : Occ) (bit : ℕ) → reserves w other bit ≡ list_any (has_bit other bit) (without_taken at bits v.reserved)
   left_is other bit = ap (λ (blocks : List Taken). list_any (has_bit other bit) (without_taken at bits blocks)) (unmade at of_pool)
 
   reserved_before : (other : Occ) (bit : ℕ) → reserves w other bit ≡ true → reserves v other bit ≡ true
@@ -176,13 +176,15 @@ module _ (v : View) (at : Occ) (bits : ℕ) (knows : KnowsTaken v) (may : MayVac
     bits = λ other bit of low. (forth other bit of low, back other bit of low);
     apart = λ other bit of low kept. knows.apart other bit of low (⊎_elim (λ (has : reserves w other bit ≡ true). inl (reserved_before other bit has))
         (λ (freed : list_any (has_bit other bit) w.freed ≡ true). inr (vacated_before at bits may.small other bit v.freed freed)) kept);
+    once = λ other bit of low has. false_from_ne_true (list_any (has_bit other bit) w.freed) (λ freed.
+        false≢true (sym (knows.once other bit of low (reserved_before other bit has)) ∙ vacated_before at bits may.small other bit v.freed freed));
   }
 
 -- the step keeps it
 pub giving_keeps : (v : View) (s : Step) → KnowsTaken v → Allowed v s → IsGiving s → KnowsTaken (after v s)
 giving_keeps v (Vacate at bits) knows may gives = vacated_knows v at bits knows may
-giving_keeps v (Give line) knows may gives = record { pages = knows.pages; zone_count = knows.zone_count; bits = knows.bits; apart = knows.apart }
-giving_keeps v (ZoneGive zone) knows may gives = record { pages = knows.pages; zone_count = knows.zone_count; bits = knows.bits; apart = knows.apart }
+giving_keeps v (Give line) knows may gives = record { pages = knows.pages; zone_count = knows.zone_count; bits = knows.bits; apart = knows.apart; once = knows.once }
+giving_keeps v (ZoneGive zone) knows may gives = record { pages = knows.pages; zone_count = knows.zone_count; bits = knows.bits; apart = knows.apart; once = knows.once }
 giving_keeps v (Load w x) knows may gives = absurd gives
 giving_keeps v (Store w x) knows may gives = absurd gives
 giving_keeps v (Or w bits x) knows may gives = absurd gives

@@ -1,5 +1,8 @@
+pub mod BlockBits
+pub mod KeptBits
 pub mod GivingBack
 pub mod Steps
+pub mod Keeping
 pub mod Rest
 pub mod RunWords
 pub mod ZoneWords

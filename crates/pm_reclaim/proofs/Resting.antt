@@ -110,6 +110,7 @@ module _ (words runs zone_words : List ℕ) (pool : ℕ) (shape : Shape) (freed 
         zone_count = length-set zone_words 0 (bit_or was freed) ∙ is.zone_count;
         bits = λ at bit of few. (freed_forth at bit of few, freed_back at bit of few);
         apart = freed_apart;
+        once = λ at bit of few none. absurd (false≢true none);
       };
     };
     of_shape = record { lanes = refl; zones = refl; size = size };
@@ -259,17 +260,26 @@ module _ (v : View) (place bits : ℕ) (rests : RestsAlone v) (of_pool : IsOcc v
         (reserves_then at bit reserved))
         (λ (freed : list_any (has_bit at bit) v.freed ≡ true). rests.taken.apart at bit of low (inr freed))
 
+    reserved_once : (at : Occ) (bit : ℕ) → IsOcc v.lanes v.zones at → bit < 64 → reserves w at bit ≡ true → list_any (has_bit at bit) v.freed ≡ false
+    reserved_once at bit of low reserved = ⊎_elim
+        (λ (before : reserves v at bit ≡ true). rests.taken.once at bit of low before)
+        (λ (mine : (at ≡ Run place) × (bit_at bits bit ≡ 1)). false_from_ne_true (list_any (has_bit at bit) v.freed) (λ freed.
+        clear_bit bit mine.1 (ap (λ p. bit_at (occ_in v p) bit) (sym mine.0)
+        ∙ (rests.taken.bits at bit of low).1 (inr (or_right (reserves v at bit || has_run_chunk v at) (list_any (has_bit at bit) v.freed) freed)))))
+        (reserves_then at bit reserved)
+
     reserved_knows : KnowsTaken w
     reserved_knows = record {
       pages = length-set v.run_words (place / 4096) (bit_or old_word bits) ∙ rests.taken.pages;
       zone_count = rests.taken.zone_count;
       bits = λ at bit of low. (reserved_forth at bit of low, reserved_back at bit of low);
       apart = reserved_apart;
+      once = reserved_once;
     }
 
   refused_knows : KnowsTaken (after v (Occupy (Run place) bits false))
   refused_knows = subst (λ (runs : List ℕ). KnowsTaken (record (after v (Occupy (Run place) bits false)) { run_words = runs })) (sym (set-get_or v.run_words (place / 4096) 0))
-      (record { pages = rests.taken.pages; zone_count = rests.taken.zone_count; bits = rests.taken.bits; apart = rests.taken.apart })
+      (record { pages = rests.taken.pages; zone_count = rests.taken.zone_count; bits = rests.taken.bits; apart = rests.taken.apart; once = rests.taken.once })
 
   knows_then : (won : Bool) → FoundAlone v (Occupy (Run place) bits won) → KnowsTaken (after v (Occupy (Run place) bits won))
   knows_then true found = reserved_knows ((found rests.alone).0 refl)
