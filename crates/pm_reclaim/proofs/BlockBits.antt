@@ -73,8 +73,15 @@ module _ (lanes c count : ℕ) where
   chunks_count = omega arith
 
   pub chunks_bits : (at : Occ) (bit : ℕ) → IsBitOf lanes chunks at bit ↔ IsChunkBit c count at bit
-  chunks_bits at bit = (forth, λ is. inr (whole, is.0 ∙ ap Zone (sym chunks_zone),
-    (let first = chunks_first in let from = is.1.0 in omega (arith, first, from)), (let first = chunks_first in let many = chunks_count in let to = is.1.1 in omega (arith, first, many, to)))) where
+  chunks_bits at bit = (
+    forth,
+    λ is. inr (
+      whole,
+      is.0 ∙ ap Zone (sym chunks_zone),
+      (let first = chunks_first in let from = is.1.0 in omega (arith, first, from)),
+      (let first = chunks_first in let many = chunks_count in let to = is.1.1 in omega (arith, first, many, to)),
+    ),
+  ) where
     forth : IsBitOf lanes chunks at bit → IsChunkBit c count at bit
     forth (inl is) = absurd (is.0 whole)
     forth (inr is) = (is.1 ∙ ap Zone chunks_zone, ((let first = chunks_first in let from = is.2 in omega (arith, first, from)), (let first = chunks_first in let many = chunks_count in let to = is.3 in omega (arith, first, many, to))))

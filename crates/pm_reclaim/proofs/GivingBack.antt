@@ -51,14 +51,18 @@ one_or_two at other = ⊎_elim (λ (same : is_same_occ at other ≡ true). inl (
 
 -- ---- what the lane has
 
--- a chunk that it reserved is no run
-pub chunk_no_run : (v : View) → KnowsTaken v → (page : ℕ) → IsChunk v.lanes page → page < 1 + 2 * v.lanes + 65 * v.zones → has_chunk v page ≡ true → is_run (slice_index v.words (descriptor_word v.lanes page)) ≡ false
-chunk_no_run v knows page chunk low has = false_from_ne_true (is_run (slice_index v.words (descriptor_word v.lanes page))) (λ run.
+-- a chunk that is free is no run
+pub free_no_run : (v : View) (page : ℕ) → IsChunk v.lanes page → is_taken (slice_index v.words) v.lanes (zone_at v.lanes page) (chunk_bit v.lanes page) ≡ false → is_run (slice_index v.words (descriptor_word v.lanes page)) ≡ false
+free_no_run v page chunk free = false_from_ne_true (is_run (slice_index v.words (descriptor_word v.lanes page))) (λ run.
     let here = chunk.1 in
     let same : descriptor_word v.lanes page ≡ 512 * zone_page v.lanes (zone_of v.lanes page) + chunk_bit v.lanes page = omega (arith, here) in
     let taken = or_left (is_run (slice_index v.words (512 * zone_page v.lanes (zone_of v.lanes page) + chunk_bit v.lanes page))) (list_any (reaches (slice_index v.words) v.lanes (zone_of v.lanes page) (chunk_bit v.lanes page)) (range_with_len 0 (chunk_bit v.lanes page + 1)))
     (ap (λ n. is_run (slice_index v.words n)) (sym same) ∙ run) in
-    false≢true (sym (knows.apart (zone_at v.lanes page) (chunk_bit v.lanes page) (omega (arith, chunk, low)) (omega (arith, chunk)) (inl has)) ∙ taken))
+    false≢true (sym free ∙ taken))
+
+-- one that it reserved is
+pub chunk_no_run : (v : View) → KnowsTaken v → (page : ℕ) → IsChunk v.lanes page → page < 1 + 2 * v.lanes + 65 * v.zones → has_chunk v page ≡ true → is_run (slice_index v.words (descriptor_word v.lanes page)) ≡ false
+chunk_no_run v knows page chunk low has = free_no_run v page chunk (knows.apart (zone_at v.lanes page) (chunk_bit v.lanes page) (omega (arith, chunk, low)) (omega (arith, chunk)) (inl has))
 
 -- a word of a run whose chunk it reserved is taken, since the chunk is no run
 pub chunk_taken : (v : View) → KnowsTaken v → (at : Occ) (bit : ℕ) → IsOcc v.lanes v.zones at → has_run_chunk v at ≡ true → is_taken (slice_index v.words) v.lanes at bit ≡ true

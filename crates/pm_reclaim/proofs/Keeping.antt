@@ -13,12 +13,13 @@ use Rattle.pm_reclaim.specs.KnownTaken.{KnowsTaken}
 use Rattle.pm_reclaim.specs.Reclaims.{Reclaims}
 use Rattle.pm_reclaim.proofs.BlockBits.{chunks_bits, kept_inside, run_bits}
 
-module _ (v w : View) (knows : KnowsTaken v) (reclaims : Reclaims v w) where
-  abbrev beside : View
-  beside = record v { run_words = w.run_words; zone_words = w.zone_words; known = w.known; reserved = w.reserved; freed = w.freed; seen = w.seen }
+-- the view but for what the lane has of the heap, what it knows and what it saw, as the other has that
+abbrev pub beside : View → View → View
+beside v w = record v { run_words = w.run_words; zone_words = w.zone_words; known = w.known; reserved = w.reserved; freed = w.freed; seen = w.seen }
 
+module _ (v w : View) (knows : KnowsTaken v) (same : w ≡ beside v w) where
   module _ (block : Block) (stays : (at : Occ) (bit : ℕ) → IsBitOf v.lanes block at bit → reserves w at bit ≡ true) where
-    run_beside : KeepsInRun v block → KeepsInRun beside block
+    run_beside : KeepsInRun v block → KeepsInRun (beside v w) block
     run_beside is = record {
       chunk = is.chunk;
       lines = is.lines;
@@ -31,7 +32,7 @@ module _ (v w : View) (knows : KnowsTaken v) (reclaims : Reclaims v w) where
       is_block = is.is_block;
     }
 
-    chunks_beside : KeepsChunks v block → KeepsChunks beside block
+    chunks_beside : KeepsChunks v block → KeepsChunks (beside v w) block
     chunks_beside is = record {
       zone = is.zone;
       first = is.first;
@@ -49,10 +50,13 @@ module _ (v w : View) (knows : KnowsTaken v) (reclaims : Reclaims v w) where
     }
 
     block_still : Keeps v block → Keeps w block
-    block_still (inl is) = subst (λ (z : View). Keeps z block) (sym reclaims.same) (inl (run_beside is))
-    block_still (inr is) = subst (λ (z : View). Keeps z block) (sym reclaims.same) (inr (chunks_beside is))
+    block_still (inl is) = subst (λ (z : View). Keeps z block) (sym same) (inl (run_beside is))
+    block_still (inr is) = subst (λ (z : View). Keeps z block) (sym same) (inr (chunks_beside is))
 
-  pub keeps_still : (kept : List Block) → All (Keeps v) kept → ((at : Occ) (bit : ℕ) → IsKeptBit v.lanes kept at bit → reserves w at bit ≡ true) → All (Keeps w) kept
-  keeps_still kept keeps stays =
+  pub keeps_by : (kept : List Block) → All (Keeps v) kept → ((at : Occ) (bit : ℕ) → IsKeptBit v.lanes kept at bit → reserves w at bit ≡ true) → All (Keeps w) kept
+  keeps_by kept keeps stays =
       let none : Block = record { place = 0; lines = 0 } in
       All-from_get_or (Keeps w) kept none (λ i low. block_still (get_or kept i none) (λ at bit is. stays at bit (i, get_or kept i none, low, get_or_default kept i (get_or kept i none) none low, is)) (All-get_or (Keeps v) kept i none low keeps))
+
+pub keeps_still : (v w : View) → KnowsTaken v → Reclaims v w → (kept : List Block) → All (Keeps v) kept → ((at : Occ) (bit : ℕ) → IsKeptBit v.lanes kept at bit → reserves w at bit ≡ true) → All (Keeps w) kept
+keeps_still v w knows reclaims = keeps_by v w knows reclaims.same

@@ -8,3 +8,4 @@ pub mod RunWords
 pub mod ZoneWords
 pub mod Pools
 pub mod Resting
+pub mod TestPlaces

@@ -36,10 +36,13 @@ use Rattle.pm_reclaim.proofs.Steps.{left_still, occ_looked, reclaims_look, recla
 -- where each bit that is set is of what is taken, or of what is kept, the word has what is left
 pub left_from : (w : View) (kept : List Block) (at : Occ) → KnowsTaken w → All (Keeps w) kept → IsOcc w.lanes w.zones at
     → ((bit : ℕ) → bit < 64 → bit_at (occ_in w at) bit ≡ 1 → (is_taken (slice_index w.words) w.lanes at bit ≡ true) ⊎ IsKeptBit w.lanes kept at bit) → TellsLeft kept w at (occ_in w at)
-left_from w kept at knows keeps of only bit low = (only bit low, λ is. (knows.bits at bit of low).1 (⊎_elim
-    (λ (taken : is_taken (slice_index w.words) w.lanes at bit ≡ true). inl taken)
-    (λ (its : IsKeptBit w.lanes kept at bit). inr (or_left (reserves w at bit || has_run_chunk w at) (list_any (has_bit at bit) w.freed)
-    (or_left (reserves w at bit) (has_run_chunk w at) (kept_reserved w knows kept keeps at bit its).reserved))) is))
+left_from w kept at knows keeps of only bit low = (
+  only bit low,
+  λ is. (knows.bits at bit of low).1 (⊎_elim
+      (λ (taken : is_taken (slice_index w.words) w.lanes at bit ≡ true). inl taken)
+      (λ (its : IsKeptBit w.lanes kept at bit). inr (or_left (reserves w at bit || has_run_chunk w at) (list_any (has_bit at bit) w.freed)
+      (or_left (reserves w at bit) (has_run_chunk w at) (kept_reserved w knows kept keeps at bit its).reserved))) is),
+)
 
 -- The lane rests alone and keeps these blocks, and this word tells what is left of the occupancy word.
 pub record IsLeftBy (v : View) (kept : List Block) (at : Occ) (left : ℕ) : Type 0 where
