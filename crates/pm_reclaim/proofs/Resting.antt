@@ -13,7 +13,7 @@ use Rattle.pm_view.specs.declared.occ.Occ.{Occ}
 use Rattle.pm_view.specs.declared.occ.Occ.TheVariants.{Run, Zone}
 use Rattle.pm_view.specs.Founds.{FoundAlone}
 use Rattle.pm_view.specs.Occupancy.{IsOccupancy, is_taken}
-use Rattle.pm_view.specs.Blocks.{descriptor_word, is_run, zone_of}
+use Rattle.pm_view.specs.Blocks.{descriptor_word, is_run}
 use Rattle.pm_view.specs.Steps.Step.{Occupy}
 use Rattle.pm_view.specs.View.{Taken, View}
 use Rattle.pm_view.specs.Views.{after, chunk_bit, has_bit, is_same_occ, occ_in, reserves, zone_at}

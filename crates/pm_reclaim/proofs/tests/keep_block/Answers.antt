@@ -1,4 +1,4 @@
-use Rattle.std.proofs.Common.{rules, true, slice_index, ◌≡◌, ◌+◌, ◌/◌, [], ◌∷◌, Some, refl, sym, ap, ◌∙◌, subst, arith}
+use Rattle.std.proofs.Common.{rules, true, slice_index, ◌≡◌, ◌/◌, [], ◌∷◌, refl, sym, ap, ◌∙◌, subst, arith}
 use Rattle.std.proofs.lemmas.List.Elements.{All-cons, All-nil}
 use Rattle.pm_image.specs.declared.block.Block.{Block}
 use Rattle.pm_layout.specs.Layout.{zone_place}
