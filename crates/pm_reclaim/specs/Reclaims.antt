@@ -76,7 +76,7 @@ TellsTaken v at word = (bit : ℕ) → bit < 64 → (bit_at word bit ≡ 1) ↔ 
 abbrev pub IsReclaimed : View → Occ → Type 0
 IsReclaimed v at = TellsTaken v at (occ_in v at)
 
--- so has the word, and a bit besides for each of the kept blocks'
+-- the word has a bit set exactly where that is so, or the bit is one of the kept blocks'
 abbrev pub TellsLeft : List Block → View → Occ → ℕ → Type 0
 TellsLeft kept v at word = (bit : ℕ) → bit < 64 → (bit_at word bit ≡ 1) ↔ ((is_taken (slice_index v.words) v.lanes at bit ≡ true) ⊎ IsKeptBit v.lanes kept at bit)
 
