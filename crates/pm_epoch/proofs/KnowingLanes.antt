@@ -49,4 +49,5 @@ module _ (o : Opening) (header : Header) (pool : PoolView) (v w : View) (steps :
           (known_alone o header pool v w steps at bit works (there at of) low);
       apart = λ at bit of low kept. ap (λ n. is_taken (slice_index w.words) n at bit) fits.lane.lanes ∙ ⊎_elim (λ (reserved : reserves w at bit ≡ true). free_here at bit reserved)
           (λ (freed : list_any (has_bit at bit) w.freed ≡ true). absurd (false≢true (sym (ap (list_any (has_bit at bit)) none_freed) ∙ freed))) kept;
+      once = λ at bit of low reserved. ap (list_any (has_bit at bit)) none_freed;
     }

@@ -2,7 +2,7 @@
 use Rattle.std.proofs.Common.{◌≡◌, ◌⊎◌, inl, inr, ⊎_elim, ℕ, ◌/◌, ◌<◌, true, false, ◌||◌, List, [], ◌∷◌, slice_index, refl, sym, ap, ◌∙◌, arith}
 use Rattle.std.specs.Int.{bit_at}
 use Rattle.std.specs.List.{list_any}
-use Rattle.std.proofs.lemmas.Bool.{cases_Bool, false≢true, or_cases, or_left, or_right}
+use Rattle.std.proofs.lemmas.Bool.{cases_Bool, false_from_ne_true, false≢true, or_cases, or_left, or_right}
 use Rattle.pm_view.specs.declared.occ.Occ.{Occ}
 use Rattle.pm_view.specs.declared.occ.Occ.TheVariants.{Run, Zone}
 use Rattle.pm_view.specs.Occupancy.{is_taken}
@@ -134,4 +134,6 @@ module _ (v : View) (n : ℕ) (all : List Published) (knows : KnowsTaken v) (non
         (λ (freed : list_any (has_bit at bit) w.freed ≡ true). let frees = (hands.freed at bit of low).0 freed in
         freed_not v.lanes at bit all (IsTaken at bit) frees (λ makes. makes_none_free at bit of low makes frees) then)
         kept;
+    once = λ at bit of low reserved. false_from_ne_true (list_any (has_bit at bit) w.freed) (λ freed.
+        false≢true (sym (knows.apart at bit of low (inl (hands.reserved at bit of low reserved).0)) ∙ hands.taken at bit of low ((hands.freed at bit of low).0 freed)));
   }

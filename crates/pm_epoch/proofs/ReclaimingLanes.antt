@@ -1,7 +1,8 @@
--- A lane whose call has ended reclaims what it has, and begins again.
+-- A lane whose call has ended reclaims what it has, but for what it keeps, and begins again.
 use Rattle.std.proofs.Common.{◌≡◌, ℕ, Bool, true, false, cond, IsTrue, All, Contains, List, [], ◌∷◌, ◌++◌, refl, sym, ap, ◌∙◌, subst}
 use Rattle.std.proofs.lemmas.List.Elements.{All-cons, All-contains, All-contains_itself, All-head, All-tail, All-weaker}
 use Rattle.pm_header.specs.declared.header.Header.{Header}
+use Rattle.pm_image.specs.declared.block.Block.{Block}
 use Rattle.pm_layout.specs.declared.shape.Shape.{Shape}
 use Rattle.pm_objects.specs.declared.pool.PoolView.{PoolView}
 use Rattle.pm_view.specs.Founds.{FoundAlone}
@@ -15,7 +16,7 @@ use Rattle.pm_world.specs.Lawful.{Allowed}
 use Rattle.pm_world.specs.Opening.{Opening}
 use Rattle.pm_crash.specs.Alone.{BeginsAgain, standing}
 use Rattle.pm_crash.specs.Leading.{Leads}
-use Rattle.pm_reclaim.specs.Reclaims.{AreOfPool, HasNothingLeft, IsReclaiming, MayReclaim, Reclaims}
+use Rattle.pm_reclaim.specs.Reclaims.{AreOfPool, HasLeft, IsReclaiming, MayReclaim, Reclaims}
 use Rattle.pm_reclaim.proofs.Steps.{load_same, look_same}
 use Rattle.pm_epoch.specs.Epochs.{HasEnded}
 use Rattle.pm_epoch.proofs.EndedCalls.{ended_begins, ended_kept}
@@ -39,7 +40,7 @@ module _ (o : Opening) (header : Header) (pool : PoolView) where
       of_pool = ended.of_pool;
       small = ended.small;
       freed_of_pool = ended.freed_of_pool;
-      taken = record { pages = ended.taken.pages; zone_count = ended.taken.zone_count; bits = ended.taken.bits; apart = ended.taken.apart };
+      taken = record { pages = ended.taken.pages; zone_count = ended.taken.zone_count; bits = ended.taken.bits; apart = ended.taken.apart; once = ended.taken.once };
       within = ended.within;
       of_header = ended.of_header;
       alone = ended.alone;
@@ -110,8 +111,8 @@ module _ (o : Opening) (header : Header) (pool : PoolView) where
   pub ended_reclaimed : (v w : View) → HasEnded o header pool v → v.locks ≡ [] → Reclaims v w → HasEnded o header pool w
   ended_reclaimed v w ended free reclaims = ended_behind v w reclaims.steps ended free reclaims.leads reclaims.only
 
-  pub begins_reclaimed : (v w : View) → HasEnded o header pool v → v.zone_locks ≡ [] → v.locks ≡ [] → Reclaims v w → HasNothingLeft w → BeginsAgain (standing o w) header pool w
-  begins_reclaimed v w ended unlocked free reclaims left =
+  pub begins_reclaimed : (v w : View) (kept : List Block) → HasEnded o header pool v → v.zone_locks ≡ [] → v.locks ≡ [] → Reclaims v w → HasLeft kept w → BeginsAgain (standing o w) header pool w
+  begins_reclaimed v w kept ended unlocked free reclaims left =
       let same = reclaims.same in
       let still = ended_reclaimed v w ended free reclaims in
       ended_begins o header pool w still (ap (λ (z : View). z.locks) same ∙ free) (ap (λ (z : View). z.zone_locks) same ∙ unlocked)

@@ -68,4 +68,5 @@ module _ (b w : View) (header : Header) (before now : PoolView) (all : List Publ
     );
     apart = λ at bit of low kept. let of' = there at of in false_from_ne_true (is_taken (slice_index w.words) w.lanes at bit)
         (λ taken. promises.apart at bit of' low (kept_same b w heap at bit kept) ((taken_then at bit of' low).0 taken));
+    once = λ at bit of low reserved. ap (list_any (has_bit at bit)) heap.freed ∙ promises.once at bit (there at of) low (ap (list_any (has_bit at bit)) (sym heap.reserved) ∙ reserved);
   }

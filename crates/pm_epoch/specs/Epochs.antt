@@ -208,6 +208,7 @@ pub record PromisesTaken (v : View) (all : List Published) : Type 0 where
   pub bits : (at : Occ) (bit : ℕ) → IsOcc v.lanes v.zones at → bit < 64
       → (bit_at (occ_in v at) bit ≡ 1) ↔ (TakenBehindAll v.lanes all at bit (is_taken (slice_index v.words) v.lanes at bit ≡ true) ⊎ (has_taken v at bit ≡ true))
   pub apart : (at : Occ) (bit : ℕ) → IsOcc v.lanes v.zones at → bit < 64 → IsKept v at bit → ¬ TakenBehindAll v.lanes all at bit (is_taken (slice_index v.words) v.lanes at bit ≡ true)
+  pub once : (at : Occ) (bit : ℕ) → IsOcc v.lanes v.zones at → bit < 64 → reserves v at bit ≡ true → list_any (has_bit at bit) v.freed ≡ false
 
 -- The lane's call has ended: it is alone, its log is empty with nothing undrained, and each log is clean. An image of its words holds a pool to which its calls
 -- lead from this one, and it knows what is taken. It may have locks to give back still, and blocks that it freed or reserved.

@@ -56,7 +56,7 @@ ghost use Rattle.pm_fresh.specs.Filled.{IsFilled};
 ghost use Rattle.pm_fresh.specs.Making.{page_in};
 ghost use Rattle.pm_blocks.specs.NewRuns.{IsUnused};
 ghost use Rattle.pm_alloc.specs.NewObjects.{CanMakeObject, HasNewObject};
-ghost use Rattle.pm_reclaim.specs.Reclaims.{AreOfPool, HasNothingLeft, MayReclaim, Reclaims};
+ghost use Rattle.pm_reclaim.specs.Reclaims.{AreOfPool, HasLeft, MayReclaim, Reclaims};
 ghost use Rattle.pm_sealed.specs.Sealed.{LeavesSealed, Publishes, has_nothing};
 ghost use Rattle.pm_reclaim.specs.KnownTaken.{IsGiving, KnowsTaken};
 ghost use Rattle.pm_epoch.specs.Allocating.{HasLockedFreed, HasSameDescriptors, IsCallAlone, IsCallAloneStill, LeavesObject, MakesObject, object_in_block, with_object_told};
@@ -285,13 +285,13 @@ pub fn a_lane_whose_call_has_ended_begins_again()
 {}
 
 /// A law: a lane whose call has ended, and that has no line locked, may reclaim what it has; behind that its call has ended still, and it may begin again
-/// over its words as they stand. No code runs.
+/// over its words as they stand, with the blocks that it keeps, if any. No code runs.
 pub fn a_lane_that_reclaimed_begins_again()
     ensures may { (o : Opening) (header : Header) (pool : PoolView) (v : View) (shape : Shape) → HasEnded o header pool v → v.locks ≡ [] → IsOfShape v shape
         → MayReclaim v shape }
     ensures ended { (o : Opening) (header : Header) (pool : PoolView) (v w : View) → HasEnded o header pool v → v.locks ≡ [] → Reclaims v w → HasEnded o header pool w }
-    ensures begins { (o : Opening) (header : Header) (pool : PoolView) (v w : View) → HasEnded o header pool v → v.zone_locks ≡ [] → v.locks ≡ []
-        → Reclaims v w → HasNothingLeft w → BeginsAgain (standing o w) header pool w }
+    ensures begins { (o : Opening) (header : Header) (pool : PoolView) (v w : View) (kept : List Block) → HasEnded o header pool v → v.zone_locks ≡ [] → v.locks ≡ []
+        → Reclaims v w → HasLeft kept w → BeginsAgain (standing o w) header pool w }
 {}
 
 /// A law: a call that a lane alone published has ended at its log's end. No code runs.

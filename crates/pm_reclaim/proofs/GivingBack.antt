@@ -51,14 +51,18 @@ one_or_two at other = ⊎_elim (λ (same : is_same_occ at other ≡ true). inl (
 
 -- ---- what the lane has
 
--- a chunk that it reserved is no run
-pub chunk_no_run : (v : View) → KnowsTaken v → (page : ℕ) → IsChunk v.lanes page → page < 1 + 2 * v.lanes + 65 * v.zones → has_chunk v page ≡ true → is_run (slice_index v.words (descriptor_word v.lanes page)) ≡ false
-chunk_no_run v knows page chunk low has = false_from_ne_true (is_run (slice_index v.words (descriptor_word v.lanes page))) (λ run.
+-- a chunk that is free is no run
+pub free_no_run : (v : View) (page : ℕ) → IsChunk v.lanes page → is_taken (slice_index v.words) v.lanes (zone_at v.lanes page) (chunk_bit v.lanes page) ≡ false → is_run (slice_index v.words (descriptor_word v.lanes page)) ≡ false
+free_no_run v page chunk free = false_from_ne_true (is_run (slice_index v.words (descriptor_word v.lanes page))) (λ run.
     let here = chunk.1 in
     let same : descriptor_word v.lanes page ≡ 512 * zone_page v.lanes (zone_of v.lanes page) + chunk_bit v.lanes page = omega (arith, here) in
     let taken = or_left (is_run (slice_index v.words (512 * zone_page v.lanes (zone_of v.lanes page) + chunk_bit v.lanes page))) (list_any (reaches (slice_index v.words) v.lanes (zone_of v.lanes page) (chunk_bit v.lanes page)) (range_with_len 0 (chunk_bit v.lanes page + 1)))
     (ap (λ n. is_run (slice_index v.words n)) (sym same) ∙ run) in
-    false≢true (sym (knows.apart (zone_at v.lanes page) (chunk_bit v.lanes page) (omega (arith, chunk, low)) (omega (arith, chunk)) (inl has)) ∙ taken))
+    false≢true (sym free ∙ taken))
+
+-- one that it reserved is
+pub chunk_no_run : (v : View) → KnowsTaken v → (page : ℕ) → IsChunk v.lanes page → page < 1 + 2 * v.lanes + 65 * v.zones → has_chunk v page ≡ true → is_run (slice_index v.words (descriptor_word v.lanes page)) ≡ false
+chunk_no_run v knows page chunk low has = free_no_run v page chunk (knows.apart (zone_at v.lanes page) (chunk_bit v.lanes page) (omega (arith, chunk, low)) (omega (arith, chunk)) (inl has))
 
 -- a word of a run whose chunk it reserved is taken, since the chunk is no run
 pub chunk_taken : (v : View) → KnowsTaken v → (at : Occ) (bit : ℕ) → IsOcc v.lanes v.zones at → has_run_chunk v at ≡ true → is_taken (slice_index v.words) v.lanes at bit ≡ true
@@ -85,7 +89,7 @@ module _ (v : View) (at : Occ) (bits : ℕ) (knows : KnowsTaken v) (may : MayVac
   own_free : (bit : ℕ) → bit < 64 → bit_at bits bit ≡ 1 → is_taken (slice_index v.words) v.lanes at bit ≡ false
   own_free bit low set = knows.apart at bit of_pool low (own bit set)
 
-  left_is : (other : Occ) (bit : ℕ) → reserves w other bit ≡ list_any (has_bit other bit) (without_taken at bits v.reserved)
+  pub left_is : (other : Occ) (bit : ℕ) → reserves w other bit ≡ list_any (has_bit other bit) (without_taken at bits v.reserved)
   left_is other bit = ap (λ (blocks : List Taken). list_any (has_bit other bit) (without_taken at bits blocks)) (unmade at of_pool)
 
   reserved_before : (other : Occ) (bit : ℕ) → reserves w other bit ≡ true → reserves v other bit ≡ true
@@ -176,13 +180,15 @@ module _ (v : View) (at : Occ) (bits : ℕ) (knows : KnowsTaken v) (may : MayVac
     bits = λ other bit of low. (forth other bit of low, back other bit of low);
     apart = λ other bit of low kept. knows.apart other bit of low (⊎_elim (λ (has : reserves w other bit ≡ true). inl (reserved_before other bit has))
         (λ (freed : list_any (has_bit other bit) w.freed ≡ true). inr (vacated_before at bits may.small other bit v.freed freed)) kept);
+    once = λ other bit of low has. false_from_ne_true (list_any (has_bit other bit) w.freed) (λ freed.
+        false≢true (sym (knows.once other bit of low (reserved_before other bit has)) ∙ vacated_before at bits may.small other bit v.freed freed));
   }
 
 -- the step keeps it
 pub giving_keeps : (v : View) (s : Step) → KnowsTaken v → Allowed v s → IsGiving s → KnowsTaken (after v s)
 giving_keeps v (Vacate at bits) knows may gives = vacated_knows v at bits knows may
-giving_keeps v (Give line) knows may gives = record { pages = knows.pages; zone_count = knows.zone_count; bits = knows.bits; apart = knows.apart }
-giving_keeps v (ZoneGive zone) knows may gives = record { pages = knows.pages; zone_count = knows.zone_count; bits = knows.bits; apart = knows.apart }
+giving_keeps v (Give line) knows may gives = record { pages = knows.pages; zone_count = knows.zone_count; bits = knows.bits; apart = knows.apart; once = knows.once }
+giving_keeps v (ZoneGive zone) knows may gives = record { pages = knows.pages; zone_count = knows.zone_count; bits = knows.bits; apart = knows.apart; once = knows.once }
 giving_keeps v (Load w x) knows may gives = absurd gives
 giving_keeps v (Store w x) knows may gives = absurd gives
 giving_keeps v (Or w bits x) knows may gives = absurd gives

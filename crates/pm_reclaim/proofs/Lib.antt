@@ -1,7 +1,11 @@
+pub mod BlockBits
+pub mod KeptBits
 pub mod GivingBack
 pub mod Steps
+pub mod Keeping
 pub mod Rest
 pub mod RunWords
 pub mod ZoneWords
 pub mod Pools
 pub mod Resting
+pub mod TestPlaces

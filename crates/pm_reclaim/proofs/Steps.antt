@@ -17,11 +17,13 @@ use Rattle.pm_world.specs.Heap.{IsOcc}
 use Rattle.pm_world.specs.Lawful.{HasOcc, MayVacate}
 use Rattle.pm_world.proofs.StepGive.{filter-passed}
 use Rattle.pm_world.proofs.Vacated.{and_bits, vacated_all, vacated_small}
+use Rattle.pm_image.specs.declared.block.Block.{Block}
+use Rattle.pm_reclaim.specs.KeptBlocks.{IsKeptBit}
 use Rattle.pm_reclaim.specs.KnownTaken.{KnowsTaken}
 use Rattle.pm_crash.specs.Leading.{Leads}
 use Rattle.pm_reclaim.proofs.GivingBack.{IsPictured, giving_keeps, is_pictured, unmade}
 use Rattle.pm_crash.proofs.Leading.{leads_then}
-use Rattle.pm_reclaim.specs.Reclaims.{AreOfPool, IsReclaiming, MayReclaim, Reclaims, RestsAlone, TellsTaken}
+use Rattle.pm_reclaim.specs.Reclaims.{AreOfPool, IsReclaiming, MayReclaim, Reclaims, RestsAlone, TellsLeft, TellsTaken}
 
 -- ---- no step, one step, and more
 
@@ -53,7 +55,7 @@ reclaims_then u v w first second = record {
 
 -- of what the lane saw, and of which words it knows, what is taken says nothing
 knows_beside : (v : View) (known : List ℕ) (seen : List Step) → KnowsTaken v → KnowsTaken (record v { known = known; seen = seen })
-knows_beside v known seen knows = record { pages = knows.pages; zone_count = knows.zone_count; bits = knows.bits; apart = knows.apart }
+knows_beside v known seen knows = record { pages = knows.pages; zone_count = knows.zone_count; bits = knows.bits; apart = knows.apart; once = knows.once }
 
 occ_beside : (v : View) (known : List ℕ) (seen : List Step) (at : Occ) → occ_in (record v { known = known; seen = seen }) at ≡ occ_in v at
 occ_beside v known seen (Run place) = refl
@@ -194,6 +196,15 @@ module _ (v w : View) (reclaims : Reclaims v w) where
 
   pub tells_still : (at : Occ) (word : ℕ) → TellsTaken v at word → TellsTaken w at word
   tells_still at word tells = subst (λ (z : View). TellsTaken z at word) (sym reclaims.same) tells
+
+  pub left_still : (kept : List Block) (at : Occ) (word : ℕ) → TellsLeft kept v at word → TellsLeft kept w at word
+  left_still kept at word tells = subst (λ (z : View). TellsLeft kept z at word) (sym reclaims.same) tells
+
+  pub kept_still : (kept : List Block) (at : Occ) (bit : ℕ) → IsKeptBit v.lanes kept at bit → IsKeptBit w.lanes kept at bit
+  kept_still kept at bit is = subst (λ n. IsKeptBit n kept at bit) (sym same_lanes) is
+
+  pub kept_before : (kept : List Block) (at : Occ) (bit : ℕ) → IsKeptBit w.lanes kept at bit → IsKeptBit v.lanes kept at bit
+  kept_before kept at bit is = subst (λ n. IsKeptBit n kept at bit) same_lanes is
 
   pub taken_still : (at : Occ) (bit : ℕ) → is_taken (slice_index v.words) v.lanes at bit ≡ true → is_taken (slice_index w.words) w.lanes at bit ≡ true
   taken_still at bit taken = subst (λ (z : View). is_taken (slice_index z.words) z.lanes at bit ≡ true) (sym reclaims.same) taken

@@ -1,6 +1,7 @@
 -- The chunks of a zone, one after another, and then the zone's own word.
-use Rattle.std.proofs.Common.{◌≡◌, ⊎_elim, ℕ, ◌+◌, ◌*◌, ◌/◌, ◌<◌, ◌≤◌, length, slice_index, sym, ap, ◌∙◌, subst, arith}
+use Rattle.std.proofs.Common.{◌≡◌, inl, inr, ⊎_elim, ℕ, ◌+◌, ◌*◌, ◌/◌, ◌<◌, ◌≤◌, true, All, List, length, slice_index, refl, sym, ap, ◌∙◌, subst, arith}
 use Rattle.std.proofs.lemmas.Bool.{cases_lt}
+use Rattle.pm_image.specs.declared.block.Block.{Block}
 use Rattle.pm_layout.specs.declared.shape.Shape.{Shape}
 use Rattle.pm_layout.specs.Layout.{chunk_place, zone_place}
 use Rattle.pm_occupancy.specs.declared.taken.TakenChunks.{TakenChunks}
@@ -11,39 +12,50 @@ use Rattle.pm_view.specs.Blocks.{chunk_of, descriptor_word, zone_of, zone_page}
 use Rattle.pm_view.specs.Founds.{FoundAlone}
 use Rattle.pm_view.specs.Steps.Step.{Load}
 use Rattle.pm_view.specs.View.{View}
-use Rattle.pm_view.specs.Views.{after}
+use Rattle.pm_view.specs.Occupancy.{is_taken}
+use Rattle.pm_view.specs.Views.{after, occ_in}
 use Rattle.pm_world.specs.Heap.{IsOcc}
 use Rattle.pm_world.specs.Lawful.{HasOcc}
-use Rattle.pm_reclaim.specs.Reclaims.{HasReclaimed, IsDescribed, IsReclaimed, IsTold, MayReclaim, Reclaims, zone_in}
-use Rattle.pm_reclaim.proofs.Rest.{reclaimed_from}
-use Rattle.pm_reclaim.proofs.Steps.{may_still, of_pool_before, reclaims_load, reclaims_none, reclaims_then, same_lanes, same_words, taken_still}
+use Rattle.pm_reclaim.specs.KeptBlocks.{IsKeptBit, Keeps}
+use Rattle.pm_reclaim.specs.Reclaims.{HasReclaimed, IsDescribed, IsLeft, IsTold, MayKeep, MayReclaim, Reclaims, TellsLeft, zone_in}
+use Rattle.pm_reclaim.proofs.BlockBits.{kept_reserved}
+use Rattle.pm_reclaim.proofs.Keeping.{keeps_still}
+use Rattle.pm_reclaim.proofs.Rest.{left_from}
+use Rattle.pm_reclaim.proofs.Steps.{kept_still, may_still, of_pool_before, reclaims_load, reclaims_none, reclaims_then, same_lanes, same_words, taken_still}
 
--- what was reclaimed is so still
-pub reclaimed_still : (v w : View) → Reclaims v w → (at : Occ) → IsOcc w.lanes w.zones at → IsReclaimed v at → IsReclaimed w at
-reclaimed_still v w reclaims at of is = reclaimed_from w at reclaims.taken of (λ bit low one. taken_still v w reclaims at bit ((is bit low).0 (reclaims.less at bit one)))
+-- what was left is so still, where the lane keeps the blocks still
+pub left_later : (v w : View) (kept : List Block) → Reclaims v w → All (Keeps w) kept → (at : Occ) → IsOcc w.lanes w.zones at → TellsLeft kept v at (occ_in v at) → TellsLeft kept w at (occ_in w at)
+left_later v w kept reclaims keeps at of is = left_from w kept at reclaims.taken keeps of (λ bit low one. ⊎_elim
+    (λ (taken : is_taken (slice_index v.words) v.lanes at bit ≡ true). inl (taken_still v w reclaims at bit taken))
+    (λ (its : IsKeptBit v.lanes kept at bit). inr (kept_still v w reclaims kept at bit its))
+    ((is bit low).0 (reclaims.less at bit one)))
 
--- the first so many chunks of the zone have nothing of the lane where they are runs, and this is what is taken of them
-pub record IsBehind (w : View) (zone n : ℕ) (taken : TakenChunks) : Type 0 where
-  pub runs : (place : ℕ) → IsOcc w.lanes w.zones (Run place) → zone_of w.lanes (place / 4096) ≡ zone → chunk_of w.lanes (place / 4096) ≤ n → IsReclaimed w (Run place)
+-- the runs among the first so many chunks of a zone
+abbrev pub IsRunAmong : ℕ → ℕ → ℕ → Occ → Type 0
+IsRunAmong lanes zone n at = (place : ℕ) × (at ≡ Run place) × (zone_of lanes (place / 4096) ≡ zone) × (chunk_of lanes (place / 4096) ≤ n)
+
+-- of the first so many chunks of the zone the lane has what it keeps, where they are runs, and this is what is taken of them
+pub record IsBehind (kept : List Block) (w : View) (zone n : ℕ) (taken : TakenChunks) : Type 0 where
+  pub runs : IsLeft kept w (IsRunAmong w.lanes zone n)
   pub tells : TellsChunks (slice_index w.words) w.lanes zone n taken
 
-abbrev pub IsInZone : (View → Type 0) → View → ℕ → ℕ → TakenChunks → Type 0
-IsInZone at v zone n taken = HasReclaimed at v (λ w. IsBehind w zone n taken)
+abbrev pub IsInZone : List Block → (View → Type 0) → View → ℕ → ℕ → TakenChunks → Type 0
+IsInZone kept at v zone n taken = HasReclaimed at v (λ w. IsBehind kept w zone n taken)
 
-pub in_zone_first : (at : View → Type 0) (v : View) (shape : Shape) → MayReclaim v shape → (zone : ℕ) (taken : TakenChunks) → TellsChunks (slice_index v.words) v.lanes zone 0 taken → at v → IsInZone at v zone 0 taken
-in_zone_first at v shape may zone taken tells there = record {
+pub in_zone_first : (kept : List Block) (at : View → Type 0) (v : View) (shape : Shape) → MayKeep v shape kept → (zone : ℕ) (taken : TakenChunks) → TellsChunks (slice_index v.words) v.lanes zone 0 taken → at v → IsInZone kept at v zone 0 taken
+in_zone_first kept at v shape may zone taken tells there = record {
   view = v;
-  reclaims = reclaims_none v may.rests.taken;
+  reclaims = reclaims_none v may.may.rests.taken;
   there = there;
-  holds = record { runs = λ place of here none. absurd (let some = of.1.1 in omega (arith, some, none)); tells = tells };
+  holds = record { runs = record { keeps = may.keeps; left = λ other of here. absurd (let chunk = subst (IsOcc v.lanes v.zones) here.1 of in let some = chunk.1.1 in let none = here.3 in omega (arith, some, none)) }; tells = tells };
 }
 
-module _ (at : View → Type 0) (v : View) (shape : Shape) (may : MayReclaim v shape) (zone : ℕ) (inside : zone < shape.zones) (n : ℕ) (taken : TakenChunks) (so : IsInZone at v zone n taken) where
+module _ (kept : List Block) (at : View → Type 0) (v : View) (shape : Shape) (may : MayKeep v shape kept) (zone : ℕ) (inside : zone < shape.zones) (n : ℕ) (taken : TakenChunks) (so : IsInZone kept at v zone n taken) where
   abbrev pub w : View
   w = so.view
 
   pub may_here : MayReclaim w shape
-  may_here = may_still v w so.reclaims shape may
+  may_here = may_still v w so.reclaims shape may.may
 
   -- ---- one chunk more
 
@@ -74,6 +86,11 @@ module _ (at : View → Type 0) (v : View) (shape : Shape) (may : MayReclaim v s
       may_then : MayReclaim m shape
       may_then = may_still w m descriptor_loaded shape may_here
 
+      keeps_then : All (Keeps m) kept
+      keeps_then =
+          let keeps = so.holds.runs.keeps in
+          keeps_still w m may_here.rests.taken descriptor_loaded kept keeps (λ other bit its. (kept_reserved w may_here.rests.taken kept keeps other bit its).reserved)
+
       there : HasOcc m (Run place)
       there =
           let lanes = may_then.of_shape.lanes in
@@ -81,15 +98,15 @@ module _ (at : View → Type 0) (v : View) (shape : Shape) (may : MayReclaim v s
           let size = may_then.of_shape.size in
           record { of_pool = (omega arith, (omega (arith, lanes), omega (arith, lanes, low)), omega (arith, lanes, zones, inside, low)); inside = omega (arith, size, inside, low) }
 
-      pub chunk_described : IsDescribed m place descriptor
+      pub chunk_described : IsDescribed m shape kept place descriptor
       chunk_described = record {
-        rests = may_then.rests;
+        rests = record { may = may_then; keeps = keeps_then };
         there = there;
         described = ap (λ ws. slice_index ws (descriptor_word m.lanes (place / 4096))) (same_words w m descriptor_loaded)
             ∙ found_by (descriptor_word m.lanes (place / 4096)) (let lanes = may_then.of_shape.lanes in omega (arith, lanes, low));
       }
 
-      pub in_zone_more : (new : View → Type 0) (more : TakenChunks) → TellsChunks (slice_index w.words) w.lanes zone (n + 1) more → HasReclaimed new m (λ u. IsReclaimed u (Run place)) → IsInZone new v zone (n + 1) more
+      pub in_zone_more : (new : View → Type 0) (more : TakenChunks) → TellsChunks (slice_index w.words) w.lanes zone (n + 1) more → HasReclaimed new m (λ u. IsLeft kept u (λ other. other ≡ Run place)) → IsInZone kept new v zone (n + 1) more
       in_zone_more new more tells then =
           let u : View = then.view in
           let on : Reclaims w u = reclaims_then w m u descriptor_loaded then.reclaims in
@@ -99,33 +116,47 @@ module _ (at : View → Type 0) (v : View) (shape : Shape) (may : MayReclaim v s
             reclaims = reclaims_then v w u so.reclaims on;
             there = then.there;
             holds = record {
-              runs = λ other of here few. ⊎_elim
-                  (λ (before : chunk_of u.lanes (other / 4096) < n + 1). reclaimed_still w u on (Run other) of (so.holds.runs other (of_pool_before w u on (Run other) of) (omega (arith, lanes, here)) (omega (arith, lanes, before))))
-                  (λ (last : n + 1 ≤ chunk_of u.lanes (other / 4096)).
-                  let first = of.1.0 in
-                  let whole = of.0 in
-                  let shape_lanes = may_here.of_shape.lanes in
-                  let same : other ≡ place = omega (arith, lanes, shape_lanes, here, few, last, first, whole) in
-                  subst (λ p. IsReclaimed u (Run p)) (sym same) then.holds)
-                  (cases_lt (chunk_of u.lanes (other / 4096)) (n + 1));
+              runs = record { keeps = then.holds.keeps; left = λ other of here. one_more u on then.holds other of here };
               tells = subst (λ k. TellsChunks (slice_index u.words) k zone (n + 1) more) (sym lanes) (subst (λ ws. TellsChunks (slice_index ws) w.lanes zone (n + 1) more) (sym (same_words w u on)) tells);
             };
-          }
+          } where
+            one_more : (u : View) → Reclaims w u → IsLeft kept u (λ other. other ≡ Run place) → (other : Occ) → IsOcc u.lanes u.zones other → IsRunAmong u.lanes zone (n + 1) other → TellsLeft kept u other (occ_in u other)
+            one_more u on last other of here =
+                let lanes = same_lanes w u on in
+                let its : ℕ = here.0 in
+                let chunk : IsOcc u.lanes u.zones (Run its) = subst (IsOcc u.lanes u.zones) here.1 of in
+                ⊎_elim
+                (λ (before : chunk_of u.lanes (its / 4096) < n + 1).
+                left_later w u kept on last.keeps other of (so.holds.runs.left other (of_pool_before w u on other of) (its, here.1, (let zone_is = here.2 in omega (arith, lanes, zone_is)), omega (arith, lanes, before))))
+                (λ (same_chunk : n + 1 ≤ chunk_of u.lanes (its / 4096)).
+                let first = chunk.1.0 in
+                let whole = chunk.0 in
+                let zone_is = here.2 in
+                let few = here.3 in
+                let shape_lanes = may_here.of_shape.lanes in
+                let same : its ≡ place = omega (arith, lanes, shape_lanes, zone_is, few, same_chunk, first, whole) in
+                last.left other of (here.1 ∙ ap Run same))
+                (cases_lt (chunk_of u.lanes (its / 4096)) (n + 1))
 
   -- ---- the zone's own word
 
   module _ (all : 64 ≤ n) (few : shape.zones ≤ 32) where
-    pub zone_told : IsTold w (Zone zone) taken.bits
+    pub zone_told : IsTold w shape kept (Zone zone) taken.bits
     zone_told = record {
-      rests = may_here.rests;
+      rests = record { may = may_here; keeps = so.holds.runs.keeps };
       there = record { of_pool = (let zones = may_here.of_shape.zones in omega (arith, zones, inside)); inside = omega (arith, inside, few) };
       tells = λ bit low. so.holds.tells.below bit (omega (arith, low, all));
     }
 
-    pub zone_reclaimed : (new : View → Type 0) → HasReclaimed new w (λ u. IsReclaimed u (Zone zone)) → HasReclaimed new v (λ u. (other : Occ) → IsOcc u.lanes u.zones other → zone_in u.lanes other ≡ zone → IsReclaimed u other)
-    zone_reclaimed new then = record { view = then.view; reclaims = reclaims_then v w then.view so.reclaims then.reclaims; there = then.there; holds = each } where
-      each : (other : Occ) → IsOcc then.view.lanes then.view.zones other → zone_in then.view.lanes other ≡ zone → IsReclaimed then.view other
+    pub zone_left : (new : View → Type 0) → HasReclaimed new w (λ u. IsLeft kept u (λ other. other ≡ Zone zone)) → HasReclaimed new v (λ u. IsLeft kept u (λ other. zone_in u.lanes other ≡ zone))
+    zone_left new then = record {
+      view = then.view;
+      reclaims = reclaims_then v w then.view so.reclaims then.reclaims;
+      there = then.there;
+      holds = record { keeps = then.holds.keeps; left = each };
+    } where
+      each : (other : Occ) → IsOcc then.view.lanes then.view.zones other → zone_in then.view.lanes other ≡ zone → TellsLeft kept then.view other (occ_in then.view other)
       each (Run place) of here =
           let lanes = same_lanes w then.view then.reclaims in
-          reclaimed_still w then.view then.reclaims (Run place) of (so.holds.runs place (of_pool_before w then.view then.reclaims (Run place) of) (omega (arith, lanes, here)) (omega (arith, all)))
-      each (Zone other) of here = subst (λ z. IsReclaimed then.view (Zone z)) (sym here) then.holds
+          left_later w then.view kept then.reclaims then.holds.keeps (Run place) of (so.holds.runs.left (Run place) (of_pool_before w then.view then.reclaims (Run place) of) (place, refl, omega (arith, lanes, here), omega (arith, all)))
+      each (Zone other) of here = then.holds.left (Zone other) of (ap Zone here)

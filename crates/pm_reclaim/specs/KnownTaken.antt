@@ -21,10 +21,11 @@ IsGiving s = ⊥
 abbrev pub IsKept : View → Occ → ℕ → Type 0
 IsKept v at bit = (reserves v at bit ≡ true) ⊎ (list_any (has_bit at bit) v.freed ≡ true)
 
--- Each bit of the lane's picture of an occupancy word is set exactly where what it is of is taken by its words, or the lane has it; and what it reserved, or
--- freed, is not taken by its words.
+-- Each bit of the lane's picture of an occupancy word is set exactly where what it is of is taken by its words, or the lane has it; what it reserved, or
+-- freed, is not taken by its words; and nothing that it reserved has it freed.
 pub record KnowsTaken (v : View) : Type 0 where
   pub pages : length v.run_words ≡ 1 + 2 * v.lanes + 65 * v.zones
   pub zone_count : length v.zone_words ≡ 32
   pub bits : (at : Occ) (bit : ℕ) → IsOcc v.lanes v.zones at → bit < 64 → (bit_at (occ_in v at) bit ≡ 1) ↔ ((is_taken (slice_index v.words) v.lanes at bit ≡ true) ⊎ (has_taken v at bit ≡ true))
   pub apart : (at : Occ) (bit : ℕ) → IsOcc v.lanes v.zones at → bit < 64 → IsKept v at bit → is_taken (slice_index v.words) v.lanes at bit ≡ false
+  pub once : (at : Occ) (bit : ℕ) → IsOcc v.lanes v.zones at → bit < 64 → reserves v at bit ≡ true → list_any (has_bit at bit) v.freed ≡ false

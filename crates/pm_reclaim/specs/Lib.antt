@@ -1,3 +1,4 @@
 pub mod Reclaims
 pub mod Tests
 pub mod KnownTaken
+pub mod KeptBlocks

@@ -1,6 +1,8 @@
 -- What a lane that is alone gives back behind its call's end, and what it has then: docs/FORMAT.md, "Volatile words".
-use Rattle.std.specs.Prelude.{◌≡◌, ◌≢◌, ◌↔◌, ℕ, ◌/◌, ◌^◌, ◌<◌, true, false, All, List, [], slice_index}
+use Rattle.std.specs.Prelude.{◌≡◌, ◌≢◌, ◌⊎◌, ◌↔◌, ℕ, ◌/◌, ◌^◌, ◌<◌, true, false, All, List, [], slice_index}
 use Rattle.std.specs.Int.{bit_at}
+use Rattle.std.specs.List.{list_any}
+use Rattle.pm_image.specs.declared.block.Block.{Block}
 use Rattle.pm_layout.specs.declared.shape.Shape.{Shape}
 use Rattle.pm_view.specs.declared.occ.Occ.{Occ}
 use Rattle.pm_view.specs.declared.occ.Occ.TheVariants.{Run, Zone}
@@ -12,10 +14,11 @@ use Rattle.pm_view.specs.Occupancy.{is_taken}
 use Rattle.pm_view.specs.Steps.{Step}
 use Rattle.pm_view.specs.Steps.Step.{Load, Occupied, Vacate}
 use Rattle.pm_view.specs.View.{Taken, View}
-use Rattle.pm_view.specs.Views.{occ_in}
+use Rattle.pm_view.specs.Views.{has_bit, occ_in, reserves}
 use Rattle.pm_world.specs.Heap.{IsOcc, has_taken}
 use Rattle.pm_world.specs.Lanes.{IsOfShape}
 use Rattle.pm_world.specs.Lawful.{HasOcc}
+use Rattle.pm_reclaim.specs.KeptBlocks.{IsKeptBit, Keeps}
 use Rattle.pm_reclaim.specs.KnownTaken.{KnowsTaken}
 use Rattle.pm_crash.specs.Leading.{Leads}
 
@@ -73,8 +76,21 @@ TellsTaken v at word = (bit : ℕ) → bit < 64 → (bit_at word bit ≡ 1) ↔ 
 abbrev pub IsReclaimed : View → Occ → Type 0
 IsReclaimed v at = TellsTaken v at (occ_in v at)
 
--- Each occupancy word of the pool has what the words say is taken, and the lane has nothing that it reserved or freed: no bit of it, and so no block that is
--- of the pool.
+-- the word has a bit set exactly where that is so, or the bit is one of the kept blocks'
+abbrev pub TellsLeft : List Block → View → Occ → ℕ → Type 0
+TellsLeft kept v at word = (bit : ℕ) → bit < 64 → (bit_at word bit ≡ 1) ↔ ((is_taken (slice_index v.words) v.lanes at bit ≡ true) ⊎ IsKeptBit v.lanes kept at bit)
+
+-- Each occupancy word of the pool has what the words say is taken and what is of the kept blocks, and no other bit. These blocks the lane reserved, and
+-- has still; it has reserved nothing else of the pool, and has nothing that it freed: no bit of it, and so no block that is of the pool.
+pub record HasLeft (kept : List Block) (w : View) : Type 0 where
+  pub left : (at : Occ) → IsOcc w.lanes w.zones at → TellsLeft kept w at (occ_in w at)
+  pub keeps : All (Keeps w) kept
+  pub reserved : (at : Occ) (bit : ℕ) → IsOcc w.lanes w.zones at → bit < 64 → (reserves w at bit ≡ true) ↔ IsKeptBit w.lanes kept at bit
+  pub no_freed_bit : (at : Occ) (bit : ℕ) → IsOcc w.lanes w.zones at → bit < 64 → list_any (has_bit at bit) w.freed ≡ false
+  pub none_freed : AreOfPool w.lanes w.zones w.freed → w.freed ≡ []
+
+-- Where it keeps none, each occupancy word of the pool has what the words say is taken, and the lane has nothing that it reserved or freed: no bit of it, and
+-- so no block that is of the pool.
 pub record HasNothingLeft (w : View) : Type 0 where
   pub reclaimed : (at : Occ) → IsOcc w.lanes w.zones at → IsReclaimed w at
   pub none_left : (at : Occ) (bit : ℕ) → IsOcc w.lanes w.zones at → bit < 64 → has_taken w at bit ≡ false
@@ -83,17 +99,27 @@ pub record HasNothingLeft (w : View) : Type 0 where
 
 -- ---- on the way
 
--- the lane rests alone, and this word tells what is taken of the occupancy word
-pub record IsTold (v : View) (at : Occ) (taken : ℕ) : Type 0 where
-  pub rests : RestsAlone v
+-- the lane rests alone in a pool of this shape, and keeps these blocks
+pub record MayKeep (v : View) (shape : Shape) (kept : List Block) : Type 0 where
+  pub may : MayReclaim v shape
+  pub keeps : All (Keeps v) kept
+
+-- and this word tells what is taken of the occupancy word
+pub record IsTold (v : View) (shape : Shape) (kept : List Block) (at : Occ) (taken : ℕ) : Type 0 where
+  pub rests : MayKeep v shape kept
   pub there : HasOcc v at
   pub tells : TellsTaken v at taken
 
--- the lane rests alone, and this is the descriptor of the chunk at the place
-pub record IsDescribed (v : View) (place descriptor : ℕ) : Type 0 where
-  pub rests : RestsAlone v
+-- and this is the descriptor of the chunk at the place
+pub record IsDescribed (v : View) (shape : Shape) (kept : List Block) (place descriptor : ℕ) : Type 0 where
+  pub rests : MayKeep v shape kept
   pub there : HasOcc v (Run place)
   pub described : slice_index v.words (descriptor_word v.lanes (place / 4096)) ≡ descriptor
+
+-- the lane keeps the blocks, and has besides them of these occupancy words what is taken
+pub record IsLeft (kept : List Block) (v : View) (these : Occ → Type 0) : Type 0 where
+  pub keeps : All (Keeps v) kept
+  pub left : (at : Occ) → IsOcc v.lanes v.zones at → these at → TellsLeft kept v at (occ_in v at)
 
 -- the zone that an occupancy word is of: the run's, or its own
 abbrev pub zone_in : ℕ → Occ → ℕ

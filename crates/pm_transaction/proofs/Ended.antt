@@ -4,7 +4,7 @@ use Rattle.std.specs.Option.{ForSome}
 use Rattle.pm_lock.specs.Locking.{gives}
 use Rattle.pm_lock.specs.Resting.{IsAtRest}
 use Rattle.pm_reclaim.specs.KnownTaken.{KnowsTaken}
-use Rattle.pm_reclaim.specs.Reclaims.{HasNothingLeft, HasReclaimed, MayReclaim}
+use Rattle.pm_reclaim.specs.Reclaims.{HasLeft, HasReclaimed, MayReclaim}
 use Rattle.pm_tx.specs.Ending.{IsClosedBy}
 use Rattle.pm_view.specs.Founds.{IsAlone}
 use Rattle.pm_view.specs.View.{View}
@@ -22,7 +22,7 @@ module _ {M : Type 0} (at : M → View → Type 0) (before lane : Lane M) (v : V
 
   -- the locks tell nothing of what is taken
   taken_plain : KnowsTaken plain
-  taken_plain = let t = may.taken in record { pages = t.pages; zone_count = t.zone_count; bits = t.bits; apart = t.apart }
+  taken_plain = let t = may.taken in record { pages = t.pages; zone_count = t.zone_count; bits = t.bits; apart = t.apart; once = t.once }
 
   pub may_reclaim : MayReclaim given lane.shape
   may_reclaim = record {
@@ -36,7 +36,7 @@ module _ {M : Type 0} (at : M → View → Type 0) (before lane : Lane M) (v : V
     of_shape = closed.rests.seen.shape;
   }
 
-  module _ (last : M) (reclaimed : HasReclaimed (at last) given HasNothingLeft) where
+  module _ (last : M) (reclaimed : HasReclaimed (at last) given (HasLeft [])) where
     abbrev w : View
     w = reclaimed.view
 

@@ -43,6 +43,7 @@ use Rattle.pm_epoch.proofs.RestingLanes.{begins_again}
 use Rattle.pm_epoch.proofs.StandingPools.{own_fits}
 use Rattle.pm_epoch.specs.Epochs.{HasEnded, RestsBehindCall, ReservesNoRun}
 use Rattle.pm_made.specs.Made.{BlockLists}
+use Rattle.pm_reclaim.proofs.Pools.{nothing_left}
 use Rattle.pm_tx.specs.Ending.{IsAfterCall}
 use Rattle.pm_transaction.proofs.NotMaking.{reserves_no_run}
 use Rattle.pm_transaction.specs.Allocating.{MayAllocate}
@@ -88,7 +89,7 @@ module _ {M : Type 0} (at : M → View → Type 0) (lane : Lane M) (v : View) (l
       let zone : ℕ = c / 64 in
       let bit : ℕ = c % 64 in
       false_from_ne_true (reserves left (Zone zone) bit) (λ reserved.
-      false≢true (sym (ended.left.none_left (Zone zone) bit (omega (arith, in_pool)) (omega arith))
+      false≢true (sym ((nothing_left left ended.left).none_left (Zone zone) bit (omega (arith, in_pool)) (omega arith))
       ∙ or_left (reserves left (Zone zone) bit || has_run_chunk left (Zone zone)) (list_any (has_bit (Zone zone) bit) left.freed) (or_left (reserves left (Zone zone) bit) (has_run_chunk left (Zone zone)) reserved)))
 
 module _ {M : Type 0} (o : Opening) (header : Header) (pool : PoolView) (at : M → View → Type 0) (lane : Lane M) where
@@ -104,7 +105,7 @@ module _ {M : Type 0} (o : Opening) (header : Header) (pool : PoolView) (at : M 
 
     pub ended_begins_again : HasEnded o header pool v → v.zone_locks ≡ [] → BeginsAgain (standing o w) header pool w
     ended_begins_again over unlocked =
-        begins_reclaimed o header pool u w (given_all o header pool locks v ended.ready over) (ap (λ (z : View). z.zone_locks) ended.given ∙ unlocked) (ap (λ (z : View). z.locks) ended.given) ended.reclaims ended.left
+        begins_reclaimed o header pool u w [] (given_all o header pool locks v ended.ready over) (ap (λ (z : View). z.zone_locks) ended.given ∙ unlocked) (ap (λ (z : View). z.locks) ended.given) ended.reclaims ended.left
 
     -- ---- of a lane that works alone still
 
@@ -139,7 +140,7 @@ module _ {M : Type 0} (o : Opening) (header : Header) (pool : PoolView) (at : M 
           let inside = reserved_of_pool o heap w (Zone zone) bit fits_w.blocks has in
           let zones = fits_w.lane.zones in
           let low = reserved_low o heap w (Zone zone) bit fits_w.blocks has in
-          false≢true (sym (ended.left.none_left (Zone zone) bit (omega (arith, inside, zones)) low)
+          false≢true (sym ((nothing_left w ended.left).none_left (Zone zone) bit (omega (arith, inside, zones)) low)
           ∙ or_left (reserves w (Zone zone) bit || has_run_chunk w (Zone zone)) (list_any (has_bit (Zone zone) bit) w.freed) (or_left (reserves w (Zone zone) bit) (has_run_chunk w (Zone zone)) has)))
 
       rests_w : RestsBehindCall w

@@ -3,7 +3,7 @@ use Rattle.std.specs.Prelude.{◌≡◌, [], List}
 use Rattle.pm_lock.specs.Locking.{gives}
 use Rattle.pm_lock.specs.Resting.{IsAtRest}
 use Rattle.pm_reclaim.specs.KnownTaken.{KnowsTaken}
-use Rattle.pm_reclaim.specs.Reclaims.{HasNothingLeft, Reclaims}
+use Rattle.pm_reclaim.specs.Reclaims.{HasLeft, Reclaims}
 use Rattle.pm_tx.specs.Ending.{IsAfterCall}
 use Rattle.pm_view.specs.Founds.{IsAlone}
 use Rattle.pm_view.specs.View.{View}
@@ -30,4 +30,4 @@ pub record HasEndedWith {M : Type 0} (at : M → View → Type 0) (lane : Lane M
   pub view : View
   pub reclaims : Reclaims (unlocked_view v locks) view
   pub rests : IsAtRest at lane view
-  pub left : HasNothingLeft view
+  pub left : HasLeft [] view

@@ -33,7 +33,7 @@ pub fn end<M: LawfulMem>(lane: &mut Lane<M>) -> Result<TxErr, Refusal>
     let is_outermost = lane.level == 1;
     let ended = pm_tx::end(lane);
     if is_outermost && ended.is_ok() {
-        reclaim(&mut lane.memory, lane.shape);
+        reclaim(&mut lane.memory, lane.shape, &[]);
     }
     ended
 }

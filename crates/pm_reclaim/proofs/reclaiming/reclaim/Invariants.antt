@@ -1,8 +1,10 @@
+use Rattle.std.proofs.Common.{All}
 use Rattle.pm_view.specs.View.{View}
+use Rattle.pm_reclaim.specs.KeptBlocks.{Keeps}
 use Rattle.pm_reclaim.specs.Reclaims.{MayReclaim}
 use Rattle.pm_reclaim.proofs.Pools.{IsInPool}
 use Rattle.pm_reclaim.proofs.reclaiming.reclaim.Given as goal
 
--- the words of the first so many zones have nothing of the lane
+-- the words of the first so many zones have of the lane what it keeps
 abbrev pub invariant-loop-zone : goal.invariant-loop-zone
-invariant-loop-zone g l = (v : View) → g.M.LaneMem.at l.fn.mem v → MayReclaim v l.shape → IsInPool (g.M.LaneMem.at l.mem) v l.zone
+invariant-loop-zone g l = (v : View) → g.M.LaneMem.at l.fn.mem v → MayReclaim v l.shape → All (Keeps v) l.kept → IsInPool l.kept (g.M.LaneMem.at l.mem) v l.zone

@@ -1,4 +1,6 @@
 use Rattle.std.proofs.Common.{rules, ◌≡◌, bit_or, List, ℕ, None, length-set, set, slice_index, ap, ◌∙◌, subst, arith}
+use Rattle.std.proofs.lemmas.List.Elements.{All-nil}
+use Rattle.pm_reclaim.specs.KeptBlocks.{Keeps}
 use Rattle.pm_memory.specs.Solo.{Solo}
 use Rattle.pm_view.specs.Occupancy.{IsOccupancy}
 use Rattle.pm_world.proofs.Resting.{sees_first}
@@ -26,4 +28,5 @@ returns c =
       view = freed_view words runs zones 7 shape c.args.freed (search rules) small is;
       sees = sees_freed words runs zones 7 shape c.args.freed (search rules) small is c.with_occupancy.result sees;
       may = may_reclaim_freed words runs zones 7 shape c.args.freed (search rules) small is size;
+      keeps = All-nil (Keeps (freed_view words runs zones 7 shape c.args.freed (search rules) small is));
     }
