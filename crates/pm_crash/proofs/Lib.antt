@@ -128,3 +128,4 @@ pub mod ReservedMore
 pub mod WritesWithin
 pub mod PutOn
 pub mod ReservedWritten
+pub mod ReservedOutside

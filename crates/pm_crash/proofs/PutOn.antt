@@ -43,7 +43,7 @@ use Rattle.pm_crash.proofs.WritesWithin.{other_same, same_words_written, written
 -- ---- the model's transaction
 
 -- the first refusal, by what the checks of the reservation and of its end say
-first_put : Bool → Bool → Option Refusal
+unfoldable pub first_put : Bool → Bool → Option Refusal
 first_put lacks past = option_map (λ (check : Refusal × Bool). check.0) (find (λ (check : Refusal × Bool). check.1) ((refusal.NotReserved, lacks) ∷ (refusal.OutOfRange, past) ∷ []))
 
 put_checks : (tx : Transaction) (id : Oid) (off : ℕ) (bytes : List ℕ) → Works tx

@@ -1,12 +1,12 @@
-ghost use Rattle.std.specs.Prelude.{ℕ, ◌≤◌, List};
+ghost use Rattle.std.specs.Prelude.{ℕ, ◌≤◌, List, Option};
 ghost use Rattle.pm_objects.specs.declared.history.TxErr.TheVariants as error;
 ghost use Rattle.pm_objects.specs.declared.ids.Oid.{Oid};
 ghost use Rattle.pm_objects.specs.declared.refusal.Refusal.{Refusal};
 ghost use Rattle.pm_model.specs.declared.stage.Stage.TheVariants as stage;
 ghost use Rattle.pm_view.specs.View.{View};
 ghost use Rattle.pm_crash.specs.CallBlocks.{NewObject};
-ghost use Rattle.pm_crash.specs.OpenCall.{IsUnderWay};
-ghost use Rattle.pm_crash.specs.Reserving.{HasReserved, RefusesPut, RefusesReserve, ReservesObject, WritesReserved};
+ghost use Rattle.pm_crash.specs.OpenCall.{IsUnderWay, IsWholeCall, MakesItsStep};
+ghost use Rattle.pm_crash.specs.Reserving.{HasReserved, PutsOutside, RefusesPut, RefusesReserve, RefusesReserveOutside, ReservesObject, ReservesOutside, WritesReserved};
 
 /// A law: a call under way goes on where it reserves an object, in a block that is nobody's, and where it writes bytes into what is reserved, be
 /// it by a call before; and so it does where either is refused. What is reserved stands in its block then, with the bytes that it has so far, and
@@ -25,4 +25,12 @@ pub fn a_call_under_way_reserves_objects()
         → IsUnderWay v level stage.Work error.None → RefusesPut v next id off bytes r → IsUnderWay next level stage.Work error.None }
     ensures put_refused_keeps { (v next : View) (id : Oid) (off : ℕ) (bytes : List ℕ) (r : Refusal) → HasReserved v → RefusesPut v next id off bytes r
         → HasReserved next }
+{}
+
+/// A law: outside of a transaction a reservation is a step of the plain model, from each pool that has room for its object; and so are one that is
+/// refused, and bytes that are written into what is reserved, or refused, from any pool. No code runs.
+pub fn a_call_outside_reserves()
+    ensures reserves { (v : View) (n : NewObject) → ReservesOutside v n → MakesItsStep v }
+    ensures refuses { (v : View) (size kind : ℕ) (r : Refusal) → RefusesReserveOutside v size kind r → IsWholeCall v }
+    ensures writes { (v : View) (id : Oid) (off : ℕ) (bytes : List ℕ) (r : Option Refusal) → PutsOutside v id off bytes r → IsWholeCall v }
 {}
