@@ -109,7 +109,7 @@ defer_leaves id p q b = by_test (leb max_actions (pending_count p)) where
   by_test true = refl
   by_test false = refl
 
-pending_leaves : (p q : Pending) (op : Operation) (reply : Option Value) (b : CallBlocks) → IsPendingAnswer p op reply → blocks_behind op reply q b ≡ b
+pub pending_leaves : (p q : Pending) (op : Operation) (reply : Option Value) (b : CallBlocks) → IsPendingAnswer p op reply → blocks_behind op reply q b ≡ b
 pending_leaves p q (SetValue id off value) reply b answer = ap (λ (r : Option Value). blocks_behind (SetValue id off value) r q b) answer ∙ set_leaves id off value p q b
 pending_leaves p q (DeferFree id) reply b answer = ap (λ (r : Option Value). blocks_behind (DeferFree id) r q b) answer ∙ defer_leaves id p q b
 pending_leaves p q Cancel reply b answer = ap (λ (r : Option Value). blocks_behind Cancel r q b) answer
@@ -349,7 +349,7 @@ refused_publish_aborts v next r level some under_way alone reason tells back =
 -- ---- calls that allocated and freed nothing
 
 -- a call on the pending actions alone allocates nothing
-pending_allocates_none : (p q : Pending) (op : Operation) (reply : Option Value) → IsPendingAnswer p op reply → allocated_by op reply q ≡ []
+pub pending_allocates_none : (p q : Pending) (op : Operation) (reply : Option Value) → IsPendingAnswer p op reply → allocated_by op reply q ≡ []
 pending_allocates_none p q (SetValue id off value) reply answer = refl
 pending_allocates_none p q (DeferFree id) reply answer = refl
 pending_allocates_none p q Cancel reply answer = refl

@@ -129,3 +129,5 @@ pub mod WritesWithin
 pub mod PutOn
 pub mod ReservedWritten
 pub mod ReservedOutside
+pub mod ReservedStays
+pub mod BornePuts

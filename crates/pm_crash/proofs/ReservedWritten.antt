@@ -73,7 +73,7 @@ module _ (v next : View) (id : Oid) (off : ℕ) (bytes : List ℕ) (has : HasRes
   same_length = length-put off bytes one.bytes writes.inside
 
   -- it is of its size still, and so is what each of them is to become
-  same_object : (r : Reservation) → Contains rs r → reserved_object (put r) ≡ reserved_object r
+  pub same_object : (r : Reservation) → Contains rs r → reserved_object (put r) ≡ reserved_object r
   same_object r there = ⊎_elim
       (λ (same : r.off ≡ one.off).
       let is : r ≡ one = one_reserved rs r one has.once there writes.has.is_one same in
@@ -111,7 +111,7 @@ module _ (v next : View) (id : Oid) (off : ℕ) (bytes : List ℕ) (has : HasRes
       (cases_eq r.off one.off)
 
   -- each that is reserved then was before
-  was : (r : Reservation) → Contains (pending_in next).reserved r → (s : Reservation) × (Contains rs s × (put s ≡ r))
+  pub was : (r : Reservation) → Contains (pending_in next).reserved r → (s : Reservation) × (Contains rs s × (put s ≡ r))
   was r there = member_made put rs r (subst (λ (xs : List Reservation). Contains xs r) pending_now there)
 
   -- so what holds of each as it is left holds of them all

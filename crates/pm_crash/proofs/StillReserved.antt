@@ -85,7 +85,7 @@ module _ (v next : View) (same : HasSameHeads v next) where
   reserved_still n (inl run) = inl (in_run_still n run)
   reserved_still n (inr has) = inr (in_chunks_still n has)
 
-  same_root : root_in (slice_index next.words) ≡ root_in (slice_index v.words)
+  pub same_root : root_in (slice_index next.words) ≡ root_in (slice_index v.words)
   same_root = ap (λ (x : ℕ). cond (eqb x 0) None (Some x)) same.root
 
   -- behind an operation that allocates nothing, and agrees with the root

@@ -62,7 +62,9 @@ pub use laws::{
     covered_words_have_a_byte, each_write_has_its_words, images_hold_their_pools,
     the_root_is_its_word,
 };
-pub use reserving::{a_call_outside_reserves, a_call_under_way_reserves_objects};
+pub use reserving::{
+    a_call_outside_reserves, a_call_under_way_reserves_objects, what_is_reserved_stays,
+};
 pub use taken::what_is_taken_follows_the_blocks;
 pub use under_way::{
     a_call_under_way_ends, a_call_under_way_frees_objects, a_call_under_way_goes_on,
