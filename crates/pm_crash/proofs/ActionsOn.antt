@@ -3,7 +3,7 @@ use Rattle.std.proofs.Common.{◌≡◌, ◌≢◌, ℕ, ◌+◌, ◌≤◌, ◌
 use Rattle.std.specs.List.{All, Any, list_any}
 use Rattle.std.specs.Option.{option_map}
 use Rattle.std.proofs.lemmas.Bool.{and_left, and_right, cases_eq, false≢true, le-ltb, lt-ltb, ne_eqb, or_from, or_left, or_parts, or_right}
-use Rattle.std.proofs.lemmas.List.{append-nil, length-append, length-map}
+use Rattle.std.proofs.lemmas.List.{length-append, length-map}
 use Rattle.std.proofs.lemmas.List.Elements.{All-nil, All-weaker, Contains-append_left}
 use Rattle.std.proofs.lemmas.List.Folds.{list_any_none, list_any-from_Any}
 use Rattle.pm_header.specs.declared.header.Header.{Header}
@@ -16,87 +16,34 @@ use Rattle.pm_objects.specs.declared.ids.Oid.{Oid}
 use Rattle.pm_objects.specs.declared.pool.PoolView.{PoolView}
 use Rattle.pm_objects.specs.declared.refusal.Refusal.{Refusal}
 use Rattle.pm_objects.specs.declared.refusal.Refusal.TheVariants as refusal
-use Rattle.pm_image.specs.Blocks.{blocks}
-use Rattle.pm_image.specs.Contents.{size_in}
 use Rattle.pm_model.specs.declared.stage.Stage.TheVariants as stage
 use Rattle.pm_model.specs.Actions.{Action, Pending, max_actions, max_entries, none_pending, object_of, offsets_named, only_sets, passes_object, pending_count}
 use Rattle.pm_model.specs.Actions.Action.{SetWord}
 use Rattle.pm_model.specs.Transaction.{Transaction, entries_of, given_over, holds_object, is_gone, is_locked, published}
 use Rattle.pm_model.specs.Bytes.{bytes_of}
 use Rattle.pm_model.specs.Checks.{first_refusal, is_not_held, is_unlocked_action, names_gone}
-use Rattle.pm_model.specs.Answers.{Answers, after_reply, changes_nothing, is_known, refused}
 use Rattle.pm_model.proofs.Alike.{after_refused, stands_plain}
 use Rattle.pm_model.proofs.Asked.{IsPlain, published_plain}
-use Rattle.pm_view.specs.Log.{Recorded}
 use Rattle.pm_view.specs.View.{View}
 use Rattle.pm_crash.specs.CallBlocks.{CallBlocks, IsOldIn, NewObject, TellsOfRoot, allocated_by, blocks_behind, blocks_in, is_at, is_freed_in, is_gone_in, is_made_in, is_new_in, no_blocks}
-use Rattle.pm_crash.specs.Held.{HoldsPool}
 use Rattle.pm_crash.specs.Locks.{AreSameLocks}
 use Rattle.pm_crash.specs.OnActions.{CanSetIn, ChangesPending, HasObjectOf, IsOnGone, IsOnLeft, IsPendingAnswer, IsPublishReasonIn, LacksObjectOf, PassesIn, PublishesIn, defer_refusal, entries_in, set_refusal}
-use Rattle.pm_crash.specs.OpenCall.{IsBefore, call_words, ComesTo, HasMade, IsChanged, IsPerformable, IsOpen, IsUnderWay, TracksBlocks, WasAborted, locks_of, words_recorded}
-use Rattle.pm_crash.specs.Operations.{has_at, IsHeld, IsLeft, IsMade, KeepsLog, KeepsWords, TakesBack, Tells}
+use Rattle.pm_crash.specs.OpenCall.{IsBefore, ComesTo, HasMade, IsPerformable, IsOpen, IsUnderWay, TracksBlocks, WasAborted, locks_of}
+use Rattle.pm_crash.specs.Operations.{has_at, IsHeld, IsLeft, IsMade, TakesBack, Tells}
 use Rattle.pm_crash.specs.Pending.{pending_behind, pending_in, published_by, published_in, sets_in}
-use Rattle.pm_crash.proofs.CallWords.{call_works, locked_member, locks_kept, object_under, same_pool}
+use Rattle.pm_crash.proofs.CallWords.{call_works, locked_member, object_under, same_pool}
 use Rattle.pm_crash.proofs.CallBlocks.{all_tracks_gone, any_map, keeps_on, tracks_new}
-use Rattle.pm_crash.proofs.Continued.{answers_value, known_new, leaves_told, left_changed, left_new, left_tracks, still_under_way, told_has, tracks_more, LeavesBlocks}
+use Rattle.pm_crash.proofs.Continued.{answers_value}
 use Rattle.pm_crash.proofs.FreeChecks.{had_is_held}
 use Rattle.pm_crash.proofs.GivenUp.{aborts_call, refused_answers, IsRefusedFor}
-use Rattle.pm_crash.proofs.KeptWords.{goes_back, keeps_known, same_call_words, same_found}
+use Rattle.pm_crash.proofs.KeptWords.{keeps_known, same_found}
+use Rattle.pm_crash.proofs.MovedOn.{moves_known, moves_none, refused_moves, Moves}
 use Rattle.pm_crash.proofs.NamedObjects.{is_outside, set_is_held, set_is_inside, set_performs, FindsObjects}
 use Rattle.pm_crash.proofs.NewRanges.{new_long}
 use Rattle.pm_crash.proofs.NewStay.{new_there}
 use Rattle.pm_crash.proofs.Passing.{fails_gone, fails_lock, first_of_six, frees_nothing, plain_frees_nothing, six_checks, unhindered, WantsNone, Works}
 
--- ---- operations that move actions, and do nothing else
-
--- a transaction with its actions as the operation leaves them
-abbrev moved_on : Operation → Option Value → Transaction → Transaction
-moved_on op reply tx = record tx { actions = pending_behind op reply tx.actions; moved = tx.moved ++ published_by op reply tx.actions }
-
--- the model's transaction answers so, and goes on by that alone
-record Moves (op : Operation) (reply : Option Value) (tx : Transaction) : Type 0 where
-  answers : Answers tx op reply
-  leaves : after_reply op reply tx ≡ moved_on op reply tx
-
-moves_on : (v next : View) (op : Operation) (reply : Option Value) (level : ℕ) → IsUnderWay v level stage.Work error.None → Tells v next op reply → KeepsLog v next → KeepsWords v next
-    → blocks_behind op reply (pending_in v) (blocks_in v) ≡ blocks_in v
-    → ((w : ℕ → ℕ) (header : Header) (pool : PoolView) → v.pool ≡ header.id → IsBefore v w → (c : ComesTo v w header pool level stage.Work error.None)
-    → Moves op reply c.tx × All (IsPerformable v w) (published_by op reply c.tx.actions))
-    → IsUnderWay next level stage.Work error.None
-moves_on v next op reply level under_way tells logs keeps none moves =
-    let leaves : LeavesBlocks v next = leaves_told v next op reply tells.keeps.entries tells.call none (known_new v next (keeps_known v next keeps) under_way.has.each) in
-    still_under_way v next level level op reply under_way tells
-    (goes_back v next tells.keeps (same_found v next tells.locks) logs (λ i outside none. keeps.words i outside) under_way.outside under_way.under)
-    (told_has v next leaves tells under_way.has)
-    (λ w header pool holds same_id before next_before room c.
-    let how = moves w header pool same_id before c in
-    let moved : after_reply op reply c.tx ≡ moved_on op reply c.tx = how.0.leaves in
-    let same : call_words next w ≡ call_words v w = same_call_words v next logs.records keeps under_way.outside w in
-    record {
-      answers = how.0.answers;
-      base = c.base;
-      holds = subst (λ (f : ℕ → ℕ). HoldsPool f v.lanes v.zones header c.base) (sym same) c.holds;
-      changed = subst (λ (x : Transaction). IsChanged next c.base x.pool) (sym moved) (left_changed v next c.base c.tx.pool leaves c.changed);
-      unfound = λ o new. c.unfound o (sym (left_new v next o leaves) ∙ new);
-      tracks = subst (λ (x : Transaction). TracksBlocks x (blocks_in next)) (sym moved) (tracks_more c.tx (moved_on op reply c.tx) refl refl refl (left_tracks v next c.tx leaves c.tracks));
-      before = ap (λ (x : Transaction). x.before) moved;
-      locks = subst (λ (x : Transaction). AreSameLocks x.locks (locks_of next)) (sym moved) (locks_kept c.tx v next tells.locks c.locks);
-      recorded = ap (λ (x : Transaction). x.recorded) moved ∙ c.recorded ∙ ap words_recorded (sym logs.records);
-      records = ap (λ (x : Transaction). x.records) moved ∙ c.records ∙ ap (λ (rs : List Recorded). length rs) (sym logs.records);
-      levels = ap (λ (x : Transaction). x.level) moved ∙ c.levels;
-      stands = ap (λ (x : Transaction). x.stage) moved;
-      fails = ap (λ (x : Transaction). x.error) moved;
-      moved = ap (λ (x : Transaction). x.moved) moved;
-      performable = how.1;
-      blocks_stay = ap (λ (f : ℕ → ℕ). blocks f v.lanes v.zones) same;
-      sizes_stay = λ block there. ap (λ (f : ℕ → ℕ). size_in f block) same;
-    })
-
 -- ---- on the pending actions alone
-
--- an operation that publishes nothing leaves what was published
-moves_none : (tx : Transaction) (actions : Pending) → record tx { actions = actions } ≡ record tx { actions = actions; moved = tx.moved ++ [] }
-moves_none tx actions = (λ j. let x : Transaction = record tx { actions = actions; moved = sym (append-nil tx.moved) j } in x)
 
 -- the operations that change what is pending, and nothing else
 abbrev pub changes_pending : Operation → Bool
@@ -110,10 +57,6 @@ asks_nothing (SetValue id off value) is = record { no_wants = refl; no_begin = r
 asks_nothing (DeferFree id) is = record { no_wants = refl; no_begin = refl; no_alloc = refl; no_free = refl; no_put = refl }
 asks_nothing Cancel is = record { no_wants = refl; no_begin = refl; no_alloc = refl; no_free = refl; no_put = refl }
 asks_nothing op is = absurd (false≢true is)
-
--- one that is refused leaves all as it was
-refused_moves : (op : Operation) (r : Refusal) (tx : Transaction) → is_known op ≡ true → refused op r tx ≡ moved_on op (Some (Refused r)) tx → changes_nothing r ≡ false → first_refusal unhindered tx op ≡ Some r → Moves op (Some (Refused r)) tx
-refused_moves op r tx known stays traced first = record { answers = refused_answers tx op r known (record { refused_first = first; traced = traced }); leaves = stays }
 
 -- a set-value is refused by the two checks on it
 set_moves : (tx : Transaction) (id : Oid) (off value : ℕ) (reply : Option Value) → Works tx → reply ≡ option_map Refused (set_refusal off tx.actions) → Moves (SetValue id off value) reply tx
@@ -166,7 +109,7 @@ defer_leaves id p q b = by_test (leb max_actions (pending_count p)) where
   by_test true = refl
   by_test false = refl
 
-pending_leaves : (p q : Pending) (op : Operation) (reply : Option Value) (b : CallBlocks) → IsPendingAnswer p op reply → blocks_behind op reply q b ≡ b
+pub pending_leaves : (p q : Pending) (op : Operation) (reply : Option Value) (b : CallBlocks) → IsPendingAnswer p op reply → blocks_behind op reply q b ≡ b
 pending_leaves p q (SetValue id off value) reply b answer = ap (λ (r : Option Value). blocks_behind (SetValue id off value) r q b) answer ∙ set_leaves id off value p q b
 pending_leaves p q (DeferFree id) reply b answer = ap (λ (r : Option Value). blocks_behind (DeferFree id) r q b) answer ∙ defer_leaves id p q b
 pending_leaves p q Cancel reply b answer = ap (λ (r : Option Value). blocks_behind Cancel r q b) answer
@@ -187,8 +130,8 @@ pending_publishes_none p q op reply answer = absurd answer
 
 pub change_goes_on : (v next : View) (op : Operation) (reply : Option Value) (level : ℕ) → 1 ≤ level → IsUnderWay v level stage.Work error.None → ChangesPending v next op reply → IsUnderWay next level stage.Work error.None
 change_goes_on v next op reply level some under_way changes =
-    moves_on v next op reply level under_way changes.tells changes.logs changes.words (pending_leaves (pending_in v) (pending_in v) op reply (blocks_in v) changes.answer)
-    (λ w header pool same_id before c. (
+    moves_known v next op reply level under_way changes.tells changes.logs (keeps_known v next changes.words) (pending_leaves (pending_in v) (pending_in v) op reply (blocks_in v) changes.answer)
+    (λ w header pool holds same_id before room c. (
       pending_moves c.tx op reply (call_works v w header pool level some under_way c) (subst (λ (p : Pending). IsPendingAnswer p op reply) (sym c.actions) changes.answer),
       subst (All (IsPerformable v w)) (sym (pending_publishes_none (pending_in v) c.tx.actions op reply changes.answer)) (All-nil (IsPerformable v w)),
     ))
@@ -385,8 +328,8 @@ module _ (v : View) (w : ℕ → ℕ) (tx : Transaction) (of : Publishes v w tx)
 
 pub publish_goes_on : (v next : View) (level : ℕ) → 1 ≤ level → IsUnderWay v level stage.Work error.None → PublishesIn v next → IsUnderWay next level stage.Work error.None
 publish_goes_on v next level some under_way publishes =
-    moves_on v next Publish None level under_way publishes.tells publishes.logs publishes.words (ap (λ (p : Pending). blocks_behind Publish None p (blocks_in v)) publishes.alone)
-    (λ w header pool same_id before c.
+    moves_known v next Publish None level under_way publishes.tells publishes.logs (keeps_known v next publishes.words) (ap (λ (p : Pending). blocks_behind Publish None p (blocks_in v)) publishes.alone)
+    (λ w header pool holds same_id before room c.
     let of : Publishes v w c.tx = publishes_open v w header pool level some under_way same_id before publishes.alone c in (
       record {
         answers = answers_value c.tx Publish None refl asks_none (stands_plain c.tx Publish (plain v w c.tx of)) (publish_passes v w c.tx of under_way.has publishes.each publishes.room) refl;
@@ -406,7 +349,7 @@ refused_publish_aborts v next r level some under_way alone reason tells back =
 -- ---- calls that allocated and freed nothing
 
 -- a call on the pending actions alone allocates nothing
-pending_allocates_none : (p q : Pending) (op : Operation) (reply : Option Value) → IsPendingAnswer p op reply → allocated_by op reply q ≡ []
+pub pending_allocates_none : (p q : Pending) (op : Operation) (reply : Option Value) → IsPendingAnswer p op reply → allocated_by op reply q ≡ []
 pending_allocates_none p q (SetValue id off value) reply answer = refl
 pending_allocates_none p q (DeferFree id) reply answer = refl
 pending_allocates_none p q Cancel reply answer = refl

@@ -27,13 +27,14 @@ use Rattle.pm_model.specs.Outside.{AnswersOutside, AreNamed, IsDoneOutside, IsVa
 use Rattle.pm_model.specs.Places.{has_place}
 use Rattle.pm_model.specs.Step.{State, with_pending}
 use Rattle.pm_model.specs.Transaction.{resting}
+use Rattle.pm_view.specs.Area.{is_in_area}
 use Rattle.pm_view.specs.Log.{Recorded}
 use Rattle.pm_view.specs.View.{View}
 use Rattle.pm_world.specs.History.{made_final}
 use Rattle.pm_world.specs.Records.{is_recorded}
 use Rattle.pm_crash.specs.Held.{HoldsPool}
 use Rattle.pm_crash.specs.OnActions.{ChangesPendingOutside, HoldsNamed, IsOutsideReason, PublishesOutside, RefusesOutside, defer_refusal, set_refusal}
-use Rattle.pm_crash.specs.OpenCall.{IsBefore, IsWholeCall, call_words, made_words}
+use Rattle.pm_crash.specs.OpenCall.{IsBefore, IsWholeCall, MakesStep, call_words, made_words}
 use Rattle.pm_crash.specs.Pending.{pending_before, pending_behind, sets_before, told_of}
 use Rattle.pm_crash.specs.Performing.{performed}
 use Rattle.pm_crash.proofs.ActionsOn.{changes_pending}
@@ -46,11 +47,11 @@ use Rattle.pm_crash.proofs.Performed.{Performs, performs}
 -- ---- a call of one operation
 
 -- what a call begins from where this is pending
-abbrev outside_with : PoolView → Pending → Outside
+abbrev pub outside_with : PoolView → Pending → Outside
 outside_with pool p = record { pool = pool; actions = p }
 
 -- what the lane's call begins from
-abbrev outside_of : View → PoolView → Outside
+abbrev pub outside_of : View → PoolView → Outside
 outside_of v pool = outside_with pool (pending_before v)
 
 -- the model answers so where this is pending, and the words that the call makes hold what it leaves
@@ -62,28 +63,35 @@ record GoesFrom (v : View) (w : ℕ → ℕ) (header : Header) (pool : PoolView)
 abbrev GoesOutside : View → (ℕ → ℕ) → Header → PoolView → Operation → Option Value → Type 0
 GoesOutside v w header pool op reply = GoesFrom v w header pool (pending_before v) op reply
 
+-- so it makes a step
+step_made : (v : View) (w : ℕ → ℕ) (header : Header) (pool : PoolView) (op : Operation) (reply : Option Value) → v.call ≡ record { operation = op; reply = reply } ∷ [] → GoesOutside v w header pool op reply
+    → MakesStep v w header pool
+step_made v w header pool op reply call how =
+    let next : PoolView = (after_outside op reply (outside_of v pool)).pool in
+    record {
+      next = next;
+      holds = how.holds;
+      steps = λ actions own. inr (record {
+        operation = op;
+        reply = reply;
+        alone = ap (map told_of) call;
+        answers = how.answers;
+        leaves = record {
+          pending = own;
+          leaves = (λ j. let s : State = record { pool = next; actions = with_pending actions v.lane ((pending_first v (record { operation = op; reply = reply }) call ∙ sym how.leaves) j) } in s);
+        };
+      });
+    }
+
+pub none_recorded : (v : View) → v.log.records ≡ [] → (i : ℕ) → is_recorded v.log.records i ≡ true → is_in_area v.lane i ≡ false
+none_recorded v no_records i is = absurd (let clash : false ≡ true = sym (ap (λ (records : List Recorded). is_recorded records i) no_records) ∙ is in cc)
+
 goes_whole : (v : View) (op : Operation) (reply : Option Value) → v.call ≡ record { operation = op; reply = reply } ∷ [] → v.log.records ≡ []
     → ((w : ℕ → ℕ) (header : Header) (pool : PoolView) → HoldsPool w v.lanes v.zones header pool → v.pool ≡ header.id → IsBefore v w → GoesOutside v w header pool op reply)
     → IsWholeCall v
 goes_whole v op reply call no_records goes = record {
-  outside = λ i is. absurd (let clash : false ≡ true = sym (ap (λ (records : List Recorded). is_recorded records i) no_records) ∙ is in cc);
-  makes = λ w header pool holds id before.
-      let how : GoesOutside v w header pool op reply = goes w header pool holds id before in
-      let next : PoolView = (after_outside op reply (outside_of v pool)).pool in
-      record {
-        next = next;
-        holds = how.holds;
-        steps = λ actions own. inr (record {
-          operation = op;
-          reply = reply;
-          alone = ap (map told_of) call;
-          answers = how.answers;
-          leaves = record {
-            pending = own;
-            leaves = (λ j. let s : State = record { pool = next; actions = with_pending actions v.lane ((pending_first v (record { operation = op; reply = reply }) call ∙ sym how.leaves) j) } in s);
-          };
-        });
-      };
+  outside = none_recorded v no_records;
+  makes = λ w header pool holds id before. step_made v w header pool op reply call (goes w header pool holds id before);
 }
 
 -- the first refusal, by what the checks say
@@ -110,30 +118,38 @@ publish_checks : (missing : Bool) (pool : PoolView) (actions : List Action) → 
 unfolding refusal_outside first_outside
 publish_checks missing pool actions = refl
 
--- it answers what it has come to
-answers_outside : (s : Outside) (op : Operation) (reply : Option Value) (missing : Bool) → stands_outside op ≡ true → AreNamed s op → StandsOnceDone (as_resting s) op
-    → refusal_outside (found_missing missing) s op ≡ None → IsValueOutside s op reply → AnswersOutside s op reply
-answers_outside s op reply missing known named stands none value = record {
+-- it answers what it has come to, by what the lane saw
+pub answers_seen : (s : Outside) (op : Operation) (reply : Option Value) (seen : Seen) → stands_outside op ≡ true → AreNamed s op → StandsOnceDone (as_resting s) op
+    → refusal_outside seen s op ≡ None → IsValueOutside s op reply → AnswersOutside s op reply
+answers_seen s op reply seen known named stands none value = record {
   known = known;
-  seen = found_missing missing;
+  seen = seen;
   answer = subst (λ (fr : Option Refusal). MatchOption fr (IsDoneOutside s op reply) (λ r. IsRefusedOutside r reply)) (sym none) (record { there = named; stands = stands; value = value });
 }
 
-refused_outside : (s : Outside) (op : Operation) (missing : Bool) (r : Refusal) → stands_outside op ≡ true → refusal_outside (found_missing missing) s op ≡ Some r → changes_nothing r ≡ false
+pub refused_seen : (s : Outside) (op : Operation) (seen : Seen) (r : Refusal) → stands_outside op ≡ true → refusal_outside seen s op ≡ Some r → changes_nothing r ≡ false
     → AnswersOutside s op (Some (Refused r))
-refused_outside s op missing r known first traced = record {
+refused_seen s op seen r known first traced = record {
   known = known;
-  seen = found_missing missing;
+  seen = seen;
   answer =
       subst (λ (fr : Option Refusal). MatchOption fr (IsDoneOutside s op (Some (Refused r))) (λ (x : Refusal). IsRefusedOutside x (Some (Refused r)))) (sym first) (record { traced = traced; told = refl });
 }
 
+answers_outside : (s : Outside) (op : Operation) (reply : Option Value) (missing : Bool) → stands_outside op ≡ true → AreNamed s op → StandsOnceDone (as_resting s) op
+    → refusal_outside (found_missing missing) s op ≡ None → IsValueOutside s op reply → AnswersOutside s op reply
+answers_outside s op reply missing = answers_seen s op reply (found_missing missing)
+
+refused_outside : (s : Outside) (op : Operation) (missing : Bool) (r : Refusal) → stands_outside op ≡ true → refusal_outside (found_missing missing) s op ≡ Some r → changes_nothing r ≡ false
+    → AnswersOutside s op (Some (Refused r))
+refused_outside s op missing = refused_seen s op (found_missing missing)
+
 -- ---- on the pending actions alone
 
 -- the model answers so, and leaves the pool and what is pending
-record ChangesAlone (pool : PoolView) (p : Pending) (op : Operation) (reply : Option Value) : Type 0 where
-  answers : AnswersOutside (outside_with pool p) op reply
-  leaves : after_outside op reply (outside_with pool p) ≡ outside_with pool (pending_behind op reply p)
+pub record ChangesAlone (pool : PoolView) (p : Pending) (op : Operation) (reply : Option Value) : Type 0 where
+  pub answers : AnswersOutside (outside_with pool p) op reply
+  pub leaves : after_outside op reply (outside_with pool p) ≡ outside_with pool (pending_behind op reply p)
 
 none_named : (pool : PoolView) (p : Pending) (op : Operation) → changes_pending op ≡ true → AreNamed (outside_with pool p) op
 none_named pool p (SetValue id off value) is = All-nil (λ (want : Want). IsSome (object_at pool.objects want.id.off))
@@ -179,21 +195,28 @@ cancel_changes pool p = record {
   leaves = refl;
 }
 
--- so it is a step, where the lane recorded and entered nothing
-changes_whole : (v : View) (op : Operation) (reply : Option Value) → v.call ≡ record { operation = op; reply = reply } ∷ [] → v.log.records ≡ [] → v.log.entries ≡ []
-    → ((w : ℕ → ℕ) (header : Header) (pool : PoolView) → HoldsPool w v.lanes v.zones header pool → v.pool ≡ header.id → IsBefore v w → ChangesAlone pool (pending_before v) op reply)
-    → IsWholeCall v
-changes_whole v op reply call no_records no_entries changes =
-    goes_whole v op reply call no_records
-    (λ w header pool holds id before.
-    let how : ChangesAlone pool (pending_before v) op reply = changes w header pool holds id before in
+-- so it goes, where the lane recorded and entered nothing
+alone_goes : (v : View) (w : ℕ → ℕ) (header : Header) (pool : PoolView) (op : Operation) (reply : Option Value) → v.log.records ≡ [] → v.log.entries ≡ [] → HoldsPool w v.lanes v.zones header pool
+    → ChangesAlone pool (pending_before v) op reply → GoesOutside v w header pool op reply
+alone_goes v w header pool op reply no_records no_entries holds how =
     let same : made_words v w ≡ w = made_unentered v no_entries w ∙ no_call_words v no_records w in
     record {
       answers = how.answers;
       holds =
           subst (λ (s : Outside). HoldsPool (made_words v w) v.lanes v.zones header s.pool) (sym how.leaves) (subst (λ (f : ℕ → ℕ). HoldsPool f v.lanes v.zones header pool) (sym same) holds);
       leaves = ap (λ (s : Outside). s.actions) how.leaves;
-    })
+    }
+
+-- and makes a step
+pub alone_step : (v : View) (w : ℕ → ℕ) (header : Header) (pool : PoolView) (op : Operation) (reply : Option Value) → v.call ≡ record { operation = op; reply = reply } ∷ [] → v.log.records ≡ [] → v.log.entries ≡ []
+    → HoldsPool w v.lanes v.zones header pool → ChangesAlone pool (pending_before v) op reply → MakesStep v w header pool
+alone_step v w header pool op reply call no_records no_entries holds how = step_made v w header pool op reply call (alone_goes v w header pool op reply no_records no_entries holds how)
+
+pub changes_whole : (v : View) (op : Operation) (reply : Option Value) → v.call ≡ record { operation = op; reply = reply } ∷ [] → v.log.records ≡ [] → v.log.entries ≡ []
+    → ((w : ℕ → ℕ) (header : Header) (pool : PoolView) → HoldsPool w v.lanes v.zones header pool → v.pool ≡ header.id → IsBefore v w → ChangesAlone pool (pending_before v) op reply)
+    → IsWholeCall v
+changes_whole v op reply call no_records no_entries changes =
+    goes_whole v op reply call no_records (λ w header pool holds id before. alone_goes v w header pool op reply no_records no_entries holds (changes w header pool holds id before))
 
 pub change_is_step : (v : View) (op : Operation) (reply : Option Value) → ChangesPendingOutside v op reply → IsWholeCall v
 change_is_step v (SetValue id off value) reply changes =

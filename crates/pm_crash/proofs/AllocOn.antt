@@ -1,16 +1,13 @@
 -- A new object that a call makes is the plain model's allocation: no object of the pool, nor one that the call dropped, stands in its way.
-use Rattle.std.proofs.Common.{◌≡◌, ◌≢◌, ◌⊎◌, ⊎_elim, inl, inr, ℕ, zero, suc, ◌+◌, ◌-◌, ◌*◌, ◌<◌, ◌≤◌, ◌||◌, Bool, true, false, cond, eqb, ltb, List, [], ◌∷◌, ◌++◌, drop, get_or, length, map, Option, Some, None, MatchOption, refl, sym, ◌∙◌, ap, subst, arith}
+use Rattle.std.proofs.Common.{◌≡◌, ◌≢◌, ◌⊎◌, ⊎_elim, inl, inr, ℕ, ◌+◌, ◌*◌, ◌≤◌, ◌||◌, Bool, true, false, eqb, ltb, List, [], ◌∷◌, ◌++◌, length, Option, Some, None, MatchOption, refl, sym, ◌∙◌, ap, subst, arith}
 use Rattle.std.specs.List.{All, Contains, find, list_any}
-use Rattle.std.specs.List.Sorted.{IsStrictlyIncreasing}
 use Rattle.std.specs.Option.{option_map}
-use Rattle.std.proofs.lemmas.Bool.{cases_Bool, eq-eqb, eqb-true, false_from_ne_true, false≢true, le-ltb, ne_eqb, or_cases, or_from, or_left, or_parts, or_right}
-use Rattle.std.proofs.lemmas.List.{append-nil, length-map, map-append}
-use Rattle.std.proofs.lemmas.List.Elements.{All-append, All-cons, All-contains, All-head, All-nil, All-tail, Contains-append_left, Contains-append_right, Contains-push, Contains-push_cases}
-use Rattle.std.proofs.lemmas.Option.{same_Some}
+use Rattle.std.proofs.lemmas.Bool.{eq-eqb, eqb-true, false_from_ne_true, false≢true, le-ltb, ne_eqb, or_cases, or_from, or_left, or_parts, or_right}
+use Rattle.std.proofs.lemmas.List.{append-nil, map-append}
+use Rattle.std.proofs.lemmas.List.Elements.{All-contains, All-nil, Contains-append_left, Contains-append_right, Contains-push, Contains-push_cases}
 use Rattle.std.proofs.lemmas.List.Folds.{Any-from_list_any, list_any-append}
 use Rattle.pm_header.specs.declared.header.Header.{Header}
-use Rattle.pm_layout.specs.Sizes.{class_of}
-use Rattle.pm_objects.specs.Pool.{Objects, block_lines, object_at, offsets}
+use Rattle.pm_objects.specs.Pool.{object_at}
 use Rattle.pm_objects.specs.declared.calls.Operation.TheVariants.{Alloc}
 use Rattle.pm_objects.specs.declared.history.TxErr.TheVariants as error
 use Rattle.pm_objects.specs.declared.history.Value.TheVariants.{Offset}
@@ -19,96 +16,31 @@ use Rattle.pm_objects.specs.declared.pool.PoolView.{PoolView}
 use Rattle.pm_objects.specs.declared.refusal.Refusal.{Refusal}
 use Rattle.pm_objects.specs.declared.refusal.Refusal.TheVariants as refusal
 use Rattle.pm_image.specs.Blocks.{blocks}
-use Rattle.pm_image.specs.Contents.{bytes_in, offset_in, size_in}
-use Rattle.pm_image.specs.declared.block.Block.{Block}
-use Rattle.pm_image.proofs.Members.{first_member, later_member}
+use Rattle.pm_image.specs.Contents.{size_in}
 use Rattle.pm_model.specs.declared.stage.Stage.TheVariants as stage
-use Rattle.pm_model.specs.Actions.{Pending, max_entries}
-use Rattle.pm_model.specs.Answers.{Answers, IsBeside, IsBesideReserved, IsDone, IsNewPlace, IsRefused, after_reply}
+use Rattle.pm_model.specs.Actions.{max_entries}
+use Rattle.pm_model.specs.Answers.{Answers, IsBeside, IsDone, IsNewPlace, IsRefused, after_reply}
 use Rattle.pm_model.specs.Bytes.{is_among}
 use Rattle.pm_model.specs.Checks.{first_refusal}
 use Rattle.pm_model.specs.NewObjects.{new_object, with_object}
-use Rattle.pm_model.specs.Places.{CanHold}
 use Rattle.pm_model.specs.Transaction.{entries_of, locked_all}
-use Rattle.pm_model.proofs.Blocks.{has_lines, none_beside}
-use Rattle.pm_model.proofs.Objects.{rising_tail}
+use Rattle.pm_model.proofs.Blocks.{none_beside}
 use Rattle.pm_model.proofs.ObjectsByOffset.{more_elsewhere, more_rise, more_there}
 use Rattle.pm_view.specs.Log.{Recorded}
 use Rattle.pm_view.specs.View.{View, Lock}
 use Rattle.pm_crash.specs.CallBlocks.{CallBlocks, IsMadeIn, MayPrecede, NewObject, allocated_in, block_of, blocks_in, is_at, is_freed_in, is_gone_in, is_made_in, is_new_in, object_made, with_made}
-use Rattle.pm_crash.specs.Held.{HoldsPool, object_of}
+use Rattle.pm_crash.specs.Held.{HoldsPool}
 use Rattle.pm_crash.specs.HeapChanges.{AreDisjoint}
-use Rattle.pm_crash.specs.OpenCall.{ComesTo, HasMade, IsChanged, IsUnderWay, LieApart, TracksBlocks, block_at_line, call_words, place_and_size, words_recorded, IsPerformable}
+use Rattle.pm_crash.specs.OpenCall.{ComesTo, HasMade, IsChanged, IsUnderWay, LieApart, TracksBlocks, block_at_line, call_words, words_recorded, IsPerformable}
 use Rattle.pm_crash.specs.Operations.{AllocatesObject, entries_so_far}
 use Rattle.pm_crash.proofs.CallBlocks.{SameNew, allocated_once_more, blocks_once_more, made_stays, object_stays}
-use Rattle.pm_crash.proofs.CallWords.{as_many_entries, call_works, locks_kept, same_lanes, same_zones}
-use Rattle.pm_crash.proofs.Continued.{known_new, still_under_way, two_same, Continues, GoesBack}
+use Rattle.pm_crash.proofs.CallWords.{as_many_entries, call_works, locks_kept}
+use Rattle.pm_crash.proofs.Continued.{known_new, still_under_way, Continues, GoesBack}
 use Rattle.pm_crash.proofs.KeptWords.{known_goes_back, same_found, same_known_words}
 use Rattle.pm_crash.proofs.ManyObjects.{AreOnce}
-use Rattle.pm_crash.proofs.ObjectsOfBlocks.{block_is_there, object_is_there}
+use Rattle.pm_crash.proofs.NewPlaces.{apart_offsets, beside_all, new_place}
 use Rattle.pm_crash.proofs.OnceMade.{once_more}
 use Rattle.pm_crash.proofs.Passing.{no_tx, no_work, not_busy, not_missing, not_spent, unhindered, Works}
-
--- ---- objects of a list in rising offsets
-
--- each is behind the first
-first_is_least : (a : ℕ) (xs : List ℕ) (k : ℕ) → IsStrictlyIncreasing (a ∷ xs) → k < length xs → a < get_or xs k 0
-first_is_least a [] k rising inside = absurd (omega (arith, inside))
-first_is_least a (x ∷ xs) zero rising inside = rising 0 (omega arith)
-first_is_least a (x ∷ xs) (suc k) rising inside =
-    let first : a < x = rising 0 (omega arith) in
-    let later = first_is_least x xs k (rising_tail a (x ∷ xs) rising) (omega (arith, inside)) in
-    omega (arith, first, later)
-
--- so at its offset each stands
-pub stands_there : (objects : Objects) (k : ℕ) (d : ℕ × Object) → IsStrictlyIncreasing (offsets objects) → k < length objects → object_at objects (get_or objects k d).0 ≡ Some (get_or objects k d).1
-stands_there [] k d rising inside = absurd (omega (arith, inside))
-stands_there (e ∷ es) zero d rising inside = ap (λ (b : Bool). cond b (Some e.1) (object_at es e.0)) (eq-eqb e.0 e.0 refl)
-stands_there (e ∷ es) (suc k) d rising inside =
-    let near : k < length es = omega (arith, inside) in
-    let less = first_is_least e.0 (offsets es) k rising (let long = length-map es (λ (x : ℕ × Object). x.0) in omega (arith, near, long)) in
-    let at : get_or (offsets es) k 0 ≡ (get_or es k d).0 = offset_at es k d near in
-    ap (λ (b : Bool). cond b (Some e.1) (object_at es (get_or es k d).0)) (ne_eqb e.0 (get_or es k d).0 (λ same. omega (arith, same, less, at)))
-    ∙ stands_there es k d (rising_tail e.0 (offsets es) rising) near where
-      offset_at : (xs : Objects) (j : ℕ) (c : ℕ × Object) → j < length xs → get_or (offsets xs) j 0 ≡ (get_or xs j c).0
-      offset_at [] j c low = absurd (omega (arith, low))
-      offset_at (x ∷ xs) zero c low = refl
-      offset_at (x ∷ xs) (suc j) c low = offset_at xs j c (omega (arith, low))
-
--- what all have, the one at an offset has
-pub found_has : (P : ℕ × Object → Type 0) (objects : Objects) (off : ℕ) (object : Object) → All P objects → object_at objects off ≡ Some object → P (off, object)
-found_has P [] off object all is = absurd (let clash : None ≡ Some object = is in cc)
-found_has P (e ∷ es) off object all is = go (eqb e.0 off) refl is (found_has P es off object (All-tail P e es all)) where
-  go : (t : Bool) → eqb e.0 off ≡ t → cond t (Some e.1) (object_at es off) ≡ Some object → (object_at es off ≡ Some object → P (off, object)) → P (off, object)
-  go true here found rest =
-      let same : e.1 ≡ object = cc in
-      subst (λ (o : ℕ). P (o, object)) (eqb-true e.0 off here) (subst (λ (x : Object). P (e.0, x)) same (All-head P e es all))
-  go false other found rest = rest found
-
--- ---- blocks that lie apart
-
-apart_offsets : (n m : NewObject) → 64 ≤ n.off → AreDisjoint (block_of n) (block_of m) → m.off ≢ n.off
-apart_offsets n m behind apart same =
-    let lines = has_lines n.size in let lines_too = has_lines m.size in
-    ⊎_elim
-    (λ (before : n.off - 64 + 64 * block_lines (class_of n.size) ≤ m.off - 64). omega (arith, before, lines, same, behind))
-    (λ (after : m.off - 64 + 64 * block_lines (class_of m.size) ≤ n.off - 64). omega (arith, after, lines_too, same, behind))
-    apart
-
--- an object of so many bytes at the offset lies beside
-beside_place : (n m : NewObject) (entry : ℕ × Object) → AreDisjoint (block_of n) (block_of m) → place_and_size entry ≡ (m.off, m.size) → IsBeside n.size n.off entry
-beside_place n m entry apart same =
-    subst (λ (p : ℕ × ℕ). (n.off - 64 + 64 * block_lines (class_of n.size) ≤ p.0 - 64) ⊎ (p.0 - 64 + 64 * block_lines (class_of p.1) ≤ n.off - 64)) (sym same) apart
-
--- those that the call dropped lie beside where each of these does
-all_beside : (n : NewObject) (dropped : Objects) (news : List NewObject) → map place_and_size dropped ≡ map (λ (m : NewObject). (m.off, m.size)) news
-    → ((m : NewObject) → Contains news m → AreDisjoint (block_of n) (block_of m)) → All (IsBeside n.size n.off) dropped
-all_beside n [] news same apart = All-nil (IsBeside n.size n.off)
-all_beside n (e ∷ es) [] same apart = let long : length (map place_and_size (e ∷ es)) ≡ 0 = ap (λ (xs : List (ℕ × ℕ)). length xs) same in absurd (omega (arith, long))
-all_beside n (e ∷ es) (m ∷ news) same apart =
-    let here : place_and_size e ≡ (m.off, m.size) = ap (λ (xs : List (ℕ × ℕ)). get_or xs 0 (0, 0)) same in
-    let rest : map place_and_size es ≡ map (λ (x : NewObject). (x.off, x.size)) news = ap (drop 1) same in
-    All-cons (IsBeside n.size n.off) e es (beside_place n m e (apart m (first_member m news)) here) (all_beside n es news rest (λ x there. apart x (later_member m news x there)))
 
 -- ---- the allocation
 
@@ -204,56 +136,11 @@ module _ (v next : View) (n : NewObject) (level : ℕ) (some_level : 1 ≤ level
     beside_before : All (IsBeside n.size n.off) pool.objects
     beside_before = All-contains (λ (m : NewObject). All (IsBeside m.size m.off) pool.objects) (allocated_in next) n may.room (subst (λ (ns : List NewObject). Contains ns n) (sym allocated_now) (Contains-push (allocated_in v) n))
 
-    -- nor of what the words hold now
-    beside_base : (off : ℕ) (object : Object) → object_at c.base.objects off ≡ Some object → IsBeside n.size n.off (off, object)
-    beside_base off object is =
-        let found = block_is_there (call_words v w) v.lanes v.zones off header c.base object c.holds is in
-        let was : Contains (blocks w v.lanes v.zones) found.block = subst (λ (bs : List Block). Contains bs found.block) c.blocks_stay found.is_there in
-        let there = object_is_there (call_words v w) v.lanes v.zones header c.base found.block c.holds found.is_there in
-        let before = object_is_there w v.lanes v.zones header pool found.block holds was in
-        let size = c.sizes_stay found.block was in
-        let long : length (bytes_in (call_words v w) found.block) ≡ length (bytes_in w found.block) = let a = there.size in let b = before.size in omega (arith, a, b, size) in
-        let beside : IsBeside n.size n.off (offset_in found.block, object_of w v.lanes v.zones found.block) = found_has (IsBeside n.size n.off) pool.objects (offset_in found.block) (object_of w v.lanes v.zones found.block) beside_before before.found in
-        subst (λ (p : ℕ × ℕ). (n.off - 64 + 64 * block_lines (class_of n.size) ≤ p.0 - 64) ⊎ (p.0 - 64 + 64 * block_lines (class_of p.1) ≤ n.off - 64))
-        (λ j. (sym found.is_offset j, (sym long ∙ ap (λ (x : Object). length x.bytes) (sym found.is_object)) j)) beside
-
-    beside_now : (off : ℕ) (object : Object) → object_at c.tx.pool.objects off ≡ Some object → IsBeside n.size n.off (off, object)
-    beside_now off object is = ⊎_elim
-        (λ (made : is_made_in v off ≡ true).
-        let t = Any-from_list_any (is_at off) (blocks_in v).made made in
-        let there : Contains (blocks_in v).made t.1 = (t.0, t.2, t.3) in
-        let at : t.1.off ≡ off = eqb-true t.1.off off t.4 in
-        let same : Some (object_made v t.1) ≡ Some object = sym (c.changed.new t.1 there) ∙ ap (object_at c.tx.pool.objects) at ∙ is in
-        let is_object : object_made v t.1 ≡ object = same_Some (object_made v t.1) object same in
-        beside_place n t.1 (off, object) (alloc.apart_made t.1 (Contains-append_left (blocks_in v).made (blocks_in v).dropped t.1 there))
-        (λ j. (sym at j, (ap (λ (x : Object). length x.bytes) (sym is_object) ∙ (under_way.has.each t.1 there).long) j)))
-        (λ (not_made : is_made_in v off ≡ false). ⊎_elim
-        (λ (freed : is_freed_in v off ≡ true). absurd (let clash : None ≡ Some object = sym (c.changed.gone off freed) ∙ is in cc))
-        (λ (kept : is_freed_in v off ≡ false). beside_base off object (sym (c.changed.others off not_made kept) ∙ is))
-        (cases_Bool (is_freed_in v off)))
-        (cases_Bool (is_made_in v off))
-
-    beside_all : All (IsBeside n.size n.off) c.tx.pool.objects
-    beside_all k d inside =
-        let e : ℕ × Object = get_or c.tx.pool.objects k d in
-        beside_now e.0 e.1 (stands_there c.tx.pool.objects k d c.changed.rising inside)
-
-    beside_dropped : All (IsBeside n.size n.off) c.tx.dropped
-    beside_dropped = all_beside n c.tx.dropped (blocks_in v).dropped c.tracks.dropped
-        (λ m there. alloc.apart_made m (Contains-append_right (blocks_in v).made (blocks_in v).dropped m there))
-
-    new_place : IsNewPlace c.tx n.size n.off
-    new_place = record {
-      begins = two_same (λ (lanes zones : ℕ). CanHold lanes zones (class_of n.size) n.off) v.lanes c.tx.pool.lanes v.zones c.tx.pool.zones
-          (sym (same_lanes v w header c.base c.tx c.holds c.changed)) (sym (same_zones v w header c.base c.tx c.holds c.changed)) alloc.place;
-      apart = All-append (IsBeside n.size n.off) (c.tx.before.objects ++ c.tx.pool.objects) c.tx.dropped
-          (All-append (IsBeside n.size n.off) c.tx.before.objects c.tx.pool.objects (subst (λ (p : PoolView). All (IsBeside n.size n.off) p.objects) (sym c.before) beside_before) beside_all)
-          beside_dropped;
-      unreserved = subst (λ (p : Pending). All (IsBesideReserved n.size n.off) p.reserved) (sym c.actions) alloc.unreserved;
-    }
+    place : IsNewPlace c.tx n.size n.off
+    place = new_place v n level under_way alloc.apart_made w header pool holds beside_before c alloc.place alloc.unreserved
 
     none_there : object_at c.tx.pool.objects n.off ≡ None
-    none_there = none_beside n.size n.off c.tx.pool.objects beside_all
+    none_there = none_beside n.size n.off c.tx.pool.objects (beside_all v n level under_way alloc.apart_made w header pool holds beside_before c)
 
     none_in_base : object_at c.base.objects n.off ≡ None
     none_in_base = sym (c.changed.others n.off not_made_there alloc.unfreed) ∙ none_there
@@ -293,7 +180,7 @@ module _ (v next : View) (n : NewObject) (level : ℕ) (some_level : 1 ≤ level
     answers : Answers c.tx (Alloc n.size n.kind) (Some (Offset n.off))
     answers =
         let op = Alloc n.size n.kind in
-        let done : IsDone c.tx (Alloc n.size n.kind) (Some (Offset n.off)) = record { there = λ k d inside. absurd (omega (arith, inside)); stands = tt; value = (n.off, new_place, refl) } in
+        let done : IsDone c.tx (Alloc n.size n.kind) (Some (Offset n.off)) = record { there = λ k d inside. absurd (omega (arith, inside)); stands = tt; value = (n.off, place, refl) } in
         record {
           known = refl;
           seen = unhindered;

@@ -28,7 +28,7 @@ use Rattle.pm_model.specs.Transaction.{Transaction, locked_all, resting}
 use Rattle.pm_model.specs.Checks.{objects_named, passes_locks, wants_no_place, takes_first_lock, is_missing, first_refusal}
 use Rattle.pm_model.specs.Answers.{Told as Answered, Answers, IsDone, IsRefused, after}
 use Rattle.pm_view.specs.Log.{Recorded}
-use Rattle.pm_view.specs.View.{Told, View}
+use Rattle.pm_view.specs.View.{View}
 use Rattle.pm_world.specs.Records.{is_recorded}
 use Rattle.pm_crash.proofs.SameLocks.{turned_locks}
 use Rattle.pm_crash.specs.CallBlocks.{CallBlocks, KeepsBlocks, allocated_told, blocks_told, is_at, is_new_in, no_blocks}

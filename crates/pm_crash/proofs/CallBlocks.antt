@@ -1,10 +1,9 @@
 -- What a call allocated and freed behind one operation more, and what stays of it.
 use Rattle.std.proofs.Common.{◌≡◌, ℕ, ◌+◌, ◌*◌, ◌≤◌, ◌||◌, Bool, false, cond, eqb, List, [], ◌∷◌, ◌++◌, length, map, slice_index, Option, Some, refl, sym, ◌∙◌, ap, subst, arith}
-use Rattle.std.specs.List.{All, Contains, filter, flat_map, list_any}
+use Rattle.std.specs.List.{All, Contains, filter, list_any}
 use Rattle.std.proofs.lemmas.Bool.{or_from, or_parts}
 use Rattle.std.proofs.lemmas.Grind.{div_ceil_times}
 use Rattle.std.proofs.lemmas.List.{append_assoc, append-nil}
-use Rattle.std.proofs.lemmas.List.Elements.{All-append, All-cons, All-head, All-nil}
 use Rattle.pm_layout.specs.Sizes.{class_of, lines_for}
 use Rattle.pm_objects.specs.Pool.{block_lines, offsets}
 use Rattle.pm_objects.specs.declared.calls.Operation.{Operation}
@@ -190,7 +189,7 @@ SameNew v next n = (i : ℕ) → ReadsBlock (slice_index v.words) (block_of n) i
 agree : (v next : View) (n : NewObject) → SameNew v next n → AgreeOn (ReadsBlock (slice_index v.words) (block_of n)) (slice_index v.words) (slice_index next.words)
 agree v next n same = record { same = λ i reads. sym (same i reads) }
 
-same_bytes : (v next : View) (n : NewObject) → SameNew v next n → bytes_in (slice_index next.words) (block_of n) ≡ bytes_in (slice_index v.words) (block_of n)
+pub same_bytes : (v next : View) (n : NewObject) → SameNew v next n → bytes_in (slice_index next.words) (block_of n) ≡ bytes_in (slice_index v.words) (block_of n)
 same_bytes v next n same = (contents_local (slice_index v.words) (slice_index next.words) (block_of n) (agree v next n same)).same_bytes
 
 pub object_stays : (v next : View) (n : NewObject) → SameNew v next n → object_made next n ≡ object_made v n

@@ -30,7 +30,7 @@ use Rattle.pm_crash.specs.Locks.{AreSameLocks}
 use Rattle.pm_crash.specs.Held.{HoldsPool}
 use Rattle.pm_crash.specs.OpenCall.{IsBefore, call_words, ComesTo, IsChanged, IsUnderWay, LiesInBlock, TracksBlocks, lock_of, locks_of, block_at_line, made_words}
 use Rattle.pm_crash.specs.Operations.{IsHeld, entries_so_far}
-use Rattle.pm_crash.specs.Pending.{published_in, pending_in}
+use Rattle.pm_crash.specs.Pending.{published_in}
 use Rattle.pm_crash.proofs.Covered.{covered_has_byte}
 use Rattle.pm_crash.proofs.Apart.{lines_of_block}
 use Rattle.pm_crash.proofs.ObjectsOfBlocks.{object_is_there}

@@ -41,7 +41,7 @@ use Rattle.pm_crash.proofs.Continued.{answers_done, known_new, leaves_told, left
 use Rattle.pm_crash.proofs.KeptWords.{before_back, keeps_known, outside_kept, same_call_words, same_found}
 use Rattle.pm_crash.proofs.KeptHeads.{reads_back}
 use Rattle.pm_crash.proofs.NewStay.{lies_still, new_is_listed, new_there, news_in}
-use Rattle.pm_crash.proofs.NewWrites.{room_apart}
+use Rattle.pm_crash.proofs.WritesWithin.{room_apart}
 use Rattle.pm_crash.proofs.ObjectsOfBlocks.{object_is_there, objects_rise}
 use Rattle.pm_crash.proofs.Passing.{AsksNoLock, Works, passes_all}
 use Rattle.pm_crash.proofs.PendingOn.{pending_once_more, published_once_more, same_before}

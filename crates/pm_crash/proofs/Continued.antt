@@ -33,7 +33,7 @@ use Rattle.pm_crash.specs.Locks.{AreSameLocks}
 use Rattle.pm_crash.specs.Held.{HoldsPool}
 use Rattle.pm_crash.specs.OpenCall.{IsBefore, call_words, ComesTo, IsChanged, HasMade, IsPerformable, IsUnderWay, LieApart, RecordsUnder, RunsTo, TracksBlocks, locks_of, place_and_size, words_recorded}
 use Rattle.pm_crash.specs.Operations.{KeepsKnown, KeepsLane, Tells}
-use Rattle.pm_crash.proofs.Passing.{unhindered, wants_none, AsksNoLock, WantsNone, Works}
+use Rattle.pm_crash.proofs.Passing.{unhindered, wants_none, AsksNoLock, WantsNone}
 use Rattle.pm_crash.specs.Pending.{pending_before, pending_behind, pending_in, published_by, published_in, told_in, told_of}
 use Rattle.pm_crash.proofs.NewStay.{news_in, news_stay, performable_still}
 use Rattle.pm_crash.proofs.PendingOn.{after_pending, pending_once_more, published_once_more, same_before}

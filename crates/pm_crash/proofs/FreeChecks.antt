@@ -31,7 +31,7 @@ use Rattle.pm_crash.specs.Held.{HoldsPool}
 use Rattle.pm_crash.specs.OpenCall.{ComesTo, IsUnderBlock, IsUnderWay, TracksBlocks, call_words, locks_of}
 use Rattle.pm_crash.specs.Locks.{AreSameLocks}
 use Rattle.pm_crash.specs.Operations.{has_at}
-use Rattle.pm_crash.proofs.AllocOn.{stands_there}
+use Rattle.pm_crash.proofs.NewPlaces.{stands_there}
 use Rattle.pm_crash.proofs.CallBlocks.{any_map, tracks_new}
 use Rattle.pm_crash.proofs.CallWords.{chunk_is_behind, other_call_word}
 use Rattle.pm_crash.proofs.ObjectsOfBlocks.{block_is_there}

@@ -18,7 +18,7 @@ use Rattle.pm_image.proofs.Members.{member_cases, no_member}
 use Rattle.pm_model.specs.declared.stage.Stage.TheVariants as stage
 use Rattle.pm_model.specs.Transaction.{Transaction, aborted, holds_object, is_gone, is_locked, is_new, is_working, resting}
 use Rattle.pm_model.specs.Bytes.{bytes_of, is_among, new_words, records_of}
-use Rattle.pm_model.specs.Actions.{Action, Pending, passes_object}
+use Rattle.pm_model.specs.Actions.{Pending, passes_object}
 use Rattle.pm_model.specs.Checks.{Range, range_of, is_publish, is_unlocked_action, frees_unlocked, is_record, is_write, needs_write, is_lock_missing, is_not_held, is_not_locked, names_gone, objects_named, passes_end_of, passes_end, publishes_past_end, has_unrecorded, is_not_added, overfills, passes_log, first_refusal, words_in}
 use Rattle.pm_model.specs.Answers.{Told as Answered, Answers, IsDone, IsRefused, after_reply, changes_nothing, error_for, is_known}
 use Rattle.pm_model.specs.Step.{RunsFrom, State, with_pending}

@@ -38,6 +38,7 @@ pub mod Begun
 pub mod Levels
 pub mod RefusedBegin
 pub mod OnceMade
+pub mod NewPlaces
 pub mod AllocOn
 pub mod FreeChecks
 pub mod FreeOn
@@ -119,3 +120,14 @@ pub mod Unseen
 pub mod PublishedInTurn
 pub mod ManyObjects
 pub mod PublishedCopy
+pub mod MovedOn
+pub mod ReserveOn
+pub mod ReservedOn
+pub mod ReservedOnce
+pub mod ReservedMore
+pub mod WritesWithin
+pub mod PutOn
+pub mod ReservedWritten
+pub mod ReservedOutside
+pub mod ReservedStays
+pub mod BornePuts

@@ -98,7 +98,7 @@ new_there v n there = ⊎_elim
     (λ (dropped : Contains (blocks_in v).dropped n). or_right (list_any (is_at n.off) (blocks_in v).made) (list_any (is_at n.off) (blocks_in v).dropped) (list_any-from_Any (is_at n.off) (blocks_in v).dropped (dropped.0, n, dropped.1, dropped.2, eq-eqb n.off n.off (λ i. n.off))))
     (Contains-append_cases (blocks_in v).made (blocks_in v).dropped n there)
 
-before_free : (off : ℕ) (b : CallBlocks) (n : NewObject) → Contains (news_in (with_freed off b)) n → Contains (news_in b) n
+pub before_free : (off : ℕ) (b : CallBlocks) (n : NewObject) → Contains (news_in (with_freed off b)) n → Contains (news_in b) n
 before_free off b n = by (list_any (is_at off) b.made) where
   by : (made : Bool) → Contains (news_in (cond made (record b { made = filter (λ m. not (is_at off m)) b.made; dropped = b.dropped ++ filter (is_at off) b.made }) (record b { freed = b.freed ++ off ∷ [] }))) n → Contains (news_in b) n
   by true there = ⊎_elim
@@ -110,7 +110,7 @@ before_free off b n = by (list_any (is_at off) b.made) where
       (Contains-append_cases (filter (λ m. not (is_at off m)) b.made) (b.dropped ++ filter (is_at off) b.made) n there)
   by false there = there
 
-before_made : (new : NewObject) (b : CallBlocks) (n : NewObject) → Contains (news_in (with_made new b)) n → Contains (news_in b) n ⊎ Contains (new ∷ []) n
+pub before_made : (new : NewObject) (b : CallBlocks) (n : NewObject) → Contains (news_in (with_made new b)) n → Contains (news_in b) n ⊎ Contains (new ∷ []) n
 before_made new b n there =
     ⊎_elim
     (λ (now : Contains (b.made ++ new ∷ []) n). ⊎_elim

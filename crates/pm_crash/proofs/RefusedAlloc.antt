@@ -25,11 +25,11 @@ use Rattle.pm_crash.proofs.KeptWords.{same_found}
 use Rattle.pm_crash.proofs.Passing.{no_tx, no_work, not_busy, not_spent, Works}
 
 -- what the lane saw of free blocks
-abbrev saw_full : Bool → Seen
+abbrev pub saw_full : Bool → Seen
 saw_full full = record { spent = false; busy = false; missing = false; full = full }
 
 -- the first refusal of an allocation, by what the checks of its size, of room and of free blocks say
-first_of_three : Bool → Bool → Bool → Option Refusal
+unfoldable pub first_of_three : Bool → Bool → Bool → Option Refusal
 first_of_three sized roomless full = option_map (λ (check : Refusal × Bool). check.0) (find (λ (check : Refusal × Bool). check.1)
     ((refusal.BadSize, sized) ∷ (refusal.ActionsFull, roomless) ∷ (refusal.NoSpace, full) ∷ []))
 
@@ -65,7 +65,7 @@ record IsAllocRefused (tx : Transaction) (size kind : ℕ) (r : Refusal) : Type 
   refused_first : first_refusal (saw_full full) tx (Alloc size kind) ≡ Some r
   traced : changes_nothing r ≡ false
 
-sized_well : (size : ℕ) → 1 ≤ size → size ≤ 262080 → (eqb size 0 || ltb 262080 size) ≡ false
+pub sized_well : (size : ℕ) → 1 ≤ size → size ≤ 262080 → (eqb size 0 || ltb 262080 size) ≡ false
 sized_well size some most = or_from (eqb size 0) (ltb 262080 size) (ne_eqb size 0 (λ none. omega (arith, some, none))) (le-ltb 262080 size most)
 
 module _ (v : View) (w : ℕ → ℕ) (header : Header) (pool : PoolView) (level size kind : ℕ) (some_level : 1 ≤ level) (under_way : IsUnderWay v level stage.Work error.None) (c : ComesTo v w header pool level stage.Work error.None) where

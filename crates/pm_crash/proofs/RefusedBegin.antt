@@ -17,7 +17,7 @@ use Rattle.pm_model.specs.Checks.{Seen, finds_no_work, names_gone, objects_named
 use Rattle.pm_model.specs.Answers.{Told as Answered, Answers, IsDone, IsRefused, after, after_reply, changes_nothing}
 use Rattle.pm_model.proofs.Alike.{after_refused}
 use Rattle.pm_view.specs.Log.{Recorded}
-use Rattle.pm_view.specs.View.{Told, View}
+use Rattle.pm_view.specs.View.{View}
 use Rattle.pm_world.specs.Records.{is_recorded}
 use Rattle.pm_crash.proofs.SameLocks.{same_locks, wanted_alike}
 use Rattle.pm_crash.specs.CallBlocks.{IsOldIn, allocated_told}

@@ -1,5 +1,5 @@
 -- What a lane reserved for objects it has for them still, and what it has bears out what its call told, where it reserved the same and no word changed that tells of it.
-use Rattle.std.proofs.Common.{◌≡◌, false, inl, inr, ℕ, ◌+◌, ◌*◌, ◌<◌, cond, eqb, List, [], ◌∷◌, ◌++◌, map, slice_index, Option, Some, None, sym, ◌∙◌, ap, subst, arith}
+use Rattle.std.proofs.Common.{◌≡◌, inl, inr, ℕ, ◌+◌, ◌*◌, ◌<◌, cond, eqb, [], ◌∷◌, ◌++◌, map, slice_index, Option, Some, None, sym, ◌∙◌, ap, subst, arith}
 use Rattle.std.specs.List.{All, Contains, list_any}
 use Rattle.std.proofs.lemmas.Bool.{false≢true}
 use Rattle.std.proofs.lemmas.List.{append-nil}
@@ -91,7 +91,7 @@ module _ (v next : View) (same : HasSameHeads v next) where
   reserved_still n (inl run) = inl (in_run_still n run)
   reserved_still n (inr has) = inr (in_chunks_still n has)
 
-  same_root : root_in (slice_index next.words) ≡ root_in (slice_index v.words)
+  pub same_root : root_in (slice_index next.words) ≡ root_in (slice_index v.words)
   same_root = ap (λ (x : ℕ). cond (eqb x 0) None (Some x)) same.root
 
   -- behind an operation that allocates nothing, and agrees with the root

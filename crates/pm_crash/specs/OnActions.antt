@@ -1,5 +1,5 @@
 -- What a lane's view shows of a call on pending actions, inside of a transaction and outside.
-use Rattle.std.specs.Prelude.{◌≡◌, ◌⊎◌, ℕ, ◌+◌, ◌%◌, ◌==◌, ◌<◌, ◌≤◌, not, nat_le, false, true, All, if◌then◌else◌, List, [], ◌∷◌, length, map, option_map, Option, Some, None}
+use Rattle.std.specs.Prelude.{◌≡◌, ◌⊎◌, ℕ, ◌+◌, ◌%◌, ◌==◌, ◌<◌, ◌≤◌, not, nat_le, false, true, All, if◌then◌else◌, [], ◌∷◌, length, map, option_map, Option, Some, None}
 use Rattle.std.specs.List.{Any}
 use Rattle.pm_objects.specs.declared.calls.Operation.{Operation}
 use Rattle.pm_objects.specs.declared.calls.Operation.TheVariants.{Cancel, DeferFree, Publish, SetValue}

@@ -10,6 +10,7 @@ use Rattle.pm_objects.specs.declared.refusal.Refusal.{Refusal}
 use Rattle.pm_objects.specs.declared.refusal.Refusal.TheVariants as refusal
 use Rattle.pm_image.specs.declared.block.Block.{Block}
 use Rattle.pm_image.specs.Contents.{bytes_in}
+use Rattle.pm_image.specs.Reads.{ReadsBlock}
 use Rattle.pm_model.specs.Actions.{Pending, Reservation, bytes_reserved, is_reserved, max_actions, pending_count}
 use Rattle.pm_model.specs.Answers.{IsBesideReserved}
 use Rattle.pm_model.specs.NewObjects.{new_object}
@@ -33,6 +34,10 @@ pub record StandsReserved (v : View) (r : Reservation) : Type 0 where
   pub made : IsMadeIn v (reserved_object r)
   pub bytes : bytes_in (slice_index v.words) (block_reserved r) ≡ r.bytes
 
+-- the block of none of it overlaps one that the lane found under a lock
+abbrev pub ReservedLieApart : View → Type 0
+ReservedLieApart v = (r : Reservation) (l : Lock) (lines : ℕ) → Contains (pending_in v).reserved r → Contains v.locks l → l.block ≡ Some lines → AreDisjoint (block_reserved r) (block_at_line l.line lines)
+
 -- What the lane has reserved stands so, once at an offset. Its block lies apart from those of what else is reserved, of what the open call made, whether it freed
 -- that again or not, and of what it found under its locks; and nothing that the call freed was there.
 pub record HasReserved (v : View) : Type 0 where
@@ -40,7 +45,7 @@ pub record HasReserved (v : View) : Type 0 where
   pub once : IsDistinct nat_eq (map (λ (r : Reservation). r.off) (pending_in v).reserved)
   pub apart : (r s : Reservation) → Contains (pending_in v).reserved r → Contains (pending_in v).reserved s → r.off ≢ s.off → AreDisjoint (block_reserved r) (block_reserved s)
   pub apart_made : (r : Reservation) (m : NewObject) → Contains (pending_in v).reserved r → Contains ((blocks_in v).made ++ (blocks_in v).dropped) m → AreDisjoint (block_reserved r) (block_of m)
-  pub apart_found : (r : Reservation) (l : Lock) (lines : ℕ) → Contains (pending_in v).reserved r → Contains v.locks l → l.block ≡ Some lines → AreDisjoint (block_reserved r) (block_at_line l.line lines)
+  pub apart_found : ReservedLieApart v
   pub unfreed : (r : Reservation) → Contains (pending_in v).reserved r → is_freed_in v r.off ≡ false
 
 -- ---- in a transaction
@@ -132,3 +137,17 @@ pub record PutsOutside (v : View) (id : Oid) (off : ℕ) (bytes : List ℕ) (r :
   pub no_records : v.log.records ≡ []
   pub no_entries : v.log.entries ≡ []
   pub answer : r ≡ put_refusal v.pool (pending_before v) id off (length bytes)
+
+-- ---- between two calls
+
+-- the lane's call drew its number and is over: it holds no lock more than it did, knows what it knew, and no word of what is reserved changed
+pub record RestsBehind (v next : View) : Type 0 where
+  pub lanes : next.lanes ≡ v.lanes
+  pub zones : next.zones ≡ v.zones
+  pub lane : next.lane ≡ v.lane
+  pub known : (i : ℕ) → Contains v.known i → Contains next.known i
+  pub number : ℕ
+  pub entries : next.entries ≡ v.entries ++ record { number = number; call = v.call } ∷ []
+  pub call : next.call ≡ []
+  pub locks : (l : Lock) → Contains next.locks l → Contains v.locks l
+  pub words : (r : Reservation) (i : ℕ) → Contains (pending_in v).reserved r → ReadsBlock (slice_index v.words) (block_reserved r) i → slice_index next.words i ≡ slice_index v.words i

@@ -17,6 +17,7 @@ mod course;
 mod heap;
 mod histories;
 mod laws;
+mod reserving;
 mod taken;
 mod under_way;
 
@@ -60,6 +61,9 @@ pub use laws::{
     a_read_finds_the_bytes, a_write_changes_one_object, an_object_has_words_of_its_own,
     covered_words_have_a_byte, each_write_has_its_words, images_hold_their_pools,
     the_root_is_its_word,
+};
+pub use reserving::{
+    a_call_outside_reserves, a_call_under_way_reserves_objects, what_is_reserved_stays,
 };
 pub use taken::what_is_taken_follows_the_blocks;
 pub use under_way::{
