@@ -1,5 +1,5 @@
 -- What a lane reserved for objects it has for them still, and what it has bears out what its call told, where it reserved the same and no word changed that tells of it.
-use Rattle.std.proofs.Common.{◌≡◌, inl, inr, ℕ, ◌+◌, ◌*◌, ◌<◌, cond, eqb, [], ◌∷◌, ◌++◌, map, slice_index, Option, Some, None, sym, ◌∙◌, ap, subst, arith}
+use Rattle.std.proofs.Common.{◌≡◌, inl, inr, ℕ, ◌+◌, ◌*◌, ◌<◌, cond, eqb, [], ◌∷◌, ◌++◌, map, List, slice_index, Option, Some, None, sym, ◌∙◌, ap, subst, arith}
 use Rattle.std.specs.List.{All, Contains, list_any}
 use Rattle.std.proofs.lemmas.Bool.{false≢true}
 use Rattle.std.proofs.lemmas.List.{append-nil}
