@@ -11,7 +11,7 @@ use Rattle.pm_crash.proofs.CallBlocks.{blocks_once_more}
 use Rattle.pm_crash.specs.Pending.{pending_in, published_by, published_in}
 use Rattle.pm_crash.proofs.PendingOn.{published_once_more}
 use Rattle.pm_memory.specs.Solo.{Sees, Solo}
-use Rattle.pm_model.specs.Actions.{Action}
+use Rattle.pm_model.specs.Actions.{Action, Pending, pending_count}
 use Rattle.pm_objects.specs.declared.calls.Operation.{Operation}
 use Rattle.pm_objects.specs.declared.calls.Operation.TheVariants as operation
 use Rattle.pm_objects.specs.declared.history.Value.{Value}
@@ -71,17 +71,17 @@ use Rattle.pm_exec.proofs.QuietSlots.{IsCalm}
 use Rattle.pm_exec.proofs.UndrawnSteps.{IsUndrawn, undrawn_steps}
 
 -- behind a call on what is pending that publishes nothing of it, and makes and frees nothing, the log that is due is the same
-due_still : (v w : View) (op : Operation) (reply : Option Value) → w.entries ≡ v.entries → w.call ≡ v.call ++ record { operation = op; reply = reply } ∷ [] → ((actions : List Action) → published_by op reply actions ≡ [])
-    → blocks_behind op reply (blocks_in v) ≡ blocks_in v → log_due w ≡ log_due v
+due_still : (v w : View) (op : Operation) (reply : Option Value) → w.entries ≡ v.entries → w.call ≡ v.call ++ record { operation = op; reply = reply } ∷ [] → ((p : Pending) → published_by op reply p ≡ [])
+    → blocks_behind op reply (pending_in v) (blocks_in v) ≡ blocks_in v → log_due w ≡ log_due v
 due_still v w op reply entries call publishes_none keeps_blocks =
     let actions = ap length (published_once_more v w op reply entries call ∙ ap (λ (more : List Action). published_in v ++ more) (publishes_none (pending_in v)) ∙ append-nil (published_in v)) in
-    let news = ap (λ (b : CallBlocks). length b.made + length b.freed) (blocks_once_more v w op reply call ∙ keeps_blocks) in
+    let news = ap (λ (b : CallBlocks). length b.made + length b.freed) (blocks_once_more v w op reply entries call ∙ keeps_blocks) in
     ap logs_of (omega (arith, actions, news))
 
 -- what a set is not refused for
-pub set_taken : (off : ℕ) (actions : List Action) → None ≡ set_refusal off actions → off % 8 ≡ 0
-set_taken off actions taken = at (eqb (off % 8) 0) refl taken where
-  at : (b : Bool) → eqb (off % 8) 0 ≡ b → None ≡ cond (not b) (Some refusal.Unaligned) (cond (leb 63 (length actions)) (Some refusal.ActionsFull) None) → off % 8 ≡ 0
+pub set_taken : (off : ℕ) (p : Pending) → None ≡ set_refusal off p → off % 8 ≡ 0
+set_taken off p taken = at (eqb (off % 8) 0) refl taken where
+  at : (b : Bool) → eqb (off % 8) 0 ≡ b → None ≡ cond (not b) (Some refusal.Unaligned) (cond (leb 63 (pending_count p)) (Some refusal.ActionsFull) None) → off % 8 ≡ 0
   at true is taken = eqb-true (off % 8) 0 is
   at false is taken = absurd cc
 
@@ -138,7 +138,7 @@ module _ (o : Opening) (first : View) (lane : Lane Solo) (blocks : BlockLists) (
     set_made : (r : Option Refusal) → IsLineMade names said.operation v (w r)
     set_made r = subst (λ (x : ScriptOp). IsLineMade names x v (w r)) (sym is) (record { led = tell_led asks (option_map Refused r) v may; undrawn = refl })
 
-    set_blocks : (r : Option Refusal) → blocks_behind asks (option_map Refused r) (blocks_in v) ≡ blocks_in v
+    set_blocks : (r : Option Refusal) → blocks_behind asks (option_map Refused r) (pending_in v) (blocks_in v) ≡ blocks_in v
     set_blocks None = refl
     set_blocks (Some why) = refl
 
@@ -167,7 +167,7 @@ module _ (o : Opening) (first : View) (lane : Lane Solo) (blocks : BlockLists) (
         let steps : Sequence = tells asks (option_map Refused r) in
         let t = tell_ready asks (option_map Refused r) v may in
         let same = told_view asks (option_map Refused r) v in
-        let due = due_still v (w r) asks (option_map Refused r) refl refl (λ pending. refl) (set_blocks r) in
+        let due = due_still v (w r) asks (option_map Refused r) refl refl (λ p. refl) (set_blocks r) in
         let stored = tell_stores asks (option_map Refused r) v in
         at_next_with o first lane blocks actions names front values a 0 v (looks_none v) new steps (only_one IsWork (Tell asks (option_map Refused r)) tt v (lane_u o first lane blocks actions names front values a 0 v (looks_none v)))
         (only_one IsUndrawn (Tell asks (option_map Refused r)) tt v (lane_u o first lane blocks actions names front values a 0 v (looks_none v))) said blocks left t.0 t.1

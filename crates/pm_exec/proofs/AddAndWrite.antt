@@ -191,7 +191,7 @@ module _ (o : Opening) (first : View) (lane : Lane Solo) (blocks : BlockLists) (
         (λ i under. h.added.keeps.words i (under_outside i under u.lane lane_is) ∙ (words_u o first lane blocks actions names front values a n u t.looks i under ∙ sym (adds_none (slice_index o.words) i)))
         values (gave_nothing names front said a.view.call told_add values a.told refl a.gave)
         (subst (λ (x : ScriptOp). IsLineMade names x a.view (after_all u (adds u))) (sym is) (inl (record { start = u; free = free_u o first lane blocks actions names front values a n u t.looks; is = ap (after_all u) (adds_here n u t.looks) })))
-        (let grown = added_count u (after_all u (adds u)) place off len h.added in let stored = add_stored u in let good = add_good in omega (arith, grown, stored, good)) (λ pending. refl) (λ pending. refl) (λ b. refl)
+        (let grown = added_count u (after_all u (adds u)) place off len h.added in let stored = add_stored u in let good = add_good in omega (arith, grown, stored, good)) (λ p. refl) (λ p. refl) (λ p b. refl)
 
     -- of one that it made, which makes no memory call
     pub add_new_done : IsMade a.view place → HasAddedNew o Sees new blocks a.view place off len → new.level ≡ 1 → new.locks ≡ lane.locks → IsAtLine o first new blocks actions names (front ++ said ∷ []) values
@@ -209,7 +209,7 @@ module _ (o : Opening) (first : View) (lane : Lane Solo) (blocks : BlockLists) (
         (λ i under. h.added.keeps.words i (under_outside i under v.lane lane_is) ∙ (a.words i under ∙ sym (adds_none (slice_index o.words) i)))
         values (gave_nothing names front said a.view.call told_add values a.told refl a.gave)
         (subst (λ (x : ScriptOp). IsLineMade names x a.view (after_all v (steps v))) (sym is) (inr (subst (IsMade v) place_is has, free)))
-        (let same = ap (λ (rs : List Recorded). length (words_recorded rs)) h.added.logs.records in omega (arith, stored, same)) (λ pending. refl) (λ pending. refl) (λ b. refl)
+        (let same = ap (λ (rs : List Recorded). length (words_recorded rs)) h.added.logs.records in omega (arith, stored, same)) (λ p. refl) (λ p. refl) (λ p b. refl)
 
     pub add_cut : (rest : List ScriptLine)
         → HasLooked a.view (IsStoppedAnywhere Sees new lane.records.items (operation.AddRange place off len) (record { id = place; off = off; len = len }) (λ u. CanAdd u place off len) adds) → IsCut o first new names (front ++ said ∷ rest) values
@@ -281,7 +281,7 @@ module _ (o : Opening) (first : View) (lane : Lane Solo) (blocks : BlockLists) (
     new_before : (n : ℕ) (u : View) → Looks n a.view u → HasNewRange u target off (length bytes) → HasNewRange a.view target off (length bytes)
     new_before n u looks range =
         let same = looks_same n a.view u looks a.works.alone in
-        let lists : blocks_in u ≡ blocks_in a.view = same_blocks a.view u same.call in
+        let lists : blocks_in u ≡ blocks_in a.view = same_blocks a.view u same.entries same.call in
         record {
           made = record {
             new = range.made.new;
@@ -317,7 +317,7 @@ module _ (o : Opening) (first : View) (lane : Lane Solo) (blocks : BlockLists) (
         (λ i under. words i (under_outside i under u.lane lane_is) ∙ written_then i u (words_u o first lane blocks actions names front values a n u looks i under))
         values (gave_nothing names front said a.view.call told_write values a.told refl a.gave)
         (subst (λ (x : ScriptOp). IsLineMade names x a.view (after_all u (steps u))) (sym is) (record { start = u; free = free_u o first lane blocks actions names front values a n u looks; is = ap (after_all u) (writes_here u) }))
-        (let same = ap (λ (rs : List Recorded). length (words_recorded rs)) records in let stored = write_stored u in omega (arith, same, stored)) (λ pending. refl) (λ pending. refl) (λ b. refl)
+        (let same = ap (λ (rs : List Recorded). length (words_recorded rs)) records in let stored = write_stored u in omega (arith, same, stored)) (λ p. refl) (λ p. refl) (λ p b. refl)
 
     pub write_done : HasLooked a.view (λ w. CanWrite w target off (length bytes) × HasWrittenRange o Sees new w target off bytes × IsAtWorkWith o Sees new blocks (after_all w (steps w))) → new.level ≡ 1 → new.locks ≡ lane.locks
         → IsAtLine o first new blocks actions names (front ++ said ∷ []) values

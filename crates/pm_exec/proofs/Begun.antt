@@ -53,6 +53,8 @@ use Rattle.pm_crash.specs.Operations.{entries_so_far}
 use Rattle.pm_crash.specs.CallBlocks.{CallBlocks, blocks_in, blocks_told, no_blocks}
 use Rattle.pm_pending.specs.declared.actions.SetAction.{SetAction}
 use Rattle.pm_crash.specs.Pending.{pending_before, pending_from, pending_told}
+use Rattle.pm_model.specs.Actions.{none_pending}
+use Rattle.pm_exec.proofs.PendingLists.{none_reserved}
 use Rattle.pm_crash.proofs.PendingOn.{calls_further, pending_first, published_first, same_before}
 use Rattle.pm_model.specs.Checks.{is_action}
 use Rattle.pm_exec.specs.Bounds.{log_due, logs_of, stores_of_call}
@@ -142,7 +144,7 @@ module _ (o : Opening) (first : View) (lane new : Lane Solo) (blocks : BlockList
     no_log_due : (w : View) → w.call ≡ done (operation.Begin wants) ∷ [] → log_due w ≡ 0
     unfolding blocks_told
     no_log_due w call =
-        let none : blocks_in w ≡ no_blocks = ap (blocks_told no_blocks) call in
+        let none : blocks_in w ≡ no_blocks = ap (blocks_told (pending_before w) no_blocks) call in
         let made = ap (λ (b : CallBlocks). length b.made + length b.freed) none in
         let published = ap length (published_first w (done (operation.Begin wants)) call) in
         let nothing : entries_so_far w ≡ 0 = omega (arith, made, published) in ap logs_of nothing
@@ -163,7 +165,7 @@ module _ (o : Opening) (first : View) (lane new : Lane Solo) (blocks : BlockList
           steps = b.led.steps;
           leads = b.led.leads;
           of_lane = lane_is;
-          works = begun_at_work o is.header is.pool Sees first new now wants is.begins t (record { numbered = works.numbered; within = works.within }) for_pool is.has_none.unlocked is.has_none.no_chunk;
+          works = begun_at_work o is.header is.pool Sees first new now wants is.begins t (record { numbered = works.numbered; within = works.within }) for_pool is.has_none.unlocked is.has_none.no_chunk (none_reserved actions w (is.pending.are ∙ sym (pending_first w (done (operation.Begin wants)) b.call ∙ same_before first w b.entries)));
           level = level;
           opens = (said, [], refl, ap stands_alone begins);
           told = subst (AreToldDone names (said ∷ [])) (sym b.call) (told_so, tt);
@@ -181,7 +183,7 @@ module _ (o : Opening) (first : View) (lane new : Lane Solo) (blocks : BlockList
     still_pending : (w : View) (n : ℕ) {r : Refusal} → w.call ≡ refused (operation.Begin wants) r ∷ [] → w.entries ≡ first.entries ++ record { number = n; call = w.call } ∷ [] → IsPending actions (pending_before w)
     unfolding pending_told
     still_pending w n call entries = record {
-      are = is.pending.are ∙ sym (ap (pending_from []) entries ∙ calls_further [] first.entries (record { number = n; call = w.call }) ∙ ap (pending_told (pending_before first)) call);
+      are = is.pending.are ∙ sym (ap (pending_from none_pending) entries ∙ calls_further none_pending first.entries (record { number = n; call = w.call }) ∙ ap (pending_told (pending_before first)) call);
       aligned = is.pending.aligned;
     }
 

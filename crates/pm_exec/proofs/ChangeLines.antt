@@ -77,7 +77,7 @@ use Rattle.pm_exec.proofs.UndrawnSteps.{IsUndrawn, Keeps, all_undrawn_keep, firs
 use Rattle.pm_pending.specs.declared.actions.SetAction.{SetAction}
 use Rattle.pm_crash.specs.Pending.{pending_before, pending_behind, pending_in, published_by, published_in}
 use Rattle.pm_crash.proofs.PendingOn.{pending_once_more, pending_same, published_once_more, published_same}
-use Rattle.pm_model.specs.Actions.{Action}
+use Rattle.pm_model.specs.Actions.{Action, Pending}
 use Rattle.pm_model.specs.Checks.{is_action}
 use Rattle.pm_exec.specs.Bounds.{log_due, logs_of}
 use Rattle.pm_exec.specs.Progress.{IsPending}
@@ -144,7 +144,7 @@ module _ (o : Opening) (first : View) (lane : Lane Solo) (blocks : BlockLists) (
     generation_there = (λ i. slice_index (goes.words i) (area_word (same_there.lane i))) ∙ a.generation
 
     due_there : log_due u ≡ log_due a.view
-    due_there = due_same a.view u (published_same a.view u goes.entries goes.call) (same_blocks a.view u goes.call)
+    due_there = due_same a.view u (published_same a.view u goes.entries goes.call) (same_blocks a.view u goes.entries goes.call)
 
     few_there : stores_among to_there.0 + recorded_count u + log_due u ≤ stores_of_lines names front
     unfolding to_there
@@ -415,12 +415,12 @@ module _ (o : Opening) (first : View) (lane : Lane Solo) (blocks : BlockLists) (
           → ((i : ℕ) → IsUnderBlock a.view i → slice_index w.words i ≡ words_after names (front ++ said ∷ []) (slice_index o.words) i)
           → (given : Values) → given ≡ values_told (front ++ said ∷ []) (a.view.call ++ t ∷ []) → IsLineMade names said.operation a.view w
           → stores_among (steps u) + recorded_count w ≤ recorded_count u + most_stores names said.operation
-          → ((pending : List Action) → pending_behind t.operation t.reply pending ≡ pending) → ((pending : List Action) → published_by t.operation t.reply pending ≡ []) → ((b : CallBlocks) → blocks_behind t.operation t.reply b ≡ b)
+          → ((p : Pending) → pending_behind t.operation t.reply p ≡ p) → ((p : Pending) → published_by t.operation t.reply p ≡ []) → ((p : Pending) (b : CallBlocks) → blocks_behind t.operation t.reply p b ≡ b)
           → IsAtLine o first new blocks actions names (front ++ said ∷ []) given
       at_next ready draws works level locks t is_done told words given gave made few leaves publishes_none keeps_blocks =
           let published : published_in w ≡ published_in u =
           published_once_more u w t.operation t.reply keeps.entries told ∙ ap (λ (more : List Action). published_in u ++ more) (publishes_none (pending_in u)) ∙ append-nil (published_in u) in
-          let same = due_same u w published (blocks_once_more u w t.operation t.reply told ∙ keeps_blocks (blocks_in u)) in
+          let same = due_same u w published (blocks_once_more u w t.operation t.reply keeps.entries told ∙ keeps_blocks (pending_in u) (blocks_in u)) in
           at_next_with blocks actions ready draws works level locks t is_done told words given gave made
           (still_pending (pending_in w) (pending_once_more u w t.operation t.reply keeps.entries told ∙ leaves (pending_in u)) pending_u) (omega (arith, same, few))
 

@@ -7,6 +7,7 @@ use Rattle.pm_crash.proofs.Leading.{leads_then}
 use Rattle.pm_crash.specs.Alone.{Begins, WorksAlone, standing}
 use Rattle.pm_crash.specs.Leading.{Leads}
 use Rattle.pm_crash.specs.Pending.{pending_from}
+use Rattle.pm_model.specs.Actions.{none_pending}
 use Rattle.pm_epoch.specs.Epochs.{HasEnded}
 use Rattle.pm_header.specs.declared.header.Header.{Header}
 use Rattle.pm_made.specs.Made.{BlockLists}
@@ -169,7 +170,7 @@ module _ (o : Opening) (first : View) (lane new : Lane Solo) (blocks : BlockList
       told = told;
       entries = entries_w ∙ (entries_u ∙ over.entries);
       so = subst (λ (x : TxErr). TransactionEnded names lines x reply told) (sym (is ∙ over.fails)) so;
-      pending = subst (λ (es : List Numbered). IsPending actions (pending_from [] es)) (sym (entries_w ∙ entries_u)) over.pending;
+      pending = subst (λ (es : List Numbered). IsPending actions (pending_from none_pending es)) (sym (entries_w ∙ entries_u)) over.pending;
       made = record {
         over = v;
         made = subst (λ (x : TxErr). AreMade names lines x first v) (sym (is ∙ over.fails)) over.made;

@@ -19,10 +19,10 @@ use Rattle.pm_crash.proofs.Raises.{raises_append}
 use Rattle.pm_crash.specs.Alone.{raises}
 use Rattle.pm_crash.specs.OnActions.{set_refusal}
 use Rattle.pm_crash.specs.Leading.{Leads}
-use Rattle.pm_crash.specs.Pending.{pending_before}
+use Rattle.pm_crash.specs.Pending.{pending_before, sets_before}
 use Rattle.pm_memory.specs.Solo.{Sees, Solo}
 use Rattle.pm_image.specs.Logs.{generation_word}
-use Rattle.pm_model.specs.Actions.{Action, wants_for}
+use Rattle.pm_model.specs.Actions.{Action, Pending, wants_for}
 use Rattle.pm_model.specs.Shown.{values_of}
 use Rattle.pm_objects.specs.declared.calls.Operation.{Operation}
 use Rattle.pm_objects.specs.declared.calls.Operation.TheVariants as operation
@@ -31,7 +31,7 @@ use Rattle.pm_objects.specs.declared.history.Value.TheVariants.{Refused}
 use Rattle.pm_objects.specs.declared.ids.Oid.{Oid}
 use Rattle.pm_objects.specs.declared.refusal.Refusal.{Refusal}
 use Rattle.pm_objects.specs.declared.refusal.Refusal.TheVariants as refusal
-use Rattle.pm_pending.specs.Pending.{action_of, entry_of, pending_of}
+use Rattle.pm_pending.specs.Pending.{action_of, entry_of, pending_of, sets_of}
 use Rattle.pm_pending.specs.declared.actions.SetAction.{SetAction}
 use Rattle.pm_record.specs.declared.redo.Redo.{Redo}
 use Rattle.pm_script.specs.declared.script.ScriptId.{ScriptId}
@@ -117,7 +117,7 @@ module _ (o : Opening) (first : View) (lane new : Lane Solo) (blocks : BlockList
     set_led w led = subst (λ (y : ScriptOp). IsOutsideMade y None first w) (sym says) led
 
     set_refused : (r : Refusal) (w : View) → IsLed first w → set_refusal action.off (pending_of actions) ≡ Some r → IsOutsideMade x (Some r) first w
-    set_refused r w led why = subst (λ (y : ScriptOp). IsOutsideMade y (Some r) first w) (sym says) (led, subst (λ (pending : List Action). set_refusal action.off pending ≡ Some r) is.pending.are why)
+    set_refused r w led why = subst (λ (y : ScriptOp). IsOutsideMade y (Some r) first w) (sym says) (led, subst (λ (p : Pending). set_refusal action.off p ≡ Some r) is.pending.are why)
 
     one_more : set_refusal action.off (pending_of actions) ≡ None → IsAligned (actions ++ action ∷ [])
     one_more passes =
@@ -161,9 +161,9 @@ module _ (o : Opening) (first : View) (lane new : Lane Solo) (blocks : BlockList
     publish_is = ap (operation_of names) (sym says)
 
     -- of some actions
-    published_by : (items : List SetAction) → pending_of items ≡ pending_before first → 1 ≤ length items → IsPublishedBy Sees new (pending_of items) first → IsActed first new [] names x None
+    published_by : (items : List SetAction) → pending_of items ≡ pending_before first → 1 ≤ length items → IsPublishedBy Sees new (sets_of items) first → IsActed first new [] names x None
     published_by items are some b =
-        let entries : List Redo = entries_of (pending_of items) in
+        let entries : List Redo = entries_of (sets_of items) in
         let h : View = b.holding in
         let made : List Step = publishes entries operation.Publish new.last h in
         let over : View = after_all h made in
@@ -186,10 +186,10 @@ module _ (o : Opening) (first : View) (lane new : Lane Solo) (blocks : BlockList
           made = subst (λ (y : ScriptOp). IsOutsideMade y None first b.view) (sym says) (inl (record {
             start = h;
             free = record { led = b.led; undrawn = b.undrawn };
-            some = (let count = ap length are in let many = length-map items action_of in omega (arith, count, many, some));
+            some = (let count = ap (λ (p : Pending). length p.sets) are in let many = length-map items action_of in omega (arith, count, many, some));
             number = new.last;
             over = over;
-            is = ap (λ (pending : List Action). after_all h (publishes (map entry_of pending) operation.Publish new.last h)) are;
+            is = ap (λ (p : Pending). after_all h (publishes (map entry_of p.sets) operation.Publish new.last h)) are;
             closed = record { led = b.back; undrawn = b.drawn_there };
           }));
           few = (
@@ -198,7 +198,7 @@ module _ (o : Opening) (first : View) (lane new : Lane Solo) (blocks : BlockList
               let before = led_stores first h b.led in
               let behind = led_stores over b.view b.back in
               let all = publish_stores entries operation.Publish new.last h in
-              let count = length-map (pending_of items) entry_of in
+              let count = length-map (sets_of items) entry_of in
               let few = b.few in
               let most = ap (most_stores names) says in omega (arith, both, two, before, behind, all, count, few, most));
         }
@@ -210,19 +210,19 @@ module _ (o : Opening) (first : View) (lane new : Lane Solo) (blocks : BlockList
     published (a ∷ items) same made = published_by (a ∷ items) (ap pending_of same ∙ is.pending.are) (omega arith) made
 
     -- refused
-    refused_publish : (r : Refusal) → IsPublishRefusal (pending_before first) r first → IsToldOutside Sees new actions first operation.Publish (Some (Refused r)) → IsActed first new actions names x (Some r)
+    refused_publish : (r : Refusal) → IsPublishRefusal (sets_before first) r first → IsToldOutside Sees new actions first operation.Publish (Some (Refused r)) → IsActed first new actions names x (Some r)
     refused_publish r why told =
         let t = subst (λ (y : Operation). IsToldOutside Sees new actions first y (Some (Refused r))) publish_is told in
         acted x (Some r) actions t is.pending.aligned
         (subst (λ (y : ScriptOp). IsOutsideMade y (Some r) first t.view) (sym says) (t.led, why))
 
     -- or the lane stopped in it
-    module _ (said : ScriptLine) (is_said : said.operation ≡ x) (s : IsStoppedPublishing Sees new (pending_of actions) first) where
+    module _ (said : ScriptLine) (is_said : said.operation ≡ x) (s : IsStoppedPublishing Sees new (sets_of actions) first) where
       abbrev h : View
       h = s.holding
 
       abbrev entries : List Redo
-      entries = entries_of (pending_of actions)
+      entries = entries_of (sets_of actions)
 
       abbrev steps : Sequence
       steps = publishes entries operation.Publish new.last
@@ -294,23 +294,23 @@ module _ (o : Opening) (first : View) (lane new : Lane Solo) (blocks : BlockList
               start = h;
               free = record { led = s.led; undrawn = s.undrawn };
               number = new.last;
-              stops = front_of (Sees new.memory) h (steps h) (publishes (pending_entries first) operation.Publish new.last) (ap (λ (pending : List Action). publishes (map entry_of pending) operation.Publish new.last h) is.pending.are) s.stopped.stops;
+              stops = front_of (Sees new.memory) h (steps h) (publishes (pending_entries first) operation.Publish new.last) (ap (λ (p : Pending). publishes (map entry_of p.sets) operation.Publish new.last h) is.pending.are) s.stopped.stops;
             });
           }
 
     -- however it is answered
     pub publish_acted : {T : Type 0} (result : Result T Refusal) (left : List SetAction) → PublishEnds Sees new actions first result → OnOk result (left ≡ []) → OnErr result (left ≡ actions)
-        → (result ≡ Err refusal.NoObject → Any (LacksObject first) (wants_for (pending_of actions))) → (result ≡ Err refusal.OutOfRange → Any (Overruns first) (pending_of actions)) → ActedOutside o first new left names x result
+        → (result ≡ Err refusal.NoObject → Any (LacksObject first) (wants_for (sets_of actions))) → (result ≡ Err refusal.OutOfRange → Any (Overruns first) (sets_of actions)) → ActedOutside o first new left names x result
     publish_acted (Ok done) left ends emptied kept missing past_end = subst (λ (list : List SetAction). IsActed first new list names x None) (sym emptied) (published actions refl ends)
     publish_acted (Err refusal.Stopped) left ends emptied kept missing past_end = λ said is_said. publish_cut said is_said ends
     publish_acted (Err refusal.Spent) left ends emptied kept missing past_end = spent o first lane new blocks actions names is ends
     publish_acted (Err refusal.Busy) left ends emptied kept missing past_end = absurd (not_busy o first lane new blocks actions names is ends)
     publish_acted (Err refusal.NoObject) left ends emptied kept missing past_end =
         subst (λ (list : List SetAction). IsActed first new list names x (Some refusal.NoObject)) (sym kept)
-        (refused_publish refusal.NoObject (subst (λ (pending : List Action). Any (LacksObject first) (wants_for pending)) is.pending.are (missing refl)) ends.told)
+        (refused_publish refusal.NoObject (subst (λ (p : Pending). Any (LacksObject first) (wants_for p.sets)) is.pending.are (missing refl)) ends.told)
     publish_acted (Err refusal.OutOfRange) left ends emptied kept missing past_end =
         subst (λ (list : List SetAction). IsActed first new list names x (Some refusal.OutOfRange)) (sym kept)
-        (refused_publish refusal.OutOfRange (subst (Any (Overruns first)) is.pending.are (past_end refl)) ends.told)
+        (refused_publish refusal.OutOfRange (subst (λ (p : Pending). Any (Overruns first) p.sets) is.pending.are (past_end refl)) ends.told)
     publish_acted (Err r) left ends emptied kept missing past_end = absurd ends
 
 -- what holds of an answer's lists holds of what they hold

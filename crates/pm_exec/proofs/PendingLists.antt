@@ -1,8 +1,12 @@
 -- What is pending behind a line, and behind a call that drew its number; and which steps store no generation.
-use Rattle.std.proofs.Common.{◌≡◌, ◌≤◌, Bool, true, false, cond, refl, arith, ℕ, List, [], ◌∷◌, ◌++◌, sym, ap, ◌∙◌}
+use Rattle.std.proofs.Common.{◌≡◌, ◌≤◌, Bool, true, false, cond, refl, arith, ℕ, All, List, [], ◌∷◌, ◌++◌, map, sym, ap, subst, ◌∙◌}
+use Rattle.std.proofs.lemmas.List.Elements.{All-nil}
+use Rattle.pm_crash.specs.CallBlocks.{reserved_in, reserved_object}
+use Rattle.pm_crash.specs.Reserved.{IsReservedFor}
+use Rattle.pm_pending.specs.Pending.{pending_of}
 use Rattle.pm_crash.specs.Pending.{pending_before, pending_behind, pending_from, pending_in, pending_told}
 use Rattle.pm_crash.proofs.PendingOn.{calls_further, pending_once_more, same_before}
-use Rattle.pm_model.specs.Actions.{Action}
+use Rattle.pm_model.specs.Actions.{Pending, none_pending}
 use Rattle.pm_pending.specs.declared.actions.SetAction.{SetAction}
 use Rattle.pm_view.specs.View.{Numbered, Told, View}
 use Rattle.pm_crash.specs.Alone.{is_raise, raises}
@@ -13,8 +17,12 @@ use Rattle.pm_view.specs.Steps.Step.{And, Drain, Draw, Flush, Give, Load, Number
 use Rattle.pm_exec.specs.Progress.{IsPending}
 
 -- the list is the same, where the same is pending
-pub still_pending : {actions : List SetAction} {before : List Action} (behind : List Action) → behind ≡ before → IsPending actions before → IsPending actions behind
+pub still_pending : {actions : List SetAction} {before : Pending} (behind : Pending) → behind ≡ before → IsPending actions before → IsPending actions behind
 still_pending behind same is = record { are = is.are ∙ sym same; aligned = is.aligned }
+
+-- set-values alone: nothing is pending to be made
+pub none_reserved : (actions : List SetAction) (w : View) → pending_of actions ≡ pending_in w → All (IsReservedFor w) (reserved_in w)
+none_reserved actions w are = subst (λ (p : Pending). All (IsReservedFor w) (map reserved_object p.reserved)) are (All-nil (IsReservedFor w))
 
 -- behind a call that came to one operation more and drew its number
 pub drawn_pending : (first v w : View) (n : ℕ) (t : Told) → v.entries ≡ first.entries → w.entries ≡ first.entries ++ record { number = n; call = w.call } ∷ [] → w.call ≡ v.call ++ t ∷ []
@@ -22,13 +30,13 @@ pub drawn_pending : (first v w : View) (n : ℕ) (t : Told) → v.entries ≡ fi
 drawn_pending first v w n t kept drawn told =
     let e : Numbered = record { number = n; call = w.call } in
     let u : View = record v { call = w.call } in
-    ap (pending_from []) drawn ∙ calls_further [] first.entries e ∙ ap (λ (actions : List Action). pending_told actions w.call) (sym (same_before first v kept))
+    ap (pending_from none_pending) drawn ∙ calls_further none_pending first.entries e ∙ ap (λ (p : Pending). pending_told p w.call) (sym (same_before first v kept))
     ∙ pending_once_more v u t.operation t.reply (λ j. v.entries) told
 
 -- the call drew it at its one operation
 pub drawn_first : (first w : View) (n : ℕ) (t : Told) → w.entries ≡ first.entries ++ record { number = n; call = t ∷ [] } ∷ [] → pending_before w ≡ pending_behind t.operation t.reply (pending_before first)
 unfolding pending_told
-drawn_first first w n t drawn = ap (pending_from []) drawn ∙ calls_further [] first.entries (record { number = n; call = t ∷ [] })
+drawn_first first w n t drawn = ap (pending_from none_pending) drawn ∙ calls_further none_pending first.entries (record { number = n; call = t ∷ [] })
 
 -- a step that is no counted call stores none
 raises_counted : (s : Step) → raise_by s ≤ cond (is_counted s) 1 0

@@ -119,7 +119,7 @@ module _ (o : Opening) (first : View) (lane : Lane Solo) (blocks : BlockLists) (
           (values ++ (said.line, Bytes bytes) ∷ [])
           (ap (λ (vs : Values). vs ++ (said.line, Bytes bytes) ∷ []) a.gave ∙ sym (gave_more names front said a.view.call (told_with bytes) a.told))
           (subst (λ (x : ScriptOp). IsLineMade names x a.view w) (sym is) free_behind)
-          (let same = ap (λ (rs : List Recorded). length (words_recorded rs)) records in let stored = read_stores place off len bytes u in omega (arith, same, stored)) (λ pending. refl) (λ pending. refl) (λ b. refl)
+          (let same = ap (λ (rs : List Recorded). length (words_recorded rs)) records in let stored = read_stores place off len bytes u in omega (arith, same, stored)) (λ p. refl) (λ p. refl) (λ p b. refl)
 
     -- of an object that the call found
     pub read_done : HasLooked a.view (λ w. KnowsRange w place off len false × HasReadRange o Sees new w place off len bytes × IsAtWorkWith o Sees new blocks (after_all w (steps w))) → new.level ≡ 1 → new.locks ≡ lane.locks

@@ -20,7 +20,7 @@ use Rattle.pm_exec.specs.declared.calls.Names.{Names}
 use Rattle.pm_exec.proofs.RisingCalls.{AreRising}
 use Rattle.pm_exec.proofs.ShownCalls.{entry_answered}
 use Rattle.pm_crash.specs.Pending.{acts_alone, acts_alone_behind, pending_from, state_alone, told_of}
-use Rattle.pm_model.specs.Actions.{Pending, only_sets}
+use Rattle.pm_model.specs.Actions.{Pending, none_pending}
 use Rattle.pm_model.specs.Step.{Act}
 
 -- a call that the lane numbered, with these actions pending before it
@@ -123,7 +123,7 @@ module _ (names : Names) where
     kept_more done e n history entries rest is true true same = rest done
     kept_more done e n history entries rest is true false same = absurd (false≢true (sym same))
     kept_more done e n history entries rest is false true same = absurd (false≢true same)
-    kept_more done e n history entries rest is false false same = (is (only_sets (pending_from [] done)), rest (done ++ n ∷ []))
+    kept_more done e n history entries rest is false false same = (is (pending_from none_pending done), rest (done ++ n ∷ []))
 
     kept_shown : (calls : List (List ScriptLine)) (history : List Entry) (entries : List Numbered) → AreShown names calls history entries
         → All IsFatedSo history → (done : List Numbered) → AllZip IsEntry (without_lost history) (acts_alone_behind done (filter is_kept entries))

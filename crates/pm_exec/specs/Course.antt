@@ -39,9 +39,9 @@ use Rattle.pm_exec.specs.Calls.{id_of, numbers_of, operation_of, stands_alone, w
 use Rattle.pm_exec.specs.Histories.{settled_fate}
 use Rattle.pm_exec.specs.declared.calls.Names.{Names}
 use Rattle.pm_crash.specs.OnActions.{set_refusal}
-use Rattle.pm_crash.specs.Pending.{pending_before, published_in}
+use Rattle.pm_crash.specs.Pending.{pending_before, published_in, sets_before}
 use Rattle.pm_action.specs.Holding.{Overruns}
-use Rattle.pm_model.specs.Actions.{Action, wants_for}
+use Rattle.pm_model.specs.Actions.{Action, Pending, none_pending, wants_for}
 use Rattle.pm_objects.specs.declared.calls.Operation.{Operation}
 use Rattle.pm_objects.specs.declared.calls.Operation.TheVariants as operation
 use Rattle.pm_pending.specs.Pending.{entry_of}
@@ -65,7 +65,7 @@ abbrev pub published_entries : View → List Redo
 published_entries v = map entry_of (published_in v)
 
 abbrev pub pending_entries : View → List Redo
-pending_entries v = map entry_of (pending_before v)
+pending_entries v = map entry_of (sets_before v)
 
 -- the memory calls of an add of an object that the call found, and of a write
 abbrev pub add_calls : Names → ScriptId → ℕ → ℕ → Sequence
@@ -172,7 +172,7 @@ pub record IsTransactionMade (names : Names) (lines : List ScriptLine) (e : TxEr
 pub record IsPublishMade (v w : View) : Type 0 where
   pub start : View
   pub free : IsFree v start
-  pub some : 1 ≤ length (pending_before v)
+  pub some : 1 ≤ length (sets_before v)
   pub number : ℕ
   pub over : View
   pub is : over ≡ after_all start (publishes (pending_entries v) operation.Publish number start)
@@ -185,16 +185,16 @@ IsPublishRefusal actions refusal.NoObject v = Any (LacksObject v) (wants_for act
 IsPublishRefusal actions refusal.OutOfRange v = Any (Overruns v) actions
 IsPublishRefusal actions r v = ⊥
 
--- why a call outside of a transaction may be refused, where these actions are pending: a set-value for its place or for room, and a publish for the
+-- why a call outside of a transaction may be refused, where this is pending: a set-value for its place or for room, and a publish for the
 -- objects of the actions
-abbrev pub IsOutsideRefusal : ScriptOp → List Action → Refusal → View → Type 0
-IsOutsideRefusal (Set id off value) actions r v = set_refusal off actions ≡ Some r
-IsOutsideRefusal Publish actions r v = IsPublishRefusal actions r v
-IsOutsideRefusal op actions r v = ⊥
+abbrev pub IsOutsideRefusal : ScriptOp → Pending → Refusal → View → Type 0
+IsOutsideRefusal (Set id off value) p r v = set_refusal off p ≡ Some r
+IsOutsideRefusal Publish p r v = IsPublishRefusal p.sets r v
+IsOutsideRefusal op p r v = ⊥
 
 -- a call outside of a transaction was done, or refused so. But for a publish of some actions that is done it makes no counted call
 abbrev pub IsOutsideMade : ScriptOp → Option Refusal → View → View → Type 0
-IsOutsideMade Publish None v w = IsPublishMade v w ⊎ (IsLed v w × (pending_before v ≡ []))
+IsOutsideMade Publish None v w = IsPublishMade v w ⊎ (IsLed v w × (pending_before v ≡ none_pending))
 IsOutsideMade op None v w = IsLed v w
 IsOutsideMade op (Some r) v w = IsLed v w × IsOutsideRefusal op (pending_before v) r v
 

@@ -65,7 +65,7 @@ use Rattle.pm_exec.specs.declared.lines.NotDone.{NotDone}
 use Rattle.pm_exec.specs.declared.lines.NotDone.TheVariants.{GivenUp, Stopped, Spent, Memory}
 use Rattle.pm_exec.specs.declared.ending.CallAnswer.{CallAnswer}
 use Rattle.pm_exec.specs.declared.ending.CallAnswer.TheVariants as answer
-use Rattle.pm_model.specs.Actions.{Action}
+use Rattle.pm_model.specs.Actions.{Pending}
 use Rattle.pm_pending.specs.Pending.{pending_of}
 use Rattle.pm_pending.specs.declared.actions.SetAction.{SetAction}
 use Rattle.std.specs.Prelude.{◌%◌, All, option_map}
@@ -82,7 +82,7 @@ abbrev pub refused : Operation → Refusal → Told
 refused op r = record { operation = op; reply = Some (Refused r) }
 
 -- the list is what is pending, and each of it is of a multiple of eight bytes
-pub record IsPending (actions : List SetAction) (pending : List Action) : Type 0 where
+pub record IsPending (actions : List SetAction) (pending : Pending) : Type 0 where
   pub are : pending_of actions ≡ pending
   pub aligned : All (λ (a : SetAction). a.off % 8 ≡ 0) actions
 
