@@ -38,7 +38,7 @@ each_reserved P (r ∷ rs) each =
     All-cons (λ (s : Reservation). P (reserved_object s)) r rs (All-head P (reserved_object r) (map reserved_object rs) each) (each_reserved P rs (All-tail P (reserved_object r) (map reserved_object rs) each))
 
 -- what is reserved behind an operation that leaves it was before
-reserved_behind : (op : Operation) (reply : Option Value) (p : Pending) → LeavesReserved op reply p → (n : NewObject) → Contains (map reserved_object (pending_behind op reply p).reserved) n
+pub reserved_behind : (op : Operation) (reply : Option Value) (p : Pending) → LeavesReserved op reply p → (n : NewObject) → Contains (map reserved_object (pending_behind op reply p).reserved) n
     → Contains (map reserved_object p.reserved) n
 reserved_behind op (Some (Refused r)) p leaves n there = there
 reserved_behind (Reserve size kind) (Some (Offset off)) p leaves n there = let none = leaves.0 in absurd cc

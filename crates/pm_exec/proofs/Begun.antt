@@ -51,10 +51,11 @@ use Rattle.pm_exec.proofs.Starts.{start_alone, start_idle, start_lane, words_led
 use Rattle.pm_crash.proofs.SeenAlone.{works_where_seen}
 use Rattle.pm_crash.specs.Operations.{entries_so_far}
 use Rattle.pm_crash.specs.CallBlocks.{CallBlocks, blocks_in, blocks_told, no_blocks}
+use Rattle.pm_pending.specs.Pending.{pending_of}
 use Rattle.pm_pending.specs.declared.actions.SetAction.{SetAction}
-use Rattle.pm_crash.specs.Pending.{pending_before, pending_from, pending_told}
+use Rattle.pm_crash.specs.Pending.{pending_before, pending_from, pending_in, pending_told}
 use Rattle.pm_model.specs.Actions.{none_pending}
-use Rattle.pm_exec.proofs.PendingLists.{none_reserved}
+use Rattle.pm_exec.proofs.PendingLists.{has_none_reserved, none_within}
 use Rattle.pm_crash.proofs.PendingOn.{calls_further, pending_first, published_first, same_before}
 use Rattle.pm_model.specs.Checks.{is_action}
 use Rattle.pm_exec.specs.Bounds.{log_due, logs_of, stores_of_call}
@@ -149,6 +150,10 @@ module _ (o : Opening) (first : View) (lane new : Lane Solo) (blocks : BlockList
         let published = ap length (published_first w (done (operation.Begin wants)) call) in
         let nothing : entries_so_far w ≡ 0 = omega (arith, made, published) in ap logs_of nothing
 
+    -- what was pending as the lane began is so behind the begin
+    still_set : (w : View) → w.call ≡ done (operation.Begin wants) ∷ [] → w.entries ≡ first.entries → pending_of actions ≡ pending_in w
+    still_set w call entries = is.pending.are ∙ sym (pending_first w (done (operation.Begin wants)) call ∙ same_before first w entries)
+
     pub begun_at_line : (now : BlockLists) → length now.dropped ≡ length blocks.dropped → HasBegunWith Sees new now first wants → new.level ≡ 1 → IsAtLine o first new now actions names (said ∷ []) []
     begun_at_line now pages t level =
         let b = t.begun in
@@ -165,7 +170,7 @@ module _ (o : Opening) (first : View) (lane new : Lane Solo) (blocks : BlockList
           steps = b.led.steps;
           leads = b.led.leads;
           of_lane = lane_is;
-          works = begun_at_work o is.header is.pool Sees first new now wants is.begins t (record { numbered = works.numbered; within = works.within }) for_pool is.has_none.unlocked is.has_none.no_chunk (none_reserved actions w (is.pending.are ∙ sym (pending_first w (done (operation.Begin wants)) b.call ∙ same_before first w b.entries)));
+          works = begun_at_work o is.header is.pool Sees first new now wants is.begins t (record { numbered = works.numbered; within = works.within }) for_pool is.has_none.unlocked is.has_none.no_chunk (has_none_reserved actions w (still_set w b.call b.entries)) (none_within actions w (still_set w b.call b.entries));
           level = level;
           opens = (said, [], refl, ap stands_alone begins);
           told = subst (AreToldDone names (said ∷ [])) (sym b.call) (told_so, tt);

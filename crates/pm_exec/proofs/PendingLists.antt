@@ -2,7 +2,9 @@
 use Rattle.std.proofs.Common.{◌≡◌, ◌≤◌, Bool, true, false, cond, refl, arith, ℕ, All, List, [], ◌∷◌, ◌++◌, map, sym, ap, subst, ◌∙◌}
 use Rattle.std.proofs.lemmas.List.Elements.{All-nil}
 use Rattle.pm_crash.specs.CallBlocks.{reserved_in, reserved_object}
-use Rattle.pm_crash.specs.Reserved.{IsReservedFor}
+use Rattle.pm_crash.specs.Reserving.{HasReserved}
+use Rattle.pm_crash.proofs.ReservedOn.{none_reserved}
+use Rattle.pm_transaction.specs.AtWork.{LiesInReserved}
 use Rattle.pm_pending.specs.Pending.{pending_of}
 use Rattle.pm_crash.specs.Pending.{pending_before, pending_behind, pending_from, pending_in, pending_told}
 use Rattle.pm_crash.proofs.PendingOn.{calls_further, pending_once_more, same_before}
@@ -20,9 +22,12 @@ use Rattle.pm_exec.specs.Progress.{IsPending}
 pub still_pending : {actions : List SetAction} {before : Pending} (behind : Pending) → behind ≡ before → IsPending actions before → IsPending actions behind
 still_pending behind same is = record { are = is.are ∙ sym same; aligned = is.aligned }
 
--- set-values alone: nothing is pending to be made
-pub none_reserved : (actions : List SetAction) (w : View) → pending_of actions ≡ pending_in w → All (IsReservedFor w) (reserved_in w)
-none_reserved actions w are = subst (λ (p : Pending). All (IsReservedFor w) (map reserved_object p.reserved)) are (All-nil (IsReservedFor w))
+-- set-values alone: nothing is reserved
+pub has_none_reserved : (actions : List SetAction) (w : View) → pending_of actions ≡ pending_in w → HasReserved w
+has_none_reserved actions w are = none_reserved w (ap (λ (p : Pending). p.reserved) (sym are))
+
+pub none_within : (actions : List SetAction) (w : View) → pending_of actions ≡ pending_in w → All (LiesInReserved w) (reserved_in w)
+none_within actions w are = subst (λ (p : Pending). All (LiesInReserved w) (map reserved_object p.reserved)) are (All-nil (LiesInReserved w))
 
 -- behind a call that came to one operation more and drew its number
 pub drawn_pending : (first v w : View) (n : ℕ) (t : Told) → v.entries ≡ first.entries → w.entries ≡ first.entries ++ record { number = n; call = w.call } ∷ [] → w.call ≡ v.call ++ t ∷ []

@@ -1,5 +1,5 @@
 -- Behind an operation that tells nothing of the heap, and makes no memory call or only settles, a lane has its lists still.
-use Rattle.std.proofs.Common.{◌≡◌, ℕ, List, [], ◌∷◌, slice_index, Option, None, Some, option_map, refl, sym, ap, subst}
+use Rattle.std.proofs.Common.{◌≡◌, ℕ, List, [], ◌∷◌, Contains, slice_index, Option, None, Some, option_map, refl, sym, ◌∙◌, ap, subst}
 use Rattle.pm_image.specs.Blocks.{descriptor_word}
 use Rattle.pm_made.specs.Made.{BlockLists}
 use Rattle.pm_objects.specs.declared.calls.Operation.{Operation}
@@ -17,6 +17,8 @@ use Rattle.pm_world.specs.Sequences.{in_turn, one, settles}
 use Rattle.pm_world.specs.declared.lane.HeldLock.{HeldLock}
 use Rattle.pm_world.specs.declared.lane.Lane.{Lane}
 use Rattle.pm_crash.proofs.CallBlocks.{blocks_once_more, same_blocks}
+use Rattle.pm_crash.proofs.ReservedStays.{quietly_stays, told_stays}
+use Rattle.pm_crash.specs.Operations.{KeepsKnown, Tells, TellsNothing}
 use Rattle.pm_crash.specs.CallBlocks.{LeavesReserved, TellsOfRoot, blocks_in}
 use Rattle.pm_crash.specs.Pending.{pending_in}
 use Rattle.pm_undo.proofs.Settled.{settle_lawful}
@@ -31,7 +33,10 @@ keeps_behind_tell : (locks : List HeldLock) (blocks : BlockLists) (v : View) →
 keeps_behind_tell locks blocks v keeps op reply same none no_root =
     let told : View = after v (Tell op reply) in
     let heads : HasSameHeads v told = record { lanes = refl; zones = refl; reserved = refl; described = λ c in_pool. refl; root = refl } in
+    let tells : Tells v told op reply = record { keeps = record { lanes = refl; zones = refl; pool = refl; lane = refl; entries = refl; known = λ i there. there }; locks = refl; call = refl } in
+    let known : KeepsKnown v told = record { known = λ i outside there. refl; recorded = λ i outside is. refl } in
     keeps_told v told heads locks blocks keeps refl refl same op reply refl refl none no_root
+    (told_stays v told op reply keeps.has_reserved tells known none (sym (blocks_once_more v told op reply refl refl) ∙ same))
 
 module _ {M : Type 0} (o : Opening) (at : M → View → Type 0) (lane next : Lane M) (blocks : BlockLists) (v : View) (is : IsAtWorkWith o at lane blocks v) (locks : next.locks ≡ lane.locks) where
   keeps_as : Keeps next.locks.items blocks v
@@ -57,6 +62,19 @@ module _ {M : Type 0} (o : Opening) (at : M → View → Type 0) (lane next : La
       let words : (i : ℕ) → slice_index m.words i ≡ slice_index v.words i = λ i. ap (λ (u : View). slice_index u.words i) settled in
       let entries = ap (λ (u : View). u.entries) settled in
       let call = ap (λ (u : View). u.call) settled in
+      let quietly : TellsNothing v m = record {
+        keeps = record {
+          lanes = ap (λ (u : View). u.lanes) settled;
+          zones = ap (λ (u : View). u.zones) settled;
+          pool = ap (λ (u : View). u.pool) settled;
+          lane = ap (λ (u : View). u.lane) settled;
+          entries = entries;
+          known = λ i there. subst (λ (u : View). Contains u.known i) (sym settled) there;
+        };
+        locks = ap (λ (u : View). u.locks) settled;
+        call = call;
+      } in
+      let known : KeepsKnown v m = record { known = λ i outside there. words i; recorded = λ i outside is. words i } in
       let heads : HasSameHeads v m = record {
         lanes = ap (λ (u : View). u.lanes) settled;
         zones = ap (λ (u : View). u.zones) settled;
@@ -64,7 +82,7 @@ module _ {M : Type 0} (o : Opening) (at : M → View → Type 0) (lane next : La
         described = λ c in_pool. words (descriptor_word v.lanes c);
         root = words 64;
       } in
-      keeps_quiet v m heads next.locks.items blocks keeps_as (ap (λ (u : View). u.table) settled) (ap (λ (u : View). u.zone_locks) settled) (same_blocks v m entries call) entries call
+      keeps_quiet v m heads next.locks.items blocks keeps_as (ap (λ (u : View). u.table) settled) (ap (λ (u : View). u.zone_locks) settled) (same_blocks v m entries call) entries call (quietly_stays v m keeps_as.has_reserved quietly known)
 
   pub canceled_with_lists : HasCanceled o at next v → IsAtWorkWith o at next blocks (after_all v (cancels v))
   unfolding cancels in_turn one after_all

@@ -9,7 +9,7 @@ use Rattle.std.proofs.lemmas.List.Folds.{Any-from_list_any}
 use Rattle.pm_header.specs.declared.header.Header.{Header}
 use Rattle.pm_image.specs.declared.block.Block.{Block}
 use Rattle.pm_image.specs.Blocks.{descriptor_word}
-use Rattle.pm_model.specs.Actions.{max_entries}
+use Rattle.pm_model.specs.Actions.{Pending, max_entries}
 use Rattle.pm_objects.specs.declared.calls.Operation.TheVariants.{Alloc}
 use Rattle.pm_objects.specs.declared.history.Value.TheVariants.{Offset}
 use Rattle.pm_objects.specs.declared.pool.PoolView.{PoolView}
@@ -26,9 +26,10 @@ use Rattle.pm_world.specs.declared.lane.Lane.{Lane}
 use Rattle.pm_undo.specs.Spans.{IsSpan}
 use Rattle.pm_lock.specs.Finding.{FindsObject}
 use Rattle.pm_crash.proofs.CallBlocks.{blocks_once_more}
-use Rattle.pm_crash.proofs.PendingOn.{published_once_more}
+use Rattle.pm_crash.proofs.PendingOn.{pending_once_more, published_once_more}
+use Rattle.pm_crash.proofs.ReservedStays.{alloc_stays}
 use Rattle.pm_crash.specs.Alone.{WorksAlone}
-use Rattle.pm_crash.specs.CallBlocks.{CallBlocks, NewObject, blocks_in, is_freed_in, with_made}
+use Rattle.pm_crash.specs.CallBlocks.{CallBlocks, NewObject, blocks_in, is_freed_in, reserved_in, reserved_object, with_made}
 use Rattle.pm_crash.specs.HeapChanges.{run_at}
 use Rattle.pm_crash.specs.Operations.{AllocatesObject, entries_so_far}
 use Rattle.pm_crash.specs.Pending.{published_in}
@@ -193,6 +194,11 @@ module _ {M : Type 0} (o : Opening) (at : M → View → Type 0) (lane : Lane M)
         is_block = has.is_block ∙ ap (λ k. block_of_chunks k (64 * has.zone + has.first) has.count) (sym lanes);
       })
 
+  reserved_still : All (LiesInReserved w) (reserved_in w)
+  reserved_still =
+      subst (λ (p : Pending). All (LiesInReserved w) (map reserved_object p.reserved)) (sym (pending_once_more v w (Alloc size kind) (Some (Offset n.off)) gains.still.entries is_allocated.tells.call))
+      (All-weaker (LiesInReserved v) (LiesInReserved w) lies_still (reserved_in v) is.reserved_within)
+
   lies_within : (m : NewObject) → Contains (blocks_in v).made m ⊎ (n ≡ m) → LiesInReserved w m
   lies_within m (inl before) = lies_still m (is.within m before)
   lies_within m (inr new) = subst (LiesInReserved w) new (lies_new gains.own gains.within)
@@ -209,6 +215,8 @@ module _ {M : Type 0} (o : Opening) (at : M → View → Type 0) (lane : Lane M)
       borne_out = still.alone.borne_out;
       freed_held = subst (λ (b : BlockLists). All (IsHeldFreed next.locks.items) b.freed) (sym listed) (subst (λ ls. All (IsHeldFreed ls.items) blocks.freed) (sym fields.locks) is.freed_held);
       within = λ m there. lies_within m (Contains-push_cases (blocks_in v).made n m (subst (λ (b : CallBlocks). Contains b.made m) lists_are there));
+      has_reserved = alloc_stays v w n is.has_reserved is_allocated;
+      reserved_within = reserved_still;
     };
     can = subst (CanMakeObject w) (sym fields.shape) still.alone.can;
   }

@@ -86,9 +86,9 @@ module _ {M : Type 0} (o : Opening) (at : M → View → Type 0) (lane next : La
   pub looks_at_root : (blocks : BlockLists) → IsAtWorkWith o at lane blocks v → Finds v 64 x → at next.memory looked → HasLookedWith o at next blocks v (λ w. slice_index w.words 64 ≡ x)
   looks_at_root blocks is finds seen =
       let inside = is.work.working.area.inside in
-      let looks : Looks 1 v looked = looks_once v 64 x (omega (arith, inside)) finds in
-      let keeps : Keeps lane.locks.items blocks looked = looks_keep lane.locks.items blocks 1 v looked looks (kept_of o at lane blocks v is) in
       let learned : HasLearned v 64 looked = learns_at_work v 64 x (root_is_plain v) finds.0 is.work.working in
+      let looks : Looks 1 v looked = looks_once v 64 x (omega (arith, inside)) finds learned.call.locks in
+      let keeps : Keeps lane.locks.items blocks looked = looks_keep lane.locks.items blocks 1 v looked looks (kept_of o at lane blocks v is) in
       record {
         loads = 1;
         view = looked;
@@ -102,6 +102,8 @@ module _ {M : Type 0} (o : Opening) (at : M → View → Type 0) (lane next : La
           borne_out = keeps.borne_out;
           freed_held = subst (λ ls. All (IsHeldFreed ls.items) blocks.freed) (sym fields.locks) is.freed_held;
           within = keeps.within;
+          has_reserved = keeps.has_reserved;
+          reserved_within = keeps.reserved_within;
         };
         holds = ap (λ (ws : List ℕ). slice_index ws 64) (load_words v 64 x (finds.1 is.alone)) ∙ sym (finds.1 is.alone);
       }

@@ -13,10 +13,10 @@ use Rattle.pm_world.specs.declared.lane.Lane.{Lane}
 use Rattle.pm_crash.proofs.AloneCourse.{StandsAlone, begins_holds, stands_at}
 use Rattle.pm_crash.specs.Alone.{Begins, WorksAlone}
 use Rattle.pm_crash.specs.CallBlocks.{reserved_in}
-use Rattle.pm_crash.specs.Reserved.{IsReservedFor}
+use Rattle.pm_crash.specs.Reserving.{HasReserved}
 use Rattle.pm_epoch.proofs.OpeningSeen.{finds_opening}
 use Rattle.pm_made.specs.Made.{BlockLists}
-use Rattle.pm_transaction.specs.AtWork.{AreForPool, IsAtWorkWith, IsNotMaking, ReservesNoChunk}
+use Rattle.pm_transaction.specs.AtWork.{AreForPool, IsAtWorkWith, IsNotMaking, LiesInReserved, ReservesNoChunk}
 use Rattle.pm_transaction.specs.Beginning.{HasBegunWith}
 use Rattle.pm_transaction.specs.Published.{HasOwnCounts}
 
@@ -31,7 +31,7 @@ module _ {M : Type 0} (o : Opening) (header : Header) (pool : PoolView) (at : M 
   stands : StandsAlone o header pool w
   stands = stands_at o header pool v has.begun.led.steps w begins has.begun.led.leads counts.numbered counts.within
 
-  module _ (pages : AreForPool blocks v) (unlocked : v.zone_locks ≡ []) (none : ReservesNoChunk v) (pending : All (IsReservedFor w) (reserved_in w)) where
+  module _ (pages : AreForPool blocks v) (unlocked : v.zone_locks ≡ []) (none : ReservesNoChunk v) (reserved : HasReserved w) (within : All (LiesInReserved w) (reserved_in w)) where
     quiet : IsNotMaking w
     quiet = record {
       unlocked = has.begun.led.heap.zone_locks ∙ unlocked;
@@ -43,4 +43,4 @@ module _ {M : Type 0} (o : Opening) (header : Header) (pool : PoolView) (at : M 
     pub begun_at_work : IsAtWorkWith o at lane blocks w
     begun_at_work =
         has.opens o stands.goes.world.sound (begins_holds o header pool v begins).1.has_header.has_shape.shape.zones_to (finds_opening o header pool w stands)
-        (let lanes = has.begun.same.lanes in let zones = has.begun.same.zones in omega (arith, pages, lanes, zones)) quiet pending
+        (let lanes = has.begun.same.lanes in let zones = has.begun.same.zones in omega (arith, pages, lanes, zones)) quiet reserved within

@@ -1,10 +1,10 @@
 -- A transaction that has just begun made and freed nothing, so what a lane alone has with empty lists is all that it needs to be at work with them.
-use Rattle.std.proofs.Common.{◌≡◌, List, [], ◌∷◌, map, slice_index, None, sym, ap, ◌∙◌, subst, Contains}
+use Rattle.std.proofs.Common.{◌≡◌, inl, inr, List, [], ◌∷◌, map, slice_index, None, sym, ap, ◌∙◌, subst, Contains}
 use Rattle.std.specs.List.{All, flat_map}
-use Rattle.std.proofs.lemmas.List.Elements.{All-nil}
+use Rattle.std.proofs.lemmas.List.Elements.{All-nil, All-weaker}
 use Rattle.pm_image.proofs.Members.{no_member}
 use Rattle.pm_crash.proofs.CallBlocks.{first_agrees}
-use Rattle.pm_crash.specs.CallBlocks.{CallBlocks, allocated_in, allocated_told, blocks_in, blocks_told, no_blocks, reserved_in}
+use Rattle.pm_crash.specs.CallBlocks.{CallBlocks, NewObject, allocated_in, allocated_told, blocks_in, blocks_told, no_blocks, reserved_in}
 use Rattle.pm_crash.specs.Pending.{pending_before}
 use Rattle.pm_crash.specs.Reserved.{IsBorneOut, IsReservedFor, root_in}
 use Rattle.pm_made.specs.Made.{BlockLists, ListsBlocks}
@@ -16,13 +16,18 @@ use Rattle.pm_view.specs.Founds.{IsAlone}
 use Rattle.pm_view.specs.View.{Told, View}
 use Rattle.pm_world.specs.declared.lane.HeldLock.{HeldLock}
 use Rattle.pm_world.specs.declared.lane.Lane.{Lane}
-use Rattle.pm_transaction.specs.AtWork.{IsHeldFreed}
+use Rattle.pm_transaction.specs.AtWork.{IsHeldFreed, LiesInReserved}
 use Rattle.pm_transaction.specs.Beginning.{HasBegunWith}
 
 -- where nothing is listed as freed, each is held
 none_freed : (locks : List HeldLock) (freed : List Freed) → map (λ (f : Freed). f.off) freed ≡ [] → All (IsHeldFreed locks) freed
 none_freed locks [] none = All-nil (IsHeldFreed locks)
 none_freed locks (f ∷ freed) none = absurd cc
+
+-- what lies whole in what the lane reserved is reserved
+reserved_for : (v : View) (n : NewObject) → LiesInReserved v n → IsReservedFor v n
+reserved_for v n (inl run) = inl run.0
+reserved_for v n (inr chunks) = inr chunks
 
 module _ {M : Type 0} (at : M → View → Type 0) (lane : Lane M) (blocks : BlockLists) (v : View) (wants : List Want) (none : ListsBlocks blocks no_blocks) (alone : IsAlone v) where
   begun_borne_out : (w : View) → w.call ≡ record { operation = Begin wants; reply = None } ∷ [] → All (IsReservedFor w) (reserved_in w) → IsBorneOut w
@@ -44,14 +49,16 @@ module _ {M : Type 0} (at : M → View → Type 0) (lane : Lane M) (blocks : Blo
       let same : blocks_in begun.view ≡ no_blocks = begun_none begun.view begun.call in
       record {
         begun = begun;
-        opens = λ o sound few finds pages quiet pending. record {
+        opens = λ o sound few finds pages quiet reserved within. record {
           work = begun.opens o sound few finds;
           lists = subst (ListsBlocks blocks) (sym same) none;
           pages = pages;
           alone = begun.same.table ∙ alone;
           not_making = quiet;
-          borne_out = begun_borne_out begun.view begun.call pending;
+          borne_out = begun_borne_out begun.view begun.call (All-weaker (LiesInReserved begun.view) (IsReservedFor begun.view) (reserved_for begun.view) (reserved_in begun.view) within);
           freed_held = none_freed lane.locks.items blocks.freed none.freed;
           within = λ n there. absurd (no_member n (subst (λ (b : CallBlocks). Contains b.made n) same there));
+          has_reserved = reserved;
+          reserved_within = within;
         };
       }

@@ -1,5 +1,5 @@
 -- Behind an operation on an object that the call found, the lane has still what it has with its lists.
-use Rattle.std.proofs.Common.{◌≡◌, ◌≢◌, ℕ, ◌+◌, ◌<◌, ◌&&◌, true, false, List, length, slice_index, Contains, is_some, None, refl, sym, ap, ◌∙◌, arith}
+use Rattle.std.proofs.Common.{◌≡◌, ◌≢◌, ℕ, ◌+◌, ◌<◌, ◌&&◌, true, false, List, length, slice_index, Contains, is_some, None, refl, sym, ap, ◌∙◌, subst, arith}
 use Rattle.std.proofs.lemmas.Bool.{and_parts, false_from_ne_true, leb-true}
 use Rattle.std.proofs.lemmas.List.Folds.{Any-from_list_any}
 use Rattle.pm_image.specs.Blocks.{descriptor_word}
@@ -21,10 +21,13 @@ use Rattle.pm_world.specs.Records.{is_recorded}
 use Rattle.pm_world.specs.declared.lane.Lane.{Lane}
 use Rattle.pm_world.specs.declared.lane.Span.{Span}
 use Rattle.pm_crash.proofs.CallBlocks.{blocks_once_more}
+use Rattle.pm_crash.proofs.KeptWords.{keeps_known}
 use Rattle.pm_crash.proofs.CallWords.{behind_is_outside}
 use Rattle.pm_crash.proofs.Covered.{written_words}
 use Rattle.pm_crash.proofs.FoundBlocks.{IsPageOf, page_of_chunk}
 use Rattle.pm_crash.proofs.NewRuns.{page_at}
+use Rattle.pm_crash.proofs.ReservedStays.{told_stays, write_stays}
+use Rattle.pm_crash.specs.OpenCall.{IsUnderBlock, RecordsUnder}
 use Rattle.pm_crash.specs.Operations.{AddsRange, ReadsBytes, WritesBytes}
 use Rattle.pm_crash.proofs.StillReserved.{HasSameHeads}
 use Rattle.pm_tx.proofs.BorneOut.{same_heads_outside}
@@ -41,7 +44,8 @@ module _ {M : Type 0} (o : Opening) (at : M → View → Type 0) (next : Lane M)
       let read : ReadsBytes v w id off len = has.read in
       let heads : HasSameHeads v w = same_heads_outside v w inside read.tells.keeps.lanes read.tells.keeps.zones (reads_leave id off len bytes v).reserved read.keeps.words in
       with_lists o at next blocks w has.works
-      (keeps_told v w heads next.locks.items blocks keeps (same_lane-after_all v (reads_range id off len bytes v)).table (reads_leave id off len bytes v).zone_locks (blocks_once_more v w (Read id off len) _ read.tells.keeps.entries read.tells.call) (Read id off len) _ read.tells.keeps.entries read.tells.call (refl, refl) (λ root. tt))
+      (keeps_told v w heads next.locks.items blocks keeps (same_lane-after_all v (reads_range id off len bytes v)).table (reads_leave id off len bytes v).zone_locks (blocks_once_more v w (Read id off len) _ read.tells.keeps.entries read.tells.call) (Read id off len) _ read.tells.keeps.entries read.tells.call (refl, refl) (λ root. tt)
+            (told_stays v w (Read id off len) _ keeps.has_reserved read.tells (keeps_known v w read.keeps) (refl, refl) refl))
 
   pub added_with_lists : (len : ℕ) (spans : List Span) → HasAddedRange o at next v spans id off len → IsAtWorkWith o at next blocks (after_all v (adds_range spans id off len v))
   added_with_lists len spans has =
@@ -49,7 +53,8 @@ module _ {M : Type 0} (o : Opening) (at : M → View → Type 0) (next : Lane M)
       let added : AddsRange v w id off len = has.added in
       let heads : HasSameHeads v w = same_heads_outside v w inside added.tells.keeps.lanes added.tells.keeps.zones (adds_leave spans id off len v).reserved added.keeps.words in
       with_lists o at next blocks w has.works
-      (keeps_told v w heads next.locks.items blocks keeps (same_lane-after_all v (adds_range spans id off len v)).table (adds_leave spans id off len v).zone_locks (blocks_once_more v w (AddRange id off len) None added.tells.keeps.entries added.tells.call) (AddRange id off len) None added.tells.keeps.entries added.tells.call (refl, refl) (λ root. tt))
+      (keeps_told v w heads next.locks.items blocks keeps (same_lane-after_all v (adds_range spans id off len v)).table (adds_leave spans id off len v).zone_locks (blocks_once_more v w (AddRange id off len) None added.tells.keeps.entries added.tells.call) (AddRange id off len) None added.tells.keeps.entries added.tells.call (refl, refl) (λ root. tt)
+            (told_stays v w (AddRange id off len) None keeps.has_reserved added.tells (keeps_known v w added.keeps) (refl, refl) refl))
 
   module _ (bytes : List ℕ) (has : HasWrittenRange o at next v id off bytes) where
     abbrev w : View
@@ -97,7 +102,14 @@ module _ {M : Type 0} (o : Opening) (at : M → View → Type 0) (next : Lane M)
       root_outside : (lane : ℕ) → is_in_area lane 64 ≡ false
       root_outside lane = false_from_ne_true (is_in_area lane 64) (λ is. let low = leb-true (area_word lane) 64 (and_parts _ _ is).0 in omega (arith, low))
 
+    -- what it recorded before lies under the same locks
+    under_before : RecordsUnder v
+    under_before i recorded =
+        let t : IsUnderBlock w i = has.works.under_way.under i (ap (λ rs. is_recorded rs i) written.logs.records ∙ recorded) in
+        record { lock = t.lock; lines = t.lines; held = subst (λ (ls : List Lock). Contains ls t.lock) written.tells.locks t.held; found = t.found; from = t.from; to = t.to }
+
     pub written_with_lists : IsAtWorkWith o at next blocks (after_all v (writes_range id off bytes v))
     written_with_lists =
         with_lists o at next blocks w works
-        (keeps_told v w heads next.locks.items blocks keeps (same_lane-after_all v (writes_range id off bytes v)).table (writes_leave id off bytes v).zone_locks (blocks_once_more v w (Write id off bytes) None written.tells.keeps.entries written.tells.call) (Write id off bytes) None written.tells.keeps.entries written.tells.call (refl, refl) (λ root. tt))
+        (keeps_told v w heads next.locks.items blocks keeps (same_lane-after_all v (writes_range id off bytes v)).table (writes_leave id off bytes v).zone_locks (blocks_once_more v w (Write id off bytes) None written.tells.keeps.entries written.tells.call) (Write id off bytes) None written.tells.keeps.entries written.tells.call (refl, refl) (λ root. tt)
+            (write_stays v w id off bytes keeps.has_reserved under_before written))

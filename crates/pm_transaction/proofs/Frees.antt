@@ -1,16 +1,15 @@
 -- A free of a lane at work: told, it leaves the lane at work; refused, it gives the call up.
-use Rattle.std.proofs.Common.{◌≡◌, ◌≢◌, ◌⊎◌, ⊎_elim, inl, inr, ℕ, ◌+◌, ◌<◌, ◌≤◌, Bool, true, false, not, cond, eqb, [], ◌∷◌, ◌++◌, Contains, length, slice_index, Some, None, refl, sym, ◌∙◌, ap, subst, arith}
+use Rattle.std.proofs.Common.{◌≡◌, ◌≢◌, ◌⊎◌, ⊎_elim, inl, inr, ℕ, ◌+◌, ◌<◌, ◌≤◌, Bool, true, false, not, cond, eqb, [], ◌∷◌, ◌++◌, Contains, map, length, slice_index, Some, None, refl, sym, ◌∙◌, ap, subst, arith}
 use Rattle.std.specs.List.{All, list_any}
 use Rattle.std.proofs.lemmas.Bool.{cases_Bool, cond-false, cond-true, eq-eqb, false≢true, ne_eqb, or_left, or_parts}
 use Rattle.std.proofs.lemmas.List.{append-nil}
-use Rattle.std.proofs.lemmas.List.Elements.{All-append, All-cons, All-nil}
+use Rattle.std.proofs.lemmas.List.Elements.{All-append, All-cons, All-nil, All-weaker}
 use Rattle.std.proofs.lemmas.Option.{same_Some}
 use Rattle.pm_crash.proofs.CallBlocks.{blocks_once_more}
 use Rattle.pm_crash.proofs.FreeOn.{found_free_goes_on, made_free_goes_on}
 use Rattle.pm_crash.proofs.OnceMade.{member_kept}
-use Rattle.pm_crash.proofs.PendingOn.{published_once_more}
 use Rattle.pm_crash.proofs.RefusedFree.{refused_free_aborts}
-use Rattle.pm_crash.specs.CallBlocks.{CallBlocks, NewObject, blocks_in, is_at, is_made_in, with_freed}
+use Rattle.pm_crash.specs.CallBlocks.{CallBlocks, NewObject, blocks_in, is_at, is_made_in, reserved_in, reserved_object, with_freed}
 use Rattle.pm_crash.specs.OpenCall.{IsUnderWay}
 use Rattle.pm_crash.specs.Operations.{FreesFound, FreesMade, KeepsKnown, KeepsLog, Tells, entries_so_far}
 use Rattle.pm_crash.specs.Pending.{published_in}
@@ -24,7 +23,7 @@ use Rattle.pm_objects.specs.declared.history.Value.TheVariants.{Refused}
 use Rattle.pm_objects.specs.declared.ids.Oid.{Oid}
 use Rattle.pm_objects.specs.declared.refusal.Refusal.{Refusal}
 use Rattle.pm_objects.specs.declared.refusal.Refusal.TheVariants as refusal
-use Rattle.pm_model.specs.Actions.{max_entries}
+use Rattle.pm_model.specs.Actions.{Pending, max_entries}
 use Rattle.pm_undo.proofs.Begun.{tell_works}
 use Rattle.pm_undo.specs.Spans.{IsSpan}
 use Rattle.pm_view.proofs.SameLane.{same_lane-after}
@@ -36,7 +35,11 @@ use Rattle.pm_world.specs.Lawful.{MayTell}
 use Rattle.pm_world.specs.Opening.{Opening}
 use Rattle.pm_world.specs.Sequences.{Ready, one}
 use Rattle.pm_world.specs.declared.lane.Lane.{Lane}
+use Rattle.pm_crash.proofs.PendingOn.{pending_once_more, published_once_more}
+use Rattle.pm_crash.proofs.ReservedStays.{found_free_stays, made_free_stays}
 use Rattle.pm_crash.proofs.StillReserved.{HasSameHeads}
+use Rattle.pm_crash.specs.Reserving.{HasReserved}
+use Rattle.pm_lock.specs.Finding.{FindsObject}
 use Rattle.pm_tx.proofs.BorneOut.{heads_taken_back}
 use Rattle.pm_tx.proofs.GoingOn.{HasSameFields, goes_on}
 use Rattle.pm_tx.proofs.NoneMade.{made_none_before}
@@ -47,7 +50,7 @@ use Rattle.pm_made.proofs.CallLists.{made_is}
 use Rattle.pm_transaction.proofs.GoingWith.{lies_still}
 use Rattle.pm_transaction.proofs.Owned.{behind_owned, its_block, left_here, member_passes}
 use Rattle.pm_transaction.proofs.NotMaking.{not_making_still}
-use Rattle.pm_transaction.specs.AtWork.{IsAtWorkWith, IsHeldFreed, IsUnderLock}
+use Rattle.pm_transaction.specs.AtWork.{IsAtWorkWith, IsHeldFreed, IsUnderLock, LiesInReserved}
 use Rattle.pm_transaction.specs.Freeing.{CanFree, HasFreed, IsFreeRefused, IsOwned, lines_of}
 use Rattle.pm_transaction.specs.declared.freeing.Owned.{Owned}
 use Rattle.pm_transaction.specs.declared.freeing.Owned.TheVariants as owned
@@ -115,8 +118,27 @@ module _ {M : Type 0} (o : Opening) (at : M → View → Type 0) (lane : Lane M)
       (let f = is.work.opening in record { lane = f.lane; lanes = f.lanes; size = f.size; descriptors = f.descriptors; locks = f.locks })
       (tell_works v (Free id) None is.work.working) is.work.no_entries (published_once_more v told (Free id) None refl refl ∙ append-nil (published_in v)) (made_none_before v told (Free id) None refl refl tt) (still_under_way x can)
 
+  -- a block that was found has a line, that of the object's header
+  found_has_lines : (frees : FreesFound v told id) → 1 ≤ frees.held.lines
+  found_has_lines frees =
+      let object : FindsObject v frees.held.lock = is.work.objects frees.held.lock frees.held.held in
+      let same = same_Some object.lines frees.held.lines (sym object.block ∙ frees.held.block) in
+      let fits = object.fits in
+      omega (arith, same, fits)
+
+  still_reserved : (x : Owned) → CanFree v id x → HasReserved told
+  still_reserved x can = ⊎_elim
+      (λ (made : FreesMade v told id). made_free_stays v told id is.has_reserved made)
+      (λ (found : FreesFound v told id). found_free_stays v told id is.has_reserved found (found_has_lines found))
+      (frees_so x can)
+
   heads_told : HasSameHeads v told
   heads_told = record { lanes = refl; zones = refl; reserved = refl; described = λ c in_pool. refl; root = refl }
+
+  reserved_still : All (LiesInReserved told) (reserved_in told)
+  reserved_still =
+      subst (λ (p : Pending). All (LiesInReserved told) (map reserved_object p.reserved)) (sym (pending_once_more v told (Free id) None refl refl))
+      (All-weaker (LiesInReserved v) (LiesInReserved told) (lies_still v told heads_told) (reserved_in v) is.reserved_within)
 
   -- what is made behind it was made before
   made_before : (n : NewObject) → Contains (with_freed id.off (blocks_in v)).made n → Contains (blocks_in v).made n
@@ -155,6 +177,8 @@ module _ {M : Type 0} (o : Opening) (at : M → View → Type 0) (lane : Lane M)
         borne_out = borne_told v told heads_told (Free id) None refl refl (refl, refl) (root_elsewhere (slice_index v.words) id.off can.not_root) is.borne_out;
         freed_held = subst (λ ls. All (IsHeldFreed ls.items) now.freed) (sym fields.locks) (listed_held lines held are);
         within = λ n there. lies_still v told heads_told n (is.within n (made_before n (subst (λ (b : CallBlocks). Contains b.made n) (blocks_once_more v told (Free id) None refl refl) there)));
+        has_reserved = still_reserved x can;
+        reserved_within = reserved_still;
       };
       frees = frees_so x can;
     }

@@ -1,15 +1,17 @@
 -- What a lane has with its lists of a transaction stays so behind what tells nothing of the heap, and changes no word that describes a chunk, nor the root's.
-use Rattle.std.proofs.Common.{◌≡◌, inl, inr, ℕ, zero, suc, ◌+◌, ◌*◌, ◌<◌, ◌||◌, List, [], ◌∷◌, ◌++◌, Contains, slice_index, Option, refl, sym, ap, ◌∙◌, subst, arith}
+use Rattle.std.proofs.Common.{◌≡◌, inl, inr, ℕ, zero, suc, ◌+◌, ◌*◌, ◌<◌, ◌||◌, List, [], ◌∷◌, ◌++◌, Contains, map, slice_index, Option, refl, sym, ap, ◌∙◌, subst, arith}
 use Rattle.std.specs.List.{All, list_any}
+use Rattle.std.proofs.lemmas.List.Elements.{All-contains, All-contains_itself, All-weaker}
 use Rattle.pm_image.specs.Blocks.{descriptor_word}
 use Rattle.pm_layout.specs.Sizes.{blocks_of}
 use Rattle.pm_made.specs.Made.{BlockLists, ListsBlocks}
+use Rattle.pm_model.specs.Actions.{Pending}
 use Rattle.pm_model.specs.Bytes.{is_among}
 use Rattle.pm_objects.specs.declared.calls.Operation.{Operation}
 use Rattle.pm_objects.specs.declared.history.Value.{Value}
 use Rattle.pm_view.specs.declared.occ.Occ.{Occ}
 use Rattle.pm_view.specs.declared.occ.Occ.TheVariants.{Zone}
-use Rattle.pm_view.specs.Founds.{IsAlone}
+use Rattle.pm_view.specs.Founds.{FindsKnown, IsAlone}
 use Rattle.pm_view.specs.Steps.Step.{Load}
 use Rattle.pm_view.specs.View.{View}
 use Rattle.pm_view.specs.Views.{after, has_bit, reserves}
@@ -19,12 +21,17 @@ use Rattle.pm_world.specs.declared.lane.Lane.{Lane}
 use Rattle.pm_crash.proofs.AloneMemory.{load_words}
 use Rattle.pm_crash.proofs.CallBlocks.{same_blocks}
 use Rattle.pm_crash.specs.Pending.{pending_in}
-use Rattle.pm_crash.specs.CallBlocks.{CallBlocks, IsOldIn, LeavesReserved, NewObject, TellsOfRoot, blocks_in, is_at}
+use Rattle.pm_crash.specs.CallBlocks.{CallBlocks, IsOldIn, LeavesReserved, NewObject, TellsOfRoot, blocks_in, is_at, reserved_in, reserved_object}
 use Rattle.pm_crash.specs.HeapChanges.{run_at}
 use Rattle.pm_crash.specs.NewObjects.{block_of_chunks, block_of_run}
+use Rattle.pm_crash.specs.Operations.{KeepsKnown, TellsNothing}
 use Rattle.pm_crash.specs.Reserved.{IsBorneOut, IsReservedInChunks, IsReservedInRun}
-use Rattle.pm_crash.proofs.StillReserved.{HasSameHeads, borne_on, borne_still}
+use Rattle.pm_crash.specs.Reserving.{HasReserved}
+use Rattle.pm_crash.proofs.PendingOn.{pending_once_more, pending_same}
+use Rattle.pm_crash.proofs.ReservedStays.{quietly_stays}
+use Rattle.pm_crash.proofs.StillReserved.{HasSameHeads, borne_on, borne_still, reserved_behind}
 use Rattle.pm_tx.specs.AtWork.{IsAtWork}
+use Rattle.pm_tx.proofs.LookedOn.{looked_once}
 use Rattle.pm_tx.specs.Learning.{Looks}
 use Rattle.pm_transaction.proofs.NotMaking.{not_making_still}
 use Rattle.pm_transaction.specs.AtWork.{AreForPool, IsAtWorkWith, IsHeldFreed, IsNotMaking, LiesInReserved}
@@ -38,13 +45,15 @@ pub record Keeps (locks : List HeldLock) (blocks : BlockLists) (v : View) : Type
   pub borne_out : IsBorneOut v
   pub freed_held : All (IsHeldFreed locks) blocks.freed
   pub within : (n : NewObject) → Contains (blocks_in v).made n → LiesInReserved v n
+  pub has_reserved : HasReserved v
+  pub reserved_within : All (LiesInReserved v) (reserved_in v)
 
 pub kept_of : {M : Type 0} (o : Opening) (at : M → View → Type 0) (lane : Lane M) (blocks : BlockLists) (v : View) → IsAtWorkWith o at lane blocks v → Keeps lane.locks.items blocks v
-kept_of o at lane blocks v all = record { lists = all.lists; pages = all.pages; alone = all.alone; not_making = all.not_making; borne_out = all.borne_out; freed_held = all.freed_held; within = all.within }
+kept_of o at lane blocks v all = record { lists = all.lists; pages = all.pages; alone = all.alone; not_making = all.not_making; borne_out = all.borne_out; freed_held = all.freed_held; within = all.within; has_reserved = all.has_reserved; reserved_within = all.reserved_within }
 
 pub with_lists : {M : Type 0} (o : Opening) (at : M → View → Type 0) (lane : Lane M) (blocks : BlockLists) (v : View) → IsAtWork o at lane v → Keeps lane.locks.items blocks v → IsAtWorkWith o at lane blocks v
 with_lists o at lane blocks v work keeps =
-    record { work = work; lists = keeps.lists; pages = keeps.pages; alone = keeps.alone; not_making = keeps.not_making; borne_out = keeps.borne_out; freed_held = keeps.freed_held; within = keeps.within }
+    record { work = work; lists = keeps.lists; pages = keeps.pages; alone = keeps.alone; not_making = keeps.not_making; borne_out = keeps.borne_out; freed_held = keeps.freed_held; within = keeps.within; has_reserved = keeps.has_reserved; reserved_within = keeps.reserved_within }
 
 -- ---- what the lane reserved
 
@@ -103,10 +112,24 @@ module _ (v w : View) (same : HasSameHeads v w) where
     pages_still : AreForPool blocks w
     pages_still = let pages = keeps.pages in let lanes = same.lanes in let zones = same.zones in omega (arith, pages, lanes, zones)
 
+    -- what is reserved behind an operation that leaves it was before
+    reserved_told : (op : Operation) (reply : Option Value) → w.entries ≡ v.entries → w.call ≡ v.call ++ record { operation = op; reply = reply } ∷ [] → LeavesReserved op reply (pending_in v) → All (LiesInReserved w) (reserved_in w)
+    reserved_told op reply entries call leaves =
+        All-weaker (Contains (reserved_in w)) (LiesInReserved w)
+        (λ n there. lies_still n
+        (All-contains (LiesInReserved v) (reserved_in v) n keeps.reserved_within
+        (reserved_behind op reply (pending_in v) leaves n (subst (λ (p : Pending). Contains (map reserved_object p.reserved) n) (pending_once_more v w op reply entries call) there))))
+        (reserved_in w) (All-contains_itself (reserved_in w))
+
+    reserved_quiet : w.entries ≡ v.entries → w.call ≡ v.call → All (LiesInReserved w) (reserved_in w)
+    reserved_quiet entries call =
+        subst (λ (p : Pending). All (LiesInReserved w) (map reserved_object p.reserved)) (sym (pending_same v w entries call))
+        (All-weaker (LiesInReserved v) (LiesInReserved w) lies_still (reserved_in v) keeps.reserved_within)
+
     -- behind an operation that tells nothing of the heap
     pub keeps_told : (op : Operation) (reply : Option Value) → w.entries ≡ v.entries → w.call ≡ v.call ++ record { operation = op; reply = reply } ∷ [] → LeavesReserved op reply (pending_in v) → ((root : Option ℕ) → TellsOfRoot root op reply (pending_in v))
-        → Keeps locks blocks w
-    keeps_told op reply entries call none no_root = record {
+        → HasReserved w → Keeps locks blocks w
+    keeps_told op reply entries call none no_root has = record {
       lists = lists_still;
       pages = pages_still;
       alone = table ∙ keeps.alone;
@@ -114,11 +137,13 @@ module _ (v w : View) (same : HasSameHeads v w) where
       borne_out = borne_on v w same op reply entries call none no_root keeps.borne_out;
       freed_held = keeps.freed_held;
       within = within_still;
+      has_reserved = has;
+      reserved_within = reserved_told op reply entries call none;
     }
 
     -- and where nothing is told
-    pub keeps_quiet : w.entries ≡ v.entries → w.call ≡ v.call → Keeps locks blocks w
-    keeps_quiet entries call = record {
+    pub keeps_quiet : w.entries ≡ v.entries → w.call ≡ v.call → HasReserved w → Keeps locks blocks w
+    keeps_quiet entries call has = record {
       lists = lists_still;
       pages = pages_still;
       alone = table ∙ keeps.alone;
@@ -126,6 +151,8 @@ module _ (v w : View) (same : HasSameHeads v w) where
       borne_out = borne_still v w same entries call keeps.borne_out;
       freed_held = keeps.freed_held;
       within = within_still;
+      has_reserved = has;
+      reserved_within = reserved_quiet entries call;
     }
 
 -- what the call found it found still, where nothing is told
@@ -144,6 +171,16 @@ look_heads m word x found =
     let words : (i : ℕ) → slice_index (after m (Load word x)).words i ≡ slice_index m.words i = λ i. ap (λ (ws : List ℕ). slice_index ws i) (load_words m word x found) in
     record { lanes = refl; zones = refl; reserved = refl; described = λ c in_pool. words (descriptor_word m.lanes c); root = words 64 }
 
+looked_quietly : (m : View) (word x : ℕ) → FindsKnown m word x → (after m (Load word x)).locks ≡ m.locks → TellsNothing m (after m (Load word x))
+looked_quietly m word x finds locks =
+    let on = looked_once m word x finds in
+    record { keeps = record { lanes = refl; zones = refl; pool = refl; lane = refl; entries = refl; known = on.remembers }; locks = locks; call = refl }
+
+looked_known : (m : View) (word x : ℕ) → x ≡ slice_index m.words word → KeepsKnown m (after m (Load word x))
+looked_known m word x found =
+    let words : (i : ℕ) → slice_index (after m (Load word x)).words i ≡ slice_index m.words i = λ i. ap (λ (ws : List ℕ). slice_index ws i) (load_words m word x found) in
+    record { known = λ i outside there. words i; recorded = λ i outside is. words i }
+
 pub looks_keep : (locks : List HeldLock) (blocks : BlockLists) (n : ℕ) (v w : View) → Looks n v w → Keeps locks blocks v → Keeps locks blocks w
 unfolding Looks
 looks_keep locks blocks zero v w is keeps = subst (Keeps locks blocks) (sym is) keeps
@@ -152,4 +189,5 @@ looks_keep locks blocks (suc n) v w t keeps =
     let before : Keeps locks blocks m = looks_keep locks blocks n v m t.3 keeps in
     let there : View = after m (Load t.1 t.2) in
     subst (Keeps locks blocks) (sym t.6)
-    (keeps_quiet m there (look_heads m t.1 t.2 (t.5.1 before.alone)) locks blocks before refl refl (same_blocks m there refl refl) refl refl)
+    (keeps_quiet m there (look_heads m t.1 t.2 (t.5.1 before.alone)) locks blocks before refl refl (same_blocks m there refl refl) refl refl
+    (quietly_stays m there before.has_reserved (looked_quietly m t.1 t.2 t.5.0 (ap (λ (u : View). u.locks) (sym t.6) ∙ t.7)) (looked_known m t.1 t.2 (t.5.1 before.alone))))

@@ -16,7 +16,9 @@ use Rattle.pm_world.specs.Sequences.{Ready, one}
 use Rattle.pm_world.specs.declared.lane.HeldLock.{HeldLock}
 use Rattle.pm_world.specs.declared.lane.Lane.{Lane}
 use Rattle.pm_lock.proofs.Drawless.{drawless}
+use Rattle.pm_crash.proofs.ReservedStays.{told_stays}
 use Rattle.pm_crash.proofs.CallBlocks.{blocks_once_more}
+use Rattle.pm_crash.proofs.KeptWords.{keeps_known}
 use Rattle.pm_crash.proofs.NewRanges.{new_add_goes_on}
 use Rattle.pm_crash.proofs.PendingOn.{published_once_more}
 use Rattle.pm_crash.specs.Operations.{AddsNewRange, HasNewRange}
@@ -70,7 +72,8 @@ module _ {M : Type 0} (o : Opening) (at : M → View → Type 0) (lane : Lane M)
       (made_none_before v w (AddRange id off len) None refl refl tt)
       (new_add_goes_on v w id off len lane.level all.work.level all.work.under_way added) in
       let keeps : Keeps next.locks.items blocks w =
-      keeps_told v w heads next.locks.items blocks (subst (λ (ls : List HeldLock). Keeps ls blocks v) (ap (λ ls. ls.items) (sym fields.locks)) (kept_of o at lane blocks v all)) refl refl (blocks_once_more v w (AddRange id off len) None refl refl) (AddRange id off len) None refl refl (refl, refl) (λ root. tt) in
+      keeps_told v w heads next.locks.items blocks (subst (λ (ls : List HeldLock). Keeps ls blocks v) (ap (λ ls. ls.items) (sym fields.locks)) (kept_of o at lane blocks v all)) refl refl (blocks_once_more v w (AddRange id off len) None refl refl) (AddRange id off len) None refl refl (refl, refl) (λ root. tt)
+          (told_stays v w (AddRange id off len) None all.has_reserved added.tells (keeps_known v w added.keeps) (refl, refl) refl) in
       record {
         ready = new_add_may_be_made;
         draws = drawless v (adds_new id off len v) add_few;

@@ -26,7 +26,9 @@ use Rattle.pm_world.specs.Sequences.{Ready, looks, one}
 use Rattle.pm_world.specs.declared.lane.HeldLock.{HeldLock}
 use Rattle.pm_world.specs.declared.lane.Lane.{Lane}
 use Rattle.pm_lock.proofs.Drawless.{drawless}
+use Rattle.pm_crash.proofs.ReservedStays.{told_stays}
 use Rattle.pm_crash.proofs.CallBlocks.{blocks_once_more}
+use Rattle.pm_crash.proofs.KeptWords.{keeps_known}
 use Rattle.pm_crash.proofs.NewRanges.{new_read_goes_on}
 use Rattle.pm_crash.proofs.PendingOn.{published_once_more}
 use Rattle.pm_crash.specs.Operations.{HasNewRange, ReadsNewBytes, bytes_seen}
@@ -137,7 +139,8 @@ module _ {M : Type 0} (o : Opening) (at : M → View → Type 0) (lane : Lane M)
         (made_none_before v w (Read id off len) (Some (Bytes (bytes_seen v id off len))) read.tells.keeps.entries read.tells.call tt)
         (new_read_goes_on v w id off len lane.level all.work.level all.work.under_way read) in
         let keeps : Keeps next.locks.items blocks w =
-        keeps_told v w heads next.locks.items blocks (subst (λ (ls : List HeldLock). Keeps ls blocks v) (ap (λ ls. ls.items) (sym fields.locks)) (kept_of o at lane blocks v all)) call.lane.table (ap (λ (z : View). z.zone_locks) (sym sequence.1) ∙ (reads_leave id off len bytes v).zone_locks) (blocks_once_more v w (Read id off len) _ read.tells.keeps.entries read.tells.call) (Read id off len) _ read.tells.keeps.entries read.tells.call (refl, refl) (λ root. tt) in
+        keeps_told v w heads next.locks.items blocks (subst (λ (ls : List HeldLock). Keeps ls blocks v) (ap (λ ls. ls.items) (sym fields.locks)) (kept_of o at lane blocks v all)) call.lane.table (ap (λ (z : View). z.zone_locks) (sym sequence.1) ∙ (reads_leave id off len bytes v).zone_locks) (blocks_once_more v w (Read id off len) _ read.tells.keeps.entries read.tells.call) (Read id off len) _ read.tells.keeps.entries read.tells.call (refl, refl) (λ root. tt)
+          (told_stays v w (Read id off len) _ all.has_reserved read.tells (keeps_known v w read.keeps) (refl, refl) refl) in
         record {
           ready = new_read_may_be_made;
           draws = drawless v (reads_range id off len bytes v) read_few;

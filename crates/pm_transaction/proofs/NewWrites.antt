@@ -25,6 +25,7 @@ use Rattle.pm_world.specs.declared.lane.HeldLock.{HeldLock}
 use Rattle.pm_world.specs.declared.lane.Lane.{Lane}
 use Rattle.pm_lock.proofs.Drawless.{drawless}
 use Rattle.pm_lock.specs.Leading.{DrawEnded}
+use Rattle.pm_crash.proofs.ReservedStays.{new_write_stays}
 use Rattle.pm_crash.proofs.CallBlocks.{blocks_once_more}
 use Rattle.pm_crash.proofs.NewWrites.{new_write_goes_on}
 use Rattle.pm_crash.proofs.PendingOn.{published_once_more}
@@ -141,7 +142,8 @@ module _ {M : Type 0} (o : Opening) (at : M → View → Type 0) (lane : Lane M)
       (made_none_before v w (Write id off bytes) None told.tells.keeps.entries told.tells.call tt)
       (new_write_goes_on v w id off lane.level bytes all.work.level all.work.under_way told) in
       let keeps : Keeps next.locks.items blocks w =
-      keeps_told v w heads next.locks.items blocks (subst (λ (ls : List HeldLock). Keeps ls blocks v) (ap (λ ls. ls.items) (sym fields.locks)) (kept_of o at lane blocks v all)) has.call.lane.table (ap (λ (z : View). z.zone_locks) (sym sequence.1) ∙ (writes_leave id off bytes v).zone_locks) (blocks_once_more v w (Write id off bytes) None told.tells.keeps.entries told.tells.call) (Write id off bytes) None told.tells.keeps.entries told.tells.call (refl, refl) (λ root. tt) in
+      keeps_told v w heads next.locks.items blocks (subst (λ (ls : List HeldLock). Keeps ls blocks v) (ap (λ ls. ls.items) (sym fields.locks)) (kept_of o at lane blocks v all)) has.call.lane.table (ap (λ (z : View). z.zone_locks) (sym sequence.1) ∙ (writes_leave id off bytes v).zone_locks) (blocks_once_more v w (Write id off bytes) None told.tells.keeps.entries told.tells.call) (Write id off bytes) None told.tells.keeps.entries told.tells.call (refl, refl) (λ root. tt)
+          (new_write_stays v w id off bytes all.has_reserved all.work.under_way.has told) in
       record {
         ready = new_write_may_be_made;
         draws = write_draws;

@@ -2,8 +2,9 @@
 use Rattle.std.specs.Prelude.{◌≡◌, ◌⊎◌, ℕ, ◌+◌, ◌*◌, ◌/◌, ◌%◌, ◌<◌, true, false, All, Contains, List, [], Some, length, slice_index}
 use Rattle.pm_image.specs.Blocks.{descriptor_word}
 use Rattle.pm_layout.specs.Sizes.{blocks_of}
-use Rattle.pm_crash.specs.CallBlocks.{NewObject, blocks_in}
+use Rattle.pm_crash.specs.CallBlocks.{NewObject, blocks_in, reserved_in}
 use Rattle.pm_crash.specs.Reserved.{IsBorneOut, IsReservedInChunks, IsReservedInRun}
+use Rattle.pm_crash.specs.Reserving.{HasReserved}
 use Rattle.pm_made.specs.Made.{BlockLists, ListsBlocks}
 use Rattle.pm_made.specs.declared.objects.Freed.{Freed}
 use Rattle.pm_tx.specs.AtWork.{IsAtWork}
@@ -67,6 +68,9 @@ pub record IsAtWorkWith {M : Type 0} (o : Opening) (at : M → View → Type 0) 
   pub freed_held : All (IsHeldFreed lane.locks.items) blocks.freed
   -- the block of what it made lies whole in what it reserved, which bearing out does not ask: so it may store the block's words
   pub within : (n : NewObject) → Contains (blocks_in v).made n → LiesInReserved v n
+  -- and so does what is reserved and pending, which stands in its words
+  pub has_reserved : HasReserved v
+  pub reserved_within : All (LiesInReserved v) (reserved_in v)
 
 -- the lane is, whatever it was opened with, as some view
 abbrev pub IsLaneAtWorkWith : {M : Type 0} → (M → View → Type 0) → Lane M → BlockLists → Type 0

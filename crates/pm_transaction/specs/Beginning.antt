@@ -1,7 +1,7 @@
 -- A transaction that may make and free objects, begun (pmemobj_tx_begin(3)): docs/MODEL.md, "Transactions that make objects".
 use Rattle.std.specs.Prelude.{◌≤◌, All, List}
 use Rattle.pm_crash.specs.CallBlocks.{reserved_in}
-use Rattle.pm_crash.specs.Reserved.{IsReservedFor}
+use Rattle.pm_crash.specs.Reserving.{HasReserved}
 use Rattle.pm_made.specs.Made.{BlockLists}
 use Rattle.pm_objects.specs.declared.calls.Want.{Want}
 use Rattle.pm_tx.specs.Begins.{HasBegun}
@@ -9,11 +9,11 @@ use Rattle.pm_undo.specs.Working.{FindsOpening}
 use Rattle.pm_view.specs.View.{View}
 use Rattle.pm_world.specs.Opening.{IsSound, Opening}
 use Rattle.pm_world.specs.declared.lane.Lane.{Lane}
-use Rattle.pm_transaction.specs.AtWork.{AreForPool, IsAtWorkWith, IsNotMaking}
+use Rattle.pm_transaction.specs.AtWork.{AreForPool, IsAtWorkWith, IsNotMaking, LiesInReserved}
 
 -- the transaction is open as `pm_tx` has it; and whatever the pool was opened with, the lane is at work with these lists, which are of nothing made or freed, if they are for this pool
--- it makes no object now, and what is pending to be made lies in what it reserved
+-- it makes no object now, and what is reserved and pending stands in its words, in blocks that it reserved
 pub record HasBegunWith {M : Type 0} (at : M → View → Type 0) (lane : Lane M) (blocks : BlockLists) (v : View) (wants : List Want) : Type 0 where
   pub begun : HasBegun at lane v wants
-  pub opens : (o : Opening) → IsSound o → o.zones ≤ 32 → FindsOpening o begun.view → AreForPool blocks begun.view → IsNotMaking begun.view → All (IsReservedFor begun.view) (reserved_in begun.view)
+  pub opens : (o : Opening) → IsSound o → o.zones ≤ 32 → FindsOpening o begun.view → AreForPool blocks begun.view → IsNotMaking begun.view → HasReserved begun.view → All (LiesInReserved begun.view) (reserved_in begun.view)
       → IsAtWorkWith o at lane blocks begun.view

@@ -27,7 +27,7 @@ ghost use Rattle.pm_world.specs.declared.lane.Lane.{Lane};
 ghost use Rattle.pm_world.specs.declared.lane.Span.{Span};
 ghost use Rattle.pm_crash.specs.Alone.{Begins, BeginsAgain, MeansCalls, WorksAlone, kept_numbered, standing};
 ghost use Rattle.pm_crash.specs.CallBlocks.{reserved_in};
-ghost use Rattle.pm_crash.specs.Reserved.{IsReservedFor};
+ghost use Rattle.pm_crash.specs.Reserving.{HasReserved};
 ghost use Rattle.pm_epoch.specs.Epochs.{HasEnded};
 ghost use Rattle.pm_made.specs.Made.{BlockLists};
 ghost use Rattle.pm_tx.specs.Actions.{HasCanceled, cancels};
@@ -35,7 +35,7 @@ ghost use Rattle.pm_tx.specs.AtWork.{IsAtWork};
 ghost use Rattle.pm_tx.specs.Ending.{IsAfterCall};
 ghost use Rattle.pm_tx.specs.Sequences.{commits};
 ghost use Rattle.pm_transaction.specs.Allocating.{MayAllocate};
-ghost use Rattle.pm_transaction.specs.AtWork.{AreForPool, IsAtWorkWith, IsNotMaking, ReservesNoChunk};
+ghost use Rattle.pm_transaction.specs.AtWork.{AreForPool, IsAtWorkWith, IsNotMaking, LiesInReserved, ReservesNoChunk};
 ghost use Rattle.pm_transaction.specs.Beginning.{HasBegunWith};
 ghost use Rattle.pm_transaction.specs.Committing.{MayPublishBlocks};
 ghost use Rattle.pm_transaction.specs.Ending.{HasEndedWith, MayEnd};
@@ -44,13 +44,13 @@ ghost use Rattle.pm_transaction.specs.Published.{CommitsAlone, HasDrawn, HasOwnC
 use pm_world::LawfulMem;
 
 /// A law: a lane alone that began a transaction where it may begin, with no zone locked and no chunk reserved, works alone there, and is at work with its lists, if
-/// these are for its pool. No code runs.
+/// these are for its pool, and what it has pending that is reserved stands in its words, in blocks that it reserved. No code runs.
 pub fn a_lane_alone_begins_at_work<M: LawfulMem>()
     ensures works { (o : Opening) (header : Header) (pool : PoolView) (v : View) (lane : Lane M) (blocks : BlockLists) (wants : List Want) → Begins o header pool v
         → (begun : HasBegunWith M.at lane blocks v wants) → HasOwnCounts begun.begun.view → WorksAlone o header pool v begun.begun.led.steps begun.begun.view }
     ensures at_work { (o : Opening) (header : Header) (pool : PoolView) (v : View) (lane : Lane M) (blocks : BlockLists) (wants : List Want) → Begins o header pool v
         → AreForPool blocks v → v.zone_locks ≡ [] → ReservesNoChunk v → (begun : HasBegunWith M.at lane blocks v wants) → HasOwnCounts begun.begun.view
-        → All (IsReservedFor begun.begun.view) (reserved_in begun.begun.view) → IsAtWorkWith o M.at lane blocks begun.begun.view }
+        → HasReserved begun.begun.view → All (LiesInReserved begun.begun.view) (reserved_in begun.begun.view) → IsAtWorkWith o M.at lane blocks begun.begun.view }
 {}
 
 /// A law: a lane that works alone, and is at work in a transaction with its lists, may make an object there. No code runs.

@@ -130,7 +130,7 @@ module _ {M : Type 0} (o : Opening) (at : M → View → Type 0) (lane : Lane M)
         range_checked id off len of_pool place low = record {
           loads = 1;
           view = after v (Load (8 * line + 1) x);
-          looks = looks_once v (8 * line + 1) x size_in_pool finds_so;
+          looks = looks_once v (8 * line + 1) x size_in_pool finds_so size_objects.locks;
           works = looked_at_work;
           holds = range_kept v (after v (Load (8 * line + 1) x)) id off len write size_objects (has_range id off len of_pool place low);
         }
@@ -139,7 +139,7 @@ module _ {M : Type 0} (o : Opening) (at : M → View → Type 0) (lane : Lane M)
         end_checked id off len of_pool place high = record {
           loads = 1;
           view = after v (Load (8 * line + 1) x);
-          looks = looks_once v (8 * line + 1) x size_in_pool finds_so;
+          looks = looks_once v (8 * line + 1) x size_in_pool finds_so size_objects.locks;
           works = looked_at_work;
           holds = end_kept v (after v (Load (8 * line + 1) x)) id off len write size_objects (passes_end id off len of_pool place high);
         }

@@ -150,7 +150,7 @@ words_learned o lane v l held first (suc n) w work under t =
           (λ (this : i ≡ n). subst (λ j. Contains (after m (Load (first + n) t.1)).known (first + j)) (sym this) (look_learns o lane m before.works l there (first + n) t.1 last t.3.0))
           (λ (front : i < n). more.remembers (first + i) (before.learned i front))
           (eq-or-lt_of_le (let e : i ≤ n = omega (arith, low) in e));
-      looks = (m, first + n, t.1, before.looks, look_in_pool o lane m before.works l there (first + n) t.1 last t.3.0, t.3, refl);
+      looks = (m, first + n, t.1, before.looks, look_in_pool o lane m before.works l there (first + n) t.1 last t.3.0, t.3, refl, more.locks);
     })
 
 -- the object stays held
@@ -186,15 +186,15 @@ end_kept v w id off len write keeps passes = record {
 pub looks_then : (n k : ℕ) (u v w : View) → Looks n u v → Looks k v w → (j : ℕ) × Looks j u w
 unfolding Looks
 looks_then n zero u v w first is = (n, subst (Looks n u) (sym is) first)
-looks_then n (suc k) u v w first t = let r = looks_then n k u v t.0 first t.3 in (suc r.0, (t.0, t.1, t.2, r.1, t.4, t.5, t.6))
+looks_then n (suc k) u v w first t = let r = looks_then n k u v t.0 first t.3 in (suc r.0, (t.0, t.1, t.2, r.1, t.4, t.5, t.6, t.7))
 
 pub looks_none : (v : View) → Looks 0 v v
 unfolding Looks
 looks_none v = refl
 
-pub looks_once : (v : View) (word x : ℕ) → word < length v.words → Finds v word x → Looks 1 v (after v (Load word x))
+pub looks_once : (v : View) (word x : ℕ) → word < length v.words → Finds v word x → (after v (Load word x)).locks ≡ v.locks → Looks 1 v (after v (Load word x))
 unfolding Looks
-looks_once v word x low finds = (v, word, x, refl, low, finds, refl)
+looks_once v word x low finds locks = (v, word, x, refl, low, finds, refl, locks)
 
 -- a lane whose memory is another stands so, where that may be seen as the view
 pub moved : {M : Type 0} (o : Opening) (at : M → View → Type 0) (lane next : Lane M) (w : View) → IsAtWork o Anywhere lane w → HasSameFields lane next → next.records ≡ lane.records → at next.memory w → IsAtWork o at next w

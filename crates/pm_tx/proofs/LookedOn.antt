@@ -52,7 +52,7 @@ looked_then u v w first second = record {
 }
 
 -- a load, whatever is found of a word that was not known
-looked_once : (v : View) (w x : ℕ) → FindsKnown v w x → IsLookedOn v (after v (Load w x))
+pub looked_once : (v : View) (w x : ℕ) → FindsKnown v w x → IsLookedOn v (after v (Load w x))
 looked_once v w x finds = record {
   lane = same_lane-after v (Load w x);
   number = refl;

@@ -17,10 +17,10 @@ unfoldable pub Learns : ℕ → ℕ → View → View → Type 0
 Learns first zero v w = w ≡ v
 Learns first (suc n) v w = (m : View) × (x : ℕ) × Learns first n v m × Finds m (first + n) x × (w ≡ after m (Load (first + n) x))
 
--- the view after so many loads, each of a word of the pool, with what it found
+-- the view after so many loads, each of a word of the pool, with what it found: none is of a word that tells of what is under a lock
 unfoldable pub Looks : ℕ → View → View → Type 0
 Looks zero v w = w ≡ v
-Looks (suc n) v w = (m : View) × (word : ℕ) × (x : ℕ) × Looks n v m × (word < length m.words) × Finds m word x × (w ≡ after m (Load word x))
+Looks (suc n) v w = (m : View) × (word : ℕ) × (x : ℕ) × Looks n v m × (word < length m.words) × Finds m word x × (w ≡ after m (Load word x)) × (w.locks ≡ m.locks)
 
 -- from the view before, the lane looked at some words at most, is at work still, and this holds of its view
 pub record HasChecked {M : Type 0} (o : Opening) (at : M → View → Type 0) (lane : Lane M) (v : View) (Q : View → Type 0) : Type 0 where
