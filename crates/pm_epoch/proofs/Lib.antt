@@ -35,7 +35,9 @@ pub mod GainedRuns
 pub mod GainedObjects
 pub mod ApartObjects
 pub mod ToldViews
+pub mod PlacedObjects
 pub mod ToldObjects
+pub mod ToldReservations
 pub mod FreedLocks
 pub mod NewObjectViews
 pub mod StayingBorneOut

@@ -1,20 +1,23 @@
--- What a lane has bears out what its call told of the heap, from the call's begin on and behind each operation that allocates nothing.
-use Rattle.std.proofs.Common.{◌≡◌, All, List, [], slice_index, Option, None, sym, ap, ◌∙◌, subst, arith}
+-- What a lane has bears out what its call told of the heap, from the call's begin on, behind each operation that allocates nothing, and where bytes are written into what is reserved.
+use Rattle.std.proofs.Common.{◌≡◌, ℕ, All, List, [], slice_index, Option, None, sym, ap, ◌∙◌, subst, arith}
 use Rattle.std.proofs.lemmas.List.Elements.{All-nil}
 use Rattle.pm_header.specs.declared.header.Header.{Header}
 use Rattle.pm_objects.specs.declared.calls.Operation.{Operation}
 use Rattle.pm_objects.specs.declared.calls.Operation.TheVariants.{Begin}
 use Rattle.pm_objects.specs.declared.calls.Want.{Want}
 use Rattle.pm_objects.specs.declared.history.Value.{Value}
+use Rattle.pm_objects.specs.declared.ids.Oid.{Oid}
 use Rattle.pm_objects.specs.declared.pool.PoolView.{PoolView}
 use Rattle.pm_view.specs.Steps.{Step}
 use Rattle.pm_view.specs.View.{View}
 use Rattle.pm_world.specs.Opening.{Opening}
 use Rattle.pm_crash.specs.Alone.{WorksAlone}
 use Rattle.pm_crash.specs.CallBlocks.{LeavesReserved, TellsOfRoot, allocated_in, allocated_told, reserved_in}
-use Rattle.pm_crash.specs.Operations.{BeginsCall, Tells}
+use Rattle.pm_crash.specs.Operations.{BeginsCall, KeepsLane, Tells}
 use Rattle.pm_crash.specs.Pending.{pending_before, pending_in}
 use Rattle.pm_crash.specs.Reserved.{IsBorneOut, IsReservedFor, root_in}
+use Rattle.pm_crash.specs.Reserving.{HasReserved, WritesReserved}
+use Rattle.pm_crash.proofs.BornePuts.{borne_put}
 use Rattle.pm_crash.proofs.CallBlocks.{first_agrees}
 use Rattle.pm_crash.proofs.StillReserved.{HasSameHeads, borne_told}
 use Rattle.pm_epoch.specs.Allocating.{HasSameDescriptors}
@@ -34,17 +37,25 @@ begun_borne_out v wants begins pending =
 pub root_stands : (o : Opening) (header : Header) (pool : PoolView) (start v : View) (steps : List Step) → WorksAlone o header pool start steps v → slice_index v.words 64 ≡ slice_index o.words 64
 root_stands o header pool start v steps works = (stood o header pool start v steps works).goes.front 64 (omega arith)
 
-module _ (o : Opening) (header : Header) (pool : PoolView) (start v w : View) (steps more : List Step) (op : Operation) (reply : Option Value) (works : WorksAlone o header pool start steps v)
-    (on : WorksAlone o header pool start more w) (tells : Tells v w op reply) (none : LeavesReserved op reply (pending_in v)) (root : TellsOfRoot (root_in (slice_index v.words)) op reply (pending_in v))
-    (reserved : w.reserved ≡ v.reserved) (same : HasSameDescriptors v w) where
-  heads : HasSameHeads v w
-  heads = record {
-    lanes = tells.keeps.lanes;
-    zones = tells.keeps.zones;
-    reserved = reserved;
-    described = same;
-    root = root_stands o header pool start w more on ∙ sym (root_stands o header pool start v steps works);
-  }
+-- the same is reserved, and tells the same
+same_heads : (o : Opening) (header : Header) (pool : PoolView) (start v w : View) (steps more : List Step) → WorksAlone o header pool start steps v → WorksAlone o header pool start more w → KeepsLane v w
+    → w.reserved ≡ v.reserved → HasSameDescriptors v w → HasSameHeads v w
+same_heads o header pool start v w steps more works on lane reserved same = record {
+  lanes = lane.lanes;
+  zones = lane.zones;
+  reserved = reserved;
+  described = same;
+  root = root_stands o header pool start w more on ∙ sym (root_stands o header pool start v steps works);
+}
 
-  pub told_borne_out : IsBorneOut v → IsBorneOut w
-  told_borne_out = borne_told v w heads op reply tells.keeps.entries tells.call none root
+pub told_borne_out : (o : Opening) (header : Header) (pool : PoolView) (start v w : View) (steps more : List Step) (op : Operation) (reply : Option Value) → WorksAlone o header pool start steps v
+    → WorksAlone o header pool start more w → Tells v w op reply → LeavesReserved op reply (pending_in v) → TellsOfRoot (root_in (slice_index v.words)) op reply (pending_in v) → w.reserved ≡ v.reserved
+    → HasSameDescriptors v w → IsBorneOut v → IsBorneOut w
+told_borne_out o header pool start v w steps more op reply works on tells none root reserved same =
+    borne_told v w (same_heads o header pool start v w steps more works on tells.keeps reserved same) op reply tells.keeps.entries tells.call none root
+
+-- bytes that are written into what is reserved lie in it
+pub put_borne_out : (o : Opening) (header : Header) (pool : PoolView) (start v w : View) (steps more : List Step) (id : Oid) (off : ℕ) (bytes : List ℕ) → WorksAlone o header pool start steps v
+    → WorksAlone o header pool start more w → HasReserved v → WritesReserved v w id off bytes → w.reserved ≡ v.reserved → HasSameDescriptors v w → IsBorneOut v → IsBorneOut w
+put_borne_out o header pool start v w steps more id off bytes works on has writes reserved same =
+    borne_put v w id off bytes (same_heads o header pool start v w steps more works on writes.tells.keeps reserved same) has writes

@@ -13,6 +13,7 @@ fn laws(_rt: HostRuntime) {
     a_lane_alone_holds_its_pools();
     a_lane_alone_may_change_its_blocks();
     a_lane_alone_may_make_objects();
+    a_lane_alone_may_reserve_its_new_object();
     a_lane_alone_may_tell_its_new_object();
     a_lane_alone_publishes_a_pool();
     a_lane_at_rest_may_begin_again();
