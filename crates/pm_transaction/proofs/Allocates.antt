@@ -1,5 +1,5 @@
 -- Where a lane that works alone made an object and told it, it is at work still, and may make another.
-use Rattle.std.proofs.Common.{◌≡◌, ◌⊎◌, inl, inr, ℕ, ◌+◌, ◌*◌, ◌/◌, ◌≤◌, true, false, IsTrue, is_some, List, [], ◌∷◌, ◌++◌, Contains, map, length, slice_index, Some, sym, ap, ◌∙◌, subst, arith, eqb}
+use Rattle.std.proofs.Common.{◌≡◌, ◌⊎◌, inl, inr, ℕ, ◌+◌, ◌*◌, ◌/◌, ◌≤◌, true, false, IsTrue, is_some, List, [], ◌∷◌, ◌++◌, Contains, map, length, slice_index, Some, refl, sym, ap, ◌∙◌, subst, arith, eqb}
 use Rattle.std.specs.List.{All}
 use Rattle.std.specs.Option.{ForSome}
 use Rattle.std.proofs.lemmas.Bool.{and_parts, eqb-true, false_from_ne_true, leb-true}
@@ -48,35 +48,10 @@ use Rattle.pm_tx.proofs.Objects.{is_found}
 use Rattle.pm_tx.proofs.GoingOn.{HasSameFields, KeepsObjects, goes_on}
 use Rattle.pm_tx.proofs.NoneMade.{made_none_before}
 use Rattle.pm_tx.specs.AtWork.{IsAtWork}
-use Rattle.pm_transaction.proofs.Owned.{under_its_lock}
+use Rattle.pm_transaction.proofs.GainedAtWork.{call_alone, has_gained, lies_new, lies_still, made_at_work}
 use Rattle.pm_transaction.specs.Allocating.{MayAllocate, made_in_block}
 use Rattle.pm_transaction.proofs.NotMaking.{not_making_able}
 use Rattle.pm_transaction.specs.AtWork.{IsAtWorkWith, IsHeldFreed, LiesInReserved}
-
--- ---- what is asked of a lane alone, from what it has at work
-
-module _ {M : Type 0} (o : Opening) (at : M → View → Type 0) (lane : Lane M) (blocks : BlockLists) (v : View) (is : IsAtWorkWith o at lane blocks v) where
-  pub all_found : All (λ (l : Lock). IsTrue (is_some l.block)) v.locks
-  all_found = All-weaker (Contains v.locks) (λ (l : Lock). IsTrue (is_some l.block)) (λ l held. is_found v is.work.objects l held) v.locks (All-contains_itself v.locks)
-
-  -- each object that the call freed it found under a lock that it has
-  pub freed_found : (off : ℕ) → is_freed_in v off ≡ true → IsFoundAt v off
-  freed_found off freed =
-      let t = Any-from_list_any (λ (f : Freed). eqb f.off off) blocks.freed (freed_is blocks (blocks_in v) off is.lists ∙ freed) in
-      let held : IsHeldFreed lane.locks.items t.1 = All-contains (IsHeldFreed lane.locks.items) blocks.freed t.1 is.freed_held (t.0, t.2, t.3) in
-      let under = under_its_lock o at lane blocks v is t.1.off t.1.lines held in
-      record { lock = under.lock; lines = t.1.lines; held = under.held; found = under.block; place = sym (eqb-true t.1.off off t.4) ∙ under.place }
-
-  -- the size of an object that it found stands outside of its area
-  size_outside : (l : Lock) → Contains v.locks l → is_in_area v.lane (8 * l.line + 1) ≡ false
-  size_outside l held = false_from_ne_true (is_in_area v.lane (8 * l.line + 1)) (λ area.
-      let object : FindsObject v l = is.work.objects l held in
-      let chunk = is.work.under_way.chunks l object.lines held object.block in
-      let low = leb-true (zone_page v.lanes 0) (l.line / 64) (and_parts _ _ chunk).0 in
-      let some = leb-true 1 (chunk_of v.lanes (l.line / 64)) (and_parts _ _ chunk).1 in
-      let high = (area_bounds v.lane (8 * l.line + 1) area).1 in
-      let lane = is.work.under_way.in_lanes in
-      omega (arith, low, high, lane))
 
 -- ---- the object is made and told
 
@@ -92,116 +67,37 @@ module _ {M : Type 0} (o : Opening) (at : M → View → Type 0) (lane : Lane M)
   is : IsAtWorkWith o at lane blocks v
   is = may.works
 
-  makes : MakesObject v u size kind block
-  makes = record { made = made; within = within }
-
   call : IsCallAlone o header pool start steps v lane.shape lane.level
-  call = record {
-    works = alone;
-    can = may.can;
-    under_way = is.work.under_way;
-    borne_out = is.borne_out;
-    locked = all_found o at lane blocks v is;
-    freed = freed_found o at lane blocks v is;
-  }
+  call = call_alone o at lane blocks v may u size kind block made header pool start steps alone within
 
   gains : Gains v u n
-  gains = object_gained o header pool start v steps alone lane.shape may.can (all_found o at lane blocks v is) u size kind block makes
+  gains = has_gained o at lane blocks v may u size kind block made header pool start steps alone within
 
   still : IsCallAloneStill o header pool start steps w lane.shape lane.level
-  still = told_goes_on o header pool start steps v lane.shape lane.level call u size kind block makes is.work.level some most room
+  still = told_goes_on o header pool start steps v lane.shape lane.level call u size kind block (record { made = made; within = within }) is.work.level some most room
 
   pub is_allocated : AllocatesObject v w n
-  is_allocated = allocates o header pool start steps v lane.shape lane.level call u size kind block makes some most room
-
-  objects : KeepsObjects v w
-  objects =
-      let s = gains.still.same_lane in
-      record {
-        lane = record { lanes = s.lanes; zones = s.zones; pool = s.pool; lane = s.lane; stop = s.stop; table = s.table; size = s.size };
-        locks = gains.still.locks;
-        number = gains.still.number;
-        entries = gains.still.entries;
-        remembers = gains.still.known;
-        seen = gains.still.seen;
-        sizes = λ l held. gains.words (8 * l.line + 1) (is.work.objects l held).known (size_outside o at lane blocks v is l held);
-      }
+  is_allocated = allocates o header pool start steps v lane.shape lane.level call u size kind block (record { made = made; within = within }) some most room
 
   works : (next : Lane M) → HasSameFields lane next → next.records ≡ lane.records → at next.memory w → IsAtWork o at next w
-  works next fields records seen =
-      goes_on o at lane next v w is.work fields objects seen
-      (ap (λ rs. rs.items) records ∙ (is.work.seen.records ∙ ap (λ (l : Log). map span_of l.records) (sym gains.still.log)))
-      (subst (λ rs. All IsSpan rs.items) (sym records) is.work.spans)
-      (finds_opening o header pool w (stood o header pool start w (steps ++ still.more) still.alone.works))
-      still.alone.can.run.working
-      (ap (λ (l : Log). l.entries) gains.still.log ∙ is.work.no_entries)
-      (published_once_more v w (Alloc size kind) (Some (Offset n.off)) gains.still.entries is_allocated.tells.call ∙ append-nil (published_in v))
-      (made_none_before v w (Alloc size kind) (Some (Offset n.off)) gains.still.entries is_allocated.tells.call tt)
-      still.alone.under_way
+  works = made_at_work o at lane blocks v may u size kind block made header pool start steps alone within (Alloc size kind) (Some (Offset n.off)) still is_allocated.tells.call refl tt
 
   -- ---- its lists
 
   lists_are : blocks_in w ≡ with_made n (blocks_in v)
   lists_are = blocks_once_more v w (Alloc size kind) (Some (Offset n.off)) gains.still.entries is_allocated.tells.call
 
-  lies_new : (own : IsReservedFor u n) → IsOfItsRun u n own → LiesInReserved w n
-  lies_new (inl run) inside = inl (
-    record { chunk = run.chunk; lines = run.lines; index = run.index; in_pool = run.in_pool; low = run.low; described = run.described; reserved = run.reserved; is_block = run.is_block },
-    inside,
-  )
-  lies_new (inr has) inside = inr (record {
-    zone = has.zone;
-    first = has.first;
-    count = has.count;
-    in_pool = has.in_pool;
-    low = has.low;
-    fits = has.fits;
-    unused = λ j near. let t = has.unused j near in record { reserved = t.reserved; undescribed = t.undescribed };
-    is_block = has.is_block;
-  })
-
-  -- what it had lies there still
-  lies_still : (m : NewObject) → LiesInReserved v m → LiesInReserved w m
-  lies_still m (inl t) =
-      let run = t.0 in
-      let lanes = gains.still.lanes in let zones = gains.still.zones in let in_pool = run.in_pool in
-      let keeps = gains.keeps.runs run.chunk run.lines run.index run.in_pool run.low run.described run.reserved in
-      inl (
-        record {
-          chunk = run.chunk;
-          lines = run.lines;
-          index = run.index;
-          in_pool = omega (arith, in_pool, zones);
-          low = run.low;
-          described = ap (λ k. slice_index w.words (descriptor_word k run.chunk)) lanes ∙ keeps.0;
-          reserved = ap (λ k. reserves w (run_at k run.chunk) run.index) lanes ∙ keeps.1;
-          is_block = run.is_block ∙ ap (λ k. block_of_run k run.chunk run.lines run.index) (sym lanes);
-        },
-        t.1,
-      )
-  lies_still m (inr has) =
-      let lanes = gains.still.lanes in let zones = gains.still.zones in let in_pool = has.in_pool in let fits = has.fits in
-      inr (record {
-        zone = has.zone;
-        first = has.first;
-        count = has.count;
-        in_pool = omega (arith, in_pool, zones);
-        low = has.low;
-        fits = has.fits;
-        unused = λ j near.
-            let t = gains.keeps.chunks has.zone (has.first + j) has.in_pool (omega (arith, fits, near)) (has.unused j near) in
-            subst (λ k. IsUnusedChunk k w has.zone (has.first + j)) (sym lanes) (record { reserved = t.reserved; undescribed = t.undescribed });
-        is_block = has.is_block ∙ ap (λ k. block_of_chunks k (64 * has.zone + has.first) has.count) (sym lanes);
-      })
+  lies_before : (m : NewObject) → LiesInReserved v m → LiesInReserved w m
+  lies_before = lies_still o at lane blocks v may u size kind block made header pool start steps alone within (Alloc size kind) (Some (Offset n.off))
 
   reserved_still : All (LiesInReserved w) (reserved_in w)
   reserved_still =
       subst (λ (p : Pending). All (LiesInReserved w) (map reserved_object p.reserved)) (sym (pending_once_more v w (Alloc size kind) (Some (Offset n.off)) gains.still.entries is_allocated.tells.call))
-      (All-weaker (LiesInReserved v) (LiesInReserved w) lies_still (reserved_in v) is.reserved_within)
+      (All-weaker (LiesInReserved v) (LiesInReserved w) lies_before (reserved_in v) is.reserved_within)
 
   lies_within : (m : NewObject) → Contains (blocks_in v).made m ⊎ (n ≡ m) → LiesInReserved w m
-  lies_within m (inl before) = lies_still m (is.within m before)
-  lies_within m (inr new) = subst (LiesInReserved w) new (lies_new gains.own gains.within)
+  lies_within m (inl before) = lies_before m (is.within m before)
+  lies_within m (inr new) = subst (LiesInReserved w) new (lies_new o at lane blocks v may u size kind block made header pool start steps alone within (Alloc size kind) (Some (Offset n.off)))
 
   pub still_at_work : (next : Lane M) → HasSameFields lane next → next.records ≡ lane.records → at next.memory w → (now : BlockLists)
       → now ≡ record blocks { made = blocks.made ++ made_in_block block size kind ∷ [] } → ((call : CallBlocks) → ListsBlocks blocks call → ListsBlocks now (with_made n call)) → MayAllocate o at next now w

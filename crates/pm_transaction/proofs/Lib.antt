@@ -1,5 +1,6 @@
 pub mod Begun
 pub mod NewWords
+pub mod GainedAtWork
 pub mod GoingWith
 pub mod NewRangeWords
 pub mod NewReads

@@ -42,7 +42,7 @@ use Rattle.pm_tx.proofs.GoingOn.{HasSameFields, KeepsObjects, goes_on}
 use Rattle.pm_tx.proofs.NoneMade.{made_none_same}
 use Rattle.pm_tx.specs.AtWork.{IsAtWork}
 use Rattle.pm_tx.specs.Ending.{GivesUpBy}
-use Rattle.pm_transaction.proofs.Allocates.{all_found}
+use Rattle.pm_transaction.proofs.GainedAtWork.{all_found}
 use Rattle.pm_crash.proofs.StillReserved.{borne_told}
 use Rattle.pm_transaction.specs.Allocating.{CameToRefuse, MayAllocate}
 use Rattle.pm_transaction.specs.AtWork.{IsAtWorkWith}

@@ -1,5 +1,5 @@
 use Rattle.pm_layout.specs.Sizes.{class_of}
-use Rattle.pm_transaction.proofs.Allocates.{all_found}
+use Rattle.pm_transaction.proofs.GainedAtWork.{all_found}
 use Rattle.pm_transaction.proofs.MadeBySteps.{object_makes}
 use Rattle.pm_transaction.proofs.NoRoomFound.{finds_no_room}
 use Rattle.pm_transaction.proofs.StopsMaking.{stops_making}
