@@ -1,1 +1,3 @@
 pub mod Refused
+pub mod AllRefused
+pub mod AreReserved

@@ -1,14 +1,16 @@
-//! Pending actions: pmemobj_set_value(3) and its kin.
+//! What a lane has pending: pmemobj_reserve(3), pmemobj_defer_free(3), pmemobj_set_value(3) and their kin.
 //!
-//! Promises whoever publishes a lane's actions that the list takes one more exactly as the plain model does, and that the entries which are
-//! listed for a redo log are those of the actions, in their order. What these entries make of a pool is a law of `pm_crash`,
-//! `entries_perform_actions`. It stands on `pm_model` for the refusals of a set-value and on `pm_world` for a lane's entries;
-//! docs/MODEL.md, "Actions".
+//! Promises whoever keeps a lane's pending actions that the lists take one more, refuse one and are emptied exactly as the plain model does, kind by kind, and
+//! that the entries which are listed for a redo log are those of the set-values, in their order. What these entries make of a pool is a law of
+//! `pm_crash`, `entries_perform_actions`. It stands on `pm_model` for what is pending, on `pm_crash` for the refusals, and on `pm_world` for a lane's
+//! entries; docs/MODEL.md, "Actions".
 #![tactic(auto)]
 
 mod actions;
+mod pending;
 
 pub use actions::{MAX_ACTIONS, SetAction, list_entries, pend};
+pub use pending::{PendingActions, Reserved};
 
 #[cfg(test)]
 mod tests;

@@ -1,0 +1,28 @@
+-- All that a lane has pending, as its lists have it and as the plain model does.
+use Rattle.std.specs.Prelude.{◌≡◌, ℕ, ◌+◌, ◌≤◌, length, map, nat_eq}
+use Rattle.std.specs.List.{IsDistinct}
+use Rattle.pm_model.specs.Actions.{Pending, Reservation, max_actions, pending_count}
+use Rattle.pm_pending.specs.Pending.{sets_of}
+use Rattle.pm_pending.specs.declared.pending.PendingActions.{PendingActions}
+use Rattle.pm_pending.specs.declared.pending.Reserved.{Reserved}
+
+-- a reservation as a list has it: its bytes are in the pool's words
+abbrev pub reserved_as : Reservation → Reserved
+reserved_as r = record { off = r.off; kind = r.kind; size = length r.bytes }
+
+-- so many actions are listed, of whatever kind
+abbrev pub count_in : PendingActions → ℕ
+count_in list = length list.frees.items + length list.reserved.items + length list.sets.items
+
+-- the lists have what is pending, kind by kind, each in its order, and no more than may be
+pub record IsPendingAs (list : PendingActions) (p : Pending) : Type 0 where
+  pub sets : sets_of list.sets.items ≡ p.sets
+  pub frees : list.frees.items ≡ p.frees
+  pub reserved : list.reserved.items ≡ map reserved_as p.reserved
+  -- one of them was asked for of an object that was to be freed already
+  pub late : list.late ≡ p.late
+  pub few : pending_count p ≤ max_actions
+
+-- no two objects are reserved at one offset
+abbrev pub AreReservedOnce : Pending → Type 0
+AreReservedOnce p = IsDistinct nat_eq (map (λ (r : Reservation). r.off) p.reserved)
