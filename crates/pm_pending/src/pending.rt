@@ -1,9 +1,10 @@
 //! All that a lane has pending.
 
-ghost use Rattle.std.specs.Prelude.{◌≡◌, ℕ, ◌+◌, ◌<◌, ◌≤◌, ◌==◌, ◌||◌, List, length, find, None, IfErr, OnErr, OnOk};
+ghost use Rattle.std.specs.Prelude.{◌≡◌, ◌⊎◌, ℕ, ◌+◌, ◌<◌, ◌≤◌, ◌==◌, ◌||◌, List, length, find, None, IfErr, OnErr, OnOk};
 ghost use Rattle.std.specs.List.{list_any};
 ghost use Rattle.pm_objects.specs.declared.calls.Operation.TheVariants.{DeferFree, Reserve, SetValue, WriteReserved};
 ghost use Rattle.pm_objects.specs.declared.pool.PoolView.{PoolView};
+ghost use Rattle.pm_objects.specs.declared.refusal.Refusal.TheVariants as refusal;
 ghost use Rattle.pm_model.specs.Actions.{Pending, is_to_be_freed, max_actions, none_pending, pending_count, with_free, with_put, with_reservation, with_set};
 ghost use Rattle.pm_model.specs.Outside.{Outside, refusal_outside};
 ghost use Rattle.pm_crash.specs.OnActions.{defer_refusal, set_refusal};
@@ -97,6 +98,7 @@ impl PendingActions {
     pub fn check_reserve(&self, size: u64) -> Result<(), Refusal>
         ensures answers { (pool : PoolView) (p : Pending) (kind : ℕ) → IsPendingAs self.now p → refusal_outside unhindered (record { pool = pool; actions = p }) (Reserve size kind) ≡ refusal_in result }
         ensures reason { IfErr result (λ r. (p : Pending) → IsPendingAs self.now p → IsReserveReason p size r) }
+        ensures causes { IfErr result (λ r. (r ≡ refusal.BadSize) ⊎ (r ≡ refusal.ActionsFull)) }
         ensures some { OnOk result (1 ≤ size) }
         ensures most { OnOk result (size ≤ 262080) }
         ensures listed { OnOk result (count_in self.now < 63) }

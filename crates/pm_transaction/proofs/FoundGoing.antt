@@ -45,7 +45,7 @@ module _ {M : Type 0} (o : Opening) (at : M → View → Type 0) (next : Lane M)
       let heads : HasSameHeads v w = same_heads_outside v w inside read.tells.keeps.lanes read.tells.keeps.zones (reads_leave id off len bytes v).reserved read.keeps.words in
       with_lists o at next blocks w has.works
       (keeps_told v w heads next.locks.items blocks keeps (same_lane-after_all v (reads_range id off len bytes v)).table (reads_leave id off len bytes v).zone_locks (blocks_once_more v w (Read id off len) _ read.tells.keeps.entries read.tells.call) (Read id off len) _ read.tells.keeps.entries read.tells.call (refl, refl) (λ root. tt)
-            (told_stays v w (Read id off len) _ keeps.has_reserved read.tells (keeps_known v w read.keeps) (refl, refl) refl))
+      (told_stays v w (Read id off len) _ keeps.has_reserved read.tells (keeps_known v w read.keeps) (refl, refl) refl))
 
   pub added_with_lists : (len : ℕ) (spans : List Span) → HasAddedRange o at next v spans id off len → IsAtWorkWith o at next blocks (after_all v (adds_range spans id off len v))
   added_with_lists len spans has =
@@ -54,7 +54,7 @@ module _ {M : Type 0} (o : Opening) (at : M → View → Type 0) (next : Lane M)
       let heads : HasSameHeads v w = same_heads_outside v w inside added.tells.keeps.lanes added.tells.keeps.zones (adds_leave spans id off len v).reserved added.keeps.words in
       with_lists o at next blocks w has.works
       (keeps_told v w heads next.locks.items blocks keeps (same_lane-after_all v (adds_range spans id off len v)).table (adds_leave spans id off len v).zone_locks (blocks_once_more v w (AddRange id off len) None added.tells.keeps.entries added.tells.call) (AddRange id off len) None added.tells.keeps.entries added.tells.call (refl, refl) (λ root. tt)
-            (told_stays v w (AddRange id off len) None keeps.has_reserved added.tells (keeps_known v w added.keeps) (refl, refl) refl))
+      (told_stays v w (AddRange id off len) None keeps.has_reserved added.tells (keeps_known v w added.keeps) (refl, refl) refl))
 
   module _ (bytes : List ℕ) (has : HasWrittenRange o at next v id off bytes) where
     abbrev w : View
@@ -112,4 +112,4 @@ module _ {M : Type 0} (o : Opening) (at : M → View → Type 0) (next : Lane M)
     written_with_lists =
         with_lists o at next blocks w works
         (keeps_told v w heads next.locks.items blocks keeps (same_lane-after_all v (writes_range id off bytes v)).table (writes_leave id off bytes v).zone_locks (blocks_once_more v w (Write id off bytes) None written.tells.keeps.entries written.tells.call) (Write id off bytes) None written.tells.keeps.entries written.tells.call (refl, refl) (λ root. tt)
-            (write_stays v w id off bytes keeps.has_reserved under_before written))
+        (write_stays v w id off bytes keeps.has_reserved under_before written))

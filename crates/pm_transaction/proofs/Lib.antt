@@ -20,6 +20,9 @@ pub mod Frees
 pub mod Allocates
 pub mod NewOffsets
 pub mod RefusedAllocs
+pub mod MadeReserved
+pub mod RefusedReserves
+pub mod ReservesAtWork
 pub mod NoSpace
 pub mod Made
 pub mod Ended

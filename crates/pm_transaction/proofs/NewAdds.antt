@@ -73,7 +73,7 @@ module _ {M : Type 0} (o : Opening) (at : M → View → Type 0) (lane : Lane M)
       (new_add_goes_on v w id off len lane.level all.work.level all.work.under_way added) in
       let keeps : Keeps next.locks.items blocks w =
       keeps_told v w heads next.locks.items blocks (subst (λ (ls : List HeldLock). Keeps ls blocks v) (ap (λ ls. ls.items) (sym fields.locks)) (kept_of o at lane blocks v all)) refl refl (blocks_once_more v w (AddRange id off len) None refl refl) (AddRange id off len) None refl refl (refl, refl) (λ root. tt)
-          (told_stays v w (AddRange id off len) None all.has_reserved added.tells (keeps_known v w added.keeps) (refl, refl) refl) in
+      (told_stays v w (AddRange id off len) None all.has_reserved added.tells (keeps_known v w added.keeps) (refl, refl) refl) in
       record {
         ready = new_add_may_be_made;
         draws = drawless v (adds_new id off len v) add_few;

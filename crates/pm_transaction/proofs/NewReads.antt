@@ -140,7 +140,7 @@ module _ {M : Type 0} (o : Opening) (at : M → View → Type 0) (lane : Lane M)
         (new_read_goes_on v w id off len lane.level all.work.level all.work.under_way read) in
         let keeps : Keeps next.locks.items blocks w =
         keeps_told v w heads next.locks.items blocks (subst (λ (ls : List HeldLock). Keeps ls blocks v) (ap (λ ls. ls.items) (sym fields.locks)) (kept_of o at lane blocks v all)) call.lane.table (ap (λ (z : View). z.zone_locks) (sym sequence.1) ∙ (reads_leave id off len bytes v).zone_locks) (blocks_once_more v w (Read id off len) _ read.tells.keeps.entries read.tells.call) (Read id off len) _ read.tells.keeps.entries read.tells.call (refl, refl) (λ root. tt)
-          (told_stays v w (Read id off len) _ all.has_reserved read.tells (keeps_known v w read.keeps) (refl, refl) refl) in
+        (told_stays v w (Read id off len) _ all.has_reserved read.tells (keeps_known v w read.keeps) (refl, refl) refl) in
         record {
           ready = new_read_may_be_made;
           draws = drawless v (reads_range id off len bytes v) read_few;

@@ -143,7 +143,7 @@ module _ {M : Type 0} (o : Opening) (at : M → View → Type 0) (lane : Lane M)
       (new_write_goes_on v w id off lane.level bytes all.work.level all.work.under_way told) in
       let keeps : Keeps next.locks.items blocks w =
       keeps_told v w heads next.locks.items blocks (subst (λ (ls : List HeldLock). Keeps ls blocks v) (ap (λ ls. ls.items) (sym fields.locks)) (kept_of o at lane blocks v all)) has.call.lane.table (ap (λ (z : View). z.zone_locks) (sym sequence.1) ∙ (writes_leave id off bytes v).zone_locks) (blocks_once_more v w (Write id off bytes) None told.tells.keeps.entries told.tells.call) (Write id off bytes) None told.tells.keeps.entries told.tells.call (refl, refl) (λ root. tt)
-          (new_write_stays v w id off bytes all.has_reserved all.work.under_way.has told) in
+      (new_write_stays v w id off bytes all.has_reserved all.work.under_way.has told) in
       record {
         ready = new_write_may_be_made;
         draws = write_draws;

@@ -90,10 +90,10 @@ module _ {M : Type 0} (o : Opening) (at : M → View → Type 0) (lane : Lane M)
   left : IsLeft v x
   left = left_by_search v x searched.steps searched.searches may.can.run.alone may.can.run.locked
 
-  still : IsCallStill v x
+  pub still : IsCallStill v x
   still = search_still v lane.shape may.can (all_found o at lane blocks v is) seen [] Q searched
 
-  same_word : (i : ℕ) → slice_index x.words i ≡ slice_index v.words i
+  pub same_word : (i : ℕ) → slice_index x.words i ≡ slice_index v.words i
   same_word i = ap (λ (ws : List ℕ). slice_index ws i) left.words
 
   objects : KeepsObjects v x
@@ -135,7 +135,7 @@ module _ {M : Type 0} (o : Opening) (at : M → View → Type 0) (lane : Lane M)
       opening (works_still v x searched.kept left is.work.working) (ap (λ (l : Log). l.entries) still.log ∙ is.work.no_entries)
       (published_same v x still.entries still.call) (made_none_same v x still.entries still.call) under_way_still
 
-  heads : HasSameHeads v x
+  pub heads : HasSameHeads v x
   heads = record { lanes = still.lanes; zones = still.zones; reserved = searched.reserved ∙ append-nil v.reserved; described = λ c in_pool. same_word (descriptor_word v.lanes c); root = same_word 64 }
 
   pub borne_behind : IsBorneOut x

@@ -9,3 +9,4 @@ pub mod Ending
 pub mod Committing
 pub mod Published
 pub mod Publishing
+pub mod Reserving

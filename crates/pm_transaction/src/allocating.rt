@@ -74,7 +74,7 @@ fn tell_made<M: LawfulMem>(
 }
 
 /// Says that the lane came to its stop.
-fn stop<M>(lane: &mut Lane<M>) -> Refusal
+pub(crate) fn stop<M>(lane: &mut Lane<M>) -> Refusal
     ensures answer { result ≡ refusal.Stopped }
     ensures lane { lane.new ≡ record lane.old { stopped = true } }
 {

@@ -22,6 +22,7 @@ mod new_ranges;
 mod origins;
 mod publishing;
 mod ranges;
+mod reserving;
 
 pub use alloc_laws::an_object_is_made_by_few_stores;
 pub use allocating::alloc;
@@ -38,6 +39,7 @@ pub use laws::{
 pub use new_ranges::{do_add_new, do_read_new, do_write_new};
 pub use publishing::publish;
 pub use ranges::{add_range, read, write};
+pub use reserving::reserve;
 
 #[cfg(test)]
 mod tests;
