@@ -38,6 +38,11 @@ pub mod ToldViews
 pub mod PlacedObjects
 pub mod ToldObjects
 pub mod ToldReservations
+pub mod LocksApart
+pub mod OutsideCalls
+pub mod NextCalls
+pub mod RestingReservations
+pub mod UntoldCalls
 pub mod FreedLocks
 pub mod NewObjectViews
 pub mod StayingBorneOut

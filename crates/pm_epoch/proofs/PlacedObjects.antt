@@ -1,5 +1,5 @@
 -- An object that a lane that works alone made, and tells: it lies apart from all that the lane has, no word that the lane knew changed, and the lane goes on.
-use Rattle.std.proofs.Common.{◌≡◌, ⊎_elim, ℕ, ◌+◌, ◌*◌, ◌≤◌, true, false, cond, eqb, All, Contains, List, [], ◌∷◌, ◌++◌, slice_index, Option, None, Some, sym, ap, ◌∙◌, subst, arith, append_assoc}
+use Rattle.std.proofs.Common.{◌≡◌, ⊎_elim, ℕ, ◌+◌, ◌*◌, ◌≤◌, false, cond, eqb, All, Contains, List, [], ◌∷◌, ◌++◌, slice_index, Option, None, Some, sym, ap, ◌∙◌, subst, arith, append_assoc}
 use Rattle.std.proofs.lemmas.Bool.{false_from_ne_true}
 use Rattle.std.proofs.lemmas.List.Elements.{All-contains, All-weaker}
 use Rattle.pm_header.specs.declared.header.Header.{Header}

@@ -38,7 +38,7 @@ pub root_stands : (o : Opening) (header : Header) (pool : PoolView) (start v : V
 root_stands o header pool start v steps works = (stood o header pool start v steps works).goes.front 64 (omega arith)
 
 -- the same is reserved, and tells the same
-same_heads : (o : Opening) (header : Header) (pool : PoolView) (start v w : View) (steps more : List Step) → WorksAlone o header pool start steps v → WorksAlone o header pool start more w → KeepsLane v w
+pub same_heads : (o : Opening) (header : Header) (pool : PoolView) (start v w : View) (steps more : List Step) → WorksAlone o header pool start steps v → WorksAlone o header pool start more w → KeepsLane v w
     → w.reserved ≡ v.reserved → HasSameDescriptors v w → HasSameHeads v w
 same_heads o header pool start v w steps more works on lane reserved same = record {
   lanes = lane.lanes;

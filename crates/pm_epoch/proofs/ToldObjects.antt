@@ -1,5 +1,5 @@
 -- An object that a lane that works alone made within its call may be told: the call goes on with it, and what the lane has bears out what the call told.
-use Rattle.std.proofs.Common.{◌≡◌, ℕ, ◌+◌, ◌≤◌, All, List, [], ◌∷◌, ◌++◌, map, slice_index, Option, Some, sym, ap, subst}
+use Rattle.std.proofs.Common.{ℕ, ◌+◌, ◌≤◌, All, List, map, slice_index, Option, Some, sym, ap, subst}
 use Rattle.std.proofs.lemmas.List.Elements.{All-push, All-weaker}
 use Rattle.pm_header.specs.declared.header.Header.{Header}
 use Rattle.pm_layout.specs.declared.shape.Shape.{Shape}

@@ -4,8 +4,9 @@
 //! the pool that a power failure leaves as a whole or not at all (`a_lane_alone_publishes_a_pool`), and that the words at the call's end hold
 //! that pool, from which the next call begins (`a_published_pool_stands`); that a world lets a lane make objects, and publish what it reserved
 //! and found; and that an object which a lane alone made is one that its call may tell (`a_lane_alone_may_tell_its_new_object`), or tell as
-//! reserved (`a_lane_alone_may_reserve_its_new_object`). No code runs. It stands on `pm_sealed` for what a sealed log leaves, and on `pm_crash`
-//! for what entries make of a pool; docs/MODEL.md.
+//! reserved (`a_lane_alone_may_reserve_its_new_object`), and that what it has reserved stands from call to call
+//! (`a_lane_alone_rests_with_what_it_reserved`). No code runs. It stands on `pm_sealed` for what a sealed log leaves, and on `pm_crash` for what
+//! entries make of a pool; docs/MODEL.md.
 #![tactic(auto)]
 
 mod laws;
@@ -26,7 +27,11 @@ pub use laws::{
     a_world_leads_to_what_is_published, changes_of_own_bits_are_in_order,
     giving_back_keeps_what_is_taken, publishing_keeps_what_a_lane_has, what_a_call_freed_is_locked,
 };
-pub use reserving::a_lane_alone_may_reserve_its_new_object;
+pub use reserving::{
+    a_lane_alone_may_reserve_its_new_object, a_lane_alone_reserves_outside,
+    a_lane_alone_rests_with_what_it_reserved, a_lane_alone_writes_outside_what_it_reserved,
+    what_a_lane_alone_reserved_lies_apart,
+};
 
 #[cfg(test)]
 mod tests;

@@ -16,6 +16,9 @@ fn laws(_rt: HostRuntime) {
     a_lane_alone_may_reserve_its_new_object();
     a_lane_alone_may_tell_its_new_object();
     a_lane_alone_publishes_a_pool();
+    a_lane_alone_reserves_outside();
+    a_lane_alone_rests_with_what_it_reserved();
+    a_lane_alone_writes_outside_what_it_reserved();
     a_lane_at_rest_may_begin_again();
     a_lane_at_work_knows_what_is_taken();
     a_lane_holds_what_it_knows_behind_its_log();
@@ -36,4 +39,5 @@ fn laws(_rt: HostRuntime) {
     giving_back_keeps_what_is_taken();
     publishing_keeps_what_a_lane_has();
     what_a_call_freed_is_locked();
+    what_a_lane_alone_reserved_lies_apart();
 }
