@@ -108,11 +108,11 @@ tracks_made v tx tracks off = ap (λ (xs : List ℕ). is_among xs off) tracks.ma
 
 -- ---- the root
 
-root_differs : (root : Option ℕ) (off : ℕ) → root ≢ Some off → option_map_or (λ r. eqb r off) root false ≡ false
+pub root_differs : (root : Option ℕ) (off : ℕ) → root ≢ Some off → option_map_or (λ r. eqb r off) root false ≡ false
 root_differs None off differ = refl
 root_differs (Some r) off differ = ne_eqb r off (λ same. differ (ap (λ (n : ℕ). Some n) same))
 
-root_is : (root : Option ℕ) (off : ℕ) → root ≡ Some off → option_map_or (λ r. eqb r off) root false ≡ true
+pub root_is : (root : Option ℕ) (off : ℕ) → root ≡ Some off → option_map_or (λ r. eqb r off) root false ≡ true
 root_is root off same = ap (λ (o : Option ℕ). option_map_or (λ r. eqb r off) o false) same ∙ eq-eqb off off refl
 
 -- ---- lists
@@ -144,7 +144,7 @@ module _ (v : View) (w : ℕ → ℕ) (header : Header) (pool : PoolView) (level
       let from = under.from in omega (arith, behind, from))
 
   -- and the transaction has the root of the pool before it
-  same_root : c.tx.pool.root ≡ pool.root
+  pub same_root : c.tx.pool.root ≡ pool.root
   same_root =
       ap (λ (p : PoolView). p.root) c.changed.fixed ∙ ap (λ (p : PoolView). p.root) c.holds.is_pool
       ∙ ap (λ (n : ℕ). cond (eqb n 0) None (Some n)) (other_call_word v w 64 root_unrecorded) ∙ sym (ap (λ (p : PoolView). p.root) holds.is_pool)

@@ -131,3 +131,9 @@ pub mod ReservedWritten
 pub mod ReservedOutside
 pub mod ReservedStays
 pub mod BornePuts
+pub mod LyingApart
+pub mod Following
+pub mod MadeInTurn
+pub mod PublishChecks
+pub mod PublishFound
+pub mod PublishOn

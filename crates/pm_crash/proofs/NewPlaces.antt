@@ -80,12 +80,12 @@ apart_offsets n m behind apart same =
     apart
 
 -- an object of so many bytes at the offset lies beside
-beside_place : (n m : NewObject) (entry : ℕ × Object) → AreDisjoint (block_of n) (block_of m) → place_and_size entry ≡ (m.off, m.size) → IsBeside n.size n.off entry
+pub beside_place : (n m : NewObject) (entry : ℕ × Object) → AreDisjoint (block_of n) (block_of m) → place_and_size entry ≡ (m.off, m.size) → IsBeside n.size n.off entry
 beside_place n m entry apart same =
     subst (λ (p : ℕ × ℕ). (n.off - 64 + 64 * block_lines (class_of n.size) ≤ p.0 - 64) ⊎ (p.0 - 64 + 64 * block_lines (class_of p.1) ≤ n.off - 64)) (sym same) apart
 
 -- those that the call dropped lie beside where each of these does
-all_beside : (n : NewObject) (dropped : Objects) (news : List NewObject) → map place_and_size dropped ≡ map (λ (m : NewObject). (m.off, m.size)) news
+pub all_beside : (n : NewObject) (dropped : Objects) (news : List NewObject) → map place_and_size dropped ≡ map (λ (m : NewObject). (m.off, m.size)) news
     → ((m : NewObject) → Contains news m → AreDisjoint (block_of n) (block_of m)) → All (IsBeside n.size n.off) dropped
 all_beside n [] news same apart = All-nil (IsBeside n.size n.off)
 all_beside n (e ∷ es) [] same apart = let long : length (map place_and_size (e ∷ es)) ≡ 0 = ap (λ (xs : List (ℕ × ℕ)). length xs) same in absurd (omega (arith, long))
@@ -100,7 +100,7 @@ module _ (v : View) (n : NewObject) (level : ℕ) (under_way : IsUnderWay v leve
     (apart_made : (m : NewObject) → Contains ((blocks_in v).made ++ (blocks_in v).dropped) m → AreDisjoint (block_of n) (block_of m)) (w : ℕ → ℕ) (header : Header) (pool : PoolView)
     (holds : HoldsPool w v.lanes v.zones header pool) (beside_before : All (IsBeside n.size n.off) pool.objects) (c : ComesTo v w header pool level stage.Work error.None) where
   -- nor of what the words hold now
-  beside_base : (off : ℕ) (object : Object) → object_at c.base.objects off ≡ Some object → IsBeside n.size n.off (off, object)
+  pub beside_base : (off : ℕ) (object : Object) → object_at c.base.objects off ≡ Some object → IsBeside n.size n.off (off, object)
   beside_base off object is =
       let found = block_is_there (call_words v w) v.lanes v.zones off header c.base object c.holds is in
       let was : Contains (blocks w v.lanes v.zones) found.block = subst (λ (bs : List Block). Contains bs found.block) c.blocks_stay found.is_there in

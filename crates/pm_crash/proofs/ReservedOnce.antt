@@ -32,12 +32,12 @@ reserved_once_more rs r once other =
     subst (IsDistinct nat_eq) (same_offsets (rs ++ r ∷ []))
     (subst AreOnce (sym (map-append reserved_object rs (r ∷ []))) (once_more (map reserved_object rs) (reserved_object r) (as_objects rs once) (none_there rs r.off other)))
 
-tail_once : (r : Reservation) (rs : List Reservation) → AreOnceReserved (r ∷ rs) → AreOnceReserved rs
+pub tail_once : (r : Reservation) (rs : List Reservation) → AreOnceReserved (r ∷ rs) → AreOnceReserved rs
 unfolding IsDistinct
 tail_once r rs once = once.1
 
 -- no other is where the first is
-first_alone : (r : Reservation) (rs : List Reservation) → AreOnceReserved (r ∷ rs) → (s : Reservation) → Contains rs s → s.off ≢ r.off
+pub first_alone : (r : Reservation) (rs : List Reservation) → AreOnceReserved (r ∷ rs) → (s : Reservation) → Contains rs s → s.off ≢ r.off
 first_alone r rs once s there =
     none_at r.off (map reserved_object rs) (reserved_object s) (others_apart (reserved_object r) (map reserved_object rs) (as_objects (r ∷ rs) once)).0 (made_member reserved_object rs s there)
 

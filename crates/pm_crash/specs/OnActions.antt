@@ -3,16 +3,18 @@ use Rattle.std.specs.Prelude.{◌≡◌, ◌⊎◌, ℕ, ◌+◌, ◌%◌, ◌==
 use Rattle.std.specs.List.{Any}
 use Rattle.pm_objects.specs.declared.calls.Operation.{Operation}
 use Rattle.pm_objects.specs.declared.calls.Operation.TheVariants.{Cancel, DeferFree, Publish, SetValue}
+use Rattle.pm_objects.specs.declared.calls.Want.{Want}
 use Rattle.pm_objects.specs.declared.history.Value.{Value}
 use Rattle.pm_objects.specs.declared.history.Value.TheVariants.{Refused}
+use Rattle.pm_objects.specs.declared.ids.Oid.{Oid}
 use Rattle.pm_objects.specs.declared.refusal.Refusal.{Refusal}
 use Rattle.pm_objects.specs.declared.refusal.Refusal.TheVariants as refusal
-use Rattle.pm_model.specs.Actions.{Action, Pending, max_actions, max_entries, object_of, only_sets, pending_count, wants_for}
+use Rattle.pm_model.specs.Actions.{Action, Pending, max_actions, max_entries, object_of, only_sets, pending_count, wants_for, wants_pending}
 use Rattle.pm_model.specs.Actions.Action.{SetWord}
 use Rattle.pm_view.specs.View.{View}
 use Rattle.pm_world.specs.Records.{pool_entries}
-use Rattle.pm_crash.specs.CallBlocks.{IsOldIn, blocks_in}
-use Rattle.pm_crash.specs.Operations.{has_at, HasNewRange, HasRange, IsGone, IsLeft, KeepsLog, KeepsWords, PassesEnd, PassesNewEnd, TakesWanted, Tells}
+use Rattle.pm_crash.specs.CallBlocks.{CallBlocks, IsOldIn, blocks_behind, blocks_in}
+use Rattle.pm_crash.specs.Operations.{has_at, HasNewRange, HasRange, IsGone, IsHeld, IsLeft, IsMade, KeepsLog, KeepsWords, PassesEnd, PassesNewEnd, TakesWanted, Tells}
 use Rattle.pm_crash.specs.Pending.{pending_before, pending_in, published_in, sets_before, sets_in}
 use Rattle.pm_crash.specs.Performing.{IsWord, entry_for}
 
@@ -79,37 +81,73 @@ CanSetIn v a = (CanSet v a × IsOnOld v a) ⊎ CanSetNew v a
 abbrev pub PassesIn : View → Action → Type 0
 PassesIn v a = (PassesObject v a × IsOnOld v a) ⊎ PassesNewObject v a
 
--- what is pending can be published in such a call, the lane told so, and did nothing else
+-- what can be freed there: an object that the lane holds for writing and found, whose block has a line, and that its call neither made nor freed; or one that the
+-- call made and has
+abbrev pub CanFreeIn : View → Oid → Type 0
+CanFreeIn v id = ((held : IsHeld v id true) × (1 ≤ held.lines) × IsOldIn v id.off) ⊎ IsMade v id
+
+-- what the call has made and freed once what is pending is published
+abbrev pub blocks_published : View → CallBlocks
+blocks_published v = blocks_behind Publish None (pending_in v) (blocks_in v)
+
+-- so many entries the transaction has then, that of its lane's generation among them
+abbrev pub entries_published : View → ℕ
+entries_published v = entries_wanted v + (length (blocks_published v).made + length (blocks_published v).freed)
+
+-- All that is pending can be published in such a call, the lane told so, and did nothing else: no object was to be freed before something else was asked of it,
+-- each that is to be freed can be, each word can be set, and the log has room
 pub record PublishesIn (v next : View) : Type 0 where
   pub tells : Tells v next Publish None
   pub logs : KeepsLog v next
   pub words : KeepsWords v next
-  pub alone : pending_in v ≡ only_sets (sets_in v)
+  pub in_time : (pending_in v).late ≡ false
+  pub frees : All (CanFreeIn v) (pending_in v).frees
   pub each : All (CanSetIn v) (sets_in v)
-  pub room : entries_in v ≤ max_entries
+  pub room : entries_published v ≤ max_entries
 
--- the lane has not the object of the action for writing: its call made none there, and it holds no such lock
-abbrev pub LacksObjectOf : View → Action → Type 0
-LacksObjectOf v a = (object_of a).pool ≡ v.pool → has_at v (object_of a).off true ≡ false
+-- the lane has not the object for writing: its call made none there, and it holds no such lock
+abbrev pub LacksObject : View → Oid → Type 0
+LacksObject v id = id.pool ≡ v.pool → has_at v id.off true ≡ false
 
 -- it has it, whether it is gone or not
-abbrev pub HasObjectOf : View → Action → Type 0
-HasObjectOf v a = ((object_of a).pool ≡ v.pool) × (has_at v (object_of a).off true ≡ true)
+abbrev pub HasObject : View → Oid → Type 0
+HasObject v id = (id.pool ≡ v.pool) × (has_at v id.off true ≡ true)
 
--- it has it, and it is gone
+-- the same of the object of an action; it has that, and it is gone, or is not
+abbrev pub LacksObjectOf : View → Action → Type 0
+LacksObjectOf v a = LacksObject v (object_of a)
+
+abbrev pub HasObjectOf : View → Action → Type 0
+HasObjectOf v a = HasObject v (object_of a)
+
 abbrev pub IsOnGone : View → Action → Type 0
 IsOnGone v a = IsGone v (object_of a) true
 
--- it has it, and it is not gone
 abbrev pub IsOnLeft : View → Action → Type 0
 IsOnLeft v a = IsLeft v (object_of a) true
 
--- why such a publish is refused: the first of these that holds of all that is pending
+-- the lane has each object that is to be freed or set, none is gone, and none was to be freed before something else was asked of it
+pub record HasAllLeft (v : View) : Type 0 where
+  pub in_time : (pending_in v).late ≡ false
+  pub left : All (λ (want : Want). IsLeft v want.id true) (wants_pending (pending_in v))
+
+-- what is pending could be published, but the log has no room for its entries
+pub record HasNoRoom (v : View) : Type 0 where
+  pub in_time : (pending_in v).late ≡ false
+  pub frees : All (CanFreeIn v) (pending_in v).frees
+  pub each : All (CanSetIn v) (sets_in v)
+  pub full : max_entries < entries_published v
+
+-- Why such a publish is refused: the first of these that holds of all that is pending. Which object is the root is not asked for here: the reply tells it
+-- (`TellsOfRoot`). No object is in a list or has members
 abbrev pub IsPublishReasonIn : View → Refusal → Type 0
-IsPublishReasonIn v refusal.NotLocked = Any (LacksObjectOf v) (sets_in v)
-IsPublishReasonIn v refusal.NoObject = All (HasObjectOf v) (sets_in v) × Any (IsOnGone v) (sets_in v)
-IsPublishReasonIn v refusal.OutOfRange = All (IsOnLeft v) (sets_in v) × Any (PassesIn v) (sets_in v)
-IsPublishReasonIn v refusal.ActionsFull = All (CanSetIn v) (sets_in v) × (max_entries < entries_in v)
+IsPublishReasonIn v refusal.NotLocked = Any (λ (want : Want). LacksObject v want.id) (wants_pending (pending_in v))
+IsPublishReasonIn v refusal.NoObject =
+    All (λ (want : Want). HasObject v want.id) (wants_pending (pending_in v))
+    × (((pending_in v).late ≡ true) ⊎ Any (λ (want : Want). IsGone v want.id true) (wants_pending (pending_in v)))
+IsPublishReasonIn v refusal.RootKept = HasAllLeft v × (1 ≤ length (pending_in v).frees)
+IsPublishReasonIn v refusal.OutOfRange = HasAllLeft v × Any (PassesIn v) (sets_in v)
+IsPublishReasonIn v refusal.ActionsFull = HasNoRoom v
 IsPublishReasonIn v r = ⊥
 
 -- ---- outside of a transaction

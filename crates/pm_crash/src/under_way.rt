@@ -11,7 +11,6 @@ ghost use Rattle.pm_objects.specs.declared.ids.Oid.{Oid};
 ghost use Rattle.pm_objects.specs.declared.pool.PoolView.{PoolView};
 ghost use Rattle.pm_objects.specs.declared.refusal.Refusal.{Refusal};
 ghost use Rattle.pm_objects.specs.declared.refusal.Refusal.TheVariants as refusal;
-ghost use Rattle.pm_model.specs.Actions.{only_sets};
 ghost use Rattle.pm_model.specs.Answers.{error_for};
 ghost use Rattle.pm_model.specs.Checks.{Range};
 ghost use Rattle.pm_model.specs.declared.stage.Stage.{Stage};
@@ -23,12 +22,14 @@ ghost use Rattle.pm_crash.specs.Held.{HoldsPool};
 ghost use Rattle.pm_crash.specs.OnActions.{ChangesPending, IsPublishReasonIn, PublishesIn};
 ghost use Rattle.pm_crash.specs.OpenCall.{IsBefore, IsCommitted, IsUnderWay, LieApart, MakesItsStep, Turns, WasAborted};
 ghost use Rattle.pm_crash.specs.Operations.{AddsNewRange, AddsRange, AllocatesObject, BeginsCall, BeginsLevel, FreesFound, FreesMade, KeepsKnown, KeepsLog, KeepsWords, ReadsBytes, ReadsNewBytes, Refuses, RefusesAlloc, RefusesFree, RefusesGone, RefusesLevel, RefusesNewRange, TakesBack, Tells, TellsNothing, WritesBytes, WritesNewBytes};
-ghost use Rattle.pm_crash.specs.Pending.{pending_in, published_in, sets_in};
+ghost use Rattle.pm_crash.specs.Pending.{published_in};
 ghost use Rattle.pm_crash.specs.Performing.{entry_for};
+ghost use Rattle.pm_crash.specs.Reserving.{HasReserved};
 
 /// A law: a call under way, which may have made and freed objects, goes on with each operation on what it found and did not free, as the plain
-/// model's transaction does: ranges recorded, written and read, further levels begun and ended, actions asked for and published. What it
-/// publishes may be on objects that it made, too; what it makes lies apart from what a further level finds. No code runs.
+/// model's transaction does: ranges recorded, written and read, further levels begun and ended, actions asked for. So it does where it publishes
+/// all that is pending, with what is reserved as it stands: objects are freed and made, and words set, of what it made too. What it makes lies
+/// apart from what a further level finds. No code runs.
 pub fn a_call_under_way_goes_on()
     ensures begins { (v : View) (wants : List Want) → BeginsCall v wants → IsUnderWay v 1 stage.Work error.None }
     ensures records { (v next : View) (id : Oid) (off len level : ℕ) → 1 ≤ level
@@ -45,7 +46,7 @@ pub fn a_call_under_way_goes_on()
     ensures pending { (v next : View) (op : Operation) (reply : Option Value) (level : ℕ) → 1 ≤ level
         → IsUnderWay v level stage.Work error.None → ChangesPending v next op reply → IsUnderWay next level stage.Work error.None }
     ensures publishes { (v next : View) (level : ℕ) → 1 ≤ level
-        → IsUnderWay v level stage.Work error.None → PublishesIn v next → IsUnderWay next level stage.Work error.None }
+        → IsUnderWay v level stage.Work error.None → HasReserved v → PublishesIn v next → IsUnderWay next level stage.Work error.None }
     ensures quietly { (v next : View) (level : ℕ) (at_stage : Stage) (e : TxErr) → IsUnderWay v level at_stage e
         → TellsNothing v next → KeepsLog v next → KeepsKnown v next → IsUnderWay next level at_stage e }
 {}
@@ -89,7 +90,7 @@ pub fn a_call_under_way_is_aborted()
         → IsUnderWay v level stage.Work error.None → RefusesLevel v next level wants r
         → ((want : Want) → Contains wants want → IsOldIn v want.id.off) → WasAborted next (error.Refused r) }
     ensures by_publish { (v next : View) (r : Refusal) (level : ℕ) → 1 ≤ level
-        → IsUnderWay v level stage.Work error.None → pending_in v ≡ only_sets (sets_in v) → IsPublishReasonIn v r
+        → IsUnderWay v level stage.Work error.None → IsPublishReasonIn v r
         → Tells v next Publish (Some (Refused r)) → TakesBack v next → WasAborted next (error.Refused r) }
     ensures by_alloc { (v next : View) (size kind : ℕ) (r : Refusal) (level : ℕ) → 1 ≤ level
         → IsUnderWay v level stage.Work error.None → RefusesAlloc v next size kind r → WasAborted next (error.Refused r) }

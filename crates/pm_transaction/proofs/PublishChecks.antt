@@ -1,20 +1,22 @@
 -- What the checks of a publish find of each action, in a call that may have made and freed objects, and so why it is refused.
-use Rattle.std.proofs.Common.{◌≡◌, ◌⊎◌, ⊎_elim, inl, inr, ℕ, ◌+◌, ◌%◌, ◌^◌, ◌<◌, true, false, All, List, length, map, take, get_or, Result, Err, IfErr, Ok, OnOk, refl, sym, ap, ◌∙◌, subst, arith}
+use Rattle.std.proofs.Common.{◌≡◌, ◌⊎◌, ⊎_elim, inl, inr, ℕ, ◌+◌, ◌%◌, ◌^◌, ◌<◌, true, false, All, List, length, map, take, get_or, Result, Err, IfErr, Ok, None, OnOk, refl, sym, ap, ◌∙◌, subst, arith}
 use Rattle.std.specs.List.{Any}
 use Rattle.std.specs.Result.{is_ok}
 use Rattle.std.proofs.lemmas.Bool.{false≢true, or_cases}
 use Rattle.std.proofs.lemmas.List.{length-map}
-use Rattle.std.proofs.lemmas.List.Elements.{All-map, All-weaker}
+use Rattle.std.proofs.lemmas.List.Elements.{All-map, All-nil, All-weaker}
 use Rattle.pm_crash.proofs.PendingOn.{pending_same, sets_alone}
-use Rattle.pm_crash.specs.CallBlocks.{IsOldIn, blocks_in, is_gone_in, is_new_in}
-use Rattle.pm_crash.specs.OnActions.{CanSetIn, HasObjectOf, IsOnGone, IsOnLeft, IsPublishReasonIn, LacksObjectOf, PassesIn, PassesNewObject, entries_in}
+use Rattle.pm_crash.specs.CallBlocks.{CallBlocks, IsOldIn, blocks_behind, blocks_in, is_gone_in, is_new_in}
+use Rattle.pm_crash.specs.OnActions.{CanFreeIn, CanSetIn, HasObject, HasObjectOf, IsOnGone, IsOnLeft, IsPublishReasonIn, LacksObject, LacksObjectOf, PassesIn, PassesNewObject, entries_in, entries_published, entries_wanted}
 use Rattle.pm_crash.specs.OpenCall.{lock_of, locks_of}
-use Rattle.pm_crash.specs.Operations.{HasNewRange, HasRange, IsNotHeld, PassesEnd}
+use Rattle.pm_crash.specs.Operations.{HasNewRange, HasRange, IsGone, IsLeft, IsNotHeld, PassesEnd}
 use Rattle.pm_crash.specs.Pending.{pending_in, sets_in}
 use Rattle.pm_made.specs.Made.{BlockLists}
-use Rattle.pm_model.specs.Actions.{Pending, max_entries, only_sets}
+use Rattle.pm_model.specs.Actions.{Action, Pending, max_entries, object_of, only_sets, wants_pending}
 use Rattle.pm_model.specs.Actions.Action.{SetWord}
 use Rattle.pm_model.specs.Transaction.{is_locked}
+use Rattle.pm_objects.specs.declared.calls.Operation.TheVariants.{Publish}
+use Rattle.pm_objects.specs.declared.calls.Want.{Want}
 use Rattle.pm_objects.specs.declared.ids.Oid.{Oid}
 use Rattle.pm_objects.specs.declared.refusal.Refusal.{Refusal}
 use Rattle.pm_objects.specs.declared.refusal.Refusal.TheVariants as refusal
@@ -167,26 +169,52 @@ module _ {M : Type 0} (o : Opening) (at : M → View → Type 0) (blocks : Block
 
 -- ---- the reasons
 
+-- the lock of an action's object is wanted for writing
+abbrev want_of : Action → Want
+want_of a = record { id = object_of a; write = true }
+
 module _ (v : View) (actions : List SetAction) (pending : pending_of actions ≡ pending_in v) where
+  -- what holds of the object of some action, or of each, does of what is wanted
+  some_wanted : (P : Want → Type 0) → Any (λ (a : SetAction). P (want_of (action_of a))) actions → Any P (wants_pending (pending_in v))
+  some_wanted P some =
+      subst (λ (p : Pending). Any P (wants_pending p)) pending (some_mapped P want_of (map action_of actions) (some_mapped (λ (a : Action). P (want_of a)) action_of actions some))
+
+  all_wanted : (P : Want → Type 0) → All (λ (a : SetAction). P (want_of (action_of a))) actions → All P (wants_pending (pending_in v))
+  all_wanted P each =
+      subst (λ (p : Pending). All P (wants_pending p)) pending (All-map P want_of (map action_of actions) (All-map (λ (a : Action). P (want_of a)) action_of actions each))
+
+  -- nothing is to be freed, so nothing was asked for too late
+  pub in_time : (pending_in v).late ≡ false
+  in_time = ap (λ (p : Pending). p.late) (sym pending)
+
   pub lacks_reason : Any (LacksIts v) actions → IsPublishReasonIn v refusal.NotLocked
-  lacks_reason some = subst (λ (p : Pending). Any (LacksObjectOf v) p.sets) pending (some_mapped (LacksObjectOf v) action_of actions some)
+  lacks_reason some = some_wanted (λ (want : Want). LacksObject v want.id) some
 
   pub gone_reason : All (HasIts v) actions → Any (λ (a : SetAction). is_gone_in v a.id.off ≡ true) actions → IsPublishReasonIn v refusal.NoObject
   gone_reason has some = (
-    subst (λ (p : Pending). All (HasObjectOf v) p.sets) pending (All-map (HasObjectOf v) action_of actions has),
-    subst (λ (p : Pending). Any (IsOnGone v) p.sets) pending
-        (some_mapped (IsOnGone v) action_of actions
+    all_wanted (λ (want : Want). HasObject v want.id) has,
+    inr (some_wanted (λ (want : Want). IsGone v want.id true)
         (some_with (λ (a : SetAction). is_gone_in v a.id.off ≡ true) (HasIts v) (λ (a : SetAction). IsOnGone v (action_of a)) actions (λ a its gone. record { of_pool = its.0; has = its.1; gone = gone }) has some)),
   )
 
   pub past_reason : All (IsLeftFor v) actions → Any (PassesEndIn v) actions → IsPublishReasonIn v refusal.OutOfRange
   past_reason left some = (
-    subst (λ (p : Pending). All (IsOnLeft v) p.sets) pending (All-map (IsOnLeft v) action_of actions left),
+    record { in_time = in_time; left = all_wanted (λ (want : Want). IsLeft v want.id true) left },
     subst (λ (p : Pending). Any (PassesIn v) p.sets) pending (some_mapped (PassesIn v) action_of actions some),
   )
 
   pub each_set : All (SetsIn v) actions → All (CanSetIn v) (sets_in v)
   each_set each = subst (λ (p : Pending). All (CanSetIn v) p.sets) pending (All-map (CanSetIn v) action_of actions each)
+
+  -- what is to be freed can be, and all is published with what the call made and freed so far
+  pub each_free : All (CanFreeIn v) (pending_in v).frees
+  each_free = subst (λ (p : Pending). All (CanFreeIn v) p.frees) pending (All-nil (CanFreeIn v))
+
+  pub published_entries : entries_published v ≡ entries_in v
+  published_entries = ap (λ (b : CallBlocks). entries_wanted v + (length b.made + length b.freed)) (ap (λ (p : Pending). blocks_behind Publish None p (blocks_in v)) (sym pending))
+
+  pub full_reason : All (SetsIn v) actions → max_entries < entries_in v → IsPublishReasonIn v refusal.ActionsFull
+  full_reason each full = record { in_time = in_time; frees = each_free; each = each_set each; full = (let same = published_entries in omega (arith, full, same)) }
 
   -- so many entries there would be
   pub entries_are : {M : Type 0} (o : Opening) (at : M → View → Type 0) (lane : Lane M) (blocks : BlockLists) → IsAtWorkWith o at lane blocks v → (count : ℕ) → count ≡ length (blocks_in v).freed + length (blocks_in v).made
@@ -229,4 +257,4 @@ module _ {M : Type 0} (o : Opening) (at : M → View → Type 0) (lane next : La
       → HasLookedWith o at next blocks v (λ w. IsPublishReasonIn w refusal.ActionsFull)
   looked_full t full =
       let is = pending_still (λ w. All (SetsIn w) actions) t in
-      record { loads = t.loads; view = t.view; looks = t.looks; works = t.works; holds = (each_set t.view actions is t.holds, full t.view t.works is) }
+      record { loads = t.loads; view = t.view; looks = t.looks; works = t.works; holds = full_reason t.view actions is t.holds (full t.view t.works is) }

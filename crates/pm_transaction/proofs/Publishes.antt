@@ -4,7 +4,9 @@ use Rattle.std.proofs.lemmas.List.{length-map}
 use Rattle.std.proofs.lemmas.List.Elements.{All-nil}
 use Rattle.pm_objects.specs.declared.ids.Oid.{Oid}
 use Rattle.std.proofs.lemmas.List.Elements.{All-weaker}
-use Rattle.pm_crash.proofs.ActionsOn.{publish_goes_on, refused_publish_aborts}
+use Rattle.pm_crash.proofs.PublishFound.{refused_publish_aborts}
+use Rattle.pm_crash.proofs.PublishOn.{publish_goes_on}
+use Rattle.pm_crash.proofs.ReservedOn.{none_reserved}
 use Rattle.pm_crash.proofs.CallBlocks.{blocks_once_more}
 use Rattle.pm_crash.specs.OnActions.{CanSetIn, IsPublishReasonIn, PublishesIn, entries_in}
 use Rattle.pm_crash.proofs.PendingOn.{sets_alone}
@@ -41,7 +43,7 @@ use Rattle.pm_tx.specs.Calls.{HasLooked}
 use Rattle.pm_tx.specs.Ending.{GivesUpBy, IsEndedBy, IsStoppedIn}
 use Rattle.pm_tx.specs.Sequences.{gives_up}
 use Rattle.pm_transaction.proofs.ActionsWithLists.{told_with_lists}
-use Rattle.pm_transaction.proofs.PublishChecks.{SetsIn, each_set}
+use Rattle.pm_transaction.proofs.PublishChecks.{SetsIn, each_free, each_set, in_time, published_entries}
 use Rattle.pm_transaction.proofs.PublishEntries.{enters_action, locked_action}
 use Rattle.pm_transaction.proofs.RangeRefusals.{may_give_up}
 use Rattle.pm_transaction.specs.AtWork.{HasLookedWith, IsAtWorkWith}
@@ -49,7 +51,8 @@ use Rattle.pm_transaction.specs.Publishing.{HasPublishedWith, IsPublishGivenUp, 
 
 -- where set-values are all that is pending, a publish that is refused tells nothing of the root
 refused_tells_none : (v : View) (r : Refusal) (root : Option ℕ) → pending_in v ≡ only_sets (sets_in v) → IsPublishReasonIn v r → TellsOfRoot root Publish (Some (Refused r)) (pending_in v)
-refused_tells_none v refusal.RootKept root alone reason = absurd reason
+refused_tells_none v refusal.RootKept root alone reason =
+    let some = reason.1 in let none : length (pending_in v).frees ≡ 0 = ap (λ (p : Pending). length p.frees) alone in absurd (omega (arith, some, none))
 refused_tells_none v refusal.OutOfRange root alone reason = subst (TellsOfRoot root Publish (Some (Refused refusal.OutOfRange))) (sym alone) (All-nil (λ (id : Oid). root ≢ Some id.off))
 refused_tells_none v refusal.ActionsFull root alone reason = subst (TellsOfRoot root Publish (Some (Refused refusal.ActionsFull))) (sym alone) (All-nil (λ (id : Oid). root ≢ Some id.off))
 refused_tells_none v r root alone reason = tt
@@ -70,7 +73,7 @@ module _ {M : Type 0} (o : Opening) (at : M → View → Type 0) (lane : Lane M)
     publishes : PublishesIn v told
     publishes =
         let is = as_before v all.work.working in
-        record { tells = tells v v is Publish None; logs = log_kept v v is Publish None; words = words_kept v v is Publish None; alone = sets_alone (pending_in v) (sets_of actions) pending; each = each_pending; room = room }
+        record { tells = tells v v is Publish None; logs = log_kept v v is Publish None; words = words_kept v v is Publish None; in_time = in_time v actions pending; frees = each_free v actions pending; each = each_pending; room = (let same = published_entries v actions pending in omega (arith, room, same)) }
 
     module _ (next : Lane M) (fields : HasSameFields (record lane { entries = next.entries }) next) (records : next.records ≡ lane.records) (seen : at next.memory told) (more : next.entries.items ≡ lane.entries.items ++ map redo_for actions) where
       lists : ListsPublished next told
@@ -89,7 +92,7 @@ module _ {M : Type 0} (o : Opening) (at : M → View → Type 0) (lane : Lane M)
       works =
           let is = as_before v all.work.working in
           goes_on_listing o at lane next v told all.work fields (objects v v is Publish None) seen (ap (λ rs. rs.items) records ∙ all.work.seen.records) (subst (λ rs. All IsSpan rs.items) (sym records) all.work.spans)
-          (opening_told v v is Publish None o all.work.opening) (tell_works v Publish None all.work.working) all.work.no_entries lists (publish_goes_on v told lane.level all.work.level all.work.under_way publishes)
+          (opening_told v v is Publish None o all.work.opening) (tell_works v Publish None all.work.working) all.work.no_entries lists (publish_goes_on v told lane.level all.work.level all.work.under_way (none_reserved v (ap (λ (p : Pending). p.reserved) (sym pending))) publishes)
 
       pub has_published_with : HasPublishedWith o at next blocks v
       has_published_with = record {
@@ -103,7 +106,7 @@ module _ {M : Type 0} (o : Opening) (at : M → View → Type 0) (lane : Lane M)
   pub publish_gives_up : (r : Refusal) → pending_in v ≡ only_sets (sets_in v) → IsPublishReasonIn v r → GivesUpBy v Publish (Some (Refused r)) (error.Refused r)
   publish_gives_up r alone reason =
       gives_up_so o at lane v all.work (may_give_up o at lane blocks v all) Publish (Some (Refused r)) (error.Refused r) (refl, refl) (λ root. refused_tells_none v r root alone reason)
-      (λ next told back. refused_publish_aborts v next r lane.level all.work.level all.work.under_way alone reason told back)
+      (λ next told back. refused_publish_aborts v next r lane.level all.work.level all.work.under_way reason told back)
 
 -- none of the reasons is a stop
 pub publish_is_no_stop : (r : Refusal) → (r ≡ refusal.NotLocked) ⊎ (r ≡ refusal.NoObject) ⊎ (r ≡ refusal.OutOfRange) ⊎ (r ≡ refusal.ActionsFull) → r ≢ refusal.Stopped

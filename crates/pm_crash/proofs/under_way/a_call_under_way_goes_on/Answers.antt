@@ -1,7 +1,8 @@
-use Rattle.pm_crash.proofs.ActionsOn.{change_goes_on, publish_goes_on}
+use Rattle.pm_crash.proofs.ActionsOn.{change_goes_on}
 use Rattle.pm_crash.proofs.AddOn.{add_goes_on}
 use Rattle.pm_crash.proofs.Begun.{begin_under_way}
 use Rattle.pm_crash.proofs.Levels.{further_begin_goes_on, inner_commit_goes_on}
+use Rattle.pm_crash.proofs.PublishOn.{publish_goes_on}
 use Rattle.pm_crash.proofs.ReadOn.{read_goes_on}
 use Rattle.pm_crash.proofs.Staying.{goes_on_learning}
 use Rattle.pm_crash.proofs.WriteOn.{write_goes_on}

@@ -1,4 +1,4 @@
-use Rattle.pm_crash.proofs.ActionsOn.{refused_publish_aborts}
+use Rattle.pm_crash.proofs.PublishFound.{refused_publish_aborts}
 use Rattle.pm_crash.proofs.GivenUp.{abort_aborts, refusal_aborts}
 use Rattle.pm_crash.proofs.GoneRanges.{gone_range_aborts, new_range_aborts}
 use Rattle.pm_crash.proofs.RefusedAlloc.{refused_alloc_aborts}
