@@ -33,7 +33,7 @@ use Rattle.pm_pending.specs.declared.actions.SetAction.{SetAction}
 use Rattle.pm_script.specs.declared.script.ScriptLine.{ScriptLine}
 use Rattle.pm_script.specs.declared.script.ScriptOp.{ScriptOp}
 use Rattle.pm_script.specs.declared.script.ScriptOp.TheVariants as op
-use Rattle.pm_transaction.proofs.Allocates.{all_found}
+use Rattle.pm_transaction.proofs.GainedAtWork.{all_found}
 use Rattle.pm_transaction.proofs.EndingAlone.{may_allocate}
 use Rattle.pm_transaction.proofs.MadeBySteps.{object_makes}
 use Rattle.pm_transaction.proofs.NoRoomFound.{finds_no_room}
