@@ -45,6 +45,7 @@ pub mod RestingReservations
 pub mod UntoldCalls
 pub mod FreedLocks
 pub mod NewObjectViews
+pub mod PutDescriptors
 pub mod StayingBorneOut
 pub mod MakingAlone
 pub mod NotTheRoot

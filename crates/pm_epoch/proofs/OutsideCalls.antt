@@ -41,6 +41,7 @@ use Rattle.pm_epoch.specs.Reserving.{IsAloneBetween, IsAloneOutside, IsAloneOuts
 use Rattle.pm_epoch.proofs.FreedLocks.{none_freed}
 use Rattle.pm_epoch.proofs.HeldApart.{AllFound}
 use Rattle.pm_epoch.proofs.PlacedObjects.{logs, MayMakeAlone}
+use Rattle.pm_epoch.proofs.PutDescriptors.{kept_describes}
 use Rattle.pm_epoch.proofs.StayingBorneOut.{put_borne_out, same_heads, told_borne_out}
 use Rattle.pm_epoch.proofs.ToldReservations.{may_still, reserved_stands, reserves, told}
 
@@ -132,7 +133,7 @@ module _ (o : Opening) (header : Header) (pool : PoolView) (start : View) (steps
 
   -- ---- or refused, or bytes are written into what is
 
-  module _ (w : View) (more : List Step) (works : WorksAlone o header pool start more w) (can : CanMakeObject w shape) (same : w.reserved ≡ v.reserved) (described : HasSameDescriptors v w) where
+  module _ (w : View) (more : List Step) (works : WorksAlone o header pool start more w) (can : CanMakeObject w shape) (same : w.reserved ≡ v.reserved) where
     -- so it works on, with what bears out the operation
     outside_on : (made : Operation) (answer : Option Value) → Tells v w made answer → KeepsLog v w → IsBorneOut w → HasReserved w → IsAloneOutside o header pool start more w shape
     outside_on made answer tells log_still borne has = record {
@@ -145,8 +146,8 @@ module _ (o : Opening) (header : Header) (pool : PoolView) (start : View) (steps
       reserved = has;
     }
 
-    pub refused_outside : (size kind : ℕ) (r : Refusal) → RefusesReserve v w size kind r → IsAloneOutside o header pool start more w shape
-    refused_outside size kind r refuses =
+    pub refused_outside : HasSameDescriptors v w → (size kind : ℕ) (r : Refusal) → RefusesReserve v w size kind r → IsAloneOutside o header pool start more w shape
+    refused_outside described size kind r refuses =
         outside_on (Reserve size kind) (Some (Refused r)) refuses.tells refuses.logs
         (told_borne_out o header pool start v w steps more (Reserve size kind) (Some (Refused r)) c.outside.works works refuses.tells ((λ j. []), (λ j. false)) tt same described c.outside.borne_out)
         (refused_keeps v w size kind r c.outside.reserved refuses)
@@ -154,12 +155,12 @@ module _ (o : Opening) (header : Header) (pool : PoolView) (start : View) (steps
     pub put_outside : (id : Oid) (off : ℕ) (bytes : List ℕ) → WritesReserved v w id off bytes → IsAloneOutside o header pool start more w shape
     put_outside id off bytes writes =
         outside_on (WriteReserved id off bytes) None writes.tells writes.logs
-        (put_borne_out o header pool start v w steps more id off bytes c.outside.works works c.outside.reserved writes same described c.outside.borne_out)
+        (put_borne_out o header pool start v w steps more id off bytes c.outside.works works c.outside.reserved writes same c.outside.borne_out)
         (reserved_write_keeps v w id off bytes c.outside.reserved writes)
 
     -- a put that is refused needs no room
-    refused_put_borne : (id : Oid) (off : ℕ) (bytes : List ℕ) (r : Refusal) → Tells v w (WriteReserved id off bytes) (Some (Refused r)) → IsBorneOut w
-    refused_put_borne id off bytes r tells =
+    refused_put_borne : HasSameDescriptors v w → (id : Oid) (off : ℕ) (bytes : List ℕ) (r : Refusal) → Tells v w (WriteReserved id off bytes) (Some (Refused r)) → IsBorneOut w
+    refused_put_borne described id off bytes r tells =
         let op : Operation = WriteReserved id off bytes in
         let reply : Option Value = Some (Refused r) in
         let heads : HasSameHeads v w = same_heads o header pool start v w steps more c.outside.works works tells.keeps same described in
@@ -178,7 +179,7 @@ module _ (o : Opening) (header : Header) (pool : PoolView) (start : View) (steps
 
     pub refused_put_outside : (id : Oid) (off : ℕ) (bytes : List ℕ) (r : Refusal) → RefusesPut v w id off bytes r → IsAloneOutside o header pool start more w shape
     refused_put_outside id off bytes r refuses =
-        outside_on (WriteReserved id off bytes) (Some (Refused r)) refuses.tells refuses.logs (refused_put_borne id off bytes r refuses.tells) (refused_put_keeps v w id off bytes r c.outside.reserved refuses)
+        outside_on (WriteReserved id off bytes) (Some (Refused r)) refuses.tells refuses.logs (refused_put_borne (kept_describes o header pool start v steps c.outside.works w refuses.words) id off bytes r refuses.tells) (refused_put_keeps v w id off bytes r c.outside.reserved refuses)
 
   -- ---- which is all of the call
 

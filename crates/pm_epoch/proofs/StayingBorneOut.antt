@@ -22,6 +22,7 @@ use Rattle.pm_crash.proofs.CallBlocks.{first_agrees}
 use Rattle.pm_crash.proofs.StillReserved.{HasSameHeads, borne_told}
 use Rattle.pm_epoch.specs.Allocating.{HasSameDescriptors}
 use Rattle.pm_epoch.proofs.GainedObjects.{stood}
+use Rattle.pm_epoch.proofs.PutDescriptors.{put_describes}
 
 pub begun_borne_out : (v : View) (wants : List Want) → BeginsCall v wants → All (IsReservedFor v) (reserved_in v) → IsBorneOut v
 unfolding allocated_told
@@ -56,6 +57,7 @@ told_borne_out o header pool start v w steps more op reply works on tells none r
 
 -- bytes that are written into what is reserved lie in it
 pub put_borne_out : (o : Opening) (header : Header) (pool : PoolView) (start v w : View) (steps more : List Step) (id : Oid) (off : ℕ) (bytes : List ℕ) → WorksAlone o header pool start steps v
-    → WorksAlone o header pool start more w → HasReserved v → WritesReserved v w id off bytes → w.reserved ≡ v.reserved → HasSameDescriptors v w → IsBorneOut v → IsBorneOut w
-put_borne_out o header pool start v w steps more id off bytes works on has writes reserved same =
-    borne_put v w id off bytes (same_heads o header pool start v w steps more works on writes.tells.keeps reserved same) has writes
+    → WorksAlone o header pool start more w → HasReserved v → WritesReserved v w id off bytes → w.reserved ≡ v.reserved → IsBorneOut v → IsBorneOut w
+put_borne_out o header pool start v w steps more id off bytes works on has writes reserved borne =
+    let described : HasSameDescriptors v w = put_describes o header pool start v steps works w id off bytes has borne.pending writes in
+    borne_put v w id off bytes (same_heads o header pool start v w steps more works on writes.tells.keeps reserved described) has writes borne

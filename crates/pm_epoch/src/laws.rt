@@ -133,8 +133,8 @@ pub fn a_lane_alone_may_tell_its_new_object()
 {}
 
 /// A law: what a lane has bears out what its call told of the heap from the call's begin on, which tells nothing of it. So it does once an operation is told that
-/// allocates nothing and, where it is a free, agrees with the root that the words have, and once bytes are written into what is reserved, if the lane has what it had
-/// reserved, and each chunk is described as it was. No code runs.
+/// allocates nothing and, where it is a free, agrees with the root that the words have, if the lane has what it had reserved, and each chunk is described as it
+/// was; and once bytes are written into what is reserved, if the lane has what it had. No code runs.
 pub fn a_call_stays_borne_out()
     ensures begins { (v : View) (wants : List Want) → BeginsCall v wants → All (IsReservedFor v) (reserved_in v) → IsBorneOut v }
     ensures told { (o : Opening) (header : Header) (pool : PoolView) (start v w : View) (steps more : List Step) (op : Operation) (reply : Option Value)
@@ -142,7 +142,7 @@ pub fn a_call_stays_borne_out()
         → TellsOfRoot (root_in (slice_index v.words)) op reply (pending_in v) → w.reserved ≡ v.reserved → HasSameDescriptors v w → IsBorneOut v → IsBorneOut w }
     ensures puts { (o : Opening) (header : Header) (pool : PoolView) (start v w : View) (steps more : List Step) (id : Oid) (off : ℕ) (bytes : List ℕ)
         → WorksAlone o header pool start steps v → WorksAlone o header pool start more w → HasReserved v → WritesReserved v w id off bytes
-        → w.reserved ≡ v.reserved → HasSameDescriptors v w → IsBorneOut v → IsBorneOut w }
+        → w.reserved ≡ v.reserved → IsBorneOut v → IsBorneOut w }
 {}
 
 /// A law: an object that the call of a lane alone made is not the pool's root, by the words, where what the lane has bears out what the call told. So a free of it

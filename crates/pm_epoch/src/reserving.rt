@@ -3,6 +3,7 @@ ghost use Rattle.pm_header.specs.declared.header.Header.{Header};
 ghost use Rattle.pm_objects.specs.declared.ids.Oid.{Oid};
 ghost use Rattle.pm_objects.specs.declared.pool.PoolView.{PoolView};
 ghost use Rattle.pm_objects.specs.declared.refusal.Refusal.{Refusal};
+ghost use Rattle.pm_layout.specs.Sizes.{blocks_of};
 ghost use Rattle.pm_layout.specs.declared.shape.Shape.{Shape};
 ghost use Rattle.pm_image.specs.declared.block.Block.{Block};
 ghost use Rattle.pm_model.specs.Actions.{max_actions, pending_count};
@@ -16,7 +17,7 @@ ghost use Rattle.pm_crash.specs.Alone.{WorksAlone, standing};
 ghost use Rattle.pm_crash.specs.CallBlocks.{NewObject, block_of, reserved_in};
 ghost use Rattle.pm_crash.specs.HeldHistory.{IsEndedCall};
 ghost use Rattle.pm_crash.specs.Pending.{pending_before, pending_in};
-ghost use Rattle.pm_crash.specs.Reserved.{IsBorneOut, IsReservedFor};
+ghost use Rattle.pm_crash.specs.Reserved.{IsBorneOut, IsReservedFor, IsReservedInRun};
 ghost use Rattle.pm_crash.specs.Reserving.{HasReserved, PutsOutside, RefusesPut, RefusesReserve, RefusesReserveOutside, ReservedLieApart, ReservesObject, ReservesOutside, RestsBehind, WritesReserved};
 ghost use Rattle.pm_alloc.specs.NewObjects.{CanMakeObject};
 ghost use Rattle.pm_reclaim.specs.KeptBlocks.{Keeps};
@@ -41,11 +42,16 @@ pub fn a_lane_alone_may_reserve_its_new_object()
         → pending_count (pending_in v) < max_actions → HasReserved (with_object_reserved u (object_in_block block size kind)) }
 {}
 
-/// A law: what is reserved of a lane that works alone overlaps no block that it found under a lock, where it lies in what the lane reserved: so it is asked as a
-/// level or a call begins. No code runs.
+/// A law: what is reserved of a lane that works alone, where it lies in what the lane reserved, overlaps no block that the lane found under a lock: so it is
+/// asked as a level or a call begins. A block that it reserved in a run is one of those that the run has; so where bytes are written into what is reserved each
+/// chunk is described as it was. No code runs.
 pub fn what_a_lane_alone_reserved_lies_apart()
-    ensures { (o : Opening) (header : Header) (pool : PoolView) (start v : View) (steps : List Step) → WorksAlone o header pool start steps v
+    ensures locks { (o : Opening) (header : Header) (pool : PoolView) (start v : View) (steps : List Step) → WorksAlone o header pool start steps v
         → All (IsReservedFor v) (reserved_in v) → ReservedLieApart v }
+    ensures whole { (o : Opening) (header : Header) (pool : PoolView) (start v : View) (steps : List Step) → WorksAlone o header pool start steps v
+        → (n : NewObject) (run : IsReservedInRun v n) → run.index < blocks_of run.lines }
+    ensures described { (o : Opening) (header : Header) (pool : PoolView) (start v w : View) (steps : List Step) (id : Oid) (off : ℕ) (bytes : List ℕ)
+        → WorksAlone o header pool start steps v → HasReserved v → All (IsReservedFor v) (reserved_in v) → WritesReserved v w id off bytes → HasSameDescriptors v w }
 {}
 
 /// A law: outside of a transaction a lane alone reserves an object that it made, where one more action may be pending: that is all of its call, a step of the
@@ -69,18 +75,17 @@ pub fn a_lane_alone_reserves_outside()
 {}
 
 /// A law: outside of a transaction a lane alone writes bytes into what it has reserved, or refuses to: that is all of its call, a step of the plain model
-/// from any pool. Where the lane has what it had reserved, and each chunk is described as it was, what it has bears out the call, and what is reserved
-/// stands. No code runs.
+/// from any pool. Where the lane has what it had reserved, that bears out the call, and what is reserved stands. No code runs.
 pub fn a_lane_alone_writes_outside_what_it_reserved()
     ensures puts { (o : Opening) (header : Header) (pool : PoolView) (start v w : View) (steps : List Step) (shape : Shape) (id : Oid) (off : ℕ) (bytes : List ℕ)
         → IsAloneBetween o header pool start steps v shape → WritesReserved v w id off bytes → PutsOutside w id off bytes None }
     ensures goes_on { (o : Opening) (header : Header) (pool : PoolView) (start v w : View) (steps more : List Step) (shape : Shape) (id : Oid) (off : ℕ) (bytes : List ℕ)
-        → IsAloneBetween o header pool start steps v shape → WorksAlone o header pool start more w → CanMakeObject w shape → w.reserved ≡ v.reserved → HasSameDescriptors v w
+        → IsAloneBetween o header pool start steps v shape → WorksAlone o header pool start more w → CanMakeObject w shape → w.reserved ≡ v.reserved
         → WritesReserved v w id off bytes → IsAloneOutside o header pool start more w shape }
     ensures refuses { (o : Opening) (header : Header) (pool : PoolView) (start v w : View) (steps : List Step) (shape : Shape) (id : Oid) (off : ℕ) (bytes : List ℕ) (r : Refusal)
         → IsAloneBetween o header pool start steps v shape → RefusesPut v w id off bytes r → PutsOutside w id off bytes (Some r) }
     ensures refused { (o : Opening) (header : Header) (pool : PoolView) (start v w : View) (steps more : List Step) (shape : Shape) (id : Oid) (off : ℕ) (bytes : List ℕ) (r : Refusal)
-        → IsAloneBetween o header pool start steps v shape → WorksAlone o header pool start more w → CanMakeObject w shape → w.reserved ≡ v.reserved → HasSameDescriptors v w
+        → IsAloneBetween o header pool start steps v shape → WorksAlone o header pool start more w → CanMakeObject w shape → w.reserved ≡ v.reserved
         → RefusesPut v w id off bytes r → IsAloneOutside o header pool start more w shape }
 {}
 
