@@ -3,14 +3,14 @@ use Rattle.std.proofs.Common.{◌≡◌, ℕ, ◌+◌, ◌*◌, ◌<◌, ◌≤�
 use Rattle.std.specs.List.{filter}
 use Rattle.std.proofs.lemmas.List.Elements.{All-nil}
 use Rattle.pm_view.specs.Area.{is_in_area}
-use Rattle.pm_crash.proofs.ActionsOutside.{publish_is_step}
+use Rattle.pm_crash.proofs.PublishOutside.{publish_is_step}
 use Rattle.pm_crash.specs.Locks.{AreSameLocks}
 use Rattle.pm_crash.specs.OnActions.{CanSet, PassesObject}
 use Rattle.pm_crash.specs.OpenCall.{lock_of as model_lock}
 use Rattle.pm_crash.specs.Operations.{IsHeld, TakesWanted}
 use Rattle.pm_crash.specs.Pending.{pending_before, pending_from}
 use Rattle.pm_crash.specs.Performing.{entry_for}
-use Rattle.pm_model.specs.Actions.{Action, Pending, none_pending, wants_for}
+use Rattle.pm_model.specs.Actions.{Action, Pending, none_pending, wants_for, wants_pending}
 use Rattle.pm_crash.proofs.PendingOn.{sets_alone}
 use Rattle.pm_model.specs.Actions.Action.{SetWord}
 use Rattle.pm_model.specs.Transaction.{locked_all}
@@ -229,7 +229,7 @@ empty_whole {M} at lane u is free none =
       call = ap (λ (told : List Told). told ++ record { operation = Publish; reply = None } ∷ []) is.untold;
       no_records = ap (λ (log : Log). log.records) is.log;
       alone = sets_alone (pending_before told) [] (sym none);
-      holds = record { in_lanes = is.area.lane; takes = subst (λ (p : Pending). TakesWanted told [] (wants_for p.sets)) (sym none) takes };
+      holds = record { in_lanes = is.area.lane; takes = subst (λ (p : Pending). TakesWanted told [] (wants_pending p)) (sym none) takes };
       each = subst (λ (p : Pending). All (CanSet told) p.sets) (sym none) (All-nil (CanSet told));
       entries = ap (λ (log : Log). filter (λ (f : Final). not (is_in_area u.lane f.word)) log.entries) is.log ∙ sym (ap (λ (p : Pending). map entry_for p.sets) none);
     }) where

@@ -3,7 +3,7 @@ use Rattle.std.proofs.Common.{◌≡◌, ◌⊎◌, ⊎_elim, inl, inr, ℕ, ◌
 use Rattle.std.proofs.Math.ListN.{get_or-map}
 use Rattle.std.proofs.lemmas.List.{append_assoc, length-map}
 use Rattle.std.proofs.lemmas.List.Elements.{All-weaker}
-use Rattle.pm_crash.proofs.ActionsOutside.{publish_is_step}
+use Rattle.pm_crash.proofs.PublishOutside.{publish_is_step}
 use Rattle.pm_crash.proofs.PendingOn.{same_before, sets_alone}
 use Rattle.pm_crash.specs.Locks.{AreSameLocks}
 use Rattle.pm_crash.specs.OnActions.{CanSet}
@@ -12,7 +12,7 @@ use Rattle.pm_crash.specs.Operations.{IsHeld, TakesWanted}
 use Rattle.pm_crash.specs.Pending.{pending_before}
 use Rattle.pm_crash.specs.Performing.{entry_for}
 use Rattle.pm_memory.specs.Runs.{Stops}
-use Rattle.pm_model.specs.Actions.{Action, Pending, only_sets, wants_for}
+use Rattle.pm_model.specs.Actions.{Action, Pending, only_sets, wants_for, wants_pending}
 use Rattle.pm_model.specs.Actions.Action.{SetWord}
 use Rattle.pm_model.specs.Places.{can_begin}
 use Rattle.pm_model.specs.Transaction.{locked_all}
@@ -110,7 +110,7 @@ module _ {M : Type 0} (at : M → View → Type 0) (lane : Lane M) (actions : Li
           alone = sets_alone (pending_before next) actions now;
           holds = record {
             in_lanes = (let low = is.area.lane in let lane = t.tells.keeps.lane in let lanes = t.tells.keeps.lanes in omega (arith, low, lane, lanes));
-            takes = subst (λ (p : Pending). TakesWanted next [] (wants_for p.sets)) now takes_next;
+            takes = subst (λ (p : Pending). TakesWanted next [] (wants_pending p)) now takes_next;
           };
           each = subst (λ (p : Pending). All (CanSet next) p.sets) now (All-weaker (CanSet v) (CanSet next) sets_next actions may.holds.each);
           entries = t.logged ∙ finals_for actions ∙ ap (λ (p : Pending). map entry_for p.sets) now;

@@ -2,13 +2,13 @@
 use Rattle.std.proofs.Common.{◌≡◌, ◌≢◌, ◌⊎◌, ⊎_elim, IsTrue, not, ℕ, ◌+◌, ◌<◌, ◌≤◌, suc, Bool, true, false, cond, List, [], ◌∷◌, ◌++◌, length, map, Option, Some, Err, refl, sym, ap, ◌∙◌, subst, arith}
 use Rattle.std.specs.List.{Any, filter, list_any}
 use Rattle.std.proofs.lemmas.List.{length-map}
-use Rattle.pm_crash.proofs.ActionsOutside.{refused_publish_is_step}
+use Rattle.pm_crash.proofs.PublishOutside.{refused_publish_is_step}
 use Rattle.pm_crash.proofs.PendingOn.{same_before, sets_alone}
 use Rattle.pm_crash.proofs.SameLocks.{count_after, one_unless}
 use Rattle.pm_crash.specs.OnActions.{IsOutsideReason, PassesObject}
 use Rattle.pm_crash.specs.Operations.{IsHeld, TakesWanted}
 use Rattle.pm_crash.specs.Pending.{pending_before}
-use Rattle.pm_model.specs.Actions.{Action, Pending, only_sets, wants_for}
+use Rattle.pm_model.specs.Actions.{Action, Pending, only_sets, wants_for, wants_pending}
 use Rattle.pm_model.specs.Actions.Action.{SetWord}
 use Rattle.pm_model.specs.Transaction.{Lock as Locked, is_locked, locked, locked_all}
 use Rattle.pm_objects.specs.declared.calls.Operation.TheVariants.{Publish}
@@ -130,10 +130,13 @@ module _ (w : View) (reply : Option Value) where
       }
 
   reason_told : (actions : List Action) (r : Refusal) → w.lane < w.lanes → only_sets actions ≡ pending_before w → IsHoldReason w actions r → IsOutsideReason told r
-  reason_told actions refusal.NoObject inside same reason = let n = ap (λ (p : Pending). length p.sets) same in let low = reason.2 in let m = length-map actions want_for in omega (arith, n, m, low)
+  reason_told actions refusal.NoObject inside same reason = let n = ap (λ (p : Pending). length (wants_pending p)) same in let low = reason.2 in omega (arith, n, low)
   reason_told actions refusal.OutOfRange inside same reason =
       let some = reason.some in (
-        record { in_lanes = inside; takes = subst (λ (p : Pending). TakesWanted told [] (wants_for p.sets)) same (wanted_told (wants_for actions) reason.takes) },
+        record {
+          holds = record { in_lanes = inside; takes = subst (λ (p : Pending). TakesWanted told [] (wants_pending p)) same (wanted_told (wants_for actions) reason.takes) };
+          in_time = ap (λ (p : Pending). p.late) (sym same);
+        },
         subst (λ (p : Pending). Any (PassesObject told) p.sets) same (some.0, some.1, some.2, some.3, passes_told some.1 some.4),
       )
   reason_told actions r inside same reason = absurd reason
@@ -154,9 +157,8 @@ module _ {M : Type 0} (at : M → View → Type 0) (mid new : Lane M) (actions :
         call = ap (λ (told : List Told). told ++ record { operation = Publish; reply = Some (Refused r) } ∷ []) is.untold;
         no_records = ap (λ (log : Log). log.records) is.log;
         no_entries = ap (λ (log : Log). log.entries) is.log;
-        alone = sets_alone (pending_before w) (sets_of actions) now;
         reason = reason_told w (Some (Refused r)) (sets_of actions) r is.area.lane now goes.holds;
-      }))
+      }) (sets_alone (pending_before w) (sets_of actions) now))
       now
 
   told_refused : (r : Refusal) → Ends r → GoesOnTo at mid v (λ w. IsHoldReason w (sets_of actions) r) → IsToldOutside at new actions v Publish (Some (Refused r))

@@ -34,7 +34,7 @@ use Rattle.pm_crash.specs.Operations.{has_at}
 use Rattle.pm_crash.proofs.NewPlaces.{stands_there}
 use Rattle.pm_crash.proofs.CallBlocks.{any_map, tracks_new}
 use Rattle.pm_crash.proofs.CallWords.{chunk_is_behind, other_call_word}
-use Rattle.pm_crash.proofs.ObjectsOfBlocks.{block_is_there}
+use Rattle.pm_crash.proofs.ObjectsOfBlocks.{block_is_there, objects_rise}
 use Rattle.pm_crash.proofs.Passing.{no_tx, no_work, not_busy, not_missing, not_spent, unhindered, Works}
 
 -- the first refusal of a free, by what the checks of its lock, of what is gone, of the root, of lists and of room say
@@ -133,6 +133,20 @@ unlisted_by objects off none each =
       go None has = refl
       go (Some object) has = ap (λ (ms : List ℕ). leb 1 (length ms)) (has object refl)
 
+-- no object has members of a pool that words hold, whose heap has no fault
+held_has_none : (w : ℕ → ℕ) (lanes zones : ℕ) (header : Header) (pool : PoolView) → HoldsPool w lanes zones header pool → (off : ℕ) (object : Object) → object_at pool.objects off ≡ Some object → object.members ≡ []
+held_has_none w lanes zones header pool holds off object is =
+    let found = block_is_there w lanes zones off header pool object holds is in
+    let none : first_in w found.block ≡ 0 = first_none w found.block (links_taken w lanes zones found.block holds.no_fault found.is_there) in
+    ap (λ (x : Object). x.members) found.is_object ∙ ap (walk w _) none ∙ walk_nowhere w _
+
+pub held_unlisted : (w : ℕ → ℕ) (lanes zones : ℕ) (header : Header) (pool : PoolView) → HoldsPool w lanes zones header pool → (off : ℕ) → is_listed pool.objects off ≡ false
+held_unlisted w lanes zones header pool holds off =
+    let each : (o : ℕ) (object : Object) → object_at pool.objects o ≡ Some object → object.members ≡ [] = held_has_none w lanes zones header pool holds in
+    unlisted_by pool.objects off
+    (no_members pool.objects (λ k d inside. let e : ℕ × Object = get_or pool.objects k d in each e.0 e.1 (stands_there pool.objects k d (objects_rise w lanes zones header pool holds) inside)))
+    (each off)
+
 -- ---- the transaction of an open call
 
 module _ (v : View) (w : ℕ → ℕ) (header : Header) (pool : PoolView) (level : ℕ) (under_way : IsUnderWay v level stage.Work error.None) (holds : HoldsPool w v.lanes v.zones header pool) (c : ComesTo v w header pool level stage.Work error.None) where
@@ -166,10 +180,7 @@ module _ (v : View) (w : ℕ → ℕ) (header : Header) (pool : PoolView) (level
       ap (λ (x : Object). x.members) (sym (same_Some (object_made v t.1) object same)))
       (λ (not_made : is_made_in v off ≡ false). ⊎_elim
       (λ (freed : is_freed_in v off ≡ true). absurd (let clash : None ≡ Some object = sym (c.changed.gone off freed) ∙ is in cc))
-      (λ (kept : is_freed_in v off ≡ false).
-      let found = block_is_there (call_words v w) v.lanes v.zones off header c.base object c.holds (sym (c.changed.others off not_made kept) ∙ is) in
-      let none : first_in (call_words v w) found.block ≡ 0 = first_none (call_words v w) found.block (links_taken (call_words v w) v.lanes v.zones found.block c.holds.no_fault found.is_there) in
-      ap (λ (x : Object). x.members) found.is_object ∙ ap (walk (call_words v w) _) none ∙ walk_nowhere (call_words v w) _)
+      (λ (kept : is_freed_in v off ≡ false). held_has_none (call_words v w) v.lanes v.zones header c.base c.holds off object (sym (c.changed.others off not_made kept) ∙ is))
       (cases_Bool (is_freed_in v off)))
       (cases_Bool (is_made_in v off))
 

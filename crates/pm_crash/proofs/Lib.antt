@@ -50,6 +50,7 @@ pub mod RefusedAlloc
 pub mod NamedObjects
 pub mod ActionsOn
 pub mod ActionsOutside
+pub mod PublishOutside
 pub mod Staying
 pub mod StillReserved
 pub mod RisingWants
@@ -136,4 +137,6 @@ pub mod Following
 pub mod MadeInTurn
 pub mod PublishChecks
 pub mod PublishFound
+pub mod PublishedBlocks
 pub mod PublishOn
+pub mod PublishedOutside

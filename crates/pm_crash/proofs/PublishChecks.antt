@@ -1,19 +1,23 @@
 -- The checks of a publish, in the order in which the plain model makes them, over all that is pending: what is to be freed, and what is to be set.
-use Rattle.std.proofs.Common.{◌≡◌, ◌+◌, ◌||◌, Bool, true, false, ltb, [], ◌∷◌, length, map, Option, sym, ◌∙◌, ap}
-use Rattle.std.specs.List.{find, list_any}
+use Rattle.std.proofs.Common.{◌≡◌, ◌≢◌, ◌+◌, ◌||◌, Bool, true, false, ltb, List, [], ◌∷◌, length, map, Option, Some, sym, ◌∙◌, ap}
+use Rattle.std.specs.List.{Any, find, list_any}
 use Rattle.std.specs.Option.{option_map}
 use Rattle.std.proofs.Math.Bool.{or-false}
 use Rattle.std.proofs.lemmas.Bool.{le-ltb}
-use Rattle.std.proofs.lemmas.List.Folds.{list_any-append}
+use Rattle.std.proofs.lemmas.List.Elements.{All-weaker}
+use Rattle.std.proofs.lemmas.List.Folds.{list_any-append, list_any-from_Any, list_any_none}
 use Rattle.pm_objects.specs.declared.calls.Operation.TheVariants.{Publish}
 use Rattle.pm_objects.specs.declared.calls.Want.{Want}
 use Rattle.pm_objects.specs.declared.ids.Oid.{Oid}
+use Rattle.pm_objects.specs.declared.pool.PoolView.{PoolView}
 use Rattle.pm_objects.specs.declared.refusal.Refusal.{Refusal}
 use Rattle.pm_objects.specs.declared.refusal.Refusal.TheVariants as refusal
 use Rattle.pm_model.specs.Actions.{Action, Pending, max_entries, object_of, passes_object, wants_for, wants_pending}
-use Rattle.pm_model.specs.Checks.{first_refusal, frees_listed, frees_root, is_not_held, is_not_locked, is_unlocked_action, names_gone, passes_end}
+use Rattle.pm_model.specs.Checks.{first_refusal, frees_listed, frees_root, is_not_held, is_not_locked, is_root, is_unlocked_action, names_gone, passes_end}
 use Rattle.pm_model.specs.Transaction.{Transaction, entries_of, is_gone, locked_all, published}
+use Rattle.pm_crash.specs.CallBlocks.{FreeNoRoot}
 use Rattle.pm_crash.proofs.CallBlocks.{any_map}
+use Rattle.pm_crash.proofs.FreeChecks.{root_differs, root_is}
 use Rattle.pm_crash.proofs.Passing.{no_tx, no_work, not_busy, not_missing, not_spent, unhindered, Works}
 
 -- a test of the objects that are wanted is one of those to be freed, and of those to be set
@@ -76,3 +80,13 @@ publish_checks tx works =
     ∷ (refusal.ActionsFull, ltb max_entries (entries_of (published tx) + 1))
     ∷ (refusal.NoSpace, false)
     ∷ [])))
+
+-- ---- the root
+
+-- none of these is the root, or one is
+pub none_is_root : (pool : PoolView) (ids : List Oid) → FreeNoRoot pool.root ids → list_any (is_root pool) ids ≡ false
+none_is_root pool ids others =
+    list_any_none (is_root pool) ids (All-weaker (λ (id : Oid). pool.root ≢ Some id.off) (λ (id : Oid). is_root pool id ≡ false) (λ id differ. root_differs pool.root id.off differ) ids others)
+
+pub one_is_root : (pool : PoolView) (ids : List Oid) → Any (λ (id : Oid). pool.root ≡ Some id.off) ids → list_any (is_root pool) ids ≡ true
+one_is_root pool ids (k, id, inside, at, same) = list_any-from_Any (is_root pool) ids (k, id, inside, at, root_is pool.root id.off same)

@@ -32,7 +32,7 @@ use Rattle.pm_crash.specs.Operations.{has_at, IsGone, IsHeld, IsLeft, IsMade, Ta
 use Rattle.pm_crash.specs.Pending.{pending_in, published_in, sets_in}
 use Rattle.pm_crash.proofs.CallBlocks.{all_tracks_gone, tells_of_root, tracks_new}
 use Rattle.pm_crash.proofs.CallWords.{call_works, locked_member, object_under, same_pool}
-use Rattle.pm_crash.proofs.FreeChecks.{had_is_held, root_differs, root_is, same_root, unlisted}
+use Rattle.pm_crash.proofs.FreeChecks.{had_is_held, same_root, unlisted}
 use Rattle.pm_crash.proofs.GivenUp.{aborts_from, refused_answers, IsRefusedFor}
 use Rattle.pm_crash.proofs.KeptWords.{same_found}
 use Rattle.pm_crash.proofs.MadeInTurn.{ListsAlike, blocks_alike, blocks_alone}
@@ -40,7 +40,7 @@ use Rattle.pm_crash.proofs.NamedObjects.{is_outside, set_is_held, set_is_inside,
 use Rattle.pm_crash.proofs.NewRanges.{new_long}
 use Rattle.pm_crash.proofs.NewStay.{new_there}
 use Rattle.pm_crash.proofs.Passing.{unhindered, Works}
-use Rattle.pm_crash.proofs.PublishChecks.{any_gone, any_unheld, first_of_publish, publish_checks}
+use Rattle.pm_crash.proofs.PublishChecks.{any_gone, any_unheld, first_of_publish, none_is_root, one_is_root, publish_checks}
 
 -- the transaction of the open call has what is pending and what was published; it finds the objects that the lane holds and did not free, and has those that its
 -- call made; its pool's root is this, and none of its objects is in a list or has members
@@ -96,7 +96,7 @@ set_is_left v has a (inl can) = held_is_left v (object_of a) (set_is_held v a ca
 set_is_left v has (SetWord id off value) (inr can) = made_is_left v id has can.0.made
 
 free_is_left : (v : View) → HasMade v → (id : Oid) → CanFreeIn v id → IsLeft v id true
-free_is_left v has id (inl can) = held_is_left v id can.0 can.2
+free_is_left v has id (inl can) = held_is_left v id can.0.0 can.1
 free_is_left v has id (inr made) = made_is_left v id has made
 
 abbrev AreLeft : View → Type 0
@@ -164,13 +164,11 @@ module _ (v : View) (w : ℕ → ℕ) (root : Option ℕ) (tx : Transaction) (of
   -- the root, and lists
   no_root_freed : FreeNoRoot root p.frees → frees_root tx Publish ≡ false
   no_root_freed others =
-      ap (λ (q : Pending). list_any (is_root tx.pool) q.frees) of.actions
-      ∙ list_any_none (is_root tx.pool) p.frees
-      (All-weaker (λ (id : Oid). root ≢ Some id.off) (λ (id : Oid). is_root tx.pool id ≡ false) (λ id differ. root_differs tx.pool.root id.off (λ same. differ (sym of.of_root ∙ same))) p.frees others)
+      ap (λ (q : Pending). list_any (is_root tx.pool) q.frees) of.actions ∙ none_is_root tx.pool p.frees (subst (λ (r : Option ℕ). FreeNoRoot r p.frees) (sym of.of_root) others)
 
   root_freed : Any (λ (id : Oid). root ≡ Some id.off) p.frees → frees_root tx Publish ≡ true
-  root_freed (k, id, inside, at, same) =
-      ap (λ (q : Pending). list_any (is_root tx.pool) q.frees) of.actions ∙ list_any-from_Any (is_root tx.pool) p.frees (k, id, inside, at, root_is tx.pool.root id.off (of.of_root ∙ same))
+  root_freed one =
+      ap (λ (q : Pending). list_any (is_root tx.pool) q.frees) of.actions ∙ one_is_root tx.pool p.frees (subst (λ (r : Option ℕ). Any (λ (id : Oid). r ≡ Some id.off) p.frees) (sym of.of_root) one)
 
   none_listed : frees_listed tx Publish ≡ false
   none_listed = list_any_none (λ (id : Oid). is_listed tx.pool.objects id.off) tx.actions.frees (λ k d inside. of.unlisted _)

@@ -265,11 +265,11 @@ taken_back_stays v next has under quiet back =
 -- ---- between two calls
 
 -- nothing is told, so nothing is made or freed, and what is pending was before
-nothing_made : (v : View) → v.call ≡ [] → blocks_in v ≡ no_blocks
+pub nothing_made : (v : View) → v.call ≡ [] → blocks_in v ≡ no_blocks
 unfolding blocks_told
 nothing_made v call = ap (blocks_told (pending_before v) no_blocks) call
 
-pending_at_rest : (v : View) → v.call ≡ [] → pending_in v ≡ pending_before v
+pub pending_at_rest : (v : View) → v.call ≡ [] → pending_in v ≡ pending_before v
 unfolding pending_told
 pending_at_rest v call = ap (pending_told (pending_before v)) call
 

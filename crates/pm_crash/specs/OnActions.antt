@@ -9,7 +9,7 @@ use Rattle.pm_objects.specs.declared.history.Value.TheVariants.{Refused}
 use Rattle.pm_objects.specs.declared.ids.Oid.{Oid}
 use Rattle.pm_objects.specs.declared.refusal.Refusal.{Refusal}
 use Rattle.pm_objects.specs.declared.refusal.Refusal.TheVariants as refusal
-use Rattle.pm_model.specs.Actions.{Action, Pending, max_actions, max_entries, object_of, only_sets, pending_count, wants_for, wants_pending}
+use Rattle.pm_model.specs.Actions.{Action, Pending, max_actions, max_entries, object_of, only_sets, pending_count, wants_pending}
 use Rattle.pm_model.specs.Actions.Action.{SetWord}
 use Rattle.pm_view.specs.View.{View}
 use Rattle.pm_world.specs.Records.{pool_entries}
@@ -81,10 +81,13 @@ CanSetIn v a = (CanSet v a × IsOnOld v a) ⊎ CanSetNew v a
 abbrev pub PassesIn : View → Action → Type 0
 PassesIn v a = (PassesObject v a × IsOnOld v a) ⊎ PassesNewObject v a
 
--- what can be freed there: an object that the lane holds for writing and found, whose block has a line, and that its call neither made nor freed; or one that the
--- call made and has
+-- an object can be freed: the lane holds it for writing and found its block, which has a line
+abbrev pub CanFree : View → Oid → Type 0
+CanFree v id = (held : IsHeld v id true) × (1 ≤ held.lines)
+
+-- so it can in such a call if the call neither made nor freed it, and so can one that the call made and has
 abbrev pub CanFreeIn : View → Oid → Type 0
-CanFreeIn v id = ((held : IsHeld v id true) × (1 ≤ held.lines) × IsOldIn v id.off) ⊎ IsMade v id
+CanFreeIn v id = (CanFree v id × IsOldIn v id.off) ⊎ IsMade v id
 
 -- what the call has made and freed once what is pending is published
 abbrev pub blocks_published : View → CallBlocks
@@ -159,12 +162,17 @@ pub record ChangesPendingOutside (v : View) (op : Operation) (reply : Option Val
   pub no_entries : v.log.entries ≡ []
   pub answer : IsPendingAnswer (pending_before v) op reply
 
--- the lane holds the objects of all pending actions, and found each
+-- the lane holds each object that is to be freed or set, and found it
 pub record HoldsNamed (v : View) : Type 0 where
   pub in_lanes : v.lane < v.lanes
-  pub takes : TakesWanted v [] (wants_for (sets_before v))
+  pub takes : TakesWanted v [] (wants_pending (pending_before v))
 
--- what is pending is published: the lane has an entry for each action, in their order
+-- and none was to be freed before something else was asked of it
+pub record HoldsInTime (v : View) : Type 0 where
+  pub holds : HoldsNamed v
+  pub in_time : (pending_before v).late ≡ false
+
+-- words alone are pending, and published: the lane has an entry for each action, in their order
 pub record PublishesOutside (v : View) : Type 0 where
   pub call : v.call ≡ record { operation = Publish; reply = None } ∷ []
   pub no_records : v.log.records ≡ []
@@ -173,10 +181,23 @@ pub record PublishesOutside (v : View) : Type 0 where
   pub each : All (CanSet v) (sets_before v)
   pub entries : pool_entries v ≡ map entry_for (sets_before v)
 
--- why a publish outside is refused: an object is missing, which the model allows wherever an action names one; or an action passes its end
+-- All that is pending is published: the lane told nothing of its call before, holds each object in time, each that is to be freed can be, and each word can be set;
+-- it told the publish, and recorded no word
+pub record PublishesAll (v next : View) : Type 0 where
+  pub untold : v.call ≡ []
+  pub tells : Tells v next Publish None
+  pub words : KeepsWords v next
+  pub no_records : next.log.records ≡ []
+  pub holds : HoldsInTime v
+  pub frees : All (CanFree v) (pending_before v).frees
+  pub each : All (CanSet v) (sets_before v)
+
+-- Why a publish outside is refused: an object is missing, which the model allows wherever one is named; or the root would be freed, of which the reply tells
+-- (`TellsOfRoot`); or an action passes its object's end
 abbrev pub IsOutsideReason : View → Refusal → Type 0
-IsOutsideReason v refusal.NoObject = 1 ≤ length (sets_before v)
-IsOutsideReason v refusal.OutOfRange = HoldsNamed v × Any (PassesObject v) (sets_before v)
+IsOutsideReason v refusal.NoObject = 1 ≤ length (wants_pending (pending_before v))
+IsOutsideReason v refusal.RootKept = HoldsInTime v × (1 ≤ length (pending_before v).frees)
+IsOutsideReason v refusal.OutOfRange = HoldsInTime v × Any (PassesObject v) (sets_before v)
 IsOutsideReason v r = ⊥
 
 -- the lane refused to publish what is pending, and told so
@@ -184,5 +205,4 @@ pub record RefusesOutside (v : View) (r : Refusal) : Type 0 where
   pub call : v.call ≡ record { operation = Publish; reply = Some (Refused r) } ∷ []
   pub no_records : v.log.records ≡ []
   pub no_entries : v.log.entries ≡ []
-  pub alone : pending_before v ≡ only_sets (sets_before v)
   pub reason : IsOutsideReason v r

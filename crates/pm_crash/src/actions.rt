@@ -9,12 +9,14 @@ ghost use Rattle.pm_image.specs.declared.block.Block.{Block};
 ghost use Rattle.pm_image.specs.Blocks.{blocks};
 ghost use Rattle.pm_image.specs.Contents.{size_in};
 ghost use Rattle.pm_model.specs.declared.stage.Stage.TheVariants as stage;
-ghost use Rattle.pm_model.specs.Actions.{Action, with_actions};
+ghost use Rattle.pm_model.specs.Actions.{Action, only_sets, with_actions};
 ghost use Rattle.pm_view.specs.View.{View};
 ghost use Rattle.pm_crash.specs.Held.{HoldsPool};
-ghost use Rattle.pm_crash.specs.OnActions.{ChangesPending, ChangesPendingOutside, PublishesOutside, RefusesOutside};
-ghost use Rattle.pm_crash.specs.OpenCall.{IsOpen, IsWholeCall};
+ghost use Rattle.pm_crash.specs.OnActions.{ChangesPending, ChangesPendingOutside, PublishesAll, PublishesOutside, RefusesOutside};
+ghost use Rattle.pm_crash.specs.OpenCall.{IsCommitted, IsOpen, IsWholeCall, MakesItsStep};
+ghost use Rattle.pm_crash.specs.Pending.{pending_before, sets_before};
 ghost use Rattle.pm_crash.specs.Performing.{CanPerform, performed};
+ghost use Rattle.pm_crash.specs.Reserving.{HasReserved};
 
 /// A law: from words that hold a pool, the entries that stand for actions, each of which lies in an object of the pool, make words that
 /// hold the pool with these actions performed, in their order; blocks and sizes stay. No code runs.
@@ -41,12 +43,16 @@ pub fn a_call_on_actions_is_a_step()
     ensures { (v : View) (op : Operation) (reply : Option Value) → ChangesPendingOutside v op reply → IsWholeCall v }
 {}
 
-/// A law: a publish outside of a transaction, with an entry for each pending action, is a step of the plain model. No code runs.
+/// A law: outside of a transaction a publish of words alone, with an entry for each, is a step of the plain model, from any pool. A publish of all
+/// that is pending, where what is reserved stands, is a committed call: its objects are freed and made, and its words set. No code runs.
 pub fn a_publish_is_a_step()
-    ensures { (v : View) → PublishesOutside v → IsWholeCall v }
+    ensures sets { (v : View) → PublishesOutside v → IsWholeCall v }
+    ensures all { (v next : View) → HasReserved v → PublishesAll v next → IsCommitted next }
 {}
 
-/// A law: a publish that is refused outside of a transaction is a step of the plain model that changes nothing. No code runs.
+/// A law: a publish that is refused outside of a transaction is a step of the plain model that changes nothing, from each pool that agrees on the
+/// root; and from any where words alone are pending. No code runs.
 pub fn a_refused_publish_is_a_step()
-    ensures { (v : View) (r : Refusal) → RefusesOutside v r → IsWholeCall v }
+    ensures steps { (v : View) (r : Refusal) → RefusesOutside v r → MakesItsStep v }
+    ensures sets { (v : View) (r : Refusal) → RefusesOutside v r → pending_before v ≡ only_sets (sets_before v) → IsWholeCall v }
 {}
