@@ -58,7 +58,7 @@ module _ (o : Opening) (header : Header) (pool : PoolView) (start : View) (steps
   rests_untold = record {
     works = c.outside.works;
     free = c.outside.free;
-    next = record {
+    next = λ below. record {
       outside = record {
         works = record {
           begins = c.outside.works.begins;

@@ -11,8 +11,9 @@ ghost use Rattle.pm_view.specs.Steps.{Step};
 ghost use Rattle.pm_view.specs.Steps.Step.{Draw};
 ghost use Rattle.pm_view.specs.View.{View};
 ghost use Rattle.pm_view.specs.Views.{after};
-ghost use Rattle.pm_world.specs.Lawful.{Allowed};
+ghost use Rattle.pm_world.specs.Lawful.{Allowed, generation_limit};
 ghost use Rattle.pm_world.specs.Opening.{Opening};
+ghost use Rattle.pm_world.specs.Records.{generation_of};
 ghost use Rattle.pm_crash.specs.Alone.{WorksAlone, standing};
 ghost use Rattle.pm_crash.specs.CallBlocks.{NewObject, block_of, reserved_in};
 ghost use Rattle.pm_crash.specs.HeldHistory.{IsEndedCall};
@@ -104,7 +105,7 @@ pub fn a_lane_alone_rests_with_what_it_reserved()
     ensures untold { (o : Opening) (header : Header) (pool : PoolView) (start v : View) (steps : List Step) (shape : Shape)
         → IsAloneBetween o header pool start steps v shape → RestsWithReserved o header pool start steps v shape }
     ensures pending { (o : Opening) (header : Header) (pool : PoolView) (start v : View) (steps : List Step) (shape : Shape)
-        → RestsWithReserved o header pool start steps v shape → pending_in (with_next_call v) ≡ pending_before v }
+        → RestsWithReserved o header pool start steps v shape → generation_of v < generation_limit → pending_in (with_next_call v) ≡ pending_before v }
     ensures between { (o : Opening) (header : Header) (pool : PoolView) (start w next : View) (steps : List Step) (shape : Shape)
         → HasReserved w → RestsBehind w next → All (IsReservedFor next) (reserved_in w) → WorksAlone o header pool start steps next → CanMakeObject next shape
         → next.log.records ≡ [] → next.log.entries ≡ [] → next.locks ≡ [] → IsAloneBetween o header pool start steps next shape }
