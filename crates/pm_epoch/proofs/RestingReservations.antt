@@ -122,10 +122,10 @@ module _ (o : Opening) (header : Header) (pool : PoolView) (start : View) (steps
   log_is = open_log o header pool start steps w shape c
 
   abbrev z : View
-  z = drawn_then w log_is c.free n
+  z = drawn_then w c.free n
 
   is_next : x ≡ z
-  is_next = drawn_next w log_is c.free n
+  is_next = drawn_next w c.free n log_is
 
   can_next : CanMakeObject x shape
   can_next = subst (λ (v : View). CanMakeObject v shape) (sym is_next) (can_where_so w (known_then w) [] w.actions (NumberSeen (length (w.entries ++ mine ∷ [])) ∷ []) None (w.entries ++ mine ∷ []) (known_still w) refl shape c.can)
