@@ -43,6 +43,7 @@ pub mod OutsideCalls
 pub mod NextCalls
 pub mod RestingReservations
 pub mod UntoldCalls
+pub mod NothingReserved
 pub mod FreedLocks
 pub mod NewObjectViews
 pub mod PutDescriptors

@@ -7,7 +7,7 @@ use Rattle.pm_image.proofs.Members.{later_member}
 use Rattle.pm_view.specs.Area.{area_word, is_in_area}
 use Rattle.pm_view.specs.Held.{is_held}
 use Rattle.pm_view.specs.Log.{Log, no_log}
-use Rattle.pm_view.specs.Log.Phase.{Open}
+use Rattle.pm_view.specs.Log.Phase.{Idle, Open}
 use Rattle.pm_view.specs.Steps.Step.{Draw, Load, NumberSeen}
 use Rattle.pm_view.specs.View.{Lock, Numbered, View}
 use Rattle.pm_view.specs.Views.{after, with_block}
@@ -42,7 +42,7 @@ known_still v i known = ⊎_elim
 
 -- ---- the view
 
-module _ (v : View) (log_is : v.log ≡ no_log (Open [] [])) (free : v.locks ≡ []) where
+module _ (v : View) (free : v.locks ≡ []) where
   abbrev g : ℕ
   g = area_word v.lane
 
@@ -69,10 +69,22 @@ module _ (v : View) (log_is : v.log ≡ no_log (Open [] [])) (free : v.locks ≡
   abbrev open_with : List ℕ → List Lock → Log → View
   open_with words locks log = record v { words = words; locks = locks; log = log; known = known_then v; seen = (v.seen ++ Load g (slice_index v.words g) ∷ []) ++ NumberSeen (length v.entries) ∷ [] }
 
-  pub open_next : with_next_call v ≡ open_then
-  open_next =
+  pub open_next : v.log ≡ no_log (Open [] []) → with_next_call v ≡ open_then
+  open_next log_is =
       let stands : with_next_call (with_log (no_log (Open [] []))) ≡ open_with words_set locks_set (no_log (Open [] [])) = refl in
       ap (λ (log : Log). with_next_call (with_log log)) log_is ∙ stands ∙ (λ j. open_with (words_same j) (locks_same j) (sym log_is j))
+
+  -- of none
+  abbrev pub idle_then : View
+  idle_then = record v { known = known_then v; log = no_log (Open [] []); call = []; seen = NumberSeen (length v.entries) ∷ []; number = None }
+
+  abbrev idle_with : List ℕ → List Lock → View
+  idle_with words locks = record v { words = words; locks = locks; log = no_log (Open [] []); known = known_then v; call = []; seen = NumberSeen (length v.entries) ∷ []; number = None }
+
+  pub idle_next : v.log ≡ no_log Idle → with_next_call v ≡ idle_then
+  idle_next log_is =
+      let stands : with_next_call (with_log (no_log Idle)) ≡ idle_with words_set locks_set = refl in
+      ap (λ (log : Log). with_next_call (with_log log)) log_is ∙ stands ∙ (λ j. idle_with (words_same j) (locks_same j))
 
   -- behind a draw
   module _ (n : ℕ) where
@@ -88,7 +100,7 @@ module _ (v : View) (log_is : v.log ≡ no_log (Open [] [])) (free : v.locks ≡
     abbrev drawn_with : List ℕ → List Lock → Log → View
     drawn_with words locks log = record v { words = words; locks = locks; log = log; known = known_then v; call = []; seen = NumberSeen (length all) ∷ []; number = None; entries = all }
 
-    pub drawn_next : with_next_call (after v (Draw n)) ≡ drawn_then
-    drawn_next =
+    pub drawn_next : v.log ≡ no_log (Open [] []) → with_next_call (after v (Draw n)) ≡ drawn_then
+    drawn_next log_is =
         let stands : with_next_call (after (with_log (no_log (Open [] []))) (Draw n)) ≡ drawn_with words_set locks_set (no_log (Open [] [])) = refl in
         ap (λ (log : Log). with_next_call (after (with_log log) (Draw n))) log_is ∙ stands ∙ (λ j. drawn_with (words_same j) (locks_same j) (sym log_is j))

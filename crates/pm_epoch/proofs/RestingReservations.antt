@@ -16,8 +16,9 @@ use Rattle.pm_view.specs.Steps.{Step}
 use Rattle.pm_view.specs.Steps.Step.{Draw, Load, NumberSeen}
 use Rattle.pm_view.specs.View.{Numbered, View}
 use Rattle.pm_view.specs.Views.{after, begun, changes_heap, is_of_heap}
-use Rattle.pm_world.specs.Lawful.{Allowed, FilledChange, OnlyFilled}
+use Rattle.pm_world.specs.Lawful.{Allowed, FilledChange, OnlyFilled, generation_limit}
 use Rattle.pm_world.specs.Opening.{Opening}
+use Rattle.pm_world.specs.Records.{generation_of}
 use Rattle.pm_reclaim.specs.KeptBlocks.{Keeps}
 use Rattle.pm_alloc.specs.NewObjects.{CanMakeObject}
 use Rattle.pm_crash.specs.Alone.{WorksAlone, standing}
@@ -57,11 +58,11 @@ pub pending_behind_call : (w next : View) → RestsBehind w next → pending_in 
 pending_behind_call w next rests = pending_untold next rests.call ∙ ap (pending_from none_pending) rests.entries ∙ calls_further none_pending w.entries (record { number = rests.number; call = w.call })
 
 -- a call that told nothing allocated nothing, and agrees with each root
-none_allocated : (v : View) → v.call ≡ [] → allocated_in v ≡ []
+pub none_allocated : (v : View) → v.call ≡ [] → allocated_in v ≡ []
 unfolding allocated_told
 none_allocated v untold = ap (allocated_told (pending_before v)) untold
 
-any_root : (v : View) (root : Option ℕ) → v.call ≡ [] → AgreesOnRoot v root
+pub any_root : (v : View) (root : Option ℕ) → v.call ≡ [] → AgreesOnRoot v root
 unfolding AllTellOfRoot
 any_root v root untold = subst (AllTellOfRoot root (pending_before v)) (sym untold) tt
 
@@ -85,7 +86,7 @@ rests_between o header pool start steps w next shape has rests still works can n
 }
 
 -- no number is drawn as the next call begins
-begun_entries : (v : View) → (with_next_call v).entries ≡ v.entries
+pub begun_entries : (v : View) → (with_next_call v).entries ≡ v.entries
 begun_entries v = by_phase v.log.phase where
   by_phase : (phase : Phase) → (begun phase (after v (Load (area_word v.lane) (slice_index v.words (area_word v.lane))))).entries ≡ v.entries
   by_phase Idle = refl
@@ -121,10 +122,10 @@ module _ (o : Opening) (header : Header) (pool : PoolView) (start : View) (steps
   log_is = open_log o header pool start steps w shape c
 
   abbrev z : View
-  z = drawn_then w log_is c.free n
+  z = drawn_then w c.free n
 
   is_next : x ≡ z
-  is_next = drawn_next w log_is c.free n
+  is_next = drawn_next w c.free n log_is
 
   can_next : CanMakeObject x shape
   can_next = subst (λ (v : View). CanMakeObject v shape) (sym is_next) (can_where_so w (known_then w) [] w.actions (NumberSeen (length (w.entries ++ mine ∷ [])) ∷ []) None (w.entries ++ mine ∷ []) (known_still w) refl shape c.can)
@@ -172,7 +173,7 @@ module _ (o : Opening) (header : Header) (pool : PoolView) (start : View) (steps
     rests_in p from past works = record {
       works = works;
       free = c.free;
-      next = rests_between p header pool from (past ++ begins_next y) w x shape c.reserved rests still_reserved works_next can_next (ap (λ (v : View). v.log.records) is_next ∙ c.no_records)
+      next = λ below. rests_between p header pool from (past ++ begins_next y) w x shape c.reserved rests still_reserved works_next can_next (ap (λ (v : View). v.log.records) is_next ∙ c.no_records)
           (ap (λ (v : View). v.log.entries) is_next ∙ c.no_entries) (ap (λ (v : View). v.locks) is_next ∙ c.free);
     } where
       works_next : WorksAlone p header pool from (past ++ begins_next y) x
@@ -236,5 +237,5 @@ pub pending_drawn : (w : View) (n : ℕ) → pending_before (after w (Draw n)) �
 pending_drawn w n = calls_further none_pending w.entries (record { number = n; call = w.call })
 
 pub pending_next : (o : Opening) (header : Header) (pool : PoolView) (start : View) (steps : List Step) (v : View) (shape : Shape) → RestsWithReserved o header pool start steps v shape
-    → pending_in (with_next_call v) ≡ pending_before v
-pending_next o header pool start steps v shape rests = pending_untold (with_next_call v) rests.next.untold ∙ same_before v (with_next_call v) (begun_entries v)
+    → generation_of v < generation_limit → pending_in (with_next_call v) ≡ pending_before v
+pending_next o header pool start steps v shape rests below = pending_untold (with_next_call v) (rests.next below).untold ∙ same_before v (with_next_call v) (begun_entries v)

@@ -29,10 +29,10 @@ module _ (o : Opening) (header : Header) (pool : PoolView) (start : View) (steps
   log_is = open_log o header pool start steps v shape c.outside
 
   abbrev z : View
-  z = open_then v log_is c.outside.free
+  z = open_then v c.outside.free
 
   is_next : x ≡ z
-  is_next = open_next v log_is c.outside.free
+  is_next = open_next v c.outside.free log_is
 
   looked : TellsNothing v x
   looked = subst (TellsNothing v) (sym is_next) (record {
@@ -58,7 +58,7 @@ module _ (o : Opening) (header : Header) (pool : PoolView) (start : View) (steps
   rests_untold = record {
     works = c.outside.works;
     free = c.outside.free;
-    next = record {
+    next = λ below. record {
       outside = record {
         works = record {
           begins = c.outside.works.begins;

@@ -1,5 +1,5 @@
 -- An object that a lane reserves where it works alone, and what it has reserved from one call outside of a transaction to the next (docs/MODEL.md, "From call to call").
-use Rattle.std.specs.Prelude.{◌≡◌, List, [], ◌∷◌, ◌++◌, length, slice_index, Some}
+use Rattle.std.specs.Prelude.{◌≡◌, ◌<◌, List, [], ◌∷◌, ◌++◌, length, slice_index, Some}
 use Rattle.pm_header.specs.declared.header.Header.{Header}
 use Rattle.pm_layout.specs.declared.shape.Shape.{Shape}
 use Rattle.pm_objects.specs.declared.calls.Operation.TheVariants.{Reserve}
@@ -10,7 +10,9 @@ use Rattle.pm_view.specs.Steps.{Step}
 use Rattle.pm_view.specs.Steps.Step.{Load, NumberSeen, Tell}
 use Rattle.pm_view.specs.View.{View}
 use Rattle.pm_view.specs.Views.{after}
+use Rattle.pm_world.specs.Lawful.{generation_limit}
 use Rattle.pm_world.specs.Opening.{Opening}
+use Rattle.pm_world.specs.Records.{generation_of}
 use Rattle.pm_crash.specs.Alone.{WorksAlone}
 use Rattle.pm_crash.specs.CallBlocks.{NewObject}
 use Rattle.pm_crash.specs.Reserved.{IsBorneOut}
@@ -52,8 +54,8 @@ begins_next v = Load (area_word v.lane) (slice_index v.words (area_word v.lane))
 abbrev pub with_next_call : View → View
 with_next_call v = after (after v (Load (area_word v.lane) (slice_index v.words (area_word v.lane)))) (NumberSeen (length v.entries))
 
--- the lane works alone and rests, with no lock: as its next call begins it is between two calls
+-- the lane works alone and rests, with no lock: as its next call begins, where a generation is left to it, it is between two calls
 pub record RestsWithReserved (o : Opening) (header : Header) (pool : PoolView) (start : View) (steps : List Step) (v : View) (shape : Shape) : Type 0 where
   pub works : WorksAlone o header pool start steps v
   pub free : v.locks ≡ []
-  pub next : IsAloneBetween o header pool start (steps ++ begins_next v) (with_next_call v) shape
+  pub next : generation_of v < generation_limit → IsAloneBetween o header pool start (steps ++ begins_next v) (with_next_call v) shape

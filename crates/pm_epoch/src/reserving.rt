@@ -7,12 +7,17 @@ ghost use Rattle.pm_layout.specs.Sizes.{blocks_of};
 ghost use Rattle.pm_layout.specs.declared.shape.Shape.{Shape};
 ghost use Rattle.pm_image.specs.declared.block.Block.{Block};
 ghost use Rattle.pm_model.specs.Actions.{max_actions, pending_count};
+ghost use Rattle.pm_view.specs.Founds.{IsAlone};
+ghost use Rattle.pm_view.specs.Log.{no_log};
+ghost use Rattle.pm_view.specs.Log.Phase.{Idle};
 ghost use Rattle.pm_view.specs.Steps.{Step};
 ghost use Rattle.pm_view.specs.Steps.Step.{Draw};
 ghost use Rattle.pm_view.specs.View.{View};
 ghost use Rattle.pm_view.specs.Views.{after};
-ghost use Rattle.pm_world.specs.Lawful.{Allowed};
+ghost use Rattle.pm_world.specs.Lanes.{IsOfShape};
+ghost use Rattle.pm_world.specs.Lawful.{Allowed, generation_limit};
 ghost use Rattle.pm_world.specs.Opening.{Opening};
+ghost use Rattle.pm_world.specs.Records.{generation_of};
 ghost use Rattle.pm_crash.specs.Alone.{WorksAlone, standing};
 ghost use Rattle.pm_crash.specs.CallBlocks.{NewObject, block_of, reserved_in};
 ghost use Rattle.pm_crash.specs.HeldHistory.{IsEndedCall};
@@ -22,6 +27,7 @@ ghost use Rattle.pm_crash.specs.Reserving.{HasReserved, PutsOutside, RefusesPut,
 ghost use Rattle.pm_alloc.specs.NewObjects.{CanMakeObject};
 ghost use Rattle.pm_reclaim.specs.KeptBlocks.{Keeps};
 ghost use Rattle.pm_epoch.specs.Allocating.{HasSameDescriptors, IsCallAlone, IsCallAloneStill, MakesObject, object_in_block};
+ghost use Rattle.pm_epoch.specs.Epochs.{ReservesNoRun};
 ghost use Rattle.pm_epoch.specs.Reserving.{IsAloneBetween, IsAloneOutside, IsAloneOutsideStill, RestsWithReserved, with_next_call, with_object_reserved};
 
 /// A law: where a lane works alone with a call under way, an object of 1 to 262080 bytes that it made is one that the call may tell as reserved, if one more
@@ -91,8 +97,9 @@ pub fn a_lane_alone_writes_outside_what_it_reserved()
 
 /// A law: a lane alone whose call outside of a transaction has ended rests with what it has reserved once that draws its number: in the world where it is, or
 /// in one that begins there over the words as they stand. What the call left pending is pending then. The lane rests so with a call open that told nothing,
-/// too. And it is between two calls at any view behind a call where no word of what is reserved changed, the lane may make an object, and it has each block
-/// still that is reserved, be it in a world that began since; that it has the block is what a reclaim that keeps it leaves. No code runs.
+/// too, and where it has no call open and nothing reserved. And it is between two calls at any view behind a call where no word of what is reserved changed,
+/// the lane may make an object, and it has each block still that is reserved, be it in a world that began since; that it has the block is what a reclaim that
+/// keeps it leaves. No code runs.
 pub fn a_lane_alone_rests_with_what_it_reserved()
     ensures draws { (o : Opening) (header : Header) (pool : PoolView) (start w : View) (steps : List Step) (shape : Shape) (n : ℕ)
         → IsAloneOutside o header pool start steps w shape → IsEndedCall w → Allowed w (Draw n) → n ≡ length w.entries + 1
@@ -103,8 +110,11 @@ pub fn a_lane_alone_rests_with_what_it_reserved()
     ensures drawn { (w : View) (n : ℕ) → pending_before (after w (Draw n)) ≡ pending_in w }
     ensures untold { (o : Opening) (header : Header) (pool : PoolView) (start v : View) (steps : List Step) (shape : Shape)
         → IsAloneBetween o header pool start steps v shape → RestsWithReserved o header pool start steps v shape }
+    ensures none { (o : Opening) (header : Header) (pool : PoolView) (start v : View) (steps : List Step) (shape : Shape)
+        → WorksAlone o header pool start steps v → v.log ≡ no_log Idle → v.locks ≡ [] → v.zone_locks ≡ [] → IsAlone v → IsOfShape v shape → ReservesNoRun v.lanes v
+        → (pending_before v).reserved ≡ [] → RestsWithReserved o header pool start steps v shape }
     ensures pending { (o : Opening) (header : Header) (pool : PoolView) (start v : View) (steps : List Step) (shape : Shape)
-        → RestsWithReserved o header pool start steps v shape → pending_in (with_next_call v) ≡ pending_before v }
+        → RestsWithReserved o header pool start steps v shape → generation_of v < generation_limit → pending_in (with_next_call v) ≡ pending_before v }
     ensures between { (o : Opening) (header : Header) (pool : PoolView) (start w next : View) (steps : List Step) (shape : Shape)
         → HasReserved w → RestsBehind w next → All (IsReservedFor next) (reserved_in w) → WorksAlone o header pool start steps next → CanMakeObject next shape
         → next.log.records ≡ [] → next.log.entries ≡ [] → next.locks ≡ [] → IsAloneBetween o header pool start steps next shape }
