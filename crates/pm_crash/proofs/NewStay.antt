@@ -49,7 +49,7 @@ stays_freed off b n there = by (list_any (is_at off) b.made) where
   by true = dropped_now
   by false = there
 
-pub stays_all_freed : (ids : List Oid) (b : CallBlocks) (n : NewObject) → Contains (news_in b) n → Contains (news_in (with_all_freed ids b)) n
+stays_all_freed : (ids : List Oid) (b : CallBlocks) (n : NewObject) → Contains (news_in b) n → Contains (news_in (with_all_freed ids b)) n
 stays_all_freed [] b n there = there
 stays_all_freed (id ∷ ids) b n there = stays_all_freed ids (with_freed id.off b) n (stays_freed id.off b n there)
 
@@ -124,7 +124,7 @@ pub before_all_freed : (ids : List Oid) (b : CallBlocks) (n : NewObject) → Con
 before_all_freed [] b n there = there
 before_all_freed (id ∷ ids) b n there = before_free id.off b n (before_all_freed ids (with_freed id.off b) n there)
 
-pub before_all_made : (rs : List Reservation) (b : CallBlocks) (n : NewObject) → Contains (news_in (with_all_made rs b)) n → Contains (news_in b) n ⊎ Contains (map reserved_object rs) n
+before_all_made : (rs : List Reservation) (b : CallBlocks) (n : NewObject) → Contains (news_in (with_all_made rs b)) n → Contains (news_in b) n ⊎ Contains (map reserved_object rs) n
 before_all_made [] b n there = inl there
 before_all_made (r ∷ rs) b n there = ⊎_elim
     (λ (behind : Contains (news_in (with_made (reserved_object r) b)) n). ⊎_elim

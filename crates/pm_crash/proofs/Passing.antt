@@ -17,7 +17,7 @@ use Rattle.pm_model.specs.Actions.{Pending, only_sets}
 use Rattle.pm_model.specs.Transaction.{Transaction, is_gone, is_new, is_working, locked_all}
 use Rattle.pm_model.specs.Checks.{Seen, wants_of, seeks_block, is_free, is_publish, is_begin, lacks_reservation, puts_past_end, publishes_late, objects_named, is_action, names_gone, frees_root, frees_listed, is_bad_size, is_unaligned, finds_no_space, passes_actions, finds_no_work, finds_no_tx, is_spent, is_too_deep, passes_locks, is_not_locked, wants_no_place, takes_lock, is_busy, takes_first_lock, is_missing, passes_end, is_not_added, passes_log, first_refusal}
 use Rattle.pm_crash.specs.CallBlocks.{is_put}
-use Rattle.pm_model.proofs.Asked.{IsPlain, frees_no_root, frees_none_listed}
+use Rattle.pm_model.proofs.Asked.{IsPlain}
 
 -- what a lane saw that nothing hindered
 abbrev pub unhindered : Seen
@@ -59,10 +59,6 @@ pub frees_nothing : (tx : Transaction) (op : Operation) → is_free op ≡ false
 frees_nothing tx (Free id) other none = absurd (false≢true (sym other))
 frees_nothing tx Publish other none = absurd (false≢true (sym none))
 frees_nothing tx op other none = record { no_root = refl; none_listed = refl }
-
--- and of one that publishes where nothing is to be freed
-pub plain_frees_nothing : (tx : Transaction) (op : Operation) → is_free op ≡ false → IsPlain tx.actions → FreesNone tx op
-plain_frees_nothing tx op other plain = record { no_root = frees_no_root tx op other plain; none_listed = frees_none_listed tx op other plain }
 
 -- set-values are all that is pending, so it is plain, and not late
 pub only_plain : (p : Pending) → p ≡ only_sets p.sets → IsPlain p

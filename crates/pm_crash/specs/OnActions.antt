@@ -116,16 +116,19 @@ LacksObject v id = id.pool ≡ v.pool → has_at v id.off true ≡ false
 abbrev pub HasObject : View → Oid → Type 0
 HasObject v id = (id.pool ≡ v.pool) × (has_at v id.off true ≡ true)
 
--- the same of the object of an action; it has that, and it is gone, or is not
+-- the lane has not the object of the action for writing
 abbrev pub LacksObjectOf : View → Action → Type 0
 LacksObjectOf v a = LacksObject v (object_of a)
 
+-- it has it, whether it is gone or not
 abbrev pub HasObjectOf : View → Action → Type 0
 HasObjectOf v a = HasObject v (object_of a)
 
+-- it has it, and it is gone
 abbrev pub IsOnGone : View → Action → Type 0
 IsOnGone v a = IsGone v (object_of a) true
 
+-- it has it, and it is not gone
 abbrev pub IsOnLeft : View → Action → Type 0
 IsOnLeft v a = IsLeft v (object_of a) true
 
