@@ -170,7 +170,7 @@ module _ (o : Opening) (first : View) (lane new : Lane Solo) (blocks : BlockList
           steps = b.led.steps;
           leads = b.led.leads;
           of_lane = lane_is;
-          works = begun_at_work o is.header is.pool Sees first new now wants is.begins t (record { numbered = works.numbered; within = works.within }) for_pool is.has_none.unlocked is.has_none.no_chunk (has_none_reserved actions w (still_set w b.call b.entries)) (none_within actions w (still_set w b.call b.entries));
+          works = begun_at_work o is.header is.pool Sees first new now wants is.begins t (record { numbered = works.numbered; within = works.within }) for_pool (makes_none first is.has_none) (has_none_reserved actions w (still_set w b.call b.entries)) (none_within actions w (still_set w b.call b.entries));
           level = level;
           opens = (said, [], refl, ap stands_alone begins);
           told = subst (AreToldDone names (said ∷ [])) (sym b.call) (told_so, tt);

@@ -1,6 +1,7 @@
 -- A call that is over is answered: its locks are given back, and what it had reserved or freed, by steps that are no counted calls.
-use Rattle.std.proofs.Common.{◌≡◌, ⊎_elim, inl, inr, ℕ, ◌+◌, ◌≤◌, All, Bool, true, false, cond, List, [], ◌∷◌, ◌++◌, length, slice_index, refl, sym, ap, ◌∙◌, subst, arith}
-use Rattle.std.proofs.lemmas.Bool.{false≢true}
+use Rattle.std.proofs.Common.{◌≡◌, ⊎_elim, inl, inr, ℕ, ◌+◌, ◌/◌, ◌%◌, ◌||◌, ◌≤◌, All, Bool, true, false, cond, List, [], ◌∷◌, ◌++◌, length, slice_index, refl, sym, ap, ◌∙◌, subst, arith}
+use Rattle.std.specs.List.{list_any}
+use Rattle.std.proofs.lemmas.Bool.{false_from_ne_true, false≢true, or_left}
 use Rattle.std.proofs.lemmas.List.Elements.{All-head, All-tail}
 use Rattle.pm_crash.proofs.AloneCourse.{begins_alone}
 use Rattle.pm_crash.proofs.Leading.{leads_then}
@@ -18,13 +19,14 @@ use Rattle.pm_objects.specs.declared.history.TxErr.TheVariants as error
 use Rattle.pm_objects.specs.declared.pool.PoolView.{PoolView}
 use Rattle.pm_objects.specs.declared.refusal.Refusal.{Refusal}
 use Rattle.pm_pending.specs.declared.actions.SetAction.{SetAction}
+use Rattle.pm_reclaim.proofs.Pools.{nothing_left}
 use Rattle.pm_reclaim.specs.Reclaims.{IsReclaiming}
 use Rattle.pm_script.specs.declared.script.ScriptLine.{ScriptLine}
 use Rattle.pm_lock.proofs.Drawless.{drawless}
 use Rattle.pm_lock.proofs.Leading.{ready_leads}
 use Rattle.pm_lock.specs.Leading.{KeepsHeap}
 use Rattle.pm_lock.specs.Locking.{gives, line_at}
-use Rattle.pm_transaction.proofs.EndingAlone.{ended_begins_again, ended_may_end, ended_reserves_none, given_up_begins_again, given_up_may_end}
+use Rattle.pm_transaction.proofs.EndingAlone.{ended_begins_again, ended_may_end, given_up_begins_again, given_up_may_end}
 use Rattle.pm_transaction.specs.Ending.{HasEndedWith, MayEnd, unlocked_view}
 use Rattle.pm_tx.proofs.StepKinds.{Each, only_counted, only_one}
 use Rattle.pm_tx.proofs.StoreCounts.{stores_append, stores_counted}
@@ -33,7 +35,10 @@ use Rattle.pm_view.specs.Counts.{counted, is_counted, stores_among}
 use Rattle.pm_view.specs.Founds.{IsAlone}
 use Rattle.pm_view.specs.Steps.{Step}
 use Rattle.pm_view.specs.Steps.Step.{Give, Load, Occupied, Vacate}
+use Rattle.pm_view.specs.declared.occ.Occ.TheVariants.{Zone}
 use Rattle.pm_view.specs.View.{Numbered, Told, View}
+use Rattle.pm_view.specs.Views.{has_bit, reserves}
+use Rattle.pm_world.specs.Heap.{has_run_chunk}
 use Rattle.pm_world.specs.Opening.{Opening}
 use Rattle.pm_world.specs.Sequences.{one}
 use Rattle.pm_world.specs.declared.lane.HeldLock.{HeldLock}
@@ -44,7 +49,7 @@ use Rattle.pm_exec.specs.Bounds.{IsBounded, stores_of_call}
 use Rattle.pm_exec.specs.Calls.{starts_alone}
 use Rattle.pm_exec.specs.Course.{AreMade}
 use Rattle.pm_exec.specs.Links.{IsLink, WorksOn}
-use Rattle.pm_exec.specs.Progress.{HasNothing, IsAnswered, IsCommitted, IsCut, IsGivenUpAt, IsHalted, IsOver, IsPending, IsRefusedAt, TransactionEnded, Values}
+use Rattle.pm_exec.specs.Progress.{HasNothing, ReservesNoChunk, IsAnswered, IsCommitted, IsCut, IsGivenUpAt, IsHalted, IsOver, IsPending, IsRefusedAt, TransactionEnded, Values}
 use Rattle.pm_exec.specs.declared.calls.Names.{Names}
 use Rattle.pm_exec.specs.declared.ending.CallAnswer.TheVariants as answer
 
@@ -100,7 +105,7 @@ module _ (o : Opening) (first : View) (lane new : Lane Solo) (blocks : BlockList
       (λ (on : WorksOn o over.header over.pool first v). given_up_may_end o over.header over.pool Sees lane first v on.steps on.works (begins_works_alone o over.header over.pool first v on.steps on.works) on.quiet over.behind)
       (over.passed.came over.header over.pool over.begins)
 
-  module _ (e : HasEndedWith Sees new v locks) where
+  module _ (e : HasEndedWith Sees new v locks []) where
     abbrev u : View
     u = unlocked_view v locks
 
@@ -131,8 +136,8 @@ module _ (o : Opening) (first : View) (lane new : Lane Solo) (blocks : BlockList
     -- it begins again, wherever it began
     begins_again : (header : Header) (pool : PoolView) → Begins o header pool first → Begins (standing o w) header pool w
     begins_again header pool begins = ⊎_elim
-        (λ (ended : HasEnded o header pool v). inr (ended_begins_again o header pool Sees new v locks e ended over.unlocked))
-        (λ (on : WorksOn o header pool first v). inr (given_up_begins_again o header pool Sees new v locks e first on.steps on.works over.behind.log over.unlocked lane.last over.number))
+        (λ (ended : HasEnded o header pool v). inr (ended_begins_again o header pool Sees new v locks [] e ended over.unlocked))
+        (λ (on : WorksOn o header pool first v). inr (given_up_begins_again o header pool Sees new v locks [] e first on.steps on.works over.behind.log over.unlocked lane.last over.number))
         (over.passed.came header pool begins)
 
     words_w : w.words ≡ v.words
@@ -153,8 +158,16 @@ module _ (o : Opening) (first : View) (lane new : Lane Solo) (blocks : BlockList
       bound = bound_w;
     }
 
+    none_reserved : ReservesNoChunk w
+    none_reserved c in_pool =
+        let zone : ℕ = c / 64 in
+        let bit : ℕ = c % 64 in
+        false_from_ne_true (reserves w (Zone zone) bit) (λ reserved.
+        false≢true (sym ((nothing_left w e.left).none_left (Zone zone) bit (omega (arith, in_pool)) (omega arith))
+        ∙ or_left (reserves w (Zone zone) bit || has_run_chunk w (Zone zone)) (list_any (has_bit (Zone zone) bit) w.freed) (or_left (reserves w (Zone zone) bit) (has_run_chunk w (Zone zone)) reserved)))
+
     has_none : HasNothing w
-    has_none = record { unlocked = ap (λ (z : View). z.zone_locks) same_w ∙ (ap (λ (z : View). z.zone_locks) same_u ∙ over.unlocked); no_chunk = ended_reserves_none Sees new v locks e }
+    has_none = record { unlocked = ap (λ (z : View). z.zone_locks) same_w ∙ (ap (λ (z : View). z.zone_locks) same_u ∙ over.unlocked); no_chunk = none_reserved }
 
     heap_u : KeepsHeap v u
     heap_u = record { zone_locks = ap (λ (z : View). z.zone_locks) same_u; reserved = ap (λ (z : View). z.reserved) same_u; freed = ap (λ (z : View). z.freed) same_u }

@@ -1,5 +1,5 @@
 -- How far a call of a run has come: for the crate's own functions.
-use Rattle.std.specs.Prelude.{◌≡◌, ◌⊎◌, ℕ, ◌+◌, ◌≤◌, false, List, [], ◌∷◌, ◌++◌, map, slice_index, take, Option, None, Some, Result, Ok, Err, ⊤}
+use Rattle.std.specs.Prelude.{◌≡◌, ◌⊎◌, ℕ, ◌+◌, ◌*◌, ◌/◌, ◌<◌, ◌≤◌, false, List, [], ◌∷◌, ◌++◌, map, slice_index, take, Option, None, Some, Result, Ok, Err, ⊤}
 use Rattle.std.specs.List.{AllZip}
 use Rattle.pm_crash.specs.Alone.{Begins, raises}
 use Rattle.pm_crash.specs.Leading.{Leads}
@@ -31,7 +31,7 @@ use Rattle.pm_blocks.specs.NewRuns.{IsThere}
 use Rattle.pm_lock.specs.Finding.{FindsObjects}
 use Rattle.pm_lock.specs.Leading.{DrawEnded}
 use Rattle.pm_lock.specs.Resting.{IsAtRest, IsFresh}
-use Rattle.pm_transaction.specs.AtWork.{AreForPool, IsAtWorkWith, ReservesNoChunk}
+use Rattle.pm_transaction.specs.AtWork.{AreForPool, IsAtWorkWith}
 use Rattle.pm_transaction.specs.Published.{HasDrawn}
 use Rattle.pm_tx.specs.Ending.{IsAfterCall}
 use Rattle.pm_tx.specs.Generations.{IsOfOpening}
@@ -46,7 +46,8 @@ use Rattle.pm_view.specs.Log.{Phase}
 use Rattle.pm_view.specs.Log.Phase.{Applying, Clearing, Drawn, Idle, Retiring, Sealing}
 use Rattle.pm_view.specs.Steps.{Step}
 use Rattle.pm_view.specs.View.{Numbered, Told, View}
-use Rattle.pm_view.specs.Views.{after_all}
+use Rattle.pm_view.specs.Views.{after_all, reserves}
+use Rattle.pm_view.specs.declared.occ.Occ.TheVariants.{Zone}
 use Rattle.pm_world.specs.Opening.{Opening}
 use Rattle.pm_world.specs.Records.{generation_of}
 use Rattle.pm_world.specs.Sequences.{Ready}
@@ -105,6 +106,10 @@ values_told lines told = values_of (numbers_of lines) (map model_told told)
 -- a call as it is numbered
 abbrev pub numbered : ℕ → List Told → Numbered
 numbered n told = record { number = n; call = told }
+
+-- no chunk of the pool is reserved
+abbrev pub ReservesNoChunk : View → Type 0
+ReservesNoChunk v = (c : ℕ) → c < 64 * v.zones → reserves v (Zone (c / 64)) (c % 64) ≡ false
 
 -- the lane has no zone's lock, and reserved no chunk of the pool
 pub record HasNothing (v : View) : Type 0 where

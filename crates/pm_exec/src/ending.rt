@@ -76,7 +76,9 @@ fn answer(lane: &mut Lane<SoloMem>, reply: Reply) -> CallEnd
     ensures gives { values_given result ≡ reply.values }
 {
     let number = lane.last;
-    let Ok(error) = end(lane) else { unreachable!() };
+    let Ok(error) = end(lane, &[]) else {
+        unreachable!()
+    };
     CallEnd::Answered {
         number,
         answer: CallAnswer::Transaction(error),

@@ -1,22 +1,19 @@
 -- A lane alone that began a transaction where it may begin works alone there, and is at work with its lists.
 use Rattle.std.proofs.Common.{◌≡◌, ◌*◌, ◌<◌, ◌/◌, ◌%◌, ℕ, All, List, [], sym, ap, ◌∙◌, subst, arith}
-use Rattle.std.specs.List.{list_any}
-use Rattle.std.proofs.lemmas.Bool.{false≢true}
 use Rattle.pm_header.specs.declared.header.Header.{Header}
 use Rattle.pm_objects.specs.declared.calls.Want.{Want}
 use Rattle.pm_objects.specs.declared.pool.PoolView.{PoolView}
-use Rattle.pm_view.specs.declared.occ.Occ.TheVariants.{Zone}
-use Rattle.pm_view.specs.View.{Taken, View}
-use Rattle.pm_view.specs.Views.{has_bit}
+use Rattle.pm_view.specs.View.{View}
 use Rattle.pm_world.specs.Opening.{Opening}
 use Rattle.pm_world.specs.declared.lane.Lane.{Lane}
-use Rattle.pm_crash.proofs.AloneCourse.{StandsAlone, begins_holds, stands_at}
+use Rattle.pm_crash.proofs.AloneCourse.{StandsAlone, begins_alone, begins_holds, stands_at}
 use Rattle.pm_crash.specs.Alone.{Begins, WorksAlone}
 use Rattle.pm_crash.specs.CallBlocks.{reserved_in}
 use Rattle.pm_crash.specs.Reserving.{HasReserved}
 use Rattle.pm_epoch.proofs.OpeningSeen.{finds_opening}
 use Rattle.pm_made.specs.Made.{BlockLists}
-use Rattle.pm_transaction.specs.AtWork.{AreForPool, IsAtWorkWith, IsNotMaking, LiesInReserved, ReservesNoChunk}
+use Rattle.pm_transaction.proofs.NotMaking.{not_making_led}
+use Rattle.pm_transaction.specs.AtWork.{AreForPool, IsAtWorkWith, IsNotMaking, LiesInReserved}
 use Rattle.pm_transaction.specs.Beginning.{HasBegunWith}
 use Rattle.pm_transaction.specs.Published.{HasOwnCounts}
 
@@ -31,14 +28,9 @@ module _ {M : Type 0} (o : Opening) (header : Header) (pool : PoolView) (at : M 
   stands : StandsAlone o header pool w
   stands = stands_at o header pool v has.begun.led.steps w begins has.begun.led.leads counts.numbered counts.within
 
-  module _ (pages : AreForPool blocks v) (unlocked : v.zone_locks ≡ []) (none : ReservesNoChunk v) (reserved : HasReserved w) (within : All (LiesInReserved w) (reserved_in w)) where
+  module _ (pages : AreForPool blocks v) (making_none : IsNotMaking v) (reserved : HasReserved w) (within : All (LiesInReserved w) (reserved_in w)) where
     quiet : IsNotMaking w
-    quiet = record {
-      unlocked = has.begun.led.heap.zone_locks ∙ unlocked;
-      no_run = λ c in_pool reserved. absurd (false≢true (
-          sym (none c (subst (λ (zones : ℕ). c < 64 * zones) has.begun.same.zones in_pool))
-          ∙ (sym (ap (λ (blocks : List Taken). list_any (has_bit (Zone (c / 64)) (c % 64)) blocks) has.begun.led.heap.reserved) ∙ reserved)));
-    }
+    quiet = not_making_led v w has.begun.same has.begun.led (begins_alone o header pool v begins) making_none
 
     pub begun_at_work : IsAtWorkWith o at lane blocks w
     begun_at_work =

@@ -1,8 +1,15 @@
 -- A lane that gave its locks back may reclaim what it has, and rests behind that.
-use Rattle.std.proofs.Common.{◌≡◌, inl, ℕ, List, [], map, length, Option, Some, ◌<◌, arith, sym, ap, ◌∙◌, subst}
+use Rattle.std.proofs.Common.{◌≡◌, inl, inr, ℕ, List, [], map, length, Option, None, Some, Result, Err, true, ◌<◌, arith, refl, sym, ap, ◌∙◌, subst}
+use Rattle.std.specs.List.{All}
 use Rattle.std.specs.Option.{ForSome}
+use Rattle.std.specs.Result.{is_ok}
+use Rattle.std.proofs.lemmas.Bool.{false≢true}
+use Rattle.pm_objects.specs.declared.refusal.Refusal.{Refusal}
+use Rattle.std.proofs.lemmas.List.Elements.{All-weaker}
+use Rattle.pm_image.specs.declared.block.Block.{Block}
 use Rattle.pm_lock.specs.Locking.{gives}
 use Rattle.pm_lock.specs.Resting.{IsAtRest}
+use Rattle.pm_reclaim.specs.KeptBlocks.{Keeps}
 use Rattle.pm_reclaim.specs.KnownTaken.{KnowsTaken}
 use Rattle.pm_reclaim.specs.Reclaims.{HasLeft, HasReclaimed, MayReclaim}
 use Rattle.pm_tx.specs.Ending.{IsClosedBy}
@@ -13,7 +20,12 @@ use Rattle.pm_world.specs.declared.lane.HeldLock.{HeldLock}
 use Rattle.pm_world.specs.declared.lane.Lane.{Lane}
 use Rattle.pm_transaction.specs.Ending.{HasEndedWith, MayEnd, unlocked_view}
 
-module _ {M : Type 0} (at : M → View → Type 0) (before lane : Lane M) (v : View) (may : MayEnd at before v) (locks : List HeldLock) (closed : IsClosedBy at lane v (gives locks)) where
+-- an end that is done was not refused
+pub not_refused : {T : Type 0} {X : Refusal → Type 0} (refusal : Option Refusal) (result : Result T Refusal) → ((r : Refusal) → refusal ≡ Some r → (result ≡ Err r) × X r) → is_ok result ≡ true → refusal ≡ None
+not_refused None result refused ok = refl
+not_refused (Some r) result refused ok = absurd (false≢true (sym (ap is_ok (refused r refl).0) ∙ ok))
+
+module _ {M : Type 0} (at : M → View → Type 0) (before lane : Lane M) (v : View) (may : MayEnd at before v) (locks : List HeldLock) (kept : List Block) (closed : IsClosedBy at lane v (gives locks)) where
   abbrev given : View
   given = unlocked_view v locks
 
@@ -36,7 +48,24 @@ module _ {M : Type 0} (at : M → View → Type 0) (before lane : Lane M) (v : V
     of_shape = closed.rests.seen.shape;
   }
 
-  module _ (last : M) (reclaimed : HasReclaimed (at last) given (HasLeft [])) where
+  -- it has what it keeps still, with its locks given back
+  kept_plain : (block : Block) → Keeps v block → Keeps plain block
+  kept_plain block (inl run) = inl (record { chunk = run.chunk; lines = run.lines; index = run.index; in_pool = run.in_pool; low = run.low; described = run.described; reserved = run.reserved; is_block = run.is_block })
+  kept_plain block (inr chunks) = inr (record {
+    zone = chunks.zone;
+    first = chunks.first;
+    count = chunks.count;
+    in_pool = chunks.in_pool;
+    low = chunks.low;
+    fits = chunks.fits;
+    unused = λ j near. let t = chunks.unused j near in record { reserved = t.reserved; undescribed = t.undescribed };
+    is_block = chunks.is_block;
+  })
+
+  pub keeps_given : All (Keeps v) kept → All (Keeps given) kept
+  keeps_given keeps = subst (λ (u : View). All (Keeps u) kept) (sym closed.same) (All-weaker (Keeps v) (Keeps plain) kept_plain kept keeps)
+
+  module _ (last : M) (reclaimed : HasReclaimed (at last) given (HasLeft kept)) where
     abbrev w : View
     w = reclaimed.view
 
@@ -70,5 +99,5 @@ module _ {M : Type 0} (at : M → View → Type 0) (before lane : Lane M) (v : V
           };
         }
 
-    pub ended_with : HasEndedWith at (record lane { memory = last }) v locks
+    pub ended_with : HasEndedWith at (record lane { memory = last }) v locks kept
     ended_with = record { ready = closed.ready; given = closed.same; view = w; reclaims = reclaimed.reclaims; rests = rests; left = reclaimed.holds }

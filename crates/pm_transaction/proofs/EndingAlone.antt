@@ -3,6 +3,7 @@ use Rattle.std.proofs.Common.{◌≡◌, ℕ, zero, suc, ◌-◌, ◌/◌, ◌%�
 use Rattle.std.proofs.lemmas.Bool.{and_parts, false_from_ne_true, false≢true, or_left}
 use Rattle.std.specs.List.{list_any}
 use Rattle.pm_header.specs.declared.header.Header.{Header}
+use Rattle.pm_image.specs.declared.block.Block.{Block}
 use Rattle.pm_memory.specs.Solo.{AreNumbered}
 use Rattle.pm_objects.specs.declared.pool.PoolView.{PoolView}
 use Rattle.pm_view.proofs.Sequences.{after_all-append}
@@ -43,11 +44,10 @@ use Rattle.pm_epoch.proofs.RestingLanes.{begins_again}
 use Rattle.pm_epoch.proofs.StandingPools.{own_fits}
 use Rattle.pm_epoch.specs.Epochs.{HasEnded, RestsBehindCall, ReservesNoRun}
 use Rattle.pm_made.specs.Made.{BlockLists}
-use Rattle.pm_reclaim.proofs.Pools.{nothing_left}
 use Rattle.pm_tx.specs.Ending.{IsAfterCall}
-use Rattle.pm_transaction.proofs.NotMaking.{reserves_no_run}
+use Rattle.pm_transaction.proofs.NotMaking.{not_making_knowing, reserves_no_run}
 use Rattle.pm_transaction.specs.Allocating.{MayAllocate}
-use Rattle.pm_transaction.specs.AtWork.{IsAtWorkWith, IsNotMaking, ReservesNoChunk}
+use Rattle.pm_transaction.specs.AtWork.{IsAtWorkWith, IsNotMaking}
 use Rattle.pm_transaction.specs.Ending.{HasEndedWith, MayEnd, unlocked_view}
 
 -- ---- as locks are given back
@@ -79,24 +79,16 @@ module _ (o : Opening) (header : Header) (pool : PoolView) (start v : View) (ste
   pub none_run : IsNotMaking v → ReservesNoRun v.lanes v
   none_run quiet = reserves_no_run o (heap_words o (memory_of v)) v fits_v.blocks fits_v.lane.lanes fits_v.lane.zones quiet
 
--- what is reclaimed is reserved no more
-module _ {M : Type 0} (at : M → View → Type 0) (lane : Lane M) (v : View) (locks : List HeldLock) (ended : HasEndedWith at lane v locks) where
-  abbrev left : View
-  left = ended.view
-
-  pub ended_reserves_none : ReservesNoChunk left
-  ended_reserves_none c in_pool =
-      let zone : ℕ = c / 64 in
-      let bit : ℕ = c % 64 in
-      false_from_ne_true (reserves left (Zone zone) bit) (λ reserved.
-      false≢true (sym ((nothing_left left ended.left).none_left (Zone zone) bit (omega (arith, in_pool)) (omega arith))
-      ∙ or_left (reserves left (Zone zone) bit || has_run_chunk left (Zone zone)) (list_any (has_bit (Zone zone) bit) left.freed) (or_left (reserves left (Zone zone) bit) (has_run_chunk left (Zone zone)) reserved)))
+-- what it knows is taken tells that no chunk that it has still is a run
+pub ended_makes_none : {M : Type 0} (at : M → View → Type 0) (lane : Lane M) (v : View) (locks : List HeldLock) (kept : List Block) → v.zone_locks ≡ [] → (ended : HasEndedWith at lane v locks kept) → IsNotMaking ended.view
+ended_makes_none at lane v locks kept unlocked ended =
+    not_making_knowing ended.view (ap (λ (z : View). z.zone_locks) ended.reclaims.same ∙ (ap (λ (z : View). z.zone_locks) ended.given ∙ unlocked)) ended.reclaims.taken
 
 module _ {M : Type 0} (o : Opening) (header : Header) (pool : PoolView) (at : M → View → Type 0) (lane : Lane M) where
   pub ended_may_end : (v : View) → HasEnded o header pool v → IsAfterCall at lane v → MayEnd at lane v
   ended_may_end v ended behind = record { behind = behind; alone = ended.alone; taken = ended.taken }
 
-  module _ (v : View) (locks : List HeldLock) (ended : HasEndedWith at lane v locks) where
+  module _ (v : View) (locks : List HeldLock) (kept : List Block) (ended : HasEndedWith at lane v locks kept) where
     abbrev u : View
     u = unlocked_view v locks
 
@@ -105,7 +97,7 @@ module _ {M : Type 0} (o : Opening) (header : Header) (pool : PoolView) (at : M 
 
     pub ended_begins_again : HasEnded o header pool v → v.zone_locks ≡ [] → BeginsAgain (standing o w) header pool w
     ended_begins_again over unlocked =
-        begins_reclaimed o header pool u w [] (given_all o header pool locks v ended.ready over) (ap (λ (z : View). z.zone_locks) ended.given ∙ unlocked) (ap (λ (z : View). z.locks) ended.given) ended.reclaims ended.left
+        begins_reclaimed o header pool u w kept (given_all o header pool locks v ended.ready over) (ap (λ (z : View). z.zone_locks) ended.given ∙ unlocked) (ap (λ (z : View). z.locks) ended.given) ended.reclaims ended.left
 
     -- ---- of a lane that works alone still
 
@@ -130,18 +122,8 @@ module _ {M : Type 0} (o : Opening) (header : Header) (pool : PoolView) (at : M 
       fits_w : LaneFits o (memory_of w) (settled o stands_w.log stands_w.decided) (Flies stands_w.log stands_w.decided 0) 0 w
       fits_w = own_fits o header pool w stands_w
 
-      -- it has nothing reserved of the pool
       no_run : ReservesNoRun w.lanes w
-      no_run page chunk = false_from_ne_true (is_made w page) (λ made.
-          let has = (and_parts (has_chunk w page) (is_run (slice_index w.words (lane_descriptor w.lanes page))) made).0 in
-          let zone : ℕ = zone_of w.lanes page in
-          let bit : ℕ = chunk_of w.lanes page - 1 in
-          let heap = heap_words o (memory_of w) in
-          let inside = reserved_of_pool o heap w (Zone zone) bit fits_w.blocks has in
-          let zones = fits_w.lane.zones in
-          let low = reserved_low o heap w (Zone zone) bit fits_w.blocks has in
-          false≢true (sym ((nothing_left w ended.left).none_left (Zone zone) bit (omega (arith, inside, zones)) low)
-          ∙ or_left (reserves w (Zone zone) bit || has_run_chunk w (Zone zone)) (list_any (has_bit (Zone zone) bit) w.freed) (or_left (reserves w (Zone zone) bit) (has_run_chunk w (Zone zone)) has)))
+      no_run = reserves_no_run o (heap_words o (memory_of w)) w fits_w.blocks fits_w.lane.lanes fits_w.lane.zones (ended_makes_none at lane v locks kept unlocked ended)
 
       rests_w : RestsBehindCall w
       rests_w = record {

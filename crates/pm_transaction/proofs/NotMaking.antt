@@ -1,5 +1,5 @@
 -- A lane that makes no object makes none behind what changes no descriptor and keeps what it has of the heap; and no chunk that it reserved is a run, by page or by number.
-use Rattle.std.proofs.Common.{◌≡◌, ℕ, ◌+◌, ◌-◌, ◌*◌, ◌/◌, ◌%◌, ◌<◌, true, [], slice_index, refl, sym, ap, ◌∙◌, arith}
+use Rattle.std.proofs.Common.{◌≡◌, ℕ, ◌+◌, ◌-◌, ◌*◌, ◌/◌, ◌%◌, ◌<◌, true, List, [], slice_index, refl, sym, ap, ◌∙◌, arith}
 use Rattle.std.specs.List.{list_any}
 use Rattle.std.proofs.lemmas.Bool.{and_from, and_parts, false_from_ne_true, false≢true}
 use Rattle.pm_image.specs.Blocks.{descriptor_word}
@@ -7,6 +7,8 @@ use Rattle.pm_layout.specs.declared.shape.Shape.{Shape}
 use Rattle.pm_view.specs.declared.occ.Occ.TheVariants.{Zone}
 use Rattle.pm_view.specs.Blocks.{chunk_of, is_run, zone_of}
 use Rattle.pm_view.specs.Blocks.{descriptor_word as lane_descriptor}
+use Rattle.pm_view.specs.Constants.{IsSameLane}
+use Rattle.pm_view.specs.Founds.{IsAlone}
 use Rattle.pm_view.specs.View.{View}
 use Rattle.pm_view.specs.Views.{has_bit, has_chunk, is_made, reserves}
 use Rattle.pm_world.specs.Heap.{BlocksFit}
@@ -15,6 +17,10 @@ use Rattle.pm_world.proofs.Reserved.{reserved_of_pool}
 use Rattle.pm_crash.proofs.FoundBlocks.{IsPageOf, page_of_chunk}
 use Rattle.pm_crash.proofs.NewRuns.{page_at}
 use Rattle.pm_alloc.specs.NewObjects.{CanMakeObject}
+use Rattle.pm_lock.proofs.LookedAlone.{led_words}
+use Rattle.pm_lock.specs.Leading.{IsLed}
+use Rattle.pm_reclaim.proofs.GivingBack.{chunk_no_run}
+use Rattle.pm_reclaim.specs.KnownTaken.{KnowsTaken}
 use Rattle.pm_epoch.proofs.FreeChunks.{no_run_reserved}
 use Rattle.pm_epoch.specs.Epochs.{ReservesNoRun}
 use Rattle.pm_crash.proofs.StillReserved.{HasSameHeads}
@@ -27,6 +33,26 @@ not_making_still v w same zone_locks quiet = record {
       let zones = same.zones in
       let inside : c < 64 * v.zones = omega (arith, in_pool, zones) in
       ap is_run (ap (λ n. slice_index w.words (descriptor_word n c)) same.lanes ∙ same.described c inside) ∙ quiet.no_run c inside (ap (list_any (has_bit (Zone (c / 64)) (c % 64))) (sym same.reserved) ∙ has);
+}
+
+-- nor behind steps of a lane alone of which none is a counted call
+pub not_making_led : (v w : View) → IsSameLane v w → IsLed v w → IsAlone v → IsNotMaking v → IsNotMaking w
+not_making_led v w same led alone =
+    let words : (i : ℕ) → slice_index w.words i ≡ slice_index v.words i = λ i. ap (λ (ws : List ℕ). slice_index ws i) (led_words v w led alone) in
+    not_making_still v w (record { lanes = same.lanes; zones = same.zones; reserved = led.heap.reserved; described = λ c in_pool. words (descriptor_word v.lanes c); root = words 64 }) led.heap.zone_locks
+
+-- nor where it knows what is taken: a chunk that it reserved is not, and so no run
+pub not_making_knowing : (v : View) → v.zone_locks ≡ [] → KnowsTaken v → IsNotMaking v
+not_making_knowing v unlocked knows = record {
+  unlocked = unlocked;
+  no_run = λ c in_pool has.
+      let page : ℕ = page_at v.lanes c in
+      let of : IsPageOf v.lanes page c = page_of_chunk v.lanes page c refl in
+      let zone : zone_of v.lanes page ≡ c / 64 = omega arith in
+      let bit : chunk_of v.lanes page - 1 ≡ c % 64 = omega arith in
+      let chunk : IsChunk v.lanes page = (omega arith, omega arith) in
+      let reserved : has_chunk v page ≡ true = (λ i. list_any (has_bit (Zone (zone i)) (bit i)) v.reserved) ∙ has in
+      ap (λ n. is_run (slice_index v.words n)) (sym of.descriptor) ∙ chunk_no_run v knows page chunk (omega (arith, in_pool)) reserved;
 }
 
 -- by the page of a chunk, and by its number

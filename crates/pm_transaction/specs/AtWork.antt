@@ -51,10 +51,6 @@ pub record IsNotMaking (v : View) : Type 0 where
   pub unlocked : v.zone_locks ≡ []
   pub no_run : (c : ℕ) → c < 64 * v.zones → reserves v (Zone (c / 64)) (c % 64) ≡ true → is_run (slice_index v.words (descriptor_word v.lanes c)) ≡ false
 
--- no chunk of the pool is reserved
-abbrev pub ReservesNoChunk : View → Type 0
-ReservesNoChunk v = (c : ℕ) → c < 64 * v.zones → reserves v (Zone (c / 64)) (c % 64) ≡ false
-
 -- The lane has a transaction at work, and these lists of what that made and freed; it is alone and makes no object now, and what it has bears out what the call told of the
 -- heap.
 pub record IsAtWorkWith {M : Type 0} (o : Opening) (at : M → View → Type 0) (lane : Lane M) (blocks : BlockLists) (v : View) : Type 0 where

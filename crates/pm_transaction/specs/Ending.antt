@@ -1,5 +1,6 @@
 -- The end of a transaction that made and freed objects (pmemobj_tx_end(3)): docs/MODEL.md, "Transactions that make objects".
 use Rattle.std.specs.Prelude.{◌≡◌, [], List}
+use Rattle.pm_image.specs.declared.block.Block.{Block}
 use Rattle.pm_lock.specs.Locking.{gives}
 use Rattle.pm_lock.specs.Resting.{IsAtRest}
 use Rattle.pm_reclaim.specs.KnownTaken.{KnowsTaken}
@@ -23,11 +24,11 @@ abbrev pub unlocked_view : View → List HeldLock → View
 unlocked_view v locks = after_all v (gives locks v)
 
 -- From the view before the lane gave its locks back, which changed nothing else but what it knows, and then what it had reserved or freed and no word says is
--- taken; it has nothing of that left, and rests.
-pub record HasEndedWith {M : Type 0} (at : M → View → Type 0) (lane : Lane M) (v : View) (locks : List HeldLock) : Type 0 where
+-- taken; it has nothing of that left but these blocks, and rests.
+pub record HasEndedWith {M : Type 0} (at : M → View → Type 0) (lane : Lane M) (v : View) (locks : List HeldLock) (kept : List Block) : Type 0 where
   pub ready : Ready v (gives locks v)
   pub given : unlocked_view v locks ≡ record v { locks = []; known = (unlocked_view v locks).known }
   pub view : View
   pub reclaims : Reclaims (unlocked_view v locks) view
   pub rests : IsAtRest at lane view
-  pub left : HasLeft [] view
+  pub left : HasLeft kept view

@@ -3,6 +3,7 @@
 ghost use Rattle.std.specs.Prelude.{◌≡◌, ◌==◌, ◌&&◌, ℕ, ◌<◌, All, List, [], ◌∷◌, length, slice_index, Option, Some, option_map, take};
 ghost use Rattle.pm_header.specs.declared.header.Header.{Header};
 ghost use Rattle.pm_image.specs.Logs.{generation_word, seal_word};
+ghost use Rattle.pm_image.specs.declared.block.Block.{Block};
 ghost use Rattle.pm_memory.specs.Keep.{IsKeptImage};
 ghost use Rattle.pm_objects.specs.declared.calls.Operation.TheVariants.{SetValue};
 ghost use Rattle.pm_objects.specs.declared.calls.Want.{Want};
@@ -35,7 +36,7 @@ ghost use Rattle.pm_tx.specs.AtWork.{IsAtWork};
 ghost use Rattle.pm_tx.specs.Ending.{IsAfterCall};
 ghost use Rattle.pm_tx.specs.Sequences.{commits};
 ghost use Rattle.pm_transaction.specs.Allocating.{MayAllocate};
-ghost use Rattle.pm_transaction.specs.AtWork.{AreForPool, IsAtWorkWith, IsNotMaking, LiesInReserved, ReservesNoChunk};
+ghost use Rattle.pm_transaction.specs.AtWork.{AreForPool, IsAtWorkWith, IsNotMaking, LiesInReserved};
 ghost use Rattle.pm_transaction.specs.Beginning.{HasBegunWith};
 ghost use Rattle.pm_transaction.specs.Committing.{MayPublishBlocks};
 ghost use Rattle.pm_transaction.specs.Ending.{HasEndedWith, MayEnd};
@@ -43,13 +44,13 @@ ghost use Rattle.pm_transaction.specs.Published.{CommitsAlone, HasDrawn, HasOwnC
 
 use pm_world::LawfulMem;
 
-/// A law: a lane alone that began a transaction where it may begin, with no zone locked and no chunk reserved, works alone there, and is at work with its lists, if
+/// A law: a lane alone that began a transaction where it may begin, and is not in the midst of making an object, works alone there, and is at work with its lists, if
 /// these are for its pool, and what it has pending that is reserved stands in its words, in blocks that it reserved. No code runs.
 pub fn a_lane_alone_begins_at_work<M: LawfulMem>()
     ensures works { (o : Opening) (header : Header) (pool : PoolView) (v : View) (lane : Lane M) (blocks : BlockLists) (wants : List Want) → Begins o header pool v
         → (begun : HasBegunWith M.at lane blocks v wants) → HasOwnCounts begun.begun.view → WorksAlone o header pool v begun.begun.led.steps begun.begun.view }
     ensures at_work { (o : Opening) (header : Header) (pool : PoolView) (v : View) (lane : Lane M) (blocks : BlockLists) (wants : List Want) → Begins o header pool v
-        → AreForPool blocks v → v.zone_locks ≡ [] → ReservesNoChunk v → (begun : HasBegunWith M.at lane blocks v wants) → HasOwnCounts begun.begun.view
+        → AreForPool blocks v → IsNotMaking v → (begun : HasBegunWith M.at lane blocks v wants) → HasOwnCounts begun.begun.view
         → HasReserved begun.begun.view → All (LiesInReserved begun.begun.view) (reserved_in begun.begun.view) → IsAtWorkWith o M.at lane blocks begun.begun.view }
 {}
 
@@ -113,17 +114,17 @@ pub fn a_commit_cut_short_leaves_its_whole_calls()
 
 /// A law: a lane alone, behind its call, may end the transaction, and behind that it begins again, over the words as they stand. So it is where the call's
 /// log was published, with its blocks among the rest, and holds no zone's lock; and where it works alone still, since its call was given up, or
-/// published no block. No chunk of the pool is reserved then. No code runs.
+/// published no block. It is not in the midst of making an object then, whatever blocks it keeps. No code runs.
 pub fn a_lane_alone_that_ended_begins_again<M: LawfulMem>()
     ensures may { (o : Opening) (header : Header) (pool : PoolView) (v : View) (lane : Lane M) → HasEnded o header pool v → IsAfterCall M.at lane v → MayEnd M.at lane v }
-    ensures begins { (o : Opening) (header : Header) (pool : PoolView) (v : View) (lane : Lane M) (locks : List HeldLock) → HasEnded o header pool v → v.zone_locks ≡ []
-        → (ended : HasEndedWith M.at lane v locks) → BeginsAgain (standing o ended.view) header pool ended.view }
-    ensures left { (v : View) (lane : Lane M) (locks : List HeldLock) → (ended : HasEndedWith M.at lane v locks) → ReservesNoChunk ended.view }
+    ensures begins { (o : Opening) (header : Header) (pool : PoolView) (v : View) (lane : Lane M) (locks : List HeldLock) (kept : List Block) → HasEnded o header pool v → v.zone_locks ≡ []
+        → (ended : HasEndedWith M.at lane v locks kept) → BeginsAgain (standing o ended.view) header pool ended.view }
+    ensures left { (v : View) (lane : Lane M) (locks : List HeldLock) (kept : List Block) → v.zone_locks ≡ [] → (ended : HasEndedWith M.at lane v locks kept) → IsNotMaking ended.view }
     ensures may_else { (o : Opening) (header : Header) (pool : PoolView) (start v : View) (steps : List Step) (lane : Lane M)
         → WorksAlone o header pool start steps v → IsAlone v → IsNotMaking v → IsAfterCall M.at lane v → MayEnd M.at lane v }
-    ensures begins_else { (o : Opening) (header : Header) (pool : PoolView) (start v : View) (steps : List Step) (lane : Lane M) (locks : List HeldLock) (number : ℕ)
+    ensures begins_else { (o : Opening) (header : Header) (pool : PoolView) (start v : View) (steps : List Step) (lane : Lane M) (locks : List HeldLock) (kept : List Block) (number : ℕ)
         → WorksAlone o header pool start steps v → v.log ≡ no_log Idle → v.zone_locks ≡ [] → v.number ≡ Some number
-        → (ended : HasEndedWith M.at lane v locks) → BeginsAgain (standing o ended.view) header pool ended.view }
+        → (ended : HasEndedWith M.at lane v locks kept) → BeginsAgain (standing o ended.view) header pool ended.view }
 {}
 
 /// A law: a lane at work in a transaction with its lists has them still behind an action that `pm_tx` made pending there, or refused, and behind a cancel of what

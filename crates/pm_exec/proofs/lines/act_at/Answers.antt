@@ -13,8 +13,8 @@ returns-in-Cancel-clause-letters c = kept_as_they_are (c.args.said.now ∷ []) c
 pub returns-in-Set-clause-done : goal.returns-in-Set-clause-done
 returns-in-Set-clause-done c =
     on_ok_weaker c.set_at.result
-        (λ done o first front a. done o first c.args.blocks.now c.args.names front c.in-Set.id a (search rules) (ap (λ (x : SetAction). x.id) c.action_of.ensures))
-        c.set_at.ensures.done
+    (λ done o first front a. done o first c.args.blocks.now c.args.names front c.in-Set.id a (search rules) (ap (λ (x : SetAction). x.id) c.action_of.ensures))
+    c.set_at.ensures.done
 
 pub returns-in-Publish-clause-done : goal.returns-in-Publish-clause-done
 returns-in-Publish-clause-done c =
