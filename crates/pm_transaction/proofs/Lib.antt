@@ -52,3 +52,4 @@ pub mod PublishKept
 pub mod PublishChecks
 pub mod PublishEntries
 pub mod Publishes
+pub mod Deferred

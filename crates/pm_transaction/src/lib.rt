@@ -15,6 +15,7 @@ mod alloc_laws;
 mod allocating;
 mod beginning;
 mod committing;
+mod deferring;
 mod ending;
 mod freeing;
 mod laws;
@@ -28,6 +29,7 @@ pub use alloc_laws::an_object_is_made_by_few_stores;
 pub use allocating::alloc;
 pub use beginning::begin;
 pub use committing::commit;
+pub use deferring::{defer_free, set_value};
 pub use ending::end;
 pub use freeing::free;
 pub use laws::{
