@@ -2,6 +2,8 @@ pub mod Begun
 pub mod NewWords
 pub mod GainedAtWork
 pub mod GoingWith
+pub mod OwnRangeWords
+pub mod OwnWrites
 pub mod NewRangeWords
 pub mod NewReads
 pub mod NewAdds
