@@ -4,6 +4,8 @@ pub mod GainedAtWork
 pub mod GoingWith
 pub mod OwnRangeWords
 pub mod OwnWrites
+pub mod Puts
+pub mod RefusedPuts
 pub mod NewRangeWords
 pub mod NewReads
 pub mod NewAdds

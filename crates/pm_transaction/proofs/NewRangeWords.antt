@@ -1,12 +1,12 @@
 -- The words that a range of an object covers that the call made: it knows them, may store them, and none of them tells of a block, or is the size of an object found.
-use Rattle.std.proofs.Common.{◌≡◌, ◌≢◌, ⊎_elim, ℕ, ◌+◌, ◌-◌, ◌*◌, ◌/◌, ◌%◌, ◌^◌, ◌<◌, ◌≤◌, ◌&&◌, Bool, true, false, not, cond, eqb, length, slice_index, Contains, None, Some, refl, sym, ap, ◌∙◌, subst, arith, eq-eqb, ne_eqb}
+use Rattle.std.proofs.Common.{◌≡◌, ◌≢◌, ℕ, ◌+◌, ◌-◌, ◌*◌, ◌/◌, ◌%◌, ◌^◌, ◌<◌, ◌≤◌, ◌&&◌, Bool, true, false, not, cond, eqb, length, slice_index, Contains, None, Some, refl, sym, ap, ◌∙◌, arith, eq-eqb, ne_eqb}
 use Rattle.std.proofs.lemmas.Bool.{and_from, and_parts, false≢true, not-true}
 use Rattle.pm_model.specs.Bytes.{covered_words}
 use Rattle.pm_objects.specs.declared.ids.Oid.{Oid}
 use Rattle.pm_view.specs.Area.{is_in_area}
 use Rattle.pm_view.specs.Blocks.{bitmap_word, chunk_of, descriptor_word, is_chunk, is_run, is_word, tells_nothing, zone_of}
 use Rattle.pm_view.specs.Held.{is_known}
-use Rattle.pm_view.specs.View.{Lock, View}
+use Rattle.pm_view.specs.View.{View}
 use Rattle.pm_undo.specs.Working.{IsPlain, TellsNoBlock}
 use Rattle.pm_world.proofs.Chunks.{chunk_here}
 use Rattle.pm_world.proofs.HeapWords.{no_chunk_page}

@@ -1,5 +1,5 @@
 -- A lane at work may write a range of an object that its call made; it stays at work, and its call is what the plain model's write makes of it.
-use Rattle.std.proofs.Common.{◌≡◌, ℕ, ◌+◌, List, length, None, refl, sym, ap, ◌∙◌, subst}
+use Rattle.std.proofs.Common.{◌≡◌, ℕ, ◌+◌, List, length, None, refl, sym, ap, subst}
 use Rattle.pm_words.specs.Words.{AreBytes}
 use Rattle.pm_made.specs.Made.{BlockLists}
 use Rattle.pm_memory.specs.Runs.{Stops}
@@ -7,7 +7,6 @@ use Rattle.pm_objects.specs.declared.calls.Operation.{Operation}
 use Rattle.pm_objects.specs.declared.calls.Operation.TheVariants.{Write}
 use Rattle.pm_objects.specs.declared.ids.Oid.{Oid}
 use Rattle.pm_view.specs.View.{View}
-use Rattle.pm_view.specs.Views.{after_all}
 use Rattle.pm_world.specs.Opening.{Opening}
 use Rattle.pm_world.specs.Sequences.{Ready}
 use Rattle.pm_world.specs.declared.lane.HeldLock.{HeldLock}

@@ -1,6 +1,6 @@
 -- The words that a range of an object covers that stands in what the lane reserved, made by its call or reserved by it: it knows them, may store them, and none of them
 -- is the size of an object found.
-use Rattle.std.proofs.Common.{◌≡◌, ◌≢◌, ⊎_elim, ℕ, ◌+◌, ◌-◌, ◌*◌, ◌/◌, ◌%◌, ◌^◌, ◌<◌, ◌≤◌, true, false, length, slice_index, Contains, Some, refl, sym, ◌∙◌, subst, arith}
+use Rattle.std.proofs.Common.{◌≡◌, ◌≢◌, ⊎_elim, ℕ, ◌+◌, ◌*◌, ◌/◌, ◌%◌, ◌^◌, ◌<◌, ◌≤◌, true, false, length, slice_index, Contains, Some, sym, ◌∙◌, subst, arith}
 use Rattle.std.proofs.lemmas.Grind.{div_ceil_times}
 use Rattle.pm_image.proofs.Pools.{length-bytes_in}
 use Rattle.pm_image.specs.Contents.{data_words, size_in}

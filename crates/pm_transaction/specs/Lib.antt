@@ -11,3 +11,4 @@ pub mod Published
 pub mod Publishing
 pub mod Reserving
 pub mod Deferring
+pub mod Filling

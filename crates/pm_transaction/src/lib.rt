@@ -17,6 +17,7 @@ mod beginning;
 mod committing;
 mod deferring;
 mod ending;
+mod filling;
 mod freeing;
 mod laws;
 mod new_ranges;
@@ -31,6 +32,7 @@ pub use beginning::begin;
 pub use committing::commit;
 pub use deferring::{defer_free, set_value};
 pub use ending::end;
+pub use filling::{ReservedMem, write_reserved};
 pub use freeing::free;
 pub use laws::{
     a_commit_cut_short_is_lost_by_its_words, a_commit_cut_short_leaves_its_whole_calls,
