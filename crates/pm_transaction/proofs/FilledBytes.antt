@@ -1,4 +1,4 @@
--- A lane at work may write bytes into words of an object that its call made, which it reserved, and what that leaves.
+-- A lane at work may write bytes into words of an object that stands in what it reserved, made by its call or reserved by it, and what that leaves.
 use Rattle.std.proofs.Common.{◌≡◌, ◌≢◌, inr, inl, ℕ, ◌+◌, ◌-◌, ◌*◌, ◌/◌, ◌<◌, ◌≤◌, ⊎_elim, true, false, Contains, List, [], length, slice_index, refl, sym, ap, ◌∙◌, subst, arith, get_or-set_same, get_or-set_other}
 use Rattle.std.proofs.Math.Nat.{eq-or-lt_of_le}
 use Rattle.std.proofs.lemmas.Bool.{false≢true}
@@ -7,7 +7,6 @@ use Rattle.pm_image.specs.Logs.{slot_line}
 use Rattle.pm_crash.proofs.Covered.{only_words}
 use Rattle.pm_crash.proofs.FoundBlocks.{IsPageOf, page_of_chunk}
 use Rattle.pm_crash.proofs.NewRuns.{page_at}
-use Rattle.pm_crash.specs.Operations.{HasNewRange}
 use Rattle.pm_crash.specs.Writes.{words_written, written_word}
 use Rattle.pm_made.specs.Made.{BlockLists}
 use Rattle.pm_model.specs.Bytes.{covered_words}
@@ -38,7 +37,8 @@ use Rattle.pm_crash.proofs.StillReserved.{HasSameHeads}
 use Rattle.pm_tx.proofs.WrittenBytes.{counted_covered, covered_counted}
 use Rattle.pm_tx.specs.Sequences.{word_count, writes, writes_word}
 use Rattle.pm_transaction.proofs.GoingWith.{lies_still}
-use Rattle.pm_transaction.proofs.NewRangeWords.{covered_fill, covered_in, covered_in_pool, covered_is_known, covered_outside, lies, no_descriptor, not_the_roots, quiet_word}
+use Rattle.pm_transaction.proofs.NewRangeWords.{no_descriptor, not_the_roots, quiet_word}
+use Rattle.pm_transaction.proofs.OwnRangeWords.{HasOwnRange, covered_fill, covered_in, covered_in_pool, covered_is_known, covered_outside}
 use Rattle.pm_transaction.proofs.NewWords.{may_fill}
 use Rattle.pm_transaction.specs.AtWork.{IsAtWorkWith, LiesInReserved}
 
@@ -106,7 +106,7 @@ module _ (v : View) (working : IsWorking v) (word x : ℕ) (fill : MayFill v wor
 
 -- ---- those of a range
 
-module _ {M : Type 0} (o : Opening) (at : M → View → Type 0) (lane : Lane M) (blocks : BlockLists) (v : View) (all : IsAtWorkWith o at lane blocks v) (id : Oid) (off : ℕ) (bytes : List ℕ) (range : HasNewRange v id off (length bytes)) where
+module _ {M : Type 0} (o : Opening) (at : M → View → Type 0) (lane : Lane M) (blocks : BlockLists) (v : View) (all : IsAtWorkWith o at lane blocks v) (id : Oid) (off : ℕ) (bytes : List ℕ) (range : HasOwnRange v id off (length bytes)) where
   abbrev place : ℕ
   place = id.off + off
 
@@ -145,11 +145,11 @@ module _ {M : Type 0} (o : Opening) (at : M → View → Type 0) (lane : Lane M)
     there : Contains (covered_words (id.off + off) (length bytes)) ((id.off + off) / 8 + k)
     there = counted_covered (id.off + off) (length bytes) k below
 
-    lies_now : LiesInReserved u range.made.new
-    lies_now = lies_still v u (filled_heads k (omega (arith, below)) u has) range.made.new (lies o at lane blocks v all id off (length bytes) range)
+    lies_now : LiesInReserved u range.new
+    lies_now = lies_still v u (filled_heads k (omega (arith, below)) u has) range.new range.lies
 
     fill : MayFill u ((id.off + off) / 8 + k)
-    fill = may_fill u range.made.new lies_now ((id.off + off) / 8 + k) (covered_in o at lane blocks v all id off (length bytes) range ((id.off + off) / 8 + k) there)
+    fill = may_fill u range.new lies_now ((id.off + off) / 8 + k) (covered_in o at lane blocks v all id off (length bytes) range ((id.off + off) / 8 + k) there)
 
     inside : (id.off + off) / 8 + k < length u.words
     inside = let low = covered_in_pool o at lane blocks v all id off (length bytes) range ((id.off + off) / 8 + k) there in let size = has.call.lane.size in omega (arith, low, size)

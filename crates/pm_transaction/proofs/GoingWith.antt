@@ -126,34 +126,28 @@ module _ (v w : View) (same : HasSameHeads v w) where
         subst (λ (p : Pending). All (LiesInReserved w) (map reserved_object p.reserved)) (sym (pending_same v w entries call))
         (All-weaker (LiesInReserved v) (LiesInReserved w) lies_still (reserved_in v) keeps.reserved_within)
 
+    -- where what it has bears out the call still, and what is reserved stands in it
+    pub keeps_so : IsBorneOut w → HasReserved w → All (LiesInReserved w) (reserved_in w) → Keeps locks blocks w
+    keeps_so borne has reserved = record {
+      lists = lists_still;
+      pages = pages_still;
+      alone = table ∙ keeps.alone;
+      not_making = not_making_still v w same zones keeps.not_making;
+      borne_out = borne;
+      freed_held = keeps.freed_held;
+      within = within_still;
+      has_reserved = has;
+      reserved_within = reserved;
+    }
+
     -- behind an operation that tells nothing of the heap
     pub keeps_told : (op : Operation) (reply : Option Value) → w.entries ≡ v.entries → w.call ≡ v.call ++ record { operation = op; reply = reply } ∷ [] → LeavesReserved op reply (pending_in v) → ((root : Option ℕ) → TellsOfRoot root op reply (pending_in v))
         → HasReserved w → Keeps locks blocks w
-    keeps_told op reply entries call none no_root has = record {
-      lists = lists_still;
-      pages = pages_still;
-      alone = table ∙ keeps.alone;
-      not_making = not_making_still v w same zones keeps.not_making;
-      borne_out = borne_on v w same op reply entries call none no_root keeps.borne_out;
-      freed_held = keeps.freed_held;
-      within = within_still;
-      has_reserved = has;
-      reserved_within = reserved_told op reply entries call none;
-    }
+    keeps_told op reply entries call none no_root has = keeps_so (borne_on v w same op reply entries call none no_root keeps.borne_out) has (reserved_told op reply entries call none)
 
     -- and where nothing is told
     pub keeps_quiet : w.entries ≡ v.entries → w.call ≡ v.call → HasReserved w → Keeps locks blocks w
-    keeps_quiet entries call has = record {
-      lists = lists_still;
-      pages = pages_still;
-      alone = table ∙ keeps.alone;
-      not_making = not_making_still v w same zones keeps.not_making;
-      borne_out = borne_still v w same entries call keeps.borne_out;
-      freed_held = keeps.freed_held;
-      within = within_still;
-      has_reserved = has;
-      reserved_within = reserved_quiet entries call;
-    }
+    keeps_quiet entries call has = keeps_so (borne_still v w same entries call keeps.borne_out) has (reserved_quiet entries call)
 
 -- what the call found it found still, where nothing is told
 pub old_still : (v w : View) → w.entries ≡ v.entries → w.call ≡ v.call → (off : ℕ) → IsOldIn v off → IsOldIn w off

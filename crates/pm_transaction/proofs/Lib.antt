@@ -2,6 +2,10 @@ pub mod Begun
 pub mod NewWords
 pub mod GainedAtWork
 pub mod GoingWith
+pub mod OwnRangeWords
+pub mod OwnWrites
+pub mod Puts
+pub mod RefusedPuts
 pub mod NewRangeWords
 pub mod NewReads
 pub mod NewAdds
@@ -52,3 +56,4 @@ pub mod PublishKept
 pub mod PublishChecks
 pub mod PublishEntries
 pub mod Publishes
+pub mod Deferred

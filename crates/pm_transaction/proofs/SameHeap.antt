@@ -1,6 +1,7 @@
 -- The sequences of ranges leave what a lane has of the heap as it was, from whatever view they are made.
 use Rattle.std.proofs.Common.{ℕ, zero, suc, ◌+◌, ◌/◌, Bool, true, false, cond, eqb, ltb, List, [], ◌∷◌, map, length, slice_index, Some, None, refl, sym, subst}
 use Rattle.pm_image.specs.Logs.{slot_line}
+use Rattle.pm_objects.specs.declared.calls.Operation.{Operation}
 use Rattle.pm_objects.specs.declared.calls.Operation.TheVariants.{AddRange, Read, Write}
 use Rattle.pm_objects.specs.declared.history.Value.TheVariants.{Bytes}
 use Rattle.pm_objects.specs.declared.ids.Oid.{Oid}
@@ -135,9 +136,13 @@ by_word_written : (place : ℕ) (bytes : List ℕ) (w : ℕ) → LeavesHeap (wri
 unfolding writes_word
 by_word_written place bytes w = by_any_word w (λ x. stores w (written_word place bytes w x)) (λ x. by_stores w (written_word place bytes w x))
 
+pub told_writes_leave : (place : ℕ) (bytes : List ℕ) (op : Operation) → LeavesHeap (in_turn (writes place bytes) (one (Tell op None)))
+unfolding writes
+told_writes_leave place bytes op =
+    by_both (counted (λ i. writes_word place bytes (place / 8 + i)) (word_count place (length bytes))) (one (Tell op None))
+    (by_each (λ i. writes_word place bytes (place / 8 + i)) (word_count place (length bytes)) (λ i. by_word_written place bytes (place / 8 + i)))
+    (by_one (Tell op None) (λ v. record { zone_locks = refl; reserved = refl; freed = refl }))
+
 pub writes_leave : (id : Oid) (off : ℕ) (bytes : List ℕ) → LeavesHeap (writes_range id off bytes)
-unfolding writes_range writes
-writes_leave id off bytes =
-    by_both (counted (λ i. writes_word (id.off + off) bytes ((id.off + off) / 8 + i)) (word_count (id.off + off) (length bytes))) (one (Tell (Write id off bytes) None))
-    (by_each (λ i. writes_word (id.off + off) bytes ((id.off + off) / 8 + i)) (word_count (id.off + off) (length bytes)) (λ i. by_word_written (id.off + off) bytes ((id.off + off) / 8 + i)))
-    (by_one (Tell (Write id off bytes) None) (λ v. record { zone_locks = refl; reserved = refl; freed = refl }))
+unfolding writes_range
+writes_leave id off bytes = told_writes_leave (id.off + off) bytes (Write id off bytes)

@@ -10,3 +10,5 @@ pub mod Committing
 pub mod Published
 pub mod Publishing
 pub mod Reserving
+pub mod Deferring
+pub mod Filling

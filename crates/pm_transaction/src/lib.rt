@@ -1,9 +1,10 @@
 //! The calls of a transaction on any object, found or made: pmemobj_tx_begin(3), pmemobj_tx_add_range(3), pmemobj_tx_alloc(3), pmemobj_tx_free(3),
-//! pmemobj_tx_publish(3), pmemobj_tx_commit(3) and pmemobj_tx_end(3), and the writes and reads that are plain memory accesses there.
+//! pmemobj_tx_publish(3), pmemobj_tx_commit(3) and pmemobj_tx_end(3), and the writes and reads that are plain memory accesses there; and pmemobj_reserve(3),
+//! pmemobj_defer_free(3) and pmemobj_set_value(3) inside of one.
 //!
 //! Promises the calls of a lane that is alone, over any lawful memory, whose transaction may make and free objects (`begin`, `add_range`, `write`, `read`,
-//! `alloc`, `free`, `publish`, `commit`, `end`). What the transaction found is `pm_tx`'s; what it made needs no lock and no record. Each makes exactly the stated memory calls, and is
-//! the plain model's; a refusal is the model's reason and gives the transaction up. It stands on `pm_tx` for objects found, on `pm_alloc` for
+//! `alloc`, `free`, `publish`, `commit`, `end`; `reserve`, `write_reserved`, `defer_free`, `set_value`). What the transaction found is `pm_tx`'s; what it made needs no lock and no record. Each makes exactly the stated memory calls, and is
+//! the plain model's; a refusal is the model's reason and gives the transaction up, or, of the last four, leaves it in work. It stands on `pm_tx` for objects found, on `pm_alloc` for
 //! new ones, on `pm_made` for the lists of what was made and freed, and on `pm_crash` for what a call comes to; docs/MODEL.md, "Transactions that make objects".
 //!
 //! Its laws say, of a lane that works alone, that it may make an object wherever it is at work, that such a transaction may be committed with the redo entries of its
@@ -15,7 +16,9 @@ mod alloc_laws;
 mod allocating;
 mod beginning;
 mod committing;
+mod deferring;
 mod ending;
+mod filling;
 mod freeing;
 mod laws;
 mod new_ranges;
@@ -28,7 +31,9 @@ pub use alloc_laws::an_object_is_made_by_few_stores;
 pub use allocating::alloc;
 pub use beginning::begin;
 pub use committing::commit;
+pub use deferring::{defer_free, set_value};
 pub use ending::end;
+pub use filling::{ReservedMem, write_reserved};
 pub use freeing::free;
 pub use laws::{
     a_commit_cut_short_is_lost_by_its_words, a_commit_cut_short_leaves_its_whole_calls,

@@ -7,7 +7,7 @@ use pm_layout::Shape;
 use pm_made::{CallBlocks, Made};
 use pm_memory::SoloMem;
 use pm_objects::{Oid, Refusal, TxErr};
-use pm_pending::SetAction;
+use pm_pending::{PendingActions, SetAction};
 use pm_world::{Lane, Stage};
 use std::alloc::Global;
 use std::test::Fail;
@@ -111,5 +111,36 @@ fn no_transaction(rt: HostRuntime) -> Result<(), Fail> {
     assert_eq!(rt; commit(&mut lane, &blocks), Err(Refusal::NoTx));
     assert_eq!(rt; end(&mut lane), Err(Refusal::NoTx));
     assert_eq!(rt; lane.level, 0);
+    Ok(())
+}
+
+/// With no transaction nothing is reserved, written, deferred or set: the lists stay empty.
+#[test]
+fn nothing_pends_outside(rt: HostRuntime) -> Result<(), Fail> {
+    let mut lane = fresh(rt.alloc())?;
+    let blocks = CallBlocks::new(rt.alloc(), Shape::new(1, 1)?)?;
+    let mut pending = PendingActions::new();
+    assert_eq!(rt;
+        reserve(&mut lane, &blocks, &mut pending, 64, 1),
+        Err(Refusal::NoTx)
+    );
+    assert_eq!(rt;
+        write_reserved(&mut lane, &blocks, &pending, id(16512), 0, &[1, 2]),
+        Err(Refusal::NoTx)
+    );
+    assert_eq!(rt;
+        defer_free(&mut lane, &blocks, &mut pending, id(16512)),
+        Err(Refusal::NoTx)
+    );
+    let action = SetAction {
+        id: id(16512),
+        off: 8,
+        value: 42,
+    };
+    assert_eq!(rt;
+        set_value(&mut lane, &blocks, &mut pending, action),
+        Err(Refusal::NoTx)
+    );
+    assert_eq!(rt; pending.count(), 0);
     Ok(())
 }
