@@ -52,3 +52,7 @@ pub mod PublishKept
 pub mod PublishChecks
 pub mod PublishEntries
 pub mod Publishes
+pub mod FreedInTurn
+pub mod ListedInTurn
+pub mod PublishAllChecks
+pub mod PublishAllReasons

@@ -10,3 +10,4 @@ pub mod Committing
 pub mod Published
 pub mod Publishing
 pub mod Reserving
+pub mod PublishedLists

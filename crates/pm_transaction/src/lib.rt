@@ -20,7 +20,9 @@ mod freeing;
 mod laws;
 mod new_ranges;
 mod origins;
+mod published_lists;
 mod publishing;
+mod publishing_all;
 mod ranges;
 mod reserving;
 
