@@ -54,5 +54,6 @@ pub mod PublishEntries
 pub mod Publishes
 pub mod FreedInTurn
 pub mod ListedInTurn
+pub mod PublishesAll
 pub mod PublishAllChecks
 pub mod PublishAllReasons

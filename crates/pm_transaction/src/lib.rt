@@ -2,7 +2,7 @@
 //! pmemobj_tx_publish(3), pmemobj_tx_commit(3) and pmemobj_tx_end(3), and the writes and reads that are plain memory accesses there.
 //!
 //! Promises the calls of a lane that is alone, over any lawful memory, whose transaction may make and free objects (`begin`, `add_range`, `write`, `read`,
-//! `alloc`, `free`, `publish`, `commit`, `end`). What the transaction found is `pm_tx`'s; what it made needs no lock and no record. Each makes exactly the stated memory calls, and is
+//! `alloc`, `free`, `publish`, `publish_all`, `commit`, `end`). What the transaction found is `pm_tx`'s; what it made needs no lock and no record. Each makes exactly the stated memory calls, and is
 //! the plain model's; a refusal is the model's reason and gives the transaction up. It stands on `pm_tx` for objects found, on `pm_alloc` for
 //! new ones, on `pm_made` for the lists of what was made and freed, and on `pm_crash` for what a call comes to; docs/MODEL.md, "Transactions that make objects".
 //!
@@ -40,6 +40,7 @@ pub use laws::{
 };
 pub use new_ranges::{do_add_new, do_read_new, do_write_new};
 pub use publishing::publish;
+pub use publishing_all::publish_all;
 pub use ranges::{add_range, read, write};
 pub use reserving::reserve;
 
