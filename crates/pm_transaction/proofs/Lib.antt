@@ -57,3 +57,8 @@ pub mod PublishChecks
 pub mod PublishEntries
 pub mod Publishes
 pub mod Deferred
+pub mod FreedInTurn
+pub mod ListedInTurn
+pub mod PublishesAll
+pub mod PublishAllChecks
+pub mod PublishAllReasons

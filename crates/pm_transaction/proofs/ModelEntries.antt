@@ -160,7 +160,7 @@ named_behind Publish reply p named = sets_named_once []
 named_behind Cancel reply p named = sets_named_once []
 named_behind op reply p named = named
 
-named_told : (p : Pending) (told : List Telling) → AreNamedOnce p → AreNamedOnce (pending_told p told)
+pub named_told : (p : Pending) (told : List Telling) → AreNamedOnce p → AreNamedOnce (pending_told p told)
 unfolding pending_told
 named_told p [] named = named
 named_told p (t ∷ told) named = named_told (pending_behind t.operation t.reply p) told (named_behind t.operation t.reply p named)

@@ -54,7 +54,7 @@ abbrev pub IsLeftFor : View → SetAction → Type 0
 IsLeftFor v a = IsOnLeft v (action_of a)
 
 -- some of which this holds, where that holds of all
-some_with : {X : Type 0} (P Q R : X → Type 0) (xs : List X) → ((x : X) → Q x → P x → R x) → All Q xs → Any P xs → Any R xs
+pub some_with : {X : Type 0} (P Q R : X → Type 0) (xs : List X) → ((x : X) → Q x → P x → R x) → All Q xs → Any P xs → Any R xs
 some_with P Q R xs so all t = (t.0, t.1, t.2, t.3, so t.1 (subst Q t.3 (all t.0 t.1 t.2)) t.4)
 
 -- what an answer is by the test of it
@@ -170,7 +170,7 @@ module _ {M : Type 0} (o : Opening) (at : M → View → Type 0) (blocks : Block
 -- ---- the reasons
 
 -- the lock of an action's object is wanted for writing
-abbrev want_of : Action → Want
+abbrev pub want_of : Action → Want
 want_of a = record { id = object_of a; write = true }
 
 module _ (v : View) (actions : List SetAction) (pending : pending_of actions ≡ pending_in v) where

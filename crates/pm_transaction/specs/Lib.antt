@@ -12,3 +12,4 @@ pub mod Publishing
 pub mod Reserving
 pub mod Deferring
 pub mod Filling
+pub mod PublishedLists

@@ -1,8 +1,10 @@
 -- A publish of pending actions in a transaction that may have made and freed objects (pmemobj_tx_publish(3)): what it leaves, done, refused or stopped.
-use Rattle.std.specs.Prelude.{◌≡◌, List, None, Some}
-use Rattle.pm_crash.specs.OnActions.{IsPublishReasonIn, PublishesIn}
-use Rattle.pm_crash.specs.Pending.{pending_in}
-use Rattle.pm_model.specs.Actions.{none_pending}
+use Rattle.std.specs.Prelude.{◌≡◌, ◌≤◌, All, false, List, None, Some, slice_index}
+use Rattle.pm_crash.specs.CallBlocks.{FreeNoRoot, TellsOfRoot}
+use Rattle.pm_crash.specs.OnActions.{CanFreeIn, CanSetIn, IsPublishReasonIn, PublishesIn, entries_published}
+use Rattle.pm_crash.specs.Pending.{pending_in, sets_in}
+use Rattle.pm_crash.specs.Reserved.{root_in}
+use Rattle.pm_model.specs.Actions.{max_entries, none_pending}
 use Rattle.pm_made.specs.Made.{BlockLists}
 use Rattle.pm_objects.specs.declared.calls.Operation.TheVariants.{Publish}
 use Rattle.pm_objects.specs.declared.history.Value.TheVariants.{Refused}
@@ -16,6 +18,20 @@ use Rattle.pm_world.specs.Opening.{Opening}
 use Rattle.pm_world.specs.declared.lane.Lane.{Lane}
 use Rattle.pm_world.specs.declared.lane.Span.{Span}
 use Rattle.pm_transaction.specs.AtWork.{IsAtWorkWith}
+
+-- all that is pending can be published: nothing was asked for late, each object that is to be freed can be, and is not the root by the lane's words, each word can
+-- be set, and the log has room
+pub record CanPublish (v : View) : Type 0 where
+  pub in_time : (pending_in v).late ≡ false
+  pub frees : All (CanFreeIn v) (pending_in v).frees
+  pub each : All (CanSetIn v) (sets_in v)
+  pub not_root : FreeNoRoot (root_in (slice_index v.words)) (pending_in v).frees
+  pub room : entries_published v ≤ max_entries
+
+-- there is this reason to refuse the publish, to which the root agrees by the lane's words
+pub record IsPublishRefused (v : View) (r : Refusal) : Type 0 where
+  pub reason : IsPublishReasonIn v r
+  pub root : TellsOfRoot (root_in (slice_index v.words)) Publish (Some (Refused r)) (pending_in v)
 
 -- from the view before, the lane told the publish, is at work still with these lists, and that is the plain model's: nothing is pending any more
 pub record HasPublishedWith {M : Type 0} (o : Opening) (at : M → View → Type 0) (lane : Lane M) (blocks : BlockLists) (v : View) : Type 0 where

@@ -54,7 +54,7 @@ fn lock_at(locks: &[HeldLock], line: u64) -> Option<HeldLock>
 }
 
 /// How many lines the block of the object at the offset has, where one of these locks is its own, for writing, and a block was found under it.
-fn held_block(locks: &[HeldLock], off: u64) -> Option<u64>
+pub(crate) fn held_block(locks: &[HeldLock], off: u64) -> Option<u64>
     ensures some { IfSome result (λ lines. HasBlock locks.now off lines) }
     ensures none { IsNone result → All (λ (l : HeldLock). IsTrue (is_some l.block)) locks.now → is_locked (map lock_of (map view_lock locks.now)) off true ≡ false }
 {
@@ -92,7 +92,7 @@ pub(crate) fn owned_at<M: LawfulMem>(
 }
 
 /// Looks at the root's offset: 0 where there is no root.
-fn load_root<M: LawfulMem>(lane: &mut Lane<M>) -> u64
+pub(crate) fn load_root<M: LawfulMem>(lane: &mut Lane<M>) -> u64
     requires at_work { (blocks : BlockLists) × ((o : Opening) × ((v : View) × IsAtWorkWith o M.at lane.old blocks v)) }
     ensures looked { (blocks : BlockLists) (o : Opening) (v : View) → IsAtWorkWith o M.at lane.old blocks v
         → HasLookedWith o M.at lane.new blocks v (λ w. slice_index w.words 64 ≡ result) }

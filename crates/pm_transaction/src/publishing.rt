@@ -33,7 +33,7 @@ use pm_tx::{check_range, check_work, refuse};
 use pm_world::{Lane, LawfulMem, MAX_ENTRIES};
 
 /// Whether the lane has the object for writing, gone or not: the call made it, or the lane holds its lock.
-fn has_object<M: LawfulMem>(lane: &Lane<M>, blocks: &CallBlocks, id: Oid) -> bool
+pub(crate) fn has_object<M: LawfulMem>(lane: &Lane<M>, blocks: &CallBlocks, id: Oid) -> bool
     ensures yes { IsTrue result → (o : Opening) (v : View) → IsAtWorkWith o M.at lane.now blocks.now v → (id.pool ≡ v.pool) × (has_at v id.off true ≡ true) }
     ensures no_ { result ≡ false → (o : Opening) (v : View) → IsAtWorkWith o M.at lane.now blocks.now v → id.pool ≡ v.pool → has_at v id.off true ≡ false }
 {
@@ -44,7 +44,7 @@ fn has_object<M: LawfulMem>(lane: &Lane<M>, blocks: &CallBlocks, id: Oid) -> boo
 }
 
 /// Whether the lane has the object of each action: `NotLocked` where it does not.
-fn check_owned<M: LawfulMem>(
+pub(crate) fn check_owned<M: LawfulMem>(
     lane: &Lane<M>,
     blocks: &CallBlocks,
     actions: &[SetAction],
@@ -62,7 +62,7 @@ fn check_owned<M: LawfulMem>(
 }
 
 /// Whether no action's object is gone: `NoObject` where the call freed one.
-fn check_left(blocks: &CallBlocks, actions: &[SetAction]) -> Result<(), Refusal>
+pub(crate) fn check_left(blocks: &CallBlocks, actions: &[SetAction]) -> Result<(), Refusal>
     ensures ok { OnOk result ((call : Call) → ListsBlocks blocks.now call → All (λ (a : SetAction). (is_among call.freed a.id.off || list_any (is_at a.id.off) call.dropped) ≡ false) actions.now) }
     ensures gone { OnErr result ((call : Call) → ListsBlocks blocks.now call → Any (λ (a : SetAction). (is_among call.freed a.id.off || list_any (is_at a.id.off) call.dropped) ≡ true) actions.now) }
     ensures cause { IfErr result (λ r. r ≡ refusal.NoObject) }
@@ -92,7 +92,7 @@ fn ends_in_object<M: LawfulMem>(lane: &mut Lane<M>, blocks: &CallBlocks, action:
 }
 
 /// The same of each action: `OutOfRange` for the first that passes its object's end.
-fn check_ends<M: LawfulMem>(
+pub(crate) fn check_ends<M: LawfulMem>(
     lane: &mut Lane<M>,
     blocks: &CallBlocks,
     actions: &[SetAction],

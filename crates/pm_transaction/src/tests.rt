@@ -109,7 +109,7 @@ fn no_transaction(rt: HostRuntime) -> Result<(), Fail> {
     );
     assert_eq!(rt; actions.len(), 1);
     assert_eq!(rt; commit(&mut lane, &blocks), Err(Refusal::NoTx));
-    assert_eq!(rt; end(&mut lane), Err(Refusal::NoTx));
+    assert_eq!(rt; end(&mut lane, &[]), Err(Refusal::NoTx));
     assert_eq!(rt; lane.level, 0);
     Ok(())
 }
