@@ -51,7 +51,7 @@ fn check_each_owned<M: LawfulMem>(
 }
 
 /// Whether none of the objects is gone: `NoObject` where the call freed one.
-fn check_each_left(blocks: &CallBlocks, ids: &[Oid]) -> Result<(), Refusal>
+pub(crate) fn check_each_left(blocks: &CallBlocks, ids: &[Oid]) -> Result<(), Refusal>
     ensures ok { OnOk result ((call : Call) → ListsBlocks blocks.now call → All (λ (id : Oid). (is_among call.freed id.off || list_any (is_at id.off) call.dropped) ≡ false) ids.now) }
     ensures gone { OnErr result ((call : Call) → ListsBlocks blocks.now call → Any (λ (id : Oid). (is_among call.freed id.off || list_any (is_at id.off) call.dropped) ≡ true) ids.now) }
     ensures cause { IfErr result (λ r. r ≡ refusal.NoObject) }
@@ -110,7 +110,7 @@ fn check_no_root<M: LawfulMem>(
 }
 
 /// How many of the objects the call made and has.
-fn count_made(blocks: &CallBlocks, ids: &[Oid]) -> usize
+pub(crate) fn count_made(blocks: &CallBlocks, ids: &[Oid]) -> usize
     ensures made { (call : Call) → ListsBlocks blocks.now call → result ≡ count_by (λ (id : Oid). list_any (is_at id.off) call.made) ids.now }
     ensures few { result ≤ length ids.now }
 {

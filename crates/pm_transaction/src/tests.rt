@@ -2,6 +2,7 @@ ghost use Rattle.std.specs.Prelude.{◌≡◌, false, IfOk};
 
 use super::*;
 use crate::origins::{Origin, origin_of};
+use crate::publishing_all::{check_each_left, count_made};
 use arrayvec::ArrayVec;
 use pm_layout::Shape;
 use pm_made::{CallBlocks, Made};
@@ -52,6 +53,20 @@ fn origins(rt: HostRuntime) -> Result<(), Fail> {
         origin_of(&blocks, 7, id(16512), 0, 1),
         Err(Refusal::NoObject)
     );
+    Ok(())
+}
+
+/// Of what is to be freed, an object that the call made counts as made, and one that it found does not; and none may be gone.
+#[test]
+fn named_to_be_freed(rt: HostRuntime) -> Result<(), Fail> {
+    let mut blocks = CallBlocks::new(rt.alloc(), Shape::new(1, 1)?)?;
+    blocks.add_made(SMALL);
+    let named = [id(16512), id(20544)];
+    assert_eq!(rt; count_made(&blocks, &named), 1);
+    assert_eq!(rt; check_each_left(&blocks, &named), Ok(()));
+    blocks.free(20544, 2);
+    assert_eq!(rt; count_made(&blocks, &named), 1);
+    assert_eq!(rt; check_each_left(&blocks, &named), Err(Refusal::NoObject));
     Ok(())
 }
 
@@ -108,6 +123,18 @@ fn no_transaction(rt: HostRuntime) -> Result<(), Fail> {
         Err(Refusal::NoTx)
     );
     assert_eq!(rt; actions.len(), 1);
+    let mut pending = PendingActions {
+        sets: ArrayVec::new(),
+        frees: ArrayVec::new(),
+        reserved: ArrayVec::new(),
+        late: false,
+    };
+    pending.frees.push(id(16512));
+    assert_eq!(rt;
+        publish_all(&mut lane, &mut blocks, &mut pending),
+        Err(Refusal::NoTx)
+    );
+    assert_eq!(rt; pending.count(), 1);
     assert_eq!(rt; commit(&mut lane, &blocks), Err(Refusal::NoTx));
     assert_eq!(rt; end(&mut lane, &[]), Err(Refusal::NoTx));
     assert_eq!(rt; lane.level, 0);
