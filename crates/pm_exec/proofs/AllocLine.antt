@@ -68,7 +68,7 @@ use Rattle.pm_world.specs.declared.lane.Stage.TheVariants as stage
 use Rattle.pm_exec.proofs.AddAndWrite.{given_up_so}
 use Rattle.pm_exec.proofs.Along.{same_along}
 use Rattle.pm_exec.proofs.ChangeLines.{GoesTo, cut_there, over_there}
-use Rattle.pm_exec.proofs.FewStores.{bounded, lines_more, lines_within}
+use Rattle.pm_exec.proofs.FewStores.{walked, lines_more, lines_within}
 use Rattle.pm_exec.proofs.FreeLine.{one_log}
 use Rattle.pm_exec.proofs.LineLists.{gave_more, made_more, told_more, words_more}
 use Rattle.pm_exec.proofs.LooksAlone.{looks_none}
@@ -233,7 +233,7 @@ module _ (o : Opening) (first : View) (lane : Lane Solo) (blocks : BlockLists) (
         record {
           view = m;
           same = same_along first m steps leads;
-          bound = λ drained. bounded first m (stores_of_call names (front ++ said ∷ rest)) steps drained leads
+          bound = walked first m (stores_of_call names (front ++ said ∷ rest)) steps leads
               (let few = made_few size m t.makes in let all = lines_within names front rest said in let good = make_good in omega (arith, few, all, good));
           seen = t.seen;
           drawn = s.undrawn ∙ (none_waits lane.drawn v.number a.works.work.seen.drawn a.works.work.working.undrawn ∙ sym t.makes.number);

@@ -15,7 +15,7 @@ use Rattle.pm_view.specs.View.{Numbered, View}
 use Rattle.pm_world.specs.Opening.{Opening}
 use Rattle.pm_world.specs.Records.{generation_of}
 use Rattle.pm_world.specs.declared.lane.Lane.{Lane}
-use Rattle.pm_exec.proofs.FewStores.{bounded_then, bounded_within, calls_more}
+use Rattle.pm_exec.proofs.FewStores.{walked_then, walked_within, calls_more}
 use Rattle.pm_exec.specs.Bounds.{stores_of_call, stores_of_calls}
 use Rattle.pm_exec.specs.Calls.{call_of, numbers_of}
 use Rattle.pm_exec.specs.Course.{CallsMade, IsCallMade}
@@ -96,8 +96,8 @@ module _ (o : Opening) (first : View) (lane : Lane Solo) (blocks : BlockLists) (
               same = same_lane-then first a.view x.view a.called.same x.link.same;
               made = made_then names calls history lines (record { number = number; call = call; reply = reply; fate = fate }) e first a.view x.view a.called.made settled x.made;
               bound =
-                  bounded_within first x.view (stores_of_calls names calls + stores_of_call names lines) (stores_of_calls names (calls ++ lines ∷ [])) (let more = calls_more names calls lines in omega (arith, more))
-                  (bounded_then first a.view x.view (stores_of_calls names calls) (stores_of_call names lines) a.called.bound (x.link.bound a.rests.drained));
+                  walked_within first x.view (stores_of_calls names calls + stores_of_call names lines) (stores_of_calls names (calls ++ lines ∷ [])) (let more = calls_more names calls lines in omega (arith, more))
+                  (walked_then first a.view x.view (stores_of_calls names calls) (stores_of_call names lines) a.called.bound x.link.bound);
             };
             rests = x.rests;
             idle = x.idle;

@@ -58,7 +58,7 @@ use Rattle.pm_world.specs.declared.lane.Lane.{Lane}
 use Rattle.pm_world.specs.declared.lane.Span.{Span}
 use Rattle.pm_world.specs.declared.lane.Stage.TheVariants as stage
 use Rattle.pm_exec.specs.Bounds.{most_stores, recorded_count, stores_of_call, stores_of_lines}
-use Rattle.pm_exec.proofs.FewStores.{bounded, lines_more, lines_within, spans_count}
+use Rattle.pm_exec.proofs.FewStores.{walked, lines_more, lines_within, spans_count}
 use Rattle.pm_exec.specs.Calls.{operation_of}
 use Rattle.pm_exec.specs.Progress.{IsAtLine, IsCalmBehind, IsCut, IsGivenUpAt, AreToldDone, IsToldDone, IsUntorn, Values, numbered, refused, values_told}
 use Rattle.pm_exec.specs.Course.{CameToGiveUp, IsFree, IsFrontOf, IsGivenUpMade, IsLineMade, IsLineStopped, IsRefusalMade, IsStoppedBy, refused_calls, spans_of}
@@ -269,7 +269,7 @@ module _ (o : Opening) (first : View) (lane : Lane Solo) (blocks : BlockLists) (
           record {
             view = m;
             same = same_along first m all leads;
-            bound = λ drained. bounded first m (stores_of_call names (front ++ said ∷ rest)) all drained leads few;
+            bound = walked first m (stores_of_call names (front ++ said ∷ rest)) all leads few;
             seen = stopped.stops.seen;
             drawn = stopped.drawn;
             way = inl (record {
@@ -436,7 +436,7 @@ module _ (o : Opening) (first : View) (lane : Lane Solo) (blocks : BlockLists) (
           record {
             view = m;
             same = same_along first m all leads;
-            bound = λ drained. bounded first m (stores_of_call names (front ++ said ∷ rest)) all drained leads (few_in said rest (take k (steps u)) (let part = stores_first k (steps u) in omega (arith, part, few)));
+            bound = walked first m (stores_of_call names (front ++ said ∷ rest)) all leads (few_in said rest (take k (steps u)) (let part = stores_first k (steps u) in omega (arith, part, few)));
             seen = stopped.stops.seen;
             drawn = stopped.drawn;
             way = inl (record {

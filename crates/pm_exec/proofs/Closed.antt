@@ -44,8 +44,8 @@ use Rattle.pm_world.specs.Sequences.{one}
 use Rattle.pm_world.specs.declared.lane.HeldLock.{HeldLock}
 use Rattle.pm_world.specs.declared.lane.Lane.{Lane}
 use Rattle.pm_exec.proofs.Along.{alone_along, same_along}
-use Rattle.pm_exec.proofs.FewStores.{bounded, bounded_then, bounded_within}
-use Rattle.pm_exec.specs.Bounds.{IsBounded, stores_of_call}
+use Rattle.pm_exec.proofs.FewStores.{walked, walked_then, walked_within}
+use Rattle.pm_exec.specs.Bounds.{IsWalked, stores_of_call}
 use Rattle.pm_exec.specs.Calls.{starts_alone}
 use Rattle.pm_exec.specs.Course.{AreMade}
 use Rattle.pm_exec.specs.Links.{IsLink, WorksOn}
@@ -143,12 +143,12 @@ module _ (o : Opening) (first : View) (lane new : Lane Solo) (blocks : BlockList
     words_w : w.words ≡ v.words
     words_w = ap (λ (z : View). z.words) same_w ∙ ap (λ (z : View). z.words) same_u
 
-    bound_w : first.changes ≡ [] → IsBounded first w (stores_of_call names lines)
-    bound_w drained =
+    bound_w : IsWalked first w (stores_of_call names lines)
+    bound_w =
         let on : Leads v (gives locks v ++ e.reclaims.steps) w = leads_then v u w (gives locks v) e.reclaims.steps on_u e.reclaims.leads in
         let none : stores_among (gives locks v ++ e.reclaims.steps) ≤ 0 = (let both = stores_append (gives locks v) e.reclaims.steps in let one = stores_counted (gives locks v) in let two = stores_counted e.reclaims.steps in let a = given_none in let b = reclaimed_none in omega (arith, both, one, two, a, b)) in
-        bounded_within first w (stores_of_call names lines + 0) (stores_of_call names lines) (omega arith)
-        (bounded_then first v w (stores_of_call names lines) 0 (over.passed.bound drained) (bounded v w 0 (gives locks v ++ e.reclaims.steps) over.behind.drained on none))
+        walked_within first w (stores_of_call names lines + 0) (stores_of_call names lines) (omega arith)
+        (walked_then first v w (stores_of_call names lines) 0 over.passed.bound (walked v w 0 (gives locks v ++ e.reclaims.steps) on none))
 
     link : IsLink o first w (stores_of_call names lines)
     link = record {

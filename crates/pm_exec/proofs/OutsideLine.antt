@@ -22,7 +22,7 @@ use Rattle.pm_crash.specs.Leading.{Leads}
 use Rattle.pm_crash.specs.Pending.{pending_before, sets_before}
 use Rattle.pm_memory.specs.Solo.{Sees, Solo}
 use Rattle.pm_image.specs.Logs.{generation_word}
-use Rattle.pm_model.specs.Actions.{Action, Pending, wants_for}
+use Rattle.pm_model.specs.Actions.{Pending, wants_for}
 use Rattle.pm_model.specs.Shown.{values_of}
 use Rattle.pm_objects.specs.declared.calls.Operation.{Operation}
 use Rattle.pm_objects.specs.declared.calls.Operation.TheVariants as operation
@@ -67,7 +67,7 @@ use Rattle.pm_transaction.specs.AtWork.{AreForPool}
 use Rattle.pm_exec.proofs.Begun.{not_busy, spent}
 use Rattle.pm_exec.proofs.ChangeLines.{front_of}
 use Rattle.pm_exec.proofs.BeginsBehind.{rests_behind}
-use Rattle.pm_exec.proofs.FewStores.{bounded, led_stores, lines_within}
+use Rattle.pm_exec.proofs.FewStores.{walked, led_stores, lines_within}
 use Rattle.pm_exec.proofs.HeapStill.{heap_along, nothing_still, publishes_heapless}
 use Rattle.pm_exec.proofs.IdleNumbers.{idle_numbered}
 use Rattle.pm_exec.proofs.Starts.{finds_led, start_idle, start_lane, start_sound, words_led}
@@ -274,7 +274,7 @@ module _ (o : Opening) (first : View) (lane new : Lane Solo) (blocks : BlockList
           record {
             view = w;
             same = same_along first w (s.led.steps ++ take k (steps h)) leads;
-            bound = λ drained. bounded first w (stores_of_call names (said ∷ [])) (s.led.steps ++ take k (steps h)) drained leads few;
+            bound = walked first w (stores_of_call names (said ∷ [])) (s.led.steps ++ take k (steps h)) leads few;
             seen = s.stopped.stops.seen;
             drawn = s.stopped.drawn;
             way = inl (record {

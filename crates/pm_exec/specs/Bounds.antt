@@ -73,8 +73,13 @@ logs_of (suc n) = log_stores
 abbrev pub log_due : View → ℕ
 log_due v = logs_of (entries_so_far v)
 
--- the lane came from the one view to the other with at most so many stores, and with at most as many flushes, and drains. The counted calls
--- that it made are these three
+-- the lane came from the one view to the other with at most so many stores
+pub record IsWalked (v w : View) (most : ℕ) : Type 0 where
+  pub steps : List Step
+  pub walks : Walks v steps w
+  pub stores : stores_among steps ≤ most
+
+-- so it did, and with at most as many flushes, and drains. The counted calls that it made are these three
 pub record IsBounded (v w : View) (most : ℕ) : Type 0 where
   pub steps : List Step
   pub walks : Walks v steps w

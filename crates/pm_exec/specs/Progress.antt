@@ -53,7 +53,7 @@ use Rattle.pm_world.specs.Records.{generation_of}
 use Rattle.pm_world.specs.Sequences.{Ready}
 use Rattle.pm_world.specs.declared.lane.Lane.{Lane}
 use Rattle.pm_world.specs.declared.lane.Span.{Span}
-use Rattle.pm_exec.specs.Bounds.{IsBounded, log_due, most_stores, recorded_count, stores_of_call, stores_of_lines}
+use Rattle.pm_exec.specs.Bounds.{IsWalked, log_due, most_stores, recorded_count, stores_of_call, stores_of_lines}
 use Rattle.pm_exec.specs.Calls.{id_of, numbers_of, operation_of, stands_alone, starts_alone}
 use Rattle.pm_exec.specs.Course.{AreMade, IsCallMade, IsFree, IsOneLine, IsOutsideMade, IsStoppedInCall, IsUsedUp, LinesMade, spans_of}
 use Rattle.pm_exec.specs.Links.{HasPassed, IsLink}
@@ -266,7 +266,7 @@ pub record IsCutPublishing (o : Opening) (first : View) (names : Names) (lines :
 pub record IsCut (o : Opening) (first : View) (lane : Lane Solo) (names : Names) (lines : List ScriptLine) (values : Values) : Type 0 where
   pub view : View
   pub same : IsSameLane first view
-  pub bound : first.changes ≡ [] → IsBounded first view (stores_of_call names lines)
+  pub bound : IsWalked first view (stores_of_call names lines)
   pub seen : Sees lane.memory view
   pub drawn : lane.drawn ≡ view.number
   pub way : IsCutAtWork o first names lines values view ⊎ IsCutPublishing o first names lines values view

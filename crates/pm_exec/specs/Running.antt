@@ -20,7 +20,7 @@ use Rattle.pm_world.specs.Lanes.{IsOfShape}
 use Rattle.pm_world.specs.Opening.{Opening}
 use Rattle.pm_world.specs.Records.{generation_of}
 use Rattle.pm_world.specs.declared.lane.Lane.{Lane}
-use Rattle.pm_exec.specs.Bounds.{IsBounded, stores_of_calls}
+use Rattle.pm_exec.specs.Bounds.{IsWalked, stores_of_calls}
 use Rattle.pm_exec.specs.Calls.{call_of, numbers_of}
 use Rattle.pm_exec.specs.Course.{CallsMade}
 use Rattle.pm_exec.specs.Histories.{settled_fate}
@@ -53,7 +53,7 @@ pub record HasCalled (o : Opening) (first : View) (names : Names) (calls : List 
   pub page : (header : Header) (pool : PoolView) → Begins o header pool first → (i : ℕ) → i < 512 → slice_index view.words i ≡ slice_index o.words i
   pub same : IsSameLane first view
   pub made : CallsMade names calls history first view
-  pub bound : IsBounded first view (stores_of_calls names calls)
+  pub bound : IsWalked first view (stores_of_calls names calls)
 
 -- and the lane rests behind them
 pub record HasAnswered (o : Opening) (first : View) (lane : Lane Solo) (blocks : BlockLists) (actions : List SetAction) (names : Names) (calls : List (List ScriptLine)) (history : List Entry) : Type 0 where
