@@ -135,6 +135,7 @@ pub put_leaves : (list : PendingActions) (p : Pending) (off at : ℕ) (bytes : L
 unfolding put_into
 put_leaves list p off at bytes one lists once found inside = record {
   sets = lists.sets;
+  aligned = lists.aligned;
   frees = lists.frees;
   reserved = lists.reserved ∙ sym (same_listed off at bytes p.reserved each);
   late = lists.late;

@@ -1,8 +1,9 @@
 -- All that a lane has pending, as its lists have it and as the plain model does.
-use Rattle.std.specs.Prelude.{◌≡◌, ℕ, ◌+◌, ◌≤◌, length, map, nat_eq}
+use Rattle.std.specs.Prelude.{◌≡◌, ℕ, ◌+◌, ◌%◌, ◌≤◌, All, length, map, nat_eq}
 use Rattle.std.specs.List.{IsDistinct}
 use Rattle.pm_model.specs.Actions.{Pending, Reservation, max_actions, pending_count}
 use Rattle.pm_pending.specs.Pending.{sets_of}
+use Rattle.pm_pending.specs.declared.actions.SetAction.{SetAction}
 use Rattle.pm_pending.specs.declared.pending.PendingActions.{PendingActions}
 use Rattle.pm_pending.specs.declared.pending.Reserved.{Reserved}
 
@@ -17,6 +18,8 @@ count_in list = length list.frees.items + length list.reserved.items + length li
 -- the lists have what is pending, kind by kind, each in its order, and no more than may be
 pub record IsPendingAs (list : PendingActions) (p : Pending) : Type 0 where
   pub sets : sets_of list.sets.items ≡ p.sets
+  -- each word that is to be set begins at a multiple of eight bytes
+  pub aligned : All (λ (a : SetAction). a.off % 8 ≡ 0) list.sets.items
   pub frees : list.frees.items ≡ p.frees
   pub reserved : list.reserved.items ≡ map reserved_as p.reserved
   -- one of them was asked for of an object that was to be freed already
