@@ -27,9 +27,10 @@ use Rattle.pm_world.specs.declared.lane.Lane.{Lane}
 use Rattle.pm_lock.specs.Leading.{IsLed}
 use Rattle.pm_lock.proofs.Drawless.{drawless}
 use Rattle.pm_lock.proofs.Leads.{counted_then, led_same, led_then, ready_led}
+use Rattle.pm_lock.proofs.Undrained.{rest_kept}
 use Rattle.pm_lock.specs.Begun.{HoldsLines, IsBegun}
 use Rattle.pm_lock.specs.Locking.{HasNotTaken, HoldsUnfound, IsBusy, IsGivenBack, gives, line_at, no_lock, takes}
-use Rattle.pm_lock.specs.Resting.{HasPlace}
+use Rattle.pm_lock.specs.Resting.{HasPlace, MayRest}
 
 abbrev lines_of : List HeldLock → List ℕ
 lines_of locks = map (λ (l : Lock). l.line) (map lock_of locks)
@@ -190,7 +191,7 @@ module _ {M : Type 0} (at : M → View → Type 0) (lane : Lane M) (v : View) (i
           unstopped = stops ∙ b.unstopped;
           unlisted = ap (λ es. es.items) listed ∙ b.unlisted;
           fresh = inr (ap (λ (u : View). u.log) same ∙ b.log, ap (λ (u : View). u.number) same ∙ b.undrawn, ap (λ (u : View). u.call) same ∙ b.untold);
-          drained = ap (λ (u : View). u.changes) same ∙ b.drained;
+          undrained = subst MayRest (sym same) (rest_kept v (record v { locks = []; known = w.known }) refl refl refl refl (λ alone. refl) b.undrained);
           free = ap (λ (u : View). u.locks) same;
           place = subst HasPlace (sym same) (let p = b.area in record { lane = p.lane; few = p.few; inside = p.inside });
         };

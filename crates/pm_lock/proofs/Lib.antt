@@ -1,5 +1,6 @@
 pub mod Leading
 pub mod Leads
+pub mod Undrained
 pub mod Drawless
 pub mod PlannedLocks
 pub mod CanBegin

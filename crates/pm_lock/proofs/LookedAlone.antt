@@ -31,7 +31,8 @@ step_words v (And w bits x) found free alone = absurd (false≢true (sym free))
 step_words v (NumberSeen n) found free alone = begun_words v.log.phase v
 step_words v s found free alone = refl
 
-none_counted : (b : Bool) (n : ℕ) → cond b 1 0 + n ≡ 0 → (b ≡ false) × (n ≡ 0)
+-- where no call is counted, neither the first is nor one of the rest
+pub none_counted : (b : Bool) (n : ℕ) → cond b 1 0 + n ≡ 0 → (b ≡ false) × (n ≡ 0)
 none_counted true n none = absurd (omega (arith, none))
 none_counted false n none = (refl, omega (arith, none))
 

@@ -16,6 +16,7 @@ use Rattle.pm_world.specs.Lawful.{generation_limit}
 use Rattle.pm_world.specs.Records.{generation_of}
 use Rattle.pm_world.specs.declared.lane.Lane.{Lane}
 use Rattle.pm_lock.proofs.Leads.{led_none, led_once, led_same, led_then}
+use Rattle.pm_lock.proofs.Undrained.{rest_led}
 use Rattle.pm_lock.specs.Begun.{HoldsLines, IsBegun}
 use Rattle.pm_lock.specs.Finding.{OnlyLooks}
 
@@ -85,7 +86,7 @@ begun_looks {M} at lane new v w is looks there held lines fields =
       unlisted = ap (λ (l : Lane M). l.entries.items) fields ∙ is.unlisted;
       log = ap (λ (z : View). z.log) same ∙ is.log;
       undrawn = ap (λ (z : View). z.number) same ∙ is.undrawn;
-      drained = ap (λ (z : View). z.changes) same ∙ is.drained;
+      undrained = rest_led v w looks.led is.undrained;
       untold = ap (λ (z : View). z.call) same ∙ is.untold;
       area = record {
         lane = (let low = area.lane in omega (arith, low, lane_is, lanes_are));

@@ -1,5 +1,5 @@
 -- A lane alone, over a pool of one lane and one zone, whose call has just begun; and the one lock that it takes.
-use Rattle.std.proofs.Common.{◌≡◌, ℕ, ◌+◌, ◌*◌, ◌<◌, All, Bool, List, [], ◌∷◌, map, length, None, refl, sym, ap, ◌∙◌, subst, arith}
+use Rattle.std.proofs.Common.{◌≡◌, inl, ℕ, ◌+◌, ◌*◌, ◌<◌, All, Bool, List, [], ◌∷◌, map, length, None, refl, sym, ap, ◌∙◌, subst, arith}
 use Rattle.std.proofs.lemmas.List.Elements.{All-nil}
 use Rattle.std.specs.Prelude.{slice_index}
 use Rattle.pm_memory.specs.Solo.{Sees, Solo}
@@ -38,7 +38,7 @@ module _ (words runs zones : List ℕ) (n : ℕ) (size : length words ≡ 34816)
         unlisted = unlisted;
         log = refl;
         undrawn = refl;
-        drained = refl;
+        undrained = inl refl;
         untold = refl;
         area = record { lane = omega arith; few = omega arith; inside = omega (arith, size); below = subst (λ g. g < generation_limit) (sym first_generation) (omega arith) };
         may_come = record { found = n; seen = (0, omega arith, refl); below = below };

@@ -14,6 +14,7 @@ use Rattle.pm_world.specs.Lanes.{lock_of}
 use Rattle.pm_world.specs.Lawful.{Allowed, IsEarly, is_holder}
 use Rattle.pm_world.specs.declared.lane.Lane.{Lane}
 use Rattle.pm_world.proofs.Shapes.{IsOfSamePool, shape_seen}
+use Rattle.pm_lock.proofs.Undrained.{rest_kept}
 use Rattle.pm_lock.specs.Begun.{HoldsLines, IsBegun}
 use Rattle.pm_lock.specs.Locking.{IsFreeLine, takes}
 
@@ -74,7 +75,7 @@ module _ {M : Type 0} (at : M → View → Type 0) (lane : Lane M) (v : View) (i
     unlisted = ap (λ es. es.items) entries ∙ is.unlisted;
     log = is.log;
     undrawn = is.undrawn;
-    drained = is.drained;
+    undrained = rest_kept v (tried (v.seen ++ s ∷ []) locks) refl refl refl refl (λ alone. refl) is.undrained;
     untold = is.untold;
     area = (let a = is.area in record { lane = a.lane; few = a.few; inside = a.inside; below = a.below });
     may_come = (let m = is.may_come in record { found = m.found; seen = Contains-append_left v.seen (s ∷ []) (NumberSeen m.found) m.seen; below = m.below });

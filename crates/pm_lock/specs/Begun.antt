@@ -10,6 +10,7 @@ use Rattle.pm_view.specs.View.{View, Lock}
 use Rattle.pm_world.specs.Lanes.{IsSeenAs}
 use Rattle.pm_world.specs.Lawful.{generation_limit}
 use Rattle.pm_world.specs.declared.lane.Lane.{Lane}
+use Rattle.pm_lock.specs.Resting.{MayRest}
 
 -- the view saw, as its call began, that a number is left for it
 pub record MayCome (v : View) : Type 0 where
@@ -22,7 +23,7 @@ pub record HoldsLines (v : View) : Type 0 where
   pub inside : All (λ (l : Lock). l.line < length v.words / 8) v.locks
   pub once : IsDistinct nat_eq (map (λ (l : Lock). l.line) v.locks)
 
--- the call is open, with nothing told, recorded, listed or undrained; the lane may hold locks
+-- the call is open, with nothing told, recorded or listed, and nothing undrained but what may be at rest; the lane may hold locks
 pub record IsBegun {M : Type 0} (at : M → View → Type 0) (lane : Lane M) (v : View) : Type 0 where
   pub seen : IsSeenAs at lane v
   pub unharmed : lane.error ≡ error.None
@@ -30,7 +31,7 @@ pub record IsBegun {M : Type 0} (at : M → View → Type 0) (lane : Lane M) (v 
   pub unlisted : lane.entries.items ≡ []
   pub log : v.log ≡ no_log (Open [] [])
   pub undrawn : v.number ≡ None
-  pub drained : v.changes ≡ []
+  pub undrained : MayRest v
   pub untold : v.call ≡ []
   pub area : HasArea v
   pub may_come : MayCome v

@@ -1,10 +1,12 @@
 -- A lane at rest, between two calls.
 use Rattle.std.specs.Prelude.{◌≡◌, ◌⊎◌, ◌+◌, ◌*◌, ◌<◌, ◌≤◌, false, [], None, length}
 use Rattle.pm_objects.specs.declared.history.TxErr.TheVariants as error
+use Rattle.pm_view.specs.Founds.{IsAlone}
 use Rattle.pm_view.specs.Log.{no_log}
 use Rattle.pm_view.specs.Log.Phase.{Idle, Open}
 use Rattle.pm_view.specs.View.{View}
 use Rattle.pm_world.specs.Lanes.{IsSeenAs}
+use Rattle.pm_world.specs.Lawful.{OnlyFilled}
 use Rattle.pm_world.specs.declared.lane.Lane.{Lane}
 
 -- the lane's area lies in the pool
@@ -17,7 +19,11 @@ pub record HasPlace (v : View) : Type 0 where
 abbrev pub IsFresh : View → Type 0
 IsFresh v = (v.log ≡ no_log Idle) ⊎ ((v.log ≡ no_log (Open [] [])) × (v.number ≡ None) × (v.call ≡ []))
 
--- the lane is at rest: it holds no lock and lists no entry, nothing is undrained, and has its area in the pool
+-- nothing is undrained; or the lane is alone, and nothing is undrained but words that it filled in blocks that it reserved
+abbrev pub MayRest : View → Type 0
+MayRest v = (v.changes ≡ []) ⊎ (IsAlone v × OnlyFilled v)
+
+-- the lane is at rest: it holds no lock and lists no entry, nothing is undrained but what may be at rest, and it has its area in the pool
 pub record IsAtRest {M : Type 0} (at : M → View → Type 0) (lane : Lane M) (v : View) : Type 0 where
   pub seen : IsSeenAs at lane v
   pub answered : lane.drawn ≡ None
@@ -25,7 +31,7 @@ pub record IsAtRest {M : Type 0} (at : M → View → Type 0) (lane : Lane M) (v
   pub unstopped : lane.stopped ≡ false
   pub unlisted : lane.entries.items ≡ []
   pub fresh : IsFresh v
-  pub drained : v.changes ≡ []
+  pub undrained : MayRest v
   pub free : v.locks ≡ []
   pub place : HasPlace v
 

@@ -29,7 +29,7 @@ use Rattle.pm_lock.proofs.PlannedLocks.{model_length}
 use Rattle.pm_lock.specs.Finding.{FindsObject, FindsObjects}
 use Rattle.pm_lock.specs.Lacking.{HoldsNoObject, LacksObject}
 use Rattle.pm_lock.specs.Plans.{IsPlan, has_form, locks_of_form, model_locks}
-use Rattle.pm_tx.specs.Begins.{FailsToBegin, HasFoundNone, IsRefusedAtOnce}
+use Rattle.pm_tx.specs.Begins.{HasFoundNone, IsRefusedAtOnce}
 
 -- what is locked stays locked as more is wanted
 stays_locked : (wants : List Want) (locks : List Locked) (off : ℕ) (write : Bool) → is_locked locks off write ≡ true → is_locked (locked_all wants locks) off write ≡ true
@@ -187,11 +187,8 @@ module _ (pool lanes zones : ℕ) (v : View) (wants : List Want) (of_pool : v.po
   unplanned_lacks at new r is lack refuses =
       found_none at new v wants (subst (λ q. IsBeginReason v 0 [] wants q → IsRefusedAtOnce at new v wants q) is refuses (form_reason (lack is))) (form_lacks (lack is).1)
 
-  -- wants that have no plan are refused
-  pub unplanned : {M : Type 0} (at : M → View → Type 0) (new : Lane M) (r : Refusal) → (r ≡ refusal.LocksFull) ⊎ (r ≡ refusal.NoObject) → (r ≡ refusal.LocksFull → 64 < length (locks_of_form pool lanes zones wants))
-      → (r ≡ refusal.NoObject → (length (locks_of_form pool lanes zones wants) ≤ 64) × IsTrue (list_any (λ (want : Want). not (has_form pool lanes zones want)) wants))
-      → (IsBeginReason v 0 [] wants r → IsRefusedAtOnce at new v wants r) → FailsToBegin at new v wants r
-  unplanned at new r (inl is) full lack refuses =
-      subst (FailsToBegin at new v wants) (sym is) (subst (λ q. IsBeginReason v 0 [] wants q → IsRefusedAtOnce at new v wants q) is refuses (full_reason (full is))).refused
-  unplanned at new r (inr is) full lack refuses =
-      subst (FailsToBegin at new v wants) (sym is) (subst (λ q. IsBeginReason v 0 [] wants q → IsRefusedAtOnce at new v wants q) is refuses (form_reason (lack is))).refused
+  -- wants that have no plan are refused for a reason
+  pub unplanned_reason : (r : Refusal) → (r ≡ refusal.LocksFull) ⊎ (r ≡ refusal.NoObject) → (r ≡ refusal.LocksFull → 64 < length (locks_of_form pool lanes zones wants))
+      → (r ≡ refusal.NoObject → (length (locks_of_form pool lanes zones wants) ≤ 64) × IsTrue (list_any (λ (want : Want). not (has_form pool lanes zones want)) wants)) → IsBeginReason v 0 [] wants r
+  unplanned_reason r (inl is) full lack = subst (IsBeginReason v 0 [] wants) (sym is) (full_reason (full is))
+  unplanned_reason r (inr is) full lack = subst (IsBeginReason v 0 [] wants) (sym is) (form_reason (lack is))

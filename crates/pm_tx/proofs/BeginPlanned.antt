@@ -1,5 +1,5 @@
 -- What a begin comes to once its locks are planned.
-use Rattle.std.proofs.Common.{◌≡◌, ◌⊎◌, inl, inr, ℕ, ◌≤◌, Bool, true, false, List, [], ◌∷◌, ◌++◌, map, length, slice_index, None, Some, Result, Ok, Err, refl, sym, ap, ◌∙◌, subst, arith}
+use Rattle.std.proofs.Common.{◌≡◌, ◌≢◌, ◌⊎◌, ⊎_elim, inr, ℕ, ◌≤◌, Bool, true, false, List, [], ◌∷◌, ◌++◌, map, length, slice_index, None, Some, Result, Ok, Err, refl, sym, ap, ◌∙◌, subst, arith}
 use Rattle.std.specs.Prelude.{IfErr, OnOk}
 use Rattle.pm_crash.specs.Locks.{AreSameLocks}
 use Rattle.pm_crash.specs.OpenCall.{locks_of}
@@ -36,22 +36,30 @@ use Rattle.pm_lock.specs.Plans.{IsPlan, model_locks, unfound}
 use Rattle.pm_lock.specs.Resting.{IsAtRest}
 use Rattle.pm_tx.proofs.BeganWanted.{found_none, lacks_wanted, no_object, takes_wanted}
 use Rattle.pm_tx.proofs.Beginnings.{may_tell}
+use Rattle.pm_tx.proofs.Refused.{stopped_or_not}
 use Rattle.pm_tx.specs.AtWork.{IsAtWork}
 use Rattle.pm_tx.specs.Beginning.{IsBegunBy}
-use Rattle.pm_tx.specs.Begins.{FailsToBegin, HasBegun, HasFoundNone, HasRefused, IsBeginCause, IsRefusedAtOnce, IsStartedCause, LeavesLane}
+use Rattle.pm_tx.specs.Begins.{FailsToBegin, HasBegun, HasFoundNone, HasRefused, HasStoppedRefused, IsRefusedAtOnce, IsStartedCause, LeavesLane}
 use Rattle.pm_tx.specs.Sequences.{sees_generation, starts}
 
 -- what a view further on was refused, the one before was
 pub refused_further : {M : Type 0} (at : M → View → Type 0) (lane : Lane M) (u v : View) (wants : List Want) (r : Refusal) → IsLed u v → v.entries ≡ u.entries → HasRefused at lane v wants r → HasRefused at lane u wants r
 refused_further at lane u v wants r led entries was = record {
+  found = was.found;
+  led = led_then u v was.found led was.led;
+  ended = was.ended;
   view = was.view;
-  led = led_then u v was.view led was.led;
+  is = was.is;
   same = same_lane-then u v was.view (led_same u v led) was.same;
   over = was.over;
   number = was.number;
   call = was.call;
   entries = was.entries ∙ ap (λ (es : List Numbered). es ++ record { number = lane.last; call = was.view.call } ∷ []) entries;
 }
+
+-- and where the lane stopped as it was
+stopped_further : {M : Type 0} (at : M → View → Type 0) (lane : Lane M) (u v : View) (wants : List Want) → IsLed u v → HasStoppedRefused at lane v wants → HasStoppedRefused at lane u wants
+stopped_further at lane u v wants led was = record { why = was.why; found = was.found; led = led_then u v was.found led was.led; reason = was.reason; stopped = was.stopped }
 
 -- with what it lacked
 pub none_further : {M : Type 0} (at : M → View → Type 0) (lane : Lane M) (u v : View) (wants : List Want) → IsLed u v → v.entries ≡ u.entries → HasFoundNone at lane v wants → HasFoundNone at lane u wants
@@ -67,7 +75,6 @@ begun_further at lane u v wants led entries was = record {
   seen = was.seen;
   call = was.call;
   undrawn = was.undrawn;
-  drained = was.drained;
   entries = was.entries ∙ entries;
   locks = was.locks;
   opens = was.opens;
@@ -84,6 +91,72 @@ busy_further at lane u v led entries was = record {
   write = was.write;
   refused = was.refused;
 }
+
+-- what fails from a view further on fails from the one before
+pub fails_further : {M : Type 0} (at : M → View → Type 0) (lane : Lane M) (u v : View) (wants : List Want) (r : Refusal) → IsLed u v → v.entries ≡ u.entries → IsStartedCause r → FailsToBegin at lane v wants r → FailsToBegin at lane u wants r
+fails_further at lane u v wants refusal.Stopped way same cause was = stopped_further at lane u v wants way was
+fails_further at lane u v wants refusal.Busy way same cause was = busy_further at lane u v way same was
+fails_further at lane u v wants refusal.LocksFull way same cause was = refused_further at lane u v wants refusal.LocksFull way same was
+fails_further at lane u v wants refusal.NoObject way same cause was = refused_further at lane u v wants refusal.NoObject way same was
+fails_further at lane u v wants r way same cause was = absurd cause
+
+-- a begin that is to be refused answers the refusal, or that the lane stopped before it was told
+abbrev IsRefusal : Refusal → Type 0
+IsRefusal why = (why ≡ refusal.LocksFull) ⊎ (why ≡ refusal.NoObject)
+
+pub no_stop : (why : Refusal) → IsRefusal why → why ≢ refusal.Stopped
+no_stop why cause stopped =
+    ⊎_elim (λ (e : why ≡ refusal.LocksFull). let clash : refusal.LocksFull ≡ refusal.Stopped = sym e ∙ stopped in absurd cc) (λ (e : why ≡ refusal.NoObject). let clash : refusal.NoObject ≡ refusal.Stopped = sym e ∙ stopped in absurd cc) cause
+
+pub no_object_goes : (answer : Refusal) → answer ≡ refusal.NoObject → answer ≢ refusal.Stopped
+no_object_goes answer is = no_stop answer (inr is)
+
+-- the lane once it was refused for this reason, and once it stopped before
+abbrev LeftRefused : {M : Type 0} → Lane M → Lane M → Refusal → Type 0
+LeftRefused old new why = new ≡ record old { memory = new.memory; level = 1; stage = stage.OnAbort; error = error.Refused why; drawn = Some new.last; last = new.last }
+
+abbrev LeftStopped : {M : Type 0} → Lane M → Lane M → Type 0
+LeftStopped old new = new ≡ record old { memory = new.memory; stopped = true }
+
+module _ (why answer : Refusal) (cause : IsRefusal why) (answers : answer ≢ refusal.Stopped → answer ≡ why) where
+  by_answer : (P : Refusal → Type 0) → (answer ≢ refusal.Stopped → P why) → (answer ≡ refusal.Stopped → P refusal.Stopped) → P answer
+  by_answer P refused stopped =
+      ⊎_elim (λ (e : answer ≡ refusal.Stopped). subst P (sym e) (stopped e)) (λ (goes : answer ≢ refusal.Stopped). subst P (sym (answers goes)) (refused goes)) (stopped_or_not answer)
+
+  refused_as : (P : Refusal → Type 0) → P refusal.LocksFull → P refusal.NoObject → P why
+  refused_as P full none = ⊎_elim (λ (e : why ≡ refusal.LocksFull). subst P (sym e) full) (λ (e : why ≡ refusal.NoObject). subst P (sym e) none) cause
+
+  pub answered_cause : IsStartedCause answer
+  answered_cause = by_answer IsStartedCause (λ goes. refused_as IsStartedCause tt tt) (λ e. tt)
+
+  module _ {M : Type 0} (at : M → View → Type 0) (new : Lane M) (v : View) (wants : List Want) where
+    pub answered_fails : (answer ≢ refusal.Stopped → HasRefused at new v wants why) → (answer ≡ refusal.Stopped → HasStoppedRefused at new v wants) → FailsToBegin at new v wants answer
+    answered_fails refused stopped =
+        by_answer (FailsToBegin at new v wants)
+        (λ goes.
+        ⊎_elim (λ (e : why ≡ refusal.LocksFull). subst (FailsToBegin at new v wants) (sym e) (subst (HasRefused at new v wants) e (refused goes)))
+        (λ (e : why ≡ refusal.NoObject). subst (FailsToBegin at new v wants) (sym e) (subst (HasRefused at new v wants) e (refused goes))) cause)
+        stopped
+
+  module _ {M : Type 0} (old mid new : Lane M) (same : mid ≡ record old { memory = mid.memory; locks = mid.locks }) where
+    with_locks : (r : Refusal) → LeftRefused mid new r → new ≡ record old { memory = new.memory; locks = new.locks; level = 1; stage = stage.OnAbort; error = error.Refused r; drawn = Some new.last; last = new.last }
+    with_locks r left =
+        left
+        ∙ (ap (λ (l : Lane M). record l { memory = new.memory; level = 1; stage = stage.OnAbort; error = error.Refused r; drawn = Some new.last; last = new.last }) same
+        ∙ ap (λ locks. record old { memory = new.memory; locks = locks; level = 1; stage = stage.OnAbort; error = error.Refused r; drawn = Some new.last; last = new.last }) (sym (ap (λ (l : Lane M). l.locks) left)))
+
+    pub answered_leaves : old.stopped ≡ false → (answer ≢ refusal.Stopped → LeftRefused mid new why) → (answer ≡ refusal.Stopped → LeftStopped mid new) → LeavesLane answer old new
+    answered_leaves goes_on refused stopped =
+        by_answer (λ r. LeavesLane r old new)
+        (λ goes.
+        ⊎_elim (λ (e : why ≡ refusal.LocksFull). subst (λ r. LeavesLane r old new) (sym e) (with_locks refusal.LocksFull (subst (LeftRefused mid new) e (refused goes))))
+        (λ (e : why ≡ refusal.NoObject). subst (λ r. LeavesLane r old new) (sym e) (with_locks refusal.NoObject (subst (LeftRefused mid new) e (refused goes)))) cause)
+        (λ e. inr (
+          goes_on,
+          stopped e
+              ∙ (ap (λ (l : Lane M). record l { memory = new.memory; stopped = true }) same
+              ∙ ap (λ locks. record old { memory = new.memory; locks = locks; stopped = true }) (sym (ap (λ (l : Lane M). l.locks) (stopped e)))),
+        ))
 
 module _ {M : Type 0} (at : M → View → Type 0) (old mid lane : Lane M) (wants : List Want) (plan : List HeldLock) (is : IsPlan old.pool old.shape.lanes old.shape.zones wants plan) (pool : lane.pool ≡ old.pool) (shape : lane.shape ≡ old.shape) (v : View)
     (t : HasTaken at mid v (map lock_of (map unfound plan))) (all : Bool) (f : HasFound at lane t.view all) where
@@ -113,6 +186,15 @@ module _ {M : Type 0} (at : M → View → Type 0) (old mid lane : Lane M) (want
       none_further at new v f.view wants led entries
       (found_none at new f.view wants (refuses (no_object old.pool f.view wants plan of_pool plan_so models (omega (arith, low)))) (lacks_wanted old.pool f.view wants plan of_pool plan_so models holds))
 
+  pub missed : all ≡ false → (new : Lane M) (answer : Refusal) → (answer ≢ refusal.Stopped → answer ≡ refusal.NoObject) → (answer ≢ refusal.Stopped → IsBeginReason f.view 0 [] wants refusal.NoObject → HasRefused at new f.view wants refusal.NoObject)
+      → (answer ≡ refusal.Stopped → IsBeginReason f.view 0 [] wants refusal.NoObject → HasStoppedRefused at new f.view wants) → FailsToBegin at new v wants answer
+  missed none new answer answers refused stopped =
+      let holds = f.none none in
+      let low = holds.held.1 in
+      let reason = no_object old.pool f.view wants plan of_pool plan_so models (omega (arith, low)) in
+      fails_further at new v f.view wants answer led entries (answered_cause refusal.NoObject answer (inr refl) answers)
+      (answered_fails refusal.NoObject answer (inr refl) answers at new f.view wants (λ goes. refused goes reason) (λ e. stopped e reason))
+
   abbrev w : View
   w = after f.view (Tell (Begin wants) None)
 
@@ -131,50 +213,12 @@ module _ {M : Type 0} (at : M → View → Type 0) (old mid lane : Lane M) (want
         seen = seen;
         call = ap (λ (told : List Told). told ++ record { operation = Begin wants; reply = None } ∷ []) f.begun.untold;
         undrawn = f.begun.undrawn;
-        drained = f.begun.drained;
         entries = entries;
         locks = subst (λ (ls : List Locked). AreSameLocks ls (locked_all wants [])) (sym models) is.same;
         opens = λ o sound zones finds.
             let before = opening_before o finds in
             works o sound before zones (f.objects found) (takes_wanted old.pool f.view wants plan of_pool plan_so models (f.objects found) o before);
       }
-
--- what fails from a view further on fails from the one before
-pub fails_further : {M : Type 0} (at : M → View → Type 0) (lane : Lane M) (u v : View) (wants : List Want) (r : Refusal) → IsLed u v → v.entries ≡ u.entries → IsStartedCause r → FailsToBegin at lane v wants r → FailsToBegin at lane u wants r
-fails_further at lane u v wants refusal.Busy way same cause was = busy_further at lane u v way same was
-fails_further at lane u v wants refusal.LocksFull way same cause was = refused_further at lane u v wants refusal.LocksFull way same was
-fails_further at lane u v wants refusal.NoObject way same cause was = refused_further at lane u v wants refusal.NoObject way same was
-fails_further at lane u v wants r way same cause was = absurd cause
-
-pub leaves_further : {M : Type 0} (r : Refusal) (old mid new : Lane M) → mid ≡ record old { memory = mid.memory } → IsStartedCause r → LeavesLane r mid new → LeavesLane r old new
-leaves_further {M} refusal.Busy old mid new same cause leaves = leaves ∙ ap (λ (l : Lane M). record l { memory = new.memory; locks = new.locks }) same
-leaves_further {M} refusal.LocksFull old mid new same cause leaves =
-    leaves ∙ ap (λ (l : Lane M). record l { memory = new.memory; locks = new.locks; level = 1; stage = stage.OnAbort; error = error.Refused refusal.LocksFull; drawn = Some new.last; last = new.last }) same
-leaves_further {M} refusal.NoObject old mid new same cause leaves =
-    leaves ∙ ap (λ (l : Lane M). record l { memory = new.memory; locks = new.locks; level = 1; stage = stage.OnAbort; error = error.Refused refusal.NoObject; drawn = Some new.last; last = new.last }) same
-leaves_further r old mid new same cause leaves = absurd cause
-
-pub begin_cause : (r : Refusal) (stopped : Bool) → stopped ≡ false → IsStartedCause r → IsBeginCause stopped r
-begin_cause refusal.Busy stopped not cause = not
-begin_cause refusal.LocksFull stopped not cause = not
-begin_cause refusal.NoObject stopped not cause = not
-begin_cause r stopped not cause = absurd cause
-
-pub refused_cause : (r : Refusal) → (r ≡ refusal.LocksFull) ⊎ (r ≡ refusal.NoObject) → IsStartedCause r
-refused_cause r (inl is) = subst IsStartedCause (sym is) tt
-refused_cause r (inr is) = subst IsStartedCause (sym is) tt
-
-with_locks : {M : Type 0} (old new : Lane M) (r : Refusal) → new ≡ record old { memory = new.memory; level = 1; stage = stage.OnAbort; error = error.Refused r; drawn = Some new.last; last = new.last }
-    → new ≡ record old { memory = new.memory; locks = new.locks; level = 1; stage = stage.OnAbort; error = error.Refused r; drawn = Some new.last; last = new.last }
-with_locks {M} old new r same =
-    same ∙ ap (λ locks. record old { memory = new.memory; locks = locks; level = 1; stage = stage.OnAbort; error = error.Refused r; drawn = Some new.last; last = new.last }) (sym (ap (λ (l : Lane M). l.locks) same))
-
-pub refused_leaves : {M : Type 0} (r : Refusal) (old new : Lane M) → (r ≡ refusal.LocksFull) ⊎ (r ≡ refusal.NoObject)
-    → new ≡ record old { memory = new.memory; level = 1; stage = stage.OnAbort; error = error.Refused r; drawn = Some new.last; last = new.last } → LeavesLane r old new
-refused_leaves {M} r old new (inl is) same =
-    subst (λ q. LeavesLane q old new) (sym is) (with_locks old new refusal.LocksFull (subst (λ q. new ≡ record old { memory = new.memory; level = 1; stage = stage.OnAbort; error = error.Refused q; drawn = Some new.last; last = new.last }) is same))
-refused_leaves {M} r old new (inr is) same =
-    subst (λ q. LeavesLane q old new) (sym is) (with_locks old new refusal.NoObject (subst (λ q. new ≡ record old { memory = new.memory; level = 1; stage = stage.OnAbort; error = error.Refused q; drawn = Some new.last; last = new.last }) is same))
 
 module _ {M : Type 0} (at : M → View → Type 0) (old mid : Lane M) (v : View) (n : ℕ) (started : IsBegunBy at mid v (starts n)) where
   abbrev pub u : View

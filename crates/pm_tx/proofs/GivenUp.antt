@@ -13,7 +13,9 @@ use Rattle.pm_objects.specs.declared.history.Value.{Value}
 use Rattle.pm_memory.specs.declared.lane_mem.Stopped.{Stopped}
 use Rattle.pm_undo.specs.Working.{IsWorking}
 use Rattle.pm_view.proofs.Sequences.{after_all-append}
-use Rattle.pm_view.specs.Log.{Log, log_drawn}
+use Rattle.pm_view.specs.Constants.{IsSameLane}
+use Rattle.pm_view.specs.Log.{Log, log_drawn, no_log}
+use Rattle.pm_view.specs.Log.Phase.{Idle}
 use Rattle.pm_view.specs.Steps.{Step}
 use Rattle.pm_view.specs.Steps.Step.{NumberSeen, Tell}
 use Rattle.pm_view.specs.View.{Lock, View, Numbered, Told}
@@ -180,37 +182,45 @@ undrawn_lane at lane v seen none = by lane.drawn refl where
   by None is = is
   by (Some n) is = absurd (none-some n (sym none ∙ seen.drawn n is))
 
--- the lane is seen as the view behind its call
-seen_over : {M : Type 0} (at : M → View → Type 0) (lane new : Lane M) (v w : View) → IsSeenAs at lane v → at new.memory w → IsOver v w new.last → new.locks.items ≡ lane.locks.items → new.records.items ≡ [] → new.drawn ≡ Some new.last → IsOfSamePool lane new → IsSeenAs at new w
-seen_over at lane new v w seen memory over locks none drawn pool = record {
+-- the lane is seen as a view behind its call
+pub seen_behind : {M : Type 0} (at : M → View → Type 0) (lane new : Lane M) (v w : View) → IsSeenAs at lane v → at new.memory w → IsSameLane v w → w.locks ≡ v.locks → w.log ≡ no_log Idle → w.number ≡ Some new.last → last_number_of w.entries ≡ new.last → new.locks.items ≡ lane.locks.items → new.records.items ≡ []
+    → new.drawn ≡ Some new.last → IsOfSamePool lane new → IsSeenAs at new w
+seen_behind at lane new v w seen memory same held log number last locks none drawn pool = record {
   memory = memory;
-  pool = over.lane.pool ∙ (seen.pool ∙ sym pool.pool);
-  shape = shape_seen lane new v w pool over.lane seen.shape;
-  locks = ap (map lock_of) locks ∙ (seen.locks ∙ sym over.locks);
-  records = none ∙ sym (ap (λ (log : Log). map span_of log.records) over.log);
-  drawn = λ number is. over.number ∙ (sym drawn ∙ is);
-  last = sym over.last;
+  pool = same.pool ∙ (seen.pool ∙ sym pool.pool);
+  shape = shape_seen lane new v w pool same seen.shape;
+  locks = ap (map lock_of) locks ∙ (seen.locks ∙ sym held);
+  records = none ∙ sym (ap (λ (log : Log). map span_of log.records) log);
+  drawn = λ n is. number ∙ (sym drawn ∙ is);
+  last = sym last;
 }
+
+-- it holds locks of the same lines, and its area lies in the pool still
+pub lines_behind : (v w : View) → IsSameLane v w → w.locks ≡ v.locks → HoldsLines v → HoldsLines w
+lines_behind v w same held lines = record {
+  inside = subst (λ (locks : List Lock). All (λ (l : Lock). l.line < length w.words / 8) locks) (sym held) (subst (λ n. All (λ (l : Lock). l.line < n / 8) v.locks) (sym same.size) lines.inside);
+  once = subst (λ (locks : List Lock). IsDistinct nat_eq (map (λ (l : Lock). l.line) locks)) (sym held) lines.once;
+}
+
+pub place_behind : (v w : View) → IsSameLane v w → HasPlace v → HasPlace w
+place_behind v w same place =
+    let lane = same.lane in let lanes = same.lanes in let size = same.size in
+    record {
+      lane = (let low = place.lane in omega (arith, low, lane, lanes));
+      few = (let few = place.few in omega (arith, few, lane));
+      inside = (let inside = place.inside in omega (arith, inside, lane, size));
+    }
 
 pub after_over : {M : Type 0} (at : M → View → Type 0) (lane new : Lane M) (v w : View) → IsSeenAs at lane v → HoldsLines v → at new.memory w → IsOver v w new.last → new.locks.items ≡ lane.locks.items → new.records.items ≡ [] → new.entries.items ≡ []
     → new.drawn ≡ Some new.last → IsOfSamePool lane new → new.stopped ≡ false → HasPlace v → IsAfterCall at new w
 after_over at lane new v w seen lines memory over locks none unlisted drawn pool unstopped place = record {
-  seen = seen_over at lane new v w seen memory over locks none drawn pool;
+  seen = seen_behind at lane new v w seen memory over.lane over.locks over.log over.number over.last locks none drawn pool;
   unstopped = unstopped;
   unlisted = unlisted;
   log = over.log;
   drained = over.drained;
-  lines = record {
-    inside = subst (λ (held : List Lock). All (λ (l : Lock). l.line < length w.words / 8) held) (sym over.locks) (subst (λ n. All (λ (l : Lock). l.line < n / 8) v.locks) (sym over.lane.size) lines.inside);
-    once = subst (λ (held : List Lock). IsDistinct nat_eq (map (λ (l : Lock). l.line) held)) (sym over.locks) lines.once;
-  };
-  place =
-      let lane = over.lane.lane in let lanes = over.lane.lanes in let size = over.lane.size in
-      record {
-        lane = (let low = place.lane in omega (arith, low, lane, lanes));
-        few = (let few = place.few in omega (arith, few, lane));
-        inside = (let inside = place.inside in omega (arith, inside, lane, size));
-      };
+  lines = lines_behind v w over.lane over.locks lines;
+  place = place_behind v w over.lane place;
 }
 
 pub place_at_work : (v : View) → IsWorking v → HasPlace v

@@ -1,5 +1,5 @@
 -- A call on a range that is refused gives up the open call, unless the lane stops before.
-use Rattle.std.proofs.Common.{◌≡◌, ◌≢◌, ◌⊎◌, ⊎_elim, inl, inr, ℕ, List, [], Option, None, Some, true, refl, sym, ◌∙◌, subst}
+use Rattle.std.proofs.Common.{◌≡◌, ◌≢◌, ◌⊎◌, ⊎_elim, inl, inr, ℕ, List, Option, None, Some, true, refl, sym, ◌∙◌, subst}
 use Rattle.pm_crash.proofs.GivenUp.{refusal_aborts}
 use Rattle.pm_crash.specs.CallBlocks.{IsOldIn, LeavesReserved, TellsOfRoot}
 use Rattle.pm_objects.specs.declared.calls.Operation.TheVariants.{AddRange, Read, Write}
@@ -29,7 +29,7 @@ use Rattle.pm_tx.specs.Ranges.{StopsUndrawn}
 use Rattle.pm_tx.specs.Sequences.{gives_up}
 
 -- a refusal is that of a lane that stopped, or another
-stopped_or_not : (r : Refusal) → (r ≡ refusal.Stopped) ⊎ (r ≢ refusal.Stopped)
+pub stopped_or_not : (r : Refusal) → (r ≡ refusal.Stopped) ⊎ (r ≢ refusal.Stopped)
 stopped_or_not refusal.Stopped = inl refl
 stopped_or_not r = inr (λ e. absurd cc)
 

@@ -25,6 +25,7 @@ use Rattle.pm_world.specs.Records.{generation_of}
 use Rattle.pm_world.specs.Sequences.{IsMade, Ready, Runs, by_lane, by_view, in_turn, looks, one}
 use Rattle.pm_world.specs.declared.lane.Lane.{Lane}
 use Rattle.pm_lock.proofs.Drawless.{drawless}
+use Rattle.pm_lock.proofs.Undrained.{rest_kept}
 use Rattle.pm_lock.specs.Begun.{IsBegun}
 use Rattle.pm_lock.specs.Leading.{DrawEnded}
 use Rattle.pm_lock.specs.Resting.{IsAtRest, IsFresh}
@@ -83,7 +84,7 @@ module _ {M : Type 0} (at : M → View → Type 0) (lane : Lane M) (v : View) (i
     unstopped = is.unstopped;
     unlisted = is.unlisted;
     fresh = is.fresh;
-    drained = is.drained;
+    undrained = rest_kept v u refl refl refl refl (λ alone. refl) is.undrained;
     free = is.free;
     place = (let p = is.place in record { lane = p.lane; few = p.few; inside = p.inside });
   }
@@ -141,7 +142,7 @@ module _ {M : Type 0} (at : M → View → Type 0) (lane : Lane M) (v : View) (i
         unstopped = is.unstopped;
         unlisted = is.unlisted;
         fresh = inr (refl, refl, refl);
-        drained = is.drained;
+        undrained = rest_kept v w refl refl refl refl (λ alone. refl) is.undrained;
         free = is.free;
         place = (let p = is.place in record { lane = p.lane; few = p.few; inside = p.inside });
       });
@@ -159,7 +160,7 @@ module _ {M : Type 0} (at : M → View → Type 0) (lane : Lane M) (v : View) (i
         unlisted = is.unlisted;
         log = refl;
         undrawn = refl;
-        drained = is.drained;
+        undrained = rest_kept v w refl refl refl refl (λ alone. refl) is.undrained;
         untold = refl;
         area = record { lane = is.place.lane; few = is.place.few; inside = is.place.inside; below = generation };
         may_come = record { found = n; seen = t.1.1; below = below };

@@ -1,7 +1,8 @@
--- What the begin of an outermost transaction comes to: it has begun, found a lock of another lane's, or was refused.
-use Rattle.std.specs.Prelude.{◌≡◌, ◌≤◌, Bool, true, false, Any, List, [], ◌∷◌, ◌++◌, None, Some}
+-- What the begin of an outermost transaction comes to: it has begun, found a lock of another lane's, was refused, or its lane stopped as it was refused.
+use Rattle.std.specs.Prelude.{◌≡◌, ◌⊎◌, ◌≤◌, Bool, true, false, Any, List, [], ◌∷◌, ◌++◌, None, Some}
 use Rattle.pm_crash.specs.Locks.{AreSameLocks}
 use Rattle.pm_crash.specs.OpenCall.{locks_of}
+use Rattle.pm_crash.specs.Operations.{IsBeginReason}
 use Rattle.pm_model.specs.Transaction.{locked_all}
 use Rattle.pm_objects.specs.declared.calls.Operation.TheVariants.{Begin}
 use Rattle.pm_objects.specs.declared.calls.Want.{Want}
@@ -12,6 +13,7 @@ use Rattle.pm_objects.specs.declared.refusal.Refusal.TheVariants as refusal
 use Rattle.pm_undo.specs.Working.{FindsOpening}
 use Rattle.pm_view.specs.Constants.{IsSameLane}
 use Rattle.pm_view.specs.View.{View}
+use Rattle.pm_view.specs.Views.{after_all}
 use Rattle.pm_world.specs.Lanes.{IsSeenAs}
 use Rattle.pm_world.specs.Opening.{Opening, IsSound}
 use Rattle.pm_world.specs.declared.lane.Lane.{Lane}
@@ -21,7 +23,8 @@ use Rattle.pm_lock.specs.Leading.{IsLed}
 use Rattle.pm_lock.specs.Locking.{IsBusy}
 use Rattle.pm_tx.specs.AtWork.{IsAtWork}
 use Rattle.pm_tx.specs.Beginning.{IsSpent}
-use Rattle.pm_tx.specs.Ending.{IsAfterCall}
+use Rattle.pm_tx.specs.Ending.{IsAfterCall, IsEndedBy, IsStoppedIn}
+use Rattle.pm_tx.specs.Sequences.{gives_up}
 
 -- the transaction is open, with the locks that it wants, and that is told; whatever the pool was opened with, the lane is at work
 pub record HasBegun {M : Type 0} (at : M → View → Type 0) (lane : Lane M) (v : View) (wants : List Want) : Type 0 where
@@ -31,22 +34,33 @@ pub record HasBegun {M : Type 0} (at : M → View → Type 0) (lane : Lane M) (v
   pub seen : IsSeenAs at lane view
   pub call : view.call ≡ record { operation = Begin wants; reply = None } ∷ []
   pub undrawn : view.number ≡ None
-  pub drained : view.changes ≡ []
   pub entries : view.entries ≡ v.entries
   pub locks : AreSameLocks (locks_of view) (locked_all wants [])
   pub opens : (o : Opening) → IsSound o → o.zones ≤ 32 → FindsOpening o view → IsAtWork o at lane view
 
--- the begin was refused for this reason and told so, and the call, which did nothing, drew its number. The lane holds its locks still
+-- from the view at which it was refused: all that was undrained was made persistent, the begin was refused for this reason and told so, and the call, which
+-- did nothing, drew its number. The lane holds its locks still
 pub record HasRefused {M : Type 0} (at : M → View → Type 0) (lane : Lane M) (v : View) (wants : List Want) (r : Refusal) : Type 0 where
+  pub found : View
+  pub led : IsLed v found
+  pub ended : IsEndedBy at lane found (gives_up [] (Begin wants) (Some (Refused r)) lane.last) (Begin wants) (Some (Refused r))
   pub view : View
-  pub led : IsLed v view
+  pub is : view ≡ after_all found (gives_up [] (Begin wants) (Some (Refused r)) lane.last found)
   pub same : IsSameLane v view
   pub over : IsAfterCall at lane view
   pub number : view.number ≡ Some lane.last
   pub call : view.call ≡ record { operation = Begin wants; reply = Some (Refused r) } ∷ []
   pub entries : view.entries ≡ v.entries ++ record { number = lane.last; call = view.call } ∷ []
 
--- it was refused at once: no word was looked at since this view
+-- the begin was to be refused for this reason, and the lane stopped as it made persistent what was undrained before that was told
+pub record HasStoppedRefused {M : Type 0} (at : M → View → Type 0) (lane : Lane M) (v : View) (wants : List Want) : Type 0 where
+  pub why : Refusal
+  pub found : View
+  pub led : IsLed v found
+  pub reason : IsBeginReason found 0 [] wants why
+  pub stopped : IsStoppedIn at lane found (gives_up [] (Begin wants) (Some (Refused why)) lane.last) (Begin wants) (Some (Refused why))
+
+-- it was refused at once: no word was looked at since this view, and none changed
 pub record IsRefusedAtOnce {M : Type 0} (at : M → View → Type 0) (lane : Lane M) (v : View) (wants : List Want) (r : Refusal) : Type 0 where
   pub refused : HasRefused at lane v wants r
   pub words : refused.view.words ≡ v.words
@@ -58,15 +72,16 @@ pub record HasFoundNone {M : Type 0} (at : M → View → Type 0) (lane : Lane M
 
 -- what a begin that fails with this refusal leaves of the view
 abbrev pub FailsToBegin : {M : Type 0} → (M → View → Type 0) → Lane M → View → List Want → Refusal → Type 0
+FailsToBegin at lane v wants refusal.Stopped = HasStoppedRefused at lane v wants
 FailsToBegin at lane v wants refusal.Spent = IsSpent at lane v
 FailsToBegin at lane v wants refusal.Busy = IsBusy at lane v
 FailsToBegin at lane v wants refusal.LocksFull = HasRefused at lane v wants refusal.LocksFull
 FailsToBegin at lane v wants refusal.NoObject = HasRefused at lane v wants refusal.NoObject
 FailsToBegin at lane v wants r = ⊥
 
--- why a begin fails, of a lane that had stopped or not
+-- why a begin fails, of a lane that had stopped or not: one that had not may stop as the begin is refused
 abbrev pub IsBeginCause : Bool → Refusal → Type 0
-IsBeginCause stopped refusal.Stopped = stopped ≡ true
+IsBeginCause stopped refusal.Stopped = Unit {0}
 IsBeginCause stopped refusal.Spent = stopped ≡ false
 IsBeginCause stopped refusal.Busy = stopped ≡ false
 IsBeginCause stopped refusal.LocksFull = stopped ≡ false
@@ -75,14 +90,16 @@ IsBeginCause stopped r = ⊥
 
 -- and once it has looked at its generation and its number
 abbrev pub IsStartedCause : Refusal → Type 0
+IsStartedCause refusal.Stopped = Unit {0}
 IsStartedCause refusal.Busy = Unit {0}
 IsStartedCause refusal.LocksFull = Unit {0}
 IsStartedCause refusal.NoObject = Unit {0}
 IsStartedCause r = ⊥
 
--- and of the lane's fields: nothing changes where it had stopped; one that is refused leaves level 1, aborted, with its number to be answered
+-- and of the lane's fields: nothing changes where it had stopped, and of one that stops only that, and which locks it has; one that is refused leaves level 1,
+-- aborted, with its number to be answered
 abbrev pub LeavesLane : {M : Type 0} → Refusal → Lane M → Lane M → Type 0
-LeavesLane refusal.Stopped old new = new ≡ old
+LeavesLane refusal.Stopped old new = ((old.stopped ≡ true) × (new ≡ old)) ⊎ ((old.stopped ≡ false) × (new ≡ record old { memory = new.memory; locks = new.locks; stopped = true }))
 LeavesLane refusal.Spent old new = new ≡ record old { memory = new.memory }
 LeavesLane refusal.Busy old new = new ≡ record old { memory = new.memory; locks = new.locks }
 LeavesLane refusal.LocksFull old new = new ≡ record old { memory = new.memory; locks = new.locks; level = 1; stage = stage.OnAbort; error = error.Refused refusal.LocksFull; drawn = Some new.last; last = new.last }

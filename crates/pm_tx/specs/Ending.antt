@@ -1,5 +1,5 @@
 -- What the ends of a call leave of its view, and of its lane.
-use Rattle.std.specs.Prelude.{◌≡◌, ◌⊎◌, ℕ, false, true, List, [], ◌∷◌, ◌++◌, take, Option, Some, None}
+use Rattle.std.specs.Prelude.{◌≡◌, ◌⊎◌, ℕ, All, false, true, List, [], ◌∷◌, ◌++◌, take, Option, Some, None}
 use Rattle.pm_objects.specs.declared.calls.Operation.{Operation}
 use Rattle.pm_objects.specs.declared.calls.Operation.TheVariants.{Commit}
 use Rattle.pm_objects.specs.declared.history.TxErr.{TxErr}
@@ -10,11 +10,13 @@ use Rattle.pm_crash.specs.OpenCall.{IsGivenUp, WasAborted}
 use Rattle.pm_crash.specs.Operations.{TakesBack, Tells}
 use Rattle.pm_crash.specs.Reserved.{IsBorneOut}
 use Rattle.pm_undo.specs.Working.{HasArea, IsSameCall, IsWorking}
+use Rattle.pm_view.specs.declared.change.Change.{Change}
 use Rattle.pm_view.specs.Founds.{IsAlone}
+use Rattle.pm_view.specs.Held.{is_under}
 use Rattle.pm_view.specs.Log.{no_log}
 use Rattle.pm_view.specs.Constants.{IsSameLane}
 use Rattle.pm_view.specs.Log.Phase.{Idle, Open}
-use Rattle.pm_view.specs.View.{Numbered, Told, View}
+use Rattle.pm_view.specs.View.{Lock, Numbered, Told, View}
 use Rattle.pm_view.specs.Views.{after_all}
 use Rattle.pm_world.specs.Lanes.{IsSeenAs, last_number_of}
 use Rattle.pm_world.specs.Opening.{Opening}
@@ -23,7 +25,7 @@ use Rattle.pm_world.specs.declared.lane.Lane.{Lane}
 use Rattle.pm_world.specs.declared.lane.Span.{Span}
 use Rattle.pm_lock.specs.Begun.{HoldsLines}
 use Rattle.pm_lock.specs.Leading.{DrawEnded}
-use Rattle.pm_lock.specs.Resting.{HasPlace, IsAtRest}
+use Rattle.pm_lock.specs.Resting.{HasPlace, IsAtRest, MayRest}
 use Rattle.pm_tx.specs.AtWork.{IsAtWork, PublishesLocked}
 use Rattle.pm_tx.specs.Generations.{CanPublish}
 use Rattle.pm_tx.specs.Publishing.{MayPublish}
@@ -107,6 +109,15 @@ pub record IsOver (v w : View) (n : ℕ) : Type 0 where
   pub number : w.number ≡ Some n
   pub last : last_number_of w.entries ≡ n
 
+-- no call is open any more: it drew this number, the lane's last, its log is empty, and the lane has its locks and what was undrained still
+pub record IsToldAs (v w : View) (n : ℕ) : Type 0 where
+  pub lane : IsSameLane v w
+  pub locks : w.locks ≡ v.locks
+  pub log : w.log ≡ no_log Idle
+  pub changes : w.changes ≡ v.changes
+  pub number : w.number ≡ Some n
+  pub last : last_number_of w.entries ≡ n
+
 -- the lane is between its call and the end of its transaction: no call is open, no entry is listed, nothing is undrained, and it holds its locks
 -- still
 pub record IsAfterCall {M : Type 0} (at : M → View → Type 0) (lane : Lane M) (v : View) : Type 0 where
@@ -117,6 +128,25 @@ pub record IsAfterCall {M : Type 0} (at : M → View → Type 0) (lane : Lane M)
   pub drained : v.changes ≡ []
   pub lines : HoldsLines v
   pub place : HasPlace v
+
+-- nothing undrained lies under a lock of the lane
+abbrev pub LiesUnlocked : View → Type 0
+LiesUnlocked v = All (λ (c : Change). All (λ (l : Lock). is_under c.word l ≡ false) v.locks) v.changes
+
+-- the lane is between a call and its rest: no call is open, no entry is listed, nothing is undrained but what may be at rest, and that under none of the
+-- locks, which the lane holds still
+pub record IsAfterTold {M : Type 0} (at : M → View → Type 0) (lane : Lane M) (v : View) : Type 0 where
+  pub seen : IsSeenAs at lane v
+  pub unstopped : lane.stopped ≡ false
+  pub unlisted : lane.entries.items ≡ []
+  pub log : v.log ≡ no_log Idle
+  pub undrained : MayRest v
+  pub apart : LiesUnlocked v
+  pub lines : HoldsLines v
+  pub place : HasPlace v
+
+abbrev pub IsLaneAfterTold : {M : Type 0} → (M → View → Type 0) → Lane M → Type 0
+IsLaneAfterTold at lane = (v : View) × IsAfterTold at lane v
 
 abbrev pub IsLaneAfterCall : {M : Type 0} → (M → View → Type 0) → Lane M → Type 0
 IsLaneAfterCall at lane = (v : View) × IsAfterCall at lane v

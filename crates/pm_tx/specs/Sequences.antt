@@ -68,6 +68,10 @@ performs_logged entries v = performs (entries ++ ending v ∷ []) v
 unfoldable pub publishes : List Redo → Operation → ℕ → Sequence
 publishes entries operation n = in_turn (logs entries) (in_turn (ends_call operation None n) (performs_logged entries))
 
+-- all is made persistent, and then these entries are published: outside of a transaction words may be undrained that the lane filled
+unfoldable pub publishes_outside : List Redo → Operation → ℕ → Sequence
+publishes_outside entries operation n = in_turn settles (publishes entries operation n)
+
 -- the commit is told and the call draws this number: what it published is performed, or its records are ended
 unfoldable pub decides_all : List Span → List Redo → ℕ → Sequence
 decides_all spans [] n = decides spans n

@@ -1,8 +1,7 @@
-ghost use Rattle.std.specs.Prelude.{◌≡◌, ◌≤◌, Any, Err, IfErr, OnOk, [], None, Some, false, true};
+ghost use Rattle.std.specs.Prelude.{◌≡◌, ◌≢◌, ◌≤◌, Any, Err, IfErr, OnOk, [], None, Some, false, true};
 ghost use Rattle.pm_crash.specs.Operations.{IsBeginReason, TakesWanted};
 ghost use Rattle.pm_objects.specs.declared.calls.Operation.TheVariants.{Begin};
 ghost use Rattle.pm_objects.specs.declared.history.TxErr.TheVariants as error;
-ghost use Rattle.pm_objects.specs.declared.history.Value.TheVariants.{Refused};
 ghost use Rattle.pm_objects.specs.declared.refusal.Refusal.TheVariants as refusal;
 ghost use Rattle.pm_undo.specs.Working.{FindsOpening};
 ghost use Rattle.pm_view.specs.Founds.{IsAlone};
@@ -19,13 +18,15 @@ ghost use Rattle.pm_lock.specs.Lacking.{LacksObject};
 ghost use Rattle.pm_lock.specs.Plans.{IsPlan};
 ghost use Rattle.pm_lock.specs.Resting.{IsAtRest, IsLaneAtRest};
 ghost use Rattle.pm_tx.specs.AtWork.{IsAtWork};
-ghost use Rattle.pm_tx.specs.Begins.{FailsToBegin, HasBegun, HasFoundNone, IsBeginCause, IsRefusedAtOnce, IsStartedCause, LeavesLane};
-ghost use Rattle.pm_tx.specs.Sequences.{ends_call};
+ghost use Rattle.pm_tx.specs.Begins.{FailsToBegin, HasBegun, HasFoundNone, HasStoppedRefused, IsBeginCause, IsRefusedAtOnce, IsStartedCause, LeavesLane};
 
+use crate::ending::end_begin;
+use crate::refusing::stop;
 use crate::starting::start;
 use pm_lock::{find_objects, give_back, plan_locks, take_all};
+use pm_memory::Stopped;
 use pm_objects::{Refusal, TxErr, Want};
-use pm_world::{HeldLock, Lane, LawfulMem, Stage};
+use pm_world::{HeldLock, Lane, LawfulMem, Stage, settle};
 
 /// Opens the transaction at its first level, once the lane has the locks that the begin wants.
 pub fn open_call<M: LawfulMem>(lane: &mut Lane<M>, wants: &[Want])
@@ -41,31 +42,29 @@ pub fn open_call<M: LawfulMem>(lane: &mut Lane<M>, wants: &[Want])
     lane.stage = Stage::Work;
 }
 
-/// Tells that the begin of a call is refused, and draws the call's number.
-fn end_refused<M: LawfulMem>(lane: &mut Lane<M>, wants: &[Want], refusal: Refusal)
+/// Refuses the begin of a call, and answers why: all that is undrained is made persistent, the refusal is told, and the call, which changed
+/// nothing, draws its number. Level 1 is left aborted, with the locks that were taken, until it is ended. Or answers `Stopped`, where the lane
+/// comes to its stop.
+pub fn refuse_call<M: LawfulMem>(lane: &mut Lane<M>, wants: &[Want], why: Refusal) -> Refusal
     requires begun { IsLaneBegun M.at lane.old }
-    ensures made { IsMade (M.at lane.old.memory) (M.at lane.new.memory) (ends_call (Begin wants.now) (Some (Refused refusal)) lane.new.last) }
-    ensures lane { lane.new ≡ record lane.old { memory = lane.new.memory; drawn = Some lane.new.last; last = lane.new.last } }
+    ensures answer { result ≢ refusal.Stopped → result ≡ why }
+    ensures refused { result ≢ refusal.Stopped → (v : View) → IsBegun M.at lane.old v → IsBeginReason v 0 [] wants.now why → IsRefusedAtOnce M.at lane.new v wants.now why }
+    ensures lane { result ≢ refusal.Stopped → lane.new ≡ record lane.old
+        { memory = lane.new.memory; level = 1; stage = stage.OnAbort; error = error.Refused why; drawn = Some lane.new.last; last = lane.new.last } }
+    ensures stops { why ≢ refusal.Stopped → result ≡ refusal.Stopped → (v : View) → IsBegun M.at lane.old v → IsBeginReason v 0 [] wants.now why
+        → HasStoppedRefused M.at lane.new v wants.now }
+    ensures stopped_lane { why ≢ refusal.Stopped → result ≡ refusal.Stopped → lane.new ≡ record lane.old { memory = lane.new.memory; stopped = true } }
 {
-    lane.memory.tell_begin(wants, Some(refusal));
-    let number = lane.memory.draw();
-    lane.drawn = Some(number);
-    lane.last = number;
-}
-
-/// Refuses the begin of a call: that is told, and the call, which changed nothing, draws its number. Level 1 is left aborted, with the locks
-/// that were taken, until it is ended.
-pub fn refuse_call<M: LawfulMem>(lane: &mut Lane<M>, wants: &[Want], refusal: Refusal)
-    requires begun { IsLaneBegun M.at lane.old }
-    ensures made { IsMade (M.at lane.old.memory) (M.at lane.new.memory) (ends_call (Begin wants.now) (Some (Refused refusal)) lane.new.last) }
-    ensures lane { lane.new ≡ record lane.old
-        { memory = lane.new.memory; level = 1; stage = stage.OnAbort; error = error.Refused refusal; drawn = Some lane.new.last; last = lane.new.last } }
-    ensures refused { (v : View) → IsBegun M.at lane.old v → IsBeginReason v 0 [] wants.now refusal → IsRefusedAtOnce M.at lane.new v wants.now refusal }
-{
-    end_refused(lane, wants, refusal);
-    lane.level = 1;
-    lane.stage = Stage::OnAbort;
-    lane.error = TxErr::Refused(refusal);
+    match settle(&mut lane.memory) {
+        Ok(()) => {
+            end_begin(lane, wants, why);
+            lane.level = 1;
+            lane.stage = Stage::OnAbort;
+            lane.error = TxErr::Refused(why);
+            why
+        }
+        Err(Stopped) => stop(lane),
+    }
 }
 
 /// Takes the locks of the plan, and looks for the objects under them: then the transaction is open, or the begin is refused. Where a lock is
@@ -90,8 +89,7 @@ fn begin_planned<M: LawfulMem>(
         return Err(Refusal::Busy);
     }
     if !find_objects(lane, plan) {
-        refuse_call(lane, wants, Refusal::NoObject);
-        return Err(Refusal::NoObject);
+        return Err(refuse_call(lane, wants, Refusal::NoObject));
     }
     open_call(lane, wants);
     Ok(())
@@ -110,17 +108,15 @@ fn begin_started<M: LawfulMem>(lane: &mut Lane<M>, wants: &[Want]) -> Result<(),
 {
     match plan_locks(lane.pool, lane.shape, wants) {
         Ok(plan) => begin_planned(lane, plan.as_slice(), wants),
-        Err(refusal) => {
-            refuse_call(lane, wants, refusal);
-            Err(refusal)
-        }
+        Err(why) => Err(refuse_call(lane, wants, why)),
     }
 }
 
 /// Begins a transaction where none is open, with these locks, each tried once: pmemobj_tx_begin(3). The first reason that applies is the
 /// answer. `Stopped` where the lane had stopped, `Spent` where its generation or the numbers are used up, and `Busy` where a lock is another
 /// lane's: then the lane is at rest as before, with no lock. `LocksFull` where more than 64 objects are wanted, and `NoObject` where a want
-/// is of no object: then the call is over, and its level 1 is left aborted, to be ended.
+/// is of no object: then what was undrained is persistent, the call is over, and its level 1 is left aborted, to be ended. `Stopped` also where
+/// the lane comes to its stop before such a refusal is told.
 pub fn begin<M: LawfulMem>(lane: &mut Lane<M>, wants: &[Want]) -> Result<(), Refusal>
     requires rests { lane.old.stopped ≡ false → IsLaneAtRest M.at lane.old }
     ensures stopped { lane.old.stopped ≡ true → (result ≡ Err refusal.Stopped) × (lane.new ≡ lane.old) }

@@ -1,14 +1,14 @@
 ghost use Rattle.std.specs.Prelude.{◌≡◌, ℕ, Some};
 ghost use Rattle.std.specs.Option.{option_copied};
 ghost use Rattle.pm_memory.specs.Runs.{Made};
-ghost use Rattle.pm_objects.specs.declared.calls.Operation.TheVariants.{Write};
+ghost use Rattle.pm_objects.specs.declared.calls.Operation.TheVariants.{Begin, Write};
 ghost use Rattle.pm_objects.specs.declared.history.Value.TheVariants.{Refused};
 ghost use Rattle.pm_view.specs.Steps.Step.{Draw};
 ghost use Rattle.pm_world.specs.Sequences.{IsMade};
 ghost use Rattle.pm_tx.specs.Ending.{IsReadyForAny};
 ghost use Rattle.pm_tx.specs.Sequences.{ends_call};
 
-use pm_objects::{Oid, Operation, Refusal, Value};
+use pm_objects::{Oid, Operation, Refusal, Value, Want};
 use pm_world::{Lane, LawfulMem};
 
 /// Tells the operation that ends the open call, and draws the call's number.
@@ -36,6 +36,17 @@ pub fn end_write<M: LawfulMem>(
     ensures else_same { lane.new ≡ record lane.old { memory = lane.new.memory; drawn = lane.new.drawn; last = lane.new.last } }
 {
     lane.memory.tell_write(id, off, bytes, Some(refusal));
+    draw_number(lane);
+}
+
+/// Tells the begin whose refusal ends the open call, and draws the call's number.
+pub fn end_begin<M: LawfulMem>(lane: &mut Lane<M>, wants: &[Want], refusal: Refusal)
+    requires ready { IsReadyForAny (M.at lane.old.memory) (ends_call (Begin wants.now) (Some (Refused refusal))) }
+    ensures made { IsMade (M.at lane.old.memory) (M.at lane.new.memory) (ends_call (Begin wants.now) (Some (Refused refusal)) lane.new.last) }
+    ensures drawn { lane.new.drawn ≡ Some lane.new.last }
+    ensures else_same { lane.new ≡ record lane.old { memory = lane.new.memory; drawn = lane.new.drawn; last = lane.new.last } }
+{
+    lane.memory.tell_begin(wants, Some(refusal));
     draw_number(lane);
 }
 

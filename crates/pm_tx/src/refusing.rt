@@ -15,7 +15,7 @@ use pm_objects::{Oid, Operation, Refusal, TxErr, Value};
 use pm_world::{Lane, LawfulMem};
 
 /// Says that the lane came to its stop.
-fn stop<M>(lane: &mut Lane<M>) -> Refusal
+pub fn stop<M>(lane: &mut Lane<M>) -> Refusal
     ensures answer { result ≡ refusal.Stopped }
     ensures lane { lane.new ≡ record lane.old { stopped = true } }
 {
