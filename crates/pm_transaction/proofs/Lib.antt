@@ -37,8 +37,9 @@ pub mod BlockEntries
 pub mod BlockChanges
 pub mod BlocksAtWork
 pub mod PerformedSteps
-pub mod CommitViews
-pub mod PublishedCommit
+pub mod LogViews
+pub mod PublishedLog
+pub mod EndedLog
 pub mod EndedCommit
 pub mod BlockCommits
 pub mod LeftCommits

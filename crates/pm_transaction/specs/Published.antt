@@ -1,21 +1,76 @@
--- A call of a lane that works alone, committed with the redo entries of what it published, made and freed: docs/MODEL.md, "From call to call".
-use Rattle.std.specs.Prelude.{◌≡◌, ◌⊎◌, ℕ, ◌≤◌, List, ◌++◌, length}
+-- A call of a lane that works alone, decided by one log: committed or published with the redo entries of what it set, made and freed: docs/MODEL.md, "From call to call".
+use Rattle.std.specs.Prelude.{◌≡◌, ◌≢◌, ◌⊎◌, ℕ, ◌≤◌, All, Contains, List, [], ◌++◌, length, map, nat_eq, None, slice_index}
+use Rattle.std.specs.List.{IsDistinct}
 use Rattle.std.specs.Option.{ForSome}
+use Rattle.pm_crash.specs.CallBlocks.{blocks_in}
+use Rattle.pm_crash.specs.OpenCall.{IsCommitted}
+use Rattle.pm_crash.specs.Operations.{KeepsWords, Tells}
+use Rattle.pm_crash.specs.Pending.{published_in}
+use Rattle.pm_crash.specs.Reserved.{IsBorneOut}
 use Rattle.pm_crash.specs.Alone.{WorksAlone}
 use Rattle.pm_crash.specs.Publishing.{Published}
 use Rattle.pm_epoch.specs.Epochs.{IsPublishing}
 use Rattle.pm_header.specs.declared.header.Header.{Header}
 use Rattle.pm_made.specs.Entries.{entries_of}
-use Rattle.pm_made.specs.Made.{BlockLists}
+use Rattle.pm_made.specs.Made.{BlockLists, ListsBlocks, new_of}
+use Rattle.pm_made.specs.declared.objects.Freed.{Freed}
+use Rattle.pm_made.specs.declared.objects.Made.{Made}
 use Rattle.pm_memory.specs.Solo.{AreNumbered}
+use Rattle.pm_model.specs.Actions.{Action}
+use Rattle.pm_objects.specs.declared.calls.Operation.{Operation}
 use Rattle.pm_objects.specs.declared.pool.PoolView.{PoolView}
+use Rattle.pm_pending.specs.Pending.{entry_of}
 use Rattle.pm_record.specs.declared.redo.Redo.{Redo}
+use Rattle.pm_redo.specs.Entering.{EntersHeap, MayEnter}
+use Rattle.pm_tx.specs.Sequences.{publishes}
+use Rattle.pm_undo.specs.Working.{IsWorking}
+use Rattle.pm_view.specs.Founds.{IsAlone}
 use Rattle.pm_view.specs.Steps.{Step}
 use Rattle.pm_view.specs.View.{View}
 use Rattle.pm_world.specs.Opening.{Opening}
 use Rattle.pm_world.specs.Records.{generation_of}
+use Rattle.pm_world.specs.Sequences.{Sequence, in_turn, settles}
 use Rattle.pm_world.specs.declared.lane.Lane.{Lane}
-use Rattle.pm_transaction.specs.AtWork.{IsAtWorkWith}
+use Rattle.pm_transaction.specs.AtWork.{IsAtWorkWith, IsNotMaking, IsUnderLock, LiesInReserved}
+
+-- all is made persistent, and then the call is decided by one log: these entries are logged, the operation is told without a value, the call draws this number, and
+-- the log is performed
+unfoldable pub logs_call : Operation → List Redo → ℕ → Sequence
+logs_call op entries n = in_turn settles (publishes entries op n)
+
+-- the call is told by this operation, without a value: no word is recorded or reserved with that, and none changed but in the lane's own area
+pub record IsToldBy (v next : View) (op : Operation) : Type 0 where
+  pub tells : Tells v next op None
+  pub records : next.log.records ≡ v.log.records
+  pub words : KeepsWords v next
+  pub reserved : next.reserved ≡ v.reserved
+
+-- the call is committed with these actions and with these lists of what it made and freed, and what the lane has bears that out
+pub record IsCommittedWith (next : View) (actions : List Action) (blocks : BlockLists) : Type 0 where
+  pub committed : IsCommitted next
+  pub borne_out : IsBorneOut next
+  pub published : published_in next ≡ actions
+  pub lists : ListsBlocks blocks (blocks_in next)
+
+-- The lane works alone in an open call that drew no number and has no redo entries, and may enter these, some at least: those of the actions, and behind them those of
+-- the blocks. Once the call is told by this operation it is committed with them. What is to be freed lies under the lane's locks, each object once, and is not the root;
+-- what is to be made lies in what it reserved.
+pub record LogsCall (o : Opening) (header : Header) (pool : PoolView) (start : View) (steps : List Step) (op : Operation) (actions : List Action) (blocks : BlockLists) (v : View) (entries : List Redo) : Type 0 where
+  pub works : WorksAlone o header pool start steps v
+  pub working : IsWorking v
+  pub no_entries : v.log.entries ≡ []
+  pub alone : IsAlone v
+  pub not_making : IsNotMaking v
+  pub are : entries ≡ map entry_of actions ++ entries_of v.lanes blocks
+  pub some : 1 ≤ length entries
+  pub few : length entries ≤ 63
+  pub may_set : All (MayEnter v) (map entry_of actions)
+  pub enters_heap : All (EntersHeap v) (entries_of v.lanes blocks)
+  pub told : (next : View) → IsToldBy v next op → IsCommittedWith next actions blocks
+  pub freed_once : IsDistinct nat_eq (map (λ (f : Freed). f.off) blocks.freed)
+  pub freed_under : (f : Freed) → Contains blocks.freed f → IsUnderLock v f.off f.lines
+  pub not_root : (f : Freed) → Contains blocks.freed f → slice_index v.words 64 ≢ f.off
+  pub made_within : (m : Made) → Contains blocks.made m → LiesInReserved v (new_of m)
 
 -- The lane works alone, and is at work in a transaction of one level, with these lists of what that made and freed. These entries are those that it lists, and those
 -- of the blocks; there is one at least.

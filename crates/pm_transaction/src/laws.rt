@@ -5,6 +5,8 @@ ghost use Rattle.pm_header.specs.declared.header.Header.{Header};
 ghost use Rattle.pm_image.specs.Logs.{generation_word, seal_word};
 ghost use Rattle.pm_image.specs.declared.block.Block.{Block};
 ghost use Rattle.pm_memory.specs.Keep.{IsKeptImage};
+ghost use Rattle.pm_model.specs.Actions.{Action};
+ghost use Rattle.pm_objects.specs.declared.calls.Operation.{Operation};
 ghost use Rattle.pm_objects.specs.declared.calls.Operation.TheVariants.{SetValue};
 ghost use Rattle.pm_objects.specs.declared.calls.Want.{Want};
 ghost use Rattle.pm_objects.specs.declared.history.Value.TheVariants.{Refused};
@@ -40,7 +42,7 @@ ghost use Rattle.pm_transaction.specs.AtWork.{AreForPool, IsAtWorkWith, IsNotMak
 ghost use Rattle.pm_transaction.specs.Beginning.{HasBegunWith};
 ghost use Rattle.pm_transaction.specs.Committing.{MayPublishBlocks};
 ghost use Rattle.pm_transaction.specs.Ending.{HasEndedWith, MayEnd};
-ghost use Rattle.pm_transaction.specs.Published.{CommitsAlone, HasDrawn, HasOwnCounts, IsCommittingAlone, IsCommittingIn};
+ghost use Rattle.pm_transaction.specs.Published.{CommitsAlone, HasDrawn, HasOwnCounts, IsCommittingAlone, IsCommittingIn, LogsCall, logs_call};
 
 use pm_world::LawfulMem;
 
@@ -92,6 +94,34 @@ pub fn a_commit_of_a_lane_alone_publishes_its_call<M: LawfulMem>()
         → CommitsAlone o header pool start steps M.at lane blocks v entries → Ready v (commits spans entries n v) → HasOwnCounts (after_all v (take made (commits spans entries n v)))
         → length v.entries < length (after_all v (take made (commits spans entries n v))).entries
         → (has : HasDrawn o header pool n (after_all v (take made (commits spans entries n v)))) × (generation_of has.drawn ≡ generation_of v) }
+{}
+
+/// A law: a call that is told by an operation without a value and decided by one log, as a publish outside of a transaction is and a commit with entries, publishes from
+/// where its number is drawn, if the lane works alone and is committed once it has told the operation. At its end the call has ended, the lane holds no zone's lock, and its
+/// words have the opening's header page. Wherever the lane stops in its steps, it works alone still, or it has drawn the number and publishes; the generation that it had at
+/// the draw is that of the view at which it began. No code runs.
+pub fn a_call_told_by_its_log_is_published()
+    ensures publishes { (o : Opening) (header : Header) (pool : PoolView) (start v : View) (steps : List Step) (op : Operation) (actions : List Action) (blocks : BlockLists) (entries : List Redo) (n : ℕ)
+        → LogsCall o header pool start steps op actions blocks v entries → Ready v (logs_call op entries n v)
+        → HasOwnCounts (after_all v (logs_call op entries n v)) → HasDrawn o header pool n (after_all v (logs_call op entries n v)) }
+    ensures ended { (o : Opening) (header : Header) (pool : PoolView) (start v : View) (steps : List Step) (op : Operation) (actions : List Action) (blocks : BlockLists) (entries : List Redo) (n : ℕ)
+        → LogsCall o header pool start steps op actions blocks v entries → Ready v (logs_call op entries n v)
+        → HasOwnCounts (after_all v (logs_call op entries n v)) → HasEnded o header pool (after_all v (logs_call op entries n v)) }
+    ensures unlocked { (o : Opening) (header : Header) (pool : PoolView) (start v : View) (steps : List Step) (op : Operation) (actions : List Action) (blocks : BlockLists) (entries : List Redo) (n : ℕ)
+        → LogsCall o header pool start steps op actions blocks v entries → Ready v (logs_call op entries n v) → (after_all v (logs_call op entries n v)).zone_locks ≡ [] }
+    ensures page { (o : Opening) (header : Header) (pool : PoolView) (start v : View) (steps : List Step) (op : Operation) (actions : List Action) (blocks : BlockLists) (entries : List Redo) (n : ℕ)
+        → LogsCall o header pool start steps op actions blocks v entries → Ready v (logs_call op entries n v) → HasOwnCounts (after_all v (logs_call op entries n v))
+        → (i : ℕ) → i < 512 → slice_index (after_all v (logs_call op entries n v)).words i ≡ slice_index o.words i }
+    ensures stops { (o : Opening) (header : Header) (pool : PoolView) (start v : View) (steps : List Step) (op : Operation) (actions : List Action) (blocks : BlockLists) (entries : List Redo) (n made : ℕ)
+        → LogsCall o header pool start steps op actions blocks v entries → Ready v (logs_call op entries n v)
+        → HasOwnCounts (after_all v (take made (logs_call op entries n v))) → IsCommittingAlone o header pool start steps n (after_all v (take made (logs_call op entries n v))) }
+    ensures stops_in { (o : Opening) (header : Header) (pool : PoolView) (start v : View) (steps : List Step) (op : Operation) (actions : List Action) (blocks : BlockLists) (entries : List Redo) (n made : ℕ)
+        → LogsCall o header pool start steps op actions blocks v entries → Ready v (logs_call op entries n v)
+        → HasOwnCounts (after_all v (take made (logs_call op entries n v))) → IsCommittingIn (generation_of v) o header pool start steps n (after_all v (take made (logs_call op entries n v))) }
+    ensures drawn { (o : Opening) (header : Header) (pool : PoolView) (start v : View) (steps : List Step) (op : Operation) (actions : List Action) (blocks : BlockLists) (entries : List Redo) (n made : ℕ)
+        → LogsCall o header pool start steps op actions blocks v entries → Ready v (logs_call op entries n v) → HasOwnCounts (after_all v (take made (logs_call op entries n v)))
+        → length v.entries < length (after_all v (take made (logs_call op entries n v))).entries
+        → (has : HasDrawn o header pool n (after_all v (take made (logs_call op entries n v)))) × (generation_of has.drawn ≡ generation_of v) }
 {}
 
 /// A law: a call that drew its number and publishes is lost by an image exactly where that has no seal of lane 0, and the generation still that the lane had as the number was

@@ -38,9 +38,9 @@ pub use ending::end;
 pub use filling::{ReservedMem, write_reserved};
 pub use freeing::free;
 pub use laws::{
-    a_commit_cut_short_is_lost_by_its_words, a_commit_cut_short_leaves_its_whole_calls,
-    a_commit_of_a_lane_alone_publishes_its_call, a_lane_alone_begins_at_work,
-    a_lane_alone_may_allocate, a_lane_alone_may_publish_its_blocks,
+    a_call_told_by_its_log_is_published, a_commit_cut_short_is_lost_by_its_words,
+    a_commit_cut_short_leaves_its_whole_calls, a_commit_of_a_lane_alone_publishes_its_call,
+    a_lane_alone_begins_at_work, a_lane_alone_may_allocate, a_lane_alone_may_publish_its_blocks,
     a_lane_alone_that_ended_begins_again, calls_on_actions_keep_the_lists,
 };
 pub use new_ranges::{do_add_new, do_read_new, do_write_new};

@@ -1,4 +1,4 @@
--- The views on the way of a commit that publishes entries: all is made persistent, the entries are logged, and the commit is told; then the number is drawn, and the log
+-- The views on the way of a call that one log decides: all is made persistent, the entries are logged, and the operation is told; then the number is drawn, and the log
 -- performed. To where the number is drawn the lane works alone, and its call is committed.
 use Rattle.std.proofs.Common.{◌≡◌, inr, ℕ, ◌<◌, ◌≤◌, false, All, Option, List, [], ◌∷◌, ◌++◌, length, length-append, map, slice_index, None, refl, sym, ap, ◌∙◌, subst, arith}
 use Rattle.std.specs.Option.{ForSome}
@@ -6,12 +6,10 @@ use Rattle.std.proofs.lemmas.List.{length-map}
 use Rattle.std.proofs.lemmas.List.Elements.{All-append, All-cons, All-head, All-nil, All-tail, All-weaker}
 use Rattle.pm_header.specs.declared.header.Header.{Header}
 use Rattle.pm_memory.specs.Solo.{AreNumbered}
-use Rattle.pm_objects.specs.declared.calls.Operation.TheVariants.{Commit}
-use Rattle.pm_objects.specs.declared.history.TxErr.TheVariants as error
+use Rattle.pm_objects.specs.declared.calls.Operation.{Operation}
 use Rattle.pm_objects.specs.declared.pool.PoolView.{PoolView}
 use Rattle.pm_model.specs.Actions.{Action}
 use Rattle.pm_model.specs.Actions.Action.{SetWord}
-use Rattle.pm_model.specs.declared.stage.Stage.TheVariants as model_stage
 use Rattle.pm_pending.specs.Pending.{entry_of}
 use Rattle.pm_record.specs.declared.redo.Redo.{Redo}
 use Rattle.pm_redo.proofs.Logged.{log_lawful}
@@ -30,32 +28,25 @@ use Rattle.pm_world.specs.Lawful.{MayTell, generation_limit}
 use Rattle.pm_world.specs.Opening.{Opening}
 use Rattle.pm_world.specs.Records.{generation_of}
 use Rattle.pm_world.specs.Sequences.{Ready, settles}
-use Rattle.pm_world.specs.declared.lane.Lane.{Lane}
 use Rattle.pm_crash.proofs.AloneCourse.{Grows, grows_along}
-use Rattle.pm_crash.proofs.Committed.{commit_is_told}
 use Rattle.pm_crash.proofs.Leading.{leads_then}
 use Rattle.pm_crash.specs.Alone.{WorksAlone}
 use Rattle.pm_crash.specs.Leading.{Leads}
-use Rattle.pm_crash.specs.OpenCall.{IsCommitted, IsUnderWay}
-use Rattle.pm_crash.specs.Operations.{Tells}
-use Rattle.pm_crash.specs.Pending.{published_in}
-use Rattle.pm_crash.specs.Reserved.{IsBorneOut}
 use Rattle.pm_lock.proofs.Drawless.{drawless}
 use Rattle.pm_lock.proofs.Leading.{ready_leads}
-use Rattle.pm_made.specs.Entries.{entries_of, entry_freeing, entry_making}
+use Rattle.pm_made.specs.Entries.{entries_of}
 use Rattle.pm_made.specs.Made.{BlockLists}
 use Rattle.pm_undo.proofs.Restored.{open_settled}
 use Rattle.pm_undo.proofs.Settled.{settle_lawful}
 use Rattle.pm_undo.proofs.Staying.{same_call-then, same_settled}
 use Rattle.pm_undo.proofs.Written.{settled_works}
 use Rattle.pm_undo.specs.Working.{IsSameCall, IsSettled}
-use Rattle.pm_crash.proofs.StillReserved.{HasSameHeads, borne_on}
+use Rattle.pm_crash.proofs.StillReserved.{HasSameHeads}
 use Rattle.pm_tx.proofs.BorneOut.{same_heads_outside}
 use Rattle.pm_tx.proofs.GoingOn.{sets_on}
 use Rattle.pm_tx.proofs.Published.{some_drawn}
 use Rattle.pm_tx.specs.Sequences.{performs_logged}
-use Rattle.pm_transaction.specs.AtWork.{IsAtWorkWith}
-use Rattle.pm_transaction.specs.Committing.{MayPublishBlocks}
+use Rattle.pm_transaction.specs.Published.{IsCommittedWith, IsToldBy, LogsCall}
 
 -- fewer calls are within the stop number too
 fewer_within : (stop other : Option ℕ) (calls last : ℕ) → other ≡ stop → calls ≤ last → ForSome other (λ s. last ≤ s) → ForSome stop (λ s. calls ≤ s)
@@ -69,36 +60,33 @@ settled_view v = after_all v (settles v)
 abbrev pub entries_view : View → List Redo → View
 entries_view v entries = after_all (settled_view v) (logs entries (settled_view v))
 
-abbrev pub told_view : View → List Redo → View
-told_view v entries = after (entries_view v entries) (Tell Commit None)
+abbrev pub told_view : View → Operation → List Redo → View
+told_view v op entries = after (entries_view v entries) (Tell op None)
 
-abbrev pub number_view : View → List Redo → ℕ → View
-number_view v entries n = after (told_view v entries) (Draw n)
+abbrev pub number_view : View → Operation → List Redo → ℕ → View
+number_view v op entries n = after (told_view v op entries) (Draw n)
 
-abbrev pub performed_view : View → List Redo → ℕ → View
-performed_view v entries n = after_all (number_view v entries n) (performs_logged entries (number_view v entries n))
+abbrev pub performed_view : View → Operation → List Redo → ℕ → View
+performed_view v op entries n = after_all (number_view v op entries n) (performs_logged entries (number_view v op entries n))
 
 -- the steps up to where the number is drawn
-abbrev pub steps_to_draw : View → List Redo → List Step
-steps_to_draw v entries = (settles v ++ logs entries (settled_view v)) ++ Tell Commit None ∷ []
+abbrev pub steps_to_draw : View → Operation → List Redo → List Step
+steps_to_draw v op entries = (settles v ++ logs entries (settled_view v)) ++ Tell op None ∷ []
 
 -- what an entry that sets its word is of, and one of the heap, stays so as the number is drawn
-sets_at : (v l : View) (actions : List Action) (n : ℕ) → IsSameCall v l → All (MayEnter v) (map entry_of actions) → All (MayEnter (after (after l (Tell Commit None)) (Draw n))) (map entry_of actions)
-sets_at v l [] n call each = All-nil (MayEnter (after (after l (Tell Commit None)) (Draw n)))
-sets_at v l (SetWord id off value ∷ actions) n call each =
-    All-cons (MayEnter (after (after l (Tell Commit None)) (Draw n))) (entry_of (SetWord id off value)) (map entry_of actions)
-    (sets_on v (after (after l (Tell Commit None)) (Draw n)) (let s = call.lane in record { lanes = s.lanes; zones = s.zones; pool = s.pool; lane = s.lane; stop = s.stop; table = s.table; size = s.size }) call.locks
+sets_at : (v l : View) (op : Operation) (n : ℕ) (actions : List Action) → IsSameCall v l → All (MayEnter v) (map entry_of actions) → All (MayEnter (after (after l (Tell op None)) (Draw n))) (map entry_of actions)
+sets_at v l op n [] call each = All-nil (MayEnter (after (after l (Tell op None)) (Draw n)))
+sets_at v l op n (SetWord id off value ∷ actions) call each =
+    All-cons (MayEnter (after (after l (Tell op None)) (Draw n))) (entry_of (SetWord id off value)) (map entry_of actions)
+    (sets_on v (after (after l (Tell op None)) (Draw n)) (let s = call.lane in record { lanes = s.lanes; zones = s.zones; pool = s.pool; lane = s.lane; stop = s.stop; table = s.table; size = s.size }) call.locks
     (entry_of (SetWord id off value)) refl (All-head (MayEnter v) (entry_of (SetWord id off value)) (map entry_of actions) each))
-    (sets_at v l actions n call (All-tail (MayEnter v) (entry_of (SetWord id off value)) (map entry_of actions) each))
+    (sets_at v l op n actions call (All-tail (MayEnter v) (entry_of (SetWord id off value)) (map entry_of actions) each))
 
-heap_at : (l : View) (e : Redo) (n : ℕ) → EntersHeap l e → MayEnter (after (after l (Tell Commit None)) (Draw n)) e
-heap_at l e n h = inr (record { entry = h.entry; alone = h.alone; unlocked = h.unlocked; outside = h.outside; inside = h.inside; small = h.small })
+heap_at : (l : View) (op : Operation) (n : ℕ) (e : Redo) → EntersHeap l e → MayEnter (after (after l (Tell op None)) (Draw n)) e
+heap_at l op n e h = inr (record { entry = h.entry; alone = h.alone; unlocked = h.unlocked; outside = h.outside; inside = h.inside; small = h.small })
 
-module _ {M : Type 0} (o : Opening) (at : M → View → Type 0) (lane : Lane M) (blocks : BlockLists) (header : Header) (pool : PoolView) (start v : View) (steps : List Step) (works : WorksAlone o header pool start steps v)
-    (is : IsAtWorkWith o at lane blocks v) (outer : lane.level ≡ 1) (may : MayPublishBlocks v blocks) where
-  abbrev entries : List Redo
-  entries = lane.entries.items ++ entries_of v.lanes blocks
-
+module _ {o : Opening} {header : Header} {pool : PoolView} {start v : View} {steps : List Step} {op : Operation} {actions : List Action} {blocks : BlockLists} {entries : List Redo}
+    (c : LogsCall o header pool start steps op actions blocks v entries) where
   abbrev m : View
   m = settled_view v
 
@@ -106,7 +94,7 @@ module _ {M : Type 0} (o : Opening) (at : M → View → Type 0) (lane : Lane M)
   l = entries_view v entries
 
   abbrev u : View
-  u = told_view v entries
+  u = told_view v op entries
 
   -- ---- all is persistent
 
@@ -117,39 +105,30 @@ module _ {M : Type 0} (o : Opening) (at : M → View → Type 0) (lane : Lane M)
   call_m = same_settled v m settled
 
   log_m : m.log ≡ v.log
-  log_m = ap (λ (x : View). x.log) settled ∙ open_settled v.changes v [] [] is.work.working.is_open
+  log_m = ap (λ (x : View). x.log) settled ∙ open_settled v.changes v [] [] c.working.is_open
 
   words_m : (i : ℕ) → slice_index m.words i ≡ slice_index v.words i
   words_m i = ap (λ (x : View). slice_index x.words i) settled
 
   -- ---- the entries are logged
 
-  pub few : length entries ≤ 63
-  few =
-      let all = length-append lane.entries.items (entries_of v.lanes blocks) in
-      let blocks_all = length-append (map (entry_freeing v.lanes) blocks.freed) (map (entry_making v.lanes) blocks.made) in
-      let freed = length-map blocks.freed (entry_freeing v.lanes) in let made = length-map blocks.made (entry_making v.lanes) in
-      let listed = ap (λ (es : List Redo). length es) is.work.published.listed in let actions = length-map (published_in v) entry_of in
-      let most = may.few in
-      omega (arith, all, blocks_all, freed, made, listed, actions, most)
-
   ready_to_log : IsReadyToLog m
   ready_to_log = record {
     entering = record {
-      is_open = ap (λ (log : Log). log.phase) log_m ∙ is.work.working.is_open;
-      undrawn = call_m.number ∙ is.work.working.undrawn;
-      area = (settled_works v m is.work.working settled).area;
+      is_open = ap (λ (log : Log). log.phase) log_m ∙ c.working.is_open;
+      undrawn = call_m.number ∙ c.working.undrawn;
+      area = (settled_works v m c.working settled).area;
       few = (let count = ap (λ (x : View). length x.changes) settled in omega (arith, count));
     };
-    none = ap (λ (log : Log). log.entries) log_m ∙ is.work.no_entries;
+    none = ap (λ (log : Log). log.entries) log_m ∙ c.no_entries;
   }
 
   may_enter : All (MayEnter v) entries
-  may_enter = All-append (MayEnter v) lane.entries.items (entries_of v.lanes blocks) is.work.published.may_enter
-      (All-weaker (EntersHeap v) (MayEnter v) (λ e h. inr h) (entries_of v.lanes blocks) may.enters)
+  may_enter = subst (All (MayEnter v)) (sym c.are)
+      (All-append (MayEnter v) (map entry_of actions) (entries_of v.lanes blocks) c.may_set (All-weaker (EntersHeap v) (MayEnter v) (λ e h. inr h) (entries_of v.lanes blocks) c.enters_heap))
 
   written : Ready m (logs entries m) × HasLogged m entries l
-  written = log_lawful m entries ready_to_log few (All-weaker (MayEnter v) (MayEnter m) (λ e of. may_enter_kept v m e call_m (λ i outside. words_m i) of) entries may_enter)
+  written = log_lawful m entries ready_to_log c.few (All-weaker (MayEnter v) (MayEnter m) (λ e of. may_enter_kept v m e call_m (λ i outside. words_m i) of) entries may_enter)
 
   pub call_l : IsSameCall v l
   call_l = same_call-then v m l call_m written.1.call
@@ -175,26 +154,25 @@ module _ {M : Type 0} (o : Opening) (at : M → View → Type 0) (lane : Lane M)
   pub below_l : generation_of l < generation_limit
   below_l = let same = written.1.generation in let below = ready_to_log.entering.area.below in omega (arith, same, below)
 
-  -- ---- the commit is told
+  -- ---- the operation is told
 
-  pub tells : Tells v u Commit None
-  tells = record {
-    keeps = record { lanes = call_l.lane.lanes; zones = call_l.lane.zones; pool = call_l.lane.pool; lane = call_l.lane.lane; entries = call_l.entries; known = call_l.remembers };
-    locks = call_l.locks;
-    call = ap (λ (told : List Told). told ++ record { operation = Commit; reply = None } ∷ []) call_l.call;
+  pub is_told : IsToldBy v u op
+  is_told = record {
+    tells = record {
+      keeps = record { lanes = call_l.lane.lanes; zones = call_l.lane.zones; pool = call_l.lane.pool; lane = call_l.lane.lane; entries = call_l.entries; known = call_l.remembers };
+      locks = call_l.locks;
+      call = ap (λ (told : List Told). told ++ record { operation = op; reply = None } ∷ []) call_l.call;
+    };
+    records = written.1.records ∙ ap (λ (log : Log). log.records) log_m;
+    words = record { words = outside_l };
+    reserved = call_l.reserved;
   }
 
-  under_way : IsUnderWay v 1 model_stage.Work error.None
-  under_way = subst (λ k. IsUnderWay v k model_stage.Work error.None) outer is.work.under_way
+  pub committed_u : IsCommittedWith u actions blocks
+  committed_u = c.told u is_told
 
   pub heads : HasSameHeads v u
-  heads = same_heads_outside v u under_way.in_lanes call_l.lane.lanes call_l.lane.zones call_l.reserved outside_l
-
-  pub committed : IsCommitted u
-  committed = commit_is_told v u under_way tells (written.1.records ∙ ap (λ (log : Log). log.records) log_m) (record { words = outside_l })
-
-  pub borne_out : IsBorneOut u
-  borne_out = borne_on v u heads Commit None tells.keeps.entries tells.call (refl, refl) (λ root. tt) is.borne_out
+  heads = same_heads_outside v u c.working.area.lane call_l.lane.lanes call_l.lane.zones call_l.reserved outside_l
 
   -- ---- to there it leads
 
@@ -210,34 +188,34 @@ module _ {M : Type 0} (o : Opening) (at : M → View → Type 0) (lane : Lane M)
   leads_l : Leads m (logs entries m) l
   leads_l = ready_leads m (logs entries m) written.0 (drawless m (logs entries m) same_entries_l)
 
-  leads_u : Leads l (Tell Commit None ∷ []) u
+  leads_u : Leads l (Tell op None ∷ []) u
   unfolding Leads
   leads_u = (subst (λ (phase : Phase). MayTell phase) (sym open_l) tt, tt, tt, refl)
 
-  pub leads_to : Leads v (steps_to_draw v entries) u
-  leads_to = leads_then v l u (settles v ++ logs entries m) (Tell Commit None ∷ []) (leads_then v m l (settles v) (logs entries m) leads_m leads_l) leads_u
+  pub leads_to : Leads v (steps_to_draw v op entries) u
+  leads_to = leads_then v l u (settles v ++ logs entries m) (Tell op None ∷ []) (leads_then v m l (settles v) (logs entries m) leads_m leads_l) leads_u
 
   -- ---- behind the draw
 
-  module _ (some : 1 ≤ length entries) (n : ℕ) where
+  module _ (n : ℕ) where
     abbrev d : View
-    d = number_view v entries n
+    d = number_view v op entries n
 
     abbrev w : View
-    w = performed_view v entries n
+    w = performed_view v op entries n
 
     some_logged : 1 ≤ length l.log.entries
     some_logged =
-        let count = ap length logged_l in let all = length-map (entries ++ ending l ∷ []) final_of in let number = length-append entries (ending l ∷ []) in
-        omega (arith, count, all, number)
+        let some = c.some in let count = ap length logged_l in let all = length-map (entries ++ ending l ∷ []) final_of in let number = length-append entries (ending l ∷ []) in
+        omega (arith, some, count, all, number)
 
     pub drawn : d.log.phase ≡ Drawn
     drawn = ap (λ (p : Phase). (log_drawn p l.log).phase) open_l ∙ some_drawn l.log.records l.log.entries some_logged
 
     pub each_d : All (MayEnter d) entries
-    each_d = All-append (MayEnter d) lane.entries.items (entries_of v.lanes blocks)
-        (subst (All (MayEnter d)) (sym is.work.published.listed) (sets_at v l (published_in v) n call_l (subst (All (MayEnter v)) is.work.published.listed is.work.published.may_enter)))
-        (All-weaker (EntersHeap v) (MayEnter d) (λ e h. heap_at l e n (heap_kept v l e call_l outside_l h)) (entries_of v.lanes blocks) may.enters)
+    each_d = subst (All (MayEnter d)) (sym c.are)
+        (All-append (MayEnter d) (map entry_of actions) (entries_of v.lanes blocks) (sets_at v l op n actions call_l c.may_set)
+        (All-weaker (EntersHeap v) (MayEnter d) (λ e h. heap_at l op n e (heap_kept v l e call_l outside_l h)) (entries_of v.lanes blocks) c.enters_heap))
 
     entered : AreEntered d (entries ++ ending d ∷ [])
     entered = record {
@@ -245,14 +223,14 @@ module _ {M : Type 0} (o : Opening) (at : M → View → Type 0) (lane : Lane M)
       are = refl;
       each = each_d;
       logged = ap (λ (p : Phase). (log_drawn p l.log).entries) open_l ∙ logged_l;
-      most = (let number = length-append entries (ending d ∷ []) in let most = few in omega (arith, number, most));
+      most = (let number = length-append entries (ending d ∷ []) in let most = c.few in omega (arith, number, most));
     }
 
     pub ready_to_perform : IsReadyToPerform d (entries ++ ending d ∷ [])
     ready_to_perform = record {
       place =
           (let lane_is = call_l.lane.lane in let lanes = call_l.lane.lanes in let size = call_l.lane.size in
-          let area = is.work.working.area in let low = area.lane in let first = area.few in let inside = area.inside in
+          let area = c.working.area in let low = area.lane in let first = area.few in let inside = area.inside in
           record { lane = omega (arith, lane_is, lanes, low); few = omega (arith, lane_is, first); inside = omega (arith, lane_is, size, inside) });
       drawn = drawn;
       drained = drained_l;
@@ -274,12 +252,12 @@ module _ {M : Type 0} (o : Opening) (at : M → View → Type 0) (lane : Lane M)
     leads_d = ready_leads d (performs_logged entries d) done.0 (drawless d (performs_logged entries d) same_entries_w)
 
     -- so the lane works alone up to there, where it makes no more calls behind the draw than it may
-    pub works_to : (more : List Step) (x : View) → Leads d more x → ForSome x.stop (λ stop. x.calls ≤ stop) → WorksAlone o header pool start (steps ++ steps_to_draw v entries) u
+    pub works_to : (more : List Step) (x : View) → Leads d more x → ForSome x.stop (λ stop. x.calls ≤ stop) → WorksAlone o header pool start (steps ++ steps_to_draw v op entries) u
     works_to more x leads within =
         let grows : Grows d x = grows_along d more x leads in
         record {
-          begins = works.begins;
-          leads = leads_then start v u steps (steps_to_draw v entries) works.leads leads_to;
-          numbered = subst (AreNumbered 1) (sym call_l.entries) works.numbered;
+          begins = c.works.begins;
+          leads = leads_then start v u steps (steps_to_draw v op entries) c.works.leads leads_to;
+          numbered = subst (AreNumbered 1) (sym call_l.entries) c.works.numbered;
           within = fewer_within u.stop x.stop u.calls x.calls grows.stop grows.calls within;
         }
