@@ -20,7 +20,7 @@ use Rattle.pm_objects.specs.declared.ids.Oid.{Oid}
 use Rattle.pm_objects.specs.declared.refusal.Refusal.{Refusal}
 use Rattle.pm_objects.specs.declared.refusal.Refusal.TheVariants as refusal
 use Rattle.pm_pending.specs.Pending.{pending_of}
-use Rattle.pm_pending.specs.declared.actions.SetAction.{SetAction}
+use Rattle.pm_pending.specs.declared.pending.PendingActions.{PendingActions}
 use Rattle.pm_script.specs.declared.script.ScriptId.{ScriptId}
 use Rattle.pm_script.specs.declared.script.ScriptLine.{ScriptLine}
 use Rattle.pm_script.specs.declared.script.ScriptOp.{ScriptOp}
@@ -112,7 +112,7 @@ module _ (operation : Operation) (reply : Option Value) where
   tell_led : (v : View) → MayTell v.log.phase → IsLed v (after v (Tell operation reply))
   tell_led v may = let t = tell_ready v may in subst (λ (u : View). IsLed v u) (told_view v) (ready_led v (tells v) t.0 t.1 (tells_uncounted operation reply v) (told_heap v))
 
-module _ (o : Opening) (first : View) (lane : Lane Solo) (blocks : BlockLists) (actions : List SetAction) (names : Names) (front : List ScriptLine) (values : Values) (a : IsAtLine o first lane blocks actions names front values) (new : Lane Solo) (said : ScriptLine) where
+module _ (o : Opening) (first : View) (lane : Lane Solo) (blocks : BlockLists) (actions : PendingActions) (names : Names) (front : List ScriptLine) (values : Values) (a : IsAtLine o first lane blocks actions names front values) (new : Lane Solo) (said : ScriptLine) where
   abbrev v : View
   v = a.view
 
@@ -152,7 +152,7 @@ module _ (o : Opening) (first : View) (lane : Lane Solo) (blocks : BlockLists) (
     gives (Some why) = ap (λ (vs : Values). vs ++ (said.line, Refused why) ∷ []) a.gave ∙ sym (gave_more names front said v.call (set (Some why)) a.told)
 
     -- the list that is left has what is pending, each at a multiple of eight bytes
-    pub left_pending : (r : Option Refusal) (left : List SetAction) → r ≡ set_refusal action.off (pending_of actions) → (r ≡ None → left ≡ actions ++ action ∷ []) → ((why : Refusal) → r ≡ Some why → left ≡ actions) → pending_of left ≡ pending_in (w r)
+    pub left_pending : (r : Option Refusal) (left : PendingActions) → r ≡ set_refusal action.off (pending_of actions) → (r ≡ None → left ≡ actions ++ action ∷ []) → ((why : Refusal) → r ≡ Some why → left ≡ actions) → pending_of left ≡ pending_in (w r)
         → IsPending left (pending_in (w r))
     left_pending None left answers done kept pending = record {
       are = pending;
@@ -162,7 +162,7 @@ module _ (o : Opening) (first : View) (lane : Lane Solo) (blocks : BlockLists) (
     }
     left_pending (Some why) left answers done kept pending = record { are = pending; aligned = subst (All (λ (x : SetAction). x.off % 8 ≡ 0)) (sym (kept why refl)) a.pending.aligned }
 
-    pub set_done : (r : Option Refusal) (left : List SetAction) → IsAtWork o Sees new (w r) → new.level ≡ 1 → new.locks ≡ lane.locks → IsPending left (pending_in (w r)) → IsAtLine o first new blocks left names (front ++ said ∷ []) (given_by r)
+    pub set_done : (r : Option Refusal) (left : PendingActions) → IsAtWork o Sees new (w r) → new.level ≡ 1 → new.locks ≡ lane.locks → IsPending left (pending_in (w r)) → IsAtLine o first new blocks left names (front ++ said ∷ []) (given_by r)
     set_done r left works level locks pending =
         let steps : Sequence = tells asks (option_map Refused r) in
         let t = tell_ready asks (option_map Refused r) v may in

@@ -52,7 +52,7 @@ use Rattle.pm_crash.proofs.SeenAlone.{works_where_seen}
 use Rattle.pm_crash.specs.Operations.{entries_so_far}
 use Rattle.pm_crash.specs.CallBlocks.{CallBlocks, blocks_in, blocks_told, no_blocks}
 use Rattle.pm_pending.specs.Pending.{pending_of}
-use Rattle.pm_pending.specs.declared.actions.SetAction.{SetAction}
+use Rattle.pm_pending.specs.declared.pending.PendingActions.{PendingActions}
 use Rattle.pm_crash.specs.Pending.{pending_before, pending_from, pending_in, pending_told}
 use Rattle.pm_model.specs.Actions.{none_pending}
 use Rattle.pm_exec.proofs.PendingLists.{has_none_reserved, none_within}
@@ -62,7 +62,7 @@ use Rattle.pm_exec.specs.Bounds.{log_due, logs_of, stores_of_call}
 use Rattle.pm_exec.specs.Progress.{IsPending}
 use Rattle.pm_exec.proofs.PendingLists.{uncounted_raises}
 
-module _ (o : Opening) (first : View) (lane new : Lane Solo) (blocks : BlockLists) (actions : List SetAction) (names : Names) (is : IsStart o lane blocks actions first) where
+module _ (o : Opening) (first : View) (lane new : Lane Solo) (blocks : BlockLists) (actions : PendingActions) (names : Names) (is : IsStart o lane blocks actions first) where
   -- no lock is refused
   pub not_busy : IsBusy Sees new first → ⊥
   not_busy b = refuted b.write (All-contains IsGranted b.view.seen (takes b.line b.write false) b.rests.seen.memory.alone b.refused) where

@@ -25,7 +25,7 @@ use Rattle.pm_exec.specs.Running.{AreEntries, HasComeTo, HasHalted, IsEntryOf, o
 use Rattle.pm_exec.specs.declared.calls.Names.{Names}
 use Rattle.pm_exec.specs.declared.running.Halt.{Halt}
 use Rattle.pm_exec.proofs.Starts.{start_lane}
-use Rattle.pm_pending.specs.declared.actions.SetAction.{SetAction}
+use Rattle.pm_pending.specs.declared.pending.PendingActions.{PendingActions}
 use Rattle.pm_exec.specs.declared.ending.CallAnswer.{CallAnswer}
 
 -- its entry is the last
@@ -47,7 +47,7 @@ made_then names [] (h ∷ history) call d e u v w made settled is = absurd made
 made_then names (c ∷ calls) [] call d e u v w made settled is = absurd made
 made_then names (c ∷ calls) (h ∷ history) call d e u v w made settled is = (made.0, made.1, made.2, made.3, made_then names calls history call d e made.0 v w made.4 settled is)
 
-module _ (o : Opening) (first : View) (lane : Lane Solo) (blocks : BlockLists) (actions : List SetAction) (names : Names) (calls : List (List ScriptLine)) (history : List Entry) (h : HasComeTo o first lane blocks actions names calls history) where
+module _ (o : Opening) (first : View) (lane : Lane Solo) (blocks : BlockLists) (actions : PendingActions) (names : Names) (calls : List (List ScriptLine)) (history : List Entry) (h : HasComeTo o first lane blocks actions names calls history) where
   -- where those were answered, the lane may begin it
   pub begins : IsStart (standing o h.answered.view) lane blocks actions h.answered.view
   begins =
@@ -77,7 +77,7 @@ module _ (o : Opening) (first : View) (lane : Lane Solo) (blocks : BlockLists) (
 
   module _ (lines : List ScriptLine) (new : Lane Solo) where
     -- it was answered too
-    pub one_more : (now : BlockLists) (left : List SetAction) (number : ℕ) (e : CallAnswer) (reply : Reply) (call : Call) (fate : Fate) → IsAnswered (standing o h.answered.view) h.answered.view new now left names lines number e reply → call ≡ call_of names lines → fate ≡ settled_fate e
+    pub one_more : (now : BlockLists) (left : PendingActions) (number : ℕ) (e : CallAnswer) (reply : Reply) (call : Call) (fate : Fate) → IsAnswered (standing o h.answered.view) h.answered.view new now left names lines number e reply → call ≡ call_of names lines → fate ≡ settled_fate e
         → HasComeTo o first new now left names (calls ++ lines ∷ []) (history ++ record { number = number; call = call; reply = reply; fate = fate } ∷ [])
     one_more now left number e reply call fate x is settled =
         let a = h.answered in

@@ -74,7 +74,7 @@ use Rattle.pm_exec.proofs.Links.{passed}
 use Rattle.pm_exec.proofs.QuietSequences.{quiet_in_give_up}
 use Rattle.pm_exec.proofs.LooksAlone.{IsSameBut, looks_same}
 use Rattle.pm_exec.proofs.UndrawnSteps.{IsUndrawn, Keeps, all_undrawn_keep, first_undrawn_keep}
-use Rattle.pm_pending.specs.declared.actions.SetAction.{SetAction}
+use Rattle.pm_pending.specs.declared.pending.PendingActions.{PendingActions}
 use Rattle.pm_crash.specs.Pending.{pending_before, pending_behind, pending_in, published_by, published_in}
 use Rattle.pm_crash.proofs.PendingOn.{pending_once_more, pending_same, published_once_more, published_same}
 use Rattle.pm_model.specs.Actions.{Action, Pending}
@@ -125,7 +125,7 @@ pub record GoesTo (v w : View) : Type 0 where
   pub entries : w.entries ≡ v.entries
   pub log : w.log ≡ v.log
 
-module _ (o : Opening) (first : View) (lane : Lane Solo) (blocks : BlockLists) (actions : List SetAction) (names : Names) (front : List ScriptLine) (values : Values) (a : IsAtLine o first lane blocks actions names front values) where
+module _ (o : Opening) (first : View) (lane : Lane Solo) (blocks : BlockLists) (actions : PendingActions) (names : Names) (front : List ScriptLine) (values : Values) (a : IsAtLine o first lane blocks actions names front values) where
   -- once it went on so
   module _ (u : View) (goes : GoesTo a.view u) where
     pub to_there : (steps : List Step) × (Leads first steps u)
@@ -379,7 +379,7 @@ module _ (o : Opening) (first : View) (lane : Lane Solo) (blocks : BlockLists) (
       keeps = all_undrawn_keep u (steps u) undrawn
 
       -- with these lists of blocks, and this one of what is pending
-      pub at_next_with : (now : BlockLists) (left : List SetAction) → Ready u (steps u) → DrawEnded u (steps u) → IsAtWorkWith o Sees new now w → new.level ≡ 1 → new.locks ≡ lane.locks → (t : Told) → IsToldDone names said.operation t → w.call ≡ u.call ++ t ∷ []
+      pub at_next_with : (now : BlockLists) (left : PendingActions) → Ready u (steps u) → DrawEnded u (steps u) → IsAtWorkWith o Sees new now w → new.level ≡ 1 → new.locks ≡ lane.locks → (t : Told) → IsToldDone names said.operation t → w.call ≡ u.call ++ t ∷ []
           → ((i : ℕ) → IsUnderBlock a.view i → slice_index w.words i ≡ words_after names (front ++ said ∷ []) (slice_index o.words) i)
           → (given : Values) → given ≡ values_told (front ++ said ∷ []) (a.view.call ++ t ∷ []) → IsLineMade names said.operation a.view w
           → IsPending left (pending_in w) → stores_among (steps u) + recorded_count w + log_due w ≤ recorded_count u + most_stores names said.operation + log_due u

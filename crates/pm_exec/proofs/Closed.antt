@@ -18,7 +18,7 @@ use Rattle.pm_objects.specs.declared.history.TxErr.{TxErr}
 use Rattle.pm_objects.specs.declared.history.TxErr.TheVariants as error
 use Rattle.pm_objects.specs.declared.pool.PoolView.{PoolView}
 use Rattle.pm_objects.specs.declared.refusal.Refusal.{Refusal}
-use Rattle.pm_pending.specs.declared.actions.SetAction.{SetAction}
+use Rattle.pm_pending.specs.declared.pending.PendingActions.{PendingActions}
 use Rattle.pm_reclaim.proofs.Pools.{nothing_left}
 use Rattle.pm_reclaim.specs.Reclaims.{IsReclaiming}
 use Rattle.pm_script.specs.declared.script.ScriptLine.{ScriptLine}
@@ -91,7 +91,7 @@ begins_works_alone o header pool first v steps works = alone_along first v steps
 
 -- ---- the end answers the call, and the lane rests
 
-module _ (o : Opening) (first : View) (lane new : Lane Solo) (blocks : BlockLists) (actions : List SetAction) (names : Names) (lines : List ScriptLine) (told : List Told) (error : TxErr) (over : IsOver o first lane blocks actions names lines told error) where
+module _ (o : Opening) (first : View) (lane new : Lane Solo) (blocks : BlockLists) (actions : PendingActions) (names : Names) (lines : List ScriptLine) (told : List Told) (error : TxErr) (over : IsOver o first lane blocks actions names lines told error) where
   abbrev v : View
   v = over.view
 
@@ -194,13 +194,13 @@ module _ (o : Opening) (first : View) (lane new : Lane Solo) (blocks : BlockList
     }
 
 -- what was given up at a line has ended with that line's reply
-pub ended_refused : (o : Opening) (first : View) (lane : Lane Solo) (blocks : BlockLists) (actions : List SetAction) (names : Names) (lines : List ScriptLine) (values : Values) (line : ℕ) (r : Refusal) (reply : Reply) → starts_alone lines ≡ false → (g : IsGivenUpAt o first lane blocks actions names lines values line r) → reply.values ≡ values → reply.at ≡ line
+pub ended_refused : (o : Opening) (first : View) (lane : Lane Solo) (blocks : BlockLists) (actions : PendingActions) (names : Names) (lines : List ScriptLine) (values : Values) (line : ℕ) (r : Refusal) (reply : Reply) → starts_alone lines ≡ false → (g : IsGivenUpAt o first lane blocks actions names lines values line r) → reply.values ≡ values → reply.at ≡ line
     → TransactionEnded names lines (error.Refused r) reply g.told
 ended_refused o first lane blocks actions names lines values line r reply inside g gave at =
     (inside, inr (r, refl, subst (λ (n : ℕ). IsRefusedAt names lines n r reply.values g.told) (sym at) (subst (λ (vs : Values). IsRefusedAt names lines line r vs g.told) (sym gave) g.at)))
 
 -- and one whose lines were all done with none
-pub ended_done : (o : Opening) (first : View) (lane : Lane Solo) (blocks : BlockLists) (actions : List SetAction) (names : Names) (lines : List ScriptLine) (values : Values) (reply : Reply) → starts_alone lines ≡ false → (d : IsCommitted o first lane blocks actions names lines values) → reply.values ≡ values → reply.at ≡ 0 → TransactionEnded names lines error.None reply d.told
+pub ended_done : (o : Opening) (first : View) (lane : Lane Solo) (blocks : BlockLists) (actions : PendingActions) (names : Names) (lines : List ScriptLine) (values : Values) (reply : Reply) → starts_alone lines ≡ false → (d : IsCommitted o first lane blocks actions names lines values) → reply.values ≡ values → reply.at ≡ 0 → TransactionEnded names lines error.None reply d.told
 ended_done o first lane blocks actions names lines values reply inside d gave at = (inside, inl (refl, at, d.done, gave ∙ d.gave))
 
 -- one in which the lane stopped is halted

@@ -31,7 +31,7 @@ use Rattle.pm_model.specs.Shown.{answer_of}
 use Rattle.pm_objects.specs.declared.calls.Operation.TheVariants.{Commit}
 use Rattle.pm_objects.specs.declared.pool.PoolView.{PoolView}
 use Rattle.pm_pending.specs.Pending.{entry_of}
-use Rattle.pm_pending.specs.declared.actions.SetAction.{SetAction}
+use Rattle.pm_pending.specs.declared.pending.PendingActions.{PendingActions}
 use Rattle.pm_record.specs.declared.redo.Redo.{Redo}
 use Rattle.pm_redo.specs.Entering.{EntersHeap, IsOfPool, MayEnter}
 use Rattle.pm_script.specs.declared.script.ScriptLine.{ScriptLine}
@@ -123,7 +123,7 @@ ready_front v steps zero ready = tt
 ready_front v [] (suc k) ready = tt
 ready_front v (s ∷ steps) (suc k) ready = (ready.0, ready.1, ready_front (after v s) steps k ready.2)
 
-module _ (o : Opening) (first : View) (lane : Lane Solo) (blocks : BlockLists) (actions : List SetAction) (names : Names) (front : List ScriptLine) (values : Values) (a : IsAtLine o first lane blocks actions names front values) (new : Lane Solo) (said : ScriptLine)
+module _ (o : Opening) (first : View) (lane : Lane Solo) (blocks : BlockLists) (actions : PendingActions) (names : Names) (front : List ScriptLine) (values : Values) (a : IsAtLine o first lane blocks actions names front values) (new : Lane Solo) (said : ScriptLine)
     (is : said.operation ≡ op.Commit) where
   abbrev v : View
   v = a.view

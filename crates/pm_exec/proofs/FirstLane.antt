@@ -16,7 +16,7 @@ use Rattle.pm_world.specs.Lanes.{IsIdle, IsOfShape, IsSeenAs}
 use Rattle.pm_world.specs.declared.lane.Lane.{Lane}
 use Rattle.pm_exec.specs.Openings.{first_view, opening_of}
 use Rattle.pm_exec.specs.Progress.{IsStart}
-use Rattle.pm_pending.specs.declared.actions.SetAction.{SetAction}
+use Rattle.pm_pending.specs.declared.pending.PendingActions.{PendingActions}
 use Rattle.pm_crash.specs.Pending.{pending_before, pending_from}
 use Rattle.pm_exec.specs.Progress.{IsPending}
 use Rattle.std.proofs.lemmas.List.Elements.{All-nil}

@@ -32,7 +32,7 @@ use Rattle.pm_objects.specs.declared.ids.Oid.{Oid}
 use Rattle.pm_objects.specs.declared.refusal.Refusal.{Refusal}
 use Rattle.pm_objects.specs.declared.refusal.Refusal.TheVariants as refusal
 use Rattle.pm_pending.specs.Pending.{action_of, entry_of, pending_of, sets_of}
-use Rattle.pm_pending.specs.declared.actions.SetAction.{SetAction}
+use Rattle.pm_pending.specs.declared.pending.PendingActions.{PendingActions}
 use Rattle.pm_record.specs.declared.redo.Redo.{Redo}
 use Rattle.pm_script.specs.declared.script.ScriptId.{ScriptId}
 use Rattle.pm_script.specs.declared.script.ScriptLine.{ScriptLine}
@@ -76,12 +76,12 @@ use Rattle.pm_exec.proofs.PendingLists.{uncounted_raises}
 use Rattle.pm_exec.proofs.PublishFront.{publish_flies}
 use Rattle.pm_exec.proofs.QuietSequences.{quiet_in_publish}
 
-abbrev IsAligned : List SetAction → Type 0
+abbrev IsAligned : PendingActions → Type 0
 IsAligned actions = All (λ (a : SetAction). a.off % 8 ≡ 0) actions
 
-module _ (o : Opening) (first : View) (lane new : Lane Solo) (blocks : BlockLists) (actions : List SetAction) (names : Names) (is : IsStart o lane blocks actions first) where
+module _ (o : Opening) (first : View) (lane new : Lane Solo) (blocks : BlockLists) (actions : PendingActions) (names : Names) (is : IsStart o lane blocks actions first) where
   -- a call that was told without a counted call is answered so
-  acted : (x : ScriptOp) (r : Option Refusal) (left : List SetAction) → (told : IsToldOutside Sees new left first (operation_of names x) (option_map Refused r)) → IsAligned left → IsOutsideMade x r first told.view → IsActed first new left names x r
+  acted : (x : ScriptOp) (r : Option Refusal) (left : PendingActions) → (told : IsToldOutside Sees new left first (operation_of names x) (option_map Refused r)) → IsAligned left → IsOutsideMade x r first told.view → IsActed first new left names x r
   acted x r left told aligned made = record {
     view = told.view;
     steps = told.led.steps;
@@ -103,7 +103,7 @@ module _ (o : Opening) (first : View) (lane new : Lane Solo) (blocks : BlockList
 
   -- ---- an action made pending
 
-  module _ (x : ScriptOp) (id : ScriptId) (action : SetAction) (id_is : action.id ≡ id_of names id) (says : x ≡ op.Set id action.off action.value) (left : List SetAction) where
+  module _ (x : ScriptOp) (id : ScriptId) (action : SetAction) (id_is : action.id ≡ id_of names id) (says : x ≡ op.Set id action.off action.value) (left : PendingActions) where
     abbrev asks : Operation
     asks = operation.SetValue action.id action.off action.value
 
@@ -138,7 +138,7 @@ module _ (o : Opening) (first : View) (lane new : Lane Solo) (blocks : BlockList
 
   -- ---- all that is pending given up
 
-  pub cancel_acted : {T : Type 0} (x : ScriptOp) (result : Result T Refusal) (left : List SetAction) → x ≡ op.Cancel → IsAnsweredAtOnce Sees new left first operation.Cancel result → OnOk result (left ≡ []) → IfErr result (IsCancelCause lane.stopped)
+  pub cancel_acted : {T : Type 0} (x : ScriptOp) (result : Result T Refusal) (left : PendingActions) → x ≡ op.Cancel → IsAnsweredAtOnce Sees new left first operation.Cancel result → OnOk result (left ≡ []) → IfErr result (IsCancelCause lane.stopped)
       → ActedOutside o first new left names x result
   cancel_acted x (Ok done) left says made emptied causes =
       let t = subst (λ (y : Operation). IsToldOutside Sees new left first y None) (ap (operation_of names) (sym says)) made.told in
@@ -161,7 +161,7 @@ module _ (o : Opening) (first : View) (lane new : Lane Solo) (blocks : BlockList
     publish_is = ap (operation_of names) (sym says)
 
     -- of some actions
-    published_by : (items : List SetAction) → pending_of items ≡ pending_before first → 1 ≤ length items → IsPublishedBy Sees new (sets_of items) first → IsActed first new [] names x None
+    published_by : (items : PendingActions) → pending_of items ≡ pending_before first → 1 ≤ length items → IsPublishedBy Sees new (sets_of items) first → IsActed first new [] names x None
     published_by items are some b =
         let entries : List Redo = entries_of (sets_of items) in
         let h : View = b.holding in
@@ -203,7 +203,7 @@ module _ (o : Opening) (first : View) (lane new : Lane Solo) (blocks : BlockList
               let most = ap (most_stores names) says in omega (arith, both, two, before, behind, all, count, few, most));
         }
 
-    published : (items : List SetAction) → items ≡ actions → IsPublished Sees new items first → IsActed first new [] names x None
+    published : (items : PendingActions) → items ≡ actions → IsPublished Sees new items first → IsActed first new [] names x None
     published [] same made =
         let t = subst (λ (y : Operation). IsToldOutside Sees new [] first y None) publish_is made.told in
         acted x None [] t (All-nil (λ (a : SetAction). a.off % 8 ≡ 0)) (subst (λ (y : ScriptOp). IsOutsideMade y None first t.view) (sym says) (inr (t.led, sym is.pending.are ∙ ap pending_of (sym same))))
@@ -299,17 +299,17 @@ module _ (o : Opening) (first : View) (lane new : Lane Solo) (blocks : BlockList
           }
 
     -- however it is answered
-    pub publish_acted : {T : Type 0} (result : Result T Refusal) (left : List SetAction) → PublishEnds Sees new actions first result → OnOk result (left ≡ []) → OnErr result (left ≡ actions)
+    pub publish_acted : {T : Type 0} (result : Result T Refusal) (left : PendingActions) → PublishEnds Sees new actions first result → OnOk result (left ≡ []) → OnErr result (left ≡ actions)
         → (result ≡ Err refusal.NoObject → Any (LacksObject first) (wants_for (sets_of actions))) → (result ≡ Err refusal.OutOfRange → Any (Overruns first) (sets_of actions)) → ActedOutside o first new left names x result
-    publish_acted (Ok done) left ends emptied kept missing past_end = subst (λ (list : List SetAction). IsActed first new list names x None) (sym emptied) (published actions refl ends)
+    publish_acted (Ok done) left ends emptied kept missing past_end = subst (λ (list : PendingActions). IsActed first new list names x None) (sym emptied) (published actions refl ends)
     publish_acted (Err refusal.Stopped) left ends emptied kept missing past_end = λ said is_said. publish_cut said is_said ends
     publish_acted (Err refusal.Spent) left ends emptied kept missing past_end = spent o first lane new blocks actions names is ends
     publish_acted (Err refusal.Busy) left ends emptied kept missing past_end = absurd (not_busy o first lane new blocks actions names is ends)
     publish_acted (Err refusal.NoObject) left ends emptied kept missing past_end =
-        subst (λ (list : List SetAction). IsActed first new list names x (Some refusal.NoObject)) (sym kept)
+        subst (λ (list : PendingActions). IsActed first new list names x (Some refusal.NoObject)) (sym kept)
         (refused_publish refusal.NoObject (subst (λ (p : Pending). Any (LacksObject first) (wants_for p.sets)) is.pending.are (missing refl)) ends.told)
     publish_acted (Err refusal.OutOfRange) left ends emptied kept missing past_end =
-        subst (λ (list : List SetAction). IsActed first new list names x (Some refusal.OutOfRange)) (sym kept)
+        subst (λ (list : PendingActions). IsActed first new list names x (Some refusal.OutOfRange)) (sym kept)
         (refused_publish refusal.OutOfRange (subst (λ (p : Pending). Any (Overruns first) p.sets) is.pending.are (past_end refl)) ends.told)
     publish_acted (Err r) left ends emptied kept missing past_end = absurd ends
 
@@ -319,17 +319,17 @@ items_kept (Ok done) f x y same = same
 items_kept (Err r) f x y same = ap f same
 
 -- a call outside in which the lane stopped is cut
-pub stopped_in : {T : Type 0} (o : Opening) (first : View) (new : Lane Solo) (left : List SetAction) (names : Names) (said : ScriptLine) (result : Result T Refusal) → result ≡ Err refusal.Stopped → ActedOutside o first new left names said.operation result → IsCut o first new names (said ∷ []) []
+pub stopped_in : {T : Type 0} (o : Opening) (first : View) (new : Lane Solo) (left : PendingActions) (names : Names) (said : ScriptLine) (result : Result T Refusal) → result ≡ Err refusal.Stopped → ActedOutside o first new left names said.operation result → IsCut o first new names (said ∷ []) []
 stopped_in o first new left names said result is acted = subst (ActedOutside o first new left names said.operation) is acted said refl
 
 -- one that was refused, in which the lane did not stop and which it could begin, was told so
-pub refused_acted : (o : Opening) (first : View) (new : Lane Solo) (left : List SetAction) (names : Names) (x : ScriptOp) (r : Refusal) → r ≢ refusal.Stopped → r ≢ refusal.Spent → ActedOutside {T = Unit {0}} o first new left names x (Err r) → IsActed first new left names x (Some r)
+pub refused_acted : (o : Opening) (first : View) (new : Lane Solo) (left : PendingActions) (names : Names) (x : ScriptOp) (r : Refusal) → r ≢ refusal.Stopped → r ≢ refusal.Spent → ActedOutside {T = Unit {0}} o first new left names x (Err r) → IsActed first new left names x (Some r)
 refused_acted o first new left names x refusal.Stopped going unspent acted = absurd (going refl)
 refused_acted o first new left names x refusal.Spent going unspent acted = absurd (unspent refl)
 refused_acted o first new left names x r going unspent acted = acted
 
 -- what was told of a call outside is its answer
-pub outside_answered : (o : Opening) (first : View) (new : Lane Solo) (blocks : BlockLists) (left : List SetAction) (names : Names) (said : ScriptLine) (r : Option Refusal) (reply : Reply) → stands_alone said.operation ≡ true → reply.values ≡ [] → reply.at ≡ 0 → AreForPool blocks first → IsActed first new left names said.operation r
+pub outside_answered : (o : Opening) (first : View) (new : Lane Solo) (blocks : BlockLists) (left : PendingActions) (names : Names) (said : ScriptLine) (r : Option Refusal) (reply : Reply) → stands_alone said.operation ≡ true → reply.values ≡ [] → reply.at ≡ 0 → AreForPool blocks first → IsActed first new left names said.operation r
     → IsAnswered o first new blocks left names (said ∷ []) new.last (answer.Outside r) reply
 outside_answered o first new blocks left names said r reply outside values at pages acted =
     let one : IsOneLine (said ∷ []) said.operation = record { line = said; alone = refl; says = refl; outside = outside } in

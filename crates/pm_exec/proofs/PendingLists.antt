@@ -9,7 +9,7 @@ use Rattle.pm_pending.specs.Pending.{pending_of}
 use Rattle.pm_crash.specs.Pending.{pending_before, pending_behind, pending_from, pending_in, pending_told}
 use Rattle.pm_crash.proofs.PendingOn.{calls_further, pending_once_more, same_before}
 use Rattle.pm_model.specs.Actions.{Pending, none_pending}
-use Rattle.pm_pending.specs.declared.actions.SetAction.{SetAction}
+use Rattle.pm_pending.specs.declared.pending.PendingActions.{PendingActions}
 use Rattle.pm_view.specs.View.{Numbered, Told, View}
 use Rattle.pm_crash.specs.Alone.{is_raise, raises}
 use Rattle.pm_crash.proofs.Raises.{raise_by}
@@ -19,14 +19,14 @@ use Rattle.pm_view.specs.Steps.Step.{And, Drain, Draw, Flush, Give, Load, Number
 use Rattle.pm_exec.specs.Progress.{IsPending}
 
 -- the list is the same, where the same is pending
-pub still_pending : {actions : List SetAction} {before : Pending} (behind : Pending) → behind ≡ before → IsPending actions before → IsPending actions behind
+pub still_pending : {actions : PendingActions} {before : Pending} (behind : Pending) → behind ≡ before → IsPending actions before → IsPending actions behind
 still_pending behind same is = record { are = is.are ∙ sym same; aligned = is.aligned }
 
 -- set-values alone: nothing is reserved
-pub has_none_reserved : (actions : List SetAction) (w : View) → pending_of actions ≡ pending_in w → HasReserved w
+pub has_none_reserved : (actions : PendingActions) (w : View) → pending_of actions ≡ pending_in w → HasReserved w
 has_none_reserved actions w are = none_reserved w (ap (λ (p : Pending). p.reserved) (sym are))
 
-pub none_within : (actions : List SetAction) (w : View) → pending_of actions ≡ pending_in w → All (LiesInReserved w) (reserved_in w)
+pub none_within : (actions : PendingActions) (w : View) → pending_of actions ≡ pending_in w → All (LiesInReserved w) (reserved_in w)
 none_within actions w are = subst (λ (p : Pending). All (LiesInReserved w) (map reserved_object p.reserved)) are (All-nil (LiesInReserved w))
 
 -- behind a call that came to one operation more and drew its number

@@ -1,6 +1,7 @@
 -- All that a lane has pending, as its lists have it and as the plain model does.
 use Rattle.std.specs.Prelude.{◌≡◌, ℕ, ◌+◌, ◌%◌, ◌≤◌, All, length, map, nat_eq}
 use Rattle.std.specs.List.{IsDistinct}
+use Rattle.pm_crash.specs.CallBlocks.{NewObject}
 use Rattle.pm_model.specs.Actions.{Pending, Reservation, max_actions, pending_count}
 use Rattle.pm_pending.specs.Pending.{sets_of}
 use Rattle.pm_pending.specs.declared.actions.SetAction.{SetAction}
@@ -10,6 +11,10 @@ use Rattle.pm_pending.specs.declared.pending.Reserved.{Reserved}
 -- a reservation as a list has it: its bytes are in the pool's words
 abbrev pub reserved_as : Reservation → Reserved
 reserved_as r = record { off = r.off; kind = r.kind; size = length r.bytes }
+
+-- the new object that a list's reservation is to become
+abbrev pub object_of : Reserved → NewObject
+object_of r = record { off = r.off; kind = r.kind; size = r.size }
 
 -- so many actions are listed, of whatever kind
 abbrev pub count_in : PendingActions → ℕ

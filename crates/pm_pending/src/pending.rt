@@ -7,15 +7,17 @@ ghost use Rattle.pm_objects.specs.declared.pool.PoolView.{PoolView};
 ghost use Rattle.pm_objects.specs.declared.refusal.Refusal.TheVariants as refusal;
 ghost use Rattle.pm_model.specs.Actions.{Pending, is_to_be_freed, max_actions, none_pending, pending_count, with_free, with_put, with_reservation, with_set};
 ghost use Rattle.pm_model.specs.Outside.{Outside, refusal_outside};
+ghost use Rattle.pm_crash.specs.CallBlocks.{block_of};
 ghost use Rattle.pm_crash.specs.OnActions.{defer_refusal, set_refusal};
 ghost use Rattle.pm_crash.specs.Reserving.{IsReserveReason, IsReservedOne, put_refusal};
 ghost use Rattle.pm_pending.specs.declared.pending.Reserved.{Reserved};
-ghost use Rattle.pm_pending.specs.AllPending.{AreReservedOnce, IsPendingAs, count_in};
+ghost use Rattle.pm_pending.specs.AllPending.{AreReservedOnce, IsPendingAs, count_in, object_of};
 ghost use Rattle.pm_pending.specs.Pending.{action_of, refusal_in, unhindered};
 
 use crate::actions::{MAX_ACTIONS, SetAction};
 use arrayvec::ArrayVec;
-use pm_layout::{MAX_SIZE, WORD_BYTES};
+use pm_image::Block;
+use pm_layout::{Class, LINE_BYTES, LINES_PER_CHUNK, MAX_SIZE, WORD_BYTES, class_of};
 use pm_objects::{Oid, Refusal};
 
 /// A new object that is reserved. Its bytes are in the pool's words. pmemobj_reserve(3).
@@ -27,6 +29,24 @@ pub struct Reserved {
     pub kind: u64,
     /// Its size, in bytes.
     pub size: u64,
+}
+
+impl Reserved {
+    /// The block of its size's class: a line of 64 bytes before the object, and those that hold its bytes.
+    pub fn block(self) -> Block
+        requires behind { 64 ≤ self.off }
+        requires size { self.size ≤ 262080 }
+        ensures { result ≡ block_of (object_of self) }
+    {
+        let lines = match class_of(self.size) {
+            Class::Lines(lines) => lines,
+            Class::Chunks(chunks) => LINES_PER_CHUNK * chunks,
+        };
+        Block {
+            place: self.off - LINE_BYTES,
+            lines,
+        }
+    }
 }
 
 /// What a lane has pending until it publishes or cancels it: each list in the order in which its actions were asked for, 63 in all.

@@ -13,3 +13,4 @@ pub mod Reserving
 pub mod Deferring
 pub mod Filling
 pub mod PublishedLists
+pub mod Resting

@@ -1,6 +1,6 @@
 use Rattle.std.proofs.lemmas.Result.{IfErr-weaker, on_ok_weaker}
 use Rattle.std.proofs.Common.{rules, ap, ◌∷◌, []}
-use Rattle.pm_pending.specs.declared.actions.SetAction.{SetAction}
+use Rattle.pm_pending.specs.declared.pending.PendingActions.{PendingActions}
 use Rattle.pm_exec.proofs.GivenLetters.{kept_as_they_are}
 use Rattle.pm_exec.proofs.lines.act_at.Goals as goal
 

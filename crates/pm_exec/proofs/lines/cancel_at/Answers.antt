@@ -1,7 +1,7 @@
 use Rattle.std.proofs.Common.{◌≡◌, ◌++◌, ◌∷◌, [], List, refl, ap, sym, ◌∙◌, subst, rules}
 use Rattle.pm_memory.specs.Solo.{Solo}
 use Rattle.pm_objects.specs.declared.refusal.Refusal.TheVariants as refusal
-use Rattle.pm_pending.specs.declared.actions.SetAction.{SetAction}
+use Rattle.pm_pending.specs.declared.pending.PendingActions.{PendingActions}
 use Rattle.pm_world.specs.declared.lane.Lane.{Lane}
 use Rattle.pm_exec.specs.Progress.{IsAtLine, IsNotDone, not_done}
 use Rattle.pm_exec.proofs.ActionLines.{cancel_cut, cancel_done}
@@ -15,7 +15,7 @@ returns-in-Ok-clause-done c o first blocks names front values a =
     let e = c.in-Ok.ensures in
     let level = ap (λ (l : Lane Solo). l.level) e.lane ∙ a.level in
     let locks = ap (λ (l : Lane Solo). l.locks) e.lane in
-    subst (λ (left : List SetAction). IsAtLine o first new blocks left names (front ++ c.args.said.now ∷ []) values) (sym e.none)
+    subst (λ (left : PendingActions). IsAtLine o first new blocks left names (front ++ c.args.said.now ∷ []) values) (sym e.none)
     (cancel_done o first old blocks c.args.actions.now.items names front values a new c.args.said.now c.requires.is_said (e.done o a.view a.works.work) level locks)
 
 pub returns-in-Err-clause-ends : goal.returns-in-Err-clause-ends
@@ -27,7 +27,7 @@ returns-in-Err-clause-ends c o first blocks names front rest values a =
     let is = e.stopped none in
     let left : c.cancel_at_work.new.actions.items ≡ c.args.actions.now.items = search rules in
     rw c.not_done.ensures
-    (subst (λ (list : List SetAction). IsNotDone o first new blocks list names (front ++ c.args.said.now ∷ rest) values (not_done c.args.said.now.line c.in-Err.why)) (sym left)
+    (subst (λ (list : PendingActions). IsNotDone o first new blocks list names (front ++ c.args.said.now ∷ rest) values (not_done c.args.said.now.line c.in-Err.why)) (sym left)
     (ends_so o first old blocks c.args.actions.now.items names front values a new c.args.said.now blocks rest values c.in-Err.why (λ spent. let clash : refusal.Stopped ≡ refusal.Spent = sym is ∙ spent in cc) refl
     (λ goes. absurd (goes is))
     (λ stops. cancel_cut o first old blocks c.args.actions.now.items names front values a new c.args.said.now c.requires.is_said rest (e.stops none o a.view a.works.work))))

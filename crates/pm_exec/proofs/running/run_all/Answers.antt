@@ -1,7 +1,7 @@
 use Rattle.std.proofs.Common.{[], List, All, inl, inr, refl, sym, ◌∙◌, subst, arith}
 use Rattle.std.proofs.lemmas.List.Elements.{All-head, All-nil, All-tail}
 use Rattle.pm_objects.specs.declared.history.Entry.{Entry}
-use Rattle.pm_pending.specs.declared.actions.SetAction.{SetAction}
+use Rattle.pm_pending.specs.declared.pending.PendingActions.{PendingActions}
 use Rattle.pm_script.specs.declared.script.ScriptLine.{ScriptLine}
 use Rattle.pm_exec.specs.Calls.{call_lines}
 use Rattle.pm_exec.specs.Letters.{AreInOrder, AreTold, KeepsGiven}
@@ -17,7 +17,7 @@ pub loop-rest-init : goal.loop-rest-init
 loop-rest-init c =
     let begun : (o : Opening) (first : View) → MayRun o first c.args.lane.now c.args.names c.args.history.now.items
     → HasComeTo o first c.args.lane.now c.in_ok-blocks.blocks c.new-actions.result.items c.args.names [] c.args.history.now.items = λ o first h.
-    subst (λ (actions : List SetAction). HasComeTo o first c.args.lane.now c.in_ok-blocks.blocks actions c.args.names [] c.args.history.now.items) (sym c.new-actions.ensures)
+    subst (λ (actions : PendingActions). HasComeTo o first c.args.lane.now c.in_ok-blocks.blocks actions c.args.names [] c.args.history.now.items) (sym c.new-actions.ensures)
     (h.begins c.in_ok-blocks.blocks (let pages = c.in_ok-blocks.ensures.pages in let lanes = h.of_shape.lanes in let zones = h.of_shape.zones in omega (arith, pages, lanes, zones))) in (
       are_calls c.args.lines.now c.requires.calls,
       c.requires.ordered,
