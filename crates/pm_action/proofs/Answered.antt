@@ -1,5 +1,5 @@
 -- A set-value or a cancel that is told is a whole call, with the reply that it owes.
-use Rattle.std.proofs.Common.{◌≡◌, ◌≢◌, ◌⊎◌, ⊎_elim, inl, inr, ℕ, ◌%◌, Bool, true, false, not, cond, eqb, leb, List, [], ◌∷◌, ◌++◌, length, Option, None, Some, Err, sym, ap, ◌∙◌, subst}
+use Rattle.std.proofs.Common.{◌≡◌, ◌≢◌, ◌⊎◌, ⊎_elim, inl, inr, ℕ, ◌%◌, Bool, true, false, not, cond, eqb, leb, List, [], ◌∷◌, ◌++◌, Option, None, Some, Err, sym, ap, ◌∙◌, subst}
 use Rattle.std.proofs.lemmas.Option.{none-some}
 use Rattle.std.specs.Prelude.{unwrap_or}
 use Rattle.pm_crash.proofs.ActionsOutside.{change_is_step}
@@ -11,7 +11,7 @@ use Rattle.pm_objects.specs.declared.history.Value.{Value}
 use Rattle.pm_objects.specs.declared.history.Value.TheVariants.{Refused}
 use Rattle.pm_objects.specs.declared.refusal.Refusal.{Refusal}
 use Rattle.pm_objects.specs.declared.refusal.Refusal.TheVariants as refusal
-use Rattle.pm_pending.specs.Pending.{pending_of, sets_of}
+use Rattle.pm_pending.specs.Pending.{pending_of}
 use Rattle.pm_pending.specs.declared.actions.SetAction.{SetAction}
 use Rattle.pm_view.specs.Log.{Log}
 use Rattle.pm_view.specs.Steps.Step.{Tell}
@@ -24,14 +24,17 @@ use Rattle.pm_tx.specs.Sequences.{starts}
 use Rattle.pm_action.proofs.Started.{pending_started, told_at_once_since}
 use Rattle.pm_action.specs.Outside.{IsAnsweredAtOnce, IsLeftPending, IsSetCause, IsToldAtOnce, IsWholeOnceTold}
 
--- a call on the pending actions alone
-pub pending_answer_whole : {M : Type 0} (at : M → View → Type 0) (lane : Lane M) (v : View) → IsBegun at lane v → (op : Operation) (reply : Option Value) → IsPendingAnswer (pending_before v) op reply → IsWholeOnceTold v op reply
-pending_answer_whole at lane v is op reply answer = change_is_step (after v (Tell op reply)) op reply (record {
-  call = ap (λ (told : List Told). told ++ record { operation = op; reply = reply } ∷ []) is.untold;
-  no_records = ap (λ (log : Log). log.records) is.log;
-  no_entries = ap (λ (log : Log). log.entries) is.log;
+-- a call on the pending actions alone, of which nothing was told
+pub answer_whole : (v : View) → v.call ≡ [] → v.log.records ≡ [] → v.log.entries ≡ [] → (op : Operation) (reply : Option Value) → IsPendingAnswer (pending_before v) op reply → IsWholeOnceTold v op reply
+answer_whole v untold unrecorded unentered op reply answer = change_is_step (after v (Tell op reply)) op reply (record {
+  call = ap (λ (told : List Told). told ++ record { operation = op; reply = reply } ∷ []) untold;
+  no_records = unrecorded;
+  no_entries = unentered;
   answer = answer;
 })
+
+pub pending_answer_whole : {M : Type 0} (at : M → View → Type 0) (lane : Lane M) (v : View) → IsBegun at lane v → (op : Operation) (reply : Option Value) → IsPendingAnswer (pending_before v) op reply → IsWholeOnceTold v op reply
+pending_answer_whole at lane v is op reply answer = answer_whole v is.untold (ap (λ (log : Log). log.records) is.log) (ap (λ (log : Log). log.entries) is.log) op reply answer
 
 -- a set-value is refused for its place, or for room
 two_reasons : (unaligned full : Bool) (r : Refusal) → Some r ≡ cond unaligned (Some refusal.Unaligned) (cond full (Some refusal.ActionsFull) None) → (r ≡ refusal.Unaligned) ⊎ (r ≡ refusal.ActionsFull)

@@ -26,10 +26,10 @@ write_so false is = is
 
 module _ (v : View) (finds : FindsSound v) (objects : FindsObjects v) where
   abbrev o : Opening
-  o = finds.0
+  o = finds.opening
 
   opening : FindsOpening o v
-  opening = finds.1.1
+  opening = finds.finds
 
   module _ (l : Lock) (there : Contains v.locks l) where
     abbrev pub object : FindsObject v l
@@ -42,11 +42,11 @@ module _ (v : View) (finds : FindsSound v) (objects : FindsObjects v) where
 
     -- a word that the lock guards is of the pool, and of no lane's area
     pub word_inside : (w : ℕ) → is_under_found l.line (Some object.lines) w ≡ true → w < length v.words
-    word_inside w under = let low = finds.1.0.within l.line w (guards w under) in let size = opening.size in omega (arith, low, size)
+    word_inside w under = let low = finds.sound.within l.line w (guards w under) in let size = opening.size in omega (arith, low, size)
 
     pub word_outside : (w : ℕ) → is_under_found l.line (Some object.lines) w ≡ true → is_in_area v.lane w ≡ false
     word_outside w under =
-        let behind = finds.1.0.behind_areas l.line w (guards w under) in
+        let behind = finds.sound.behind_areas l.line w (guards w under) in
         let lane = opening.lane in
         let lanes = opening.lanes in
         and_right (leb (area_word v.lane) w) (ltb w (area_word v.lane + 1024)) (le-ltb w (area_word v.lane + 1024) (omega (arith, behind, lane, lanes)))

@@ -1,6 +1,7 @@
 pub mod ToldOutside
 pub mod Started
 pub mod Answered
+pub mod Canceled
 pub mod Settled
 pub mod RestingAgain
 pub mod WantedObjects

@@ -40,7 +40,7 @@ use Rattle.pm_lock.specs.Lacking.{LacksObject}
 use Rattle.pm_lock.specs.Leading.{DrawEnded, IsLed}
 use Rattle.pm_lock.specs.Locking.{gives}
 use Rattle.pm_tx.specs.Ending.{IsClosedBy, IsEndedBy, IsStoppedIn, drawn_more}
-use Rattle.pm_tx.specs.Sequences.{publishes}
+use Rattle.pm_tx.specs.Sequences.{publishes_outside}
 use Rattle.pm_tx.proofs.BeginPlanned.{busy_further}
 use Rattle.pm_action.specs.Holding.{GoesOnTo, HasFoundNone, HasFoundShort, HoldsActions, Overruns}
 use Rattle.pm_action.specs.Outside.{IsWholeOnceTold}
@@ -72,10 +72,10 @@ module _ {M : Type 0} (at : M → View → Type 0) (held : Lane M) (v : View) (s
     now = same ∙ sym (ap (λ (entries : List Numbered). pending_from none_pending entries) goes.entries)
 
     -- it stopped
-    pub stopped_since : (new : Lane M) → ((w : View) → MayPublishHeld at held (sets_of ys) w → pending_of ys ≡ pending_before w → IsStoppedIn at new w (publishes (entries_of (sets_of ys)) Publish new.last) Publish None) → (r : Refusal) → r ≡ refusal.Stopped
+    pub stopped_since : (new : Lane M) → ((w : View) → MayPublishHeld at held (sets_of ys) w → pending_of ys ≡ pending_before w → IsStoppedIn at new w (publishes_outside (entries_of (sets_of ys)) Publish new.last) Publish None) → (r : Refusal) → r ≡ refusal.Stopped
         → 1 ≤ length items → length items ≤ 63 → PublishEnds {M = M} {T = Unit {0}} at new items v (Err r)
     stopped_since new stops r is some few =
-        let so = subst (λ (zs : List SetAction). (w : View) → MayPublishHeld at held (sets_of zs) w → pending_of zs ≡ pending_before w → IsStoppedIn at new w (publishes (entries_of (sets_of zs)) Publish new.last) Publish None) second stops in
+        let so = subst (λ (zs : List SetAction). (w : View) → MayPublishHeld at held (sets_of zs) w → pending_of zs ≡ pending_before w → IsStoppedIn at new w (publishes_outside (entries_of (sets_of zs)) Publish new.last) Publish None) second stops in
         subst (λ q. PublishEnds {M = M} {T = Unit {0}} at new items v (Err q)) (sym is) (record {
           holding = h;
           led = goes.led;
@@ -83,21 +83,21 @@ module _ {M : Type 0} (at : M → View → Type 0) (held : Lane M) (v : View) (s
           undrawn = goes.entries;
           untold = goes.begun.untold;
           works = works at held h goes.begun;
-          may = may_publish at held (sets_of items) h may_held (pending_some at held items h may_held some) (pending_few at held items h may_held few);
+          may = may_publish at held (sets_of items) h may_held (pending_some items some) (pending_few items few);
           own = own at held (sets_of items) h may_held;
           stopped = so h may_held now;
         })
 
-    module _ (mid new : Lane M) (ended : (w : View) → MayPublishHeld at held (sets_of ys) w → pending_of ys ≡ pending_before w → IsEndedBy at mid w (publishes (entries_of (sets_of ys)) Publish mid.last) Publish None) where
+    module _ (mid new : Lane M) (ended : (w : View) → MayPublishHeld at held (sets_of ys) w → pending_of ys ≡ pending_before w → IsEndedBy at mid w (publishes_outside (entries_of (sets_of ys)) Publish mid.last) Publish None) where
       abbrev es : List Redo
       es = entries_of (sets_of items)
 
-      pub ended_there : IsEndedBy at mid h (publishes es Publish mid.last) Publish None
+      pub ended_there : IsEndedBy at mid h (publishes_outside es Publish mid.last) Publish None
       ended_there =
-          subst (λ (zs : List SetAction). (w : View) → MayPublishHeld at held (sets_of zs) w → pending_of zs ≡ pending_before w → IsEndedBy at mid w (publishes (entries_of (sets_of zs)) Publish mid.last) Publish None) second ended h may_held now
+          subst (λ (zs : List SetAction). (w : View) → MayPublishHeld at held (sets_of zs) w → pending_of zs ≡ pending_before w → IsEndedBy at mid w (publishes_outside (entries_of (sets_of zs)) Publish mid.last) Publish None) second ended h may_held now
 
       abbrev w : View
-      w = after_all h (publishes es Publish mid.last h)
+      w = after_all h (publishes_outside es Publish mid.last h)
 
       abbrev view : View
       view = after_all w (gives mid.locks.items w)
@@ -105,7 +105,7 @@ module _ {M : Type 0} (at : M → View → Type 0) (held : Lane M) (v : View) (s
       -- it was published, and the locks went back
       pub published_since : IsClosedBy at new w (gives mid.locks.items) → new.last ≡ mid.last → 1 ≤ length items → length items ≤ 63 → IsPublished at new items v
       published_since closed last some few =
-          let e : IsEndedBy at mid h (publishes es Publish mid.last) Publish None = ended_there in
+          let e : IsEndedBy at mid h (publishes_outside es Publish mid.last) Publish None = ended_there in
           let gone : view ≡ record w { locks = []; known = view.known } = closed.same in
           let back : IsLed w view =
           ready_led w (gives mid.locks.items w) closed.ready (drawless w (gives mid.locks.items w) (let n = ap (λ (u : View). length u.entries) gone in omega (arith, n))) (none_counted mid.locks.items w)
@@ -118,16 +118,17 @@ module _ {M : Type 0} (at : M → View → Type 0) (held : Lane M) (v : View) (s
             led = goes.led;
             holds = holds;
             undrawn = goes.entries;
-            ready = subst (λ n. Ready h (publishes es Publish n h)) (sym last) e.ready;
-            draws = subst (λ n. DrawEnded h (publishes es Publish n h)) (sym last) e.draws;
+            ready = subst (λ n. Ready h (publishes_outside es Publish n h)) (sym last) e.ready;
+            draws = subst (λ n. DrawEnded h (publishes_outside es Publish n h)) (sym last) e.draws;
             view = view;
-            back = subst (λ n. IsLed (after_all h (publishes es Publish n h)) view) (sym last) back;
+            back = subst (λ n. IsLed (after_all h (publishes_outside es Publish n h)) view) (sym last) back;
             same = same_lane-then v h view (led_same v h goes.led) (same_lane-then h w view e.over.lane (led_same w view back));
             rests = closed.rests;
+            drained = ap (λ (u : View). u.changes) gone ∙ e.over.drained;
             idle = ap (λ (u : View). u.log) gone ∙ e.over.log;
             entries = entries ∙ ap (λ n. drawn_more v.entries n (record { operation = Publish; reply = None } ∷ [])) (sym last);
-            few = pending_few at held items h may_held few;
-            drawn_there = subst (λ n. view.entries ≡ (after_all h (publishes es Publish n h)).entries) (sym last) (ap (λ (u : View). u.entries) gone);
+            few = pending_few items few;
+            drawn_there = subst (λ n. view.entries ≡ (after_all h (publishes_outside es Publish n h)).entries) (sym last) (ap (λ (u : View). u.entries) gone);
             pending = pending_behind_one v mid.last Publish None view entries;
           })
 
@@ -146,6 +147,7 @@ module _ {M : Type 0} (at : M → View → Type 0) (new : Lane M) (v u : View) (
     back = was.back;
     same = same_lane-then v u was.view (led_same v u led) was.same;
     rests = was.rests;
+    drained = was.drained;
     idle = was.idle;
     entries = was.entries ∙ ap (λ (es : List Numbered). drawn_more es new.last (record { operation = Publish; reply = None } ∷ [])) entries;
     few = was.few;

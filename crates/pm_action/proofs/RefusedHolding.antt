@@ -34,6 +34,8 @@ use Rattle.pm_lock.specs.Locking.{IsBusy}
 use Rattle.pm_lock.specs.Plans.{has_form, locks_of_form}
 use Rattle.pm_tx.proofs.BeganWanted.{form_lacks}
 use Rattle.pm_action.specs.Holding.{GoesOnTo, HasFoundNone, HasFoundShort, IsHoldCause, IsHoldReason, RefusesToHold, SeeksObjects}
+use Rattle.pm_tx.specs.Ending.{LiesUnlocked}
+use Rattle.pm_action.specs.Publishing.{StaysSound}
 use Rattle.pm_action.specs.Outside.{IsLeftPending, IsToldAtOnce, IsToldOutside, IsWholeOnceTold}
 use Rattle.pm_action.proofs.Started.{told_further}
 use Rattle.pm_action.proofs.WantedObjects.{want_for}
@@ -141,10 +143,10 @@ module _ (w : View) (reply : Option Value) where
       )
   reason_told actions r inside same reason = absurd reason
 
-module _ {M : Type 0} (at : M → View → Type 0) (mid new : Lane M) (actions : List SetAction) (v : View) (same : pending_of actions ≡ pending_before v) where
+module _ {M : Type 0} (at : M → View → Type 0) (mid new : Lane M) (actions : List SetAction) (v : View) (stays : StaysSound at v) (same : pending_of actions ≡ pending_before v) where
   abbrev Ends : Refusal → Type 0
   Ends r =
-      (w : View) (actions : List SetAction) → IsBegun at mid w → IsWholeOnceTold w Publish (Some (Refused r)) → IsLeftPending actions w Publish (Some (Refused r)) → IsToldAtOnce at new actions w Publish (Some (Refused r))
+      (w : View) (actions : List SetAction) → IsBegun at mid w → LiesUnlocked w → IsWholeOnceTold w Publish (Some (Refused r)) → IsLeftPending actions w Publish (Some (Refused r)) → IsToldAtOnce at new actions w Publish (Some (Refused r))
 
   -- the refusal is told, from the view at which there was the reason
   told_there : (r : Refusal) → Ends r → (goes : GoesOnTo at mid v (λ w. IsHoldReason w (sets_of actions) r)) → IsToldAtOnce at new actions goes.view Publish (Some (Refused r))
@@ -152,7 +154,7 @@ module _ {M : Type 0} (at : M → View → Type 0) (mid new : Lane M) (actions :
       let w : View = goes.view in
       let is : IsBegun at mid w = goes.begun in
       let now : pending_of actions ≡ pending_before w = same ∙ sym (same_before v w goes.entries) in
-      ends w actions is
+      ends w actions is (stays mid.memory w goes.led is.seen.memory).apart
       (refused_publish_is_step (after w (Tell Publish (Some (Refused r)))) r (record {
         call = ap (λ (told : List Told). told ++ record { operation = Publish; reply = Some (Refused r) } ∷ []) is.untold;
         no_records = ap (λ (log : Log). log.records) is.log;
@@ -181,3 +183,11 @@ module _ {M : Type 0} (at : M → View → Type 0) (mid new : Lane M) (actions :
   refuses refusal.NoObject apart cause sought ends = found_none ends sought
   refuses refusal.OutOfRange apart cause sought ends = found_short ends sought
   refuses r apart cause sought ends = absurd cause
+
+-- where such a refusal is told, the call has begun still, and nothing undrained lies under a lock
+pub refusing_view : {M : Type 0} (at : M → View → Type 0) (mid : Lane M) (actions : List SetAction) (v : View) → StaysSound at v → (r : Refusal) → r ≢ refusal.Busy → IsHoldCause r → SeeksObjects {M = M} {T = Unit {0}} at mid (sets_of actions) v (Err r)
+    → (w : View) × (IsBegun at mid w × LiesUnlocked w)
+refusing_view at mid actions v stays refusal.Busy apart cause sought = absurd (apart refl)
+refusing_view at mid actions v stays refusal.NoObject apart cause sought = (sought.view, (sought.begun, (stays mid.memory sought.view sought.led sought.begun.seen.memory).apart))
+refusing_view at mid actions v stays refusal.OutOfRange apart cause sought = (sought.view, (sought.begun, (stays mid.memory sought.view sought.led sought.begun.seen.memory).apart))
+refusing_view at mid actions v stays r apart cause sought = absurd cause

@@ -23,7 +23,7 @@ use Rattle.pm_tx.proofs.BeginPlanned.{started_led}
 use Rattle.pm_action.specs.Outside.{IsToldAtOnce, IsToldOutside}
 
 -- a start looks at a word that the lane knows
-start_words : (v : View) (n : ℕ) → (after_all v (starts n v)).words ≡ v.words
+pub start_words : (v : View) (n : ℕ) → (after_all v (starts n v)).words ≡ v.words
 unfolding starts sees_generation by_lane by_view looks in_turn one after_all
 start_words v n =
     let w : ℕ = area_word v.lane in

@@ -16,22 +16,25 @@ use Rattle.pm_view.specs.Log.Phase.{Idle}
 use Rattle.pm_view.specs.View.{View}
 use Rattle.pm_view.specs.Views.{after_all}
 use Rattle.pm_world.specs.Opening.{Opening, IsSound}
-use Rattle.pm_world.specs.Sequences.{Ready}
+use Rattle.pm_world.specs.Sequences.{Ready, settles}
 use Rattle.pm_world.specs.declared.lane.Lane.{Lane}
 use Rattle.pm_lock.specs.Begun.{IsBegun}
 use Rattle.pm_lock.specs.Leading.{DrawEnded, IsLed}
 use Rattle.pm_lock.specs.Locking.{IsBusy}
 use Rattle.pm_lock.specs.Resting.{IsAtRest}
 use Rattle.pm_tx.specs.Beginning.{IsSpent}
-use Rattle.pm_tx.specs.Ending.{IsStoppedIn, drawn_more}
+use Rattle.pm_tx.specs.Ending.{IsStoppedIn, LiesUnlocked, drawn_more}
 use Rattle.pm_tx.specs.Publishing.{MayPublish}
-use Rattle.pm_tx.specs.Sequences.{publishes}
+use Rattle.pm_tx.specs.Sequences.{publishes_outside}
 use Rattle.pm_action.specs.Holding.{HasFoundNone, HasFoundShort, HoldsActions}
 use Rattle.pm_action.specs.Outside.{IsToldAtOnce}
 
--- what the view finds of blocks is as at a sound opening
-abbrev pub FindsSound : View → Type 0
-FindsSound v = (o : Opening) × (IsSound o × FindsOpening o v)
+-- what the view finds of blocks is as at a sound opening, and nothing undrained lies under a lock of the lane
+pub record FindsSound (v : View) : Type 0 where
+  pub opening : Opening
+  pub sound : IsSound opening
+  pub finds : FindsOpening opening v
+  pub apart : LiesUnlocked v
 
 -- and so it is wherever the lane goes on to without a counted call, as some memory is seen
 abbrev pub StaysSound : {M : Type 0} → (M → View → Type 0) → View → Type 0
@@ -51,27 +54,29 @@ pub record MayPublishHeld {M : Type 0} (at : M → View → Type 0) (lane : Lane
 abbrev pub entries_of : List Action → List Redo
 entries_of actions = map entry_of actions
 
--- from the view before, without a counted call or a draw, the call went on to one at which it held the objects of the actions. From there it logged the
--- actions, was told, drew the lane's last number and performed them all; then the locks went back, no call is open, and the lane rests. Nothing
--- is pending now
+-- from the view before, without a counted call or a draw, the call went on to one at which it held the objects of the actions. From there it made all
+-- persistent, logged the actions, was told, drew the lane's last number and performed them all; then the locks went back, no call is open, and the lane
+-- rests with nothing undrained. Nothing is pending now
 pub record IsPublishedBy {M : Type 0} (at : M → View → Type 0) (lane : Lane M) (actions : List Action) (v : View) : Type 0 where
   pub holding : View
   pub led : IsLed v holding
   pub holds : HoldsActions holding actions
   pub undrawn : holding.entries ≡ v.entries
-  pub ready : Ready holding (publishes (entries_of actions) Publish lane.last holding)
-  pub draws : DrawEnded holding (publishes (entries_of actions) Publish lane.last holding)
+  pub ready : Ready holding (publishes_outside (entries_of actions) Publish lane.last holding)
+  pub draws : DrawEnded holding (publishes_outside (entries_of actions) Publish lane.last holding)
   pub view : View
-  pub back : IsLed (after_all holding (publishes (entries_of actions) Publish lane.last holding)) view
+  pub back : IsLed (after_all holding (publishes_outside (entries_of actions) Publish lane.last holding)) view
   pub same : IsSameLane v view
   pub rests : IsAtRest at lane view
+  pub drained : view.changes ≡ []
   pub idle : view.log ≡ no_log Idle
   pub entries : view.entries ≡ drawn_more v.entries lane.last (record { operation = Publish; reply = None } ∷ [])
   pub few : length actions ≤ 63
-  pub drawn_there : view.entries ≡ (after_all holding (publishes (entries_of actions) Publish lane.last holding)).entries
+  pub drawn_there : view.entries ≡ (after_all holding (publishes_outside (entries_of actions) Publish lane.last holding)).entries
   pub pending : pending_before view ≡ none_pending
 
--- it held them, so that each entry is of a word that it locked for writing, and the lane stopped as it published
+-- it held them, so that each entry is of a word that it locked for writing and may be published once all is persistent, and the lane stopped as it made that
+-- so, or as it published
 pub record IsStoppedPublishing {M : Type 0} (at : M → View → Type 0) (lane : Lane M) (actions : List Action) (v : View) : Type 0 where
   pub holding : View
   pub led : IsLed v holding
@@ -79,9 +84,9 @@ pub record IsStoppedPublishing {M : Type 0} (at : M → View → Type 0) (lane :
   pub undrawn : holding.entries ≡ v.entries
   pub untold : holding.call ≡ []
   pub works : IsWorking holding
-  pub may : MayPublish holding (entries_of actions)
+  pub may : MayPublish (after_all holding (settles holding)) (entries_of actions)
   pub own : All (IsOfPool holding) (entries_of actions)
-  pub stopped : IsStoppedIn at lane holding (publishes (entries_of actions) Publish lane.last) Publish None
+  pub stopped : IsStoppedIn at lane holding (publishes_outside (entries_of actions) Publish lane.last) Publish None
 
 -- what a publish leaves that is done: of no actions it is told, and that is all
 abbrev pub IsPublished : {M : Type 0} → (M → View → Type 0) → Lane M → List SetAction → View → Type 0

@@ -10,6 +10,7 @@ ghost use Rattle.pm_view.specs.View.{View};
 ghost use Rattle.pm_lock.specs.Begun.{IsBegun, IsLaneBegun};
 ghost use Rattle.pm_lock.specs.Plans.{IsPlan};
 ghost use Rattle.pm_action.specs.Holding.{GoesOnTo, HasLookedAgain, HoldsActions, HoldsEach, HoldsObject, IsHoldCause, RefusesToHold, SeeksObjects};
+ghost use Rattle.pm_action.specs.Publishing.{StaysSound};
 
 use crate::telling::end_outside;
 use pm_layout::{LINE_BYTES, WORD_BYTES};
@@ -115,12 +116,12 @@ fn seek_actions<M: LawfulMem>(lane: &mut Lane<M>, actions: &[SetAction]) -> Resu
 /// is not told, and the lane is at rest. `NoObject` where an action names no object, and else `OutOfRange` where one passes the end of its object: the
 /// publish is told as refused, the call draws its number, and the lane is at rest.
 pub fn hold_actions<M: LawfulMem>(lane: &mut Lane<M>, actions: &[SetAction]) -> Result<(), Refusal>
-    requires begun { IsLaneBegun M.at lane.old }
+    requires begun { (v : View) × (IsBegun M.at lane.old v × StaysSound M.at v) }
     requires free { lane.old.locks.items ≡ [] }
     requires few { length actions.now ≤ 63 }
     requires aligned { All (λ (a : SetAction). a.off % 8 ≡ 0) actions.now }
     ensures held { OnOk result ((v : View) → IsBegun M.at lane.old v → GoesOnTo M.at lane.new v (λ w. HoldsActions w (sets_of actions.now))) }
-    ensures refused { IfErr result (λ r. (v : View) → IsBegun M.at lane.old v → pending_of actions.now ≡ pending_before v → RefusesToHold M.at lane.new actions.now v r) }
+    ensures refused { IfErr result (λ r. (v : View) → IsBegun M.at lane.old v → StaysSound M.at v → pending_of actions.now ≡ pending_before v → RefusesToHold M.at lane.new actions.now v r) }
     ensures causes { IfErr result IsHoldCause }
     ensures lane { OnOk result (lane.new ≡ record lane.old { memory = lane.new.memory; locks = lane.new.locks }) }
     ensures free { OnErr result (lane.new.locks.items ≡ []) }

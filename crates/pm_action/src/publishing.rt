@@ -11,12 +11,12 @@ ghost use Rattle.pm_lock.specs.Lacking.{LacksObject};
 ghost use Rattle.pm_lock.specs.Resting.{IsAtRest};
 ghost use Rattle.pm_view.specs.Founds.{IsAlone};
 ghost use Rattle.pm_tx.specs.Ending.{IsEndedBy, IsLaneAfterCall, IsStoppedIn};
-ghost use Rattle.pm_tx.specs.Sequences.{publishes};
+ghost use Rattle.pm_tx.specs.Sequences.{publishes_outside};
 ghost use Rattle.pm_action.specs.Holding.{Overruns};
 ghost use Rattle.pm_action.specs.Publishing.{IsBegunPublishCause, IsPublishCause, MayPublishHeld, PublishEnds, RestsSoundly, StaysSound, entries_of};
 
 use crate::holding::hold_actions;
-use crate::telling::{come_to_rest, end_outside};
+use crate::telling::{come_to_rest, end_outside, settle_begun};
 use arrayvec::ArrayVec;
 use pm_memory::Stopped;
 use pm_objects::{Operation, Refusal};
@@ -24,22 +24,24 @@ use pm_pending::{SetAction, list_entries};
 use pm_tx::{publish_log, start};
 use pm_world::{Lane, LawfulMem};
 
-/// Logs the actions, whose objects the lane holds, tells the publish and draws the call's number, and performs them; or says that the lane stopped.
+/// Makes all that is undrained persistent, logs the actions, whose objects the lane holds, tells the publish and draws the call's number, and performs
+/// them; or says that the lane stopped.
 fn publish_held<M: LawfulMem>(lane: &mut Lane<M>, actions: &[SetAction]) -> Result<(), Refusal>
     requires may { (v : View) × MayPublishHeld M.at lane.old (sets_of actions.now) v }
     requires some { 1 ≤ length actions.now }
     requires few { length actions.now ≤ 63 }
     ensures ended { OnOk result ((v : View) → MayPublishHeld M.at lane.old (sets_of actions.now) v → pending_of actions.now ≡ pending_before v
-        → IsEndedBy M.at lane.new v (publishes (entries_of (sets_of actions.now)) operation.Publish lane.new.last) operation.Publish None) }
+        → IsEndedBy M.at lane.new v (publishes_outside (entries_of (sets_of actions.now)) operation.Publish lane.new.last) operation.Publish None) }
     ensures behind { OnOk result (IsLaneAfterCall M.at lane.new) }
     ensures none { OnOk result (lane.new.records.items ≡ []) }
     ensures unlisted { OnOk result (lane.new.entries.items ≡ []) }
     ensures lane { OnOk result (lane.new ≡ record lane.old { memory = lane.new.memory; records = lane.new.records; entries = lane.new.entries; drawn = Some lane.new.last; last = lane.new.last }) }
     ensures stops { OnErr result ((v : View) → MayPublishHeld M.at lane.old (sets_of actions.now) v → pending_of actions.now ≡ pending_before v
-        → IsStoppedIn M.at lane.new v (publishes (entries_of (sets_of actions.now)) operation.Publish lane.new.last) operation.Publish None) }
+        → IsStoppedIn M.at lane.new v (publishes_outside (entries_of (sets_of actions.now)) operation.Publish lane.new.last) operation.Publish None) }
     ensures stopped { IfErr result (λ r. r ≡ refusal.Stopped) }
     ensures stopped_lane { OnErr result (lane.new ≡ record lane.old { memory = lane.new.memory; records = lane.new.records; entries = lane.new.entries; drawn = lane.new.drawn; last = lane.new.last; stopped = true }) }
 {
+    settle_begun(lane)?;
     list_entries(lane, actions);
     match publish_log(lane, &Operation::Publish) {
         Ok(()) => Ok(()),
@@ -82,7 +84,8 @@ fn publish_begun<M: LawfulMem>(
 /// leaves all of the words that it sets or none. `Stopped` where the lane had stopped, and `Spent` where its generation or the numbers are used up,
 /// change nothing; nor does `Busy`, where the lock of an object is another lane's. pmemobj_publish waits for locks: until lanes run side by side each is tried once
 /// here, as a begin does. `NoObject` where an action names no object, and else `OutOfRange` where one passes the end of its object, leave what is pending
-/// as it was. `Stopped` where the lane comes to its stop leaves the first of the memory calls made.
+/// as it was. Before the log of the actions all that is undrained is made persistent. `Stopped` where the lane comes to its stop leaves the first of the memory
+/// calls made.
 pub fn publish<M: LawfulMem>(
     lane: &mut Lane<M>,
     actions: &mut ArrayVec<SetAction, 63>,

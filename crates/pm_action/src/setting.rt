@@ -5,16 +5,15 @@ ghost use Rattle.pm_objects.specs.declared.calls.Operation.TheVariants as operat
 ghost use Rattle.pm_objects.specs.declared.refusal.Refusal.TheVariants as refusal;
 ghost use Rattle.pm_pending.specs.Pending.{pending_of};
 ghost use Rattle.pm_view.specs.View.{View};
-ghost use Rattle.pm_lock.specs.Begun.{IsBegun, IsLaneBegun};
 ghost use Rattle.pm_lock.specs.Resting.{IsAtRest, IsLaneAtRest};
-ghost use Rattle.pm_action.specs.Outside.{IsAnsweredAtOnce, IsCancelCause, IsSetCause};
+ghost use Rattle.pm_action.specs.Outside.{CancelEnds, IsAnsweredAtOnce, IsCancelCause, IsSetCause};
 
-use crate::telling::end_outside;
+use crate::telling::{end_outside, settle_begun};
 use arrayvec::ArrayVec;
 use pm_objects::{Operation, Refusal};
 use pm_pending::{SetAction, pend};
 use pm_tx::start;
-use pm_world::{Lane, LawfulMem, settle};
+use pm_world::{Lane, LawfulMem};
 
 /// Makes an action of the lane pending where no transaction is open: pmemobj_set_value(3). `Stopped` where the lane had stopped, and `Spent` where
 /// its generation or the numbers are used up, change nothing. Else it is a call of the history: `Unaligned` where the action's bytes don't begin at
@@ -56,19 +55,9 @@ pub fn set_value<M: LawfulMem>(
     }
 }
 
-/// Makes all that is undrained persistent. Nothing is in a call that has just begun: this makes no memory call, and the lane does not stop in it.
-fn settle_begun<M: LawfulMem>(lane: &mut Lane<M>)
-    requires begun { IsLaneBegun M.at lane.old }
-    ensures begun { (v : View) → IsBegun M.at lane.old v → IsBegun M.at lane.new v }
-    ensures else_same { lane.new ≡ record lane.old { memory = lane.new.memory } }
-{
-    if settle(&mut lane.memory).is_err() {
-        unreachable!();
-    }
-}
-
 /// Gives up all pending actions of the lane where no transaction is open: pmemobj_cancel(3). `Stopped` where the lane had stopped, and `Spent` where
-/// its generation or the numbers are used up, change nothing. Else it is a call of the history.
+/// its generation or the numbers are used up, change nothing. Else it is a call of the history, before which all that is undrained is made persistent:
+/// `Stopped` where the lane comes to its stop in that leaves what is pending as it was.
 pub fn cancel<M: LawfulMem>(
     lane: &mut Lane<M>,
     actions: &mut ArrayVec<SetAction, 63>,
@@ -76,18 +65,19 @@ pub fn cancel<M: LawfulMem>(
     requires rests { lane.old.stopped ≡ false → IsLaneAtRest M.at lane.old }
     ensures stopped { lane.old.stopped ≡ true → (result ≡ Err refusal.Stopped) × (lane.new ≡ lane.old) }
     ensures made { (v : View) → IsAtRest M.at lane.old v → pending_of actions.old.items ≡ pending_before v
-        → IsAnsweredAtOnce M.at lane.new actions.new.items v operation.Cancel result }
+        → CancelEnds M.at lane.new actions.new.items v result }
     ensures emptied { OnOk result (actions.new.items ≡ []) }
     ensures unchanged { OnErr result (actions.new ≡ actions.old) }
     ensures spent { result ≡ Err refusal.Spent → lane.new ≡ record lane.old { memory = lane.new.memory } }
-    ensures lane { lane.new ≡ record lane.old { memory = lane.new.memory; last = lane.new.last } }
+    ensures lane { lane.new.stopped ≡ false → lane.new ≡ record lane.old { memory = lane.new.memory; last = lane.new.last } }
+    ensures stopped_lane { lane.old.stopped ≡ false → result ≡ Err refusal.Stopped → lane.new ≡ record lane.old { memory = lane.new.memory; stopped = true } }
     ensures causes { IfErr result (IsCancelCause lane.old.stopped) }
 {
     if lane.stopped {
         return Err(Refusal::Stopped);
     }
     start(lane)?;
-    settle_begun(lane);
+    settle_begun(lane)?;
     end_outside(lane, &Operation::Cancel, None);
     actions.clear();
     Ok(())

@@ -72,6 +72,9 @@ module _ {M : Type 0} (at : M → View → Type 0) (before lane : Lane M) (v : V
     same : w ≡ record given { run_words = w.run_words; zone_words = w.zone_words; known = w.known; reserved = w.reserved; freed = w.freed; seen = w.seen }
     same = reclaimed.reclaims.same
 
+    drained : w.changes ≡ []
+    drained = ap (λ (z : View). z.changes) same ∙ (ap (λ (z : View). z.changes) closed.same ∙ may.behind.drained)
+
     rests : IsAtRest at (record lane { memory = last }) w
     rests =
         let r = closed.rests in
@@ -90,7 +93,7 @@ module _ {M : Type 0} (at : M → View → Type 0) (before lane : Lane M) (v : V
           unstopped = r.unstopped;
           unlisted = r.unlisted;
           fresh = inl (ap (λ (z : View). z.log) same ∙ (ap (λ (z : View). z.log) closed.same ∙ may.behind.log));
-          drained = ap (λ (z : View). z.changes) same ∙ r.drained;
+          undrained = inl drained;
           free = ap (λ (z : View). z.locks) same ∙ r.free;
           place = record {
             lane = subst (λ k. k < w.lanes) (sym (ap (λ (z : View). z.lane) same)) (subst (λ k. given.lane < k) (sym (ap (λ (z : View). z.lanes) same)) r.place.lane);
@@ -100,4 +103,4 @@ module _ {M : Type 0} (at : M → View → Type 0) (before lane : Lane M) (v : V
         }
 
     pub ended_with : HasEndedWith at (record lane { memory = last }) v locks kept
-    ended_with = record { ready = closed.ready; given = closed.same; view = w; reclaims = reclaimed.reclaims; rests = rests; left = reclaimed.holds }
+    ended_with = record { ready = closed.ready; given = closed.same; view = w; reclaims = reclaimed.reclaims; rests = rests; drained = drained; left = reclaimed.holds }

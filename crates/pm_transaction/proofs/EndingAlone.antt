@@ -128,7 +128,7 @@ module _ {M : Type 0} (o : Opening) (header : Header) (pool : PoolView) (at : M 
       rests_w : RestsBehindCall w
       rests_w = record {
         idle = ap (λ (z : View). z.log) ended.reclaims.same ∙ (ap (λ (z : View). z.log) ended.given ∙ idle);
-        changes = none_filled w ended.rests.drained;
+        changes = none_filled w ended.drained;
         free = ended.rests.free;
         unlocked = ap (λ (z : View). z.zone_locks) ended.reclaims.same ∙ (ap (λ (z : View). z.zone_locks) ended.given ∙ unlocked);
         no_run = no_run;

@@ -24,11 +24,12 @@ abbrev pub unlocked_view : View → List HeldLock → View
 unlocked_view v locks = after_all v (gives locks v)
 
 -- From the view before the lane gave its locks back, which changed nothing else but what it knows, and then what it had reserved or freed and no word says is
--- taken; it has nothing of that left but these blocks, and rests.
+-- taken; it has nothing of that left but these blocks, and rests with nothing undrained.
 pub record HasEndedWith {M : Type 0} (at : M → View → Type 0) (lane : Lane M) (v : View) (locks : List HeldLock) (kept : List Block) : Type 0 where
   pub ready : Ready v (gives locks v)
   pub given : unlocked_view v locks ≡ record v { locks = []; known = (unlocked_view v locks).known }
   pub view : View
   pub reclaims : Reclaims (unlocked_view v locks) view
   pub rests : IsAtRest at lane view
+  pub drained : view.changes ≡ []
   pub left : HasLeft kept view

@@ -17,8 +17,8 @@ use pm_world::{Lane, LawfulMem};
 /// Begins a transaction where none is open, which made and freed nothing so far, with these locks, each tried once: pmemobj_tx_begin(3). The first
 /// reason that applies is the answer. `Stopped` where the lane had stopped, `Spent` where its generation or the numbers are used up, and `Busy`
 /// where a lock is another lane's: then the lane is at rest as before, with no lock. `LocksFull` where more than 64 objects are wanted, and
-/// `NoObject` where a want is of no object: then the call is over, and its level 1 is left aborted, to be ended. What is listed stays where
-/// none is begun.
+/// `NoObject` where a want is of no object: then what was undrained is persistent, the call is over, and its level 1 is left aborted, to be ended.
+/// `Stopped` also where the lane comes to its stop before such a refusal is told. What is listed stays where none is begun.
 pub fn begin<M: LawfulMem>(
     lane: &mut Lane<M>,
     blocks: &mut CallBlocks,

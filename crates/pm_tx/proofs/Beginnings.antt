@@ -1,5 +1,5 @@
 -- A call that has begun may be opened.
-use Rattle.std.proofs.Common.{◌≤◌, ◌≡◌, ℕ, All, List, [], ◌∷◌, ◌++◌, map, length, slice_get, None, Some, refl, sym, ap, ◌∙◌, subst, arith}
+use Rattle.std.proofs.Common.{◌≤◌, ◌≡◌, ℕ, All, inl, List, [], ◌∷◌, ◌++◌, map, length, slice_get, None, Some, refl, sym, ap, ◌∙◌, subst, arith}
 use Rattle.std.proofs.lemmas.List.Elements.{All-nil}
 use Rattle.std.proofs.lemmas.Option.{none-some}
 use Rattle.pm_crash.proofs.Begun.{begin_under_way}
@@ -8,11 +8,15 @@ use Rattle.pm_objects.specs.declared.calls.Operation.TheVariants.{Begin}
 use Rattle.pm_objects.specs.declared.calls.Want.{Want}
 use Rattle.pm_undo.proofs.Begun.{tell_works}
 use Rattle.pm_undo.specs.Spans.{IsSpan}
-use Rattle.pm_undo.specs.Working.{FindsOpening, IsWorking}
+use Rattle.pm_undo.proofs.Restored.{open_settled}
+use Rattle.pm_undo.proofs.Settled.{settle_lawful}
+use Rattle.pm_undo.specs.Working.{FindsOpening, IsWorking, log_settled}
 use Rattle.pm_view.specs.Log.{Log, Recorded}
 use Rattle.pm_view.specs.Steps.Step.{Tell}
 use Rattle.pm_view.specs.View.{View, Told}
-use Rattle.pm_view.specs.Views.{after}
+use Rattle.pm_view.specs.Views.{after, after_all}
+use Rattle.pm_world.specs.Sequences.{Ready, settles}
+use Rattle.pm_world.specs.declared.lane.Span.{Span}
 use Rattle.pm_world.specs.Lanes.{IsSeenAs, span_of}
 use Rattle.pm_world.specs.Lawful.{MayTell}
 use Rattle.pm_world.specs.Opening.{Opening, IsSound}
@@ -22,6 +26,9 @@ use Rattle.pm_world.specs.declared.lane.Stage.TheVariants as stage
 use Rattle.pm_lock.specs.Begun.{IsBegun}
 use Rattle.pm_lock.specs.Finding.{FindsObjects}
 use Rattle.pm_tx.specs.AtWork.{IsAtWork}
+use Rattle.pm_tx.specs.Ending.{IsTakenBack}
+use Rattle.pm_tx.specs.Sequences.{takes_back}
+use Rattle.pm_tx.proofs.TakenBack.{take_back_lawful}
 use Rattle.pm_crash.proofs.PendingOn.{published_first}
 use Rattle.pm_tx.proofs.GoingOn.{lists_none}
 
@@ -47,6 +54,41 @@ module _ {M : Type 0} (at : M → View → Type 0) (lane : Lane M) (v : View) (i
     };
     drained = λ slot low. absurd (let many = ap length no_records in omega (arith, many, low));
   }
+
+  -- once all is persistent there is nothing to be taken back
+  pub settled_back : Ready v (settles v) × IsTakenBack v (after_all v (settles v))
+  unfolding takes_back
+  settled_back =
+      subst (λ (spans : List Span). Ready v (takes_back spans v) × IsTakenBack v (after_all v (takes_back spans v))) (ap (map span_of) no_records) (take_back_lawful v works (ap (λ (log : Log). log.entries) is.log))
+
+  -- and the call has begun still
+  pub begun_settled : (memory : M) → at memory (after_all v (settles v)) → IsBegun at (record lane { memory = memory }) (after_all v (settles v))
+  begun_settled memory there =
+      let m : View = after_all v (settles v) in
+      let same = (settle_lawful v).1 in
+      let w : View = record v { changes = []; calls = m.calls; log = log_settled v.changes v } in
+      let log : w.log ≡ v.log = open_settled v.changes v [] [] works.is_open in
+      subst (IsBegun at (record lane { memory = memory })) (sym same) (record {
+        seen = record {
+          memory = subst (at memory) same there;
+          locks = is.seen.locks;
+          records = is.seen.records ∙ sym (ap (λ (l : Log). map span_of l.records) log);
+          drawn = is.seen.drawn;
+          last = is.seen.last;
+          pool = is.seen.pool;
+          shape = (let s = is.seen.shape in record { lanes = s.lanes; zones = s.zones; size = s.size });
+        };
+        unharmed = is.unharmed;
+        unstopped = is.unstopped;
+        unlisted = is.unlisted;
+        log = log ∙ is.log;
+        undrawn = is.undrawn;
+        undrained = inl refl;
+        untold = is.untold;
+        area = (let a = is.area in record { lane = a.lane; few = a.few; inside = a.inside; below = a.below });
+        may_come = (let c = is.may_come in record { found = c.found; seen = c.seen; below = c.below });
+        lines = (let l = is.lines in record { inside = l.inside; once = l.once });
+      })
 
   pub no_spans : lane.records.items ≡ []
   no_spans = is.seen.records ∙ ap (map span_of) no_records

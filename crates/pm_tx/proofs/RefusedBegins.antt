@@ -31,11 +31,10 @@ use Rattle.pm_lock.proofs.Leads.{led_none}
 use Rattle.pm_lock.specs.Begun.{IsBegun}
 use Rattle.pm_lock.specs.Leading.{DrawEnded}
 use Rattle.pm_tx.specs.Begins.{HasStoppedRefused, IsRefusedAtOnce}
-use Rattle.pm_tx.specs.Ending.{GivesUpBy, IsEndedBy, IsOver, IsReadyForAny, IsTakenBack, IsUndrawn}
+use Rattle.pm_tx.specs.Ending.{GivesUpBy, IsEndedBy, IsOver, IsReadyForAny, IsUndrawn}
 use Rattle.pm_tx.specs.Sequences.{ends_call, gives_up, takes_back}
-use Rattle.pm_tx.proofs.Beginnings.{no_records, no_spans, works}
+use Rattle.pm_tx.proofs.Beginnings.{no_records, no_spans, settled_back, works}
 use Rattle.pm_tx.proofs.GivenUp.{IsLast, after_over, end_ready, give_up_drawn, give_up_last, give_up_lawful, give_up_undrawn, place_at_work, undrawn_lane}
-use Rattle.pm_tx.proofs.TakenBack.{take_back_lawful}
 
 -- a reason to refuse a begin is one by each view of the pool
 module _ (v next : View) (pool : next.pool ≡ v.pool) (lanes : next.lanes ≡ v.lanes) (zones : next.zones ≡ v.zones) (level : ℕ) (before : List Locked) (wants : List Want) where
@@ -118,14 +117,10 @@ module _ {M : Type 0} (at : M → View → Type 0) (lane : Lane M) (v : View) (i
   draws reason n =
       subst (λ (spans : List Span). DrawEnded v (gives_up spans op reply n v)) none (give_up_drawn v working unentered is.may_come op reply n (error.Refused r) (why reason))
 
-  settled : Ready v (settles v) × IsTakenBack v (after_all v (settles v))
-  unfolding takes_back
-  settled = subst (λ (spans : List Span). Ready v (takes_back spans v) × IsTakenBack v (after_all v (takes_back spans v))) none (take_back_lawful v working unentered)
-
   -- once all is persistent the refusal may be told, and whatever number be drawn
   pub refusal_ready : (mid : View → Type 0) → Runs {T = Unit {0}} (at lane.memory) mid settles (Ok tt) → IsReadyForAny mid (ends_call op reply)
   unfolding Runs IsReadyForAny
-  refusal_ready mid ran = (after_all v (settles v), (ran v is.seen.memory settled.0, λ n. end_ready v (after_all v (settles v)) working is.may_come settled.1 op reply n))
+  refusal_ready mid ran = (after_all v (settles v), (ran v is.seen.memory (settled_back at lane v is).0, λ n. end_ready v (after_all v (settles v)) working is.may_come (settled_back at lane v is).1 op reply n))
 
   module _ (reason : IsBeginReason v 0 [] wants r) (new : Lane M) where
     ended : IsMade (at lane.memory) (at new.memory) (refuses new.last) → new.locks.items ≡ lane.locks.items → new.records.items ≡ lane.records.items → new.entries ≡ lane.entries → new.drawn ≡ Some new.last → IsOfSamePool lane new → new.stopped ≡ lane.stopped

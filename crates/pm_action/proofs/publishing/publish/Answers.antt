@@ -7,6 +7,7 @@ use Rattle.pm_lock.proofs.Leads.{led_then}
 use Rattle.pm_tx.proofs.BeginPlanned.{no_locks, started_led}
 use Rattle.pm_action.proofs.PublishEnds.{empty_whole, ends_further, missing_alone, no_elements, past_alone, published_nothing}
 use Rattle.pm_action.proofs.RestingAgain.{fields_kept, fields_rested}
+use Rattle.pm_action.proofs.ToldOutside.{begun_unlocked}
 use Rattle.pm_action.proofs.Started.{pending_started, told_at_once_since}
 use Rattle.pm_action.proofs.publishing.publish.Goals as goal
 
@@ -18,7 +19,7 @@ returns-then-is_empty-clause-ends g c v rests stays same =
     let pending = pending_started g.M.LaneMem.at c.start.new.lane v n s ∙ (sym same ∙ ap pending_of (no_elements c.args.actions.now.items none)) in
     published_nothing g.M.LaneMem.at c.end_outside.new.lane c.args.actions.now.items v none
     (told_at_once_since g.M.LaneMem.at c.start.new.lane v n s c.end_outside.new.lane [] Publish None
-    (c.end_outside.ensures.told _ [] s.begun (empty_whole g.M.LaneMem.at c.start.new.lane _ s.begun (no_locks g.M.LaneMem.at c.args.lane.now c.start.new.lane v n s rests c.start.ensures.else_same) pending) refl))
+    (c.end_outside.ensures.told _ [] s.begun (begun_unlocked g.M.LaneMem.at c.start.new.lane _ s.begun (no_locks g.M.LaneMem.at c.args.lane.now c.start.new.lane v n s rests c.start.ensures.else_same)) (empty_whole g.M.LaneMem.at c.start.new.lane _ s.begun (no_locks g.M.LaneMem.at c.args.lane.now c.start.new.lane v n s rests c.start.ensures.else_same) pending) refl))
 
 pub publish_begun-requires-clause-begun : goal.publish_begun-requires-clause-begun
 publish_begun-requires-clause-begun g c =
@@ -56,3 +57,9 @@ returns-clause-lane g c unstopped =
     let r = c.requires.rests c.if-lane.false in
     fields_rested g.M.LaneMem.at c.args.lane.now c.start.new.lane c.publish_begun.new.lane r.0 r.1.0 c.start.ensures.else_same
     (c.publish_begun.ensures.lane (λ is. false≢true (sym unstopped ∙ ap (λ (l : Lane g.row.M.Denot). l.stopped) (c.publish_begun.ensures.stopped_lane is))))
+
+pub end_outside-requires : goal.end_outside-requires
+end_outside-requires g c =
+    let r = c.requires.rests c.if-lane.false in
+    let s = c.in_ok-start.ensures.begun r.0 r.1.0 in
+    record { begun = (_, (s.begun, begun_unlocked g.M.LaneMem.at c.start.new.lane _ s.begun (no_locks g.M.LaneMem.at c.args.lane.now c.start.new.lane r.0 c.in_ok-start.field-0 s r.1.0 c.start.ensures.else_same))) }

@@ -8,12 +8,12 @@ pub come_to_rest-requires : goal.come_to_rest-requires
 come_to_rest-requires g c =
     let is = c.requires.begun in
     let t = c.tell_and_draw in
-    record { after = (_, ended g.M.LaneMem.at c.args.lane.now is.0 is.1 c.args.operation.now (reply_of c.args.refusal) t.new.lane t.ensures.lane t.ensures.made) }
+    record { after = (_, ended g.M.LaneMem.at c.args.lane.now is.0 is.1.0 c.args.operation.now (reply_of c.args.refusal) t.new.lane t.ensures.lane t.ensures.made is.1.1) }
 
 pub returns-clause-told : goal.returns-clause-told
-returns-clause-told g c v actions is whole left =
+returns-clause-told g c v actions is apart whole left =
     let t = c.tell_and_draw in
-    let over = ended g.M.LaneMem.at c.args.lane.now v is c.args.operation.now (reply_of c.args.refusal) t.new.lane t.ensures.lane t.ensures.made in
+    let over = ended g.M.LaneMem.at c.args.lane.now v is c.args.operation.now (reply_of c.args.refusal) t.new.lane t.ensures.lane t.ensures.made apart in
     told_at_once g.M.LaneMem.at c.args.lane.now v is c.args.operation.now (reply_of c.args.refusal) t.new.lane t.ensures.lane t.ensures.made whole actions left c.come_to_rest.new.lane
     (c.come_to_rest.ensures.closed _ over (unharmed g.M.LaneMem.at c.args.lane.now v is c.args.operation.now (reply_of c.args.refusal) t.new.lane t.ensures.lane t.ensures.made))
     (ap (λ (l : Lane g.row.M.Denot). l.last) c.come_to_rest.ensures.lane)
