@@ -12,3 +12,6 @@ pub mod RefusedHolding
 pub mod HeldWords
 pub mod PublishedHeld
 pub mod PublishEnds
+pub mod PendingLists
+pub mod LoggedSteps
+pub mod PublishedAlone
