@@ -15,3 +15,4 @@ pub mod PublishEnds
 pub mod PendingLists
 pub mod LoggedSteps
 pub mod PublishedAlone
+pub mod PublishedAll

@@ -1,6 +1,6 @@
 -- A call that one log decides, from where nothing is made persistent yet: it may make all of its steps, and wherever the lane stops in them the call drew no number, or came
 -- to the operation.
-use Rattle.std.proofs.Common.{◌≡◌, ◌⊎◌, ⊎_elim, inl, inr, append_assoc, take, ℕ, ◌≤◌, true, false, List, [], ◌∷◌, ◌++◌, length, None, Ok, Some, sym, ap, ◌∙◌, subst, arith}
+use Rattle.std.proofs.Common.{◌≡◌, ◌⊎◌, ⊎_elim, inl, inr, append_assoc, take, ℕ, true, false, List, [], ◌++◌, length, None, Ok, Some, sym, ap, ◌∙◌, subst, arith}
 use Rattle.pm_lock.specs.Begun.{HoldsLines}
 use Rattle.pm_memory.specs.Runs.{Stops}
 use Rattle.pm_objects.specs.declared.calls.Operation.{Operation}
@@ -11,16 +11,17 @@ use Rattle.pm_tx.proofs.Fronts.{among_left, among_right, front_undrawn}
 use Rattle.pm_tx.proofs.GivenUp.{after_over, place_at_work, undrawn_lane}
 use Rattle.pm_tx.proofs.Published.{performing_drawn, publish_last, publish_lawful, written}
 use Rattle.pm_tx.specs.Ending.{IsAfterCall, IsDrawnBy, IsOver, IsStoppedAmong, IsUndrawn, drawn_more, told_more}
-use Rattle.pm_tx.specs.Publishing.{MayPublish, logged_view}
+use Rattle.pm_tx.specs.Publishing.{MayPublish, StopsPublished, logged_view}
 use Rattle.pm_tx.specs.Sequences.{ends_call, performs_logged, publishes}
 use Rattle.pm_undo.proofs.Settled.{settle_lawful}
-use Rattle.pm_undo.proofs.Staying.{same_lane-then, same_settled}
+use Rattle.pm_undo.proofs.Staying.{same_settled}
+use Rattle.pm_view.proofs.SameLane.{same_lane-then}
 use Rattle.pm_undo.specs.Working.{IsSameCall, IsSettled}
 use Rattle.pm_view.proofs.Sequences.{after_all-append}
 use Rattle.pm_view.specs.Steps.{Step}
 use Rattle.pm_view.specs.View.{Numbered, Told, View}
 use Rattle.pm_view.specs.Views.{after_all}
-use Rattle.pm_world.proofs.Sequencing.{ready_both, ready_left}
+use Rattle.pm_world.proofs.Sequencing.{ready_both, ready_left, ready_right}
 use Rattle.pm_world.proofs.Shapes.{IsOfSamePool}
 use Rattle.pm_world.specs.Lanes.{IsSeenAs}
 use Rattle.pm_world.specs.Sequences.{IsStopped, Ready, Runs, in_turn, settles}
@@ -103,6 +104,18 @@ module _ (v : View) (entries : List Redo) (may : MayLogCall v entries) where
     -- and then the number is
     pub performing_so : (made : ℕ) → IsDrawnBy v (after_all (decided_view v entries op n) (take made performing)) op None n
     performing_so made = last_before (after_all (decided_view v entries op n) (take made performing)) (performing_drawn mid entries can_publish op n made)
+
+-- where all was made persistent the entries may be published
+pub may_publish_settled : (old new : View → Type 0) (v : View) → old v → (entries : List Redo) → MayLogCall v entries → Runs {T = Unit {0}} old new settles (Ok tt) → (u : View) × (new u × MayPublish u entries)
+unfolding Runs
+may_publish_settled old new v seen entries may ran = (after_all v (settles v), (ran v seen (settle_lawful v).0, can_publish v entries may))
+
+-- and where the lane stops behind the draw then, it does so from before that too
+pub stops_decided : (old settled_so new : View → Type 0) (entries : List Redo) (op : Operation) (n : ℕ) → Runs {T = Unit {0}} old settled_so settles (Ok tt) → StopsPublished settled_so new entries op n → StopsDecided old new entries op n
+unfolding Runs logs_call in_turn
+stops_decided old settled_so new entries op n made stops v seen ready =
+    let behind : View = after_all v (settles v) in
+    stops behind (made v seen (ready_left v (settles v) (publishes entries op n behind) ready)) (ready_right v (settles v) (publishes entries op n behind) ready)
 
 -- ---- of a lane that lists the entries
 

@@ -9,9 +9,9 @@ use Rattle.pm_crash.proofs.Includes.{made_member}
 use Rattle.pm_crash.proofs.MadeInTurn.{IsOfReserved, had_or_reserved}
 use Rattle.pm_crash.proofs.ReservedStays.{nothing_made, pending_at_rest}
 use Rattle.pm_crash.specs.CallBlocks.{CallBlocks, NewObject, is_at, no_blocks, reserved_in, reserved_object, with_all_freed, with_all_made}
-use Rattle.pm_crash.specs.OnActions.{CanFree, CanSet, blocks_published}
+use Rattle.pm_crash.specs.OnActions.{CanFree, blocks_published}
 use Rattle.pm_crash.specs.OpenCall.{lock_of}
-use Rattle.pm_crash.specs.Pending.{pending_before, pending_in, published_in, published_told, sets_before}
+use Rattle.pm_crash.specs.Pending.{pending_before, published_in, published_told, sets_before}
 use Rattle.pm_crash.specs.Reserved.{root_in}
 use Rattle.pm_crash.specs.Reserving.{StandsReserved}
 use Rattle.pm_alloc.proofs.Fitting.{class_fits}
@@ -25,7 +25,7 @@ use Rattle.pm_model.specs.Actions.{Action, Pending, Reservation}
 use Rattle.pm_model.specs.Transaction.{is_locked}
 use Rattle.pm_objects.specs.declared.ids.Oid.{Oid}
 use Rattle.pm_pending.specs.AllPending.{reserved_as}
-use Rattle.pm_pending.specs.Pending.{action_of, entry_of, redo_for, sets_of}
+use Rattle.pm_pending.specs.Pending.{action_of, entry_of, redo_for}
 use Rattle.pm_pending.specs.declared.actions.SetAction.{SetAction}
 use Rattle.pm_pending.specs.declared.pending.PendingActions.{PendingActions}
 use Rattle.pm_pending.specs.declared.pending.Reserved.{Reserved}
@@ -176,6 +176,30 @@ module _ {M : Type 0} {o : Opening} {at : M → View → Type 0} {lane : Lane M}
     held = held;
   }
 
+  -- what is to be freed is moved to lists that were cleared, and then what is reserved
+  module _ (cleared mid : BlockLists) (locks : List HeldLock) (ids : List Oid) (reserved : List Reserved) (same_locks : locks ≡ lane.locks.items) (same_ids : ids ≡ pending.frees.items) (same_reserved : reserved ≡ pending.reserved.items)
+      (none : ListsBlocks cleared no_blocks) where
+    pub may_move_frees : CanListFreed locks cleared no_blocks ids
+    may_move_frees =
+        subst (λ (ls : List HeldLock). CanListFreed ls cleared no_blocks ids) (sym same_locks)
+        (subst (λ (xs : List Oid). CanListFreed lane.locks.items cleared no_blocks xs) (sym same_ids) (can_list_freed cleared none))
+
+    module _ (frees : (call : CallBlocks) → ListsBlocks cleared call → ListsBlocks mid (with_all_freed ids call)) where
+      lists_mid : ListsBlocks mid (with_all_freed pending.frees.items no_blocks)
+      lists_mid = subst (λ (xs : List Oid). ListsBlocks mid (with_all_freed xs no_blocks)) same_ids (frees no_blocks none)
+
+      pub few_reserved : length mid.made + length reserved ≤ 63
+      few_reserved = subst (λ (rs : List Reserved). length mid.made + length rs ≤ 63) (sym same_reserved) (few_made mid lists_mid)
+
+      module _ (blocks : BlockLists) (held : All (IsHeldFreed locks) cleared.freed → All (IsHeldFreed locks) mid.freed)
+          (made : (call : CallBlocks) (rs : List Reservation) → reserved ≡ map reserved_as rs → ListsBlocks mid call → ListsBlocks blocks (with_all_made rs call)) (kept : blocks ≡ record mid { made = blocks.made }) where
+        pub lists_moved : ListsPending lane.locks.items v blocks
+        lists_moved = lists_pending blocks
+            (made (with_all_freed pending.frees.items no_blocks) p.reserved (same_reserved ∙ h.listed.reserved) lists_mid)
+            (subst (λ (b : BlockLists). All (IsHeldFreed lane.locks.items) b.freed) (sym kept)
+            (subst (λ (ls : List HeldLock). All (IsHeldFreed ls) mid.freed) same_locks
+            (held (subst (All (IsHeldFreed locks)) (sym (none_named (λ (f : Freed). f.off) cleared.freed none.freed)) (All-nil (IsHeldFreed locks))))))
+
   module _ {blocks : BlockLists} (lists : ListsPending lane.locks.items v blocks) where
     lists_so : ListsBlocks blocks (lists_of p)
     lists_so = subst (ListsBlocks blocks) (lists_now v h.untold) lists.of_call
@@ -241,6 +265,9 @@ module _ {M : Type 0} {o : Opening} {at : M → View → Type 0} {lane : Lane M}
         let freed = length-map blocks.freed (entry_freeing v.lanes) in let made = length-map blocks.made (entry_making v.lanes) in
         let frees = as_many_freed in let reserved = as_many_made in
         omega (arith, some, all, both, freed, made, frees, reserved)
+
+    pub few_blocks : length pending.sets.items + (length blocks.freed + length blocks.made) ≤ 63
+    few_blocks = let frees = as_many_freed in let reserved = as_many_made in let few = few_pending in omega (arith, frees, reserved, few)
 
     -- ---- their entries
 

@@ -1,21 +1,20 @@
 -- Of a lane that works alone, and holds the objects of all that is pending: the pool has room for each block, the lane may enter each entry, and its publish is a call that one
 -- log decides.
-use Rattle.std.proofs.Common.{◌≡◌, inl, inr, ℕ, ◌+◌, ◌≤◌, All, Contains, List, [], ◌∷◌, ◌++◌, length, map, None, refl, slice_index, sym, ap, ◌∙◌, subst, arith}
-use Rattle.std.specs.Option.{ForSome}
+use Rattle.std.proofs.Common.{◌≡◌, inl, inr, ◌+◌, ◌≤◌, All, List, [], ◌∷◌, ◌++◌, length, map, None, refl, slice_index, sym, ap, ◌∙◌, subst, arith}
 use Rattle.std.proofs.lemmas.List.Elements.{All-append, All-nil, All-weaker}
 use Rattle.pm_crash.proofs.Begun.{begin_opens}
 use Rattle.pm_crash.proofs.CallBlocks.{agrees_once_more, allocated_once_more, blocks_once_more}
 use Rattle.pm_crash.proofs.Leading.{leads_then}
 use Rattle.pm_crash.proofs.PendingOn.{pending_once_more, published_once_more}
 use Rattle.pm_crash.proofs.PublishedOutside.{publish_commits}
-use Rattle.pm_crash.proofs.ReservedStays.{nothing_made, pending_at_rest}
+use Rattle.pm_crash.proofs.ReservedStays.{pending_at_rest}
 use Rattle.pm_crash.proofs.StillReserved.{HasSameHeads, reserved_still, same_root}
 use Rattle.pm_crash.specs.Alone.{WorksAlone}
 use Rattle.pm_crash.specs.CallBlocks.{AgreesOnRoot, AllTellOfRoot, FreeNoRoot, NewObject, allocated_in, allocated_told, reserved_in, reserved_object}
 use Rattle.pm_crash.specs.Leading.{Leads}
 use Rattle.pm_crash.specs.OpenCall.{IsUnderWay}
-use Rattle.pm_crash.specs.Operations.{BeginsCall, TakesWanted}
-use Rattle.pm_crash.specs.Pending.{pending_before, pending_in, published_in, sets_before}
+use Rattle.pm_crash.specs.Operations.{TakesWanted}
+use Rattle.pm_crash.specs.Pending.{pending_before, pending_in, sets_before}
 use Rattle.pm_crash.specs.Reserved.{IsBorneOut, IsReservedFor, root_in}
 use Rattle.pm_epoch.proofs.CallPools.{call_has_no_fault}
 use Rattle.pm_epoch.proofs.GainedObjects.{stood}
@@ -24,9 +23,8 @@ use Rattle.pm_header.specs.declared.header.Header.{Header}
 use Rattle.pm_image.specs.HeapFaults.{heap_fault}
 use Rattle.pm_made.specs.Entries.{entries_of, entry_freeing, entry_making}
 use Rattle.pm_made.specs.Made.{BlockLists, ListsBlocks}
-use Rattle.pm_model.specs.Actions.{Action, Pending, wants_pending}
+use Rattle.pm_model.specs.Actions.{Pending, wants_pending}
 use Rattle.pm_model.specs.declared.stage.Stage.TheVariants as model_stage
-use Rattle.pm_objects.specs.declared.calls.Operation.{Operation}
 use Rattle.pm_objects.specs.declared.calls.Operation.TheVariants.{Begin, Publish}
 use Rattle.pm_objects.specs.declared.calls.Want.{Want}
 use Rattle.pm_objects.specs.declared.history.TxErr.TheVariants as error
@@ -36,7 +34,6 @@ use Rattle.pm_pending.specs.declared.pending.PendingActions.{PendingActions}
 use Rattle.pm_record.specs.declared.redo.Redo.{Redo}
 use Rattle.pm_redo.specs.Entering.{EntersHeap, IsOfPool, MayEnter}
 use Rattle.pm_tx.proofs.BorneOut.{same_heads_outside}
-use Rattle.pm_view.specs.Area.{is_in_area}
 use Rattle.pm_view.specs.Log.{Log, Phase}
 use Rattle.pm_view.specs.Steps.{Step}
 use Rattle.pm_view.specs.Steps.Step.{Tell}

@@ -88,7 +88,7 @@ pub record HasPublishedAll {M : Type 0} (at : M → View → Type 0) (lane : Lan
 
 -- ---- the steps
 
--- some view that the lane may be seen as is at work, without redo entries, and may publish those that the lane lists, some at least
+-- the call is at work, without redo entries, and may be decided by a log of these, some at least and 63 at most, each one that the lane may enter; a number is left for it
 pub record MayLogCall (v : View) (entries : List Redo) : Type 0 where
   pub working : IsWorking v
   pub no_entries : v.log.entries ≡ []
