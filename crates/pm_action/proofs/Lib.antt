@@ -13,3 +13,7 @@ pub mod RefusedHolding
 pub mod HeldWords
 pub mod PublishedHeld
 pub mod PublishEnds
+pub mod PendingLists
+pub mod LoggedSteps
+pub mod PublishedAlone
+pub mod PublishedAll

@@ -1,3 +1,4 @@
 pub mod Outside
 pub mod Holding
 pub mod Publishing
+pub mod PublishingAll

@@ -6,11 +6,14 @@
 #![tactic(auto)]
 
 mod holding;
+mod laws;
 mod publishing;
+mod publishing_all;
 mod setting;
 mod telling;
 
 pub use holding::hold_actions;
+pub use laws::a_lane_alone_publishes_all_at_once;
 pub use publishing::publish;
 pub use setting::{cancel, set_value};
 pub use telling::{come_to_rest, end_outside};

@@ -76,7 +76,7 @@ use Rattle.pm_transaction.specs.PublishedLists.{CanListFreed, IsUnderLockOf, mad
 use Rattle.pm_transaction.specs.Publishing.{CanPublish, HasPublishedWith, IsPublishGivenUp, IsPublishRefused, IsPublishStopped}
 
 -- where an object can stand, it fits the pages of the pool
-offset_held : (lanes zones : ℕ) (class : Class) (off : ℕ) → IsClass class → CanHold lanes zones class off → IsOffsetIn (1 + 2 * lanes + 65 * zones) off
+pub offset_held : (lanes zones : ℕ) (class : Class) (off : ℕ) → IsClass class → CanHold lanes zones class off → IsOffsetIn (1 + 2 * lanes + 65 * zones) off
 offset_held lanes zones (Lines lines) off is hold =
     let t = hold.begins in
     let inside = t.1 in let place = t.2 in let zone = hold.zone_in_range in let chunk = hold.chunk_in_range in

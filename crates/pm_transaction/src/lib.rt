@@ -44,6 +44,7 @@ pub use laws::{
     a_lane_alone_that_ended_begins_again, calls_on_actions_keep_the_lists,
 };
 pub use new_ranges::{do_add_new, do_read_new, do_write_new};
+pub use published_lists::{move_frees, move_reserved};
 pub use publishing::publish;
 pub use publishing_all::publish_all;
 pub use ranges::{add_range, read, write};

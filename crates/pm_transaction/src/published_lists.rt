@@ -26,7 +26,7 @@ fn lines_held(locks: &[HeldLock], off: u64) -> u64
 }
 
 /// Lists the objects as freed, in their order: one that the call made is no more listed as such, any other is listed with the lines of its block.
-pub(crate) fn move_frees(blocks: &mut CallBlocks, locks: &[HeldLock], ids: &[Oid])
+pub fn move_frees(blocks: &mut CallBlocks, locks: &[HeldLock], ids: &[Oid])
     requires can { (call : Call) × CanListFreed locks.now blocks.old call ids.now }
     ensures of_call { (call : Call) → ListsBlocks blocks.old call → ListsBlocks blocks.new (with_all_freed ids.now call) }
     ensures held { All (IsHeldFreed locks.now) blocks.old.freed → All (IsHeldFreed locks.now) blocks.new.freed }
@@ -39,7 +39,7 @@ pub(crate) fn move_frees(blocks: &mut CallBlocks, locks: &[HeldLock], ids: &[Oid
 }
 
 /// Lists what is reserved as made, in its order.
-pub(crate) fn move_reserved(blocks: &mut CallBlocks, reserved: &[Reserved])
+pub fn move_reserved(blocks: &mut CallBlocks, reserved: &[Reserved])
     requires few { length blocks.old.made + length reserved.now ≤ 63 }
     requires fit { All (λ (r : Reserved). FitsPages (length blocks.old.dropped) (made_of r)) reserved.now }
     ensures of_call { (call : Call) (rs : List Reservation) → reserved.now ≡ map reserved_as rs → ListsBlocks blocks.old call → ListsBlocks blocks.new (with_all_made rs call) }

@@ -1,0 +1,106 @@
+-- A publish outside of a transaction of all that is pending, of whatever kind, by a lane that is alone: one call of the history, which one log decides.
+use Rattle.std.specs.Prelude.{◌≡◌, ℕ, ◌≤◌, false, All, List, [], ◌++◌, length, map, None, slice_index}
+use Rattle.pm_crash.specs.CallBlocks.{FreeNoRoot, reserved_in}
+use Rattle.pm_crash.specs.OnActions.{CanFree, CanSet, HoldsInTime, blocks_published}
+use Rattle.pm_crash.specs.Pending.{pending_before, sets_before}
+use Rattle.pm_crash.specs.Reserved.{root_in}
+use Rattle.pm_crash.specs.Reserving.{HasReserved}
+use Rattle.pm_lock.specs.Begun.{HoldsLines, MayCome}
+use Rattle.pm_lock.specs.Finding.{FindsObjects}
+use Rattle.pm_made.specs.Entries.{entries_of}
+use Rattle.pm_made.specs.Made.{BlockLists, ListsBlocks}
+use Rattle.pm_memory.specs.Runs.{Stops}
+use Rattle.pm_objects.specs.declared.calls.Operation.TheVariants.{Publish}
+use Rattle.pm_objects.specs.declared.calls.Operation.{Operation}
+use Rattle.pm_objects.specs.declared.history.TxErr.TheVariants as error
+use Rattle.pm_pending.specs.AllPending.{IsPendingAs}
+use Rattle.pm_pending.specs.Pending.{redo_for}
+use Rattle.pm_pending.specs.declared.pending.PendingActions.{PendingActions}
+use Rattle.pm_record.specs.declared.redo.Redo.{Redo}
+use Rattle.pm_redo.specs.Entering.{MayEnter}
+use Rattle.pm_tx.specs.Ending.{IsAfterCall, IsOver, drawn_more, told_more}
+use Rattle.pm_tx.specs.Publishing.{published_view}
+use Rattle.pm_tx.specs.Sequences.{performs_logged}
+use Rattle.pm_undo.specs.Working.{FindsOpening, IsWorking}
+use Rattle.pm_view.specs.Founds.{IsAlone}
+use Rattle.pm_view.specs.Log.Phase.{Open}
+use Rattle.pm_view.specs.Log.{no_log}
+use Rattle.pm_view.specs.View.{View}
+use Rattle.pm_view.specs.Views.{after_all}
+use Rattle.pm_world.specs.Lanes.{IsSeenAs}
+use Rattle.pm_world.specs.Opening.{IsSound, Opening}
+use Rattle.pm_world.specs.Sequences.{Ready, Sequence, settles}
+use Rattle.pm_world.specs.declared.lane.HeldLock.{HeldLock}
+use Rattle.pm_world.specs.declared.lane.Lane.{Lane}
+use Rattle.pm_transaction.specs.AtWork.{IsHeldFreed, IsNotMaking, LiesInReserved}
+use Rattle.pm_transaction.specs.Committing.{MayPublishBlocks}
+use Rattle.pm_transaction.specs.Published.{logs_call}
+
+-- The lane is alone, and its call has begun, with nothing told, recorded or listed. It holds each object that is to be freed or set, for writing, found each, and none
+-- is asked for late; none that is to be freed is the root. What is reserved stands, in blocks that it reserved, and it is not in the midst of making an object. The lists are what
+-- is pending.
+pub record HoldsAll {M : Type 0} (o : Opening) (at : M → View → Type 0) (lane : Lane M) (pending : PendingActions) (v : View) : Type 0 where
+  pub seen : IsSeenAs at lane v
+  pub unharmed : lane.error ≡ error.None
+  pub unstopped : lane.stopped ≡ false
+  pub unlisted : lane.entries.items ≡ []
+  pub no_spans : lane.records.items ≡ []
+  pub working : IsWorking v
+  pub log : v.log ≡ no_log (Open [] [])
+  pub undrawn : v.number ≡ None
+  pub untold : v.call ≡ []
+  pub may_come : MayCome v
+  pub lines : HoldsLines v
+  pub alone : IsAlone v
+  pub not_making : IsNotMaking v
+  pub sound : IsSound o
+  pub zones : o.zones ≤ 32
+  pub opening : FindsOpening o v
+  pub objects : FindsObjects v
+  pub holds : HoldsInTime v
+  pub frees : All (CanFree v) (pending_before v).frees
+  pub each : All (CanSet v) (sets_before v)
+  pub not_root : FreeNoRoot (root_in (slice_index v.words)) (pending_before v).frees
+  pub has_reserved : HasReserved v
+  pub reserved_within : All (LiesInReserved v) (reserved_in v)
+  pub listed : IsPendingAs pending (pending_before v)
+
+-- these are the lists of what is made and freed once all that is pending is published: each object that is freed lies under one of the locks, with its block's lines
+pub record ListsPending (locks : List HeldLock) (v : View) (blocks : BlockLists) : Type 0 where
+  pub of_call : ListsBlocks blocks (blocks_published v)
+  pub held : All (IsHeldFreed locks) blocks.freed
+
+-- the redo entries of such lists may be entered: the pool has room for each block, and the lane may enter each
+abbrev pub MayPublishPending : List HeldLock → View → Type 0
+MayPublishPending locks v = (blocks : BlockLists) → ListsPending locks v blocks → MayPublishBlocks v blocks
+
+-- the redo entries of what is pending, in a pool of so many lanes: those of the words that are to be set, and behind them those of the blocks
+abbrev pub entries_pending : PendingActions → ℕ → BlockLists → List Redo
+entries_pending pending lanes blocks = map redo_for pending.sets.items ++ entries_of lanes blocks
+
+-- the steps were made, and then no call is open: it came to the publish, and its entry is the last. Whether what they draw is an ended call's is not said
+pub record HasPublishedAll {M : Type 0} (at : M → View → Type 0) (lane : Lane M) (v : View) (steps : Sequence) : Type 0 where
+  pub ready : Ready v (steps v)
+  pub behind : IsAfterCall at lane (after_all v (steps v))
+  pub over : IsOver v (after_all v (steps v)) lane.last
+  pub told : (after_all v (steps v)).call ≡ told_more v.call Publish None
+  pub entries : (after_all v (steps v)).entries ≡ drawn_more v.entries lane.last (after_all v (steps v)).call
+
+-- ---- the steps
+
+-- the call is at work, without redo entries, and may be decided by a log of these, some at least and 63 at most, each one that the lane may enter; a number is left for it
+pub record MayLogCall (v : View) (entries : List Redo) : Type 0 where
+  pub working : IsWorking v
+  pub no_entries : v.log.entries ≡ []
+  pub some : 1 ≤ length entries
+  pub few : length entries ≤ 63
+  pub each : All (MayEnter v) entries
+  pub may_come : MayCome v
+
+-- the view once all is persistent, these entries are logged, the operation is told and the call drew this number
+abbrev pub decided_view : View → List Redo → Operation → ℕ → View
+decided_view v entries op n = published_view (after_all v (settles v)) entries op n
+
+-- from each such view the call drew this number, and the lane stopped behind that
+abbrev pub StopsDecided : (View → Type 0) → (View → Type 0) → List Redo → Operation → ℕ → Type 0
+StopsDecided old new entries op n = (v : View) → old v → Ready v (logs_call op entries n v) → Stops new (decided_view v entries op n) (performs_logged entries (decided_view v entries op n))

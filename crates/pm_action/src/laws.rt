@@ -1,0 +1,29 @@
+//! Laws of publishes outside of a transaction, of a lane that works alone.
+
+ghost use Rattle.std.specs.Prelude.{◌≤◌, ◌+◌, List, length};
+ghost use Rattle.pm_crash.specs.Alone.{WorksAlone};
+ghost use Rattle.pm_crash.specs.Pending.{sets_before};
+ghost use Rattle.pm_header.specs.declared.header.Header.{Header};
+ghost use Rattle.pm_made.specs.Made.{BlockLists};
+ghost use Rattle.pm_objects.specs.declared.calls.Operation.TheVariants.{Publish};
+ghost use Rattle.pm_objects.specs.declared.pool.PoolView.{PoolView};
+ghost use Rattle.pm_pending.specs.declared.pending.PendingActions.{PendingActions};
+ghost use Rattle.pm_transaction.specs.Published.{LogsCall};
+ghost use Rattle.pm_view.specs.Steps.{Step};
+ghost use Rattle.pm_view.specs.View.{View};
+ghost use Rattle.pm_world.specs.Opening.{Opening};
+ghost use Rattle.pm_world.specs.declared.lane.Lane.{Lane};
+ghost use Rattle.pm_action.specs.PublishingAll.{HoldsAll, ListsPending, MayPublishPending, entries_pending};
+
+use pm_world::LawfulMem;
+
+/// A law: a lane that works alone, and whose call has begun and holds the objects of all that is pending, may enter the redo entries of the blocks of what is to be freed and
+/// made; and once it lists them, a free or a reservation at least, its publish is a call that one log decides, so that the laws of such calls apply
+/// (`a_call_told_by_its_log_is_published` of `pm_transaction`). No code runs.
+pub fn a_lane_alone_publishes_all_at_once<M: LawfulMem>()
+    ensures may { (o : Opening) (header : Header) (pool : PoolView) (start v : View) (steps : List Step) (lane : Lane M) (pending : PendingActions)
+        → WorksAlone o header pool start steps v → HoldsAll o M.at lane pending v → MayPublishPending lane.locks.items v }
+    ensures logs { (o : Opening) (header : Header) (pool : PoolView) (start v : View) (steps : List Step) (lane : Lane M) (pending : PendingActions) (blocks : BlockLists)
+        → WorksAlone o header pool start steps v → HoldsAll o M.at lane pending v → ListsPending lane.locks.items v blocks → 1 ≤ length pending.frees.items + length pending.reserved.items
+        → LogsCall o header pool start steps Publish (sets_before v) blocks v (entries_pending pending v.lanes blocks) }
+{}
