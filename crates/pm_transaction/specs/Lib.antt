@@ -14,3 +14,4 @@ pub mod Deferring
 pub mod Filling
 pub mod PublishedLists
 pub mod Resting
+pub mod SoloCounts

@@ -11,6 +11,7 @@ ghost use Rattle.pm_pending.specs.AllPending.{IsPendingAs};
 ghost use Rattle.pm_tx.specs.Ending.{IsStoppedIn};
 ghost use Rattle.pm_tx.specs.Ranges.{StopsUndrawn};
 ghost use Rattle.pm_tx.specs.Stages.{work_refusal};
+ghost use Rattle.pm_view.specs.Founds.{IsAlone};
 ghost use Rattle.pm_view.specs.Steps.Step.{Tell};
 ghost use Rattle.pm_view.specs.View.{View};
 ghost use Rattle.pm_view.specs.Views.{after_all};
@@ -18,6 +19,7 @@ ghost use Rattle.pm_world.specs.Opening.{Opening};
 ghost use Rattle.pm_world.specs.Sequences.{Runs};
 ghost use Rattle.pm_world.specs.Tellings.{reply_of};
 ghost use Rattle.pm_transaction.specs.AtWork.{IsAtWorkWith};
+ghost use Rattle.pm_transaction.specs.Published.{HasOwnCounts};
 ghost use Rattle.pm_transaction.specs.Filling.{HasPut, HasRefusedPut, HasReservedRange, IsLaneWithPending, MayPut, puts_range};
 
 use pm_made::CallBlocks;
@@ -27,17 +29,24 @@ use pm_pending::PendingActions;
 use pm_tx::{check_work, write_words};
 use pm_world::{Lane, LawfulMem};
 
-/// A lane's memory that is also told of bytes written into what is reserved.
+/// A lane's memory that is also told of bytes written into what is reserved, and that counts the calls and numbers of a lane which is alone.
 pub trait ReservedMem: LawfulMem {
     /// Tells such a write, or why it was refused, its bytes being lent: an operation has bytes of its own, and a lane takes no memory. For the
     /// proof alone, nothing else is done.
     fn tell_put(&mut self, id: Oid, off: u64, bytes: &[u8], refusal: Option<Refusal>)
         requires { Self.can self.old (Tell (WriteReserved id off bytes.now) (reply_of refusal)) }
         ensures { Made (Self.at self.old) (Self.at self.new) (Tell (WriteReserved id off bytes.now) (reply_of refusal)) };
+
+    /// The numbers that a lane alone has drawn are its own, and it made no more counted calls than up to its stop number.
+    ghost counts: { (m : Self) (v : View) → Self.at m v → IsAlone v → HasOwnCounts v };
 }
 
 impl ReservedMem for SoloMem {
+    ghost use Rattle.pm_transaction.specs.SoloCounts.{counts_solo};
+
     fn tell_put(&mut self, _id: Oid, _off: u64, _bytes: &[u8], _refusal: Option<Refusal>) {}
+
+    ghost counts = { counts_solo };
 }
 
 /// Writes bytes into an object that is reserved, from this byte of it on, and tells so. Makes exactly the memory calls of `puts_range`, or the
