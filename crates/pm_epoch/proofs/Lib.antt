@@ -56,3 +56,5 @@ pub mod GivingSteps
 pub mod GivenBlocks
 pub mod ClosedCalls
 pub mod GivenAll
+pub mod RoomSteps
+pub mod FilledStill

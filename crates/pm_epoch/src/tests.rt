@@ -41,4 +41,5 @@ fn laws(_rt: HostRuntime) {
     publishing_keeps_what_a_lane_has();
     what_a_call_freed_is_locked();
     what_a_lane_alone_reserved_lies_apart();
+    words_filled_stay_filled();
 }
