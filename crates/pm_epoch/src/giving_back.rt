@@ -10,7 +10,6 @@ ghost use Rattle.pm_view.specs.Counts.{is_counted};
 ghost use Rattle.pm_view.specs.Steps.{Step};
 ghost use Rattle.pm_view.specs.View.{View};
 ghost use Rattle.pm_view.specs.Views.{after, occ_in, reserves};
-ghost use Rattle.pm_world.specs.Heap.{IsOcc};
 ghost use Rattle.pm_world.specs.Opening.{Opening};
 ghost use Rattle.pm_world.specs.Sequences.{Ready};
 ghost use Rattle.pm_blocks.specs.Giving.{vacates_block};
