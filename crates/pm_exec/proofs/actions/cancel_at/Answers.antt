@@ -6,7 +6,7 @@ use Rattle.pm_world.specs.declared.lane.Lane.{Lane}
 use Rattle.pm_exec.specs.Progress.{IsAtLine, IsNotDone, not_done}
 use Rattle.pm_exec.proofs.ActionLines.{cancel_cut, cancel_done}
 use Rattle.pm_exec.proofs.AddAndWrite.{ends_so, unrefused}
-use Rattle.pm_exec.proofs.lines.cancel_at.Goals as goal
+use Rattle.pm_exec.proofs.actions.cancel_at.Goals as goal
 
 pub returns-in-Ok-clause-done : goal.returns-in-Ok-clause-done
 returns-in-Ok-clause-done c o first blocks names front values a =

@@ -6,7 +6,7 @@ use Rattle.pm_exec.proofs.ActionLines.{left_pending, set_done}
 use Rattle.pm_exec.proofs.AddAndWrite.{unrefused}
 use Rattle.pm_exec.specs.Letters.{KeepsLetters}
 use Rattle.pm_exec.proofs.GivenLetters.{letters_one, letters_same}
-use Rattle.pm_exec.proofs.lines.set_at.Goals as goal
+use Rattle.pm_exec.proofs.actions.set_at.Goals as goal
 
 pub returns-in-Ok-clause-done : goal.returns-in-Ok-clause-done
 returns-in-Ok-clause-done c o first blocks names front id a is id_is =

@@ -5,7 +5,7 @@ use Rattle.pm_world.specs.declared.lane.Lane.{Lane}
 use Rattle.pm_exec.specs.Progress.{IsAtLine, IsNotDone, not_done}
 use Rattle.pm_exec.proofs.ActionLines.{publish_cut, publish_done, publish_not_spent, publish_over}
 use Rattle.pm_exec.proofs.AddAndWrite.{ends_so, unrefused}
-use Rattle.pm_exec.proofs.lines.publish_at.Goals as goal
+use Rattle.pm_exec.proofs.actions.publish_at.Goals as goal
 
 pub returns-in-Ok-clause-done : goal.returns-in-Ok-clause-done
 returns-in-Ok-clause-done c o first names front values a =
