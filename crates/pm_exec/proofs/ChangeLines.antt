@@ -80,7 +80,7 @@ use Rattle.pm_crash.proofs.PendingOn.{pending_once_more, pending_same, published
 use Rattle.pm_model.specs.Actions.{Action, Pending}
 use Rattle.pm_model.specs.Checks.{is_action}
 use Rattle.pm_exec.specs.Bounds.{log_due, logs_of}
-use Rattle.pm_exec.specs.Progress.{IsPending}
+use Rattle.pm_pending.specs.AllPending.{IsPendingAs}
 use Rattle.pm_exec.proofs.PendingLists.{drawn_pending, still_pending}
 use Rattle.std.proofs.lemmas.List.{append-nil}
 use Rattle.pm_crash.specs.Alone.{raises}
@@ -334,7 +334,7 @@ module _ (o : Opening) (first : View) (lane : Lane Solo) (blocks : BlockLists) (
     unended_u : is_ending u.log.phase ≡ false
     unended_u = ap (λ (l : Log). is_ending l.phase) looks_go.log ∙ ap is_ending a.works.work.working.is_open
 
-    pub pending_u : IsPending actions (pending_in u)
+    pub pending_u : IsPendingAs actions (pending_in u)
     pending_u = still_pending (pending_in u) (pending_same a.view u same.entries same.call) a.pending
 
     unraised_u : raises to_u.0 ≡ 0
@@ -382,7 +382,7 @@ module _ (o : Opening) (first : View) (lane : Lane Solo) (blocks : BlockLists) (
       pub at_next_with : (now : BlockLists) (left : PendingActions) → Ready u (steps u) → DrawEnded u (steps u) → IsAtWorkWith o Sees new now w → new.level ≡ 1 → new.locks ≡ lane.locks → (t : Told) → IsToldDone names said.operation t → w.call ≡ u.call ++ t ∷ []
           → ((i : ℕ) → IsUnderBlock a.view i → slice_index w.words i ≡ words_after names (front ++ said ∷ []) (slice_index o.words) i)
           → (given : Values) → given ≡ values_told (front ++ said ∷ []) (a.view.call ++ t ∷ []) → IsLineMade names said.operation a.view w
-          → IsPending left (pending_in w) → stores_among (steps u) + recorded_count w + log_due w ≤ recorded_count u + most_stores names said.operation + log_due u
+          → IsPendingAs left (pending_in w) → stores_among (steps u) + recorded_count w + log_due w ≤ recorded_count u + most_stores names said.operation + log_due u
           → IsAtLine o first new now left names (front ++ said ∷ []) given
       at_next_with now left ready draws works level locks t is_done told words given gave made pending few =
           let leads = ready_leads u (steps u) ready draws in
