@@ -15,22 +15,15 @@ use Rattle.pm_view.specs.Area.{area_word, is_in_area}
 use Rattle.pm_view.specs.Blocks.{block_at}
 use Rattle.pm_view.specs.Held.{is_guarded, is_under, is_under_found}
 use Rattle.pm_view.specs.View.{Lock, View}
-use Rattle.pm_world.specs.Opening.{Guards, Opening}
+use Rattle.pm_world.specs.Opening.{Guards, IsSound, Opening}
 use Rattle.pm_lock.specs.Finding.{FindsObject, FindsObjects}
-use Rattle.pm_action.specs.Publishing.{FindsSound}
 
 -- a lock that is held for writing, if it allows that
 write_so : (b : Bool) → (b || not true) ≡ true → b ≡ true
 write_so true is = refl
 write_so false is = is
 
-module _ (v : View) (finds : FindsSound v) (objects : FindsObjects v) where
-  abbrev o : Opening
-  o = finds.opening
-
-  opening : FindsOpening o v
-  opening = finds.finds
-
+module _ (v : View) (o : Opening) (sound : IsSound o) (opening : FindsOpening o v) (objects : FindsObjects v) where
   module _ (l : Lock) (there : Contains v.locks l) where
     abbrev pub object : FindsObject v l
     object = objects l there
@@ -42,11 +35,11 @@ module _ (v : View) (finds : FindsSound v) (objects : FindsObjects v) where
 
     -- a word that the lock guards is of the pool, and of no lane's area
     pub word_inside : (w : ℕ) → is_under_found l.line (Some object.lines) w ≡ true → w < length v.words
-    word_inside w under = let low = finds.sound.within l.line w (guards w under) in let size = opening.size in omega (arith, low, size)
+    word_inside w under = let low = sound.within l.line w (guards w under) in let size = opening.size in omega (arith, low, size)
 
     pub word_outside : (w : ℕ) → is_under_found l.line (Some object.lines) w ≡ true → is_in_area v.lane w ≡ false
     word_outside w under =
-        let behind = finds.sound.behind_areas l.line w (guards w under) in
+        let behind = sound.behind_areas l.line w (guards w under) in
         let lane = opening.lane in
         let lanes = opening.lanes in
         and_right (leb (area_word v.lane) w) (ltb w (area_word v.lane + 1024)) (le-ltb w (area_word v.lane + 1024) (omega (arith, behind, lane, lanes)))

@@ -44,7 +44,6 @@ use Rattle.pm_transaction.specs.AtWork.{HasBlock, IsHeldFreed, IsUnderLock, Lies
 use Rattle.pm_transaction.specs.Committing.{MayPublishBlocks}
 use Rattle.pm_transaction.specs.PublishedLists.{CanListFreed, IsUnderLockOf, made_of}
 use Rattle.pm_action.proofs.HeldWords.{all_of_pool}
-use Rattle.pm_action.specs.Publishing.{FindsSound}
 use Rattle.pm_action.specs.PublishingAll.{HoldsAll, ListsPending, entries_pending}
 
 -- ---- of a call that made nothing
@@ -83,13 +82,10 @@ module _ {M : Type 0} {o : Opening} {at : M → View → Type 0} {lane : Lane M}
   abbrev p : Pending
   p = pending_before v
 
-  pub finds_sound : FindsSound v
-  finds_sound = (o, (h.sound, h.opening))
-
   -- ---- the words that are to be set
 
   pub sets_of_pool : All (IsOfPool v) (map entry_of (sets_before v))
-  sets_of_pool = all_of_pool v finds_sound h.objects (sets_before v) h.each
+  sets_of_pool = all_of_pool v o h.sound h.opening h.objects (sets_before v) h.each
 
   pub redos : map redo_for pending.sets.items ≡ map entry_of (sets_before v)
   redos = redo_listed pending.sets.items ∙ ap (map entry_of) h.listed.sets

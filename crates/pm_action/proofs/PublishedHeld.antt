@@ -62,7 +62,7 @@ module _ {M : Type 0} (at : M → View → Type 0) (lane : Lane M) (actions : Li
   entries = entries_of actions
 
   pub own : All (IsOfPool v) (entries_of actions)
-  own = all_of_pool v may.sound may.holds.objects actions may.holds.each
+  own = all_of_pool v may.sound.opening may.sound.sound may.sound.finds may.holds.objects actions may.holds.each
 
   -- once all is persistent
   abbrev pub m : View
@@ -108,7 +108,7 @@ module _ {M : Type 0} (at : M → View → Type 0) (lane : Lane M) (actions : Li
     unfolding held_next
     sets_next (SetWord id off value) (range, word) =
         let h : IsHeld v id true = range.object in
-        let size = t.words.words (8 * h.lock.line + 1) (size_outside v may.sound may.holds.objects h.lock h.held) in
+        let size = t.words.words (8 * h.lock.line + 1) (size_outside v may.sound.opening may.sound.sound may.sound.finds may.holds.objects h.lock h.held) in
         let inside = range.inside in
         (record { object = held_next id true h; size_known = t.tells.keeps.known _ range.size_known; inside = omega (arith, size, inside) }, word)
 
@@ -273,7 +273,7 @@ module _ {M : Type 0} (at : M → View → Type 0) (lane : Lane M) (actions : Li
   -- each is of a place of the pool
   pub places : All (λ (a : SetAction). a.id.off + a.off < 2 ^ 64) actions
   places k d low =
-      let all = all_of_pool v may.sound may.holds.objects (sets_of actions) may.holds.each in
+      let all = all_of_pool v may.sound.opening may.sound.sound may.sound.finds may.holds.objects (sets_of actions) may.holds.each in
       let n = length-map actions action_of in
       let m = length-map (sets_of actions) entry_of in
       let e : IsOfPool v (entry_of (action_of (get_or actions k d))) =

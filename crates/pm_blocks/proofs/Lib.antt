@@ -1,5 +1,6 @@
 pub mod Again
 pub mod Classes
+pub mod GivenBack
 pub mod GoingOn
 pub mod Onward
 pub mod Searching

@@ -28,14 +28,14 @@ one_of t at bit = (
 )
 
 -- the bit of a block of a run
-pow_bit : (index bit : ℕ) → (bit_at (2 ^ index) bit ≡ 1) ↔ (bit ≡ index)
+pub pow_bit : (index bit : ℕ) → (bit_at (2 ^ index) bit ≡ 1) ↔ (bit ≡ index)
 pow_bit index bit = (
   (λ set. ⊎_elim (λ (same : bit ≡ index). same) (λ (other : bit ≢ index). let none = bit_at-pow_other index bit other in absurd (omega (arith, set, none))) (cases_eq bit index)),
   (λ same. ap (bit_at (2 ^ index)) same ∙ bit_at-pow_same index),
 )
 
 -- those of so many chunks from one on
-row_bit : (first count bit : ℕ) → (bit_at (chunk_bits first count) bit ≡ 1) ↔ ((first ≤ bit) × (bit < first + count))
+pub row_bit : (first count bit : ℕ) → (bit_at (chunk_bits first count) bit ≡ 1) ↔ ((first ≤ bit) × (bit < first + count))
 row_bit first count bit = ((λ set. set_inside first count bit set), (λ of. bit_inside first count bit of.0 of.1))
 
 -- ---- an entry by its word

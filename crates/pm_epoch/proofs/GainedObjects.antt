@@ -38,9 +38,7 @@ use Rattle.pm_world.proofs.Apart.{area_bounds}
 use Rattle.pm_world.proofs.HeapWords.{describes_it}
 use Rattle.pm_world.proofs.Reserved.{reserved_apart}
 use Rattle.pm_fresh.specs.Filled.{IsFilled}
-use Rattle.pm_fresh.specs.Making.{makes_run, page_in}
 use Rattle.pm_blocks.specs.AnyBlocks.{HasRoom}
-use Rattle.pm_blocks.specs.NewRuns.{with_run}
 use Rattle.pm_alloc.specs.NewObjects.{CanMakeObject, fills_block}
 use Rattle.pm_alloc.proofs.FilledRooms.{filled, filled_may, filled_pool}
 use Rattle.pm_alloc.proofs.Fitting.{IsClass, class_fits}
@@ -62,9 +60,10 @@ use Rattle.pm_crash.proofs.OnTheWay.{works_up_to}
 use Rattle.pm_epoch.specs.Allocating.{MakesObject, object_in_block}
 use Rattle.pm_epoch.proofs.FilledBlocks.{filled_is_fresh}
 use Rattle.pm_epoch.proofs.GainedRooms.{Gains, IsOfItsRun, WasFree, chunks_gain, chunks_held, run_gains, run_held}
-use Rattle.pm_epoch.proofs.GainedRuns.{new_gains, new_held, run_steps_lead}
+use Rattle.pm_epoch.proofs.GainedRuns.{new_gains, new_held}
 use Rattle.pm_epoch.proofs.HeldApart.{AllFound, locked_in_block, reserved_in_none}
 use Rattle.pm_epoch.proofs.QuietSteps.{fills_lead, search_leads}
+use Rattle.pm_epoch.proofs.RoomSteps.{room_leads, works_made}
 use Rattle.pm_epoch.proofs.StandingPools.{own_fits}
 
 -- it stands alone where it works alone
@@ -92,17 +91,6 @@ module _ (o : Opening) (header : Header) (pool : PoolView) (start v : View) (ste
     numbered = subst (λ (z : View). AreNumbered 1 z.entries) (sym searched.kept.same) works.numbered;
     within = subst (λ (z : View). ForSome z.stop (λ stop. z.calls ≤ stop)) (sym searched.kept.same) works.within;
   }
-
-  room_leads : (class : Class) (block : Block) → IsClass class → (room : HasRoom at v class block) → (more : List Step) × Leads v more (room_view at v class block room)
-  unfolding room_view
-  room_leads (Lines lines) block is (inl found) = (found.0.searched.steps, search_leads v found.0.searched.view found.0.searched.steps found.0.searched.searches)
-  room_leads (Lines lines) block is (inr new) =
-      let w : View = new.1.made.view in
-      let making : List Step = makes_run w.lanes (page_in w.lanes new.1.zone new.1.chunk) lines w in (
-        new.1.made.steps ++ making,
-        leads_then v w (with_run new.1.zone new.1.chunk lines w) new.1.made.steps making (search_leads v w new.1.made.steps new.1.made.searches) (run_steps_lead o header pool v s shape can all at lines block is.lines new.1),
-      )
-  room_leads (Chunks count) block is room = (room.0.searched.steps, search_leads v room.0.searched.view room.0.searched.steps room.0.searched.searches)
 
   room_gains : (class : Class) (block : Block) → IsClass class → (room : HasRoom at v class block) → (n : NewObject) → block_of n ≡ block → Gains v (room_view at v class block room) n
   unfolding room_view
@@ -168,7 +156,7 @@ module _ (o : Opening) (header : Header) (pool : PoolView) (start v : View) (ste
   -- ---- its steps
 
   room_steps : (more : List Step) × Leads v more x
-  room_steps = room_leads o header pool start v steps works shape can all at (class_of size) block (class_fits size) makes.made
+  room_steps = room_leads v shape can at (class_of size) block (class_fits size) makes.made
 
   abbrev filling : List Step
   filling = fills_block block kind size x
@@ -191,15 +179,7 @@ module _ (o : Opening) (header : Header) (pool : PoolView) (start v : View) (ste
   }
 
   pub works_on : (more : List Step) × WorksAlone o header pool start (steps ++ more) u
-  works_on = (
-    room_steps.0 ++ filling,
-    record {
-      begins = works.begins;
-      leads = leads_then start v u steps (room_steps.0 ++ filling) works.leads (leads_then v x u room_steps.0 filling room_steps.1 fill_leads);
-      numbered = works_by_parts.numbered;
-      within = makes.within;
-    },
-  )
+  works_on = works_made v shape can u size kind block makes o header pool start steps works
 
   stands_x : StandsAlone o header pool x
   stands_x = stood o header pool start x (steps ++ room_steps.0) (works_up_to o header pool start x u (steps ++ room_steps.0) filling works_by_parts leads_x)

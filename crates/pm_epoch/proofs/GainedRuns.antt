@@ -43,19 +43,18 @@ use Rattle.pm_fresh.specs.Made.{CanMakeRun, IsRunMade, first_block, without_chun
 use Rattle.pm_fresh.specs.Making.{behind_first, keeps_first, makes_run, page_in, run_descriptor, stores_persistent}
 use Rattle.pm_fresh.specs.Making.{run_at as run_on}
 use Rattle.pm_blocks.proofs.Onward.{descriptors_apart}
-use Rattle.pm_blocks.proofs.Taking.{can as can_be_made, lawful as lawfully_made, least_is_free}
+use Rattle.pm_blocks.proofs.Taking.{can as can_be_made, least_is_free}
 use Rattle.pm_blocks.specs.NewRuns.{HasNewRun, IsUnused, with_run}
 use Rattle.pm_alloc.specs.NewObjects.{CanMakeObject}
 use Rattle.pm_crash.specs.CallBlocks.{NewObject, block_of}
 use Rattle.pm_crash.specs.HeapChanges.{run_at}
-use Rattle.pm_crash.specs.Leading.{Leads}
 use Rattle.pm_crash.specs.NewObjects.{block_of_run}
 use Rattle.pm_crash.specs.Reserved.{IsReservedInRun, IsUnusedChunk}
 use Rattle.pm_crash.proofs.AloneCourse.{StandsAlone}
 use Rattle.pm_crash.proofs.AloneMemory.{memory_of}
 use Rattle.pm_epoch.proofs.GainedRooms.{Gains, IsCallStill, search_still, search_words}
 use Rattle.pm_epoch.proofs.HeldApart.{AllFound, locked_in_block, reserved_in_none}
-use Rattle.pm_epoch.proofs.QuietSteps.{persistent_remembers, run_leads}
+use Rattle.pm_epoch.proofs.QuietSteps.{persistent_remembers}
 use Rattle.pm_epoch.proofs.StandingPools.{own_fits}
 
 -- what passes a filter is left
@@ -139,9 +138,6 @@ module _ (o : Opening) (header : Header) (pool : PoolView) (v : View) (s : Stand
       holds = tt;
     };
   }
-
-  pub run_steps_lead : Leads w (makes_run w.lanes page lines w) x
-  run_steps_lead = run_leads w w.lanes page lines (lawfully_made v shape can.run lines class then (chunk_block v.lanes zone chunk 1) got run.least).0
 
   found : IsCallStill v w
   found = search_still v shape can all then _ _ run.made

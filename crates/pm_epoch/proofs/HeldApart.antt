@@ -1,8 +1,8 @@
 -- What a lane that works alone found under its locks lies apart from what it reserved: by words, and by whole blocks.
-use Rattle.std.proofs.Common.{◌≡◌, ℕ, ◌+◌, ◌*◌, ◌/◌, ◌%◌, ◌<◌, ◌≤◌, true, false, not, IsTrue, is_some, All, Contains, List, None, Option, Some, slice_index, inl, inr, refl, sym, ap, ◌∙◌, subst, arith}
+use Rattle.std.proofs.Common.{◌≡◌, ℕ, ◌+◌, ◌*◌, ◌/◌, ◌%◌, ◌<◌, ◌≤◌, true, false, not, ◌&&◌, IsTrue, is_some, All, Contains, List, None, Option, Some, slice_index, inl, inr, refl, sym, ap, ◌∙◌, subst, arith}
 use Rattle.std.specs.List.{list_any}
 use Rattle.std.specs.Option.{IfSome}
-use Rattle.std.proofs.lemmas.Bool.{false≢true}
+use Rattle.std.proofs.lemmas.Bool.{and_parts, false≢true}
 use Rattle.std.proofs.lemmas.List.Elements.{All-contains}
 use Rattle.std.proofs.lemmas.List.Folds.{Any-from_list_any}
 use Rattle.pm_header.specs.declared.header.Header.{Header}
@@ -18,6 +18,7 @@ use Rattle.pm_view.specs.Blocks.{bitmap_word, block_at, is_run}
 use Rattle.pm_view.specs.Blocks.{descriptor_word as lane_descriptor}
 use Rattle.pm_view.specs.Held.{is_reserved, is_under, is_under_found}
 use Rattle.pm_view.specs.Occupancy.{is_chunk_taken, is_in_block}
+use Rattle.pm_view.specs.Rights.{is_written}
 use Rattle.pm_view.specs.Steps.{Step}
 use Rattle.pm_view.specs.View.{Lock, View}
 use Rattle.pm_view.specs.Views.{reserves}
@@ -73,6 +74,15 @@ module _ (o : Opening) (header : Header) (pool : PoolView) (b : View) (s : Stand
       let there : Contains b.locks l = (t.0, t.2, t.3) in
       s.goes.world.sound.in_blocks l.line i
       (guarded i l.line l.block (All-contains (λ (m : Lock). IsTrue (is_some m.block)) b.locks l all there) (All-contains (LockFits o (memory_of b) 0) b.locks l fits.locks there).found t.4)
+
+  -- so does one that it may write under a lock
+  pub written_in_block : (i : ℕ) → is_written b i ≡ true → is_in_block (slice_index o.words) o.lanes i ≡ true
+  written_in_block i own =
+      let t = Any-from_list_any (λ (l : Lock). l.write && is_some l.block && is_under i l) b.locks own in
+      let l : Lock = t.1 in
+      let parts = and_parts (l.write && is_some l.block) (is_under i l) t.4 in
+      let found = (All-contains (LockFits o (memory_of b) 0) b.locks l fits.locks (t.0, t.2, t.3)).found in
+      s.goes.world.sound.in_blocks l.line i (guarded i l.line l.block (and_parts l.write (is_some l.block) parts.0).1 found parts.1)
 
   -- and what it reserved lies in none
   pub reserved_in_none : (i : ℕ) → is_reserved b i ≡ true → is_in_block (slice_index o.words) o.lanes i ≡ true → ⊥

@@ -52,3 +52,9 @@ pub mod MakingAlone
 pub mod NotTheRoot
 pub mod OpeningSeen
 pub mod ReclaimingLanes
+pub mod GivingSteps
+pub mod GivenBlocks
+pub mod ClosedCalls
+pub mod GivenAll
+pub mod RoomSteps
+pub mod FilledStill

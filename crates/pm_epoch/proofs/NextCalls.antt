@@ -1,5 +1,5 @@
 -- What a lane's view is as its next call begins, of which the view before is at rest behind a draw, or its call is open and told nothing: it knows what it knew, and no word changed.
-use Rattle.std.proofs.Common.{◌≡◌, ⊎_elim, ℕ, ◌+◌, ◌||◌, Bool, true, false, cond, eqb, Contains, List, [], ◌∷◌, ◌++◌, length, map, set, slice_index, None, refl, sym, ap, ◌∙◌}
+use Rattle.std.proofs.Common.{◌≡◌, ⊎_elim, ℕ, ◌||◌, Bool, true, false, cond, eqb, Contains, List, [], ◌∷◌, ◌++◌, length, map, set, slice_index, None, refl, sym, ap, ◌∙◌}
 use Rattle.std.specs.List.{list_any}
 use Rattle.std.proofs.lemmas.Bool.{or_cases, or_left, or_right}
 use Rattle.std.proofs.lemmas.List.{set-get_or}

@@ -1,20 +1,19 @@
 -- A lane that is alone and rests behind a call begins again from the words as they stand.
-use Rattle.std.proofs.Common.{subst, ◌≡◌, ◌≢◌, inl, ⊎_elim, ℕ, ◌<◌, ◌≤◌, false, ◌&&◌, List, length, is_none, refl, sym, ap, ◌∙◌, arith}
-use Rattle.std.specs.List.{list_any}
+use Rattle.std.proofs.Common.{subst, ◌≡◌, ◌≢◌, inl, ⊎_elim, ℕ, ◌<◌, ◌≤◌, false, List, [], length, refl, sym, ap, ◌∙◌, arith}
 use Rattle.std.proofs.lemmas.Bool.{cases_eq, false≢true}
 use Rattle.pm_header.specs.declared.header.Header.{Header}
 use Rattle.pm_objects.specs.declared.pool.PoolView.{PoolView}
-use Rattle.pm_view.specs.Log.{Log}
+use Rattle.pm_view.specs.Log.{Log, no_log}
 use Rattle.pm_view.specs.Log.Phase.{Idle}
 use Rattle.pm_view.specs.Steps.{Step}
 use Rattle.pm_view.specs.View.{View}
+use Rattle.pm_world.specs.Lawful.{OnlyFilled}
 use Rattle.pm_world.specs.Crash.{IsBeingWritten, loses}
 use Rattle.pm_world.specs.Fits.{LaneFits}
 use Rattle.pm_world.specs.History.{Flies, settled}
 use Rattle.pm_world.specs.Opening.{Opening}
 use Rattle.pm_world.specs.Opens.{IsClean, IsRested}
 use Rattle.pm_world.specs.Records.{is_drained_slot, used_slots}
-use Rattle.pm_world.specs.World.{is_low}
 use Rattle.pm_world.proofs.Filled.{filled_slot}
 use Rattle.pm_sealed.proofs.IdleLanes.{idle_clean}
 use Rattle.pm_crash.specs.Alone.{BeginsAgain, WorksAlone, standing}
@@ -24,10 +23,19 @@ use Rattle.pm_crash.proofs.AloneMemory.{memory_of}
 use Rattle.pm_crash.proofs.KnownHeap.{known_alone}
 use Rattle.pm_crash.proofs.OnTheWay.{alone_on_the_way}
 use Rattle.pm_epoch.specs.Epochs.{ReservesNoRun, RestsBehindCall}
+use Rattle.pm_epoch.proofs.ClosedCalls.{idle_is_closed}
 use Rattle.pm_epoch.proofs.StandingPools.{holds_calls, own_fits}
 use Rattle.pm_epoch.proofs.KnowingLanes.{free_here}
 
-module _ (o : Opening) (header : Header) (pool : PoolView) (v w : View) (steps : List Step) (works : WorksAlone o header pool v steps w) (rests : RestsBehindCall w) where
+-- its log is empty, with nothing undrained but words that it filled and nothing locked, and no chunk that it reserved is a run
+pub record IsAtRest (w : View) : Type 0 where
+  pub idle : w.log ≡ no_log Idle
+  pub changes : OnlyFilled w
+  pub free : w.locks ≡ []
+  pub unlocked : w.zone_locks ≡ []
+  pub no_run : ReservesNoRun w.lanes w
+
+module _ (o : Opening) (header : Header) (pool : PoolView) (v w : View) (steps : List Step) (works : WorksAlone o header pool v steps w) (rests : IsAtRest w) where
   stands : StandsAlone o header pool w
   stands = stands_at o header pool v steps w works.begins works.leads works.numbered works.within
 
@@ -74,8 +82,8 @@ module _ (o : Opening) (header : Header) (pool : PoolView) (v w : View) (steps :
     within = works.within;
   }
 
-  pub begins_again : BeginsAgain (standing o w) header pool w
-  begins_again =
+  pub begins_at_rest : BeginsAgain (standing o w) header pool w
+  begins_at_rest =
       let calls = holds_calls o header pool w stands writes_none loses_none v works.begins in record {
         now = calls.before;
         holds = calls.holds;
@@ -90,6 +98,10 @@ module _ (o : Opening) (header : Header) (pool : PoolView) (v w : View) (steps :
         alone = alone_on_the_way v w steps (begins_alone o header pool v works.begins) works.leads;
         numbered = works.numbered;
         newest = λ n is. stands.goes.newest n (ap (λ (u : View). u.number) stands.here ∙ is) ∙ sym stands.goes.world.counter;
-        closed = ap (λ number. is_none number && list_any is_low w.seen) rests.numbered;
+        closed = idle_is_closed o header pool v w steps works rests.idle;
         few = let room = stands.goes.world.counter_room in let counter = stands.goes.world.counter in omega (arith, room, counter);
       }
+
+pub begins_again : (o : Opening) (header : Header) (pool : PoolView) (v w : View) (steps : List Step) → WorksAlone o header pool v steps w → RestsBehindCall w → BeginsAgain (standing o w) header pool w
+begins_again o header pool v w steps works rests =
+    begins_at_rest o header pool v w steps works (record { idle = rests.idle; changes = rests.changes; free = rests.free; unlocked = rests.unlocked; no_run = rests.no_run })

@@ -1,3 +1,4 @@
 pub mod Epochs
 pub mod Allocating
 pub mod Reserving
+pub mod GivingBack

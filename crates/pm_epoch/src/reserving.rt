@@ -3,7 +3,8 @@ ghost use Rattle.pm_header.specs.declared.header.Header.{Header};
 ghost use Rattle.pm_objects.specs.declared.ids.Oid.{Oid};
 ghost use Rattle.pm_objects.specs.declared.pool.PoolView.{PoolView};
 ghost use Rattle.pm_objects.specs.declared.refusal.Refusal.{Refusal};
-ghost use Rattle.pm_layout.specs.Sizes.{blocks_of};
+ghost use Rattle.pm_objects.specs.declared.refusal.Refusal.TheVariants as refusal;
+ghost use Rattle.pm_layout.specs.Sizes.{blocks_of, class_of};
 ghost use Rattle.pm_layout.specs.declared.shape.Shape.{Shape};
 ghost use Rattle.pm_image.specs.declared.block.Block.{Block};
 ghost use Rattle.pm_model.specs.Actions.{max_actions, pending_count};
@@ -15,7 +16,7 @@ ghost use Rattle.pm_view.specs.Steps.Step.{Draw};
 ghost use Rattle.pm_view.specs.View.{View};
 ghost use Rattle.pm_view.specs.Views.{after};
 ghost use Rattle.pm_world.specs.Lanes.{IsOfShape};
-ghost use Rattle.pm_world.specs.Lawful.{Allowed, generation_limit};
+ghost use Rattle.pm_world.specs.Lawful.{Allowed, OnlyFilled, generation_limit};
 ghost use Rattle.pm_world.specs.Opening.{Opening};
 ghost use Rattle.pm_world.specs.Records.{generation_of};
 ghost use Rattle.pm_crash.specs.Alone.{WorksAlone, standing};
@@ -25,6 +26,8 @@ ghost use Rattle.pm_crash.specs.Pending.{pending_before, pending_in};
 ghost use Rattle.pm_crash.specs.Reserved.{IsBorneOut, IsReservedFor, IsReservedInRun};
 ghost use Rattle.pm_crash.specs.Reserving.{HasReserved, PutsOutside, RefusesPut, RefusesReserve, RefusesReserveOutside, ReservedLieApart, ReservesObject, ReservesOutside, RestsBehind, WritesReserved};
 ghost use Rattle.pm_alloc.specs.NewObjects.{CanMakeObject};
+ghost use Rattle.pm_blocks.specs.AnyBlocks.{HasNoRoom};
+ghost use Rattle.pm_blocks.specs.declared.making.NoBlock.TheVariants as no_block;
 ghost use Rattle.pm_reclaim.specs.KeptBlocks.{Keeps};
 ghost use Rattle.pm_epoch.specs.Allocating.{HasSameDescriptors, IsCallAlone, IsCallAloneStill, MakesObject, object_in_block};
 ghost use Rattle.pm_epoch.specs.Epochs.{ReservesNoRun};
@@ -119,4 +122,16 @@ pub fn a_lane_alone_rests_with_what_it_reserved()
         → HasReserved w → RestsBehind w next → All (IsReservedFor next) (reserved_in w) → WorksAlone o header pool start steps next → CanMakeObject next shape
         → next.log.records ≡ [] → next.log.entries ≡ [] → next.locks ≡ [] → IsAloneBetween o header pool start steps next shape }
     ensures kept { (v : View) (n : NewObject) → Keeps v (block_of n) ↔ IsReservedFor v n }
+{}
+
+/// A law: where a lane alone made an object, the undrained words that it had filled are filled still, and nothing else is undrained; where nothing was, nothing
+/// is. So it is where it looked for a block for an object, and there was none: no change is undrained then that was not. No code runs.
+pub fn words_filled_stay_filled()
+    ensures made { (o : Opening) (header : Header) (pool : PoolView) (start v u : View) (steps : List Step) (shape : Shape) (size kind : ℕ) (block : Block)
+        → WorksAlone o header pool start steps v → CanMakeObject v shape → OnlyFilled v → MakesObject v u size kind block → OnlyFilled u }
+    ensures drained { (v u : View) (shape : Shape) (size kind : ℕ) (block : Block) → CanMakeObject v shape → MakesObject v u size kind block → v.changes ≡ [] → u.changes ≡ [] }
+    ensures refused { (v w : View) (shape : Shape) (size : ℕ) → CanMakeObject v shape → HasNoRoom (λ z. z ≡ w) v (class_of size) (no_block.Refused refusal.NoSpace)
+        → OnlyFilled v → OnlyFilled w }
+    ensures same { (v w : View) (shape : Shape) (size : ℕ) → CanMakeObject v shape → HasNoRoom (λ z. z ≡ w) v (class_of size) (no_block.Refused refusal.NoSpace)
+        → w.changes ≡ v.changes }
 {}

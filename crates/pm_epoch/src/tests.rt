@@ -10,6 +10,7 @@ fn laws(_rt: HostRuntime) {
     a_draw_hands_over();
     a_draw_promises_what_will_be_taken();
     a_filled_block_is_fresh();
+    a_lane_alone_gives_back_what_it_reserved();
     a_lane_alone_holds_its_pools();
     a_lane_alone_may_change_its_blocks();
     a_lane_alone_may_make_objects();
@@ -40,4 +41,5 @@ fn laws(_rt: HostRuntime) {
     publishing_keeps_what_a_lane_has();
     what_a_call_freed_is_locked();
     what_a_lane_alone_reserved_lies_apart();
+    words_filled_stay_filled();
 }

@@ -1,52 +1,30 @@
 -- Where a lane that works alone made an object and told it, it is at work still, and may make another.
-use Rattle.std.proofs.Common.{◌≡◌, ◌⊎◌, inl, inr, ℕ, ◌+◌, ◌*◌, ◌/◌, ◌≤◌, true, false, IsTrue, is_some, List, [], ◌∷◌, ◌++◌, Contains, map, length, slice_index, Some, refl, sym, ap, ◌∙◌, subst, arith, eqb}
+use Rattle.std.proofs.Common.{◌≡◌, ◌⊎◌, inl, inr, ℕ, ◌+◌, ◌≤◌, List, [], ◌∷◌, ◌++◌, Contains, map, length, Some, refl, sym, ap, ◌∙◌, subst, arith}
 use Rattle.std.specs.List.{All}
 use Rattle.std.specs.Option.{ForSome}
-use Rattle.std.proofs.lemmas.Bool.{and_parts, eqb-true, false_from_ne_true, leb-true}
-use Rattle.std.proofs.lemmas.List.{append-nil}
-use Rattle.std.proofs.lemmas.List.Elements.{All-contains, All-contains_itself, All-weaker, Contains-push_cases}
-use Rattle.std.proofs.lemmas.List.Folds.{Any-from_list_any}
+use Rattle.std.proofs.lemmas.List.Elements.{All-weaker, Contains-push_cases}
 use Rattle.pm_header.specs.declared.header.Header.{Header}
 use Rattle.pm_image.specs.declared.block.Block.{Block}
-use Rattle.pm_image.specs.Blocks.{descriptor_word}
 use Rattle.pm_model.specs.Actions.{Pending, max_entries}
 use Rattle.pm_objects.specs.declared.calls.Operation.TheVariants.{Alloc}
 use Rattle.pm_objects.specs.declared.history.Value.TheVariants.{Offset}
 use Rattle.pm_objects.specs.declared.pool.PoolView.{PoolView}
-use Rattle.pm_view.specs.Area.{is_in_area}
-use Rattle.pm_view.specs.Blocks.{chunk_of, zone_page}
-use Rattle.pm_view.specs.Log.{Log}
 use Rattle.pm_view.specs.Steps.{Step}
-use Rattle.pm_view.specs.View.{Lock, View}
-use Rattle.pm_view.specs.Views.{reserves}
-use Rattle.pm_world.proofs.Apart.{area_bounds}
-use Rattle.pm_world.specs.Lanes.{span_of}
+use Rattle.pm_view.specs.View.{View}
 use Rattle.pm_world.specs.Opening.{Opening}
 use Rattle.pm_world.specs.declared.lane.Lane.{Lane}
-use Rattle.pm_undo.specs.Spans.{IsSpan}
-use Rattle.pm_lock.specs.Finding.{FindsObject}
 use Rattle.pm_crash.proofs.CallBlocks.{blocks_once_more}
-use Rattle.pm_crash.proofs.PendingOn.{pending_once_more, published_once_more}
+use Rattle.pm_crash.proofs.PendingOn.{pending_once_more}
 use Rattle.pm_crash.proofs.ReservedStays.{alloc_stays}
 use Rattle.pm_crash.specs.Alone.{WorksAlone}
-use Rattle.pm_crash.specs.CallBlocks.{CallBlocks, NewObject, blocks_in, is_freed_in, reserved_in, reserved_object, with_made}
-use Rattle.pm_crash.specs.HeapChanges.{run_at}
+use Rattle.pm_crash.specs.CallBlocks.{CallBlocks, NewObject, blocks_in, reserved_in, reserved_object, with_made}
 use Rattle.pm_crash.specs.Operations.{AllocatesObject, entries_so_far}
-use Rattle.pm_crash.specs.Pending.{published_in}
-use Rattle.pm_crash.specs.NewObjects.{block_of_chunks, block_of_run}
-use Rattle.pm_crash.specs.Reserved.{IsReservedFor, IsUnusedChunk}
-use Rattle.pm_made.proofs.CallLists.{freed_is}
 use Rattle.pm_made.specs.Made.{BlockLists, ListsBlocks}
-use Rattle.pm_made.specs.declared.objects.Freed.{Freed}
 use Rattle.pm_alloc.specs.NewObjects.{CanMakeObject, HasNewObject}
-use Rattle.pm_epoch.proofs.GainedObjects.{object_gained, stood}
-use Rattle.pm_epoch.proofs.GainedRooms.{Gains, IsOfItsRun}
-use Rattle.pm_epoch.proofs.OpeningSeen.{finds_opening}
+use Rattle.pm_epoch.proofs.GainedRooms.{Gains}
 use Rattle.pm_epoch.proofs.ToldObjects.{allocates, goes_on as told_goes_on}
-use Rattle.pm_epoch.specs.Allocating.{IsCallAlone, IsCallAloneStill, IsFoundAt, MakesObject, object_in_block, with_object_told}
-use Rattle.pm_tx.proofs.Objects.{is_found}
-use Rattle.pm_tx.proofs.GoingOn.{HasSameFields, KeepsObjects, goes_on}
-use Rattle.pm_tx.proofs.NoneMade.{made_none_before}
+use Rattle.pm_epoch.specs.Allocating.{IsCallAlone, IsCallAloneStill, object_in_block, with_object_told}
+use Rattle.pm_tx.proofs.GoingOn.{HasSameFields}
 use Rattle.pm_tx.specs.AtWork.{IsAtWork}
 use Rattle.pm_transaction.proofs.GainedAtWork.{call_alone, has_gained, lies_new, lies_still, made_at_work}
 use Rattle.pm_transaction.specs.Allocating.{MayAllocate, made_in_block}

@@ -1,27 +1,20 @@
 -- A lane whose transaction may make and free objects looks at the root's word, and tells an operation that changes no word: it is at work still.
-use Rattle.std.proofs.Common.{◌≡◌, ⊎_elim, inl, inr, ℕ, ◌+◌, ◌*◌, ◌/◌, Bool, true, false, not, cond, eqb, List, [], ◌∷◌, ◌++◌, Contains, map, slice_index, Option, Some, None, refl, sym, ◌∙◌, ap, subst, arith}
+use Rattle.std.proofs.Common.{◌≡◌, ⊎_elim, ℕ, ◌+◌, ◌*◌, ◌/◌, Bool, true, false, not, cond, eqb, List, Contains, map, slice_index, Some, None, sym, ◌∙◌, ap, subst, arith}
 use Rattle.std.specs.List.{All}
 use Rattle.std.proofs.lemmas.Bool.{and_parts, cases_Bool, leb-true, ne_eqb}
-use Rattle.std.proofs.lemmas.List.{append-nil}
-use Rattle.std.proofs.lemmas.List.Elements.{All-append, All-cons, All-nil, All-weaker}
-use Rattle.pm_objects.specs.declared.calls.Operation.{Operation}
-use Rattle.pm_objects.specs.declared.history.Value.{Value}
 use Rattle.pm_view.specs.Blocks.{allocation_word, bitmap_word, chunk_of, descriptor_word, is_chunk, is_run, is_word, zone_page}
 use Rattle.pm_view.specs.Founds.{FindsKnown}
 use Rattle.pm_view.specs.Held.{is_known}
 use Rattle.pm_view.specs.Log.{Log}
 use Rattle.pm_view.specs.Steps.Step.{Load}
-use Rattle.pm_view.specs.View.{Lock, Told, View}
+use Rattle.pm_view.specs.View.{Lock, View}
 use Rattle.pm_view.specs.Views.{after}
 use Rattle.pm_world.specs.Lanes.{span_of}
 use Rattle.pm_world.specs.Opening.{Opening}
 use Rattle.pm_world.specs.declared.lane.Lane.{Lane}
 use Rattle.pm_crash.proofs.AloneMemory.{load_words}
-use Rattle.pm_crash.proofs.CallBlocks.{allocated_once_more}
 use Rattle.pm_crash.proofs.PendingOn.{published_same}
 use Rattle.pm_crash.proofs.Staying.{goes_on_learning}
-use Rattle.pm_crash.specs.CallBlocks.{NewObject, TellsOfRoot, allocated_by, allocated_in}
-use Rattle.pm_crash.specs.Reserved.{IsBorneOut, IsReservedFor, root_in}
 use Rattle.pm_lock.specs.Finding.{FindsObject}
 use Rattle.pm_made.specs.Made.{BlockLists}
 use Rattle.pm_undo.proofs.Kept.{is_of}
@@ -29,7 +22,6 @@ use Rattle.pm_undo.proofs.Learned.{learns_at_work, opening_learned}
 use Rattle.pm_undo.specs.Spans.{IsSpan}
 use Rattle.pm_undo.specs.Working.{HasLearned, IsPlain}
 use Rattle.pm_tx.proofs.AddsAtWork.{listed_is_known}
-use Rattle.pm_crash.proofs.StillReserved.{HasSameHeads, borne_still}
 use Rattle.pm_tx.proofs.GoingOn.{HasSameFields, goes_on, objects_kept}
 use Rattle.pm_tx.proofs.LearnsAtWork.{looks_once}
 use Rattle.pm_tx.proofs.NoneMade.{made_none_same}

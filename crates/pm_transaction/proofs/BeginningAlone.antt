@@ -1,5 +1,5 @@
 -- A lane alone that began a transaction where it may begin works alone there, and is at work with its lists.
-use Rattle.std.proofs.Common.{◌≡◌, ◌*◌, ◌<◌, ◌/◌, ◌%◌, ℕ, All, List, [], sym, ap, ◌∙◌, subst, arith}
+use Rattle.std.proofs.Common.{All, List, arith}
 use Rattle.pm_header.specs.declared.header.Header.{Header}
 use Rattle.pm_objects.specs.declared.calls.Want.{Want}
 use Rattle.pm_objects.specs.declared.pool.PoolView.{PoolView}

@@ -1,6 +1,6 @@
 -- A transaction that has just begun made and freed nothing, so what a lane alone has with empty lists is all that it needs to be at work with them.
 use Rattle.std.proofs.Common.{◌≡◌, inl, inr, List, [], ◌∷◌, map, slice_index, None, sym, ap, ◌∙◌, subst, Contains}
-use Rattle.std.specs.List.{All, flat_map}
+use Rattle.std.specs.List.{All}
 use Rattle.std.proofs.lemmas.List.Elements.{All-nil, All-weaker}
 use Rattle.pm_image.proofs.Members.{no_member}
 use Rattle.pm_crash.proofs.CallBlocks.{first_agrees}
@@ -13,7 +13,7 @@ use Rattle.pm_objects.specs.declared.calls.Operation.TheVariants.{Begin}
 use Rattle.pm_objects.specs.declared.calls.Want.{Want}
 use Rattle.pm_tx.specs.Begins.{HasBegun}
 use Rattle.pm_view.specs.Founds.{IsAlone}
-use Rattle.pm_view.specs.View.{Told, View}
+use Rattle.pm_view.specs.View.{View}
 use Rattle.pm_world.specs.declared.lane.HeldLock.{HeldLock}
 use Rattle.pm_world.specs.declared.lane.Lane.{Lane}
 use Rattle.pm_transaction.specs.AtWork.{IsHeldFreed, LiesInReserved}

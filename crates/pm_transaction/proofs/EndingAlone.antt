@@ -1,31 +1,25 @@
 -- A lane alone may end its transaction behind its call, and begins again then.
-use Rattle.std.proofs.Common.{◌≡◌, ℕ, zero, suc, ◌-◌, ◌/◌, ◌%◌, ◌≤◌, ◌||◌, List, [], ◌∷◌, ◌++◌, Some, length, slice_index, sym, ap, ◌∙◌, subst, arith}
-use Rattle.std.proofs.lemmas.Bool.{and_parts, false_from_ne_true, false≢true, or_left}
+use Rattle.std.proofs.Common.{◌≡◌, ℕ, zero, suc, ◌≤◌, List, [], ◌∷◌, ◌++◌, Some, length, sym, ap, ◌∙◌, subst, arith}
 use Rattle.std.specs.List.{list_any}
 use Rattle.pm_header.specs.declared.header.Header.{Header}
 use Rattle.pm_image.specs.declared.block.Block.{Block}
 use Rattle.pm_memory.specs.Solo.{AreNumbered}
 use Rattle.pm_objects.specs.declared.pool.PoolView.{PoolView}
 use Rattle.pm_view.proofs.Sequences.{after_all-append}
-use Rattle.pm_view.specs.declared.occ.Occ.TheVariants.{Zone}
-use Rattle.pm_view.specs.Blocks.{chunk_of, is_run, zone_of}
-use Rattle.pm_view.specs.Blocks.{descriptor_word as lane_descriptor}
 use Rattle.pm_view.specs.Founds.{IsAlone}
 use Rattle.pm_view.specs.Log.{no_log}
 use Rattle.pm_view.specs.Log.Phase.{Idle}
 use Rattle.pm_view.specs.Steps.{Step}
 use Rattle.pm_view.specs.Steps.Step.{Give}
 use Rattle.pm_view.specs.View.{View}
-use Rattle.pm_view.specs.Views.{after_all, has_bit, has_chunk, is_made, reserves}
+use Rattle.pm_view.specs.Views.{after_all}
 use Rattle.pm_world.specs.Fits.{LaneFits}
-use Rattle.pm_world.specs.Heap.{has_run_chunk}
 use Rattle.pm_world.specs.History.{Flies, settled}
 use Rattle.pm_world.specs.Opening.{Opening}
 use Rattle.pm_world.specs.Sequences.{Ready, counted, in_turn, nothing, one}
 use Rattle.pm_world.specs.declared.lane.HeldLock.{HeldLock}
 use Rattle.pm_world.specs.declared.lane.Lane.{Lane}
 use Rattle.pm_world.proofs.Filled.{none_filled}
-use Rattle.pm_world.proofs.Reserved.{reserved_low, reserved_of_pool}
 use Rattle.pm_world.proofs.Sequencing.{ready_left, ready_right}
 use Rattle.pm_world.specs.Heap.{heap_words}
 use Rattle.pm_crash.proofs.AloneCourse.{StandsAlone, stands_at}

@@ -1,9 +1,9 @@
 -- Objects are freed one after another, each named once, and then what is reserved comes to be: which the call had made, and how many its lists have behind that.
-use Rattle.std.proofs.Common.{◌≡◌, ◌≢◌, ⊎_elim, ℕ, ◌+◌, ◌*◌, ◌≤◌, Bool, true, false, not, cond, eqb, count_by, Contains, List, [], ◌∷◌, ◌++◌, length, map, Option, None, Some, is_some, refl, sym, ap, ◌∙◌, subst, arith}
+use Rattle.std.proofs.Common.{◌≡◌, ◌≢◌, ⊎_elim, ℕ, ◌+◌, ◌*◌, ◌≤◌, Bool, true, false, not, cond, count_by, Contains, List, [], ◌∷◌, ◌++◌, length, map, Option, None, Some, is_some, refl, sym, ap, ◌∙◌, arith}
 use Rattle.std.specs.Prelude.{nat_eq}
 use Rattle.std.specs.List.{AllByRecursion, IsDistinct, filter, find, list_any}
 use Rattle.std.specs.Option.{option_map}
-use Rattle.std.proofs.lemmas.Bool.{eq-eqb, eqb-false, eqb-true, ne_eqb}
+use Rattle.std.proofs.lemmas.Bool.{eqb-false, eqb-true, ne_eqb}
 use Rattle.std.proofs.lemmas.List.{length-append, length-map}
 use Rattle.std.proofs.lemmas.List.Filters.{length-filter_both}
 use Rattle.std.proofs.lemmas.List.Folds.{Any-from_list_any}
@@ -11,7 +11,7 @@ use Rattle.std.proofs.lemmas.List.Sums.{sum_by-cons}
 use Rattle.std.proofs.lemmas.Map.Views.{any-filter_same}
 use Rattle.pm_image.proofs.Members.{first_member, later_member, member_cases, no_member}
 use Rattle.pm_objects.specs.declared.ids.Oid.{Oid}
-use Rattle.pm_model.specs.Actions.{Action, Pending, Reservation, none_pending}
+use Rattle.pm_model.specs.Actions.{Action, Reservation, none_pending}
 use Rattle.pm_crash.proofs.ManyObjects.{AreOnce}
 use Rattle.pm_crash.proofs.OnceMade.{alone_there, once_kept}
 use Rattle.pm_crash.specs.CallBlocks.{CallBlocks, NewObject, blocks_in, is_at, reserved_object, with_all_freed, with_all_made, with_freed, with_made}

@@ -9,14 +9,13 @@ use Rattle.pm_objects.specs.declared.ids.Oid.{Oid}
 use Rattle.pm_model.specs.Actions.{Reservation}
 use Rattle.pm_crash.specs.CallBlocks.{CallBlocks, NewObject, is_at, reserved_object, with_all_freed, with_all_made, with_freed, with_made}
 use Rattle.pm_made.specs.declared.objects.Freed.{Freed}
-use Rattle.pm_made.specs.declared.objects.Made.{Made}
 use Rattle.pm_made.specs.Made.{BlockLists, ListsBlocks, begins_at, new_of}
 use Rattle.pm_made.proofs.CallLists.{made_is}
 use Rattle.pm_pending.specs.AllPending.{reserved_as}
 use Rattle.pm_pending.specs.declared.pending.Reserved.{Reserved}
 use Rattle.pm_world.specs.declared.lane.HeldLock.{HeldLock}
 use Rattle.pm_transaction.proofs.FreedInTurn.{AreNamedOnce, first_alone, freed_grows, made_before}
-use Rattle.pm_transaction.specs.AtWork.{HasBlock, IsHeldFreed}
+use Rattle.pm_transaction.specs.AtWork.{IsHeldFreed}
 use Rattle.pm_transaction.specs.PublishedLists.{CanListFreed, IsUnderLockOf, made_of}
 
 -- an element of a list is a member

@@ -18,8 +18,7 @@ use Rattle.pm_crash.specs.Pending.{pending_behind, pending_from, pending_told}
 use Rattle.pm_objects.specs.declared.ids.Oid.{Oid}
 use Rattle.pm_objects.specs.declared.pool.PoolView.{PoolView}
 use Rattle.pm_objects.specs.declared.refusal.Refusal.{Refusal}
-use Rattle.pm_model.specs.Actions.{Action, Pending, Reservation, is_to_be_freed, max_entries, none_pending, object_of, object_reserved, only_sets, with_actions, with_free, with_set}
-use Rattle.pm_model.specs.Actions.Action.{SetWord}
+use Rattle.pm_model.specs.Actions.{Action, Pending, Reservation, is_to_be_freed, max_entries, object_of, object_reserved, only_sets, with_actions, with_free}
 use Rattle.pm_model.specs.Answers.{Told, Answers, IsValue, after, after_reply, error_for}
 use Rattle.pm_model.specs.Bytes.{covered_words, is_among, new_words, records_of}
 use Rattle.pm_model.specs.Checks.{Seen, checks, first_refusal, names_gone, objects_named, passes_actions}

@@ -1,19 +1,17 @@
 -- What the checks of a publish of all that is pending find of what is named, and so why it is refused.
-use Rattle.std.proofs.Common.{◌≡◌, ◌≢◌, ◌⊎◌, ⊎_elim, inl, inr, ℕ, ◌+◌, ◌*◌, ◌≤◌, ◌&&◌, ◌||◌, Bool, true, false, not, eqb, All, Contains, List, ◌++◌, map, slice_index, Some, sym, ap, ◌∙◌, subst, arith}
+use Rattle.std.proofs.Common.{◌≡◌, ⊎_elim, inl, inr, ◌+◌, ◌*◌, ◌≤◌, ◌&&◌, ◌||◌, Bool, true, false, not, eqb, All, Contains, List, ◌++◌, map, sym, ap, ◌∙◌, subst, arith}
 use Rattle.std.specs.List.{Any, list_any}
 use Rattle.std.proofs.lemmas.Bool.{and_parts, cases_Bool, eqb-true, false≢true, or_cases, or_from, or_parts}
 use Rattle.std.proofs.lemmas.List.Elements.{All-append, All-contains, All-contains_itself, All-map, All-weaker, Contains-append_left, Contains-append_right}
 use Rattle.std.proofs.lemmas.List.Folds.{Any-from_list_any}
-use Rattle.std.proofs.lemmas.Option.{same_Some}
 use Rattle.pm_crash.proofs.CallBlocks.{any_map}
 use Rattle.pm_crash.proofs.Includes.{made_member}
 use Rattle.pm_crash.proofs.PendingOn.{pending_same}
-use Rattle.pm_crash.specs.CallBlocks.{FreeNoRoot, blocks_in, is_at, is_freed_in, is_gone_in, is_made_in, is_new_in}
+use Rattle.pm_crash.specs.CallBlocks.{blocks_in, is_at, is_freed_in, is_gone_in, is_made_in, is_new_in}
 use Rattle.pm_crash.specs.OnActions.{CanFreeIn, HasAllLeft, HasObject, IsPublishReasonIn, LacksObject}
 use Rattle.pm_crash.specs.OpenCall.{lock_of, locks_of}
 use Rattle.pm_crash.specs.Operations.{IsGone, IsLeft}
 use Rattle.pm_crash.specs.Pending.{pending_in, sets_in}
-use Rattle.pm_crash.specs.Reserved.{root_in}
 use Rattle.pm_lock.specs.Finding.{FindsObject}
 use Rattle.pm_made.specs.Made.{BlockLists}
 use Rattle.pm_model.specs.Actions.{Action, Pending, object_of, wants_for, wants_pending}
@@ -29,12 +27,9 @@ use Rattle.pm_pending.specs.declared.pending.PendingActions.{PendingActions}
 use Rattle.pm_view.specs.View.{Lock, View}
 use Rattle.pm_world.specs.Opening.{Opening}
 use Rattle.pm_world.specs.declared.lane.Lane.{Lane}
-use Rattle.pm_tx.proofs.Checked.{looks_call, looks_entries}
 use Rattle.pm_tx.proofs.EachAction.{some_mapped}
 use Rattle.pm_tx.proofs.GoingOn.{KeepsObjects}
-use Rattle.pm_transaction.proofs.Frees.{root_elsewhere, root_there}
-use Rattle.pm_transaction.proofs.Owned.{made_here}
-use Rattle.pm_transaction.proofs.PublishChecks.{HasIts, LacksIts, left_of, objects_looked_at, some_with, want_of}
+use Rattle.pm_transaction.proofs.PublishChecks.{HasIts, LacksIts, left_of, some_with, want_of}
 use Rattle.pm_transaction.proofs.PublishKept.{left_kept}
 use Rattle.pm_transaction.specs.AtWork.{HasLookedWith, IsAtWorkWith}
 

@@ -1,7 +1,7 @@
 -- Why a publish of all that is pending is refused, at the view that the looks before it leave, and that else it can be done.
-use Rattle.std.proofs.Common.{◌≡◌, ◌≢◌, ◌⊎◌, ⊎_elim, ℕ, zero, suc, ◌<◌, ◌≤◌, false, true, All, List, length, Option, Some, slice_index, sym, ap, ◌∙◌, subst, arith}
+use Rattle.std.proofs.Common.{◌≡◌, ◌≢◌, ◌⊎◌, ⊎_elim, ℕ, zero, suc, ◌<◌, ◌≤◌, false, true, All, List, length, Some, slice_index, sym, ap, ◌∙◌, subst, arith}
 use Rattle.std.specs.List.{Any}
-use Rattle.std.proofs.lemmas.List.Elements.{All-contains, All-contains_itself, All-map, All-weaker}
+use Rattle.std.proofs.lemmas.List.Elements.{All-contains, All-map, All-weaker}
 use Rattle.pm_crash.proofs.AloneMemory.{load_words}
 use Rattle.pm_crash.proofs.PendingOn.{pending_same}
 use Rattle.pm_crash.specs.CallBlocks.{FreeNoRoot}
@@ -10,7 +10,7 @@ use Rattle.pm_crash.specs.Operations.{IsLeft}
 use Rattle.pm_crash.specs.Pending.{pending_in, sets_in}
 use Rattle.pm_crash.specs.Reserved.{root_in}
 use Rattle.pm_made.specs.Made.{BlockLists}
-use Rattle.pm_model.specs.Actions.{Action, Pending, max_entries}
+use Rattle.pm_model.specs.Actions.{max_entries}
 use Rattle.pm_objects.specs.declared.ids.Oid.{Oid}
 use Rattle.pm_objects.specs.declared.refusal.Refusal.{Refusal}
 use Rattle.pm_objects.specs.declared.refusal.Refusal.TheVariants as refusal
@@ -27,7 +27,7 @@ use Rattle.pm_tx.proofs.EachAction.{some_mapped}
 use Rattle.pm_tx.specs.Learning.{Looks}
 use Rattle.pm_transaction.proofs.Frees.{root_elsewhere, root_there}
 use Rattle.pm_transaction.proofs.PublishAllChecks.{all_left_kept, behind_free, can_free, frees_left, sets_left}
-use Rattle.pm_transaction.proofs.PublishChecks.{PassesEndIn, SetsIn, looked_then, objects_looked_at, unlooked}
+use Rattle.pm_transaction.proofs.PublishChecks.{PassesEndIn, SetsIn, looked_then, objects_looked_at}
 use Rattle.pm_transaction.specs.AtWork.{HasLookedWith, IsAtWorkWith}
 use Rattle.pm_transaction.specs.Publishing.{CanPublish, IsPublishRefused}
 

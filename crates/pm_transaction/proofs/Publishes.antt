@@ -9,7 +9,6 @@ use Rattle.pm_crash.proofs.PublishOn.{publish_goes_on}
 use Rattle.pm_crash.proofs.ReservedOn.{none_reserved}
 use Rattle.pm_crash.proofs.CallBlocks.{blocks_once_more}
 use Rattle.pm_crash.specs.OnActions.{CanSetIn, IsPublishReasonIn, PublishesIn, entries_in}
-use Rattle.pm_crash.proofs.PendingOn.{sets_alone}
 use Rattle.pm_crash.specs.CallBlocks.{TellsOfRoot, allocated_by, blocks_behind, blocks_in}
 use Rattle.pm_crash.specs.Pending.{pending_in, sets_in}
 use Rattle.pm_made.specs.Made.{BlockLists}
@@ -19,7 +18,7 @@ use Rattle.pm_objects.specs.declared.history.TxErr.TheVariants as error
 use Rattle.pm_objects.specs.declared.history.Value.TheVariants.{Refused}
 use Rattle.pm_objects.specs.declared.refusal.Refusal.{Refusal}
 use Rattle.pm_objects.specs.declared.refusal.Refusal.TheVariants as refusal
-use Rattle.pm_pending.specs.Pending.{entry_of, pending_of, redo_for, sets_of}
+use Rattle.pm_pending.specs.Pending.{entry_of, pending_of, redo_for}
 use Rattle.pm_pending.specs.declared.actions.SetAction.{SetAction}
 use Rattle.pm_record.specs.declared.redo.Redo.{Redo}
 use Rattle.pm_redo.specs.Entering.{IsOfPool, MayEnter}

@@ -1,5 +1,5 @@
 -- A publish of all that is pending, of a lane at work: told, it leaves the lane at work with the lists of what that made and freed; refused, it gives the call up.
-use Rattle.std.proofs.Common.{◌≡◌, ◌≢◌, ◌⊎◌, ⊎_elim, inl, inr, ℕ, ◌+◌, ◌*◌, ◌%◌, ◌≤◌, Bool, true, false, All, Contains, List, ◌++◌, length, map, Option, None, Some, slice_index, refl, sym, ap, ◌∙◌, subst, arith}
+use Rattle.std.proofs.Common.{◌≡◌, ◌≢◌, ◌⊎◌, ⊎_elim, inl, inr, ℕ, ◌+◌, ◌*◌, ◌≤◌, true, false, All, Contains, List, ◌++◌, length, map, None, Some, slice_index, refl, sym, ap, ◌∙◌, subst, arith}
 use Rattle.std.specs.List.{list_any}
 use Rattle.std.proofs.lemmas.Bool.{eq-eqb, false≢true}
 use Rattle.std.proofs.lemmas.List.{length-append, length-map}
@@ -22,12 +22,10 @@ use Rattle.pm_crash.proofs.ReservedStays.{publish_leaves_none}
 use Rattle.pm_crash.proofs.StillReserved.{HasSameHeads, borne_told, reserved_still, same_root}
 use Rattle.pm_crash.specs.CallBlocks.{AgreesOnRoot, CallBlocks, NewObject, allocated_in, blocks_in, is_at, reserved_in, reserved_object, with_all_freed, with_all_made}
 use Rattle.pm_crash.specs.OnActions.{CanFreeIn, CanSetIn, PublishesIn}
-use Rattle.pm_crash.specs.OpenCall.{lock_of, locks_of}
-use Rattle.pm_crash.specs.Pending.{pending_in, published_in, sets_in}
+use Rattle.pm_crash.specs.OpenCall.{lock_of}
+use Rattle.pm_crash.specs.Pending.{pending_in, sets_in}
 use Rattle.pm_crash.specs.Reserved.{IsBorneOut, IsReservedFor, root_in}
 use Rattle.pm_crash.specs.Reserving.{StandsReserved}
-use Rattle.pm_made.specs.declared.objects.Freed.{Freed}
-use Rattle.pm_made.specs.declared.objects.Made.{Made}
 use Rattle.pm_made.specs.Made.{BlockLists, FitsPages, IsOffsetIn, ListsBlocks, new_of}
 use Rattle.pm_model.specs.Actions.{Action, Pending, Reservation, none_pending}
 use Rattle.pm_model.specs.Places.{CanHold}
@@ -40,7 +38,6 @@ use Rattle.pm_objects.specs.declared.refusal.Refusal.{Refusal}
 use Rattle.pm_objects.specs.declared.refusal.Refusal.TheVariants as refusal
 use Rattle.pm_pending.specs.AllPending.{IsPendingAs, reserved_as}
 use Rattle.pm_pending.specs.Pending.{action_of, entry_of, redo_for}
-use Rattle.pm_pending.specs.declared.actions.SetAction.{SetAction}
 use Rattle.pm_pending.specs.declared.pending.PendingActions.{PendingActions}
 use Rattle.pm_pending.specs.declared.pending.Reserved.{Reserved}
 use Rattle.pm_record.specs.declared.redo.Redo.{Redo}
@@ -50,9 +47,7 @@ use Rattle.pm_undo.specs.Spans.{IsSpan}
 use Rattle.pm_view.specs.Steps.Step.{Tell}
 use Rattle.pm_view.specs.View.{Lock, View}
 use Rattle.pm_view.specs.Views.{after}
-use Rattle.pm_world.specs.Lanes.{lock_of as view_lock}
 use Rattle.pm_world.specs.Opening.{Opening}
-use Rattle.pm_world.specs.declared.lane.HeldLock.{HeldLock}
 use Rattle.pm_world.specs.declared.lane.Lane.{Lane}
 use Rattle.pm_world.specs.declared.lane.Span.{Span}
 use Rattle.pm_tx.proofs.ActionsAtWork.{as_before, log_kept, objects, opening_told, pending_told, published_told, tells, words_kept}

@@ -1,5 +1,5 @@
 -- An operation on a range of any object that is refused gives up the open call, unless the lane stops before.
-use Rattle.std.proofs.Common.{◌≡◌, ◌≢◌, ⊎_elim, inl, inr, ℕ, List, [], Option, None, Some, refl, sym, subst}
+use Rattle.std.proofs.Common.{◌≡◌, ◌≢◌, ⊎_elim, inl, inr, ℕ, List, Option, None, Some, refl, sym, subst}
 use Rattle.pm_crash.proofs.GivenUp.{refusal_aborts}
 use Rattle.pm_crash.proofs.GoneRanges.{gone_range_aborts, new_range_aborts}
 use Rattle.pm_crash.specs.CallBlocks.{IsOldIn, LeavesReserved, TellsOfRoot}

@@ -1,5 +1,5 @@
 -- Where a lane that works alone made an object and told it as reserved, it is at work still, and may make another.
-use Rattle.std.proofs.Common.{◌≡◌, inl, ℕ, ◌+◌, ◌<◌, ◌≤◌, List, [], ◌∷◌, ◌++◌, Contains, map, length, replicate, Some, refl, sym, ap, ◌∙◌, subst, arith}
+use Rattle.std.proofs.Common.{◌≡◌, ℕ, ◌<◌, ◌≤◌, List, [], ◌∷◌, ◌++◌, Contains, map, replicate, Some, refl, sym, ap, ◌∙◌, subst, arith}
 use Rattle.std.specs.List.{All}
 use Rattle.std.specs.Option.{ForSome}
 use Rattle.std.proofs.lemmas.List.{length-replicate}
@@ -13,7 +13,6 @@ use Rattle.pm_objects.specs.declared.pool.PoolView.{PoolView}
 use Rattle.pm_view.specs.Steps.{Step}
 use Rattle.pm_view.specs.View.{View}
 use Rattle.pm_world.specs.Opening.{Opening}
-use Rattle.pm_world.specs.declared.lane.HeldLock.{HeldLock}
 use Rattle.pm_world.specs.declared.lane.Lane.{Lane}
 use Rattle.pm_crash.proofs.CallBlocks.{blocks_once_more}
 use Rattle.pm_crash.proofs.PendingOn.{pending_once_more}
@@ -32,7 +31,7 @@ use Rattle.pm_tx.specs.AtWork.{IsAtWork}
 use Rattle.pm_transaction.proofs.GainedAtWork.{call_alone, has_gained, lies_new, lies_still, made_at_work}
 use Rattle.pm_transaction.proofs.NotMaking.{not_making_able}
 use Rattle.pm_transaction.specs.Allocating.{MayAllocate}
-use Rattle.pm_transaction.specs.AtWork.{AreForPool, IsAtWorkWith, IsHeldFreed, LiesInReserved}
+use Rattle.pm_transaction.specs.AtWork.{IsAtWorkWith, IsHeldFreed, LiesInReserved}
 
 -- the one that is reserved last, and those before it
 each_more : (P : NewObject → Type 0) (rs : List Reservation) (r : Reservation) → All P (map reserved_object rs) → P (reserved_object r) → All P (map reserved_object (rs ++ r ∷ []))

@@ -15,3 +15,4 @@ pub mod Filling
 pub mod PublishedLists
 pub mod Resting
 pub mod SoloCounts
+pub mod Canceling

@@ -15,6 +15,7 @@
 mod alloc_laws;
 mod allocating;
 mod beginning;
+mod canceling;
 mod committing;
 mod deferring;
 mod ending;
@@ -32,6 +33,7 @@ mod reserving;
 pub use alloc_laws::an_object_is_made_by_few_stores;
 pub use allocating::alloc;
 pub use beginning::begin;
+pub use canceling::cancel;
 pub use committing::commit;
 pub use deferring::{defer_free, set_value};
 pub use ending::end;

@@ -24,7 +24,7 @@ use Rattle.pm_view.specs.Views.{after_all}
 use Rattle.pm_world.proofs.Sequencing.{runs_err, runs_then}
 use Rattle.pm_world.proofs.Shapes.{IsOfSamePool}
 use Rattle.pm_world.specs.Lanes.{span_of}
-use Rattle.pm_world.specs.Sequences.{IsMade, Ready, Runs, Sequence, in_turn, one, settles}
+use Rattle.pm_world.specs.Sequences.{IsMade, Ready, Runs, Sequence, in_turn, settles}
 use Rattle.pm_world.specs.declared.lane.Lane.{Lane}
 use Rattle.pm_world.specs.declared.lane.Span.{Span}
 use Rattle.pm_lock.proofs.Leads.{led_none}
@@ -34,6 +34,7 @@ use Rattle.pm_tx.specs.Begins.{HasStoppedRefused, IsRefusedAtOnce}
 use Rattle.pm_tx.specs.Ending.{GivesUpBy, IsEndedBy, IsOver, IsReadyForAny, IsUndrawn}
 use Rattle.pm_tx.specs.Sequences.{ends_call, gives_up, takes_back}
 use Rattle.pm_tx.proofs.Beginnings.{no_records, no_spans, settled_back, works}
+use Rattle.pm_tx.proofs.ToldBegun.{ends_words}
 use Rattle.pm_tx.proofs.GivenUp.{IsLast, after_over, end_ready, give_up_drawn, give_up_last, give_up_lawful, give_up_undrawn, place_at_work, undrawn_lane}
 
 -- a reason to refuse a begin is one by each view of the pool
@@ -60,10 +61,6 @@ module _ (v next : View) (pool : next.pool ≡ v.pool) (lanes : next.lanes ≡ v
     is.4,
   )
   reason_further r is = absurd is
-
-ends_words : (v : View) (operation : Operation) (reply : Option Value) (n : ℕ) → (after_all v (ends_call operation reply n v)).words ≡ v.words
-unfolding ends_call in_turn one after_all
-ends_words v operation reply n = refl
 
 -- a call without records that is given up changes no word
 pub refusing_words : (v : View) (operation : Operation) (reply : Option Value) (n : ℕ) → (after_all v (gives_up [] operation reply n v)).words ≡ v.words

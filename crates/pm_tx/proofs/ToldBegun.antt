@@ -26,6 +26,11 @@ rest_drains : (v : View) → v.log.records ≡ [] → v.log.entries ≡ [] → M
 rest_drains v unrecorded unentered (inl none) = inl none
 rest_drains v unrecorded unentered (inr rest) = inr (unrecorded, unentered, rest.1)
 
+-- telling and drawing change no word
+pub ends_words : (v : View) (operation : Operation) (reply : Option Value) (n : ℕ) → (after_all v (ends_call operation reply n v)).words ≡ v.words
+unfolding ends_call in_turn one after_all
+ends_words v operation reply n = refl
+
 module _ {M : Type 0} (at : M → View → Type 0) (lane : Lane M) (v : View) (is : IsBegun at lane v) (operation : Operation) (reply : Option Value) where
   abbrev told : View
   told = after v (Tell operation reply)
@@ -65,16 +70,11 @@ module _ {M : Type 0} (at : M → View → Type 0) (lane : Lane M) (v : View) (i
   unfolding ends_call in_turn one after_all
   begun_heap n = let drawn = heap_drawn told n (empty_plain told (ap (λ (log : Log). log.entries) is.log)) in record { zone_locks = drawn.zone_locks; reserved = drawn.reserved; freed = drawn.freed }
 
-  -- no word changed
-  pub begun_words : (n : ℕ) → (after_all v (ends_call operation reply n v)).words ≡ v.words
-  unfolding ends_call in_turn one after_all
-  begun_words n = refl
-
   -- what may rest may rest still
   pub begun_rests : (n : ℕ) → MayRest (after_all v (ends_call operation reply n v))
   begun_rests n =
       let over = begun_over n in
-      rest_kept v (after_all v (ends_call operation reply n v)) over.changes (begun_heap n).reserved over.lane.lanes over.lane.table (λ alone. begun_words n) is.undrained
+      rest_kept v (after_all v (ends_call operation reply n v)) over.changes (begun_heap n).reserved over.lane.lanes over.lane.table (λ alone. ends_words v operation reply n) is.undrained
 
 -- the lane between such a call and its rest
 pub after_told : {M : Type 0} (at : M → View → Type 0) (lane new : Lane M) (v w : View) → IsSeenAs at lane v → HoldsLines v → at new.memory w → IsToldAs v w new.last → MayRest w → LiesUnlocked w → new.locks.items ≡ lane.locks.items → new.records.items ≡ [] → new.entries.items ≡ []

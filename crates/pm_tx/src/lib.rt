@@ -46,7 +46,7 @@ pub use generations::{
 pub use giving_up::give_up;
 pub use laws::{a_call_may_be_committed, a_call_may_be_taken_back};
 pub use learning::learn;
-pub use pending::{cancel_at_work, set_at_work};
+pub use pending::{cancel_at_work, cancel_call, set_at_work};
 pub use publishing::{a_log_may_be_published, publish_log};
 pub use reading::{do_read, read};
 pub use refusing::{refuse, refuse_write};

@@ -92,26 +92,19 @@ fn settle_canceled<M: LawfulMem>(mem: &mut M) -> Result<(), Stopped>
     Ok(())
 }
 
-/// Gives up all that is pending, in a transaction at work.
-fn cancel_working<M: LawfulMem>(
-    lane: &mut Lane<M>,
-    actions: &mut ArrayVec<SetAction, 63>,
-) -> Result<(), Refusal>
+/// Makes all that is undrained persistent in a transaction at work, and tells that what was pending is given up: the part of pmemobj_cancel(3) that reaches the memory.
+/// `Stopped` where it comes to its stop leaves the first of these memory calls made.
+pub fn cancel_call<M: LawfulMem>(lane: &mut Lane<M>) -> Result<(), Refusal>
     requires at_work { IsLaneAtWork M.at lane.old }
     ensures made { OnOk result (IsMade (M.at lane.old.memory) (M.at lane.new.memory) cancels) }
     ensures done { OnOk result ((o : Opening) (v : View) → IsAtWork o M.at lane.old v → HasCanceled o M.at lane.new v) }
-    ensures none { OnOk result (actions.new.items ≡ []) }
     ensures lane { OnOk result (lane.new ≡ record lane.old { memory = lane.new.memory }) }
     ensures stops { OnErr result ((o : Opening) (v : View) → IsAtWork o M.at lane.old v → IsStoppedIn M.at lane.new v cancels Cancel None) }
     ensures stopped { IfErr result (λ r. r ≡ refusal.Stopped) }
     ensures stopped_lane { OnErr result (lane.new ≡ record lane.old { memory = lane.new.memory; stopped = true }) }
-    ensures kept { OnErr result (actions.new ≡ actions.old) }
 {
     match settle_canceled(&mut lane.memory) {
-        Ok(()) => {
-            actions.clear();
-            Ok(())
-        }
+        Ok(()) => Ok(()),
         Err(Stopped) => {
             lane.stopped = true;
             Err(Refusal::Stopped)
@@ -138,5 +131,7 @@ pub fn cancel_at_work<M: LawfulMem>(
     ensures kept { OnErr result (actions.new ≡ actions.old) }
 {
     check_work(lane)?;
-    cancel_working(lane, actions)
+    cancel_call(lane)?;
+    actions.clear();
+    Ok(())
 }

@@ -1,8 +1,7 @@
-use Rattle.std.proofs.Common.{◌≡◌, ◌≤◌, List, false, length, take, refl, sym, ap, ◌∙◌, subst, rules}
-use Rattle.std.specs.List.{list_any}
+use Rattle.std.proofs.Common.{◌≤◌, List, length, take, sym, ◌∙◌, subst, rules}
 use Rattle.std.proofs.lemmas.List.{take_all}
-use Rattle.pm_crash.specs.CallBlocks.{CallBlocks as Call, with_all_freed}
-use Rattle.pm_made.specs.Made.{ListsBlocks, begins_at}
+use Rattle.pm_crash.specs.CallBlocks.{with_all_freed}
+use Rattle.pm_made.specs.Made.{ListsBlocks}
 use Rattle.pm_objects.specs.declared.ids.Oid.{Oid}
 use Rattle.pm_transaction.proofs.ListedInTurn.{freed_further, held_further, locked_freed, room_for_freed}
 use Rattle.pm_transaction.proofs.PublishAllChecks.{no_id}

@@ -1,8 +1,7 @@
-use Rattle.std.proofs.Common.{◌≡◌, ◌+◌, ◌≤◌, ◌<◌, List, [], ◌∷◌, get_or, length, map, take, refl, sym, ap, ◌∙◌, subst, arith, rules}
+use Rattle.std.proofs.Common.{◌≤◌, List, [], ◌∷◌, get_or, length, sym, ap, ◌∙◌, subst, arith, rules}
 use Rattle.std.proofs.lemmas.List.{length-append, length-map, take_all}
 use Rattle.pm_crash.specs.CallBlocks.{with_all_made}
 use Rattle.pm_made.specs.Made.{BlockLists, FitsPages, ListsBlocks}
-use Rattle.pm_made.specs.declared.objects.Made.{Made}
 use Rattle.pm_model.specs.Actions.{Reservation}
 use Rattle.pm_pending.specs.AllPending.{reserved_as}
 use Rattle.pm_pending.specs.declared.pending.Reserved.{Reserved}

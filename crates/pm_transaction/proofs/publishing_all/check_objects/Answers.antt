@@ -1,4 +1,4 @@
-use Rattle.std.proofs.Common.{◌≡◌, ◌||◌, false, true, All, Err, subst, sym, rules}
+use Rattle.std.proofs.Common.{◌≡◌, false, true, All, Err, subst, sym, rules}
 use Rattle.std.specs.List.{Any}
 use Rattle.pm_crash.specs.CallBlocks.{blocks_in, is_gone_in}
 use Rattle.pm_crash.specs.OnActions.{HasObject, IsPublishReasonIn, LacksObject}

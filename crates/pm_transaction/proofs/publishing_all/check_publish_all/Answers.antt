@@ -1,11 +1,9 @@
-use Rattle.std.proofs.Common.{◌≡◌, ◌≢◌, All, Err, List, ap, refl, slice_index, subst, sym, rules}
+use Rattle.std.proofs.Common.{◌≡◌, All, Err, List, ap, refl, subst, sym, rules}
 use Rattle.std.specs.List.{Any}
 use Rattle.pm_objects.specs.declared.ids.Oid.{Oid}
 use Rattle.pm_objects.specs.declared.refusal.Refusal.{Refusal}
-use Rattle.pm_objects.specs.declared.refusal.Refusal.TheVariants as refusal
 use Rattle.pm_pending.specs.declared.actions.SetAction.{SetAction}
 use Rattle.pm_tx.proofs.Checked.{if_err, of_err}
-use Rattle.pm_view.specs.View.{View}
 use Rattle.pm_world.specs.declared.lane.Lane.{Lane}
 use Rattle.pm_transaction.proofs.PublishAllReasons.{InRoot, NotInRoot, full, left_there, passed, past, refused_early, rooted}
 use Rattle.pm_transaction.proofs.PublishChecks.{IsLeftFor, PassesEndIn, SetsIn, unlooked}

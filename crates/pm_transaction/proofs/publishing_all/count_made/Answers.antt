@@ -1,4 +1,4 @@
-use Rattle.std.proofs.Common.{◌≡◌, ◌≤◌, ◌+◌, ℕ, Bool, true, false, length, count_by, sym, ap, ◌∙◌, arith, rules}
+use Rattle.std.proofs.Common.{◌≤◌, ◌+◌, ℕ, Bool, true, false, length, count_by, sym, ap, ◌∙◌, arith, rules}
 use Rattle.std.specs.List.{list_any}
 use Rattle.std.proofs.lemmas.List.{take_all}
 use Rattle.std.proofs.lemmas.List.Sums.{count_by_more_no, count_by_more_yes}

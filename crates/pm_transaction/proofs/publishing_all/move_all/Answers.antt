@@ -1,5 +1,5 @@
 use Rattle.std.proofs.Common.{◌≡◌, ◌+◌, ◌^◌, ◌<◌, ◌≤◌, ◌++◌, All, List, None, length, map, refl, sym, ap, ◌∙◌, subst}
-use Rattle.pm_crash.specs.CallBlocks.{CallBlocks as Call, blocks_in, with_all_freed}
+use Rattle.pm_crash.specs.CallBlocks.{blocks_in, with_all_freed}
 use Rattle.pm_crash.specs.Pending.{pending_in}
 use Rattle.pm_made.specs.Made.{BlockLists, FitsPages, ListsBlocks}
 use Rattle.pm_objects.specs.declared.calls.Operation.TheVariants.{Publish}

@@ -2,7 +2,7 @@ use Rattle.std.proofs.Common.{refl}
 use Rattle.pm_tx.proofs.ActionsAtWork.{cancel_ready, has_canceled, stopped_canceling}
 use Rattle.pm_tx.proofs.Telling.{is_ready, was_made}
 use Rattle.pm_tx.specs.Actions.{cancels}
-use Rattle.pm_tx.proofs.pending.cancel_working.Goals as goal
+use Rattle.pm_tx.proofs.pending.cancel_call.Goals as goal
 
 pub settle_canceled-requires : goal.settle_canceled-requires
 settle_canceled-requires g c = let is = c.requires.at_work in record { ready = is_ready (g.M.LaneMem.at c.args.lane.now.memory) cancels is.1.0 is.1.1.seen.memory (cancel_ready is.1.0 is.1.1.working) }

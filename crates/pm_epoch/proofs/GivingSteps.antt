@@ -1,0 +1,197 @@
+-- The step that gives back a block: the bits that it clears, that a lane which rests alone may make it where it reserved the block, and what it leaves.
+use Rattle.std.proofs.Common.{◌≡◌, ◌≢◌, ◌↔◌, ⊎_elim, inl, inr, ℕ, ◌+◌, ◌-◌, ◌*◌, ◌/◌, ◌%◌, ◌^◌, ◌<◌, ◌≤◌, ◌++◌, true, false, All, [], ◌∷◌, slice_index, sym, ap, ◌∙◌, subst, arith}
+use Rattle.std.specs.Int.{bit_at}
+use Rattle.std.specs.List.{list_any}
+use Rattle.std.proofs.lemmas.Bool.{and_from, and_parts, cases_eq, cond-false, false_from_ne_true, false≢true}
+use Rattle.std.proofs.lemmas.List.Elements.{All-nil}
+use Rattle.std.proofs.Math.Pow.{pow-lt}
+use Rattle.pm_layout.specs.Sizes.{blocks_of}
+use Rattle.pm_layout.specs.declared.shape.Shape.{Shape}
+use Rattle.pm_image.specs.declared.block.Block.{Block}
+use Rattle.pm_image.specs.Blocks.{chunk_word}
+use Rattle.pm_view.specs.declared.change.Change.{Change}
+use Rattle.pm_view.specs.declared.occ.Occ.{Occ}
+use Rattle.pm_view.specs.declared.occ.Occ.TheVariants.{Run, Zone}
+use Rattle.pm_view.specs.Blocks.{covers, descriptor_word, is_run}
+use Rattle.pm_view.specs.Log.{Log, no_log}
+use Rattle.pm_view.specs.Log.Phase.{Idle}
+use Rattle.pm_view.specs.Steps.Step.{Vacate}
+use Rattle.pm_view.specs.View.{View}
+use Rattle.pm_view.specs.Views.{after, all_of_run, chunk_bit, exchanged, has_bit, has_chunk, is_made, reserves, without_taken, zone_at}
+use Rattle.pm_world.specs.Entries.{is_entered}
+use Rattle.pm_world.specs.Heap.{IsOcc}
+use Rattle.pm_world.specs.Lanes.{IsOfShape}
+use Rattle.pm_world.specs.Lawful.{Allowed, IsEarly, IsGivenWhole, LiesInside, MayVacate}
+use Rattle.pm_world.specs.Records.{is_recorded}
+use Rattle.pm_world.proofs.Vacated.{vacated_after, vacated_before, vacated_gone}
+use Rattle.pm_chunks.specs.Chunks.{chunk_bits}
+use Rattle.pm_chunks.proofs.ChunkBits.{bits_small}
+use Rattle.pm_runs.specs.Runs.{page_of, run_of}
+use Rattle.pm_blocks.specs.Giving.{MayGiveBackBlock, vacates_block}
+use Rattle.pm_blocks.proofs.GivenBack.{run_lines, vacates_its_bit, vacates_its_chunks, vacates_part, vacates_whole}
+use Rattle.pm_reclaim.specs.KeptBlocks.{IsBitOf, Keeps, KeepsChunks, KeepsInRun}
+use Rattle.pm_reclaim.specs.KnownTaken.{KnowsTaken}
+use Rattle.pm_reclaim.proofs.BlockBits.{kept_inside}
+use Rattle.pm_reclaim.proofs.GivingBack.{giving_keeps, left_is}
+use Rattle.pm_epoch.specs.Epochs.{ReservesNoRun}
+use Rattle.pm_epoch.proofs.EntryBits.{pow_bit, row_bit}
+
+-- ---- the bits
+
+-- the step clears bits of one occupancy word, and these are the block's
+pub record ClearsBits (lanes : ℕ) (block : Block) : Type 0 where
+  pub word : Occ
+  pub bits : ℕ
+  pub is : vacates_block lanes block ≡ Vacate word bits
+  pub its : (at : Occ) (bit : ℕ) → IsBitOf lanes block at bit ↔ ((at ≡ word) × (bit_at bits bit ≡ 1))
+
+module _ (lanes : ℕ) (block : Block) where
+  abbrev page : ℕ
+  page = block.place / 4096
+
+  abbrev first : ℕ
+  first = chunk_bit lanes page
+
+  abbrev count : ℕ
+  count = block.lines / 64
+
+  abbrev index : ℕ
+  index = (block.place % 4096 / 64 - 1) / block.lines
+
+  clears_chunks : block.lines % 64 ≡ 0 → ClearsBits lanes block
+  clears_chunks whole = record { word = zone_at lanes page; bits = chunk_bits first count; is = vacates_whole lanes block whole; its = λ at bit. (forth at bit, λ is. let row = (row_bit first count bit).0 is.1 in inr (whole, is.0, row.0, row.1)) } where
+    forth : (at : Occ) (bit : ℕ) → IsBitOf lanes block at bit → (at ≡ zone_at lanes page) × (bit_at (chunk_bits first count) bit ≡ 1)
+    forth at bit (inl is) = absurd (is.0 whole)
+    forth at bit (inr is) = (is.1, (row_bit first count bit).1 (is.2, is.3))
+
+  clears_in_run : block.lines % 64 ≢ 0 → ClearsBits lanes block
+  clears_in_run part = record { word = Run (page * 4096); bits = 2 ^ index; is = vacates_part lanes block part; its = λ at bit. (forth at bit, λ is. inl (part, is.0, (pow_bit index bit).0 is.1)) } where
+    forth : (at : Occ) (bit : ℕ) → IsBitOf lanes block at bit → (at ≡ Run (page * 4096)) × (bit_at (2 ^ index) bit ≡ 1)
+    forth at bit (inl is) = (is.1, (pow_bit index bit).1 is.2)
+    forth at bit (inr is) = absurd (part is.0)
+
+  pub clears : ClearsBits lanes block
+  clears = ⊎_elim clears_chunks clears_in_run (cases_eq (block.lines % 64) 0)
+
+-- ---- that it may be made
+
+-- The lane rests in a pool of this shape, with nothing undrained, and knows what is taken; no chunk that it reserved is a run.
+pub record MayGive (v : View) (shape : Shape) : Type 0 where
+  pub idle : v.log ≡ no_log Idle
+  pub drained : v.changes ≡ []
+  pub of_shape : IsOfShape v shape
+  pub no_run : ReservesNoRun v.lanes v
+  pub knows : KnowsTaken v
+
+module _ (v : View) (shape : Shape) (may : MayGive v shape) where
+  inside : (at : Occ) → IsOcc v.lanes v.zones at → LiesInside v at
+  inside (Run place) of = let low = of.2 in let size = may.of_shape.size in let lanes = may.of_shape.lanes in let zones = may.of_shape.zones in omega (arith, low, size, lanes, zones)
+  inside (Zone zone) of = let low : zone < v.zones = of in let zones = may.of_shape.zones in let few = shape.zones_to in omega (arith, low, zones, few)
+
+  -- what it reserved it has
+  has_reserved : (at : Occ) (bit : ℕ) → IsOcc v.lanes v.zones at → reserves v at bit ≡ true → list_any (has_bit at bit) (exchanged v at) ≡ true
+  has_reserved (Run place) bit of own = ap (list_any (has_bit (Run place) bit))
+      (cond-false (is_made v (place / 4096)) (without_taken (zone_at v.lanes (place / 4096)) (2 ^ chunk_bit v.lanes (place / 4096)) v.reserved ++ all_of_run v place ∷ []) v.reserved (may.no_run (place / 4096) of.1)) ∙ own
+  has_reserved (Zone zone) bit of own = own
+
+  given_whole : (at : Occ) (bits : ℕ) → IsOcc v.lanes v.zones at → IsGivenWhole v at bits
+  given_whole (Run place) bits of = λ made. absurd (false≢true (sym (may.no_run (place / 4096) of.1) ∙ made))
+  given_whole (Zone zone) bits of = λ page chunk same set. may.no_run page chunk
+
+  may_vacate : (at : Occ) (bits : ℕ) → IsOcc v.lanes v.zones at → bits < 2 ^ 64 → ((bit : ℕ) → bit_at bits bit ≡ 1 → reserves v at bit ≡ true) → MayVacate v at bits
+  may_vacate at bits of small own = record {
+    there = record { of_pool = of; inside = inside at of };
+    small = small;
+    own = λ bit set. inl (has_reserved at bit of (own bit set));
+    whole = given_whole at bits of;
+    drained = subst (All (λ (c : Change). covers v.lanes v.words at bits c.word ≡ false)) (sym may.drained) (All-nil (λ (c : Change). covers v.lanes v.words at bits c.word ≡ false));
+    unlogged = λ w covered. (ap (λ (log : Log). is_recorded log.records w) may.idle, ap (λ (log : Log). is_entered log.entries w) may.idle);
+    early = subst IsEarly (sym (ap (λ (log : Log). log.phase) may.idle)) tt;
+  }
+
+  -- the block of a run
+  give_in_run : (block : Block) → KeepsInRun v block → MayGiveBackBlock v block
+  give_in_run block is =
+      let lines = ap (λ (b : Block). b.lines) is.is_block in
+      let within : is.index < blocks_of is.lines = kept_inside v may.knows block is in
+      inr (record {
+        chunk = is.chunk;
+        index = is.index;
+        in_run = subst (λ n. is.index < blocks_of n) (sym lines) within;
+        is_block = is.is_block ∙ (λ j. let b : Block = record { place = place_is j + 64 * (1 + sym lines j * is.index); lines = sym lines j } in b);
+        may = may_vacate (run_of v.lanes is.chunk) (2 ^ is.index) of_pool small (λ bit set. ap (reserves v (run_of v.lanes is.chunk)) ((pow_bit is.index bit).0 set) ∙ is.reserved);
+      }) where
+        place_is : 8 * chunk_word v.lanes is.chunk ≡ 4096 * page_of v.lanes is.chunk
+        place_is = omega arith
+
+        of_pool : IsOcc v.lanes v.zones (run_of v.lanes is.chunk)
+        of_pool = let low = is.in_pool in (omega arith, (omega arith, omega arith), omega (arith, low))
+
+        small : 2 ^ is.index < 2 ^ 64
+        small = pow-lt {i = is.index} {j = 64} is.low
+
+  -- whole chunks
+  give_chunks : (block : Block) → 1 ≤ block.lines → KeepsChunks v block → MayGiveBackBlock v block
+  give_chunks block some is =
+      let lines = ap (λ (b : Block). b.lines) is.is_block in
+      inl (record {
+        zone = is.zone;
+        first = is.first;
+        count = is.count;
+        some = omega (arith, some, lines);
+        in_zone = is.fits;
+        is_block = is.is_block ∙ (λ j. let b : Block = record { place = place_is j; lines = 64 * is.count } in b);
+        may = may_vacate (Zone is.zone) (chunk_bits is.first is.count) is.in_pool (bits_small is.first is.count is.fits) own;
+      }) where
+        place_is : 8 * chunk_word v.lanes (64 * is.zone + is.first) ≡ 4096 * (2 + 2 * v.lanes + 65 * is.zone + is.first)
+        place_is = let low = is.low in omega (arith, low)
+
+        own : (bit : ℕ) → bit_at (chunk_bits is.first is.count) bit ≡ 1 → reserves v (Zone is.zone) bit ≡ true
+        own bit set =
+            let row = (row_bit is.first is.count bit).0 set in
+            let here : is.first + (bit - is.first) ≡ bit = (let from = row.0 in omega (arith, from)) in
+            ap (reserves v (Zone is.zone)) (sym here) ∙ (is.unused (bit - is.first) (let from = row.0 in let to = row.1 in omega (arith, from, to))).reserved
+
+  pub may_give : (block : Block) → 1 ≤ block.lines → Keeps v block → MayGiveBackBlock v block
+  may_give block some (inl is) = give_in_run block is
+  may_give block some (inr is) = give_chunks block some is
+
+-- the lane may make the step
+pub allowed : (v : View) (block : Block) → MayGiveBackBlock v block → Allowed v (vacates_block v.lanes block)
+allowed v block (inl of) =
+    subst (Allowed v) (sym (vacates_whole v.lanes block (let lines = ap (λ (b : Block). b.lines) of.is_block in omega (arith, lines)) ∙ vacates_its_chunks v.lanes of.zone of.first of.count block of.some of.in_zone of.is_block)) of.may
+allowed v block (inr of) =
+    subst (Allowed v) (sym (vacates_part v.lanes block (run_lines block.lines of.index of.in_run) ∙ vacates_its_bit v.lanes of.chunk of.index block of.in_run of.is_block)) of.may
+
+-- ---- what it leaves
+
+module _ (v : View) (shape : Shape) (may : MayGive v shape) (at : Occ) (bits : ℕ) (vacates : MayVacate v at bits) where
+  abbrev w : View
+  w = after v (Vacate at bits)
+
+  reserved_before : (other : Occ) (bit : ℕ) → reserves w other bit ≡ true → reserves v other bit ≡ true
+  reserved_before other bit has = vacated_before at bits vacates.small other bit v.reserved (sym (left_is v at bits may.knows vacates other bit) ∙ has)
+
+  pub left_reserved : (other : Occ) (bit : ℕ) → bit < 64 → (reserves w other bit ≡ true) ↔ ((reserves v other bit ≡ true) × ((other ≡ at) × (bit_at bits bit ≡ 1) → ⊥))
+  left_reserved other bit low = (
+    λ has. (
+      reserved_before other bit has,
+      λ is. vacated_gone at bits vacates.small bit v.reserved low is.1 (ap (λ p. list_any (has_bit p bit) (without_taken at bits v.reserved)) (sym is.0) ∙ (sym (left_is v at bits may.knows vacates other bit) ∙ has)),
+    ),
+    λ both. left_is v at bits may.knows vacates other bit ∙ vacated_after at bits vacates.small other bit v.reserved low (λ same set. both.1 (same, set)) both.0,
+  )
+
+  none_made : ReservesNoRun v.lanes w
+  none_made page chunk = false_from_ne_true (is_made w page) (λ made.
+      let both = and_parts (has_chunk w page) (is_run (slice_index v.words (descriptor_word v.lanes page))) made in
+      let before : has_chunk v page ≡ true = reserved_before (zone_at v.lanes page) (chunk_bit v.lanes page) both.0 in
+      false≢true (sym (may.no_run page chunk) ∙ and_from (has_chunk v page) (is_run (slice_index v.words (descriptor_word v.lanes page))) before both.1))
+
+  pub gives_still : MayGive w shape
+  gives_still = record {
+    idle = may.idle;
+    drained = may.drained;
+    of_shape = record { lanes = may.of_shape.lanes; zones = may.of_shape.zones; size = may.of_shape.size };
+    no_run = none_made;
+    knows = giving_keeps v (Vacate at bits) may.knows vacates tt;
+  }

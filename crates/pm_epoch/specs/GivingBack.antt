@@ -1,0 +1,48 @@
+-- What a lane that is alone reserved, given back block by block, once its calls left nothing of it pending (pmemobj_cancel(3); docs/MODEL.md, "From call to call").
+use Rattle.std.specs.Prelude.{◌≡◌, ℕ, All, AllPairs, List, [], map}
+use Rattle.pm_header.specs.declared.header.Header.{Header}
+use Rattle.pm_layout.specs.declared.shape.Shape.{Shape}
+use Rattle.pm_objects.specs.declared.pool.PoolView.{PoolView}
+use Rattle.pm_view.specs.Log.{no_log}
+use Rattle.pm_view.specs.Log.Phase.{Idle}
+use Rattle.pm_view.specs.Steps.{Step}
+use Rattle.pm_view.specs.View.{View}
+use Rattle.pm_view.specs.Views.{after_all}
+use Rattle.pm_world.specs.Lanes.{IsOfShape}
+use Rattle.pm_world.specs.Opening.{Opening}
+use Rattle.pm_blocks.specs.Giving.{MayGiveBackBlock, vacates_block}
+use Rattle.pm_crash.specs.CallBlocks.{NewObject, block_of}
+use Rattle.pm_crash.specs.HeapChanges.{AreDisjoint}
+use Rattle.pm_crash.specs.Pending.{pending_before}
+use Rattle.pm_crash.specs.Reserved.{IsReservedFor}
+use Rattle.pm_epoch.specs.Epochs.{ReservesNoRun}
+use Rattle.pm_epoch.specs.Reserving.{RestsWithReserved}
+
+-- the steps that give back the blocks of these objects, one after another, in a pool of so many lanes
+abbrev pub gives_back : ℕ → List NewObject → List Step
+gives_back lanes ns = map (λ (n : NewObject). vacates_block lanes (block_of n)) ns
+
+-- the view behind them
+abbrev pub with_given_back : View → List NewObject → View
+with_given_back v ns = after_all v (gives_back v.lanes ns)
+
+-- no block of one of these objects overlaps another's
+abbrev pub LieApart : List NewObject → Type 0
+LieApart ns = AllPairs (λ n m. AreDisjoint (block_of n) (block_of m)) ns
+
+-- The lane works alone on a pool of this shape and rests, with nothing undrained and no lock; no chunk that it reserved is a run. Nothing reserved is pending, and
+-- these objects lie in what it reserved, each apart from the others.
+pub record MayGiveAllBack (o : Opening) (header : Header) (pool : PoolView) (start : View) (steps : List Step) (y : View) (shape : Shape) (ns : List NewObject) : Type 0 where
+  pub rests : RestsWithReserved o header pool start steps y shape
+  pub idle : y.log ≡ no_log Idle
+  pub drained : y.changes ≡ []
+  pub of_shape : IsOfShape y shape
+  pub unlocked : y.zone_locks ≡ []
+  pub no_run : ReservesNoRun y.lanes y
+  pub none : (pending_before y).reserved ≡ []
+  pub reserved : All (IsReservedFor y) ns
+  pub apart : LieApart ns
+
+-- the lane of a pool of this shape may give back the object's block, as `give_back` of `pm_blocks` asks
+abbrev pub MayGiveObjectBack : View → Shape → NewObject → Type 0
+MayGiveObjectBack v shape n = IsOfShape v shape × MayGiveBackBlock v (block_of n)
