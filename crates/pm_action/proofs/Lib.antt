@@ -1,7 +1,7 @@
+pub mod OwnWords
 pub mod ToldOutside
 pub mod Started
 pub mod Answered
-pub mod Canceled
 pub mod Settled
 pub mod RestingAgain
 pub mod WantedObjects

@@ -5,15 +5,15 @@
 //! objects, on `pm_tx` for the ends of a call, on `pm_pending` for the list and on `pm_crash` for what is a step of the plain model.
 #![tactic(auto)]
 
+mod deferring;
 mod holding;
 mod laws;
 mod publishing;
 mod publishing_all;
-mod setting;
 mod telling;
 
+pub use deferring::{defer_free, set_value};
 pub use holding::hold_actions;
 pub use laws::a_lane_alone_publishes_all_at_once;
 pub use publishing::publish;
-pub use setting::{cancel, set_value};
 pub use telling::{come_to_rest, end_outside};

@@ -90,6 +90,7 @@ impl PendingActions {
     pub fn set(&mut self, action: SetAction) -> Result<(), Refusal>
         ensures answers { (pool : PoolView) (p : Pending) → IsPendingAs self.old p → refusal_outside unhindered (record { pool = pool; actions = p }) (SetValue action.id action.off action.value) ≡ refusal_in result }
         ensures reason { (p : Pending) → IsPendingAs self.old p → refusal_in result ≡ set_refusal action.off p }
+        ensures causes { IfErr result (λ r. (r ≡ refusal.Unaligned) ⊎ (r ≡ refusal.ActionsFull)) }
         ensures done { OnOk result ((p : Pending) → IsPendingAs self.old p → IsPendingAs self.new (with_set (action_of action) p)) }
         ensures unchanged { OnErr result (self.new ≡ self.old) }
     {
@@ -104,6 +105,7 @@ impl PendingActions {
     pub fn defer_free(&mut self, id: Oid) -> Result<(), Refusal>
         ensures answers { (pool : PoolView) (p : Pending) → IsPendingAs self.old p → refusal_outside unhindered (record { pool = pool; actions = p }) (DeferFree id) ≡ refusal_in result }
         ensures reason { (p : Pending) → IsPendingAs self.old p → refusal_in result ≡ defer_refusal p }
+        ensures full { IfErr result (λ r. r ≡ refusal.ActionsFull) }
         ensures done { OnOk result ((p : Pending) → IsPendingAs self.old p → IsPendingAs self.new (with_free id p)) }
         ensures unchanged { OnErr result (self.new ≡ self.old) }
     {
@@ -171,6 +173,7 @@ impl PendingActions {
     /// Whether a set-value at this offset in its object may be made pending.
     fn check_set(&self, off: u64) -> Result<(), Refusal>
         ensures reason { (p : Pending) → IsPendingAs self.now p → refusal_in result ≡ set_refusal off p }
+        ensures causes { IfErr result (λ r. (r ≡ refusal.Unaligned) ⊎ (r ≡ refusal.ActionsFull)) }
         ensures room { OnOk result (count_in self.now < 63) }
     {
         if off % WORD_BYTES != 0 {
