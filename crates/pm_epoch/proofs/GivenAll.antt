@@ -20,6 +20,8 @@ use Rattle.pm_objects.specs.declared.pool.PoolView.{PoolView}
 use Rattle.pm_view.specs.declared.occ.Occ.{Occ}
 use Rattle.pm_view.specs.Occupancy.{is_taken}
 use Rattle.pm_view.specs.Counts.{is_counted}
+use Rattle.pm_view.specs.Log.{no_log}
+use Rattle.pm_view.specs.Log.Phase.{Idle}
 use Rattle.pm_view.specs.Steps.{Step}
 use Rattle.pm_view.specs.View.{View}
 use Rattle.pm_view.specs.Views.{after, after_all, has_bit, occ_in, reserves}
@@ -57,7 +59,7 @@ use Rattle.pm_epoch.proofs.StandingPools.{own_fits}
 
 -- ---- blocks in place of the objects
 
-apart_blocks : (ns : List NewObject) → LieApart ns → AllPairs AreDisjoint (map block_of ns)
+pub apart_blocks : (ns : List NewObject) → LieApart ns → AllPairs AreDisjoint (map block_of ns)
 apart_blocks ns apart i j d before low =
     let none : NewObject = record { off = 0; kind = 0; size = 0 } in
     let fewer : j < length ns = (let same = length-map ns block_of in omega (arith, low, same)) in
@@ -93,12 +95,31 @@ one_more y given n =
 pub none_counted : (lanes : ℕ) (ns : List NewObject) → All (λ s. is_counted s ≡ false) (gives_back lanes ns)
 none_counted lanes ns = All-map (λ (s : Step). is_counted s ≡ false) (λ (n : NewObject). vacates_block lanes (block_of n)) ns (λ k d low. ap is_counted (clears lanes (block_of (get_or ns k d))).is)
 
+-- a lane that may give back the blocks of objects, which lie in what it reserved, has given back those of the first of them
+pub given_part : (y : View) (shape : Shape) (given rest : List NewObject) → GivesAll y shape (map block_of (given ++ rest)) → HasGiven y.lanes y (with_given_back y given) shape (map block_of given) (map block_of rest)
+given_part y shape given rest all =
+    subst (λ (ss : List Step). HasGiven y.lanes y (after_all y ss) shape (map block_of given) (map block_of rest)) (same_steps y.lanes given)
+    (has_given y.lanes y shape (map block_of given) (map block_of rest) refl (subst (GivesAll y shape) (map-append block_of given rest) all))
+
+-- and that of the next it may give back
+pub may_give_next : (y : View) (shape : Shape) (given rest : List NewObject) (n : NewObject) → GivesAll y shape (map block_of (given ++ n ∷ rest)) → MayGiveObjectBack (with_given_back y given) shape n
+may_give_next y shape given rest n all =
+    let still = (given_part y shape given (n ∷ rest) all).still in
+    (still.may.of_shape, may_give (with_given_back y given) shape still.may (block_of n) (has_lines n.size) (still.keeps 0 (block_of n) (omega arith)))
+
+-- it has given back all
+pub given_all : (y : View) (shape : Shape) (ns : List NewObject) → GivesAll y shape (map block_of ns) → HasGiven y.lanes y (with_given_back y ns) shape (map block_of ns) []
+given_all y shape ns all = given_part y shape ns [] (subst (λ (ms : List NewObject). GivesAll y shape (map block_of ms)) (sym (append-nil ns)) all)
+
+pub all_ready : (y : View) (shape : Shape) (ns : List NewObject) → GivesAll y shape (map block_of ns) → Ready y (gives_back y.lanes ns)
+all_ready y shape ns all = subst (Ready y) (same_steps y.lanes ns) (given_all y shape ns all).ready
+
 module _ (o : Opening) (header : Header) (pool : PoolView) (start y : View) (steps : List Step) (shape : Shape) where
   -- what the lane may give back
   gives_all : (ns : List NewObject) → MayGiveAllBack o header pool start steps y shape ns → GivesAll y shape (map block_of ns)
   gives_all ns m = record {
     may = record {
-      idle = m.idle;
+      empty = inl m.idle;
       drained = m.drained;
       of_shape = m.of_shape;
       no_run = m.no_run;
@@ -109,27 +130,21 @@ module _ (o : Opening) (header : Header) (pool : PoolView) (start y : View) (ste
     apart = apart_blocks ns m.apart;
   }
 
-  given_part : (given rest : List NewObject) → MayGiveAllBack o header pool start steps y shape (given ++ rest) → HasGiven y.lanes y (with_given_back y given) shape (map block_of given) (map block_of rest)
-  given_part given rest m =
-      subst (λ (ss : List Step). HasGiven y.lanes y (after_all y ss) shape (map block_of given) (map block_of rest)) (same_steps y.lanes given)
-      (has_given y.lanes y shape (map block_of given) (map block_of rest) refl (subst (GivesAll y shape) (map-append block_of given rest) (gives_all (given ++ rest) m)))
-
   pub may_each : (given rest : List NewObject) (n : NewObject) → MayGiveAllBack o header pool start steps y shape (given ++ n ∷ rest) → MayGiveObjectBack (with_given_back y given) shape n
-  may_each given rest n m =
-      let still = (given_part given (n ∷ rest) m).still in
-      (still.may.of_shape, may_give (with_given_back y given) shape still.may (block_of n) (has_lines n.size) (still.keeps 0 (block_of n) (omega arith)))
+  may_each given rest n m = may_give_next y shape given rest n (gives_all (given ++ n ∷ rest) m)
 
   module _ (ns : List NewObject) (m : MayGiveAllBack o header pool start steps y shape ns) where
     abbrev x : View
     x = with_given_back y ns
 
     all_given : HasGiven y.lanes y x shape (map block_of ns) []
-    all_given =
-        subst (λ (ss : List Step). HasGiven y.lanes y (after_all y ss) shape (map block_of ns) []) (same_steps y.lanes ns)
-        (has_given y.lanes y shape (map block_of ns) [] refl (subst (GivesAll y shape) (sym (append-nil (map block_of ns))) (gives_all ns m)))
+    all_given = given_all y shape ns (gives_all ns m)
+
+    idle : x.log ≡ no_log Idle
+    idle = ap (λ (v : View). v.log) all_given.same ∙ m.idle
 
     pub gives_ready : Ready y (gives_back y.lanes ns)
-    gives_ready = subst (Ready y) (same_steps y.lanes ns) all_given.ready
+    gives_ready = all_ready y shape ns (gives_all ns m)
 
     pub same_beside : x ≡ beside y x
     same_beside = all_given.same
@@ -160,14 +175,14 @@ module _ (o : Opening) (header : Header) (pool : PoolView) (start y : View) (ste
     works_again : WorksAlone (standing o x) header pool x [] x
     unfolding Leads
     works_again = record {
-      begins = inr (begins_at_rest o header pool start x (steps ++ gives_back y.lanes ns) works (record { idle = all_given.still.may.idle; changes = none_filled x all_given.still.may.drained; free = free; unlocked = unlocked; no_run = none_making }));
+      begins = inr (begins_at_rest o header pool start x (steps ++ gives_back y.lanes ns) works (record { idle = idle; changes = none_filled x all_given.still.may.drained; free = free; unlocked = unlocked; no_run = none_making }));
       leads = refl;
       numbered = works.numbered;
       within = works.within;
     }
 
     pub rests_again : RestsWithReserved (standing o x) header pool x [] x shape
-    rests_again = rests_with_none (standing o x) header pool x [] x shape works_again all_given.still.may.idle free unlocked
+    rests_again = rests_with_none (standing o x) header pool x [] x shape works_again idle free unlocked
         (alone_on_the_way start x (steps ++ gives_back y.lanes ns) (begins_alone o header pool start works.begins) works.leads) all_given.still.may.of_shape none_making
         (ap (λ (p : Pending). p.reserved) (same_before y x (ap (λ (v : View). v.entries) all_given.same)) ∙ m.none)
 

@@ -1,5 +1,5 @@
 -- The step that gives back a block: the bits that it clears, that a lane which rests alone may make it where it reserved the block, and what it leaves.
-use Rattle.std.proofs.Common.{◌≡◌, ◌≢◌, ◌↔◌, ⊎_elim, inl, inr, ℕ, ◌+◌, ◌-◌, ◌*◌, ◌/◌, ◌%◌, ◌^◌, ◌<◌, ◌≤◌, ◌++◌, true, false, All, [], ◌∷◌, slice_index, sym, ap, ◌∙◌, subst, arith}
+use Rattle.std.proofs.Common.{◌≡◌, ◌≢◌, ◌⊎◌, ◌↔◌, ⊎_elim, inl, inr, ℕ, ◌+◌, ◌-◌, ◌*◌, ◌/◌, ◌%◌, ◌^◌, ◌<◌, ◌≤◌, ◌++◌, true, false, All, [], ◌∷◌, slice_index, sym, ap, ◌∙◌, subst, arith}
 use Rattle.std.specs.Int.{bit_at}
 use Rattle.std.specs.List.{list_any}
 use Rattle.std.proofs.lemmas.Bool.{and_from, and_parts, cases_eq, cond-false, false_from_ne_true, false≢true}
@@ -13,8 +13,8 @@ use Rattle.pm_view.specs.declared.change.Change.{Change}
 use Rattle.pm_view.specs.declared.occ.Occ.{Occ}
 use Rattle.pm_view.specs.declared.occ.Occ.TheVariants.{Run, Zone}
 use Rattle.pm_view.specs.Blocks.{covers, descriptor_word, is_run}
-use Rattle.pm_view.specs.Log.{Log, no_log}
-use Rattle.pm_view.specs.Log.Phase.{Idle}
+use Rattle.pm_view.specs.Log.{Log, Phase, no_log}
+use Rattle.pm_view.specs.Log.Phase.{Idle, Open}
 use Rattle.pm_view.specs.Steps.Step.{Vacate}
 use Rattle.pm_view.specs.View.{View}
 use Rattle.pm_view.specs.Views.{after, all_of_run, chunk_bit, exchanged, has_bit, has_chunk, is_made, reserves, without_taken, zone_at}
@@ -75,9 +75,10 @@ module _ (lanes : ℕ) (block : Block) where
 
 -- ---- that it may be made
 
--- The lane rests in a pool of this shape, with nothing undrained, and knows what is taken; no chunk that it reserved is a run.
+-- The lane rests in a pool of this shape, with no call open or one in which nothing was done, and nothing undrained, and knows what is taken; no chunk that it reserved is
+-- a run.
 pub record MayGive (v : View) (shape : Shape) : Type 0 where
-  pub idle : v.log ≡ no_log Idle
+  pub empty : (v.log ≡ no_log Idle) ⊎ (v.log ≡ no_log (Open [] []))
   pub drained : v.changes ≡ []
   pub of_shape : IsOfShape v shape
   pub no_run : ReservesNoRun v.lanes v
@@ -98,6 +99,13 @@ module _ (v : View) (shape : Shape) (may : MayGive v shape) where
   given_whole (Run place) bits of = λ made. absurd (false≢true (sym (may.no_run (place / 4096) of.1) ∙ made))
   given_whole (Zone zone) bits of = λ page chunk same set. may.no_run page chunk
 
+  -- an empty log has no record and no entry
+  unlogged_by : (phase : Phase) (w : ℕ) → v.log ≡ no_log phase → (is_recorded v.log.records w ≡ false) × (is_entered v.log.entries w ≡ false)
+  unlogged_by phase w is = (ap (λ (log : Log). is_recorded log.records w) is, ap (λ (log : Log). is_entered log.entries w) is)
+
+  early_by : (phase : Phase) → IsEarly phase → v.log ≡ no_log phase → IsEarly v.log.phase
+  early_by phase early is = subst IsEarly (sym (ap (λ (log : Log). log.phase) is)) early
+
   may_vacate : (at : Occ) (bits : ℕ) → IsOcc v.lanes v.zones at → bits < 2 ^ 64 → ((bit : ℕ) → bit_at bits bit ≡ 1 → reserves v at bit ≡ true) → MayVacate v at bits
   may_vacate at bits of small own = record {
     there = record { of_pool = of; inside = inside at of };
@@ -105,8 +113,8 @@ module _ (v : View) (shape : Shape) (may : MayGive v shape) where
     own = λ bit set. inl (has_reserved at bit of (own bit set));
     whole = given_whole at bits of;
     drained = subst (All (λ (c : Change). covers v.lanes v.words at bits c.word ≡ false)) (sym may.drained) (All-nil (λ (c : Change). covers v.lanes v.words at bits c.word ≡ false));
-    unlogged = λ w covered. (ap (λ (log : Log). is_recorded log.records w) may.idle, ap (λ (log : Log). is_entered log.entries w) may.idle);
-    early = subst IsEarly (sym (ap (λ (log : Log). log.phase) may.idle)) tt;
+    unlogged = λ w covered. ⊎_elim (unlogged_by Idle w) (unlogged_by (Open [] []) w) may.empty;
+    early = ⊎_elim (early_by Idle tt) (early_by (Open [] []) tt) may.empty;
   }
 
   -- the block of a run
@@ -189,7 +197,7 @@ module _ (v : View) (shape : Shape) (may : MayGive v shape) (at : Occ) (bits : �
 
   pub gives_still : MayGive w shape
   gives_still = record {
-    idle = may.idle;
+    empty = may.empty;
     drained = may.drained;
     of_shape = record { lanes = may.of_shape.lanes; zones = may.of_shape.zones; size = may.of_shape.size };
     no_run = none_made;
