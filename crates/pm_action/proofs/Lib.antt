@@ -1,6 +1,8 @@
 pub mod OwnWords
 pub mod ToldOutside
 pub mod Started
+pub mod NextBegun
+pub mod RestingStill
 pub mod Answered
 pub mod Settled
 pub mod RestingAgain
