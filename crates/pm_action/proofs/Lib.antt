@@ -4,6 +4,7 @@ pub mod Started
 pub mod NextBegun
 pub mod RestingStill
 pub mod BegunOn
+pub mod PutsOutside
 pub mod Answered
 pub mod Settled
 pub mod RestingAgain

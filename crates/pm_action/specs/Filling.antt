@@ -21,6 +21,7 @@ use Rattle.pm_world.specs.Opening.{Opening}
 use Rattle.pm_world.specs.Sequences.{Ready}
 use Rattle.pm_world.specs.declared.lane.Lane.{Lane}
 use Rattle.pm_lock.specs.Begun.{IsBegun}
+use Rattle.pm_lock.specs.Leading.{DrawEnded, IsLed}
 use Rattle.pm_lock.specs.Resting.{IsAtRest}
 use Rattle.pm_tx.specs.Ending.{drawn_more}
 use Rattle.pm_tx.specs.Ranges.{StopsUndrawn}
@@ -53,6 +54,7 @@ put_drawn w id off bytes n = after (put_view w id off bytes) (Draw n)
 -- list is what is pending still, and what is reserved stands, in whatever world the call began.
 pub record HasPutBegun {M : Type 0} (at : M → View → Type 0) (lane : Lane M) (w : View) (id : Oid) (off : ℕ) (bytes : List ℕ) : Type 0 where
   pub ready : Ready w (puts_range id off bytes w)
+  pub draws : DrawEnded w (puts_range id off bytes w)
   pub written : WritesReserved w (put_view w id off bytes) id off bytes
   pub rests : IsAtRest at lane (put_drawn w id off bytes lane.last)
   pub ended : (o : Opening) (header : Header) (pool : PoolView) (start : View) (steps : List Step) → IsAloneBetween o header pool start steps w lane.shape → IsEndedCall (put_view w id off bytes)
@@ -63,7 +65,9 @@ pub record HasPutBegun {M : Type 0} (at : M → View → Type 0) (lane : Lane M)
 -- from the view at rest the lane began its next call, wrote the bytes, told so and drew its last number: the write is the plain model's, all of an ended call, and the
 -- lane rests. The list is what is pending still; and in whatever world the lane rested with what it had reserved, it rests with that now
 pub record HasPutOutside {M : Type 0} (at : M → View → Type 0) (lane : Lane M) (pending : PendingActions) (v : View) (id : Oid) (off : ℕ) (bytes : List ℕ) : Type 0 where
+  pub led : IsLed v (with_next_call v)
   pub ready : Ready (with_next_call v) (puts_range id off bytes (with_next_call v))
+  pub draws : DrawEnded (with_next_call v) (puts_range id off bytes (with_next_call v))
   pub written : WritesReserved (with_next_call v) (put_view (with_next_call v) id off bytes) id off bytes
   pub rests : IsAtRest at lane (put_drawn (with_next_call v) id off bytes lane.last)
   pub listed : IsPendingAs pending (pending_before (put_drawn (with_next_call v) id off bytes lane.last))
@@ -79,6 +83,7 @@ pub record HasRefusedPutOutside {M : Type 0} (at : M → View → Type 0) (lane 
 
 -- the lane began its next call, and stopped as it wrote the bytes, before that was told. It tells no number, since none was drawn
 pub record HasStoppedPutting {M : Type 0} (at : M → View → Type 0) (lane : Lane M) (v : View) (id : Oid) (off : ℕ) (bytes : List ℕ) : Type 0 where
+  pub led : IsLed v (with_next_call v)
   pub stops : StopsUndrawn (at lane.memory) (with_next_call v) (puts_range id off bytes)
   pub stopped : lane.stopped ≡ true
   pub undrawn : lane.drawn ≡ None
