@@ -6,6 +6,7 @@
 #![tactic(auto)]
 
 mod deferring;
+mod filling;
 mod holding;
 mod laws;
 mod publishing;
@@ -13,6 +14,7 @@ mod publishing_all;
 mod telling;
 
 pub use deferring::{defer_free, set_value};
+pub use filling::write_reserved;
 pub use holding::hold_actions;
 pub use laws::a_lane_alone_publishes_all_at_once;
 pub use publishing::publish;
