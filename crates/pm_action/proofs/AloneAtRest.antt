@@ -53,6 +53,12 @@ next_untold v free = ⊎_elim
     (λ (idle : v.log ≡ no_log Idle). ap (λ (u : View). u.call) (idle_next v free idle))
     (λ (is_open : (v.log ≡ no_log (Open [] [])) × (v.number ≡ None) × (v.call ≡ [])). ap (λ (u : View). u.call) (open_next v free is_open.0) ∙ is_open.2)
 
+-- nor is a lock held
+pub next_free : (v : View) → v.locks ≡ [] → IsFresh v → (with_next_call v).locks ≡ []
+next_free v free = ⊎_elim
+    (λ (idle : v.log ≡ no_log Idle). ap (λ (u : View). u.locks) (idle_next v free idle) ∙ free)
+    (λ (is_open : (v.log ≡ no_log (Open [] [])) × (v.number ≡ None) × (v.call ≡ [])). ap (λ (u : View). u.locks) (open_next v free is_open.0) ∙ free)
+
 pub next_pending : (v : View) → v.locks ≡ [] → IsFresh v → pending_in (with_next_call v) ≡ pending_before v
 next_pending v free fresh = pending_untold (with_next_call v) (next_untold v free fresh) ∙ same_before v (with_next_call v) (begun_entries v)
 
@@ -91,13 +97,13 @@ module _ {M : Type 0} (at : M → View → Type 0) (lane : Lane M) (v : View) (r
   reserved_for n (inl run) = inl run.0
   reserved_for n (inr has) = inr has
 
-  each_reserved : All (IsReservedFor v) ns
+  pub each_reserved : All (IsReservedFor v) ns
   each_reserved = All-weaker (LiesInReserved v) (IsReservedFor v) reserved_for ns r.stands.within
 
   next_is : (pending_in (with_next_call v)).reserved ≡ (pending_before v).reserved
   next_is = ap (λ (p : Pending). p.reserved) (next_pending v r.rests.free r.rests.fresh)
 
-  lie_apart : LieApart ns
+  pub lie_apart : LieApart ns
   lie_apart = subst (λ (rs : List Reservation). LieApart (map reserved_object rs)) next_is (reserved_apart (with_next_call v) r.stands.stands)
 
   each_there : (k : ℕ) (d : Reservation) → k < length (pending_before v).reserved → Contains (pending_in (with_next_call v)).reserved (get_or (pending_before v).reserved k d)

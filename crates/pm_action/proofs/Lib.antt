@@ -21,3 +21,5 @@ pub mod GivenInTurn
 pub mod SameOwn
 pub mod AloneAtRest
 pub mod FinishedAtRest
+pub mod NextBegun
+pub mod CanceledOutside

@@ -29,6 +29,7 @@ pub record HasSameOwn (v w : View) : Type 0 where
   pub zone_words : w.zone_words ≡ v.zone_words
   pub reserved : w.reserved ≡ v.reserved
   pub freed : w.freed ≡ v.freed
+  pub zone_locks : w.zone_locks ≡ v.zone_locks
 
 pub own_then : (u v w : View) → HasSameOwn u v → HasSameOwn v w → HasSameOwn u w
 own_then u v w first then = record {
@@ -39,6 +40,7 @@ own_then u v w first then = record {
   zone_words = then.zone_words ∙ first.zone_words;
   reserved = then.reserved ∙ first.reserved;
   freed = then.freed ∙ first.freed;
+  zone_locks = then.zone_locks ∙ first.zone_locks;
 }
 
 own_like : (v w u : View) → w ≡ u → HasSameOwn v u → HasSameOwn v w
@@ -48,9 +50,9 @@ own_like v w u is = subst (HasSameOwn v) (sym is)
 
 pub own_next : (v : View) → v.locks ≡ [] → IsFresh v → HasSameOwn v (with_next_call v)
 own_next v free = ⊎_elim
-    (λ (idle : v.log ≡ no_log Idle). own_like v (with_next_call v) (idle_then v free) (idle_next v free idle) (record { lanes = refl; zones = refl; words = refl; runs = refl; zone_words = refl; reserved = refl; freed = refl }))
+    (λ (idle : v.log ≡ no_log Idle). own_like v (with_next_call v) (idle_then v free) (idle_next v free idle) (record { lanes = refl; zones = refl; words = refl; runs = refl; zone_words = refl; reserved = refl; freed = refl; zone_locks = refl }))
     (λ (is_open : (v.log ≡ no_log (Open [] [])) × (v.number ≡ None) × (v.call ≡ [])).
-    own_like v (with_next_call v) (open_then v free) (open_next v free is_open.0) (record { lanes = refl; zones = refl; words = refl; runs = refl; zone_words = refl; reserved = refl; freed = refl }))
+    own_like v (with_next_call v) (open_then v free) (open_next v free is_open.0) (record { lanes = refl; zones = refl; words = refl; runs = refl; zone_words = refl; reserved = refl; freed = refl; zone_locks = refl }))
 
 pub own_settled : (v : View) → HasSameOwn v (after_all v (settles v))
 own_settled v = let is = (settle_lawful v).1 in record {
@@ -61,6 +63,7 @@ own_settled v = let is = (settle_lawful v).1 in record {
   zone_words = ap (λ (u : View). u.zone_words) is;
   reserved = ap (λ (u : View). u.reserved) is;
   freed = ap (λ (u : View). u.freed) is;
+  zone_locks = ap (λ (u : View). u.zone_locks) is;
 }
 
 pub own_ended : (v : View) → v.log.entries ≡ [] → (op : Operation) (reply : Option Value) (n : ℕ) → HasSameOwn v (after_all v (ends_call op reply n v))
@@ -68,7 +71,7 @@ unfolding ends_call in_turn one after_all
 own_ended v unentered op reply n =
     let told : View = after v (Tell op reply) in
     let heap = heap_drawn told n (empty_plain told unentered) in
-    record { lanes = refl; zones = refl; words = refl; runs = refl; zone_words = refl; reserved = heap.reserved; freed = heap.freed }
+    record { lanes = refl; zones = refl; words = refl; runs = refl; zone_words = refl; reserved = heap.reserved; freed = heap.freed; zone_locks = heap.zone_locks }
 
 -- ---- what it knows
 
