@@ -195,8 +195,9 @@ same_bytes v next n same = (contents_local (slice_index v.words) (slice_index ne
 pub object_stays : (v next : View) (n : NewObject) → SameNew v next n → object_made next n ≡ object_made v n
 object_stays v next n same = ap (unlinked n.kind) (same_bytes v next n same)
 
-pub made_stays : (v next : View) (n : NewObject) → next.lane ≡ v.lane → ((i : ℕ) → Contains v.known i → Contains next.known i) → SameNew v next n → IsMadeIn v n → IsMadeIn next n
-made_stays v next n lane known same is =
+-- and the lane knows these
+pub made_where_known : (v next : View) (n : NewObject) → next.lane ≡ v.lane → ((i : ℕ) → ReadsBlock (slice_index v.words) (block_of n) i → Contains next.known i) → SameNew v next n → IsMadeIn v n → IsMadeIn next n
+made_where_known v next n lane known same is =
     let bytes = same_bytes v next n same in
     let size : header_word (slice_index next.words) (block_of n) 1 ≡ header_word (slice_index v.words) (block_of n) 1 =
     header_same (slice_index v.words) (slice_index next.words) (block_of n) 1 (omega arith) (agree v next n same) in
@@ -214,9 +215,12 @@ made_stays v next n lane known same is =
         holds = refl;
       };
       long = ap (λ (bs : List ℕ). length bs) bytes ∙ is.long;
-      known = λ i reads. known i (is.known i (back i reads));
+      known = λ i reads. known i (back i reads);
       outside = λ i reads. ap (λ k. is_in_area k i) lane ∙ is.outside i (back i reads);
     }
+
+pub made_stays : (v next : View) (n : NewObject) → next.lane ≡ v.lane → ((i : ℕ) → Contains v.known i → Contains next.known i) → SameNew v next n → IsMadeIn v n → IsMadeIn next n
+made_stays v next n lane known same is = made_where_known v next n lane (λ i reads. known i (is.known i reads)) same is
 
 -- the change of a pool is the same where the blocks are and the words of what was made
 pub changed_stays : (v next : View) (base pool : PoolView) → blocks_in next ≡ blocks_in v → ((n : NewObject) → Contains (blocks_in v).made n → SameNew v next n)

@@ -18,23 +18,23 @@ use Rattle.pm_crash.specs.OpenCall.{IsUnderBlock, block_at_line}
 use Rattle.pm_crash.specs.Operations.{KeepsKnown, KeepsLane, Tells}
 use Rattle.pm_crash.specs.Pending.{pending_behind, pending_in}
 use Rattle.pm_crash.specs.Reserving.{HasReserved, StandsReserved, block_reserved}
-use Rattle.pm_crash.proofs.CallBlocks.{SameNew, blocks_once_more, fills_block, made_stays, same_bytes}
+use Rattle.pm_crash.proofs.CallBlocks.{SameNew, blocks_once_more, fills_block, made_where_known, same_bytes}
 use Rattle.pm_crash.proofs.Continued.{two_same}
 use Rattle.pm_crash.proofs.NewStay.{news_in}
 use Rattle.pm_crash.proofs.PendingOn.{pending_once_more}
 
 -- ---- one of them
 
-pub stands_so : (v next : View) (r : Reservation) → next.lanes ≡ v.lanes → next.zones ≡ v.zones → next.lane ≡ v.lane → ((i : ℕ) → Contains v.known i → Contains next.known i) → SameNew v next (reserved_object r)
+pub stands_so : (v next : View) (r : Reservation) → next.lanes ≡ v.lanes → next.zones ≡ v.zones → next.lane ≡ v.lane → ((i : ℕ) → ReadsBlock (slice_index v.words) (block_reserved r) i → Contains next.known i) → SameNew v next (reserved_object r)
     → StandsReserved v r → StandsReserved next r
 stands_so v next r lanes_same zones_same lane known same stands = record {
   place = two_same (λ (lanes zones : ℕ). CanHold lanes zones (class_of (length r.bytes)) r.off) v.lanes next.lanes v.zones next.zones (sym lanes_same) (sym zones_same) stands.place;
-  made = made_stays v next (reserved_object r) lane known same stands.made;
+  made = made_where_known v next (reserved_object r) lane known same stands.made;
   bytes = same_bytes v next (reserved_object r) same ∙ stands.bytes;
 }
 
 pub stands_still : (v next : View) (r : Reservation) → KeepsLane v next → SameNew v next (reserved_object r) → StandsReserved v r → StandsReserved next r
-stands_still v next r lane = stands_so v next r lane.lanes lane.zones lane.lane lane.known
+stands_still v next r lane same stands = stands_so v next r lane.lanes lane.zones lane.lane (λ i reads. lane.known i (stands.made.known i reads)) same stands
 
 -- its words stay where none that the lane knew changed
 pub known_same : (v next : View) (r : Reservation) → KeepsKnown v next → StandsReserved v r → SameNew v next (reserved_object r)

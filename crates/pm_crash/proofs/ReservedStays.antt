@@ -304,7 +304,7 @@ rest_stays v next has rests =
     let none : blocks_in next ≡ no_blocks = nothing_made next rests.call in
     let before : (r : Reservation) → Contains (pending_in next).reserved r → Contains (pending_in v).reserved r = λ r there. subst (λ (rs : List Reservation). Contains rs r) same there in
     record {
-      each = λ r there. stands_so v next r rests.lanes rests.zones rests.lane rests.known (λ i reads. rests.words r i (before r there) reads) (has.each r (before r there));
+      each = λ r there. stands_so v next r rests.lanes rests.zones rests.lane (λ i reads. rests.known r i (before r there) reads) (λ i reads. rests.words r i (before r there) reads) (has.each r (before r there));
       once = subst (λ (rs : List Reservation). IsDistinct nat_eq (map (λ (r : Reservation). r.off) rs)) (sym same) has.once;
       apart = λ r s there too differ. has.apart r s (before r there) (before s too) differ;
       apart_made = λ r m there new. absurd (no_member m (subst (λ (b : CallBlocks). Contains (news_in b) m) none new));

@@ -140,12 +140,12 @@ pub record PutsOutside (v : View) (id : Oid) (off : ℕ) (bytes : List ℕ) (r :
 
 -- ---- between two calls
 
--- the lane's call drew its number and is over: it holds no lock more than it did, knows what it knew, and no word of what is reserved changed
+-- the lane's call drew its number and is over: it holds no lock more than it did, and knows each word of what is reserved, of which none changed
 pub record RestsBehind (v next : View) : Type 0 where
   pub lanes : next.lanes ≡ v.lanes
   pub zones : next.zones ≡ v.zones
   pub lane : next.lane ≡ v.lane
-  pub known : (i : ℕ) → Contains v.known i → Contains next.known i
+  pub known : (r : Reservation) (i : ℕ) → Contains (pending_in v).reserved r → ReadsBlock (slice_index v.words) (block_reserved r) i → Contains next.known i
   pub number : ℕ
   pub entries : next.entries ≡ v.entries ++ record { number = number; call = v.call } ∷ []
   pub call : next.call ≡ []

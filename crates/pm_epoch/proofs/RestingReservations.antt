@@ -140,7 +140,7 @@ module _ (o : Opening) (header : Header) (pool : PoolView) (start : View) (steps
     lanes = refl;
     zones = refl;
     lane = refl;
-    known = known_there w;
+    known = λ r i there reads. known_there w i ((c.reserved.each r there).made.known i reads);
     number = n;
     entries = refl;
     call = refl;

@@ -80,7 +80,7 @@ use Rattle.pm_crash.proofs.PendingOn.{pending_once_more, pending_same, published
 use Rattle.pm_model.specs.Actions.{Action, Pending}
 use Rattle.pm_model.specs.Checks.{is_action}
 use Rattle.pm_exec.specs.Bounds.{log_due, logs_of}
-use Rattle.pm_exec.specs.Progress.{IsPending}
+use Rattle.pm_pending.specs.AllPending.{IsPendingAs}
 use Rattle.pm_exec.proofs.PendingLists.{drawn_pending, still_pending}
 use Rattle.std.proofs.lemmas.List.{append-nil}
 use Rattle.pm_crash.specs.Alone.{raises}
@@ -137,7 +137,7 @@ module _ (o : Opening) (first : View) (lane : Lane Solo) (blocks : BlockLists) (
     same_there : IsSameLane a.view u
     same_there = led_same a.view u goes.led
 
-    lane_there : u.lane ≡ 0
+    pub lane_there : u.lane ≡ 0
     lane_there = same_there.lane ∙ a.of_lane
 
     generation_there : generation_of u ≡ generation_word o.words 0
@@ -172,6 +172,53 @@ module _ (o : Opening) (first : View) (lane : Lane Solo) (blocks : BlockLists) (
 
     spans_there : lane.records.items ≡ spans_of u
     spans_there = a.works.work.seen.records ∙ ap (λ (l : Log). map span_of l.records) (sym goes.log)
+
+    unraised_there : raises to_there.0 ≡ 0
+    unfolding to_there
+    unraised_there = let l = goes.led in let both = raises_append a.steps l.steps in let before = a.unraised in let none = uncounted_raises l.steps l.uncounted in omega (arith, both, before, none)
+
+    pending_there : IsPendingAs actions (pending_in u)
+    pending_there = still_pending (pending_in u) (pending_same a.view u goes.entries goes.call) a.pending
+
+    -- the line is done
+    module _ (new : Lane Solo) (steps : Sequence) (work : Each IsWork (steps u)) (undrawn : Each IsUndrawn (steps u)) (said : ScriptLine) where
+      abbrev behind : View
+      behind = after_all u (steps u)
+
+      kept_there : Keeps u behind
+      kept_there = all_undrawn_keep u (steps u) undrawn
+
+      -- with these lists of blocks, and this one of what is pending
+      pub at_there_with : (now : BlockLists) (left : PendingActions) → Ready u (steps u) → DrawEnded u (steps u) → IsAtWorkWith o Sees new now behind → new.level ≡ 1 → new.locks ≡ lane.locks → (t : Told) → IsToldDone names said.operation t → behind.call ≡ u.call ++ t ∷ []
+          → ((i : ℕ) → IsUnderBlock a.view i → slice_index behind.words i ≡ words_after names (front ++ said ∷ []) (slice_index o.words) i)
+          → (given : Values) → given ≡ values_told (front ++ said ∷ []) (a.view.call ++ t ∷ []) → IsLineMade names said.operation a.view behind
+          → IsPendingAs left (pending_in behind) → stores_among (steps u) + recorded_count behind + log_due behind ≤ recorded_count u + most_stores names said.operation + log_due u
+          → IsAtLine o first new now left names (front ++ said ∷ []) given
+      at_there_with now left ready draws works level locks t is_done told words given gave made pending few =
+          let leads = ready_leads u (steps u) ready draws in
+          let raised = unraised_when_ready u (steps u) lane_there ready (all_work_raises (steps u) work) in
+          let call : behind.call ≡ a.view.call ++ t ∷ [] = told ∙ ap (λ (ts : List Told). ts ++ t ∷ []) goes.call in
+          record {
+            header = a.header;
+            pool = a.pool;
+            begins = a.begins;
+            view = behind;
+            steps = to_there.0 ++ steps u;
+            leads = leads_then first u behind to_there.0 (steps u) to_there.1 leads;
+            of_lane = lane_along u behind (steps u) leads lane_there;
+            works = works;
+            level = level;
+            opens = (a.opens.0, a.opens.1 ++ said ∷ [], ap (λ (ls : List ScriptLine). ls ++ said ∷ []) a.opens.2, a.opens.3);
+            told = subst (AreToldDone names (front ++ said ∷ [])) (sym call) (told_more names front said a.view.call t a.told is_done);
+            gave = gave ∙ ap (values_told (front ++ said ∷ [])) (sym call);
+            entries = kept_there.entries ∙ entries_there;
+            generation = (let g = generation_there in omega (arith, raised, g));
+            words = λ i under. words i (under_same lane new a.view behind a.works.work.seen.locks works.work.seen.locks locks i under);
+            unraised = (let both = raises_append to_there.0 (steps u) in let before = unraised_there in let none = all_work_raises (steps u) work in omega (arith, both, before, none));
+            pending = pending;
+            made = made_more names front said first a.view behind a.made made;
+            few = (let both = stores_append to_there.0 (steps u) in let before = few_there in let more = lines_more names front said in omega (arith, both, before, more, few));
+          }
 
     -- the call is given up for it
     module _ (new : Lane Solo) (said : ScriptLine) (working : IsWorking u) where
@@ -334,13 +381,8 @@ module _ (o : Opening) (first : View) (lane : Lane Solo) (blocks : BlockLists) (
     unended_u : is_ending u.log.phase ≡ false
     unended_u = ap (λ (l : Log). is_ending l.phase) looks_go.log ∙ ap is_ending a.works.work.working.is_open
 
-    pub pending_u : IsPending actions (pending_in u)
-    pending_u = still_pending (pending_in u) (pending_same a.view u same.entries same.call) a.pending
-
-    unraised_u : raises to_u.0 ≡ 0
-    unfolding to_u to_there
-    unraised_u =
-        let l = looks_go.led in let both = raises_append a.steps l.steps in let before = a.unraised in let none = uncounted_raises l.steps l.uncounted in omega (arith, both, before, none)
+    pub pending_u : IsPendingAs actions (pending_in u)
+    pending_u = pending_there u looks_go
 
     pub few_u : stores_among to_u.0 + recorded_count u + log_due u ≤ stores_of_lines names front
     unfolding to_u
@@ -382,33 +424,9 @@ module _ (o : Opening) (first : View) (lane : Lane Solo) (blocks : BlockLists) (
       pub at_next_with : (now : BlockLists) (left : PendingActions) → Ready u (steps u) → DrawEnded u (steps u) → IsAtWorkWith o Sees new now w → new.level ≡ 1 → new.locks ≡ lane.locks → (t : Told) → IsToldDone names said.operation t → w.call ≡ u.call ++ t ∷ []
           → ((i : ℕ) → IsUnderBlock a.view i → slice_index w.words i ≡ words_after names (front ++ said ∷ []) (slice_index o.words) i)
           → (given : Values) → given ≡ values_told (front ++ said ∷ []) (a.view.call ++ t ∷ []) → IsLineMade names said.operation a.view w
-          → IsPending left (pending_in w) → stores_among (steps u) + recorded_count w + log_due w ≤ recorded_count u + most_stores names said.operation + log_due u
+          → IsPendingAs left (pending_in w) → stores_among (steps u) + recorded_count w + log_due w ≤ recorded_count u + most_stores names said.operation + log_due u
           → IsAtLine o first new now left names (front ++ said ∷ []) given
-      at_next_with now left ready draws works level locks t is_done told words given gave made pending few =
-          let leads = ready_leads u (steps u) ready draws in
-          let raised = unraised_when_ready u (steps u) lane_u ready (all_work_raises (steps u) work) in
-          let call : w.call ≡ a.view.call ++ t ∷ [] = told ∙ ap (λ (ts : List Told). ts ++ t ∷ []) call_u in
-          record {
-            header = a.header;
-            pool = a.pool;
-            begins = a.begins;
-            view = w;
-            steps = to_u.0 ++ steps u;
-            leads = leads_then first u w to_u.0 (steps u) to_u.1 leads;
-            of_lane = lane_along u w (steps u) leads lane_u;
-            works = works;
-            level = level;
-            opens = (a.opens.0, a.opens.1 ++ said ∷ [], ap (λ (ls : List ScriptLine). ls ++ said ∷ []) a.opens.2, a.opens.3);
-            told = subst (AreToldDone names (front ++ said ∷ [])) (sym call) (told_more names front said a.view.call t a.told is_done);
-            gave = gave ∙ ap (values_told (front ++ said ∷ [])) (sym call);
-            entries = keeps.entries ∙ entries_u;
-            generation = (let g = generation_u in omega (arith, raised, g));
-            words = λ i under. words i (under_same lane new a.view w a.works.work.seen.locks works.work.seen.locks locks i under);
-            unraised = (let both = raises_append to_u.0 (steps u) in let before = unraised_u in let none = all_work_raises (steps u) work in omega (arith, both, before, none));
-            pending = pending;
-            made = made_more names front said first a.view w a.made made;
-            few = (let both = stores_append to_u.0 (steps u) in let before = few_u in let more = lines_more names front said in omega (arith, both, before, more, few));
-          }
+      at_next_with = at_there_with u looks_go new steps work undrawn said
 
       -- an operation that leaves what is pending, publishes nothing, and makes and frees nothing
       pub at_next : Ready u (steps u) → DrawEnded u (steps u) → IsAtWorkWith o Sees new blocks w → new.level ≡ 1 → new.locks ≡ lane.locks → (t : Told) → IsToldDone names said.operation t → w.call ≡ u.call ++ t ∷ []

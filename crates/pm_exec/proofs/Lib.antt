@@ -47,3 +47,5 @@ pub mod EndedRuns
 pub mod RunEnds
 pub mod FewStores
 pub mod LineStores
+pub mod PutLine
+pub mod RefusedLines

@@ -9,6 +9,7 @@ pub mod RefusedPuts
 pub mod NewRangeWords
 pub mod NewReads
 pub mod NewAdds
+pub mod FilledWord
 pub mod FilledBytes
 pub mod NewWrites
 pub mod SameHeap

@@ -78,23 +78,23 @@ module _ {M : Type 0} (o : Opening) (at : M → View → Type 0) (lane : Lane M)
   }
 
   pub even : id.off % 8 ≡ 0
-  even = words.even o at lane blocks v all id off len own
+  even = words.even v (words.works_in_pool o at lane blocks v all) id off len own
 
   pub new_range_is_low : id.off + off + len < 2 ^ 60
-  new_range_is_low = words.range_is_low o at lane blocks v all id off len own
+  new_range_is_low = words.range_is_low v (words.works_in_pool o at lane blocks v all) id off len own
 
   module _ (i : ℕ) (there : Contains (covered_words (id.off + off) len) i) where
     pub covered_in : IsInBlock range.made.new i
-    covered_in = words.covered_in o at lane blocks v all id off len own i there
+    covered_in = words.covered_in v (words.works_in_pool o at lane blocks v all) id off len own i there
 
     pub covered_is_known : is_known v i ≡ true
-    covered_is_known = words.covered_is_known o at lane blocks v all id off len own i there
+    covered_is_known = words.covered_is_known v (words.works_in_pool o at lane blocks v all) id off len own i there
 
     pub covered_outside : is_in_area v.lane i ≡ false
-    covered_outside = words.covered_outside o at lane blocks v all id off len own i there
+    covered_outside = words.covered_outside v (words.works_in_pool o at lane blocks v all) id off len own i there
 
     pub covered_fill : MayFill v i
-    covered_fill = words.covered_fill o at lane blocks v all id off len own i there
+    covered_fill = words.covered_fill v (words.works_in_pool o at lane blocks v all) id off len own i there
 
     pub covered_in_pool : i < length v.words
-    covered_in_pool = words.covered_in_pool o at lane blocks v all id off len own i there
+    covered_in_pool = words.covered_in_pool v (words.works_in_pool o at lane blocks v all) id off len own i there

@@ -20,7 +20,7 @@ use Rattle.pm_tx.specs.Ranges.{StopsUndrawn, writes_range}
 use Rattle.pm_tx.specs.Sequences.{writes}
 use Rattle.pm_transaction.proofs.GoingWith.{Keeps, keeps_told, kept_of, with_lists}
 use Rattle.pm_transaction.proofs.NewRangeWords as words
-use Rattle.pm_transaction.proofs.OwnRangeWords.{HasOwnRange}
+use Rattle.pm_transaction.proofs.OwnRangeWords.{HasOwnRange, works_in_pool}
 use Rattle.pm_transaction.proofs.OwnWrites as any
 use Rattle.pm_transaction.specs.AtWork.{IsAtWorkWith}
 use Rattle.pm_transaction.specs.NewRanges.{HasWrittenNew}
@@ -34,31 +34,31 @@ module _ {M : Type 0} (o : Opening) (at : M → View → Type 0) (lane : Lane M)
 
   -- behind the bytes, and behind the write that is told
   abbrev w : View
-  w = any.w o at lane blocks v all id off bytes own op
+  w = any.w v (works_in_pool o at lane blocks v all) id off bytes own op
 
   pub new_write_may_be_made : Ready v (writes_range id off bytes v)
   unfolding writes_range
-  new_write_may_be_made = any.own_write_may_be_made o at lane blocks v all id off bytes own op
+  new_write_may_be_made = any.own_write_may_be_made v (works_in_pool o at lane blocks v all) id off bytes own op
 
   pub new_writes_first : Ready v (writes (id.off + off) bytes v)
-  new_writes_first = any.own_writes_first o at lane blocks v all id off bytes own op
+  new_writes_first = any.own_writes_first v (works_in_pool o at lane blocks v all) id off bytes own op
 
   pub new_write_stops : (new : View → Type 0) → Stops new v (writes_range id off bytes v) → StopsUndrawn new v (writes_range id off bytes)
   unfolding writes_range
-  new_write_stops new stops = any.own_write_stops o at lane blocks v all id off bytes own op new stops
+  new_write_stops new stops = any.own_write_stops v (works_in_pool o at lane blocks v all) id off bytes own op new stops
 
   written : AreBytes bytes → WritesNewBytes v w id off bytes
   written are = record {
-    tells = any.tells_so o at lane blocks v all id off bytes own op;
-    logs = any.logs_so o at lane blocks v all id off bytes own op;
+    tells = any.tells_so v (works_in_pool o at lane blocks v all) id off bytes own op;
+    logs = any.logs_so v (works_in_pool o at lane blocks v all) id off bytes own op;
     range = range;
     are_bytes = are;
-    written = λ i outside. any.words_so o at lane blocks v all id off bytes own op i;
+    written = λ i outside. any.words_so v (works_in_pool o at lane blocks v all) id off bytes own op i;
   }
 
   keeps : (locks : List HeldLock) → Keeps locks blocks v → WritesNewBytes v w id off bytes → Keeps locks blocks w
   keeps locks before told =
-      keeps_told v w (any.heads_so o at lane blocks v all id off bytes own op) locks blocks before (any.table_so o at lane blocks v all id off bytes own op) (any.zone_locks_so o at lane blocks v all id off bytes own op)
+      keeps_told v w (any.heads_so v (works_in_pool o at lane blocks v all) id off bytes own op) locks blocks before (any.table_so v (works_in_pool o at lane blocks v all) id off bytes own op) (any.zone_locks_so v (works_in_pool o at lane blocks v all) id off bytes own op)
       (blocks_once_more v w op None told.tells.keeps.entries told.tells.call) op None told.tells.keeps.entries told.tells.call (refl, refl) (λ root. tt)
       (new_write_stays v w id off bytes all.has_reserved all.work.under_way.has told)
 
@@ -66,11 +66,11 @@ module _ {M : Type 0} (o : Opening) (at : M → View → Type 0) (lane : Lane M)
   unfolding writes_range
   new_write_is_made are next fields records seen =
       let told : WritesNewBytes v w id off bytes = written are in
-      let sequence = any.sequence o at lane blocks v all id off bytes own op in
+      let sequence = any.sequence v (works_in_pool o at lane blocks v all) id off bytes own op in
       let work = any.own_write_at_work o at lane blocks v all id off bytes own op next fields records seen refl tt (new_write_goes_on v w id off lane.level bytes all.work.level all.work.under_way told) in
       record {
         ready = new_write_may_be_made;
-        draws = any.write_draws o at lane blocks v all id off bytes own op;
+        draws = any.write_draws v (works_in_pool o at lane blocks v all) id off bytes own op;
         works =
             subst (IsAtWorkWith o at next blocks) (sym sequence.1)
             (with_lists o at next blocks w work (keeps next.locks.items (subst (λ (ls : List HeldLock). Keeps ls blocks v) (ap (λ ls. ls.items) (sym fields.locks)) (kept_of o at lane blocks v all)) told));

@@ -13,7 +13,7 @@ use Rattle.pm_view.specs.View.{Lock, View}
 use Rattle.pm_world.specs.Lawful.{MayFill}
 use Rattle.pm_world.specs.Opening.{Opening}
 use Rattle.pm_world.specs.declared.lane.Lane.{Lane}
-use Rattle.pm_lock.specs.Finding.{FindsObject}
+use Rattle.pm_lock.specs.Finding.{FindsObject, FindsObjects}
 use Rattle.pm_crash.proofs.CallBlocks.{fills_block}
 use Rattle.pm_crash.proofs.Covered.{covered_has_byte}
 use Rattle.pm_crash.specs.CallBlocks.{IsMadeIn, NewObject, block_of}
@@ -21,6 +21,7 @@ use Rattle.pm_crash.specs.HeapChanges.{AreDisjoint}
 use Rattle.pm_crash.specs.OpenCall.{block_at_line}
 use Rattle.pm_made.specs.Made.{BlockLists}
 use Rattle.pm_tx.proofs.AddsAtWork.{listed_is_known}
+use Rattle.pm_undo.specs.Working.{IsWorking}
 use Rattle.pm_transaction.proofs.NewWords.{IsInBlock, in_pool, may_fill}
 use Rattle.pm_transaction.specs.AtWork.{IsAtWorkWith, LiesInReserved}
 
@@ -33,15 +34,25 @@ pub record HasOwnRange (v : View) (id : Oid) (off len : ℕ) : Type 0 where
   pub place : id.off ≡ new.off
   pub inside : off + len ≤ new.size
 
-module _ {M : Type 0} (o : Opening) (at : M → View → Type 0) (lane : Lane M) (blocks : BlockLists) (v : View) (all : IsAtWorkWith o at lane blocks v) (id : Oid) (off len : ℕ) (range : HasOwnRange v id off len) where
+-- the lane's call is in work, over all words of its pool, and it found an object under each lock that it holds
+pub record WorksInPool (v : View) : Type 0 where
+  pub working : IsWorking v
+  pub size : length v.words ≡ 512 + 1024 * v.lanes + 33280 * v.zones
+  pub few : length v.words ≤ 2 ^ 40
+  pub objects : FindsObjects v
+
+pub works_in_pool : {M : Type 0} (o : Opening) (at : M → View → Type 0) (lane : Lane M) (blocks : BlockLists) (v : View) → IsAtWorkWith o at lane blocks v → WorksInPool v
+works_in_pool o at lane blocks v all =
+    let lanes = all.work.seen.shape.lanes in let zones = all.work.seen.shape.zones in let size = all.work.seen.shape.size in
+    let most = all.work.sound.most_lanes in let same = all.work.opening.size in let whole = all.work.sound.size in let few = all.work.zones in
+    record { working = all.work.working; size = omega (arith, lanes, zones, size); few = omega (arith, most, same, whole, few); objects = all.work.objects }
+
+module _ (v : View) (base : WorksInPool v) (id : Oid) (off len : ℕ) (range : HasOwnRange v id off len) where
   abbrev n : NewObject
   n = range.new
 
   made : IsMadeIn v n
   made = range.stands
-
-  pub size_of_pool : length v.words ≡ 512 + 1024 * v.lanes + 33280 * v.zones
-  size_of_pool = let lanes = all.work.seen.shape.lanes in let zones = all.work.seen.shape.zones in let size = all.work.seen.shape.size in omega (arith, lanes, zones, size)
 
   size_is : size_in (slice_index v.words) (block_of n) ≡ n.size
   size_is = sym (length-bytes_in (slice_index v.words) (block_of n)) ∙ made.long
@@ -87,12 +98,12 @@ module _ {M : Type 0} (o : Opening) (at : M → View → Type 0) (lane : Lane M)
     covered_fill = may_fill v n range.lies i covered_in
 
     pub covered_in_pool : i < length v.words
-    covered_in_pool = in_pool v n range.lies size_of_pool i covered_in
+    covered_in_pool = in_pool v n range.lies base.size i covered_in
 
     -- it is no object's size that was found
     pub covers_no_size : (l : Lock) → Contains v.locks l → i ≢ 8 * l.line + 1
     covers_no_size l held is =
-        let object : FindsObject v l = all.work.objects l held in
+        let object : FindsObject v l = base.objects l held in
         let apart : AreDisjoint (block_of n) (block_at_line l.line object.lines) = range.apart l object.lines held object.block in
         let in_it = covered_in in let from = in_it.from in let to = in_it.to in let most = object.fits in let behind = made.behind in let aligned = made.aligned in
         ⊎_elim
@@ -105,6 +116,6 @@ module _ {M : Type 0} (o : Opening) (at : M → View → Type 0) (lane : Lane M)
   range_is_low =
       let inside = range.inside in let most = made.object.most in let long = made.long in let at_off = range.place in let behind = made.behind in
       let holds = block_holds in
-      let head = in_pool v n range.lies size_of_pool ((block_of n).place / 8) (record { from = omega arith; to = omega (arith, holds) }) in
-      let lanes = all.work.sound.most_lanes in let same = all.work.opening.size in let size = all.work.sound.size in let few = all.work.zones in
-      omega (arith, inside, most, long, at_off, behind, head, lanes, same, size, few)
+      let head = in_pool v n range.lies base.size ((block_of n).place / 8) (record { from = omega arith; to = omega (arith, holds) }) in
+      let few = base.few in
+      omega (arith, inside, most, long, at_off, behind, head, few)

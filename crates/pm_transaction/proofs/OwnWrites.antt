@@ -1,6 +1,7 @@
 -- A lane at work may write a range of an object that stands in what it reserved, and tell that as it will: what the words, the call and the lane are then.
 use Rattle.std.proofs.Common.{◌≡◌, ℕ, ◌+◌, ◌*◌, ◌/◌, ◌≤◌, arith, All, List, slice_index, [], ◌∷◌, ◌++◌, length, map, None, refl, sym, ap, ◌∙◌, subst}
 use Rattle.std.proofs.lemmas.List.{append-nil}
+use Rattle.std.proofs.lemmas.List.Elements.{All-weaker}
 use Rattle.pm_made.specs.Made.{BlockLists}
 use Rattle.pm_memory.specs.Runs.{Stops}
 use Rattle.pm_objects.specs.declared.calls.Operation.{Operation}
@@ -17,7 +18,7 @@ use Rattle.pm_undo.specs.Spans.{IsSpan}
 use Rattle.pm_undo.specs.Working.{FindsOpening}
 use Rattle.pm_world.proofs.Going.{goes_then}
 use Rattle.pm_world.specs.Lanes.{span_of}
-use Rattle.pm_world.specs.Lawful.{MayTell}
+use Rattle.pm_world.specs.Lawful.{FilledChange, MayTell, OnlyFilled}
 use Rattle.pm_world.specs.Opening.{Opening}
 use Rattle.pm_world.specs.Sequences.{Ready, Sequence, in_turn, one}
 use Rattle.pm_world.specs.declared.lane.Lane.{Lane}
@@ -41,11 +42,12 @@ use Rattle.pm_tx.specs.Ranges.{StopsUndrawn}
 use Rattle.pm_tx.specs.Sequences.{word_count, writes}
 use Rattle.pm_transaction.proofs.FilledBytes.{HasFilled, all_filled, filled_heads, fills_lawful}
 use Rattle.pm_transaction.proofs.NewRangeWords.{no_descriptor}
-use Rattle.pm_transaction.proofs.OwnRangeWords.{HasOwnRange, covered_fill, covers_no_size}
+use Rattle.pm_transaction.proofs.FilledWord.{ReservesOfPool}
+use Rattle.pm_transaction.proofs.OwnRangeWords.{HasOwnRange, WorksInPool, covered_fill, covers_no_size, works_in_pool}
 use Rattle.pm_transaction.proofs.SameHeap.{told_writes_leave}
 use Rattle.pm_transaction.specs.AtWork.{IsAtWorkWith}
 
-module _ {M : Type 0} (o : Opening) (at : M → View → Type 0) (lane : Lane M) (blocks : BlockLists) (v : View) (all : IsAtWorkWith o at lane blocks v) (id : Oid) (off : ℕ) (bytes : List ℕ) (range : HasOwnRange v id off (length bytes)) (op : Operation) where
+module _ (v : View) (base : WorksInPool v) (id : Oid) (off : ℕ) (bytes : List ℕ) (range : HasOwnRange v id off (length bytes)) (op : Operation) where
   abbrev pub steps : Sequence
   steps = in_turn (writes (id.off + off) bytes) (one (Tell op None))
 
@@ -55,8 +57,8 @@ module _ {M : Type 0} (o : Opening) (at : M → View → Type 0) (lane : Lane M)
   abbrev pub w : View
   w = after u (Tell op None)
 
-  made : Ready v (writes (id.off + off) bytes v) × HasFilled o at lane blocks v all id off bytes range (word_count (id.off + off) (length bytes)) u
-  made = fills_lawful o at lane blocks v all id off bytes range
+  made : Ready v (writes (id.off + off) bytes v) × HasFilled v base id off bytes range (word_count (id.off + off) (length bytes)) u
+  made = fills_lawful v base id off bytes range
 
   may_tell : MayTell u.log.phase
   may_tell = subst (λ (p : Phase). MayTell p) (sym made.1.working.is_open) tt
@@ -87,7 +89,7 @@ module _ {M : Type 0} (o : Opening) (at : M → View → Type 0) (lane : Lane M)
   logs_so = record { records = ap (λ (l : Log). l.records) made.1.log; entries = ap (λ (l : Log). l.entries) made.1.log }
 
   pub words_so : (i : ℕ) → slice_index w.words i ≡ words_written (id.off + off) bytes (slice_index v.words) i
-  words_so = all_filled o at lane blocks v all id off bytes range u made.1
+  words_so = all_filled v base id off bytes range u made.1
 
   objects : KeepsObjects v w
   objects =
@@ -100,16 +102,16 @@ module _ {M : Type 0} (o : Opening) (at : M → View → Type 0) (lane : Lane M)
         remembers = has.call.remembers;
         seen = has.call.seen;
         sizes = λ l held.
-            has.others (8 * l.line + 1) (λ i low same. covers_no_size o at lane blocks v all id off (length bytes) range ((id.off + off) / 8 + i) (counted_covered (id.off + off) (length bytes) i low) l held (sym same));
+            has.others (8 * l.line + 1) (λ i low same. covers_no_size v base id off (length bytes) range ((id.off + off) / 8 + i) (counted_covered (id.off + off) (length bytes) i low) l held (sym same));
       }
 
-  opening : FindsOpening o w
-  opening =
+  opening : (o : Opening) → FindsOpening o v → FindsOpening o w
+  opening o finds =
       let has = made.1 in
       let t : FindsOpening o u =
-      opening_kept o v u all.work.opening has.call.lane has.call.locks
+      opening_kept o v u finds has.call.lane has.call.locks
       (λ page chunk. has.others (descriptor_word v.lanes page) (λ i low same.
-      no_descriptor v ((id.off + off) / 8 + i) (covered_fill o at lane blocks v all id off (length bytes) range ((id.off + off) / 8 + i) (counted_covered (id.off + off) (length bytes) i low)).plain page chunk (sym same))) in
+      no_descriptor v ((id.off + off) / 8 + i) (covered_fill v base id off (length bytes) range ((id.off + off) / 8 + i) (counted_covered (id.off + off) (length bytes) i low)).plain page chunk (sym same))) in
       record { lane = t.lane; lanes = t.lanes; size = t.size; descriptors = t.descriptors; locks = t.locks }
 
   write_few : length (after_all v (steps v)).entries ≤ length v.entries
@@ -121,12 +123,12 @@ module _ {M : Type 0} (o : Opening) (at : M → View → Type 0) (lane : Lane M)
   -- it stopped before the write was told
   pub own_write_stops : (new : View → Type 0) → Stops new v (steps v) → StopsUndrawn new v steps
   own_write_stops new stops =
-      let none = front_undrawn v (steps v) stops.made write_few all.work.working.undrawn in
+      let none = front_undrawn v (steps v) stops.made write_few base.working.undrawn in
       record { ready = own_write_may_be_made; draws = write_draws; stops = stops; number = none.0; entries = none.1 }
 
   pub heads_so : HasSameHeads v w
   heads_so =
-      let t = filled_heads o at lane blocks v all id off bytes range (word_count (id.off + off) (length bytes)) (omega arith) u made.1 in
+      let t = filled_heads v base id off bytes range (word_count (id.off + off) (length bytes)) (omega arith) u made.1 in
       record { lanes = t.lanes; zones = t.zones; reserved = t.reserved; described = t.described; root = t.root }
 
   pub table_so : w.table ≡ v.table
@@ -135,16 +137,30 @@ module _ {M : Type 0} (o : Opening) (at : M → View → Type 0) (lane : Lane M)
   pub zone_locks_so : w.zone_locks ≡ v.zone_locks
   zone_locks_so = ap (λ (z : View). z.zone_locks) (sym sequence.1) ∙ (told_writes_leave (id.off + off) bytes op v).zone_locks
 
-  pub own_write_at_work : (next : Lane M) → HasSameFields lane next → next.records ≡ lane.records → at next.memory w → published_by op None (pending_in v) ≡ [] → LeavesMade op None
-      → IsUnderWay w lane.level model_stage.Work error.None → IsAtWork o at next w
+  -- only words that may be filled are undrained still
+  pub undrained_so : ReservesOfPool v → OnlyFilled v → OnlyFilled (after u (Tell op None))
+  undrained_so of_pool only = let t : OnlyFilled u = made.1.undrained of_pool only in All-weaker (FilledChange u) (FilledChange w) (λ c of. record { whole = of.whole; may = record { reserved = of.may.reserved; plain = of.may.plain } }) u.changes t
+
+-- ---- in a transaction
+
+module _ {M : Type 0} (o : Opening) (at : M → View → Type 0) (lane : Lane M) (blocks : BlockLists) (v : View) (all : IsAtWorkWith o at lane blocks v) (id : Oid) (off : ℕ) (bytes : List ℕ) (range : HasOwnRange v id off (length bytes)) (op : Operation) where
+  abbrev base : WorksInPool v
+  base = works_in_pool o at lane blocks v all
+
+  abbrev behind : View
+  behind = w v base id off bytes range op
+
+  pub own_write_at_work : (next : Lane M) → HasSameFields lane next → next.records ≡ lane.records → at next.memory (w v (works_in_pool o at lane blocks v all) id off bytes range op) → published_by op None (pending_in v) ≡ [] → LeavesMade op None
+      → IsUnderWay (w v (works_in_pool o at lane blocks v all) id off bytes range op) lane.level model_stage.Work error.None → IsAtWork o at next (w v (works_in_pool o at lane blocks v all) id off bytes range op)
   own_write_at_work next fields records seen unpublished leaves under_way =
-      let has = made.1 in
-      goes_on o at lane next v w all.work fields objects seen
+      let has = (made v base id off bytes range op).1 in
+      let tells : Tells v behind op None = tells_so v base id off bytes range op in
+      goes_on o at lane next v behind all.work fields (objects v base id off bytes range op) seen
       (ap (λ rs. rs.items) records ∙ (all.work.seen.records ∙ ap (λ (l : Log). map span_of l.records) (sym has.log)))
       (subst (λ rs. All IsSpan rs.items) (sym records) all.work.spans)
-      opening
-      (tell_works u op None has.working)
+      (opening v base id off bytes range op o all.work.opening)
+      (tell_works (u v base id off bytes range op) op None has.working)
       (ap (λ (l : Log). l.entries) has.log ∙ all.work.no_entries)
-      (published_once_more v w op None tells_so.keeps.entries tells_so.call ∙ (ap (λ (more : List Action). published_in v ++ more) unpublished ∙ append-nil (published_in v)))
-      (made_none_before v w op None tells_so.keeps.entries tells_so.call leaves)
+      (published_once_more v behind op None tells.keeps.entries tells.call ∙ (ap (λ (more : List Action). published_in v ++ more) unpublished ∙ append-nil (published_in v)))
+      (made_none_before v behind op None tells.keeps.entries tells.call leaves)
       under_way

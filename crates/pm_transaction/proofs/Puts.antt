@@ -31,7 +31,7 @@ use Rattle.pm_tx.proofs.GoingOn.{HasSameFields}
 use Rattle.pm_tx.specs.Ranges.{StopsUndrawn}
 use Rattle.pm_tx.specs.Sequences.{writes}
 use Rattle.pm_transaction.proofs.GoingWith.{Keeps, keeps_so, kept_of, lies_still, with_lists}
-use Rattle.pm_transaction.proofs.OwnRangeWords.{HasOwnRange, range_is_low}
+use Rattle.pm_transaction.proofs.OwnRangeWords.{HasOwnRange, range_is_low, works_in_pool}
 use Rattle.pm_transaction.proofs.OwnWrites as any
 use Rattle.pm_transaction.specs.AtWork.{IsAtWorkWith, LiesInReserved}
 use Rattle.pm_transaction.specs.Filling.{HasPut, HasReservedRange, puts_range}
@@ -55,34 +55,34 @@ module _ {M : Type 0} (o : Opening) (at : M → View → Type 0) (lane : Lane M)
 
   -- behind the bytes, and behind the write that is told
   abbrev w : View
-  w = any.w o at lane blocks v all id off bytes own op
+  w = any.w v (works_in_pool o at lane blocks v all) id off bytes own op
 
   pub put_is_low : id.off + off + length bytes < 2 ^ 60
-  put_is_low = range_is_low o at lane blocks v all id off (length bytes) own
+  put_is_low = range_is_low v (works_in_pool o at lane blocks v all) id off (length bytes) own
 
   pub put_may_be_made : Ready v (puts_range id off bytes v)
   unfolding puts_range
-  put_may_be_made = any.own_write_may_be_made o at lane blocks v all id off bytes own op
+  put_may_be_made = any.own_write_may_be_made v (works_in_pool o at lane blocks v all) id off bytes own op
 
   pub puts_first : Ready v (writes (id.off + off) bytes v)
-  puts_first = any.own_writes_first o at lane blocks v all id off bytes own op
+  puts_first = any.own_writes_first v (works_in_pool o at lane blocks v all) id off bytes own op
 
   pub put_stops : (new : View → Type 0) → Stops new v (puts_range id off bytes v) → StopsUndrawn new v (puts_range id off bytes)
   unfolding puts_range
-  put_stops new stops = any.own_write_stops o at lane blocks v all id off bytes own op new stops
+  put_stops new stops = any.own_write_stops v (works_in_pool o at lane blocks v all) id off bytes own op new stops
 
   written : AreBytes bytes → WritesReserved v w id off bytes
   written are = record {
-    tells = any.tells_so o at lane blocks v all id off bytes own op;
-    logs = any.logs_so o at lane blocks v all id off bytes own op;
+    tells = any.tells_so v (works_in_pool o at lane blocks v all) id off bytes own op;
+    logs = any.logs_so v (works_in_pool o at lane blocks v all) id off bytes own op;
     has = range.has;
     inside = range.inside;
     are_bytes = are;
-    written = λ i outside. any.words_so o at lane blocks v all id off bytes own op i;
+    written = λ i outside. any.words_so v (works_in_pool o at lane blocks v all) id off bytes own op i;
   }
 
   heads : HasSameHeads v w
-  heads = any.heads_so o at lane blocks v all id off bytes own op
+  heads = any.heads_so v (works_in_pool o at lane blocks v all) id off bytes own op
 
   -- each that is reserved then was before, and lies where it lay
   lies_now : WritesReserved v w id off bytes → (n : NewObject) → Contains (reserved_in w) n → LiesInReserved w n
@@ -94,7 +94,7 @@ module _ {M : Type 0} (o : Opening) (at : M → View → Type 0) (lane : Lane M)
 
   keeps : (locks : List HeldLock) → Keeps locks blocks v → WritesReserved v w id off bytes → Keeps locks blocks w
   keeps locks before told =
-      keeps_so v w heads locks blocks before (any.table_so o at lane blocks v all id off bytes own op) (any.zone_locks_so o at lane blocks v all id off bytes own op)
+      keeps_so v w heads locks blocks before (any.table_so v (works_in_pool o at lane blocks v all) id off bytes own op) (any.zone_locks_so v (works_in_pool o at lane blocks v all) id off bytes own op)
       (blocks_once_more v w op None told.tells.keeps.entries told.tells.call)
       (borne_put v w id off bytes heads all.has_reserved told all.borne_out) (reserved_write_keeps v w id off bytes all.has_reserved told)
       (All-weaker (Contains (reserved_in w)) (LiesInReserved w) (lies_now told) (reserved_in w) (All-contains_itself (reserved_in w)))
@@ -103,11 +103,11 @@ module _ {M : Type 0} (o : Opening) (at : M → View → Type 0) (lane : Lane M)
   unfolding puts_range
   put_is_made are next fields records seen =
       let told : WritesReserved v w id off bytes = written are in
-      let sequence = any.sequence o at lane blocks v all id off bytes own op in
+      let sequence = any.sequence v (works_in_pool o at lane blocks v all) id off bytes own op in
       let work = any.own_write_at_work o at lane blocks v all id off bytes own op next fields records seen refl tt (reserved_write_goes_on v w id off lane.level bytes all.work.level all.work.under_way all.has_reserved told) in
       record {
         ready = put_may_be_made;
-        draws = any.write_draws o at lane blocks v all id off bytes own op;
+        draws = any.write_draws v (works_in_pool o at lane blocks v all) id off bytes own op;
         works =
             subst (IsAtWorkWith o at next blocks) (sym sequence.1)
             (with_lists o at next blocks w work (keeps next.locks.items (subst (λ (ls : List HeldLock). Keeps ls blocks v) (ap (λ ls. ls.items) (sym fields.locks)) (kept_of o at lane blocks v all)) told));
@@ -119,8 +119,8 @@ module _ {M : Type 0} (o : Opening) (at : M → View → Type 0) (lane : Lane M)
       → IsPendingAs pending (pending_in (after_all v (puts_range id off bytes v)))
   unfolding puts_range
   put_is_listed pending are listed =
-      let sequence = any.sequence o at lane blocks v all id off bytes own op in
-      let tells = any.tells_so o at lane blocks v all id off bytes own op in
+      let sequence = any.sequence v (works_in_pool o at lane blocks v all) id off bytes own op in
+      let tells = any.tells_so v (works_in_pool o at lane blocks v all) id off bytes own op in
       subst (λ (z : View). IsPendingAs pending (pending_in z)) (sym sequence.1)
       (subst (IsPendingAs pending) (sym (pending_once_more v w op None tells.keeps.entries tells.call)) (listed (pending_in v) bytes are all.has_reserved.once refl))
 

@@ -107,6 +107,7 @@ fn put_at_work<M: ReservedMem>(
         → HasRefusedPut o M.at lane.new blocks.now pending.now v id off bytes.now r) }
     ensures stopped { IfErr result (λ r. r ≡ refusal.Stopped → (o : Opening) (v : View) → IsAtWorkWith o M.at lane.old blocks.now v → IsPendingAs pending.now (pending_in v)
         → IsStoppedIn M.at lane.new v (puts_range id off bytes.now) (WriteReserved id off bytes.now) None) }
+    ensures stopped_inside { IfErr result (λ r. r ≡ refusal.Stopped → (o : Opening) (v : View) → IsAtWorkWith o M.at lane.old blocks.now v → IsPendingAs pending.now (pending_in v) → HasReservedRange v id off (length bytes.now)) }
     ensures lane { result ≢ Err refusal.Stopped → lane.new ≡ record lane.old { memory = lane.new.memory } }
     ensures stopped_lane { IfErr result (λ r. r ≡ refusal.Stopped → lane.new ≡ record lane.old { memory = lane.new.memory; stopped = true }) }
     ensures causes { IfErr result (λ r. (r ≡ refusal.NotReserved) ⊎ (r ≡ refusal.OutOfRange) ⊎ (r ≡ refusal.Stopped)) }
@@ -140,6 +141,8 @@ pub fn write_reserved<M: ReservedMem>(
         → HasRefusedPut o M.at lane.new blocks.now pending.now v id off bytes.now r) }
     ensures stopped { IfErr result (λ r. work_refusal lane.old ≡ None → r ≡ refusal.Stopped → (o : Opening) (v : View) → IsAtWorkWith o M.at lane.old blocks.now v → IsPendingAs pending.now (pending_in v)
         → IsStoppedIn M.at lane.new v (puts_range id off bytes.now) (WriteReserved id off bytes.now) None) }
+    ensures stopped_inside { IfErr result (λ r. work_refusal lane.old ≡ None → r ≡ refusal.Stopped → (o : Opening) (v : View) → IsAtWorkWith o M.at lane.old blocks.now v → IsPendingAs pending.now (pending_in v)
+        → HasReservedRange v id off (length bytes.now)) }
     ensures lane { result ≢ Err refusal.Stopped → lane.new ≡ record lane.old { memory = lane.new.memory } }
     ensures stopped_lane { IfErr result (λ r. work_refusal lane.old ≡ None → r ≡ refusal.Stopped → lane.new ≡ record lane.old { memory = lane.new.memory; stopped = true }) }
     ensures causes { IfErr result (λ r. work_refusal lane.old ≡ None → (r ≡ refusal.NotReserved) ⊎ (r ≡ refusal.OutOfRange) ⊎ (r ≡ refusal.Stopped)) }

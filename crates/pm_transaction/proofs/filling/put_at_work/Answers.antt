@@ -40,6 +40,12 @@ returns-in-Ok-clause-stopped g c =
     (reserved_range o g.M.LaneMem.at c.args.lane.now c.args.blocks.now v is c.args.id c.args.off (length c.args.bytes.now) (c.in-Ok.ensures.inside (pending_in v) are)))
     c.put_or_stop.ensures.stops
 
+pub returns-in-Ok-clause-stopped_inside : goal.returns-in-Ok-clause-stopped_inside
+returns-in-Ok-clause-stopped_inside g c =
+    IfErr-weaker c.put_or_stop.result _ _
+    (λ r stops stopped o v is are. reserved_range o g.M.LaneMem.at c.args.lane.now c.args.blocks.now v is c.args.id c.args.off (length c.args.bytes.now) (c.in-Ok.ensures.inside (pending_in v) are))
+    c.put_or_stop.ensures.stops
+
 pub returns-in-Err-clause-refuses : goal.returns-in-Err-clause-refuses
 returns-in-Err-clause-refuses g c other o v is are =
     put_is_refused o g.M.LaneMem.at c.args.lane.now (record c.args.lane.now { memory = c.tell_put.new.self }) c.args.blocks.now v is c.args.id c.args.off c.args.bytes.now c.in-Err.why

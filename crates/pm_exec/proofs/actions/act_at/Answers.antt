@@ -2,7 +2,7 @@ use Rattle.std.proofs.lemmas.Result.{IfErr-weaker, on_ok_weaker}
 use Rattle.std.proofs.Common.{rules, ap, ◌∷◌, []}
 use Rattle.pm_pending.specs.declared.pending.PendingActions.{PendingActions}
 use Rattle.pm_exec.proofs.GivenLetters.{kept_as_they_are}
-use Rattle.pm_exec.proofs.lines.act_at.Goals as goal
+use Rattle.pm_exec.proofs.actions.act_at.Goals as goal
 
 pub returns-in-Publish-clause-letters : goal.returns-in-Publish-clause-letters
 returns-in-Publish-clause-letters c = kept_as_they_are (c.args.said.now ∷ []) c.args.values.now.items c.publish_at.result
