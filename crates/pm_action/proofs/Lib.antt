@@ -23,3 +23,9 @@ pub mod PendingLists
 pub mod LoggedSteps
 pub mod PublishedAlone
 pub mod PublishedAll
+pub mod GivenInTurn
+pub mod SameOwn
+pub mod AloneAtRest
+pub mod FinishedAtRest
+pub mod NextBegun
+pub mod CanceledOutside

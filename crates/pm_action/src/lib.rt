@@ -5,6 +5,7 @@
 //! objects, on `pm_tx` for the ends of a call, on `pm_pending` for the list and on `pm_crash` for what is a step of the plain model.
 #![tactic(auto)]
 
+mod canceling;
 mod deferring;
 mod filling;
 mod holding;
@@ -13,6 +14,7 @@ mod publishing;
 mod publishing_all;
 mod telling;
 
+pub use canceling::{cancel, finish};
 pub use deferring::{defer_free, set_value};
 pub use filling::write_reserved;
 pub use holding::hold_actions;

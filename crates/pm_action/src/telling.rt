@@ -20,12 +20,12 @@ use pm_objects::{Operation, Refusal, Value};
 use pm_tx::end_call;
 use pm_world::{Lane, LawfulMem, settle};
 
-/// Makes all that is undrained persistent, in a call that has begun; or says that the lane stopped.
-pub fn settle_begun<M: LawfulMem>(lane: &mut Lane<M>) -> Result<(), Refusal>
-    requires begun { IsLaneBegun M.at lane.old }
-    ensures begun { OnOk result ((v : View) → IsBegun M.at lane.old v → IsBegun M.at lane.new (after_all v (settles v))) }
+/// Makes all that is undrained persistent; or says that the lane stopped.
+pub(crate) fn settle_lane<M: LawfulMem>(lane: &mut Lane<M>) -> Result<(), Refusal>
+    requires { (v : View) × M.at lane.old.memory v }
+    ensures settled { OnOk result ((v : View) → M.at lane.old.memory v → M.at lane.new.memory (after_all v (settles v))) }
     ensures lane { OnOk result (lane.new ≡ record lane.old { memory = lane.new.memory }) }
-    ensures stops { OnErr result ((v : View) → IsBegun M.at lane.old v → Stops (M.at lane.new.memory) v (settles v)) }
+    ensures stops { OnErr result ((v : View) → M.at lane.old.memory v → Stops (M.at lane.new.memory) v (settles v)) }
     ensures stopped { IfErr result (λ r. r ≡ refusal.Stopped) }
     ensures stopped_lane { OnErr result (lane.new ≡ record lane.old { memory = lane.new.memory; stopped = true }) }
 {
@@ -36,6 +36,18 @@ pub fn settle_begun<M: LawfulMem>(lane: &mut Lane<M>) -> Result<(), Refusal>
             Err(Refusal::Stopped)
         }
     }
+}
+
+/// Makes all that is undrained persistent, in a call that has begun; or says that the lane stopped.
+pub fn settle_begun<M: LawfulMem>(lane: &mut Lane<M>) -> Result<(), Refusal>
+    requires begun { IsLaneBegun M.at lane.old }
+    ensures begun { OnOk result ((v : View) → IsBegun M.at lane.old v → IsBegun M.at lane.new (after_all v (settles v))) }
+    ensures lane { OnOk result (lane.new ≡ record lane.old { memory = lane.new.memory }) }
+    ensures stops { OnErr result ((v : View) → IsBegun M.at lane.old v → Stops (M.at lane.new.memory) v (settles v)) }
+    ensures stopped { IfErr result (λ r. r ≡ refusal.Stopped) }
+    ensures stopped_lane { OnErr result (lane.new ≡ record lane.old { memory = lane.new.memory; stopped = true }) }
+{
+    settle_lane(lane)
 }
 
 /// Gives back each lock that was taken for a call which is over, so that the lane is at rest: its number is answered.
