@@ -63,3 +63,8 @@ pub mod ListedInTurn
 pub mod PublishesAll
 pub mod PublishAllChecks
 pub mod PublishAllReasons
+pub mod RestingViews
+pub mod StandsGivenUp
+pub mod StandsCommitted
+pub mod StandsUnpublished
+pub mod StandsBehindCommit
