@@ -68,3 +68,5 @@ pub mod StandsGivenUp
 pub mod StandsCommitted
 pub mod StandsUnpublished
 pub mod StandsBehindCommit
+pub mod KeptBehindEnd
+pub mod RestsBehindEnd

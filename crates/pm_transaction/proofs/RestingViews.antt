@@ -7,6 +7,7 @@ use Rattle.std.proofs.lemmas.List.Elements.{All-contains_itself, All-map, All-we
 use Rattle.pm_image.proofs.Members.{member_cases}
 use Rattle.pm_image.specs.Blocks.{descriptor_word}
 use Rattle.pm_image.specs.Reads.{ReadsBlock}
+use Rattle.pm_layout.specs.Sizes.{blocks_of}
 use Rattle.pm_model.specs.Actions.{Pending, Reservation, none_pending}
 use Rattle.pm_view.specs.declared.occ.Occ.TheVariants.{Zone}
 use Rattle.pm_view.specs.Area.{area_word, is_in_area}
@@ -187,12 +188,12 @@ module _ (u y : View) (inside : y.lane < y.lanes) (has : HasReserved u) (left : 
 
 -- an object lies in what the lane reserved still, where each chunk of its block is described as it was, and the block's bits are reserved still
 pub lies_by : (v w : View) (n : NewObject) → w.lanes ≡ v.lanes → w.zones ≡ v.zones
-    → ((run : IsReservedInRun v n) → (slice_index w.words (descriptor_word v.lanes run.chunk) ≡ slice_index v.words (descriptor_word v.lanes run.chunk)) × (reserves w (run_at v.lanes run.chunk) run.index ≡ true))
+    → ((run : IsReservedInRun v n) → run.index < blocks_of run.lines → (slice_index w.words (descriptor_word v.lanes run.chunk) ≡ slice_index v.words (descriptor_word v.lanes run.chunk)) × (reserves w (run_at v.lanes run.chunk) run.index ≡ true))
     → ((its : IsReservedInChunks v n) (j : ℕ) → j < its.count
     → (slice_index w.words (descriptor_word v.lanes (64 * its.zone + (its.first + j))) ≡ slice_index v.words (descriptor_word v.lanes (64 * its.zone + (its.first + j)))) × (reserves w (Zone its.zone) (its.first + j) ≡ true))
     → LiesInReserved v n → LiesInReserved w n
 lies_by v w n lanes zones of_run of_chunks (inl (run, inside)) =
-    let t = of_run run in
+    let t = of_run run inside in
     let in_pool = run.in_pool in
     inl (
       record {

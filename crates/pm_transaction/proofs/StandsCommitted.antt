@@ -59,7 +59,7 @@ module _ {o : Opening} {header : Header} {pool : PoolView} {start v : View} {ste
 
     -- as the number is drawn
     lies_d : LiesInReserved d object
-    lies_d = lies_by u d object refl refl (λ run. (refl, run_bit_stays o header pool u n all w call object (lies_for u object lies) made_apart run))
+    lies_d = lies_by u d object refl refl (λ run inside. (refl, run_bit_stays o header pool u n all w call object (lies_for u object lies) made_apart run))
         (λ its j near. (refl, chunk_bit_stays o header pool u n all w call object (lies_for u object lies) made_apart its j near)) lies
 
     -- a word that no entry is of stays
@@ -75,7 +75,7 @@ module _ {o : Opening} {header : Header} {pool : PoolView} {start v : View} {ste
 
     lies_w : LiesInReserved w object
     lies_w = lies_by u w object (performed c n).call.lane.lanes (performed c n).call.lane.zones
-        (λ run. (
+        (λ run inside. (
           described run.chunk (run_descriptor_unentered o header pool u n all w call object (lies_for u object lies) made_apart run),
           still (run_at u.lanes run.chunk) run.index (run_bit_stays o header pool u n all w call object (lies_for u object lies) made_apart run),
         ))

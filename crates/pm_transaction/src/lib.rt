@@ -52,7 +52,9 @@ pub use publishing::publish;
 pub use publishing_all::publish_all;
 pub use ranges::{add_range, read, write};
 pub use reserving::reserve;
-pub use resting::what_is_reserved_stands_behind_a_transaction;
+pub use resting::{
+    a_lane_alone_rests_behind_its_transaction, what_is_reserved_stands_behind_a_transaction,
+};
 
 #[cfg(test)]
 mod tests;
