@@ -27,5 +27,4 @@ pub mod GivenInTurn
 pub mod SameOwn
 pub mod AloneAtRest
 pub mod FinishedAtRest
-pub mod NextBegun
 pub mod CanceledOutside
