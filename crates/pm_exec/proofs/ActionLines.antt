@@ -62,7 +62,7 @@ use Rattle.pm_exec.specs.Progress.{AreToldDone, IsAtLine, IsCut, IsGivenUpAt, Is
 use Rattle.pm_exec.specs.Torn.{words_after, words_by}
 use Rattle.pm_exec.specs.declared.calls.Names.{Names}
 use Rattle.pm_exec.proofs.ChangeLines.{GoesTo, at_next_with, at_there_with, calm_behind, cut_in, free_u, lane_there, lane_u, words_u}
-use Rattle.pm_exec.proofs.AddAndWrite.{cut_giving_up, given_up, not_spent, tells_uncounted}
+use Rattle.pm_exec.proofs.AddAndWrite.{cut_giving_up, given_up, not_spent, tells_leave, tells_uncounted}
 use Rattle.pm_exec.proofs.FreeLine.{one_log}
 use Rattle.pm_exec.proofs.LooksAlone.{looks_none}
 use Rattle.pm_exec.proofs.LineLists.{gave_more, gave_nothing, words_more}
@@ -119,7 +119,7 @@ module _ (operation : Operation) (reply : Option Value) where
   tell_stores v = none_in_one (Tell operation reply) refl v
 
   tell_led : (v : View) → MayTell v.log.phase → IsLed v (after v (Tell operation reply))
-  tell_led v may = let t = tell_ready v may in subst (λ (u : View). IsLed v u) (told_view v) (ready_led v (tells v) t.0 t.1 (tells_uncounted operation reply v) (told_heap v))
+  tell_led v may = let t = tell_ready v may in subst (λ (u : View). IsLed v u) (told_view v) (ready_led v (tells v) t.0 t.1 (tells_uncounted operation reply v) (tells_leave operation reply v) (told_heap v))
 
 module _ (o : Opening) (first : View) (lane : Lane Solo) (blocks : BlockLists) (actions : PendingActions) (names : Names) (front : List ScriptLine) (values : Values) (a : IsAtLine o first lane blocks actions names front values) (new : Lane Solo) (said : ScriptLine) where
   abbrev v : View

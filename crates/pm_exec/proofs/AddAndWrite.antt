@@ -22,7 +22,7 @@ use Rattle.pm_crash.specs.CallBlocks.{CallBlocks, blocks_in}
 use Rattle.pm_crash.specs.OpenCall.{IsUnderBlock}
 use Rattle.pm_crash.specs.Operations.{HasNewRange, IsMade}
 use Rattle.pm_lock.proofs.Leads.{ready_led}
-use Rattle.pm_lock.specs.Leading.{DrawEnded}
+use Rattle.pm_lock.specs.Leading.{DrawEnded, LeaveBlocks}
 use Rattle.pm_made.specs.Made.{BlockLists}
 use Rattle.pm_objects.specs.declared.history.Value.{Value}
 use Rattle.pm_objects.specs.declared.history.Value.TheVariants.{Refused}
@@ -78,6 +78,10 @@ use Rattle.pm_pending.specs.declared.pending.PendingActions.{PendingActions}
 use Rattle.pm_model.specs.Checks.{is_action}
 
 -- one telling is no counted call
+pub tells_leave : (operation : Operation) (reply : Option Value) (v : View) → LeaveBlocks v (one (Tell operation reply) v)
+unfolding one LeaveBlocks
+tells_leave operation reply v = ((λ i. v.reserved), tt)
+
 pub tells_uncounted : (operation : Operation) (reply : Option Value) (v : View) → calls_in (one (Tell operation reply) v) ≡ 0
 unfolding one calls_in
 tells_uncounted operation reply v = refl
@@ -206,7 +210,7 @@ module _ (o : Opening) (first : View) (lane : Lane Solo) (blocks : BlockLists) (
         let lane_is = lane_u o first lane blocks actions names front values a 0 v looks in
         let kept : Keeps v (after_all v (steps v)) = all_undrawn_keep v (steps v) (only_one IsUndrawn (Tell (operation.AddRange place off len) None) tt v lane_is) in
         let stored = none_in_one (Tell (operation.AddRange place off len) None) refl v in
-        let free : IsFree v (after_all v (steps v)) = record { led = ready_led v (steps v) h.ready h.draws (tells_uncounted (operation.AddRange place off len) None v) kept.heap; undrawn = kept.entries } in
+        let free : IsFree v (after_all v (steps v)) = record { led = ready_led v (steps v) h.ready h.draws (tells_uncounted (operation.AddRange place off len) None v) (tells_leave (operation.AddRange place off len) None v) kept.heap; undrawn = kept.entries } in
         at_next o first lane blocks actions names front values a 0 v looks new steps (only_one IsWork (Tell (operation.AddRange place off len) None) tt v lane_is)
         (only_one IsUndrawn (Tell (operation.AddRange place off len) None) tt v lane_is) said h.ready h.draws h.works level locks told_add add_told h.added.tells.call
         (λ i under. h.added.keeps.words i (under_outside i under v.lane lane_is) ∙ (a.words i under ∙ sym (adds_none (slice_index o.words) i)))

@@ -64,7 +64,6 @@ use Rattle.pm_exec.specs.Progress.{IsAtLine, IsCalmBehind, IsCut, IsGivenUpAt, A
 use Rattle.pm_exec.specs.Course.{CameToGiveUp, IsFree, IsFrontOf, IsGivenUpMade, IsLineMade, IsLineStopped, IsRefusalMade, IsStoppedBy, refused_calls, spans_of}
 use Rattle.pm_exec.specs.declared.calls.Names.{Names}
 use Rattle.pm_exec.proofs.LineLists.{made_more, told_more}
-use Rattle.pm_tx.proofs.Leading.{looks_lead as looks_led}
 use Rattle.pm_exec.specs.Quiet.{IsQuiet}
 use Rattle.pm_exec.specs.Torn.{words_after}
 use Rattle.pm_exec.proofs.Along.{lane_along, same_along}
@@ -72,7 +71,7 @@ use Rattle.pm_exec.proofs.CommitFront.{give_up_keeps}
 use Rattle.pm_exec.proofs.HeapStill.{gives_up_heapless, heap_along}
 use Rattle.pm_exec.proofs.Links.{passed}
 use Rattle.pm_exec.proofs.QuietSequences.{quiet_in_give_up}
-use Rattle.pm_exec.proofs.LooksAlone.{IsSameBut, looks_same}
+use Rattle.pm_exec.proofs.LooksAlone.{IsSameBut, looks_go_on, looks_same}
 use Rattle.pm_exec.proofs.UndrawnSteps.{IsUndrawn, Keeps, all_undrawn_keep, first_undrawn_keep}
 use Rattle.pm_pending.specs.declared.pending.PendingActions.{PendingActions}
 use Rattle.pm_crash.specs.Pending.{pending_before, pending_behind, pending_in, published_by, published_in}
@@ -356,9 +355,8 @@ module _ (o : Opening) (first : View) (lane : Lane Solo) (blocks : BlockLists) (
 
     looks_go : GoesTo a.view u
     looks_go =
-        let l = looks_led n a.view u looks in
         record {
-          led = record { steps = l.0; leads = l.1.0; uncounted = l.1.1; heap = same.heap };
+          led = looks_go_on n a.view u looks;
           words = same.words;
           call = same.call;
           number = same.number;

@@ -27,7 +27,7 @@ use Rattle.pm_view.specs.Views.{after, after_all}
 use Rattle.pm_world.specs.Opening.{Opening}
 use Rattle.pm_world.specs.Sequences.{Sequence, one}
 use Rattle.pm_world.specs.declared.lane.Lane.{Lane}
-use Rattle.pm_exec.proofs.AddAndWrite.{cut_giving_up, tells_uncounted}
+use Rattle.pm_exec.proofs.AddAndWrite.{cut_giving_up, tells_leave, tells_uncounted}
 use Rattle.pm_exec.proofs.ChangeLines.{at_next_with, free_u, lane_u, pending_u, words_u}
 use Rattle.pm_exec.proofs.LineLists.{gave_nothing, words_more}
 use Rattle.pm_exec.proofs.PendingLists.{still_pending}
@@ -81,7 +81,7 @@ module _ (o : Opening) (first : View) (lane : Lane Solo) (blocks : BlockLists) (
       let before = free_u o first lane blocks actions names front values a n u t.looks in
       let kept : Keeps u w = all_undrawn_keep u (steps u) (only_one IsUndrawn tell tt u lane_is) in
       let free : IsFree a.view w =
-      record { led = led_then a.view u w before.led (ready_led u (steps u) h.ready h.draws (tells_uncounted (operation.Free place) None u) kept.heap); undrawn = kept.entries ∙ before.undrawn } in
+      record { led = led_then a.view u w before.led (ready_led u (steps u) h.ready h.draws (tells_uncounted (operation.Free place) None u) (tells_leave (operation.Free place) None u) kept.heap); undrawn = kept.entries ∙ before.undrawn } in
       let stored = none_in_one tell refl u in
       let same : recorded_count w ≡ recorded_count u = refl in
       let log = one_log (entries_so_far w) in

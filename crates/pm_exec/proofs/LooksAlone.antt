@@ -1,8 +1,8 @@
 -- What a lane that is alone keeps while it looks at words.
 use Rattle.std.proofs.Common.{◌≡◌, ℕ, zero, suc, set, refl, sym, ap, ◌∙◌, subst}
 use Rattle.std.proofs.lemmas.List.{set-get_or}
-use Rattle.pm_lock.proofs.Leads.{heap_still, heap_then}
-use Rattle.pm_lock.specs.Leading.{KeepsHeap}
+use Rattle.pm_lock.proofs.Leads.{heap_still, heap_then, led_none, led_once, led_then}
+use Rattle.pm_lock.specs.Leading.{IsLed, KeepsHeap}
 use Rattle.pm_tx.specs.Learning.{Looks}
 use Rattle.pm_view.specs.Founds.{IsAlone}
 use Rattle.pm_view.specs.Steps.Step.{Load}
@@ -22,6 +22,15 @@ pub record IsSameBut (v w : View) : Type 0 where
 pub looks_none : (v : View) → Looks 0 v v
 unfolding Looks
 looks_none v = refl
+
+-- they lead on
+pub looks_go_on : (n : ℕ) (v w : View) → Looks n v w → IsLed v w
+unfolding Looks
+looks_go_on zero v w is = subst (IsLed v) (sym is) (led_none v)
+looks_go_on (suc n) v w t =
+    let m : View = t.0 in
+    let one : IsLed m (after m (Load t.1 t.2)) = led_once m (Load t.1 t.2) t.4 t.5.1 tt refl (record { zone_locks = refl; reserved = refl; freed = refl }) in
+    led_then v m w (looks_go_on n v m t.3) (subst (IsLed m) (sym t.6) one)
 
 pub looks_same : (n : ℕ) (v w : View) → Looks n v w → IsAlone v → IsSameBut v w
 unfolding Looks

@@ -45,7 +45,7 @@ use Rattle.pm_exec.proofs.ChangeLines.{at_next, free_u, lane_u, words_u}
 use Rattle.pm_exec.proofs.AddAndWrite.{cut_giving_up, under_outside}
 use Rattle.pm_exec.proofs.LooksAlone.{looks_none}
 use Rattle.pm_exec.proofs.LineLists.{gave_more, words_more}
-use Rattle.pm_exec.proofs.UndrawnSteps.{Keeps, all_undrawn_keep, reads_undrawn}
+use Rattle.pm_exec.proofs.UndrawnSteps.{Keeps, all_undrawn_keep, reads_undrawn, undrawn_leave}
 use Rattle.pm_pending.specs.declared.pending.PendingActions.{PendingActions}
 
 -- the first of some numbers are those in front
@@ -103,7 +103,7 @@ module _ (o : Opening) (first : View) (lane : Lane Solo) (blocks : BlockLists) (
           let before = free_u o first lane blocks actions names front values a n u looks in
           let kept : Keeps u w = all_undrawn_keep u (steps u) (reads_undrawn place off len bytes u lane_is) in
           record {
-            led = led_then a.view u w before.led (ready_led u (steps u) ready draws (reads_free place off len bytes u) kept.heap);
+            led = led_then a.view u w before.led (ready_led u (steps u) ready draws (reads_free place off len bytes u) (undrawn_leave u (steps u) (reads_undrawn place off len bytes u lane_is)) kept.heap);
             undrawn = kept.entries ∙ before.undrawn;
           }
 

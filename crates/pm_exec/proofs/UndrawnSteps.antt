@@ -5,7 +5,7 @@ use Rattle.pm_objects.specs.declared.history.Value.TheVariants.{Bytes}
 use Rattle.pm_objects.specs.declared.ids.Oid.{Oid}
 use Rattle.pm_crash.specs.Writes.{written_word}
 use Rattle.pm_lock.proofs.Leads.{heap_still, heap_then}
-use Rattle.pm_lock.specs.Leading.{KeepsHeap}
+use Rattle.pm_lock.specs.Leading.{KeepsHeap, LeaveBlocks}
 use Rattle.pm_tx.proofs.StepKinds.{Each, HasOnly, HasQuietSteps, each_first, only_counted, only_in_turn, only_looks_from, only_one, only_persists, only_restores, only_settles, only_snapshots, only_stores, only_with_generation, only_with_word}
 use Rattle.pm_tx.specs.Ranges.{adds_range, reads_range, writes_range}
 use Rattle.pm_tx.specs.Sequences.{reads, takes_back, undoes, word_count, writes, writes_word}
@@ -59,6 +59,12 @@ undrawn_keeps v (Flush line) quiet = record { number = refl; entries = refl; lin
 undrawn_keeps v Drain quiet = record { number = refl; entries = refl; lines = refl; heap = record { zone_locks = refl; reserved = refl; freed = refl } }
 undrawn_keeps v (Tell operation reply) quiet = record { number = refl; entries = refl; lines = refl; heap = record { zone_locks = refl; reserved = refl; freed = refl } }
 undrawn_keeps v s quiet = absurd quiet
+
+-- steps of this kind leave what is reserved
+pub undrawn_leave : (v : View) (steps : List Step) → Each IsUndrawn steps → LeaveBlocks v steps
+unfolding Each LeaveBlocks
+undrawn_leave v [] each = tt
+undrawn_leave v (s ∷ steps) each = ((undrawn_keeps v s each.0).heap.reserved, undrawn_leave (after v s) steps each.1)
 
 pub all_undrawn_keep : (v : View) (steps : List Step) → Each IsUndrawn steps → Keeps v (after_all v steps)
 unfolding Each after_all

@@ -1,5 +1,5 @@
 -- What a lane has reserved and pending stands behind its transaction where that is given up, for a refusal or an abort.
-use Rattle.std.proofs.Common.{◌≡◌, ◌⊎◌, inl, inr, ℕ, false, Contains, List, [], ◌∷◌, ◌++◌, map, Option, None, Some, refl, sym, ap, subst, arith}
+use Rattle.std.proofs.Common.{◌≡◌, ◌⊎◌, inl, inr, ℕ, All, false, ◌∙◌, Contains, List, [], ◌∷◌, ◌++◌, map, Option, None, Some, refl, sym, ap, subst, arith}
 use Rattle.std.proofs.lemmas.Bool.{cond-false}
 use Rattle.std.proofs.lemmas.List.Elements.{All-contains}
 use Rattle.std.specs.List.{filter}
@@ -15,7 +15,7 @@ use Rattle.pm_view.specs.Held.{is_held}
 use Rattle.pm_view.specs.Log.{Log, log_drawn, no_log}
 use Rattle.pm_view.specs.Log.Phase.{Idle}
 use Rattle.pm_view.specs.Steps.Step.{Draw, Tell}
-use Rattle.pm_view.specs.View.{Told, View}
+use Rattle.pm_view.specs.View.{Lock, Told, View}
 use Rattle.pm_view.specs.Views.{after, after_all, changes_heap, unallocated}
 use Rattle.pm_world.proofs.Plain.{empty_plain}
 use Rattle.pm_world.specs.Lanes.{span_of}
@@ -24,6 +24,7 @@ use Rattle.pm_world.specs.Sequences.{in_turn, one}
 use Rattle.pm_world.specs.declared.lane.Lane.{Lane}
 use Rattle.pm_world.specs.declared.lane.Span.{Span}
 use Rattle.pm_crash.specs.CallBlocks.{LeavesReserved, blocks_behind, blocks_in, no_blocks, reserved_in, reserved_object}
+use Rattle.pm_crash.specs.OpenCall.{RecordsUnder}
 use Rattle.pm_crash.specs.Operations.{TakesBack, Tells}
 use Rattle.pm_crash.specs.Pending.{pending_in}
 use Rattle.pm_crash.specs.Reserving.{HasReserved}
@@ -32,11 +33,15 @@ use Rattle.pm_crash.proofs.PendingOn.{pending_once_more}
 use Rattle.pm_crash.proofs.ReservedStays.{given_up_stays, refusal_stays, reserved_then}
 use Rattle.pm_crash.proofs.StillReserved.{HasSameHeads}
 use Rattle.pm_made.specs.Made.{BlockLists}
-use Rattle.pm_tx.proofs.BorneOut.{heads_taken_back}
+use Rattle.pm_tx.proofs.BorneOut.{chunk_words_outside, descriptor_unrecorded, root_outside, root_unrecorded}
 use Rattle.pm_tx.proofs.TakenBack.{take_back_lawful}
 use Rattle.pm_tx.specs.Ending.{IsTakenBack}
+use Rattle.pm_tx.specs.Learning.{Looks}
+use Rattle.pm_undo.specs.Working.{IsWorking}
+use Rattle.pm_image.specs.Blocks.{descriptor_word}
+use Rattle.pm_world.specs.Records.{is_recorded}
 use Rattle.pm_tx.specs.Sequences.{ends_call, gives_up, takes_back}
-use Rattle.pm_transaction.proofs.GoingWith.{lies_still}
+use Rattle.pm_transaction.proofs.GoingWith.{Keeps, kept_of, lies_still, looks_keep}
 use Rattle.pm_transaction.proofs.RestingViews.{LeavesStanding, left_rests}
 use Rattle.pm_transaction.specs.AtWork.{IsAtWorkWith, LiesInReserved}
 use Rattle.pm_transaction.specs.Resting.{StandsAtRest}
@@ -73,7 +78,50 @@ module _ (u : View) (n : ℕ) (none : u.log.entries ≡ []) where
 
 -- ---- a call that is given up
 
-module _ {M : Type 0} (o : Opening) (at : M → View → Type 0) (lane : Lane M) (blocks : BlockLists) (v : View) (is : IsAtWorkWith o at lane blocks v) (op : Operation) (reply : Option Value) (n : ℕ) where
+-- The call is open, entered nothing, and recorded words of blocks that it found alone, none that describes a chunk or is the root's; what is reserved stands, in
+-- blocks that the lane reserved.
+pub record MayLeaveStanding (v : View) : Type 0 where
+  pub working : IsWorking v
+  pub no_entries : v.log.entries ≡ []
+  pub under : RecordsUnder v
+  pub undescribed : (c : ℕ) → is_recorded v.log.records (descriptor_word v.lanes c) ≡ false
+  pub unrooted : is_recorded v.log.records 64 ≡ false
+  pub has_reserved : HasReserved v
+  pub within : All (LiesInReserved v) (reserved_in v)
+
+pub at_work_may : {M : Type 0} (o : Opening) (at : M → View → Type 0) (lane : Lane M) (blocks : BlockLists) (v : View) → IsAtWorkWith o at lane blocks v → MayLeaveStanding v
+at_work_may o at lane blocks v is = record {
+  working = is.work.working;
+  no_entries = is.work.no_entries;
+  under = is.work.under_way.under;
+  undescribed = descriptor_unrecorded o at lane v is.work;
+  unrooted = root_unrecorded o at lane v is.work;
+  has_reserved = is.has_reserved;
+  within = is.reserved_within;
+}
+
+-- so it may in another view with its log and its locks, where that stands
+still_may : (v u : View) → MayLeaveStanding v → u.log ≡ v.log → u.lanes ≡ v.lanes → u.locks ≡ v.locks → IsWorking u → HasReserved u → All (LiesInReserved u) (reserved_in u) → MayLeaveStanding u
+still_may v u may log lanes locks working has within =
+    let same : (i : ℕ) → is_recorded u.log.records i ≡ is_recorded v.log.records i = λ i. ap (λ (l : Log). is_recorded l.records i) log in
+    record {
+      working = working;
+      no_entries = ap (λ (l : Log). l.entries) log ∙ may.no_entries;
+      under = λ i recorded. let t = may.under i (sym (same i) ∙ recorded) in record { lock = t.lock; lines = t.lines; held = subst (λ (ls : List Lock). Contains ls t.lock) (sym locks) t.held; found = t.found; from = t.from; to = t.to };
+      undescribed = λ c. same (descriptor_word u.lanes c) ∙ (ap (λ k. is_recorded v.log.records (descriptor_word k c)) lanes ∙ may.undescribed c);
+      unrooted = same 64 ∙ may.unrooted;
+      has_reserved = has;
+      within = within;
+    }
+
+-- behind some looks, and where it looked for a block and found none, or looked for none
+pub looked_may : {M : Type 0} (o : Opening) (at : M → View → Type 0) (lane : Lane M) (blocks : BlockLists) (n : ℕ) (v u : View) → IsAtWorkWith o at lane blocks v → Looks n v u → u.log ≡ v.log → u.lanes ≡ v.lanes → u.locks ≡ v.locks → IsWorking u
+    → MayLeaveStanding u
+looked_may o at lane blocks n v u is looks log lanes locks working =
+    let keeps : Keeps lane.locks.items blocks u = looks_keep lane.locks.items blocks n v u looks (kept_of o at lane blocks v is) in
+    still_may v u (at_work_may o at lane blocks v is) log lanes locks working keeps.has_reserved keeps.reserved_within
+
+module _ (v : View) (is : MayLeaveStanding v) (spans : List Span) (spans_are : spans ≡ map span_of v.log.records) (op : Operation) (reply : Option Value) (n : ℕ) where
   abbrev mid : View
   mid = after_all v (takes_back (map span_of v.log.records) v)
 
@@ -81,7 +129,7 @@ module _ {M : Type 0} (o : Opening) (at : M → View → Type 0) (lane : Lane M)
   told = after mid (Tell op reply)
 
   back : IsTakenBack v mid
-  back = (take_back_lawful v is.work.working is.work.no_entries).1
+  back = (take_back_lawful v is.working is.no_entries).1
 
   tells : Tells v told op reply
   tells =
@@ -96,40 +144,50 @@ module _ {M : Type 0} (o : Opening) (at : M → View → Type 0) (lane : Lane M)
   taken_back = let t = back.takes_back in record { restored = t.restored; known = t.known; others = t.others; records = t.records }
 
   heads : HasSameHeads v told
-  heads = heads_taken_back o at lane v is.work told op reply tells taken_back back.call.reserved
+  heads = record {
+    lanes = tells.keeps.lanes;
+    zones = tells.keeps.zones;
+    reserved = back.call.reserved;
+    described = λ c in_pool. taken_back.others (descriptor_word v.lanes c) (chunk_words_outside v.lane v.lanes c is.working.area.lane) (is.undescribed c);
+    root = taken_back.others 64 (root_outside v.lane) is.unrooted;
+  }
 
   -- the steps, from the call told on
   abbrev EndsAt : List Span → Type 0
-  EndsAt spans = after_all v (gives_up spans op reply n v) ≡ after told (Draw n)
+  EndsAt all = after_all v (gives_up all op reply n v) ≡ after told (Draw n)
 
-  ends : after_all v (gives_up lane.records.items op reply n v) ≡ after told (Draw n)
+  ends : after_all v (gives_up spans op reply n v) ≡ after told (Draw n)
   unfolding gives_up ends_call in_turn one after_all
-  ends = subst EndsAt (sym is.work.seen.records) (after_all-append v (takes_back (map span_of v.log.records) v) (ends_call op reply n mid))
+  ends = subst EndsAt (sym spans_are) (after_all-append v (takes_back (map span_of v.log.records) v) (ends_call op reply n mid))
 
   -- what was reserved as it was given up was before
-  given_up_rests : HasReserved told → ((r : Reservation) → Contains (pending_in told).reserved r → Contains (pending_in v).reserved r) → StandsAtRest (after_all v (gives_up lane.records.items op reply n v))
+  given_up_rests : HasReserved told → ((r : Reservation) → Contains (pending_in told).reserved r → Contains (pending_in v).reserved r) → StandsAtRest (after_all v (gives_up spans op reply n v))
   given_up_rests has before = subst StandsAtRest (sym ends)
-      (left_rests told (after told (Draw n)) (let s = back.call.lane in let low = is.work.working.area.lane in let l = s.lane in let ls = s.lanes in omega (arith, low, l, ls)) has
+      (left_rests told (after told (Draw n)) (let s = back.call.lane in let low = is.working.area.lane in let l = s.lane in let ls = s.lanes in omega (arith, low, l, ls)) has
       (plain_leaves told n (ap (λ (log : Log). log.entries) back.log) (ap (λ (log : Log). log_drawn log.phase log) back.log) has
       (λ r there. lies_still v told heads (reserved_object r)
-      (All-contains (LiesInReserved v) (reserved_in v) (reserved_object r) is.reserved_within (made_member reserved_object (pending_in v).reserved r (before r there))))))
+      (All-contains (LiesInReserved v) (reserved_in v) (reserved_object r) is.within (made_member reserved_object (pending_in v).reserved r (before r there))))))
 
-  pub leaves_standing : LeavesReserved op reply (pending_in v) → blocks_behind op reply (pending_in v) (blocks_in v) ≡ no_blocks → StandsAtRest (after_all v (gives_up lane.records.items op reply n v))
-  leaves_standing leaves none = given_up_rests (given_up_stays v told op reply is.has_reserved is.work.under_way.under tells taken_back leaves none)
+  pub leaves_standing : LeavesReserved op reply (pending_in v) → blocks_behind op reply (pending_in v) (blocks_in v) ≡ no_blocks → StandsAtRest (after_all v (gives_up spans op reply n v))
+  leaves_standing leaves none = given_up_rests (given_up_stays v told op reply is.has_reserved is.under tells taken_back leaves none)
       (λ r there. before r (reserved_then v told op reply tells.keeps.entries tells.call leaves) there) where
         before : (r : Reservation) → ((pending_in told).reserved ≡ (pending_in v).reserved) ⊎ ((pending_in told).reserved ≡ []) → Contains (pending_in told).reserved r → Contains (pending_in v).reserved r
         before r (inl same) there = subst (λ (rs : List Reservation). Contains rs r) same there
         before r (inr none) there = absurd (no_member r (subst (λ (rs : List Reservation). Contains rs r) none there))
 
+pub refused_leaves_standing : (v : View) (is : MayLeaveStanding v) (spans : List Span) → spans ≡ map span_of v.log.records → (op : Operation) (r : Refusal) (n : ℕ)
+    → blocks_behind op (Some (Refused r)) (pending_in v) (blocks_in v) ≡ no_blocks → StandsAtRest (after_all v (gives_up spans op (Some (Refused r)) n v))
+refused_leaves_standing v is spans are op r n none =
+    let reply : Option Value = Some (Refused r) in
+    let call : Tells v (told v is spans are op reply n) op reply = tells v is spans are op reply n in
+    given_up_rests v is spans are op reply n
+    (refusal_stays v (told v is spans are op reply n) op r is.has_reserved is.under call (taken_back v is spans are op reply n) none)
+    (λ s there. subst (λ (p : Pending). Contains p.reserved s) (pending_once_more v (told v is spans are op reply n) op reply call.keeps.entries call.call) there)
+
 pub refusal_leaves_standing : {M : Type 0} (o : Opening) (at : M → View → Type 0) (lane : Lane M) (blocks : BlockLists) (v : View) (op : Operation) (r : Refusal) (n : ℕ) → IsAtWorkWith o at lane blocks v
     → blocks_behind op (Some (Refused r)) (pending_in v) (blocks_in v) ≡ no_blocks → StandsAtRest (after_all v (gives_up lane.records.items op (Some (Refused r)) n v))
-refusal_leaves_standing o at lane blocks v op r n is none =
-    let reply : Option Value = Some (Refused r) in
-    let call : Tells v (told o at lane blocks v is op reply n) op reply = tells o at lane blocks v is op reply n in
-    given_up_rests o at lane blocks v is op reply n
-    (refusal_stays v (told o at lane blocks v is op reply n) op r is.has_reserved is.work.under_way.under call (taken_back o at lane blocks v is op reply n) none)
-    (λ s there. subst (λ (p : Pending). Contains p.reserved s) (pending_once_more v (told o at lane blocks v is op reply n) op reply call.keeps.entries call.call) there)
+refusal_leaves_standing o at lane blocks v op r n is none = refused_leaves_standing v (at_work_may o at lane blocks v is) lane.records.items is.work.seen.records op r n none
 
 pub abort_leaves_standing : {M : Type 0} (o : Opening) (at : M → View → Type 0) (lane : Lane M) (blocks : BlockLists) (v : View) (errnum n : ℕ) → IsAtWorkWith o at lane blocks v
     → StandsAtRest (after_all v (gives_up lane.records.items (Abort errnum) None n v))
-abort_leaves_standing o at lane blocks v errnum n is = leaves_standing o at lane blocks v is (Abort errnum) None n (refl, refl) refl
+abort_leaves_standing o at lane blocks v errnum n is = leaves_standing v (at_work_may o at lane blocks v is) lane.records.items is.work.seen.records (Abort errnum) None n (refl, refl) refl

@@ -13,7 +13,7 @@ returns-in-Ok-clause-done c o first front a =
     let e = c.in-Ok.ensures in
     let level = ap (λ (l : Lane Solo). l.level) (e.lane (λ clash. cc)) ∙ a.level in
     let locks = ap (λ (l : Lane Solo). l.locks) (e.lane (λ clash. cc)) in
-    put_done o first c.args.lane.now c.args.blocks.now c.args.pending.now c.args.names front c.args.values.now.items a c.write_reserved.new.lane c.args.said.now c.in.id c.id_of.result c.id_of.ensures c.in.off c.in.bytes.now c.requires.is_said
+    put_done o first c.args.lane.now c.args.blocks.now c.args.pending.now c.args.names front c.args.values.now.items a c.write_reserved.new.lane c.args.said.now c.args.range.0 c.id_of.result c.id_of.ensures c.args.range.1 c.args.range.2.now c.requires.is_said
     (e.done o a.view a.works a.pending) (e.listed o a.view a.works a.pending) level locks
 
 pub returns-in-Ok-clause-letters : goal.returns-in-Ok-clause-letters
@@ -29,7 +29,7 @@ returns-in-Err-clause-done c =
         let level = ap (λ (l : Lane Solo). l.level) kept ∙ a.level in
         let locks = ap (λ (l : Lane Solo). l.locks) kept in
         subst (λ (vs : Values). IsAtLine o first c.write_reserved.new.lane c.args.blocks.now c.args.pending.now c.args.names (front ++ c.args.said.now ∷ []) vs) (sym given)
-        (put_refused o first c.args.lane.now c.args.blocks.now c.args.pending.now c.args.names front c.args.values.now.items a c.write_reserved.new.lane c.args.said.now c.in.id c.id_of.result c.id_of.ensures c.in.off c.in.bytes.now c.requires.is_said
+        (put_refused o first c.args.lane.now c.args.blocks.now c.args.pending.now c.args.names front c.args.values.now.items a c.write_reserved.new.lane c.args.said.now c.args.range.0 c.id_of.result c.id_of.ensures c.args.range.1 c.args.range.2.now c.requires.is_said
         c.in-Err.why (e.refuses none goes o a.view a.works a.pending) level locks))
 
 pub returns-in-Err-clause-ends : goal.returns-in-Err-clause-ends
@@ -39,7 +39,7 @@ returns-in-Err-clause-ends c =
         let e = c.in-Err.ensures in
         let none = unrefused c.args.lane.now a.works.work.unstopped a.level a.works.work.works in
         subst (λ (vs : Values). IsCut o first c.write_reserved.new.lane c.args.names (front ++ c.args.said.now ∷ rest) vs) (sym same)
-        (put_cut o first c.args.lane.now c.args.blocks.now c.args.pending.now c.args.names front c.args.values.now.items a c.write_reserved.new.lane c.args.said.now c.in.id c.id_of.result c.id_of.ensures c.in.off c.in.bytes.now c.requires.is_said
+        (put_cut o first c.args.lane.now c.args.blocks.now c.args.pending.now c.args.names front c.args.values.now.items a c.write_reserved.new.lane c.args.said.now c.args.range.0 c.id_of.result c.id_of.ensures c.args.range.1 c.args.range.2.now c.requires.is_said
         rest (e.stopped_inside none stops o a.view a.works a.pending) (e.stopped none stops o a.view a.works a.pending)))
 
 pub returns-in-Err-clause-letters : goal.returns-in-Err-clause-letters

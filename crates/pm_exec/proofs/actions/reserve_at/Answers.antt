@@ -1,5 +1,6 @@
 use Rattle.std.proofs.Common.{◌≡◌, ◌++◌, ◌∷◌, [], ap, sym, ◌∙◌, subst, rules}
 use Rattle.pm_memory.specs.Solo.{Solo}
+use Rattle.pm_objects.specs.declared.history.Value.TheVariants.{Refused}
 use Rattle.pm_pending.specs.declared.pending.PendingActions.{PendingActions}
 use Rattle.pm_world.specs.declared.lane.Lane.{Lane}
 use Rattle.pm_exec.specs.Letters.{KeepsLetters}
@@ -50,7 +51,7 @@ returns-in-Err-clause-done c =
         let level = ap (λ (l : Lane Solo). l.level) kept ∙ a.level in
         let locks = ap (λ (l : Lane Solo). l.locks) kept in
         subst (λ (vs : Values). IsAtLine o first new blocks c.reserve.new.pending names (front ++ c.args.said.now ∷ []) vs) (sym given)
-        (subst (λ (p : PendingActions). IsAtLine o first new blocks p names (front ++ c.args.said.now ∷ []) _) (sym e.unchanged)
+        (subst (λ (p : PendingActions). IsAtLine o first new blocks p names (front ++ c.args.said.now ∷ []) (c.args.values.now.items ++ (c.args.said.now.line, Refused c.in-Err.why) ∷ [])) (sym e.unchanged)
         (reserve_refused o first old blocks pending names front c.args.values.now.items a new c.args.said.now letter c.args.size c.args.kind is c.in-Err.why (e.refuses none goes o a.view may a.pending) level locks)))
 
 pub returns-in-Err-clause-ends : goal.returns-in-Err-clause-ends
