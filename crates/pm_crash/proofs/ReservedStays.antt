@@ -309,12 +309,11 @@ left_pending v next rests =
     ∙ ap (pending_from none_pending) rests.entries
     ∙ calls_further none_pending v.entries (record { number = rests.number; call = v.call })
 
--- so what stood stands in another view of no open call, where the lane knows its words, of which none changed, and no lock there is of a block that overlaps it
-pub stands_again : (v next : View) → HasReserved v → (pending_in next).reserved ≡ (pending_in v).reserved → next.call ≡ [] → next.lanes ≡ v.lanes → next.zones ≡ v.zones → next.lane ≡ v.lane
+-- so what stood stands in another view whose call made and freed nothing, where the lane knows its words, of which none changed, and no lock there is of a block that overlaps it
+pub stands_again : (v next : View) → HasReserved v → (pending_in next).reserved ≡ (pending_in v).reserved → blocks_in next ≡ no_blocks → next.lanes ≡ v.lanes → next.zones ≡ v.zones → next.lane ≡ v.lane
     → ((r : Reservation) (i : ℕ) → Contains (pending_in v).reserved r → ReadsBlock (slice_index v.words) (block_reserved r) i → Contains next.known i)
     → ((r : Reservation) → Contains (pending_in v).reserved r → SameNew v next (reserved_object r)) → ReservedLieApart next → HasReserved next
-stands_again v next has same call lanes zones lane known words apart =
-    let none : blocks_in next ≡ no_blocks = nothing_made next call in
+stands_again v next has same none lanes zones lane known words apart =
     let before : (r : Reservation) → Contains (pending_in next).reserved r → Contains (pending_in v).reserved r = λ r there. subst (λ (rs : List Reservation). Contains rs r) same there in
     record {
       each = λ r there. stands_so v next r lanes zones lane (λ i reads. known r i (before r there) reads) (words r (before r there)) (has.each r (before r there));
@@ -328,5 +327,5 @@ stands_again v next has same call lanes zones lane known words apart =
 pub rest_stays : (v next : View) → HasReserved v → RestsBehind v next → HasReserved next
 rest_stays v next has rests =
     let same : (pending_in next).reserved ≡ (pending_in v).reserved = ap (λ (p : Pending). p.reserved) (left_pending v next rests) in
-    stands_again v next has same rests.call rests.lanes rests.zones rests.lane rests.known (λ r there i reads. rests.words r i there reads)
+    stands_again v next has same (nothing_made next rests.call) rests.lanes rests.zones rests.lane rests.known (λ r there i reads. rests.words r i there reads)
     (λ r l lines there held is. has.apart_found r l lines (subst (λ (rs : List Reservation). Contains rs r) same there) (rests.locks l held) is)

@@ -14,7 +14,7 @@ use Rattle.pm_view.specs.Held.{is_held, is_reserved, is_under}
 use Rattle.pm_view.specs.Steps.{Step}
 use Rattle.pm_view.specs.Steps.Step.{Load, Store, Or, And, Flush, Drain, TakeWrite, TakeRead, Raise, Give, ZoneTry, ZoneGive, Occupied, Occupy, Vacate, Draw, NumberSeen, StopSeen, SetStop, Tell}
 use Rattle.pm_view.specs.View.{Lock, View}
-use Rattle.pm_view.specs.Views.{after, after_all, has_bit, occupied_word, reserves, vacated_word, with_occ, without_taken, exchanged}
+use Rattle.pm_view.specs.Views.{after, after_all, reserves}
 use Rattle.pm_world.specs.Lawful.{Allowed}
 use Rattle.pm_world.specs.Sequences.{counted, in_turn, nothing, one}
 use Rattle.pm_world.specs.declared.lane.HeldLock.{HeldLock}

@@ -71,3 +71,5 @@ pub mod StandsUnpublished
 pub mod StandsBehindCommit
 pub mod KeptBehindEnd
 pub mod RestsBehindEnd
+pub mod StandsBehindBegin
+pub mod StandsRefused

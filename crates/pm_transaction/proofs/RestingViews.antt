@@ -1,5 +1,5 @@
 -- What a lane has reserved where its call is over: its view as the next call begins, and that what stood as the call was told stands there, in blocks that the lane reserved.
-use Rattle.std.proofs.Common.{◌≡◌, ⊎_elim, inl, inr, ℕ, ◌+◌, ◌*◌, ◌<◌, ◌||◌, Bool, true, false, cond, All, Contains, List, [], ◌∷◌, ◌++◌, map, set, slice_index, refl, sym, ap, ◌∙◌, subst, arith}
+use Rattle.std.proofs.Common.{◌≡◌, ⊎_elim, inl, inr, ℕ, ◌+◌, ◌*◌, ◌<◌, ◌||◌, Bool, true, false, cond, All, Contains, List, [], ◌∷◌, ◌++◌, length, map, set, slice_index, refl, sym, ap, ◌∙◌, subst, arith}
 use Rattle.std.specs.List.{list_any}
 use Rattle.std.proofs.lemmas.Bool.{cond-false, false≢true, or_right}
 use Rattle.std.proofs.lemmas.List.{set-get_or}
@@ -13,10 +13,11 @@ use Rattle.pm_view.specs.declared.occ.Occ.TheVariants.{Zone}
 use Rattle.pm_view.specs.Area.{area_word, is_in_area}
 use Rattle.pm_view.specs.Blocks.{allocation_word, block_at, is_word}
 use Rattle.pm_view.specs.Held.{is_held, is_reserved, is_under}
-use Rattle.pm_view.specs.Log.{Log, no_log}
-use Rattle.pm_view.specs.Log.Phase.{Idle, Open}
+use Rattle.pm_view.specs.Log.{Log, Phase}
+use Rattle.pm_view.specs.Log.Phase.{Idle}
+use Rattle.pm_view.specs.Steps.Step.{Load, NumberSeen}
 use Rattle.pm_view.specs.View.{Lock, View}
-use Rattle.pm_view.specs.Views.{reserves, with_block}
+use Rattle.pm_view.specs.Views.{after, begun, reserves, with_block, with_seen}
 use Rattle.pm_undo.proofs.Areas.{area_tells_nothing, generation_in_area}
 use Rattle.pm_lock.specs.Resting.{IsFresh}
 use Rattle.pm_crash.specs.CallBlocks.{IsMadeIn, NewObject, block_of, reserved_object}
@@ -69,38 +70,20 @@ module _ (v : View) (inside : v.lane < v.lanes) where
   abbrev with_log : Log → View
   with_log log = record v { log = log }
 
-  abbrev next_with : View → View → List ℕ → View
-  next_with u x words = record x { words = words; locks = u.locks }
+  abbrev looked : View
+  looked = after v (Load g (slice_index v.words g))
 
-  next_of_idle : v.log ≡ no_log Idle → NextOf v (with_next_call v)
-  next_of_idle log_is = subst (NextOf v) (ap (λ (log : Log). with_next_call (with_log log)) (sym log_is)) (record {
-    lanes = refl;
-    zones = refl;
-    lane = refl;
-    words = words_same;
-    locks = locks_same v.locks;
-    reserved = refl;
-    entries = refl;
-    call = refl;
-    known = refl;
-  })
+  -- wherever nothing of the call is told
+  pub next_of_untold : (with_next_call v).call ≡ [] → NextOf v (with_next_call v)
+  next_of_untold = by v.log.phase where
+    by : (phase : Phase) → (with_seen (NumberSeen (length v.entries)) (begun phase looked)).call ≡ [] → NextOf v (with_seen (NumberSeen (length v.entries)) (begun phase looked))
+    by Idle untold = record { lanes = refl; zones = refl; lane = refl; words = words_same; locks = locks_same v.locks; reserved = refl; entries = refl; call = untold; known = refl }
+    by phase untold = record { lanes = refl; zones = refl; lane = refl; words = words_same; locks = locks_same v.locks; reserved = refl; entries = refl; call = untold; known = refl }
 
-  next_of_open : v.log ≡ no_log (Open [] []) → v.call ≡ [] → NextOf v (with_next_call v)
-  next_of_open log_is untold = subst (NextOf v) (ap (λ (log : Log). with_next_call (with_log log)) (sym log_is)) (record {
-    lanes = refl;
-    zones = refl;
-    lane = refl;
-    words = words_same;
-    locks = locks_same v.locks;
-    reserved = refl;
-    entries = refl;
-    call = untold;
-    known = refl;
-  })
-
+  -- no call was open, or one in which nothing was done
   pub next_of : IsFresh v → NextOf v (with_next_call v)
-  next_of (inl idle) = next_of_idle idle
-  next_of (inr open_call) = next_of_open open_call.0 open_call.2
+  next_of (inl idle) = next_of_untold (ap (λ (log : Log). (with_next_call (with_log log)).call) idle)
+  next_of (inr open_call) = next_of_untold (ap (λ (log : Log). (with_next_call (with_log log)).call) open_call.0 ∙ open_call.2)
 
 -- of what it knows then, but for its own area, it knew each word before
 known_before : (v : View) (i : ℕ) → is_in_area v.lane i ≡ false → Contains (known_then v) i → Contains v.known i

@@ -1,5 +1,5 @@
 -- A lane alone rests behind its transaction with what it has reserved and pending: that stood as its call was over, and the lane kept its blocks as it gave the others back.
-use Rattle.std.proofs.Common.{◌≡◌, inl, inr, ℕ, ◌+◌, ◌*◌, ◌<◌, true, All, Contains, List, [], ◌∷◌, ◌++◌, length, map, slice_index, refl, sym, ap, ◌∙◌, subst, arith}
+use Rattle.std.proofs.Common.{◌≡◌, inl, inr, ℕ, ◌+◌, ◌*◌, ◌<◌, true, All, Contains, List, [], length, map, slice_index, refl, sym, ap, ◌∙◌, subst, arith}
 use Rattle.std.proofs.lemmas.List.Elements.{All-contains, All-map, All-weaker}
 use Rattle.pm_header.specs.declared.header.Header.{Header}
 use Rattle.pm_image.proofs.Members.{no_member}
@@ -14,11 +14,10 @@ use Rattle.pm_view.specs.declared.occ.Occ.{Occ}
 use Rattle.pm_view.specs.declared.occ.Occ.TheVariants.{Run, Zone}
 use Rattle.pm_view.specs.Area.{is_in_area}
 use Rattle.pm_view.specs.Founds.{IsAlone}
-use Rattle.pm_view.specs.Held.{is_reserved}
 use Rattle.pm_view.specs.Log.{no_log}
 use Rattle.pm_view.specs.Log.Phase.{Idle}
 use Rattle.pm_view.specs.View.{Lock, View}
-use Rattle.pm_view.specs.Views.{after_all, reserves}
+use Rattle.pm_view.specs.Views.{reserves}
 use Rattle.pm_world.specs.Fits.{LaneFits}
 use Rattle.pm_world.specs.Heap.{IsOcc, heap_words}
 use Rattle.pm_world.specs.History.{Flies, settled}
@@ -37,8 +36,7 @@ use Rattle.pm_crash.proofs.AloneCourse.{StandsAlone}
 use Rattle.pm_crash.proofs.AloneMemory.{memory_of}
 use Rattle.pm_crash.proofs.Includes.{made_member}
 use Rattle.pm_crash.proofs.PendingOn.{same_before}
-use Rattle.pm_crash.proofs.ReservedStays.{stands_again}
-use Rattle.pm_lock.specs.Locking.{gives}
+use Rattle.pm_crash.proofs.ReservedStays.{nothing_made, stands_again}
 use Rattle.pm_reclaim.proofs.BlockBits.{chunks_bits, run_bits}
 use Rattle.pm_reclaim.specs.KeptBlocks.{IsBitOf, Keeps}
 use Rattle.pm_reclaim.specs.KnownTaken.{KnowsTaken}
@@ -175,7 +173,7 @@ module _ {M : Type 0} (at : M → View → Type 0) (lane : Lane M) (v : View) (l
 
   stands_then : HasReserved (with_next_call w)
   stands_then =
-      stands_again x (with_next_call w) rests.stands same_then next_w.call (next_w.lanes ∙ (lanes ∙ sym next_v.lanes)) (next_w.zones ∙ (zones ∙ sym next_v.zones)) (next_w.lane ∙ (own_lane ∙ sym next_v.lane)) knows (λ r there i reads. same_word i)
+      stands_again x (with_next_call w) rests.stands same_then (nothing_made (with_next_call w) next_w.call) (next_w.lanes ∙ (lanes ∙ sym next_v.lanes)) (next_w.zones ∙ (zones ∙ sym next_v.zones)) (next_w.lane ∙ (own_lane ∙ sym next_v.lane)) knows (λ r there i reads. same_word i)
       (λ r l lines there held is. absurd (no_member l (subst (λ (ls : List Lock). Contains ls l) (next_w.locks ∙ ended.rests.free) held)))
 
   pub ended_stands : StandsAtRest w

@@ -8,8 +8,8 @@
 //! new ones, on `pm_made` for the lists of what was made and freed, and on `pm_crash` for what a call comes to; docs/MODEL.md, "Transactions that make objects".
 //!
 //! Its laws say, of a lane that works alone, that it may make an object wherever it is at work, that such a transaction may be committed with the redo entries of its
-//! blocks, that its call has ended then, what a power failure leaves of it on the way, and that the lane begins again behind the transaction's end; and that an object
-//! is made by few stores, which keep what its call found. They stand on `pm_epoch`; docs/MODEL.md, "From call to call".
+//! blocks, that its call has ended then, what a power failure leaves of it on the way, and that the lane begins again behind the transaction's end; that an object
+//! is made by few stores, which keep what its call found; and that what the lane has reserved and pending stands behind the transaction, with which the lane rests. They stand on `pm_epoch`; docs/MODEL.md, "From call to call".
 #![tactic(auto)]
 
 mod alloc_laws;
