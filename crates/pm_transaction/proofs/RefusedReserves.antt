@@ -76,6 +76,20 @@ module _ {M : Type 0} (o : Opening) (at : M → View → Type 0) (lane next : La
 
 -- ---- where no block is free
 
+-- a search that found none keeps the lists, and what is reserved
+module _ {M : Type 0} (o : Opening) (at : M → View → Type 0) (lane : Lane M) (blocks : BlockLists) (v : View) (may : MayAllocate o at lane blocks v) (new : View → Type 0) (Q : View → Type 0) (searched : HasSearched new v [] Q) where
+  abbrev found : View
+  found = searched.view
+
+  pub search_keeps : Keeps lane.locks.items blocks found
+  search_keeps =
+      let s = still o at lane blocks v may new Q searched in
+      let words = same_word o at lane blocks v may new Q searched in
+      let quietly : TellsNothing v found = record { keeps = record { lanes = s.lanes; zones = s.zones; pool = s.pool; lane = s.lane; entries = s.entries; known = s.known }; locks = s.locks; call = s.call } in
+      let known : KeepsKnown v found = record { known = λ i outside there. words i; recorded = λ i outside there. words i } in
+      keeps_quiet v found (heads o at lane blocks v may new Q searched) lane.locks.items blocks (kept_of o at lane blocks v may.works) s.same_lane.table searched.zones
+      (same_blocks v found s.entries s.call) s.entries s.call (quietly_stays v found may.works.has_reserved quietly known)
+
 module _ {M : Type 0} (o : Opening) (at : M → View → Type 0) (lane mid : Lane M) (blocks : BlockLists) (v : View) (may : MayAllocate o at lane blocks v) (size kind : ℕ) (why : Refusal)
     (same : mid ≡ record lane { memory = mid.memory }) (none : HasNoRoom (at mid.memory) v (class_of size) (no_block.Refused why)) where
   is_no_space : why ≡ refusal.NoSpace
@@ -93,19 +107,10 @@ module _ {M : Type 0} (o : Opening) (at : M → View → Type 0) (lane mid : Lan
   fields : HasSameFields lane mid
   fields = fields_same lane mid (same ∙ ap (λ records. record lane { memory = mid.memory; records = records }) (sym (ap (λ (l : Lane M). l.records) same)))
 
-  keeps_searched : Keeps lane.locks.items blocks x
-  keeps_searched =
-      let s = still o at lane blocks v may (at mid.memory) searched.0 searched.1 in
-      let words = same_word o at lane blocks v may (at mid.memory) searched.0 searched.1 in
-      let quietly : TellsNothing v x = record { keeps = record { lanes = s.lanes; zones = s.zones; pool = s.pool; lane = s.lane; entries = s.entries; known = s.known }; locks = s.locks; call = s.call } in
-      let known : KeepsKnown v x = record { known = λ i outside there. words i; recorded = λ i outside there. words i } in
-      keeps_quiet v x (heads o at lane blocks v may (at mid.memory) searched.0 searched.1) lane.locks.items blocks (kept_of o at lane blocks v may.works) s.same_lane.table searched.1.zones
-      (same_blocks v x s.entries s.call) s.entries s.call (quietly_stays v x may.works.has_reserved quietly known)
-
   pub works_searched : IsAtWorkWith o at mid blocks x
   works_searched =
       with_lists o at mid blocks x (works_behind o at lane blocks v may (at mid.memory) searched.0 searched.1 mid fields (ap (λ (l : Lane M). l.records) same) searched.1.there)
-      (subst (λ (ls : List HeldLock). Keeps ls blocks x) (sym (ap (λ ls. ls.items) fields.locks)) keeps_searched)
+      (subst (λ (ls : List HeldLock). Keeps ls blocks x) (sym (ap (λ ls. ls.items) fields.locks)) (search_keeps o at lane blocks v may (at mid.memory) searched.0 searched.1))
 
   pub no_space_refused : 1 ≤ size → size ≤ 262080 → pending_count (pending_in v) < max_actions → (next : Lane M) → next ≡ record mid { memory = next.memory }
       → ((w : View) → at mid.memory w → at next.memory (after w (Tell (Reserve size kind) (Some (Refused why))))) → HasRefusedReserve o at next blocks v size kind why

@@ -43,6 +43,11 @@ use Rattle.pm_world.specs.Records.{is_recorded}
 use Rattle.pm_tx.specs.Sequences.{ends_call, gives_up, takes_back}
 use Rattle.pm_transaction.proofs.GoingWith.{Keeps, kept_of, lies_still, looks_keep}
 use Rattle.pm_transaction.proofs.RestingViews.{LeavesStanding, left_rests}
+use Rattle.pm_layout.specs.Sizes.{class_of}
+use Rattle.pm_objects.specs.declared.refusal.Refusal.TheVariants as refusal
+use Rattle.pm_transaction.proofs.RefusedAllocs.{search_of}
+use Rattle.pm_transaction.proofs.RefusedReserves.{search_keeps}
+use Rattle.pm_transaction.specs.Allocating.{CameToRefuse, MayAllocate}
 use Rattle.pm_transaction.specs.AtWork.{IsAtWorkWith, LiesInReserved}
 use Rattle.pm_transaction.specs.Resting.{StandsAtRest}
 
@@ -120,6 +125,14 @@ pub looked_may : {M : Type 0} (o : Opening) (at : M → View → Type 0) (lane :
 looked_may o at lane blocks n v u is looks log lanes locks working =
     let keeps : Keeps lane.locks.items blocks u = looks_keep lane.locks.items blocks n v u looks (kept_of o at lane blocks v is) in
     still_may v u (at_work_may o at lane blocks v is) log lanes locks working keeps.has_reserved keeps.reserved_within
+
+pub came_may : {M : Type 0} (o : Opening) (at : M → View → Type 0) (lane : Lane M) (blocks : BlockLists) (v : View) → MayAllocate o at lane blocks v → (size : ℕ) (r : Refusal) (u : View) → CameToRefuse v size r u → u.log ≡ v.log → u.lanes ≡ v.lanes → u.locks ≡ v.locks
+    → IsWorking u → MayLeaveStanding u
+came_may o at lane blocks v may size refusal.NoSpace u none log lanes locks working =
+    let found = search_of (λ (x : View). x ≡ u) v (class_of size) none in
+    let keeps : Keeps lane.locks.items blocks u = subst (Keeps lane.locks.items blocks) found.1.there (search_keeps o at lane blocks v may (λ (x : View). x ≡ u) found.0 found.1) in
+    still_may v u (at_work_may o at lane blocks v may.works) log lanes locks working keeps.has_reserved keeps.reserved_within
+came_may o at lane blocks v may size r u came log lanes locks working = subst MayLeaveStanding (sym came) (at_work_may o at lane blocks v may.works)
 
 module _ (v : View) (is : MayLeaveStanding v) (spans : List Span) (spans_are : spans ≡ map span_of v.log.records) (op : Operation) (reply : Option Value) (n : ℕ) where
   abbrev mid : View
