@@ -1,5 +1,5 @@
 -- What a lane has reserved it has still behind each other operation of its call, behind its end, and as another begins.
-use Rattle.std.proofs.Common.{◌≡◌, ◌≢◌, ◌⊎◌, ⊎_elim, inl, inr, ℕ, ◌+◌, ◌-◌, ◌*◌, ◌≤◌, false, List, [], ◌∷◌, ◌++◌, length, map, slice_index, Option, Some, None, refl, sym, ◌∙◌, ap, subst, arith}
+use Rattle.std.proofs.Common.{◌≡◌, ◌≢◌, ◌⊎◌, ⊎_elim, inl, inr, ℕ, ◌+◌, ◌-◌, ◌*◌, ◌≤◌, ◌||◌, Bool, true, false, cond, List, [], ◌∷◌, ◌++◌, length, map, slice_index, Option, Some, None, refl, sym, ◌∙◌, ap, subst, arith}
 use Rattle.std.specs.Prelude.{nat_eq}
 use Rattle.std.specs.List.{Contains, IsDistinct}
 use Rattle.std.proofs.lemmas.Bool.{false_from_ne_true, false≢true}
@@ -24,6 +24,8 @@ use Rattle.pm_model.proofs.Blocks.{has_lines}
 use Rattle.pm_view.specs.Area.{is_in_area}
 use Rattle.pm_view.specs.View.{View}
 use Rattle.pm_world.specs.Records.{is_recorded}
+use Rattle.pm_model.specs.Answers.{changes_nothing}
+use Rattle.pm_model.specs.Checks.{is_action}
 use Rattle.pm_crash.specs.CallBlocks.{CallBlocks, LeavesReserved, NewObject, block_of, blocks_behind, blocks_in, blocks_told, no_blocks, reserved_object}
 use Rattle.pm_crash.specs.HeapChanges.{AreDisjoint}
 use Rattle.pm_crash.specs.OnActions.{ChangesPending, IsPendingAnswer}
@@ -240,12 +242,22 @@ given_up_stays v next op reply has under tells back leaves none =
 refused_pending : (op : Operation) (r : Refusal) (p : Pending) → pending_behind op (Some (Refused r)) p ≡ p
 refused_pending op r p = refl
 
--- so it stays where that gives up the call
-pub refusal_stays : (v next : View) (op : Operation) (r : Refusal) → HasReserved v → RecordsUnder v → Tells v next op (Some (Refused r)) → TakesBack v next → blocks_behind op (Some (Refused r)) (pending_in v) (blocks_in v) ≡ no_blocks → HasReserved next
-refusal_stays v next op r has under tells back none =
-    let same : (pending_in next).reserved ≡ (pending_in v).reserved =
-    ap (λ (p : Pending). p.reserved) (pending_once_more v next op (Some (Refused r)) tells.keeps.entries tells.call ∙ refused_pending op r (pending_in v)) in
-    given_up_so v next has tells.keeps under back (blocks_once_more v next op (Some (Refused r)) tells.keeps.entries tells.call ∙ none) (inl same) (still_apart v next tells.locks has (inl same))
+-- so it stays, whether that gives up the call or leaves what it made and freed
+pub refusal_stays : (v next : View) (op : Operation) (r : Refusal) → HasReserved v → RecordsUnder v → Tells v next op (Some (Refused r)) → TakesBack v next → HasReserved next
+refusal_stays v next op r has under tells back = by (is_action op || changes_nothing r) (blocks_once_more v next op (Some (Refused r)) tells.keeps.entries tells.call) where
+  same : (pending_in next).reserved ≡ (pending_in v).reserved
+  same = ap (λ (p : Pending). p.reserved) (pending_once_more v next op (Some (Refused r)) tells.keeps.entries tells.call ∙ refused_pending op r (pending_in v))
+
+  by : (b : Bool) → blocks_in next ≡ cond b (blocks_in v) no_blocks → HasReserved next
+  by false none = given_up_so v next has tells.keeps under back none (inl same) (still_apart v next tells.locks has (inl same))
+  by true kept = reserved_stays v next has (record {
+    lane = tells.keeps;
+    reserved = same;
+    words = word_stays v next has tells.keeps under back;
+    made = λ r m there new. has.apart_made r m there (subst (λ (b : CallBlocks). Contains (news_in b) m) kept new);
+    found = same_apart v next tells.locks has;
+    unfreed = λ r there. ap (λ (b : CallBlocks). is_among b.freed r.off) kept ∙ has.unfreed r there;
+  })
 
 -- a level that is refused gives up the call, and may have taken locks
 refused_keeps_none : (v : View) (level : ℕ) (before : List Locked) (wants : List Want) (r : Refusal) (p : Pending) (b : CallBlocks) → IsBeginReason v level before wants r → blocks_behind (Begin wants) (Some (Refused r)) p b ≡ no_blocks

@@ -162,7 +162,7 @@ module _ (o : Opening) (first : View) (lane : Lane Solo) (blocks : BlockLists) (
 
   -- the telling is all that was done
   pub stays : GoesTo v v
-  stays = record { led = led_none v; words = refl; call = refl; number = refl; entries = refl; log = refl }
+  stays = record { led = led_none v; words = refl; call = refl; number = refl; entries = refl; log = refl; locks = refl }
 
   pub tells_freely : (asks : Operation) (reply : Option Value) → IsFree v (after v (Tell asks reply))
   tells_freely asks reply = record { led = tell_led asks reply v may; undrawn = refl }

@@ -39,6 +39,7 @@ use Rattle.pm_transaction.proofs.EndingAlone.{may_allocate}
 use Rattle.pm_transaction.proofs.MadeBySteps.{object_makes}
 use Rattle.pm_transaction.proofs.NoRoomFound.{finds_no_room}
 use Rattle.pm_transaction.proofs.RefusedAllocs.{search_of}
+use Rattle.pm_transaction.proofs.StandsGivenUp.{came_may}
 use Rattle.pm_transaction.proofs.StopsMaking.{stops_making}
 use Rattle.pm_transaction.specs.Allocating.{CameToRefuse, HasAllocated, IsAllocGivenUp, IsAllocStopped, IsStoppedMaking, MayAllocate}
 use Rattle.pm_transaction.specs.MakingSteps.{FindsNoRoom, MakesByFew, StopsMaking}
@@ -264,13 +265,13 @@ module _ (o : Opening) (first : View) (lane : Lane Solo) (blocks : BlockLists) (
       let found = search_of (λ u. u ≡ w) a.view (class_of size) none in
       let s = found.1 in
       let left = left_by_search a.view s.view s.steps s.searches may_make.can.run.alone may_make.can.run.locked in (
-        record { led = f.led; words = f.words; call = f.call; number = f.number; entries = f.entries; log = f.log },
+        record { led = f.led; words = f.words; call = f.call; number = f.number; entries = f.entries; log = f.log; locks = f.locks },
         subst IsWorking s.there (works_still a.view s.view s.kept left a.works.work.working),
       )
 
   pub went : (size : ℕ) (r : Refusal) (w : View) → CameToRefuse a.view size r w → GoesTo a.view w × IsWorking w
   went size refusal.NoSpace w none = unroomed size w none
-  went size r w came = subst (λ (u : View). GoesTo a.view u × IsWorking u) (sym came) (record { led = led_none a.view; words = refl; call = refl; number = refl; entries = refl; log = refl }, a.works.work.working)
+  went size r w came = subst (λ (u : View). GoesTo a.view u × IsWorking u) (sym came) (record { led = led_none a.view; words = refl; call = refl; number = refl; entries = refl; log = refl; locks = refl }, a.works.work.working)
 
   -- ---- an object is allocated
 
@@ -308,7 +309,8 @@ module _ (o : Opening) (first : View) (lane : Lane Solo) (blocks : BlockLists) (
         → (rest : List ScriptLine) → IsGivenUpAt o first new blocks actions names (front ++ said ∷ rest) values said.line r
     make_given_up r g fields rest =
         let t = went size r g.view g.came in
-        over_there o first lane blocks actions names front values a g.view t.0 new said t.1 r (subst (λ (y : Operation). CameToGiveUp y r a.view g.view) make_is g.came)
+        let same = same_along a.view g.view t.0.led.steps t.0.led.leads in
+        over_there o first lane blocks actions names front values a g.view t.0 new said t.1 (came_may o Sees lane blocks a.view may_make size r g.view g.came t.0.log same.lanes t.0.locks t.1) r (subst (λ (y : Operation). CameToGiveUp y r a.view g.view) make_is g.came)
         (subst (λ (y : Operation). IsEndedBy Sees new g.view (gives_up lane.records.items y (Some (Refused r)) new.last) y (Some (Refused r))) make_is g.ended) (ap is_action (sym make_is))
         (ap (λ (l : Lane Solo). l.level) fields ∙ a.level) (ap (λ (l : Lane Solo). l.stage) fields) (ap (λ (l : Lane Solo). l.error) fields)
         (given_up_so names said.operation r a.view (λ asked clashes. let clash = sym is ∙ clashes in cc)) rest

@@ -71,6 +71,7 @@ use Rattle.pm_exec.proofs.CommitFront.{give_up_keeps}
 use Rattle.pm_exec.proofs.HeapStill.{gives_up_heapless, heap_along}
 use Rattle.pm_exec.proofs.Links.{passed}
 use Rattle.pm_exec.proofs.QuietSequences.{quiet_in_give_up}
+use Rattle.pm_transaction.proofs.StandsGivenUp.{MayLeaveStanding, looked_may, refused_leaves_standing}
 use Rattle.pm_exec.proofs.LooksAlone.{IsSameBut, looks_go_on, looks_same}
 use Rattle.pm_exec.proofs.UndrawnSteps.{IsUndrawn, Keeps, all_undrawn_keep, first_undrawn_keep}
 use Rattle.pm_pending.specs.declared.pending.PendingActions.{PendingActions}
@@ -123,6 +124,7 @@ pub record GoesTo (v w : View) : Type 0 where
   pub number : w.number ≡ v.number
   pub entries : w.entries ≡ v.entries
   pub log : w.log ≡ v.log
+  pub locks : w.locks ≡ v.locks
 
 module _ (o : Opening) (first : View) (lane : Lane Solo) (blocks : BlockLists) (actions : PendingActions) (names : Names) (front : List ScriptLine) (values : Values) (a : IsAtLine o first lane blocks actions names front values) where
   -- once it went on so
@@ -255,9 +257,9 @@ module _ (o : Opening) (first : View) (lane : Lane Solo) (blocks : BlockLists) (
             root = here 64 (root_outside u.lane) (root_unrecorded o Sees lane a.view work);
           }) heap.zone_locks a.works.not_making
 
-      pub over_there : (r : Refusal) → CameToGiveUp (operation_of names said.operation) r a.view u → IsEndedBy Sees new u (gives_up lane.records.items (operation_of names said.operation) (Some (Refused r)) new.last) (operation_of names said.operation) (Some (Refused r)) → is_action (operation_of names said.operation) ≡ false → new.level ≡ 1 → new.stage ≡ stage.OnAbort → new.error ≡ error.Refused r
+      pub over_there : MayLeaveStanding u → (r : Refusal) → CameToGiveUp (operation_of names said.operation) r a.view u → IsEndedBy Sees new u (gives_up lane.records.items (operation_of names said.operation) (Some (Refused r)) new.last) (operation_of names said.operation) (Some (Refused r)) → is_action (operation_of names said.operation) ≡ false → new.level ≡ 1 → new.stage ≡ stage.OnAbort → new.error ≡ error.Refused r
           → ((w : View) → IsGivenUpMade names said.operation r a.view w → IsRefusalMade names said.operation r a.view w) → (rest : List ScriptLine) → IsGivenUpAt o first new blocks actions names (front ++ said ∷ rest) values said.line r
-      over_there r came e gives level at fails refusal_made rest =
+      over_there may r came e gives level at fails refusal_made rest =
           let steps : Sequence = gives_up lane.records.items (operation_of names said.operation) (Some (Refused r)) new.last in
           let w : View = after_all u (steps u) in
           let on = ended_leads Sees new u steps (operation_of names said.operation) (Some (Refused r)) e in
@@ -276,6 +278,7 @@ module _ (o : Opening) (first : View) (lane : Lane Solo) (blocks : BlockLists) (
               passed = passed o new first w all (stores_of_call names (front ++ said ∷ rest)) leads e.behind.seen.memory quiet (few_behind said rest (steps u) (given_up_few (operation_of names said.operation) (Some (Refused r)) new.last));
               behind = e.behind;
               unlocked = quiet.unlocked;
+              stands = refused_leaves_standing u may lane.records.items spans_there (operation_of names said.operation) r new.last;
               pages = (let pages = a.works.pages in let before = same_there in let after = same_along u w (steps u) on in let l = before.lanes in let z = before.zones in let lanes = after.lanes in let zones = after.zones in omega (arith, pages, l, z, lanes, zones));
               number = e.over.number;
               entries = e.entries ∙ ap (λ (es : List Numbered). es ++ numbered new.last w.call ∷ []) entries_there;
@@ -362,6 +365,7 @@ module _ (o : Opening) (first : View) (lane : Lane Solo) (blocks : BlockLists) (
           number = same.number;
           entries = same.entries;
           log = (looks_generation n a.view u looks).1;
+          locks = same.locks;
         }
 
     pub to_u : (steps : List Step) × (Leads first steps u)
@@ -478,7 +482,7 @@ module _ (o : Opening) (first : View) (lane : Lane Solo) (blocks : BlockLists) (
     module _ (new : Lane Solo) (said : ScriptLine) (working : IsWorking u) where
       pub over_ended : (r : Refusal) → CameToGiveUp (operation_of names said.operation) r a.view u → IsEndedBy Sees new u (gives_up lane.records.items (operation_of names said.operation) (Some (Refused r)) new.last) (operation_of names said.operation) (Some (Refused r)) → is_action (operation_of names said.operation) ≡ false → new.level ≡ 1 → new.stage ≡ stage.OnAbort → new.error ≡ error.Refused r
           → ((w : View) → IsGivenUpMade names said.operation r a.view w → IsRefusalMade names said.operation r a.view w) → (rest : List ScriptLine) → IsGivenUpAt o first new blocks actions names (front ++ said ∷ rest) values said.line r
-      over_ended = over_there u looks_go new said working
+      over_ended = over_there u looks_go new said working (looked_may o Sees lane blocks n a.view u a.works looks looks_go.log (same_there u looks_go).lanes same.locks working)
 
       -- or the lane stopped while it gave the call up
       pub cut_ended : (rest : List ScriptLine) (r : Refusal) → CameToGiveUp (operation_of names said.operation) r a.view u → IsStoppedIn Sees new u (gives_up lane.records.items (operation_of names said.operation) (Some (Refused r)) new.last) (operation_of names said.operation) (Some (Refused r))

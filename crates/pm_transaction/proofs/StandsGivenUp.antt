@@ -189,17 +189,17 @@ module _ (v : View) (is : MayLeaveStanding v) (spans : List Span) (spans_are : s
         before r (inr none) there = absurd (no_member r (subst (λ (rs : List Reservation). Contains rs r) none there))
 
 pub refused_leaves_standing : (v : View) (is : MayLeaveStanding v) (spans : List Span) → spans ≡ map span_of v.log.records → (op : Operation) (r : Refusal) (n : ℕ)
-    → blocks_behind op (Some (Refused r)) (pending_in v) (blocks_in v) ≡ no_blocks → StandsAtRest (after_all v (gives_up spans op (Some (Refused r)) n v))
-refused_leaves_standing v is spans are op r n none =
+    → StandsAtRest (after_all v (gives_up spans op (Some (Refused r)) n v))
+refused_leaves_standing v is spans are op r n =
     let reply : Option Value = Some (Refused r) in
     let call : Tells v (told v is spans are op reply n) op reply = tells v is spans are op reply n in
     given_up_rests v is spans are op reply n
-    (refusal_stays v (told v is spans are op reply n) op r is.has_reserved is.under call (taken_back v is spans are op reply n) none)
+    (refusal_stays v (told v is spans are op reply n) op r is.has_reserved is.under call (taken_back v is spans are op reply n))
     (λ s there. subst (λ (p : Pending). Contains p.reserved s) (pending_once_more v (told v is spans are op reply n) op reply call.keeps.entries call.call) there)
 
 pub refusal_leaves_standing : {M : Type 0} (o : Opening) (at : M → View → Type 0) (lane : Lane M) (blocks : BlockLists) (v : View) (op : Operation) (r : Refusal) (n : ℕ) → IsAtWorkWith o at lane blocks v
-    → blocks_behind op (Some (Refused r)) (pending_in v) (blocks_in v) ≡ no_blocks → StandsAtRest (after_all v (gives_up lane.records.items op (Some (Refused r)) n v))
-refusal_leaves_standing o at lane blocks v op r n is none = refused_leaves_standing v (at_work_may o at lane blocks v is) lane.records.items is.work.seen.records op r n none
+    → StandsAtRest (after_all v (gives_up lane.records.items op (Some (Refused r)) n v))
+refusal_leaves_standing o at lane blocks v op r n is = refused_leaves_standing v (at_work_may o at lane blocks v is) lane.records.items is.work.seen.records op r n
 
 pub abort_leaves_standing : {M : Type 0} (o : Opening) (at : M → View → Type 0) (lane : Lane M) (blocks : BlockLists) (v : View) (errnum n : ℕ) → IsAtWorkWith o at lane blocks v
     → StandsAtRest (after_all v (gives_up lane.records.items (Abort errnum) None n v))

@@ -57,7 +57,7 @@ pub fn what_is_reserved_stands_behind_a_transaction<M: LawfulMem>()
         → IsAtWorkWith o M.at lane blocks v → lane.level ≡ 1 → HasCommitted M.at new v (commits_with lane blocks v.lanes new.last)
         → HasOwnCounts (after_all v (commits_with lane blocks v.lanes new.last v)) → StandsAtRest (after_all v (commits_with lane blocks v.lanes new.last v)) }
     ensures given_up { (o : Opening) (v : View) (lane : Lane M) (blocks : BlockLists) (op : Operation) (r : Refusal) (n : ℕ) → IsAtWorkWith o M.at lane blocks v
-        → blocks_behind op (Some (Refused r)) (pending_in v) (blocks_in v) ≡ no_blocks → StandsAtRest (after_all v (gives_up lane.records.items op (Some (Refused r)) n v)) }
+        → StandsAtRest (after_all v (gives_up lane.records.items op (Some (Refused r)) n v)) }
     ensures aborted { (o : Opening) (v : View) (lane : Lane M) (blocks : BlockLists) (errnum n : ℕ) → IsAtWorkWith o M.at lane blocks v
         → StandsAtRest (after_all v (gives_up lane.records.items (Abort errnum) None n v)) }
 {}
