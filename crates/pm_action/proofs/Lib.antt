@@ -3,6 +3,7 @@ pub mod ToldOutside
 pub mod Started
 pub mod NextBegun
 pub mod RestingStill
+pub mod AloneStill
 pub mod BegunOn
 pub mod BeginningAlone
 pub mod PutsOutside
