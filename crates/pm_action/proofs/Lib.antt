@@ -8,6 +8,7 @@ pub mod BegunOn
 pub mod BeginningAlone
 pub mod PutsOutside
 pub mod PutSinceRest
+pub mod ReservesOutside
 pub mod Answered
 pub mod Settled
 pub mod RestingAgain

@@ -251,8 +251,3 @@ refused_put_ends at lane w is id off bytes r reason =
       no_entries = ap (λ (log : Log). log.entries) is.log;
       answer = sym reason;
     }))
-
--- the number may be drawn once the write is told
-pub put_may_draw : {M : Type 0} (at : M → View → Type 0) (lane : Lane M) (u : View) → IsBegun at lane u → (op : Operation) (n : ℕ) → Allowed (after u (Tell op None)) (Draw n)
-unfolding ends_call in_turn one Ready after_all
-put_may_draw at lane u is op n = (begun_ready at lane u is op None n).2.0

@@ -11,6 +11,7 @@ mod holding;
 mod laws;
 mod publishing;
 mod publishing_all;
+mod reserving;
 mod telling;
 
 pub use deferring::{defer_free, set_value};
@@ -18,4 +19,5 @@ pub use filling::write_reserved;
 pub use holding::hold_actions;
 pub use laws::a_lane_alone_publishes_all_at_once;
 pub use publishing::publish;
+pub use reserving::reserve;
 pub use telling::{come_to_rest, end_outside};
