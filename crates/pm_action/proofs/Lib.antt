@@ -9,6 +9,8 @@ pub mod BeginningAlone
 pub mod PutsOutside
 pub mod PutSinceRest
 pub mod ReservesOutside
+pub mod RefusesOutside
+pub mod ReservedBegun
 pub mod Answered
 pub mod Settled
 pub mod RestingAgain
