@@ -11,6 +11,7 @@ pub mod PutSinceRest
 pub mod ReservesOutside
 pub mod RefusesOutside
 pub mod ReservedBegun
+pub mod ReservedSinceRest
 pub mod Answered
 pub mod Settled
 pub mod RestingAgain

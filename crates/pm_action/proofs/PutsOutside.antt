@@ -52,7 +52,6 @@ use Rattle.pm_lock.specs.Begun.{IsBegun}
 use Rattle.pm_lock.specs.Leading.{DrawEnded}
 use Rattle.pm_lock.specs.Resting.{MayRest}
 use Rattle.pm_memory.specs.Runs.{Stops}
-use Rattle.pm_tx.proofs.ToldBegun.{begun_ready}
 use Rattle.pm_tx.specs.Ranges.{StopsUndrawn}
 use Rattle.pm_tx.specs.Sequences.{ends_call, word_count, writes}
 use Rattle.pm_transaction.proofs.FilledBytes.{HasFilled, fills_lawful}

@@ -14,13 +14,11 @@ use Rattle.pm_objects.specs.declared.refusal.Refusal.{Refusal}
 use Rattle.pm_objects.specs.declared.refusal.Refusal.TheVariants as refusal
 use Rattle.pm_undo.proofs.Begun.{tell_works}
 use Rattle.pm_undo.specs.Working.{IsWorking}
-use Rattle.pm_view.specs.declared.change.Change.{Change}
 use Rattle.pm_view.specs.Constants.{IsSameLane}
 use Rattle.pm_view.specs.Log.{Log, Phase}
 use Rattle.pm_view.specs.Steps.{Step}
 use Rattle.pm_view.specs.Steps.Step.{Draw, Tell}
 use Rattle.pm_view.specs.View.{Told, View}
-use Rattle.pm_view.specs.Views.{after}
 use Rattle.pm_view.proofs.SameLane.{same_lane}
 use Rattle.pm_world.specs.Lawful.{Allowed, MayTell}
 use Rattle.pm_world.specs.Opening.{Opening}

@@ -1,6 +1,5 @@
 -- What a reservation leaves, done or refused, of a lane that is alone and whose call had begun.
-use Rattle.std.proofs.Common.{◌≡◌, ◌⊎◌, ⊎_elim, ℕ, ◌+◌, ◌<◌, ◌≤◌, List, [], Some, refl, sym, ap, ◌∙◌, subst}
-use Rattle.std.specs.Option.{ForSome}
+use Rattle.std.proofs.Common.{◌≡◌, ◌⊎◌, ℕ, ◌+◌, ◌<◌, ◌≤◌, [], Some, refl, sym, ap, ◌∙◌, subst}
 use Rattle.pm_image.specs.declared.block.Block.{Block}
 use Rattle.pm_layout.specs.Sizes.{class_of}
 use Rattle.pm_model.specs.Actions.{Pending, max_actions, pending_count, with_reservation}
@@ -22,8 +21,7 @@ use Rattle.pm_alloc.proofs.SomeRoom.{room_then, room_there, room_view}
 use Rattle.pm_alloc.specs.NewObjects.{HasNewObject, fills_block}
 use Rattle.pm_crash.specs.Pending.{pending_in}
 use Rattle.pm_crash.specs.Reserving.{IsReserveReason}
-use Rattle.pm_epoch.specs.Allocating.{MakesObject, object_in_block}
-use Rattle.pm_epoch.specs.Reserving.{with_object_reserved}
+use Rattle.pm_epoch.specs.Allocating.{MakesObject}
 use Rattle.pm_lock.specs.Begun.{IsBegun}
 use Rattle.pm_lock.specs.Resting.{IsAtRest}
 use Rattle.pm_tx.specs.Sequences.{ends_call}
@@ -34,7 +32,7 @@ use Rattle.pm_action.proofs.BegunOn.{told_drawn, told_may_draw}
 use Rattle.pm_action.proofs.RefusesOutside.{LooksOn, begun_looked, looks_for_room, looks_not, refusal_ends, refused_rests_still}
 use Rattle.pm_action.proofs.ReservesOutside.{begun_made, made_alone, made_call, made_entries, made_pending, reserved_ends, reserved_rests_still}
 use Rattle.pm_action.specs.BegunAlone.{BeginsAlone}
-use Rattle.pm_action.specs.Reserving.{HasRefusedBegun, HasReservedBegun, refused_drawn, refused_view, reserved_drawn}
+use Rattle.pm_action.specs.Reserving.{HasRefusedBegun, HasReservedBegun, refused_drawn, reserved_drawn}
 
 -- the memory of a lane that is alone counts its calls and numbers
 abbrev pub Counts : {M : Type 0} → (M → View → Type 0) → Type 0

@@ -2,7 +2,7 @@
 use Rattle.std.specs.Prelude.{◌≡◌, ℕ, ◌∷◌, true, false, Bool, List, [], length, None, Some}
 use Rattle.pm_header.specs.declared.header.Header.{Header}
 use Rattle.pm_crash.specs.HeldHistory.{IsEndedCall}
-use Rattle.pm_crash.specs.Pending.{pending_before, pending_in}
+use Rattle.pm_crash.specs.Pending.{pending_before}
 use Rattle.pm_crash.specs.Reserving.{WritesReserved, put_refusal}
 use Rattle.pm_epoch.specs.Reserving.{IsAloneBetween, RestsWithReserved, with_next_call}
 use Rattle.pm_objects.specs.declared.calls.Operation.TheVariants.{WriteReserved}
@@ -20,7 +20,6 @@ use Rattle.pm_view.specs.Views.{after, after_all}
 use Rattle.pm_world.specs.Opening.{Opening}
 use Rattle.pm_world.specs.Sequences.{Ready}
 use Rattle.pm_world.specs.declared.lane.Lane.{Lane}
-use Rattle.pm_lock.specs.Begun.{IsBegun}
 use Rattle.pm_lock.specs.Leading.{DrawEnded, IsLed}
 use Rattle.pm_lock.specs.Resting.{IsAtRest}
 use Rattle.pm_tx.specs.Ending.{drawn_more}
