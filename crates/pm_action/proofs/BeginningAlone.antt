@@ -16,7 +16,7 @@ use Rattle.pm_tx.proofs.BeginPlanned.{started_led}
 use Rattle.pm_tx.specs.Beginning.{IsBegunBy}
 use Rattle.pm_tx.specs.Sequences.{starts}
 use Rattle.pm_action.proofs.NextBegun.{between_next, has_next_begun, starts_next, works_no_table}
-use Rattle.pm_action.specs.Filling.{BeginsAlone}
+use Rattle.pm_action.specs.BegunAlone.{BeginsAlone}
 use Rattle.pm_action.specs.Outside.{RestsAlone}
 
 module _ {M : Type 0} (at : M → View → Type 0) (old mid : Lane M) (v : View) (n : ℕ) (r : RestsAlone at old v) (started : IsBegunBy at mid v (starts n)) where

@@ -1,23 +1,27 @@
 -- A call that has begun has begun still, at a view that its lane went on to without telling, drawing or locking; and it comes to rest where no lock goes back.
-use Rattle.std.proofs.Common.{◌≡◌, ℕ, ◌/◌, ◌<◌, All, Contains, List, [], length, map, refl, sym, ap, ◌∙◌, subst, arith}
+use Rattle.std.proofs.Common.{◌≡◌, ℕ, ◌/◌, ◌<◌, All, Contains, List, [], Option, length, map, refl, sym, ap, ◌∙◌, subst, arith}
 use Rattle.std.specs.List.{IsDistinct}
 use Rattle.std.specs.Prelude.{nat_eq}
+use Rattle.pm_objects.specs.declared.calls.Operation.{Operation}
+use Rattle.pm_objects.specs.declared.history.Value.{Value}
 use Rattle.pm_view.specs.Constants.{IsSameLane}
 use Rattle.pm_view.specs.Log.{Log}
 use Rattle.pm_view.specs.Steps.{Step}
-use Rattle.pm_view.specs.Steps.Step.{NumberSeen}
+use Rattle.pm_view.specs.Steps.Step.{Draw, NumberSeen, Tell}
 use Rattle.pm_view.specs.View.{Lock, View}
-use Rattle.pm_view.specs.Views.{after_all}
+use Rattle.pm_view.specs.Views.{after, after_all}
 use Rattle.pm_world.specs.Lanes.{last_number_of, span_of}
-use Rattle.pm_world.specs.Lawful.{generation_limit}
+use Rattle.pm_world.specs.Lawful.{Allowed, generation_limit}
 use Rattle.pm_world.specs.Records.{generation_of}
-use Rattle.pm_world.specs.Sequences.{counted, nothing}
+use Rattle.pm_world.specs.Sequences.{Ready, counted, in_turn, nothing, one}
 use Rattle.pm_world.specs.declared.lane.HeldLock.{HeldLock}
 use Rattle.pm_world.specs.declared.lane.Lane.{Lane}
 use Rattle.pm_lock.specs.Begun.{IsBegun}
 use Rattle.pm_lock.specs.Locking.{gives}
 use Rattle.pm_lock.specs.Resting.{IsAtRest, MayRest}
+use Rattle.pm_tx.proofs.ToldBegun.{begun_ready}
 use Rattle.pm_tx.specs.Ending.{IsClosedBy}
+use Rattle.pm_tx.specs.Sequences.{ends_call}
 
 -- no lock is given back
 give_none : (v : View) → after_all v (gives [] v) ≡ v
@@ -71,3 +75,15 @@ begun_on at lane v w is goes rests memory there =
         once = subst (λ (locks : List Lock). IsDistinct nat_eq (map (λ (l : Lock). l.line) locks)) (sym goes.locks) is.lines.once;
       };
     }
+
+-- ---- its number
+
+-- the number may be drawn once the operation is told
+pub told_may_draw : {M : Type 0} (at : M → View → Type 0) (lane : Lane M) (u : View) → IsBegun at lane u → (op : Operation) (reply : Option Value) (n : ℕ) → Allowed (after u (Tell op reply)) (Draw n)
+unfolding ends_call in_turn one Ready after_all
+told_may_draw at lane u is op reply n = (begun_ready at lane u is op reply n).2.0
+
+-- the view behind both
+pub told_drawn : (u : View) (op : Operation) (reply : Option Value) (n : ℕ) → after_all u (ends_call op reply n u) ≡ after (after u (Tell op reply)) (Draw n)
+unfolding ends_call in_turn one after_all
+told_drawn u op reply n = refl

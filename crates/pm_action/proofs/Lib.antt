@@ -3,10 +3,15 @@ pub mod ToldOutside
 pub mod Started
 pub mod NextBegun
 pub mod RestingStill
+pub mod AloneStill
 pub mod BegunOn
 pub mod BeginningAlone
 pub mod PutsOutside
 pub mod PutSinceRest
+pub mod ReservesOutside
+pub mod RefusesOutside
+pub mod ReservedBegun
+pub mod ReservedSinceRest
 pub mod Answered
 pub mod Settled
 pub mod RestingAgain

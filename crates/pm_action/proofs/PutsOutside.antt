@@ -1,9 +1,8 @@
 -- A lane that is alone and whose call has begun writes a range of an object that it has reserved, and that is all of its call: an ended one, behind whose draw the lane rests with
 -- what it has reserved.
-use Rattle.std.proofs.Common.{◌≡◌, ◌≢◌, ◌⊎◌, ⊎_elim, inl, inr, ℕ, ◌+◌, ◌*◌, ◌^◌, ◌<◌, ◌≤◌, ◌&&◌, Bool, true, false, not, cond, eqb, ltb, Contains, List, [], ◌∷◌, ◌++◌, length, Option, None, Some, refl, sym, ap, ◌∙◌, subst, arith}
+use Rattle.std.proofs.Common.{◌≡◌, ◌≢◌, ◌⊎◌, ⊎_elim, inl, inr, ℕ, ◌+◌, ◌^◌, ◌<◌, ◌≤◌, ◌&&◌, Bool, true, false, not, cond, eqb, ltb, Contains, List, [], ◌∷◌, ◌++◌, length, Option, None, Some, refl, sym, ap, ◌∙◌, subst, arith}
 use Rattle.std.proofs.lemmas.Option.{none-some}
 use Rattle.std.specs.Prelude.{unwrap_or}
-use Rattle.std.specs.List.{list_any}
 use Rattle.std.proofs.lemmas.List.Elements.{All-contains}
 use Rattle.pm_header.specs.declared.header.Header.{Header}
 use Rattle.pm_image.proofs.Members.{no_member}
@@ -25,7 +24,7 @@ use Rattle.pm_view.specs.Log.{Log}
 use Rattle.pm_view.specs.Steps.{Step}
 use Rattle.pm_view.specs.Steps.Step.{Draw, Tell}
 use Rattle.pm_view.specs.View.{Lock, Told, View}
-use Rattle.pm_view.specs.Views.{after, after_all, is_of_heap}
+use Rattle.pm_view.specs.Views.{after, after_all}
 use Rattle.pm_undo.proofs.Begun.{tell_works}
 use Rattle.pm_world.proofs.Filled.{none_filled}
 use Rattle.pm_world.specs.Lanes.{IsOfShape}
@@ -34,7 +33,6 @@ use Rattle.pm_world.specs.Opening.{Opening}
 use Rattle.pm_world.specs.Sequences.{Ready, in_turn, one}
 use Rattle.pm_world.specs.declared.lane.Lane.{Lane}
 use Rattle.pm_alloc.specs.NewObjects.{CanMakeObject}
-use Rattle.pm_crash.proofs.AloneCourse.{StandsAlone}
 use Rattle.pm_crash.proofs.Includes.{made_member}
 use Rattle.pm_crash.proofs.Leading.{leads_then}
 use Rattle.pm_crash.proofs.PendingOn.{pending_once_more}
@@ -47,26 +45,21 @@ use Rattle.pm_crash.specs.Leading.{Leads}
 use Rattle.pm_crash.specs.Pending.{pending_before, pending_in}
 use Rattle.pm_crash.specs.Reserved.{IsReservedFor}
 use Rattle.pm_crash.specs.Reserving.{IsReservedOne, WritesReserved, put_refusal}
-use Rattle.pm_epoch.proofs.GainedObjects.{stood}
-use Rattle.pm_epoch.proofs.MakingAlone.{makes_alone}
 use Rattle.pm_epoch.proofs.OutsideCalls.{put_outside, puts_outside}
-use Rattle.pm_epoch.proofs.StandingPools.{own_fits}
-use Rattle.pm_epoch.specs.Epochs.{IsAtWorkAlone}
 use Rattle.pm_epoch.specs.Reserving.{IsAloneBetween, IsAloneOutside}
 use Rattle.pm_lock.proofs.Leading.{ready_leads}
 use Rattle.pm_lock.specs.Begun.{IsBegun}
 use Rattle.pm_lock.specs.Leading.{DrawEnded}
 use Rattle.pm_lock.specs.Resting.{MayRest}
 use Rattle.pm_memory.specs.Runs.{Stops}
-use Rattle.pm_tx.proofs.ToldBegun.{begun_ready}
 use Rattle.pm_tx.specs.Ranges.{StopsUndrawn}
 use Rattle.pm_tx.specs.Sequences.{ends_call, word_count, writes}
 use Rattle.pm_transaction.proofs.FilledBytes.{HasFilled, fills_lawful}
-use Rattle.pm_transaction.proofs.NotMaking.{not_making_able, not_making_still, reserves_no_run}
 use Rattle.pm_transaction.proofs.OwnRangeWords.{HasOwnRange, WorksInPool, range_is_low}
 use Rattle.pm_transaction.proofs.OwnWrites as any
 use Rattle.pm_transaction.specs.Filling.{HasReservedRange, puts_range}
 use Rattle.pm_transaction.specs.Published.{HasOwnCounts}
+use Rattle.pm_action.proofs.AloneStill.{can_still}
 use Rattle.pm_action.proofs.BegunOn.{begun_on}
 use Rattle.pm_action.proofs.RestingStill.{lies_in_reserved, rests_behind_draw}
 use Rattle.pm_action.specs.Filling.{put_drawn, put_view}
@@ -210,29 +203,12 @@ module _ (o : Opening) (header : Header) (pool : PoolView) (start : View) (steps
         heads : HasSameHeads w (after (after_all w (writes (id.off + off) bytes w)) (Tell (WriteReserved id off bytes) None))
         heads = any.heads_so w base id off bytes own op
 
-        stands : StandsAlone o header pool (after (after_all w (writes (id.off + off) bytes w)) (Tell (WriteReserved id off bytes) None))
-        stands = stood o header pool start told (steps ++ more) works_told
-
-        at_work : IsAtWorkAlone (after (after_all w (writes (id.off + off) bytes w)) (Tell (WriteReserved id off bytes) None)) shape
-        at_work =
-            let fits = own_fits o header pool told stands in
-            let lanes : told.lanes ≡ shape.lanes = has.call.lane.lanes ∙ of_shape.lanes in
-            let zones : told.zones ≡ shape.zones = has.call.lane.zones ∙ of_shape.zones in
-            let size : length told.words ≡ 512 + 1024 * shape.lanes + 33280 * shape.zones = has.call.lane.size ∙ of_shape.size in
-            let few = shape.zones_to in let count = stands.zone_count in let pages = stands.pages in
-            record {
-              alone = has.call.lane.table ∙ c.outside.can.run.alone;
-              working = tell_works filled op None has.working;
-              of_shape = record { lanes = lanes; zones = zones; size = size };
-              unlocked = has.call.zone_locks ∙ c.outside.can.run.search.unlocked;
-              plain = ap (list_any (is_of_heap told)) (ap (λ (l : Log). l.entries) has.log ∙ c.outside.no_entries);
-              zones = omega (arith, zones, few, count);
-              runs = omega (arith, pages, size, lanes, zones);
-              no_run = reserves_no_run o _ told fits.blocks fits.lane.lanes fits.lane.zones (not_making_still w told heads has.call.zone_locks (not_making_able w shape c.outside.can));
-            }
-
         can_told : CanMakeObject (after (after_all w (writes (id.off + off) bytes w)) (Tell (WriteReserved id off bytes) None)) shape
-        can_told = makes_alone o header pool start told (steps ++ more) shape works_told at_work
+        can_told =
+            let lane = has.call.lane in
+            can_still o header pool start steps w shape c told (steps ++ more) works_told heads
+            (record { lanes = lane.lanes; zones = lane.zones; pool = lane.pool; lane = lane.lane; stop = lane.stop; table = lane.table; size = lane.size }) has.call.zone_locks
+            (tell_works filled op None has.working) (ap (λ (l : Log). l.entries) has.log ∙ c.outside.no_entries)
 
         outside_told : IsAloneOutside o header pool start (steps ++ puts_range id off bytes w) (after (after_all w (writes (id.off + off) bytes w)) (Tell (WriteReserved id off bytes) None)) shape
         outside_told = put_outside o header pool start steps w shape c told (steps ++ more) works_told can_told has.call.reserved id off bytes written_told
@@ -274,8 +250,3 @@ refused_put_ends at lane w is id off bytes r reason =
       no_entries = ap (λ (log : Log). log.entries) is.log;
       answer = sym reason;
     }))
-
--- the number may be drawn once the write is told
-pub put_may_draw : {M : Type 0} (at : M → View → Type 0) (lane : Lane M) (u : View) → IsBegun at lane u → (op : Operation) (n : ℕ) → Allowed (after u (Tell op None)) (Draw n)
-unfolding ends_call in_turn one Ready after_all
-put_may_draw at lane u is op n = (begun_ready at lane u is op None n).2.0

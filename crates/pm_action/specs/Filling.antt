@@ -2,7 +2,7 @@
 use Rattle.std.specs.Prelude.{◌≡◌, ℕ, ◌∷◌, true, false, Bool, List, [], length, None, Some}
 use Rattle.pm_header.specs.declared.header.Header.{Header}
 use Rattle.pm_crash.specs.HeldHistory.{IsEndedCall}
-use Rattle.pm_crash.specs.Pending.{pending_before, pending_in}
+use Rattle.pm_crash.specs.Pending.{pending_before}
 use Rattle.pm_crash.specs.Reserving.{WritesReserved, put_refusal}
 use Rattle.pm_epoch.specs.Reserving.{IsAloneBetween, RestsWithReserved, with_next_call}
 use Rattle.pm_objects.specs.declared.calls.Operation.TheVariants.{WriteReserved}
@@ -20,28 +20,19 @@ use Rattle.pm_view.specs.Views.{after, after_all}
 use Rattle.pm_world.specs.Opening.{Opening}
 use Rattle.pm_world.specs.Sequences.{Ready}
 use Rattle.pm_world.specs.declared.lane.Lane.{Lane}
-use Rattle.pm_lock.specs.Begun.{IsBegun}
 use Rattle.pm_lock.specs.Leading.{DrawEnded, IsLed}
 use Rattle.pm_lock.specs.Resting.{IsAtRest}
 use Rattle.pm_tx.specs.Ending.{drawn_more}
 use Rattle.pm_tx.specs.Ranges.{StopsUndrawn}
 use Rattle.pm_transaction.specs.Filling.{HasReservedRange, puts_range}
+use Rattle.pm_action.specs.BegunAlone.{BeginsAlone}
 use Rattle.pm_action.specs.Outside.{IsToldAtOnce, RestsStill}
 
 -- ---- a call that has begun
 
--- the lane is alone, its call has begun with nothing told, and what it has reserved stands, in some world
-pub record BeginsAlone {M : Type 0} (at : M → View → Type 0) (lane : Lane M) (w : View) : Type 0 where
-  pub begun : IsBegun at lane w
-  pub world : (o : Opening) × (header : Header) × (pool : PoolView) × (start : View) × (steps : List Step) × IsAloneBetween o header pool start steps w lane.shape
-
 -- some view that the lane may be seen as has begun so, and the range is one of an object that is reserved
 abbrev pub MayPutOutside : {M : Type 0} → (M → View → Type 0) → Lane M → Oid → ℕ → ℕ → Type 0
 MayPutOutside at lane id off len = (w : View) × (BeginsAlone at lane w × HasReservedRange w id off len)
-
--- some view has, and lists there all that is pending
-abbrev pub BeginsWithPending : {M : Type 0} → (M → View → Type 0) → Lane M → PendingActions → Type 0
-BeginsWithPending at lane pending = (w : View) × (BeginsAlone at lane w × IsPendingAs pending (pending_in w))
 
 -- the view once the bytes are written and that is told, and once the call drew this number
 abbrev pub put_view : View → Oid → ℕ → List ℕ → View

@@ -17,7 +17,8 @@ ghost use Rattle.pm_world.specs.Tellings.{reply_of};
 ghost use Rattle.pm_lock.specs.Begun.{IsBegun, IsLaneBegun};
 ghost use Rattle.pm_lock.specs.Resting.{IsAtRest};
 ghost use Rattle.pm_transaction.specs.Filling.{HasReservedRange, puts_range};
-ghost use Rattle.pm_action.specs.Filling.{BeginsAlone, BeginsWithPending, HasPutBegun, HasPutOutside, HasRefusedPutOutside, HasStoppedPutting, IsPutCause, MayPutOutside};
+ghost use Rattle.pm_action.specs.BegunAlone.{BeginsAlone, BeginsWithPending};
+ghost use Rattle.pm_action.specs.Filling.{HasPutBegun, HasPutOutside, HasRefusedPutOutside, HasStoppedPutting, IsPutCause, MayPutOutside};
 ghost use Rattle.pm_action.specs.Outside.{IsEndedOnceTold, IsToldAtOnce, RestsAlone};
 
 use crate::telling::come_to_rest;

@@ -12,6 +12,7 @@ mod holding;
 mod laws;
 mod publishing;
 mod publishing_all;
+mod reserving;
 mod telling;
 
 pub use canceling::{cancel, finish};
@@ -20,4 +21,5 @@ pub use filling::write_reserved;
 pub use holding::hold_actions;
 pub use laws::a_lane_alone_publishes_all_at_once;
 pub use publishing::publish;
+pub use reserving::reserve;
 pub use telling::{come_to_rest, end_outside};

@@ -8,7 +8,8 @@ use Rattle.pm_world.specs.Sequences.{one}
 use Rattle.pm_tx.proofs.Telling.{is_ready, was_made, was_stopped}
 use Rattle.pm_tx.specs.Sequences.{writes}
 use Rattle.pm_transaction.specs.Filling.{puts_range}
-use Rattle.pm_action.proofs.PutsOutside.{begun_filled, put_alone, put_draws, put_drawn_is, put_ended, put_is_low, put_may_draw, put_ready, put_rests_still, put_stops, put_written, puts_first}
+use Rattle.pm_action.proofs.BegunOn.{told_may_draw}
+use Rattle.pm_action.proofs.PutsOutside.{begun_filled, put_alone, put_draws, put_drawn_is, put_ended, put_is_low, put_ready, put_rests_still, put_stops, put_written, puts_first}
 use Rattle.pm_action.specs.Filling.{put_drawn}
 use Rattle.pm_action.proofs.filling.put_or_stop.Goals as goal
 
@@ -55,7 +56,7 @@ returns-in-Ok-clause-done g c w b range =
       keeps = λ o header pool start steps between.
           put_rests_still o header pool start steps w new.shape between id off bytes range are new.last
           (g.met.M.ReservedMem.counts new.memory (put_drawn w id off bytes new.last) rests.seen.memory (put_alone o header pool start steps w new.shape between id off bytes range new.last))
-          (put_may_draw g.M.LaneMem.at _ _ begun (WriteReserved id off bytes) new.last);
+          (told_may_draw g.M.LaneMem.at _ _ begun (WriteReserved id off bytes) None new.last);
     }
 
 pub returns-in-Err-clause-stops : goal.returns-in-Err-clause-stops
