@@ -1,6 +1,10 @@
 pub mod OwnWords
 pub mod ToldOutside
 pub mod Started
+pub mod NextBegun
+pub mod RestingStill
+pub mod BegunOn
+pub mod PutsOutside
 pub mod Answered
 pub mod Settled
 pub mod RestingAgain
@@ -21,5 +25,4 @@ pub mod GivenInTurn
 pub mod SameOwn
 pub mod AloneAtRest
 pub mod FinishedAtRest
-pub mod NextBegun
 pub mod CanceledOutside

@@ -3,3 +3,4 @@ pub mod Holding
 pub mod Publishing
 pub mod PublishingAll
 pub mod Canceling
+pub mod Filling

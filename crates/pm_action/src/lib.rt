@@ -7,6 +7,7 @@
 
 mod canceling;
 mod deferring;
+mod filling;
 mod holding;
 mod laws;
 mod publishing;
@@ -15,6 +16,7 @@ mod telling;
 
 pub use canceling::{cancel, finish};
 pub use deferring::{defer_free, set_value};
+pub use filling::write_reserved;
 pub use holding::hold_actions;
 pub use laws::a_lane_alone_publishes_all_at_once;
 pub use publishing::publish;

@@ -50,8 +50,8 @@ pub fn end_begin<M: LawfulMem>(lane: &mut Lane<M>, wants: &[Want], refusal: Refu
     draw_number(lane);
 }
 
-/// Draws the open call's number.
-fn draw_number<M: LawfulMem>(lane: &mut Lane<M>)
+/// Draws the number of the open call, once what it did is told.
+pub fn draw_number<M: LawfulMem>(lane: &mut Lane<M>)
     requires may { (n : ℕ) → M.can lane.old.memory (Draw n) }
     ensures made { Made (M.at lane.old.memory) (M.at lane.new.memory) (Draw lane.new.last) }
     ensures drawn { lane.new.drawn ≡ Some lane.new.last }

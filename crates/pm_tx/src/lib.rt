@@ -36,7 +36,7 @@ pub use beginning::{begin, open_call, refuse_call};
 pub use bounds::a_call_makes_few_stores;
 pub use checking::{check_range, check_words, check_write};
 pub use committing::{commit, commit_call, commit_inner};
-pub use ending::end_call;
+pub use ending::{draw_number, end_call};
 pub use ending_level::end;
 pub use generations::{
     a_call_given_up_ends_one_generation, a_commit_ends_one_generation,

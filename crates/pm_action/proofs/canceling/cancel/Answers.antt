@@ -6,7 +6,7 @@ use Rattle.pm_tx.proofs.BeginPlanned.{no_locks}
 use Rattle.pm_world.specs.declared.lane.Lane.{Lane}
 use Rattle.pm_action.proofs.AloneAtRest.{rests_is_alone}
 use Rattle.pm_action.proofs.CanceledOutside.{canceled, may_give_up, stopped_canceling, told_rests}
-use Rattle.pm_action.proofs.NextBegun.{next_begun}
+use Rattle.pm_action.proofs.NextBegun.{has_next_begun}
 use Rattle.pm_action.proofs.RestingAgain.{fields_behind, fields_kept, memory_behind, shape_kept}
 use Rattle.pm_action.proofs.ToldOutside.{begun_unlocked}
 use Rattle.pm_action.proofs.canceling.cancel.Goals as goal
@@ -18,7 +18,7 @@ pub returns-in_err-settle_begun-clause-ends : goal.returns-in_err-settle_begun-c
 returns-in_err-settle_begun-clause-ends g c v r list_is =
     let p = err_from_is_err_and c.from_residual-in_err-settle_begun.result c.from_residual-in_err-settle_begun.ensures.1 in
     let s = c.in_ok-start.ensures.begun v r.rests in
-    let is = next_begun g.M.LaneMem.at c.start.new.lane v c.in_ok-start.field-0 (rests_is_alone g.M.LaneMem.at c.args.lane.now v r) s in
+    let is = has_next_begun g.M.LaneMem.at c.start.new.lane v c.in_ok-start.field-0 (rests_is_alone g.M.LaneMem.at c.args.lane.now v r) s in
     rw (p.1, p.2, c.in_err-settle_begun.ensures.stopped)
     (stopped_canceling g.M.LaneMem.at c.args.lane.now c.start.new.lane v r c.in_ok-start.field-0 s c.settle_begun.new.lane (c.in_err-settle_begun.ensures.stops _ is) c.in_err-settle_begun.ensures.stopped_lane)
 
@@ -40,7 +40,7 @@ give_up-requires g c =
     let start = c.start.new.lane in
     let settled = c.settle_begun.new.lane in
     let told = c.end_outside.new.lane in
-    let is = next_begun g.M.LaneMem.at start v n (rests_is_alone g.M.LaneMem.at c.args.lane.now v r) s in
+    let is = has_next_begun g.M.LaneMem.at start v n (rests_is_alone g.M.LaneMem.at c.args.lane.now v r) s in
     let begun = c.in_ok-settle_begun.ensures.begun _ is in
     let free : settled.locks.items ≡ [] = ap (λ (l : Lane g.row.M.Denot). l.locks.items) c.in_ok-settle_begun.ensures.lane ∙ no_locks g.M.LaneMem.at c.args.lane.now start v n s r.rests c.start.ensures.else_same in
     let shape : told.shape ≡ c.args.lane.now.shape = shape_kept c.args.lane.now start settled told c.start.ensures.else_same c.in_ok-settle_begun.ensures.lane c.end_outside.ensures.lane in
@@ -54,7 +54,7 @@ returns-clause-ends g c v r list_is =
     let start = c.start.new.lane in
     let settled = c.settle_begun.new.lane in
     let told = c.end_outside.new.lane in
-    let is = next_begun g.M.LaneMem.at start v n (rests_is_alone g.M.LaneMem.at c.args.lane.now v r) s in
+    let is = has_next_begun g.M.LaneMem.at start v n (rests_is_alone g.M.LaneMem.at c.args.lane.now v r) s in
     let begun = c.in_ok-settle_begun.ensures.begun _ is in
     let free : settled.locks.items ≡ [] = ap (λ (l : Lane g.row.M.Denot). l.locks.items) c.in_ok-settle_begun.ensures.lane ∙ no_locks g.M.LaneMem.at c.args.lane.now start v n s r.rests c.start.ensures.else_same in
     let shape : told.shape ≡ c.args.lane.now.shape = shape_kept c.args.lane.now start settled told c.start.ensures.else_same c.in_ok-settle_begun.ensures.lane c.end_outside.ensures.lane in
