@@ -1,11 +1,10 @@
 -- A set-value or a cancel that is told is a whole call, with the reply that it owes.
-use Rattle.std.proofs.Common.{◌≡◌, ◌≢◌, ◌⊎◌, ⊎_elim, inl, inr, ℕ, ◌%◌, Bool, true, false, not, cond, eqb, leb, List, [], ◌∷◌, ◌++◌, Option, None, Some, Result, Ok, Err, refl, sym, ap, ◌∙◌, subst}
-use Rattle.std.proofs.lemmas.Option.{none-some}
-use Rattle.std.specs.Prelude.{IfErr, option_map, unwrap_or}
+use Rattle.std.proofs.Common.{◌≡◌, ◌≢◌, ◌⊎◌, inl, inr, ℕ, Bool, false, not, List, [], ◌∷◌, ◌++◌, Option, Result, Ok, Err, refl, sym, ap, subst}
+use Rattle.std.specs.Prelude.{IfErr, option_map}
 use Rattle.pm_crash.proofs.ActionsOutside.{change_is_step}
 use Rattle.pm_crash.specs.OnActions.{IsPendingAnswer, defer_refusal, set_refusal}
 use Rattle.pm_crash.specs.Pending.{pending_before}
-use Rattle.pm_model.specs.Actions.{Pending, max_actions, pending_count}
+use Rattle.pm_model.specs.Actions.{Pending}
 use Rattle.pm_objects.specs.declared.calls.Operation.{Operation}
 use Rattle.pm_objects.specs.declared.history.Value.{Value}
 use Rattle.pm_objects.specs.declared.history.Value.TheVariants.{Refused}

@@ -60,7 +60,6 @@ use Rattle.pm_lock.specs.Resting.{HasPlace, IsAtRest, IsFresh, MayRest}
 use Rattle.pm_tx.specs.Beginning.{IsBegunBy}
 use Rattle.pm_tx.specs.Ending.{IsClosedBy, IsOver, IsStoppedIn, IsTakenBack, drawn_more, told_more}
 use Rattle.pm_tx.specs.Sequences.{ends_call, starts}
-use Rattle.pm_tx.proofs.BeginPlanned.{started_led}
 use Rattle.pm_tx.proofs.Beginnings.{settled_back, works}
 use Rattle.pm_tx.proofs.GivenUp.{end_is_last, end_is_over, end_ready, undrawn_lane}
 use Rattle.pm_tx.proofs.SettledFirst.{after_first, draws_first, ready_first, stopped_settling}
@@ -69,7 +68,7 @@ use Rattle.pm_action.specs.Outside.{RestsAlone, RestsStill}
 use Rattle.pm_action.proofs.AloneAtRest.{each_reserved, gives_all_there, lie_apart, may_give_in_turn, next_free, next_pending, rests_is_alone}
 use Rattle.pm_action.proofs.Answered.{answer_whole}
 use Rattle.pm_action.proofs.FinishedAtRest.{objects_listed, seen_given}
-use Rattle.pm_action.proofs.NextBegun.{has_next_begun, starts_next}
+use Rattle.pm_action.proofs.NextBegun.{has_next_begun, next_led, starts_next}
 use Rattle.pm_action.proofs.SameOwn.{HasSameOwn, own_ended, own_next, own_settled, own_then, reserved_so}
 use Rattle.pm_action.proofs.ToldOutside.{ending_drawn, pending_behind_one}
 
@@ -98,7 +97,7 @@ module _ {M : Type 0} (at : M → View → Type 0) (old mid : Lane M) (v : View)
   is = has_next_begun at mid v n alone started
 
   led : IsLed v w
-  led = subst (IsLed v) (starts_next v n alone started.ready) (started_led at mid mid v n started)
+  led = next_led at mid v n alone started
 
   undrawn : w.entries ≡ v.entries
   undrawn = ap (λ (u : View). u.entries) (sym (starts_next v n alone started.ready)) ∙ started.entries

@@ -4,7 +4,9 @@ pub mod Started
 pub mod NextBegun
 pub mod RestingStill
 pub mod BegunOn
+pub mod BeginningAlone
 pub mod PutsOutside
+pub mod PutSinceRest
 pub mod Answered
 pub mod Settled
 pub mod RestingAgain

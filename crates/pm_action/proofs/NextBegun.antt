@@ -24,6 +24,8 @@ use Rattle.pm_crash.proofs.StillReserved.{HasSameHeads}
 use Rattle.pm_crash.specs.Alone.{WorksAlone}
 use Rattle.pm_epoch.specs.Reserving.{IsAloneBetween, RestsWithReserved, begins_next, with_next_call}
 use Rattle.pm_lock.specs.Begun.{IsBegun}
+use Rattle.pm_tx.proofs.BeginPlanned.{started_led}
+use Rattle.pm_lock.specs.Leading.{IsLed}
 use Rattle.pm_tx.specs.Beginning.{IsBegunBy}
 use Rattle.pm_tx.specs.Sequences.{sees_generation, starts}
 
@@ -78,6 +80,9 @@ works_no_table o header pool start v steps works = alone_on_the_way start v step
 module _ {M : Type 0} (at : M → View → Type 0) (mid : Lane M) (v : View) (n : ℕ) (alone : IsAlone v) (started : IsBegunBy at mid v (starts n)) where
   pub has_next_begun : IsBegun at mid (with_next_call v)
   has_next_begun = subst (IsBegun at mid) (starts_next v n alone started.ready) started.begun
+
+  pub next_led : IsLed v (with_next_call v)
+  next_led = subst (IsLed v) (starts_next v n alone started.ready) (started_led at mid mid v n started)
 
   -- it has a generation left
   pub next_below : generation_of v < generation_limit

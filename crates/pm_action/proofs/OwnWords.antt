@@ -1,5 +1,5 @@
 -- What a lane knows of its own words it knows still behind a draw that changes no block, as its locks go back, and as a call begins.
-use Rattle.std.proofs.Common.{◌≡◌, ⊎_elim, ℕ, zero, suc, ◌||◌, Bool, true, false, cond, Contains, List, [], ◌∷◌, ◌++◌, get_or, length, Option, refl, sym, ap, ◌∙◌, subst}
+use Rattle.std.proofs.Common.{◌≡◌, ⊎_elim, ℕ, zero, suc, ◌||◌, Bool, true, false, cond, Contains, List, [], ◌∷◌, get_or, length, Option, sym, ap, ◌∙◌, subst}
 use Rattle.std.specs.List.{filter, list_any}
 use Rattle.std.proofs.lemmas.Bool.{cond-false, or_cases, or_left, or_right}
 use Rattle.std.proofs.lemmas.List.{set-get_or}

@@ -1,6 +1,6 @@
 -- A lane that is alone and whose call has begun writes a range of an object that it has reserved, and that is all of its call: an ended one, behind whose draw the lane rests with
 -- what it has reserved.
-use Rattle.std.proofs.Common.{◌≡◌, ◌≢◌, ◌⊎◌, ⊎_elim, inl, inr, ℕ, ◌+◌, ◌*◌, ◌/◌, ◌^◌, ◌<◌, ◌≤◌, ◌&&◌, Bool, true, false, not, cond, eqb, ltb, Contains, List, [], ◌∷◌, ◌++◌, length, Option, None, Some, refl, sym, ap, ◌∙◌, subst, arith}
+use Rattle.std.proofs.Common.{◌≡◌, ◌≢◌, ◌⊎◌, ⊎_elim, inl, inr, ℕ, ◌+◌, ◌*◌, ◌^◌, ◌<◌, ◌≤◌, ◌&&◌, Bool, true, false, not, cond, eqb, ltb, Contains, List, [], ◌∷◌, ◌++◌, length, Option, None, Some, refl, sym, ap, ◌∙◌, subst, arith}
 use Rattle.std.proofs.lemmas.Option.{none-some}
 use Rattle.std.specs.Prelude.{unwrap_or}
 use Rattle.std.specs.List.{list_any}
@@ -25,7 +25,7 @@ use Rattle.pm_view.specs.Log.{Log}
 use Rattle.pm_view.specs.Steps.{Step}
 use Rattle.pm_view.specs.Steps.Step.{Draw, Tell}
 use Rattle.pm_view.specs.View.{Lock, Told, View}
-use Rattle.pm_view.specs.Views.{after, after_all, changes_heap, is_of_heap}
+use Rattle.pm_view.specs.Views.{after, after_all, is_of_heap}
 use Rattle.pm_undo.proofs.Begun.{tell_works}
 use Rattle.pm_world.proofs.Filled.{none_filled}
 use Rattle.pm_world.specs.Lanes.{IsOfShape}
@@ -47,12 +47,11 @@ use Rattle.pm_crash.specs.Leading.{Leads}
 use Rattle.pm_crash.specs.Pending.{pending_before, pending_in}
 use Rattle.pm_crash.specs.Reserved.{IsReservedFor}
 use Rattle.pm_crash.specs.Reserving.{IsReservedOne, WritesReserved, put_refusal}
-use Rattle.pm_epoch.proofs.FreeChunks.{no_run_reserved}
 use Rattle.pm_epoch.proofs.GainedObjects.{stood}
 use Rattle.pm_epoch.proofs.MakingAlone.{makes_alone}
 use Rattle.pm_epoch.proofs.OutsideCalls.{put_outside, puts_outside}
 use Rattle.pm_epoch.proofs.StandingPools.{own_fits}
-use Rattle.pm_epoch.specs.Epochs.{IsAtWorkAlone, ReservesNoRun}
+use Rattle.pm_epoch.specs.Epochs.{IsAtWorkAlone}
 use Rattle.pm_epoch.specs.Reserving.{IsAloneBetween, IsAloneOutside}
 use Rattle.pm_lock.proofs.Leading.{ready_leads}
 use Rattle.pm_lock.specs.Begun.{IsBegun}

@@ -18,7 +18,6 @@ use Rattle.pm_crash.specs.Alone.{WorksAlone, standing}
 use Rattle.pm_crash.specs.CallBlocks.{NewObject, reserved_in, reserved_object}
 use Rattle.pm_crash.specs.HeldHistory.{IsEndedCall}
 use Rattle.pm_crash.specs.Leading.{Leads}
-use Rattle.pm_crash.specs.Pending.{pending_before, pending_in}
 use Rattle.pm_crash.specs.Reserved.{IsReservedFor, IsReservedInChunks, IsReservedInRun}
 use Rattle.pm_epoch.proofs.PutDescriptors.{lies_whole}
 use Rattle.pm_epoch.proofs.RestingReservations.{draws_to_begin, pending_next}

@@ -56,7 +56,7 @@ reserved_or_none Cancel reply p leaves = inr refl
 reserved_or_none op reply p leaves = inl refl
 
 -- so what is reserved is the same, or nothing is
-reserved_then : (v next : View) (op : Operation) (reply : Option Value) → next.entries ≡ v.entries → next.call ≡ v.call ++ record { operation = op; reply = reply } ∷ [] → LeavesReserved op reply (pending_in v)
+pub reserved_then : (v next : View) (op : Operation) (reply : Option Value) → next.entries ≡ v.entries → next.call ≡ v.call ++ record { operation = op; reply = reply } ∷ [] → LeavesReserved op reply (pending_in v)
     → ((pending_in next).reserved ≡ (pending_in v).reserved) ⊎ ((pending_in next).reserved ≡ [])
 reserved_then v next op reply entries call leaves =
     let now : (pending_in next).reserved ≡ (pending_behind op reply (pending_in v)).reserved = ap (λ (p : Pending). p.reserved) (pending_once_more v next op reply entries call) in
@@ -236,6 +236,17 @@ given_up_stays v next op reply has under tells back leaves none =
     let left = reserved_then v next op reply tells.keeps.entries tells.call leaves in
     given_up_so v next has tells.keeps under back (blocks_once_more v next op reply tells.keeps.entries tells.call ∙ none) left (still_apart v next tells.locks has left)
 
+-- a refusal leaves what is pending
+refused_pending : (op : Operation) (r : Refusal) (p : Pending) → pending_behind op (Some (Refused r)) p ≡ p
+refused_pending op r p = refl
+
+-- so it stays where that gives up the call
+pub refusal_stays : (v next : View) (op : Operation) (r : Refusal) → HasReserved v → RecordsUnder v → Tells v next op (Some (Refused r)) → TakesBack v next → blocks_behind op (Some (Refused r)) (pending_in v) (blocks_in v) ≡ no_blocks → HasReserved next
+refusal_stays v next op r has under tells back none =
+    let same : (pending_in next).reserved ≡ (pending_in v).reserved =
+    ap (λ (p : Pending). p.reserved) (pending_once_more v next op (Some (Refused r)) tells.keeps.entries tells.call ∙ refused_pending op r (pending_in v)) in
+    given_up_so v next has tells.keeps under back (blocks_once_more v next op (Some (Refused r)) tells.keeps.entries tells.call ∙ none) (inl same) (still_apart v next tells.locks has (inl same))
+
 -- a level that is refused gives up the call, and may have taken locks
 refused_keeps_none : (v : View) (level : ℕ) (before : List Locked) (wants : List Want) (r : Refusal) (p : Pending) (b : CallBlocks) → IsBeginReason v level before wants r → blocks_behind (Begin wants) (Some (Refused r)) p b ≡ no_blocks
 refused_keeps_none v level before wants refusal.Deep p b reason = refl
@@ -298,16 +309,24 @@ left_pending v next rests =
     ∙ ap (pending_from none_pending) rests.entries
     ∙ calls_further none_pending v.entries (record { number = rests.number; call = v.call })
 
-pub rest_stays : (v next : View) → HasReserved v → RestsBehind v next → HasReserved next
-rest_stays v next has rests =
-    let same : (pending_in next).reserved ≡ (pending_in v).reserved = ap (λ (p : Pending). p.reserved) (left_pending v next rests) in
-    let none : blocks_in next ≡ no_blocks = nothing_made next rests.call in
+-- so what stood stands in another view of no open call, where the lane knows its words, of which none changed, and no lock there is of a block that overlaps it
+pub stands_again : (v next : View) → HasReserved v → (pending_in next).reserved ≡ (pending_in v).reserved → next.call ≡ [] → next.lanes ≡ v.lanes → next.zones ≡ v.zones → next.lane ≡ v.lane
+    → ((r : Reservation) (i : ℕ) → Contains (pending_in v).reserved r → ReadsBlock (slice_index v.words) (block_reserved r) i → Contains next.known i)
+    → ((r : Reservation) → Contains (pending_in v).reserved r → SameNew v next (reserved_object r)) → ReservedLieApart next → HasReserved next
+stands_again v next has same call lanes zones lane known words apart =
+    let none : blocks_in next ≡ no_blocks = nothing_made next call in
     let before : (r : Reservation) → Contains (pending_in next).reserved r → Contains (pending_in v).reserved r = λ r there. subst (λ (rs : List Reservation). Contains rs r) same there in
     record {
-      each = λ r there. stands_so v next r rests.lanes rests.zones rests.lane (λ i reads. rests.known r i (before r there) reads) (λ i reads. rests.words r i (before r there) reads) (has.each r (before r there));
+      each = λ r there. stands_so v next r lanes zones lane (λ i reads. known r i (before r there) reads) (words r (before r there)) (has.each r (before r there));
       once = subst (λ (rs : List Reservation). IsDistinct nat_eq (map (λ (r : Reservation). r.off) rs)) (sym same) has.once;
       apart = λ r s there too differ. has.apart r s (before r there) (before s too) differ;
       apart_made = λ r m there new. absurd (no_member m (subst (λ (b : CallBlocks). Contains (news_in b) m) none new));
-      apart_found = λ r l lines there held is. has.apart_found r l lines (before r there) (rests.locks l held) is;
+      apart_found = apart;
       unfreed = λ r there. ap (λ (b : CallBlocks). is_among b.freed r.off) none;
     }
+
+pub rest_stays : (v next : View) → HasReserved v → RestsBehind v next → HasReserved next
+rest_stays v next has rests =
+    let same : (pending_in next).reserved ≡ (pending_in v).reserved = ap (λ (p : Pending). p.reserved) (left_pending v next rests) in
+    stands_again v next has same rests.call rests.lanes rests.zones rests.lane rests.known (λ r there i reads. rests.words r i there reads)
+    (λ r l lines there held is. has.apart_found r l lines (subst (λ (rs : List Reservation). Contains rs r) same there) (rests.locks l held) is)

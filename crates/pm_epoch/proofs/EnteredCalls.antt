@@ -57,7 +57,7 @@ use Rattle.pm_objects.specs.Pool.{object_at}
 
 -- ---- an action that may be performed on a pool may be by other words that hold it
 
-can_alike : (w v : ℕ → ℕ) (lanes zones : ℕ) (header : Header) (pool : PoolView) (a : Action) → HoldsPool w lanes zones header pool → HoldsPool v lanes zones header pool → CanPerform w lanes zones a → CanPerform v lanes zones a
+pub can_alike : (w v : ℕ → ℕ) (lanes zones : ℕ) (header : Header) (pool : PoolView) (a : Action) → HoldsPool w lanes zones header pool → HoldsPool v lanes zones header pool → CanPerform w lanes zones a → CanPerform v lanes zones a
 can_alike w v lanes zones header pool a holds holds_too can =
     let was : IsObjectAt w lanes zones pool.objects can.block = object_is_there w lanes zones header pool can.block holds can.is_there in
     let now : IsBlockOf v lanes zones (offset_in can.block) (object_of w lanes zones can.block) = block_is_there v lanes zones (offset_in can.block) header pool (object_of w lanes zones can.block) holds_too was.found in

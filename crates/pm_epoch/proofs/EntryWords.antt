@@ -103,7 +103,7 @@ module _ (w : ℕ → ℕ) (lanes zones : ℕ) (none : heap_fault w lanes zones 
   tells_none a (inr unseen) = unseen_tells_none a unseen
 
   -- the word lies in a chunk of some zone
-  in_zone : (a : Action) → CanPerform w lanes zones a ⊎ IsUnseen w lanes zones a → (c : ℕ) × (chunk_word lanes c ≤ (entry_for a).word) × ((entry_for a).word < 33792 + 1024 * lanes + 33280 * (c / 64))
+  pub in_zone : (a : Action) → CanPerform w lanes zones a ⊎ IsUnseen w lanes zones a → (c : ℕ) × (chunk_word lanes c ≤ (entry_for a).word) × ((entry_for a).word < 33792 + 1024 * lanes + 33280 * (c / 64))
   in_zone a (inl can) = let t = in_chunk a can in ((stands a can).chunk, t.0, t.1)
   in_zone a (inr unseen) = let at = unseen.in_chunk in let to = at.to in (at.chunk, at.from, omega (arith, to))
 

@@ -58,3 +58,4 @@ pub mod ClosedCalls
 pub mod GivenAll
 pub mod RoomSteps
 pub mod FilledStill
+pub mod ReservedAside

@@ -1,7 +1,7 @@
--- A lane that works alone and rests with no call open, and has nothing reserved that is pending, rests with that: as its next call begins it may make an object.
+-- A lane that works alone and rests with no call open, and has what is reserved and pending standing in blocks that it reserved, or nothing, rests with that: as its next call begins it may make an object.
 use Rattle.std.proofs.Common.{◌≡◌, ◌+◌, ◌*◌, ◌<◌, ◌≤◌, All, List, [], ◌++◌, length, map, slice_index, refl, sym, ap, ◌∙◌, subst, arith}
 use Rattle.std.specs.Option.{ForSome}
-use Rattle.std.proofs.lemmas.List.Elements.{All-nil}
+use Rattle.std.proofs.lemmas.List.Elements.{All-nil, All-weaker}
 use Rattle.pm_header.specs.declared.header.Header.{Header}
 use Rattle.pm_layout.specs.declared.shape.Shape.{Shape}
 use Rattle.pm_memory.specs.Solo.{AreNumbered}
@@ -27,6 +27,8 @@ use Rattle.pm_crash.proofs.AloneCourse.{StandsAlone, begins_holds}
 use Rattle.pm_crash.proofs.Leading.{leads_then}
 use Rattle.pm_crash.proofs.PendingOn.{same_before}
 use Rattle.pm_crash.proofs.ReservedOn.{none_reserved}
+use Rattle.pm_crash.proofs.StillReserved.{HasSameHeads, reserved_still}
+use Rattle.pm_crash.specs.Reserving.{HasReserved}
 use Rattle.pm_epoch.specs.Epochs.{IsAtWorkAlone, ReservesNoRun}
 use Rattle.pm_epoch.specs.Reserving.{RestsWithReserved, begins_next, with_next_call}
 use Rattle.pm_epoch.proofs.GainedObjects.{stood}
@@ -37,7 +39,7 @@ use Rattle.pm_epoch.proofs.RestingReservations.{any_root, begun_entries, none_al
 use Rattle.pm_epoch.proofs.StandingPools.{own_fits}
 
 module _ (o : Opening) (header : Header) (pool : PoolView) (start : View) (steps : List Step) (v : View) (shape : Shape) (works : WorksAlone o header pool start steps v) (idle : v.log ≡ no_log Idle) (free : v.locks ≡ [])
-    (unlocked : v.zone_locks ≡ []) (alone : IsAlone v) (of_shape : IsOfShape v shape) (no_run : ReservesNoRun v.lanes v) (none : (pending_before v).reserved ≡ []) where
+    (unlocked : v.zone_locks ≡ []) (alone : IsAlone v) (of_shape : IsOfShape v shape) (no_run : ReservesNoRun v.lanes v) where
   s : StandsAlone o header pool v
   s = stood o header pool start v steps works
 
@@ -108,30 +110,40 @@ module _ (o : Opening) (header : Header) (pool : PoolView) (start : View) (steps
   untold : x.call ≡ []
   untold = ap (λ (w : View). w.call) is_next
 
-  none_pending_now : (pending_in x).reserved ≡ []
-  none_pending_now = ap (λ (p : Pending). p.reserved) (pending_untold x untold ∙ same_before v x (begun_entries v)) ∙ none
+  same_pending : pending_in x ≡ pending_before v
+  same_pending = pending_untold x untold ∙ same_before v x (begun_entries v)
 
-  bears_out : IsBorneOut x
-  bears_out = record {
-    reserved = subst (All (IsReservedFor x)) (sym (none_allocated x untold)) (All-nil (IsReservedFor x));
-    pending = subst (λ (rs : List Reservation). All (IsReservedFor x) (map reserved_object rs)) (sym none_pending_now) (All-nil (IsReservedFor x));
-    root = any_root x (root_in (slice_index x.words)) untold;
-  }
+  same_heads : HasSameHeads v x
+  same_heads = subst (HasSameHeads v) (sym is_next) (record { lanes = refl; zones = refl; reserved = refl; described = λ chunk inside. refl; root = refl })
 
-  pub rests_with_none : RestsWithReserved o header pool start steps v shape
-  rests_with_none = record {
-    works = works;
-    free = free;
-    next = λ below. record {
-      outside = record {
-        works = works_next;
-        can = makes_alone o header pool start x (steps ++ begins_next v) shape works_next (subst (λ (w : View). IsAtWorkAlone w shape) (sym is_next) (at_work below));
-        no_records = ap (λ (w : View). w.log.records) is_next;
-        no_entries = ap (λ (w : View). w.log.entries) is_next;
-        free = ap (λ (w : View). w.locks) is_next ∙ free;
-        borne_out = bears_out;
-        reserved = none_reserved x none_pending_now;
+  -- where what is reserved and pending stands then
+  module _ (has : HasReserved x) (its : All (IsReservedFor v) (map reserved_object (pending_before v).reserved)) where
+    bears_out : IsBorneOut x
+    bears_out = record {
+      reserved = subst (All (IsReservedFor x)) (sym (none_allocated x untold)) (All-nil (IsReservedFor x));
+      pending = subst (λ (p : Pending). All (IsReservedFor x) (map reserved_object p.reserved)) (sym same_pending) (All-weaker (IsReservedFor v) (IsReservedFor x) (reserved_still v x same_heads) (map reserved_object (pending_before v).reserved) its);
+      root = any_root x (root_in (slice_index x.words)) untold;
+    }
+
+    pub rests_standing : RestsWithReserved o header pool start steps v shape
+    rests_standing = record {
+      works = works;
+      free = free;
+      next = λ below. record {
+        outside = record {
+          works = works_next;
+          can = makes_alone o header pool start x (steps ++ begins_next v) shape works_next (subst (λ (w : View). IsAtWorkAlone w shape) (sym is_next) (at_work below));
+          no_records = ap (λ (w : View). w.log.records) is_next;
+          no_entries = ap (λ (w : View). w.log.entries) is_next;
+          free = ap (λ (w : View). w.locks) is_next ∙ free;
+          borne_out = bears_out;
+          reserved = has;
+        };
+        untold = untold;
       };
-      untold = untold;
-    };
-  }
+    }
+
+  -- and where nothing is
+  pub rests_with_none : (pending_before v).reserved ≡ [] → RestsWithReserved o header pool start steps v shape
+  rests_with_none none = rests_standing (none_reserved x (ap (λ (p : Pending). p.reserved) same_pending ∙ none))
+      (subst (λ (rs : List Reservation). All (IsReservedFor v) (map reserved_object rs)) (sym none) (All-nil (IsReservedFor v)))

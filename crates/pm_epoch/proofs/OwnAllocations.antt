@@ -45,14 +45,14 @@ module _ (u : View) where
   freed_none change off at bit (inl t) is = subst (λ (c : HeapChange). AllocatesBit u.lanes c at bit) t.is is
   freed_none change off at bit (inr t) is = subst (λ (c : HeapChange). AllocatesBit u.lanes c at bit) t.is is
 
-  freed_apart : (freed : List HeapChange) (offs : List ℕ) (steps : List Published) → AllZip (FreesIts u) freed offs → (at : Occ) (bit : ℕ)
+  pub freed_apart : (freed : List HeapChange) (offs : List ℕ) (steps : List Published) → AllZip (FreesIts u) freed offs → (at : Occ) (bit : ℕ)
       → SomeAllocates u.lanes (map Changes freed ++ steps) at bit → SomeAllocates u.lanes steps at bit
   freed_apart [] offs steps each at bit some = some
   freed_apart (change ∷ freed) [] steps each at bit some = absurd each
   freed_apart (change ∷ freed) (off ∷ offs) steps each at bit (inl here) = absurd (freed_none change off at bit each.0 here)
   freed_apart (change ∷ freed) (off ∷ offs) steps each at bit (inr later) = freed_apart freed offs steps each.1 at bit later
 
-  actions_apart : (actions : List Action) (steps : List Published) (at : Occ) (bit : ℕ) → SomeAllocates u.lanes (map Performs actions ++ steps) at bit → SomeAllocates u.lanes steps at bit
+  pub actions_apart : (actions : List Action) (steps : List Published) (at : Occ) (bit : ℕ) → SomeAllocates u.lanes (map Performs actions ++ steps) at bit → SomeAllocates u.lanes steps at bit
   actions_apart [] steps at bit some = some
   actions_apart (a ∷ actions) steps at bit some = actions_apart actions steps at bit some
 

@@ -1,6 +1,7 @@
 -- A line that writes bytes into what is reserved, from a lane at work: it is done, or refused, which aborts nothing, or the lane stops.
-use Rattle.std.proofs.Common.{◌≡◌, ◌⊎◌, ⊎_elim, inl, inr, ℕ, ◌+◌, ◌*◌, ◌/◌, ◌<◌, ◌≤◌, Bool, true, false, absurd, Contains, cond, List, [], ◌∷◌, ◌++◌, length, slice_index, take, Option, None, Some, refl, sym, ap, ◌∙◌, subst, arith}
-use Rattle.pm_crash.specs.CallBlocks.{blocks_in}
+use Rattle.std.proofs.Common.{◌≡◌, ◌⊎◌, ⊎_elim, inl, inr, ℕ, ◌+◌, ◌*◌, ◌/◌, ◌<◌, ◌≤◌, Bool, true, false, Contains, cond, List, [], ◌∷◌, ◌++◌, length, slice_index, take, Option, None, Some, refl, sym, ap, ◌∙◌, subst, arith}
+use Rattle.pm_crash.proofs.Covered.{among_tested}
+use Rattle.pm_crash.specs.CallBlocks.{block_of, blocks_in}
 use Rattle.pm_crash.specs.OpenCall.{IsUnderBlock, words_recorded}
 use Rattle.pm_crash.specs.Pending.{pending_in}
 use Rattle.pm_crash.specs.Writes.{words_written, written_word}
@@ -125,7 +126,7 @@ module _ (o : Opening) (first : View) (lane : Lane Solo) (blocks : BlockLists) (
     not_found : (i : ℕ) → IsUnderBlock v i → (b : Bool) → is_among (covered_words (target.off + off) (length bytes)) i ≡ b → b ≡ false
     not_found i under false is_so = refl
     not_found i under true is_so =
-        let inside = covered_in v (works_in_pool o Sees lane blocks v a.works) target off (length bytes) own_range i (among_contains (covered_words (target.off + off) (length bytes)) i is_so) in
+        let inside = covered_in v (works_in_pool o Sees lane blocks v a.works) target off (length bytes) own_range i (among_tested (covered_words (target.off + off) (length bytes)) i is_so) in
         let from = inside.from in let to = inside.to in let low = under.from in let high = under.to in
         let made = own_range.stands in let behind = made.behind in let aligned = made.aligned in
         absurd (⊎_elim

@@ -1,5 +1,5 @@
 -- What a line gives that was refused, where that aborts nothing: the reason is added to the values, unless the lane stopped.
-use Rattle.std.proofs.Common.{◌≡◌, ◌≢◌, Bool, true, false, absurd, not, cond, eqb, leb, ℕ, ◌%◌, List, [], ◌∷◌, ◌++◌, Option, None, Some, Result, Ok, Err, OnOk, IfErr, AllocError, alloc_error, refl, sym, ap, ◌∙◌, subst}
+use Rattle.std.proofs.Common.{◌≡◌, ◌≢◌, Bool, true, false, not, cond, eqb, leb, ℕ, ◌%◌, List, [], ◌∷◌, ◌++◌, Option, None, Some, Result, Ok, Err, OnOk, IfErr, alloc_error, refl, sym, ap, ◌∙◌, subst}
 use Rattle.pm_crash.specs.OnActions.{defer_refusal, set_refusal}
 use Rattle.pm_model.specs.Actions.{Pending, pending_count}
 use Rattle.pm_objects.specs.declared.history.Value.TheVariants.{Refused}
@@ -26,10 +26,10 @@ refused_ends Q r line old new (Err why) given wants stops = subst Q (sym given) 
 
 -- and it keeps the letters of the lines before it
 pub refused_letters : {T : Type 0} (said : ScriptLine) (r : Refusal) (old new : Values) (result : Result T NotDone) → IsRefusalGiven said.line r old new result → LettersKept (said ∷ []) old new result
-refused_letters said refusal.Stopped old new result given =
-    subst (λ (x : Result _ NotDone). LettersKept (said ∷ []) old new x) (sym given.1) (subst (λ (vs : Values). KeepsLetters (said ∷ []) old vs) (sym given.0) (letters_same (said ∷ []) old))
-refused_letters said r old new (Ok x) given = subst (λ (vs : Values). KeepsLetters (said ∷ []) old vs) (sym given) (letters_one said old (Refused r))
-refused_letters said r old new (Err why) given = subst (λ (x : NotDone). LettersKept (said ∷ []) old new (Err x)) (sym given) tt
+refused_letters {T} said refusal.Stopped old new result given =
+    subst (λ (x : Result _ NotDone). LettersKept {T = T} (said ∷ []) old new x) (sym given.1) (subst (λ (vs : Values). KeepsLetters (said ∷ []) old vs) (sym given.0) (letters_same (said ∷ []) old))
+refused_letters {T} said r old new (Ok x) given = subst (λ (vs : Values). KeepsLetters (said ∷ []) old vs) (sym given) (letters_one said old (Refused r))
+refused_letters {T} said r old new (Err why) given = subst (λ (x : NotDone). LettersKept {T = T} (said ∷ []) old new (Err x)) (sym given) tt
 
 -- no set is refused for the lane's stop, nor is a free that is deferred
 pub set_unstopped : (off : ℕ) (p : Pending) (r : Refusal) → Some r ≡ set_refusal off p → r ≢ refusal.Stopped
@@ -44,3 +44,8 @@ defer_unstopped p r is stopped = at (leb 63 (pending_count p)) (ap Some (sym sto
   at : (c : Bool) → Some refusal.Stopped ≡ cond c (Some refusal.ActionsFull) None → ⊥
   at true clash = cc
   at false clash = cc
+
+-- the reason of an answer that is an error
+abbrev pub why_of : {T : Type 0} → Result T Refusal → Refusal
+why_of (Ok x) = refusal.Stopped
+why_of (Err why) = why

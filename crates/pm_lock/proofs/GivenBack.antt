@@ -24,9 +24,9 @@ use Rattle.pm_world.specs.Lawful.{GiveFits, MayGive, is_holder}
 use Rattle.pm_world.specs.Sequences.{IsMade, IsReady, Ready, Runs, counted, in_turn, nothing, one}
 use Rattle.pm_world.specs.declared.lane.HeldLock.{HeldLock}
 use Rattle.pm_world.specs.declared.lane.Lane.{Lane}
-use Rattle.pm_lock.specs.Leading.{IsLed}
+use Rattle.pm_lock.specs.Leading.{IsLed, LeaveBlocks}
 use Rattle.pm_lock.proofs.Drawless.{drawless}
-use Rattle.pm_lock.proofs.Leads.{counted_then, led_same, led_then, ready_led}
+use Rattle.pm_lock.proofs.Leads.{counted_then, leave_then, led_same, led_then, ready_led}
 use Rattle.pm_lock.proofs.Undrained.{rest_kept}
 use Rattle.pm_lock.specs.Begun.{HoldsLines, IsBegun}
 use Rattle.pm_lock.specs.Locking.{HasNotTaken, HoldsUnfound, IsBusy, IsGivenBack, gives, line_at, no_lock, takes}
@@ -147,6 +147,18 @@ pub none_counted : (locks : List HeldLock) (v : View) → counted_calls (gives l
 unfolding gives
 none_counted locks v = counted_gives locks v (length locks)
 
+-- none of them takes a block or gives one back
+gives_leave : (locks : List HeldLock) (v : View) (k : ℕ) → LeaveBlocks v (counted (λ i. one (Give (line_at locks i))) k v)
+unfolding LeaveBlocks counted nothing in_turn one
+gives_leave locks v zero = tt
+gives_leave locks v (suc k) =
+    let front : List Step = counted (λ i. one (Give (line_at locks i))) k v in
+    leave_then v (after_all v front) front (Give (line_at locks k) ∷ []) refl (gives_leave locks v k) (refl, tt)
+
+pub all_gives_leave : (locks : List HeldLock) (v : View) → LeaveBlocks v (gives locks v)
+unfolding gives
+all_gives_leave locks v = gives_leave locks v (length locks)
+
 -- a lane that has no number to answer
 unanswered : (drawn number : Option ℕ) → ForSome drawn (λ n. number ≡ Some n) → number ≡ None → drawn ≡ None
 unanswered None number seen none = refl
@@ -172,7 +184,7 @@ module _ {M : Type 0} (at : M → View → Type 0) (lane : Lane M) (v : View) (i
       let b : IsBegun at lane v = is.begun in
       record {
         view = w;
-        led = ready_led v (gives taken v) back.0 (drawless v (gives taken v) (let e = ap (λ (u : View). length u.entries) same in omega (arith, e))) (none_counted taken v)
+        led = ready_led v (gives taken v) back.0 (drawless v (gives taken v) (let e = ap (λ (u : View). length u.entries) same in omega (arith, e))) (none_counted taken v) (all_gives_leave taken v)
             (record { zone_locks = ap (λ (u : View). u.zone_locks) same; reserved = ap (λ (u : View). u.reserved) same; freed = ap (λ (u : View). u.freed) same });
         seen = ap (λ (u : View). u.seen) same;
         entries = ap (λ (u : View). u.entries) same;

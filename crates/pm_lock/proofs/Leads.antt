@@ -15,7 +15,7 @@ use Rattle.pm_view.specs.Steps.Step.{Draw}
 use Rattle.pm_view.specs.Views.{after, after_all, changes_heap, freed_by, unallocated}
 use Rattle.pm_world.specs.Lawful.{Allowed}
 use Rattle.pm_world.specs.Sequences.{Ready}
-use Rattle.pm_lock.specs.Leading.{DrawEnded, IsLed, KeepsHeap}
+use Rattle.pm_lock.specs.Leading.{DrawEnded, IsLed, KeepsHeap, LeaveBlocks}
 
 pub counted_then : (xs ys : List Step) → counted (xs ++ ys) ≡ counted xs + counted ys
 unfolding counted
@@ -37,23 +37,29 @@ heap_drawn v n plain = record {
 }
 
 pub led_none : (v : View) → IsLed v v
-unfolding Leads counted
-led_none v = record { steps = []; leads = refl; uncounted = refl; heap = heap_still v }
+unfolding Leads counted LeaveBlocks
+led_none v = record { steps = []; leads = refl; uncounted = refl; leaves = tt; heap = heap_still v }
+
+pub leave_then : (u v : View) (xs ys : List Step) → after_all u xs ≡ v → LeaveBlocks u xs → LeaveBlocks v ys → LeaveBlocks u (xs ++ ys)
+unfolding LeaveBlocks after_all
+leave_then u v [] ys is first second = subst (λ (x : View). LeaveBlocks x ys) (sym is) second
+leave_then u v (x ∷ xs) ys is first second = (first.0, leave_then (after u x) v xs ys is first.1 second)
 
 pub led_then : (u v w : View) → IsLed u v → IsLed v w → IsLed u w
 led_then u v w first second = record {
   steps = first.steps ++ second.steps;
   leads = leads_then u v w first.steps second.steps first.leads second.leads;
   uncounted = (let a = first.uncounted in let b = second.uncounted in let c = counted_then first.steps second.steps in omega (arith, a, b, c));
+  leaves = leave_then u v first.steps second.steps (sym (leads_end u v first.steps first.leads)) first.leaves second.leaves;
   heap = heap_then u v w first.heap second.heap;
 }
 
 pub led_once : (v : View) (s : Step) → Allowed v s → FoundAlone v s → DrawsEnded v s → is_counted s ≡ false → KeepsHeap v (after v s) → IsLed v (after v s)
-unfolding Leads counted
-led_once v s allowed found draws free heap = record { steps = s ∷ []; leads = (allowed, found, draws, refl); uncounted = ap (λ (b : Bool). cond b 1 0 + 0) free; heap = heap }
+unfolding Leads counted LeaveBlocks
+led_once v s allowed found draws free heap = record { steps = s ∷ []; leads = (allowed, found, draws, refl); uncounted = ap (λ (b : Bool). cond b 1 0 + 0) free; leaves = (heap.reserved, tt); heap = heap }
 
-pub ready_led : (v : View) (steps : List Step) → Ready v steps → DrawEnded v steps → counted steps ≡ 0 → KeepsHeap v (after_all v steps) → IsLed v (after_all v steps)
-ready_led v steps ready draws free heap = record { steps = steps; leads = ready_leads v steps ready draws; uncounted = free; heap = heap }
+pub ready_led : (v : View) (steps : List Step) → Ready v steps → DrawEnded v steps → counted steps ≡ 0 → LeaveBlocks v steps → KeepsHeap v (after_all v steps) → IsLed v (after_all v steps)
+ready_led v steps ready draws free leaves heap = record { steps = steps; leads = ready_leads v steps ready draws; uncounted = free; leaves = leaves; heap = heap }
 
 -- no step changes the lane
 pub led_same : (v w : View) → IsLed v w → IsSameLane v w

@@ -16,3 +16,4 @@ pub mod KnownObjects
 pub mod FoundObjects
 pub mod LookedAlone
 mod Starting
+pub mod Remembered

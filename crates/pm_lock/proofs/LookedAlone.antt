@@ -23,7 +23,7 @@ begun_words Idle v = refl
 begun_words p v = refl
 
 -- a step that is no counted call leaves the words as they are
-step_words : (v : View) (s : Step) → FoundAlone v s → is_counted s ≡ false → IsAlone v → (after v s).words ≡ v.words
+pub step_words : (v : View) (s : Step) → FoundAlone v s → is_counted s ≡ false → IsAlone v → (after v s).words ≡ v.words
 step_words v (Load w x) found free alone = ap (set v.words w) (found alone) ∙ set-get_or v.words w 0
 step_words v (Store w x) found free alone = absurd (false≢true (sym free))
 step_words v (Or w bits x) found free alone = absurd (false≢true (sym free))

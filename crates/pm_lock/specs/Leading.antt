@@ -18,9 +18,15 @@ pub record KeepsHeap (v w : View) : Type 0 where
   pub reserved : w.reserved ≡ v.reserved
   pub freed : w.freed ≡ v.freed
 
--- some steps lead from the one view to the other, none of them is a counted call, and the lane has of the heap what it had
+-- each of the steps leaves what the lane has reserved
+unfoldable pub LeaveBlocks : View → List Step → Type 0
+LeaveBlocks v [] = Unit {0}
+LeaveBlocks v (s ∷ steps) = ((after v s).reserved ≡ v.reserved) × LeaveBlocks (after v s) steps
+
+-- some steps lead from the one view to the other, none of them is a counted call, each leaves what the lane has reserved, and it has of the heap what it had
 pub record IsLed (v w : View) : Type 0 where
   pub steps : List Step
   pub leads : Leads v steps w
   pub uncounted : counted steps ≡ 0
+  pub leaves : LeaveBlocks v steps
   pub heap : KeepsHeap v w

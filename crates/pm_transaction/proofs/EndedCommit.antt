@@ -37,7 +37,7 @@ use Rattle.pm_transaction.specs.Committing.{MayPublishBlocks}
 use Rattle.pm_transaction.specs.Published.{CommitsAlone, HasDrawn, HasOwnCounts, IsCommittedWith, IsCommittingAlone, IsCommittingIn, IsToldBy, LogsCall, logs_call}
 
 -- with entries, the commit is of one log
-by_one_log : (spans : List Span) (entries : List Redo) (n : ℕ) → 1 ≤ length entries → logs_call Commit entries n ≡ commits spans entries n
+pub by_one_log : (spans : List Span) (entries : List Redo) (n : ℕ) → 1 ≤ length entries → logs_call Commit entries n ≡ commits spans entries n
 unfolding logs_call commits decides_all
 by_one_log spans [] n some = absurd (omega (arith, some))
 by_one_log spans (e ∷ entries) n some = refl
@@ -72,7 +72,7 @@ module _ {M : Type 0} (o : Opening) (header : Header) (pool : PoolView) (start v
         lists = subst (ListsBlocks blocks) (sym (blocks_once_more v next Commit None t.keeps.entries t.call)) c.work.lists;
       }
 
-  logs : LogsCall o header pool start steps Commit (published_in v) blocks v all
+  pub logs : LogsCall o header pool start steps Commit (published_in v) blocks v all
   logs = record {
     works = c.works;
     working = c.work.work.working;

@@ -117,7 +117,7 @@ module _ {o : Opening} {header : Header} {pool : PoolView} {start v : View} {ste
   unfolding after_all
   behind_draw more = after_all-append v front (Draw n ∷ more) ∙ ap (λ (x : View). after_all x (Draw n ∷ more)) (sym there)
 
-  at_end : after_all v (logs_call op entries n v) ≡ performed_view v op entries n
+  pub at_end : after_all v (logs_call op entries n v) ≡ performed_view v op entries n
   at_end = ap (after_all v) (in_parts op entries n v) ∙ behind_draw tail
 
   -- ---- what is published
@@ -141,14 +141,14 @@ module _ {o : Opening} {header : Header} {pool : PoolView} {start v : View} {ste
       (performs_along entries g outside d lane_d (is_drawn c n)
       (subst (λ k. (after_all d (writes_seal k (length (entries ++ ending_of k g ∷ [])) d)).log.phase ≡ Applying 0) lane_d (ap (λ (log : Log). log.phase) sealed.log)))
 
-  leads_tail : Leads d tail (performed_view v op entries n)
+  pub leads_tail : Leads d tail (performed_view v op entries n)
   leads_tail = leads_d c n
 
-  publishes_tail : Publishes d tail (performed_view v op entries n)
+  pub publishes_tail : Publishes d tail (performed_view v op entries n)
   publishes_tail = publishes_along d tail (performed_view v op entries n) leads_tail along
 
   -- with so many of the steps behind the draw
-  publishing : (more : List Step) (x : View) → Leads d more x → Publishes d more x → ForSome x.stop (λ stop. x.calls ≤ stop) → AreNumbered 1 x.entries
+  pub publishing : (more : List Step) (x : View) → Leads d more x → Publishes d more x → ForSome x.stop (λ stop. x.calls ≤ stop) → AreNumbered 1 x.entries
       → (all : List Published) × (call : IsPublishing o header pool u n all x) × (call.log_steps ≡ more)
   publishing more x leads publishes within numbered =
       let works_u : WorksAlone o header pool start (steps ++ front) u = works_to c n more x leads within in

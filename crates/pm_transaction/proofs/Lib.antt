@@ -64,3 +64,10 @@ pub mod ListedInTurn
 pub mod PublishesAll
 pub mod PublishAllChecks
 pub mod PublishAllReasons
+pub mod RestingViews
+pub mod StandsGivenUp
+pub mod StandsCommitted
+pub mod StandsUnpublished
+pub mod StandsBehindCommit
+pub mod KeptBehindEnd
+pub mod RestsBehindEnd

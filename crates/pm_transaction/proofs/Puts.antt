@@ -40,7 +40,7 @@ module _ {M : Type 0} (o : Opening) (at : M → View → Type 0) (lane : Lane M)
   abbrev one : Reservation
   one = range.has.one
 
-  abbrev own : HasOwnRange v id off (length bytes)
+  abbrev pub own : HasOwnRange v id off (length bytes)
   own = record {
     new = reserved_object one;
     stands = (all.has_reserved.each one range.has.is_one).made;

@@ -29,6 +29,7 @@ mod publishing;
 mod publishing_all;
 mod ranges;
 mod reserving;
+mod resting;
 
 pub use alloc_laws::an_object_is_made_by_few_stores;
 pub use allocating::alloc;
@@ -51,6 +52,9 @@ pub use publishing::publish;
 pub use publishing_all::publish_all;
 pub use ranges::{add_range, read, write};
 pub use reserving::reserve;
+pub use resting::{
+    a_lane_alone_rests_behind_its_transaction, what_is_reserved_stands_behind_a_transaction,
+};
 
 #[cfg(test)]
 mod tests;

@@ -1,7 +1,6 @@
-use Rattle.std.proofs.Common.{◌≡◌, List, [], None, Some, ap, subst}
+use Rattle.std.proofs.Common.{◌≡◌, None, Some, ap}
 use Rattle.pm_objects.specs.declared.calls.Operation.TheVariants.{WriteReserved}
 use Rattle.pm_world.specs.Tellings.{reply_of}
-use Rattle.pm_world.specs.declared.lane.HeldLock.{HeldLock}
 use Rattle.pm_world.specs.declared.lane.Lane.{Lane}
 use Rattle.pm_tx.proofs.ToldBegun.{begun_ready_for_any}
 use Rattle.pm_action.proofs.ToldOutside.{begun_unlocked, closed_at_once, drawn_so, ended, told_at_once, unharmed}
@@ -39,4 +38,3 @@ returns-clause-told g c v is has_ended =
     (c.come_to_rest.ensures.closed _ (ended g.M.LaneMem.at c.args.lane.now v is op reply drawn fields c.draw_put.ensures.made (begun_unlocked g.M.LaneMem.at c.args.lane.now v is c.requires.free))
     (unharmed g.M.LaneMem.at c.args.lane.now v is op reply drawn fields c.draw_put.ensures.made))
     (ap (λ (l : Lane g.row.M.Denot). l.last) {y = record drawn { memory = c.come_to_rest.new.lane.memory; locks = c.come_to_rest.new.lane.locks; drawn = None }} c.come_to_rest.ensures.lane)
-

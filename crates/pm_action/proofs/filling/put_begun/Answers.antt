@@ -1,4 +1,4 @@
-use Rattle.std.proofs.Common.{◌≡◌, ◌⊎◌, ⊎_elim, inl, inr, ◌∙◌, Err, length, ap, sym}
+use Rattle.std.proofs.Common.{◌≡◌, ⊎_elim, inl, inr, ◌∙◌, length, sym}
 use Rattle.std.proofs.lemmas.Result.{IfErr-weaker, on_ok_weaker}
 use Rattle.pm_objects.specs.declared.refusal.Refusal.TheVariants as refusal
 use Rattle.pm_crash.specs.Pending.{pending_before, pending_in}
@@ -41,7 +41,7 @@ returns-in-Ok-clause-stops g c =
 
 pub returns-in-Err-clause-refuses : goal.returns-in-Err-clause-refuses
 returns-in-Err-clause-refuses g c other w b are =
-    let before = pending_untold w b.begun.untold in
+    let before : pending_in w ≡ pending_before w = pending_untold w b.begun.untold in
     let reason = (λ j. put_refusal (b.begun.seen.pool j) (sym before j) c.args.id c.args.off (length c.args.bytes.now)) ∙ sym (c.in-Err.ensures.reason (pending_in w) are) in
     record { reason = reason; told = c.end_put.ensures.told w b.begun (refused_put_ends g.M.LaneMem.at c.args.lane.now w b.begun c.args.id c.args.off c.args.bytes.now c.in-Err.why reason) }
 

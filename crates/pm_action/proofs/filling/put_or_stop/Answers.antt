@@ -1,15 +1,14 @@
-use Rattle.std.proofs.Common.{◌≡◌, ◌+◌, None, Err, refl, subst, arith, rules}
+use Rattle.std.proofs.Common.{◌+◌, None, Err, refl, subst, arith}
 use Rattle.pm_objects.specs.declared.calls.Operation.TheVariants.{WriteReserved}
 use Rattle.pm_lock.specs.Resting.{IsAtRest}
 use Rattle.pm_view.specs.Steps.Step.{Tell}
-use Rattle.pm_view.specs.View.{View}
 use Rattle.pm_words.specs.Words.{AreBytes}
 use Rattle.pm_world.proofs.Sequencing.{runs_err}
 use Rattle.pm_world.specs.Sequences.{one}
 use Rattle.pm_tx.proofs.Telling.{is_ready, was_made, was_stopped}
 use Rattle.pm_tx.specs.Sequences.{writes}
 use Rattle.pm_transaction.specs.Filling.{puts_range}
-use Rattle.pm_action.proofs.PutsOutside.{begun_filled, filled, put_alone, put_draws, put_drawn_is, put_ended, put_is_low, put_may_draw, put_ready, put_rests_still, put_stops, put_written, puts_first}
+use Rattle.pm_action.proofs.PutsOutside.{begun_filled, put_alone, put_draws, put_drawn_is, put_ended, put_is_low, put_may_draw, put_ready, put_rests_still, put_stops, put_written, puts_first}
 use Rattle.pm_action.specs.Filling.{put_drawn}
 use Rattle.pm_action.proofs.filling.put_or_stop.Goals as goal
 

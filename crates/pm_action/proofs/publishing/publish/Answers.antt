@@ -1,4 +1,4 @@
-use Rattle.std.proofs.Common.{◌≡◌, ◌≤◌, ◌∙◌, [], None, rules, inl, length, ap, refl, sym}
+use Rattle.std.proofs.Common.{◌≡◌, ◌≤◌, ◌∙◌, None, rules, inl, length, ap, sym}
 use Rattle.std.proofs.lemmas.Bool.{false≢true}
 use Rattle.pm_world.specs.declared.lane.Lane.{Lane}
 use Rattle.pm_objects.specs.declared.calls.Operation.TheVariants.{Publish}

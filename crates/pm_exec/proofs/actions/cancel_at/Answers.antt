@@ -8,9 +8,6 @@ use Rattle.pm_exec.proofs.ActionLines.{cancel_cut, cancel_done}
 use Rattle.pm_exec.proofs.AddAndWrite.{ends_so, unrefused}
 use Rattle.pm_exec.proofs.actions.cancel_at.Goals as goal
 
-pub cancel-requires-clause-at_work : goal.cancel-requires-clause-at_work
-cancel-requires-clause-at_work c none = let s = c.requires.at_work.1.1 in (s.0, (s.3.view, s.3.works))
-
 pub returns-in-Ok-clause-done : goal.returns-in-Ok-clause-done
 returns-in-Ok-clause-done c o first names front values a =
     let old = c.args.lane.now in

@@ -1,0 +1,10 @@
+use Rattle.pm_transaction.proofs.StandsBehindCommit.{commit_leaves_standing}
+use Rattle.pm_transaction.proofs.StandsGivenUp.{abort_leaves_standing, refusal_leaves_standing}
+use Rattle.pm_transaction.proofs.resting.what_is_reserved_stands_behind_a_transaction.Goals as goal
+
+pub returns : goal.returns
+returns g c = record {
+  committed = λ o header pool start v steps lane new blocks works is outer committed own. commit_leaves_standing o header pool start v steps g.M.LaneMem.at lane blocks new.last works is outer committed.ready own;
+  given_up = λ o v lane blocks op r n. refusal_leaves_standing o g.M.LaneMem.at lane blocks v op r n;
+  aborted = λ o v lane blocks errnum n. abort_leaves_standing o g.M.LaneMem.at lane blocks v errnum n;
+}
