@@ -4,7 +4,7 @@ use Rattle.std.specs.List.{filter, list_any}
 use Rattle.std.proofs.lemmas.Bool.{false≢true, or_right}
 use Rattle.pm_crash.proofs.Includes.{kept_member}
 use Rattle.pm_crash.specs.Leading.{Leads}
-use Rattle.pm_image.proofs.Members.{later_member}
+use Rattle.std.proofs.lemmas.List.Elements.{Contains-append_right}
 use Rattle.pm_lock.proofs.Leads.{led_same}
 use Rattle.pm_lock.proofs.LookedAlone.{none_counted, step_words}
 use Rattle.pm_lock.specs.Leading.{IsLed, LeaveBlocks}
@@ -33,7 +33,7 @@ begun_known p v = refl
 
 -- one more word, if any
 one_more : (b : Bool) (w i : ℕ) (known : List ℕ) → Contains known i → Contains (cond b (w ∷ known) known) i
-one_more true w i known there = later_member w known i there
+one_more true w i known there = Contains-append_right (w ∷ []) known i there
 one_more false w i known there = there
 
 step_remembers : (v : View) (s : Step) (i : ℕ) → is_counted s ≡ false → (after v s).reserved ≡ v.reserved → is_reserved v i ≡ true → Contains v.known i → Contains (after v s).known i

@@ -1,13 +1,14 @@
 -- Steps that make few stores and keep the call, put together; and those of a search, and of the first of a sequence that makes a run or fills a block.
-use Rattle.std.proofs.Common.{◌≡◌, ◌⊎◌, ⊎_elim, inl, inr, ℕ, ◌+◌, ◌≤◌, true, false, cond, Bool, eqb, Contains, List, [], ◌∷◌, ◌++◌, take, slice_index, refl, sym, ap, ◌∙◌, subst, arith}
+use Rattle.std.proofs.Common.{◌≡◌, ◌⊎◌, ⊎_elim, inl, inr, ℕ, ◌+◌, ◌≤◌, true, false, cond, Bool, eqb, Contains, List, [], ◌∷◌, ◌++◌, length, take, slice_index, refl, sym, ap, ◌∙◌, subst, arith}
 use Rattle.std.proofs.lemmas.Bool.{false≢true}
+use Rattle.std.proofs.lemmas.List.{length-append}
 use Rattle.pm_layout.specs.declared.shape.Shape.{Shape}
 use Rattle.pm_view.specs.declared.change.Change.{Change}
 use Rattle.pm_view.specs.Area.{is_in_area}
 use Rattle.pm_view.specs.Counts.{counted, is_counted, stores_among}
 use Rattle.pm_view.specs.Log.Phase.{Open}
 use Rattle.pm_view.specs.Steps.{Step}
-use Rattle.pm_view.specs.Steps.Step.{Store, Or, And, Flush, Drain}
+use Rattle.pm_view.specs.Steps.Step.{And, Drain, Draw, Flush, Give, Load, NumberSeen, Occupied, Occupy, Or, Raise, SetStop, StopSeen, Store, TakeRead, TakeWrite, Tell, Vacate, ZoneGive, ZoneTry}
 use Rattle.pm_view.specs.View.{Taken, View}
 use Rattle.pm_view.specs.Views.{after, after_all}
 use Rattle.pm_view.proofs.SameLane.{same_lane-after_all, same_lane-then}
@@ -21,6 +22,7 @@ use Rattle.pm_crash.specs.OpenCall.{IsUnderBlock}
 use Rattle.pm_epoch.proofs.GainedRooms.{IsCallStill, search_still, search_words}
 use Rattle.pm_epoch.proofs.HeldApart.{AllFound}
 use Rattle.pm_epoch.proofs.QuietSteps.{search_leads}
+use Rattle.pm_lock.specs.Leading.{LeaveBlocks}
 use Rattle.pm_tx.proofs.StepKinds.{Each, each_first}
 use Rattle.pm_tx.proofs.StoreCounts.{stores_append, stores_counted, stores_first}
 use Rattle.pm_transaction.proofs.MakingKept.{HasChangeOf, Keeps, keeps_all}
@@ -87,6 +89,51 @@ searches_uncounted v w [] searches = refl
 searches_uncounted v w (s ∷ steps) searches =
     let none : count_by s ≡ 0 = ap (λ (b : Bool). cond b 1 0) (search_uncounted s searches.0) in
     let rest = searches_uncounted (after v s) w steps searches.4 in omega (arith, none, rest)
+
+-- what is reserved stays at each of its steps, or grows by one
+search_grows : (v : View) (s : Step) → is_search s ≡ true → ((after v s).reserved ≡ v.reserved) ⊎ (length (after v s).reserved ≡ length v.reserved + 1)
+search_grows v (Load w found) is = inl refl
+search_grows v (Occupied at found) is = inl refl
+search_grows v (Occupy at bits true) is = inr (length-append v.reserved (record { at = at; bits = bits } ∷ []))
+search_grows v (Occupy at bits false) is = inl refl
+search_grows v (ZoneTry zone won) is = inl refl
+search_grows v (ZoneGive zone) is = inl refl
+search_grows v (Store w x) is = absurd (false≢true is)
+search_grows v (Or w bits found) is = absurd (false≢true is)
+search_grows v (And w bits found) is = absurd (false≢true is)
+search_grows v (Flush line) is = absurd (false≢true is)
+search_grows v Drain is = absurd (false≢true is)
+search_grows v (TakeWrite line won) is = absurd (false≢true is)
+search_grows v (TakeRead line won) is = absurd (false≢true is)
+search_grows v (Raise line won) is = absurd (false≢true is)
+search_grows v (Give line) is = absurd (false≢true is)
+search_grows v (Vacate at bits) is = absurd (false≢true is)
+search_grows v (Draw n) is = absurd (false≢true is)
+search_grows v (NumberSeen n) is = absurd (false≢true is)
+search_grows v (StopSeen set) is = absurd (false≢true is)
+search_grows v SetStop is = absurd (false≢true is)
+search_grows v (Tell operation reply) is = absurd (false≢true is)
+
+searches_grow : (v w : View) (steps : List Step) → Searches v steps w → length v.reserved ≤ length w.reserved
+unfolding Searches
+searches_grow v w [] searches = let same = ap (λ (u : View). length u.reserved) searches in omega (arith, same)
+searches_grow v w (s ∷ steps) searches =
+    let rest = searches_grow (after v s) w steps searches.4 in
+    ⊎_elim
+    (λ (same : (after v s).reserved ≡ v.reserved). let one = ap length same in omega (arith, rest, one))
+    (λ (more : length (after v s).reserved ≡ length v.reserved + 1). omega (arith, rest, more))
+    (search_grows v s searches.0)
+
+-- where it reserved nothing in the end, none of its steps did
+pub searches_leave : (v w : View) (steps : List Step) → Searches v steps w → length w.reserved ≡ length v.reserved → LeaveBlocks v steps
+unfolding Searches LeaveBlocks
+searches_leave v w [] searches none = tt
+searches_leave v w (s ∷ steps) searches none =
+    let rest = searches_grow (after v s) w steps searches.4 in
+    ⊎_elim
+    (λ (same : (after v s).reserved ≡ v.reserved). let one = ap length same in (same, searches_leave (after v s) w steps searches.4 (omega (arith, none, one))))
+    (λ (more : length (after v s).reserved ≡ length v.reserved + 1). absurd (omega (arith, rest, more, none)))
+    (search_grows v s searches.0)
 
 raise_counts : (s : Step) → raise_by s ≤ count_by s
 raise_counts (Store w x) = at (eqb w 512) where

@@ -1,5 +1,5 @@
 -- A lane alone that looked for a block and found none made no counted call, and has all that it had.
-use Rattle.std.proofs.Common.{◌≡◌, [], ap, ◌∙◌, subst}
+use Rattle.std.proofs.Common.{◌≡◌, [], ap, ◌∙◌, length, subst}
 use Rattle.std.proofs.lemmas.List.{append-nil}
 use Rattle.pm_layout.specs.declared.class.Class.{Class}
 use Rattle.pm_layout.specs.declared.shape.Shape.{Shape}
@@ -12,7 +12,7 @@ use Rattle.pm_alloc.specs.NewObjects.{CanMakeObject}
 use Rattle.pm_epoch.proofs.GainedRooms.{IsCallStill, search_still, search_words}
 use Rattle.pm_epoch.proofs.HeldApart.{AllFound}
 use Rattle.pm_epoch.proofs.QuietSteps.{search_leads}
-use Rattle.pm_transaction.proofs.MakingSteps.{search_changes, searches_uncounted}
+use Rattle.pm_transaction.proofs.MakingSteps.{search_changes, searches_leave, searches_uncounted}
 use Rattle.pm_transaction.proofs.RefusedAllocs.{search_of}
 use Rattle.pm_transaction.specs.MakingSteps.{FindsNoRoom}
 
@@ -25,6 +25,7 @@ module _ (v : View) (shape : Shape) (can : CanMakeObject v shape) (all : AllFoun
           steps = searched.steps;
           leads = search_leads v searched.view searched.steps searched.searches;
           uncounted = searches_uncounted v searched.view searched.steps searched.searches;
+          leaves = searches_leave v searched.view searched.steps searched.searches (ap length (searched.reserved ∙ append-nil v.reserved));
           heap = record { zone_locks = searched.zones; reserved = searched.reserved ∙ append-nil v.reserved; freed = ap (λ (z : View). z.freed) searched.kept.same };
         };
         lane = still.same_lane;

@@ -30,7 +30,7 @@ use Rattle.pm_world.specs.declared.lane.Stage.TheVariants as stage
 use Rattle.pm_lock.proofs.FoundObjects.{plan_models}
 use Rattle.pm_lock.proofs.Leads.{heap_still, led_once, led_same, led_then, ready_led}
 use Rattle.pm_lock.specs.Finding.{FindsObjects, HasFound}
-use Rattle.pm_lock.specs.Leading.{IsLed, KeepsHeap}
+use Rattle.pm_lock.specs.Leading.{IsLed, KeepsHeap, LeaveBlocks}
 use Rattle.pm_lock.specs.Locking.{HasTaken, IsBusy}
 use Rattle.pm_lock.specs.Plans.{IsPlan, model_locks, unfound}
 use Rattle.pm_lock.specs.Resting.{IsAtRest}
@@ -236,8 +236,12 @@ module _ {M : Type 0} (at : M → View → Type 0) (old mid : Lane M) (v : View)
   unfolding starts sees_generation by_lane by_view looks in_turn one after_all
   started_heap = let m : View = after v (Load (area_word v.lane) (slice_index v.words (area_word v.lane))) in let b = begins_heap m.log.phase m in record { zone_locks = b.zone_locks; reserved = b.reserved; freed = b.freed }
 
+  started_leaves : LeaveBlocks v (starts n v)
+  unfolding starts sees_generation by_lane by_view looks in_turn one after_all LeaveBlocks
+  started_leaves = let m : View = after v (Load (area_word v.lane) (slice_index v.words (area_word v.lane))) in let b = begins_heap m.log.phase m in (refl, (b.reserved, tt))
+
   pub started_led : IsLed v u
-  started_led = ready_led v (starts n v) started.ready started.draws none_counted started_heap
+  started_led = ready_led v (starts n v) started.ready started.draws none_counted started_leaves started_heap
 
   pub no_locks : IsAtRest at old v → mid ≡ record old { memory = mid.memory } → mid.locks.items ≡ []
   no_locks rests same = ap (λ (l : Lane M). l.locks.items) same ∙ none_of old.locks.items (rests.seen.locks ∙ rests.free) where

@@ -15,7 +15,7 @@ use Rattle.pm_world.specs.Sequences.{Ready, in_turn, one}
 use Rattle.pm_world.specs.declared.lane.Lane.{Lane}
 use Rattle.pm_lock.proofs.Leads.{heap_drawn, led_then, ready_led}
 use Rattle.pm_lock.proofs.Undrained.{led_changes}
-use Rattle.pm_lock.specs.Leading.{DrawEnded, IsLed, KeepsHeap}
+use Rattle.pm_lock.specs.Leading.{DrawEnded, IsLed, KeepsHeap, LeaveBlocks}
 use Rattle.pm_tx.specs.Begins.{HasRefused, HasStoppedRefused}
 use Rattle.pm_tx.specs.Sequences.{ends_call, gives_up, takes_back}
 use Rattle.pm_tx.proofs.NothingUndrained.{ends_at_once, ends_uncounted, uncounted_never_stops}
@@ -30,8 +30,13 @@ ended_heap : (v : View) (operation : Operation) (reply : Option Value) (n : ℕ)
 unfolding ends_call in_turn one DrawEnded after_all
 ended_heap v operation reply n draws = let drawn = heap_drawn (after v (Tell operation reply)) n draws.1.0.1 in record { zone_locks = drawn.zone_locks; reserved = drawn.reserved; freed = drawn.freed }
 
+-- and leaves what it has reserved
+pub ended_leaves : (v : View) (operation : Operation) (reply : Option Value) (n : ℕ) → DrawEnded v (ends_call operation reply n v) → LeaveBlocks v (ends_call operation reply n v)
+unfolding ends_call in_turn one DrawEnded LeaveBlocks after_all
+ended_leaves v operation reply n draws = ((λ i. v.reserved), ((heap_drawn (after v (Tell operation reply)) n draws.1.0.1).reserved, tt))
+
 pub ended_led : (v : View) (operation : Operation) (reply : Option Value) (n : ℕ) → Ready v (ends_call operation reply n v) → DrawEnded v (ends_call operation reply n v) → IsLed v (after_all v (ends_call operation reply n v))
-ended_led v operation reply n ready draws = ready_led v (ends_call operation reply n v) ready draws (ends_uncounted operation reply n v) (ended_heap v operation reply n draws)
+ended_led v operation reply n ready draws = ready_led v (ends_call operation reply n v) ready draws (ends_uncounted operation reply n v) (ended_leaves v operation reply n draws) (ended_heap v operation reply n draws)
 
 module _ {M : Type 0} (at : M → View → Type 0) (lane : Lane M) (v : View) (wants : List Want) (none : v.changes ≡ []) where
   -- so a begin that was refused made no counted call
