@@ -32,7 +32,7 @@ use Rattle.pm_world.specs.Lanes.{lock_of}
 use Rattle.pm_world.specs.Sequences.{Ready}
 use Rattle.pm_world.specs.declared.lane.Lane.{Lane}
 use Rattle.pm_lock.proofs.Drawless.{drawless}
-use Rattle.pm_lock.proofs.GivenBack.{none_counted}
+use Rattle.pm_lock.proofs.GivenBack.{all_gives_leave, none_counted}
 use Rattle.pm_lock.proofs.Leads.{led_same, led_then, ready_led}
 use Rattle.pm_lock.proofs.LookedAlone.{any_lacks_same, led_words}
 use Rattle.pm_lock.specs.Begun.{IsBegun}
@@ -108,7 +108,7 @@ module _ {M : Type 0} (at : M → View → Type 0) (held : Lane M) (v : View) (s
           let e : IsEndedBy at mid h (publishes_outside es Publish mid.last) Publish None = ended_there in
           let gone : view ≡ record w { locks = []; known = view.known } = closed.same in
           let back : IsLed w view =
-          ready_led w (gives mid.locks.items w) closed.ready (drawless w (gives mid.locks.items w) (let n = ap (λ (u : View). length u.entries) gone in omega (arith, n))) (none_counted mid.locks.items w)
+          ready_led w (gives mid.locks.items w) closed.ready (drawless w (gives mid.locks.items w) (let n = ap (λ (u : View). length u.entries) gone in omega (arith, n))) (none_counted mid.locks.items w) (all_gives_leave mid.locks.items w)
           (record { zone_locks = ap (λ (u : View). u.zone_locks) gone; reserved = ap (λ (u : View). u.reserved) gone; freed = ap (λ (u : View). u.freed) gone }) in
           let told : w.call ≡ record { operation = Publish; reply = None } ∷ [] = e.told ∙ ap (λ (told : List Told). told ++ record { operation = Publish; reply = None } ∷ []) goes.begun.untold in
           let entries : view.entries ≡ drawn_more v.entries mid.last (record { operation = Publish; reply = None } ∷ []) =

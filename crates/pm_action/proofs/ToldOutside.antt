@@ -20,7 +20,7 @@ use Rattle.pm_world.specs.Sequences.{IsMade, Ready, Runs, in_turn, one}
 use Rattle.pm_world.specs.declared.lane.HeldLock.{HeldLock}
 use Rattle.pm_world.specs.declared.lane.Lane.{Lane}
 use Rattle.pm_lock.proofs.Drawless.{drawless}
-use Rattle.pm_lock.proofs.GivenBack.{none_counted}
+use Rattle.pm_lock.proofs.GivenBack.{all_gives_leave, none_counted}
 use Rattle.pm_lock.proofs.Leads.{led_same, led_then, ready_led}
 use Rattle.pm_lock.specs.Begun.{IsBegun}
 use Rattle.pm_lock.specs.Leading.{DrawEnded, IsLed}
@@ -30,6 +30,7 @@ use Rattle.pm_tx.specs.Sequences.{ends_call}
 use Rattle.pm_tx.proofs.Beginnings.{no_spans, works}
 use Rattle.pm_tx.proofs.GivenBack.{none_locked}
 use Rattle.pm_tx.proofs.GivenUp.{place_at_work}
+use Rattle.pm_tx.proofs.DrainedBegins.{ended_leaves}
 use Rattle.pm_tx.proofs.NothingUndrained.{ends_uncounted}
 use Rattle.pm_tx.proofs.ToldBegun.{after_told, begun_heap, begun_over, begun_ready, begun_rests, ends_words}
 use Rattle.pm_action.specs.Outside.{IsEndedOnceTold, IsToldAtOnce}
@@ -104,9 +105,9 @@ module _ {M : Type 0} (at : M → View → Type 0) (lane : Lane M) (v : View) (i
       let w : View = after_all mid (gives drawn.locks.items mid) in
       let same : w ≡ record mid { locks = []; known = w.known } = closed.same in
       let back : IsLed mid w =
-      ready_led mid (gives drawn.locks.items mid) closed.ready (drawless mid (gives drawn.locks.items mid) (let e = ap (λ (u : View). length u.entries) same in omega (arith, e))) (none_counted drawn.locks.items mid)
+      ready_led mid (gives drawn.locks.items mid) closed.ready (drawless mid (gives drawn.locks.items mid) (let e = ap (λ (u : View). length u.entries) same in omega (arith, e))) (none_counted drawn.locks.items mid) (all_gives_leave drawn.locks.items mid)
       (record { zone_locks = ap (λ (u : View). u.zone_locks) same; reserved = ap (λ (u : View). u.reserved) same; freed = ap (λ (u : View). u.freed) same }) in
-      let led : IsLed v w = led_then v mid w (ready_led v ends ready (ending_drawn v (ap (λ (log : Log). log.entries) is.log) op reply ended drawn.last) (ends_uncounted op reply drawn.last v) (begun_heap at lane v is op reply drawn.last)) back in
+      let led : IsLed v w = led_then v mid w (ready_led v ends ready (ending_drawn v (ap (λ (log : Log). log.entries) is.log) op reply ended drawn.last) (ends_uncounted op reply drawn.last v) (ended_leaves v op reply drawn.last (ending_drawn v (ap (λ (log : Log). log.entries) is.log) op reply ended drawn.last)) (begun_heap at lane v is op reply drawn.last)) back in
       let entries : w.entries ≡ drawn_more v.entries drawn.last (record { operation = op; reply = reply } ∷ []) = ap (λ (u : View). u.entries) same ∙ mid_entries in
       record {
         told = record {
