@@ -44,6 +44,7 @@ use Rattle.pm_world.specs.declared.lane.Lane.{Lane}
 use Rattle.pm_lock.specs.Resting.{IsFresh}
 use Rattle.pm_action.specs.Canceling.{MayGiveInTurn, objects_reserved}
 use Rattle.pm_action.specs.Outside.{RestsAlone}
+use Rattle.pm_action.proofs.NextBegun.{works_no_table}
 use Rattle.pm_action.proofs.SameOwn.{HasSameOwn, knows_so, no_run_so, reserved_so}
 
 -- ---- as its next call begins nothing is told
@@ -65,9 +66,6 @@ next_pending v free fresh = pending_untold (with_next_call v) (next_untold v fre
 -- ---- in a world where it works alone
 
 module _ (o : Opening) (header : Header) (pool : PoolView) (start v : View) (steps : List Step) (works : WorksAlone o header pool start steps v) where
-  pub works_is_alone : IsAlone v
-  works_is_alone = alone_on_the_way start v steps (begins_alone o header pool start works.begins) works.leads
-
   stands : StandsAlone o header pool v
   stands = stood o header pool start v steps works
 
@@ -88,7 +86,7 @@ module _ {M : Type 0} (at : M → View → Type 0) (lane : Lane M) (v : View) (r
   world = r.world.5.works
 
   pub rests_is_alone : IsAlone v
-  rests_is_alone = works_is_alone r.world.0 r.world.1 r.world.2 r.world.3 v r.world.4 world
+  rests_is_alone = works_no_table r.world.0 r.world.1 r.world.2 r.world.3 v r.world.4 world
 
   abbrev ns : List NewObject
   ns = objects_reserved v

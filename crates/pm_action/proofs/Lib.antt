@@ -1,4 +1,3 @@
-pub mod OwnWords
 pub mod ToldOutside
 pub mod Started
 pub mod NextBegun

@@ -19,7 +19,6 @@ use Rattle.pm_tx.specs.Beginning.{IsBegunBy}
 use Rattle.pm_tx.specs.Ending.{drawn_more}
 use Rattle.pm_tx.specs.Sequences.{sees_generation, starts}
 use Rattle.pm_tx.proofs.BeginPlanned.{started_led}
-use Rattle.pm_action.proofs.OwnWords.{owns_started}
 use Rattle.pm_action.specs.Outside.{IsToldAtOnce, IsToldOutside}
 
 -- a start looks at a word that the lane knows
@@ -57,8 +56,4 @@ module _ {M : Type 0} (at : M → View → Type 0) (mid : Lane M) (v : View) (n 
 
     pub told_at_once_since : IsToldAtOnce at lane u op reply → IsToldAtOnce at lane v op reply
     unfolding told_further told_since
-    told_at_once_since was = record {
-      told = told_since was.told;
-      words = was.words ∙ start_words v n;
-      known = λ i there own. let start = owns_started v n in was.known i (start.known i there own) (start.own i own);
-    }
+    told_at_once_since was = record { told = told_since was.told; words = was.words ∙ start_words v n }

@@ -33,7 +33,6 @@ use Rattle.pm_tx.proofs.GivenUp.{place_at_work}
 use Rattle.pm_tx.proofs.DrainedBegins.{ended_leaves}
 use Rattle.pm_tx.proofs.NothingUndrained.{ends_uncounted}
 use Rattle.pm_tx.proofs.ToldBegun.{after_told, begun_heap, begun_over, begun_ready, begun_rests, ends_words}
-use Rattle.pm_action.proofs.OwnWords.{owns_ended, owns_given, owns_then}
 use Rattle.pm_action.specs.Outside.{IsEndedOnceTold, IsToldAtOnce}
 
 -- what is pending behind a call of one operation
@@ -121,5 +120,4 @@ module _ {M : Type 0} (at : M → View → Type 0) (lane : Lane M) (v : View) (i
           pending = pending_behind_one v drawn.last op reply w entries;
         };
         words = ap (λ (u : View). u.words) same ∙ ends_words v op reply drawn.last;
-        known = (owns_then v mid w (owns_ended v (ap (λ (log : Log). log.entries) is.log) op reply drawn.last) (owns_given drawn.locks.items mid)).known;
       }

@@ -1,5 +1,5 @@
 -- What a call on pending actions outside of a transaction leaves: it is a call of the history of its own, of one operation.
-use Rattle.std.specs.Prelude.{◌≡◌, ◌||◌, ℕ, Bool, true, false, Contains, List, [], ◌∷◌, Option, Some, None, Result, Ok, Err}
+use Rattle.std.specs.Prelude.{◌≡◌, ℕ, Bool, true, false, List, [], ◌∷◌, Option, Some, None, Result, Ok, Err}
 use Rattle.pm_crash.specs.Alone.{standing}
 use Rattle.pm_crash.specs.HeldHistory.{IsEndedCall}
 use Rattle.pm_crash.specs.OnActions.{defer_refusal, set_refusal}
@@ -17,9 +17,7 @@ use Rattle.pm_objects.specs.declared.refusal.Refusal.{Refusal}
 use Rattle.pm_objects.specs.declared.refusal.Refusal.TheVariants as refusal
 use Rattle.pm_transaction.specs.AtWork.{IsNotMaking}
 use Rattle.pm_transaction.specs.Resting.{StandsAtRest}
-use Rattle.pm_view.specs.Area.{is_in_area}
 use Rattle.pm_view.specs.Constants.{IsSameLane}
-use Rattle.pm_view.specs.Held.{is_reserved}
 use Rattle.pm_view.specs.Log.{no_log}
 use Rattle.pm_view.specs.Log.Phase.{Idle}
 use Rattle.pm_view.specs.Steps.{Step}
@@ -69,15 +67,10 @@ pub record IsToldOutside {M : Type 0} (at : M → View → Type 0) (lane : Lane 
   pub entries : view.entries ≡ drawn_more v.entries lane.last (record { operation = op; reply = reply } ∷ [])
   pub pending : pending_before view ≡ pending_behind op reply (pending_before v)
 
--- of the words that are the lane's without a lock, in its area or in blocks that it reserved, it knows each that it knew
-abbrev pub KnowsOwn : View → View → Type 0
-KnowsOwn v w = (i : ℕ) → Contains v.known i → (is_in_area v.lane i || is_reserved v i) ≡ true → Contains w.known i
-
--- so it did, and it looked at no word that the view does not know, and forgot none of its own
+-- and it looked at no word that the view does not know
 pub record IsToldAtOnce {M : Type 0} (at : M → View → Type 0) (lane : Lane M) (v : View) (op : Operation) (reply : Option Value) : Type 0 where
   pub told : IsToldOutside at lane v op reply
   pub words : told.view.words ≡ v.words
-  pub known : KnowsOwn v told.view
 
 -- what a set-value or a free that is deferred leaves that answers so, of a lane that was at rest, which does not stop in it: Spent alone leaves no trace
 abbrev pub IsAnsweredAtOnce : {M T : Type 0} → (M → View → Type 0) → Lane M → View → Operation → Result T Refusal → Type 0
